@@ -1,0 +1,3 @@
+pub mod Number
+pub mod Parts
+pub mod PartFault

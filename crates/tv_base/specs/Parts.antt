@@ -1,0 +1,45 @@
+-- How parts make a whole: one behind the other, behind a code, behind a length, or as many as are announced.
+use Rattle.std.specs.Prelude.{◌≡◌, ℕ, List, [], ◌∷◌, ◌++◌, length, IsUtf8}
+use Rattle.tv_base.specs.Number.{VNum, vnum}
+
+-- Each list of bytes spells one value at most, and none that spells one begins another that does.
+abbrev pub OneReading : {A : Type 0} → (List ℕ → A → Type 0) → Type 0
+OneReading {A} R = (a b x y : List ℕ) (m n : A) → R a m → R b n → a ++ x ≡ b ++ y → (a ≡ b) × (m ≡ n)
+
+-- bytes of one kind, and then bytes of another
+pub record Then (P Q : List ℕ → Type 0) (whole : List ℕ) : Type 0 where
+  pub front : List ℕ
+  pub rest : List ℕ
+  pub joined : whole ≡ front ++ rest
+  pub first : P front
+  pub second : Q rest
+
+-- a code, and then bytes of some kind
+pub record Behind (code : ℕ) (P : List ℕ → Type 0) (whole : List ℕ) : Type 0 where
+  pub body : List ℕ
+  pub joined : whole ≡ code ∷ body
+  pub spelled : P body
+
+-- a length, and then so many bytes
+pub record Sized (whole content : List ℕ) : Type 0 where
+  pub size : List ℕ
+  pub joined : whole ≡ size ++ content
+  pub number : VNum size (length content)
+
+-- the same, where the bytes are UTF-8
+pub record Text (whole content : List ℕ) : Type 0 where
+  pub sized : Sized whole content
+  pub utf8 : IsUtf8 content
+
+-- the shortest spelling of bytes behind their length, a text or not
+abbrev pub short_sized : List ℕ → List ℕ
+short_sized content = vnum (length content) ++ content
+
+-- the items, one after the other
+abbrev pub Each : {A : Type 0} → (List ℕ → A → Type 0) → List ℕ → List A → Type 0
+Each R whole [] = whole ≡ []
+Each R whole (x ∷ xs) = Then (λ b. R b x) (λ b. Each R b xs) whole
+
+-- the number of the items, and then each
+abbrev pub Counted : {A : Type 0} → (List ℕ → A → Type 0) → List ℕ → List A → Type 0
+Counted R whole xs = Then (λ b. VNum b (length xs)) (λ b. Each R b xs) whole

@@ -1,0 +1,111 @@
+-- The shortest spelling is a spelling.
+use Rattle.std.proofs.Common.{ℕ, ◌^◌, ◌<◌, Bool, true, false, List, [], ◌∷◌, ◌++◌, length, refl, arith, inl}
+use Rattle.std.specs.Prelude.{ℤ, pos, negsuc, FitsSigned}
+use Rattle.std.specs.Int.{w64, cast_unsigned}
+use Rattle.std.specs.List.{AllByRecursion, flat_map}
+use Rattle.tv_base.specs.Number.{vnum, Fixed, four_bytes, eight_bytes, sixteen_bytes}
+use Rattle.tv_value.specs.Tree.{Token, Leaf, null, text, unsigned, signed, boolean, date, facet, bytes, ip_address, tokenized, Tree, leaf, array, object, Elements, no_elements, element, Entries, no_entries, entry, element_count, entry_count, Document}
+use Rattle.tv_value.specs.Version.{Version, V1, V2, V3, Date, IsWritten, entry_total}
+use Rattle.tv_value.specs.Spelling.{Key, Truth, TokenSpelling, Tokenized, LeafBody, leaf_code, Spells, SpellsElements, SpellsEntries, SpellsPair, SpellsDocument}
+use Rattle.tv_value.specs.Short.{short_truth, short_token, short_tokenized, short_leaf, short_key, short, short_elements, short_entries, short_pair, short_document, IsText, IsToken, AreTokens, IsLeaf, IsValue, AreElements, AreEntries, IsPair, IsDocument}
+use Rattle.tv_base.proofs.Numbers.{vnum_spells, low_bytes_spell}
+use Rattle.tv_base.specs.Number.{Signed}
+use Rattle.tv_base.specs.Parts.{Then, Behind, Sized, Text, Each, short_sized}
+
+four : (n : ℕ) → n < 2 ^ 32 → Fixed 4 (four_bytes n) n
+unfolding four_bytes
+four n h = low_bytes_spell 4 n h
+
+eight : (n : ℕ) → n < 2 ^ 64 → Fixed 8 (eight_bytes n) n
+unfolding eight_bytes
+eight n h = low_bytes_spell 8 n h
+
+sixteen : (n : ℕ) → n < 2 ^ 128 → Fixed 16 (sixteen_bytes n) n
+unfolding sixteen_bytes
+sixteen n h = low_bytes_spell 16 n h
+
+-- parts that are spelled make a whole that is
+then : {P Q : List ℕ → Type 0} (front rest : List ℕ) → P front → Q rest → Then P Q (front ++ rest)
+then front rest p q = record { front = front; rest = rest; joined = refl; first = p; second = q }
+
+behind : {P : List ℕ → Type 0} {code : ℕ} (body : List ℕ) → P body → Behind code P (code ∷ body)
+behind body p = record { body = body; joined = refl; spelled = p }
+
+sized : (content : List ℕ) → length content < 2 ^ 63 → Sized (short_sized content) content
+sized content h = record { size = vnum (length content); joined = refl; number = vnum_spells (length content) (omega arith) }
+
+text_of : (content : List ℕ) → IsText content → Text (short_sized content) content
+text_of content h = record { sized = sized content h.size; utf8 = h.utf8 }
+
+unsigned_fits : (z : ℤ) → FitsSigned w64 z → cast_unsigned w64 z < 2 ^ 64
+unsigned_fits (pos n) f = omega (arith, f.sfits)
+unsigned_fits (negsuc n) f = omega arith
+
+signed_of : (z : ℤ) → FitsSigned w64 z → Signed (eight_bytes (cast_unsigned w64 z)) z
+signed_of z f = record { fits = f; spelled = eight (cast_unsigned w64 z) (unsigned_fits z f) }
+
+truth : (b : Bool) → Truth (short_truth b) b
+truth true = refl
+truth false = refl
+
+token : (t : Token) → IsToken t → TokenSpelling (short_token t) t
+token t h =
+    then _ _ (vnum_spells t.offset_from h.offset_from)
+    (then _ _ (vnum_spells t.offset_to h.offset_to)
+    (then _ _ (vnum_spells t.position h.position)
+    (then _ _ (text_of t.text h.text) (vnum_spells t.position_length h.position_length))))
+
+each_of : {A : Type 0} (R : List ℕ → A → Type 0) (P : A → Type 0) (f : A → List ℕ) → ((x : A) → P x → R (f x) x) → (xs : List A) → AllByRecursion P xs → Each R (flat_map f xs) xs
+each_of R P f h [] p = refl
+each_of R P f h (x ∷ xs) p = then _ _ (h x p.0) (each_of R P f h xs p.1)
+
+tokenized_of : (t : List ℕ) (ts : List Token) → IsText t → AreTokens ts → Tokenized (short_tokenized t ts) t ts
+tokenized_of t ts p q = then _ _ (text_of t p) (then _ _ (vnum_spells (length ts) (omega (arith, q.count))) (each_of TokenSpelling IsToken short_token token ts q.each))
+
+date_of : (v : Version) → IsWritten v → (z : ℤ) → FitsSigned w64 z → Date v (eight_bytes (cast_unsigned w64 z)) z
+date_of V1 w z f = absurd w
+date_of V2 w z f = signed_of z f
+date_of V3 w z f = signed_of z f
+
+key_of : (v : Version) (k : List ℕ) → IsText k → Key v (short_key v k) k
+key_of V1 k h = behind _ (text_of k h)
+key_of V2 k h = behind _ (text_of k h)
+key_of V3 k h = text_of k h
+
+total_fits : (v : Version) (n : ℕ) → n < 2 ^ 63 → entry_total v n < 2 ^ 64
+total_fits V1 n h = omega arith
+total_fits V2 n h = omega arith
+total_fits V3 n h = omega arith
+
+leaf_of : (v : Version) → IsWritten v → (l : Leaf) → IsLeaf l → Behind (leaf_code l) (λ b. LeafBody v b l) (short_leaf l)
+leaf_of v w (text t) h = behind _ (text_of t h)
+leaf_of v w (unsigned n) h = behind _ (eight n h)
+leaf_of v w (signed z) h = behind _ (signed_of z h)
+leaf_of v w (facet t) h = behind _ (text_of t h)
+leaf_of v w (bytes bs) h = behind _ (sized bs h.size)
+leaf_of v w (date z) h = behind _ (date_of v w z h)
+leaf_of v w (tokenized t ts) h = behind _ (behind _ (tokenized_of t ts h.0 h.1))
+leaf_of v w (boolean b) h = behind _ (truth b)
+leaf_of v w (ip_address n) h = behind _ (sixteen n h)
+leaf_of v w null h = behind _ refl
+
+module _ (Legacy : List ℕ → Entries → Type 0) (v : Version) (written : IsWritten v) where
+  mutual
+    pub short_spells : (t : Tree) → IsValue t → Spells Legacy v (short v t) t
+    short_spells (leaf l) h = leaf_of v written l h
+    short_spells (array ts) h = behind _ (then _ _ (vnum_spells (element_count ts) (omega arith)) (elements_spell ts h.1))
+    short_spells (object es) h = inl (behind _ (then _ _ (vnum_spells (entry_total v (entry_count es)) (total_fits v (entry_count es) h.0)) (entries_spell es h.1)))
+
+    elements_spell : (ts : Elements) → AreElements ts → SpellsElements Legacy v (short_elements v ts) ts
+    elements_spell no_elements h = refl
+    elements_spell (element t ts) h = then _ _ (short_spells t h.0) (elements_spell ts h.1)
+
+    entries_spell : (es : Entries) → AreEntries es → SpellsEntries Legacy v (short_entries v es) es
+    entries_spell no_entries h = refl
+    entries_spell (entry k t es) h = then _ _ (key_of v k h.0) (then _ _ (short_spells t h.1) (entries_spell es h.2))
+
+  pair : (p : ℕ × Tree) → IsPair p → SpellsPair Legacy v (short_pair v p) p
+  pair p h = record { small = h.field; parts = then _ _ (four p.0 (omega (arith, h.field))) (short_spells p.1 h.value) }
+
+  pub short_document_spells : (d : Document) → IsDocument d → SpellsDocument Legacy v (short_document v d) d
+  short_document_spells d h = then _ _ (vnum_spells (length d) (omega (arith, h.count))) (each_of (SpellsPair Legacy v) IsPair (short_pair v) pair d h.each)

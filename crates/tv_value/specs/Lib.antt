@@ -1,0 +1,6 @@
+pub mod Tree
+pub mod TreeCode
+pub mod Version
+pub mod Spelling
+pub mod Short
+pub mod Fault

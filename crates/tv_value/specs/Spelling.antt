@@ -1,0 +1,92 @@
+-- What bytes spell which values.
+use Rattle.std.specs.Prelude.{◌≡◌, ℕ, ◌≤◌, ◌⊎◌, Bool, true, false, List, [], ◌∷◌, ◌++◌, length, IsUtf8}
+use Rattle.tv_value.specs.Tree.{Token, Leaf, null, text, unsigned, signed, boolean, date, facet, bytes, ip_address, tokenized, Tree, leaf, array, object, Elements, no_elements, element, Entries, no_entries, entry, element_count, entry_count, Document}
+use Rattle.tv_base.specs.Number.{VNum, Fixed, Signed}
+use Rattle.tv_base.specs.Parts.{Then, Behind, Sized, Text, Each, Counted}
+use Rattle.tv_value.specs.Version.{Version, V1, V2, V3, Date, entry_total}
+
+abbrev pub Truth : List ℕ → Bool → Type 0
+Truth whole false = whole ≡ 0 ∷ []
+Truth whole true = whole ≡ 1 ∷ []
+
+-- five parts, one after the other
+abbrev pub TokenSpelling : List ℕ → Token → Type 0
+TokenSpelling whole token =
+    Then (λ b. VNum b token.offset_from)
+    (Then (λ b. VNum b token.offset_to)
+    (Then (λ b. VNum b token.position)
+    (Then (λ b. Text b token.text)
+    (λ b. VNum b token.position_length)))) whole
+
+-- the text, and the tokens
+abbrev pub Tokenized : List ℕ → List ℕ → List Token → Type 0
+Tokenized whole content tokens = Then (λ b. Text b content) (λ b. Counted TokenSpelling b tokens) whole
+
+abbrev pub leaf_code : Leaf → ℕ
+leaf_code (text t) = 0
+leaf_code (unsigned n) = 1
+leaf_code (signed z) = 2
+leaf_code (facet t) = 3
+leaf_code (bytes bs) = 4
+leaf_code (date z) = 5
+leaf_code (tokenized t ts) = 7
+leaf_code (boolean b) = 9
+leaf_code (ip_address n) = 10
+leaf_code null = 11
+
+-- what stands behind the code
+abbrev pub LeafBody : Version → List ℕ → Leaf → Type 0
+LeafBody v whole (text t) = Text whole t
+LeafBody v whole (unsigned n) = Fixed 8 whole n
+LeafBody v whole (signed z) = Signed whole z
+LeafBody v whole (facet t) = Text whole t
+LeafBody v whole (bytes bs) = Sized whole bs
+LeafBody v whole (date z) = Date v whole z
+LeafBody v whole (tokenized t ts) = Behind 0 (λ b. Tokenized b t ts) whole
+LeafBody v whole (boolean b) = Truth whole b
+LeafBody v whole (ip_address n) = Fixed 16 whole n
+LeafBody v whole null = whole ≡ []
+
+-- a key: a text, with its code in versions 1 and 2
+abbrev pub Key : Version → List ℕ → List ℕ → Type 0
+Key V1 whole k = Behind 0 (λ b. Text b k) whole
+Key V2 whole k = Behind 0 (λ b. Text b k) whole
+Key V3 whole k = Text whole k
+
+-- The store also has objects in a legacy form, behind code 8. `Legacy` says what spells them there.
+module _ (Legacy : List ℕ → Entries → Type 0) (v : Version) where
+  abbrev mutual
+    pub Spells : List ℕ → Tree → Type 0
+    Spells whole (leaf l) = Behind (leaf_code l) (λ b. LeafBody v b l) whole
+    Spells whole (array ts) = Behind 12 (Then (λ b. VNum b (element_count ts)) (λ b. SpellsElements b ts)) whole
+    Spells whole (object es) =
+        Behind 13 (Then (λ b. VNum b (entry_total v (entry_count es))) (λ b. SpellsEntries b es)) whole
+        ⊎ Behind 8 (λ b. Legacy b es) whole
+
+    pub SpellsElements : List ℕ → Elements → Type 0
+    SpellsElements whole no_elements = whole ≡ []
+    SpellsElements whole (element t ts) = Then (λ b. Spells b t) (λ b. SpellsElements b ts) whole
+
+    pub SpellsEntries : List ℕ → Entries → Type 0
+    SpellsEntries whole no_entries = whole ≡ []
+    SpellsEntries whole (entry k t es) = Then (λ b. Key v b k) (Then (λ b. Spells b t) (λ b. SpellsEntries b es)) whole
+
+  -- a field of at most 16 bits in 4 bytes, and a value
+  pub record SpellsPair (whole : List ℕ) (pair : ℕ × Tree) : Type 0 where
+    pub small : pair.0 ≤ 65535
+    pub parts : Then (λ b. Fixed 4 b pair.0) (λ b. Spells b pair.1) whole
+
+  -- the number of the pairs, and then each
+  abbrev pub SpellsDocument : List ℕ → Document → Type 0
+  SpellsDocument whole d = Counted SpellsPair whole d
+
+  -- some front of the bytes spells the document
+  pub record Derives (whole : List ℕ) (d : Document) : Type 0 where
+    pub front : List ℕ
+    pub rest : List ℕ
+    pub joined : whole ≡ front ++ rest
+    pub spelled : SpellsDocument front d
+
+-- no legacy object
+abbrev pub NoLegacy : List ℕ → Entries → Type 0
+NoLegacy whole es = ⊥

@@ -1,0 +1,4 @@
+//! Values as finite trees, and the bytes that spell them in a store.
+#![tactic(auto)]
+
+pub mod laws;
