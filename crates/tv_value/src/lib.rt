@@ -1,4 +1,5 @@
 //! Values as finite trees, and the bytes that spell them in a store.
 #![tactic(auto)]
 
+pub mod field;
 pub mod laws;
