@@ -1,0 +1,13 @@
+//! Schemas: fields by name and number, each with a type and its options.
+#![tactic(auto)]
+
+pub mod field_entry;
+pub mod field_type;
+pub mod schema;
+pub mod schema_error;
+mod table;
+
+pub use field_entry::{FieldEntry, is_valid_field_name};
+pub use field_type::FieldType;
+pub use schema::{Schema, SchemaBuilder};
+pub use schema_error::SchemaError;
