@@ -1,5 +1,5 @@
 -- A schema as the list of its entries.
-use Rattle.std.specs.Prelude.{ℕ, suc, zero, ◌+◌, ◌<◌, ◌^◌, ◌≢◌, ◌&&◌, Bool, if◌then◌else◌, List, [], ◌∷◌, length, take, drop, Option, None, Some, is_some, not, ◌==◌, ◌≡◌, ◌++◌, Result, Ok, Err, All, AllPairs}
+use Rattle.std.specs.Prelude.{ℕ, ◌+◌, ◌<◌, ◌^◌, ◌≢◌, if◌then◌else◌, List, [], ◌∷◌, length, Option, None, Some, is_some, not, ◌==◌, ◌≡◌, ◌++◌, Result, Ok, Err, All, AllPairs}
 use Rattle.std.specs.Str.{bytes_eq}
 use Rattle.tv_schema.specs.Entry.{Entry, IsValidName, is_valid_name}
 use Rattle.tv_value.specs.declared.field.Field.{Field}
