@@ -1,0 +1,60 @@
+-- What reading a document returns.
+use Rattle.std.specs.Prelude.{◌≡◌, ◌<◌, ◌≤◌, ◌^◌, ℕ, List, ◌++◌, length, Result, Ok, Err}
+use Rattle.tv_base.specs.declared.cause.Cause.{Cause}
+use Rattle.tv_doc.specs.declared.document.CompactDoc.{CompactDoc}
+use Rattle.tv_doc.specs.Document.{document_of}
+use Rattle.tv_doc.specs.Room.{document_room}
+use Rattle.tv_value.specs.Fault.{corrupted}
+use Rattle.tv_value.specs.Spelling.{SpellsDocument, NoLegacy}
+use Rattle.tv_value.specs.Tree.{Document}
+use Rattle.tv_value.specs.Version.{Version}
+use Rattle.tv_store.specs.declared.error.DeserializeError.{DeserializeError}
+use Rattle.tv_store.specs.declared.error.DeserializeError.TheVariants as errors
+use Rattle.tv_store.specs.Refused.{DocumentRefused, Begun}
+
+-- the source's bytes are known, and fewer than 2 ^ 64 - 1
+abbrev pub Known : {S : Type 0} → (S → Type 0) → (S → List ℕ) → S → Type 0
+Known tells left source = tells source × (length (left source) < 2 ^ 64 - 1)
+
+-- a front of the bytes spells the document, and the rest is left
+pub record Takes (v : Version) (bytes rest : List ℕ) (d : Document) : Type 0 where
+  pub front : List ℕ
+  pub joined : bytes ≡ front ++ rest
+  pub spelled : SpellsDocument NoLegacy v front d
+
+-- this document is answered and this rest left, unless the source failed or memory was refused
+abbrev pub Answers : Result CompactDoc DeserializeError → Document → List ℕ → List ℕ → Type 0
+Answers (Ok found) d rest left = (document_of found ≡ d) × (left ≡ rest)
+Answers (Err (errors.Io k)) d rest left = Unit {0}
+Answers (Err errors.Memory) d rest left = Unit {0}
+Answers (Err (errors.CorruptedValue c)) d rest left = ⊥
+Answers (Err (errors.UnsupportedType t)) d rest left = ⊥
+Answers (Err (errors.TypeMismatch t u)) d rest left = ⊥
+Answers (Err (errors.Custom s)) d rest left = ⊥
+Answers (Err (errors.UnsupportedVersion m n)) d rest left = ⊥
+Answers (Err errors.HeapFull) d rest left = ⊥
+Answers (Err errors.AlreadyFailed) d rest left = ⊥
+
+-- What is told of known bytes: they are refused for this cause, or the pairs that they begin with have no room.
+abbrev pub Tells : Version → List ℕ → DeserializeError → Type 0
+Tells v bytes (errors.CorruptedValue c) = DocumentRefused v bytes (corrupted c)
+Tells v bytes errors.HeapFull = (pairs : Document) × Begun v bytes pairs × (4294967295 < document_room pairs)
+Tells v bytes (errors.Io k) = Unit {0}
+Tells v bytes errors.Memory = Unit {0}
+Tells v bytes (errors.UnsupportedType t) = ⊥
+Tells v bytes (errors.TypeMismatch t u) = ⊥
+Tells v bytes (errors.Custom s) = ⊥
+Tells v bytes (errors.UnsupportedVersion m n) = ⊥
+Tells v bytes errors.AlreadyFailed = ⊥
+
+-- the errors that reading a document has
+abbrev pub IsReadingError : DeserializeError → Type 0
+IsReadingError (errors.CorruptedValue c) = Unit {0}
+IsReadingError errors.HeapFull = Unit {0}
+IsReadingError (errors.Io k) = Unit {0}
+IsReadingError errors.Memory = Unit {0}
+IsReadingError (errors.UnsupportedType t) = ⊥
+IsReadingError (errors.TypeMismatch t u) = ⊥
+IsReadingError (errors.Custom s) = ⊥
+IsReadingError (errors.UnsupportedVersion m n) = ⊥
+IsReadingError errors.AlreadyFailed = ⊥

@@ -1,0 +1,6 @@
+pub mod Error
+pub mod Version
+pub mod Stored
+pub mod Reading
+pub mod Refused
+pub mod Documents

@@ -1,0 +1,38 @@
+-- Which pairs of a document are written.
+use Rattle.std.specs.Prelude.{ℕ, ◌<◌, Bool, false, List, map, filter, Option, Some, None, slice_get, length, All}
+use Rattle.tv_schema.specs.Entry.{Entry, is_stored_type}
+use Rattle.tv_value.specs.Tree.{Tree, leaf, array, object, Elements, Entries, Leaf, text, null, unsigned, signed, boolean, date, facet, bytes, ip_address, tokenized, Document}
+
+abbrev pub is_stored_entry : Option Entry → Bool
+is_stored_entry None = false
+is_stored_entry (Some entry) = is_stored_type entry.field_type
+
+-- whether values of the field are kept in the document store
+abbrev pub is_stored_field : List Entry → ℕ → Bool
+is_stored_field schema field = is_stored_entry (slice_get schema field)
+
+-- a pre-tokenised text is written as its text where it is a pair's value
+abbrev pub leaf_written : Leaf → Leaf
+leaf_written (tokenized t ts) = text t
+leaf_written null = null
+leaf_written (text t) = text t
+leaf_written (unsigned n) = unsigned n
+leaf_written (signed z) = signed z
+leaf_written (boolean b) = boolean b
+leaf_written (date z) = date z
+leaf_written (facet t) = facet t
+leaf_written (bytes b) = bytes b
+leaf_written (ip_address n) = ip_address n
+
+abbrev pub tree_written : Tree → Tree
+tree_written (leaf l) = leaf (leaf_written l)
+tree_written (array ts) = array ts
+tree_written (object es) = object es
+
+-- the pairs whose field is stored, in order
+abbrev pub stored : List Entry → Document → Document
+stored schema d = map (λ p. (p.0, tree_written p.1)) (filter (λ p. is_stored_field schema p.0) d)
+
+-- each field is one of the schema
+abbrev pub Belongs : List Entry → Document → Type 0
+Belongs schema d = All (λ p. p.0 < length schema) d

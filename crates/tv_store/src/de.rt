@@ -1,0 +1,73 @@
+//! Reading documents out of the store.
+
+ghost use Rattle.std.specs.Prelude.{◌≡◌, ◌≤◌, ◌++◌, ℕ, List, Ok, Err, IfOk, IfErr, MatchOption};
+ghost use Rattle.tv_base.specs.Stop.{Counts};
+ghost use Rattle.tv_doc.specs.Document.{document_of};
+ghost use Rattle.tv_doc.specs.Room.{document_room};
+ghost use Rattle.tv_store.specs.Documents.{Known, Takes, Answers, Tells, IsReadingError};
+ghost use Rattle.tv_store.specs.Error.{store_stop, TakesBy};
+ghost use Rattle.tv_store.specs.Reading.{document_at};
+ghost use Rattle.tv_store.specs.Refused.{AreRead};
+ghost use Rattle.tv_store.specs.Version.{version_of, numbered};
+ghost use Rattle.tv_value.specs.Spelling.{SpellsDocument, NoLegacy};
+ghost use Rattle.tv_value.specs.Tree.{Document};
+
+use crate::error::DeserializeError;
+use crate::pairs::take_document;
+use std::alloc::Global;
+use tv_base::ByteSource;
+use tv_doc::CompactDoc;
+
+/// A version of the store format.
+#[derive(Clone, Copy, Debug, PartialEq, Eq, PartialOrd, Ord)]
+pub enum DocStoreVersion {
+    /// Dates are microseconds since 1970.
+    V1 = 1,
+    /// Dates are nanoseconds since 1970.
+    V2 = 2,
+}
+
+impl DocStoreVersion {
+    /// The version of this number. Every number other than 1 and 2 is refused as `UnsupportedVersion`, with itself and the
+    /// largest that there is, 2.
+    pub fn from_u32(number: u32) -> Result<DocStoreVersion, DeserializeError>
+        ensures { MatchOption (numbered number) (result ≡ Err (DeserializeError.UnsupportedVersion number 2)) (λ version. result ≡ Ok version) }
+    {
+        match number {
+            1 => Ok(DocStoreVersion::V1),
+            2 => Ok(DocStoreVersion::V2),
+            _ => Err(DeserializeError::UnsupportedVersion(number, 2)),
+        }
+    }
+}
+
+/// Reads a document, however the source cuts its bytes, and takes no byte behind it.
+///
+/// Texts and numbers of type u64 are read; the codes of other types are refused as `UnknownTypeCode`.
+///
+/// Errors, the first fault in reading order: `CorruptedValue` where the bytes spell no document, `HeapFull` where the pairs
+/// so far need more room than 4294967295 bytes, `Io` where the source failed, `Memory` where memory was refused. After an
+/// error the source's place isn't promised.
+pub fn read_document<S: ByteSource>(
+    alloc: Global,
+    source: &mut S,
+    version: DocStoreVersion,
+) -> Result<CompactDoc, DeserializeError>
+    // a front of the bytes spells what is answered, and the rest is left
+    ensures found { Known S.tells S.left source.old → IfOk result (λ d. Takes (version_of version) (S.left source.old) (S.left source.new) (document_of d)) }
+
+    // wherever a front spells a document that has room, that one is answered
+    ensures only { Known S.tells S.left source.old → (d : Document) (front rest : List ℕ) → S.left source.old ≡ front ++ rest → SpellsDocument NoLegacy (version_of version) front d → AreRead d → document_room d ≤ 4294967295 → Answers result d rest (S.left source.new) }
+
+    // refusals of the bytes are true of them, and others don't come
+    ensures tells { Known S.tells S.left source.old → IfErr result (Tells (version_of version) (S.left source.old)) }
+    ensures errors { IfErr result IsReadingError }
+
+    // the source failed exactly where its count of faults rose
+    ensures faults { Counts store_stop result (S.faults source.old) (S.faults source.new) }
+    ensures still_tells { Known S.tells S.left source.old → S.tells source.new }
+{
+    let _ = version;
+    let mut count = 0;
+    take_document(alloc, source, &mut count)
+}

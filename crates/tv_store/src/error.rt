@@ -1,0 +1,114 @@
+//! Why a document can't be written or read.
+
+ghost use Rattle.std.specs.Prelude.{◌≡◌};
+ghost use Rattle.tv_store.specs.declared.error.DeserializeError.{DeserializeError};
+ghost use Rattle.tv_store.specs.declared.error.SerializeError.{SerializeError};
+ghost use Rattle.tv_store.specs.Error.{read_error, add_error, write_error};
+
+use std::io;
+use tv_base::{Cause, ReadError};
+use tv_doc::AddError;
+
+/// The type of a value in the store.
+#[derive(Clone, Copy, Debug, PartialEq, Eq)]
+pub enum ValueType {
+    /// Code 0.
+    String,
+    /// Code 1.
+    U64,
+    /// Code 2.
+    I64,
+    /// Code 3.
+    Facet,
+    /// Code 4.
+    Bytes,
+    /// Code 5.
+    DateTime,
+    /// Code 7, and then 0.
+    PreTokStr,
+    /// Code 8.
+    JSONObject,
+    /// Code 9.
+    Bool,
+    /// Code 10.
+    IpAddr,
+    /// Code 11.
+    Null,
+    /// Code 12.
+    Array,
+    /// Code 13.
+    Object,
+}
+
+/// Why bytes of a store couldn't be read. The first fault in reading order is answered.
+#[derive(Debug, Drop)]
+pub enum DeserializeError {
+    /// A value of this type can't be read where it stands.
+    UnsupportedType(ValueType),
+    /// A value of another type stands where one was expected.
+    TypeMismatch {
+        /// The type that was expected.
+        expected: ValueType,
+        /// The type that stands there.
+        actual: ValueType,
+    },
+    /// The bytes spell no value.
+    CorruptedValue(Cause),
+    /// An error of a reader that a user wrote.
+    Custom(String),
+    /// No store of this version can be read, but those up to the second number.
+    UnsupportedVersion(u32, u32),
+    /// What was read and announced so far needs more room than a document's heap has, 4294967295 bytes.
+    HeapFull,
+    /// Memory was refused.
+    Memory,
+    /// The source failed.
+    Io(io::ErrorKind),
+    /// An earlier read through the same reader was refused.
+    AlreadyFailed,
+}
+
+impl From<ReadError> for DeserializeError {
+    ghost from_gives = { λ error told. told ≡ read_error error };
+
+    fn from(error: ReadError) -> DeserializeError {
+        match error {
+            ReadError::Corrupted(cause) => DeserializeError::CorruptedValue(cause),
+            ReadError::Io(kind) => DeserializeError::Io(kind),
+            ReadError::Memory => DeserializeError::Memory,
+        }
+    }
+}
+
+impl From<AddError> for DeserializeError {
+    ghost from_gives = { λ error told. told ≡ add_error error };
+
+    fn from(error: AddError) -> DeserializeError {
+        match error {
+            AddError::FieldNumber(field) => {
+                DeserializeError::CorruptedValue(Cause::FieldNumber(field))
+            }
+            AddError::HeapFull => DeserializeError::HeapFull,
+            AddError::Memory => DeserializeError::Memory,
+        }
+    }
+}
+
+/// Why a value or a document couldn't be written.
+#[derive(Clone, Copy, Debug, PartialEq, Eq)]
+pub enum SerializeError {
+    /// The sink failed.
+    Io(io::ErrorKind),
+    /// Another number of values was given than was announced.
+    WrongCount,
+    /// Twice the number of entries is above 2^64 - 1.
+    TooMany,
+}
+
+impl From<io::ErrorKind> for SerializeError {
+    ghost from_gives = { λ kind told. told ≡ write_error kind };
+
+    fn from(kind: io::ErrorKind) -> SerializeError {
+        SerializeError::Io(kind)
+    }
+}

@@ -1,0 +1,15 @@
+//! The document store's format: documents are written as bytes, and read from them.
+#![tactic(auto)]
+
+pub mod de;
+pub mod error;
+mod pairs;
+pub mod se;
+pub mod type_codes;
+
+pub use de::{DocStoreVersion, read_document};
+pub use error::{DeserializeError, SerializeError, ValueType};
+pub use se::BinaryDocumentSerializer;
+
+#[cfg(test)]
+mod tests;
