@@ -3,3 +3,11 @@
 
 pub mod cause;
 pub mod laws;
+pub mod read_error;
+pub mod sink;
+pub mod slice_source;
+pub mod source;
+pub mod take;
+pub mod vec_sink;
+pub mod vint;
+pub mod write;
