@@ -6,7 +6,7 @@ use Rattle.tv_base.specs.Number.{Groups, last, more, VNum}
 use Rattle.std.proofs.Math.Seq.{drop-cons}
 use Rattle.std.proofs.lemmas.Bool.{cases_lt}
 use Rattle.std.proofs.lemmas.Nat.{mul-le}
-use Rattle.std.proofs.lemmas.List.{take_more, take_rest, take_all, take-append-drop, length-take-le, length-append}
+use Rattle.std.proofs.lemmas.List.{take_more, take_all, take-append-drop, length-take-le}
 use Rattle.tv_base.specs.declared.cause.Cause.{Cause}
 use Rattle.tv_base.specs.declared.cause.Cause.TheVariants.{BadNumber, UnexpectedEnd}
 use Rattle.tv_base.specs.PartFault.{NumberFault, number_ends, number_large}

@@ -11,3 +11,11 @@ pub mod take;
 pub mod vec_sink;
 pub mod vint;
 pub mod write;
+
+pub use cause::Cause;
+pub use read_error::ReadError;
+pub use sink::ByteSink;
+pub use slice_source::SliceSource;
+pub use source::ByteSource;
+pub use vec_sink::VecSink;
+pub use vint::VInt;
