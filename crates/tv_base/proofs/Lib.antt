@@ -4,3 +4,11 @@ pub mod Texts
 pub mod Excluding
 pub mod ExcludingParts
 pub mod Widths
+pub mod Pieces
+pub mod Chunks
+pub mod TakenBytes
+pub mod TakenGroups
+pub mod TakeSteps
+pub mod Written
+pub mod SliceGroups
+pub mod ShortGroups

@@ -29,10 +29,10 @@ one_groups x y (more {b = b} {high = i} {bytes = bs} p f) (more {b = c} {high = 
 pub one_number : OneReading VNum
 one_number a b x y m n r s e = one_groups x y r.groups s.groups e
 
-groups_small : (k n : ℕ) → n < 128 → groups_of (suc k) n ≡ (n + 128) ∷ []
+pub groups_small : (k n : ℕ) → n < 128 → groups_of (suc k) n ≡ (n + 128) ∷ []
 groups_small k n h = cond-true (ltb n 128) _ _ (lt-ltb n 128 h)
 
-groups_large : (k n : ℕ) → 128 ≤ n → groups_of (suc k) n ≡ n % 128 ∷ groups_of k (n / 128)
+pub groups_large : (k n : ℕ) → 128 ≤ n → groups_of (suc k) n ≡ n % 128 ∷ groups_of k (n / 128)
 groups_large k n h = cond-false (ltb n 128) _ _ (le-ltb n 128 h)
 
 -- so many groups hold each number below that power of 128

@@ -32,7 +32,10 @@ abbrev pub low_bytes : ℕ → ℕ → List ℕ
 low_bytes zero n = []
 low_bytes (suc k) n = n % 256 ∷ low_bytes k (n / 256)
 
--- n in 4, 8 or 16 bytes
+-- n in 1, 4, 8 or 16 bytes
+unfoldable pub one_byte : ℕ → List ℕ
+one_byte n = n ∷ []
+
 unfoldable pub four_bytes : ℕ → List ℕ
 four_bytes n = low_bytes 4 n
 

@@ -3,3 +3,19 @@
 
 pub mod cause;
 pub mod laws;
+pub mod read_error;
+pub mod sink;
+pub mod slice_source;
+pub mod source;
+pub mod take;
+pub mod vec_sink;
+pub mod vint;
+pub mod write;
+
+pub use cause::Cause;
+pub use read_error::ReadError;
+pub use sink::ByteSink;
+pub use slice_source::SliceSource;
+pub use source::ByteSource;
+pub use vec_sink::VecSink;
+pub use vint::VInt;

@@ -1,0 +1,19 @@
+use Rattle.std.proofs.Common.{length, ◌-◌, ◌+◌, ◌≡◌, ◌++◌, take, ◌≤◌}
+use Rattle.tv_base.specs.Take.{told}
+use Rattle.tv_base.proofs.take.take.Given as goal
+
+abbrev pub invariant-loop-filled : goal.invariant-loop-filled
+invariant-loop-filled g l =
+    let source = g.S.ByteSource in
+    let knows = told source.tells source.left (record { source = l.initial.source; count = l.initial.count }) in
+    record {
+      within : l.filled ≤ length l.buf;
+      same_length : length l.buf ≡ length l.initial.buf;
+      given : knows → source.left l.initial.source ≡ take l.filled l.buf ++ source.left l.source;
+      still_tells : knows → source.tells l.source;
+      counts : source.faults l.source ≡ source.faults l.initial.source;
+      taken : l.count ≡ l.initial.count + l.filled;
+    }
+
+abbrev pub decreases-loop-filled : goal.decreases-loop-filled
+decreases-loop-filled g l = length l.initial.buf - l.filled

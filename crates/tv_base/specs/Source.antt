@@ -1,0 +1,20 @@
+-- What a read does to the bytes that a source has left, and to its count of faults.
+use Rattle.std.specs.Prelude.{◌≡◌, ℕ, ◌+◌, ◌-◌, ◌^◌, ◌<◌, ◌≤◌, min, List, [], ◌++◌, length, take, All, Result, Ok, Err}
+
+-- each number is a byte
+abbrev pub AllBytes : List ℕ → Type 0
+AllBytes bytes = All (λ b. b < 256) bytes
+
+-- The n bytes that a read gave are the front of what was left. It gives none only at the end or with no room, and an error takes none.
+abbrev pub GivesSome : {E : Type 0} → List ℕ → List ℕ → Result ℕ E → List ℕ → Type 0
+GivesSome old new (Ok n) buf = (old ≡ take n buf ++ new) × (n ≡ 0 → 0 < length buf → old ≡ [])
+GivesSome old new (Err e) buf = new ≡ old
+
+-- a count of faults has risen, or is the largest that is counted
+abbrev pub HasRisen : ℕ → ℕ → Type 0
+HasRisen old new = min (old + 1) (2 ^ 64 - 1) ≤ new
+
+-- each error is counted, and nothing else is
+abbrev pub CountsFault : {T E : Type 0} → Result T E → ℕ → ℕ → Type 0
+CountsFault (Ok x) old new = new ≡ old
+CountsFault (Err e) old new = HasRisen old new

@@ -1,0 +1,26 @@
+-- What a reader does to a source that it is lent, and to the count of the bytes that were taken of it.
+use Rattle.std.specs.Prelude.{ℕ, ◌+◌, ◌-◌, ◌^◌, ◌<◌, List, length, Result}
+use Rattle.tv_base.specs.declared.cause.Cause.{Cause}
+use Rattle.tv_base.specs.declared.read_error.ReadError.{ReadError}
+use Rattle.tv_base.specs.declared.read_error.ReadError.TheVariants.{Corrupted, Io, Memory}
+use Rattle.tv_base.specs.Stop.{Stop, Takes}
+use Rattle.tv_base.specs.Stop.Stop.{Fault, Failed, Short}
+
+-- a source, and how many bytes were taken of it
+pub record Place (S : Type 0) : Type 0 where
+  pub source : S
+  pub count : ℕ
+
+-- the bytes left are known, and with those that were taken they are fewer than 2 ^ 64 - 1
+abbrev pub told : {S : Type 0} → (S → Type 0) → (S → List ℕ) → Place S → Type 0
+told tells left p = tells p.source × (p.count + length (left p.source) < 2 ^ 64 - 1)
+
+abbrev pub read_stop : ReadError → Stop Cause
+read_stop (Corrupted c) = Fault c
+read_stop (Io k) = Failed
+read_stop Memory = Short
+
+-- The result, seen by view, is what the reading gives of the bytes that were left, and what follows them is left now.
+abbrev pub TakesBy : {S X Y : Type 0} (tells : S → Type 0) (left : S → List ℕ) (faults : S → ℕ) (old : S) (old_count : ℕ) (new : S) (new_count : ℕ) (view : X → Y) (result : Result X ReadError) (reading : List ℕ → Result (Y × List ℕ) Cause) → Type 0
+TakesBy tells left faults old old_count new new_count view result reading =
+    Takes read_stop (told tells left) (λ p. left p.source) (λ p. p.count) (λ p. faults p.source) (record { source = old; count = old_count }) (record { source = new; count = new_count }) view result reading

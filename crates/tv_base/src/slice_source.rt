@@ -1,0 +1,47 @@
+//! A source over a slice.
+
+ghost use Rattle.std.specs.Prelude.{◌≡◌};
+ghost use Rattle.tv_base.specs.Source.{AllBytes};
+
+use crate::source::ByteSource;
+use std::io;
+
+/// Reads the bytes of a slice. Each read gives as many as there is room for, and none fails.
+#[derive(Drop)]
+pub struct SliceSource<'a> {
+    rest: &'a [u8],
+    ghost are_bytes: { AllBytes rest.now },
+}
+
+impl<'a> SliceSource<'a> {
+    /// A source that has these bytes left.
+    pub fn new(bytes: &'a [u8]) -> SliceSource<'a>
+        ensures { result.rest.now ≡ bytes.now }
+    {
+        SliceSource { rest: bytes }
+    }
+
+    /// The bytes that are left.
+    pub fn rest(&self) -> &'a [u8]
+        ensures { result.now ≡ self.now.rest.now }
+    {
+        self.rest
+    }
+}
+
+impl<'a> ByteSource for SliceSource<'a> {
+    ghost tells = { λ _. Unit {0} };
+
+    ghost left = { λ s. s.rest.now };
+
+    ghost faults = { λ _. 0 };
+
+    fn read(&mut self, buf: &mut [u8]) -> Result<usize, io::ErrorKind> {
+        let count = self.rest.len().min(buf.len());
+        buf[..count].copy_from_slice(&self.rest[..count]);
+        self.rest = &self.rest[count..];
+        Ok(count)
+    }
+
+    ghost are_bytes = { λ s told. s.are_bytes };
+}

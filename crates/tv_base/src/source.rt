@@ -1,0 +1,30 @@
+//! Where bytes come from.
+
+ghost use Rattle.std.specs.Prelude.{◌≡◌, ℕ, List, ◌≤◌, length, IfOk};
+ghost use Rattle.tv_base.specs.Source.{AllBytes, GivesSome, CountsFault};
+
+use std::io;
+
+/// A place from which bytes are read, one after the other.
+pub trait ByteSource {
+    /// That the bytes which the source has left are known, and that they end.
+    ghost tells: { Self → Type 0 };
+
+    /// Where they are known, the bytes that reads will give from here on, however they are cut.
+    ghost left: { Self → List ℕ };
+
+    /// How many reads have failed. At 2 ^ 64 - 1 the count stays.
+    ghost faults: { Self → ℕ };
+
+    /// Puts the next bytes into the front of `buf`, and gives their number: at most the length of `buf`, and possibly fewer
+    /// than are left. `Ok(0)` for a buffer that isn't empty is the end. An `Err` is counted as a fault and takes no byte,
+    /// and what `buf` then holds is open.
+    fn read(&mut self, buf: &mut [u8]) -> Result<usize, io::ErrorKind>
+        ensures bound { IfOk result (λ n. n ≤ length buf.new) }
+        ensures bytes { tells self.old → GivesSome (left self.old) (left self.new) result buf.new }
+        ensures tells { tells self.old → tells self.new }
+        ensures faults { CountsFault result (faults self.old) (faults self.new) };
+
+    /// Each number that is left is a byte.
+    ghost are_bytes: { (source : Self) → tells source → AllBytes (left source) };
+}

@@ -1,0 +1,185 @@
+//! Reading from a source that is lent, and counting the bytes that are taken of it.
+//!
+//! Each function takes exactly the bytes of its value, and raises `count` by their number. Before `count` would pass
+//! 2^64 - 1 it answers `TooLong`. After an error `count` has risen by the number of the bytes that were taken up to there.
+
+ghost use Rattle.std.specs.Prelude.{◌≡◌, ◌≤◌, ◌+◌, [], length, true, false, IfOk, IfErr, OnOk, OnErr, string_bytes};
+ghost use Rattle.std.specs.Str.{is_utf8};
+ghost use Rattle.tv_base.specs.declared.cause.Cause.TheVariants.{NotUtf8};
+ghost use Rattle.tv_base.specs.declared.read_error.ReadError.TheVariants.{Corrupted};
+ghost use Rattle.tv_base.specs.Take.{TakesBy};
+ghost use Rattle.tv_base.specs.Reading.{bytes_at, more_at, u8_at, u32_at, u64_at, vint_at, sized_at, text_at};
+
+use crate::cause::Cause;
+use crate::read_error::ReadError;
+use crate::source::ByteSource;
+use std::alloc::Global;
+use std::mem;
+
+/// Fills `buf` with the next bytes, in as many reads as it takes.
+///
+/// Errors: `Corrupted(UnexpectedEnd)` where the source ends before, `Corrupted(TooLong)`, and `Io` where a read fails.
+pub fn take<S: ByteSource>(source: &mut S, count: &mut u64, buf: &mut [u8]) -> Result<(), ReadError>
+    ensures { TakesBy S.tells S.left S.faults source.old count.old source.new count.new (λ _. buf.new) result (bytes_at (length buf.old)) }
+{
+    let mut filled = 0;
+    while filled < buf.len() {
+        let room = (u64::MAX - *count) as usize;
+        if room == 0 {
+            return Err(ReadError::Corrupted(Cause::TooLong));
+        }
+        let end = filled + room.min(buf.len() - filled);
+        match source.read(&mut buf[filled..end]) {
+            Ok(0) => return Err(ReadError::Corrupted(Cause::UnexpectedEnd)),
+            Ok(more) => {
+                filled += more;
+                *count += more as u64;
+            }
+            Err(kind) => return Err(ReadError::Io(kind)),
+        }
+    }
+    Ok(())
+}
+
+/// Takes one byte. Errors: those of [`take`].
+#[tactic(auto, using(crate::proofs::TakenBytes::u8_at_is))]
+pub fn take_u8<S: ByteSource>(source: &mut S, count: &mut u64) -> Result<u8, ReadError>
+    ensures { TakesBy S.tells S.left S.faults source.old count.old source.new count.new (λ x. x) result u8_at }
+{
+    let mut bytes = [0; 1];
+    take(source, count, &mut bytes)?;
+    Ok(bytes[0])
+}
+
+/// Takes a number in four bytes, the lowest first. Errors: those of [`take`].
+#[tactic(auto, unfolding(crate::specs::Reading::number_at))]
+pub fn take_u32<S: ByteSource>(source: &mut S, count: &mut u64) -> Result<u32, ReadError>
+    ensures { TakesBy S.tells S.left S.faults source.old count.old source.new count.new (λ x. x) result u32_at }
+{
+    let mut bytes = [0; 4];
+    take(source, count, &mut bytes)?;
+    Ok(u32::from_le_bytes(bytes))
+}
+
+/// Takes a number in eight bytes, the lowest first. Errors: those of [`take`].
+#[tactic(auto, unfolding(crate::specs::Reading::number_at))]
+pub fn take_u64<S: ByteSource>(source: &mut S, count: &mut u64) -> Result<u64, ReadError>
+    ensures { TakesBy S.tells S.left S.faults source.old count.old source.new count.new (λ x. x) result u64_at }
+{
+    let mut bytes = [0; 8];
+    take(source, count, &mut bytes)?;
+    Ok(u64::from_le_bytes(bytes))
+}
+
+/// Takes `more` bytes, at most 4096, and puts them behind those that are there.
+///
+/// Errors: those of [`take`], and `Memory`. After an error what `bytes` holds is open.
+pub fn take_more<S: ByteSource>(
+    source: &mut S,
+    count: &mut u64,
+    bytes: &mut Vec<u8>,
+    more: usize,
+) -> Result<(), ReadError>
+    requires { more ≤ 4096 }
+    ensures longer { OnOk result (length bytes.new.items ≡ length bytes.old.items + more) }
+    ensures takes { TakesBy S.tells S.left S.faults source.old count.old source.new count.new (λ _. bytes.new.items) result (more_at bytes.old.items more) }
+{
+    let filled = bytes.len();
+    bytes.resize(filled + more, 0)?;
+    take(source, count, &mut bytes[filled..])?;
+    Ok(())
+}
+
+/// Nine groups of seven bits may come before the last.
+const MORE_GROUPS: u32 = 9;
+
+/// Takes a number of variable length. No byte is taken behind the first fault.
+///
+/// Errors: those of [`take`], and `Corrupted(BadNumber)` where the number has more than ten bytes or is 2^64 or more.
+pub fn take_vint<S: ByteSource>(source: &mut S, count: &mut u64) -> Result<u64, ReadError>
+    ensures { TakesBy S.tells S.left S.faults source.old count.old source.new count.new (λ x. x) result vint_at }
+{
+    let mut value = 0u64;
+    let mut weight = 1u64;
+    for _ in 0..MORE_GROUPS {
+        let byte = take_u8(source, count)?;
+        value += u64::from(byte % 128) * weight;
+        if byte >= 128 {
+            return Ok(value);
+        }
+        weight *= 128;
+    }
+    let last = take_u8(source, count)?;
+    if last < 128 || last % 128 > 1 {
+        return Err(ReadError::Corrupted(Cause::BadNumber));
+    }
+    Ok(value + u64::from(last % 128) * weight)
+}
+
+/// No more than this is made room for before it is read.
+const PIECE: u64 = 4096;
+
+// The next `len` bytes, behind those that are there, piece by piece.
+fn take_pieces<S: ByteSource>(
+    source: &mut S,
+    count: &mut u64,
+    bytes: &mut Vec<u8>,
+    len: u64,
+) -> Result<(), ReadError>
+    ensures { TakesBy S.tells S.left S.faults source.old count.old source.new count.new (λ _. bytes.new.items) result (more_at bytes.old.items len) }
+{
+    let mut missing = len;
+    while missing > 0 {
+        let piece = missing.min(PIECE);
+        take_more(source, count, bytes, piece as usize)?;
+        missing -= piece;
+    }
+    Ok(())
+}
+
+/// Takes bytes behind their length, and puts them in place of those that are there. Room is made only as they come.
+///
+/// Errors: those of [`take_vint`], and `Memory`. After an error what `bytes` holds is open.
+#[tactic(auto, unfolding(crate::specs::Reading::sized_at))]
+pub fn take_sized<S: ByteSource>(
+    source: &mut S,
+    count: &mut u64,
+    bytes: &mut Vec<u8>,
+) -> Result<(), ReadError>
+    ensures { TakesBy S.tells S.left S.faults source.old count.old source.new count.new (λ _. bytes.new.items) result sized_at }
+{
+    let len = take_vint(source, count)?;
+    bytes.clear();
+    take_pieces(source, count, bytes, len)
+}
+
+/// Takes a text behind its length in bytes, and puts it in place of the one that is there, in the same room where that
+/// suffices. More room is made only as the bytes come.
+///
+/// Errors: those of [`take_sized`], and `Corrupted(NotUtf8)`. After an error `text` is empty.
+#[tactic(auto, unfolding(crate::specs::Reading::text_at))]
+pub fn take_text<S: ByteSource>(
+    alloc: Global,
+    source: &mut S,
+    count: &mut u64,
+    text: &mut String,
+) -> Result<(), ReadError>
+    ensures takes { TakesBy S.tells S.left S.faults source.old count.old source.new count.new (λ _. string_bytes text.new) result text_at }
+    ensures empty { OnErr result (string_bytes text.new ≡ []) }
+{
+    let mut bytes = mem::replace(text, String::new(alloc)).into_bytes();
+    take_sized(source, count, &mut bytes)?;
+    *text = text_of(bytes)?;
+    Ok(())
+}
+
+// The text of these bytes.
+fn text_of(bytes: Vec<u8>) -> Result<String, ReadError>
+    ensures ok { IfOk result (λ s. (is_utf8 bytes.items ≡ true) × (string_bytes s ≡ bytes.items)) }
+    ensures err { IfErr result (λ e. (is_utf8 bytes.items ≡ false) × (e ≡ Corrupted NotUtf8)) }
+{
+    match String::from_utf8(bytes) {
+        Ok(text) => Ok(text),
+        Err(_) => Err(ReadError::Corrupted(Cause::NotUtf8)),
+    }
+}

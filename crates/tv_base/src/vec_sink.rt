@@ -1,0 +1,72 @@
+//! A sink in memory.
+
+ghost use Rattle.std.specs.Prelude.{◌≡◌, [], ◌≤◌, length, IfOk, IfErr};
+ghost use Rattle.std.specs.declared.io.ErrorKind.TheVariants.{OutOfMemory};
+ghost use Rattle.tv_base.specs.Source.{CountsFault};
+ghost use Rattle.tv_base.specs.Sink.{AppendsSome};
+
+use crate::sink::ByteSink;
+use std::alloc::Global;
+use std::io;
+
+/// Keeps the bytes that are written, in memory. A refused growth is a fault of kind `OutOfMemory`.
+#[derive(Drop)]
+pub struct VecSink {
+    bytes: Vec<u8>,
+    faults: u64,
+}
+
+impl VecSink {
+    /// A sink that holds no byte. It takes no memory yet.
+    pub fn new(alloc: Global) -> VecSink
+        ensures bytes { result.bytes.items ≡ [] }
+        ensures faults { result.faults ≡ 0 }
+    {
+        VecSink {
+            bytes: Vec::new(alloc),
+            faults: 0,
+        }
+    }
+
+    /// The bytes that the sink holds.
+    pub fn as_slice(&self) -> &[u8]
+        ensures { result.now ≡ ⟦<VecSink as ByteSink>⟧.held self.now }
+    {
+        self.bytes.as_slice()
+    }
+
+    /// The bytes that the sink holds, taken out of it.
+    pub fn into_vec(self) -> Vec<u8>
+        ensures { result.items ≡ ⟦<VecSink as ByteSink>⟧.held self }
+    {
+        let VecSink { bytes, faults: _ } = self;
+        bytes
+    }
+}
+
+impl ByteSink for VecSink {
+    ghost tells = { λ _. Unit {0} };
+
+    ghost held = { λ s. s.bytes.items };
+
+    ghost faults = { λ s. s.faults };
+
+    /// Appends all of `buf`. Errors: `OutOfMemory` where memory is refused, and then none of it is appended.
+    fn write(&mut self, buf: &[u8]) -> Result<usize, io::ErrorKind>
+        ensures bytes { AppendsSome self.old.bytes.items self.new.bytes.items result buf.now }
+        ensures tells { Unit {0} → Unit {0} }
+        ensures count { IfOk result (λ n. n ≤ length buf.now) }
+        ensures all { IfOk result (λ n. n ≡ length buf.now) }
+        ensures some { IfOk result (λ n. n ≡ 0 → length buf.now ≡ 0) }
+        ensures faults { CountsFault result self.old.faults self.new.faults }
+        ensures kind { IfErr result (λ kind. kind ≡ OutOfMemory) }
+    {
+        match self.bytes.extend_from_slice(buf) {
+            Ok(()) => Ok(buf.len()),
+            Err(_) => {
+                self.faults = self.faults.saturating_add(1);
+                Err(io::ErrorKind::OutOfMemory)
+            }
+        }
+    }
+}

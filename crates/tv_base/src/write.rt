@@ -1,0 +1,73 @@
+//! Writing bytes, numbers and texts.
+//!
+//! Each function hands on the error of a failed write. The sink then holds what it held before, and a beginning of what was
+//! to be written.
+
+ghost use Rattle.std.specs.Prelude.{◌≡◌};
+ghost use Rattle.tv_base.specs.Number.{vnum, one_byte, four_bytes, eight_bytes};
+ghost use Rattle.tv_base.specs.Parts.{short_sized};
+ghost use Rattle.tv_base.specs.Sink.{Writes};
+
+use crate::sink::ByteSink;
+use crate::vint::VInt;
+use std::io;
+
+/// Writes all of the bytes, in as many writes as it takes.
+pub fn write_all<K: ByteSink>(sink: &mut K, bytes: &[u8]) -> Result<(), io::ErrorKind>
+    ensures { Writes K.tells K.held K.faults sink.old sink.new result bytes.now }
+{
+    let mut rest = bytes;
+    while !rest.is_empty() {
+        let count = sink.write(rest)?;
+        rest = &rest[count..];
+    }
+    Ok(())
+}
+
+/// Writes one byte.
+#[tactic(auto, unfolding(crate::specs::Number::one_byte))]
+pub fn write_u8<K: ByteSink>(sink: &mut K, number: u8) -> Result<(), io::ErrorKind>
+    ensures { Writes K.tells K.held K.faults sink.old sink.new result (one_byte number) }
+{
+    write_all(sink, &[number])
+}
+
+/// Writes a number in four bytes, the lowest first.
+#[tactic(auto, using(crate::proofs::Widths::four_bytes_is))]
+pub fn write_u32<K: ByteSink>(sink: &mut K, number: u32) -> Result<(), io::ErrorKind>
+    ensures { Writes K.tells K.held K.faults sink.old sink.new result (four_bytes number) }
+{
+    write_all(sink, &number.to_le_bytes())
+}
+
+/// Writes a number in eight bytes, the lowest first.
+#[tactic(auto, using(crate::proofs::Widths::eight_bytes_is))]
+pub fn write_u64<K: ByteSink>(sink: &mut K, number: u64) -> Result<(), io::ErrorKind>
+    ensures { Writes K.tells K.held K.faults sink.old sink.new result (eight_bytes number) }
+{
+    write_all(sink, &number.to_le_bytes())
+}
+
+/// Writes the shortest spelling of a number.
+pub fn write_vint<K: ByteSink>(sink: &mut K, number: u64) -> Result<(), io::ErrorKind>
+    ensures { Writes K.tells K.held K.faults sink.old sink.new result (vnum number) }
+{
+    let (bytes, len) = VInt(number).spelling();
+    write_all(sink, &bytes[..len])
+}
+
+/// Writes bytes behind their length.
+#[tactic(auto, using(crate::proofs::Written::Writes_then, crate::proofs::Written::Writes_front))]
+pub fn write_sized<K: ByteSink>(sink: &mut K, content: &[u8]) -> Result<(), io::ErrorKind>
+    ensures { Writes K.tells K.held K.faults sink.old sink.new result (short_sized content.now) }
+{
+    write_vint(sink, content.len() as u64)?;
+    write_all(sink, content)
+}
+
+/// Writes a text behind its length in bytes.
+pub fn write_text<K: ByteSink>(sink: &mut K, text: &str) -> Result<(), io::ErrorKind>
+    ensures { Writes K.tells K.held K.faults sink.old sink.new result (short_sized text.now) }
+{
+    write_sized(sink, text.as_bytes())
+}
