@@ -49,20 +49,27 @@ pairs_at-refused k n bytes rest ps c read wrong less =
     let e : (n - suc k) + suc k ≡ n = omega arith in
     subst (λ m. pairs_at m bytes ≡ Err c) e (refused_above (n - suc k) (suc k) bytes c here)
 
+answered : (x y : Document × List ℕ) (read : Result (Document × List ℕ) Cause) → read ≡ Ok x → read ≡ Ok y → x ≡ y
+answered x y read p q = cc
+
 -- the first pairs begin the document that is read
 nothing_more : (ps d : Document) (rest end : List ℕ) (read : Result (Document × List ℕ) Cause) → read ≡ Ok (ps, rest) → read ≡ Ok (d, end) → (more : Document) × (d ≡ ps ++ more)
-nothing_more ps d rest end read p q = let e : d ≡ ps = cc in ([], e ∙ sym (append-nil ps))
+nothing_more ps d rest end read p q = let e : d ≡ ps = ap (λ x. x.0) (answered (d, end) (ps, rest) read q p) in ([], e ∙ sym (append-nil ps))
+
+with_pair : Document → (ℕ × Tree) × List ℕ → Document × List ℕ
+with_pair ps q = (ps ++ q.0 ∷ [], q.1)
+
+last_pair : (ps d : Document) (end : List ℕ) (x : Document × List ℕ) (read : Result ((ℕ × Tree) × List ℕ) Cause) → (read >>= λ q. Ok (with_pair x.0 q)) ≡ Ok (d, end) → (more : Document) × (x.0 ≡ ps ++ more) → (more : Document) × (d ≡ ps ++ more)
+unfolding with_pair
+last_pair ps d end x (Err c) e few = absurd (cc)
+last_pair ps d end x (Ok q) e few =
+    let whole : d ≡ x.0 ++ q.0 ∷ [] = ap (λ y. y.0) (answered (d, end) (with_pair x.0 q) (Ok (with_pair x.0 q)) e refl) in
+    (few.0 ++ q.0 ∷ [], whole ∙ ap (λ (l : Document). l ++ q.0 ∷ []) few.1 ∙ append_assoc ps few.0 (q.0 ∷ []))
 
 last_case : (ps d : Document) (end : List ℕ) (read : Result (Document × List ℕ) Cause) → (read >>= next) ≡ Ok (d, end) → ((e : Document) (r : List ℕ) → read ≡ Ok (e, r) → (more : Document) × (e ≡ ps ++ more)) → (more : Document) × (d ≡ ps ++ more)
+unfolding with_pair
 last_case ps d end (Err c) p h = absurd (cc)
-last_case ps d end (Ok x) p h = last_pair (pair_at x.1) p
-  where
-    last_pair : (read : Result ((ℕ × Tree) × List ℕ) Cause) → (read >>= λ q. Ok (x.0 ++ q.0 ∷ [], q.1)) ≡ Ok (d, end) → (more : Document) × (d ≡ ps ++ more)
-    last_pair (Err c) e = absurd (cc)
-    last_pair (Ok q) e =
-        let few = h x.0 x.1 refl in
-        let whole : d ≡ x.0 ++ q.0 ∷ [] = cc in
-        (few.0 ++ q.0 ∷ [], whole ∙ ap (λ (l : Document). l ++ q.0 ∷ []) few.1 ∙ append_assoc ps few.0 (q.0 ∷ []))
+last_case ps d end (Ok x) p h = last_pair ps d end x (pair_at x.1) p (h x.0 x.1 refl)
 
 begins_above : (m k : ℕ) (bytes rest : List ℕ) (ps : Document) → pairs_at k bytes ≡ Ok (ps, rest) → (d : Document) (end : List ℕ) → pairs_at (m + k) bytes ≡ Ok (d, end) → (more : Document) × (d ≡ ps ++ more)
 begins_above zero k bytes rest ps read d end e = nothing_more ps d rest end (pairs_at k bytes) read (rw zero-add at e)
