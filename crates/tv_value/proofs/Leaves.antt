@@ -48,7 +48,7 @@ agree_token s t =
 pub one_token : OneReading TokenSpelling
 one_token = one_from TokenSpelling agree_token
 
-agree_tokenized : (s t : List ℕ) (ss ts : List Token) → Agree (λ b. Tokenized b s ss) (λ b. Tokenized b t ts) (tokenized s ss ≡ tokenized t ts)
+pub agree_tokenized : (s t : List ℕ) (ss ts : List Token) → Agree (λ b. Tokenized b s ss) (λ b. Tokenized b t ts) (tokenized s ss ≡ tokenized t ts)
 agree_tokenized s t ss ts = agree_map (λ e. λ i. tokenized (e.0 i) (e.1 i)) (agree_then (agree_text s t) (λ _. agree_counted {R = TokenSpelling} one_token ss ts))
 
 pub agree_leaf : (v : Version) (s t : Leaf) → leaf_code s ≡ leaf_code t → Agree (λ b. LeafBody v b s) (λ b. LeafBody v b t) (s ≡ t)

@@ -59,7 +59,7 @@ each_of : {A : Type 0} (R : List ℕ → A → Type 0) (P : A → Type 0) (f : A
 each_of R P f h [] p = refl
 each_of R P f h (x ∷ xs) p = then _ _ (h x p.0) (each_of R P f h xs p.1)
 
-tokenized_of : (t : List ℕ) (ts : List Token) → IsText t → AreTokens ts → Tokenized (short_tokenized t ts) t ts
+pub tokenized_of : (t : List ℕ) (ts : List Token) → IsText t → AreTokens ts → Tokenized (short_tokenized t ts) t ts
 tokenized_of t ts p q = then _ _ (text_of t p) (then _ _ (vnum_spells (length ts) (omega (arith, q.count))) (each_of TokenSpelling IsToken short_token token ts q.each))
 
 date_of : (v : Version) → IsWritten v → (z : ℤ) → FitsSigned w64 z → Date v (eight_bytes (cast_unsigned w64 z)) z

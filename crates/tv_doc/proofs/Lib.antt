@@ -1,0 +1,4 @@
+pub mod Grown
+pub mod Writes
+pub mod Documents
+pub mod Valid

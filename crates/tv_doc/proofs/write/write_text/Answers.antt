@@ -1,0 +1,11 @@
+use Rattle.std.proofs.Common.{◌+◌, ◌<◌, ◌^◌, ◌++◌, length, ap, sym, ◌∙◌, subst, arith}
+use Rattle.tv_base.specs.Parts.{short_sized}
+use Rattle.tv_doc.proofs.Writes.{wrote_text}
+use Rattle.tv_doc.proofs.write.write_text.Goals as goal
+
+pub returns-clause-ok : goal.returns-clause-ok
+returns-clause-ok c =
+    let old = c.args.heap.now in
+    let same = c.as_bytes.ensures.value in
+    wrote_text old.items _ c.args.content.now _ (c.in_ok-push_sized.ensures.ok ∙ ap (λ z. old.items ++ short_sized z) same) (c.utf8.content) c.requires
+    (omega (arith, old.ok.0, c.len-at.ensures))

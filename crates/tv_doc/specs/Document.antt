@@ -1,0 +1,59 @@
+-- What a document is seen as, and what an addition leaves.
+use Rattle.std.specs.Prelude.{◌≡◌, ◌≢◌, ℕ, ◌+◌, ◌<◌, ◌≤◌, List, [], ◌∷◌, ◌++◌, length, map, slice_get, Option, Some, None, Result, Ok, Err}
+use Rattle.tv_value.specs.Tree.{Tree, Document}
+use Rattle.tv_doc.specs.declared.add_error.AddError.{AddError}
+use Rattle.tv_doc.specs.declared.add_error.AddError.TheVariants.{FieldNumber, HeapFull, Memory}
+use Rattle.tv_doc.specs.declared.document.CompactDoc.{CompactDoc}
+use Rattle.tv_doc.specs.Reads.{Reads}
+use Rattle.tv_doc.specs.Room.{room}
+use Rattle.tv_doc.specs.TypeCode.{type_code}
+
+-- its fields and trees, in order
+abbrev pub document_of : CompactDoc → Document
+document_of d = d.document.0
+
+-- the bytes in which the trees stand
+abbrev pub heap_of : CompactDoc → List ℕ
+heap_of d = d.node_data.items
+
+-- each pair's type byte and address
+abbrev pub places_of : CompactDoc → List (ℕ × ℕ)
+places_of d = map (λ p. (type_code p.value_type, p.address)) d.pairs.items
+
+-- One pair is added. The old heap is kept as a front, and grew by the tree's room at most.
+-- The old places are kept, and the new one is behind the old heap, unless it is that of null or a truth value.
+pub record Added (old new : CompactDoc) (field : ℕ) (t : Tree) : Type 0 where
+  pub document : document_of new ≡ document_of old ++ (field, t) ∷ []
+  pub added : List ℕ
+  pub heap : heap_of new ≡ heap_of old ++ added
+  pub within : length added ≤ room t
+  pub code : ℕ
+  pub at : ℕ
+  pub places : places_of new ≡ places_of old ++ (code, at) ∷ []
+  pub behind : code ≢ 0 → code ≢ 9 → length (heap_of old) ≤ at
+
+-- the same heap and the same pairs at the same places
+pub record IsUnchanged (old new : CompactDoc) : Type 0 where
+  pub document : document_of new ≡ document_of old
+  pub heap : heap_of new ≡ heap_of old
+  pub places : places_of new ≡ places_of old
+
+-- the heap has no room for the tree
+abbrev pub IsFull : CompactDoc → Tree → Type 0
+IsFull d t = 4294967295 < length (heap_of d) + room t
+
+-- when which refusal comes
+abbrev pub Refuses : CompactDoc → ℕ → Tree → AddError → Type 0
+Refuses d field t (FieldNumber n) = (n ≡ field) × (65535 < field)
+Refuses d field t HeapFull = (field ≤ 65535) × IsFull d t
+Refuses d field t Memory = (field ≤ 65535) × (length (heap_of d) + room t ≤ 4294967295)
+
+-- what an addition answers, and what it leaves
+abbrev pub Adds : {T : Type 0} → CompactDoc → CompactDoc → ℕ → Tree → Result T AddError → Type 0
+Adds old new field t (Ok x) = (field ≤ 65535) × (length (heap_of old) + room t ≤ 4294967295) × Added old new field t
+Adds old new field t (Err e) = Refuses old field t e × IsUnchanged old new
+
+-- the type byte and the address of the pair at a place, whose tree the heap reads there
+abbrev pub ReadsAt : CompactDoc → ℕ → Option (ℕ × ℕ) → Type 0
+ReadsAt d i None = slice_get (document_of d) i ≡ None
+ReadsAt d i (Some p) = (pair : ℕ × Tree) × ((slice_get (document_of d) i ≡ Some pair) × ∥ Reads (heap_of d) p.0 p.1 pair.1 ∥₁)

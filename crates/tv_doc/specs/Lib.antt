@@ -1,0 +1,9 @@
+pub mod Room
+pub mod Reads
+pub mod ReadsLaws
+pub mod TypeCode
+pub mod Held
+pub mod Wrote
+pub mod Document
+pub mod Lent
+pub mod NewLeaf

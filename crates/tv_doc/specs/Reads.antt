@@ -1,0 +1,95 @@
+-- Which bytes of a heap stand for which tree.
+use Rattle.std.specs.Prelude.{◌≡◌, ◌≢◌, ℕ, ◌<◌, ◌^◌, Bool, true, false, List, [], ◌∷◌, ◌++◌, length, IsUtf8}
+use Rattle.tv_base.specs.Number.{vnum, Fixed, Signed}
+use Rattle.tv_base.specs.Parts.{short_sized}
+use Rattle.tv_value.specs.Short.{short_tokenized, IsText, AreTokens}
+use Rattle.tv_value.specs.Tree.{Token, Leaf, null, text, unsigned, signed, boolean, date, facet, bytes, ip_address, tokenized, Tree, leaf, array, object, Elements, no_elements, element, Entries, no_entries, entry}
+
+-- bytes of some kind stand at a place of the heap
+pub record Stands (heap : List ℕ) (at : ℕ) (P : List ℕ → Type 0) : Type 0 where
+  pub before : List ℕ
+  pub whole : List ℕ
+  pub behind : List ℕ
+  pub joined : heap ≡ before ++ (whole ++ behind)
+  pub place : length before ≡ at
+  pub stands : P whole
+
+-- the content behind its length, in the shortest spelling
+pub record ShortSized (content whole : List ℕ) : Type 0 where
+  pub is : whole ≡ short_sized content
+  pub fits : length content < 2 ^ 32
+
+pub record ShortText (content whole : List ℕ) : Type 0 where
+  pub sized : ShortSized content whole
+  pub utf8 : IsUtf8 content
+
+-- a text and its tokens, in the shortest spelling
+pub record ShortTokenized (content : List ℕ) (tokens : List Token) (whole : List ℕ) : Type 0 where
+  pub is : whole ≡ short_tokenized content tokens
+  pub content_fits : IsText content
+  pub tokens_fit : AreTokens tokens
+
+-- the type bytes; 4 is unused
+abbrev pub leaf_type : Leaf → ℕ
+leaf_type null = 0
+leaf_type (text t) = 1
+leaf_type (unsigned n) = 2
+leaf_type (signed z) = 3
+leaf_type (date z) = 5
+leaf_type (facet t) = 6
+leaf_type (bytes bs) = 7
+leaf_type (ip_address n) = 8
+leaf_type (boolean b) = 9
+leaf_type (tokenized t ts) = 10
+
+abbrev pub flag : Bool → ℕ
+flag false = 0
+flag true = 1
+
+-- what stands at the address of a leaf; null and a truth value have no bytes
+abbrev pub LeafStands : List ℕ → ℕ → Leaf → Type 0
+LeafStands heap at null = at ≡ 0
+LeafStands heap at (text t) = Stands heap at (λ w. ShortText t w)
+LeafStands heap at (unsigned n) = Stands heap at (λ w. Fixed 8 w n)
+LeafStands heap at (signed z) = Stands heap at (λ w. Signed w z)
+LeafStands heap at (boolean b) = at ≡ flag b
+LeafStands heap at (date z) = Stands heap at (λ w. Signed w z)
+LeafStands heap at (facet t) = Stands heap at (λ w. ShortText t w)
+LeafStands heap at (bytes bs) = Stands heap at (λ w. ShortSized bs w)
+LeafStands heap at (ip_address n) = Stands heap at (λ w. Fixed 16 w n)
+LeafStands heap at (tokenized t ts) = Stands heap at (λ w. ShortTokenized t ts w)
+
+-- the type byte and the address of a child, and then the others; a child that has bytes lies below its parent
+pub record Child (parent : ℕ) (R : ℕ → ℕ → Type 0) (Q : List ℕ → Type 0) (whole : List ℕ) : Type 0 where
+  pub code : ℕ
+  pub at : ℕ
+  pub rest : List ℕ
+  pub joined : whole ≡ code ∷ (vnum at ++ rest)
+  pub fits : at < 2 ^ 32
+  pub below : code ≢ 0 → code ≢ 9 → at < parent
+  pub reads : R code at
+  pub others : Q rest
+
+-- behind its length stands the list of the children
+pub record Listed (heap : List ℕ) (at : ℕ) (P : List ℕ → Type 0) : Type 0 where
+  pub list : List ℕ
+  pub stands : Stands heap at (λ w. ShortSized list w)
+  pub children : P list
+
+-- the tree that stands at an address, of the type of this byte
+abbrev mutual
+  pub Reads : List ℕ → ℕ → ℕ → Tree → Type 0
+  Reads heap code at (leaf l) = (code ≡ leaf_type l) × LeafStands heap at l
+  Reads heap code at (array ts) = (code ≡ 12) × Listed heap at (λ b. ReadsElements heap at b ts)
+  Reads heap code at (object es) = (code ≡ 11) × Listed heap at (λ b. ReadsEntries heap at b es)
+
+  pub ReadsElements : List ℕ → ℕ → List ℕ → Elements → Type 0
+  ReadsElements heap parent whole no_elements = whole ≡ []
+  ReadsElements heap parent whole (element t ts) = Child parent (λ code at. Reads heap code at t) (λ b. ReadsElements heap parent b ts) whole
+
+  -- of an entry, the key and then the value
+  pub ReadsEntries : List ℕ → ℕ → List ℕ → Entries → Type 0
+  ReadsEntries heap parent whole no_entries = whole ≡ []
+  ReadsEntries heap parent whole (entry k t es) =
+      Child parent (λ code at. (code ≡ 1) × Stands heap at (λ w. ShortText k w))
+      (λ b. Child parent (λ code at. Reads heap code at t) (λ c. ReadsEntries heap parent c es) b) whole

@@ -1,0 +1,20 @@
+-- What a call that writes a value at the end of a heap leaves.
+use Rattle.std.specs.Prelude.{◌≡◌, ◌≢◌, ℕ, ◌<◌, ◌≤◌, ◌^◌, List, ◌++◌, length}
+use Rattle.tv_value.specs.Tree.{Tree}
+use Rattle.tv_doc.specs.Room.{room}
+use Rattle.tv_doc.specs.Reads.{Reads}
+
+-- the old bytes are there, and perhaps more behind them
+abbrev pub IsFront : List ℕ → List ℕ → Type 0
+IsFront old new = (rest : List ℕ) × (new ≡ old ++ rest)
+
+-- The old heap is kept as a front and grew by the tree's room at most, and the tree reads. Unless it is null or a
+-- truth value, it stands behind the old heap.
+pub record Wrote (old new : List ℕ) (code at : ℕ) (t : Tree) : Type 0 where
+  pub added : List ℕ
+  pub grows : new ≡ old ++ added
+  pub within : length added ≤ room t
+  pub reads : Reads new code at t
+  pub behind : code ≢ 0 → code ≢ 9 → length old ≤ at
+  pub below : code ≢ 0 → code ≢ 9 → at < length new
+  pub fits : at < 2 ^ 32

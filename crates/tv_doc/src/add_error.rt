@@ -1,0 +1,12 @@
+//! Why an addition to a document is refused.
+
+/// Why a document refuses an addition. After each refusal its pairs and its heap are unchanged.
+#[derive(Clone, Copy, Debug, PartialEq, Eq)]
+pub enum AddError {
+    /// The number of the field, which is above 65535.
+    FieldNumber(u32),
+    /// The length of the heap and the room of the value together are above 4294967295 bytes.
+    HeapFull,
+    /// The memory for the value was refused.
+    Memory,
+}

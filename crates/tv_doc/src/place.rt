@@ -1,0 +1,11 @@
+//! Where a pair's value stands.
+
+use crate::value_type::ValueType;
+
+/// A field, and the type and the address of its value in the heap.
+#[derive(Clone, Copy)]
+pub struct FieldValueAddr {
+    pub field: u16,
+    pub value_type: ValueType,
+    pub address: u32,
+}

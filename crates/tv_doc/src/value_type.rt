@@ -1,0 +1,44 @@
+//! The types of values in a heap.
+
+ghost use Rattle.std.specs.Prelude.{◌≡◌};
+
+/// The type of a value that stands in a document's heap.
+#[derive(Clone, Copy, Debug, PartialEq, Eq, Default)]
+pub enum ValueType {
+    /// No value.
+    #[default]
+    Null = 0,
+    /// A text.
+    Str = 1,
+    /// An unsigned number of 64 bits.
+    U64 = 2,
+    /// A signed number of 64 bits.
+    I64 = 3,
+    /// A date, in nanoseconds since 1970.
+    Date = 5,
+    /// The encoded text of a facet.
+    Facet = 6,
+    /// Bytes.
+    Bytes = 7,
+    /// An IPv6 address.
+    IpAddr = 8,
+    /// A truth value.
+    Bool = 9,
+    /// A text and its tokens.
+    PreTokStr = 10,
+    /// Keys and their values, in order.
+    Object = 11,
+    /// Values, in order.
+    Array = 12,
+}
+
+impl ValueType {
+    ghost use Rattle.tv_doc.specs.TypeCode.{type_code};
+
+    /// The type byte that stands for it in a heap: 0 to 12 in the order of the variants, without 4.
+    pub fn to_code(self) -> u8
+        ensures { result ≡ type_code self }
+    {
+        self as u8
+    }
+}
