@@ -6,7 +6,7 @@ ghost use Rattle.tv_base.specs.Source.{AllBytes};
 use crate::source::ByteSource;
 use std::io;
 
-/// Reads the bytes of a slice. Each read gives as many as there is room for, and none fails.
+/// Reads the bytes of a slice. No read fails.
 #[derive(Drop)]
 pub struct SliceSource<'a> {
     rest: &'a [u8],

@@ -1,12 +1,13 @@
 //! Reading from a source that is lent, and counting the bytes that are taken of it.
 //!
 //! Each function takes exactly the bytes of its value, and raises `count` by their number. Before `count` would pass
-//! 2^64 - 1 it answers `TooLong`. After an error `count` has risen by the number of the bytes that were taken up to there.
+//! 2^64 - 1 it answers `Corrupted(TooLong)`. After an error `count` has risen by the number of the bytes that were taken up
+//! to there.
 
-ghost use Rattle.std.specs.Prelude.{◌≡◌, ◌≤◌, ◌+◌, [], length, true, false, IfOk, IfErr, OnOk, OnErr, string_bytes};
+ghost use Rattle.std.specs.Prelude.{◌≡◌, ◌≤◌, ◌+◌, ◌-◌, ◌^◌, [], length, true, false, IfOk, IfErr, IsErrOf, OnOk, OnErr, string_bytes};
 ghost use Rattle.std.specs.Str.{is_utf8};
-ghost use Rattle.tv_base.specs.declared.cause.Cause.TheVariants.{NotUtf8};
-ghost use Rattle.tv_base.specs.declared.read_error.ReadError.TheVariants.{Corrupted};
+ghost use Rattle.tv_base.specs.declared.cause.Cause.TheVariants.{NotUtf8, TooLong};
+ghost use Rattle.tv_base.specs.declared.read_error.ReadError.TheVariants.{Corrupted, Memory};
 ghost use Rattle.tv_base.specs.Take.{TakesBy};
 ghost use Rattle.tv_base.specs.Reading.{bytes_at, more_at, u8_at, u32_at, u64_at, vint_at, sized_at, text_at};
 
@@ -20,7 +21,9 @@ use std::mem;
 ///
 /// Errors: `Corrupted(UnexpectedEnd)` where the source ends before, `Corrupted(TooLong)`, and `Io` where a read fails.
 pub fn take<S: ByteSource>(source: &mut S, count: &mut u64, buf: &mut [u8]) -> Result<(), ReadError>
-    ensures { TakesBy S.tells S.left S.faults source.old count.old source.new count.new (λ _. buf.new) result (bytes_at (length buf.old)) }
+    ensures takes { TakesBy S.tells S.left S.faults source.old count.old source.new count.new (λ _. buf.new) result (bytes_at (length buf.old)) }
+    ensures too_long { IsErrOf result (Corrupted TooLong) → count.new ≡ 2 ^ 64 - 1 }
+    ensures spares { ¬ IsErrOf result Memory }
 {
     let mut filled = 0;
     while filled < buf.len() {
@@ -44,7 +47,9 @@ pub fn take<S: ByteSource>(source: &mut S, count: &mut u64, buf: &mut [u8]) -> R
 /// Takes one byte. Errors: those of [`take`].
 #[tactic(auto, using(crate::proofs::TakenBytes::u8_at_is))]
 pub fn take_u8<S: ByteSource>(source: &mut S, count: &mut u64) -> Result<u8, ReadError>
-    ensures { TakesBy S.tells S.left S.faults source.old count.old source.new count.new (λ x. x) result u8_at }
+    ensures takes { TakesBy S.tells S.left S.faults source.old count.old source.new count.new (λ x. x) result u8_at }
+    ensures too_long { IsErrOf result (Corrupted TooLong) → count.new ≡ 2 ^ 64 - 1 }
+    ensures spares { ¬ IsErrOf result Memory }
 {
     let mut bytes = [0; 1];
     take(source, count, &mut bytes)?;
@@ -54,7 +59,9 @@ pub fn take_u8<S: ByteSource>(source: &mut S, count: &mut u64) -> Result<u8, Rea
 /// Takes a number in four bytes, the lowest first. Errors: those of [`take`].
 #[tactic(auto, unfolding(crate::specs::Reading::number_at))]
 pub fn take_u32<S: ByteSource>(source: &mut S, count: &mut u64) -> Result<u32, ReadError>
-    ensures { TakesBy S.tells S.left S.faults source.old count.old source.new count.new (λ x. x) result u32_at }
+    ensures takes { TakesBy S.tells S.left S.faults source.old count.old source.new count.new (λ x. x) result u32_at }
+    ensures too_long { IsErrOf result (Corrupted TooLong) → count.new ≡ 2 ^ 64 - 1 }
+    ensures spares { ¬ IsErrOf result Memory }
 {
     let mut bytes = [0; 4];
     take(source, count, &mut bytes)?;
@@ -64,7 +71,9 @@ pub fn take_u32<S: ByteSource>(source: &mut S, count: &mut u64) -> Result<u32, R
 /// Takes a number in eight bytes, the lowest first. Errors: those of [`take`].
 #[tactic(auto, unfolding(crate::specs::Reading::number_at))]
 pub fn take_u64<S: ByteSource>(source: &mut S, count: &mut u64) -> Result<u64, ReadError>
-    ensures { TakesBy S.tells S.left S.faults source.old count.old source.new count.new (λ x. x) result u64_at }
+    ensures takes { TakesBy S.tells S.left S.faults source.old count.old source.new count.new (λ x. x) result u64_at }
+    ensures too_long { IsErrOf result (Corrupted TooLong) → count.new ≡ 2 ^ 64 - 1 }
+    ensures spares { ¬ IsErrOf result Memory }
 {
     let mut bytes = [0; 8];
     take(source, count, &mut bytes)?;
@@ -83,6 +92,7 @@ pub fn take_more<S: ByteSource>(
     requires { more ≤ 4096 }
     ensures longer { OnOk result (length bytes.new.items ≡ length bytes.old.items + more) }
     ensures takes { TakesBy S.tells S.left S.faults source.old count.old source.new count.new (λ _. bytes.new.items) result (more_at bytes.old.items more) }
+    ensures too_long { IsErrOf result (Corrupted TooLong) → count.new ≡ 2 ^ 64 - 1 }
 {
     let filled = bytes.len();
     bytes.resize(filled + more, 0)?;
@@ -97,7 +107,9 @@ const MORE_GROUPS: u32 = 9;
 ///
 /// Errors: those of [`take`], and `Corrupted(BadNumber)` where the number has more than ten bytes or is 2^64 or more.
 pub fn take_vint<S: ByteSource>(source: &mut S, count: &mut u64) -> Result<u64, ReadError>
-    ensures { TakesBy S.tells S.left S.faults source.old count.old source.new count.new (λ x. x) result vint_at }
+    ensures takes { TakesBy S.tells S.left S.faults source.old count.old source.new count.new (λ x. x) result vint_at }
+    ensures too_long { IsErrOf result (Corrupted TooLong) → count.new ≡ 2 ^ 64 - 1 }
+    ensures spares { ¬ IsErrOf result Memory }
 {
     let mut value = 0u64;
     let mut weight = 1u64;
@@ -126,7 +138,8 @@ fn take_pieces<S: ByteSource>(
     bytes: &mut Vec<u8>,
     len: u64,
 ) -> Result<(), ReadError>
-    ensures { TakesBy S.tells S.left S.faults source.old count.old source.new count.new (λ _. bytes.new.items) result (more_at bytes.old.items len) }
+    ensures takes { TakesBy S.tells S.left S.faults source.old count.old source.new count.new (λ _. bytes.new.items) result (more_at bytes.old.items len) }
+    ensures too_long { IsErrOf result (Corrupted TooLong) → count.new ≡ 2 ^ 64 - 1 }
 {
     let mut missing = len;
     while missing > 0 {
@@ -146,7 +159,8 @@ pub fn take_sized<S: ByteSource>(
     count: &mut u64,
     bytes: &mut Vec<u8>,
 ) -> Result<(), ReadError>
-    ensures { TakesBy S.tells S.left S.faults source.old count.old source.new count.new (λ _. bytes.new.items) result sized_at }
+    ensures takes { TakesBy S.tells S.left S.faults source.old count.old source.new count.new (λ _. bytes.new.items) result sized_at }
+    ensures too_long { IsErrOf result (Corrupted TooLong) → count.new ≡ 2 ^ 64 - 1 }
 {
     let len = take_vint(source, count)?;
     bytes.clear();
@@ -165,6 +179,7 @@ pub fn take_text<S: ByteSource>(
     text: &mut String,
 ) -> Result<(), ReadError>
     ensures takes { TakesBy S.tells S.left S.faults source.old count.old source.new count.new (λ _. string_bytes text.new) result text_at }
+    ensures too_long { IsErrOf result (Corrupted TooLong) → count.new ≡ 2 ^ 64 - 1 }
     ensures empty { OnErr result (string_bytes text.new ≡ []) }
 {
     let mut bytes = mem::replace(text, String::new(alloc)).into_bytes();

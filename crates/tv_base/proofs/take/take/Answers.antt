@@ -2,8 +2,8 @@ use Rattle.std.proofs.Common.{rules, arith, ◌∙◌, ap, length}
 use Rattle.tv_base.proofs.Pieces.{fills_more, is_full, ends_early, took}
 use Rattle.tv_base.proofs.take.take.Goals as goal
 
-pub returns-in-Ok-eq0 : goal.returns-in-Ok-eq0
-returns-in-Ok-eq0 g c =
+pub returns-in-Ok-eq0-clause-takes : goal.returns-in-Ok-eq0-clause-takes
+returns-in-Ok-eq0-clause-takes g c =
     let l = c.loop-filled in
     let before = l.invariant in
     record {
@@ -29,8 +29,8 @@ loop-filled-preserved g c =
       taken = omega arith;
     }
 
-pub returns : goal.returns
-returns g c =
+pub returns-clause-takes : goal.returns-clause-takes
+returns-clause-takes g c =
     let l = c.loop-filled in
     let before = l.invariant in
     record {
@@ -40,8 +40,8 @@ returns g c =
       taken = λ told. omega (arith, before.taken, took l.filled l.buf _ _ before.within (before.given told));
     }
 
-pub returns-in-Err : goal.returns-in-Err
-returns-in-Err g c =
+pub returns-in-Err-clause-takes : goal.returns-in-Err-clause-takes
+returns-in-Err-clause-takes g c =
     let l = c.loop-filled in
     let before = l.invariant in
     record {

@@ -9,8 +9,8 @@ use Rattle.tv_base.proofs.take.take_pieces.Goals as goal
 pub loop-missing-init : goal.loop-missing-init
 loop-missing-init g c = SoFar-start _ _ _ _ _ _ _ (λ bytes. refl)
 
-pub returns-in_err-take_more : goal.returns-in_err-take_more
-returns-in_err-take_more g c =
+pub returns-in_err-take_more-clause-takes : goal.returns-in_err-take_more-clause-takes
+returns-in_err-take_more-clause-takes g c =
     let p = err_from_is_err_and c.from_residual.result c.from_residual.ensures.1 in
     let l = c.loop-missing in
     let n = c.min-piece.result in
@@ -22,5 +22,5 @@ loop-missing-preserved g c =
     let n = c.min-piece.result in
     SoFar-step (λ x. more_at x.0 (l.missing - n) x.1) (chunk l.bytes.items l.missing n (omega arith)) l.invariant c.in_ok-take_more.ensures.takes
 
-pub returns : goal.returns
-returns g c = SoFar-returns read_stop _ _ (none c.loop-missing.bytes.items c.loop-missing.missing (omega arith)) c.loop-missing.invariant
+pub returns-clause-takes : goal.returns-clause-takes
+returns-clause-takes g c = SoFar-returns read_stop _ _ (none c.loop-missing.bytes.items c.loop-missing.missing (omega arith)) c.loop-missing.invariant
