@@ -1,1 +1,2 @@
 pub mod PairLoop
+pub mod Room

@@ -38,6 +38,10 @@ unfolding pairs_at
 pairs_at-suc zero bytes = one_case (pair_at bytes)
 pairs_at-suc (suc k) bytes = push_case k (pair_at bytes) (pairs_at-suc k)
 
+pub pairs_at-more : (k : ℕ) (bytes mid rest : List ℕ) (ps : Document) (p : ℕ × Tree) → pairs_at k bytes ≡ Ok (ps, mid) → pair_at mid ≡ Ok (p, rest) → pairs_at (k + 1) bytes ≡ Ok (ps ++ p ∷ [], rest)
+pairs_at-more k bytes mid rest ps p read one =
+    rw add-one (pairs_at-suc k bytes ∙ ap (λ r. r >>= next) read ∙ ap (λ (r : Result ((ℕ × Tree) × List ℕ) Cause). r >>= λ q. Ok (ps ++ q.0 ∷ [], q.1)) one)
+
 -- where the next pair is refused, so is every number of pairs above
 refused_above : (d m : ℕ) (bytes : List ℕ) (c : Cause) → pairs_at m bytes ≡ Err c → pairs_at (d + m) bytes ≡ Err c
 refused_above zero m bytes c e = rw zero-add e
@@ -89,13 +93,10 @@ unfolding pairs_at
 taken_none stop tells left count faults p view x e = record { gives = λ t. ap (λ (ps : Document). Ok (ps, left p)) (sym e); still_tells = λ t. t; counts = refl; taken = λ t. refl }
 
 -- and one pair more
-pub taken_next : {P E X Y : Type 0} {stop : E → Stop Cause} {tells : P → Type 0} {left : P → List ℕ} {count : P → ℕ} {faults : P → ℕ} {old mid new : P} {view : X → Document} {pair : Y → ℕ × Tree} {x : X} {y : Y} (z : X) (k : ℕ)
-    → view z ≡ view x ++ pair y ∷ [] → Takes stop tells left count faults old mid view (Ok x) (pairs_at k) → Takes stop tells left count faults mid new pair (Ok y) pair_at → Takes stop tells left count faults old new view (Ok z) (pairs_at (k + 1))
+pub taken_next : {P E D X Y : Type 0} {stop : E → Stop Cause} {pair_stop : D → Stop Cause} {tells : P → Type 0} {left : P → List ℕ} {count : P → ℕ} {faults : P → ℕ} {old mid new : P} {view : X → Document} {pair : Y → ℕ × Tree} {x : X} {y : Y} (z : X) (k : ℕ)
+    → view z ≡ view x ++ pair y ∷ [] → Takes stop tells left count faults old mid view (Ok x) (pairs_at k) → Takes pair_stop tells left count faults mid new pair (Ok y) pair_at → Takes stop tells left count faults old new view (Ok z) (pairs_at (k + 1))
 taken_next {left = left} {old = old} {mid = mid} {new = new} {view = view} {pair = pair} {x = x} {y = y} z k e before_it pair_taken = record {
-  gives = λ t.
-      let here : pairs_at (suc k) (left old) ≡ Ok (view x ++ pair y ∷ [], left new) =
-      pairs_at-suc k (left old) ∙ ap (λ r. r >>= next) (before_it.gives t) ∙ ap (λ (r : Result ((ℕ × Tree) × List ℕ) Cause). r >>= λ p. Ok (view x ++ p.0 ∷ [], p.1)) (pair_taken.gives (before_it.still_tells t)) in
-      rw add-one (here ∙ ap (λ (ps : Document). Ok (ps, left new)) (sym e));
+  gives = λ t. pairs_at-more k (left old) (left mid) (left new) (view x) (pair y) (before_it.gives t) (pair_taken.gives (before_it.still_tells t)) ∙ ap (λ (ps : Document). Ok (ps, left new)) (sym e);
   still_tells = λ t. pair_taken.still_tells (before_it.still_tells t);
   counts = pair_taken.counts ∙ before_it.counts;
   taken = λ t. pair_taken.taken (before_it.still_tells t) ∙ before_it.taken t;
@@ -113,19 +114,19 @@ CountsStop_from Failed old mid new same h = subst (λ n. HasRisen n new) same h
 CountsStop_from Short old mid new same h = h ∙ same
 CountsStop_from Never old mid new same h = h
 
--- the next pair can't be taken
-pub taken_fails : {P E X Y : Type 0} {stop : E → Stop Cause} {tells : P → Type 0} {left : P → List ℕ} {count : P → ℕ} {faults : P → ℕ} {old mid new : P} {view : X → Document} {pair : Y → ℕ × Tree} {x : X} (e : E) (k n : ℕ)
-    → k < n → Takes stop tells left count faults old mid view (Ok x) (pairs_at k) → Takes stop tells left count faults mid new pair (Err e) pair_at → Takes stop tells left count faults old new view (Err e) (pairs_at n)
-taken_fails {stop = stop} {left = left} {faults = faults} {old = old} {mid = mid} {new = new} {view = view} {x = x} e k n less before_it failed = record {
-  gives = λ t. Stops_refused (stop e) k n (left old) (left mid) (view x) (before_it.gives t) less (failed.gives (before_it.still_tells t));
+-- the next pair can't be taken, which the layer above tells in its own words
+pub taken_fails : {P E D X Y : Type 0} {stop : E → Stop Cause} {pair_stop : D → Stop Cause} {tells : P → Type 0} {left : P → List ℕ} {count : P → ℕ} {faults : P → ℕ} {old mid new : P} {view : X → Document} {pair : Y → ℕ × Tree} {x : X} (e : E) (d : D) (k n : ℕ)
+    → stop e ≡ pair_stop d → k < n → Takes stop tells left count faults old mid view (Ok x) (pairs_at k) → Takes pair_stop tells left count faults mid new pair (Err d) pair_at → Takes stop tells left count faults old new view (Err e) (pairs_at n)
+taken_fails {stop = stop} {pair_stop = pair_stop} {left = left} {faults = faults} {old = old} {mid = mid} {new = new} {view = view} {x = x} e d k n same less before_it failed = record {
+  gives = λ t. subst (λ s. Stops s (pairs_at n (left old))) (sym same) (Stops_refused (pair_stop d) k n (left old) (left mid) (view x) (before_it.gives t) less (failed.gives (before_it.still_tells t)));
   still_tells = λ t. failed.still_tells (before_it.still_tells t);
-  counts = CountsStop_from (stop e) (faults old) (faults mid) (faults new) before_it.counts failed.counts;
+  counts = subst (λ s. CountsStop s (faults old) (faults new)) (sym same) (CountsStop_from (pair_stop d) (faults old) (faults mid) (faults new) before_it.counts failed.counts);
   taken = λ t. failed.taken (before_it.still_tells t) ∙ before_it.taken t;
 }
 
 -- there is no room for the pair that was taken
-pub taken_stops : {P E X Y : Type 0} {stop : E → Stop Cause} {tells : P → Type 0} {left : P → List ℕ} {count : P → ℕ} {faults : P → ℕ} {old mid new : P} {view : X → Document} {pair : Y → ℕ × Tree} {x : X} {y : Y} (e : E) (k n : ℕ)
-    → stop e ≡ Short → Takes stop tells left count faults old mid view (Ok x) (pairs_at k) → Takes stop tells left count faults mid new pair (Ok y) pair_at → Takes stop tells left count faults old new view (Err e) (pairs_at n)
+pub taken_stops : {P E D X Y : Type 0} {stop : E → Stop Cause} {pair_stop : D → Stop Cause} {tells : P → Type 0} {left : P → List ℕ} {count : P → ℕ} {faults : P → ℕ} {old mid new : P} {view : X → Document} {pair : Y → ℕ × Tree} {x : X} {y : Y} (e : E) (k n : ℕ)
+    → stop e ≡ Short → Takes stop tells left count faults old mid view (Ok x) (pairs_at k) → Takes pair_stop tells left count faults mid new pair (Ok y) pair_at → Takes stop tells left count faults old new view (Err e) (pairs_at n)
 taken_stops {left = left} {faults = faults} {old = old} {new = new} e k n is before_it pair_taken = record {
   gives = λ t. subst (λ s. Stops s (pairs_at n (left old))) (sym is) tt;
   still_tells = λ t. pair_taken.still_tells (before_it.still_tells t);

@@ -4,3 +4,4 @@ pub mod Stored
 pub mod Reading
 pub mod Refused
 pub mod Documents
+pub mod Pairs

@@ -16,7 +16,7 @@ use crate::error::DeserializeError;
 use crate::pairs::take_document;
 use std::alloc::Global;
 use tv_base::ByteSource;
-use tv_doc::CompactDoc;
+use tv_doc::document::CompactDoc;
 
 /// A version of the store format.
 #[derive(Clone, Copy, Debug, PartialEq, Eq, PartialOrd, Ord)]

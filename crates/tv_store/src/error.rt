@@ -7,7 +7,7 @@ ghost use Rattle.tv_store.specs.Error.{read_error, add_error, write_error};
 
 use std::io;
 use tv_base::{Cause, ReadError};
-use tv_doc::AddError;
+use tv_doc::add_error::AddError;
 
 /// The type of a value in the store.
 #[derive(Clone, Copy, Debug, PartialEq, Eq)]

@@ -4,12 +4,7 @@
 pub mod de;
 pub mod error;
 mod pairs;
-pub mod se;
 pub mod type_codes;
 
 pub use de::{DocStoreVersion, read_document};
 pub use error::{DeserializeError, SerializeError, ValueType};
-pub use se::BinaryDocumentSerializer;
-
-#[cfg(test)]
-mod tests;

@@ -1,19 +1,21 @@
 //! Reading the pairs of a document from a source that is lent, with the count of the bytes that were taken of it.
 
-ghost use Rattle.std.specs.Prelude.{◌≡◌, ◌<◌, ◌≤◌, ◌++◌, ◌∷◌, [], ℕ, IfErr, IfOk, string_bytes};
-ghost use Rattle.tv_base.specs.declared.cause.Cause.{Cause};
+ghost use Rattle.std.specs.Prelude.{◌≡◌, ◌≤◌, IfOk, IsErrOf, string_bytes};
 ghost use Rattle.tv_base.specs.Take.{told};
-ghost use Rattle.tv_doc.specs.Document.{document_of};
+ghost use Rattle.tv_base.specs.Take as reads;
+ghost use Rattle.tv_doc.specs.Document.{document_of, Adds};
+ghost use Rattle.tv_store.specs.declared.error.DeserializeError.TheVariants.{HeapFull};
 ghost use Rattle.tv_store.specs.Error.{TakesBy};
-ghost use Rattle.tv_store.specs.Pairs.{taken_tree, taken_pair, Adds, HasNoRoom};
+ghost use Rattle.tv_store.specs.Pairs.{at, taken_tree, taken_pair, HasNoRoom, DocumentHasNoRoom};
 ghost use Rattle.tv_store.specs.Reading.{value_at, field_at, pair_at, pairs_at, document_at};
 
 use crate::error::DeserializeError;
 use crate::type_codes::{F64_CODE, TEXT_CODE, U64_CODE};
 use std::alloc::Global;
 use tv_base::take::{take_text, take_u8, take_u32, take_u64, take_vint};
-use tv_base::{ByteSource, Cause};
-use tv_doc::CompactDoc;
+use tv_base::{ByteSource, Cause, ReadError};
+use tv_doc::add_error::AddError;
+use tv_doc::document::CompactDoc;
 use tv_value::field::Field;
 
 /// The largest field number in a document.
@@ -21,18 +23,19 @@ const LARGEST_FIELD: u32 = 65535;
 
 /// A value that was taken: a text, which stands in the buffer that was lent, or a number.
 #[derive(Clone, Copy)]
-pub enum Taken {
+pub(crate) enum Taken {
     Text,
     U64(u64),
 }
 
 #[tactic(auto, unfolding(crate::specs::Reading::field_at))]
-fn take_field<S: ByteSource>(source: &mut S, count: &mut u64) -> Result<u32, DeserializeError>
-    ensures { TakesBy S.tells S.left S.faults source.old count.old source.new count.new (λ x. x) result field_at }
+fn take_field<S: ByteSource>(source: &mut S, count: &mut u64) -> Result<u32, ReadError>
+    ensures takes { reads.TakesBy S.tells S.left S.faults source.old count.old source.new count.new (λ x. x) result field_at }
+    ensures small { IfOk result (λ field. field ≤ 65535) }
 {
     let field = take_u32(source, count)?;
     if field > LARGEST_FIELD {
-        return Err(DeserializeError::CorruptedValue(Cause::FieldNumber(field)));
+        return Err(ReadError::Corrupted(Cause::FieldNumber(field)));
     }
     Ok(field)
 }
@@ -43,8 +46,8 @@ fn take_value<S: ByteSource>(
     source: &mut S,
     count: &mut u64,
     text: &mut String,
-) -> Result<Taken, DeserializeError>
-    ensures { TakesBy S.tells S.left S.faults source.old count.old source.new count.new (λ taken. taken_tree (string_bytes text.new) taken) result value_at }
+) -> Result<Taken, ReadError>
+    ensures { reads.TakesBy S.tells S.left S.faults source.old count.old source.new count.new (λ taken. taken_tree (string_bytes text.new) taken) result value_at }
 {
     match take_u8(source, count)? {
         TEXT_CODE => {
@@ -52,8 +55,8 @@ fn take_value<S: ByteSource>(
             Ok(Taken::Text)
         }
         U64_CODE => Ok(Taken::U64(take_u64(source, count)?)),
-        F64_CODE => Err(DeserializeError::CorruptedValue(Cause::FloatCode)),
-        code => Err(DeserializeError::CorruptedValue(Cause::UnknownTypeCode(code))),
+        F64_CODE => Err(ReadError::Corrupted(Cause::FloatCode)),
+        code => Err(ReadError::Corrupted(Cause::UnknownTypeCode(code))),
     }
 }
 
@@ -63,10 +66,58 @@ fn take_pair<S: ByteSource>(
     source: &mut S,
     count: &mut u64,
     text: &mut String,
-) -> Result<(u32, Taken), DeserializeError>
-    ensures { TakesBy S.tells S.left S.faults source.old count.old source.new count.new (λ pair. taken_pair (string_bytes text.new) pair) result pair_at }
+) -> Result<(u32, Taken), ReadError>
+    ensures takes { reads.TakesBy S.tells S.left S.faults source.old count.old source.new count.new (λ pair. taken_pair (string_bytes text.new) pair) result pair_at }
+    ensures small { IfOk result (λ pair. pair.0 ≤ 65535) }
 {
     let field = take_field(source, count)?;
     let value = take_value(alloc, source, count, text)?;
     Ok((field, value))
+}
+
+fn add_taken(
+    document: &mut CompactDoc,
+    field: u32,
+    text: &str,
+    value: Taken,
+) -> Result<(), AddError>
+    ensures { Adds document.old document.new field (taken_tree text.now value) result }
+{
+    let field = Field::from_field_id(field);
+    match value {
+        Taken::Text => document.add_text(field, text),
+        Taken::U64(number) => document.add_u64(field, number),
+    }
+}
+
+fn take_pairs<S: ByteSource>(
+    alloc: Global,
+    source: &mut S,
+    count: &mut u64,
+    announced: u64,
+) -> Result<CompactDoc, DeserializeError>
+    ensures takes { TakesBy S.tells S.left S.faults source.old count.old source.new count.new document_of result (pairs_at announced) }
+    ensures full { told S.tells S.left (at source.old count.old) → IsErrOf result HeapFull → HasNoRoom announced (S.left source.old) }
+{
+    let mut document = CompactDoc::new(alloc);
+    let mut text = String::new(alloc);
+    for _ in 0..announced {
+        let (field, value) = take_pair(alloc, source, count, &mut text)?;
+        add_taken(&mut document, field, text.as_str(), value)?;
+    }
+    Ok(document)
+}
+
+/// Takes a document: the number of its pairs, and each pair.
+#[tactic(auto, unfolding(crate::specs::Reading::document_at))]
+pub(crate) fn take_document<S: ByteSource>(
+    alloc: Global,
+    source: &mut S,
+    count: &mut u64,
+) -> Result<CompactDoc, DeserializeError>
+    ensures takes { TakesBy S.tells S.left S.faults source.old count.old source.new count.new document_of result document_at }
+    ensures full { told S.tells S.left (at source.old count.old) → IsErrOf result HeapFull → DocumentHasNoRoom (S.left source.old) }
+{
+    let announced = take_vint(source, count)?;
+    take_pairs(alloc, source, count, announced)
 }
