@@ -12,3 +12,7 @@ pub mod TakeSteps
 pub mod Written
 pub mod SliceGroups
 pub mod ShortGroups
+pub mod SmallBytes
+pub mod Agrees
+pub mod AgreeWidths
+pub mod AgreeNumbers
