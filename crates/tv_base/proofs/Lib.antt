@@ -16,3 +16,5 @@ pub mod SmallBytes
 pub mod Agrees
 pub mod AgreeWidths
 pub mod AgreeNumbers
+pub mod AgreeParts
+pub mod ItemLoop
