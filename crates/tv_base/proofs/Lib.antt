@@ -18,3 +18,4 @@ pub mod AgreeWidths
 pub mod AgreeNumbers
 pub mod AgreeParts
 pub mod ItemLoop
+pub mod ByGrammar
