@@ -19,3 +19,4 @@ pub mod AgreeNumbers
 pub mod AgreeParts
 pub mod ItemLoop
 pub mod ByGrammar
+pub mod Shortest
