@@ -46,7 +46,7 @@ excludes_each F R f one (suc n) [] e = absurd (omega arith)
 
 -- numbers
 
-groups_some : {bytes : List ℕ} {n : ℕ} → Groups bytes n → 1 ≤ length bytes
+pub groups_some : {bytes : List ℕ} {n : ℕ} → Groups bytes n → 1 ≤ length bytes
 groups_some (last p) = omega arith
 groups_some (more p g) = omega arith
 

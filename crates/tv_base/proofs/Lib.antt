@@ -12,3 +12,11 @@ pub mod TakeSteps
 pub mod Written
 pub mod SliceGroups
 pub mod ShortGroups
+pub mod SmallBytes
+pub mod Agrees
+pub mod AgreeWidths
+pub mod AgreeNumbers
+pub mod AgreeParts
+pub mod ItemLoop
+pub mod ByGrammar
+pub mod Shortest

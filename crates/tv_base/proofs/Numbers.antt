@@ -101,6 +101,9 @@ fixed_reads x y (low_byte {b = b} {high = i} {bytes = bs} p f) (low_byte {b = c}
 pub agree_fixed : (k m n : ℕ) → Agree (λ b. Fixed k b m) (λ b. Fixed k b n) (m ≡ n)
 agree_fixed k m n = record { agree = λ a b x y p q e. fixed_reads x y p q e }
 
+pub one_fixed : (k : ℕ) → OneReading (Fixed k)
+one_fixed k a b x y m n f g e = fixed_reads x y f g e
+
 pub low_bytes_spell : (k n : ℕ) → n < 256 ^ k → Fixed k (low_bytes k n) n
 low_bytes_spell zero n h =
     let none : 0 ≡ n = omega arith in subst (λ z. Fixed 0 [] z) none no_bytes

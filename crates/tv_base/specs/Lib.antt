@@ -6,3 +6,4 @@ pub mod Sink
 pub mod Stop
 pub mod Take
 pub mod Reading
+pub mod ReadsAs

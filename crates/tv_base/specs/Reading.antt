@@ -2,7 +2,7 @@
 use Rattle.std.specs.Prelude.{ℕ, ◌+◌, ◌*◌, ◌%◌, zero, suc, List, [], ◌∷◌, ◌++◌, length, take, drop, Result, Ok, Err, nat_lt, if◌then◌else◌}
 use Rattle.std.specs.Int.{Width, w32, w64, byte_len, from_le_bytes}
 use Rattle.std.specs.Str.{is_utf8}
-use Rattle.tv_base.specs.Stop.{◌>>=◌}
+use Rattle.tv_base.specs.Stop.{◌>>=◌, lifted}
 use Rattle.tv_base.specs.declared.cause.Cause.{Cause}
 use Rattle.tv_base.specs.declared.cause.Cause.TheVariants.{UnexpectedEnd, BadNumber, NotUtf8}
 
@@ -62,3 +62,19 @@ unfoldable pub text_at : List ℕ → Result (List ℕ × List ℕ) Cause
 text_at bytes = do
   content ← sized_at bytes
   if is_utf8 content.0 then Ok content else Err NotUtf8
+
+-- ---- items
+
+-- so many items, one after the other
+unfoldable pub each_at : {F Y : Type 0} → (List ℕ → Result (Y × List ℕ) F) → ℕ → List ℕ → Result (List Y × List ℕ) F
+each_at item zero bytes = Ok ([], bytes)
+each_at item (suc n) bytes = do
+  first ← item bytes
+  others ← each_at item n first.1
+  Ok (first.0 ∷ others.0, others.1)
+
+-- the number of the items, and then each
+unfoldable pub counted_at : {F Y : Type 0} → (Cause → F) → (List ℕ → Result (Y × List ℕ) F) → List ℕ → Result (List Y × List ℕ) F
+counted_at to item bytes = do
+  number ← lifted to (vint_at bytes)
+  each_at item number.0 number.1

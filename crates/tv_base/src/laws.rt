@@ -1,8 +1,8 @@
-//! Laws of the numbers of variable length, each the contract of a function that does nothing.
+//! Laws of the spellings of numbers and texts, each the contract of a function that does nothing.
 
-ghost use Rattle.std.specs.Prelude.{ℕ, ◌<◌, ◌≤◌, ◌^◌, List, length};
-ghost use Rattle.tv_base.specs.Number.{VNum, vnum};
-ghost use Rattle.tv_base.specs.Parts.{OneReading};
+ghost use Rattle.std.specs.Prelude.{ℕ, ◌<◌, ◌≤◌, ◌^◌, List, length, IsUtf8};
+ghost use Rattle.tv_base.specs.Number.{VNum, vnum, Fixed, one_byte, four_bytes, eight_bytes};
+ghost use Rattle.tv_base.specs.Parts.{OneReading, Text, short_sized};
 
 /// No spelling of a number begins another, and each spells one number.
 pub fn numbers_have_one_reading()
@@ -17,4 +17,31 @@ pub fn short_numbers_spell()
 /// No spelling of a number is shorter.
 pub fn short_numbers_are_shortest()
     ensures { (n : ℕ) (bytes : List ℕ) → VNum bytes n → length (vnum n) ≤ length bytes }
+{}
+
+/// No spelling of a number in so many bytes begins another, and each spells one number.
+pub fn fixed_numbers_have_one_reading()
+    ensures { (k : ℕ) → OneReading (Fixed k) }
+{}
+
+/// Each number that fits has a spelling in one, four and eight bytes.
+pub fn fixed_numbers_spell()
+    ensures one { (n : ℕ) → n < 2 ^ 8 → Fixed 1 (one_byte n) n }
+    ensures four { (n : ℕ) → n < 2 ^ 32 → Fixed 4 (four_bytes n) n }
+    ensures eight { (n : ℕ) → n < 2 ^ 64 → Fixed 8 (eight_bytes n) n }
+{}
+
+/// No spelling of a text begins another, and each spells one text.
+pub fn texts_have_one_reading()
+    ensures { OneReading Text }
+{}
+
+/// Each text of less than 2^64 bytes has a shortest spelling.
+pub fn short_texts_spell()
+    ensures { (text : List ℕ) → IsUtf8 text → length text < 2 ^ 64 → Text (short_sized text) text }
+{}
+
+/// No spelling of a text is shorter.
+pub fn short_texts_are_shortest()
+    ensures { (text bytes : List ℕ) → Text bytes text → length (short_sized text) ≤ length bytes }
 {}

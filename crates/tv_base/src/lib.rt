@@ -4,6 +4,7 @@
 pub mod cause;
 pub mod laws;
 pub mod read_error;
+pub mod serializable;
 pub mod sink;
 pub mod slice_source;
 pub mod source;
@@ -14,6 +15,7 @@ pub mod write;
 
 pub use cause::Cause;
 pub use read_error::ReadError;
+pub use serializable::BinarySerializable;
 pub use sink::ByteSink;
 pub use slice_source::SliceSource;
 pub use source::ByteSource;

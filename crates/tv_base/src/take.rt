@@ -188,6 +188,20 @@ pub fn take_text<S: ByteSource>(
     Ok(())
 }
 
+/// Takes a text behind its length in bytes. Room is made only as the bytes come. Errors: those of [`take_text`].
+pub fn take_string<S: ByteSource>(
+    alloc: Global,
+    source: &mut S,
+    count: &mut u64,
+) -> Result<String, ReadError>
+    ensures takes { TakesBy S.tells S.left S.faults source.old count.old source.new count.new (λ s. string_bytes s) result text_at }
+    ensures too_long { IsErrOf result (Corrupted TooLong) → count.new ≡ 2 ^ 64 - 1 }
+{
+    let mut text = String::new(alloc);
+    take_text(alloc, source, count, &mut text)?;
+    Ok(text)
+}
+
 // The text of these bytes.
 fn text_of(bytes: Vec<u8>) -> Result<String, ReadError>
     ensures ok { IfOk result (λ s. (is_utf8 bytes.items ≡ true) × (string_bytes s ≡ bytes.items)) }

@@ -1,0 +1,96 @@
+-- Bytes of a known number, and numbers of a fixed width, agree with their grammar.
+use Rattle.std.proofs.Common.{◌≡◌, ℕ, ◌+◌, ◌*◌, ◌<◌, List, [], ◌∷◌, ◌++◌, length, take, drop, Result, Ok, Err, refl, sym, ap, subst, ◌∙◌, arith, inl, inr, take_at, drop_at, length-append, length-take, take-append-drop}
+use Rattle.std.proofs.lemmas.Bool.{cases_lt}
+use Rattle.std.specs.Int.{Width, w32, w64, byte_len, from_le_bytes}
+use Rattle.tv_base.specs.declared.cause.Cause.{Cause}
+use Rattle.tv_base.specs.declared.cause.Cause.TheVariants.{UnexpectedEnd}
+use Rattle.tv_base.specs.Source.{AllBytes}
+use Rattle.tv_base.specs.Number.{Fixed, no_bytes, low_byte}
+use Rattle.tv_base.specs.PartFault.{BytesFault, bytes_end}
+use Rattle.tv_base.specs.Reading.{bytes_at, u8_at, number_at}
+use Rattle.tv_base.proofs.Chunks.{short, long}
+use Rattle.tv_base.proofs.Numbers.{length-fixed}
+use Rattle.tv_base.proofs.Widths.{fixed_4, fixed_8, from_4, from_8}
+use Rattle.tv_base.proofs.SmallBytes.{first_byte, small_at}
+use Rattle.tv_base.proofs.Agrees.{Agrees, agrees_too, made, ok_is, err_is}
+
+-- these bytes, of which there are n
+abbrev pub AreBytes : ℕ → List ℕ → List ℕ → Type 0
+AreBytes n bytes content = (length bytes ≡ n) × (content ≡ bytes)
+
+-- one byte, which a code is
+abbrev pub IsCode : List ℕ → ℕ → Type 0
+IsCode bytes code = bytes ≡ code ∷ []
+
+pub bytes_fault : (n : ℕ) (bytes : List ℕ) (c : Cause) → BytesFault n bytes c → (c ≡ UnexpectedEnd) × (length bytes < n)
+bytes_fault n bytes c (bytes_end h) = (refl, h)
+
+end_fault : (n : ℕ) (bytes : List ℕ) (c : Cause) → c ≡ UnexpectedEnd → length bytes < n → BytesFault n bytes c
+end_fault n bytes c e h = subst (BytesFault n bytes) (sym e) (bytes_end h)
+
+abbrev okay : {A : Type 0} → A → Result A Cause
+okay x = Ok x
+
+abbrev fault : {A : Type 0} → Cause → Result A Cause
+fault c = Err c
+
+no_ok : {A : Type 0} (c : Cause) (x : A) → fault c ≡ okay x → ⊥
+no_ok c x e = absurd cc
+
+pub bytes_agree : (n : ℕ) → Agrees (bytes_at n) (AreBytes n) (BytesFault n)
+bytes_agree n = record {
+  sound = λ bytes x small e. elim (cases_lt (length bytes) n) [
+    | inl lt ↦ absurd (no_ok _ _ (sym (short n bytes lt) ∙ e))
+    | inr le ↦ let q = ok_is Cause (take n bytes, drop n bytes) x (sym (long n bytes le) ∙ e) in
+        (take n bytes, (omega (arith, length-take n bytes), sym (ap (λ z. z.0) q)), sym (take-append-drop n bytes) ∙ ap (λ (l : List ℕ). take n bytes ++ l) (ap (λ z. z.1) q))
+  ];
+  complete = λ front xs rest p. long n (front ++ rest) (omega (arith, length-append front rest, p.0)) ∙ ap (λ (l : List ℕ). Ok (l, drop n (front ++ rest))) (take_at front rest n p.0 ∙ sym p.1) ∙ ap (λ (l : List ℕ). Ok (xs, l)) (drop_at front rest n p.0);
+  refused = λ bytes c small e. elim (cases_lt (length bytes) n) [
+    | inl lt ↦ end_fault n bytes c (err_is (List ℕ × List ℕ) c UnexpectedEnd (sym e ∙ short n bytes lt)) lt
+    | inr le ↦ absurd (no_ok c (take n bytes, drop n bytes) (sym e ∙ long n bytes le))
+  ];
+}
+
+pub code_agrees : Agrees u8_at IsCode (BytesFault 1)
+unfolding u8_at
+code_agrees = record {
+  sound = elim [
+    | [] ↦ λ x small e. absurd cc
+    | byte ∷ rest ↦ λ x small e. let q = ok_is Cause (byte, rest) x e in (byte ∷ [], ap (λ (b : ℕ). b ∷ []) (ap (λ z. z.0) q), ap (λ (l : List ℕ). byte ∷ l) (ap (λ z. z.1) q))
+  ];
+  complete = λ front byte rest p. ap (λ (l : List ℕ). u8_at (l ++ rest)) p;
+  refused = elim [
+    | [] ↦ λ c small e. end_fault 1 [] c (err_is (ℕ × List ℕ) c UnexpectedEnd (sym e)) (omega arith)
+    | byte ∷ rest ↦ λ c small e. absurd cc
+  ];
+}
+
+one_fixed : (bytes : List ℕ) (b : ℕ) → AllBytes bytes → IsCode bytes b → Fixed 1 bytes b
+one_fixed bytes b small e =
+    let below = first_byte b [] (subst AllBytes e small) in
+    let is : b + 256 * 0 ≡ b = omega arith in
+    subst (λ (l : List ℕ). Fixed 1 l b) (sym e) (subst (Fixed 1 (b ∷ [])) is (low_byte below no_bytes))
+
+fixed_one : (bytes : List ℕ) (n : ℕ) → Fixed 1 bytes n → IsCode bytes n
+fixed_one _ _ (low_byte {b = b} below no_bytes) = let is : b ≡ b + 256 * 0 = omega arith in ap (λ (c : ℕ). c ∷ []) is
+
+pub u8_agrees : Agrees u8_at (Fixed 1) (BytesFault 1)
+u8_agrees = agrees_too (λ bytes. refl) one_fixed fixed_one (λ bytes c small h. h) code_agrees
+
+number_agrees : (w : Width) → Agrees (number_at w) (λ bytes n. (front : List ℕ) × AreBytes (byte_len w) bytes front × (n ≡ from_le_bytes w front)) (BytesFault (byte_len w))
+unfolding number_at
+number_agrees w = made (from_le_bytes w) (bytes_agree (byte_len w))
+
+pub u32_agrees : Agrees (number_at w32) (Fixed 4) (BytesFault 4)
+u32_agrees = agrees_too (λ bytes. refl)
+    (λ bytes n small p. subst (Fixed 4 bytes) (sym (p.2 ∙ ap (from_le_bytes w32) p.1.1)) (fixed_4 bytes p.1.0 (small_at bytes small)))
+    (λ bytes n h. (bytes, (length-fixed h, refl), sym (from_4 bytes n h)))
+    (λ bytes c small h. h)
+    (number_agrees w32)
+
+pub u64_agrees : Agrees (number_at w64) (Fixed 8) (BytesFault 8)
+u64_agrees = agrees_too (λ bytes. refl)
+    (λ bytes n small p. subst (Fixed 8 bytes) (sym (p.2 ∙ ap (from_le_bytes w64) p.1.1)) (fixed_8 bytes p.1.0 (small_at bytes small)))
+    (λ bytes n h. (bytes, (length-fixed h, refl), sym (from_8 bytes n h)))
+    (λ bytes c small h. h)
+    (number_agrees w64)

@@ -1,0 +1,175 @@
+//! Values that are written and read by a grammar of their own.
+
+ghost use Rattle.std.specs.Prelude.{◌≡◌, ℕ, List, IsErrOf, string_bytes};
+ghost use Rattle.tv_base.specs.declared.cause.Cause.{Cause};
+ghost use Rattle.tv_base.specs.declared.read_error.ReadError.TheVariants.{Memory};
+ghost use Rattle.tv_base.specs.Number.{VNum, vnum, Fixed, one_byte, four_bytes, eight_bytes};
+ghost use Rattle.tv_base.specs.Parts.{Text, short_sized};
+ghost use Rattle.tv_base.specs.PartFault.{NumberFault, BytesFault, TextFault};
+ghost use Rattle.tv_base.specs.ReadsAs.{ReadsAs};
+ghost use Rattle.tv_base.specs.Reading.{vint_at};
+ghost use Rattle.tv_base.specs.Sink.{Writes};
+ghost use Rattle.tv_base.specs.Take.{TakesBy};
+
+use crate::read_error::ReadError;
+use crate::sink::ByteSink;
+use crate::source::ByteSource;
+use crate::take::{take_string, take_u8, take_u32, take_u64, take_vint};
+use crate::vint::VInt;
+use crate::write::{write_text, write_u8, write_u32, write_u64, write_vint};
+use std::alloc::Global;
+use std::io;
+
+/// A value that has a spelling in bytes: the shortest is written, and each is read.
+pub trait BinarySerializable: Sized {
+    /// What a value is, apart from where it lies in memory.
+    ghost Seen: { Type 0 };
+
+    /// A value, seen so.
+    ghost view: { Self → Seen };
+
+    /// The shortest spelling.
+    ghost shortest: { Seen → List ℕ };
+
+    /// Which bytes spell which value.
+    ghost spells: { List ℕ → Seen → Type 0 };
+
+    /// What is at fault in bytes of which no front spells a value.
+    ghost is_fault: { List ℕ → Cause → Type 0 };
+
+    /// Writes the shortest spelling. Errors: that of a write that failed. The sink then holds a beginning of the spelling
+    /// behind what it held before.
+    fn serialize<K: ByteSink>(&self, sink: &mut K) -> Result<(), io::ErrorKind>
+        ensures { Writes K.tells K.held K.faults sink.old sink.new result (shortest (view self.now)) };
+
+    /// Reads a value, and takes the bytes that spell it and no more.
+    ///
+    /// Errors: `Corrupted` with the first fault in the bytes, from left to right, `Io` where a read failed, and `Memory`. What
+    /// was taken of the source then is open.
+    fn deserialize<S: ByteSource>(alloc: Global, source: &mut S) -> Result<Self, ReadError>
+        ensures { ReadsAs S.tells S.left S.faults source.old source.new view result spells is_fault };
+}
+
+impl BinarySerializable for VInt {
+    ghost Seen = { ℕ };
+
+    ghost view = { λ x. x.0 };
+
+    ghost shortest = { vnum };
+
+    ghost spells = { VNum };
+
+    ghost is_fault = { NumberFault };
+
+    fn serialize<K: ByteSink>(&self, sink: &mut K) -> Result<(), io::ErrorKind> {
+        write_vint(sink, self.0)
+    }
+
+    fn deserialize<S: ByteSource>(alloc: Global, source: &mut S) -> Result<VInt, ReadError>
+        ensures reads { ReadsAs S.tells S.left S.faults source.old source.new (λ x. x.0) result VNum NumberFault }
+        ensures spares { ¬ IsErrOf result Memory }
+    {
+        let mut count = 0;
+        take_wrapped(source, &mut count)
+    }
+}
+
+fn take_wrapped<S: ByteSource>(source: &mut S, count: &mut u64) -> Result<VInt, ReadError>
+    ensures takes { TakesBy S.tells S.left S.faults source.old count.old source.new count.new (λ x. x.0) result vint_at }
+    ensures spares { ¬ IsErrOf result Memory }
+{
+    Ok(VInt(take_vint(source, count)?))
+}
+
+impl BinarySerializable for u8 {
+    ghost Seen = { ℕ };
+
+    ghost view = { λ n. n };
+
+    ghost shortest = { one_byte };
+
+    ghost spells = { Fixed 1 };
+
+    ghost is_fault = { BytesFault 1 };
+
+    fn serialize<K: ByteSink>(&self, sink: &mut K) -> Result<(), io::ErrorKind> {
+        write_u8(sink, *self)
+    }
+
+    fn deserialize<S: ByteSource>(alloc: Global, source: &mut S) -> Result<u8, ReadError>
+        ensures reads { ReadsAs S.tells S.left S.faults source.old source.new (λ n. n) result (Fixed 1) (BytesFault 1) }
+        ensures spares { ¬ IsErrOf result Memory }
+    {
+        let mut count = 0;
+        take_u8(source, &mut count)
+    }
+}
+
+impl BinarySerializable for u32 {
+    ghost Seen = { ℕ };
+
+    ghost view = { λ n. n };
+
+    ghost shortest = { four_bytes };
+
+    ghost spells = { Fixed 4 };
+
+    ghost is_fault = { BytesFault 4 };
+
+    fn serialize<K: ByteSink>(&self, sink: &mut K) -> Result<(), io::ErrorKind> {
+        write_u32(sink, *self)
+    }
+
+    fn deserialize<S: ByteSource>(alloc: Global, source: &mut S) -> Result<u32, ReadError>
+        ensures reads { ReadsAs S.tells S.left S.faults source.old source.new (λ n. n) result (Fixed 4) (BytesFault 4) }
+        ensures spares { ¬ IsErrOf result Memory }
+    {
+        let mut count = 0;
+        take_u32(source, &mut count)
+    }
+}
+
+impl BinarySerializable for u64 {
+    ghost Seen = { ℕ };
+
+    ghost view = { λ n. n };
+
+    ghost shortest = { eight_bytes };
+
+    ghost spells = { Fixed 8 };
+
+    ghost is_fault = { BytesFault 8 };
+
+    fn serialize<K: ByteSink>(&self, sink: &mut K) -> Result<(), io::ErrorKind> {
+        write_u64(sink, *self)
+    }
+
+    fn deserialize<S: ByteSource>(alloc: Global, source: &mut S) -> Result<u64, ReadError>
+        ensures reads { ReadsAs S.tells S.left S.faults source.old source.new (λ n. n) result (Fixed 8) (BytesFault 8) }
+        ensures spares { ¬ IsErrOf result Memory }
+    {
+        let mut count = 0;
+        take_u64(source, &mut count)
+    }
+}
+
+impl BinarySerializable for String {
+    ghost Seen = { List ℕ };
+
+    ghost view = { λ text. string_bytes text };
+
+    ghost shortest = { short_sized };
+
+    ghost spells = { Text };
+
+    ghost is_fault = { TextFault };
+
+    fn serialize<K: ByteSink>(&self, sink: &mut K) -> Result<(), io::ErrorKind> {
+        write_text(sink, self.as_str())
+    }
+
+    fn deserialize<S: ByteSource>(alloc: Global, source: &mut S) -> Result<String, ReadError> {
+        let mut count = 0;
+        take_string(alloc, source, &mut count)
+    }
+}
