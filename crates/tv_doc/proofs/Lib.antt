@@ -2,3 +2,8 @@ pub mod Grown
 pub mod Writes
 pub mod Documents
 pub mod Valid
+pub mod Worth
+pub mod Digits
+pub mod Lends
+pub mod Values
+pub mod Pairs

@@ -7,3 +7,4 @@ pub mod Wrote
 pub mod Document
 pub mod Lent
 pub mod NewLeaf
+pub mod Value

@@ -7,6 +7,7 @@ ghost use Rattle.tv_doc.specs.Held.{Holds, Holds-prop};
 ghost use Rattle.tv_doc.specs.Room.{document_room};
 
 use crate::add_error::AddError;
+use crate::field_values::FieldValueIterRef;
 use crate::new_leaf::NewLeaf;
 use crate::place::FieldValueAddr;
 use crate::write::write_leaf;
@@ -28,6 +29,7 @@ pub struct CompactDoc {
 
 impl CompactDoc {
     ghost use Rattle.tv_doc.specs.Document.{document_of, heap_of, places_of, Adds, ReadsAt};
+    ghost use Rattle.tv_doc.specs.Value.{pairs_left};
 
     /// A document without pairs, which takes no memory.
     pub fn new(alloc: Global) -> CompactDoc
@@ -86,6 +88,13 @@ impl CompactDoc {
         ensures { Adds self.old self.new field.id (leaf (unsigned number)) result }
     {
         self.add_leaf(field, NewLeaf::U64(number))
+    }
+
+    /// The fields and their values, in the order in which they were added.
+    pub fn field_values(&self) -> FieldValueIterRef<'_>
+        ensures { pairs_left result ≡ document_of self.now }
+    {
+        FieldValueIterRef::new(self.node_data.as_slice(), self.pairs.as_slice())
     }
 
     fn add_leaf(&mut self, field: Field, value: NewLeaf<'_>) -> Result<(), AddError>

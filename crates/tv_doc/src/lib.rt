@@ -3,8 +3,13 @@
 
 pub mod add_error;
 pub mod document;
+pub mod field_values;
 pub mod laws;
+mod lent;
 mod new_leaf;
 mod place;
+#[cfg(test)]
+mod tests;
+pub mod value;
 pub mod value_type;
 mod write;

@@ -1,0 +1,57 @@
+-- The first pair that is left, and the others.
+use Rattle.std.proofs.Common.{◌≡◌, ℕ, suc, ◌<◌, List, [], ◌∷◌, length, refl, sym, ◌∙◌, ap, subst, arith}
+use Rattle.std.proofs.Math.Logic.{∥∥₁_elim, ∥∥₁_map}
+use Rattle.std.proofs.Math.Nat.{ℕ_set}
+use mathlib.Core.HLevel.{⊥_prop}
+use Rattle.tv_value.specs.Tree.{Tree, Document}
+use Rattle.tv_doc.specs.declared.place.FieldValueAddr.{FieldValueAddr}
+use Rattle.tv_doc.specs.declared.value_type.ValueType.{ValueType}
+use Rattle.tv_doc.specs.Held.{Held, ReadsPair, ReadsPairs, Holds, same_held}
+use Rattle.tv_doc.specs.Reads.{Reads}
+use Rattle.tv_doc.specs.TypeCode.{type_code}
+use Rattle.tv_doc.proofs.Documents.{same_document}
+
+pub record FirstPair (heap : List ℕ) (p : FieldValueAddr) (ps : List FieldValueAddr) (d : Document) : Type 0 where
+  pub pair : ℕ × Tree
+  pub others : Document
+  pub is : d ≡ pair ∷ others
+  pub field : p.field ≡ pair.0
+  pub reads : ∥ Reads heap (type_code p.value_type) p.address pair.1 ∥₁
+  pub left : ∥ ReadsPairs heap ps others ∥₁
+
+pub first_pair : (heap : List ℕ) (ps qs : List FieldValueAddr) (p : FieldValueAddr) (d : Document) → ∥ ReadsPairs heap ps d ∥₁ → ps ≡ p ∷ qs → FirstPair heap p qs d
+first_pair heap [] qs p d h e = absurd (cc)
+first_pair heap (q ∷ ps) qs p [] h e = absurd (∥∥₁_elim h ⊥_prop (λ r. r))
+first_pair heap (q ∷ ps) qs p (x ∷ d) h e =
+    let first : q ≡ p = cc in
+    let rest : ps ≡ qs = cc in
+    let reads : ∥ ReadsPairs heap (p ∷ qs) (x ∷ d) ∥₁ = ∥∥₁_map h (λ r. (subst (λ z. ReadsPair heap z x) first r.0, subst (λ z. ReadsPairs heap z d) rest r.1)) in
+    record {
+      pair = x;
+      others = d;
+      is = refl;
+      field = ∥∥₁_elim reads (ℕ_set _ _) (λ r. r.0.field);
+      reads = ∥∥₁_map reads (λ r. r.0.reads);
+      left = ∥∥₁_map reads (λ r. r.1);
+    }
+
+pub no_pair : (heap : List ℕ) (ps : List FieldValueAddr) (d : Document) → ∥ ReadsPairs heap ps d ∥₁ → ps ≡ [] → d ≡ []
+no_pair heap [] [] h e = refl
+no_pair heap [] (x ∷ d) h e = absurd (∥∥₁_elim h ⊥_prop (λ r. r))
+no_pair heap (p ∷ ps) d h e = absurd (cc)
+
+-- `v`, `at` and `x` are what was made of the first pair
+pub pair_steps : (heap : List ℕ) (p : FieldValueAddr) (ps : List FieldValueAddr) (d : Document) → FirstPair heap p ps d → (field : ℕ) → field ≡ p.field
+    → (same : List ℕ) (v : ValueType) (at : ℕ) (x : Held same (type_code v) at) → same ≡ heap → v ≡ p.value_type → at ≡ p.address → (y : Holds heap ps) → d ≡ (field, x.0) ∷ y.0
+pair_steps heap p ps d f field is same v at x a b c y =
+    let number : f.pair.0 ≡ field = sym f.field ∙ sym is in
+    let reads : ∥ Reads same (type_code v) at f.pair.1 ∥₁ =
+    subst (λ z. ∥ Reads z (type_code v) at f.pair.1 ∥₁) (sym a) (subst (λ z. ∥ Reads heap (type_code z) at f.pair.1 ∥₁) (sym b) (subst (λ z. ∥ Reads heap (type_code p.value_type) z f.pair.1 ∥₁) (sym c) f.reads)) in
+    let tree = same_held same (type_code v) at (f.pair.1, reads) x in
+    let left = same_document heap heap ps ps (f.others, f.left) y refl refl in
+    f.is ∙ (λ i. (number i, tree i) ∷ left i)
+
+pub pairs_fewer : (heap : List ℕ) (p : FieldValueAddr) (ps : List FieldValueAddr) (d : Document) → FirstPair heap p ps d → (y : Holds heap ps) → length y.0 < length d
+pairs_fewer heap p ps d f y =
+    let left = same_document heap heap ps ps (f.others, f.left) y refl refl in
+    omega (arith, ap length f.is, ap length left)

@@ -1,0 +1,18 @@
+-- What values and pairs that are lent out of a document are seen as.
+use Rattle.std.specs.Prelude.{ℕ}
+use Rattle.tv_value.specs.declared.field.Field.{Field}
+use Rattle.tv_value.specs.Tree.{Tree, Document}
+use Rattle.tv_doc.specs.declared.field_values.FieldValueIterRef.{FieldValueIterRef}
+use Rattle.tv_doc.specs.declared.value.CompactDocValue.{CompactDocValue}
+
+-- the value's tree
+abbrev pub tree_of : CompactDocValue → Tree
+tree_of value = value.held.0
+
+-- a field's number and a value's tree
+abbrev pub pair_of : Field × CompactDocValue → ℕ × Tree
+pair_of pair = (pair.0.id, pair.1.held.0)
+
+-- the pairs that are left
+abbrev pub pairs_left : FieldValueIterRef → Document
+pairs_left pairs = pairs.held.0
