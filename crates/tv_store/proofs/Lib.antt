@@ -1,2 +1,4 @@
 pub mod PairLoop
 pub mod Room
+pub mod AgreeDocument
+pub mod Promises

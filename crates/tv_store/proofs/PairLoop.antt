@@ -5,6 +5,7 @@ use Rattle.tv_base.specs.declared.cause.Cause.{Cause}
 use Rattle.tv_base.specs.Source.{HasRisen}
 use Rattle.tv_base.specs.Stop.{Stop, ◌>>=◌, Stops, CountsStop, Takes}
 use Rattle.tv_base.specs.Stop.Stop.{Fault, Failed, Short, Never}
+use Rattle.tv_base.specs.Reading.{each_at}
 use Rattle.tv_value.specs.Tree.{Tree, Document}
 use Rattle.tv_store.specs.Reading.{pair_at, pairs_at}
 
@@ -28,13 +29,13 @@ push_case k (Ok f) ih = ap (λ r. r >>= before f.0) (ih f.1) ∙ before-next f.0
 push_case k (Err c) ih = refl
 
 one_case : (read : Result ((ℕ × Tree) × List ℕ) Cause) → (read >>= λ f. (pairs_at 0 f.1 >>= before f.0)) ≡ (read >>= λ p. Ok ([] ++ p.0 ∷ [], p.1))
-unfolding pairs_at
+unfolding each_at
 one_case (Ok f) = refl
 one_case (Err c) = refl
 
 -- one pair more is the next pair behind them
 pub pairs_at-suc : (k : ℕ) (bytes : List ℕ) → pairs_at (suc k) bytes ≡ (pairs_at k bytes >>= next)
-unfolding pairs_at
+unfolding each_at
 pairs_at-suc zero bytes = one_case (pair_at bytes)
 pairs_at-suc (suc k) bytes = push_case k (pair_at bytes) (pairs_at-suc k)
 
@@ -89,7 +90,7 @@ pairs_at-begins k n bytes rest end ps d read few e =
 
 -- no pair yet
 pub taken_none : {P E X : Type 0} (stop : E → Stop Cause) (tells : P → Type 0) (left : P → List ℕ) (count : P → ℕ) (faults : P → ℕ) (p : P) (view : X → Document) (x : X) → view x ≡ [] → Takes stop tells left count faults p p view (Ok x) (pairs_at 0)
-unfolding pairs_at
+unfolding each_at
 taken_none stop tells left count faults p view x e = record { gives = λ t. ap (λ (ps : Document). Ok (ps, left p)) (sym e); still_tells = λ t. t; counts = refl; taken = λ t. refl }
 
 -- and one pair more

@@ -1,9 +1,9 @@
 -- Reading a document of texts and whole numbers from left to right, with the first fault that is met.
-use Rattle.std.specs.Prelude.{ℕ, zero, suc, List, [], ◌∷◌, Result, Ok, Err, nat_lt, ◌==◌, if◌then◌else◌}
+use Rattle.std.specs.Prelude.{ℕ, List, Result, Ok, Err, nat_lt, ◌==◌, if◌then◌else◌}
 use Rattle.tv_base.specs.declared.cause.Cause.{Cause}
 use Rattle.tv_base.specs.declared.cause.Cause.TheVariants.{UnknownTypeCode, FloatCode, FieldNumber}
 use Rattle.tv_base.specs.Stop.{◌>>=◌}
-use Rattle.tv_base.specs.Reading.{u8_at, u32_at, u64_at, vint_at, text_at}
+use Rattle.tv_base.specs.Reading.{u8_at, u32_at, u64_at, vint_at, text_at, each_at}
 use Rattle.tv_value.specs.Tree.{Tree, leaf, text, unsigned, Document}
 
 -- what stands behind its code
@@ -30,12 +30,9 @@ pair_at bytes = do
   tree ← value_at field.1
   Ok ((field.0, tree.0), tree.1)
 
-unfoldable pub pairs_at : ℕ → List ℕ → Result (Document × List ℕ) Cause
-pairs_at zero bytes = Ok ([], bytes)
-pairs_at (suc n) bytes = do
-  first ← pair_at bytes
-  others ← pairs_at n first.1
-  Ok (first.0 ∷ others.0, others.1)
+-- so many pairs
+abbrev pub pairs_at : ℕ → List ℕ → Result (Document × List ℕ) Cause
+pairs_at n bytes = each_at pair_at n bytes
 
 unfoldable pub document_at : List ℕ → Result (Document × List ℕ) Cause
 document_at bytes = do

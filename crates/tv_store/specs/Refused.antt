@@ -1,5 +1,6 @@
 -- Which bytes of a store are refused, and why, as long as texts and numbers of type u64 are all that is read.
-use Rattle.std.specs.Prelude.{◌≡◌, ◌≢◌, ◌<◌, ◌≤◌, ◌⊎◌, ℕ, List, [], ◌∷◌, ◌++◌, length, All}
+use Rattle.std.specs.Prelude.{◌≡◌, ◌≢◌, ◌<◌, ◌≤◌, ◌⊎◌, ℕ, List, [], ◌∷◌, ◌++◌, length}
+use Rattle.std.specs.List.{AllByRecursion}
 use Rattle.tv_base.specs.declared.cause.Cause.TheVariants.{UnknownTypeCode}
 use Rattle.tv_base.specs.Number.{VNum, Fixed}
 use Rattle.tv_base.specs.Parts.{Each}
@@ -22,7 +23,7 @@ IsRead (object es) = ⊥
 
 -- each value is of a type that is read
 abbrev pub AreRead : Document → Type 0
-AreRead d = All (λ p. IsRead p.1) d
+AreRead d = AllByRecursion (λ p. IsRead p.1) d
 
 -- the code of another type, which isn't read
 pub data UnreadCode (whole : List ℕ) : Refusal → Type 0 where
