@@ -29,8 +29,8 @@ groups_last (b ∷ front) d p l =
     subst (λ n. Groups (b ∷ (front ++ (d + 128) ∷ [])) n) e (more p.0 (groups_last front d p.1 l))
 
 -- what the next digit adds fits
-pub room : (i d value place : ℕ) → place ≡ 128 ^ i → i ≤ 9 → value < place → d ≤ 127 → (i ≡ 9 → d ≤ 1) → value + d * place < 2 ^ 64
-room i d value place e l v small most =
+pub digit_fits : (i d value place : ℕ) → place ≡ 128 ^ i → i ≤ 9 → value < place → d ≤ 127 → (i ≡ 9 → d ≤ 1) → value + d * place < 2 ^ 64
+digit_fits i d value place e l v small most =
     elim (cases_lt i 9) [
       | inl p ↦
           let eighth : i ≤ 8 = omega arith in

@@ -12,9 +12,8 @@ use Rattle.tv_value.specs.Tree.{Tree, Document}
 use Rattle.tv_value.specs.TreeCode.{coded_document}
 use Rattle.tv_doc.specs.declared.document.CompactDoc.{CompactDoc}
 use Rattle.tv_doc.specs.declared.place.FieldValueAddr.{FieldValueAddr}
-use Rattle.tv_doc.specs.Document.{heap_of, document_of, places_of, IsUnchanged, Added, ReadsAt}
+use Rattle.tv_doc.specs.Document.{heap_of, document_of, IsUnchanged, Added, ReadsAt}
 use Rattle.tv_doc.specs.Held.{ReadsPair, ReadsPairs, Holds, one_document}
-use Rattle.tv_doc.specs.Reads.{Reads}
 use Rattle.tv_doc.specs.Room.{room, document_room}
 use Rattle.tv_doc.specs.TypeCode.{type_code}
 use Rattle.tv_doc.specs.Wrote.{IsFront, Wrote}

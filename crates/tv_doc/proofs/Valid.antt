@@ -1,5 +1,5 @@
 -- What reads is a value that the store spells.
-use Rattle.std.proofs.Common.{◌≡◌, ℕ, suc, ◌+◌, ◌<◌, ◌≤◌, ◌^◌, List, [], ◌∷◌, ◌++◌, length, IsUtf8, refl, sym, ◌∙◌, ap, arith}
+use Rattle.std.proofs.Common.{ℕ, ◌<◌, ◌≤◌, ◌^◌, List, [], ◌∷◌, length, ap, arith}
 use Rattle.std.specs.List.{AllByRecursion}
 use Rattle.std.proofs.Props.{props}
 use Rattle.std.proofs.Math.Logic.{∥∥₁_elim}
@@ -12,7 +12,7 @@ use Rattle.tv_doc.specs.declared.document.CompactDoc.{CompactDoc}
 use Rattle.tv_doc.specs.declared.place.FieldValueAddr.{FieldValueAddr}
 use Rattle.tv_doc.specs.Document.{document_of}
 use Rattle.tv_doc.specs.Held.{ReadsPairs}
-use Rattle.tv_doc.specs.Reads.{ShortSized, ShortText, LeafStands, Reads, ReadsElements, ReadsEntries}
+use Rattle.tv_doc.specs.Reads.{ShortText, LeafStands, Reads, ReadsElements, ReadsEntries}
 use Rattle.tv_doc.specs.TypeCode.{type_code}
 use Rattle.tv_doc.proofs.Documents.{document_length}
 

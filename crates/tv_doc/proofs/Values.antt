@@ -1,5 +1,5 @@
 -- What a value's type says of its tree.
-use Rattle.std.proofs.Common.{◌≡◌, ◌≢◌, ℕ, List, refl, sym, ◌∙◌, ap, arith}
+use Rattle.std.proofs.Common.{◌≡◌, ◌≢◌, ℕ, List, refl, sym, ap, arith}
 use Rattle.std.proofs.Math.Logic.{∥∥₁_elim}
 use mathlib.Core.HLevel.{⊥_prop}
 use base.Stored.{Coded-set}
@@ -7,7 +7,7 @@ use Rattle.tv_base.specs.Number.{Fixed}
 use Rattle.tv_value.specs.Tree.{text, unsigned, Tree, leaf}
 use Rattle.tv_value.specs.TreeCode.{coded_tree}
 use Rattle.tv_doc.specs.declared.value_type.ValueType.{ValueType}
-use Rattle.tv_doc.specs.declared.value_type.ValueType.TheVariants.{Null, Str, U64, I64, Date, Facet, Bytes, IpAddr, Bool, PreTokStr, Object, Array}
+use Rattle.tv_doc.specs.declared.value_type.ValueType.TheVariants.{Str, U64}
 use Rattle.tv_doc.specs.Held.{Held}
 use Rattle.tv_doc.specs.Reads.{Stands, ShortText, Reads}
 use Rattle.tv_doc.specs.TypeCode.{type_code}

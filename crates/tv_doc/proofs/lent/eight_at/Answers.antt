@@ -1,4 +1,4 @@
-use Rattle.std.proofs.Common.{sym, ◌∙◌}
+use Rattle.std.proofs.Common.{◌∙◌}
 use Rattle.tv_doc.proofs.Lends.{eight_is, eight_short}
 use Rattle.tv_doc.proofs.lent.eight_at.Goals as goal
 

@@ -1,7 +1,7 @@
 use Rattle.std.proofs.Common.{◌+◌, ◌-◌, ◌*◌, ◌<◌, ◌^◌, ap, sym, ◌∙◌, arith, add-one}
 use Rattle.std.proofs.Math.Nat.{pow-suc}
 use Rattle.tv_base.specs.declared.cause.Cause.TheVariants.{BadNumber, UnexpectedEnd}
-use Rattle.tv_doc.proofs.Digits.{room, place_fits, ends, goes_on, below_more, fault_large, fault_end}
+use Rattle.tv_doc.proofs.Digits.{digit_fits, place_fits, ends, goes_on, below_more, fault_large, fault_end}
 use Rattle.tv_doc.proofs.lent.number_at.Goals as goal
 use Rattle.tv_doc.proofs.lent.number_at.Goals.{Then-digit-ge128, else-i-eq9-via-then-i-eq9+then-digit-ne128+else-digit-ne129, else-i-eq9-via-then-i-eq9+else-digit-ne128, else-i-eq9-via-else-i-eq9}
 
@@ -12,7 +12,7 @@ returns-then-digit-ne129-clause-fault c =
 -- the digit is below 256, and the tenth is 128 or 129
 last_fits : (c : goal.Then-digit-ge128) → c.loop-i.value + (c.from-digit.result - 128) * c.loop-i.place < 2 ^ 64
 last_fits c =
-    room c.loop-i.i (c.from-digit.result - 128) c.loop-i.value c.loop-i.place c.loop-i.invariant.place c.loop-i.invariant.early c.loop-i.invariant.below
+    digit_fits c.loop-i.i (c.from-digit.result - 128) c.loop-i.value c.loop-i.place c.loop-i.invariant.place c.loop-i.invariant.early c.loop-i.invariant.below
     (omega (arith, c.type_inv.bytes c.loop-i.i, c.from-digit.ensures))
     (λ h. elim c.else-i-eq9.branch [
       | else-i-eq9-via-then-i-eq9+then-digit-ne128+else-digit-ne129 w ↦ omega arith
@@ -40,7 +40,7 @@ returns-then-digit-ge128-clause-found c =
 pub overflow_add-value : goal.overflow_add-value
 overflow_add-value c =
     record {
-      fits = room c.loop-i.i c.from-digit.result c.loop-i.value c.loop-i.place c.loop-i.invariant.place c.loop-i.invariant.early c.loop-i.invariant.below
+      fits = digit_fits c.loop-i.i c.from-digit.result c.loop-i.value c.loop-i.place c.loop-i.invariant.place c.loop-i.invariant.early c.loop-i.invariant.below
           (omega arith) (λ h. let l = not_tenth c in omega arith);
     }
 

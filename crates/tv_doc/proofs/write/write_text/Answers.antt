@@ -1,4 +1,4 @@
-use Rattle.std.proofs.Common.{◌+◌, ◌<◌, ◌^◌, ◌++◌, length, ap, sym, ◌∙◌, subst, arith}
+use Rattle.std.proofs.Common.{◌++◌, ap, ◌∙◌, arith}
 use Rattle.tv_base.specs.Parts.{short_sized}
 use Rattle.tv_doc.proofs.Writes.{wrote_text}
 use Rattle.tv_doc.proofs.write.write_text.Goals as goal

@@ -1,5 +1,4 @@
-use Rattle.std.proofs.Common.{length, ap, sym, subst, ◌∙◌, arith}
-use Rattle.std.specs.Bool.{IsTrue}
+use Rattle.std.proofs.Common.{length, ap, sym, ◌∙◌, arith}
 use Rattle.std.proofs.lemmas.Bool.{eqb-true, eq-eqb}
 use Rattle.tv_doc.proofs.Documents.{document_length, no_pairs}
 use Rattle.tv_doc.proofs.document.CompactDoc.is_empty.Goals as goal

@@ -1,6 +1,4 @@
-use Rattle.std.proofs.Common.{◌≡◌, ℕ, sym, subst, ◌∙◌, rules}
-use Rattle.tv_doc.specs.Held.{Held}
-use Rattle.tv_doc.specs.TypeCode.{type_code}
+use Rattle.std.proofs.Common.{◌∙◌, rules}
 use Rattle.tv_doc.proofs.Pairs.{first_pair, pair_steps, pairs_fewer}
 use Rattle.tv_doc.proofs.field_values.FieldValueIterRefIterator.next.Goals as goal
 
