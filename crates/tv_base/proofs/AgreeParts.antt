@@ -1,17 +1,16 @@
 -- Bytes behind their length, texts and items agree with their grammar.
-use Rattle.std.proofs.Common.{◌≡◌, ◌⊎◌, ℕ, zero, suc, Bool, true, false, List, [], ◌∷◌, ◌++◌, length, Result, Ok, refl, sym, ap, subst, ◌∙◌, arith, inl, inr}
-use Rattle.std.specs.Prelude.{IsUtf8}
+use Rattle.std.proofs.Common.{◌≡◌, ◌⊎◌, ℕ, zero, suc, true, false, List, [], ◌∷◌, ◌++◌, length, Result, refl, sym, ap, subst, ◌∙◌, arith, inl, inr}
 use Rattle.std.proofs.lemmas.List.{append-nil}
 use Rattle.std.specs.Str.{is_utf8}
 use Rattle.std.proofs.lemmas.Str.{is_utf8-from_IsUtf8, IsUtf8-from_is_utf8}
 use Rattle.tv_base.specs.declared.cause.Cause.{Cause}
 use Rattle.tv_base.specs.declared.cause.Cause.TheVariants.{NotUtf8}
 use Rattle.tv_base.specs.Source.{AllBytes}
-use Rattle.tv_base.specs.Stop.{◌>>=◌, lifted}
+use Rattle.tv_base.specs.Stop.{◌>>=◌}
 use Rattle.tv_base.specs.Number.{VNum}
-use Rattle.tv_base.specs.Parts.{Then, Sized, Text, Each, Counted}
-use Rattle.tv_base.specs.PartFault.{InThen, InEach, NumberFault, BytesFault, SizedFault, TextFault, in_sized, no_text}
-use Rattle.tv_base.specs.Reading.{vint_at, bytes_at, sized_at, text_at, each_at, counted_at}
+use Rattle.tv_base.specs.Parts.{Sized, Text, Each, Counted}
+use Rattle.tv_base.specs.PartFault.{InThen, InEach, NumberFault, SizedFault, TextFault, in_sized, no_text}
+use Rattle.tv_base.specs.Reading.{sized_at, text_at, each_at, counted_at}
 use Rattle.tv_base.proofs.Agrees.{Agrees, InTurn, agrees_too, in_turn, make, made, chosen, nothing_read, nothing_stands, raised}
 use Rattle.tv_base.proofs.AgreeWidths.{AreBytes, bytes_agree}
 use Rattle.tv_base.proofs.AgreeNumbers.{vint_agrees}

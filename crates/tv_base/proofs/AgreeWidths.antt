@@ -7,7 +7,7 @@ use Rattle.tv_base.specs.declared.cause.Cause.TheVariants.{UnexpectedEnd}
 use Rattle.tv_base.specs.Source.{AllBytes}
 use Rattle.tv_base.specs.Number.{Fixed, no_bytes, low_byte}
 use Rattle.tv_base.specs.PartFault.{BytesFault, bytes_end}
-use Rattle.tv_base.specs.Reading.{bytes_at, u8_at, number_at}
+use Rattle.tv_base.specs.Reading.{bytes_at, more_at, u8_at, number_at}
 use Rattle.tv_base.proofs.Chunks.{short, long}
 use Rattle.tv_base.proofs.Numbers.{length-fixed}
 use Rattle.tv_base.proofs.Widths.{fixed_4, fixed_8, from_4, from_8}
@@ -50,6 +50,10 @@ bytes_agree n = record {
     | inr le ↦ absurd (no_ok c (take n bytes, drop n bytes) (sym e ∙ long n bytes le))
   ];
 }
+
+-- the next n bytes, behind those that are there
+pub more_agrees : (front : List ℕ) (n : ℕ) → Agrees (more_at front n) (λ bytes whole. (content : List ℕ) × AreBytes n bytes content × (whole ≡ front ++ content)) (BytesFault n)
+more_agrees front n = made (λ content. front ++ content) (bytes_agree n)
 
 pub code_agrees : Agrees u8_at IsCode (BytesFault 1)
 unfolding u8_at

@@ -1,11 +1,11 @@
 -- A reader that gives what a reading gives reads by the grammar that the reading agrees with.
-use Rattle.std.proofs.Common.{◌≡◌, ℕ, ◌+◌, List, ◌++◌, length, Result, Ok, Err, refl, sym, ap, subst, ◌∙◌, arith}
+use Rattle.std.proofs.Common.{◌≡◌, ℕ, List, ◌++◌, Result, Ok, Err, sym, ap, subst, ◌∙◌, arith}
 use Rattle.std.specs.Prelude.{IfOk, IsErrOf}
 use Rattle.tv_base.specs.declared.cause.Cause.{Cause}
 use Rattle.tv_base.specs.declared.read_error.ReadError.{ReadError}
 use Rattle.tv_base.specs.declared.read_error.ReadError.TheVariants.{Corrupted, Io, Memory}
 use Rattle.tv_base.specs.Source.{AllBytes}
-use Rattle.tv_base.specs.Stop.{Gives, Takes}
+use Rattle.tv_base.specs.Stop.{Gives}
 use Rattle.tv_base.specs.Take.{TakesBy, read_stop}
 use Rattle.tv_base.specs.ReadsAs.{IsRead, ReadsAs}
 use Rattle.tv_base.proofs.Agrees.{Agrees, ok_is}

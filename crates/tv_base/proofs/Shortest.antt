@@ -1,9 +1,9 @@
 -- The shortest spellings are spellings, and no spelling is shorter.
-use Rattle.std.proofs.Common.{◌≡◌, ℕ, ◌+◌, ◌*◌, ◌/◌, ◌%◌, ◌^◌, ◌<◌, ◌≤◌, List, [], ◌∷◌, ◌++◌, length, refl, sym, ◌∙◌, ap, subst, arith, length-append}
+use Rattle.std.proofs.Common.{◌≡◌, ℕ, ◌%◌, ◌^◌, ◌<◌, ◌≤◌, List, [], ◌∷◌, length, refl, ap, subst, arith, length-append}
 use Rattle.std.specs.Prelude.{IsUtf8}
-use Rattle.tv_base.specs.Number.{Fixed, low_bytes, one_byte, four_bytes, eight_bytes, vnum}
+use Rattle.tv_base.specs.Number.{Fixed, one_byte, four_bytes, eight_bytes, vnum}
 use Rattle.tv_base.specs.Parts.{Text, short_sized}
-use Rattle.tv_base.proofs.Numbers.{length-fixed, low_bytes_spell, vnum_spells, vnum_shortest}
+use Rattle.tv_base.proofs.Numbers.{low_bytes_spell, vnum_spells, vnum_shortest}
 
 pub one_byte_spells : (n : ℕ) → n < 2 ^ 8 → Fixed 1 (one_byte n) n
 unfolding one_byte

@@ -21,3 +21,6 @@ pub use slice_source::SliceSource;
 pub use source::ByteSource;
 pub use vec_sink::VecSink;
 pub use vint::VInt;
+
+#[cfg(test)]
+mod tests;

@@ -22,6 +22,7 @@ use std::mem;
 /// Errors: `Corrupted(UnexpectedEnd)` where the source ends before, `Corrupted(TooLong)`, and `Io` where a read fails.
 pub fn take<S: ByteSource>(source: &mut S, count: &mut u64, buf: &mut [u8]) -> Result<(), ReadError>
     ensures takes { TakesBy S.tells S.left S.faults source.old count.old source.new count.new (λ _. buf.new) result (bytes_at (length buf.old)) }
+    ensures counted { OnOk result (count.new ≡ count.old + length buf.old) }
     ensures too_long { IsErrOf result (Corrupted TooLong) → count.new ≡ 2 ^ 64 - 1 }
     ensures spares { ¬ IsErrOf result Memory }
 {
@@ -48,6 +49,7 @@ pub fn take<S: ByteSource>(source: &mut S, count: &mut u64, buf: &mut [u8]) -> R
 #[tactic(auto, using(crate::proofs::TakenBytes::u8_at_is))]
 pub fn take_u8<S: ByteSource>(source: &mut S, count: &mut u64) -> Result<u8, ReadError>
     ensures takes { TakesBy S.tells S.left S.faults source.old count.old source.new count.new (λ x. x) result u8_at }
+    ensures counted { OnOk result (count.new ≡ count.old + 1) }
     ensures too_long { IsErrOf result (Corrupted TooLong) → count.new ≡ 2 ^ 64 - 1 }
     ensures spares { ¬ IsErrOf result Memory }
 {
@@ -60,6 +62,7 @@ pub fn take_u8<S: ByteSource>(source: &mut S, count: &mut u64) -> Result<u8, Rea
 #[tactic(auto, unfolding(crate::specs::Reading::number_at))]
 pub fn take_u32<S: ByteSource>(source: &mut S, count: &mut u64) -> Result<u32, ReadError>
     ensures takes { TakesBy S.tells S.left S.faults source.old count.old source.new count.new (λ x. x) result u32_at }
+    ensures counted { OnOk result (count.new ≡ count.old + 4) }
     ensures too_long { IsErrOf result (Corrupted TooLong) → count.new ≡ 2 ^ 64 - 1 }
     ensures spares { ¬ IsErrOf result Memory }
 {
@@ -72,6 +75,7 @@ pub fn take_u32<S: ByteSource>(source: &mut S, count: &mut u64) -> Result<u32, R
 #[tactic(auto, unfolding(crate::specs::Reading::number_at))]
 pub fn take_u64<S: ByteSource>(source: &mut S, count: &mut u64) -> Result<u64, ReadError>
     ensures takes { TakesBy S.tells S.left S.faults source.old count.old source.new count.new (λ x. x) result u64_at }
+    ensures counted { OnOk result (count.new ≡ count.old + 8) }
     ensures too_long { IsErrOf result (Corrupted TooLong) → count.new ≡ 2 ^ 64 - 1 }
     ensures spares { ¬ IsErrOf result Memory }
 {
@@ -92,6 +96,7 @@ pub fn take_more<S: ByteSource>(
     requires { more ≤ 4096 }
     ensures longer { OnOk result (length bytes.new.items ≡ length bytes.old.items + more) }
     ensures takes { TakesBy S.tells S.left S.faults source.old count.old source.new count.new (λ _. bytes.new.items) result (more_at bytes.old.items more) }
+    ensures counted { OnOk result (count.new ≡ count.old + more) }
     ensures too_long { IsErrOf result (Corrupted TooLong) → count.new ≡ 2 ^ 64 - 1 }
 {
     let filled = bytes.len();

@@ -37,7 +37,8 @@ pub fn write_u8<K: ByteSink>(sink: &mut K, number: u8) -> Result<(), io::ErrorKi
 pub fn write_u32<K: ByteSink>(sink: &mut K, number: u32) -> Result<(), io::ErrorKind>
     ensures { Writes K.tells K.held K.faults sink.old sink.new result (four_bytes number) }
 {
-    write_all(sink, &number.to_le_bytes())
+    let four = number.to_le_bytes();
+    write_all(sink, &four)
 }
 
 /// Writes a number in eight bytes, the lowest first.
@@ -45,7 +46,8 @@ pub fn write_u32<K: ByteSink>(sink: &mut K, number: u32) -> Result<(), io::Error
 pub fn write_u64<K: ByteSink>(sink: &mut K, number: u64) -> Result<(), io::ErrorKind>
     ensures { Writes K.tells K.held K.faults sink.old sink.new result (eight_bytes number) }
 {
-    write_all(sink, &number.to_le_bytes())
+    let eight = number.to_le_bytes();
+    write_all(sink, &eight)
 }
 
 /// Writes the shortest spelling of a number.
