@@ -1,5 +1,5 @@
 -- What an addition does to the document that a heap and its pairs hold.
-use Rattle.std.proofs.Common.{◌≡◌, ℕ, suc, zero, ◌+◌, ◌^◌, ◌<◌, ◌≤◌, List, [], ◌∷◌, ◌++◌, length, map, take, slice_get, get_or, ltb, true, Some, None, refl, sym, ◌∙◌, ap, subst, arith}
+use Rattle.std.proofs.Common.{Bool, true, false, ◌&&◌, ◌≡◌, ℕ, suc, zero, ◌+◌, ◌^◌, ◌<◌, ◌≤◌, List, [], ◌∷◌, ◌++◌, length, map, take, slice_get, get_or, ltb, true, Some, None, refl, sym, ◌∙◌, ap, subst, arith}
 use Rattle.std.proofs.lemmas.Bool.{ltb-true}
 use Rattle.std.proofs.lemmas.Option.{slice_get-get_or}
 use Rattle.std.proofs.lemmas.List.{length-append, map-append}
@@ -8,7 +8,7 @@ use Rattle.std.proofs.Math.Logic.{∥∥₁_elim, ∥∥₁_map}
 use Rattle.std.proofs.Math.Seq.{take-append_seam}
 use Rattle.std.proofs.Math.Nat.{ℕ_set}
 use base.Stored.{Coded-set}
-use Rattle.tv_value.specs.Tree.{Tree, Document}
+use Rattle.tv_value.specs.Tree.{Tree, leaf, Document}
 use Rattle.tv_value.specs.TreeCode.{coded_document}
 use Rattle.tv_doc.specs.declared.document.CompactDoc.{CompactDoc}
 use Rattle.tv_doc.specs.declared.place.FieldValueAddr.{FieldValueAddr}
@@ -17,6 +17,10 @@ use Rattle.tv_doc.specs.Held.{ReadsPair, ReadsPairs, Holds, one_document}
 use Rattle.tv_doc.specs.Room.{room, document_room}
 use Rattle.tv_doc.specs.TypeCode.{type_code}
 use Rattle.tv_doc.specs.Wrote.{IsFront, Wrote}
+use Rattle.tv_doc.specs.Handled.{is_handled, are_handled}
+use Rattle.tv_doc.specs.declared.new_leaf.NewLeaf.{NewLeaf}
+use Rattle.tv_doc.specs.declared.new_leaf.NewLeaf.TheVariants as new
+use Rattle.tv_doc.specs.NewLeaf.{leaf_of}
 use Rattle.tv_doc.proofs.Grown.{grown}
 
 -- one heap and one list of pairs hold one document
@@ -24,6 +28,17 @@ pub same_document : (h k : List ℕ) (ps qs : List FieldValueAddr) (x : Holds h 
 same_document h k ps qs x y e f =
     ∥∥₁_elim x.1 (Coded-set coded_document x.0 y.0)
     (λ p. ∥∥₁_elim y.1 (Coded-set coded_document x.0 y.0) (λ q. one_document k qs x.0 y.0 (subst (λ z. ReadsPairs z qs x.0) e (subst (λ z. ReadsPairs h z x.0) f p)) q))
+
+one_true : (a b : Bool) → (a && b) ≡ true → a ≡ true
+one_true true b h = refl
+one_true false b h = h
+
+other_true : (a b : Bool) → (a && b) ≡ true → b ≡ true
+other_true true b h = h
+other_true false b h = absurd (cc)
+
+both_true : (a b : Bool) → a ≡ true → b ≡ true → (a && b) ≡ true
+both_true a b h k = rw (h, k) refl
 
 abbrev place : FieldValueAddr → ℕ × ℕ
 place p = (type_code p.value_type, p.address)
@@ -50,6 +65,10 @@ pairs_push heap (q ∷ ps) (y ∷ d) p x r t = (r.0, pairs_push heap ps d p x r.
 pairs_push heap [] (y ∷ d) p x r t = absurd r
 pairs_push heap (q ∷ ps) [] p x r t = absurd r
 
+-- the document without pairs
+unfoldable pub empty : (heap : List ℕ) (ps : List FieldValueAddr) → ps ≡ [] → Holds heap ps
+empty heap ps e = ([], ∣ subst (λ z. ReadsPairs heap z []) (sym e) tt ∣₁)
+
 -- the document with one pair more
 pub pushed : (old : CompactDoc) (heap : List ℕ) (ps : List FieldValueAddr) (p : FieldValueAddr) (field : ℕ) (t : Tree) → p.field ≡ field → field ≤ 65535
     → Wrote (heap_of old) heap (type_code p.value_type) p.address t → ps ≡ old.pairs.items ++ p ∷ [] → Holds heap ps
@@ -65,6 +84,20 @@ pub pushed_room : (old : CompactDoc) (heap : List ℕ) (ps : List FieldValueAddr
 unfolding pushed
 pushed_room old heap ps p field t f small w e =
     omega (arith, old.room, w.within, ap length w.grows, length-append (heap_of old) w.added, sum_by_push (λ (pair : ℕ × Tree). room pair.1) (document_of old) (field, t))
+
+handled_push : (d : Document) (p : ℕ × Tree) → are_handled d ≡ true → is_handled p.1 ≡ true → are_handled (d ++ p ∷ []) ≡ true
+handled_push [] p h k = rw k refl
+handled_push (x ∷ d) p h k = both_true (is_handled x.1) (are_handled (d ++ p ∷ [])) (one_true (is_handled x.1) (are_handled d) h) (handled_push d p (other_true (is_handled x.1) (are_handled d) h) k)
+
+pub pushed_handled : (old : CompactDoc) (heap : List ℕ) (ps : List FieldValueAddr) (p : FieldValueAddr) (field : ℕ) (t : Tree) (f : p.field ≡ field) (small : field ≤ 65535)
+    (w : Wrote (heap_of old) heap (type_code p.value_type) p.address t) (e : ps ≡ old.pairs.items ++ p ∷ []) → is_handled t ≡ true → are_handled ((pushed old heap ps p field t f small w e).0) ≡ true
+unfolding pushed
+pushed_handled old heap ps p field t f small w e k = handled_push (document_of old) (field, t) old.handled k
+
+-- each value that is added is a text or a number
+pub new_leaf_handled : (value : NewLeaf) → is_handled (leaf (leaf_of value)) ≡ true
+new_leaf_handled (new.Str s) = refl
+new_leaf_handled (new.U64 n) = refl
 
 pub pushed_fits : (old : CompactDoc) (heap : List ℕ) (code at : ℕ) (t : Tree) → Wrote (heap_of old) heap code at t → length (heap_of old) + room t ≤ 4294967295 → length heap < 2 ^ 32
 pushed_fits old heap code at t w small = omega (arith, w.within, ap length w.grows, length-append (heap_of old) w.added)
@@ -89,6 +122,9 @@ kept old heap ps e f = subst (λ z. Holds z ps) (sym e) (subst (λ z. Holds (hea
 
 pub kept_room : (old : CompactDoc) (heap : List ℕ) (ps : List FieldValueAddr) (e : heap ≡ heap_of old) (f : ps ≡ old.pairs.items) → length heap ≤ document_room ((kept old heap ps e f).0)
 kept_room old heap ps e f = omega (arith, ap length e, old.room, ap document_room (same_document heap (heap_of old) ps old.pairs.items (kept old heap ps e f) old.document e f))
+
+pub kept_handled : (old : CompactDoc) (heap : List ℕ) (ps : List FieldValueAddr) (e : heap ≡ heap_of old) (f : ps ≡ old.pairs.items) → are_handled ((kept old heap ps e f).0) ≡ true
+kept_handled old heap ps e f = ap are_handled (same_document heap (heap_of old) ps old.pairs.items (kept old heap ps e f) old.document e f) ∙ old.handled
 
 pub kept_fits : (old : CompactDoc) (heap : List ℕ) → heap ≡ heap_of old → length heap < 2 ^ 32
 kept_fits old heap e = omega (arith, ap length e, old.fits)
@@ -162,3 +198,7 @@ no_pairs d e = none (document_of d) (omega (arith, document_length d))
     none : (xs : Document) → length xs ≡ 0 → xs ≡ []
     none [] e = refl
     none (x ∷ xs) e = absurd (omega arith)
+
+-- a document without places has no pairs
+pub empty_document : (d : CompactDoc) → d.pairs.items ≡ [] → document_of d ≡ []
+empty_document d e = no_pairs d (ap length e)

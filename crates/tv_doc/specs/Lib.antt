@@ -8,3 +8,4 @@ pub mod Document
 pub mod Lent
 pub mod NewLeaf
 pub mod Value
+pub mod Handled

@@ -3,6 +3,7 @@
 ghost use Rattle.std.specs.Prelude.{◌≡◌, ◌<◌, ◌≤◌, ◌^◌, [], ◌↔◌, IsTrue, length, slice_get};
 ghost use Rattle.tv_value.specs.Tree.{leaf, text, unsigned};
 ghost use Rattle.tv_doc.specs.NewLeaf.{leaf_of};
+ghost use Rattle.tv_doc.specs.Handled.{are_handled};
 ghost use Rattle.tv_doc.specs.Held.{Holds, Holds-prop};
 ghost use Rattle.tv_doc.specs.Room.{document_room};
 
@@ -25,6 +26,7 @@ pub struct CompactDoc {
     pub ghost document: { Holds node_data.items pairs.items } by { Holds-prop node_data.items pairs.items },
     pub ghost room: { length node_data.items ≤ document_room document.0 },
     pub ghost fits: { length node_data.items < 2 ^ 32 },
+    pub ghost handled: { IsTrue (are_handled document.0) },
 }
 
 impl CompactDoc {

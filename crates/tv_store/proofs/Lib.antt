@@ -2,3 +2,4 @@ pub mod PairLoop
 pub mod Room
 pub mod AgreeDocument
 pub mod Promises
+pub mod Stores

@@ -44,3 +44,9 @@ store_stop errors.AlreadyFailed = Never
 abbrev pub TakesBy : {S X Y : Type 0} (tells : S → Type 0) (left : S → List ℕ) (faults : S → ℕ) (old : S) (old_count : ℕ) (new : S) (new_count : ℕ) (view : X → Y) (result : Result X DeserializeError) (reading : List ℕ → Result (Y × List ℕ) Cause) → Type 0
 TakesBy tells left faults old old_count new new_count view result reading =
     Takes store_stop (told tells left) (λ p. left p.source) (λ p. p.count) (λ p. faults p.source) (record { source = old; count = old_count }) (record { source = new; count = new_count }) view result reading
+
+-- the sink failed
+abbrev pub IsIo : SerializeError → Type 0
+IsIo (writes.Io kind) = Unit {0}
+IsIo writes.WrongCount = ⊥
+IsIo writes.TooMany = ⊥

@@ -1,5 +1,8 @@
 -- Which pairs of a document are written.
-use Rattle.std.specs.Prelude.{ℕ, ◌<◌, Bool, false, List, map, filter, Option, Some, None, slice_get, length, All}
+use Rattle.std.specs.Prelude.{ℕ, ◌<◌, Bool, false, List, map, filter, Option, Some, None, slice_get, length}
+use Rattle.std.specs.List.{AllByRecursion, flat_map}
+use Rattle.tv_value.specs.Version.{V2}
+use Rattle.tv_value.specs.Short.{short_pair}
 use Rattle.tv_schema.specs.Entry.{Entry, is_stored_type}
 use Rattle.tv_value.specs.Tree.{Tree, leaf, array, object, Elements, Entries, Leaf, text, null, unsigned, signed, boolean, date, facet, bytes, ip_address, tokenized, Document}
 
@@ -35,4 +38,8 @@ stored schema d = map (λ p. (p.0, tree_written p.1)) (filter (λ p. is_stored_f
 
 -- each field is one of the schema
 abbrev pub Belongs : List Entry → Document → Type 0
-Belongs schema d = All (λ p. p.0 < length schema) d
+Belongs schema d = AllByRecursion (λ p. p.0 < length schema) d
+
+-- the stored pairs, as they are written
+abbrev pub written_pairs : List Entry → Document → List ℕ
+written_pairs schema d = flat_map (short_pair V2) (stored schema d)

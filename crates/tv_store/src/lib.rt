@@ -4,6 +4,7 @@
 pub mod de;
 pub mod error;
 mod pairs;
+pub mod se;
 pub mod type_codes;
 
 pub use de::{DocStoreVersion, read_document};

@@ -1,0 +1,94 @@
+-- The stored pairs of a document.
+use Rattle.std.proofs.Common.{◌≡◌, ℕ, suc, ◌+◌, ◌<◌, ◌≤◌, Bool, true, false, cond, List, [], ◌∷◌, ◌++◌, length, map, Option, Some, None, slice_get, Result, Err, refl, sym, ap, ◌∙◌, arith}
+use Rattle.std.specs.List.{filter, flat_map}
+use Rattle.std.specs.Prelude.{◌&&◌}
+use Rattle.std.proofs.lemmas.List.{append-nil}
+use Rattle.std.proofs.lemmas.List.Concat.{flat_map-cons}
+use Rattle.tv_schema.specs.Entry.{is_stored_type}
+use Rattle.tv_base.specs.Sink.{Writes}
+use Rattle.tv_schema.specs.Entry.{Entry}
+use Rattle.tv_value.specs.Tree.{Leaf, null, text, unsigned, signed, boolean, date, facet, bytes, ip_address, tokenized, Tree, leaf, array, object, Document}
+use Rattle.tv_doc.specs.Handled.{is_handled_leaf, is_handled, are_handled}
+use Rattle.tv_value.specs.Short.{short_pair}
+use Rattle.tv_value.specs.Version.{V2}
+use Rattle.tv_store.specs.Stored.{stored, leaf_written, tree_written, is_stored_entry, is_stored_field, written_pairs}
+
+abbrev written : ℕ × Tree → ℕ × Tree
+written p = (p.0, tree_written p.1)
+
+cons_case : (b : Bool) (p : ℕ × Tree) (ps : Document) → map written (cond b (p ∷ ps) ps) ≡ cond b (written p ∷ map written ps) (map written ps)
+cons_case true p ps = refl
+cons_case false p ps = refl
+
+pub stored-cons : (schema : List Entry) (p : ℕ × Tree) (d : Document) → stored schema (p ∷ d) ≡ cond (is_stored_field schema p.0) ((p.0, tree_written p.1) ∷ stored schema d) (stored schema d)
+stored-cons schema p d = cons_case (is_stored_field schema p.0) p (filter (λ q. is_stored_field schema q.0) d)
+
+fewer_case : (b : Bool) (p : ℕ × Tree) (ps d : Document) → length ps ≤ length d → length (cond b (p ∷ ps) ps) ≤ suc (length d)
+fewer_case true p ps d h = omega arith
+fewer_case false p ps d h = omega arith
+
+-- they are no more than the pairs
+pub stored_fewer : (schema : List Entry) (d : Document) → length (stored schema d) ≤ length d
+stored_fewer schema [] = omega arith
+stored_fewer schema (p ∷ d) = rw (stored-cons schema p d) (fewer_case (is_stored_field schema p.0) (written p) (stored schema d) d (stored_fewer schema d))
+
+no : false ≡ true → ⊥
+no e = absurd cc
+
+-- a text or a number is written as it is
+pub tree_written-handled : (t : Tree) → is_handled t ≡ true → tree_written t ≡ t
+tree_written-handled (leaf (text s)) h = refl
+tree_written-handled (leaf (unsigned n)) h = refl
+tree_written-handled (leaf null) h = absurd (no h)
+tree_written-handled (leaf (signed z)) h = absurd (no h)
+tree_written-handled (leaf (boolean b)) h = absurd (no h)
+tree_written-handled (leaf (date z)) h = absurd (no h)
+tree_written-handled (leaf (facet s)) h = absurd (no h)
+tree_written-handled (leaf (bytes s)) h = absurd (no h)
+tree_written-handled (leaf (ip_address n)) h = absurd (no h)
+tree_written-handled (leaf (tokenized s ts)) h = absurd (no h)
+tree_written-handled (array ts) h = absurd (no h)
+tree_written-handled (object es) h = absurd (no h)
+
+-- a pair whose field is stored, and one whose field is not
+pub written_one : (schema : List Entry) (field : ℕ) (entry : Entry) (t : Tree) → slice_get schema field ≡ Some entry → true ≡ is_stored_type entry.field_type → is_handled t ≡ true → short_pair V2 (field, t) ≡ written_pairs schema ((field, t) ∷ [])
+written_one schema field entry t found is handled =
+    let there : is_stored_field schema field ≡ true = ap is_stored_entry found ∙ sym is in
+    let only : stored schema ((field, t) ∷ []) ≡ (field, t) ∷ [] =
+    stored-cons schema (field, t) [] ∙ ap (λ b. cond b ((field, tree_written t) ∷ []) []) there ∙ ap (λ u. (field, u) ∷ []) (tree_written-handled t handled) in
+    sym (ap (flat_map (short_pair V2)) only ∙ flat_map-cons (short_pair V2) (field, t) [] ∙ append-nil (short_pair V2 (field, t)))
+
+pub written_none : (schema : List Entry) (field : ℕ) (entry : Entry) (t : Tree) → slice_get schema field ≡ Some entry → false ≡ is_stored_type entry.field_type → [] ≡ written_pairs schema ((field, t) ∷ [])
+written_none schema field entry t found is =
+    let there : is_stored_field schema field ≡ false = ap is_stored_entry found ∙ sym is in
+    sym (ap (flat_map (short_pair V2)) (stored-cons schema (field, t) [] ∙ ap (λ b. cond b ((field, tree_written t) ∷ []) []) there))
+
+next_case : (b : Bool) (p : ℕ × Tree) (ps : Document) → flat_map (short_pair V2) (cond b (p ∷ ps) ps) ≡ flat_map (short_pair V2) (cond b (p ∷ []) []) ++ flat_map (short_pair V2) ps
+next_case true p ps = flat_map-cons (short_pair V2) p ps ∙ ap (λ (l : List ℕ). l ++ flat_map (short_pair V2) ps) (sym (flat_map-cons (short_pair V2) p [] ∙ append-nil (short_pair V2 p)))
+next_case false p ps = refl
+
+-- the first pair that is left, and the others
+pub written_next : (schema : List Entry) (p : ℕ × Tree) (rest d : Document) → d ≡ p ∷ rest → written_pairs schema d ≡ written_pairs schema (p ∷ []) ++ written_pairs schema rest
+written_next schema p rest d cut =
+    ap (written_pairs schema) cut ∙ ap (flat_map (short_pair V2)) (stored-cons schema p rest) ∙ next_case (is_stored_field schema p.0) (written p) (stored schema rest)
+    ∙ ap (λ (l : List ℕ). l ++ written_pairs schema rest) (ap (flat_map (short_pair V2)) (sym (stored-cons schema p [])))
+
+-- the first pair and the others are handled
+pub first_handled : (p : ℕ × Tree) (d whole : Document) → whole ≡ p ∷ d → are_handled whole ≡ true → is_handled p.1 ≡ true
+first_handled p d whole e h = first_true (is_handled p.1) (are_handled d) (sym (ap are_handled e) ∙ h)
+  where
+    first_true : (a b : Bool) → (a && b) ≡ true → a ≡ true
+    first_true true b h = refl
+    first_true false b h = h
+
+pub others_handled : (p : ℕ × Tree) (d whole : Document) → whole ≡ p ∷ d → are_handled whole ≡ true → are_handled d ≡ true
+others_handled p d whole e h = other_true (is_handled p.1) (are_handled d) (sym (ap are_handled e) ∙ h)
+  where
+    other_true : (a b : Bool) → (a && b) ≡ true → b ≡ true
+    other_true true b h = h
+    other_true false b h = absurd (no h)
+
+-- what was written, in the words of another error
+pub writes_for : {S T U E F : Type 0} {tells : S → Type 0} {held : S → List ℕ} {faults : S → ℕ} {old new : S} {e : E} {whole : List ℕ} (f : F)
+    → Writes {T = T} tells held faults old new (Err e) whole → Writes {T = U} tells held faults old new (Err f) whole
+writes_for f w = record { appends = w.appends; still_tells = w.still_tells; counts = w.counts }
