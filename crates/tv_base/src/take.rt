@@ -4,9 +4,10 @@
 //! 2^64 - 1 it answers `Corrupted(TooLong)`. After an error `count` has risen by the number of the bytes that were taken up
 //! to there.
 
-ghost use Rattle.std.specs.Prelude.{◌≡◌, ◌≤◌, ◌+◌, ◌-◌, ◌^◌, [], length, true, false, IfOk, IfErr, IsErrOf, OnOk, OnErr, string_bytes};
+ghost use Rattle.std.specs.Prelude.{◌≡◌, ◌⊎◌, ◌≤◌, ◌+◌, ◌-◌, ◌^◌, [], length, true, false, IfOk, IfErr, IsErrOf, OnOk, OnErr, string_bytes};
 ghost use Rattle.std.specs.Str.{is_utf8};
-ghost use Rattle.tv_base.specs.declared.cause.Cause.TheVariants.{NotUtf8, TooLong};
+ghost use Rattle.tv_base.specs.declared.cause.Cause.{Cause};
+ghost use Rattle.tv_base.specs.declared.cause.Cause.TheVariants.{UnexpectedEnd, BadNumber, NotUtf8, TooLong};
 ghost use Rattle.tv_base.specs.declared.read_error.ReadError.TheVariants.{Corrupted, Memory};
 ghost use Rattle.tv_base.specs.Take.{TakesBy};
 ghost use Rattle.tv_base.specs.Reading.{bytes_at, more_at, u8_at, u32_at, u64_at, vint_at, sized_at, text_at};
@@ -22,6 +23,7 @@ use std::mem;
 /// Errors: `Corrupted(UnexpectedEnd)` where the source ends before, `Corrupted(TooLong)`, and `Io` where a read fails.
 pub fn take<S: ByteSource>(source: &mut S, count: &mut u64, buf: &mut [u8]) -> Result<(), ReadError>
     ensures takes { TakesBy S.tells S.left S.faults source.old count.old source.new count.new (λ _. buf.new) result (bytes_at (length buf.old)) }
+    ensures causes { (cause : Cause) → IsErrOf result (Corrupted cause) → (cause ≡ UnexpectedEnd) ⊎ (cause ≡ TooLong) }
     ensures counted { OnOk result (count.new ≡ count.old + length buf.old) }
     ensures too_long { IsErrOf result (Corrupted TooLong) → count.new ≡ 2 ^ 64 - 1 }
     ensures spares { ¬ IsErrOf result Memory }
@@ -49,6 +51,7 @@ pub fn take<S: ByteSource>(source: &mut S, count: &mut u64, buf: &mut [u8]) -> R
 #[tactic(auto, using(crate::proofs::TakenBytes::u8_at_is))]
 pub fn take_u8<S: ByteSource>(source: &mut S, count: &mut u64) -> Result<u8, ReadError>
     ensures takes { TakesBy S.tells S.left S.faults source.old count.old source.new count.new (λ x. x) result u8_at }
+    ensures causes { (cause : Cause) → IsErrOf result (Corrupted cause) → (cause ≡ UnexpectedEnd) ⊎ (cause ≡ TooLong) }
     ensures counted { OnOk result (count.new ≡ count.old + 1) }
     ensures too_long { IsErrOf result (Corrupted TooLong) → count.new ≡ 2 ^ 64 - 1 }
     ensures spares { ¬ IsErrOf result Memory }
@@ -115,6 +118,7 @@ pub fn take_vint<S: ByteSource>(source: &mut S, count: &mut u64) -> Result<u64, 
     ensures takes { TakesBy S.tells S.left S.faults source.old count.old source.new count.new (λ x. x) result vint_at }
     ensures too_long { IsErrOf result (Corrupted TooLong) → count.new ≡ 2 ^ 64 - 1 }
     ensures spares { ¬ IsErrOf result Memory }
+    ensures ten { IsErrOf result (Corrupted BadNumber) → count.new ≡ count.old + 10 }
 {
     let mut value = 0u64;
     let mut weight = 1u64;

@@ -11,6 +11,7 @@ use Rattle.tv_base.proofs.take.take_vint.Goals.{then-last-lt128-via-then-last-lt
 pub loop-init : goal.loop-init
 loop-init g c = record {
   small = omega arith;
+  counted = omega arith;
   weight = refl;
   so_far = SoFar-start _ _ _ _ _ _ _ start;
 }
@@ -48,6 +49,7 @@ loop-preserved g c =
     let step = SoFar-step (λ first. with_low l.value l.weight (after_group (9 - (l.counter + 1)) first)) (first_group l.value l.weight l.counter c.loop-test.true) l.invariant.so_far c.in_ok-byte.ensures.takes in
     record {
       small = group_fits l.value l.weight c.from.result l.invariant.small (omega arith);
+      counted = omega (arith, c.in_ok-byte.ensures.counted);
       weight = rw add-one (ap (λ w. w * 128) l.invariant.weight ∙ sym (pow-suc 128 l.counter));
       so_far = rw c.from.ensures (SoFar-is _ (goes_on l.value l.weight (9 - (l.counter + 1)) c.in_ok-byte.byte c.if-byte-ge128.false) step);
     }
