@@ -20,8 +20,10 @@ use Rattle.tv_value.specs.Tree.{Leaf, null, text, unsigned, signed, boolean, dat
 use Rattle.tv_value.specs.Version.{Version}
 use Rattle.tv_value.specs.Spelling.{Spells, SpellsPair, SpellsDocument, NoLegacy}
 use Rattle.tv_value.specs.Fault.{Refusal, corrupted, Corrupt, corrupt, LeafFault, in_text, in_unsigned, FieldFault, field_ends, field_large, ValueFault, value_ends, unknown_code, float_code, in_leaf, NoLegacyFault}
+use Rattle.tv_doc.specs.Handled.{is_handled, are_handled}
+use Rattle.tv_store.proofs.Stores.{first_handled, others_handled}
 use Rattle.tv_store.specs.Reading.{coded_at, value_at, field_at, pair_at, pairs_at, document_at}
-use Rattle.tv_store.specs.Refused.{IsRead, AreRead, UnreadCode, unread_code, ValueRefused, PairRefused, DocumentRefused}
+use Rattle.tv_store.specs.Refused.{UnreadCode, unread_code, ValueRefused, PairRefused, DocumentRefused}
 
 -- ---- values
 
@@ -52,31 +54,34 @@ is_other code n e = elim (eqb_tells code n) [ inl p ↦ absurd (impossible (sym 
 behind_code : (whole front rest : List ℕ) (code n : ℕ) → whole ≡ front ++ rest → front ≡ code ∷ [] → eqb code n ≡ true → whole ≡ n ∷ rest
 behind_code whole front rest code n joined is e = joined ∙ ap (λ (l : List ℕ). l ++ rest) is ∙ ap (λ k. k ∷ rest) (eqb-true code n e)
 
-value_to : (v : Version) (whole : List ℕ) (t : Tree) → AllBytes whole → InTurn IsCode Coded whole t → Spells NoLegacy v whole t × IsRead t
+value_to : (v : Version) (whole : List ℕ) (t : Tree) → AllBytes whole → InTurn IsCode Coded whole t → Spells NoLegacy v whole t × (is_handled t ≡ true)
 value_to v whole t small p =
     let cut = p.1 in
     let behind = λ (n : ℕ) (e : eqb p.0 n ≡ true). behind_code whole cut.front cut.rest p.0 n cut.joined cut.first e in
     elim cut.second [
-      | inl q ↦ subst (λ z. Spells NoLegacy v whole z × IsRead z) (sym q.1.2) (record { body = cut.rest; joined = behind 0 q.0; spelled = q.1.1 }, tt)
+      | inl q ↦ subst (λ z. Spells NoLegacy v whole z × (is_handled z ≡ true)) (sym q.1.2) (record { body = cut.rest; joined = behind 0 q.0; spelled = q.1.1 }, refl)
       | inr q ↦ elim q.1 [
-        | inl r ↦ subst (λ z. Spells NoLegacy v whole z × IsRead z) (sym r.1.2) (record { body = cut.rest; joined = behind 1 r.0; spelled = r.1.1 }, tt)
+        | inl r ↦ subst (λ z. Spells NoLegacy v whole z × (is_handled z ≡ true)) (sym r.1.2) (record { body = cut.rest; joined = behind 1 r.0; spelled = r.1.1 }, refl)
         | inr r ↦ elim r.1 [ inl s ↦ absurd s.1 | inr s ↦ absurd s.1 ]
       ]
     ]
 
-value_from : (v : Version) (whole : List ℕ) (t : Tree) → Spells NoLegacy v whole t × IsRead t → InTurn IsCode Coded whole t
+no : false ≡ true → ⊥
+no e = absurd cc
+
+value_from : (v : Version) (whole : List ℕ) (t : Tree) → Spells NoLegacy v whole t × (is_handled t ≡ true) → InTurn IsCode Coded whole t
 value_from v whole (leaf (text s)) p = (0, record { front = 0 ∷ []; rest = p.0.body; joined = p.0.joined; first = refl; second = inl (refl, (s, p.0.spelled, refl)) })
 value_from v whole (leaf (unsigned n)) p = (1, record { front = 1 ∷ []; rest = p.0.body; joined = p.0.joined; first = refl; second = inr (refl, inl (refl, (n, p.0.spelled, refl))) })
-value_from v whole (leaf null) p = absurd p.1
-value_from v whole (leaf (signed z)) p = absurd p.1
-value_from v whole (leaf (boolean b)) p = absurd p.1
-value_from v whole (leaf (date z)) p = absurd p.1
-value_from v whole (leaf (facet s)) p = absurd p.1
-value_from v whole (leaf (bytes s)) p = absurd p.1
-value_from v whole (leaf (ip_address n)) p = absurd p.1
-value_from v whole (leaf (tokenized s ts)) p = absurd p.1
-value_from v whole (array ts) p = absurd p.1
-value_from v whole (object es) p = absurd p.1
+value_from v whole (leaf null) p = absurd (no p.1)
+value_from v whole (leaf (signed z)) p = absurd (no p.1)
+value_from v whole (leaf (boolean b)) p = absurd (no p.1)
+value_from v whole (leaf (date z)) p = absurd (no p.1)
+value_from v whole (leaf (facet s)) p = absurd (no p.1)
+value_from v whole (leaf (bytes s)) p = absurd (no p.1)
+value_from v whole (leaf (ip_address n)) p = absurd (no p.1)
+value_from v whole (leaf (tokenized s ts)) p = absurd (no p.1)
+value_from v whole (array ts) p = absurd (no p.1)
+value_from v whole (object es) p = absurd (no p.1)
 
 abbrev NoLegacyValueFault : Version → List ℕ → Refusal → Type 0
 NoLegacyValueFault v = ValueFault NoLegacy NoLegacyFault v
@@ -112,7 +117,7 @@ value_faults v whole c small p = elim p [
       subst (λ w. ValueRefused v w (corrupted c)) (sym there) (coded_faults v q.0 q.1.rest c q.1.second)
 ]
 
-pub value_agrees : (v : Version) → Agrees value_at (λ b t. Spells NoLegacy v b t × IsRead t) (λ b c. ValueRefused v b (corrupted c))
+pub value_agrees : (v : Version) → Agrees value_at (λ b t. Spells NoLegacy v b t × (is_handled t ≡ true)) (λ b c. ValueRefused v b (corrupted c))
 unfolding value_at
 value_agrees v = agrees_too (λ b. refl) (value_to v) (value_from v) (value_faults v) (in_turn {b = coded_at} code_agrees coded_agrees)
 
@@ -159,10 +164,10 @@ field_agrees = agrees_too (λ b. refl) field_to field_from field_faults
 -- ---- pairs
 
 abbrev ReadPair : Version → List ℕ → ℕ × Tree → Type 0
-ReadPair v whole pair = SpellsPair NoLegacy v whole pair × IsRead pair.1
+ReadPair v whole pair = SpellsPair NoLegacy v whole pair × (is_handled pair.1 ≡ true)
 
 abbrev OfField : Version → ℕ → List ℕ → ℕ × Tree → Type 0
-OfField v field whole pair = (t : Tree) × (Spells NoLegacy v whole t × IsRead t) × (pair ≡ (field, t))
+OfField v field whole pair = (t : Tree) × (Spells NoLegacy v whole t × (is_handled t ≡ true)) × (pair ≡ (field, t))
 
 pair_to : (v : Version) (whole : List ℕ) (pair : ℕ × Tree) → AllBytes whole → InTurn IsSmall (OfField v) whole pair → ReadPair v whole pair
 pair_to v whole pair small p =
@@ -187,15 +192,15 @@ pair_agrees v = agrees_too (λ b. refl) (pair_to v) (pair_from v) (pair_faults v
 
 -- ---- documents
 
-each_apart : (v : Version) (whole : List ℕ) (d : Document) → Each (ReadPair v) whole d → Each (SpellsPair NoLegacy v) whole d × AreRead d
-each_apart v whole [] p = (p, tt)
+each_apart : (v : Version) (whole : List ℕ) (d : Document) → Each (ReadPair v) whole d → Each (SpellsPair NoLegacy v) whole d × (are_handled d ≡ true)
+each_apart v whole [] p = (p, refl)
 each_apart v whole (pair ∷ d) p =
     let others = each_apart v p.rest d p.second in
-    (record { front = p.front; rest = p.rest; joined = p.joined; first = p.first.0; second = others.0 }, (p.first.1, others.1))
+    (record { front = p.front; rest = p.rest; joined = p.joined; first = p.first.0; second = others.0 }, rw (p.first.1, others.1) refl)
 
-each_together : (v : Version) (whole : List ℕ) (d : Document) → Each (SpellsPair NoLegacy v) whole d → AreRead d → Each (ReadPair v) whole d
+each_together : (v : Version) (whole : List ℕ) (d : Document) → Each (SpellsPair NoLegacy v) whole d → (are_handled d ≡ true) → Each (ReadPair v) whole d
 each_together v whole [] p read = p
-each_together v whole (pair ∷ d) p read = record { front = p.front; rest = p.rest; joined = p.joined; first = (p.first, read.0); second = each_together v p.rest d p.second read.1 }
+each_together v whole (pair ∷ d) p read = record { front = p.front; rest = p.rest; joined = p.joined; first = (p.first, first_handled pair d (pair ∷ d) refl read); second = each_together v p.rest d p.second (others_handled pair d (pair ∷ d) refl read) }
 
 each_fault : (v : Version) (n : ℕ) (whole : List ℕ) (c : Cause) → InEach (λ b d. PairRefused v b (corrupted d)) (ReadPair v) n whole c → InEach (PairRefused v) (SpellsPair NoLegacy v) n whole (corrupted c)
 each_fault v zero whole c p = p
@@ -214,7 +219,7 @@ pairs_spelled v n whole x small e =
     (p.0, p.1.0, (each_apart v p.0 x.0 p.1.1).0, p.2)
 
 abbrev ReadDocument : Version → List ℕ → Document → Type 0
-ReadDocument v whole d = SpellsDocument NoLegacy v whole d × AreRead d
+ReadDocument v whole d = SpellsDocument NoLegacy v whole d × (are_handled d ≡ true)
 
 document_to : (v : Version) (whole : List ℕ) (d : Document) → AllBytes whole → InTurn VNum (λ n b ds. (length ds ≡ n) × Each (ReadPair v) b ds) whole d → ReadDocument v whole d
 document_to v whole d small p =

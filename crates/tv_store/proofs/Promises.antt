@@ -1,6 +1,6 @@
 -- From the reading of a document to what is promised of it.
 use Rattle.std.proofs.Common.{◌≡◌, ℕ, ◌+◌, ◌<◌, ◌≤◌, List, [], ◌∷◌, ◌++◌, length, Result, Ok, Err, refl, sym, ap, subst, ◌∙◌, arith}
-use Rattle.std.specs.Prelude.{IfOk, IfErr, IsErrOf}
+use Rattle.std.specs.Prelude.{IfOk, IfErr, IsErrOf, IsTrue}
 use Rattle.std.proofs.lemmas.List.Sums.{sum_by-append}
 use Rattle.tv_base.specs.declared.cause.Cause.{Cause}
 use Rattle.tv_base.specs.Source.{AllBytes}
@@ -12,6 +12,7 @@ use Rattle.tv_base.proofs.AgreeNumbers.{vint_agrees}
 use Rattle.tv_base.proofs.SmallBytes.{bytes_after}
 use Rattle.tv_doc.specs.declared.document.CompactDoc.{CompactDoc}
 use Rattle.tv_doc.specs.Document.{document_of}
+use Rattle.tv_doc.specs.Handled.{are_handled}
 use Rattle.tv_doc.specs.Room.{room, document_room}
 use Rattle.tv_value.specs.Tree.{Tree, Document}
 use Rattle.tv_value.specs.Version.{Version}
@@ -23,7 +24,7 @@ use Rattle.tv_store.specs.Error.{store_stop}
 use Rattle.tv_store.specs.Documents.{Takes, Answers, Tells}
 use Rattle.tv_store.specs.Pairs.{HasNoRoom, DocumentHasNoRoom}
 use Rattle.tv_store.specs.Reading.{pairs_at, document_at}
-use Rattle.tv_store.specs.Refused.{AreRead, DocumentRefused, Begun}
+use Rattle.tv_store.specs.Refused.{DocumentRefused, Begun}
 use Rattle.tv_store.proofs.PairLoop.{pairs_at-begins}
 use Rattle.tv_store.proofs.AgreeDocument.{pairs_spelled, document_agrees}
 
@@ -76,7 +77,7 @@ refused_and_read : (old : List ℕ) (c : Cause) (d : Document) (rest : List ℕ)
 refused_and_read old c d rest p q = absurd (cc)
 
 pub only_by : (v : Version) (result : Result CompactDoc DeserializeError) (old new : List ℕ) → Gives store_stop document_of result (document_at old) new → (IsErrOf result errors.HeapFull → DocumentHasNoRoom old)
-    → (d : Document) (front rest : List ℕ) → old ≡ front ++ rest → SpellsDocument NoLegacy v front d → AreRead d → document_room d ≤ 4294967295 → Answers result d rest new
+    → (d : Document) (front rest : List ℕ) → old ≡ front ++ rest → SpellsDocument NoLegacy v front d → IsTrue (are_handled d) → document_room d ≤ 4294967295 → Answers result d rest new
 only_by v result old new h full d front rest joined spelled read small = answers result h full (ap document_at joined ∙ (document_agrees v).complete front d rest (spelled, read))
   where
     answers : (result : Result CompactDoc DeserializeError) → Gives store_stop document_of result (document_at old) new → (IsErrOf result errors.HeapFull → DocumentHasNoRoom old) → document_at old ≡ Ok (d, rest) → Answers result d rest new

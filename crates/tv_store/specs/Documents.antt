@@ -1,5 +1,5 @@
 -- What reading a document returns.
-use Rattle.std.specs.Prelude.{◌≡◌, ◌<◌, ◌-◌, ◌^◌, ℕ, List, ◌++◌, length, Result, Ok, Err}
+use Rattle.std.specs.Prelude.{◌≡◌, ◌<◌, ℕ, List, ◌++◌, Result, Ok, Err}
 use Rattle.tv_base.specs.declared.cause.Cause.{Cause}
 use Rattle.tv_doc.specs.declared.document.CompactDoc.{CompactDoc}
 use Rattle.tv_doc.specs.Document.{document_of}
@@ -11,10 +11,6 @@ use Rattle.tv_value.specs.Version.{Version}
 use Rattle.tv_store.specs.declared.error.DeserializeError.{DeserializeError}
 use Rattle.tv_store.specs.declared.error.DeserializeError.TheVariants as errors
 use Rattle.tv_store.specs.Refused.{DocumentRefused, Begun}
-
--- the source's bytes are known, and fewer than 2 ^ 64 - 1
-abbrev pub Known : {S : Type 0} → (S → Type 0) → (S → List ℕ) → S → Type 0
-Known tells left source = tells source × (length (left source) < 2 ^ 64 - 1)
 
 -- a front of the bytes spells the document, and the rest is left
 pub record Takes (v : Version) (bytes rest : List ℕ) (d : Document) : Type 0 where

@@ -1,31 +1,15 @@
 -- Which bytes of a store are refused, and why, as long as texts and numbers of type u64 are all that is read.
 use Rattle.std.specs.Prelude.{◌≡◌, ◌≢◌, ◌<◌, ◌≤◌, ◌⊎◌, ℕ, List, [], ◌∷◌, ◌++◌, length}
-use Rattle.std.specs.List.{AllByRecursion}
 use Rattle.tv_base.specs.declared.cause.Cause.TheVariants.{UnknownTypeCode}
 use Rattle.tv_base.specs.Number.{VNum, Fixed}
 use Rattle.tv_base.specs.Parts.{Each}
 use Rattle.tv_base.specs.PartFault.{InThen, InEach, NumberFault}
-use Rattle.tv_value.specs.Tree.{Tree, leaf, array, object, Leaf, text, unsigned, null, signed, boolean, date, facet, bytes, ip_address, tokenized, Document}
+use Rattle.tv_value.specs.Tree.{Document}
 use Rattle.tv_value.specs.Version.{Version}
 use Rattle.tv_value.specs.Spelling.{SpellsPair, NoLegacy}
 use Rattle.tv_value.specs.Fault.{Refusal, corrupted, Corrupt, FieldFault, ValueFault, NoLegacyFault}
 
--- a value of a type that is read: a text or a number of type u64
-abbrev pub IsReadLeaf : Leaf → Type 0
-IsReadLeaf (text t) = Unit {0}
-IsReadLeaf (unsigned n) = Unit {0}
-IsReadLeaf _ = ⊥
-
-abbrev pub IsRead : Tree → Type 0
-IsRead (leaf l) = IsReadLeaf l
-IsRead (array ts) = ⊥
-IsRead (object es) = ⊥
-
--- each value is of a type that is read
-abbrev pub AreRead : Document → Type 0
-AreRead d = AllByRecursion (λ p. IsRead p.1) d
-
--- the code of another type, which isn't read
+-- the code of a type other than text and u64, which isn't read
 pub data UnreadCode (whole : List ℕ) : Refusal → Type 0 where
   unread_code : (code : ℕ) (rest : List ℕ) → whole ≡ code ∷ rest → 1 < code → code < 14 → code ≢ 6 → UnreadCode whole (corrupted (UnknownTypeCode code))
 
