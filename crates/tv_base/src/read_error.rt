@@ -6,15 +6,19 @@ ghost use Rattle.tv_base.specs.declared.read_error.ReadError.TheVariants.{Memory
 use crate::cause::Cause;
 use std::alloc::{AllocError, AllocFailed};
 use std::io;
+use thiserror::Error;
 
 /// Why a value could not be read from a source.
-#[derive(Debug, PartialEq, Drop)]
+#[derive(Debug, PartialEq, Drop, Error)]
 pub enum ReadError {
     /// The bytes of the source spell no value. The cause is the first fault in them, from left to right.
+    #[error("{0}")]
     Corrupted(Cause),
     /// A read of the source failed, with this kind of error.
+    #[error("the source failed: {0}")]
     Io(io::ErrorKind),
     /// Memory was refused.
+    #[error("memory was refused")]
     Memory,
 }
 

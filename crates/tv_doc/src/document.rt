@@ -13,6 +13,7 @@ use crate::new_leaf::NewLeaf;
 use crate::place::FieldValueAddr;
 use crate::write::write_leaf;
 use std::alloc::Global;
+use tv_schema::Schema;
 use tv_value::field::Field;
 
 // The largest length of a heap, so that 32 bits hold each address.
@@ -30,6 +31,7 @@ pub struct CompactDoc {
 }
 
 impl CompactDoc {
+    ghost use Rattle.tv_doc.specs.Belongs.{Belongs};
     ghost use Rattle.tv_doc.specs.Document.{document_of, heap_of, places_of, Adds, ReadsAt};
     ghost use Rattle.tv_doc.specs.Value.{pairs_left};
 
@@ -97,6 +99,18 @@ impl CompactDoc {
         ensures { pairs_left result ≡ document_of self.now }
     {
         FieldValueIterRef::new(self.node_data.as_slice(), self.pairs.as_slice())
+    }
+
+    /// Whether each pair's field is one of the schema: its number is below the schema's `num_fields`.
+    pub fn fits(&self, schema: &Schema) -> bool
+        ensures { IsTrue result ↔ Belongs schema.now (document_of self.now) }
+    {
+        for (field, _) in self.field_values() {
+            if !schema.has_field(field) {
+                return false;
+            }
+        }
+        true
     }
 
     fn add_leaf(&mut self, field: Field, value: NewLeaf<'_>) -> Result<(), AddError>

@@ -1,6 +1,6 @@
 -- Which pairs of a document are written.
-use Rattle.std.specs.Prelude.{ℕ, ◌<◌, Bool, false, List, map, filter, Option, Some, None, slice_get, length}
-use Rattle.std.specs.List.{AllByRecursion, flat_map}
+use Rattle.std.specs.Prelude.{ℕ, Bool, false, List, map, filter, Option, Some, None, slice_get}
+use Rattle.std.specs.List.{flat_map}
 use Rattle.tv_value.specs.Version.{V2}
 use Rattle.tv_value.specs.Short.{short_pair}
 use Rattle.tv_schema.specs.Entry.{Entry, is_stored_type}
@@ -35,10 +35,6 @@ tree_written (object es) = object es
 -- the pairs whose field is stored, in order
 abbrev pub stored : List Entry → Document → Document
 stored schema d = map (λ p. (p.0, tree_written p.1)) (filter (λ p. is_stored_field schema p.0) d)
-
--- each field is one of the schema
-abbrev pub Belongs : List Entry → Document → Type 0
-Belongs schema d = AllByRecursion (λ p. p.0 < length schema) d
 
 -- the stored pairs, as they are written
 abbrev pub written_pairs : List Entry → Document → List ℕ

@@ -6,6 +6,7 @@ ghost use Rattle.tv_store.specs.declared.error.SerializeError.{SerializeError};
 ghost use Rattle.tv_store.specs.Error.{read_error, add_error, write_error};
 
 use std::io;
+use thiserror::Error;
 use tv_base::{Cause, ReadError};
 use tv_doc::add_error::AddError;
 
@@ -41,11 +42,13 @@ pub enum ValueType {
 }
 
 /// Why bytes of a store couldn't be read. The first fault in reading order is answered.
-#[derive(Debug, Drop)]
+#[derive(Debug, PartialEq, Drop, Error)]
 pub enum DeserializeError {
     /// A value of this type can't be read where it stands.
+    #[error("a value of type {0:?} cannot be read here")]
     UnsupportedType(ValueType),
     /// A value of another type stands where one was expected.
+    #[error("expected a value of type {expected:?}, and found {actual:?}")]
     TypeMismatch {
         /// The type that was expected.
         expected: ValueType,
@@ -53,18 +56,25 @@ pub enum DeserializeError {
         actual: ValueType,
     },
     /// The bytes spell no value.
+    #[error("{0}")]
     CorruptedValue(Cause),
     /// An error of a reader that a user wrote.
+    #[error("{0}")]
     Custom(String),
     /// No store of this version can be read, but those up to the second number.
+    #[error("version {0} is not supported, but those up to {1}")]
     UnsupportedVersion(u32, u32),
     /// What was read and announced so far needs more room than a document's heap has, 4294967295 bytes.
+    #[error("the values need more room than 4294967295 bytes")]
     HeapFull,
     /// Memory was refused.
+    #[error("memory was refused")]
     Memory,
     /// The source failed.
+    #[error("the source failed: {0}")]
     Io(io::ErrorKind),
     /// An earlier read through the same reader was refused.
+    #[error("an earlier read was refused")]
     AlreadyFailed,
 }
 
@@ -95,13 +105,16 @@ impl From<AddError> for DeserializeError {
 }
 
 /// Why a value or a document couldn't be written.
-#[derive(Clone, Copy, Debug, PartialEq, Eq)]
+#[derive(Clone, Copy, Debug, PartialEq, Eq, Error)]
 pub enum SerializeError {
     /// The sink failed.
+    #[error("the sink failed: {0}")]
     Io(io::ErrorKind),
     /// Another number of values was given than was announced.
+    #[error("another number of values was given than was announced")]
     WrongCount,
     /// Twice the number of entries is above 2^64 - 1.
+    #[error("there are too many entries")]
     TooMany,
 }
 

@@ -2,11 +2,12 @@
 
 ghost use Rattle.std.specs.Prelude.{◌≡◌, ◌<◌, [], ◌∷◌, IfErr, IsTrue, length};
 ghost use Rattle.tv_base.specs.Sink.{Writes};
+ghost use Rattle.tv_doc.specs.Belongs.{Belongs};
 ghost use Rattle.tv_doc.specs.Document.{document_of};
 ghost use Rattle.tv_doc.specs.Handled.{is_handled};
 ghost use Rattle.tv_doc.specs.Value.{tree_of};
 ghost use Rattle.tv_store.specs.Error.{IsIo};
-ghost use Rattle.tv_store.specs.Stored.{stored, written_pairs, Belongs};
+ghost use Rattle.tv_store.specs.Stored.{stored, written_pairs};
 ghost use Rattle.tv_value.specs.Short.{short, short_pair, short_document};
 ghost use Rattle.tv_value.specs.Version.{V2};
 ghost use Rattle.tv_base.specs.Parts.{short_sized};

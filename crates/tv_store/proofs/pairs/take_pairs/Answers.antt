@@ -31,7 +31,7 @@ returns-in_err-add_taken-clause-full g c =
     let p = err_from_is_err_and c.from_residual-in_err-add_taken.result c.from_residual-in_err-add_taken.ensures.1 in
     let l = c.loop in
     λ told full. no_room l.document l.counter c.args.announced c.loop-test.true l.invariant c.in_ok-field.ensures.takes l.document.room
-        (subst (λ z. IsFull l.document (taken_tree z c.in_ok-field.value)) c.as_str.ensures.value (is_full _ p.0 _ l.document _ _ p.1 p.2 full c.in_err-add_taken.ensures.0)) told
+    (subst (λ z. IsFull l.document (taken_tree z c.in_ok-field.value)) c.as_str.ensures.value (is_full _ p.0 _ l.document _ _ p.1 p.2 full c.in_err-add_taken.ensures.0)) told
 
 pub loop-preserved : goal.loop-preserved
 loop-preserved g c =

@@ -3,7 +3,8 @@ use Rattle.std.specs.Prelude.{IsTrue}
 use Rattle.tv_doc.specs.Document.{document_of}
 use Rattle.tv_doc.specs.Handled.{are_handled}
 use Rattle.tv_doc.specs.Value.{pairs_left}
-use Rattle.tv_store.specs.Stored.{written_pairs, Belongs}
+use Rattle.tv_doc.specs.Belongs.{Belongs}
+use Rattle.tv_store.specs.Stored.{written_pairs}
 use Rattle.tv_store.proofs.se.write_pairs.Given as goal
 
 abbrev pub invariant-loop-field : goal.invariant-loop-field

@@ -1,0 +1,12 @@
+use Rattle.std.proofs.Common.{◌↔◌}
+use Rattle.tv_doc.specs.Belongs.{Belongs}
+use Rattle.tv_doc.specs.Document.{document_of}
+use Rattle.tv_doc.specs.Value.{pairs_left}
+use Rattle.tv_doc.proofs.document.CompactDoc.fits.Given as goal
+
+abbrev pub invariant-loop-field : goal.invariant-loop-field
+invariant-loop-field l = record {
+  can_next : (goal.iterator-loop-field).can_next l.field-iterator;
+  is_finite : (goal.iterator-loop-field).is_finite l.field-iterator;
+  same : Belongs l.schema (pairs_left l.field-iterator) ↔ Belongs l.schema (document_of l.self);
+}

@@ -1,0 +1,9 @@
+-- Documents of a schema.
+use Rattle.std.specs.Prelude.{◌<◌, ℕ, List, length}
+use Rattle.std.specs.List.{AllByRecursion}
+use Rattle.tv_schema.specs.Entry.{Entry}
+use Rattle.tv_value.specs.Tree.{Document}
+
+-- each field is one of the schema
+abbrev pub Belongs : List Entry → Document → Type 0
+Belongs schema d = AllByRecursion (λ pair. pair.0 < length schema) d
