@@ -3,3 +3,4 @@ pub mod Room
 pub mod AgreeDocument
 pub mod Promises
 pub mod Stores
+pub mod StoredLaws

@@ -3,9 +3,11 @@
 
 pub mod de;
 pub mod error;
+pub mod laws;
 mod pairs;
 pub mod se;
 pub mod type_codes;
 
 pub use de::{DocStoreVersion, read_document};
+pub use se::BinaryDocumentSerializer;
 pub use error::{DeserializeError, SerializeError, ValueType};

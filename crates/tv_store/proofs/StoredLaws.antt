@@ -1,0 +1,83 @@
+-- What holds of the stored pairs where it holds of all.
+use Rattle.std.proofs.Common.{◌≡◌, ℕ, ◌+◌, ◌<◌, ◌≤◌, Bool, true, false, cond, List, [], ◌∷◌, length, refl, sym, ap, subst, ◌∙◌, arith}
+use Rattle.std.specs.Prelude.{◌&&◌}
+use Rattle.std.specs.List.{AllByRecursion}
+use Rattle.std.proofs.lemmas.List.Sums.{sum_by-cons}
+use Rattle.tv_doc.specs.Handled.{is_handled, are_handled}
+use Rattle.tv_doc.specs.Room.{room, document_room}
+use Rattle.tv_schema.specs.Entry.{Entry}
+use Rattle.tv_value.specs.Short.{IsLeaf, IsValue, IsPair, IsDocument}
+use Rattle.tv_value.specs.Tree.{Leaf, null, text, unsigned, signed, boolean, date, facet, bytes, ip_address, tokenized, Tree, leaf, array, object, Document}
+use Rattle.tv_store.specs.Stored.{stored, leaf_written, tree_written, is_stored_field}
+use Rattle.tv_store.proofs.Stores.{stored-cons, stored_fewer, tree_written-handled, first_handled, others_handled}
+
+leaf_valid : (l : Leaf) → IsLeaf l → IsLeaf (leaf_written l)
+leaf_valid (tokenized t ts) h = h.0
+leaf_valid null h = h
+leaf_valid (text t) h = h
+leaf_valid (unsigned n) h = h
+leaf_valid (signed z) h = h
+leaf_valid (boolean b) h = h
+leaf_valid (date z) h = h
+leaf_valid (facet t) h = h
+leaf_valid (bytes bs) h = h
+leaf_valid (ip_address n) h = h
+
+tree_valid : (t : Tree) → IsValue t → IsValue (tree_written t)
+tree_valid (leaf l) h = leaf_valid l h
+tree_valid (array ts) h = h
+tree_valid (object es) h = h
+
+
+each_case : (b : Bool) (p : ℕ × Tree) (ps : Document) → IsPair p → AllByRecursion IsPair ps → AllByRecursion IsPair (cond b (p ∷ ps) ps)
+each_case true p ps h k = (h, k)
+each_case false p ps h k = k
+
+each_valid : (schema : List Entry) (d : Document) → AllByRecursion IsPair d → AllByRecursion IsPair (stored schema d)
+each_valid schema [] h = tt
+each_valid schema (p ∷ d) h =
+    subst (λ e. AllByRecursion IsPair e) (sym (stored-cons schema p d))
+    (each_case (is_stored_field schema p.0) (p.0, tree_written p.1) (stored schema d) (record { field = h.0.field; value = tree_valid p.1 h.0.value }) (each_valid schema d h.1))
+
+pub stored_valid : (schema : List Entry) (d : Document) → IsDocument d → IsDocument (stored schema d)
+stored_valid schema d h = record { count = omega (arith, h.count, stored_fewer schema d); each = each_valid schema d h.each }
+
+handled_case : (b : Bool) (p : ℕ × Tree) (ps : Document) → is_handled p.1 ≡ true → are_handled ps ≡ true → are_handled (cond b (p ∷ ps) ps) ≡ true
+handled_case true p ps h k = rw (h, k) refl
+handled_case false p ps h k = k
+
+pub stored_handled : (schema : List Entry) (d : Document) → are_handled d ≡ true → are_handled (stored schema d) ≡ true
+stored_handled schema [] h = refl
+stored_handled schema (p ∷ d) h =
+    let here = first_handled p d (p ∷ d) refl h in
+    let kept : is_handled (tree_written p.1) ≡ true = ap is_handled (tree_written-handled p.1 here) ∙ here in
+    ap are_handled (stored-cons schema p d) ∙ handled_case (is_stored_field schema p.0) (p.0, tree_written p.1) (stored schema d) kept (stored_handled schema d (others_handled p d (p ∷ d) refl h))
+
+leaf_room_written : (l : Leaf) → room (leaf (leaf_written l)) ≤ room (leaf l)
+leaf_room_written (tokenized t ts) = omega arith
+leaf_room_written null = omega arith
+leaf_room_written (text t) = omega arith
+leaf_room_written (unsigned n) = omega arith
+leaf_room_written (signed z) = omega arith
+leaf_room_written (boolean b) = omega arith
+leaf_room_written (date z) = omega arith
+leaf_room_written (facet t) = omega arith
+leaf_room_written (bytes bs) = omega arith
+leaf_room_written (ip_address n) = omega arith
+
+tree_room_written : (t : Tree) → room (tree_written t) ≤ room t
+tree_room_written (leaf l) = leaf_room_written l
+tree_room_written (array ts) = omega arith
+tree_room_written (object es) = omega arith
+
+document_room-cons : (p : ℕ × Tree) (d : Document) → document_room (p ∷ d) ≡ room p.1 + document_room d
+document_room-cons p d = sum_by-cons (λ (pair : ℕ × Tree). room pair.1) p d
+
+room_case : (b : Bool) (p : ℕ × Tree) (ps : Document) → document_room (cond b (p ∷ ps) ps) ≤ room p.1 + document_room ps
+room_case true p ps = omega (arith, document_room-cons p ps)
+room_case false p ps = omega arith
+
+pub stored_room : (schema : List Entry) (d : Document) → document_room (stored schema d) ≤ document_room d
+stored_room schema [] = omega arith
+stored_room schema (p ∷ d) =
+    omega (arith, ap document_room (stored-cons schema p d), room_case (is_stored_field schema p.0) (p.0, tree_written p.1) (stored schema d), tree_room_written p.1, stored_room schema d, document_room-cons p d)

@@ -1,0 +1,24 @@
+//! Laws of the pairs that are written, each the contract of a function that does nothing.
+
+ghost use Rattle.std.specs.Prelude.{◌≤◌, IsTrue, List};
+ghost use Rattle.tv_doc.specs.Handled.{are_handled};
+ghost use Rattle.tv_doc.specs.Room.{document_room};
+ghost use Rattle.tv_schema.specs.Entry.{Entry};
+ghost use Rattle.tv_store.specs.Stored.{stored};
+ghost use Rattle.tv_value.specs.Short.{IsDocument};
+ghost use Rattle.tv_value.specs.Tree.{Document};
+
+/// The stored pairs of a document that has a spelling have one.
+pub fn stored_pairs_are_valid()
+    ensures { (schema : List Entry) (d : Document) → IsDocument d → IsDocument (stored schema d) }
+{}
+
+/// The stored pairs of a document of texts and numbers are such a document.
+pub fn stored_pairs_are_handled()
+    ensures { (schema : List Entry) (d : Document) → IsTrue (are_handled d) → IsTrue (are_handled (stored schema d)) }
+{}
+
+/// The stored pairs need no more room than all pairs.
+pub fn stored_pairs_need_no_more_room()
+    ensures { (schema : List Entry) (d : Document) → document_room (stored schema d) ≤ document_room d }
+{}
