@@ -1,0 +1,3 @@
+//! The document store.
+
+pub use tv_store::{DocStoreVersion, read_document};

@@ -1,0 +1,1 @@
+//! Tests over the public calls of all crates.
