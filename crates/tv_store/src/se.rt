@@ -117,6 +117,7 @@ fn write_pairs<K: ByteSink>(
 }
 
 /// Writes documents to a sink: the pairs whose field is stored, as the store's version 2 has them.
+#[derive(Drop)]
 pub struct BinaryDocumentSerializer<'se, K: ByteSink> {
     sink: &'se mut K,
     schema: &'se Schema,
