@@ -1,19 +1,21 @@
 //! What is proved above single calls: laws of the definitions, and of what calls leave.
 
-ghost use Rattle.std.specs.Prelude.{◌≡◌, ◌≤◌, ◌++◌, List, ℕ};
+ghost use Rattle.std.specs.Prelude.{◌≡◌, ◌≤◌, ◌++◌, List, ℕ, IfOk, IfErr};
 ghost use Rattle.tv_base.specs.ReadsAs.{few_told};
+ghost use Rattle.tv_doc.specs.Belongs.{Belongs};
 ghost use Rattle.tv_doc.specs.Document.{document_of};
 ghost use Rattle.tv_doc.specs.Room.{document_room};
 ghost use Rattle.tv_store.specs.Documents.{Answers};
+ghost use Rattle.tv_store.specs.Error.{IsIo};
 ghost use Rattle.tv_store.specs.Stored.{stored};
 ghost use Rattle.tv_value.specs.Short.{short_document};
 ghost use Rattle.tv_value.specs.Version.{V2};
 
 use std::alloc::Global;
-use tv_base::ByteSource;
 pub use tv_base::laws::{
     numbers_have_one_reading, short_numbers_are_shortest, short_numbers_spell,
 };
+use tv_base::{ByteSource, VecSink};
 use tv_doc::document::CompactDoc;
 pub use tv_doc::laws::{
     documents_are_handled, documents_are_valid, heaps_are_within_room, places_read_as_one_tree,
@@ -22,11 +24,30 @@ use tv_schema::Schema;
 pub use tv_store::laws::{
     stored_pairs_are_handled, stored_pairs_are_valid, stored_pairs_need_no_more_room,
 };
-use tv_store::{DeserializeError, DocStoreVersion, read_document};
+use tv_store::{
+    BinaryDocumentSerializer, DeserializeError, DocStoreVersion, SerializeError, read_document,
+};
 pub use tv_value::laws::{
     documents_have_one_reading, faulty_documents_derive_none, faulty_values_spell_none,
     short_documents_spell, short_values_spell, values_have_one_reading,
 };
+
+/// What `serialize_doc` writes of a document is its stored pairs in the shortest spelling: here, in memory.
+///
+/// The fields are those of the schema, as `fits` tests. The only error is `Io`, where memory was refused.
+pub fn written_documents_are_shortest(
+    alloc: Global,
+    schema: &Schema,
+    document: &CompactDoc,
+) -> Result<Vec<u8>, SerializeError>
+    requires { Belongs schema.now (document_of document.now) }
+    ensures bytes { IfOk result (λ bytes. bytes.items ≡ short_document V2 (stored schema.now (document_of document.now))) }
+    ensures io { IfErr result IsIo }
+{
+    let mut sink = VecSink::new(alloc);
+    BinaryDocumentSerializer::new(&mut sink, schema).serialize_doc(document)?;
+    Ok(sink.into_vec())
+}
 
 /// What `serialize_doc` writes of a document is read back as its stored pairs, whatever follows it and however the source
 /// cuts it, where the source's bytes are known and the document's values have room.
