@@ -1,6 +1,14 @@
 //! The number of a field.
 
-ghost use Rattle.std.specs.Prelude.{◌≡◌};
+ghost use Rattle.std.specs.Prelude.{◌≡◌, ℕ, IsErrOf};
+ghost use Rattle.tv_base.specs.declared.read_error.ReadError.TheVariants.{Memory};
+ghost use Rattle.tv_base.specs.Number.{Fixed, four_bytes};
+ghost use Rattle.tv_base.specs.PartFault.{BytesFault};
+ghost use Rattle.tv_base.specs.ReadsAs.{ReadsAs};
+
+use std::alloc::Global;
+use std::io;
+use tv_base::{BinarySerializable, ByteSink, ByteSource, ReadError};
 
 /// A field of a schema, by its number. Any 32-bit number names one; which of them a schema has is the schema's matter.
 #[derive(Clone, Copy, Debug, PartialEq, Eq, PartialOrd, Ord, Hash)]
@@ -21,5 +29,32 @@ impl Field {
         ensures { result ≡ self.id }
     {
         self.id
+    }
+}
+
+/// The number in four bytes, the lowest first. Each 32-bit number is read: a schema tells which fields it has.
+impl BinarySerializable for Field {
+    ghost Seen = { ℕ };
+
+    ghost view = { λ field. field.id };
+
+    ghost shortest = { four_bytes };
+
+    ghost spells = { Fixed 4 };
+
+    ghost is_fault = { BytesFault 4 };
+
+    fn serialize<K: ByteSink>(&self, sink: &mut K) -> Result<(), io::ErrorKind> {
+        self.id.serialize(sink)
+    }
+
+    fn deserialize<S: ByteSource>(alloc: Global, source: &mut S) -> Result<Field, ReadError>
+        ensures reads { ReadsAs S.tells S.left S.faults source.old source.new (λ field. field.id) result (Fixed 4) (BytesFault 4) }
+        ensures spares { ¬ IsErrOf result Memory }
+    {
+        match u32::deserialize(alloc, source) {
+            Ok(id) => Ok(Field { id }),
+            Err(error) => Err(error),
+        }
     }
 }
