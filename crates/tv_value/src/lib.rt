@@ -3,3 +3,4 @@
 
 pub mod field;
 pub mod laws;
+pub mod plain;
