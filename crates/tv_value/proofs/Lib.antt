@@ -7,3 +7,4 @@ pub mod PlainWorth
 pub mod PlainDigits
 pub mod PlainParts
 pub mod PlainLeaves
+pub mod PlainItems

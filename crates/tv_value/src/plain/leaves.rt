@@ -1,6 +1,6 @@
 //! Values that hold no others, behind their code.
 
-ghost use Rattle.std.specs.Prelude.{◌∷◌, ◌≢◌, IfOk, IfErr};
+ghost use Rattle.std.specs.Prelude.{◌≡◌, ◌≢◌, ◌∷◌, ◌*ℤ◌, ◌≤ℤ◌, pos, negsuc, IfOk, IfErr};
 ghost use Rattle.tv_value.specs.Fault.{Corrupt, LeafFault};
 ghost use Rattle.tv_value.specs.Plain.{version_of};
 ghost use Rattle.tv_value.specs.PlainReading.{FoundLeaf, FoundValue, NoLeaf, NoLeafIn, NoValue};
@@ -84,6 +84,15 @@ fn boolean_value(bytes: &[u8]) -> Result<(PlainValue, &[u8]), PlainRefusal>
     }
 }
 
+// Microseconds as nanoseconds, where these fit.
+fn nanoseconds(microseconds: i64) -> i64
+    requires from { negsuc 9223372036854774 ≤ℤ microseconds }
+    requires to { microseconds ≤ℤ pos 9223372036854775 }
+    ensures { result ≡ microseconds *ℤ pos 1000 }
+{
+    microseconds * 1000
+}
+
 // Behind code 5.
 fn date_value(version: PlainVersion, bytes: &[u8]) -> Result<(PlainValue, &[u8]), PlainRefusal>
     ensures found { IfOk result (λ x. FoundValue (version_of version) (5 ∷ bytes.now) x.0 x.1.now) }
@@ -96,7 +105,7 @@ fn date_value(version: PlainVersion, bytes: &[u8]) -> Result<(PlainValue, &[u8])
             if date < -9223372036854775 || date > 9223372036854775 {
                 return Err(PlainRefusal::Corrupted(Cause::DateRange));
             }
-            Ok((PlainValue::Date(date * 1000), rest))
+            Ok((PlainValue::Date(nanoseconds(date)), rest))
         }
         PlainVersion::V2 => Ok((PlainValue::Date(date), rest)),
         PlainVersion::V3 => Ok((PlainValue::Date(date), rest)),

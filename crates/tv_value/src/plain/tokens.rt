@@ -18,11 +18,11 @@ pub fn token_at(alloc: Global, bytes: &[u8]) -> Result<(PlainToken, &[u8]), Plai
     ensures found { IfOk result (λ x. Begins (λ b. TokenSpelling b (token_of x.0)) bytes.now x.1.now) }
     ensures fault { IfErr result (BecausePart (Corrupt TokenFault bytes.now)) }
 {
-    let (offset_from, rest) = number_at(bytes)?;
-    let (offset_to, rest) = number_at(rest)?;
-    let (position, rest) = number_at(rest)?;
-    let (text, rest) = text_at(rest)?;
-    let (position_length, rest) = number_at(rest)?;
+    let (offset_from, behind_from) = number_at(bytes)?;
+    let (offset_to, behind_to) = number_at(behind_from)?;
+    let (position, behind_position) = number_at(behind_to)?;
+    let (text, behind_text) = text_at(behind_position)?;
+    let (position_length, rest) = number_at(behind_text)?;
     let text = text.to_vec(alloc)?;
     let token = PlainToken {
         offset_from,

@@ -1,3 +1,4 @@
+use Rattle.std.specs.Int.{w64, cast_signed, cast_unsigned}
 use Rattle.std.proofs.lemmas.Result.{err_from_is_err_and}
 use Rattle.tv_base.specs.PartFault.{BytesFault}
 use Rattle.tv_value.specs.Fault.{in_signed}
@@ -12,5 +13,5 @@ returns-in_err-number-clause-fault c =
 
 pub returns-clause-found : goal.returns-clause-found
 returns-clause-found c =
-    leaf_found _ (signed c.cast_signed.result) _ _ (tree_of-Signed c.cast_signed.result)
+    leaf_found _ (signed (cast_signed w64 (cast_unsigned w64 c.cast_signed.result))) _ _ (tree_of-Signed _)
     (λ v. begins_signed c.in_ok-number.number c.cast_signed.result c.args.bytes.now c.in_ok-number.rest.now c.cast_signed.ensures c.in_ok-number.ensures.found)
