@@ -8,3 +8,4 @@ pub mod PlainDigits
 pub mod PlainParts
 pub mod PlainLeaves
 pub mod PlainItems
+pub mod PlainKeys

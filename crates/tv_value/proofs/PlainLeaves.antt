@@ -1,5 +1,5 @@
 -- How the parts of a leaf make it, and how their faults are its faults.
-use Rattle.std.proofs.Common.{rules, ◌≡◌, ℕ, ◌<◌, List, [], ◌∷◌, ◌++◌, length, map, refl, sym, ◌∙◌, ap, subst, arith, Vec, Bool, true, false, inl, inr}
+use Rattle.std.proofs.Common.{rules, ◌≡◌, ℕ, ◌<◌, List, [], ◌∷◌, ◌++◌, length, map, refl, sym, ◌∙◌, ap, subst, arith, Vec, Bool, true, false, inl, inr, Result, Ok, Err, IfErr}
 use Rattle.std.specs.Prelude.{ℤ, pos, negsuc, ◌*ℤ◌, ◌≤ℤ◌, ◌<ℤ◌, ◌⊎◌, ◌^◌, FitsSigned}
 use Rattle.std.specs.Int.{w64, cast_signed, cast_unsigned}
 use Rattle.std.specs.Int.Signed.{lt_z}
@@ -10,17 +10,18 @@ use Rattle.tv_base.specs.PartFault.{BytesFault, bytes_end}
 use Rattle.tv_base.proofs.Numbers.{fixed_fits}
 use Rattle.tv_base.specs.declared.cause.Cause.{Cause}
 use Rattle.tv_base.specs.declared.cause.Cause.TheVariants.{DateRange}
+use Rattle.tv_base.specs.Parts.{Behind}
 use Rattle.tv_value.specs.Tree.{Leaf, leaf, null, text, unsigned, signed, boolean, date, facet, bytes, ip_address, tokenized}
 use Rattle.tv_value.specs.Spelling.{leaf_code, LeafBody, Spells, NoLegacy}
-use Rattle.tv_value.specs.Fault.{Corrupt, LeafFault, DateFault, date_range, date_ends}
+use Rattle.tv_value.specs.Fault.{Corrupt, LeafFault, DateFault, date_range, date_ends, TokenizedFault, in_tokenized, in_leaf, corrupt, Refusal, ValueFault}
 use Rattle.tv_value.specs.Version.{Version, V1, Microseconds}
 use Rattle.tv_value.specs.Plain.{tree_of, token_of}
-use Rattle.tv_value.specs.PlainReading.{Begins, Because, FoundValue, FoundLeaf, NoLeaf, NoLeafIn}
+use Rattle.tv_value.specs.PlainReading.{Begins, Because, FoundValue, FoundLeaf, NoLeaf, NoLeafIn, NoValue}
 use Rattle.tv_value.specs.declared.plain.value.PlainToken.{PlainToken}
 use Rattle.tv_value.specs.declared.plain.value.PlainValue.{PlainValue, Null, Text, Unsigned, Signed, Boolean, Date, Facet, Bytes, IpAddress, Tokenized, the_lemmas}
 use Rattle.tv_value.specs.declared.plain.refusal.PlainRefusal.{PlainRefusal}
 use Rattle.std.specs.declared.alloc.Global.{Global}
-use Rattle.tv_value.proofs.PlainParts.{begins_behind, part_fault}
+use Rattle.tv_value.proofs.PlainParts.{because_map, begins_behind, part_fault}
 
 pub tree_of-Null : tree_of Null ≡ leaf null
 tree_of-Null = search (rules, the_lemmas)
@@ -138,3 +139,23 @@ date_outside n z whole rest e out p =
 
 pub date_fault : (whole : List ℕ) (v : Version) (c : Cause) → BytesFault 8 whole c → DateFault whole v c
 date_fault whole v c (bytes_end l) = date_ends l
+
+value_leaf : (L : List ℕ → Cause → Type 0) (v : Version) (code k : ℕ) (whole : List ℕ) (r : Refusal) → code ≡ k → Corrupt (λ b c. LeafFault v b k c) whole r → ValueFault NoLegacy L v (code ∷ whole) r
+value_leaf L v code k whole r is (corrupt h) = subst (λ z. ValueFault NoLegacy L v (z ∷ whole) r) (sym is) (in_leaf h)
+
+-- a leaf that is refused is a value that is refused
+pub leaf_refused_in : {X : Type 0} (answer : Result X PlainRefusal) (v : Version) (code k : ℕ) (whole : List ℕ) → code ≡ k → IfErr answer (NoLeafIn v k whole) → IfErr answer (NoValue v (code ∷ whole))
+leaf_refused_in (Ok x) v code k whole is h = tt
+leaf_refused_in (Err e) v code k whole is h =
+    because_map e (λ _. Corrupt (λ b c. LeafFault v b k c) whole) (λ L r. ValueFault NoLegacy L v (code ∷ whole) r) (λ L r f. value_leaf L v code k whole r is f) h
+
+pub leaf_refused : {X : Type 0} (answer : Result X PlainRefusal) (v : Version) (code k : ℕ) (whole : List ℕ) → code ≡ k → IfErr answer (NoLeaf k whole) → IfErr answer (NoValue v (code ∷ whole))
+leaf_refused (Ok x) v code k whole is h = tt
+leaf_refused {X} (Err e) v code k whole is h = leaf_refused_in {X = X} (Err e) v code k whole is (h v)
+
+pub tokenized_fault : (v : Version) (b : ℕ) (whole rest : List ℕ) → whole ≡ b ∷ rest → b ≡ 0 → (c : Cause) → TokenizedFault rest c → LeafFault v whole 7 c
+tokenized_fault v b whole rest e is c h = in_tokenized rest (e ∙ ap (λ z. z ∷ rest) is) h
+
+-- behind a byte
+pub begins_after : {P : List ℕ → Type 0} (k b : ℕ) (whole rest after : List ℕ) → whole ≡ b ∷ rest → b ≡ k → Begins P rest after → Begins (Behind k P) whole after
+begins_after k b whole rest after e is h = let q = begins_behind k rest after h in record { front = q.front; joined = e ∙ ap (λ z. z ∷ rest) is ∙ q.joined; spelled = q.spelled }

@@ -63,6 +63,12 @@ pub data EntriesFault (L : List ℕ → Cause → Type 0) (v : Version) (count :
   in_next_value : (es : Entries) (k front key rest : List ℕ) → whole ≡ front ++ (key ++ rest) → SpellsEntries NoLegacy v front es → entry_count es < count
       → Key v key k → ValueFault NoLegacy L v rest refusal → EntriesFault L v count whole refusal
 
+abbrev pub NoElements : Version → ℕ → List ℕ → PlainRefusal → Type 0
+NoElements v count whole refusal = Because (λ L r. ElementsFault L v count whole r) refusal
+
+abbrev pub NoEntries : Version → ℕ → List ℕ → PlainRefusal → Type 0
+NoEntries v count whole refusal = Because (λ L r. EntriesFault L v count whole r) refusal
+
 -- behind a code, in all versions
 abbrev pub FoundLeaf : ℕ → List ℕ → PlainValue → List ℕ → Type 0
 FoundLeaf code whole value rest = (v : Version) → FoundValue v (code ∷ whole) value rest

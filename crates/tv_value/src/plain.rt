@@ -2,6 +2,7 @@
 //! Tests use it to compare the definitions with bytes that are known. It reads no legacy objects.
 
 pub mod documents;
+pub mod keys;
 pub mod leaves;
 pub mod parts;
 pub mod refusal;
