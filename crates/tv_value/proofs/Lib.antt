@@ -9,3 +9,4 @@ pub mod PlainParts
 pub mod PlainLeaves
 pub mod PlainItems
 pub mod PlainKeys
+pub mod PlainValues
