@@ -10,3 +10,4 @@ pub mod PlainLeaves
 pub mod PlainItems
 pub mod PlainKeys
 pub mod PlainValues
+pub mod PlainAnswers

@@ -2,8 +2,9 @@
 use Rattle.std.specs.Prelude.{◌≡◌, ◌<◌, ℕ, List, ◌∷◌, ◌++◌, Result, Ok, Err}
 use Rattle.tv_base.specs.declared.cause.Cause.{Cause}
 use Rattle.tv_base.specs.declared.cause.Cause.TheVariants.{LegacyJson}
-use Rattle.tv_value.specs.Fault.{Refusal, corrupted, no_text_key, Corrupt, KeyFault, LeafFault, ValueFault, NoLegacyFault}
-use Rattle.tv_value.specs.Spelling.{Key, Spells, SpellsElements, SpellsEntries, NoLegacy}
+use Rattle.tv_base.specs.PartFault.{InEach}
+use Rattle.tv_value.specs.Fault.{Refusal, corrupted, no_text_key, Corrupt, KeyFault, LeafFault, ValueFault, PairFault, DocumentFault, NoLegacyFault}
+use Rattle.tv_value.specs.Spelling.{Key, Spells, SpellsElements, SpellsEntries, SpellsPair, NoLegacy}
 use Rattle.tv_value.specs.Tree.{Tree, Elements, element_count, Entries, entry_count}
 use Rattle.tv_value.specs.Version.{Version}
 use Rattle.tv_value.specs.Plain.{tree_of}
@@ -68,6 +69,13 @@ NoElements v count whole refusal = Because (λ L r. ElementsFault L v count whol
 
 abbrev pub NoEntries : Version → ℕ → List ℕ → PlainRefusal → Type 0
 NoEntries v count whole refusal = Because (λ L r. EntriesFault L v count whole r) refusal
+
+-- no document is spelled at the front, or not so many pairs
+abbrev pub NoDocument : Version → List ℕ → PlainRefusal → Type 0
+NoDocument v whole refusal = Because (λ L r. DocumentFault NoLegacy L v whole r) refusal
+
+abbrev pub NoPairs : Version → ℕ → List ℕ → PlainRefusal → Type 0
+NoPairs v count whole refusal = Because (λ L r. InEach (PairFault NoLegacy L v) (SpellsPair NoLegacy v) count whole r) refusal
 
 -- behind a code, in all versions
 abbrev pub FoundLeaf : ℕ → List ℕ → PlainValue → List ℕ → Type 0

@@ -6,7 +6,6 @@ ghost use Rattle.tv_value.specs.PlainReading.{Answers, Begins, FoundValue, NoEle
 ghost use Rattle.tv_value.specs.Spelling.{Spells, SpellsElements, SpellsEntries, NoLegacy};
 ghost use Rattle.tv_value.specs.Tree.{Tree, elements};
 
-use crate::laws;
 use crate::plain::keys::{entry_count_of, key_at};
 use crate::plain::leaves::leaf_at;
 use crate::plain::parts::number_at;
@@ -14,6 +13,24 @@ use crate::plain::refusal::PlainRefusal;
 use crate::plain::value::{PlainValue, PlainVersion};
 use std::alloc::Global;
 use tv_base::cause::Cause;
+
+/// The value at the front of the bytes, and what follows it. Refused are bytes of which no front spells a value, for what is wrong
+/// with them, from left to right; a legacy object, where one is met before a fault; and a value for which memory runs out.
+pub fn read_value(
+    alloc: Global,
+    version: PlainVersion,
+    bytes: &[u8],
+) -> Result<(PlainValue, &[u8]), PlainRefusal>
+    // What is read is spelled there.
+    ensures found { IfOk result (λ x. FoundValue (version_of version) bytes.now x.0 x.1.now) }
+    // What is spelled there is read, unless memory runs out.
+    ensures only { (t : Tree) (front rest : List ℕ) → bytes.now ≡ front ++ rest → Spells NoLegacy (version_of version) front t →
+        Answers (λ x. (tree_of x.0 ≡ t) × (x.1.now ≡ rest)) result }
+    // Why bytes are refused.
+    ensures fault { IfErr result (NoValue (version_of version) bytes.now) }
+{
+    value_at(alloc, version, bytes)
+}
 
 // The value at the front of the bytes, and what follows it.
 #[cycle(values)]
