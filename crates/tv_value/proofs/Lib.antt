@@ -11,3 +11,4 @@ pub mod PlainItems
 pub mod PlainKeys
 pub mod PlainValues
 pub mod PlainAnswers
+pub mod PlainDocuments

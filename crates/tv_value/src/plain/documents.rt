@@ -32,6 +32,18 @@ pub fn read_document(
     // Why bytes are refused.
     ensures fault { IfErr result (NoDocument (version_of version) bytes.now) }
 {
+    document_at(alloc, version, bytes)
+}
+
+// The document at the front of the bytes, and what follows it.
+fn document_at(
+    alloc: Global,
+    version: PlainVersion,
+    bytes: &[u8],
+) -> Result<(Vec<(u32, PlainValue)>, &[u8]), PlainRefusal>
+    ensures found { IfOk result (λ x. Begins (λ b. SpellsDocument NoLegacy (version_of version) b (document_of x.0.items)) bytes.now x.1.now) }
+    ensures fault { IfErr result (NoDocument (version_of version) bytes.now) }
+{
     let (count, behind_count) = number_at(bytes)?;
     let (pairs, rest) = pairs_at(alloc, version, count, behind_count)?;
     Ok((pairs, rest))

@@ -1,17 +1,14 @@
-use Rattle.std.proofs.Common.{rules, ◌≡◌, ◌≤◌, ◌++◌, List, ℕ, IfOk, IfErr, length, ◌+◌, ◌-◌, ◌*◌, ◌<◌, ◌/◌, ◌%◌, Bool, true, false, nat_eq, nat_lt, [], ◌∷◌, slice_index_or, slice_set, bit_and, bit_or, Fits, w8, w32, w64, Bor, MutBor}
-use Rattle.tv_base.specs.Number.{Fixed}
-use Rattle.tv_base.specs.Parts.{Each}
-use Rattle.tv_value.specs.Fault.{Corrupt, FieldFault}
-use Rattle.tv_value.specs.Plain.{version_of, tree_of, document_of}
-use Rattle.tv_value.specs.PlainReading.{Answers, BecausePart, Begins, NoDocument, NoPairs}
-use Rattle.tv_value.specs.Spelling.{SpellsDocument, SpellsPair, NoLegacy}
-use Rattle.tv_value.specs.Tree.{Document}
+use Rattle.std.proofs.lemmas.Result.{err_from_is_err_and}
+use Rattle.tv_base.specs.PartFault.{BytesFault}
+use Rattle.tv_value.specs.Fault.{corrupt, FieldFault}
+use Rattle.tv_value.proofs.PlainParts.{part_fault}
+use Rattle.tv_value.proofs.PlainDocuments.{no_field, large_field}
 use Rattle.tv_value.proofs.plain.documents.field_at.Goals as goal
 
--- src/plain/documents.rt:68:25
 pub returns-in_err-field-clause-fault : goal.returns-in_err-field-clause-fault
-returns-in_err-field-clause-fault c = ?
+returns-in_err-field-clause-fault c =
+    let p = err_from_is_err_and c.from_residual.result c.from_residual.ensures.1 in
+    rw (p.1, p.2) (part_fault c.in_err-field.field-0.0 (BytesFault 4) FieldFault c.args.bytes.now c.args.bytes.now (no_field c.args.bytes.now) c.in_err-field.ensures.fault)
 
--- src/plain/documents.rt:70:9
 pub returns-then-field-gt65535-clause-fault : goal.returns-then-field-gt65535-clause-fault
-returns-then-field-gt65535-clause-fault c = ?
+returns-then-field-gt65535-clause-fault c = corrupt (large_field c.in_ok-field.field c.args.bytes.now c.in_ok-field.rest.now c.in_ok-field.ensures.found c.if-field-gt65535.true)
