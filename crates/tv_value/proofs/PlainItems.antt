@@ -33,12 +33,15 @@ pub item_fault : {C A : Type 0} (F : List ℕ → C → Type 0) (R : List ℕ �
     → (c : C) → F rest c → InEach F R n whole c
 item_fault F R [] (suc n) whole rest l p c h = inl (subst (λ z. F z c) (sym (p.joined ∙ ap (λ z. z ++ rest) p.spelled)) h)
 item_fault F R (x ∷ xs) (suc n) whole rest l p c h =
-    inr (x, record {
-      front = p.spelled.front;
-      rest = p.spelled.rest ++ rest;
-      joined = p.joined ∙ ap (λ z. z ++ rest) p.spelled.joined ∙ append_assoc p.spelled.front p.spelled.rest rest;
-      first = p.spelled.first;
-      second = item_fault F R xs n (p.spelled.rest ++ rest) rest (omega arith) (record { front = p.spelled.rest; joined = refl; spelled = p.spelled.second }) c h;
-    })
+    inr (
+      x,
+      record {
+        front = p.spelled.front;
+        rest = p.spelled.rest ++ rest;
+        joined = p.joined ∙ ap (λ z. z ++ rest) p.spelled.joined ∙ append_assoc p.spelled.front p.spelled.rest rest;
+        first = p.spelled.first;
+        second = item_fault F R xs n (p.spelled.rest ++ rest) rest (omega arith) (record { front = p.spelled.rest; joined = refl; spelled = p.spelled.second }) c h;
+      },
+    )
 item_fault F R [] zero whole rest l p c h = absurd (omega arith)
 item_fault F R (x ∷ xs) zero whole rest l p c h = absurd (omega arith)

@@ -4,3 +4,5 @@
 pub mod field;
 pub mod laws;
 pub mod plain;
+#[cfg(test)]
+mod tests;

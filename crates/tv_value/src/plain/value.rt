@@ -12,7 +12,7 @@ pub enum PlainVersion {
 }
 
 /// A token of a text: where it stands, and its own text as bytes.
-#[derive(Drop)]
+#[derive(Debug, PartialEq, Drop)]
 pub struct PlainToken {
     /// Where it begins.
     pub offset_from: u64,
@@ -27,7 +27,7 @@ pub struct PlainToken {
 }
 
 /// A value that owns what it holds. Texts are their bytes in UTF-8.
-#[derive(Drop)]
+#[derive(Debug, PartialEq, Drop)]
 pub enum PlainValue {
     /// Nothing.
     Null,

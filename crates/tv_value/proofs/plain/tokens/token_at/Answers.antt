@@ -25,27 +25,45 @@ pub returns-in_err-position-clause-fault : goal.returns-in_err-position-clause-f
 returns-in_err-position-clause-fault c =
     let p = err_from_is_err_and c.from_residual-in_err-position.result c.from_residual-in_err-position.ensures.1 in
     rw (p.1, p.2) (part_fault c.in_err-position.field-0.0 NumberFault TokenFault c.args.bytes.now c.in_ok-offset_to.behind_to.now
-    (λ d h. inr (c.in_ok-offset_from.offset_from, behind_part _ _ c.in_ok-offset_from.ensures.found
-    (inr (c.in_ok-offset_to.offset_to, behind_part _ _ c.in_ok-offset_to.ensures.found (inl h)))))
+    (λ d h. inr (
+      c.in_ok-offset_from.offset_from,
+      behind_part _ _ c.in_ok-offset_from.ensures.found
+          (inr (c.in_ok-offset_to.offset_to, behind_part _ _ c.in_ok-offset_to.ensures.found (inl h))),
+    ))
     c.in_err-position.ensures.fault)
 
 pub returns-in_err-text-clause-fault : goal.returns-in_err-text-clause-fault
 returns-in_err-text-clause-fault c =
     let p = err_from_is_err_and c.from_residual-in_err-text.result c.from_residual-in_err-text.ensures.1 in
     rw (p.1, p.2) (part_fault c.in_err-text.field-0.0 TextFault TokenFault c.args.bytes.now c.in_ok-position.behind_position.now
-    (λ d h. inr (c.in_ok-offset_from.offset_from, behind_part _ _ c.in_ok-offset_from.ensures.found
-    (inr (c.in_ok-offset_to.offset_to, behind_part _ _ c.in_ok-offset_to.ensures.found
-    (inr (c.in_ok-position.position, behind_part _ _ c.in_ok-position.ensures.found (inl h)))))))
+    (λ d h. inr (
+      c.in_ok-offset_from.offset_from,
+      behind_part _ _ c.in_ok-offset_from.ensures.found
+          (inr (
+            c.in_ok-offset_to.offset_to,
+            behind_part _ _ c.in_ok-offset_to.ensures.found
+                (inr (c.in_ok-position.position, behind_part _ _ c.in_ok-position.ensures.found (inl h))),
+          )),
+    ))
     c.in_err-text.ensures.fault)
 
 pub returns-in_err-position_length-clause-fault : goal.returns-in_err-position_length-clause-fault
 returns-in_err-position_length-clause-fault c =
     let p = err_from_is_err_and c.from_residual-in_err-position_length.result c.from_residual-in_err-position_length.ensures.1 in
     rw (p.1, p.2) (part_fault c.in_err-position_length.field-0.0 NumberFault TokenFault c.args.bytes.now c.in_ok-text.behind_text.now
-    (λ d h. inr (c.in_ok-offset_from.offset_from, behind_part _ _ c.in_ok-offset_from.ensures.found
-    (inr (c.in_ok-offset_to.offset_to, behind_part _ _ c.in_ok-offset_to.ensures.found
-    (inr (c.in_ok-position.position, behind_part _ _ c.in_ok-position.ensures.found
-    (inr (c.in_ok-text.text.now, behind_part _ _ c.in_ok-text.ensures.found h))))))))
+    (λ d h. inr (
+      c.in_ok-offset_from.offset_from,
+      behind_part _ _ c.in_ok-offset_from.ensures.found
+          (inr (
+            c.in_ok-offset_to.offset_to,
+            behind_part _ _ c.in_ok-offset_to.ensures.found
+                (inr (
+                  c.in_ok-position.position,
+                  behind_part _ _ c.in_ok-position.ensures.found
+                      (inr (c.in_ok-text.text.now, behind_part _ _ c.in_ok-text.ensures.found h)),
+                )),
+          )),
+    ))
     c.in_err-position_length.ensures.fault)
 
 pub returns-clause-found : goal.returns-clause-found

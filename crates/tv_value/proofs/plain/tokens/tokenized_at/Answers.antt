@@ -28,8 +28,11 @@ pub returns-in_err-tokens-clause-fault : goal.returns-in_err-tokens-clause-fault
 returns-in_err-tokens-clause-fault c =
     let p = err_from_is_err_and c.from_residual-in_err-tokens.result c.from_residual-in_err-tokens.ensures.1 in
     rw (p.1, p.2) (part_fault c.in_err-tokens.field-0.0 (InEach TokenFault TokenSpelling c.in_ok-count.count) TokenizedFault c.args.bytes.now c.in_ok-count.behind_count.now
-    (λ d h. inr (c.in_ok-text.text.now, behind_part _ _ c.in_ok-text.ensures.found
-    (inr (c.in_ok-count.count, behind_part _ _ c.in_ok-count.ensures.found h))))
+    (λ d h. inr (
+      c.in_ok-text.text.now,
+      behind_part _ _ c.in_ok-text.ensures.found
+          (inr (c.in_ok-count.count, behind_part _ _ c.in_ok-count.ensures.found h)),
+    ))
     c.in_err-tokens.ensures.fault)
 
 pub returns-clause-found : goal.returns-clause-found
