@@ -1,12 +1,12 @@
 -- How pairs make a document, and how their faults are its faults.
-use Rattle.std.proofs.Common.{◌≡◌, ℕ, ◌<◌, ◌≤◌, List, ◌++◌, length, map, refl, sym, ◌∙◌, ap, subst, arith, inl, inr}
+use Rattle.std.proofs.Common.{◌≡◌, ℕ, ◌<◌, ◌≤◌, List, length, sym, ◌∙◌, subst, arith, inl, inr}
 use Rattle.std.proofs.lemmas.List.{length-map}
 use Rattle.tv_base.specs.declared.cause.Cause.{Cause}
 use Rattle.tv_base.specs.declared.cause.Cause.TheVariants.{FieldNumber}
 use Rattle.tv_base.specs.Number.{VNum, Fixed}
-use Rattle.tv_base.specs.PartFault.{InThen, InEach, NumberFault, BytesFault, bytes_end}
+use Rattle.tv_base.specs.PartFault.{InEach, NumberFault, BytesFault, bytes_end}
 use Rattle.tv_base.specs.Parts.{Each}
-use Rattle.tv_value.specs.Fault.{Refusal, Corrupt, corrupt, FieldFault, field_ends, field_large, ValueFault, PairFault, DocumentFault}
+use Rattle.tv_value.specs.Fault.{Corrupt, FieldFault, field_ends, field_large, ValueFault, PairFault, DocumentFault}
 use Rattle.tv_value.specs.Spelling.{Spells, SpellsPair, SpellsDocument, NoLegacy}
 use Rattle.tv_value.specs.Tree.{Tree}
 use Rattle.tv_value.specs.Version.{Version}

@@ -1,11 +1,9 @@
 -- Why a key's place has no text.
-use Rattle.std.proofs.Common.{◌≡◌, ◌≢◌, ℕ, ◌<◌, List, [], ◌∷◌, length, sym, subst, ap, ◌∙◌, arith, Result, Ok, Err, IfErr}
+use Rattle.std.proofs.Common.{◌≡◌, ◌≢◌, ℕ, List, [], ◌∷◌, length, sym, subst, ap, ◌∙◌, arith}
 use Rattle.std.specs.Prelude.{Some, None, slice_get}
-use Rattle.tv_base.specs.declared.cause.Cause.{Cause}
-use Rattle.tv_base.specs.declared.cause.Cause.TheVariants.{UnexpectedEnd, UnknownExtCode, FloatCode}
+use Rattle.tv_base.specs.declared.cause.Cause.TheVariants.{UnexpectedEnd, UnknownExtCode}
 use Rattle.tv_base.specs.PartFault.{TextFault}
-use Rattle.tv_value.specs.Fault.{Refusal, corrupted, no_text_key, Corrupt, corrupt, CodedKeyFault, KeyFault, key_ends, key_float, key_no_extension, key_tokenized, key_other_extension, in_key}
-use Rattle.tv_value.specs.Version.{Version}
+use Rattle.tv_value.specs.Fault.{Refusal, corrupted, no_text_key, Corrupt, corrupt, CodedKeyFault, key_ends, key_no_extension, key_tokenized, key_other_extension, in_key}
 use Rattle.tv_value.specs.PlainReading.{BecausePart}
 use Rattle.tv_value.specs.declared.plain.refusal.PlainRefusal.{PlainRefusal}
 use Rattle.tv_value.proofs.PlainParts.{because_map}

@@ -1,6 +1,6 @@
 -- How the parts of a leaf make it, and how their faults are its faults.
-use Rattle.std.proofs.Common.{rules, ◌≡◌, ℕ, ◌<◌, List, [], ◌∷◌, ◌++◌, length, map, refl, sym, ◌∙◌, ap, subst, arith, Vec, Bool, true, false, inl, inr, Result, Ok, Err, IfErr}
-use Rattle.std.specs.Prelude.{ℤ, pos, negsuc, ◌*ℤ◌, ◌≤ℤ◌, ◌<ℤ◌, ◌⊎◌, ◌^◌, FitsSigned}
+use Rattle.std.proofs.Common.{rules, ◌≡◌, ℕ, List, [], ◌∷◌, length, map, refl, sym, ◌∙◌, ap, subst, arith, Vec, Bool, true, false, inl, inr, Result, Ok, Err, IfErr}
+use Rattle.std.specs.Prelude.{ℤ, pos, negsuc, ◌*ℤ◌, ◌≤ℤ◌, ◌<ℤ◌, ◌⊎◌, FitsSigned}
 use Rattle.std.specs.Int.{w64, cast_signed, cast_unsigned}
 use Rattle.std.specs.Int.Signed.{lt_z}
 use Rattle.std.proofs.Math.Facts.{sfits_to_z, Fits-of_lt}

@@ -1,10 +1,10 @@
 -- How parts that begin the bytes make larger ones, and how faults of parts are faults of the whole.
-use Rattle.std.proofs.Common.{◌≡◌, ℕ, zero, suc, ◌<◌, ◌≤◌, List, [], ◌∷◌, ◌++◌, length, take, drop, get_or, IsUtf8, refl, sym, ◌∙◌, ap, subst, arith, append_assoc, length-append, inl, inr}
+use Rattle.std.proofs.Common.{◌≡◌, ℕ, zero, suc, ◌<◌, ◌≤◌, List, [], ◌∷◌, ◌++◌, length, take, drop, get_or, IsUtf8, refl, sym, ◌∙◌, ap, subst, arith, append_assoc, length-append, inr}
 use Rattle.std.proofs.lemmas.List.{take-append-drop, length-take-le}
 use Rattle.tv_base.specs.declared.cause.Cause.{Cause}
 use Rattle.tv_base.specs.declared.cause.Cause.TheVariants.{UnexpectedEnd, NotUtf8}
 use Rattle.tv_base.specs.Number.{VNum}
-use Rattle.tv_base.specs.PartFault.{NumberFault, SizedFault, TextFault, in_sized, no_text, bytes_end}
+use Rattle.tv_base.specs.PartFault.{SizedFault, TextFault, no_text, bytes_end}
 use Rattle.tv_base.specs.Parts.{Then, Behind, Sized, Text}
 use Rattle.tv_value.specs.Fault.{Refusal, Corrupt, corrupt}
 use Rattle.tv_value.specs.PlainReading.{Begins, Because}

@@ -1,18 +1,17 @@
 -- How a reader's parts make arrays and objects, and how their faults are theirs.
-use Rattle.std.proofs.Common.{rules, ◌≡◌, ◌≢◌, ℕ, ◌<◌, List, [], ◌∷◌, ◌++◌, length, map, refl, sym, ◌∙◌, ap, subst, arith, append_assoc, inl, Vec, Bor, Result, Ok, Err, IfOk, IfErr}
-use Rattle.std.proofs.lemmas.List.{append-nil, append_cancel_left, length-map}
+use Rattle.std.proofs.Common.{rules, ◌≡◌, ◌≢◌, ℕ, ◌<◌, List, [], ◌∷◌, ◌++◌, length, map, refl, sym, ◌∙◌, ap, subst, arith, append_assoc, inl, Vec, Bor, Result, IfOk, IfErr}
+use Rattle.std.proofs.lemmas.List.{append-nil, length-map}
 use Rattle.std.specs.declared.alloc.Global.{Global}
 use Rattle.tv_base.specs.declared.cause.Cause.{Cause}
 use Rattle.tv_base.specs.declared.cause.Cause.TheVariants.{UnexpectedEnd, OddObject}
 use Rattle.tv_base.specs.Number.{VNum}
 use Rattle.tv_base.specs.PartFault.{NumberFault}
-use Rattle.tv_base.specs.Parts.{OneReading}
 use Rattle.tv_value.specs.Fault.{Refusal, corrupted, Corrupt, corrupt, KeyFault, ValueFault, value_ends, in_count, in_element, in_entry_count, odd_count, in_entry_key, in_entry}
 use Rattle.tv_value.specs.Spelling.{Key, Spells, SpellsElements, SpellsEntries, NoLegacy}
 use Rattle.tv_value.specs.Tree.{Tree, array, object, elements, element_count, entry_count}
 use Rattle.tv_value.specs.Version.{Version, entry_total}
 use Rattle.tv_value.specs.Plain.{tree_of, entries_of, entry_trees}
-use Rattle.tv_value.specs.PlainReading.{Begins, Because, BecausePart, FoundValue, NoValue, ElementsFault, EntriesFault, in_next_key, in_next_value, NoElements, NoEntries}
+use Rattle.tv_value.specs.PlainReading.{Begins, BecausePart, FoundValue, NoValue, ElementsFault, EntriesFault, in_next_key, in_next_value, NoElements, NoEntries}
 use Rattle.tv_value.specs.declared.plain.value.PlainValue.{PlainValue, Array, Object, the_lemmas}
 use Rattle.tv_value.specs.declared.plain.refusal.PlainRefusal.{PlainRefusal}
 use Rattle.tv_value.proofs.PlainParts.{because_map, begins_behind, begins_then}

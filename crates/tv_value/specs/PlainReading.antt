@@ -5,7 +5,7 @@ use Rattle.tv_base.specs.declared.cause.Cause.TheVariants.{LegacyJson}
 use Rattle.tv_base.specs.PartFault.{InEach}
 use Rattle.tv_value.specs.Fault.{Refusal, corrupted, no_text_key, Corrupt, KeyFault, LeafFault, ValueFault, PairFault, DocumentFault, NoLegacyFault}
 use Rattle.tv_value.specs.Spelling.{Key, Spells, SpellsElements, SpellsEntries, SpellsPair, NoLegacy}
-use Rattle.tv_value.specs.Tree.{Tree, Elements, element_count, Entries, entry_count}
+use Rattle.tv_value.specs.Tree.{Elements, element_count, Entries, entry_count}
 use Rattle.tv_value.specs.Version.{Version}
 use Rattle.tv_value.specs.Plain.{tree_of}
 use Rattle.tv_value.specs.declared.plain.value.PlainValue.{PlainValue}

@@ -2,10 +2,10 @@
 //! Tests use it to compare the definitions with bytes that are known. It reads no legacy objects.
 
 pub mod documents;
-pub mod keys;
-pub mod leaves;
-pub mod parts;
+mod keys;
+mod leaves;
+mod parts;
 pub mod refusal;
-pub mod tokens;
+mod tokens;
 pub mod value;
 pub mod values;

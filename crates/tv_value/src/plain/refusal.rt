@@ -23,7 +23,7 @@ impl From<AllocError> for PlainRefusal {
     ghost from_gives = { λ _ e. e ≡ Memory };
 
     fn from(_: AllocError) -> Self {
-        PlainRefusal::Memory
+        Self::Memory
     }
 }
 

@@ -1,4 +1,4 @@
-use Rattle.std.proofs.Common.{◌∷◌, [], ap, ◌∙◌, arith, true, false}
+use Rattle.std.proofs.Common.{◌∷◌, [], ap, arith, true, false}
 use Rattle.tv_value.specs.Fault.{corrupt, no_truth, other_truth}
 use Rattle.tv_value.specs.Tree.{boolean}
 use Rattle.tv_value.proofs.PlainLeaves.{leaf_found, no_length, begins_byte, tree_of-Boolean}

@@ -1,5 +1,5 @@
 use Rattle.std.specs.Int.{w64, cast_signed, cast_unsigned}
-use Rattle.std.proofs.Common.{ap, subst, sym, ◌∙◌, ◌≡◌, ◌*ℤ◌, pos}
+use Rattle.std.proofs.Common.{◌∙◌}
 use Rattle.std.proofs.lemmas.Result.{err_from_is_err_and}
 use Rattle.tv_base.specs.PartFault.{BytesFault}
 use Rattle.tv_value.specs.Fault.{corrupt, in_date}

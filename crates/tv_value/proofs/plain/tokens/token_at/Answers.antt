@@ -1,7 +1,6 @@
 use Rattle.std.proofs.Common.{inl, inr, sym, subst}
 use Rattle.std.proofs.lemmas.Result.{err_from_is_err_and}
-use Rattle.tv_base.specs.Number.{VNum}
-use Rattle.tv_base.specs.PartFault.{InThen, NumberFault, TextFault}
+use Rattle.tv_base.specs.PartFault.{NumberFault, TextFault}
 use Rattle.tv_base.specs.Parts.{Text}
 use Rattle.tv_value.specs.Fault.{TokenFault}
 use Rattle.tv_value.specs.PlainReading.{Begins}

@@ -1,4 +1,4 @@
-use Rattle.std.proofs.Common.{inl, inr, sym, subst, ap, ◌∙◌, length, map, ◌≡◌}
+use Rattle.std.proofs.Common.{inl, inr, sym, subst, ◌∙◌, length, map, ◌≡◌}
 use Rattle.std.proofs.lemmas.List.{length-map}
 use Rattle.std.proofs.lemmas.Result.{err_from_is_err_and}
 use Rattle.tv_base.specs.Number.{VNum}

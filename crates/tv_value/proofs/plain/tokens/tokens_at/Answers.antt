@@ -1,4 +1,4 @@
-use Rattle.std.proofs.Common.{◌≡◌, ◌<◌, ◌∷◌, [], ◌++◌, length, map, ap, ◌∙◌, sym, refl, arith, subst}
+use Rattle.std.proofs.Common.{◌≡◌, ◌<◌, ◌∷◌, [], ◌++◌, length, map, ap, ◌∙◌, sym, arith, subst}
 use Rattle.std.proofs.lemmas.Result.{err_from_is_err_and}
 use Rattle.std.proofs.lemmas.List.{map_push, length-map}
 use Rattle.tv_base.specs.PartFault.{InEach}
@@ -8,7 +8,7 @@ use Rattle.tv_value.specs.Plain.{token_of}
 use Rattle.tv_value.specs.PlainReading.{Begins}
 use Rattle.tv_value.specs.Spelling.{TokenSpelling}
 use Rattle.tv_value.proofs.PlainItems.{begins_item, item_fault}
-use Rattle.tv_value.proofs.PlainParts.{part_fault, begins_nothing}
+use Rattle.tv_value.proofs.PlainParts.{part_fault}
 use Rattle.tv_value.proofs.plain.tokens.tokens_at.Goals as goal
 
 pub returns-in_err-token-clause-fault : goal.returns-in_err-token-clause-fault
