@@ -6,7 +6,8 @@ use std::alloc::Global;
 use std::test::Fail;
 use tv_base::cause::Cause;
 
-// The value of the one pair of a document of version 2, in field 0, whose spelling is this.
+// The value of the one pair of a document of version 2, in field 0, whose spelling is this. Where the document has another form,
+// or bytes are left, empty bytes, which no test expects.
 fn pair_value(alloc: Global, value: &[u8]) -> Result<PlainValue, PlainRefusal> {
     let mut bytes = [0x81, 0, 0, 0, 0].to_vec(alloc)?;
     bytes.extend_from_slice(value)?;
@@ -17,7 +18,7 @@ fn pair_value(alloc: Global, value: &[u8]) -> Result<PlainValue, PlainRefusal> {
     }
 }
 
-// The value that this whole list of bytes spells.
+// The value that this whole list of bytes spells, likewise.
 fn value_of(
     alloc: Global,
     version: PlainVersion,
