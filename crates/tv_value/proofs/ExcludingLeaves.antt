@@ -1,24 +1,22 @@
 -- Where a leaf or a key is at fault, no front of the bytes spells one.
-use Rattle.std.proofs.Common.{◌≡◌, ℕ, ◌<◌, Bool, true, false, List, [], ◌∷◌, ◌++◌, length, refl, sym, ◌∙◌, ap, subst, arith, inl, inr, length-append, IsUtf8}
+use Rattle.std.proofs.Common.{◌≡◌, ℕ, ◌<◌, Bool, true, false, List, [], ◌∷◌, ◌++◌, length, refl, sym, ◌∙◌, ap, subst, arith, inl, inr, length-append}
 use Rattle.std.specs.Prelude.{ℤ, pos, negsuc, ◌≤ℤ◌}
 use Rattle.std.specs.Int.{w64, cast_unsigned}
 use Rattle.std.proofs.lemmas.Int.{ints}
 use Rattle.tv_base.specs.declared.cause.Cause.{Cause}
-use Rattle.tv_base.specs.Parts.{OneReading}
 use Rattle.tv_value.specs.Tree.{Token, Leaf, text, unsigned, signed, boolean, date, facet, bytes, ip_address, tokenized}
 use Rattle.tv_base.specs.Number.{VNum, Fixed}
 use Rattle.tv_value.specs.Version.{Version, V1, V2, V3, Date}
 use Rattle.tv_value.specs.Spelling.{Truth, TokenSpelling, Tokenized, leaf_code, LeafBody, Key}
 use Rattle.tv_value.specs.Fault.{TokenFault, TokenizedFault, IsOutside, DateFault, date_ends, date_range, LeafFault, in_text, in_unsigned, in_signed, in_facet, in_bytes, in_date, no_extension, other_extension, in_tokenized, no_truth, other_truth, in_ip_address, Refusal, Corrupt, corrupt, CodedKeyFault, KeyFault, key_ends, key_unknown, key_float, key_other, key_no_extension, key_tokenized, key_other_extension, in_key}
-use Rattle.tv_base.proofs.Agreement.{one_from}
 use Rattle.tv_base.proofs.Numbers.{one_number, agree_fixed, length-fixed}
 use Rattle.tv_value.proofs.Leaves.{one_token, fits_microseconds}
-use Rattle.tv_base.proofs.Texts.{agree_text, one_text, same_signed}
+use Rattle.tv_base.proofs.Texts.{one_text, same_signed}
 use Rattle.tv_base.proofs.ExcludingParts.{excludes_bytes, excludes_sized, excludes_text, behind_head, behind_some}
-use Rattle.tv_base.proofs.Excluding.{Excludes, excludes_map, excludes_then, excludes_each, excludes_number}
+use Rattle.tv_base.proofs.Excluding.{Excludes, excludes_then, excludes_each, excludes_number}
 use Rattle.tv_base.specs.Number.{Signed}
-use Rattle.tv_base.specs.Parts.{Behind, Sized, Text}
-use Rattle.tv_base.specs.PartFault.{InEach, NumberFault, BytesFault, bytes_end, SizedFault, TextFault, in_sized, no_text}
+use Rattle.tv_base.specs.Parts.{Behind, Text}
+use Rattle.tv_base.specs.PartFault.{InEach, NumberFault, TextFault}
 
 excludes_token : (t : Token) → Excludes TokenFault (λ b. TokenSpelling b t)
 excludes_token t =

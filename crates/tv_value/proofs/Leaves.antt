@@ -1,9 +1,8 @@
 -- Leaves have one reading.
-use Rattle.std.proofs.Common.{◌≡◌, ℕ, ◌<◌, Bool, true, false, List, [], ◌∷◌, ◌++◌, length, refl, sym, ◌∙◌, ap, arith, append_assoc}
+use Rattle.std.proofs.Common.{◌≡◌, ℕ, ◌<◌, Bool, true, false, List, [], ◌∷◌, ◌++◌, refl, sym, ◌∙◌, ap, arith}
 use Rattle.std.specs.Prelude.{ℤ, pos, negsuc, ◌*ℤ◌, ◌≤ℤ◌, FitsSigned}
-use Rattle.std.specs.Int.{w64, cast_unsigned, cast_signed}
-use Rattle.std.proofs.lemmas.Int.{to_z-of_z, ints}
-use Rattle.std.proofs.lemmas.List.{append_cancel_left}
+use Rattle.std.specs.Int.{w64, cast_unsigned}
+use Rattle.std.proofs.lemmas.Int.{ints}
 use Rattle.tv_base.specs.Parts.{OneReading}
 use Rattle.tv_value.specs.Tree.{Token, Leaf, null, text, unsigned, signed, boolean, date, facet, bytes, ip_address, tokenized}
 use Rattle.tv_value.specs.Version.{Version, V1, V2, V3, Date, Microseconds, entry_total}
@@ -11,8 +10,6 @@ use Rattle.tv_value.specs.Spelling.{Truth, TokenSpelling, Tokenized, leaf_code, 
 use Rattle.tv_base.proofs.Agreement.{Agree, one_from, agree_map, agree_empty, agree_then, agree_behind}
 use Rattle.tv_base.proofs.Numbers.{agree_number, agree_counted, agree_fixed}
 use Rattle.tv_base.proofs.Texts.{agree_sized, agree_text, same_signed, agree_signed}
-use Rattle.tv_base.specs.Number.{Signed}
-use Rattle.tv_base.specs.Parts.{Sized, Text}
 
 agree_truth : (s t : Bool) → Agree (λ b. Truth b s) (λ b. Truth b t) (s ≡ t)
 agree_truth false false = record { agree = λ a b x y p q e. (p ∙ sym q, refl) }

@@ -3,3 +3,12 @@ pub mod Trees
 pub mod ExcludingLeaves
 pub mod ExcludingTrees
 pub mod ShortSpellings
+pub mod PlainWorth
+pub mod PlainDigits
+pub mod PlainParts
+pub mod PlainLeaves
+pub mod PlainItems
+pub mod PlainKeys
+pub mod PlainValues
+pub mod PlainAnswers
+pub mod PlainDocuments

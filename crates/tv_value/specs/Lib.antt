@@ -4,3 +4,5 @@ pub mod Version
 pub mod Spelling
 pub mod Short
 pub mod Fault
+pub mod Plain
+pub mod PlainReading

@@ -1,8 +1,8 @@
 -- What bytes spell which values.
-use Rattle.std.specs.Prelude.{◌≡◌, ℕ, ◌≤◌, ◌⊎◌, Bool, true, false, List, [], ◌∷◌, ◌++◌, length, IsUtf8}
+use Rattle.std.specs.Prelude.{◌≡◌, ℕ, ◌≤◌, ◌⊎◌, Bool, true, false, List, [], ◌∷◌, ◌++◌}
 use Rattle.tv_value.specs.Tree.{Token, Leaf, null, text, unsigned, signed, boolean, date, facet, bytes, ip_address, tokenized, Tree, leaf, array, object, Elements, no_elements, element, Entries, no_entries, entry, element_count, entry_count, Document}
 use Rattle.tv_base.specs.Number.{VNum, Fixed, Signed}
-use Rattle.tv_base.specs.Parts.{Then, Behind, Sized, Text, Each, Counted}
+use Rattle.tv_base.specs.Parts.{Then, Behind, Sized, Text, Counted}
 use Rattle.tv_value.specs.Version.{Version, V1, V2, V3, Date, entry_total}
 
 abbrev pub Truth : List ℕ → Bool → Type 0

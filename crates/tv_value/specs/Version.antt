@@ -1,5 +1,5 @@
 -- The versions of the store format, and all in which they differ.
-use Rattle.std.specs.Prelude.{◌*◌, ◌≡◌, ℕ, List, ℤ, pos, negsuc, ◌*ℤ◌, ◌≤ℤ◌, FitsSigned}
+use Rattle.std.specs.Prelude.{◌*◌, ◌≡◌, ℕ, List, ℤ, pos, negsuc, ◌*ℤ◌, ◌≤ℤ◌}
 use Rattle.std.specs.Int.{w64, cast_unsigned}
 use Rattle.tv_base.specs.Number.{Fixed, Signed}
 

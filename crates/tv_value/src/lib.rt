@@ -3,3 +3,6 @@
 
 pub mod field;
 pub mod laws;
+pub mod plain;
+#[cfg(test)]
+mod tests;

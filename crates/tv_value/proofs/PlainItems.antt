@@ -1,0 +1,47 @@
+-- Items that are read one after another.
+use Rattle.std.proofs.Common.{ℕ, zero, suc, ◌<◌, List, [], ◌∷◌, ◌++◌, length, refl, sym, ◌∙◌, ap, subst, arith, append_assoc, inl, inr}
+use Rattle.std.proofs.lemmas.List.{append-nil}
+use Rattle.tv_base.specs.PartFault.{InEach}
+use Rattle.tv_base.specs.Parts.{Then, Each}
+use Rattle.tv_value.specs.PlainReading.{Begins}
+
+-- behind a part that is spelled stands what has Q
+pub behind_part : {P Q : List ℕ → Type 0} (whole rest : List ℕ) → Begins P whole rest → Q rest → Then P Q whole
+behind_part whole rest p h = record { front = p.front; rest = rest; joined = p.joined; first = p.spelled; second = h }
+
+each_push : {A : Type 0} (R : List ℕ → A → Type 0) (xs : List A) (x : A) (a b : List ℕ) → Each R a xs → R b x → Each R (a ++ b) (xs ++ x ∷ [])
+each_push R [] x a b p q = record { front = b; rest = []; joined = ap (λ z. z ++ b) p ∙ sym (append-nil b); first = q; second = refl }
+each_push R (y ∷ xs) x a b p q = record {
+  front = p.front;
+  rest = p.rest ++ b;
+  joined = ap (λ z. z ++ b) p.joined ∙ append_assoc p.front p.rest b;
+  first = p.first;
+  second = each_push R xs x p.rest b p.second q;
+}
+
+-- one item more
+pub begins_item : {A : Type 0} (R : List ℕ → A → Type 0) (xs : List A) (x : A) (whole rest after : List ℕ) → Begins (λ b. Each R b xs) whole rest → Begins (λ b. R b x) rest after
+    → Begins (λ b. Each R b (xs ++ x ∷ [])) whole after
+begins_item R xs x whole rest after p q = record {
+  front = p.front ++ q.front;
+  joined = p.joined ∙ ap (λ z. p.front ++ z) q.joined ∙ sym (append_assoc p.front q.front after);
+  spelled = each_push R xs x p.front q.front p.spelled q.spelled;
+}
+
+-- behind fewer items than there should be stands what is at fault
+pub item_fault : {C A : Type 0} (F : List ℕ → C → Type 0) (R : List ℕ → A → Type 0) (xs : List A) (n : ℕ) (whole rest : List ℕ) → length xs < n → Begins (λ b. Each R b xs) whole rest
+    → (c : C) → F rest c → InEach F R n whole c
+item_fault F R [] (suc n) whole rest l p c h = inl (subst (λ z. F z c) (sym (p.joined ∙ ap (λ z. z ++ rest) p.spelled)) h)
+item_fault F R (x ∷ xs) (suc n) whole rest l p c h =
+    inr (
+      x,
+      record {
+        front = p.spelled.front;
+        rest = p.spelled.rest ++ rest;
+        joined = p.joined ∙ ap (λ z. z ++ rest) p.spelled.joined ∙ append_assoc p.spelled.front p.spelled.rest rest;
+        first = p.spelled.first;
+        second = item_fault F R xs n (p.spelled.rest ++ rest) rest (omega arith) (record { front = p.spelled.rest; joined = refl; spelled = p.spelled.second }) c h;
+      },
+    )
+item_fault F R [] zero whole rest l p c h = absurd (omega arith)
+item_fault F R (x ∷ xs) zero whole rest l p c h = absurd (omega arith)
