@@ -16,14 +16,14 @@ pub struct SliceSource<'a> {
 impl<'a> SliceSource<'a> {
     /// A source that has these bytes left.
     pub fn new(bytes: &'a [u8]) -> SliceSource<'a>
-        ensures { result.rest.now ≡ bytes.now }
+        ensures { ⟦<SliceSource<'a> as ByteSource>⟧.left result ≡ bytes.now }
     {
         SliceSource { rest: bytes }
     }
 
     /// The bytes that are left.
     pub fn rest(&self) -> &'a [u8]
-        ensures { result.now ≡ self.now.rest.now }
+        ensures { result.now ≡ ⟦<SliceSource<'a> as ByteSource>⟧.left self.now }
     {
         self.rest
     }

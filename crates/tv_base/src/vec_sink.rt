@@ -1,6 +1,6 @@
 //! A sink in memory.
 
-ghost use Rattle.std.specs.Prelude.{◌≡◌, [], ◌≤◌, length, IfOk, IfErr};
+ghost use Rattle.std.specs.Prelude.{◌≡◌, [], length, IfOk, IfErr};
 ghost use Rattle.std.specs.declared.io.ErrorKind.TheVariants.{OutOfMemory};
 ghost use Rattle.tv_base.specs.Source.{CountsFault};
 ghost use Rattle.tv_base.specs.Sink.{AppendsSome};
@@ -19,8 +19,8 @@ pub struct VecSink {
 impl VecSink {
     /// A sink that holds no byte. It takes no memory yet.
     pub fn new(alloc: Global) -> VecSink
-        ensures bytes { result.bytes.items ≡ [] }
-        ensures faults { result.faults ≡ 0 }
+        ensures bytes { ⟦<VecSink as ByteSink>⟧.held result ≡ [] }
+        ensures faults { ⟦<VecSink as ByteSink>⟧.faults result ≡ 0 }
     {
         VecSink {
             bytes: Vec::new(alloc),
@@ -53,12 +53,9 @@ impl ByteSink for VecSink {
 
     /// Appends all of `buf`. Errors: `OutOfMemory` where memory is refused, and then none of it is appended.
     fn write(&mut self, buf: &[u8]) -> Result<usize, io::ErrorKind>
-        ensures bytes { AppendsSome self.old.bytes.items self.new.bytes.items result buf.now }
-        ensures tells { Unit {0} → Unit {0} }
-        ensures count { IfOk result (λ n. n ≤ length buf.now) }
+        ensures bytes { AppendsSome (⟦<VecSink as ByteSink>⟧.held self.old) (⟦<VecSink as ByteSink>⟧.held self.new) result buf.now }
         ensures all { IfOk result (λ n. n ≡ length buf.now) }
-        ensures some { IfOk result (λ n. n ≡ 0 → length buf.now ≡ 0) }
-        ensures faults { CountsFault result self.old.faults self.new.faults }
+        ensures faults { CountsFault result (⟦<VecSink as ByteSink>⟧.faults self.old) (⟦<VecSink as ByteSink>⟧.faults self.new) }
         ensures kind { IfErr result (λ kind. kind ≡ OutOfMemory) }
     {
         match self.bytes.extend_from_slice(buf) {
