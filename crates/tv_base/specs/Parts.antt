@@ -6,6 +6,12 @@ use Rattle.tv_base.specs.Number.{VNum, vnum}
 abbrev pub OneReading : {A : Type 0} → (List ℕ → A → Type 0) → Type 0
 OneReading {A} R = (a b x y : List ℕ) (m n : A) → R a m → R b n → a ++ x ≡ b ++ y → (a ≡ b) × (m ≡ n)
 
+-- a front is of some kind, and this is what follows it
+pub record Begins (P : List ℕ → Type 0) (whole rest : List ℕ) : Type 0 where
+  pub front : List ℕ
+  pub joined : whole ≡ front ++ rest
+  pub spelled : P front
+
 -- bytes of one kind, and then bytes of another
 pub record Then (P Q : List ℕ → Type 0) (whole : List ℕ) : Type 0 where
   pub front : List ℕ

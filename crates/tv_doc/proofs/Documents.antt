@@ -16,7 +16,8 @@ use Rattle.tv_doc.specs.Document.{heap_of, document_of, IsUnchanged, Added, Read
 use Rattle.tv_doc.specs.Held.{ReadsPair, ReadsPairs, Holds, one_document}
 use Rattle.tv_doc.specs.Room.{room, document_room}
 use Rattle.tv_doc.specs.TypeCode.{type_code}
-use Rattle.tv_doc.specs.Wrote.{IsFront, Wrote}
+use Rattle.tv_base.specs.Sink.{IsFront}
+use Rattle.tv_doc.specs.Wrote.{Wrote}
 use Rattle.tv_doc.specs.Handled.{is_handled, are_handled}
 use Rattle.tv_doc.specs.declared.new_leaf.NewLeaf.{NewLeaf}
 use Rattle.tv_doc.specs.declared.new_leaf.NewLeaf.TheVariants as new

@@ -1,22 +1,12 @@
 -- What is read in place is what stands there.
-use Rattle.std.proofs.Common.{◌≡◌, ℕ, zero, suc, ◌+◌, ◌<◌, ◌≤◌, ◌^◌, List, [], ◌++◌, length, get_or, take, drop, refl, sym, ◌∙◌, ap, arith}
+use Rattle.std.proofs.Common.{◌≡◌, ℕ, zero, suc, ◌+◌, ◌<◌, ◌≤◌, List, [], ◌++◌, length, get_or, take, drop, refl, sym, ◌∙◌, ap, arith}
 use Rattle.std.specs.Int.{w64, from_le_bytes}
-use Rattle.std.proofs.lemmas.List.{append_cancel_left, length-append}
+use Rattle.std.proofs.lemmas.List.{length-append}
 use Rattle.std.proofs.Math.Seq.{drop-append_seam, take-append_seam}
-use Rattle.tv_base.specs.Number.{VNum, vnum, Fixed, no_bytes, low_byte}
-use Rattle.tv_base.proofs.Numbers.{one_number, vnum_spells, agree_fixed, length-fixed}
+use Rattle.tv_base.specs.Number.{Fixed, no_bytes, low_byte}
+use Rattle.tv_base.proofs.Numbers.{agree_fixed, length-fixed}
 use Rattle.tv_base.proofs.Widths.{fixed_8}
-use Rattle.tv_base.proofs.Excluding.{excludes_number}
 use Rattle.tv_doc.specs.Reads.{Stands, ShortSized, ShortText}
-use Rattle.tv_doc.specs.Lent.{Begins, NoNumber}
-
-pub number_is : (whole left : List ℕ) (m n : ℕ) (rest : List ℕ) → Begins (λ b. VNum b m) whole left → n < 2 ^ 64 → whole ≡ vnum n ++ rest → (m ≡ n) × (left ≡ rest)
-number_is whole left m n rest p h e =
-    let r = one_number p.front (vnum n) left rest m n p.spelled (vnum_spells n h) (sym p.joined ∙ e) in
-    (r.1, append_cancel_left (vnum n) left rest (ap (λ z. z ++ left) (sym r.0) ∙ sym p.joined ∙ e))
-
-pub number_none : {A : Type 0} (whole : List ℕ) (n : ℕ) (rest : List ℕ) → NoNumber whole → n < 2 ^ 64 → whole ≡ vnum n ++ rest → A
-number_none whole n rest p h e = absurd ((excludes_number n).excludes whole (vnum n) rest p.0 p.1 (vnum_spells n h) e)
 
 -- behind the address
 pub stands_behind : (heap : List ℕ) (at : ℕ) (P : List ℕ → Type 0) (p : Stands heap at P) → drop at heap ≡ p.whole ++ p.behind

@@ -2,8 +2,6 @@ pub mod Grown
 pub mod Writes
 pub mod Documents
 pub mod Valid
-pub mod Worth
-pub mod Digits
 pub mod Lends
 pub mod Values
 pub mod Pairs

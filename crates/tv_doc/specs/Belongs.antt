@@ -1,5 +1,5 @@
 -- Documents of a schema.
-use Rattle.std.specs.Prelude.{◌<◌, ℕ, List, length}
+use Rattle.std.specs.Prelude.{◌<◌, List, length}
 use Rattle.std.specs.List.{AllByRecursion}
 use Rattle.tv_schema.specs.Entry.{Entry}
 use Rattle.tv_value.specs.Tree.{Document}

@@ -1,5 +1,5 @@
 -- The types of values that documents hold so far.
-use Rattle.std.specs.Prelude.{Bool, true, false, ◌&&◌, List, [], ◌∷◌, ℕ}
+use Rattle.std.specs.Prelude.{Bool, true, false, ◌&&◌, [], ◌∷◌}
 use Rattle.tv_value.specs.Tree.{Leaf, null, text, unsigned, signed, boolean, date, facet, bytes, ip_address, tokenized, Tree, leaf, array, object, Document}
 
 abbrev pub is_handled_leaf : Leaf → Bool

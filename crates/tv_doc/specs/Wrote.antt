@@ -4,10 +4,6 @@ use Rattle.tv_value.specs.Tree.{Tree}
 use Rattle.tv_doc.specs.Room.{room}
 use Rattle.tv_doc.specs.Reads.{Reads}
 
--- the old bytes are there, and perhaps more behind them
-abbrev pub IsFront : List ℕ → List ℕ → Type 0
-IsFront old new = (rest : List ℕ) × (new ≡ old ++ rest)
-
 -- The old heap is kept as a front and grew by the tree's room at most, and the tree reads. Unless it is null or a
 -- truth value, it stands behind the old heap.
 pub record Wrote (old new : List ℕ) (code at : ℕ) (t : Tree) : Type 0 where

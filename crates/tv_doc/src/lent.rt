@@ -1,38 +1,18 @@
 //! Decoding in place. Each call gives what stands at an address, whatever stands elsewhere; where nothing of the kind
 //! stands there it gives some bytes or some number.
 
-ghost use Rattle.std.specs.Prelude.{◌≡◌, ◌++◌, ◌<◌, ◌^◌, ℕ, List, IfSome, IfNone};
-ghost use Rattle.tv_base.specs.Number.{VNum, vnum, Fixed};
-ghost use Rattle.tv_doc.specs.Lent.{Begins, NoNumber};
+ghost use Rattle.std.specs.Prelude.{◌≡◌, ◌++◌, ◌<◌, ◌^◌, ℕ, List};
+ghost use Rattle.tv_base.specs.Number.{vnum, Fixed};
 ghost use Rattle.tv_doc.specs.Reads.{Stands, ShortSized, ShortText};
 
-// The number of variable length at the front of the bytes, and what follows it.
-fn number_at(bytes: &[u8]) -> Option<(u64, &[u8])>
-    ensures found { IfSome result (λ x. Begins (λ b. VNum b x.0) bytes.now x.1.now) }
-    ensures fault { IfNone result (NoNumber bytes.now) }
-{
-    let mut value: u64 = 0;
-    let mut place: u64 = 1;
-    for (i, byte) in bytes.iter().enumerate() {
-        let digit = u64::from(*byte);
-        if i == 9 && digit != 128 && digit != 129 {
-            return None;
-        }
-        if digit >= 128 {
-            return Some((value + (digit - 128) * place, &bytes[i + 1..]));
-        }
-        value += digit * place;
-        place *= 128;
-    }
-    None
-}
+use tv_base::vint::VInt;
 
 // The number whose shortest spelling stands at the front, and what follows it.
 fn short_at(bytes: &[u8]) -> (u64, &[u8])
     ensures { (n : ℕ) (rest : List ℕ) → n < 2 ^ 64 → bytes.now ≡ vnum n ++ rest → (result.0 ≡ n) × (result.1.now ≡ rest) }
 {
-    match number_at(bytes) {
-        Some(found) => found,
+    match VInt::from_slice(bytes) {
+        Some((number, len)) => (number, &bytes[len..]),
         None => (0, bytes),
     }
 }

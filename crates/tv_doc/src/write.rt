@@ -3,11 +3,12 @@
 ghost use Rattle.std.specs.Prelude.{◌≡◌, ◌+◌, ◌<◌, ◌^◌, ◌++◌, OnOk, OnErr, IfOk, length};
 ghost use Rattle.tv_base.specs.Number.{vnum, eight_bytes};
 ghost use Rattle.tv_base.specs.Parts.{short_sized};
+ghost use Rattle.tv_base.specs.Sink.{IsFront};
 ghost use Rattle.tv_value.specs.Tree.{leaf, text, unsigned};
 ghost use Rattle.tv_doc.specs.NewLeaf.{leaf_of};
 ghost use Rattle.tv_doc.specs.Room.{leaf_room};
 ghost use Rattle.tv_doc.specs.TypeCode.{type_code};
-ghost use Rattle.tv_doc.specs.Wrote.{Wrote, IsFront};
+ghost use Rattle.tv_doc.specs.Wrote.{Wrote};
 
 use crate::new_leaf::NewLeaf;
 use crate::value_type::ValueType;

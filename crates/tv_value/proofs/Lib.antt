@@ -3,8 +3,6 @@ pub mod Trees
 pub mod ExcludingLeaves
 pub mod ExcludingTrees
 pub mod ShortSpellings
-pub mod PlainWorth
-pub mod PlainDigits
 pub mod PlainParts
 pub mod PlainLeaves
 pub mod PlainItems

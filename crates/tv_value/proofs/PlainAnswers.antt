@@ -3,14 +3,14 @@ use Rattle.std.proofs.Common.{◌≡◌, ℕ, List, ◌++◌, refl, sym, ◌∙�
 use Rattle.std.proofs.lemmas.List.{append_cancel_left}
 use Rattle.std.specs.declared.alloc.Global.{Global}
 use Rattle.tv_base.specs.declared.cause.Cause.{Cause}
-use Rattle.tv_base.specs.Parts.{OneReading}
+use Rattle.tv_base.specs.Parts.{Begins, OneReading}
 use Rattle.tv_base.proofs.Excluding.{Excludes}
 use Rattle.tv_value.specs.Fault.{Refusal, ValueFault, DocumentFault}
 use Rattle.tv_value.specs.Spelling.{Spells, SpellsDocument, NoLegacy}
 use Rattle.tv_value.specs.Tree.{Tree, Entries, Document}
 use Rattle.tv_value.specs.Version.{Version}
 use Rattle.tv_value.specs.Plain.{tree_of, document_of}
-use Rattle.tv_value.specs.PlainReading.{Begins, Because, Answers, FoundValue, NoValue, NoDocument}
+use Rattle.tv_value.specs.PlainReading.{Because, Answers, FoundValue, NoValue, NoDocument}
 use Rattle.tv_value.specs.declared.plain.value.PlainValue.{PlainValue}
 use Rattle.tv_value.specs.declared.plain.refusal.PlainRefusal.{PlainRefusal}
 use Rattle.tv_value.specs.declared.plain.refusal.PlainRefusal.TheVariants.{Corrupted, NoTextKey, LegacyObject, Memory}

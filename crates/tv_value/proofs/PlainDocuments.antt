@@ -5,13 +5,13 @@ use Rattle.tv_base.specs.declared.cause.Cause.{Cause}
 use Rattle.tv_base.specs.declared.cause.Cause.TheVariants.{FieldNumber}
 use Rattle.tv_base.specs.Number.{VNum, Fixed}
 use Rattle.tv_base.specs.PartFault.{InEach, NumberFault, BytesFault, bytes_end}
-use Rattle.tv_base.specs.Parts.{Each}
+use Rattle.tv_base.specs.Parts.{Begins, Each}
 use Rattle.tv_value.specs.Fault.{Corrupt, FieldFault, field_ends, field_large, ValueFault, PairFault, DocumentFault}
 use Rattle.tv_value.specs.Spelling.{Spells, SpellsPair, SpellsDocument, NoLegacy}
 use Rattle.tv_value.specs.Tree.{Tree}
 use Rattle.tv_value.specs.Version.{Version}
 use Rattle.tv_value.specs.Plain.{tree_of, document_of}
-use Rattle.tv_value.specs.PlainReading.{Begins, BecausePart, NoValue, NoPairs, NoDocument}
+use Rattle.tv_value.specs.PlainReading.{BecausePart, NoValue, NoPairs, NoDocument}
 use Rattle.tv_value.specs.declared.plain.value.PlainValue.{PlainValue}
 use Rattle.tv_value.specs.declared.plain.refusal.PlainRefusal.{PlainRefusal}
 use Rattle.tv_value.proofs.PlainParts.{because_map, begins_then}

@@ -2,8 +2,7 @@
 use Rattle.std.proofs.Common.{ℕ, zero, suc, ◌<◌, List, [], ◌∷◌, ◌++◌, length, refl, sym, ◌∙◌, ap, subst, arith, append_assoc, inl, inr}
 use Rattle.std.proofs.lemmas.List.{append-nil}
 use Rattle.tv_base.specs.PartFault.{InEach}
-use Rattle.tv_base.specs.Parts.{Then, Each}
-use Rattle.tv_value.specs.PlainReading.{Begins}
+use Rattle.tv_base.specs.Parts.{Begins, Then, Each}
 
 -- behind a part that is spelled stands what has Q
 pub behind_part : {P Q : List ℕ → Type 0} (whole rest : List ℕ) → Begins P whole rest → Q rest → Then P Q whole

@@ -10,13 +10,13 @@ use Rattle.tv_base.specs.PartFault.{BytesFault, bytes_end}
 use Rattle.tv_base.proofs.Numbers.{fixed_fits}
 use Rattle.tv_base.specs.declared.cause.Cause.{Cause}
 use Rattle.tv_base.specs.declared.cause.Cause.TheVariants.{DateRange}
-use Rattle.tv_base.specs.Parts.{Behind}
+use Rattle.tv_base.specs.Parts.{Begins, Behind}
 use Rattle.tv_value.specs.Tree.{Leaf, leaf, null, text, unsigned, signed, boolean, date, facet, bytes, ip_address, tokenized}
 use Rattle.tv_value.specs.Spelling.{leaf_code, LeafBody, Spells, NoLegacy}
 use Rattle.tv_value.specs.Fault.{Corrupt, LeafFault, DateFault, date_range, date_ends, TokenizedFault, in_tokenized, in_leaf, corrupt, Refusal, ValueFault}
 use Rattle.tv_value.specs.Version.{Version, V1, Microseconds}
 use Rattle.tv_value.specs.Plain.{tree_of, token_of}
-use Rattle.tv_value.specs.PlainReading.{Begins, Because, FoundValue, FoundLeaf, NoLeaf, NoLeafIn, NoValue}
+use Rattle.tv_value.specs.PlainReading.{Because, FoundValue, FoundLeaf, NoLeaf, NoLeafIn, NoValue}
 use Rattle.tv_value.specs.declared.plain.value.PlainToken.{PlainToken}
 use Rattle.tv_value.specs.declared.plain.value.PlainValue.{PlainValue, Null, Text, Unsigned, Signed, Boolean, Date, Facet, Bytes, IpAddress, Tokenized, the_lemmas}
 use Rattle.tv_value.specs.declared.plain.refusal.PlainRefusal.{PlainRefusal}

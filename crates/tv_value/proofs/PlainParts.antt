@@ -2,12 +2,12 @@
 use Rattle.std.proofs.Common.{◌≡◌, ℕ, zero, suc, ◌<◌, ◌≤◌, List, [], ◌∷◌, ◌++◌, length, take, drop, get_or, IsUtf8, refl, sym, ◌∙◌, ap, subst, arith, append_assoc, length-append, inr}
 use Rattle.std.proofs.lemmas.List.{take-append-drop, length-take-le}
 use Rattle.tv_base.specs.declared.cause.Cause.{Cause}
-use Rattle.tv_base.specs.declared.cause.Cause.TheVariants.{UnexpectedEnd, NotUtf8}
+use Rattle.tv_base.specs.declared.cause.Cause.TheVariants.{UnexpectedEnd, BadNumber, NotUtf8}
 use Rattle.tv_base.specs.Number.{VNum}
-use Rattle.tv_base.specs.PartFault.{SizedFault, TextFault, no_text, bytes_end}
-use Rattle.tv_base.specs.Parts.{Then, Behind, Sized, Text}
+use Rattle.tv_base.specs.PartFault.{NumberFault, number_ends, number_large, SizedFault, TextFault, no_text, bytes_end}
+use Rattle.tv_base.specs.Parts.{Begins, Then, Behind, Sized, Text}
 use Rattle.tv_value.specs.Fault.{Refusal, Corrupt, corrupt}
-use Rattle.tv_value.specs.PlainReading.{Begins, Because}
+use Rattle.tv_value.specs.PlainReading.{Because}
 use Rattle.tv_value.specs.declared.plain.refusal.PlainRefusal.{PlainRefusal}
 use Rattle.tv_value.specs.declared.plain.refusal.PlainRefusal.TheVariants.{Corrupted, NoTextKey, LegacyObject, Memory}
 
@@ -49,6 +49,15 @@ small_take zero bs small i = omega arith
 small_take (suc n) [] small i = omega arith
 small_take (suc n) (b ∷ bs) small zero = small 0
 small_take (suc n) (b ∷ bs) small (suc i) = small_take n bs (λ j. small (suc j)) i
+
+-- of fewer than ten bytes, a number at fault doesn't end, and of more it is too large
+pub number_of_few : {c : Cause} (bytes : List ℕ) → NumberFault bytes c → length bytes < 10 → NumberFault bytes UnexpectedEnd
+number_of_few bytes (number_ends few small) short = number_ends few small
+number_of_few bytes (number_large front rest b joined nine small p q) short = absurd (omega (arith, short, nine, ap length joined, length-append front (b ∷ rest)))
+
+pub number_of_many : {c : Cause} (bytes : List ℕ) → NumberFault bytes c → 10 ≤ length bytes → NumberFault bytes BadNumber
+number_of_many bytes (number_ends few small) long = absurd (omega (arith, few, long))
+number_of_many bytes (number_large front rest b joined nine small p q) long = number_large front rest b joined nine small p q
 
 pub sized_ends : (bytes rest : List ℕ) (n : ℕ) → Begins (λ b. VNum b n) bytes rest → length rest < n → SizedFault bytes UnexpectedEnd
 sized_ends bytes rest n p l = inr (n, record { front = p.front; rest = rest; joined = p.joined; first = p.spelled; second = bytes_end l })

@@ -11,7 +11,8 @@ use Rattle.tv_value.specs.Spelling.{Key, Spells, SpellsElements, SpellsEntries, 
 use Rattle.tv_value.specs.Tree.{Tree, array, object, elements, element_count, entry_count}
 use Rattle.tv_value.specs.Version.{Version, entry_total}
 use Rattle.tv_value.specs.Plain.{tree_of, entries_of, entry_trees}
-use Rattle.tv_value.specs.PlainReading.{Begins, BecausePart, FoundValue, NoValue, ElementsFault, EntriesFault, in_next_key, in_next_value, NoElements, NoEntries}
+use Rattle.tv_base.specs.Parts.{Begins}
+use Rattle.tv_value.specs.PlainReading.{BecausePart, FoundValue, NoValue, ElementsFault, EntriesFault, in_next_key, in_next_value, NoElements, NoEntries}
 use Rattle.tv_value.specs.declared.plain.value.PlainValue.{PlainValue, Array, Object, the_lemmas}
 use Rattle.tv_value.specs.declared.plain.refusal.PlainRefusal.{PlainRefusal}
 use Rattle.tv_value.proofs.PlainParts.{because_map, begins_behind, begins_then}

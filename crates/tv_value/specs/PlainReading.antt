@@ -3,6 +3,7 @@ use Rattle.std.specs.Prelude.{◌≡◌, ◌<◌, ℕ, List, ◌∷◌, ◌++◌
 use Rattle.tv_base.specs.declared.cause.Cause.{Cause}
 use Rattle.tv_base.specs.declared.cause.Cause.TheVariants.{LegacyJson}
 use Rattle.tv_base.specs.PartFault.{InEach}
+use Rattle.tv_base.specs.Parts.{Begins}
 use Rattle.tv_value.specs.Fault.{Refusal, corrupted, no_text_key, Corrupt, KeyFault, LeafFault, ValueFault, PairFault, DocumentFault, NoLegacyFault}
 use Rattle.tv_value.specs.Spelling.{Key, Spells, SpellsElements, SpellsEntries, SpellsPair, NoLegacy}
 use Rattle.tv_value.specs.Tree.{Elements, element_count, Entries, entry_count}
@@ -11,12 +12,6 @@ use Rattle.tv_value.specs.Plain.{tree_of}
 use Rattle.tv_value.specs.declared.plain.value.PlainValue.{PlainValue}
 use Rattle.tv_value.specs.declared.plain.refusal.PlainRefusal.{PlainRefusal}
 use Rattle.tv_value.specs.declared.plain.refusal.PlainRefusal.TheVariants.{Corrupted, NoTextKey, LegacyObject, Memory}
-
--- a front is of some kind, and this is what follows it
-pub record Begins (P : List ℕ → Type 0) (whole rest : List ℕ) : Type 0 where
-  pub front : List ℕ
-  pub joined : whole ≡ front ++ rest
-  pub spelled : P front
 
 -- Whatever follows the code of a legacy object is taken for a fault, of one cause.
 abbrev pub AnyLegacy : List ℕ → Cause → Type 0

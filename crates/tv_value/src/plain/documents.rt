@@ -2,10 +2,10 @@
 
 ghost use Rattle.std.specs.Prelude.{◌≡◌, ◌≤◌, ◌++◌, List, ℕ, IfOk, IfErr, length};
 ghost use Rattle.tv_base.specs.Number.{Fixed};
-ghost use Rattle.tv_base.specs.Parts.{Each};
+ghost use Rattle.tv_base.specs.Parts.{Begins, Each};
 ghost use Rattle.tv_value.specs.Fault.{Corrupt, FieldFault};
 ghost use Rattle.tv_value.specs.Plain.{version_of, tree_of, document_of};
-ghost use Rattle.tv_value.specs.PlainReading.{Answers, BecausePart, Begins, NoDocument, NoPairs};
+ghost use Rattle.tv_value.specs.PlainReading.{Answers, BecausePart, NoDocument, NoPairs};
 ghost use Rattle.tv_value.specs.Spelling.{SpellsDocument, SpellsPair, NoLegacy};
 ghost use Rattle.tv_value.specs.Tree.{Document};
 

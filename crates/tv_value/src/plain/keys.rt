@@ -1,10 +1,10 @@
 //! The keys of objects, and how many there are.
 
 ghost use Rattle.std.specs.Prelude.{◌≡◌, ◌≢◌, ◌<◌, ◌∷◌, ℕ, IfOk, IfErr, IfSome, IfNone};
-ghost use Rattle.tv_base.specs.Parts.{Behind, Text};
+ghost use Rattle.tv_base.specs.Parts.{Begins, Behind, Text};
 ghost use Rattle.tv_value.specs.Fault.{CodedKeyFault, KeyFault};
 ghost use Rattle.tv_value.specs.Plain.{version_of};
-ghost use Rattle.tv_value.specs.PlainReading.{BecausePart, Begins};
+ghost use Rattle.tv_value.specs.PlainReading.{BecausePart};
 ghost use Rattle.tv_value.specs.Spelling.{Key};
 ghost use Rattle.tv_value.specs.Version.{entry_total};
 

@@ -3,12 +3,13 @@
 ghost use Rattle.std.specs.Prelude.{IfOk, IfErr};
 ghost use Rattle.tv_base.specs.Number.{VNum, Fixed};
 ghost use Rattle.tv_base.specs.PartFault.{BytesFault, NumberFault, SizedFault, TextFault};
-ghost use Rattle.tv_base.specs.Parts.{Sized, Text};
+ghost use Rattle.tv_base.specs.Parts.{Begins, Sized, Text};
 ghost use Rattle.tv_value.specs.Fault.{Corrupt};
-ghost use Rattle.tv_value.specs.PlainReading.{Begins, BecausePart};
+ghost use Rattle.tv_value.specs.PlainReading.{BecausePart};
 
 use crate::plain::refusal::PlainRefusal;
 use tv_base::cause::Cause;
+use tv_base::vint::VInt;
 
 /// The number of variable length at the front of the bytes, and what follows it.
 /// UnexpectedEnd where it doesn't end, BadNumber where it is 2^64 or more or has more than ten bytes.
@@ -16,20 +17,11 @@ pub fn number_at(bytes: &[u8]) -> Result<(u64, &[u8]), PlainRefusal>
     ensures found { IfOk result (λ x. Begins (λ b. VNum b x.0) bytes.now x.1.now) }
     ensures fault { IfErr result (BecausePart (Corrupt NumberFault bytes.now)) }
 {
-    let mut value: u64 = 0;
-    let mut place: u64 = 1;
-    for (i, byte) in bytes.iter().enumerate() {
-        let digit = u64::from(*byte);
-        if i == 9 && digit != 128 && digit != 129 {
-            return Err(PlainRefusal::Corrupted(Cause::BadNumber));
-        }
-        if digit >= 128 {
-            return Ok((value + (digit - 128) * place, &bytes[i + 1..]));
-        }
-        value += digit * place;
-        place *= 128;
+    match VInt::from_slice(bytes) {
+        Some((number, len)) => Ok((number, &bytes[len..])),
+        None if bytes.len() < 10 => Err(PlainRefusal::Corrupted(Cause::UnexpectedEnd)),
+        None => Err(PlainRefusal::Corrupted(Cause::BadNumber)),
     }
-    Err(PlainRefusal::Corrupted(Cause::UnexpectedEnd))
 }
 
 /// The number in the first four bytes, and what follows them. UnexpectedEnd where there are fewer.

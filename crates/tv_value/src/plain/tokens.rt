@@ -2,10 +2,10 @@
 
 ghost use Rattle.std.specs.Prelude.{◌≡◌, IfOk, IfErr, length, map};
 ghost use Rattle.tv_base.specs.PartFault.{InEach};
-ghost use Rattle.tv_base.specs.Parts.{Each};
+ghost use Rattle.tv_base.specs.Parts.{Begins, Each};
 ghost use Rattle.tv_value.specs.Fault.{Corrupt, TokenFault, TokenizedFault};
 ghost use Rattle.tv_value.specs.Plain.{token_of};
-ghost use Rattle.tv_value.specs.PlainReading.{Begins, BecausePart};
+ghost use Rattle.tv_value.specs.PlainReading.{BecausePart};
 ghost use Rattle.tv_value.specs.Spelling.{TokenSpelling, Tokenized};
 
 use crate::plain::parts::{number_at, text_at};

@@ -2,7 +2,8 @@
 
 ghost use Rattle.std.specs.Prelude.{◌≡◌, ◌∷◌, ◌++◌, List, ℕ, IfOk, IfErr, length, map};
 ghost use Rattle.tv_value.specs.Plain.{version_of, tree_of, entries_of, entry_trees};
-ghost use Rattle.tv_value.specs.PlainReading.{Answers, Begins, FoundValue, NoElements, NoEntries, NoValue};
+ghost use Rattle.tv_base.specs.Parts.{Begins};
+ghost use Rattle.tv_value.specs.PlainReading.{Answers, FoundValue, NoElements, NoEntries, NoValue};
 ghost use Rattle.tv_value.specs.Spelling.{Spells, SpellsElements, SpellsEntries, NoLegacy};
 ghost use Rattle.tv_value.specs.Tree.{Tree, elements};
 

@@ -1,6 +1,6 @@
 use Rattle.std.proofs.Common.{◌≡◌, ◌++◌, ◌<◌, ◌^◌}
 use Rattle.tv_base.specs.Number.{vnum}
-use Rattle.tv_doc.specs.Wrote.{IsFront}
+use Rattle.tv_base.specs.Sink.{IsFront}
 use Rattle.tv_doc.proofs.write.push_number.Given as goal
 
 -- what is written, and the spelling of the rest

@@ -1,9 +1,8 @@
 use Rattle.std.proofs.Common.{ℕ, ◌≡◌, ◌<◌, ◌∷◌, [], ◌++◌, length, ap, ◌∙◌, sym, arith, subst}
 use Rattle.std.proofs.lemmas.Result.{err_from_is_err_and}
 use Rattle.std.proofs.lemmas.List.{map_push}
-use Rattle.tv_base.specs.Parts.{Each}
+use Rattle.tv_base.specs.Parts.{Begins, Each}
 use Rattle.tv_value.specs.Plain.{version_of, tree_of, document_of}
-use Rattle.tv_value.specs.PlainReading.{Begins}
 use Rattle.tv_value.specs.Spelling.{SpellsPair, NoLegacy}
 use Rattle.tv_value.specs.Tree.{Tree}
 use Rattle.tv_value.proofs.PlainItems.{begins_item}

@@ -1,7 +1,6 @@
 use Rattle.std.proofs.Common.{◌≡◌, length}
-use Rattle.tv_base.specs.Parts.{Each}
+use Rattle.tv_base.specs.Parts.{Begins, Each}
 use Rattle.tv_value.specs.Plain.{version_of, document_of}
-use Rattle.tv_value.specs.PlainReading.{Begins}
 use Rattle.tv_value.specs.Spelling.{SpellsPair, NoLegacy}
 use Rattle.tv_value.proofs.plain.documents.pairs_at.Given as goal
 

@@ -4,7 +4,7 @@ use Rattle.tv_base.specs.PartFault.{SizedFault}
 use Rattle.tv_value.specs.Fault.{in_bytes}
 use Rattle.tv_value.specs.Spelling.{LeafBody}
 use Rattle.tv_value.specs.Tree.{bytes}
-use Rattle.tv_value.specs.PlainReading.{Begins}
+use Rattle.tv_base.specs.Parts.{Begins}
 use Rattle.tv_value.proofs.PlainLeaves.{leaf_found, leaf_fault, tree_of-Bytes}
 use Rattle.tv_value.proofs.plain.leaves.bytes_value.Goals as goal
 

@@ -4,7 +4,7 @@ use Rattle.tv_base.specs.PartFault.{TextFault}
 use Rattle.tv_value.specs.Fault.{in_text}
 use Rattle.tv_value.specs.Spelling.{LeafBody}
 use Rattle.tv_value.specs.Tree.{text}
-use Rattle.tv_value.specs.PlainReading.{Begins}
+use Rattle.tv_base.specs.Parts.{Begins}
 use Rattle.tv_value.proofs.PlainLeaves.{leaf_found, leaf_fault, tree_of-Text}
 use Rattle.tv_value.proofs.plain.leaves.text_value.Goals as goal
 

@@ -1,9 +1,8 @@
 use Rattle.std.proofs.Common.{inl, inr, sym, subst}
 use Rattle.std.proofs.lemmas.Result.{err_from_is_err_and}
 use Rattle.tv_base.specs.PartFault.{NumberFault, TextFault}
-use Rattle.tv_base.specs.Parts.{Text}
+use Rattle.tv_base.specs.Parts.{Begins, Text}
 use Rattle.tv_value.specs.Fault.{TokenFault}
-use Rattle.tv_value.specs.PlainReading.{Begins}
 use Rattle.tv_value.proofs.PlainItems.{behind_part}
 use Rattle.tv_value.proofs.PlainParts.{part_fault, begins_then}
 use Rattle.tv_value.proofs.plain.tokens.token_at.Goals as goal

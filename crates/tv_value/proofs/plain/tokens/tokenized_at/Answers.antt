@@ -3,10 +3,9 @@ use Rattle.std.proofs.lemmas.List.{length-map}
 use Rattle.std.proofs.lemmas.Result.{err_from_is_err_and}
 use Rattle.tv_base.specs.Number.{VNum}
 use Rattle.tv_base.specs.PartFault.{InEach, NumberFault, TextFault}
-use Rattle.tv_base.specs.Parts.{Text}
+use Rattle.tv_base.specs.Parts.{Begins, Text}
 use Rattle.tv_value.specs.Fault.{TokenFault, TokenizedFault}
 use Rattle.tv_value.specs.Plain.{token_of}
-use Rattle.tv_value.specs.PlainReading.{Begins}
 use Rattle.tv_value.specs.Spelling.{TokenSpelling}
 use Rattle.tv_value.proofs.PlainItems.{behind_part}
 use Rattle.tv_value.proofs.PlainParts.{part_fault, begins_then}

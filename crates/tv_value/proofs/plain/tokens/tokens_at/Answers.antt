@@ -2,10 +2,9 @@ use Rattle.std.proofs.Common.{◌≡◌, ◌<◌, ◌∷◌, [], ◌++◌, lengt
 use Rattle.std.proofs.lemmas.Result.{err_from_is_err_and}
 use Rattle.std.proofs.lemmas.List.{map_push, length-map}
 use Rattle.tv_base.specs.PartFault.{InEach}
-use Rattle.tv_base.specs.Parts.{Each}
+use Rattle.tv_base.specs.Parts.{Begins, Each}
 use Rattle.tv_value.specs.Fault.{TokenFault}
 use Rattle.tv_value.specs.Plain.{token_of}
-use Rattle.tv_value.specs.PlainReading.{Begins}
 use Rattle.tv_value.specs.Spelling.{TokenSpelling}
 use Rattle.tv_value.proofs.PlainItems.{begins_item, item_fault}
 use Rattle.tv_value.proofs.PlainParts.{part_fault}

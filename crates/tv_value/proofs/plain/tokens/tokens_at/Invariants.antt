@@ -1,7 +1,6 @@
 use Rattle.std.proofs.Common.{◌≡◌, length, map}
-use Rattle.tv_base.specs.Parts.{Each}
+use Rattle.tv_base.specs.Parts.{Begins, Each}
 use Rattle.tv_value.specs.Plain.{token_of}
-use Rattle.tv_value.specs.PlainReading.{Begins}
 use Rattle.tv_value.specs.Spelling.{TokenSpelling}
 use Rattle.tv_value.proofs.plain.tokens.tokens_at.Given as goal
 

@@ -3,7 +3,7 @@ use Rattle.std.proofs.lemmas.Result.{err_from_is_err_and}
 use Rattle.std.proofs.lemmas.List.{map_push}
 use Rattle.tv_value.specs.Fault.{NoLegacyFault}
 use Rattle.tv_value.specs.Plain.{version_of, tree_of, entries_of, entry_trees}
-use Rattle.tv_value.specs.PlainReading.{Begins}
+use Rattle.tv_base.specs.Parts.{Begins}
 use Rattle.tv_value.specs.Spelling.{Key, SpellsElements, SpellsEntries, NoLegacy}
 use Rattle.tv_value.specs.Tree.{array, object, elements}
 use Rattle.tv_value.proofs.PlainParts.{begins_length}

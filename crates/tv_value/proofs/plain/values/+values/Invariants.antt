@@ -1,6 +1,6 @@
 use Rattle.std.proofs.Common.{◌≡◌, ◌+◌, ◌*◌, ◌≤◌, length, map}
 use Rattle.tv_value.specs.Plain.{version_of, tree_of, entries_of, entry_trees}
-use Rattle.tv_value.specs.PlainReading.{Begins}
+use Rattle.tv_base.specs.Parts.{Begins}
 use Rattle.tv_value.specs.Spelling.{SpellsElements, SpellsEntries, NoLegacy}
 use Rattle.tv_value.specs.Tree.{elements}
 use Rattle.tv_value.proofs.plain.values.+values.Given as goal
