@@ -1,7 +1,7 @@
 //! What is proved above single calls: laws of the definitions, and of what calls leave.
 
 ghost use Rattle.std.specs.Prelude.{◌≡◌, ◌≤◌, ◌++◌, List, ℕ, IfOk, IfErr};
-ghost use Rattle.tv_base.specs.ReadsAs.{few_told};
+ghost use Rattle.tv_base.specs.ReadsAs.{Known};
 ghost use Rattle.tv_doc.specs.Belongs.{Belongs};
 ghost use Rattle.tv_doc.specs.Document.{document_of};
 ghost use Rattle.tv_doc.specs.Room.{document_room};
@@ -57,7 +57,7 @@ pub fn stored_pairs_are_read_back<S: ByteSource>(
     schema: &Schema,
     document: &CompactDoc,
 ) -> Result<CompactDoc, DeserializeError>
-    ensures { few_told S.tells S.left source.old → document_room (document_of document.now) ≤ 4294967295 → (rest : List ℕ) → S.left source.old ≡ short_document V2 (stored schema.now (document_of document.now)) ++ rest → Answers result (stored schema.now (document_of document.now)) rest (S.left source.new) }
+    ensures { Known S.tells S.left source.old → document_room (document_of document.now) ≤ 4294967295 → (rest : List ℕ) → S.left source.old ≡ short_document V2 (stored schema.now (document_of document.now)) ++ rest → Answers result (stored schema.now (document_of document.now)) rest (S.left source.new) }
 {
     let _ = schema;
     let _ = document;

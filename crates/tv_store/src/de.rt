@@ -1,7 +1,7 @@
 //! Reading documents out of the store.
 
 ghost use Rattle.std.specs.Prelude.{◌≡◌, ◌≤◌, ◌++◌, ℕ, List, Ok, Err, IfOk, IfErr, IsTrue, MatchOption};
-ghost use Rattle.tv_base.specs.ReadsAs.{few_told};
+ghost use Rattle.tv_base.specs.ReadsAs.{Known};
 ghost use Rattle.tv_base.specs.Stop.{Counts};
 ghost use Rattle.tv_doc.specs.Document.{document_of};
 ghost use Rattle.tv_doc.specs.Room.{document_room};
@@ -55,18 +55,18 @@ pub fn read_document<S: ByteSource>(
     version: DocStoreVersion,
 ) -> Result<CompactDoc, DeserializeError>
     // a front of the bytes spells what is answered, and the rest is left
-    ensures found { few_told S.tells S.left source.old → IfOk result (λ d. Takes (version_of version) (S.left source.old) (S.left source.new) (document_of d)) }
+    ensures found { Known S.tells S.left source.old → IfOk result (λ d. Takes (version_of version) (S.left source.old) (S.left source.new) (document_of d)) }
 
     // wherever a front spells a document that has room, that one is answered
-    ensures only { few_told S.tells S.left source.old → (d : Document) (front rest : List ℕ) → S.left source.old ≡ front ++ rest → SpellsDocument NoLegacy (version_of version) front d → IsTrue (are_handled d) → document_room d ≤ 4294967295 → Answers result d rest (S.left source.new) }
+    ensures only { Known S.tells S.left source.old → (d : Document) (front rest : List ℕ) → S.left source.old ≡ front ++ rest → SpellsDocument NoLegacy (version_of version) front d → IsTrue (are_handled d) → document_room d ≤ 4294967295 → Answers result d rest (S.left source.new) }
 
     // refusals of the bytes are true of them, and others don't come
-    ensures tells { few_told S.tells S.left source.old → IfErr result (Tells (version_of version) (S.left source.old)) }
+    ensures tells { Known S.tells S.left source.old → IfErr result (Tells (version_of version) (S.left source.old)) }
     ensures errors { IfErr result IsReadingError }
 
     // the source failed exactly where its count of faults rose
     ensures faults { Counts store_stop result (S.faults source.old) (S.faults source.new) }
-    ensures still_tells { few_told S.tells S.left source.old → S.tells source.new }
+    ensures still_tells { Known S.tells S.left source.old → S.tells source.new }
 {
     let _ = version;
     let mut count = 0;
