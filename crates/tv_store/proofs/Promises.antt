@@ -21,14 +21,14 @@ use Rattle.tv_value.specs.Fault.{corrupted}
 use Rattle.tv_store.specs.declared.error.DeserializeError.{DeserializeError}
 use Rattle.tv_store.specs.declared.error.DeserializeError.TheVariants as errors
 use Rattle.tv_store.specs.Error.{store_stop}
-use Rattle.tv_store.specs.Documents.{Takes, Answers, Tells}
+use Rattle.tv_store.specs.Documents.{BeginsWith, Answers, Tells}
 use Rattle.tv_store.specs.Pairs.{HasNoRoom, DocumentHasNoRoom}
 use Rattle.tv_store.specs.Reading.{pairs_at, document_at}
 use Rattle.tv_store.specs.Refused.{DocumentRefused, Begun}
 use Rattle.tv_store.proofs.PairLoop.{pairs_at-begins}
 use Rattle.tv_store.proofs.AgreeDocument.{pairs_spelled, document_agrees}
 
-pub found_by : (v : Version) (result : Result CompactDoc DeserializeError) (old new : List ℕ) → AllBytes old → Gives store_stop document_of result (document_at old) new → IfOk result (λ d. Takes v old new (document_of d))
+pub found_by : (v : Version) (result : Result CompactDoc DeserializeError) (old new : List ℕ) → AllBytes old → Gives store_stop document_of result (document_at old) new → IfOk result (λ d. BeginsWith v old new (document_of d))
 found_by v (Ok d) old new small h =
     let p = (document_agrees v).sound old (document_of d, new) small h in
     record { front = p.0; joined = p.2; spelled = p.1.0 }

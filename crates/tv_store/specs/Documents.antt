@@ -1,6 +1,7 @@
 -- What reading a document returns.
 use Rattle.std.specs.Prelude.{◌≡◌, ◌<◌, ℕ, List, ◌++◌, Result, Ok, Err}
 use Rattle.tv_base.specs.declared.cause.Cause.{Cause}
+use Rattle.tv_base.specs.Parts.{Begins}
 use Rattle.tv_doc.specs.declared.document.CompactDoc.{CompactDoc}
 use Rattle.tv_doc.specs.Document.{document_of}
 use Rattle.tv_doc.specs.Room.{document_room}
@@ -13,10 +14,8 @@ use Rattle.tv_store.specs.declared.error.DeserializeError.TheVariants as errors
 use Rattle.tv_store.specs.Refused.{DocumentRefused, Begun}
 
 -- a front of the bytes spells the document, and the rest is left
-pub record Takes (v : Version) (bytes rest : List ℕ) (d : Document) : Type 0 where
-  pub front : List ℕ
-  pub joined : bytes ≡ front ++ rest
-  pub spelled : SpellsDocument NoLegacy v front d
+abbrev pub BeginsWith : Version → List ℕ → List ℕ → Document → Type 0
+BeginsWith v bytes rest d = Begins (λ front. SpellsDocument NoLegacy v front d) bytes rest
 
 -- this document is answered and this rest left, unless the source failed or memory was refused
 abbrev pub Answers : Result CompactDoc DeserializeError → Document → List ℕ → List ℕ → Type 0

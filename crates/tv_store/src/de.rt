@@ -5,7 +5,7 @@ ghost use Rattle.tv_base.specs.ReadsAs.{Known};
 ghost use Rattle.tv_base.specs.Stop.{Counts};
 ghost use Rattle.tv_doc.specs.Document.{document_of};
 ghost use Rattle.tv_doc.specs.Room.{document_room};
-ghost use Rattle.tv_store.specs.Documents.{Takes, Answers, Tells, IsReadingError};
+ghost use Rattle.tv_store.specs.Documents.{BeginsWith, Answers, Tells, IsReadingError};
 ghost use Rattle.tv_store.specs.Error.{store_stop, TakesBy};
 ghost use Rattle.tv_store.specs.Reading.{document_at};
 ghost use Rattle.tv_doc.specs.Handled.{are_handled};
@@ -55,7 +55,7 @@ pub fn read_document<S: ByteSource>(
     version: DocStoreVersion,
 ) -> Result<CompactDoc, DeserializeError>
     // a front of the bytes spells what is answered, and the rest is left
-    ensures found { Known S.tells S.left source.old → IfOk result (λ d. Takes (version_of version) (S.left source.old) (S.left source.new) (document_of d)) }
+    ensures found { Known S.tells S.left source.old → IfOk result (λ d. BeginsWith (version_of version) (S.left source.old) (S.left source.new) (document_of d)) }
 
     // wherever a front spells a document that has room, that one is answered
     ensures only { Known S.tells S.left source.old → (d : Document) (front rest : List ℕ) → S.left source.old ≡ front ++ rest → SpellsDocument NoLegacy (version_of version) front d → IsTrue (are_handled d) → document_room d ≤ 4294967295 → Answers result d rest (S.left source.new) }
