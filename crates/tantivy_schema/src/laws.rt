@@ -18,7 +18,8 @@ pub use tv_base::laws::{
 use tv_base::{ByteSource, VecSink};
 use tv_doc::document::CompactDoc;
 pub use tv_doc::laws::{
-    documents_are_handled, documents_are_valid, heaps_are_within_room, places_read_as_one_tree,
+    additions_are_kept, documents_are_handled, documents_are_valid, heaps_are_within_room,
+    places_read_as_one_tree,
 };
 use tv_schema::Schema;
 pub use tv_store::laws::{

@@ -5,3 +5,4 @@ pub mod Valid
 pub mod Lends
 pub mod Values
 pub mod Pairs
+pub mod Additions

@@ -9,3 +9,4 @@ pub mod NewLeaf
 pub mod Value
 pub mod Handled
 pub mod Belongs
+pub mod Additions

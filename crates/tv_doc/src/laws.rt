@@ -4,6 +4,7 @@ ghost use Rattle.std.specs.Prelude.{◌≡◌, ◌≤◌, ℕ, List, length, IsT
 ghost use Rattle.tv_value.specs.Short.{IsDocument};
 ghost use Rattle.tv_value.specs.Tree.{Tree};
 ghost use Rattle.tv_doc.specs.declared.document.CompactDoc.{CompactDoc};
+ghost use Rattle.tv_doc.specs.Additions.{Addition, Runs, Keeps, accepted};
 ghost use Rattle.tv_doc.specs.Document.{document_of, heap_of};
 ghost use Rattle.tv_doc.specs.Handled.{are_handled};
 ghost use Rattle.tv_doc.specs.Reads.{Reads};
@@ -27,4 +28,10 @@ pub fn heaps_are_within_room()
 /// Each value of a document is a text or a number of type u64, as long as no others can be added.
 pub fn documents_are_handled()
     ensures { (d : CompactDoc) → IsTrue (are_handled (document_of d)) }
+{}
+
+/// Of additions to a document, one after the other, refused ones among them, each leaves what its answer says, and all of
+/// them: the accepted pairs stand in order behind those that were there, and what stood in the heap stands there still.
+pub fn additions_are_kept()
+    ensures { (additions : List Addition) (old new : CompactDoc) → Runs additions old new → Keeps (accepted additions) old new }
 {}

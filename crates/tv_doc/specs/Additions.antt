@@ -1,0 +1,35 @@
+-- Additions to a document, one after the other, refused ones among them.
+use Rattle.std.specs.Prelude.{◌≡◌, ℕ, List, [], ◌∷◌, ◌++◌, Result, Ok, Err}
+use Rattle.tv_base.specs.Sink.{IsFront}
+use Rattle.tv_value.specs.Tree.{Tree, Document}
+use Rattle.tv_doc.specs.declared.add_error.AddError.{AddError}
+use Rattle.tv_doc.specs.declared.document.CompactDoc.{CompactDoc}
+use Rattle.tv_doc.specs.Document.{document_of, heap_of, places_of, Adds, IsUnchanged}
+
+-- an addition and its answer
+pub record Addition : Type 0 where
+  pub field : ℕ
+  pub tree : Tree
+  pub answer : Result (Unit {0}) AddError
+
+-- its pair, where it was accepted
+abbrev pub pair_of : Result (Unit {0}) AddError → ℕ → Tree → Document
+pair_of (Ok x) field tree = (field, tree) ∷ []
+pair_of (Err e) field tree = []
+
+-- the pairs of those that were accepted, in order
+abbrev pub accepted : List Addition → Document
+accepted [] = []
+accepted (a ∷ rest) = pair_of a.answer a.field a.tree ++ accepted rest
+
+-- each is called on what the one before it left
+abbrev pub Runs : List Addition → CompactDoc → CompactDoc → Type 0
+Runs [] old new = IsUnchanged old new
+Runs (a ∷ rest) old new = (mid : CompactDoc) × Adds old mid a.field a.tree a.answer × Runs rest mid new
+
+-- the accepted pairs stand behind those that were there, and the old heap and the old places are fronts of the new ones
+pub record Keeps (pairs : Document) (old new : CompactDoc) : Type 0 where
+  pub document : document_of new ≡ document_of old ++ pairs
+  pub heap : IsFront (heap_of old) (heap_of new)
+  pub added_places : List (ℕ × ℕ)
+  pub places : places_of new ≡ places_of old ++ added_places
