@@ -1,6 +1,5 @@
 -- Readings of documents of texts and numbers agree with their grammar.
-use Rattle.std.proofs.Common.{◌≡◌, ◌≢◌, ◌⊎◌, ℕ, zero, suc, ◌<◌, ◌≤◌, Bool, true, false, cond, eqb, ltb, List, [], ◌∷◌, ◌++◌, length, Result, Ok, Err, refl, sym, ap, subst, ◌∙◌, arith, inl, inr}
-use Rattle.std.specs.Prelude.{All}
+use Rattle.std.proofs.Common.{◌≡◌, ◌≢◌, ◌⊎◌, ℕ, zero, suc, ◌<◌, ◌≤◌, true, false, cond, eqb, ltb, List, [], ◌∷◌, ◌++◌, length, Result, Ok, Err, refl, sym, ap, subst, ◌∙◌, arith, inl, inr}
 use Rattle.std.proofs.lemmas.Bool.{ltb-true, ltb-false, le-ltb, cases_lt, eqb-true}
 use Rattle.std.proofs.lemmas.Bool.Decides.{eqb_tells}
 use Rattle.std.proofs.lemmas.List.{append-nil}
@@ -9,17 +8,16 @@ use Rattle.tv_base.specs.declared.cause.Cause.TheVariants.{UnexpectedEnd, Unknow
 use Rattle.tv_base.specs.Source.{AllBytes}
 use Rattle.tv_base.specs.Stop.{◌>>=◌}
 use Rattle.tv_base.specs.Number.{VNum, Fixed}
-use Rattle.tv_base.specs.Parts.{Then, Behind, Text, Each, Counted}
+use Rattle.tv_base.specs.Parts.{Text, Each}
 use Rattle.tv_base.specs.PartFault.{InThen, InEach, NumberFault, BytesFault, TextFault}
-use Rattle.tv_base.specs.Reading.{text_at, u64_at, each_at}
 use Rattle.tv_base.proofs.Agrees.{Agrees, InTurn, agrees_too, in_turn, make, made, chosen, nothing_read, nothing_stands}
 use Rattle.tv_base.proofs.AgreeWidths.{IsCode, code_agrees, bytes_fault, u32_agrees, u64_agrees}
 use Rattle.tv_base.proofs.AgreeNumbers.{vint_agrees}
 use Rattle.tv_base.proofs.AgreeParts.{text_agrees, each_agrees}
-use Rattle.tv_value.specs.Tree.{Leaf, null, text, unsigned, signed, boolean, date, facet, bytes, ip_address, tokenized, Tree, leaf, array, object, Document}
+use Rattle.tv_value.specs.Tree.{null, text, unsigned, signed, boolean, date, facet, bytes, ip_address, tokenized, Tree, leaf, array, object, Document}
 use Rattle.tv_value.specs.Version.{Version}
 use Rattle.tv_value.specs.Spelling.{Spells, SpellsPair, SpellsDocument, NoLegacy}
-use Rattle.tv_value.specs.Fault.{Refusal, corrupted, Corrupt, corrupt, LeafFault, in_text, in_unsigned, FieldFault, field_ends, field_large, ValueFault, value_ends, unknown_code, float_code, in_leaf, NoLegacyFault}
+use Rattle.tv_value.specs.Fault.{Refusal, corrupted, corrupt, in_text, in_unsigned, FieldFault, field_ends, field_large, ValueFault, value_ends, unknown_code, float_code, in_leaf, NoLegacyFault}
 use Rattle.tv_doc.specs.Handled.{is_handled, are_handled}
 use Rattle.tv_store.proofs.Stores.{first_handled, others_handled}
 use Rattle.tv_store.specs.Reading.{coded_at, value_at, field_at, pair_at, pairs_at, document_at}

@@ -1,11 +1,10 @@
 -- From the reading of a document to what is promised of it.
-use Rattle.std.proofs.Common.{◌≡◌, ℕ, ◌+◌, ◌<◌, ◌≤◌, List, [], ◌∷◌, ◌++◌, length, Result, Ok, Err, refl, sym, ap, subst, ◌∙◌, arith}
+use Rattle.std.proofs.Common.{◌≡◌, ℕ, ◌≤◌, List, ◌++◌, Result, Ok, Err, refl, sym, ap, ◌∙◌, arith}
 use Rattle.std.specs.Prelude.{IfOk, IfErr, IsErrOf, IsTrue}
 use Rattle.std.proofs.lemmas.List.Sums.{sum_by-append}
 use Rattle.tv_base.specs.declared.cause.Cause.{Cause}
 use Rattle.tv_base.specs.Source.{AllBytes}
 use Rattle.tv_base.specs.Stop.{◌>>=◌, Gives}
-use Rattle.tv_base.specs.Number.{VNum}
 use Rattle.tv_base.specs.Reading.{vint_at}
 use Rattle.tv_base.proofs.Agrees.{ok_is}
 use Rattle.tv_base.proofs.AgreeNumbers.{vint_agrees}
@@ -17,14 +16,13 @@ use Rattle.tv_doc.specs.Room.{room, document_room}
 use Rattle.tv_value.specs.Tree.{Tree, Document}
 use Rattle.tv_value.specs.Version.{Version}
 use Rattle.tv_value.specs.Spelling.{SpellsDocument, NoLegacy}
-use Rattle.tv_value.specs.Fault.{corrupted}
 use Rattle.tv_store.specs.declared.error.DeserializeError.{DeserializeError}
 use Rattle.tv_store.specs.declared.error.DeserializeError.TheVariants as errors
 use Rattle.tv_store.specs.Error.{store_stop}
 use Rattle.tv_store.specs.Documents.{BeginsWith, Answers, Tells}
-use Rattle.tv_store.specs.Pairs.{HasNoRoom, DocumentHasNoRoom}
+use Rattle.tv_store.specs.Pairs.{DocumentHasNoRoom}
 use Rattle.tv_store.specs.Reading.{pairs_at, document_at}
-use Rattle.tv_store.specs.Refused.{DocumentRefused, Begun}
+use Rattle.tv_store.specs.Refused.{Begun}
 use Rattle.tv_store.proofs.PairLoop.{pairs_at-begins}
 use Rattle.tv_store.proofs.AgreeDocument.{pairs_spelled, document_agrees}
 

@@ -1,6 +1,5 @@
 -- What holds of the stored pairs where it holds of all.
-use Rattle.std.proofs.Common.{◌≡◌, ℕ, ◌+◌, ◌<◌, ◌≤◌, Bool, true, false, cond, List, [], ◌∷◌, length, refl, sym, ap, subst, ◌∙◌, arith}
-use Rattle.std.specs.Prelude.{◌&&◌}
+use Rattle.std.proofs.Common.{◌≡◌, ℕ, ◌+◌, ◌≤◌, Bool, true, false, cond, List, [], ◌∷◌, refl, sym, ap, subst, ◌∙◌, arith}
 use Rattle.std.specs.List.{AllByRecursion}
 use Rattle.std.proofs.lemmas.List.Sums.{sum_by-cons}
 use Rattle.tv_doc.specs.Handled.{is_handled, are_handled}
@@ -27,7 +26,6 @@ tree_valid : (t : Tree) → IsValue t → IsValue (tree_written t)
 tree_valid (leaf l) h = leaf_valid l h
 tree_valid (array ts) h = h
 tree_valid (object es) h = h
-
 
 each_case : (b : Bool) (p : ℕ × Tree) (ps : Document) → IsPair p → AllByRecursion IsPair ps → AllByRecursion IsPair (cond b (p ∷ ps) ps)
 each_case true p ps h k = (h, k)

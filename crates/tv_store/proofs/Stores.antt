@@ -1,5 +1,5 @@
 -- The stored pairs of a document.
-use Rattle.std.proofs.Common.{◌≡◌, ℕ, suc, ◌+◌, ◌<◌, ◌≤◌, Bool, true, false, cond, List, [], ◌∷◌, ◌++◌, length, map, Option, Some, None, slice_get, Result, Err, refl, sym, ap, ◌∙◌, arith}
+use Rattle.std.proofs.Common.{◌≡◌, ℕ, suc, ◌≤◌, Bool, true, false, cond, List, [], ◌∷◌, ◌++◌, length, map, Some, slice_get, Err, refl, sym, ap, ◌∙◌, arith}
 use Rattle.std.specs.List.{filter, flat_map}
 use Rattle.std.specs.Prelude.{◌&&◌}
 use Rattle.std.proofs.lemmas.List.{append-nil}
@@ -7,11 +7,11 @@ use Rattle.std.proofs.lemmas.List.Concat.{flat_map-cons}
 use Rattle.tv_schema.specs.Entry.{is_stored_type}
 use Rattle.tv_base.specs.Sink.{Writes}
 use Rattle.tv_schema.specs.Entry.{Entry}
-use Rattle.tv_value.specs.Tree.{Leaf, null, text, unsigned, signed, boolean, date, facet, bytes, ip_address, tokenized, Tree, leaf, array, object, Document}
-use Rattle.tv_doc.specs.Handled.{is_handled_leaf, is_handled, are_handled}
+use Rattle.tv_value.specs.Tree.{null, text, unsigned, signed, boolean, date, facet, bytes, ip_address, tokenized, Tree, leaf, array, object, Document}
+use Rattle.tv_doc.specs.Handled.{is_handled, are_handled}
 use Rattle.tv_value.specs.Short.{short_pair}
 use Rattle.tv_value.specs.Version.{V2}
-use Rattle.tv_store.specs.Stored.{stored, leaf_written, tree_written, is_stored_entry, is_stored_field, written_pairs}
+use Rattle.tv_store.specs.Stored.{stored, tree_written, is_stored_entry, is_stored_field, written_pairs}
 
 abbrev written : ℕ × Tree → ℕ × Tree
 written p = (p.0, tree_written p.1)

@@ -1,6 +1,5 @@
 -- What reading a document returns.
-use Rattle.std.specs.Prelude.{◌≡◌, ◌<◌, ℕ, List, ◌++◌, Result, Ok, Err}
-use Rattle.tv_base.specs.declared.cause.Cause.{Cause}
+use Rattle.std.specs.Prelude.{◌≡◌, ◌<◌, ℕ, List, Result, Ok, Err}
 use Rattle.tv_base.specs.Parts.{Begins}
 use Rattle.tv_doc.specs.declared.document.CompactDoc.{CompactDoc}
 use Rattle.tv_doc.specs.Document.{document_of}

@@ -1,5 +1,5 @@
 -- What the errors of the lower layers are called in the store, and which of them stop a reader for what cause.
-use Rattle.std.specs.Prelude.{ℕ, Result, Ok, Err, List}
+use Rattle.std.specs.Prelude.{ℕ, Result, List}
 use Rattle.std.specs.declared.io.ErrorKind.{ErrorKind}
 use Rattle.tv_base.specs.declared.cause.Cause.{Cause}
 use Rattle.tv_base.specs.declared.cause.Cause.TheVariants as causes

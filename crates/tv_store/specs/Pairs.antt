@@ -1,5 +1,5 @@
 -- Pairs that were taken of a source, before they stand in a document.
-use Rattle.std.specs.Prelude.{◌≡◌, ◌<◌, ◌≤◌, ℕ, List, Result, Ok}
+use Rattle.std.specs.Prelude.{◌≡◌, ◌<◌, ◌≤◌, ℕ, List, Ok}
 use Rattle.tv_base.specs.Reading.{vint_at}
 use Rattle.tv_base.specs.Take.{Place}
 use Rattle.tv_doc.specs.Room.{document_room}

@@ -1,5 +1,5 @@
 -- Which bytes of a store are refused, and why, as long as texts and numbers of type u64 are all that is read.
-use Rattle.std.specs.Prelude.{◌≡◌, ◌≢◌, ◌<◌, ◌≤◌, ◌⊎◌, ℕ, List, [], ◌∷◌, ◌++◌, length}
+use Rattle.std.specs.Prelude.{◌≡◌, ◌≢◌, ◌<◌, ◌≤◌, ◌⊎◌, ℕ, List, ◌∷◌, ◌++◌, length}
 use Rattle.tv_base.specs.declared.cause.Cause.TheVariants.{UnknownTypeCode}
 use Rattle.tv_base.specs.Number.{VNum, Fixed}
 use Rattle.tv_base.specs.Parts.{Each}

@@ -9,5 +9,5 @@ pub mod se;
 pub mod type_codes;
 
 pub use de::{DocStoreVersion, read_document};
-pub use se::BinaryDocumentSerializer;
 pub use error::{DeserializeError, SerializeError, ValueType};
+pub use se::BinaryDocumentSerializer;
