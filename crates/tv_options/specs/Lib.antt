@@ -6,3 +6,4 @@ pub mod IpAddrOptions
 pub mod JsonObjectOptions
 pub mod NumericOptions
 pub mod TextOptions
+pub mod Types

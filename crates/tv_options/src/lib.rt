@@ -12,6 +12,7 @@ pub mod laws;
 pub mod numeric_options;
 pub mod text_options;
 pub mod tokenizer_name;
+pub mod types;
 
 pub use bytes_options::BytesOptions;
 pub use date_time_options::DateOptions;
@@ -25,4 +26,5 @@ pub use json_object_options::JsonObjectOptions;
 pub use numeric_options::NumericOptions;
 pub use text_options::{FastFieldTextOptions, STRING, TEXT, TextFieldIndexing, TextOptions};
 pub use tokenizer_name::TokenizerName;
+pub use types::{TypeIter, TypeTag as Type};
 pub use tv_value::date_time::{DATE_TIME_PRECISION_INDEXED, DateTimePrecision};
