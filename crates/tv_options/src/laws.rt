@@ -1,7 +1,7 @@
-//! Laws of `|` on options, each the contract of a function that does nothing: it doesn't depend on how it is grouped, and
-//! options joined with themselves stay as they are.
+//! Laws of options and types, each the contract of a function that does nothing.
 
-ghost use Rattle.std.specs.Prelude.{◌≡◌};
+ghost use Rattle.std.specs.Prelude.{◌≡◌, ◌≢◌, ◌↔◌, ℕ, IsTrue, Some, AllPairs, Contains};
+ghost use Rattle.std.specs.Ordering.{nat_cmp, is_eq};
 ghost use Rattle.tv_options.specs.declared.bytes_options.BytesOptions.{BytesOptions};
 ghost use Rattle.tv_options.specs.declared.date_time_options.DateOptions.{DateOptions};
 ghost use Rattle.tv_options.specs.declared.facet_options.FacetOptions.{FacetOptions};
@@ -10,6 +10,11 @@ ghost use Rattle.tv_options.specs.declared.json_object_options.JsonObjectOptions
 ghost use Rattle.tv_options.specs.declared.numeric_options.NumericOptions.{NumericOptions};
 ghost use Rattle.tv_options.specs.declared.text_options.FastFieldTextOptions.{FastFieldTextOptions};
 ghost use Rattle.tv_options.specs.declared.text_options.TextOptions.{TextOptions};
+ghost use Rattle.tv_options.specs.declared.index_record_option.IndexRecordOption.{IndexRecordOption};
+ghost use Rattle.tv_options.specs.declared.types.TypeTag.{TypeTag};
+ghost use Rattle.tv_value.specs.declared.field.Field.{Field};
+ghost use Rattle.tv_options.specs.IndexRecordOption.{rank};
+ghost use Rattle.tv_options.specs.Types.{all_types, code, type_of_code};
 ghost use Rattle.tv_options.specs.BytesOptions.{join as join_bytes};
 ghost use Rattle.tv_options.specs.DateOptions.{join as join_date};
 ghost use Rattle.tv_options.specs.FacetOptions.{join as join_facet};
@@ -17,6 +22,11 @@ ghost use Rattle.tv_options.specs.IpAddrOptions.{join as join_ip_addr};
 ghost use Rattle.tv_options.specs.JsonObjectOptions.{join as join_json};
 ghost use Rattle.tv_options.specs.NumericOptions.{join as join_numeric};
 ghost use Rattle.tv_options.specs.TextOptions.{join as join_text, join_fast};
+
+use crate::index_record_option::IndexRecordOption;
+use crate::types::TypeTag;
+use std::hash::Hash;
+use tv_value::field::Field;
 
 /// `|` on `NumericOptions` doesn't depend on how it is grouped.
 pub fn numeric_options_join_associatively()
@@ -96,4 +106,38 @@ pub fn fast_text_options_join_associatively()
 /// `FastFieldTextOptions` joined with themselves stay as they are.
 pub fn fast_text_options_join_idempotently()
     ensures { (a : FastFieldTextOptions) → join_fast a a ≡ a }
+{}
+
+/// The code of a type gives the type, and no other byte does.
+pub fn types_and_codes_agree()
+    ensures back { (t : TypeTag) → type_of_code (code t) ≡ Some t }
+    ensures alone { (t : TypeTag) (byte : ℕ) → type_of_code byte ≡ Some t → byte ≡ code t }
+{}
+
+/// The list of the types has each type, and none twice.
+pub fn types_are_listed_once()
+    ensures each { (t : TypeTag) → Contains all_types t }
+    ensures once { AllPairs (λ one other. one ≢ other) all_types }
+{}
+
+/// Types are ordered as their codes. Those that the order calls equal are one type, as `==` says, and equal types hash alike.
+pub fn comparisons_of_types_agree()
+    ensures order { (a b : TypeTag) → ⟦<TypeTag as Ord>⟧.cmp a b ≡ nat_cmp (code a) (code b) }
+    ensures eq { (a b : TypeTag) → IsTrue (⟦<TypeTag as PartialEq>⟧.eq a b) ↔ (a ≡ b) }
+    ensures ties { (a b : TypeTag) → IsTrue (is_eq (⟦<TypeTag as Ord>⟧.cmp a b)) ↔ (a ≡ b) }
+    ensures hash { (a b : TypeTag) → IsTrue (⟦<TypeTag as PartialEq>⟧.eq a b) → ⟦<TypeTag as Hash>⟧.hash_input a ≡ ⟦<TypeTag as Hash>⟧.hash_input b }
+{}
+
+/// Fields are ordered as their numbers. Those that the order calls equal are one field, as `==` says, and equal fields hash
+/// alike.
+pub fn comparisons_of_fields_agree()
+    ensures order { (a b : Field) → ⟦<Field as Ord>⟧.cmp a b ≡ nat_cmp a.id b.id }
+    ensures eq { (a b : Field) → IsTrue (⟦<Field as PartialEq>⟧.eq a b) ↔ (a ≡ b) }
+    ensures ties { (a b : Field) → IsTrue (is_eq (⟦<Field as Ord>⟧.cmp a b)) ↔ (a ≡ b) }
+    ensures hash { (a b : Field) → IsTrue (⟦<Field as PartialEq>⟧.eq a b) → ⟦<Field as Hash>⟧.hash_input a ≡ ⟦<Field as Hash>⟧.hash_input b }
+{}
+
+/// What an index keeps of terms is ordered from the least to the most.
+pub fn record_options_are_ordered()
+    ensures { (a b : IndexRecordOption) → ⟦<IndexRecordOption as Ord>⟧.cmp a b ≡ nat_cmp (rank a) (rank b) }
 {}

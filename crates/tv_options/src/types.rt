@@ -1,10 +1,8 @@
 //! The types of the values of fields.
 
-ghost use Rattle.std.specs.Prelude.{◌≡◌, ◌↔◌, IsTrue, Some};
-ghost use Rattle.std.specs.Ordering.{nat_cmp};
+ghost use Rattle.std.specs.Prelude.{◌≡◌};
 ghost use Rattle.tv_options.specs.Types.{all_types, code, type_of_code, type_name};
 
-use std::cmp::Ordering;
 use std::marker::Model;
 
 /// The type of a field's values, without the field's options. Types are in the order of their codes.
