@@ -26,5 +26,5 @@ pub use json_object_options::JsonObjectOptions;
 pub use numeric_options::NumericOptions;
 pub use text_options::{FastFieldTextOptions, STRING, TEXT, TextFieldIndexing, TextOptions};
 pub use tokenizer_name::TokenizerName;
-pub use types::{TypeIter, TypeTag as Type};
 pub use tv_value::date_time::{DATE_TIME_PRECISION_INDEXED, DateTimePrecision};
+pub use types::{TypeIter, TypeTag as Type};

@@ -1,4 +1,4 @@
-use Rattle.std.proofs.Common.{◌≡◌, refl, arith, Contains, ◌<◌}
+use Rattle.std.proofs.Common.{refl, arith, Contains}
 use Rattle.tv_options.specs.declared.types.TypeTag.{TypeTag}
 use Rattle.tv_options.specs.declared.types.TypeTag.TheVariants.{Str, U64, I64, Bool, Date, Facet, Bytes, Json, IpAddr}
 use Rattle.tv_options.specs.Types.{all_types}
