@@ -28,3 +28,6 @@ pub use text_options::{FastFieldTextOptions, STRING, TEXT, TextFieldIndexing, Te
 pub use tokenizer_name::TokenizerName;
 pub use tv_value::date_time::{DATE_TIME_PRECISION_INDEXED, DateTimePrecision};
 pub use types::{TypeIter, TypeTag as Type};
+
+#[cfg(test)]
+mod tests;
