@@ -56,7 +56,7 @@ impl From<IndexedFlag> for FacetOptions {
 
     /// The default: facets are searchable without it.
     fn from(_: IndexedFlag) -> FacetOptions {
-        FacetOptions::default()
+        FacetOptions { stored: false }
     }
 }
 

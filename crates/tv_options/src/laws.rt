@@ -21,11 +21,14 @@ ghost use Rattle.tv_options.specs.FacetOptions.{join as join_facet};
 ghost use Rattle.tv_options.specs.IpAddrOptions.{join as join_ip_addr};
 ghost use Rattle.tv_options.specs.JsonObjectOptions.{join as join_json};
 ghost use Rattle.tv_options.specs.NumericOptions.{join as join_numeric};
-ghost use Rattle.tv_options.specs.TextOptions.{join as join_text, join_fast};
+ghost use Rattle.tv_options.specs.TextOptions.{join as join_text, join_fast, string_options, text_options};
+ghost use Rattle.tv_value.specs.declared.date_time.DateTimePrecision.TheVariants.{Seconds};
 
 use crate::index_record_option::IndexRecordOption;
+use crate::text_options::{STRING, TEXT, TextOptions};
 use crate::types::TypeTag;
 use std::hash::Hash;
+use tv_value::date_time::{DATE_TIME_PRECISION_INDEXED, DateTimePrecision};
 use tv_value::field::Field;
 
 /// `|` on `NumericOptions` doesn't depend on how it is grouped.
@@ -141,3 +144,24 @@ pub fn comparisons_of_fields_agree()
 pub fn record_options_are_ordered()
     ensures { (a b : IndexRecordOption) → ⟦<IndexRecordOption as Ord>⟧.cmp a b ≡ nat_cmp (rank a) (rank b) }
 {}
+
+/// `STRING` is indexed as one token (the tokenizer `raw`), of which the documents alone are kept, with field norms.
+pub fn string_is_one_token() -> TextOptions
+    ensures { result ≡ string_options }
+{
+    STRING
+}
+
+/// `TEXT` is indexed by the tokenizer `default`, with frequencies, positions and field norms.
+pub fn text_is_indexed_by_words() -> TextOptions
+    ensures { result ≡ text_options }
+{
+    TEXT
+}
+
+/// Dates are indexed to the second.
+pub fn dates_are_indexed_by_seconds() -> DateTimePrecision
+    ensures { result ≡ Seconds }
+{
+    DATE_TIME_PRECISION_INDEXED
+}
