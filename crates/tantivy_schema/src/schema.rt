@@ -3,7 +3,12 @@
 pub mod document;
 
 pub use tv_doc::document::CompactDoc;
-pub use tv_options::{NumericOptions, TextOptions};
+pub use tv_options::{
+    BytesOptions, COERCE, CoerceFlag, DATE_TIME_PRECISION_INDEXED, DateOptions, DateTimePrecision,
+    FAST, FacetOptions, FastFieldTextOptions, FastFlag, INDEXED, IndexRecordOption, IndexedFlag,
+    IpAddrOptions, JsonObjectOptions, NumericOptions, STORED, STRING, SchemaFlagList, StoredFlag,
+    TEXT, TextFieldIndexing, TextOptions, TokenizerName, Type, TypeIter,
+};
 pub use tv_schema::{
     FieldEntry, FieldType, Schema, SchemaBuilder, SchemaError, is_valid_field_name,
 };

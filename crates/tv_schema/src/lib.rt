@@ -3,6 +3,7 @@
 
 pub mod field_entry;
 pub mod field_type;
+pub mod laws;
 pub mod schema;
 pub mod schema_error;
 mod table;
@@ -11,3 +12,6 @@ pub use field_entry::{FieldEntry, is_valid_field_name};
 pub use field_type::FieldType;
 pub use schema::{Schema, SchemaBuilder};
 pub use schema_error::SchemaError;
+
+#[cfg(test)]
+mod tests;

@@ -1,6 +1,7 @@
 //! Values as finite trees, and the bytes that spell them in a store.
 #![tactic(auto)]
 
+pub mod date_time;
 pub mod field;
 pub mod laws;
 pub mod plain;

@@ -1,0 +1,112 @@
+use crate::field_entry::{FieldEntry, is_valid_field_name};
+use crate::field_type::FieldType;
+use crate::schema::Schema;
+use crate::schema_error::SchemaError;
+use std::alloc::Global;
+use std::test::Fail;
+use tv_options::{
+    BytesOptions, DateOptions, FAST, FacetOptions, INDEXED, IndexRecordOption, IpAddrOptions,
+    JsonObjectOptions, NumericOptions, STORED, STRING, TEXT, TextOptions, Type,
+};
+
+fn name_of(alloc: Global) -> Result<String, SchemaError> {
+    Ok(String::from_str(alloc, "field")?)
+}
+
+fn entries(alloc: Global) -> Result<Vec<FieldEntry>, Fail> {
+    let numbers = NumericOptions::default().set_stored();
+    let mut entries = Vec::new(alloc);
+    entries.push(FieldEntry::new_text(name_of(alloc)?, TEXT | STORED)?)?;
+    entries.push(FieldEntry::new_u64(name_of(alloc)?, numbers | INDEXED)?)?;
+    entries.push(FieldEntry::new_i64(name_of(alloc)?, numbers | FAST)?)?;
+    entries.push(FieldEntry::new_bool(name_of(alloc)?, numbers)?)?;
+    entries.push(FieldEntry::new_date(name_of(alloc)?, DateOptions::from(INDEXED))?)?;
+    entries.push(FieldEntry::new_facet(name_of(alloc)?, FacetOptions::default())?)?;
+    entries.push(FieldEntry::new_bytes(name_of(alloc)?, BytesOptions::from(FAST))?)?;
+    let json = JsonObjectOptions::from(STRING).set_expand_dots_enabled();
+    entries.push(FieldEntry::new_json(name_of(alloc)?, json)?)?;
+    entries.push(FieldEntry::new_ip_addr(name_of(alloc)?, IpAddrOptions::default())?)?;
+    Ok(entries)
+}
+
+#[test]
+fn names(rt: HostRuntime) -> Result<(), Fail> {
+    assert!(rt; is_valid_field_name("シャボン玉"));
+    assert!(rt; !is_valid_field_name("-fieldname"));
+    assert!(rt; !is_valid_field_name(""));
+    let name = String::from_str(rt.alloc(), "-fieldname")?;
+    let refused = FieldEntry::new_text(name, TextOptions::default());
+    assert!(rt; matches!(refused, Err(SchemaError::InvalidName)));
+    Ok(())
+}
+
+#[test]
+fn each_entry_answers_for_its_type(rt: HostRuntime) -> Result<(), Fail> {
+    let entries = entries(rt.alloc())?;
+    let all = Some(IndexRecordOption::WithFreqsAndPositions);
+    let basic = Some(IndexRecordOption::Basic);
+    // of each type: stored, indexed, with field norms, fast, with dots expanded, and what is kept of terms
+    let expected = [
+        (true, true, true, false, false, all),
+        (true, true, true, false, false, basic),
+        (true, false, false, true, false, None),
+        (true, false, false, false, false, None),
+        (false, true, true, false, false, basic),
+        (false, true, false, true, false, basic),
+        (false, false, false, true, false, None),
+        (false, true, false, false, true, basic),
+        (false, false, false, false, false, None),
+    ];
+    assert_eq!(rt; entries.len(), expected.len());
+    for ((entry, value_type), wanted) in entries
+        .iter()
+        .zip(Type::iter_values())
+        .zip(expected.iter())
+    {
+        let found = (
+            entry.is_stored(),
+            entry.is_indexed(),
+            entry.has_fieldnorms(),
+            entry.is_fast(),
+            entry.is_expand_dots_enabled(),
+            entry.field_type().index_record_option(),
+        );
+        assert_eq!(rt; found, *wanted);
+        assert_eq!(rt; entry.name(), "field");
+        assert_eq!(rt; entry.field_type().value_type(), value_type);
+        assert_eq!(rt; entry.field_type().is_str(), value_type == Type::Str);
+        assert_eq!(rt; entry.field_type().is_json(), value_type == Type::Json);
+        assert_eq!(rt; entry.field_type().is_date(), value_type == Type::Date);
+        assert_eq!(rt; entry.field_type().is_bytes(), value_type == Type::Bytes);
+        assert_eq!(rt; entry.field_type().is_ip_addr(), value_type == Type::IpAddr);
+    }
+    Ok(())
+}
+
+#[test]
+fn copies_are_equal(rt: HostRuntime) -> Result<(), Fail> {
+    for entry in &entries(rt.alloc())? {
+        let copy = entry.try_clone(rt.alloc())?;
+        assert!(rt; copy == *entry);
+        let copy = entry.field_type().try_clone(rt.alloc())?;
+        assert!(rt; copy == *entry.field_type());
+        let other = FieldType::Bool(NumericOptions::default().set_coerce());
+        assert!(rt; other != *entry.field_type());
+    }
+    Ok(())
+}
+
+#[test]
+fn text_fields_have_the_default_tokenizer(rt: HostRuntime) -> Result<(), Fail> {
+    let mut builder = Schema::builder(rt.alloc());
+    let field = builder.add_text_field("body", TEXT)?;
+    let schema = builder.build()?;
+    let FieldType::Str(options) = schema.get_field_entry(field).field_type() else {
+        return Err(Fail::from("not a field of texts"));
+    };
+    let tokenizer = options
+        .get_indexing_options()
+        .map(|indexing| indexing.tokenizer());
+    assert_eq!(rt; tokenizer, Some("default"));
+    Ok(())
+}
