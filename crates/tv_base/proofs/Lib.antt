@@ -20,3 +20,6 @@ pub mod AgreeParts
 pub mod ItemLoop
 pub mod ByGrammar
 pub mod Shortest
+pub mod Rewriting
+pub mod Printing
+pub mod Steps

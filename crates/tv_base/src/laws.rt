@@ -1,8 +1,11 @@
-//! Laws of the spellings of numbers and texts, each the contract of a function that does nothing.
+//! Laws of the spellings of numbers and texts, and of facets, each the contract of a function that does nothing.
 
-ghost use Rattle.std.specs.Prelude.{ℕ, ◌<◌, ◌≤◌, ◌^◌, List, length, IsUtf8};
+ghost use Rattle.std.specs.Prelude.{◌≡◌, ◌≢◌, ◌↔◌, ℕ, ◌<◌, ◌≤◌, ◌^◌, List, [], ◌∷◌, ◌++◌, length, Some, IsTrue, IsUtf8};
+ghost use Rattle.std.specs.Ordering.{nat_cmp, is_le, is_lt};
+ghost use Rattle.std.specs.Cmp.Lexicographic.{slice_cmp};
 ghost use Rattle.tv_base.specs.Number.{VNum, vnum, Fixed, one_byte, four_bytes, eight_bytes};
 ghost use Rattle.tv_base.specs.Parts.{OneReading, Text, short_sized};
+ghost use Rattle.tv_base.specs.Facet.{parse, printed, Descends};
 
 /// No spelling of a number begins another, and each spells one number.
 pub fn numbers_have_one_reading()
@@ -44,4 +47,19 @@ pub fn short_texts_spell()
 /// No spelling of a text is shorter.
 pub fn short_texts_are_shortest()
     ensures { (text bytes : List ℕ) → Text bytes text → length (short_sized text) ≤ length bytes }
+{}
+
+/// What is printed for a facet is read as that facet.
+pub fn printed_facets_are_read()
+    ensures { (encoded : List ℕ) → parse (printed encoded) ≡ Some encoded }
+{}
+
+/// Below the root are all other facets.
+pub fn all_facets_descend_from_the_root()
+    ensures { (g : List ℕ) → Descends [] g ↔ (g ≢ []) }
+{}
+
+/// Below another facet are those from its text with a U+0000 behind it to before its text with a U+0001 behind it.
+pub fn descendants_are_a_range()
+    ensures { (f g : List ℕ) → f ≢ [] → Descends f g ↔ (IsTrue (is_le (slice_cmp nat_cmp (f ++ 0 ∷ []) g)) × IsTrue (is_lt (slice_cmp nat_cmp g (f ++ 1 ∷ [])))) }
 {}
