@@ -79,6 +79,13 @@ impl Facet {
         })
     }
 
+    // The facet that has this encoded text.
+    pub(crate) fn from_encoded_string(encoded: String) -> Facet
+        ensures { result ≡ string_bytes encoded }
+    {
+        Facet { encoded }
+    }
+
     /// The facet that a text such as `/first/second` names: an unescaped slash separates two steps, and a backslash goes and
     /// keeps the character behind it.
     ///
