@@ -1,10 +1,11 @@
 //! Laws of the spellings of numbers and texts, and of facets, each the contract of a function that does nothing.
 
-ghost use Rattle.std.specs.Prelude.{◌≡◌, ◌≢◌, ◌↔◌, ℕ, ◌<◌, ◌≤◌, ◌^◌, List, [], ◌∷◌, ◌++◌, length, Some, IsTrue, IsUtf8};
+ghost use Rattle.std.specs.Prelude.{◌≡◌, ◌≢◌, ◌↔◌, ℕ, ℤ, FitsSigned, ◌<◌, ◌≤◌, ◌^◌, List, [], ◌∷◌, ◌++◌, length, Some, IsTrue, IsUtf8};
+ghost use Rattle.std.specs.Int.{w64};
 ghost use Rattle.std.specs.Ordering.{nat_cmp, is_le, is_lt};
 ghost use Rattle.std.specs.Cmp.Lexicographic.{slice_cmp};
-ghost use Rattle.tv_base.specs.Number.{VNum, vnum, Fixed, one_byte, four_bytes, eight_bytes};
-ghost use Rattle.tv_base.specs.Parts.{OneReading, Text, short_sized};
+ghost use Rattle.tv_base.specs.Number.{VNum, vnum, Fixed, one_byte, four_bytes, eight_bytes, sixteen_bytes, Signed, signed_bytes, Truth};
+ghost use Rattle.tv_base.specs.Parts.{OneReading, Sized, Text, short_sized};
 ghost use Rattle.tv_base.specs.Facet.{parse, printed, Descends};
 
 /// No spelling of a number begins another, and each spells one number.
@@ -27,11 +28,42 @@ pub fn fixed_numbers_have_one_reading()
     ensures { (k : ℕ) → OneReading (Fixed k) }
 {}
 
-/// Each number that fits has a spelling in one, four and eight bytes.
+/// Each number that fits has a spelling in one, four, eight and sixteen bytes.
 pub fn fixed_numbers_spell()
     ensures one { (n : ℕ) → n < 2 ^ 8 → Fixed 1 (one_byte n) n }
     ensures four { (n : ℕ) → n < 2 ^ 32 → Fixed 4 (four_bytes n) n }
     ensures eight { (n : ℕ) → n < 2 ^ 64 → Fixed 8 (eight_bytes n) n }
+    ensures sixteen { (n : ℕ) → n < 2 ^ 128 → Fixed 16 (sixteen_bytes n) n }
+{}
+
+/// No spelling of a signed number begins another, and each spells one number.
+pub fn signed_numbers_have_one_reading()
+    ensures { OneReading Signed }
+{}
+
+/// Each signed number that fits eight bytes has a spelling.
+pub fn signed_numbers_spell()
+    ensures { (z : ℤ) → FitsSigned w64 z → Signed (signed_bytes z) z }
+{}
+
+/// No spelling of a truth value begins another, and each spells one truth value.
+pub fn truth_values_have_one_reading()
+    ensures { OneReading Truth }
+{}
+
+/// No spelling of bytes behind their length begins another, and each spells one list of bytes.
+pub fn sized_bytes_have_one_reading()
+    ensures { OneReading Sized }
+{}
+
+/// Each list of less than 2^64 bytes has a shortest spelling.
+pub fn short_sized_bytes_spell()
+    ensures { (content : List ℕ) → length content < 2 ^ 64 → Sized (short_sized content) content }
+{}
+
+/// No spelling of bytes behind their length is shorter.
+pub fn short_sized_bytes_are_shortest()
+    ensures { (content bytes : List ℕ) → Sized bytes content → length (short_sized content) ≤ length bytes }
 {}
 
 /// No spelling of a text begins another, and each spells one text.

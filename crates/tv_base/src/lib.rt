@@ -28,4 +28,6 @@ pub use vec_sink::VecSink;
 pub use vint::VInt;
 
 #[cfg(test)]
+mod facet_tests;
+#[cfg(test)]
 mod tests;
