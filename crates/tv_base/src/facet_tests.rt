@@ -4,56 +4,61 @@ use std::alloc::Global;
 use std::hash::{DefaultHasher, Hash, Hasher};
 use std::test::Fail;
 
-// A text, the encoded text of the facet that it names, and what is printed for that.
-const READ: [(&str, &str, &str); 42] = [
-    ("/", "", "/"),
-    ("//", "\0", "//"),
-    ("/a\\", "a", "/a"),
-    ("/a\\/b", "a/b", "/a\\/b"),
-    ("/\\\\", "\\", "/\\\\"),
-    ("/a/b", "a\0b", "/a/b"),
-    ("/a\\b", "ab", "/ab"),
-    ("/☺/foo", "☺\0foo", "/☺/foo"),
-    ("/0", "0", "/0"),
-    ("/b-", "b-", "/b-"),
-    ("/-/x1", "-\0x1", "/-/x1"),
-    ("/b", "b", "/b"),
-    ("/a\\x1", "ax1", "/ax1"),
-    ("/0//", "0\0\0", "/0//"),
-    ("/-é\\/c", "-é/c", "/-é\\/c"),
-    ("/bシaa", "bシaa", "/bシaa"),
-    ("/ ax1/c", " ax1\0c", "/ ax1/c"),
-    ("/\\a ", "a ", "/a "),
-    ("/- c", "- c", "/- c"),
-    ("/c/", "c\0", "/c/"),
-    ("/éax1", "éax1", "/éax1"),
-    ("//bab/", "\0bab\0", "//bab/"),
-    ("/\\éb\\シ", "ébシ", "/ébシ"),
-    ("/\\ x1 \\", " x1 ", "/ x1 "),
-    ("/céé0-", "céé0-", "/céé0-"),
-    ("/x10\\a", "x10a", "/x10a"),
-    ("/c\\/", "c/", "/c\\/"),
-    ("/x1/ab", "x1\0ab", "/x1/ab"),
-    ("/ \\", " ", "/ "),
-    ("/\\シb-/", "シb-\0", "/シb-/"),
-    ("/b/ab ", "b\0ab ", "/b/ab "),
-    ("/シ-\\", "シ-", "/シ-"),
-    ("/aé\\", "aé", "/aé"),
-    ("/00x1/", "00x1\0", "/00x1/"),
-    ("/ab", "ab", "/ab"),
-    ("/ca/c", "ca\0c", "/ca/c"),
-    ("/\\ cx1", " cx1", "/ cx1"),
-    ("/シ\\0シ", "シ0シ", "/シ0シ"),
-    ("/é/ ", "é\0 ", "/é/ "),
-    ("/\\ax1/", "ax1\0", "/ax1/"),
-    ("/ /ab /", " \0ab \0", "/ /ab /"),
-    ("/cx1a-", "cx1a-", "/cx1a-"),
-];
+// In each line a text, the encoded text of the facet that it names, and what is printed for that.
+const READ: &str = "/\t\t/\n\
+//\t\0\t//\n\
+/a\\\ta\t/a\n\
+/a\\/b\ta/b\t/a\\/b\n\
+/\\\\\t\\\t/\\\\\n\
+/a/b\ta\0b\t/a/b\n\
+/a\\b\tab\t/ab\n\
+/☺/foo\t☺\0foo\t/☺/foo\n\
+/0\t0\t/0\n\
+/b-\tb-\t/b-\n\
+/-/x1\t-\0x1\t/-/x1\n\
+/b\tb\t/b\n\
+/a\\x1\tax1\t/ax1\n\
+/0//\t0\0\0\t/0//\n\
+/-é\\/c\t-é/c\t/-é\\/c\n\
+/bシaa\tbシaa\t/bシaa\n\
+/ ax1/c\t ax1\0c\t/ ax1/c\n\
+/\\a \ta \t/a \n\
+/- c\t- c\t/- c\n\
+/c/\tc\0\t/c/\n\
+/éax1\téax1\t/éax1\n\
+//bab/\t\0bab\0\t//bab/\n\
+/\\éb\\シ\tébシ\t/ébシ\n\
+/\\ x1 \\\t x1 \t/ x1 \n\
+/céé0-\tcéé0-\t/céé0-\n\
+/x10\\a\tx10a\t/x10a\n\
+/c\\/\tc/\t/c\\/\n\
+/x1/ab\tx1\0ab\t/x1/ab\n\
+/ \\\t \t/ \n\
+/\\シb-/\tシb-\0\t/シb-/\n\
+/b/ab \tb\0ab \t/b/ab \n\
+/シ-\\\tシ-\t/シ-\n\
+/aé\\\taé\t/aé\n\
+/00x1/\t00x1\0\t/00x1/\n\
+/ab\tab\t/ab\n\
+/ca/c\tca\0c\t/ca/c\n\
+/\\ cx1\t cx1\t/ cx1\n\
+/シ\\0シ\tシ0シ\t/シ0シ\n\
+/é/ \té\0 \t/é/ \n\
+/\\ax1/\tax1\0\t/ax1/\n\
+/ /ab /\t \0ab \0\t/ /ab /\n\
+/cx1a-\tcx1a-\t/cx1a-";
 
-// Texts that name no facet.
-const REFUSED: [&str; 10] = [
-    "x", "", "0 ", " ", "-シx1", "a ", "00シ-", "ac/ab", "0abb ", "a/",
-];
+// In each line a text that names no facet.
+const REFUSED: &str = "x\n\
+\n\
+0 \n\
+\x20\n\
+-シx1\n\
+a \n\
+00シ-\n\
+ac/ab\n\
+0abb \n\
+a/";
 
 fn read(alloc: Global, text: &str) -> Result<Facet, Fail> {
     Ok(Facet::from_text(alloc, text).ok().ok_or("a facet")?)
@@ -81,7 +86,11 @@ fn is_so(alloc: Global, facet: &Facet, encoded: &str, printed: &str) -> Result<b
 #[test]
 fn texts_name_facets(rt: HostRuntime) -> Result<(), Fail> {
     let alloc = rt.alloc();
-    for (text, encoded, printed) in READ.iter() {
+    for line in READ.split('\n') {
+        let mut parts = line.split('\t');
+        let text = parts.next().ok_or("a text")?;
+        let encoded = parts.next().ok_or("an encoded text")?;
+        let printed = parts.next().ok_or("a printed text")?;
         let facet = read(alloc, text)?;
         assert!(rt; is_so(alloc, &facet, encoded, printed)?);
     }
@@ -91,7 +100,7 @@ fn texts_name_facets(rt: HostRuntime) -> Result<(), Fail> {
 #[test]
 fn texts_that_name_no_facet(rt: HostRuntime) -> Result<(), Fail> {
     let alloc = rt.alloc();
-    for text in REFUSED.iter() {
+    for text in REFUSED.split('\n') {
         let copy = String::from_str(alloc, text)?;
         assert_eq!(rt;
             Facet::from_text(alloc, text),
