@@ -2,6 +2,7 @@
 
 pub mod document;
 
+pub use tv_base::{Facet, FacetParseError};
 pub use tv_doc::document::CompactDoc;
 pub use tv_options::{
     BytesOptions, COERCE, CoerceFlag, DATE_TIME_PRECISION_INDEXED, DateOptions, DateTimePrecision,

@@ -1,16 +1,19 @@
 -- Bytes of a known number, and numbers of a fixed width, agree with their grammar.
-use Rattle.std.proofs.Common.{◌≡◌, ℕ, ◌+◌, ◌*◌, ◌<◌, List, [], ◌∷◌, ◌++◌, length, take, drop, Result, Ok, Err, refl, sym, ap, subst, ◌∙◌, arith, inl, inr, take_at, drop_at, length-append, length-take, take-append-drop}
+use Rattle.std.proofs.Common.{◌≡◌, ℕ, ◌+◌, ◌*◌, ◌^◌, ◌<◌, List, [], ◌∷◌, ◌++◌, length, take, drop, Result, Ok, Err, refl, sym, ap, subst, ◌∙◌, arith, inl, inr, take_at, drop_at, length-append, length-take, take-append-drop}
 use Rattle.std.proofs.lemmas.Bool.{cases_lt}
-use Rattle.std.specs.Int.{Width, w32, w64, byte_len, from_le_bytes}
+use Rattle.std.specs.Prelude.{ℤ, FitsSigned}
+use Rattle.std.specs.Int.{Width, w32, w64, w128, byte_len, from_le_bytes, cast_signed, cast_unsigned}
+use Rattle.std.proofs.lemmas.Int.{of_z-to_z, to_z-of_z}
+use mir.ValLaws.{to_z-Fits}
 use Rattle.tv_base.specs.declared.cause.Cause.{Cause}
 use Rattle.tv_base.specs.declared.cause.Cause.TheVariants.{UnexpectedEnd}
 use Rattle.tv_base.specs.Source.{AllBytes}
-use Rattle.tv_base.specs.Number.{Fixed, no_bytes, low_byte}
+use Rattle.tv_base.specs.Number.{Fixed, no_bytes, low_byte, Signed}
 use Rattle.tv_base.specs.PartFault.{BytesFault, bytes_end}
-use Rattle.tv_base.specs.Reading.{bytes_at, more_at, u8_at, number_at}
+use Rattle.tv_base.specs.Reading.{bytes_at, more_at, u8_at, number_at, i64_at}
 use Rattle.tv_base.proofs.Chunks.{short, long}
-use Rattle.tv_base.proofs.Numbers.{length-fixed}
-use Rattle.tv_base.proofs.Widths.{fixed_4, fixed_8, from_4, from_8}
+use Rattle.tv_base.proofs.Numbers.{length-fixed, fixed_fits}
+use Rattle.tv_base.proofs.Widths.{fixed_4, fixed_8, fixed_16, from_4, from_8, from_16}
 use Rattle.tv_base.proofs.SmallBytes.{first_byte, small_at}
 use Rattle.tv_base.proofs.Agrees.{Agrees, agrees_too, made, ok_is, err_is}
 
@@ -98,3 +101,27 @@ u64_agrees = agrees_too (λ bytes. refl)
     (λ bytes n h. (bytes, (length-fixed h, refl), sym (from_8 bytes n h)))
     (λ bytes c small h. h)
     (number_agrees w64)
+
+pub u128_agrees : Agrees (number_at w128) (Fixed 16) (BytesFault 16)
+u128_agrees = agrees_too (λ bytes. refl)
+    (λ bytes n small p. subst (Fixed 16 bytes) (sym (p.2 ∙ ap (from_le_bytes w128) p.1.1)) (fixed_16 bytes p.1.0 (small_at bytes small)))
+    (λ bytes n h. (bytes, (length-fixed h, refl), sym (from_16 bytes n h)))
+    (λ bytes c small h. h)
+    (number_agrees w128)
+
+-- the signed number that has these bits
+signed_to : (bytes : List ℕ) (n : ℕ) (z : ℤ) → Fixed 8 bytes n → z ≡ cast_signed w64 n → Signed bytes z
+signed_to bytes n z h e =
+    let small : n < 2 ^ 64 = fixed_fits h in
+    record {
+      fits = subst (FitsSigned w64) (sym e) (to_z-Fits w64 n (record { fits = small }));
+      spelled = subst (Fixed 8 bytes) (sym (ap (cast_unsigned w64) e ∙ of_z-to_z w64 n small)) h;
+    }
+
+pub i64_agrees : Agrees i64_at Signed (BytesFault 8)
+unfolding i64_at
+i64_agrees = agrees_too (λ bytes. refl)
+    (λ bytes z small p. signed_to bytes p.0 z p.1 p.2)
+    (λ bytes z h. (cast_unsigned w64 z, h.spelled, sym (to_z-of_z w64 z h.fits)))
+    (λ bytes c small h. h)
+    (made (cast_signed w64) u64_agrees)

@@ -16,7 +16,11 @@ pub mod SmallBytes
 pub mod Agrees
 pub mod AgreeWidths
 pub mod AgreeNumbers
+pub mod AgreeTruth
 pub mod AgreeParts
 pub mod ItemLoop
 pub mod ByGrammar
 pub mod Shortest
+pub mod Rewriting
+pub mod Printing
+pub mod Steps

@@ -1,8 +1,10 @@
 -- The shortest spellings are spellings, and no spelling is shorter.
 use Rattle.std.proofs.Common.{◌≡◌, ℕ, ◌%◌, ◌^◌, ◌<◌, ◌≤◌, List, [], ◌∷◌, length, refl, ap, subst, arith, length-append}
-use Rattle.std.specs.Prelude.{IsUtf8}
-use Rattle.tv_base.specs.Number.{Fixed, one_byte, four_bytes, eight_bytes, vnum}
-use Rattle.tv_base.specs.Parts.{Text, short_sized}
+use Rattle.std.specs.Prelude.{ℤ, FitsSigned, IsUtf8}
+use Rattle.std.specs.Int.{w64, cast_unsigned}
+use mir.ValLaws.{of_z_fits}
+use Rattle.tv_base.specs.Number.{Fixed, one_byte, four_bytes, eight_bytes, sixteen_bytes, Signed, signed_bytes, vnum}
+use Rattle.tv_base.specs.Parts.{Sized, Text, short_sized}
 use Rattle.tv_base.proofs.Numbers.{low_bytes_spell, vnum_spells, vnum_shortest}
 
 pub one_byte_spells : (n : ℕ) → n < 2 ^ 8 → Fixed 1 (one_byte n) n
@@ -19,9 +21,22 @@ pub eight_bytes_spell : (n : ℕ) → n < 2 ^ 64 → Fixed 8 (eight_bytes n) n
 unfolding eight_bytes
 eight_bytes_spell n h = low_bytes_spell 8 n (omega arith)
 
+pub sixteen_bytes_spell : (n : ℕ) → n < 2 ^ 128 → Fixed 16 (sixteen_bytes n) n
+unfolding sixteen_bytes
+sixteen_bytes_spell n h = low_bytes_spell 16 n (omega arith)
+
+pub signed_bytes_spell : (z : ℤ) → FitsSigned w64 z → Signed (signed_bytes z) z
+signed_bytes_spell z h = record { fits = h; spelled = eight_bytes_spell (cast_unsigned w64 z) (of_z_fits w64 z h).fits }
+
+pub sized_spells : (content : List ℕ) → length content < 2 ^ 64 → Sized (short_sized content) content
+sized_spells content h = record { size = vnum (length content); joined = refl; number = vnum_spells (length content) h }
+
+pub sized_shortest : (content bytes : List ℕ) → Sized bytes content → length (short_sized content) ≤ length bytes
+sized_shortest content bytes h =
+    omega (arith, length-append (vnum (length content)) content, length-append h.size content, ap length h.joined, vnum_shortest (length content) h.size h.number)
+
 pub text_spells : (text : List ℕ) → IsUtf8 text → length text < 2 ^ 64 → Text (short_sized text) text
-text_spells text utf8 h = record { sized = record { size = vnum (length text); joined = refl; number = vnum_spells (length text) h }; utf8 = utf8 }
+text_spells text utf8 h = record { sized = sized_spells text h; utf8 = utf8 }
 
 pub text_shortest : (text bytes : List ℕ) → Text bytes text → length (short_sized text) ≤ length bytes
-text_shortest text bytes h =
-    omega (arith, length-append (vnum (length text)) text, length-append h.sized.size text, ap length h.sized.joined, vnum_shortest (length text) h.sized.size h.sized.number)
+text_shortest text bytes h = sized_shortest text bytes h.sized

@@ -46,3 +46,9 @@ agree_signed s t = record {
       let r = (agree_fixed 8 (cast_unsigned w64 s) (cast_unsigned w64 t)).agree a b x y p.spelled q.spelled e in
       (r.0, same_signed s t p.fits q.fits r.1);
 }
+
+pub one_signed : OneReading Signed
+one_signed = one_from Signed agree_signed
+
+pub one_sized : OneReading Sized
+one_sized = one_from Sized agree_sized

@@ -7,3 +7,5 @@ pub mod Stop
 pub mod Take
 pub mod Reading
 pub mod ReadsAs
+pub mod Escapes
+pub mod Facet

@@ -1,5 +1,5 @@
 -- Numbers of variable length: base 128, least group first. The last byte has its high bit set, the others don't.
-use Rattle.std.specs.Prelude.{ℕ, ℤ, FitsSigned, zero, suc, ◌+◌, ◌*◌, ◌/◌, ◌%◌, ◌^◌, ◌<◌, ◌≤◌, List, [], ◌∷◌, length, nat_lt, if◌then◌else◌}
+use Rattle.std.specs.Prelude.{◌≡◌, ℕ, ℤ, Bool, true, false, FitsSigned, zero, suc, ◌+◌, ◌*◌, ◌/◌, ◌%◌, ◌^◌, ◌<◌, ◌≤◌, List, [], ◌∷◌, length, nat_lt, if◌then◌else◌}
 use Rattle.std.specs.Int.{w64, cast_unsigned}
 
 -- the groups of a number
@@ -49,3 +49,15 @@ sixteen_bytes n = low_bytes 16 n
 pub record Signed (bytes : List ℕ) (z : ℤ) : Type 0 where
   pub fits : FitsSigned w64 z
   pub spelled : Fixed 8 bytes (cast_unsigned w64 z)
+
+-- and as it is written
+abbrev pub signed_bytes : ℤ → List ℕ
+signed_bytes z = eight_bytes (cast_unsigned w64 z)
+
+-- the byte of a truth value
+abbrev pub truth_byte : Bool → List ℕ
+truth_byte false = 0 ∷ []
+truth_byte true = 1 ∷ []
+
+abbrev pub Truth : List ℕ → Bool → Type 0
+Truth bytes truth = bytes ≡ truth_byte truth

@@ -1,8 +1,8 @@
 -- What is wrong with bytes of which no front spells a part: the first parts are spelled, and the next is at fault.
-use Rattle.std.specs.Prelude.{◌≡◌, ◌≢◌, ℕ, zero, suc, ◌<◌, ◌⊎◌, List, ◌∷◌, ◌++◌, length, IsUtf8}
+use Rattle.std.specs.Prelude.{◌≡◌, ◌≢◌, ℕ, zero, suc, ◌<◌, ◌⊎◌, List, [], ◌∷◌, ◌++◌, length, IsUtf8}
 use Rattle.std.specs.List.{AllByRecursion}
 use Rattle.tv_base.specs.declared.cause.Cause.{Cause}
-use Rattle.tv_base.specs.declared.cause.Cause.TheVariants.{UnexpectedEnd, BadNumber, NotUtf8}
+use Rattle.tv_base.specs.declared.cause.Cause.TheVariants.{UnexpectedEnd, BadNumber, BadBool, NotUtf8}
 use Rattle.tv_base.specs.Number.{VNum}
 use Rattle.tv_base.specs.Parts.{Then, Sized}
 
@@ -28,6 +28,11 @@ pub data NumberFault (whole : List ℕ) : Cause → Type 0 where
 -- of so many bytes: there are fewer
 pub data BytesFault (n : ℕ) (whole : List ℕ) : Cause → Type 0 where
   bytes_end : length whole < n → BytesFault n whole UnexpectedEnd
+
+-- of a truth value: there is no byte, or it is neither 0 nor 1
+pub data TruthFault (whole : List ℕ) : Cause → Type 0 where
+  truth_ends : whole ≡ [] → TruthFault whole UnexpectedEnd
+  truth_large : (b : ℕ) (rest : List ℕ) → whole ≡ b ∷ rest → 1 < b → TruthFault whole BadBool
 
 -- of bytes behind their length
 abbrev pub SizedFault : List ℕ → Cause → Type 0

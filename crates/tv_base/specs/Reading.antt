@@ -1,10 +1,10 @@
 -- Reading from left to right, with the first fault that is met: a value and the bytes after it.
-use Rattle.std.specs.Prelude.{ℕ, ◌+◌, ◌*◌, ◌%◌, zero, suc, List, [], ◌∷◌, ◌++◌, length, take, drop, Result, Ok, Err, nat_lt, if◌then◌else◌}
-use Rattle.std.specs.Int.{Width, w32, w64, byte_len, from_le_bytes}
+use Rattle.std.specs.Prelude.{ℕ, ℤ, ◌+◌, ◌*◌, ◌%◌, ◌==◌, Bool, zero, suc, List, [], ◌∷◌, ◌++◌, length, take, drop, Result, Ok, Err, nat_lt, if◌then◌else◌}
+use Rattle.std.specs.Int.{Width, w32, w64, w128, byte_len, from_le_bytes, cast_signed}
 use Rattle.std.specs.Str.{is_utf8}
 use Rattle.tv_base.specs.Stop.{◌>>=◌, lifted}
 use Rattle.tv_base.specs.declared.cause.Cause.{Cause}
-use Rattle.tv_base.specs.declared.cause.Cause.TheVariants.{UnexpectedEnd, BadNumber, NotUtf8}
+use Rattle.tv_base.specs.declared.cause.Cause.TheVariants.{UnexpectedEnd, BadNumber, BadBool, NotUtf8}
 
 -- the next n bytes
 unfoldable pub bytes_at : ℕ → List ℕ → Result (List ℕ × List ℕ) Cause
@@ -30,6 +30,22 @@ u32_at bytes = number_at w32 bytes
 
 abbrev pub u64_at : List ℕ → Result (ℕ × List ℕ) Cause
 u64_at bytes = number_at w64 bytes
+
+abbrev pub u128_at : List ℕ → Result (ℕ × List ℕ) Cause
+u128_at bytes = number_at w128 bytes
+
+unfoldable pub i64_at : List ℕ → Result (ℤ × List ℕ) Cause
+i64_at bytes = do
+  number ← u64_at bytes
+  Ok (cast_signed w64 number.0, number.1)
+
+-- ---- truth values
+
+-- one byte, 0 or 1
+unfoldable pub truth_at : List ℕ → Result (Bool × List ℕ) Cause
+truth_at bytes = do
+  byte ← u8_at bytes
+  if nat_lt 1 byte.0 then Err BadBool else Ok (byte.0 == 1, byte.1)
 
 -- ---- numbers of variable length
 

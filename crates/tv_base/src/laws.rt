@@ -1,8 +1,12 @@
-//! Laws of the spellings of numbers and texts, each the contract of a function that does nothing.
+//! Laws of the spellings of numbers and texts, and of facets, each the contract of a function that does nothing.
 
-ghost use Rattle.std.specs.Prelude.{ℕ, ◌<◌, ◌≤◌, ◌^◌, List, length, IsUtf8};
-ghost use Rattle.tv_base.specs.Number.{VNum, vnum, Fixed, one_byte, four_bytes, eight_bytes};
-ghost use Rattle.tv_base.specs.Parts.{OneReading, Text, short_sized};
+ghost use Rattle.std.specs.Prelude.{◌≡◌, ◌≢◌, ◌↔◌, ℕ, ℤ, FitsSigned, ◌<◌, ◌≤◌, ◌^◌, List, [], ◌∷◌, ◌++◌, length, Some, IsTrue, IsUtf8};
+ghost use Rattle.std.specs.Int.{w64};
+ghost use Rattle.std.specs.Ordering.{nat_cmp, is_le, is_lt};
+ghost use Rattle.std.specs.Cmp.Lexicographic.{slice_cmp};
+ghost use Rattle.tv_base.specs.Number.{VNum, vnum, Fixed, one_byte, four_bytes, eight_bytes, sixteen_bytes, Signed, signed_bytes, Truth};
+ghost use Rattle.tv_base.specs.Parts.{OneReading, Sized, Text, short_sized};
+ghost use Rattle.tv_base.specs.Facet.{parse, printed, Descends};
 
 /// No spelling of a number begins another, and each spells one number.
 pub fn numbers_have_one_reading()
@@ -24,11 +28,42 @@ pub fn fixed_numbers_have_one_reading()
     ensures { (k : ℕ) → OneReading (Fixed k) }
 {}
 
-/// Each number that fits has a spelling in one, four and eight bytes.
+/// Each number that fits has a spelling in one, four, eight and sixteen bytes.
 pub fn fixed_numbers_spell()
     ensures one { (n : ℕ) → n < 2 ^ 8 → Fixed 1 (one_byte n) n }
     ensures four { (n : ℕ) → n < 2 ^ 32 → Fixed 4 (four_bytes n) n }
     ensures eight { (n : ℕ) → n < 2 ^ 64 → Fixed 8 (eight_bytes n) n }
+    ensures sixteen { (n : ℕ) → n < 2 ^ 128 → Fixed 16 (sixteen_bytes n) n }
+{}
+
+/// No spelling of a signed number begins another, and each spells one number.
+pub fn signed_numbers_have_one_reading()
+    ensures { OneReading Signed }
+{}
+
+/// Each signed number that fits eight bytes has a spelling.
+pub fn signed_numbers_spell()
+    ensures { (z : ℤ) → FitsSigned w64 z → Signed (signed_bytes z) z }
+{}
+
+/// No spelling of a truth value begins another, and each spells one truth value.
+pub fn truth_values_have_one_reading()
+    ensures { OneReading Truth }
+{}
+
+/// No spelling of bytes behind their length begins another, and each spells one list of bytes.
+pub fn sized_bytes_have_one_reading()
+    ensures { OneReading Sized }
+{}
+
+/// Each list of less than 2^64 bytes has a shortest spelling.
+pub fn short_sized_bytes_spell()
+    ensures { (content : List ℕ) → length content < 2 ^ 64 → Sized (short_sized content) content }
+{}
+
+/// No spelling of bytes behind their length is shorter.
+pub fn short_sized_bytes_are_shortest()
+    ensures { (content bytes : List ℕ) → Sized bytes content → length (short_sized content) ≤ length bytes }
 {}
 
 /// No spelling of a text begins another, and each spells one text.
@@ -44,4 +79,19 @@ pub fn short_texts_spell()
 /// No spelling of a text is shorter.
 pub fn short_texts_are_shortest()
     ensures { (text bytes : List ℕ) → Text bytes text → length (short_sized text) ≤ length bytes }
+{}
+
+/// What is printed for a facet is read as that facet.
+pub fn printed_facets_are_read()
+    ensures { (encoded : List ℕ) → parse (printed encoded) ≡ Some encoded }
+{}
+
+/// Below the root are all other facets.
+pub fn all_facets_descend_from_the_root()
+    ensures { (g : List ℕ) → Descends [] g ↔ (g ≢ []) }
+{}
+
+/// Below another facet are those from its text with a U+0000 behind it to before its text with a U+0001 behind it.
+pub fn descendants_are_a_range()
+    ensures { (f g : List ℕ) → f ≢ [] → Descends f g ↔ (IsTrue (is_le (slice_cmp nat_cmp (f ++ 0 ∷ []) g)) × IsTrue (is_lt (slice_cmp nat_cmp g (f ++ 1 ∷ [])))) }
 {}

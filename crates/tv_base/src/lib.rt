@@ -2,6 +2,9 @@
 #![tactic(auto)]
 
 pub mod cause;
+mod escapes;
+pub mod facet;
+pub mod facet_parse_error;
 pub mod laws;
 pub mod read_error;
 pub mod serializable;
@@ -14,6 +17,8 @@ pub mod vint;
 pub mod write;
 
 pub use cause::Cause;
+pub use facet::{FACET_SEP_BYTE, FACET_SEP_CHAR, Facet};
+pub use facet_parse_error::FacetParseError;
 pub use read_error::ReadError;
 pub use serializable::BinarySerializable;
 pub use sink::ByteSink;
@@ -22,5 +27,7 @@ pub use source::ByteSource;
 pub use vec_sink::VecSink;
 pub use vint::VInt;
 
+#[cfg(test)]
+mod facet_tests;
 #[cfg(test)]
 mod tests;

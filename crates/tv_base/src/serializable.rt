@@ -1,22 +1,29 @@
 //! Values that are written and read by a grammar of their own.
 
-ghost use Rattle.std.specs.Prelude.{◌≡◌, ℕ, List, IsErrOf, string_bytes};
+ghost use Rattle.std.specs.Prelude.{◌≡◌, ℕ, ℤ, Bool, List, IsErrOf, string_bytes};
 ghost use Rattle.tv_base.specs.declared.cause.Cause.{Cause};
 ghost use Rattle.tv_base.specs.declared.read_error.ReadError.TheVariants.{Memory};
-ghost use Rattle.tv_base.specs.Number.{VNum, vnum, Fixed, one_byte, four_bytes, eight_bytes};
-ghost use Rattle.tv_base.specs.Parts.{Text, short_sized};
-ghost use Rattle.tv_base.specs.PartFault.{NumberFault, BytesFault, TextFault};
+ghost use Rattle.tv_base.specs.Number.{VNum, vnum, Fixed, one_byte, four_bytes, eight_bytes, sixteen_bytes, Signed, signed_bytes, Truth, truth_byte};
+ghost use Rattle.tv_base.specs.Parts.{Sized, Text, short_sized};
+ghost use Rattle.tv_base.specs.PartFault.{NumberFault, BytesFault, TruthFault, SizedFault, TextFault};
 ghost use Rattle.tv_base.specs.ReadsAs.{ReadsAs};
 ghost use Rattle.tv_base.specs.Reading.{vint_at};
 ghost use Rattle.tv_base.specs.Sink.{Writes};
 ghost use Rattle.tv_base.specs.Take.{TakesBy};
 
+use crate::facet::Facet;
 use crate::read_error::ReadError;
 use crate::sink::ByteSink;
 use crate::source::ByteSource;
-use crate::take::{take_string, take_u8, take_u32, take_u64, take_vint};
+use crate::take::{
+    take_bool, take_bytes, take_facet, take_i64, take_string, take_u8, take_u32, take_u64,
+    take_u128, take_vint,
+};
 use crate::vint::VInt;
-use crate::write::{write_text, write_u8, write_u32, write_u64, write_vint};
+use crate::write::{
+    write_bool, write_i64, write_sized, write_text, write_u8, write_u32, write_u64, write_u128,
+    write_vint,
+};
 use std::alloc::Global;
 use std::io;
 
@@ -171,5 +178,119 @@ impl BinarySerializable for String {
     fn deserialize<S: ByteSource>(alloc: Global, source: &mut S) -> Result<String, ReadError> {
         let mut count = 0;
         take_string(alloc, source, &mut count)
+    }
+}
+
+impl BinarySerializable for u128 {
+    ghost Seen = { ℕ };
+
+    ghost view = { λ n. n };
+
+    ghost shortest = { sixteen_bytes };
+
+    ghost spells = { Fixed 16 };
+
+    ghost is_fault = { BytesFault 16 };
+
+    fn serialize<K: ByteSink>(&self, sink: &mut K) -> Result<(), io::ErrorKind> {
+        write_u128(sink, *self)
+    }
+
+    fn deserialize<S: ByteSource>(alloc: Global, source: &mut S) -> Result<u128, ReadError>
+        ensures reads { ReadsAs S.tells S.left S.faults source.old source.new (λ n. n) result (Fixed 16) (BytesFault 16) }
+        ensures spares { ¬ IsErrOf result Memory }
+    {
+        let mut count = 0;
+        take_u128(source, &mut count)
+    }
+}
+
+impl BinarySerializable for i64 {
+    ghost Seen = { ℤ };
+
+    ghost view = { λ n. n };
+
+    ghost shortest = { signed_bytes };
+
+    ghost spells = { Signed };
+
+    ghost is_fault = { BytesFault 8 };
+
+    fn serialize<K: ByteSink>(&self, sink: &mut K) -> Result<(), io::ErrorKind> {
+        write_i64(sink, *self)
+    }
+
+    fn deserialize<S: ByteSource>(alloc: Global, source: &mut S) -> Result<i64, ReadError>
+        ensures reads { ReadsAs S.tells S.left S.faults source.old source.new (λ n. n) result Signed (BytesFault 8) }
+        ensures spares { ¬ IsErrOf result Memory }
+    {
+        let mut count = 0;
+        take_i64(source, &mut count)
+    }
+}
+
+impl BinarySerializable for bool {
+    ghost Seen = { Bool };
+
+    ghost view = { λ truth. truth };
+
+    ghost shortest = { truth_byte };
+
+    ghost spells = { Truth };
+
+    ghost is_fault = { TruthFault };
+
+    fn serialize<K: ByteSink>(&self, sink: &mut K) -> Result<(), io::ErrorKind> {
+        write_bool(sink, *self)
+    }
+
+    fn deserialize<S: ByteSource>(alloc: Global, source: &mut S) -> Result<bool, ReadError>
+        ensures reads { ReadsAs S.tells S.left S.faults source.old source.new (λ truth. truth) result Truth TruthFault }
+        ensures spares { ¬ IsErrOf result Memory }
+    {
+        let mut count = 0;
+        take_bool(source, &mut count)
+    }
+}
+
+impl BinarySerializable for Vec<u8> {
+    ghost Seen = { List ℕ };
+
+    ghost view = { λ bytes. bytes.items };
+
+    ghost shortest = { short_sized };
+
+    ghost spells = { Sized };
+
+    ghost is_fault = { SizedFault };
+
+    fn serialize<K: ByteSink>(&self, sink: &mut K) -> Result<(), io::ErrorKind> {
+        write_sized(sink, self.as_slice())
+    }
+
+    fn deserialize<S: ByteSource>(alloc: Global, source: &mut S) -> Result<Vec<u8>, ReadError> {
+        let mut count = 0;
+        take_bytes(alloc, source, &mut count)
+    }
+}
+
+impl BinarySerializable for Facet {
+    ghost Seen = { List ℕ };
+
+    ghost view = { λ facet. facet };
+
+    ghost shortest = { short_sized };
+
+    ghost spells = { Text };
+
+    ghost is_fault = { TextFault };
+
+    fn serialize<K: ByteSink>(&self, sink: &mut K) -> Result<(), io::ErrorKind> {
+        write_text(sink, self.encoded_str())
+    }
+
+    fn deserialize<S: ByteSource>(alloc: Global, source: &mut S) -> Result<Facet, ReadError> {
+        let mut count = 0;
+        take_facet(alloc, source, &mut count)
     }
 }

@@ -7,12 +7,13 @@
 ghost use Rattle.std.specs.Prelude.{◌≡◌, ◌⊎◌, ◌≤◌, ◌+◌, ◌-◌, ◌^◌, [], length, true, false, IfOk, IfErr, IsErrOf, OnOk, OnErr, string_bytes};
 ghost use Rattle.std.specs.Str.{is_utf8};
 ghost use Rattle.tv_base.specs.declared.cause.Cause.{Cause};
-ghost use Rattle.tv_base.specs.declared.cause.Cause.TheVariants.{UnexpectedEnd, BadNumber, NotUtf8, TooLong};
+ghost use Rattle.tv_base.specs.declared.cause.Cause.TheVariants.{UnexpectedEnd, BadNumber, BadBool, NotUtf8, TooLong};
 ghost use Rattle.tv_base.specs.declared.read_error.ReadError.TheVariants.{Corrupted, Memory};
 ghost use Rattle.tv_base.specs.Take.{TakesBy};
-ghost use Rattle.tv_base.specs.Reading.{bytes_at, more_at, u8_at, u32_at, u64_at, vint_at, sized_at, text_at};
+ghost use Rattle.tv_base.specs.Reading.{bytes_at, more_at, u8_at, u32_at, u64_at, u128_at, i64_at, truth_at, vint_at, sized_at, text_at};
 
 use crate::cause::Cause;
+use crate::facet::Facet;
 use crate::read_error::ReadError;
 use crate::source::ByteSource;
 use std::alloc::Global;
@@ -85,6 +86,49 @@ pub fn take_u64<S: ByteSource>(source: &mut S, count: &mut u64) -> Result<u64, R
     let mut bytes = [0; 8];
     take(source, count, &mut bytes)?;
     Ok(u64::from_le_bytes(bytes))
+}
+
+/// Takes a number in sixteen bytes, the lowest first. Errors: those of [`take`].
+#[tactic(auto, unfolding(crate::specs::Reading::number_at))]
+pub fn take_u128<S: ByteSource>(source: &mut S, count: &mut u64) -> Result<u128, ReadError>
+    ensures takes { TakesBy S.tells S.left S.faults source.old count.old source.new count.new (λ x. x) result u128_at }
+    ensures counted { OnOk result (count.new ≡ count.old + 16) }
+    ensures too_long { IsErrOf result (Corrupted TooLong) → count.new ≡ 2 ^ 64 - 1 }
+    ensures spares { ¬ IsErrOf result Memory }
+{
+    let mut bytes = [0; 16];
+    take(source, count, &mut bytes)?;
+    Ok(u128::from_le_bytes(bytes))
+}
+
+/// Takes a signed number in eight bytes, the lowest first, in two's complement. Errors: those of [`take`].
+#[tactic(auto, unfolding(crate::specs::Reading::i64_at))]
+pub fn take_i64<S: ByteSource>(source: &mut S, count: &mut u64) -> Result<i64, ReadError>
+    ensures takes { TakesBy S.tells S.left S.faults source.old count.old source.new count.new (λ x. x) result i64_at }
+    ensures counted { OnOk result (count.new ≡ count.old + 8) }
+    ensures too_long { IsErrOf result (Corrupted TooLong) → count.new ≡ 2 ^ 64 - 1 }
+    ensures spares { ¬ IsErrOf result Memory }
+{
+    let number = take_u64(source, count)?;
+    Ok(number.cast_signed())
+}
+
+/// Takes a truth value: one byte, 0 or 1.
+///
+/// Errors: those of [`take`], and `Corrupted(BadBool)` where the byte is neither.
+#[tactic(auto, unfolding(crate::specs::Reading::truth_at))]
+pub fn take_bool<S: ByteSource>(source: &mut S, count: &mut u64) -> Result<bool, ReadError>
+    ensures takes { TakesBy S.tells S.left S.faults source.old count.old source.new count.new (λ x. x) result truth_at }
+    ensures counted { OnOk result (count.new ≡ count.old + 1) }
+    ensures too_long { IsErrOf result (Corrupted TooLong) → count.new ≡ 2 ^ 64 - 1 }
+    ensures other { IsErrOf result (Corrupted BadBool) → count.new ≡ count.old + 1 }
+    ensures spares { ¬ IsErrOf result Memory }
+{
+    match take_u8(source, count)? {
+        0 => Ok(false),
+        1 => Ok(true),
+        _ => Err(ReadError::Corrupted(Cause::BadBool)),
+    }
 }
 
 /// Takes `more` bytes, at most 4096, and puts them behind those that are there.
@@ -176,6 +220,20 @@ pub fn take_sized<S: ByteSource>(
     take_pieces(source, count, bytes, len)
 }
 
+/// Takes bytes behind their length. Room is made only as they come. Errors: those of [`take_sized`].
+pub fn take_bytes<S: ByteSource>(
+    alloc: Global,
+    source: &mut S,
+    count: &mut u64,
+) -> Result<Vec<u8>, ReadError>
+    ensures takes { TakesBy S.tells S.left S.faults source.old count.old source.new count.new (λ bytes. bytes.items) result sized_at }
+    ensures too_long { IsErrOf result (Corrupted TooLong) → count.new ≡ 2 ^ 64 - 1 }
+{
+    let mut bytes = Vec::new(alloc);
+    take_sized(source, count, &mut bytes)?;
+    Ok(bytes)
+}
+
 /// Takes a text behind its length in bytes, and puts it in place of the one that is there, in the same room where that
 /// suffices. More room is made only as the bytes come.
 ///
@@ -209,6 +267,19 @@ pub fn take_string<S: ByteSource>(
     let mut text = String::new(alloc);
     take_text(alloc, source, count, &mut text)?;
     Ok(text)
+}
+
+/// Takes a facet: its encoded text, behind its length in bytes. Errors: those of [`take_text`].
+pub fn take_facet<S: ByteSource>(
+    alloc: Global,
+    source: &mut S,
+    count: &mut u64,
+) -> Result<Facet, ReadError>
+    ensures takes { TakesBy S.tells S.left S.faults source.old count.old source.new count.new (λ facet. facet) result text_at }
+    ensures too_long { IsErrOf result (Corrupted TooLong) → count.new ≡ 2 ^ 64 - 1 }
+{
+    let encoded = take_string(alloc, source, count)?;
+    Ok(Facet::from_encoded_string(encoded))
 }
 
 // The text of these bytes.

@@ -8,7 +8,7 @@ use crate::write::{
     write_all, write_sized, write_text, write_u8, write_u32, write_u64, write_vint,
 };
 use crate::{
-    BinarySerializable, ByteSink, ByteSource, Cause, ReadError, SliceSource, VInt, VecSink,
+    BinarySerializable, ByteSink, ByteSource, Cause, Facet, ReadError, SliceSource, VInt, VecSink,
 };
 use std::alloc::Global;
 use std::io;
@@ -16,7 +16,7 @@ use std::test::Fail;
 
 // Gives one byte at a time, and then fails at the first of the last `kept` bytes.
 #[derive(Drop)]
-struct DripSource<'a> {
+pub(crate) struct DripSource<'a> {
     rest: &'a [u8],
     kept: usize,
     faults: u64,
@@ -24,7 +24,7 @@ struct DripSource<'a> {
 }
 
 impl<'a> DripSource<'a> {
-    fn new(bytes: &'a [u8]) -> DripSource<'a> {
+    pub(crate) fn new(bytes: &'a [u8]) -> DripSource<'a> {
         DripSource::failing(bytes, 0)
     }
 
@@ -298,4 +298,57 @@ fn serializable_values(rt: HostRuntime) -> Result<(), Fail> {
     assert_eq!(rt; back.as_str(), "ChillFish8");
     assert_eq!(rt; sink.as_slice(), &CHILL_FISH[..11]);
     Ok(())
+}
+
+#[test]
+fn other_serializable_values(rt: HostRuntime) -> Result<(), Fail> {
+    let alloc = rt.alloc();
+    let mut sink = VecSink::new(alloc);
+    assert_eq!(rt; there_and_back(alloc, &-2i64, &mut sink), Ok(-2));
+    assert_eq!(rt;
+        sink.as_slice(),
+        [0xfe, 0xff, 0xff, 0xff, 0xff, 0xff, 0xff, 0xff].as_slice()
+    );
+    let mut sink = VecSink::new(alloc);
+    assert_eq!(rt; there_and_back(alloc, &i64::MIN, &mut sink), Ok(i64::MIN));
+    assert_eq!(rt; sink.as_slice(), [0, 0, 0, 0, 0, 0, 0, 0x80].as_slice());
+    let mut sink = VecSink::new(alloc);
+    assert_eq!(rt; there_and_back(alloc, &20u128, &mut sink), Ok(20));
+    assert_eq!(rt;
+        sink.as_slice(),
+        [0x14, 0, 0, 0, 0, 0, 0, 0, 0, 0, 0, 0, 0, 0, 0, 0].as_slice()
+    );
+    let mut sink = VecSink::new(alloc);
+    assert_eq!(rt; there_and_back(alloc, &false, &mut sink), Ok(false));
+    assert_eq!(rt;
+        there_and_back(alloc, &true, &mut VecSink::new(alloc)),
+        Ok(true)
+    );
+    assert_eq!(rt; true.serialize(&mut sink), Ok(()));
+    assert_eq!(rt; sink.as_slice(), [0, 1].as_slice());
+    let mut sink = VecSink::new(alloc);
+    let bytes = vec![in alloc; 0x41, 0xff]?;
+    assert_eq!(rt; there_and_back(alloc, &bytes, &mut sink), Ok(bytes));
+    assert_eq!(rt; sink.as_slice(), [0x82, 0x41, 0xff].as_slice());
+    let mut sink = VecSink::new(alloc);
+    let facet = Facet::from_path(alloc, &["a", "b"])?;
+    assert_eq!(rt; there_and_back(alloc, &facet, &mut sink), Ok(facet));
+    assert_eq!(rt; sink.as_slice(), [0x83, b'a', 0, b'b'].as_slice());
+    Ok(())
+}
+
+#[test]
+fn truth_values(rt: HostRuntime) {
+    let alloc = rt.alloc();
+    let mut source = DripSource::new(&[1, 0, 2]);
+    assert_eq!(rt; bool::deserialize(alloc, &mut source), Ok(true));
+    assert_eq!(rt; bool::deserialize(alloc, &mut source), Ok(false));
+    assert_eq!(rt;
+        bool::deserialize(alloc, &mut source),
+        Err(ReadError::Corrupted(Cause::BadBool))
+    );
+    assert_eq!(rt;
+        bool::deserialize(alloc, &mut source),
+        Err(ReadError::Corrupted(Cause::UnexpectedEnd))
+    );
 }

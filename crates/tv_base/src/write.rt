@@ -4,7 +4,7 @@
 //! to be written.
 
 ghost use Rattle.std.specs.Prelude.{◌≡◌};
-ghost use Rattle.tv_base.specs.Number.{vnum, one_byte, four_bytes, eight_bytes};
+ghost use Rattle.tv_base.specs.Number.{vnum, one_byte, four_bytes, eight_bytes, sixteen_bytes, signed_bytes, truth_byte};
 ghost use Rattle.tv_base.specs.Parts.{short_sized};
 ghost use Rattle.tv_base.specs.Sink.{Writes};
 
@@ -48,6 +48,34 @@ pub fn write_u64<K: ByteSink>(sink: &mut K, number: u64) -> Result<(), io::Error
 {
     let eight = number.to_le_bytes();
     write_all(sink, &eight)
+}
+
+/// Writes a number in sixteen bytes, the lowest first.
+#[tactic(auto, using(crate::proofs::Widths::sixteen_bytes_is))]
+pub fn write_u128<K: ByteSink>(sink: &mut K, number: u128) -> Result<(), io::ErrorKind>
+    ensures { Writes K.tells K.held K.faults sink.old sink.new result (sixteen_bytes number) }
+{
+    let sixteen = number.to_le_bytes();
+    write_all(sink, &sixteen)
+}
+
+/// Writes a signed number in eight bytes, the lowest first, in two's complement.
+pub fn write_i64<K: ByteSink>(sink: &mut K, number: i64) -> Result<(), io::ErrorKind>
+    ensures { Writes K.tells K.held K.faults sink.old sink.new result (signed_bytes number) }
+{
+    write_u64(sink, number.cast_unsigned())
+}
+
+/// Writes a truth value in one byte: 0 or 1.
+#[tactic(auto, unfolding(crate::specs::Number::one_byte))]
+pub fn write_bool<K: ByteSink>(sink: &mut K, truth: bool) -> Result<(), io::ErrorKind>
+    ensures { Writes K.tells K.held K.faults sink.old sink.new result (truth_byte truth) }
+{
+    if truth {
+        write_u8(sink, 1)
+    } else {
+        write_u8(sink, 0)
+    }
 }
 
 /// Writes the shortest spelling of a number.

@@ -1,0 +1,8 @@
+use Rattle.tv_base.proofs.ByGrammar.{by_grammar}
+use Rattle.tv_base.proofs.AgreeParts.{sized_agrees}
+use Rattle.tv_base.proofs.serializable.VecU8BinarySerializable.deserialize.Goals as goal
+
+pub returns : goal.returns
+returns g c =
+    let source = g.S.ByteSource in
+    by_grammar source.tells source.left source.faults g.met.S.ByteSource.are_bytes _ _ _ _ _ sized_agrees c.take_bytes.ensures.takes
