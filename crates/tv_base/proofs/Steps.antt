@@ -1,6 +1,7 @@
 -- Steps of facets, and the order of their bytes.
 use Rattle.std.proofs.Common.{◌≡◌, ◌≢◌, ◌↔◌, ℕ, ◌+◌, ◌<◌, Bor, map, take, get_or, length, Bool, true, false, cond, List, [], ◌∷◌, ◌++◌, refl, sym, ◌∙◌, ap, arith, eqb, append_assoc, IsTrue}
-use Rattle.std.specs.List.{onto_first, join_with_byte}
+use borrow.Author.Tests.{ne_eqb}
+use Rattle.std.specs.List.{AllByRecursion, onto_first, join_with_byte}
 use Rattle.std.specs.Ordering.{nat_cmp, is_le, is_lt, ordering_then}
 use Rattle.std.specs.declared.cmp.Ordering.{Ordering}
 use Rattle.std.specs.declared.cmp.Ordering.TheVariants.{Equal, Greater}
@@ -9,7 +10,7 @@ use Rattle.std.proofs.lemmas.List.Splits.{join_with_byte-slice_split}
 use Rattle.std.proofs.lemmas.List.{append_cancel_left, map-append, take_more}
 use Rattle.std.proofs.lemmas.Cmp.{ranked, by_ranked}
 use Rattle.std.proofs.lemmas.Bool.Decides.{nat_tests}
-use Rattle.tv_base.specs.Facet.{path, steps, Descends}
+use Rattle.tv_base.specs.Facet.{path, steps, IsStep, Descends}
 
 onto_first-not_nil : (x : ℕ) (parts : List (List ℕ)) → onto_first x parts ≢ []
 onto_first-not_nil x [] e = cc
@@ -162,3 +163,14 @@ joined-more first others i d h =
     let now = λ (step : Bor (List ℕ)). step.now in
     ap (λ l. join_with_byte 0 (first ∷ l)) (ap (map now) (take_more others i d h) ∙ map-append now (take i others) (get_or others i d ∷ []))
     ∙ join-append (first ∷ map now (take i others)) ((get_or others i d).now ∷ []) (λ e. cc) (λ e. cc)
+
+path-one : (text : List ℕ) → IsStep text → path text ≡ text ∷ []
+path-one [] h = refl
+path-one (b ∷ text) h = ap (λ c. cond c ([] ∷ path text) (onto_first b (path text))) (ne_eqb b 0 h.0) ∙ ap (onto_first b) (path-one text h.1)
+
+-- steps that are joined are split again
+pub path-joined : (texts : List (List ℕ)) → AllByRecursion IsStep texts → texts ≢ [] → path (join_with_byte 0 texts) ≡ texts
+path-joined [] h some = absurd (some refl)
+path-joined (text ∷ []) h some = path-one text h.0
+path-joined (text ∷ other ∷ texts) h some =
+    path-append text (join_with_byte 0 (other ∷ texts)) ∙ (λ i. path-one text h.0 i ++ path-joined (other ∷ texts) h.1 (λ e. cc) i)

@@ -1,7 +1,7 @@
 -- Facets as the bytes of their encoded texts, and the texts that name them. 47 is the slash, 92 the backslash.
 use Rattle.std.specs.Prelude.{ℕ, ◌≡◌, ◌≢◌, ◌==◌, ◌&&◌, Bool, if◌then◌else◌, List, [], ◌∷◌, ◌++◌, Option, None, Some}
 use lib.Chars.{codes}
-use Rattle.std.specs.List.{flat_map, slice_split}
+use Rattle.std.specs.List.{AllByRecursion, flat_map, slice_split}
 use Rattle.std.specs.String.{string_bytes}
 use Rattle.tv_base.specs.Escapes.{rewritten}
 use Rattle.tv_base.specs.declared.facet_parse_error.FacetParseError.{FacetParseError}
@@ -23,6 +23,10 @@ parse (b ∷ text) = if b == 47 then Some (decoded text) else None
 -- the texts between the zeros
 abbrev pub path : List ℕ → List (List ℕ)
 path encoded = slice_split (λ b. b == 0) encoded
+
+-- a text that no separator divides
+abbrev pub IsStep : List ℕ → Type 0
+IsStep text = AllByRecursion (λ b. b ≢ 0) text
 
 -- the steps down from the root
 abbrev pub steps : List ℕ → List (List ℕ)

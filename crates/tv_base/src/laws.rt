@@ -2,11 +2,12 @@
 
 ghost use Rattle.std.specs.Prelude.{◌≡◌, ◌≢◌, ◌↔◌, ℕ, ℤ, FitsSigned, ◌<◌, ◌≤◌, ◌^◌, List, [], ◌∷◌, ◌++◌, length, Some, IsTrue, IsUtf8};
 ghost use Rattle.std.specs.Int.{w64};
+ghost use Rattle.std.specs.List.{AllByRecursion, join_with_byte};
 ghost use Rattle.std.specs.Ordering.{nat_cmp, is_le, is_lt};
 ghost use Rattle.std.specs.Cmp.Lexicographic.{slice_cmp};
 ghost use Rattle.tv_base.specs.Number.{VNum, vnum, Fixed, one_byte, four_bytes, eight_bytes, sixteen_bytes, Signed, signed_bytes, Truth};
 ghost use Rattle.tv_base.specs.Parts.{OneReading, Sized, Text, short_sized};
-ghost use Rattle.tv_base.specs.Facet.{parse, printed, Descends};
+ghost use Rattle.tv_base.specs.Facet.{parse, path, printed, IsStep, Descends};
 
 /// No spelling of a number begins another, and each spells one number.
 pub fn numbers_have_one_reading()
@@ -84,6 +85,11 @@ pub fn short_texts_are_shortest()
 /// What is printed for a facet is read as that facet.
 pub fn printed_facets_are_read()
     ensures { (encoded : List ℕ) → parse (printed encoded) ≡ Some encoded }
+{}
+
+/// Texts without U+0000, of which there is at least one, are what the facet with these steps is split into.
+pub fn joined_steps_are_split()
+    ensures { (texts : List (List ℕ)) → AllByRecursion IsStep texts → texts ≢ [] → path (join_with_byte 0 texts) ≡ texts }
 {}
 
 /// Below the root are all other facets.
