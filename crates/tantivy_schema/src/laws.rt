@@ -13,7 +13,8 @@ ghost use Rattle.tv_value.specs.Version.{V2};
 
 use std::alloc::Global;
 pub use tv_base::laws::{
-    numbers_have_one_reading, short_numbers_are_shortest, short_numbers_spell,
+    all_facets_descend_from_the_root, descendants_are_a_range, numbers_have_one_reading,
+    printed_facets_are_read, short_numbers_are_shortest, short_numbers_spell,
 };
 use tv_base::{ByteSource, VecSink};
 use tv_doc::document::CompactDoc;
@@ -21,7 +22,12 @@ pub use tv_doc::laws::{
     additions_are_kept, documents_are_handled, documents_are_valid, heaps_are_within_room,
     places_read_as_one_tree,
 };
+pub use tv_options::laws::{
+    comparisons_of_fields_agree, comparisons_of_types_agree, record_options_are_ordered,
+    types_and_codes_agree, types_are_listed_once,
+};
 use tv_schema::Schema;
+pub use tv_schema::laws::record_options_agree;
 pub use tv_store::laws::{
     stored_pairs_are_handled, stored_pairs_are_valid, stored_pairs_need_no_more_room,
 };
