@@ -6,7 +6,8 @@ use Rattle.std.proofs.lemmas.Int.{ints}
 use Rattle.tv_base.specs.Parts.{OneReading}
 use Rattle.tv_value.specs.Tree.{Token, Leaf, null, text, unsigned, signed, boolean, date, facet, bytes, ip_address, tokenized}
 use Rattle.tv_value.specs.Version.{Version, V1, V2, V3, Date, Microseconds, entry_total}
-use Rattle.tv_value.specs.Spelling.{Truth, TokenSpelling, Tokenized, leaf_code, LeafBody, Key}
+use Rattle.tv_base.specs.Number.{Truth}
+use Rattle.tv_value.specs.Spelling.{TokenSpelling, Tokenized, leaf_code, LeafBody, Key}
 use Rattle.tv_base.proofs.Agreement.{Agree, one_from, agree_map, agree_empty, agree_then, agree_behind}
 use Rattle.tv_base.proofs.Numbers.{agree_number, agree_counted, agree_fixed}
 use Rattle.tv_base.proofs.Texts.{agree_sized, agree_text, same_signed, agree_signed}

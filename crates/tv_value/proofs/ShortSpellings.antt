@@ -3,11 +3,11 @@ use Rattle.std.proofs.Common.{ℕ, ◌^◌, ◌<◌, Bool, true, false, List, []
 use Rattle.std.specs.Prelude.{ℤ, pos, negsuc, FitsSigned}
 use Rattle.std.specs.Int.{w64, cast_unsigned}
 use Rattle.std.specs.List.{AllByRecursion, flat_map}
-use Rattle.tv_base.specs.Number.{vnum, Fixed, four_bytes, eight_bytes, sixteen_bytes}
+use Rattle.tv_base.specs.Number.{vnum, Fixed, Truth, four_bytes, eight_bytes, sixteen_bytes, truth_byte}
 use Rattle.tv_value.specs.Tree.{Token, Leaf, null, text, unsigned, signed, boolean, date, facet, bytes, ip_address, tokenized, Tree, leaf, array, object, Elements, no_elements, element, Entries, no_entries, entry, element_count, entry_count, Document}
 use Rattle.tv_value.specs.Version.{Version, V1, V2, V3, Date, IsWritten, entry_total}
-use Rattle.tv_value.specs.Spelling.{Key, Truth, TokenSpelling, Tokenized, LeafBody, leaf_code, Spells, SpellsElements, SpellsEntries, SpellsPair, SpellsDocument}
-use Rattle.tv_value.specs.Short.{short_truth, short_token, short_tokenized, short_leaf, short_key, short, short_elements, short_entries, short_pair, short_document, IsText, IsToken, AreTokens, IsLeaf, IsValue, AreElements, AreEntries, IsPair, IsDocument}
+use Rattle.tv_value.specs.Spelling.{Key, TokenSpelling, Tokenized, LeafBody, leaf_code, Spells, SpellsElements, SpellsEntries, SpellsPair, SpellsDocument}
+use Rattle.tv_value.specs.Short.{short_token, short_tokenized, short_leaf, short_key, short, short_elements, short_entries, short_pair, short_document, IsText, IsToken, AreTokens, IsLeaf, IsValue, AreElements, AreEntries, IsPair, IsDocument}
 use Rattle.tv_base.proofs.Numbers.{vnum_spells, low_bytes_spell}
 use Rattle.tv_base.specs.Number.{Signed}
 use Rattle.tv_base.specs.Parts.{Then, Behind, Sized, Text, Each, short_sized}
@@ -44,7 +44,7 @@ unsigned_fits (negsuc n) f = omega arith
 signed_of : (z : ℤ) → FitsSigned w64 z → Signed (eight_bytes (cast_unsigned w64 z)) z
 signed_of z f = record { fits = f; spelled = eight (cast_unsigned w64 z) (unsigned_fits z f) }
 
-truth : (b : Bool) → Truth (short_truth b) b
+truth : (b : Bool) → Truth (truth_byte b) b
 truth true = refl
 truth false = refl
 

@@ -1,15 +1,11 @@
 -- The spelling with the fewest bytes, and what has one.
-use Rattle.std.specs.Prelude.{ℕ, ◌^◌, ◌<◌, ◌≤◌, Bool, true, false, List, [], ◌∷◌, ◌++◌, length, IsUtf8, FitsSigned}
+use Rattle.std.specs.Prelude.{ℕ, ◌^◌, ◌<◌, ◌≤◌, List, [], ◌∷◌, ◌++◌, length, IsUtf8, FitsSigned}
 use Rattle.std.specs.Int.{w64, cast_unsigned}
 use Rattle.std.specs.List.{AllByRecursion, flat_map}
 use Rattle.tv_base.specs.Parts.{short_sized}
-use Rattle.tv_base.specs.Number.{vnum, four_bytes, eight_bytes, sixteen_bytes}
+use Rattle.tv_base.specs.Number.{vnum, four_bytes, eight_bytes, sixteen_bytes, truth_byte}
 use Rattle.tv_value.specs.Version.{Version, V1, V2, V3, entry_total}
 use Rattle.tv_value.specs.Tree.{Token, Leaf, null, text, unsigned, signed, boolean, date, facet, bytes, ip_address, tokenized, Tree, leaf, array, object, Elements, no_elements, element, Entries, no_entries, entry, element_count, entry_count, Document}
-
-abbrev pub short_truth : Bool → List ℕ
-short_truth false = 0 ∷ []
-short_truth true = 1 ∷ []
 
 abbrev pub short_token : Token → List ℕ
 short_token token =
@@ -26,7 +22,7 @@ short_leaf (facet t) = 3 ∷ short_sized t
 short_leaf (bytes bs) = 4 ∷ short_sized bs
 short_leaf (date z) = 5 ∷ eight_bytes (cast_unsigned w64 z)
 short_leaf (tokenized t ts) = 7 ∷ 0 ∷ short_tokenized t ts
-short_leaf (boolean b) = 9 ∷ short_truth b
+short_leaf (boolean b) = 9 ∷ truth_byte b
 short_leaf (ip_address n) = 10 ∷ sixteen_bytes n
 short_leaf null = 11 ∷ []
 

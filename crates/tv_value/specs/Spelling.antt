@@ -1,13 +1,9 @@
 -- What bytes spell which values.
-use Rattle.std.specs.Prelude.{◌≡◌, ℕ, ◌≤◌, ◌⊎◌, Bool, true, false, List, [], ◌∷◌, ◌++◌}
+use Rattle.std.specs.Prelude.{◌≡◌, ℕ, ◌≤◌, ◌⊎◌, List, [], ◌++◌}
 use Rattle.tv_value.specs.Tree.{Token, Leaf, null, text, unsigned, signed, boolean, date, facet, bytes, ip_address, tokenized, Tree, leaf, array, object, Elements, no_elements, element, Entries, no_entries, entry, element_count, entry_count, Document}
-use Rattle.tv_base.specs.Number.{VNum, Fixed, Signed}
+use Rattle.tv_base.specs.Number.{VNum, Fixed, Signed, Truth}
 use Rattle.tv_base.specs.Parts.{Then, Behind, Sized, Text, Counted}
 use Rattle.tv_value.specs.Version.{Version, V1, V2, V3, Date, entry_total}
-
-abbrev pub Truth : List ℕ → Bool → Type 0
-Truth whole false = whole ≡ 0 ∷ []
-Truth whole true = whole ≡ 1 ∷ []
 
 -- five parts, one after the other
 abbrev pub TokenSpelling : List ℕ → Token → Type 0
