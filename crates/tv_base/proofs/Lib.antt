@@ -24,3 +24,4 @@ pub mod Shortest
 pub mod Rewriting
 pub mod Printing
 pub mod Steps
+pub mod JsonPaths

@@ -9,3 +9,5 @@ pub mod Reading
 pub mod ReadsAs
 pub mod Escapes
 pub mod Facet
+pub mod JsonPath
+pub mod Rewriting

@@ -1,0 +1,51 @@
+//! Texts that are rewritten byte by byte, where a backslash keeps the character behind it.
+
+ghost use Rattle.std.specs.Prelude.{◌≡◌, ◌<◌, ◌∷◌, ◌++◌, [], OnOk, MatchOption};
+ghost use Rattle.std.specs.String.{string_bytes};
+ghost use Rattle.tv_base.specs.Escapes.{rewritten};
+ghost use Rattle.tv_base.specs.Rewriting.{stands_for};
+
+use std::alloc::AllocError;
+
+/// Which bytes of a text are replaced, and by what.
+#[derive(Clone, Copy)]
+pub(crate) enum Rule {
+    // The text that names a facet, into its encoded text.
+    Facet,
+    // A path into JSON objects, into its segments with U+0001 between them; where dots are expanded, for escaped dots too.
+    Path { expand_dots: bool },
+    // A segment of such a path, with U+0001 for its dots where they are expanded.
+    Segment { expand_dots: bool },
+}
+
+/// What stands for a byte of a text, where that isn't the byte itself.
+fn replacement(rule: Rule, is_unescaped: bool, byte: u8) -> Option<&'static str>
+    ensures { MatchOption result (stands_for rule is_unescaped byte ≡ byte ∷ []) (λ text. (text.now ≡ stands_for rule is_unescaped byte) × (byte < 128)) }
+{
+    match (rule, byte) {
+        (Rule::Facet | Rule::Path { .. }, b'\\') if is_unescaped => Some(""),
+        (Rule::Facet, b'/') if is_unescaped => Some("\0"),
+        (Rule::Path { expand_dots }, b'.') if is_unescaped || expand_dots => Some("\u{1}"),
+        (Rule::Segment { expand_dots: true }, b'.') => Some("\u{1}"),
+        _ => None,
+    }
+}
+
+/// Writes the rewritten text behind what is there. Errors: memory was refused, and then a part of it may be written.
+pub(crate) fn rewrite(rule: Rule, text: &str, out: &mut String) -> Result<(), AllocError>
+    ensures { OnOk result (string_bytes out.new ≡ string_bytes out.old ++ rewritten (stands_for rule) text.now) }
+{
+    let bytes = text.as_bytes();
+    let mut start = 0;
+    let mut is_unescaped = true;
+    for place in 0..bytes.len() {
+        let other = replacement(rule, is_unescaped, bytes[place]);
+        is_unescaped = !(bytes[place] == b'\\' && is_unescaped);
+        if let Some(other) = other {
+            out.push_str(&text[start..place])?;
+            out.push_str(other)?;
+            start = place + 1;
+        }
+    }
+    out.push_str(&text[start..])
+}
