@@ -33,4 +33,6 @@ pub use vint::VInt;
 #[cfg(test)]
 mod facet_tests;
 #[cfg(test)]
+mod json_path_tests;
+#[cfg(test)]
 mod tests;
