@@ -22,5 +22,6 @@ pub mod ItemLoop
 pub mod ByGrammar
 pub mod Shortest
 pub mod Rewriting
+pub mod Unescaping
 pub mod Printing
 pub mod Steps
