@@ -22,6 +22,7 @@ pub mod ItemLoop
 pub mod ByGrammar
 pub mod Shortest
 pub mod Rewriting
+pub mod Unescaping
 pub mod Printing
 pub mod Steps
 pub mod JsonPaths

@@ -55,6 +55,10 @@ rewritten-split rule text (suc n) i e =
 pub rewritten-from : (rule : Bool → ℕ → List ℕ) (text : List ℕ) → rewritten rule text ≡ rewritten_from rule true text
 rewritten-from rule text = rewritten-split rule text (length text) 0 (omega arith)
 
+-- the rest from a place on begins with what the rule gives for the byte there
+pub rewritten_from-drop : (rule : Bool → ℕ → List ℕ) (unescaped : Bool) (text : List ℕ) (i : ℕ) → i < length text → rewritten_from rule unescaped (drop i text) ≡ rule unescaped (get_or text i 0) ++ rewritten_from rule (not (eqb (get_or text i 0) 92 && unescaped)) (drop (i + 1) text)
+rewritten_from-drop rule unescaped text i h = rw add-one (ap (rewritten_from rule unescaped) (drop-cons text i 0 h))
+
 pub rewritten_below-more : (rule : Bool → ℕ → List ℕ) (text : List ℕ) (i : ℕ) → rewritten_below rule text (i + 1) ≡ rewritten_below rule text i ++ rule (is_unescaped text i) (get_or text i 0)
 rewritten_below-more rule text i = rw add-one refl
 

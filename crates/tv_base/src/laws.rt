@@ -1,12 +1,13 @@
-//! Laws of the spellings of numbers and texts, and of facets, each the contract of a function that does nothing.
+//! Laws of the spellings of numbers and texts, of escapes, and of facets, each the contract of a function that does nothing.
 
-ghost use Rattle.std.specs.Prelude.{◌≡◌, ◌≢◌, ◌↔◌, ℕ, ℤ, FitsSigned, ◌<◌, ◌≤◌, ◌^◌, List, [], ◌∷◌, ◌++◌, length, Some, IsTrue, IsUtf8};
+ghost use Rattle.std.specs.Prelude.{◌≡◌, ◌≢◌, ◌↔◌, ℕ, ℤ, FitsSigned, ◌<◌, ◌≤◌, ◌^◌, List, [], ◌∷◌, ◌++◌, ◌==◌, false, length, Some, IsTrue, IsUtf8};
 ghost use Rattle.std.specs.Int.{w64};
-ghost use Rattle.std.specs.List.{AllByRecursion, join_with_byte};
+ghost use Rattle.std.specs.List.{AllByRecursion, join_with_byte, list_any};
 ghost use Rattle.std.specs.Ordering.{nat_cmp, is_le, is_lt};
 ghost use Rattle.std.specs.Cmp.Lexicographic.{slice_cmp};
 ghost use Rattle.tv_base.specs.Number.{VNum, vnum, Fixed, one_byte, four_bytes, eight_bytes, sixteen_bytes, Signed, signed_bytes, Truth};
 ghost use Rattle.tv_base.specs.Parts.{OneReading, Sized, Text, short_sized};
+ghost use Rattle.tv_base.specs.Escapes.{without_escapes};
 ghost use Rattle.tv_base.specs.Facet.{parse, path, printed, IsStep, Descends};
 
 /// No spelling of a number begins another, and each spells one number.
@@ -80,6 +81,11 @@ pub fn short_texts_spell()
 /// No spelling of a text is shorter.
 pub fn short_texts_are_shortest()
     ensures { (text bytes : List ℕ) → Text bytes text → length (short_sized text) ≤ length bytes }
+{}
+
+/// A text without a backslash has no escape.
+pub fn texts_without_backslashes_have_no_escapes()
+    ensures { (text : List ℕ) → list_any (λ b. b == 92) text ≡ false → without_escapes text ≡ text }
 {}
 
 /// What is printed for a facet is read as that facet.

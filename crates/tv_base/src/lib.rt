@@ -2,7 +2,7 @@
 #![tactic(auto)]
 
 pub mod cause;
-mod escapes;
+pub mod escapes;
 pub mod facet;
 pub mod facet_parse_error;
 pub mod json_path;

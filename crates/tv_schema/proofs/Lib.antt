@@ -1,1 +1,3 @@
 pub mod Schemas
+pub mod Names
+pub mod Finding

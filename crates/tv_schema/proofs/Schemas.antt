@@ -13,7 +13,8 @@ use Rattle.std.specs.declared.alloc.Global.{Global}
 use Rattle.std.specs.declared.hash.FoldHasher.{FoldHasher}
 use Rattle.std.specs.declared.hash.BuildHasherDefault.{BuildHasherDefault}
 use Rattle.std.proofs.lemmas.Map.Text.{hash_map_updates_text}
-use Rattle.tv_schema.specs.Schema.{IsSchema, place_from, field_named, option_or}
+use Rattle.std.specs.Option.{option_or}
+use Rattle.tv_schema.specs.Schema.{IsSchema, place_from, field_named}
 use Rattle.tv_schema.specs.Table.{IsTable}
 
 push_case : (b : Bool) (n m k : ℕ) (rest more last : Option ℕ) → n ≡ m → more ≡ option_or rest last → cond b (Some n) more ≡ option_or (cond b (Some n) rest) last

@@ -34,7 +34,3 @@ abbrev pub AddsField : List Entry → List Entry → Entry → Result Field Sche
 AddsField old new entry (Ok field) = (refusal old entry.name ≡ None) × (field.id ≡ length old) × (new ≡ old ++ entry ∷ [])
 AddsField old new entry (Err Memory) = (refusal old entry.name ≡ None) × (new ≡ old)
 AddsField old new entry (Err error) = (refusal old entry.name ≡ Some error) × (new ≡ old)
-
-abbrev pub option_or : {A : Type 0} → Option A → Option A → Option A
-option_or None other = other
-option_or (Some a) other = Some a

@@ -2,16 +2,21 @@
 #![tactic(auto)]
 
 pub mod field_entry;
+pub mod field_iter;
 pub mod field_type;
 pub mod laws;
+mod path;
 pub mod schema;
 pub mod schema_error;
 mod table;
 
 pub use field_entry::{FieldEntry, is_valid_field_name};
+pub use field_iter::FieldIter;
 pub use field_type::FieldType;
 pub use schema::{Schema, SchemaBuilder};
 pub use schema_error::SchemaError;
 
+#[cfg(test)]
+mod path_tests;
 #[cfg(test)]
 mod tests;

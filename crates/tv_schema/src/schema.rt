@@ -1,16 +1,24 @@
 //! Schemas, and how they are built.
 
-ghost use Rattle.std.specs.Prelude.{◌≡◌, ◌<◌, ◌+◌, ◌^◌, ◌++◌, ◌∷◌, [], ◌↔◌, length, None, Some, Ok, Err, IfOk, OnOk, OnErr, IsTrue, MatchOption, IsOk, slice_get};
-ghost use Rattle.tv_schema.specs.Schema.{IsSchema, AddsField, refusal};
+ghost use Rattle.std.specs.Prelude.{◌≡◌, ◌<◌, ◌+◌, ◌^◌, ◌++◌, ◌∷◌, [], ◌↔◌, length, None, Some, Ok, Err, IfOk, IfSome, OnOk, OnErr, IsTrue, MatchOption, IsOk, IsOkAnd, slice_get};
+ghost use Rattle.std.specs.Option.{ForSome, option_map};
+ghost use Rattle.std.specs.List.{enumerate_from};
+ghost use Rattle.tv_schema.specs.Path.{find, find_or};
+ghost use Rattle.tv_schema.specs.Schema.{IsSchema, AddsField, refusal, field_named};
 
 use crate::field_entry::{FieldEntry, is_valid_field_name};
+use crate::field_iter::FieldIter;
 use crate::field_type::FieldType;
+use crate::path;
 use crate::schema_error::SchemaError;
 use crate::table::FieldTable;
 use std::alloc::{AllocError, Global};
 use std::marker::Model;
 use std::rc::Rc;
-use tv_options::{NumericOptions, TextOptions};
+use tv_options::{
+    BytesOptions, DateOptions, FacetOptions, IpAddrOptions, JsonObjectOptions, NumericOptions,
+    TextOptions,
+};
 use tv_value::field::Field;
 
 /// What a schema is made with: the entries so far, in the order of their numbers. Their names are valid and distinct.
@@ -64,6 +72,107 @@ impl SchemaBuilder {
         ensures { AddsField self.old self.new (record { name = name.now; field_type = FieldType.U64 options }) result }
     {
         self.add(name, FieldType::U64(options))
+    }
+
+    /// Adds a field of whole numbers from -2^63 to 2^63 - 1. Its number is the count of the fields before it.
+    ///
+    /// Errors, the first that holds: `InvalidName` where the name is empty or begins with `-`, `DuplicateName` where a
+    /// field has it already, `TooManyFields` where 4294967295 fields are there, `Memory` where a growth was refused.
+    /// After each the builder is as it was.
+    pub fn add_i64_field(
+        &mut self,
+        name: &str,
+        options: NumericOptions,
+    ) -> Result<Field, SchemaError>
+        ensures { AddsField self.old self.new (record { name = name.now; field_type = FieldType.I64 options }) result }
+    {
+        self.add(name, FieldType::I64(options))
+    }
+
+    /// Adds a field of truth values. Its number is the count of the fields before it.
+    ///
+    /// Errors, the first that holds: `InvalidName` where the name is empty or begins with `-`, `DuplicateName` where a
+    /// field has it already, `TooManyFields` where 4294967295 fields are there, `Memory` where a growth was refused.
+    /// After each the builder is as it was.
+    pub fn add_bool_field(
+        &mut self,
+        name: &str,
+        options: NumericOptions,
+    ) -> Result<Field, SchemaError>
+        ensures { AddsField self.old self.new (record { name = name.now; field_type = FieldType.Bool options }) result }
+    {
+        self.add(name, FieldType::Bool(options))
+    }
+
+    /// Adds a field of dates. Its number is the count of the fields before it.
+    ///
+    /// Errors, the first that holds: `InvalidName` where the name is empty or begins with `-`, `DuplicateName` where a
+    /// field has it already, `TooManyFields` where 4294967295 fields are there, `Memory` where a growth was refused.
+    /// After each the builder is as it was.
+    pub fn add_date_field(&mut self, name: &str, options: DateOptions) -> Result<Field, SchemaError>
+        ensures { AddsField self.old self.new (record { name = name.now; field_type = FieldType.Date options }) result }
+    {
+        self.add(name, FieldType::Date(options))
+    }
+
+    /// Adds a field of IP addresses. Its number is the count of the fields before it.
+    ///
+    /// Errors, the first that holds: `InvalidName` where the name is empty or begins with `-`, `DuplicateName` where a
+    /// field has it already, `TooManyFields` where 4294967295 fields are there, `Memory` where a growth was refused.
+    /// After each the builder is as it was.
+    pub fn add_ip_addr_field(
+        &mut self,
+        name: &str,
+        options: IpAddrOptions,
+    ) -> Result<Field, SchemaError>
+        ensures { AddsField self.old self.new (record { name = name.now; field_type = FieldType.IpAddr options }) result }
+    {
+        self.add(name, FieldType::IpAddr(options))
+    }
+
+    /// Adds a field of facets. Its number is the count of the fields before it.
+    ///
+    /// Errors, the first that holds: `InvalidName` where the name is empty or begins with `-`, `DuplicateName` where a
+    /// field has it already, `TooManyFields` where 4294967295 fields are there, `Memory` where a growth was refused.
+    /// After each the builder is as it was.
+    pub fn add_facet_field(
+        &mut self,
+        name: &str,
+        options: FacetOptions,
+    ) -> Result<Field, SchemaError>
+        ensures { AddsField self.old self.new (record { name = name.now; field_type = FieldType.Facet options }) result }
+    {
+        self.add(name, FieldType::Facet(options))
+    }
+
+    /// Adds a field of bytes. Its number is the count of the fields before it.
+    ///
+    /// Errors, the first that holds: `InvalidName` where the name is empty or begins with `-`, `DuplicateName` where a
+    /// field has it already, `TooManyFields` where 4294967295 fields are there, `Memory` where a growth was refused.
+    /// After each the builder is as it was.
+    pub fn add_bytes_field(
+        &mut self,
+        name: &str,
+        options: BytesOptions,
+    ) -> Result<Field, SchemaError>
+        ensures { AddsField self.old self.new (record { name = name.now; field_type = FieldType.Bytes options }) result }
+    {
+        self.add(name, FieldType::Bytes(options))
+    }
+
+    /// Adds a field of JSON objects. Its number is the count of the fields before it.
+    ///
+    /// Errors, the first that holds: `InvalidName` where the name is empty or begins with `-`, `DuplicateName` where a
+    /// field has it already, `TooManyFields` where 4294967295 fields are there, `Memory` where a growth was refused.
+    /// After each the builder is as it was.
+    pub fn add_json_field(
+        &mut self,
+        name: &str,
+        options: JsonObjectOptions,
+    ) -> Result<Field, SchemaError>
+        ensures { AddsField self.old self.new (record { name = name.now; field_type = FieldType.JsonObject options }) result }
+    {
+        self.add(name, FieldType::JsonObject(options))
     }
 
     /// Adds an entry, as `add_text_field` adds a field of texts; the entry has a valid name. Where it is refused it is
@@ -178,5 +287,74 @@ impl Schema {
         ensures { slice_get self.now field.id ≡ Some result.now }
     {
         self.table.entry(field.field_id() as usize)
+    }
+
+    /// The field's name. The field is one of the schema, as `has_field` tests.
+    pub fn get_field_name(&self, field: Field) -> &str
+        requires { field.id < length self.now }
+        ensures { option_map (λ entry. entry.name) (slice_get self.now field.id) ≡ Some result.now }
+    {
+        self.get_field_entry(field).name()
+    }
+
+    /// The field that has the name, which is one of the schema. It takes no memory.
+    ///
+    /// Errors: `FieldNotFound`, exactly where no field has the name.
+    pub fn get_field(&self, name: &str) -> Result<Field, SchemaError>
+        ensures found { MatchOption (field_named self.now name.now) (result ≡ Err SchemaError.FieldNotFound) (λ number. IsOkAnd result (λ field. field.id ≡ number)) }
+        ensures within { IfOk result (λ field. field.id < length self.now) }
+    {
+        match self.table.field_named(name) {
+            Some(number) => Ok(Field::from_field_id(number)),
+            None => Err(SchemaError::FieldNotFound),
+        }
+    }
+
+    /// Each field with its entry, once, in the order of their numbers.
+    pub fn fields(&self) -> FieldIter<'_>
+        ensures { result ≡ enumerate_from 0 self.now }
+    {
+        FieldIter::over(self.table.entries())
+    }
+
+    /// The field that the path names, which is one of the schema, and the rest of the path; or `None` where it names none.
+    ///
+    /// A path that is a field's name is that field, with an empty rest. Else the path is parted at a dot that no backslash
+    /// takes: the last one before which there is a field's name, as it stands or without its escapes, and the name as it
+    /// stands comes first. The rest is what follows that dot. A backslash takes the byte behind it, whatever that is.
+    ///
+    /// It takes no memory. It looks the path up, and then what stands before each such dot from the last on, until one
+    /// serves: one lookup each. Only what holds a backslash, and is no name as it stands, is compared with each name too.
+    pub fn find_field<'a>(&self, path: &'a str) -> Option<(Field, &'a str)>
+        ensures found { option_map (λ found. (found.0.id, found.1.now)) result ≡ find self.now path.now }
+        ensures within { IfSome result (λ found. found.0.id < length self.now) }
+    {
+        let (number, rest) = path::find(&self.table, path)?;
+        Some((Field::from_field_id(number), rest))
+    }
+
+    /// What `find_field` finds, or else the default, with the whole path as its rest. A rest that isn't empty is for fields of
+    /// JSON objects alone: with another field the answer is `None`, and where that field was found the default isn't tried.
+    ///
+    /// The default, if there is one, is a field of the schema, as `has_field` tests. It takes no memory, and no more time
+    /// than `find_field`.
+    pub fn find_field_with_default<'a>(
+        &self,
+        path: &'a str,
+        default: Option<Field>,
+    ) -> Option<(Field, &'a str)>
+        requires { ForSome default (λ field. field.id < length self.now) }
+        ensures found { option_map (λ found. (found.0.id, found.1.now)) result ≡ find_or self.now path.now (option_map (λ field. field.id) default) }
+        ensures within { IfSome result (λ found. found.0.id < length self.now) }
+    {
+        let (field, rest) = match self.find_field(path) {
+            Some(found) => found,
+            None => (default?, path),
+        };
+        if rest.is_empty() || self.get_field_entry(field).field_type().is_json() {
+            Some((field, rest))
+        } else {
+            None
+        }
     }
 }

@@ -1,6 +1,6 @@
 //! The entries of a schema, and their numbers by name.
 
-ghost use Rattle.std.specs.Prelude.{◌≡◌, ◌<◌, ◌+◌, ◌^◌, ◌++◌, ◌∷◌, [], length, None, Some, IfOk, OnOk, OnErr, slice_get, vec_len};
+ghost use Rattle.std.specs.Prelude.{◌≡◌, ◌<◌, ◌+◌, ◌^◌, ◌++◌, ◌∷◌, [], length, None, Some, IfOk, IfSome, OnOk, OnErr, slice_get, vec_len};
 ghost use Rattle.tv_schema.specs.Entry.{IsValidName};
 ghost use Rattle.tv_schema.specs.Schema.{IsSchema, field_named};
 
@@ -61,7 +61,8 @@ impl FieldTable {
     }
 
     pub(crate) fn field_named(&self, name: &str) -> Option<u32>
-        ensures { result ≡ field_named self.now name.now }
+        ensures number { result ≡ field_named self.now name.now }
+        ensures within { IfSome result (λ number. number < length self.now) }
     {
         self.numbers.get(name).copied()
     }

@@ -1,6 +1,6 @@
 use crate::field_entry::{FieldEntry, is_valid_field_name};
 use crate::field_type::FieldType;
-use crate::schema::Schema;
+use crate::schema::{Schema, SchemaBuilder};
 use crate::schema_error::SchemaError;
 use std::alloc::Global;
 use std::test::Fail;
@@ -93,6 +93,59 @@ fn copies_are_equal(rt: HostRuntime) -> Result<(), Fail> {
         let other = FieldType::Bool(NumericOptions::default().set_coerce());
         assert!(rt; other != *entry.field_type());
     }
+    Ok(())
+}
+
+#[test]
+fn each_call_adds_a_field_of_its_type(rt: HostRuntime) -> Result<(), Fail> {
+    let numbers = NumericOptions::default().set_stored();
+    let mut builder = SchemaBuilder::new(rt.alloc());
+    builder.add_text_field("Str", TEXT | STORED)?;
+    builder.add_u64_field("U64", numbers | INDEXED)?;
+    builder.add_i64_field("I64", numbers | FAST)?;
+    builder.add_bool_field("Bool", numbers)?;
+    builder.add_date_field("Date", DateOptions::from(INDEXED))?;
+    builder.add_facet_field("Facet", FacetOptions::default())?;
+    builder.add_bytes_field("Bytes", BytesOptions::from(FAST))?;
+    builder.add_json_field(
+        "Json",
+        JsonObjectOptions::from(STRING).set_expand_dots_enabled(),
+    )?;
+    builder.add_ip_addr_field("IpAddr", IpAddrOptions::default())?;
+    let schema = builder.build()?;
+    let wanted = entries(rt.alloc())?;
+    assert_eq!(rt; schema.num_fields(), wanted.len());
+    for ((field, entry), other) in schema.fields().zip(wanted.iter()) {
+        assert!(rt; entry.field_type() == other.field_type());
+        assert_eq!(rt; schema.get_field(entry.name())?, field);
+        assert!(rt; schema.has_field(field));
+        assert_eq!(rt; schema.get_field_name(field), entry.name());
+    }
+    assert_eq!(rt; schema.get_field("Float"), Err(SchemaError::FieldNotFound));
+    Ok(())
+}
+
+#[test]
+fn names_are_taken_once(rt: HostRuntime) -> Result<(), Fail> {
+    let mut builder = Schema::builder(rt.alloc());
+    let field = builder.add_text_field("a", TEXT)?;
+    let refused = [
+        (
+            builder.add_text_field("a", TEXT),
+            SchemaError::DuplicateName,
+        ),
+        (builder.add_text_field("-a", TEXT), SchemaError::InvalidName),
+        (builder.add_text_field("", TEXT), SchemaError::InvalidName),
+    ];
+    for (answer, error) in refused {
+        assert_eq!(rt; answer, Err(error));
+    }
+    let schema = builder.build()?;
+    assert_eq!(rt; schema.num_fields(), 1);
+    assert_eq!(rt; field.field_id(), 0);
+    assert_eq!(rt; schema.get_field("a"), Ok(field));
+    assert!(rt; schema.clone()? == schema);
+    assert!(rt; Schema::builder(rt.alloc()).build()? != schema);
     Ok(())
 }
 

@@ -1,0 +1,71 @@
+//! The fields that paths name: a name, a dot and a rest, as `title.first`. A backslash takes the character behind it, so that
+//! a name may have dots.
+
+ghost use Rattle.std.specs.Prelude.{◌≡◌, ◌<◌, length, IfSome};
+ghost use Rattle.std.specs.Option.{option_map};
+ghost use Rattle.tv_base.specs.Escapes.{without_escapes};
+ghost use Rattle.tv_schema.specs.Path.{field_of_front, parted_at, find};
+ghost use Rattle.tv_schema.specs.Schema.{field_named};
+
+use crate::table::FieldTable;
+use tv_base::escapes::{is_unescaped_at, unescapes_to};
+use tv_base::laws::texts_without_backslashes_have_no_escapes;
+
+/// The field that the path names, and the rest of the path.
+pub(crate) fn find<'a>(table: &FieldTable, path: &'a str) -> Option<(u32, &'a str)>
+    ensures found { option_map (λ found. (found.0, found.1.now)) result ≡ find table.now path.now }
+    ensures within { IfSome result (λ found. found.0 < length table.now) }
+{
+    if let Some(field) = table.field_named(path) {
+        return Some((field, ""));
+    }
+    for place in (0..path.len()).rev() {
+        if let Some(found) = parted_at(table, path, place) {
+            return Some(found);
+        }
+    }
+    None
+}
+
+/// The field that the front before the place names, and the text behind the place, where an unescaped dot stands there.
+fn parted_at<'a>(table: &FieldTable, path: &'a str, place: usize) -> Option<(u32, &'a str)>
+    requires { place < length path.now }
+    ensures found { option_map (λ found. (found.0, found.1.now)) result ≡ parted_at table.now path.now place }
+    ensures within { IfSome result (λ found. found.0 < length table.now) }
+{
+    let bytes = path.as_bytes();
+    if bytes[place] == b'.' && is_unescaped_at(bytes, place) {
+        let field = field_of_front(table, &path[..place])?;
+        Some((field, &path[place + 1..]))
+    } else {
+        None
+    }
+}
+
+/// The field whose name is the front, or else the front without its escapes.
+fn field_of_front(table: &FieldTable, front: &str) -> Option<u32>
+    ensures number { result ≡ field_of_front table.now front.now }
+    ensures within { IfSome result (λ number. number < length table.now) }
+{
+    match table.field_named(front) {
+        Some(field) => Some(field),
+        None if front.as_bytes().contains(&b'\\') => field_unescaped(table, front),
+        None => {
+            texts_without_backslashes_have_no_escapes();
+            None
+        }
+    }
+}
+
+/// The field whose name is the front without its escapes. It compares the front with each name, so that it takes no memory.
+fn field_unescaped(table: &FieldTable, front: &str) -> Option<u32>
+    ensures number { result ≡ field_named table.now (without_escapes front.now) }
+    ensures within { IfSome result (λ number. number < length table.now) }
+{
+    for (number, entry) in table.entries().iter().enumerate() {
+        if unescapes_to(front, entry.name()) {
+            return Some(number as u32);
+        }
+    }
+    None
+}
