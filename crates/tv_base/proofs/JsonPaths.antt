@@ -3,14 +3,17 @@ use Rattle.std.proofs.Common.{◌≡◌, ◌≢◌, ℕ, suc, zero, ◌+◌, ◌
 use Rattle.std.proofs.lemmas.List.{drop_all, append-nil, map-append, take_more}
 use Rattle.std.proofs.lemmas.Bool.{eqb-true}
 use Rattle.std.specs.List.{flat_map, slice_split, slice_range, onto_first, join_with_byte}
-use Rattle.tv_base.specs.Escapes.{is_unescaped, rewritten}
-use Rattle.tv_base.specs.JsonPath.{marked_below, marked, is_splitting, kept, split, expanded, joined, joined_path}
+use Rattle.tv_base.specs.Escapes.{is_unescaped, kept_byte, rewritten}
+use Rattle.tv_base.specs.JsonPath.{marked_below, marked, is_splitting, split, expanded, joined_path}
 use Rattle.tv_base.specs.Rewriting.{path_byte}
 use Rattle.tv_base.proofs.Rewriting.{is_unescaped-more, rewritten_from, rewritten-from, slice_range-more, slice_range-none}
 
 -- whether the next byte is unescaped
 abbrev pub next : Bool → ℕ → Bool
 next unescaped b = not (eqb b 92 && unescaped)
+
+abbrev kept : Bool × ℕ → List ℕ
+kept mark = kept_byte mark.0 mark.1
 
 abbrev marked_from : Bool → List ℕ → List (Bool × ℕ)
 marked_from unescaped [] = []
@@ -75,15 +78,13 @@ pub split_from-not_nil : (unescaped : Bool) (text : List ℕ) → split_from une
 split_from-not_nil unescaped [] e = cc
 split_from-not_nil unescaped (b ∷ bs) e = split_from_case-not_nil (unescaped && eqb b 46) (kept (unescaped, b)) (split_from (next unescaped b) bs) e
 
-next_case : (unescaped back : Bool) → (unescaped && back) ≡ false → not (back && unescaped) ≡ true
-next_case true true e = cc
-next_case true false e = refl
-next_case false true e = refl
-next_case false false e = refl
+pub and_false : (b : Bool) → (b && false) ≡ false
+and_false true = refl
+and_false false = refl
 
 -- a byte that stands for itself
-split_from-kept : (unescaped : Bool) (b : ℕ) (bs : List ℕ) → (unescaped && eqb b 46) ≡ false → (unescaped && eqb b 92) ≡ false → split_from unescaped (b ∷ bs) ≡ onto (b ∷ []) (split_from true bs)
-split_from-kept unescaped b bs dot back = rw (dot, back, next_case unescaped (eqb b 92) back) refl
+split_from-kept : (unescaped : Bool) (b : ℕ) (bs : List ℕ) → (unescaped && eqb b 46) ≡ false → (eqb b 92 && unescaped) ≡ false → split_from unescaped (b ∷ bs) ≡ onto (b ∷ []) (split_from true bs)
+split_from-kept unescaped b bs dot back = rw (dot, back) refl
 
 pub onto-nothing : (segments : List (List ℕ)) → segments ≢ [] → onto [] segments ≡ segments
 onto-nothing [] h = absurd (h refl)
@@ -94,7 +95,7 @@ at_place unescaped text i h = ap (split_from unescaped) (drop-cons text i 0 h �
 
 -- a byte that stands for itself waits with those before it
 pub segment-kept : (done all : List (List ℕ)) (text front : List ℕ) (start i : ℕ) (unescaped : Bool) → start ≤ i → i < length text
-    → (unescaped && eqb (get_or text i 0) 46) ≡ false → (unescaped && eqb (get_or text i 0) 92) ≡ false
+    → (unescaped && eqb (get_or text i 0) 46) ≡ false → (eqb (get_or text i 0) 92 && unescaped) ≡ false
     → done ++ onto (front ++ slice_range text start i) (split_from unescaped (drop i text)) ≡ all
     → done ++ onto (front ++ slice_range text start (i + 1)) (split_from true (drop (i + 1) text)) ≡ all
 segment-kept done all text front start i unescaped h j dot back told =
@@ -113,7 +114,7 @@ segment-escape done all text front written start i j back is told =
     let rest = split_from false (drop (i + 1) text) in
     ap (λ l. done ++ onto l rest) (ap (λ l. written ++ l) (slice_range-none text (i + 1)) ∙ append-nil written ∙ is)
     ∙ ap (λ l. done ++ onto (front ++ slice_range text start i) l)
-        (sym (at_place true text i j ∙ ap (λ b. split_from true (b ∷ drop (i + 1) text)) back ∙ onto-nothing rest (split_from-not_nil false (drop (i + 1) text))))
+    (sym (at_place true text i j ∙ ap (λ b. split_from true (b ∷ drop (i + 1) text)) back ∙ onto-nothing rest (split_from-not_nil false (drop (i + 1) text))))
     ∙ told
 
 -- a dot ends a segment
@@ -150,16 +151,19 @@ not_both b e = rw (eqb-true b 46 e) refl
 
 byte_case : (unescaped expand_dots dot back : Bool) (b : ℕ) → (dot ≡ true → back ≡ false) → (segments : List (List ℕ)) → segments ≢ []
     → eqb b 46 ≡ dot → eqb b 92 ≡ back
-    → joined_bytes expand_dots (cond (unescaped && dot) ([] ∷ segments) (onto (cond (unescaped && back) [] (b ∷ [])) segments))
+    → joined_bytes expand_dots (cond (unescaped && dot) ([] ∷ segments) (onto (cond (back && unescaped) [] (b ∷ [])) segments))
     ≡ cond (unescaped && back) [] (cond ((unescaped || expand_dots) && dot) (1 ∷ []) (b ∷ [])) ++ joined_bytes expand_dots segments
 byte_case true expand_dots true true b h segments some e f = let no = h refl in cc
 byte_case true expand_dots true false b h segments some e f = join-separated expand_dots segments some
 byte_case true expand_dots false true b h segments some e f = join-onto expand_dots [] segments some
 byte_case true true false false b h segments some e f = join-onto true (b ∷ []) segments some ∙ rw e refl
 byte_case true false false false b h segments some e f = join-onto false (b ∷ []) segments some
-byte_case false true true back b h segments some e f = join-onto true (b ∷ []) segments some ∙ rw e refl
-byte_case false true false back b h segments some e f = join-onto true (b ∷ []) segments some ∙ rw e refl
-byte_case false false dot back b h segments some e f = join-onto false (b ∷ []) segments some
+byte_case false true true true b h segments some e f = let no = h refl in cc
+byte_case false true true false b h segments some e f = join-onto true (b ∷ []) segments some ∙ rw e refl
+byte_case false true false true b h segments some e f = join-onto true (b ∷ []) segments some ∙ rw e refl
+byte_case false true false false b h segments some e f = join-onto true (b ∷ []) segments some ∙ rw e refl
+byte_case false false dot true b h segments some e f = join-onto false (b ∷ []) segments some
+byte_case false false dot false b h segments some e f = join-onto false (b ∷ []) segments some
 
 joined-from : (expand_dots unescaped : Bool) (text : List ℕ) → joined_bytes expand_dots (split_from unescaped text) ≡ rewritten_from (path_byte expand_dots) unescaped text
 joined-from expand_dots unescaped [] = refl

@@ -1,7 +1,7 @@
 -- Paths into JSON objects: segments with dots between them. 46 is the dot, 92 the backslash, 1 what separates joined segments.
-use Rattle.std.specs.Prelude.{ℕ, suc, zero, ◌==◌, ◌&&◌, ◌||◌, Bool, if◌then◌else◌, List, [], ◌∷◌, ◌++◌, length, map, slice_index}
+use Rattle.std.specs.Prelude.{ℕ, suc, zero, ◌==◌, ◌&&◌, Bool, if◌then◌else◌, List, [], ◌∷◌, ◌++◌, length, map, slice_index}
 use Rattle.std.specs.List.{flat_map, slice_split, join_with_byte}
-use Rattle.tv_base.specs.Escapes.{is_unescaped}
+use Rattle.tv_base.specs.Escapes.{is_unescaped, kept_byte}
 
 -- each byte below the place, behind whether it is unescaped
 abbrev pub marked_below : List ℕ → ℕ → List (Bool × ℕ)
@@ -14,13 +14,9 @@ marked text = marked_below text (length text)
 abbrev pub is_splitting : Bool × ℕ → Bool
 is_splitting mark = mark.0 && (mark.1 == 46)
 
--- an unescaped backslash goes
-abbrev pub kept : Bool × ℕ → List ℕ
-kept mark = if mark.0 && (mark.1 == 92) then [] else mark.1 ∷ []
-
 -- the texts between the unescaped dots, without their unescaped backslashes
 abbrev pub split : List ℕ → List (List ℕ)
-split path = map (flat_map kept) (slice_split is_splitting (marked path))
+split path = map (flat_map (λ mark. kept_byte mark.0 mark.1)) (slice_split is_splitting (marked path))
 
 -- where dots are expanded, a dot of a segment separates too
 abbrev pub expanded : Bool → ℕ → ℕ

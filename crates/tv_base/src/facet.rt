@@ -11,8 +11,8 @@ ghost use Rattle.std.specs.Cmp.{partial_equiv_from_equiv};
 ghost use Rattle.std.specs.Cmp.Lexicographic.{slice_cmp, nat_list_eq_equiv, nat_list_cmp_total, texts_ties, texts_po};
 ghost use Rattle.tv_base.specs.Facet.{parse, path, printed, debug_printed, IsParseError, Descends};
 
-use crate::escapes::{decode, printed_text};
 use crate::facet_parse_error::FacetParseError;
+use crate::text_rules::{Rule, printed_text, rewrite};
 use std::alloc::{AllocError, Global};
 use std::cmp::Ordering;
 use std::fmt;
@@ -95,9 +95,11 @@ impl Facet {
         ensures refused { IfErr result (IsParseError text.now) }
     {
         match text.strip_prefix('/') {
-            Some(rest) => Ok(Facet {
-                encoded: decode(alloc, rest)?,
-            }),
+            Some(rest) => {
+                let mut encoded = String::new(alloc);
+                rewrite(Rule::Facet, rest, &mut encoded)?;
+                Ok(Facet { encoded })
+            }
             None => {
                 let copy = String::from_str(alloc, text)?;
                 Err(FacetParseError::FacetParseError(copy))

@@ -3,6 +3,7 @@
 ghost use Rattle.std.specs.Prelude.{◌≡◌, ◌<◌, ◌∷◌, ◌++◌, [], OnOk, MatchOption};
 ghost use Rattle.std.specs.String.{string_bytes};
 ghost use Rattle.tv_base.specs.Escapes.{rewritten};
+ghost use Rattle.tv_base.specs.Facet.{printed_or_slash};
 ghost use Rattle.tv_base.specs.Rewriting.{stands_for};
 
 use std::alloc::AllocError;
@@ -48,4 +49,16 @@ pub(crate) fn rewrite(rule: Rule, text: &str, out: &mut String) -> Result<(), Al
         }
     }
     out.push_str(&text[start..])
+}
+
+/// What is printed for a byte of an encoded facet, where that isn't the byte itself.
+pub(crate) fn printed_text(byte: u8) -> Option<&'static str>
+    ensures { MatchOption result (printed_or_slash byte ≡ byte ∷ []) (λ text. (text.now ≡ printed_or_slash byte) × (byte < 128)) }
+{
+    match byte {
+        0 => Some("/"),
+        b'/' => Some("\\/"),
+        b'\\' => Some("\\\\"),
+        _ => None,
+    }
 }

@@ -1,4 +1,4 @@
-use Rattle.std.proofs.Common.{rules, List, Bool, ℕ, ◌≡◌, ◌∙◌, ◌++◌, ◌∷◌, [], map, take, length, sym, ap, append_assoc, arith, string_bytes, get_or, String, Global}
+use Rattle.std.proofs.Common.{rules, ◌≡◌, ◌∙◌, ◌++◌, ◌∷◌, [], map, take, sym, ap, append_assoc, arith, string_bytes, get_or, String, Global}
 use Rattle.std.proofs.lemmas.List.{take_all}
 use Rattle.std.proofs.lemmas.Simd.{map-map}
 use Rattle.std.specs.List.{join_with_byte}
