@@ -1,4 +1,4 @@
-use Rattle.std.proofs.Common.{◌≡◌, ◌∙◌, ◌&&◌, true, false, not, ap, arith, eqb, get_or, rules}
+use Rattle.std.proofs.Common.{◌≡◌, ◌&&◌, true, false, not, ap, arith, eqb, get_or, rules}
 use Rattle.std.proofs.lemmas.Grind.{common_steps}
 use Rattle.std.specs.Str.{bytes_eq}
 use Rattle.tv_base.specs.Escapes.{kept_byte}
@@ -37,4 +37,4 @@ returns-in_default-2 c =
 
 pub returns : goal.returns
 returns c =
-    c.is_empty.ensures ∙ compare-end _ (not c.loop-byte.is_escape) c.as_bytes-byte-items.result.now c.loop-byte.rest.now c.loop-byte.byte-index c.loop-byte-test.false c.loop-byte.invariant
+    cc (compare-end _ (not c.loop-byte.is_escape) c.as_bytes-byte-items.result.now c.loop-byte.rest.now c.loop-byte.byte-index c.loop-byte-test.false c.loop-byte.invariant)
