@@ -234,6 +234,35 @@ impl Default for TextOptions {
 }
 
 impl TextOptions {
+    /// Options of these parts (own).
+    pub fn from_parts(
+        indexing: Option<TextFieldIndexing>,
+        stored: bool,
+        fast: FastFieldTextOptions,
+        coerce: bool,
+    ) -> TextOptions
+        ensures { result ≡ record {
+            indexing = indexing;
+            stored = stored;
+            fast = fast;
+            coerce = coerce;
+        } }
+    {
+        TextOptions {
+            indexing,
+            stored,
+            fast,
+            coerce,
+        }
+    }
+
+    /// Whether there is a fast field, and by which tokenizer (own).
+    pub fn fast_field(&self) -> &FastFieldTextOptions
+        ensures { result.now ≡ self.now.fast }
+    {
+        &self.fast
+    }
+
     /// How texts are indexed, or `None` where they aren't.
     pub fn get_indexing_options(&self) -> Option<&TextFieldIndexing>
         ensures { option_copied result ≡ self.now.indexing }

@@ -1,1 +1,2 @@
+pub mod SchemaJsonItems
 pub mod Schemas

@@ -1,3 +1,4 @@
 pub mod Entry
 pub mod Schema
+pub mod SchemaJson
 pub mod Table

@@ -3,6 +3,7 @@
 
 pub mod field_entry;
 pub mod field_type;
+pub mod json;
 pub mod laws;
 pub mod schema;
 pub mod schema_error;
