@@ -57,13 +57,6 @@ impl JsonObjectOptions {
         }
     }
 
-    /// Whether there is a fast field, and by which tokenizer (own).
-    pub fn fast_field(&self) -> &FastFieldTextOptions
-        ensures { result.now ≡ self.now.fast }
-    {
-        &self.fast
-    }
-
     /// Whether the values are kept in the document store.
     pub fn is_stored(&self) -> bool
         ensures { result ≡ self.now.stored }

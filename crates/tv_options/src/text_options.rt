@@ -256,13 +256,6 @@ impl TextOptions {
         }
     }
 
-    /// Whether there is a fast field, and by which tokenizer (own).
-    pub fn fast_field(&self) -> &FastFieldTextOptions
-        ensures { result.now ≡ self.now.fast }
-    {
-        &self.fast
-    }
-
     /// How texts are indexed, or `None` where they aren't.
     pub fn get_indexing_options(&self) -> Option<&TextFieldIndexing>
         ensures { option_copied result ≡ self.now.indexing }

@@ -1,2 +1,4 @@
 pub mod SchemaJsonItems
+pub mod SchemaJsonReadBack
+pub mod SchemaJsonWords
 pub mod Schemas

@@ -1,6 +1,7 @@
 -- A schema as JSON: what is written of it. The members of an object stand in byte order of their keys, which `put` keeps.
 use Rattle.std.specs.Prelude.{ℕ, Bool, true, List, [], ◌∷◌, Option, None, Some, option_map, codes, if◌then◌else◌}
 use Rattle.serde_json.specs.Data.{Data, null, boolean, string, array, object, Items, no_items, item, Members, no_members, member, put}
+use Rattle.tv_options.specs.TextOptions.{is_fast_field, tokenizer_of}
 use Rattle.tv_options.specs.declared.bytes_options.BytesOptions.{BytesOptions}
 use Rattle.tv_options.specs.declared.date_time_options.DateOptions.{DateOptions}
 use Rattle.tv_options.specs.declared.facet_options.FacetOptions.{FacetOptions}
@@ -9,8 +10,6 @@ use Rattle.tv_options.specs.declared.index_record_option.IndexRecordOption.TheVa
 use Rattle.tv_options.specs.declared.ip_options.IpAddrOptions.{IpAddrOptions}
 use Rattle.tv_options.specs.declared.json_object_options.JsonObjectOptions.{JsonObjectOptions}
 use Rattle.tv_options.specs.declared.numeric_options.NumericOptions.{NumericOptions}
-use Rattle.tv_options.specs.declared.text_options.FastFieldTextOptions.{FastFieldTextOptions}
-use Rattle.tv_options.specs.declared.text_options.FastFieldTextOptions.TheVariants.{IsEnabled, EnabledWithTokenizer}
 use Rattle.tv_options.specs.declared.text_options.TextFieldIndexing.{TextFieldIndexing}
 use Rattle.tv_options.specs.declared.text_options.TextOptions.{TextOptions}
 use Rattle.tv_options.specs.declared.types.TypeTag.{TypeTag}
@@ -58,10 +57,10 @@ put_some key (Some found) members = put key found members
 
 -- ---- options
 
--- a fast field: whether there is one, or its tokenizer
-abbrev pub fast_json : FastFieldTextOptions → Data
-fast_json (IsEnabled enabled) = boolean enabled
-fast_json (EnabledWithTokenizer tokenizer) = object (member (codes "with_tokenizer") (string tokenizer) no_members)
+-- a fast field's tokenizer, or else whether there is a fast field
+abbrev pub fast_json : Bool → Option (List ℕ) → Data
+fast_json is_fast None = boolean is_fast
+fast_json is_fast (Some tokenizer) = object (member (codes "with_tokenizer") (string tokenizer) no_members)
 
 abbrev pub indexing_json : TextFieldIndexing → Data
 indexing_json indexing = object (
@@ -74,7 +73,7 @@ abbrev pub text_json : TextOptions → Data
 text_json options = object (
     put_true (codes "coerce") options.coerce (
     put_some (codes "indexing") (option_map indexing_json options.indexing) (
-    member (codes "fast") (fast_json options.fast) (
+    member (codes "fast") (fast_json (is_fast_field options.fast) (tokenizer_of options.fast)) (
     member (codes "stored") (boolean options.stored) no_members))))
 
 -- `fieldnorms` as it was asked for; `coerce` is not written where it isn't set
@@ -112,7 +111,7 @@ indexing_or_null (Some indexing) = indexing_json indexing
 abbrev pub json_object_json : JsonObjectOptions → Data
 json_object_json options = object (
     member (codes "expand_dots_enabled") (boolean options.expand_dots_enabled) (
-    member (codes "fast") (fast_json options.fast) (
+    member (codes "fast") (fast_json (is_fast_field options.fast) (tokenizer_of options.fast)) (
     member (codes "indexing") (indexing_or_null options.indexing) (
     member (codes "stored") (boolean options.stored) no_members))))
 

@@ -3,11 +3,17 @@
 ghost use Rattle.std.specs.Prelude.{◌≡◌, IfOk};
 ghost use Rattle.serde_json.specs.View.{view};
 ghost use Rattle.tv_schema.specs.SchemaJson.{schema_json};
+ghost use Rattle.tv_schema.specs.SchemaJsonReading.{Gives, schema_of};
 
+mod entries;
+pub mod laws;
+mod members;
+mod options;
 mod words;
 mod write;
 
 use crate::schema::Schema;
+use crate::schema_error::SchemaError;
 use serde_json::Value;
 use std::alloc::{AllocError, Global};
 
@@ -18,5 +24,21 @@ impl Schema {
         ensures { IfOk result (λ value. view value ≡ schema_json self.now) }
     {
         write::schema_json(alloc, self.table.entries())
+    }
+
+    /// The schema that the JSON value describes, in the form in which `to_json_value` prints one. Keys that aren't named
+    /// there are passed over.
+    ///
+    /// Errors: `BadJson { entry: None }` where the value is no array. Else the first faulty entry's, from the place 0:
+    /// `BadJson` where it is no object, or its `name` or `type` is no text, or the type's word is unknown; `FloatField`
+    /// for the type `f64`; `BadJson` where its `options` are no object, or not those of the type; `InvalidName`,
+    /// `DuplicateName` or `TooManyFields` as `SchemaBuilder::add_field` has them. `Memory` where memory was refused.
+    pub fn from_json_value(alloc: Global, value: &Value) -> Result<Schema, SchemaError>
+        ensures { Gives (λ schema. schema) (schema_of (view value.now)) result }
+    {
+        let items = value
+            .as_array()
+            .ok_or(SchemaError::BadJson { entry: None })?;
+        Ok(entries::builder_of(alloc, items)?.build()?)
     }
 }

@@ -2,6 +2,7 @@
 
 ghost use Rattle.std.specs.Prelude.{◌≡◌};
 ghost use Rattle.tv_schema.specs.SchemaJson.{type_word, record_word, precision_word};
+ghost use Rattle.tv_schema.specs.SchemaJsonOptions.{type_of_word, record_of_word, precision_of_word};
 
 use tv_options::{DateTimePrecision, IndexRecordOption, Type};
 
@@ -42,5 +43,51 @@ pub(super) fn precision_word(precision: DateTimePrecision) -> &'static str
         DateTimePrecision::Milliseconds => "milliseconds",
         DateTimePrecision::Microseconds => "microseconds",
         DateTimePrecision::Nanoseconds => "nanoseconds",
+    }
+}
+
+/// The type of a word.
+#[tactic(auto, unfolding(crate::specs::SchemaJsonOptions::type_of_word))]
+pub(super) fn type_of_word(word: &str) -> Option<Type>
+    ensures { result ≡ type_of_word word.now }
+{
+    match word {
+        "text" => Some(Type::Str),
+        "u64" => Some(Type::U64),
+        "i64" => Some(Type::I64),
+        "bool" => Some(Type::Bool),
+        "date" => Some(Type::Date),
+        "facet" => Some(Type::Facet),
+        "bytes" => Some(Type::Bytes),
+        "json_object" => Some(Type::Json),
+        "ip_addr" => Some(Type::IpAddr),
+        _ => None,
+    }
+}
+
+/// What an index keeps of each term, by its word.
+#[tactic(auto, unfolding(crate::specs::SchemaJsonOptions::record_of_word))]
+pub(super) fn record_of_word(word: &str) -> Option<IndexRecordOption>
+    ensures { result ≡ record_of_word word.now }
+{
+    match word {
+        "basic" => Some(IndexRecordOption::Basic),
+        "freq" => Some(IndexRecordOption::WithFreqs),
+        "position" => Some(IndexRecordOption::WithFreqsAndPositions),
+        _ => None,
+    }
+}
+
+/// The precision of a word.
+#[tactic(auto, unfolding(crate::specs::SchemaJsonOptions::precision_of_word))]
+pub(super) fn precision_of_word(word: &str) -> Option<DateTimePrecision>
+    ensures { result ≡ precision_of_word word.now }
+{
+    match word {
+        "seconds" => Some(DateTimePrecision::Seconds),
+        "milliseconds" => Some(DateTimePrecision::Milliseconds),
+        "microseconds" => Some(DateTimePrecision::Microseconds),
+        "nanoseconds" => Some(DateTimePrecision::Nanoseconds),
+        _ => None,
     }
 }

@@ -11,8 +11,8 @@ use crate::json::words::{precision_word, record_word, type_word};
 use serde_json::{Map, Value, json, put};
 use std::alloc::{AllocError, Global};
 use tv_options::{
-    BytesOptions, DateOptions, FacetOptions, FastFieldTextOptions, IpAddrOptions,
-    JsonObjectOptions, NumericOptions, TextFieldIndexing, TextOptions,
+    BytesOptions, DateOptions, FacetOptions, IpAddrOptions, JsonObjectOptions, NumericOptions,
+    TextFieldIndexing, TextOptions,
 };
 
 /// The entries of a schema, in order.
@@ -62,7 +62,11 @@ fn text_json(alloc: Global, texts: &TextOptions) -> Result<Value, AllocError>
         &mut members,
         alloc,
         "fast",
-        fast_json(alloc, texts.fast_field())?,
+        fast_json(
+            alloc,
+            texts.is_fast(),
+            texts.get_fast_field_tokenizer_name(),
+        )?,
     )?;
     put(
         &mut members,
@@ -171,7 +175,7 @@ fn json_object_json(alloc: Global, objects: &JsonObjectOptions) -> Result<Value,
     };
     json!(in alloc; {
         "expand_dots_enabled": objects.is_expand_dots_enabled(),
-        "fast": fast_json(alloc, objects.fast_field())?,
+        "fast": fast_json(alloc, objects.is_fast(), objects.get_fast_field_tokenizer_name())?,
         "indexing": indexing,
         "stored": objects.is_stored(),
     })
@@ -198,13 +202,16 @@ fn indexing_json(alloc: Global, indexing: &TextFieldIndexing) -> Result<Value, A
     })
 }
 
-fn fast_json(alloc: Global, fast: &FastFieldTextOptions) -> Result<Value, AllocError>
-    ensures { IfOk result (λ value. view value ≡ fast_json fast.now) }
+/// A fast field's tokenizer, or else whether there is a fast field.
+fn fast_json(
+    alloc: Global,
+    is_fast: bool,
+    tokenizer_name: Option<&str>,
+) -> Result<Value, AllocError>
+    ensures { IfOk result (λ value. view value ≡ fast_json is_fast (option_copied tokenizer_name.entry)) }
 {
-    match fast {
-        FastFieldTextOptions::IsEnabled(enabled) => Ok(Value::Bool(*enabled)),
-        FastFieldTextOptions::EnabledWithTokenizer { with_tokenizer } => {
-            json!(in alloc; {"with_tokenizer": with_tokenizer.name()})
-        }
+    match tokenizer_name {
+        Some(name) => json!(in alloc; {"with_tokenizer": name}),
+        None => Ok(Value::Bool(is_fast)),
     }
 }
