@@ -1,30 +1,27 @@
 -- What is written of a schema is read as that schema.
-use Rattle.std.proofs.Common.{◌≡◌, ◌≢◌, ℕ, zero, suc, ◌+◌, ◌<◌, ◌^◌, Bool, true, false, cond, not, IsTrue, List, [], ◌∷◌, ◌++◌, length, get_or, Option, Some, None, Result, Ok, Err, codes, refl, sym, ap, ◌∙◌, arith, append_assoc, append-nil, subst, eqb, is_some, option_map, option_and_then}
+use Rattle.std.proofs.Common.{◌≡◌, ◌≢◌, ℕ, suc, ◌+◌, ◌<◌, Bool, true, false, List, [], ◌∷◌, ◌++◌, length, get_or, Option, Some, None, Result, Ok, refl, sym, ap, ◌∙◌, arith, append_assoc, append-nil, subst, eqb, option_and_then}
 use Rattle.std.proofs.lemmas.Bool.{ne_eqb}
 use Rattle.std.proofs.lemmas.Grind.{common_steps}
 use Rattle.std.proofs.lemmas.List.{length-append}
 use Rattle.std.proofs.lemmas.Slice.Eq.{bytes_eq-Decides}
 use Rattle.std.specs.Str.{bytes_eq}
-use Rattle.serde_json.specs.Data.{Members, boolean, string, member, no_members}
 use Rattle.serde_json.specs.Find.{as_object}
 use Rattle.tv_options.specs.declared.date_time_options.DateOptions.{DateOptions}
 use Rattle.tv_options.specs.declared.index_record_option.IndexRecordOption.{IndexRecordOption}
 use Rattle.tv_options.specs.declared.index_record_option.IndexRecordOption.TheVariants.{Basic, WithFreqs, WithFreqsAndPositions}
-use Rattle.tv_options.specs.declared.json_object_options.JsonObjectOptions.{JsonObjectOptions}
 use Rattle.tv_options.specs.declared.numeric_options.NumericOptions.{NumericOptions}
 use Rattle.tv_options.specs.declared.text_options.FastFieldTextOptions.{FastFieldTextOptions}
 use Rattle.tv_options.specs.declared.text_options.FastFieldTextOptions.TheVariants.{IsEnabled, EnabledWithTokenizer}
 use Rattle.tv_options.specs.declared.text_options.TextFieldIndexing.{TextFieldIndexing}
-use Rattle.tv_options.specs.declared.text_options.TextOptions.{TextOptions}
 use Rattle.tv_options.specs.declared.types.TypeTag.{TypeTag}
 use Rattle.tv_options.specs.declared.types.TypeTag.TheVariants as tags
 use Rattle.tv_options.specs.TextOptions.{is_fast_field, tokenizer_of}
 use Rattle.tv_value.specs.declared.date_time.DateTimePrecision.{DateTimePrecision}
 use Rattle.tv_value.specs.declared.date_time.DateTimePrecision.TheVariants.{Seconds, Milliseconds, Microseconds, Nanoseconds}
-use Rattle.tv_schema.specs.Entry.{Entry, value_type, is_valid_name, IsValidName}
+use Rattle.tv_schema.specs.Entry.{Entry, value_type, is_valid_name}
 use Rattle.tv_schema.specs.Schema.{IsSchema, refusal, field_named, place_from}
-use Rattle.tv_schema.specs.SchemaJson.{type_word, record_word, precision_word, put_true, put_some, fast_json, indexing_json, text_json, numeric_json, date_json, json_object_json, options_json, entry_json, entries_json, schema_json}
-use Rattle.tv_schema.specs.SchemaJsonOptions.{type_of_word, record_of_word, precision_of_word, required_bool, required_text, required_object, bool_or, text_or, bool_or_null, record_or_basic, indexing_of, optional_indexing, fast_field_of, fast_field_or_none, required_fast_field, text_options_of, numeric_options_of, bytes_options_of, precision_or_seconds, date_options_of, facet_options_of, json_object_options_of, ip_addr_options_of, options_of}
+use Rattle.tv_schema.specs.SchemaJson.{type_word, record_word, precision_word, fast_json, indexing_json, text_json, numeric_json, date_json, json_object_json, options_json, entry_json, entries_json, schema_json}
+use Rattle.tv_schema.specs.SchemaJsonOptions.{type_of_word, record_of_word, precision_of_word, required_bool, required_text, required_object, bool_or, text_or, fieldnorms_or, record_or_basic, indexing_of, optional_indexing, fast_field_of, fast_field_or_none, required_fast_field, text_options_of, numeric_options_of, bytes_options_of, precision_or_seconds, date_options_of, facet_options_of, json_object_options_of, ip_addr_options_of, options_of}
 use Rattle.tv_schema.specs.SchemaJsonReading.{or_bad, ◌>>=◌, type_named, entry_of, with_entry, with_entries, schema_of}
 use Rattle.tv_schema.proofs.SchemaJsonWords.{cond-not}
 use Rattle.tv_schema.specs.declared.schema_error.SchemaError.{SchemaError}
@@ -81,7 +78,7 @@ text_members_read (Some indexing) stored fast false = rw (indexing_of-indexing_j
 numeric_members_read : (indexed fieldnorms fast stored coerce : Bool)
     → option_and_then numeric_options_of (as_object (numeric_json (record { indexed = indexed; fieldnorms = fieldnorms; fast = fast; stored = stored; coerce = coerce })))
     ≡ Some (record { indexed = indexed; fieldnorms = fieldnorms; fast = fast; stored = stored; coerce = coerce })
-unfolding numeric_options_of required_bool bool_or bool_or_null
+unfolding numeric_options_of required_bool bool_or fieldnorms_or
 numeric_members_read indexed fieldnorms fast stored true = refl
 numeric_members_read indexed fieldnorms fast stored false = refl
 
@@ -101,7 +98,7 @@ json_object_members_read stored (Some indexing) fast dots = rw (fast_field_of-fa
 
 -- each type's options
 options_of-options_json : (field_type : FieldType) → option_and_then (options_of (value_type field_type)) (as_object (options_json field_type)) ≡ Some field_type
-unfolding options_of bytes_options_of facet_options_of ip_addr_options_of required_bool bool_or_null
+unfolding options_of bytes_options_of facet_options_of ip_addr_options_of required_bool fieldnorms_or
 options_of-options_json (types.Str options) = rw (text_members_read options.indexing options.stored options.fast options.coerce)
 options_of-options_json (types.U64 options) = rw (numeric_options_of-numeric_json options)
 options_of-options_json (types.I64 options) = rw (numeric_options_of-numeric_json options)

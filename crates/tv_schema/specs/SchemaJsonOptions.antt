@@ -77,9 +77,9 @@ unless_null None = None
 unless_null (Some null) = None
 unless_null (Some other) = Some other
 
--- the truth value at the key, or the default where the key isn't there or null stands there
-unfoldable pub bool_or_null : Bool → List ℕ → Members → Option Bool
-bool_or_null default key members = read_or default as_bool (unless_null (get_member key members))
+-- the truth value at the key `fieldnorms`; as `indexed` where the key isn't there or null stands there
+unfoldable pub fieldnorms_or : Bool → Members → Option Bool
+fieldnorms_or indexed members = read_or indexed as_bool (unless_null (get_member (codes "fieldnorms") members))
 
 -- ---- indexing and fast fields
 
@@ -120,23 +120,21 @@ text_options_of members = do
   coerce ← bool_or false (codes "coerce") members
   Some (record { indexing = indexing; stored = stored; fast = fast; coerce = coerce })
 
--- where `fieldnorms` isn't told it is as `indexed`
 unfoldable pub numeric_options_of : Members → Option NumericOptions
 numeric_options_of members = do
   indexed ← required_bool (codes "indexed") members
   stored ← required_bool (codes "stored") members
-  fieldnorms ← bool_or_null indexed (codes "fieldnorms") members
+  fieldnorms ← fieldnorms_or indexed members
   fast ← bool_or false (codes "fast") members
   coerce ← bool_or false (codes "coerce") members
   Some (record { indexed = indexed; fieldnorms = fieldnorms; fast = fast; stored = stored; coerce = coerce })
 
--- where `fieldnorms` isn't told it is as `indexed`
 unfoldable pub bytes_options_of : Members → Option BytesOptions
 bytes_options_of members = do
   indexed ← required_bool (codes "indexed") members
   fast ← required_bool (codes "fast") members
   stored ← required_bool (codes "stored") members
-  fieldnorms ← bool_or_null indexed (codes "fieldnorms") members
+  fieldnorms ← fieldnorms_or indexed members
   Some (record { indexed = indexed; fieldnorms = fieldnorms; fast = fast; stored = stored })
 
 unfoldable pub precision_or_seconds : Members → Option DateTimePrecision

@@ -1,9 +1,10 @@
 //! Schemas as JSON.
 
-ghost use Rattle.std.specs.Prelude.{◌≡◌, IfOk};
+ghost use Rattle.std.specs.Prelude.{◌≡◌, ◌≢◌, Ok, Err, IfOk, IfErr};
 ghost use Rattle.serde_json.specs.View.{view};
 ghost use Rattle.tv_schema.specs.SchemaJson.{schema_json};
-ghost use Rattle.tv_schema.specs.SchemaJsonReading.{Gives, schema_of};
+ghost use Rattle.tv_schema.specs.SchemaJsonReading.{schema_of};
+ghost use Rattle.tv_schema.specs.declared.schema_error.SchemaError.TheVariants.{Memory};
 
 mod entries;
 pub mod laws;
@@ -34,7 +35,8 @@ impl Schema {
     /// for the type `f64`; `BadJson` where its `options` are no object, or not those of the type; `InvalidName`,
     /// `DuplicateName` or `TooManyFields` as `SchemaBuilder::add_field` has them. `Memory` where memory was refused.
     pub fn from_json_value(alloc: Global, value: &Value) -> Result<Schema, SchemaError>
-        ensures { Gives (λ schema. schema) (schema_of (view value.now)) result }
+        ensures ok { IfOk result (λ schema. schema_of (view value.now) ≡ Ok schema) }
+        ensures err { IfErr result (λ error. error ≢ Memory → schema_of (view value.now) ≡ Err error) }
     {
         let items = value
             .as_array()

@@ -15,4 +15,6 @@ pub use schema::{Schema, SchemaBuilder};
 pub use schema_error::SchemaError;
 
 #[cfg(test)]
+mod json_tests;
+#[cfg(test)]
 mod tests;

@@ -3,7 +3,7 @@
 ghost use Rattle.std.specs.Prelude.{◌≡◌, option_map};
 ghost use Rattle.serde_json.specs.Find.{get_member};
 ghost use Rattle.serde_json.specs.View.{view, members_view};
-ghost use Rattle.tv_schema.specs.SchemaJsonOptions.{required_bool, required_text, required_object, bool_or, bool_or_null, text_or, unless_null};
+ghost use Rattle.tv_schema.specs.SchemaJsonOptions.{required_bool, required_text, required_object, bool_or, text_or, unless_null};
 
 use serde_json::{Map, Value};
 
@@ -56,18 +56,6 @@ pub(super) fn bool_or(members: &Members, key: &str, default: bool) -> Option<boo
     ensures { result ≡ bool_or default key.now (members_view members.now.entries) }
 {
     match member(members, key) {
-        Some(found) => found.as_bool(),
-        None => Some(default),
-    }
-}
-
-/// The truth value at the key, or the default where the key isn't there or null stands there; `None` for a value of
-/// another kind.
-#[tactic(auto, unfolding(crate::specs::SchemaJsonOptions::bool_or_null))]
-pub(super) fn bool_or_null(members: &Members, key: &str, default: bool) -> Option<bool>
-    ensures { result ≡ bool_or_null default key.now (members_view members.now.entries) }
-{
-    match present(members, key) {
         Some(found) => found.as_bool(),
         None => Some(default),
     }

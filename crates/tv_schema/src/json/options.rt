@@ -2,11 +2,11 @@
 
 ghost use Rattle.std.specs.Prelude.{◌≡◌, IfOk};
 ghost use Rattle.serde_json.specs.View.{view, members_view};
-ghost use Rattle.tv_schema.specs.SchemaJsonOptions.{options_of, text_options_of, numeric_options_of, date_options_of, facet_options_of, bytes_options_of, json_object_options_of, ip_addr_options_of, optional_indexing, indexing_of, fast_field_of, fast_field_or_none, required_fast_field, record_or_basic, precision_or_seconds};
+ghost use Rattle.tv_schema.specs.SchemaJsonOptions.{options_of, text_options_of, numeric_options_of, date_options_of, facet_options_of, bytes_options_of, json_object_options_of, ip_addr_options_of, optional_indexing, indexing_of, fieldnorms_or, fast_field_of, fast_field_or_none, required_fast_field, record_or_basic, precision_or_seconds};
 
 use crate::field_type::FieldType;
 use crate::json::members::{
-    Members, bool_or, bool_or_null, member, present, required_bool, required_text, text_or,
+    Members, bool_or, member, present, required_bool, required_text, text_or,
 };
 use crate::json::words::{precision_of_word, record_of_word};
 use serde_json::Value;
@@ -64,7 +64,7 @@ fn numeric_options_of(members: &Members) -> Option<NumericOptions>
 {
     let indexed = required_bool(members, "indexed")?;
     let stored = required_bool(members, "stored")?;
-    let fieldnorms = bool_or_null(members, "fieldnorms", indexed)?;
+    let fieldnorms = fieldnorms_or(members, indexed)?;
     let fast = bool_or(members, "fast", false)?;
     let coerce = bool_or(members, "coerce", false)?;
     Some(NumericOptions::from_parts(indexed, fieldnorms, fast, stored, coerce))
@@ -97,7 +97,7 @@ fn bytes_options_of(members: &Members) -> Option<BytesOptions>
     let indexed = required_bool(members, "indexed")?;
     let fast = required_bool(members, "fast")?;
     let stored = required_bool(members, "stored")?;
-    let fieldnorms = bool_or_null(members, "fieldnorms", indexed)?;
+    let fieldnorms = fieldnorms_or(members, indexed)?;
     Some(BytesOptions::from_parts(indexed, fieldnorms, fast, stored))
 }
 
@@ -132,6 +132,17 @@ fn ip_addr_options_of(members: &Members) -> Option<IpAddrOptions>
     let indexed = required_bool(members, "indexed")?;
     let fieldnorms = required_bool(members, "fieldnorms")?;
     Some(IpAddrOptions::from_parts(indexed, fieldnorms, fast, stored))
+}
+
+/// The truth value at the key `fieldnorms`, as `indexed` where the key isn't there or null stands there.
+#[tactic(auto, unfolding(crate::specs::SchemaJsonOptions::fieldnorms_or))]
+fn fieldnorms_or(members: &Members, indexed: bool) -> Option<bool>
+    ensures { result ≡ fieldnorms_or indexed (members_view members.now.entries) }
+{
+    match present(members, "fieldnorms") {
+        Some(found) => found.as_bool(),
+        None => Some(indexed),
+    }
 }
 
 /// The indexing at the key `indexing`, `Some(None)` where the key isn't there or null stands there.
@@ -194,10 +205,10 @@ fn required_fast_field(
 ) -> Result<Option<FastFieldTextOptions>, AllocError>
     ensures { IfOk result (λ found. found ≡ required_fast_field (members_view members.now.entries)) }
 {
-    match member(members, "fast") {
-        Some(found) => fast_field_of(alloc, found),
-        None => Ok(None),
-    }
+    let Some(found) = member(members, "fast") else {
+        return Ok(None);
+    };
+    fast_field_of(alloc, found)
 }
 
 #[tactic(auto, unfolding(crate::specs::SchemaJsonOptions::fast_field_of))]

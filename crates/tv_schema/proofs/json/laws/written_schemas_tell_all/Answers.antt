@@ -1,4 +1,4 @@
-use Rattle.std.proofs.Common.{◌≡◌, Ok, sym, ap, ◌∙◌}
+use Rattle.std.proofs.Common.{sym, ap, ◌∙◌}
 use Rattle.tv_schema.specs.SchemaJsonReading.{schema_of}
 use Rattle.tv_schema.proofs.SchemaJsonReadBack.{schema_of-schema_json}
 use Rattle.tv_schema.proofs.json.laws.written_schemas_tell_all.Goals as goal

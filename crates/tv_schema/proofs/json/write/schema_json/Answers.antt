@@ -1,6 +1,7 @@
-use Rattle.std.proofs.Common.{◌≡◌, ◌+◌, ◌<◌, [], ◌∷◌, length, drop, sym, ap, ◌∙◌, arith}
+use Rattle.std.proofs.Common.{◌≡◌, ◌+◌, ◌<◌, List, [], ◌∷◌, length, drop, sym, ap, ◌∙◌, arith}
 use Rattle.std.proofs.lemmas.List.{drop_more, drop_all}
 use Rattle.serde_json.specs.Data.{array, item}
+use Rattle.serde_json.specs.declared.value.Value.{Value}
 use Rattle.serde_json.proofs.Views.{view-Array}
 use Rattle.tv_schema.specs.SchemaJson.{entries_json}
 use Rattle.tv_schema.proofs.SchemaJsonItems.{items_before, items_before-no_items, items_before-push}
@@ -16,7 +17,7 @@ loop-entry-preserved c =
     l.invariant ∙ ap (λ ys. items_before l.items.items (entries_json ys)) next
     ∙ ap (λ d. items_before l.items.items (item d (entries_json left))) (sym c.in_ok-entry_json.ensures)
     ∙ sym (items_before-push l.items.items c.in_ok-entry_json.field-0 (entries_json left))
-    ∙ ap (λ vs. items_before vs (entries_json left)) (sym c.in_ok-push.ensures.items)
+    ∙ ap (λ vs. items_before vs (entries_json left)) (sym {A = List Value} c.in_ok-push.ensures.items)
 
 pub returns : goal.returns
 returns c =
