@@ -17,6 +17,23 @@ pub struct BytesOptions {
 }
 
 impl BytesOptions {
+    /// Options of these parts (own).
+    pub fn from_parts(indexed: bool, fieldnorms: bool, fast: bool, stored: bool) -> BytesOptions
+        ensures { result ≡ record {
+            indexed = indexed;
+            fieldnorms = fieldnorms;
+            fast = fast;
+            stored = stored;
+        } }
+    {
+        BytesOptions {
+            indexed,
+            fieldnorms,
+            fast,
+            stored,
+        }
+    }
+
     /// Whether the values are kept in the document store.
     pub fn is_stored(&self) -> bool
         ensures { result ≡ self.now.stored }

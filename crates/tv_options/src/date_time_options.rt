@@ -19,6 +19,31 @@ pub struct DateOptions {
 }
 
 impl DateOptions {
+    /// Options of these parts (own).
+    pub fn from_parts(
+        indexed: bool,
+        fieldnorms: bool,
+        fast: bool,
+        stored: bool,
+        precision: DateTimePrecision,
+    ) -> DateOptions
+        ensures { result ≡ record {
+            indexed = indexed;
+            fieldnorms = fieldnorms;
+            fast = fast;
+            stored = stored;
+            precision = precision;
+        } }
+    {
+        DateOptions {
+            indexed,
+            fieldnorms,
+            fast,
+            stored,
+            precision,
+        }
+    }
+
     /// Whether the values are kept in the document store.
     pub fn is_stored(&self) -> bool
         ensures { result ≡ self.now.stored }
@@ -38,6 +63,13 @@ impl DateOptions {
         ensures { result ≡ (self.now.fieldnorms && self.now.indexed) }
     {
         self.fieldnorms && self.indexed
+    }
+
+    /// Whether field norms were asked for, also where the values aren't searchable and `fieldnorms` is false (own).
+    pub fn asks_for_fieldnorms(&self) -> bool
+        ensures { result ≡ self.now.fieldnorms }
+    {
+        self.fieldnorms
     }
 
     /// Whether there is a fast field: the values in a column, for access by document.

@@ -16,6 +16,13 @@ pub struct FacetOptions {
 }
 
 impl FacetOptions {
+    /// Options of this part (own).
+    pub fn from_parts(stored: bool) -> FacetOptions
+        ensures { result ≡ record { stored = stored } }
+    {
+        FacetOptions { stored }
+    }
+
     /// Whether the values are kept in the document store.
     pub fn is_stored(&self) -> bool
         ensures { result ≡ self.now.stored }

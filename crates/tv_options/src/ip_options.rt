@@ -17,6 +17,23 @@ pub struct IpAddrOptions {
 }
 
 impl IpAddrOptions {
+    /// Options of these parts (own).
+    pub fn from_parts(indexed: bool, fieldnorms: bool, fast: bool, stored: bool) -> IpAddrOptions
+        ensures { result ≡ record {
+            indexed = indexed;
+            fieldnorms = fieldnorms;
+            fast = fast;
+            stored = stored;
+        } }
+    {
+        IpAddrOptions {
+            indexed,
+            fieldnorms,
+            fast,
+            stored,
+        }
+    }
+
     /// Whether the values are kept in the document store.
     pub fn is_stored(&self) -> bool
         ensures { result ≡ self.now.stored }

@@ -35,6 +35,28 @@ impl Default for JsonObjectOptions {
 }
 
 impl JsonObjectOptions {
+    /// Options of these parts (own).
+    pub fn from_parts(
+        stored: bool,
+        indexing: Option<TextFieldIndexing>,
+        fast: FastFieldTextOptions,
+        expand_dots_enabled: bool,
+    ) -> JsonObjectOptions
+        ensures { result ≡ record {
+            stored = stored;
+            indexing = indexing;
+            fast = fast;
+            expand_dots_enabled = expand_dots_enabled;
+        } }
+    {
+        JsonObjectOptions {
+            stored,
+            indexing,
+            fast,
+            expand_dots_enabled,
+        }
+    }
+
     /// Whether the values are kept in the document store.
     pub fn is_stored(&self) -> bool
         ensures { result ≡ self.now.stored }

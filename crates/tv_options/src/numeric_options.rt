@@ -18,6 +18,31 @@ pub struct NumericOptions {
 }
 
 impl NumericOptions {
+    /// Options of these parts (own).
+    pub fn from_parts(
+        indexed: bool,
+        fieldnorms: bool,
+        fast: bool,
+        stored: bool,
+        coerce: bool,
+    ) -> NumericOptions
+        ensures { result ≡ record {
+            indexed = indexed;
+            fieldnorms = fieldnorms;
+            fast = fast;
+            stored = stored;
+            coerce = coerce;
+        } }
+    {
+        NumericOptions {
+            indexed,
+            fieldnorms,
+            fast,
+            stored,
+            coerce,
+        }
+    }
+
     /// Whether the values are kept in the document store.
     pub fn is_stored(&self) -> bool
         ensures { result ≡ self.now.stored }
@@ -37,6 +62,13 @@ impl NumericOptions {
         ensures { result ≡ (self.now.fieldnorms && self.now.indexed) }
     {
         self.fieldnorms && self.indexed
+    }
+
+    /// Whether field norms were asked for, also where the values aren't searchable and `fieldnorms` is false (own).
+    pub fn asks_for_fieldnorms(&self) -> bool
+        ensures { result ≡ self.now.fieldnorms }
+    {
+        self.fieldnorms
     }
 
     /// Whether there is a fast field: the values in a column, for access by document.

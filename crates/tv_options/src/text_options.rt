@@ -234,6 +234,28 @@ impl Default for TextOptions {
 }
 
 impl TextOptions {
+    /// Options of these parts (own).
+    pub fn from_parts(
+        indexing: Option<TextFieldIndexing>,
+        stored: bool,
+        fast: FastFieldTextOptions,
+        coerce: bool,
+    ) -> TextOptions
+        ensures { result ≡ record {
+            indexing = indexing;
+            stored = stored;
+            fast = fast;
+            coerce = coerce;
+        } }
+    {
+        TextOptions {
+            indexing,
+            stored,
+            fast,
+            coerce,
+        }
+    }
+
     /// How texts are indexed, or `None` where they aren't.
     pub fn get_indexing_options(&self) -> Option<&TextFieldIndexing>
         ensures { option_copied result ≡ self.now.indexing }

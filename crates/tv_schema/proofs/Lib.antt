@@ -1,3 +1,6 @@
+pub mod SchemaJsonItems
+pub mod SchemaJsonReadBack
+pub mod SchemaJsonWords
 pub mod Schemas
 pub mod Names
 pub mod Finding

@@ -1,4 +1,7 @@
 pub mod Entry
 pub mod Schema
+pub mod SchemaJson
+pub mod SchemaJsonOptions
+pub mod SchemaJsonReading
 pub mod Table
 pub mod Path

@@ -1,9 +1,10 @@
-//! Schemas: fields by name and number, each with a type and its options.
+//! Schemas: fields by name, number and path, each with a type and its options; schemas as JSON.
 #![tactic(auto)]
 
 pub mod field_entry;
 pub mod field_iter;
 pub mod field_type;
+pub mod json;
 pub mod laws;
 mod path;
 pub mod schema;
@@ -16,6 +17,8 @@ pub use field_type::FieldType;
 pub use schema::{Schema, SchemaBuilder};
 pub use schema_error::SchemaError;
 
+#[cfg(test)]
+mod json_tests;
 #[cfg(test)]
 mod path_tests;
 #[cfg(test)]

@@ -223,7 +223,7 @@ fn check_name(table: &FieldTable, name: &str) -> Result<(), SchemaError>
 /// A schema: entries with distinct valid names, where field `i` is entry `i`. Its clones share them.
 #[derive(Drop)]
 pub struct Schema {
-    table: Rc<FieldTable>,
+    pub(crate) table: Rc<FieldTable>,
 }
 
 impl Model for Schema {

@@ -1,0 +1,46 @@
+//! Schemas as JSON.
+
+ghost use Rattle.std.specs.Prelude.{◌≡◌, ◌≢◌, Ok, Err, IfOk, IfErr};
+ghost use Rattle.serde_json.specs.View.{view};
+ghost use Rattle.tv_schema.specs.SchemaJson.{schema_json};
+ghost use Rattle.tv_schema.specs.SchemaJsonReading.{schema_of};
+ghost use Rattle.tv_schema.specs.declared.schema_error.SchemaError.TheVariants.{Memory};
+
+mod entries;
+pub mod laws;
+mod members;
+mod options;
+mod words;
+mod write;
+
+use crate::schema::Schema;
+use crate::schema_error::SchemaError;
+use serde_json::Value;
+use std::alloc::{AllocError, Global};
+
+impl Schema {
+    /// The schema as JSON: an array of the entries in the order of their numbers, each an object of `name`, `options`
+    /// and `type`. The only error is that memory is refused.
+    pub fn to_json_value(&self, alloc: Global) -> Result<Value, AllocError>
+        ensures { IfOk result (λ value. view value ≡ schema_json self.now) }
+    {
+        write::schema_json(alloc, self.table.entries())
+    }
+
+    /// The schema that the JSON value describes, in the form in which `to_json_value` prints one. Keys that aren't named
+    /// there are passed over.
+    ///
+    /// Errors: `BadJson { entry: None }` where the value is no array. Else the first faulty entry's, from the place 0:
+    /// `BadJson` where it is no object, or its `name` or `type` is no text, or the type's word is unknown; `FloatField`
+    /// for the type `f64`; `BadJson` where its `options` are no object, or not those of the type; `InvalidName`,
+    /// `DuplicateName` or `TooManyFields` as `SchemaBuilder::add_field` has them. `Memory` where memory was refused.
+    pub fn from_json_value(alloc: Global, value: &Value) -> Result<Schema, SchemaError>
+        ensures ok { IfOk result (λ schema. schema_of (view value.now) ≡ Ok schema) }
+        ensures err { IfErr result (λ error. error ≢ Memory → schema_of (view value.now) ≡ Err error) }
+    {
+        let items = value
+            .as_array()
+            .ok_or(SchemaError::BadJson { entry: None })?;
+        Ok(entries::builder_of(alloc, items)?.build()?)
+    }
+}
