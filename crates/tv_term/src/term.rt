@@ -49,6 +49,9 @@ impl Model for Term {
 }
 
 impl Term {
+    ghost use Rattle.std.specs.Borrow.{sem};
+    ghost use Rattle.tv_term.specs.Lending.{LendsFrom};
+
     /// The term that has these bytes. Any byte is taken for a code, also one that no type has.
     ///
     /// Errors: `TooShort`, exactly where there are fewer than five bytes, and `Memory`.
@@ -279,6 +282,26 @@ impl Term {
         self.bytes.reserve(missing)?;
         self.bytes.truncate(5);
         self.bytes.extend_from_slice(bytes)
+    }
+
+    /// Appends these to the value bytes.
+    ///
+    /// Errors: memory was refused. Then the term is as it was.
+    pub fn append_bytes(&mut self, bytes: &[u8]) -> Result<(), AllocError>
+        ensures appended { OnOk result (self.new ≡ self.old ++ bytes.now) }
+        ensures unchanged { OnErr result (self.new ≡ self.old) }
+    {
+        self.bytes.extend_from_slice(bytes)
+    }
+
+    /// Lends the value bytes from this place among them on for writing: those that `append_bytes` appended, where the place is
+    /// what `len_bytes` answered before. There are as many value bytes.
+    pub fn value_bytes_mut(&mut self, start: usize) -> &mut [u8]
+        requires { 5 + start ≤ length self.old }
+        ensures* writes_back { sem 𝓛 (LendsFrom self.entry (5 + start) result) }
+        ensures value { result.now ≡ drop (5 + start) self.old }
+    {
+        self.bytes.slice_mut(5 + start..)
     }
 
     /// Appends the code of the value's type and the eight bytes of its number. In a term of a JSON field it stands behind the
