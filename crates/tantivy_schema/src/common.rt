@@ -1,5 +1,6 @@
-//! Bytes: where they come from and go to, and the numbers and texts that they spell.
+//! Bytes: where they come from and go to, and the numbers and texts that they spell. Paths into JSON objects.
 
 pub use tv_base::{
     BinarySerializable, ByteSink, ByteSource, Cause, ReadError, SliceSource, VInt, VecSink,
+    join_json_path, joined_json_path, split_json_path,
 };

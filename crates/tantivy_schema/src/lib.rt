@@ -1,9 +1,14 @@
-//! The schema, document and store-format layer of tantivy, in tantivy's names.
+//! The schema, term, document and store-format layer of tantivy, in tantivy's names.
 #![tactic(auto)]
 
 pub mod common;
+pub mod fastfield;
 pub mod laws;
 pub mod schema;
 pub mod store;
+
+pub use schema::Term;
+pub use tv_value::date_time::DateTime;
+
 #[cfg(test)]
 mod tests;

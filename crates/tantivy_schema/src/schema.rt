@@ -11,6 +11,7 @@ pub use tv_options::{
     TEXT, TextFieldIndexing, TextOptions, TokenizerName, Type, TypeIter,
 };
 pub use tv_schema::{
-    FieldEntry, FieldType, Schema, SchemaBuilder, SchemaError, is_valid_field_name,
+    FieldEntry, FieldIter, FieldType, Schema, SchemaBuilder, SchemaError, is_valid_field_name,
 };
+pub use tv_term::{OwnedValueBytes, Term, TermError, ValueBytes};
 pub use tv_value::field::Field;

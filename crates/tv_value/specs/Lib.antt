@@ -6,3 +6,4 @@ pub mod Short
 pub mod Fault
 pub mod Plain
 pub mod PlainReading
+pub mod DateTime

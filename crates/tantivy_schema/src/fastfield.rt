@@ -1,0 +1,3 @@
+//! Values of fast fields.
+
+pub use tv_term::FastValue;

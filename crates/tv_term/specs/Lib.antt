@@ -1,0 +1,3 @@
+pub mod Key
+pub mod Reading
+pub mod Lending

@@ -1,0 +1,79 @@
+-- What the bytes of a value, which begin with the code of its type, are read as.
+use Rattle.std.specs.Prelude.{ℕ, ℤ, pos, ◌+◌, ◌-◌, ◌-ℤ◌, ◌^◌, ◌≡◌, ◌==◌, Bool, not, if◌then◌else◌, List, [], ◌∷◌, ◌++◌, length, take, drop, position, Option, None, Some, IsUtf8, slice_index}
+use Rattle.std.specs.Option.{option_and_then, option_map}
+use Rattle.std.specs.Int.{Width, w32, w64, w128, from_be_bytes}
+use Rattle.tv_options.specs.Types.{code, type_of_code}
+use Rattle.tv_options.specs.declared.types.TypeTag.{TypeTag}
+use Rattle.tv_options.specs.declared.types.TypeTag.TheVariants as tag
+
+-- the field's number, which the first four bytes of a term are
+abbrev pub field_of : List ℕ → ℕ
+field_of bytes = from_be_bytes w32 (take 4 bytes)
+
+-- the bytes of a term's value
+abbrev pub value_of : List ℕ → List ℕ
+value_of bytes = drop 4 bytes
+
+-- the type that the first byte is the code of
+abbrev pub type_at : List ℕ → Option TypeTag
+type_at [] = None
+type_at (first ∷ rest) = type_of_code first
+
+-- what follows the first byte, if that is the type's code
+abbrev pub payload_of : TypeTag → List ℕ → Option (List ℕ)
+payload_of wanted [] = None
+payload_of wanted (first ∷ rest) = if first == code wanted then Some rest else None
+
+-- the number that the payload is, if it is of eight bytes
+abbrev pub number_of_eight : List ℕ → Option ℕ
+number_of_eight bytes = if length bytes == 8 then Some (from_be_bytes w64 bytes) else None
+
+-- the number that the payload is, if it is of sixteen bytes
+abbrev pub number_of_sixteen : List ℕ → Option ℕ
+number_of_sixteen bytes = if length bytes == 16 then Some (from_be_bytes w128 bytes) else None
+
+-- the number of a value of this type
+abbrev pub number_of : TypeTag → List ℕ → Option ℕ
+number_of wanted bytes = option_and_then number_of_eight (payload_of wanted bytes)
+
+-- the number of an IP address
+abbrev pub address_of : List ℕ → Option ℕ
+address_of bytes = option_and_then number_of_sixteen (payload_of tag.IpAddr bytes)
+
+-- the signed number that stands at this place, from the least one on
+abbrev pub signed_at : ℕ → ℤ
+signed_at n = pos n -ℤ pos (2 ^ 63)
+
+-- whether a number stands for true
+abbrev pub is_true : ℕ → Bool
+is_true n = not (n == 0)
+
+-- the bytes up to the first zero and with it, and those behind it
+abbrev pub cut_behind_zero : List ℕ → Option (List ℕ × List ℕ)
+cut_behind_zero bytes = option_map (λ end. (take (end + 1) bytes, drop (end + 1) bytes)) (position (λ b. b == 0) bytes)
+
+-- of a value of a JSON field the path with its zero, and what follows
+abbrev pub json_parts : List ℕ → Option (List ℕ × List ℕ)
+json_parts bytes = option_and_then cut_behind_zero (payload_of tag.Json bytes)
+
+-- of a value of a JSON field the path
+abbrev pub json_path : List ℕ → Option (List ℕ)
+json_path bytes = option_map (λ parts. take (length parts.0 - 1) parts.0) (json_parts bytes)
+
+-- the type of the value behind the path
+abbrev pub json_type : List ℕ → Option TypeTag
+json_type bytes = option_and_then (λ parts. type_at parts.1) (json_parts bytes)
+
+-- these bytes, where they are a text, and otherwise nothing
+abbrev pub ReadsText : Option (List ℕ) → Option (List ℕ) → Type 0
+ReadsText bytes None = (found : List ℕ) → bytes ≡ Some found → ¬ IsUtf8 found
+ReadsText bytes (Some text) = (bytes ≡ Some text) × IsUtf8 text
+
+-- the path behind a dot
+abbrev pub dotted : Option (List ℕ) → List ℕ
+dotted None = []
+dotted (Some path) = 46 ∷ path
+
+-- the field's name, and behind a dot the path, if there is one and it is a text
+abbrev pub IsFullPath : List ℕ → List ℕ → List ℕ → Type 0
+IsFullPath name bytes text = (path : Option (List ℕ)) × ReadsText (json_path bytes) path × (text ≡ name ++ dotted path)

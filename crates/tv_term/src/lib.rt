@@ -1,0 +1,18 @@
+//! Terms: a field and a value as bytes, whose order is the order of values.
+#![tactic(auto)]
+
+pub mod fast_value;
+pub mod laws;
+pub mod term;
+pub mod term_error;
+pub mod value_bytes;
+
+pub use fast_value::FastValue;
+pub use term::Term;
+pub use term_error::TermError;
+pub use value_bytes::{OwnedValueBytes, ValueBytes};
+
+#[cfg(test)]
+mod tests;
+#[cfg(test)]
+mod vector_tests;

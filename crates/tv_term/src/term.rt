@@ -1,0 +1,471 @@
+//! Terms.
+
+ghost use Rattle.std.specs.Prelude.{◌≡◌, ◌<◌, ◌≤◌, ◌+◌, ◌++◌, ◌∷◌, ◌↔◌, [], length, take, drop, IfOk, IfErr, MatchResult, OnOk, OnErr, IsTrue, slice_get, slice_index, option_map, string_bytes, Some};
+ghost use Rattle.std.specs.Int.{to_be_bytes, w32, w64};
+ghost use Rattle.std.specs.Net.Addr.{ipv6_bits};
+ghost use Rattle.std.specs.Option.{option_copied};
+ghost use Rattle.tv_base.specs.JsonPath.{joined_path};
+ghost use Rattle.tv_options.specs.Types.{code, type_of_code};
+ghost use Rattle.tv_schema.specs.Entry.{Entry};
+ghost use Rattle.tv_options.specs.declared.types.TypeTag.TheVariants as tag;
+ghost use Rattle.tv_value.specs.DateTime.{truncated};
+ghost use Rattle.tv_value.specs.declared.date_time.DateTimePrecision.TheVariants.{Seconds};
+ghost use Rattle.tv_term.specs.Key.{term, json_term, Text, Unsigned, Signed, Truth, Date, Facet as FacetValue, Bytes, Address};
+ghost use Rattle.tv_term.specs.Reading.{field_of, value_of, json_path, ReadsText, IsFullPath, dotted};
+ghost use Rattle.tv_term.specs.declared.term_error.TermError.TheVariants.{TooShort, Memory};
+
+use crate::fast_value::FastValue;
+use crate::term_error::TermError;
+use crate::value_bytes::ValueBytes;
+use std::alloc::{AllocError, Global};
+use std::cmp::Ordering;
+use std::hash::{Hash, Hasher};
+use std::marker::Model;
+use std::net::Ipv6Addr;
+use tv_base::Facet;
+use tv_base::json_path::joined_json_path;
+use tv_options::{DATE_TIME_PRECISION_INDEXED, Type};
+use tv_schema::Schema;
+use tv_value::date_time::DateTime;
+use tv_value::field::Field;
+
+/// A field, and a value of it: the field's number in four bytes, the highest first, the code of the value's type, and the
+/// value's payload. Terms are compared as these bytes, and so by field, then by type, then by value.
+///
+/// The value bytes are what stands behind the type's code.
+#[derive(Debug, Drop)]
+pub struct Term {
+    bytes: Vec<u8>,
+}
+
+impl Model for Term {
+    ghost use Rattle.std.specs.Prelude.{List, ℕ, ◌≤◌, length};
+
+    ghost Value = { List ℕ };
+
+    ghost view = { λ term. term.bytes.items };
+
+    ghost invariant = { λ term. 5 ≤ length term.bytes.items };
+}
+
+impl Term {
+    ghost use Rattle.std.specs.Borrow.{sem};
+    ghost use Rattle.tv_term.specs.Lending.{LendsFrom};
+
+    /// The term that has these bytes. Any byte is taken for a code, also one that no type has.
+    ///
+    /// Errors: `TooShort`, exactly where there are fewer than five bytes, and `Memory`.
+    pub fn wrap(alloc: Global, serialized: &[u8]) -> Result<Term, TermError>
+        ensures { MatchResult result (λ made. made ≡ serialized.now)
+            (λ error. (error ≡ TooShort) ↔ (length serialized.now < 5)) }
+    {
+        if serialized.len() < 5 {
+            return Err(TermError::TooShort);
+        }
+        Ok(Term {
+            bytes: Vec::from_slice(alloc, serialized)?,
+        })
+    }
+
+    /// The term's bytes: the field's number, the type's code, the value bytes.
+    pub fn serialized_term(&self) -> &[u8]
+        ensures { result.now ≡ self.now }
+    {
+        self.bytes.as_slice()
+    }
+
+    /// A term of field 0 with the type's code 0, which is no type's, and no value bytes, with room for as many value bytes.
+    ///
+    /// Errors: `Memory` alone.
+    pub fn with_capacity(alloc: Global, capacity: usize) -> Result<Term, TermError>
+        ensures made { IfOk result (λ made. made ≡ 0 ∷ 0 ∷ 0 ∷ 0 ∷ 0 ∷ []) }
+        ensures memory { IfErr result (λ error. error ≡ Memory) }
+    {
+        let mut bytes = Vec::with_capacity(alloc, capacity.saturating_add(5))?;
+        bytes.extend_from_slice(&[0, 0, 0, 0, 0])?;
+        Ok(Term { bytes })
+    }
+
+    /// The term of a path into a field of JSON objects: the path's segments with U+0001 between each two of them, and U+0000.
+    /// Dots separate segments; a backslash goes and keeps the character behind it; where dots are expanded, a dot that it
+    /// keeps separates too. A value there is appended by `append_type_and_fast_value` or `append_type_and_str`.
+    ///
+    /// Errors: `Memory` alone.
+    pub fn from_field_json_path(
+        alloc: Global,
+        field: Field,
+        json_path: &str,
+        expand_dots: bool,
+    ) -> Result<Term, TermError>
+        ensures made { IfOk result (λ made. made ≡ json_term field.id (joined_path expand_dots json_path.now)) }
+        ensures memory { IfErr result (λ error. error ≡ Memory) }
+    {
+        let mut joined = joined_json_path(alloc, json_path, expand_dots)?;
+        joined.push('\0')?;
+        Term::from_payload(alloc, field, Type::Json, joined.as_bytes())
+    }
+
+    /// The term of a whole number without a sign. Errors: `Memory` alone.
+    pub fn from_field_u64(alloc: Global, field: Field, value: u64) -> Result<Term, TermError>
+        ensures made { IfOk result (λ made. made ≡ term field.id (Unsigned value)) }
+        ensures memory { IfErr result (λ error. error ≡ Memory) }
+    {
+        Term::from_fast_value(alloc, field, value)
+    }
+
+    /// The term of a whole number with a sign. Errors: `Memory` alone.
+    pub fn from_field_i64(alloc: Global, field: Field, value: i64) -> Result<Term, TermError>
+        ensures made { IfOk result (λ made. made ≡ term field.id (Signed value)) }
+        ensures memory { IfErr result (λ error. error ≡ Memory) }
+    {
+        Term::from_fast_value(alloc, field, value)
+    }
+
+    /// The term of a truth value. Errors: `Memory` alone.
+    pub fn from_field_bool(alloc: Global, field: Field, value: bool) -> Result<Term, TermError>
+        ensures made { IfOk result (λ made. made ≡ term field.id (Truth value)) }
+        ensures memory { IfErr result (λ error. error ≡ Memory) }
+    {
+        Term::from_fast_value(alloc, field, value)
+    }
+
+    /// The term of a date, to the nanosecond. Dates are indexed to the second alone: a term that searches is
+    /// `from_field_date_for_search`'s. Errors: `Memory` alone.
+    pub fn from_field_date(alloc: Global, field: Field, value: DateTime) -> Result<Term, TermError>
+        ensures made { IfOk result (λ made. made ≡ term field.id (Date value.nanoseconds)) }
+        ensures memory { IfErr result (λ error. error ≡ Memory) }
+    {
+        Term::from_fast_value(alloc, field, value)
+    }
+
+    /// The term of a date as it is indexed: cut to the second, towards 1970. Errors: `Memory` alone.
+    pub fn from_field_date_for_search(
+        alloc: Global,
+        field: Field,
+        value: DateTime,
+    ) -> Result<Term, TermError>
+        ensures made { IfOk result (λ made. made ≡ term field.id (Date (truncated Seconds value.nanoseconds))) }
+        ensures memory { IfErr result (λ error. error ≡ Memory) }
+    {
+        Term::from_field_date(alloc, field, value.truncate(DATE_TIME_PRECISION_INDEXED))
+    }
+
+    /// The term of an IP address. Errors: `Memory` alone.
+    pub fn from_field_ip_addr(
+        alloc: Global,
+        field: Field,
+        address: Ipv6Addr,
+    ) -> Result<Term, TermError>
+        ensures made { IfOk result (λ made. made ≡ term field.id (Address (ipv6_bits address))) }
+        ensures memory { IfErr result (λ error. error ≡ Memory) }
+    {
+        let number = address.to_bits();
+        Term::from_payload(alloc, field, Type::IpAddr, &number.to_be_bytes())
+    }
+
+    /// The term of a facet: its encoded text. Errors: `Memory` alone.
+    pub fn from_facet(alloc: Global, field: Field, facet: &Facet) -> Result<Term, TermError>
+        ensures made { IfOk result (λ made. made ≡ term field.id (FacetValue facet.now)) }
+        ensures memory { IfErr result (λ error. error ≡ Memory) }
+    {
+        let encoded = facet.encoded_str().as_bytes();
+        Term::from_payload(alloc, field, Type::Facet, encoded)
+    }
+
+    /// The term of a text. Errors: `Memory` alone.
+    pub fn from_field_text(alloc: Global, field: Field, text: &str) -> Result<Term, TermError>
+        ensures made { IfOk result (λ made. made ≡ term field.id (Text text.now)) }
+        ensures memory { IfErr result (λ error. error ≡ Memory) }
+    {
+        Term::from_payload(alloc, field, Type::Str, text.as_bytes())
+    }
+
+    /// The term of bytes. Errors: `Memory` alone.
+    pub fn from_field_bytes(alloc: Global, field: Field, bytes: &[u8]) -> Result<Term, TermError>
+        ensures made { IfOk result (λ made. made ≡ term field.id (Bytes bytes.now)) }
+        ensures memory { IfErr result (λ error. error ≡ Memory) }
+    {
+        Term::from_payload(alloc, field, Type::Bytes, bytes)
+    }
+
+    fn from_fast_value<T: FastValue>(
+        alloc: Global,
+        field: Field,
+        value: T,
+    ) -> Result<Term, TermError>
+        ensures made { IfOk result (λ made. made ≡ to_be_bytes w32 field.id ++ code T.type_tag ∷ to_be_bytes w64 (T.as_number value)) }
+        ensures memory { IfErr result (λ error. error ≡ Memory) }
+    {
+        Term::from_payload(alloc, field, T::to_type(), &value.to_u64().to_be_bytes())
+    }
+
+    fn from_payload(
+        alloc: Global,
+        field: Field,
+        value_type: Type,
+        payload: &[u8],
+    ) -> Result<Term, TermError>
+        ensures made { IfOk result (λ made. made ≡ to_be_bytes w32 field.id ++ code value_type ∷ payload.now) }
+        ensures memory { IfErr result (λ error. error ≡ Memory) }
+    {
+        let mut bytes = Vec::with_capacity(alloc, payload.len() + 5)?;
+        bytes.extend_from_slice(&field.field_id().to_be_bytes())?;
+        bytes.extend_from_slice(&[value_type.to_code()])?;
+        bytes.extend_from_slice(payload)?;
+        Ok(Term { bytes })
+    }
+
+    /// The same term, in memory of its own. Errors: `Memory` alone.
+    pub fn try_clone(&self, alloc: Global) -> Result<Term, TermError>
+        ensures made { IfOk result (λ made. made ≡ self.now) }
+        ensures memory { IfErr result (λ error. error ≡ Memory) }
+    {
+        Ok(Term {
+            bytes: Vec::from_slice(alloc, self.bytes.as_slice())?,
+        })
+    }
+
+    /// Makes this the term of the field with the type's code and no value bytes. The term has no value bytes, as `is_empty`
+    /// tests.
+    pub fn set_field_and_type(&mut self, field: Field, value_type: Type)
+        requires { length self.old ≡ 5 }
+        ensures { self.new ≡ to_be_bytes w32 field.id ++ code value_type ∷ [] }
+    {
+        let [first, second, third, fourth] = field.field_id().to_be_bytes();
+        self.bytes[0] = first;
+        self.bytes[1] = second;
+        self.bytes[2] = third;
+        self.bytes[3] = fourth;
+        self.bytes[4] = value_type.to_code();
+    }
+
+    /// Whether there are no value bytes behind the type's code.
+    pub fn is_empty(&self) -> bool
+        ensures { IsTrue result ↔ (length self.now ≡ 5) }
+    {
+        self.bytes.len() == 5
+    }
+
+    /// How many value bytes there are behind the type's code.
+    pub fn len_bytes(&self) -> usize
+        ensures { result + 5 ≡ length self.now }
+    {
+        self.bytes.len() - 5
+    }
+
+    /// Removes the value bytes, and sets the type's code. The field stays.
+    pub fn clear_with_type(&mut self, value_type: Type)
+        ensures { self.new ≡ take 4 self.old ++ code value_type ∷ [] }
+    {
+        self.bytes.truncate(5);
+        self.bytes[4] = value_type.to_code();
+    }
+
+    /// Keeps as many value bytes from the first on. Where there are no more, nothing changes. The field and the type's code
+    /// stay.
+    pub fn truncate_value_bytes(&mut self, len: usize)
+        ensures { self.new ≡ take (5 + len) self.old }
+    {
+        if len < self.len_bytes() {
+            self.bytes.truncate(5 + len);
+        }
+    }
+
+    /// Puts these value bytes in the place of those behind the type's code.
+    ///
+    /// Errors: memory was refused. Then the term is as it was.
+    pub fn set_bytes(&mut self, bytes: &[u8]) -> Result<(), AllocError>
+        ensures set { OnOk result (self.new ≡ take 5 self.old ++ bytes.now) }
+        ensures unchanged { OnErr result (self.new ≡ self.old) }
+    {
+        let missing = bytes.len().saturating_sub(self.len_bytes());
+        self.bytes.reserve(missing)?;
+        self.bytes.truncate(5);
+        self.bytes.extend_from_slice(bytes)
+    }
+
+    /// Appends these to the value bytes.
+    ///
+    /// Errors: memory was refused. Then the term is as it was.
+    pub fn append_bytes(&mut self, bytes: &[u8]) -> Result<(), AllocError>
+        ensures appended { OnOk result (self.new ≡ self.old ++ bytes.now) }
+        ensures unchanged { OnErr result (self.new ≡ self.old) }
+    {
+        self.bytes.extend_from_slice(bytes)
+    }
+
+    /// Lends the value bytes from this place among them on for writing: those that `append_bytes` appended, where the place is
+    /// what `len_bytes` answered before. There are as many value bytes.
+    pub fn value_bytes_mut(&mut self, start: usize) -> &mut [u8]
+        requires { 5 + start ≤ length self.old }
+        ensures* writes_back { sem 𝓛 (LendsFrom self.entry (5 + start) result) }
+        ensures value { result.now ≡ drop (5 + start) self.old }
+    {
+        self.bytes.slice_mut(5 + start..)
+    }
+
+    /// Appends the code of the value's type and the eight bytes of its number. In a term of a JSON field it stands behind the
+    /// path.
+    ///
+    /// Errors: memory was refused. Then the term is as it was.
+    pub fn append_type_and_fast_value<T: FastValue>(&mut self, value: T) -> Result<(), AllocError>
+        ensures appended { OnOk result (self.new ≡ self.old ++ code T.type_tag ∷ to_be_bytes w64 (T.as_number value)) }
+        ensures unchanged { OnErr result (self.new ≡ self.old) }
+    {
+        self.append_typed(T::to_type(), &value.to_u64().to_be_bytes())
+    }
+
+    /// Appends the code of texts and the text. In a term of a JSON field it stands behind the path.
+    ///
+    /// Errors: memory was refused. Then the term is as it was.
+    pub fn append_type_and_str(&mut self, text: &str) -> Result<(), AllocError>
+        ensures appended { OnOk result (self.new ≡ self.old ++ code tag.Str ∷ text.now) }
+        ensures unchanged { OnErr result (self.new ≡ self.old) }
+    {
+        self.append_typed(Type::Str, text.as_bytes())
+    }
+
+    fn append_typed(&mut self, value_type: Type, payload: &[u8]) -> Result<(), AllocError>
+        ensures appended { OnOk result (self.new ≡ self.old ++ code value_type ∷ payload.now) }
+        ensures unchanged { OnErr result (self.new ≡ self.old) }
+    {
+        self.bytes.reserve(payload.len() + 1)?;
+        self.bytes.extend_from_slice(&[value_type.to_code()])?;
+        self.bytes.extend_from_slice(payload)
+    }
+
+    /// The field.
+    pub fn field(&self) -> Field
+        ensures { result.id ≡ field_of self.now }
+    {
+        let bytes = [self.bytes[0], self.bytes[1], self.bytes[2], self.bytes[3]];
+        Field::from_field_id(u32::from_be_bytes(bytes))
+    }
+
+    /// The type that the code is of, or `None` where no type has the code.
+    pub fn typ(&self) -> Option<Type>
+        ensures { result ≡ type_of_code (slice_index self.now 4) }
+    {
+        Type::from_code(self.bytes[4])
+    }
+
+    /// The value bytes, behind the type's code.
+    pub fn serialized_value_bytes(&self) -> &[u8]
+        ensures { result.now ≡ drop 5 self.now }
+    {
+        &self.bytes[5..]
+    }
+
+    /// The type's code and the value bytes, for reading.
+    pub fn value(&self) -> ValueBytes<'_>
+        ensures { result.serialized.now ≡ value_of self.now }
+    {
+        ValueBytes::of(&self.bytes[4..])
+    }
+
+    /// The path of a term of a JSON field: what stands behind the type's code up to the first U+0000, without that. U+0001
+    /// separates its segments. `None` where the type is another, no U+0000 ends a path, or the path isn't UTF-8.
+    ///
+    /// Errors: memory was refused.
+    pub fn get_json_path(&self, alloc: Global) -> Result<Option<String>, AllocError>
+        ensures { IfOk result (λ found. ReadsText (json_path (value_of self.now)) (option_map string_bytes found)) }
+    {
+        match self.value().json_path() {
+            Some(path) => Ok(Some(String::from_str(alloc, path)?)),
+            None => Ok(None),
+        }
+    }
+
+    /// The name of the term's field, and where `get_json_path` answers a path, behind a dot that path. The field is one of the
+    /// schema, as `has_field` tests.
+    ///
+    /// Errors: memory was refused.
+    pub fn get_full_path(&self, alloc: Global, schema: &Schema) -> Result<String, AllocError>
+        requires { field_of self.now < length schema.now }
+        ensures { IfOk result (λ path. (entry : Entry) → slice_get schema.now (field_of self.now) ≡ Some entry
+            → IsFullPath entry.name (value_of self.now) (string_bytes path)) }
+    {
+        let name = schema.get_field_entry(self.field()).name();
+        dotted(alloc, name, self.value().json_path())
+    }
+}
+
+// The name, and behind a dot the path, if there is one.
+fn dotted(alloc: Global, name: &str, path: Option<&str>) -> Result<String, AllocError>
+    ensures { IfOk result (λ text. string_bytes text ≡ name.now ++ dotted (option_copied path.entry)) }
+{
+    let mut text = String::from_str(alloc, name)?;
+    if let Some(path) = path {
+        text.push('.')?;
+        text.push_str(path)?;
+    }
+    Ok(text)
+}
+
+/// Terms are equal where their bytes are.
+impl PartialEq for Term {
+    ghost use Rattle.std.specs.Prelude.{bytes_eq};
+    ghost use Rattle.std.specs.Cmp.{partial_equiv_from_equiv};
+    ghost use Rattle.std.specs.Cmp.Lexicographic.{nat_list_eq_equiv};
+
+    ghost eq = { bytes_eq };
+
+    ghost laws = { partial_equiv_from_equiv nat_list_eq_equiv };
+
+    fn eq(&self, other: &Term) -> bool {
+        self.serialized_term() == other.serialized_term()
+    }
+}
+
+impl Eq for Term {
+    ghost use Rattle.std.specs.Cmp.Lexicographic.{nat_list_eq_equiv};
+
+    ghost laws = { nat_list_eq_equiv };
+}
+
+/// Terms are ordered as their bytes: by field, then by type, then by value.
+impl PartialOrd for Term {
+    ghost use Rattle.std.specs.Ordering.{nat_cmp};
+    ghost use Rattle.std.specs.Cmp.Lexicographic.{slice_cmp, texts_po};
+
+    ghost partial_cmp = { λ a b. Some (slice_cmp nat_cmp a b) };
+
+    ghost laws = { texts_po };
+
+    fn partial_cmp(&self, other: &Term) -> Option<Ordering> {
+        Some(self.cmp(other))
+    }
+}
+
+impl Ord for Term {
+    ghost use Rattle.std.specs.Prelude.{refl};
+    ghost use Rattle.std.specs.Ordering.{nat_cmp};
+    ghost use Rattle.std.specs.Cmp.Lexicographic.{slice_cmp, nat_list_cmp_total, texts_ties};
+
+    ghost cmp = { λ a b. slice_cmp nat_cmp a b };
+
+    ghost total = { nat_list_cmp_total };
+
+    ghost matches_partial_cmp = { λ a b. refl };
+
+    ghost matches_eq = { texts_ties };
+
+    fn cmp(&self, other: &Term) -> Ordering {
+        self.serialized_term().cmp(other.serialized_term())
+    }
+}
+
+/// A term hashes as its bytes.
+impl Hash for Term {
+    ghost use Rattle.std.specs.Hash as fed;
+    ghost use Rattle.std.specs.Hash.{same_Alike};
+    ghost use Rattle.std.proofs.lemmas.Slice.Eq.{bytes_eq-Decides};
+
+    ghost hash_input = { fed.slice fed.u8 };
+
+    ghost respects_eq = { (same_Alike (fed.slice fed.u8) bytes_eq-Decides).fed };
+
+    fn hash<H: Hasher>(&self, state: &mut H) {
+        self.serialized_term().hash(state);
+    }
+}
