@@ -4,8 +4,8 @@
 ghost use Rattle.std.specs.Prelude.{◌≡◌, ◌≤◌, length, bytes_eq};
 ghost use Rattle.tv_base.specs.Escapes.{is_unescaped, without_escapes};
 
-/// Whether what stands at the place isn't taken by a backslash before it. The place is at most the length; at the length it
-/// asks this of a byte that would follow. It reads the run of backslashes before the place and no more.
+/// Whether no backslash takes what stands at the place. The place is at most the length; at the length this is asked of what
+/// would follow. It reads the run of backslashes right before the place and no more.
 pub fn is_unescaped_at(bytes: &[u8], place: usize) -> bool
     requires { place ≤ length bytes.now }
     ensures { result ≡ is_unescaped bytes.now place }
@@ -17,8 +17,8 @@ pub fn is_unescaped_at(bytes: &[u8], place: usize) -> bool
     (place - start) % 2 == 0
 }
 
-/// Whether the front, without the backslashes that are escapes, is the name: those that aren't taken by a backslash before
-/// them. It takes no memory and stops at the first byte that differs.
+/// Whether the front without its escapes is the name. An escape is a backslash that no backslash before it takes. It takes no
+/// memory and stops at the first byte that differs.
 pub fn unescapes_to(front: &str, name: &str) -> bool
     ensures { result ≡ bytes_eq name.now (without_escapes front.now) }
 {
