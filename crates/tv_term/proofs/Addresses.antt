@@ -1,9 +1,8 @@
 -- An address, its segments and its number.
 use Rattle.std.proofs.Common.{◌≡◌, ℕ, zero, suc, ◌+◌, ◌*◌, ◌/◌, ◌%◌, ◌^◌, ◌<◌, ◌≤◌, List, [], ◌∷◌, length, get_or, subst, refl, sym, ap, ◌∙◌, arith}
-use Rattle.std.specs.Prelude.{slice_index}
 use Rattle.std.specs.Int.{w128, to_be_bytes, from_be_bytes}
 use Rattle.std.specs.Int.{byte_at, bytes_high_first}
-use Rattle.std.specs.Net.Addr.{segments_of, octets_of, ipv6_segments, ipv6_octets, ipv6_bits, IsIpv6Addr}
+use Rattle.std.specs.Net.Addr.{segments_of, octets_of, ipv6_segments, ipv6_octets, ipv6_bits}
 use Rattle.std.specs.declared.net.ipv6_addr.Ipv6Addr.{Ipv6Addr}
 use Rattle.std.proofs.NetLemmas.Arrays.{sixteen_items}
 use Rattle.std.proofs.lemmas.Nat.{div-mul-add, mod-mul-add}
@@ -43,7 +42,7 @@ high_first x (b ∷ bs) h =
     let whole : x * 256 ^ suc k + (b * 256 ^ k + be_value bs) ≡ (x * 256 + b) * 256 ^ k + be_value bs = ap (λ p. x * p + (b * 256 ^ k + be_value bs)) (pow-suc 256 k) ∙ regroup x b (256 ^ k) (be_value bs) in
     let here : (x * 256 + b) % 256 ≡ b = mod-mul-add x 256 b (h 0) in
     ap (λ n. byte_at k n ∷ bytes_high_first k n) whole ∙ ap (λ c. c ∷ bytes_high_first k ((x * 256 + b) * 256 ^ k + be_value bs)) (byte_at-is k (x * 256 + b) (be_value bs) small ∙ here)
-        ∙ ap (λ cs. b ∷ cs) (high_first (x * 256 + b) bs (λ i. h (suc i)))
+    ∙ ap (λ cs. b ∷ cs) (high_first (x * 256 + b) bs (λ i. h (suc i)))
 
 sixteen : (a b c d e f g h i j k l m n o p : ℕ) → from_be_bytes w128 (a ∷ b ∷ c ∷ d ∷ e ∷ f ∷ g ∷ h ∷ i ∷ j ∷ k ∷ l ∷ m ∷ n ∷ o ∷ p ∷ []) ≡ be_value (a ∷ b ∷ c ∷ d ∷ e ∷ f ∷ g ∷ h ∷ i ∷ j ∷ k ∷ l ∷ m ∷ n ∷ o ∷ p ∷ [])
 sixteen a b c d e f g h i j k l m n o p = omega arith

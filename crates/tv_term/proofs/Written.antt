@@ -1,15 +1,15 @@
 -- What is written for a value is read back as it.
-use Rattle.std.proofs.Common.{◌≡◌, ◌≢◌, ℕ, suc, zero, ◌+◌, ◌<◌, ◌≤◌, ◌^◌, Bool, true, false, List, [], ◌∷◌, ◌++◌, length, length-append, take, drop, get_or, Option, Some, refl, sym, ◌∙◌, ap, arith, nat_eq}
-use Rattle.std.specs.Prelude.{ℤ, pos, negsuc, FitsSigned, ◌-ℤ◌, position, slice_index, option_map, nat_lt, ◌-◌, ◌==◌, if◌then◌else◌, ◌&&◌, ◌||◌}
+use Rattle.std.proofs.Common.{◌≡◌, ◌≢◌, ℕ, suc, zero, ◌+◌, ◌<◌, ◌≤◌, ◌^◌, Bool, true, false, List, [], ◌∷◌, ◌++◌, length, length-append, take, drop, get_or, Some, refl, ◌∙◌, ap, arith}
+use Rattle.std.specs.Prelude.{ℤ, pos, negsuc, FitsSigned, position, slice_index, option_map, nat_lt, ◌-◌, ◌==◌, if◌then◌else◌, ◌&&◌, ◌||◌}
 use Rattle.std.specs.List.{position_or_len}
 use Rattle.std.specs.Option.{option_and_then}
-use Rattle.std.specs.Int.{w64, to_be_bytes, from_be_bytes}
+use Rattle.std.specs.Int.{w64, to_be_bytes}
 use Rattle.std.proofs.lemmas.Int.{ints}
 use Rattle.std.proofs.lemmas.Bool.{lt-ltb}
 use Rattle.std.proofs.lemmas.Bool.Decides.{nat_tests}
 use Rattle.std.proofs.lemmas.Nat.{from_be_bytes-to_be_bytes_8}
 use Rattle.std.proofs.Math.Seq.{take-append-add, take-append_seam, drop-append-add}
-use Rattle.tv_base.specs.Escapes.{rewritten, rewritten_below, is_unescaped}
+use Rattle.tv_base.specs.Escapes.{rewritten_below, is_unescaped}
 use Rattle.tv_base.specs.JsonPath.{joined_path}
 use Rattle.tv_base.specs.Rewriting.{path_byte}
 use Rattle.tv_base.proofs.JsonPaths.{joined_path-is}
@@ -67,8 +67,8 @@ one_not_zero e = absurd (omega arith)
 HasNoZero-path_byte : (expand_dots unescaped : Bool) (b : ℕ) → b ≢ 0 → HasNoZero (path_byte expand_dots unescaped b)
 HasNoZero-path_byte expand_dots unescaped b h =
     elim (unescaped && (b == 92)) as (λ v. HasNoZero (if v then [] else (if (unescaped || expand_dots) && (b == 46) then 1 ∷ [] else b ∷ []))) [
-      true ↦ tt
-    | false ↦ elim ((unescaped || expand_dots) && (b == 46)) as (λ v. HasNoZero (if v then 1 ∷ [] else b ∷ [])) [ true ↦ (one_not_zero, tt) | false ↦ (h, tt) ]
+      | true ↦ tt
+      | false ↦ elim ((unescaped || expand_dots) && (b == 46)) as (λ v. HasNoZero (if v then 1 ∷ [] else b ∷ [])) [ true ↦ (one_not_zero, tt) | false ↦ (h, tt) ]
     ]
 
 HasNoZero-rewritten_below : (expand_dots : Bool) (path : List ℕ) (place : ℕ) → HasNoZero path → place ≤ length path → HasNoZero (rewritten_below (path_byte expand_dots) path place)

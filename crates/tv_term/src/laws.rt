@@ -53,10 +53,8 @@ pub fn written_values_are_read()
     ensures text { (text : List ℕ) → payload_of tag.Str (coded (Text text)) ≡ Some text }
     ensures facet { (encoded : List ℕ) → payload_of tag.Facet (coded (Facet encoded)) ≡ Some encoded }
     ensures bytes { (bytes : List ℕ) → payload_of tag.Bytes (coded (Bytes bytes)) ≡ Some bytes }
-    ensures address {
-        (a : Ipv6Addr) → IsIpv6Addr a →
-        option_map (λ n. segments_of (to_be_bytes w128 n)) (address_of (coded (Address (ipv6_bits a)))) ≡ Some (ipv6_segments a)
-    }
+    ensures address { (a : Ipv6Addr) → IsIpv6Addr a →
+        option_map (λ n. segments_of (to_be_bytes w128 n)) (address_of (coded (Address (ipv6_bits a)))) ≡ Some (ipv6_segments a) }
     ensures json { (path : List ℕ) (value : TermValue) → HasNoZero path → json_parts (coded (Json path value)) ≡ Some (path ++ 0 ∷ [], coded value) }
     ensures json_type { (path : List ℕ) (value : TermValue) → HasNoZero path → json_type (coded (Json path value)) ≡ Some (type_of value) }
     ensures json_path { (path : List ℕ) (value : TermValue) → HasNoZero path → json_path (coded (Json path value)) ≡ Some path }
