@@ -83,7 +83,7 @@ slice_cmp-zero (c ∷ p) [] x y h k = let q : 0 < c = positive c h.0 in rw (grea
 slice_cmp-zero (c ∷ p) (d ∷ q) x y h k =
     ap (ordering_then (nat_cmp c d)) (slice_cmp-zero p q x y h.1 k.1) ∙ sym (then_assoc (nat_cmp c d) (slice_cmp nat_cmp p q) (slice_cmp nat_cmp x y))
 
-from_least-fits : (z : ℤ) → FitsSigned w64 z → from_least z < 2 ^ 64
+pub from_least-fits : (z : ℤ) → FitsSigned w64 z → from_least z < 2 ^ 64
 from_least-fits (pos n) h = omega (arith, ints)
 from_least-fits (negsuc n) h = omega (arith, ints)
 

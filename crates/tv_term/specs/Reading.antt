@@ -1,7 +1,7 @@
 -- What the bytes of a value, which begin with the code of its type, are read as.
-use Rattle.std.specs.Prelude.{ℕ, ℤ, pos, ◌+◌, ◌-◌, ◌-ℤ◌, ◌^◌, ◌≡◌, ◌==◌, Bool, not, if◌then◌else◌, List, [], ◌∷◌, ◌++◌, length, take, drop, position, Option, None, Some, IsUtf8, slice_index}
+use Rattle.std.specs.Prelude.{ℕ, ℤ, pos, ◌+◌, ◌-◌, ◌-ℤ◌, ◌^◌, ◌≡◌, ◌==◌, Bool, not, if◌then◌else◌, List, [], ◌∷◌, ◌++◌, length, take, drop, position, Option, None, Some, IsUtf8}
 use Rattle.std.specs.Option.{option_and_then, option_map}
-use Rattle.std.specs.Int.{Width, w32, w64, w128, from_be_bytes}
+use Rattle.std.specs.Int.{w32, w64, w128, from_be_bytes}
 use Rattle.tv_options.specs.Types.{code, type_of_code}
 use Rattle.tv_options.specs.declared.types.TypeTag.{TypeTag}
 use Rattle.tv_options.specs.declared.types.TypeTag.TheVariants as tag

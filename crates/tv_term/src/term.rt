@@ -106,48 +106,48 @@ impl Term {
     }
 
     /// The term of a whole number without a sign. Errors: `Memory` alone.
-    pub fn from_field_u64(alloc: Global, field: Field, value: u64) -> Result<Term, TermError>
-        ensures made { IfOk result (λ made. made ≡ term field.id (Unsigned value)) }
+    pub fn from_field_u64(alloc: Global, field: Field, unsigned: u64) -> Result<Term, TermError>
+        ensures made { IfOk result (λ made. made ≡ term field.id (Unsigned unsigned)) }
         ensures memory { IfErr result (λ error. error ≡ Memory) }
     {
-        Term::from_fast_value(alloc, field, value)
+        Term::from_fast_value(alloc, field, unsigned)
     }
 
     /// The term of a whole number with a sign. Errors: `Memory` alone.
-    pub fn from_field_i64(alloc: Global, field: Field, value: i64) -> Result<Term, TermError>
-        ensures made { IfOk result (λ made. made ≡ term field.id (Signed value)) }
+    pub fn from_field_i64(alloc: Global, field: Field, signed: i64) -> Result<Term, TermError>
+        ensures made { IfOk result (λ made. made ≡ term field.id (Signed signed)) }
         ensures memory { IfErr result (λ error. error ≡ Memory) }
     {
-        Term::from_fast_value(alloc, field, value)
+        Term::from_fast_value(alloc, field, signed)
     }
 
     /// The term of a truth value. Errors: `Memory` alone.
-    pub fn from_field_bool(alloc: Global, field: Field, value: bool) -> Result<Term, TermError>
-        ensures made { IfOk result (λ made. made ≡ term field.id (Truth value)) }
+    pub fn from_field_bool(alloc: Global, field: Field, truth: bool) -> Result<Term, TermError>
+        ensures made { IfOk result (λ made. made ≡ term field.id (Truth truth)) }
         ensures memory { IfErr result (λ error. error ≡ Memory) }
     {
-        Term::from_fast_value(alloc, field, value)
+        Term::from_fast_value(alloc, field, truth)
     }
 
     /// The term of a date, to the nanosecond. Dates are indexed to the second alone: a term that searches is
     /// `from_field_date_for_search`'s. Errors: `Memory` alone.
-    pub fn from_field_date(alloc: Global, field: Field, value: DateTime) -> Result<Term, TermError>
-        ensures made { IfOk result (λ made. made ≡ term field.id (Date value.nanoseconds)) }
+    pub fn from_field_date(alloc: Global, field: Field, date: DateTime) -> Result<Term, TermError>
+        ensures made { IfOk result (λ made. made ≡ term field.id (Date date.nanoseconds)) }
         ensures memory { IfErr result (λ error. error ≡ Memory) }
     {
-        Term::from_fast_value(alloc, field, value)
+        Term::from_fast_value(alloc, field, date)
     }
 
     /// The term of a date as it is indexed: cut to the second, towards 1970. Errors: `Memory` alone.
     pub fn from_field_date_for_search(
         alloc: Global,
         field: Field,
-        value: DateTime,
+        date: DateTime,
     ) -> Result<Term, TermError>
-        ensures made { IfOk result (λ made. made ≡ term field.id (Date (truncated Seconds value.nanoseconds))) }
+        ensures made { IfOk result (λ made. made ≡ term field.id (Date (truncated Seconds date.nanoseconds))) }
         ensures memory { IfErr result (λ error. error ≡ Memory) }
     {
-        Term::from_field_date(alloc, field, value.truncate(DATE_TIME_PRECISION_INDEXED))
+        Term::from_field_date(alloc, field, date.truncate(DATE_TIME_PRECISION_INDEXED))
     }
 
     /// The term of an IP address. Errors: `Memory` alone.
@@ -257,7 +257,7 @@ impl Term {
     pub fn clear_with_type(&mut self, value_type: Type)
         ensures { self.new ≡ take 4 self.old ++ code value_type ∷ [] }
     {
-        self.bytes.truncate(5);
+        self.truncate_value_bytes(0);
         self.bytes[4] = value_type.to_code();
     }
 
@@ -287,11 +287,11 @@ impl Term {
     /// Appends these to the value bytes.
     ///
     /// Errors: memory was refused. Then the term is as it was.
-    pub fn append_bytes(&mut self, bytes: &[u8]) -> Result<(), AllocError>
-        ensures appended { OnOk result (self.new ≡ self.old ++ bytes.now) }
+    pub fn append_bytes(&mut self, appended: &[u8]) -> Result<(), AllocError>
+        ensures longer { OnOk result (self.new ≡ self.old ++ appended.now) }
         ensures unchanged { OnErr result (self.new ≡ self.old) }
     {
-        self.bytes.extend_from_slice(bytes)
+        self.bytes.extend_from_slice(appended)
     }
 
     /// Lends the value bytes from this place among them on for writing: those that `append_bytes` appended, where the place is

@@ -170,14 +170,14 @@ fn changes(rt: HostRuntime) -> Result<(), Fail> {
     term.set_field_and_type(Field::from_field_id(258), Type::Bytes);
     assert_eq!(rt; term.serialized_term(), [0, 0, 1, 2, b'b'].as_slice());
     term.set_bytes(b"abc")?;
-    assert_eq!(rt; term.value().as_bytes(), Some(b"abc".as_slice()));
+    assert_eq!(rt; term.serialized_value_bytes(), b"abc".as_slice());
     let start = term.len_bytes();
     term.append_bytes(b"de")?;
     assert!(rt; start <= term.len_bytes());
     for byte in term.value_bytes_mut(start) {
         *byte = b'f';
     }
-    assert_eq!(rt; term.value().as_bytes(), Some(b"abcff".as_slice()));
+    assert_eq!(rt; term.serialized_value_bytes(), b"abcff".as_slice());
     let copy = term.try_clone(alloc)?;
     term.truncate_value_bytes(usize::MAX);
     assert_eq!(rt; term, copy);

@@ -75,28 +75,28 @@ impl<'a> ValueBytes<'a> {
     pub fn as_u64(&self) -> Option<u64>
         ensures { result ≡ number_of tag.U64 self.now.serialized.now }
     {
-        self.fast_value()
+        self.fast_value::<u64>()
     }
 
     /// The number, exactly where the code is that of whole numbers with a sign and eight bytes follow.
     pub fn as_i64(&self) -> Option<i64>
         ensures { result ≡ option_map signed_at (number_of tag.I64 self.now.serialized.now) }
     {
-        self.fast_value()
+        self.fast_value::<i64>()
     }
 
     /// Whether the number isn't 0, exactly where the code is that of truth values and eight bytes follow.
     pub fn as_bool(&self) -> Option<bool>
         ensures { result ≡ option_map is_true (number_of tag.Bool self.now.serialized.now) }
     {
-        self.fast_value()
+        self.fast_value::<bool>()
     }
 
     /// The date, exactly where the code is that of dates and eight bytes follow.
     pub fn as_date(&self) -> Option<DateTime>
         ensures { option_map (λ date. date.nanoseconds) result ≡ option_map signed_at (number_of tag.Date self.now.serialized.now) }
     {
-        self.fast_value()
+        self.fast_value::<DateTime>()
     }
 
     #[tactic(auto, unfolding(std::specs::Net::Addr::IsIpv6OfBits))]

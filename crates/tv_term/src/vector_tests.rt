@@ -499,315 +499,47 @@ const ADDRESSES: [(u32, u128, &str); 40] = [
     (65536, 0x1, "000100007000000000000000000000000000000001"),
 ];
 
-// Here a path, whether dots are expanded, and the appended value: a word for its type, and its text.
-const JSON: [(u32, &str, bool, &str, &str, &str); 40] = [
-    (
-        65536,
-        "_",
-        true,
-        "bool",
-        "true",
-        "000100006a5f006f0000000000000001",
-    ),
-    (1, "a", true, "str", "zebra", "000000016a6100737a65627261"),
-    (
-        0,
-        "0éabc",
-        true,
-        "date",
-        "1000",
-        "000000006a30c3a9616263006480000000000003e8",
-    ),
-    (
-        65536,
-        "a.x1",
-        true,
-        "u64",
-        "7",
-        "000100006a6101783100750000000000000007",
-    ),
-    (
-        65536,
-        "\\.é.",
-        true,
-        "u64",
-        "7",
-        "000100006a01c3a90100750000000000000007",
-    ),
-    (
-        0,
-        "a",
-        true,
-        "bool",
-        "true",
-        "000000006a61006f0000000000000001",
-    ),
-    (
-        65536,
-        "\\_a",
-        true,
-        "date",
-        "1000",
-        "000100006a5f61006480000000000003e8",
-    ),
-    (
-        256,
-        "a",
-        true,
-        "u64",
-        "7",
-        "000001006a6100750000000000000007",
-    ),
-    (
-        65535,
-        "_",
-        true,
-        "bool",
-        "true",
-        "0000ffff6a5f006f0000000000000001",
-    ),
-    (
-        65536,
-        ".",
-        false,
-        "bool",
-        "true",
-        "000100006a01006f0000000000000001",
-    ),
-    (
-        4294967295,
-        "éc_c",
-        true,
-        "bool",
-        "true",
-        "ffffffff6ac3a9635f63006f0000000000000001",
-    ),
-    (
-        255,
-        "a",
-        true,
-        "date",
-        "1000",
-        "000000ff6a61006480000000000003e8",
-    ),
-    (
-        256,
-        "-b",
-        true,
-        "u64",
-        "7",
-        "000001006a2d6200750000000000000007",
-    ),
-    (
-        0,
-        "_0x1",
-        true,
-        "str",
-        "zebra",
-        "000000006a5f30783100737a65627261",
-    ),
-    (
-        65536,
-        "a",
-        true,
-        "date",
-        "1000",
-        "000100006a61006480000000000003e8",
-    ),
-    (
-        0,
-        "._aシ",
-        false,
-        "date",
-        "1000",
-        "000000006a015f61e382b7006480000000000003e8",
-    ),
-    (
-        1,
-        "a",
-        false,
-        "i64",
-        "-7",
-        "000000016a6100697ffffffffffffff9",
-    ),
-    (
-        256,
-        "0-b",
-        true,
-        "str",
-        "zebra",
-        "000001006a302d6200737a65627261",
-    ),
-    (
-        65535,
-        "\\シ",
-        false,
-        "date",
-        "1000",
-        "0000ffff6ae382b7006480000000000003e8",
-    ),
-    (
-        0,
-        "é",
-        true,
-        "date",
-        "1000",
-        "000000006ac3a9006480000000000003e8",
-    ),
-    (
-        1,
-        "-cx1-",
-        false,
-        "date",
-        "1000",
-        "000000016a2d6378312d006480000000000003e8",
-    ),
-    (
-        1,
-        "x10.0",
-        false,
-        "str",
-        "zebra",
-        "000000016a783130013000737a65627261",
-    ),
-    (
-        255,
-        "-é",
-        false,
-        "str",
-        "zebra",
-        "000000ff6a2dc3a900737a65627261",
-    ),
-    (
-        4294967295,
-        "a",
-        true,
-        "i64",
-        "-7",
-        "ffffffff6a6100697ffffffffffffff9",
-    ),
-    (1, ".", true, "str", "zebra", "000000016a0100737a65627261"),
-    (
-        0,
-        "a_",
-        false,
-        "bool",
-        "true",
-        "000000006a615f006f0000000000000001",
-    ),
-    (
-        4294967295,
-        "cシab",
-        true,
-        "date",
-        "1000",
-        "ffffffff6a63e382b76162006480000000000003e8",
-    ),
-    (
-        65536,
-        "aa",
-        false,
-        "date",
-        "1000",
-        "000100006a6161006480000000000003e8",
-    ),
-    (
-        1,
-        "a",
-        true,
-        "i64",
-        "-7",
-        "000000016a6100697ffffffffffffff9",
-    ),
-    (
-        256,
-        "a",
-        true,
-        "i64",
-        "-7",
-        "000001006a6100697ffffffffffffff9",
-    ),
-    (
-        1,
-        "シシé",
-        true,
-        "i64",
-        "-7",
-        "000000016ae382b7e382b7c3a900697ffffffffffffff9",
-    ),
-    (
-        4294967295,
-        "a",
-        false,
-        "u64",
-        "7",
-        "ffffffff6a6100750000000000000007",
-    ),
-    (
-        65536,
-        "\\シé",
-        true,
-        "date",
-        "1000",
-        "000100006ae382b7c3a9006480000000000003e8",
-    ),
-    (
-        256,
-        ".abx1",
-        true,
-        "u64",
-        "7",
-        "000001006a016162783100750000000000000007",
-    ),
-    (
-        1,
-        "x1._",
-        false,
-        "i64",
-        "-7",
-        "000000016a7831015f00697ffffffffffffff9",
-    ),
-    (
-        1,
-        "0a_",
-        true,
-        "str",
-        "zebra",
-        "000000016a30615f00737a65627261",
-    ),
-    (
-        1,
-        "ab0ab",
-        false,
-        "date",
-        "1000",
-        "000000016a6162306162006480000000000003e8",
-    ),
-    (
-        65536,
-        "aabab",
-        false,
-        "i64",
-        "-7",
-        "000100006a616162616200697ffffffffffffff9",
-    ),
-    (
-        1,
-        "abéc",
-        false,
-        "bool",
-        "true",
-        "000000016a6162c3a963006f0000000000000001",
-    ),
-    (
-        65536,
-        ".",
-        true,
-        "u64",
-        "7",
-        "000100006a0100750000000000000007",
-    ),
-];
+// In each line a field's number, a path, whether dots are expanded, the type and the text of the appended value, and the bytes.
+const JSON: &str = "65536\t_\ttrue\tbool\ttrue\t000100006a5f006f0000000000000001\n\
+1\ta\ttrue\tstr\tzebra\t000000016a6100737a65627261\n\
+0\t0éabc\ttrue\tdate\t1000\t000000006a30c3a9616263006480000000000003e8\n\
+65536\ta.x1\ttrue\tu64\t7\t000100006a6101783100750000000000000007\n\
+65536\t\\.é.\ttrue\tu64\t7\t000100006a01c3a90100750000000000000007\n\
+0\ta\ttrue\tbool\ttrue\t000000006a61006f0000000000000001\n\
+65536\t\\_a\ttrue\tdate\t1000\t000100006a5f61006480000000000003e8\n\
+256\ta\ttrue\tu64\t7\t000001006a6100750000000000000007\n\
+65535\t_\ttrue\tbool\ttrue\t0000ffff6a5f006f0000000000000001\n\
+65536\t.\tfalse\tbool\ttrue\t000100006a01006f0000000000000001\n\
+4294967295\téc_c\ttrue\tbool\ttrue\tffffffff6ac3a9635f63006f0000000000000001\n\
+255\ta\ttrue\tdate\t1000\t000000ff6a61006480000000000003e8\n\
+256\t-b\ttrue\tu64\t7\t000001006a2d6200750000000000000007\n\
+0\t_0x1\ttrue\tstr\tzebra\t000000006a5f30783100737a65627261\n\
+65536\ta\ttrue\tdate\t1000\t000100006a61006480000000000003e8\n\
+0\t._aシ\tfalse\tdate\t1000\t000000006a015f61e382b7006480000000000003e8\n\
+1\ta\tfalse\ti64\t-7\t000000016a6100697ffffffffffffff9\n\
+256\t0-b\ttrue\tstr\tzebra\t000001006a302d6200737a65627261\n\
+65535\t\\シ\tfalse\tdate\t1000\t0000ffff6ae382b7006480000000000003e8\n\
+0\té\ttrue\tdate\t1000\t000000006ac3a9006480000000000003e8\n\
+1\t-cx1-\tfalse\tdate\t1000\t000000016a2d6378312d006480000000000003e8\n\
+1\tx10.0\tfalse\tstr\tzebra\t000000016a783130013000737a65627261\n\
+255\t-é\tfalse\tstr\tzebra\t000000ff6a2dc3a900737a65627261\n\
+4294967295\ta\ttrue\ti64\t-7\tffffffff6a6100697ffffffffffffff9\n\
+1\t.\ttrue\tstr\tzebra\t000000016a0100737a65627261\n\
+0\ta_\tfalse\tbool\ttrue\t000000006a615f006f0000000000000001\n\
+4294967295\tcシab\ttrue\tdate\t1000\tffffffff6a63e382b76162006480000000000003e8\n\
+65536\taa\tfalse\tdate\t1000\t000100006a6161006480000000000003e8\n\
+1\ta\ttrue\ti64\t-7\t000000016a6100697ffffffffffffff9\n\
+256\ta\ttrue\ti64\t-7\t000001006a6100697ffffffffffffff9\n\
+1\tシシé\ttrue\ti64\t-7\t000000016ae382b7e382b7c3a900697ffffffffffffff9\n\
+4294967295\ta\tfalse\tu64\t7\tffffffff6a6100750000000000000007\n\
+65536\t\\シé\ttrue\tdate\t1000\t000100006ae382b7c3a9006480000000000003e8\n\
+256\t.abx1\ttrue\tu64\t7\t000001006a016162783100750000000000000007\n\
+1\tx1._\tfalse\ti64\t-7\t000000016a7831015f00697ffffffffffffff9\n\
+1\t0a_\ttrue\tstr\tzebra\t000000016a30615f00737a65627261\n\
+1\tab0ab\tfalse\tdate\t1000\t000000016a6162306162006480000000000003e8\n\
+65536\taabab\tfalse\ti64\t-7\t000100006a616162616200697ffffffffffffff9\n\
+1\tabéc\tfalse\tbool\ttrue\t000000016a6162c3a963006f0000000000000001\n\
+65536\t.\ttrue\tu64\t7\t000100006a0100750000000000000007";
 
 fn hexadecimal(alloc: Global, bytes: &[u8]) -> Result<String, Fail> {
     let mut text = String::new(alloc);
@@ -917,11 +649,22 @@ fn append(term: &mut Term, kind: &str, value: &str) -> Result<(), Fail> {
 #[test]
 fn json_values(rt: HostRuntime) -> Result<(), Fail> {
     let alloc = rt.alloc();
-    for (field, path, expand_dots, kind, value, expected) in &JSON {
-        let json = Field::from_field_id(*field);
-        let mut term = Term::from_field_json_path(alloc, json, path, *expand_dots)?;
-        append(&mut term, kind, value)?;
-        assert!(rt; has_bytes(alloc, &term, *field, expected)?);
+    for line in JSON.split('\n') {
+        let mut parts = line.split('\t');
+        let field: u32 = parts
+            .next()
+            .ok_or("a field")?
+            .parse()
+            .ok()
+            .ok_or("a number")?;
+        let path = parts.next().ok_or("a path")?;
+        let expand_dots = parts.next().ok_or("a truth value")? == "true";
+        let json = Field::from_field_id(field);
+        let mut term = Term::from_field_json_path(alloc, json, path, expand_dots)?;
+        let kind = parts.next().ok_or("a type")?;
+        append(&mut term, kind, parts.next().ok_or("a value")?)?;
+        let expected = parts.next().ok_or("the bytes")?;
+        assert!(rt; has_bytes(alloc, &term, field, expected)?);
     }
     Ok(())
 }

@@ -52,10 +52,8 @@ impl DateTime {
 
     /// The moment so many microseconds after 1970-01-01T00:00:00Z, or `None` exactly where its nanoseconds don't fit 64 bits.
     pub const fn from_timestamp_micros(microseconds: i64) -> Option<DateTime>
-        ensures {
-            MatchOption result (¬ FitsSigned w64 (microseconds *ℤ pos 1000))
-            (λ date. date.nanoseconds ≡ microseconds *ℤ pos 1000)
-        }
+        ensures { MatchOption result (¬ FitsSigned w64 (microseconds *ℤ pos 1000))
+            (λ date. date.nanoseconds ≡ microseconds *ℤ pos 1000) }
     {
         match microseconds.checked_mul(1000) {
             Some(nanoseconds) => Some(DateTime { nanoseconds }),

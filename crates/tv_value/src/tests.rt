@@ -1,3 +1,4 @@
+use crate::date_time::{DateTime, DateTimePrecision};
 use crate::plain::documents::read_document;
 use crate::plain::refusal::PlainRefusal;
 use crate::plain::value::{PlainToken, PlainValue, PlainVersion};
@@ -183,4 +184,19 @@ fn nested_values(rt: HostRuntime) -> Result<(), Fail> {
     entries.push((key, PlainValue::Null))?;
     assert_eq!(rt; value, PlainValue::Object(entries));
     Ok(())
+}
+
+#[test]
+fn dates(rt: HostRuntime) {
+    let date = DateTime::from_timestamp_nanos(-1500000000);
+    let cut = date.truncate(DateTimePrecision::Seconds);
+    assert_eq!(rt; cut.into_timestamp_nanos(), -1000000000);
+    assert!(rt; date < cut);
+    assert_eq!(rt; date.truncate(DateTimePrecision::Milliseconds), date);
+    let last = DateTime::from_timestamp_nanos(9223372036854775000);
+    assert_eq!(rt;
+        DateTime::from_timestamp_micros(9223372036854775),
+        Some(last)
+    );
+    assert_eq!(rt; DateTime::from_timestamp_micros(9223372036854776), None);
 }
