@@ -187,7 +187,7 @@ fn nested_values(rt: HostRuntime) -> Result<(), Fail> {
 }
 
 #[test]
-fn dates(rt: HostRuntime) {
+fn moments(rt: HostRuntime) {
     let date = DateTime::from_timestamp_nanos(-1500000000);
     let cut = date.truncate(DateTimePrecision::Seconds);
     assert_eq!(rt; cut.into_timestamp_nanos(), -1000000000);
