@@ -71,7 +71,7 @@ impl Facet {
     /// Errors: the bytes aren't UTF-8. The error gives them back.
     pub fn from_encoded(encoded_bytes: Vec<u8>) -> Result<Facet, FromUtf8Error>
         ensures found { IfOk result (λ facet. facet ≡ encoded_bytes.items) }
-        ensures is_text { IsUtf8 encoded_bytes.items → IsOk result }
+        ensures is_text { IsUtf8 encoded_bytes.items ↔ IsOk result }
         ensures refused { IfErr result (λ error. from_utf8_error_vec error ≡ encoded_bytes) }
     {
         Ok(Facet {
