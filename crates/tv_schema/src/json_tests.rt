@@ -1,3 +1,4 @@
+use crate::json::laws::printed_schema_is_read_back;
 use crate::schema::Schema;
 use crate::schema_error::SchemaError;
 use serde_json::Value;
@@ -43,6 +44,8 @@ fn built_schemas_are_printed(rt: HostRuntime) -> Result<(), Fail> {
         printed(rt.alloc(), &schema)?.as_str(),
         r#"[{"name":"title","options":{"fast":false,"indexing":{"fieldnorms":true,"record":"position","tokenizer":"default"},"stored":false},"type":"text"}]"#
     );
+    let again = printed_schema_is_read_back(rt.alloc(), &schema)?;
+    assert_eq!(rt; again.num_fields(), 1);
     Ok(())
 }
 

@@ -22,10 +22,7 @@ pub(super) fn builder_of(alloc: Global, items: &[Value]) -> Result<SchemaBuilder
 {
     let mut builder = SchemaBuilder::new(alloc);
     for (place, description) in items.iter().enumerate() {
-        match add_entry(alloc, &mut builder, place, description) {
-            Ok(()) => {}
-            Err(error) => return Err(error),
-        }
+        add_entry(alloc, &mut builder, place, description)?;
     }
     Ok(builder)
 }

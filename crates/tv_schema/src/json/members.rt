@@ -28,6 +28,7 @@ pub(super) fn present<'a>(members: &'a Members, key: &str) -> Option<&'a Value>
     }
 }
 
+/// The truth value at the key; `None` where the key isn't there or a value of another kind is.
 #[tactic(auto, unfolding(crate::specs::SchemaJsonOptions::required_bool))]
 pub(super) fn required_bool(members: &Members, key: &str) -> Option<bool>
     ensures { result ≡ required_bool key.now (members_view members.now.entries) }
@@ -35,6 +36,7 @@ pub(super) fn required_bool(members: &Members, key: &str) -> Option<bool>
     member(members, key)?.as_bool()
 }
 
+/// The text at the key; `None` where the key isn't there or a value of another kind is.
 #[tactic(auto, unfolding(crate::specs::SchemaJsonOptions::required_text))]
 pub(super) fn required_text<'a>(members: &'a Members, key: &str) -> Option<&'a str>
     ensures { option_map (λ text. text.now) result ≡ required_text key.now (members_view members.now.entries) }
@@ -42,6 +44,7 @@ pub(super) fn required_text<'a>(members: &'a Members, key: &str) -> Option<&'a s
     member(members, key)?.as_str()
 }
 
+/// The members of the object at the key; `None` where the key isn't there or a value of another kind is.
 #[tactic(auto, unfolding(crate::specs::SchemaJsonOptions::required_object))]
 pub(super) fn required_object<'a>(members: &'a Members, key: &str) -> Option<&'a Members>
     ensures { option_map (λ inner. members_view inner.now.entries) result
