@@ -27,7 +27,9 @@ pub use tv_options::laws::{
     types_and_codes_agree, types_are_listed_once,
 };
 use tv_schema::Schema;
-pub use tv_schema::json::laws::{written_schemas_are_read_back, written_schemas_tell_all};
+pub use tv_schema::json::laws::{
+    printed_schema_is_read_back, written_schemas_are_read_back, written_schemas_tell_all,
+};
 pub use tv_schema::laws::{
     names_are_of_one_field, record_options_agree, the_last_dot_counts, whole_paths_come_first,
 };
@@ -39,7 +41,7 @@ use tv_store::{
 };
 pub use tv_term::laws::{
     appended_values_complete_json_terms, comparisons_of_terms_agree, equal_terms_have_equal_keys,
-    terms_are_ordered,
+    joined_paths_have_no_zero, terms_are_ordered, written_values_are_read,
 };
 pub use tv_value::laws::{
     documents_have_one_reading, faulty_documents_derive_none, faulty_values_spell_none,
