@@ -20,10 +20,10 @@ impl BytesOptions {
     /// Options of these parts (own).
     pub fn from_parts(indexed: bool, fieldnorms: bool, fast: bool, stored: bool) -> BytesOptions
         ensures { result ≡ record {
-            indexed = indexed;
-            fieldnorms = fieldnorms;
-            fast = fast;
-            stored = stored;
+          indexed = indexed;
+          fieldnorms = fieldnorms;
+          fast = fast;
+          stored = stored;
         } }
     {
         BytesOptions {

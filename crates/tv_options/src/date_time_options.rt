@@ -28,11 +28,11 @@ impl DateOptions {
         precision: DateTimePrecision,
     ) -> DateOptions
         ensures { result ≡ record {
-            indexed = indexed;
-            fieldnorms = fieldnorms;
-            fast = fast;
-            stored = stored;
-            precision = precision;
+          indexed = indexed;
+          fieldnorms = fieldnorms;
+          fast = fast;
+          stored = stored;
+          precision = precision;
         } }
     {
         DateOptions {

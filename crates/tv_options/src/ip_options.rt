@@ -20,10 +20,10 @@ impl IpAddrOptions {
     /// Options of these parts (own).
     pub fn from_parts(indexed: bool, fieldnorms: bool, fast: bool, stored: bool) -> IpAddrOptions
         ensures { result ≡ record {
-            indexed = indexed;
-            fieldnorms = fieldnorms;
-            fast = fast;
-            stored = stored;
+          indexed = indexed;
+          fieldnorms = fieldnorms;
+          fast = fast;
+          stored = stored;
         } }
     {
         IpAddrOptions {

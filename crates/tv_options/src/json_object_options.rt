@@ -43,10 +43,10 @@ impl JsonObjectOptions {
         expand_dots_enabled: bool,
     ) -> JsonObjectOptions
         ensures { result ≡ record {
-            stored = stored;
-            indexing = indexing;
-            fast = fast;
-            expand_dots_enabled = expand_dots_enabled;
+          stored = stored;
+          indexing = indexing;
+          fast = fast;
+          expand_dots_enabled = expand_dots_enabled;
         } }
     {
         JsonObjectOptions {

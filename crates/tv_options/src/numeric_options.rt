@@ -27,11 +27,11 @@ impl NumericOptions {
         coerce: bool,
     ) -> NumericOptions
         ensures { result ≡ record {
-            indexed = indexed;
-            fieldnorms = fieldnorms;
-            fast = fast;
-            stored = stored;
-            coerce = coerce;
+          indexed = indexed;
+          fieldnorms = fieldnorms;
+          fast = fast;
+          stored = stored;
+          coerce = coerce;
         } }
     {
         NumericOptions {

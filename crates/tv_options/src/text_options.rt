@@ -242,10 +242,10 @@ impl TextOptions {
         coerce: bool,
     ) -> TextOptions
         ensures { result ≡ record {
-            indexing = indexing;
-            stored = stored;
-            fast = fast;
-            coerce = coerce;
+          indexing = indexing;
+          stored = stored;
+          fast = fast;
+          coerce = coerce;
         } }
     {
         TextOptions {

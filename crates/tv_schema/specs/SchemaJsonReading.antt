@@ -58,7 +58,7 @@ of_items (Some items) = with_entries [] items
 abbrev pub schema_of : Data → Result (List Entry) SchemaError
 schema_of description = of_items (as_array description)
 
--- the result is this outcome, unless memory was refused
+-- the result, its value seen through the view, is this outcome, unless memory was refused
 abbrev pub Gives : {A B : Type 0} → (A → B) → Result B SchemaError → Result A SchemaError → Type 0
 Gives view outcome (Ok found) = outcome ≡ Ok (view found)
 Gives view outcome (Err Memory) = ⊤
