@@ -59,9 +59,9 @@ Last byte bytes number = ((ltb byte 128 ≡ true) × ⊥) ⊎ ((ltb byte 128 ≡
 abbrev LastFault : ℕ → List ℕ → Cause → Type 0
 LastFault byte bytes c = ((ltb byte 128 ≡ true) × (c ≡ BadNumber)) ⊎ ((ltb byte 128 ≡ false) × (((ltb 1 (byte % 128) ≡ true) × (c ≡ BadNumber)) ⊎ ((ltb 1 (byte % 128) ≡ false) × ⊥)))
 
-last_agrees : (byte : ℕ) → Agrees (last_group byte) (Last byte) (LastFault byte)
+last_agrees : (byte : ℕ) → Agrees UnexpectedEnd (last_group byte) (Last byte) (LastFault byte)
 unfolding last_group
-last_agrees byte = chosen (ltb byte 128) (nothing_stands BadNumber) (chosen (ltb 1 (byte % 128)) (nothing_stands BadNumber) (nothing_read Cause (byte % 128)))
+last_agrees byte = chosen (ltb byte 128) (nothing_stands BadNumber (λ e. cc)) (chosen (ltb 1 (byte % 128)) (nothing_stands BadNumber (λ e. cc)) (nothing_read UnexpectedEnd (byte % 128)))
 
 one_group : (byte number : ℕ) (bytes : List ℕ) → bytes ≡ byte ∷ [] → AllBytes bytes → 128 ≤ byte → number ≡ byte % 128 → Groups bytes number
 one_group byte number bytes e small high is =
@@ -174,14 +174,14 @@ more_faults n bytes c small p = elim p [
       ]
 ]
 
-after : ℕ → ℕ → List ℕ → Result (ℕ × List ℕ) Cause
+after : ℕ → ℕ → List ℕ → Result (ℕ × List ℕ) (Cause × List ℕ)
 after n byte bytes = cond (ltb byte 128) (groups_at n bytes >>= make (λ high. byte % 128 + 128 * high)) (Ok (byte % 128, bytes))
 
-groups_agree : (n : ℕ) → Agrees (groups_at n) (UpTo n) (UpToFault n)
+groups_agree : (n : ℕ) → Agrees UnexpectedEnd (groups_at n) (UpTo n) (UpToFault n)
 unfolding groups_at after
 groups_agree zero = agrees_too (λ bytes. refl) last_to last_from last_faults (in_turn code_agrees last_agrees)
 groups_agree (suc n) = agrees_too (λ bytes. refl) (more_to n) (more_from n) (more_faults n)
-    (in_turn {b = after n} code_agrees (λ byte. chosen (ltb byte 128) (made (λ high. byte % 128 + 128 * high) (groups_agree n)) (nothing_read Cause (byte % 128))))
+    (in_turn {b = after n} code_agrees (λ byte. chosen (ltb byte 128) (made (λ high. byte % 128 + 128 * high) (groups_agree n)) (nothing_read UnexpectedEnd (byte % 128))))
 
 number_faults : (bytes : List ℕ) (c : Cause) → AllBytes bytes → UpToFault 9 bytes c → NumberFault bytes c
 number_faults bytes c small h = elim h [
@@ -189,7 +189,7 @@ number_faults bytes c small h = elim h [
   | inr p ↦ subst (NumberFault bytes) (sym p.0) (number_large p.1.front p.1.rest p.1.byte p.1.joined p.1.count p.1.low p.1.not_128 p.1.not_129)
 ]
 
-pub vint_agrees : Agrees (groups_at 9) VNum NumberFault
+pub vint_agrees : Agrees UnexpectedEnd (groups_at 9) VNum NumberFault
 unfolding limit
 vint_agrees = agrees_too (λ bytes. refl)
     (λ bytes n small h. record { groups = h.groups; at_most_ten = h.short; fits = h.fits })

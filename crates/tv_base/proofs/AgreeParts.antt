@@ -4,7 +4,7 @@ use Rattle.std.proofs.lemmas.List.{append-nil}
 use Rattle.std.specs.Str.{is_utf8}
 use Rattle.std.proofs.lemmas.Str.{is_utf8-from_IsUtf8, IsUtf8-from_is_utf8}
 use Rattle.tv_base.specs.declared.cause.Cause.{Cause}
-use Rattle.tv_base.specs.declared.cause.Cause.TheVariants.{NotUtf8}
+use Rattle.tv_base.specs.declared.cause.Cause.TheVariants.{UnexpectedEnd, NotUtf8}
 use Rattle.tv_base.specs.Source.{AllBytes}
 use Rattle.tv_base.specs.Stop.{◌>>=◌}
 use Rattle.tv_base.specs.Number.{VNum}
@@ -26,7 +26,7 @@ sized_to bytes content small p =
 sized_from : (bytes content : List ℕ) → Sized bytes content → InTurn VNum AreBytes bytes content
 sized_from bytes content h = (length content, record { front = h.size; rest = content; joined = h.joined; first = h.number; second = (refl, refl) })
 
-pub sized_agrees : Agrees sized_at Sized SizedFault
+pub sized_agrees : Agrees UnexpectedEnd sized_at Sized SizedFault
 unfolding sized_at
 sized_agrees = agrees_too (λ bytes. refl) sized_to sized_from (λ bytes c small h. h) (in_turn vint_agrees bytes_agree)
 
@@ -62,10 +62,10 @@ text_faults bytes c small p = elim p [
   ]
 ]
 
-pub text_agrees : Agrees text_at Text TextFault
+pub text_agrees : Agrees UnexpectedEnd text_at Text TextFault
 unfolding text_at
 text_agrees = agrees_too (λ bytes. refl) text_to text_from text_faults
-    (in_turn sized_agrees (λ content. chosen (is_utf8 content) (nothing_read Cause content) (nothing_stands NotUtf8)))
+    (in_turn sized_agrees (λ content. chosen (is_utf8 content) (nothing_read UnexpectedEnd content) (nothing_stands NotUtf8 (λ e. cc))))
 
 -- ---- so many items
 
@@ -91,19 +91,19 @@ each_from : {Y : Type 0} (A : List ℕ → Y → Type 0) (n : ℕ) (bytes : List
 each_from A n bytes [] p = absurd (omega (arith, p.0))
 each_from A n bytes (y ∷ ys) p = (y, record { front = p.1.front; rest = p.1.rest; joined = p.1.joined; first = p.1.first; second = (ys, (omega (arith, p.0), p.1.second), refl) })
 
-pub each_agrees : {F Y : Type 0} {a : List ℕ → Result (Y × List ℕ) F} {A : List ℕ → Y → Type 0} {FA : List ℕ → F → Type 0}
-    → Agrees a A FA → (n : ℕ) → Agrees (each_at a n) (λ bytes ys. (length ys ≡ n) × Each A bytes ys) (InEach FA A n)
+pub each_agrees : {F Y : Type 0} {end : F} {a : List ℕ → Result (Y × List ℕ) (F × List ℕ)} {A : List ℕ → Y → Type 0} {FA : List ℕ → F → Type 0}
+    → Agrees end a A FA → (n : ℕ) → Agrees end (each_at a n) (λ bytes ys. (length ys ≡ n) × Each A bytes ys) (InEach FA A n)
 unfolding each_at
-each_agrees {F = F} {A = A} item zero = agrees_too (λ bytes. refl) (λ bytes ys small p. none_to A bytes ys p) (none_from A) (λ bytes c small h. h) (nothing_read F [])
+each_agrees {end = end} {A = A} item zero = agrees_too (λ bytes. refl) (λ bytes ys small p. none_to A bytes ys p) (none_from A) (λ bytes c small h. h) (nothing_read end [])
 each_agrees {a = a} {A = A} item (suc n) = agrees_too (λ bytes. refl) (λ bytes ys small p. each_to A n bytes ys p) (each_from A n) (λ bytes c small h. h)
     (in_turn {b = λ y bytes. each_at a n bytes >>= make (λ ys. y ∷ ys)} item (λ y. made (λ ys. y ∷ ys) (each_agrees item n)))
 
 -- the number of the items, and then each
-pub counted_agrees : {F Y : Type 0} (to : Cause → F) {a : List ℕ → Result (Y × List ℕ) F} {A : List ℕ → Y → Type 0} {FA : List ℕ → F → Type 0}
-    → Agrees a A FA → Agrees (counted_at to a) (Counted A) (InThen (λ bytes f. (c : Cause) × NumberFault bytes c × (f ≡ to c)) VNum (InEach FA A))
+pub counted_agrees : {F Y : Type 0} (to : Cause → F) → ((c : Cause) → to c ≡ to UnexpectedEnd → c ≡ UnexpectedEnd) → {a : List ℕ → Result (Y × List ℕ) (F × List ℕ)} {A : List ℕ → Y → Type 0} {FA : List ℕ → F → Type 0}
+    → Agrees (to UnexpectedEnd) a A FA → Agrees (to UnexpectedEnd) (counted_at to a) (Counted A) (InThen (λ bytes f. (c : Cause) × NumberFault bytes c × (f ≡ to c)) VNum (InEach FA A))
 unfolding counted_at
-counted_agrees to {A = A} item = agrees_too (λ bytes. refl)
+counted_agrees to apart {A = A} item = agrees_too (λ bytes. refl)
     (λ bytes ys small p. record { front = p.1.front; rest = p.1.rest; joined = p.1.joined; first = subst (VNum p.1.front) (sym p.1.second.0) p.1.first; second = p.1.second.1 })
     (λ bytes ys h. (length ys, record { front = h.front; rest = h.rest; joined = h.joined; first = h.first; second = (refl, h.second) }))
     (λ bytes c small h. h)
-    (in_turn (raised to vint_agrees) (each_agrees item))
+    (in_turn (raised to apart vint_agrees) (each_agrees item))

@@ -3,7 +3,7 @@ use Rattle.std.proofs.Common.{◌≡◌, ◌⊎◌, ℕ, zero, suc, Bool, true, 
 use Rattle.std.proofs.lemmas.List.{append-nil, nil_from_length}
 use Rattle.std.proofs.lemmas.Bool.{ltb-true, lt-ltb}
 use Rattle.tv_base.specs.declared.cause.Cause.{Cause}
-use Rattle.tv_base.specs.declared.cause.Cause.TheVariants.{BadBool}
+use Rattle.tv_base.specs.declared.cause.Cause.TheVariants.{UnexpectedEnd, BadBool}
 use Rattle.tv_base.specs.Source.{AllBytes}
 use Rattle.tv_base.specs.Number.{Truth}
 use Rattle.tv_base.specs.PartFault.{InThen, BytesFault, TruthFault, truth_ends, truth_large}
@@ -46,7 +46,7 @@ truth_faults bytes c small p = elim p [
   ]
 ]
 
-pub truth_agrees : Agrees truth_at Truth TruthFault
+pub truth_agrees : Agrees UnexpectedEnd truth_at Truth TruthFault
 unfolding truth_at
 truth_agrees = agrees_too (λ bytes. refl) truth_to truth_from truth_faults
-    (in_turn code_agrees (λ b. chosen (ltb 1 b) (nothing_stands BadBool) (nothing_read Cause (eqb b 1))))
+    (in_turn code_agrees (λ b. chosen (ltb 1 b) (nothing_stands BadBool (λ e. cc)) (nothing_read UnexpectedEnd (eqb b 1))))

@@ -1,42 +1,61 @@
 -- A reader that gives what a reading gives reads by the grammar that the reading agrees with.
-use Rattle.std.proofs.Common.{◌≡◌, ℕ, List, ◌++◌, Result, Ok, Err, sym, ap, subst, ◌∙◌, arith}
+use Rattle.std.proofs.Common.{◌≡◌, ℕ, ◌-◌, ◌^◌, ◌<◌, List, ◌++◌, length, Result, Ok, Err, sym, ap, subst, ◌∙◌, arith, length-append}
 use Rattle.std.specs.Prelude.{IfOk, IsErrOf}
 use Rattle.tv_base.specs.declared.cause.Cause.{Cause}
+use Rattle.tv_base.specs.declared.cause.Cause.TheVariants.{UnexpectedEnd}
 use Rattle.tv_base.specs.declared.read_error.ReadError.{ReadError}
 use Rattle.tv_base.specs.declared.read_error.ReadError.TheVariants.{Corrupted, Io, Memory}
-use Rattle.tv_base.specs.Source.{AllBytes}
-use Rattle.tv_base.specs.Stop.{Gives}
+use Rattle.tv_base.specs.Source.{AllBytes, Faults}
+use Rattle.tv_base.specs.Stop.{Gives, Taken}
 use Rattle.tv_base.specs.Take.{TakesBy, read_stop}
-use Rattle.tv_base.specs.ReadsAs.{IsRead, ReadsAs}
-use Rattle.tv_base.proofs.Agrees.{Agrees, ok_is}
+use Rattle.tv_base.specs.ReadsAs.{Known, IsRead, Shows, ReadsAs}
+use Rattle.tv_base.proofs.SmallBytes.{bytes_before}
+use Rattle.tv_base.proofs.Agrees.{Agrees, Shown, ok_is, no_ok}
 
-found_by : {X Y : Type 0} {reading : List ℕ → Result (Y × List ℕ) Cause} {Spells : List ℕ → Y → Type 0} {IsFault : List ℕ → Cause → Type 0} (view : X → Y)
-    → Agrees reading Spells IsFault → (bytes rest : List ℕ) (result : Result X ReadError) → AllBytes bytes → Gives read_stop view result (reading bytes) rest → IfOk result (λ x. (front : List ℕ) × Spells front (view x) × (bytes ≡ front ++ rest))
-found_by view agrees bytes rest (Ok x) small h = agrees.sound bytes (view x, rest) small h
-found_by view agrees bytes rest (Err e) small h = tt
+found_by : {X Y : Type 0} {reading : List ℕ → Result (Y × List ℕ) (Cause × List ℕ)} {Spells : List ℕ → Y → Type 0} {IsFault : List ℕ → Cause → Type 0} (view : X → Y)
+    → Agrees UnexpectedEnd reading Spells IsFault → (bytes rest : List ℕ) (count : ℕ) (result : Result X ReadError) → AllBytes bytes → Gives read_stop view result (reading bytes) rest count → IfOk result (λ x. (front : List ℕ) × Spells front (view x) × (bytes ≡ front ++ rest))
+found_by view agrees bytes rest count (Ok x) small h = agrees.sound bytes (view x, rest) small h
+found_by view agrees bytes rest count (Err e) small h = tt
 
-cause_by : {X Y : Type 0} {reading : List ℕ → Result (Y × List ℕ) Cause} {Spells : List ℕ → Y → Type 0} {IsFault : List ℕ → Cause → Type 0} (view : X → Y)
-    → Agrees reading Spells IsFault → (bytes rest : List ℕ) (result : Result X ReadError) → AllBytes bytes → Gives read_stop view result (reading bytes) rest → (c : Cause) → IsErrOf result (Corrupted c) → IsFault bytes c
-cause_by {reading = reading} view agrees bytes rest result small h c e = agrees.refused bytes c small (subst (λ r. Gives read_stop view r (reading bytes) rest) e h)
+-- the fault that is read
+refused_by : {X Y : Type 0} (view : X → Y) (read : Result (Y × List ℕ) (Cause × List ℕ)) (rest : List ℕ) (count : ℕ) (result : Result X ReadError) → count < 2 ^ 64 - 1 → Gives read_stop view result read rest count → (c : Cause) → IsErrOf result (Corrupted c) → read ≡ Err (c, rest)
+refused_by view read rest count result few h c e = (subst (λ r. Gives read_stop view r read rest count) e h) few
 
-impossible : {A : Type 0} (c : Cause) (x : A) → ◌≡◌ {A = Result A Cause} (Err c) (Ok x) → ⊥
-impossible c x e = absurd cc
+-- bytes that show a fault show it by the grammar
+pub shows_by : {F Y : Type 0} {end : F} {reading : List ℕ → Result (Y × List ℕ) (F × List ℕ)} {Spells : List ℕ → Y → Type 0} {IsFault : List ℕ → F → Type 0}
+    → Agrees end reading Spells IsFault → (bytes rest : List ℕ) (c : F) → AllBytes bytes → reading bytes ≡ Err (c, rest) → Shows end IsFault bytes rest c
+shows_by {end = end} agrees bytes rest c small e =
+    let s = agrees.shown bytes c rest small e in
+    let taken = bytes_before bytes s.front rest s.joined small in
+    record {
+      taken = s.front;
+      joined = s.joined;
+      shown = agrees.refused s.front c _ taken s.alone;
+      all = s.all;
+      early = λ other front byte last. agrees.refused front end _ (bytes_before s.front front _ last taken) (s.early other front byte last);
+    }
 
-is_read : {X Y : Type 0} (view : X → Y) (result : Result X ReadError) (read : Result (Y × List ℕ) Cause) (y : Y) (rest now : List ℕ) → read ≡ Ok (y, rest) → Gives read_stop view result read now → IsRead view result y rest now
-is_read view (Ok x) read y rest now e h = let q = ok_is Cause (view x, now) (y, rest) (sym h ∙ e) in (ap (λ z. z.0) q, ap (λ z. z.1) q)
-is_read {Y = Y} view (Err (Corrupted c)) read y rest now e h =
-    let both : ◌≡◌ {A = Result (Y × List ℕ) Cause} (Err c) (Ok (y, rest)) = sym h ∙ e in
-    impossible c (y, rest) both
-is_read view (Err (Io kind)) read y rest now e h = tt
-is_read view (Err Memory) read y rest now e h = tt
+is_read : {X Y : Type 0} (view : X → Y) (result : Result X ReadError) (read : Result (Y × List ℕ) (Cause × List ℕ)) (y : Y) (rest now : List ℕ) (count : ℕ) → count < 2 ^ 64 - 1 → read ≡ Ok (y, rest) → Gives read_stop view result read now count → IsRead view result y rest now
+is_read view (Ok x) read y rest now count few e h = let q = ok_is (Cause × List ℕ) (view x, now) (y, rest) (sym h ∙ e) in (ap (λ z. z.0) q, ap (λ z. z.1) q)
+is_read {Y = Y} view (Err (Corrupted c)) read y rest now count few e h = no_ok (c, now) (y, rest) (sym (h few) ∙ e)
+is_read view (Err (Io kind)) read y rest now count few e h = tt
+is_read view (Err Memory) read y rest now count few e h = tt
 
-pub by_grammar : {S X Y : Type 0} (tells : S → Type 0) (left : S → List ℕ) (faults : S → ℕ) (are_bytes : (source : S) → tells source → AllBytes (left source)) (old new : S) (new_count : ℕ) (view : X → Y) (result : Result X ReadError)
-    {reading : List ℕ → Result (Y × List ℕ) Cause} {Spells : List ℕ → Y → Type 0} {IsFault : List ℕ → Cause → Type 0}
-    → Agrees reading Spells IsFault → TakesBy tells left faults old 0 new new_count view result reading → ReadsAs tells left faults old new view result Spells IsFault
-by_grammar tells left faults are_bytes old new new_count view result {reading = reading} agrees h = record {
-  found = λ told. found_by view agrees (left old) (left new) result (are_bytes old told.0) (h.gives (told.0, omega (arith, told.1)));
-  only = λ told front y rest spells e. is_read view result (reading (left old)) y rest (left new) (ap reading e ∙ agrees.complete front y rest spells) (h.gives (told.0, omega (arith, told.1)));
-  cause = λ told c e. cause_by view agrees (left old) (left new) result (are_bytes old told.0) (h.gives (told.0, omega (arith, told.1))) c e;
-  still_tells = λ told. let after = h.still_tells (told.0, omega (arith, told.1)) in (after.0, omega (arith, after.1));
-  counts = h.counts;
-}
+-- what is counted of few bytes is few
+pub few_taken : {old new : List ℕ} {now : ℕ} → length old < 2 ^ 64 - 1 → Taken old new 0 now → now < 2 ^ 64 - 1
+few_taken {new = new} few t = omega (arith, t.counted, ap length t.joined, length-append t.front new)
+
+pub by_grammar : {S X Y : Type 0} (tells : S → Type 0) (left : S → List ℕ) (faults : S → Faults) (are_bytes : (source : S) → tells source → AllBytes (left source)) (old new : S) (new_count : ℕ) (view : X → Y) (result : Result X ReadError)
+    {reading : List ℕ → Result (Y × List ℕ) (Cause × List ℕ)} {Spells : List ℕ → Y → Type 0} {IsFault : List ℕ → Cause → Type 0}
+    → Agrees UnexpectedEnd reading Spells IsFault → TakesBy tells left faults old 0 new new_count view result reading → ReadsAs tells left faults old new view result Spells IsFault
+by_grammar tells left faults are_bytes old new new_count view result {reading = reading} agrees h =
+    let fault = λ (known : Known tells left old) (c : Cause) (e : IsErrOf result (Corrupted c)). refused_by view (reading (left old)) (left new) new_count result (few_taken known.1 (h.taken known.0)) (h.gives known.0) c e in
+    record {
+      found = λ told. found_by view agrees (left old) (left new) new_count result (are_bytes old told) (h.gives told);
+      only = λ known front y rest spells e. is_read view result (reading (left old)) y rest (left new) new_count (few_taken known.1 (h.taken known.0)) (ap reading e ∙ agrees.complete front y rest spells) (h.gives known.0);
+      cause = λ known c e. agrees.refused (left old) c (left new) (are_bytes old known.0) (fault known c e);
+      shows = λ known c e. shows_by agrees (left old) (left new) c (are_bytes old known.0) (fault known c e);
+      taken = λ told. let t = h.taken told in (t.front, t.joined);
+      still_tells = h.still_tells;
+      counts = h.counts;
+    }

@@ -8,7 +8,7 @@ use Rattle.tv_base.specs.declared.cause.Cause.TheVariants.{UnexpectedEnd}
 use Rattle.tv_base.specs.Stop.{◌>>=◌}
 use Rattle.tv_base.specs.Reading.{bytes_at, more_at}
 
-pub short : (n : ℕ) (bytes : List ℕ) → length bytes < n → bytes_at n bytes ≡ Err UnexpectedEnd
+pub short : (n : ℕ) (bytes : List ℕ) → length bytes < n → bytes_at n bytes ≡ Err (UnexpectedEnd, [])
 unfolding bytes_at
 short n bytes lt =
     let test : ltb (length bytes) n ≡ true = lt-ltb _ _ lt in
@@ -30,7 +30,7 @@ split front n m bytes = elim (cases_lt (length bytes) n) [
   ]
 ]
 
-begins : (read : Result (List ℕ × List ℕ) Cause) → read ≡ (read >>= λ x. Ok ([] ++ x.0, x.1))
+begins : (read : Result (List ℕ × List ℕ) (Cause × List ℕ)) → read ≡ (read >>= λ x. Ok ([] ++ x.0, x.1))
 begins (Ok x) = refl
 begins (Err c) = refl
 

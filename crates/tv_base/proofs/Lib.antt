@@ -3,6 +3,7 @@ pub mod Numbers
 pub mod Texts
 pub mod Excluding
 pub mod ExcludingParts
+pub mod Single
 pub mod Widths
 pub mod Pieces
 pub mod Chunks
@@ -20,6 +21,7 @@ pub mod AgreeTruth
 pub mod AgreeParts
 pub mod ItemLoop
 pub mod ByGrammar
+pub mod Appending
 pub mod Shortest
 pub mod Rewriting
 pub mod Unescaping

@@ -1,11 +1,12 @@
 -- A buffer that a source fills piece by piece.
 use Rattle.std.proofs.Common.{◌≡◌, ℕ, ◌+◌, ◌<◌, ◌≤◌, true, false, ltb, List, [], ◌++◌, length, take, drop, Ok, Err, refl, sym, ap, ◌∙◌, append_assoc, arith, le_refl, drop_at, take_at, take_all, length-take-le, length-append, length-take}
 use Rattle.std.proofs.lemmas.Bool.{le-ltb}
-use Rattle.std.proofs.lemmas.List.{append-nil}
+use Rattle.std.proofs.lemmas.List.{append-nil, take-take}
 use Rattle.std.proofs.lemmas.Slice.{take-put_mid_below}
 use borrow.Rule.Slice.PartMut.{put_mid, post_of}
 use lib.Seq.{take-add, take-append-le}
 use Rattle.tv_base.specs.declared.cause.Cause.TheVariants.{UnexpectedEnd}
+use Rattle.tv_base.specs.Stop.{Taken}
 use Rattle.tv_base.specs.Reading.{bytes_at}
 
 -- the next piece stands behind what was filled before
@@ -29,13 +30,33 @@ is_full filled n buf all rest full len so_far =
     rw (whole, long, take_at buf rest n (sym len), drop_at buf rest n (sym len)) refl
 
 -- a source that ends before the buffer is full has fewer bytes
-pub ends_early : (filled n : ℕ) (buf all rest : List ℕ) → filled < n → filled ≤ length buf → all ≡ take filled buf ++ rest → rest ≡ [] → bytes_at n all ≡ Err UnexpectedEnd
+pub ends_early : (filled n : ℕ) (buf all rest : List ℕ) → filled < n → filled ≤ length buf → all ≡ take filled buf ++ rest → rest ≡ [] → bytes_at n all ≡ Err (UnexpectedEnd, rest)
 unfolding bytes_at
 ends_early filled n buf all rest short within so_far end =
     let whole : all ≡ take filled buf = so_far ∙ ap (λ l. take filled buf ++ l) end ∙ append-nil (take filled buf) in
     let test : ltb (length all) n ≡ true = rw whole (search (arith, length-take)) in
-    rw test refl
+    rw test (ap (λ (l : List ℕ). Err (UnexpectedEnd, l)) (sym end))
 
--- how many bytes are left
-pub took : (n : ℕ) (piece all rest : List ℕ) → n ≤ length piece → all ≡ take n piece ++ rest → length all ≡ n + length rest
-took n piece all rest fits e = ap length e ∙ omega (arith, length-append (take n piece) rest, length-take n piece)
+-- no byte was read
+pub none_read : (n : ℕ) (buf old new : List ℕ) → n ≡ 0 → old ≡ take n buf ++ new → old ≡ new
+none_read n buf old new none e = e ∙ ap (λ (k : ℕ). take k buf ++ new) none
+
+-- the same is left
+pub given_still : (all front old new : List ℕ) → all ≡ front ++ old → old ≡ new → all ≡ front ++ new
+given_still all front old new e same = e ∙ ap (λ (l : List ℕ). front ++ l) same
+
+-- what was filled was taken
+pub taken_so_far : (filled : ℕ) (buf rest : List ℕ) {all : List ℕ} {count now : ℕ} → filled ≤ length buf → now ≡ count + filled → all ≡ take filled buf ++ rest → Taken all rest count now
+taken_so_far filled buf rest within counted e = record { front = take filled buf; joined = e; counted = omega (arith, counted, length-take filled buf) }
+
+-- what stands behind the bytes that were there, once the room behind them was filled and cut
+pub appended : (f n most len : ℕ) (old buf post rest zeros now : List ℕ) → f ≡ length old → now ≡ take (f + most) old ++ zeros → n ≤ length buf → f + n ≤ len
+    → take (f + n) (take len ((take f now ++ (buf ++ post)) ++ rest)) ≡ old ++ take n buf
+appended f n most len old buf post rest zeros now filled is fits within =
+    let all : now ≡ old ++ zeros = is ∙ ap (λ (l : List ℕ). l ++ zeros) (take_all (f + most) old (omega (arith, filled))) in
+    let before : take f now ≡ old = ap (take f) all ∙ take_at old zeros f (sym filled) in
+    let whole : (take f now ++ (buf ++ post)) ++ rest ≡ old ++ (buf ++ (post ++ rest)) =
+    ap (λ (l : List ℕ). (l ++ (buf ++ post)) ++ rest) before ∙ append_assoc old (buf ++ post) rest ∙ ap (λ (l : List ℕ). old ++ l) (append_assoc buf post rest) in
+    take-take (f + n) len _ within ∙ ap (take (f + n)) whole ∙ take-add f n (old ++ (buf ++ (post ++ rest)))
+    ∙ ap (λ l. l ++ take n (drop f (old ++ (buf ++ (post ++ rest))))) (take_at old (buf ++ (post ++ rest)) f (sym filled))
+    ∙ ap (λ l. old ++ l) (ap (take n) (drop_at old (buf ++ (post ++ rest)) f (sym filled)) ∙ take-append-le n buf (post ++ rest) fits)

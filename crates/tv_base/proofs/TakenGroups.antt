@@ -9,7 +9,7 @@ use Rattle.tv_base.specs.Reading.{u8_at, last_group, groups_at}
 use Rattle.tv_base.proofs.TakeSteps.{bind_bind}
 
 -- what the groups so far stand for, and those that are still read
-abbrev pub with_low : ℕ → ℕ → Result (ℕ × List ℕ) Cause → Result (ℕ × List ℕ) Cause
+abbrev pub with_low : ℕ → ℕ → Result (ℕ × List ℕ) (Cause × List ℕ) → Result (ℕ × List ℕ) (Cause × List ℕ)
 with_low value weight read = read >>= λ high. Ok (value + weight * high.0, high.1)
 
 pub weight_fits : (i : ℕ) → i < 9 → 128 ^ i ≤ 2 ^ 56
@@ -21,7 +21,7 @@ group_fits value weight group small low =
     omega arith
 
 -- what comes after a group of which n more may follow
-abbrev pub after_group : ℕ → (ℕ × List ℕ) → Result (ℕ × List ℕ) Cause
+abbrev pub after_group : ℕ → (ℕ × List ℕ) → Result (ℕ × List ℕ) (Cause × List ℕ)
 after_group n first = cond (ltb first.0 128) (groups_at n first.1 >>= λ high. Ok (first.0 % 128 + 128 * high.0, high.1)) (Ok (first.0 % 128, first.1))
 
 pub first_group : (value weight i : ℕ) → i < 9 → (bytes : List ℕ) → with_low value weight (groups_at (9 - i) bytes) ≡ (u8_at bytes >>= λ first. with_low value weight (after_group (9 - (i + 1)) first))
@@ -30,11 +30,11 @@ first_group value weight i lt bytes =
     let k : 9 - i ≡ suc (9 - (i + 1)) = omega arith in
     ap (λ (n : ℕ). with_low value weight (groups_at n bytes)) k ∙ bind_bind (u8_at bytes) (after_group (9 - (i + 1))) (λ high. Ok (value + weight * high.0, high.1))
 
-regroup : (value weight byte : ℕ) (read : Result (ℕ × List ℕ) Cause) → with_low value weight (read >>= λ high. Ok (byte % 128 + 128 * high.0, high.1)) ≡ with_low (value + byte % 128 * weight) (weight * 128) read
+regroup : (value weight byte : ℕ) (read : Result (ℕ × List ℕ) (Cause × List ℕ)) → with_low value weight (read >>= λ high. Ok (byte % 128 + 128 * high.0, high.1)) ≡ with_low (value + byte % 128 * weight) (weight * 128) read
 regroup value weight byte (Ok high) = ap (λ (n : ℕ). Ok (n, high.1)) (omega arith)
 regroup value weight byte (Err c) = refl
 
-begins : (read : Result (ℕ × List ℕ) Cause) → read ≡ with_low 0 1 read
+begins : (read : Result (ℕ × List ℕ) (Cause × List ℕ)) → read ≡ with_low 0 1 read
 begins (Ok high) = ap (λ (n : ℕ). Ok (n, high.1)) (omega arith)
 begins (Err c) = refl
 
@@ -54,17 +54,17 @@ tenth_group value weight i last bytes =
     let k : 9 - i ≡ 0 = omega arith in
     ap (λ (n : ℕ). with_low value weight (groups_at n bytes)) k ∙ bind_bind (u8_at bytes) (λ last. last_group last.0 last.1) (λ high. Ok (value + weight * high.0, high.1))
 
-pub is_low : (value weight byte : ℕ) → byte < 128 → (rest : List ℕ) → with_low value weight (last_group byte rest) ≡ Err BadNumber
+pub is_low : (value weight byte : ℕ) → byte < 128 → (rest : List ℕ) → with_low value weight (last_group byte rest) ≡ Err (BadNumber, rest)
 unfolding last_group
 is_low value weight byte low rest =
     let test : ltb byte 128 ≡ true = lt-ltb _ _ low in
     rw test refl
 
-pub is_large : (value weight byte : ℕ) → 1 < byte % 128 → (rest : List ℕ) → with_low value weight (last_group byte rest) ≡ Err BadNumber
+pub is_large : (value weight byte : ℕ) → 1 < byte % 128 → (rest : List ℕ) → with_low value weight (last_group byte rest) ≡ Err (BadNumber, rest)
 unfolding last_group
 is_large value weight byte large rest =
     let test : ltb 1 (byte % 128) ≡ true = lt-ltb _ _ large in
-    elim (ltb byte 128) as (λ b. with_low value weight (cond b (Err BadNumber) (cond (ltb 1 (byte % 128)) (Err BadNumber) (Ok (byte % 128, rest)))) ≡ Err BadNumber) [ true ↦ refl | false ↦ rw test refl ]
+    elim (ltb byte 128) as (λ b. with_low value weight (cond b (Err (BadNumber, rest)) (cond (ltb 1 (byte % 128)) (Err (BadNumber, rest)) (Ok (byte % 128, rest)))) ≡ Err (BadNumber, rest)) [ true ↦ refl | false ↦ rw test refl ]
 
 pub is_last : (value weight byte : ℕ) → 128 ≤ byte → byte % 128 ≤ 1 → (rest : List ℕ) → with_low value weight (last_group byte rest) ≡ Ok (value + byte % 128 * weight, rest)
 unfolding last_group

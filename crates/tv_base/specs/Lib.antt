@@ -5,6 +5,7 @@ pub mod Source
 pub mod Sink
 pub mod Stop
 pub mod Take
+pub mod Append
 pub mod Reading
 pub mod ReadsAs
 pub mod Escapes

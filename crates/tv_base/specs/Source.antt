@@ -1,5 +1,6 @@
 -- What a read does to the bytes that a source has left, and to its count of faults.
-use Rattle.std.specs.Prelude.{◌≡◌, ℕ, ◌+◌, ◌-◌, ◌^◌, ◌<◌, ◌≤◌, min, List, [], ◌++◌, length, take, All, Result, Ok, Err}
+use Rattle.std.specs.Prelude.{◌≡◌, ℕ, ◌+◌, ◌-◌, ◌^◌, ◌<◌, ◌≤◌, min, List, [], ◌++◌, length, take, All, Result, Ok, Err, Option, Some}
+use Rattle.std.specs.declared.io.ErrorKind.{ErrorKind}
 
 -- each number is a byte
 abbrev pub AllBytes : List ℕ → Type 0
@@ -14,7 +15,17 @@ GivesSome old new (Err e) buf = new ≡ old
 abbrev pub HasRisen : ℕ → ℕ → Type 0
 HasRisen old new = min (old + 1) (2 ^ 64 - 1) ≤ new
 
--- each error is counted, and nothing else is
-abbrev pub CountsFault : {T E : Type 0} → Result T E → ℕ → ℕ → Type 0
+-- how many reads or writes have failed, and of what kind the last of these failures was
+pub record Faults : Type 0 where
+  pub number : ℕ
+  pub last : Option ErrorKind
+
+-- there was a failure more, and the last is of this kind
+pub record HasFailed (kind : ErrorKind) (old new : Faults) : Type 0 where
+  pub counted : HasRisen old.number new.number
+  pub kept : new.last ≡ Some kind
+
+-- each error is counted and its kind kept, and nothing else is
+abbrev pub CountsFault : {T : Type 0} → Result T ErrorKind → Faults → Faults → Type 0
 CountsFault (Ok x) old new = new ≡ old
-CountsFault (Err e) old new = HasRisen old new
+CountsFault (Err kind) old new = HasFailed kind old new

@@ -1,7 +1,7 @@
 //! Where bytes go.
 
 ghost use Rattle.std.specs.Prelude.{◌≡◌, ℕ, List, ◌≤◌, length, IfOk};
-ghost use Rattle.tv_base.specs.Source.{CountsFault};
+ghost use Rattle.tv_base.specs.Source.{Faults, CountsFault};
 ghost use Rattle.tv_base.specs.Sink.{AppendsSome};
 
 use std::io;
@@ -14,11 +14,11 @@ pub trait ByteSink {
     /// Where they are known, the bytes that the sink holds.
     ghost held: { Self → List ℕ };
 
-    /// How many writes have failed. At 2 ^ 64 - 1 the count stays.
-    ghost faults: { Self → ℕ };
+    /// How many writes have failed, and of what kind the last failure was. At 2 ^ 64 - 1 the count stays.
+    ghost faults: { Self → Faults };
 
     /// Appends some of the first bytes of `buf`, and gives their number: at least one if there is one. An `Err` is counted
-    /// as a fault and appends none.
+    /// as a fault of its kind and appends none.
     fn write(&mut self, buf: &[u8]) -> Result<usize, io::ErrorKind>
         ensures bytes { tells self.old → AppendsSome (held self.old) (held self.new) result buf.now }
         ensures tells { tells self.old → tells self.new }

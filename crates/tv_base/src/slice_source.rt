@@ -1,8 +1,9 @@
 //! A source over a slice.
 
-ghost use Rattle.std.specs.Prelude.{◌≡◌};
+ghost use Rattle.std.specs.Prelude.{◌≡◌, None};
 ghost use Rattle.tv_base.specs.Source.{AllBytes};
 
+use crate::read_error::ReadError;
 use crate::source::ByteSource;
 use std::io;
 
@@ -34,13 +35,20 @@ impl<'a> ByteSource for SliceSource<'a> {
 
     ghost left = { λ s. s.rest.now };
 
-    ghost faults = { λ _. 0 };
+    ghost faults = { λ _. record { number = 0; last = None } };
 
     fn read(&mut self, buf: &mut [u8]) -> Result<usize, io::ErrorKind> {
         let count = self.rest.len().min(buf.len());
         buf[..count].copy_from_slice(&self.rest[..count]);
         self.rest = &self.rest[count..];
         Ok(count)
+    }
+
+    fn append(&mut self, bytes: &mut Vec<u8>, most: usize) -> Result<usize, ReadError> {
+        let moved = self.rest.len().min(most);
+        bytes.extend_from_slice(&self.rest[..moved])?;
+        self.rest = &self.rest[moved..];
+        Ok(moved)
     }
 
     ghost are_bytes = { λ s told. s.are_bytes };

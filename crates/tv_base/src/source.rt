@@ -1,8 +1,11 @@
 //! Where bytes come from.
 
 ghost use Rattle.std.specs.Prelude.{◌≡◌, ℕ, List, ◌≤◌, length, IfOk};
-ghost use Rattle.tv_base.specs.Source.{AllBytes, GivesSome, CountsFault};
+ghost use Rattle.tv_base.specs.Append.{AppendsNext, append_stop};
+ghost use Rattle.tv_base.specs.Stop.{Counts};
+ghost use Rattle.tv_base.specs.Source.{AllBytes, GivesSome, Faults, CountsFault};
 
+use crate::read_error::ReadError;
 use std::io;
 
 /// A place from which bytes are read, one after the other.
@@ -13,17 +16,39 @@ pub trait ByteSource {
     /// Where they are known, the bytes that reads will give from here on, however they are cut.
     ghost left: { Self → List ℕ };
 
-    /// How many reads have failed. At 2 ^ 64 - 1 the count stays.
-    ghost faults: { Self → ℕ };
+    /// How many reads have failed, and of what kind the last failure was. At 2 ^ 64 - 1 the count stays.
+    ghost faults: { Self → Faults };
 
     /// Puts the next bytes into the front of `buf`, and gives their number: at most the length of `buf`, and possibly fewer
-    /// than are left. `Ok(0)` for a buffer that isn't empty is the end. An `Err` is counted as a fault and takes no byte,
+    /// than are left. `Ok(0)` for a buffer that isn't empty is the end. An `Err` is counted as a fault of its kind and takes no byte,
     /// and what `buf` then holds is open.
     fn read(&mut self, buf: &mut [u8]) -> Result<usize, io::ErrorKind>
         ensures bound { IfOk result (λ n. n ≤ length buf.new) }
         ensures bytes { tells self.old → GivesSome (left self.old) (left self.new) result buf.new }
         ensures tells { tells self.old → tells self.new }
         ensures faults { CountsFault result (faults self.old) (faults self.new) };
+
+    /// Puts the next bytes behind those of `bytes`, and gives their number: at most `most`, and possibly fewer than are left.
+    /// `Ok(0)` where `most` isn't 0 is the end.
+    ///
+    /// Errors: `Io` where a read failed, and `Memory`. No byte was taken then, and what `bytes` holds is open.
+    fn append(&mut self, bytes: &mut Vec<u8>, most: usize) -> Result<usize, ReadError>
+        requires { most ≤ 4096 }
+        ensures bound { IfOk result (λ n. n ≤ most) }
+        ensures bytes { tells self.old → AppendsNext (left self.old) (left self.new) bytes.old.items bytes.new.items most result }
+        ensures tells { tells self.old → tells self.new }
+        ensures faults { Counts append_stop result (faults self.old) (faults self.new) }
+    {
+        let filled = bytes.len();
+        bytes.resize(filled + most, 0)?;
+        match self.read(&mut bytes[filled..]) {
+            Ok(count) => {
+                bytes.truncate(filled + count);
+                Ok(count)
+            }
+            Err(kind) => Err(ReadError::Io(kind)),
+        }
+    }
 
     /// Each number that is left is a byte.
     ghost are_bytes: { (source : Self) → tells source → AllBytes (left source) };

@@ -196,9 +196,17 @@ fn take_pieces<S: ByteSource>(
 {
     let mut missing = len;
     while missing > 0 {
-        let piece = missing.min(PIECE);
-        take_more(source, count, bytes, piece as usize)?;
-        missing -= piece;
+        let room = u64::MAX - *count;
+        if room == 0 {
+            return Err(ReadError::Corrupted(Cause::TooLong));
+        }
+        let most = missing.min(room).min(PIECE);
+        let more = source.append(bytes, most as usize)? as u64;
+        if more == 0 {
+            return Err(ReadError::Corrupted(Cause::UnexpectedEnd));
+        }
+        *count += more;
+        missing -= more;
     }
     Ok(())
 }
@@ -206,7 +214,7 @@ fn take_pieces<S: ByteSource>(
 /// Takes bytes behind their length, and puts them in place of those that are there. Room is made only as they come.
 ///
 /// Errors: those of [`take_vint`], and `Memory`. After an error what `bytes` holds is open.
-#[tactic(auto, unfolding(crate::specs::Reading::sized_at))]
+#[tactic(auto, using(crate::proofs::TakeSteps::Taken_then), unfolding(crate::specs::Reading::sized_at))]
 pub fn take_sized<S: ByteSource>(
     source: &mut S,
     count: &mut u64,

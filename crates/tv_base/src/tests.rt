@@ -1,4 +1,6 @@
 ghost use Rattle.std.specs.Prelude.{List, length};
+ghost use Rattle.std.specs.Prelude.{Some};
+ghost use Rattle.std.specs.declared.io.ErrorKind.TheVariants.{TimedOut};
 ghost use Rattle.tv_base.specs.Source.{AllBytes};
 
 use crate::take::{
@@ -42,7 +44,7 @@ impl<'a> ByteSource for DripSource<'a> {
 
     ghost left = { λ s. s.rest.now };
 
-    ghost faults = { λ s. s.faults };
+    ghost faults = { λ s. record { number = s.faults; last = Some TimedOut } };
 
     fn read(&mut self, buf: &mut [u8]) -> Result<usize, io::ErrorKind> {
         if self.kept > 0 && self.rest.len() <= self.kept {
@@ -64,6 +66,7 @@ struct SmallSink {
     held: VecSink,
     room: usize,
     faults: u64,
+    last: Option<io::ErrorKind>,
 }
 
 impl ByteSink for SmallSink {
@@ -71,7 +74,7 @@ impl ByteSink for SmallSink {
 
     ghost held = { λ s. s.held.bytes.items };
 
-    ghost faults = { λ s. s.faults };
+    ghost faults = { λ s. record { number = s.faults; last = s.last } };
 
     fn write(&mut self, buf: &[u8]) -> Result<usize, io::ErrorKind> {
         if buf.is_empty() {
@@ -79,6 +82,7 @@ impl ByteSink for SmallSink {
         }
         if self.room == 0 {
             self.faults = self.faults.saturating_add(1);
+            self.last = Some(io::ErrorKind::StorageFull);
             return Err(io::ErrorKind::StorageFull);
         }
         match self.held.write(&buf[..1]) {
@@ -88,6 +92,7 @@ impl ByteSink for SmallSink {
             }
             Err(kind) => {
                 self.faults = self.faults.saturating_add(1);
+                self.last = Some(kind);
                 Err(kind)
             }
         }
@@ -254,6 +259,7 @@ fn what_is_written(rt: HostRuntime) -> Result<(), Fail> {
         held: VecSink::new(rt.alloc()),
         room: 20,
         faults: 0,
+        last: None,
     };
     assert_eq!(rt; write_each(&mut small), Err(io::ErrorKind::StorageFull));
     assert_eq!(rt; small.held.as_slice(), &WRITTEN[..20]);

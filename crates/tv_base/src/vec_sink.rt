@@ -1,6 +1,6 @@
 //! A sink in memory.
 
-ghost use Rattle.std.specs.Prelude.{◌≡◌, [], length, IfOk, IfErr};
+ghost use Rattle.std.specs.Prelude.{◌≡◌, [], length, IfOk, IfErr, None};
 ghost use Rattle.std.specs.declared.io.ErrorKind.TheVariants.{OutOfMemory};
 ghost use Rattle.tv_base.specs.Source.{CountsFault};
 ghost use Rattle.tv_base.specs.Sink.{AppendsSome};
@@ -14,17 +14,19 @@ use std::io;
 pub struct VecSink {
     bytes: Vec<u8>,
     faults: u64,
+    last: Option<io::ErrorKind>,
 }
 
 impl VecSink {
     /// A sink that holds no byte. It takes no memory yet.
     pub fn new(alloc: Global) -> VecSink
         ensures bytes { ⟦<VecSink as ByteSink>⟧.held result ≡ [] }
-        ensures faults { ⟦<VecSink as ByteSink>⟧.faults result ≡ 0 }
+        ensures faults { ⟦<VecSink as ByteSink>⟧.faults result ≡ record { number = 0; last = None } }
     {
         VecSink {
             bytes: Vec::new(alloc),
             faults: 0,
+            last: None,
         }
     }
 
@@ -39,7 +41,11 @@ impl VecSink {
     pub fn into_vec(self) -> Vec<u8>
         ensures { result.items ≡ ⟦<VecSink as ByteSink>⟧.held self }
     {
-        let VecSink { bytes, faults: _ } = self;
+        let VecSink {
+            bytes,
+            faults: _,
+            last: _,
+        } = self;
         bytes
     }
 }
@@ -49,7 +55,7 @@ impl ByteSink for VecSink {
 
     ghost held = { λ s. s.bytes.items };
 
-    ghost faults = { λ s. s.faults };
+    ghost faults = { λ s. record { number = s.faults; last = s.last } };
 
     /// Appends all of `buf`. Errors: `OutOfMemory` where memory is refused, and then none of it is appended.
     fn write(&mut self, buf: &[u8]) -> Result<usize, io::ErrorKind>
@@ -62,6 +68,7 @@ impl ByteSink for VecSink {
             Ok(()) => Ok(buf.len()),
             Err(_) => {
                 self.faults = self.faults.saturating_add(1);
+                self.last = Some(io::ErrorKind::OutOfMemory);
                 Err(io::ErrorKind::OutOfMemory)
             }
         }

@@ -1,6 +1,6 @@
 //! Documents: pairs of a field and a value, the values in one heap.
 
-ghost use Rattle.std.specs.Prelude.{◌≡◌, ◌<◌, ◌≤◌, ◌^◌, [], ◌↔◌, IsTrue, length, slice_get};
+ghost use Rattle.std.specs.Prelude.{◌≡◌, ◌<◌, ◌≤◌, ◌^◌, [], ◌∷◌, ◌++◌, ◌↔◌, IsTrue, OnOk, OnErr, length, slice_get};
 ghost use Rattle.tv_value.specs.Tree.{leaf, text, unsigned};
 ghost use Rattle.tv_doc.specs.NewLeaf.{leaf_of};
 ghost use Rattle.tv_doc.specs.Handled.{are_handled};
@@ -12,12 +12,27 @@ use crate::field_values::FieldValueIterRef;
 use crate::new_leaf::NewLeaf;
 use crate::place::FieldValueAddr;
 use crate::write::write_leaf;
-use std::alloc::Global;
+use std::alloc::{AllocError, Global};
 use tv_schema::Schema;
 use tv_value::field::Field;
 
 // The largest length of a heap, so that 32 bits hold each address.
 const MAX_HEAP_LEN: u64 = 4294967295;
+
+// The first pair makes room for so many.
+const FIRST_PAIRS: usize = 16;
+
+// Adds a place behind those that are there.
+fn push_pair(pairs: &mut Vec<FieldValueAddr>, pair: FieldValueAddr) -> Result<(), AllocError>
+    ensures ok { OnOk result (pairs.new.items ≡ pairs.old.items ++ pair ∷ []) }
+    ensures err { OnErr result (pairs.new.items ≡ pairs.old.items) }
+{
+    if pairs.is_empty() {
+        pairs.reserve(FIRST_PAIRS)?;
+    }
+    pairs.push(pair)?;
+    Ok(())
+}
 
 /// Pairs of a field and a value, in order. The values stand in one heap of bytes, in which each addition is kept apart.
 #[derive(Drop)]
@@ -133,7 +148,7 @@ impl CompactDoc {
             value_type,
             address,
         };
-        if self.pairs.push(pair).is_err() {
+        if push_pair(&mut self.pairs, pair).is_err() {
             self.node_data.truncate(len);
             return Err(AddError::Memory);
         }

@@ -66,12 +66,27 @@ fn write_u64(heap: &mut Vec<u8>, number: u64) -> Result<u32, AllocError>
     Ok(at)
 }
 
+/// The first addition to a heap makes room for so many bytes.
+const FIRST_ROOM: usize = 1024;
+
+// Makes room in a heap that has none.
+fn make_room(heap: &mut Vec<u8>) -> Result<(), AllocError>
+    ensures { heap.new.items ≡ heap.old.items }
+{
+    if heap.is_empty() {
+        heap.reserve(FIRST_ROOM)
+    } else {
+        Ok(())
+    }
+}
+
 /// Writes a value, and answers its type and its address. After an error the old heap is still a front of the new.
 pub fn write_leaf(heap: &mut Vec<u8>, value: NewLeaf<'_>) -> Result<(ValueType, u32), AllocError>
     requires { length heap.old.items + leaf_room (leaf_of value) < 2 ^ 32 }
     ensures ok { IfOk result (λ r. Wrote heap.old.items heap.new.items (type_code r.0) r.1 (leaf (leaf_of value.entry))) }
     ensures err { OnErr result (IsFront heap.old.items heap.new.items) }
 {
+    make_room(heap)?;
     match value {
         NewLeaf::Str(content) => Ok((ValueType::Str, write_text(heap, content)?)),
         NewLeaf::U64(number) => Ok((ValueType::U64, write_u64(heap, number)?)),

@@ -4,3 +4,4 @@ pub mod AgreeDocument
 pub mod Promises
 pub mod Stores
 pub mod StoredLaws
+pub mod SingleRefusals

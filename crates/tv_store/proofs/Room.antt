@@ -2,42 +2,25 @@
 use Rattle.std.proofs.Common.{◌≡◌, ℕ, ◌+◌, ◌<◌, ◌≤◌, List, [], ◌∷◌, ◌++◌, length, Result, Ok, Err, refl, ap, ◌∙◌, arith, zero-add}
 use Rattle.std.specs.Prelude.{IsErrOf}
 use Rattle.std.proofs.lemmas.List.Sums.{sum_by-append}
-use Rattle.tv_base.specs.declared.cause.Cause.{Cause}
-use Rattle.tv_base.specs.declared.read_error.ReadError.{ReadError}
-use Rattle.tv_base.specs.declared.read_error.ReadError.TheVariants as reads
+use Rattle.tv_base.specs.Source.{Faults}
 use Rattle.tv_base.specs.Stop.{Stop, Takes}
 use Rattle.tv_base.specs.Stop.Stop.{Short}
-use Rattle.tv_base.specs.Take.{read_stop}
 use Rattle.tv_doc.specs.declared.add_error.AddError.{AddError}
 use Rattle.tv_doc.specs.declared.add_error.AddError.TheVariants as adds
 use Rattle.tv_doc.specs.declared.document.CompactDoc.{CompactDoc}
 use Rattle.tv_doc.specs.Document.{document_of, heap_of, IsFull, Refuses}
 use Rattle.tv_doc.specs.Room.{room, document_room}
+use Rattle.tv_value.specs.Fault.{Refusal}
 use Rattle.tv_value.specs.Tree.{Tree, Document}
 use Rattle.tv_store.specs.declared.error.DeserializeError.{DeserializeError}
 use Rattle.tv_store.specs.declared.error.DeserializeError.TheVariants as errors
-use Rattle.tv_store.specs.Error.{read_error, add_error, store_stop}
+use Rattle.tv_store.specs.Error.{add_error, store_stop}
 use Rattle.tv_store.specs.Pairs.{HasNoRoom}
 use Rattle.tv_store.specs.Reading.{pair_at, pairs_at}
 use Rattle.tv_store.proofs.PairLoop.{pairs_at-more}
 
--- what stops the reader of a pair stops that of a document
-pub store_stop-read_error : (e : ReadError) → store_stop (read_error e) ≡ read_stop e
-store_stop-read_error (reads.Corrupted c) = refl
-store_stop-read_error (reads.Io k) = refl
-store_stop-read_error reads.Memory = refl
-
-no_heap : (e : ReadError) → errors.HeapFull ≡ read_error e → ⊥
-no_heap (reads.Corrupted c) p = cc
-no_heap (reads.Io k) p = cc
-no_heap reads.Memory p = cc
-
 told_is : {T : Type 0} (result : Result T DeserializeError) (d e : DeserializeError) → result ≡ Err d → IsErrOf result e → e ≡ d
 told_is result d e p q = cc
-
--- the reader of a pair never says that the heap is full
-pub not_full : {T : Type 0} (result : Result T DeserializeError) (d : DeserializeError) (e : ReadError) → result ≡ Err d → d ≡ read_error e → IsErrOf result errors.HeapFull → ⊥
-not_full result d e p q full = no_heap e (told_is result d errors.HeapFull p full ∙ q)
 
 -- an addition to a small field stops for want of room
 pub store_stop-add_error : (e : AddError) (doc : CompactDoc) (field : ℕ) (t : Tree) → field ≤ 65535 → Refuses doc field t e → store_stop (add_error e) ≡ Short
@@ -58,8 +41,8 @@ pub document_room-push : (d : Document) (p : ℕ × Tree) → document_room (d +
 document_room-push d p = sum_by-append (λ (pair : ℕ × Tree). room pair.1) d (p ∷ []) ∙ ap (λ n. document_room d + n) (zero-add (room p.1))
 
 -- the pairs so far and the next one have no room
-pub no_room : {P E D Y : Type 0} {stop : E → Stop Cause} {pair_stop : D → Stop Cause} {tells : P → Type 0} {left : P → List ℕ} {count : P → ℕ} {faults : P → ℕ} {old mid new : P} {pair : Y → ℕ × Tree} {y : Y} (doc : CompactDoc) (k n : ℕ)
-    → k < n → Takes stop tells left count faults old mid document_of (Ok doc) (pairs_at k) → Takes pair_stop tells left count faults mid new pair (Ok y) pair_at
+pub no_room : {P E Y : Type 0} {stop : E → Stop Refusal} {tells : P → Type 0} {left : P → List ℕ} {count : P → ℕ} {faults : P → Faults} {old mid new : P} {pair : Y → ℕ × Tree} {y : Y} (doc : CompactDoc) (k n : ℕ)
+    → k < n → Takes stop tells left count faults old mid document_of (Ok doc) (pairs_at k) → Takes stop tells left count faults mid new pair (Ok y) pair_at
     → length (heap_of doc) ≤ document_room (document_of doc) → IsFull doc (pair y).1 → tells old → HasNoRoom n (left old)
 no_room {left = left} {old = old} {mid = mid} {new = new} {pair = pair} {y = y} doc k n less before_it pair_taken room_is full t = record {
   many = k + 1;

@@ -1,16 +1,19 @@
 -- The stored pairs of a document.
-use Rattle.std.proofs.Common.{◌≡◌, ℕ, suc, ◌≤◌, Bool, true, false, cond, List, [], ◌∷◌, ◌++◌, length, map, Some, slice_get, Err, refl, sym, ap, ◌∙◌, arith}
+use Rattle.std.proofs.Common.{◌≡◌, ℕ, suc, ◌≤◌, Bool, true, false, cond, List, [], ◌∷◌, ◌++◌, length, map, Some, slice_get, Ok, Err, refl, sym, ap, ◌∙◌, arith}
 use Rattle.std.specs.List.{filter, flat_map}
 use Rattle.std.specs.Prelude.{◌&&◌}
 use Rattle.std.proofs.lemmas.List.{append-nil}
 use Rattle.std.proofs.lemmas.List.Concat.{flat_map-cons}
 use Rattle.tv_schema.specs.Entry.{is_stored_type}
-use Rattle.tv_base.specs.Sink.{Writes}
+use Rattle.std.specs.declared.io.ErrorKind.{ErrorKind}
+use Rattle.tv_base.specs.Source.{Faults}
+use Rattle.tv_base.specs.Sink.{Writes, WritesBy}
 use Rattle.tv_schema.specs.Entry.{Entry}
 use Rattle.tv_value.specs.Tree.{null, text, unsigned, signed, boolean, date, facet, bytes, ip_address, tokenized, Tree, leaf, array, object, Document}
 use Rattle.tv_doc.specs.Handled.{is_handled, are_handled}
 use Rattle.tv_value.specs.Short.{short_pair}
 use Rattle.tv_value.specs.Version.{V2}
+use Rattle.tv_store.specs.Error.{write_error, write_stop}
 use Rattle.tv_store.specs.Stored.{stored, tree_written, is_stored_entry, is_stored_field, written_pairs}
 
 abbrev written : ℕ × Tree → ℕ × Tree
@@ -88,7 +91,7 @@ others_handled p d whole e h = other_true (is_handled p.1) (are_handled d) (sym 
     other_true true b h = h
     other_true false b h = absurd (no h)
 
--- what was written, in the words of another error
-pub writes_for : {S T U E F : Type 0} {tells : S → Type 0} {held : S → List ℕ} {faults : S → ℕ} {old new : S} {e : E} {whole : List ℕ} (f : F)
-    → Writes {T = T} tells held faults old new (Err e) whole → Writes {T = U} tells held faults old new (Err f) whole
-writes_for f w = record { appends = w.appends; still_tells = w.still_tells; counts = w.counts }
+-- what the sink told, in the words of the store
+pub writes_for : {S T U : Type 0} {tells : S → Type 0} {held : S → List ℕ} {faults : S → Faults} {old new : S} {kind : ErrorKind} {text : List ℕ}
+    → Writes {T = T} tells held faults old new (Err kind) text → WritesBy {T = U} write_stop tells held faults old new (Err (write_error kind)) (Ok text)
+writes_for w = record { appends = w.appends; still_tells = w.still_tells; counts = w.counts }

@@ -1,6 +1,9 @@
 -- What reading a document returns.
 use Rattle.std.specs.Prelude.{◌≡◌, ◌<◌, ℕ, List, Result, Ok, Err}
+use Rattle.tv_base.specs.declared.cause.Cause.{Cause}
+use Rattle.tv_base.specs.declared.cause.Cause.TheVariants.{UnexpectedEnd}
 use Rattle.tv_base.specs.Parts.{Begins}
+use Rattle.tv_base.specs.ReadsAs.{Shows}
 use Rattle.tv_doc.specs.declared.document.CompactDoc.{CompactDoc}
 use Rattle.tv_doc.specs.Document.{document_of}
 use Rattle.tv_doc.specs.Room.{document_room}
@@ -41,6 +44,10 @@ Tells v bytes (errors.Custom s) = ⊥
 Tells v bytes (errors.UnsupportedVersion m n) = ⊥
 Tells v bytes errors.AlreadyFailed = ⊥
 
+-- just the bytes that show the cause were taken
+abbrev pub ShowsCause : Version → List ℕ → List ℕ → Cause → Type 0
+ShowsCause v old new c = Shows (corrupted UnexpectedEnd) (DocumentRefused v) old new (corrupted c)
+
 -- the errors that reading a document has
 abbrev pub IsReadingError : DeserializeError → Type 0
 IsReadingError (errors.CorruptedValue c) = Unit {0}
@@ -52,3 +59,15 @@ IsReadingError (errors.TypeMismatch t u) = ⊥
 IsReadingError (errors.Custom s) = ⊥
 IsReadingError (errors.UnsupportedVersion m n) = ⊥
 IsReadingError errors.AlreadyFailed = ⊥
+
+-- and those that reading a pair has
+abbrev pub IsPairError : DeserializeError → Type 0
+IsPairError (errors.CorruptedValue c) = Unit {0}
+IsPairError (errors.Io k) = Unit {0}
+IsPairError errors.Memory = Unit {0}
+IsPairError errors.HeapFull = ⊥
+IsPairError (errors.UnsupportedType t) = ⊥
+IsPairError (errors.TypeMismatch t u) = ⊥
+IsPairError (errors.Custom s) = ⊥
+IsPairError (errors.UnsupportedVersion m n) = ⊥
+IsPairError errors.AlreadyFailed = ⊥

@@ -1,11 +1,13 @@
 //! Reading documents out of the store.
 
-ghost use Rattle.std.specs.Prelude.{◌≡◌, ◌≤◌, ◌++◌, ℕ, List, Ok, Err, IfOk, IfErr, IsTrue, MatchOption};
+ghost use Rattle.std.specs.Prelude.{◌≡◌, ◌≤◌, ◌++◌, ℕ, List, Ok, Err, IfOk, IfErr, IsErrOf, IsTrue, MatchOption};
+ghost use Rattle.tv_base.specs.declared.cause.Cause.{Cause};
+ghost use Rattle.tv_store.specs.declared.error.DeserializeError.TheVariants.{CorruptedValue};
 ghost use Rattle.tv_base.specs.ReadsAs.{Known};
 ghost use Rattle.tv_base.specs.Stop.{Counts};
 ghost use Rattle.tv_doc.specs.Document.{document_of};
 ghost use Rattle.tv_doc.specs.Room.{document_room};
-ghost use Rattle.tv_store.specs.Documents.{BeginsWith, Answers, Tells, IsReadingError};
+ghost use Rattle.tv_store.specs.Documents.{BeginsWith, Answers, Tells, ShowsCause, IsReadingError};
 ghost use Rattle.tv_store.specs.Error.{store_stop, TakesBy};
 ghost use Rattle.tv_store.specs.Reading.{document_at};
 ghost use Rattle.tv_doc.specs.Handled.{are_handled};
@@ -47,15 +49,15 @@ impl DocStoreVersion {
 /// Texts and numbers of type u64 are read; the codes of other types are refused as `UnknownTypeCode`.
 ///
 /// Errors, the first fault in reading order: `CorruptedValue` where the bytes spell no document, `HeapFull` where the pairs
-/// so far need more room than 4294967295 bytes, `Io` where the source failed, `Memory` where memory was refused. After an
-/// error the source's place isn't promised.
+/// so far need more room than 4294967295 bytes, `Io` where the source failed, `Memory` where memory was refused. After
+/// `CorruptedValue` just the bytes that show the cause were taken.
 pub fn read_document<S: ByteSource>(
     alloc: Global,
     source: &mut S,
     version: DocStoreVersion,
 ) -> Result<CompactDoc, DeserializeError>
     // a front of the bytes spells what is answered, and the rest is left
-    ensures found { Known S.tells S.left source.old → IfOk result (λ d. BeginsWith (version_of version) (S.left source.old) (S.left source.new) (document_of d)) }
+    ensures found { S.tells source.old → IfOk result (λ d. BeginsWith (version_of version) (S.left source.old) (S.left source.new) (document_of d)) }
 
     // wherever a front spells a document that has room, that one is answered
     ensures only { Known S.tells S.left source.old → (d : Document) (front rest : List ℕ) → S.left source.old ≡ front ++ rest → SpellsDocument NoLegacy (version_of version) front d → IsTrue (are_handled d) → document_room d ≤ 4294967295 → Answers result d rest (S.left source.new) }
@@ -64,9 +66,13 @@ pub fn read_document<S: ByteSource>(
     ensures tells { Known S.tells S.left source.old → IfErr result (Tells (version_of version) (S.left source.old)) }
     ensures errors { IfErr result IsReadingError }
 
-    // the source failed exactly where its count of faults rose
+    // just the bytes that show the cause were taken, and after every error a slice of what was left
+    ensures shows { Known S.tells S.left source.old → (c : Cause) → IsErrOf result (CorruptedValue c) → ShowsCause (version_of version) (S.left source.old) (S.left source.new) c }
+    ensures taken { S.tells source.old → (front : List ℕ) × (S.left source.old ≡ front ++ S.left source.new) }
+
+    // the source failed exactly where its count of faults rose, with the kind that it answered
     ensures faults { Counts store_stop result (S.faults source.old) (S.faults source.new) }
-    ensures still_tells { Known S.tells S.left source.old → S.tells source.new }
+    ensures still_tells { S.tells source.old → S.tells source.new }
 {
     let _ = version;
     let mut count = 0;

@@ -1,11 +1,14 @@
 //! Laws of the pairs that are written, each the contract of a function that does nothing.
 
-ghost use Rattle.std.specs.Prelude.{◌≤◌, IsTrue, List};
+ghost use Rattle.std.specs.Prelude.{◌≡◌, ◌≤◌, ℕ, IsTrue, List};
 ghost use Rattle.tv_doc.specs.Handled.{are_handled};
 ghost use Rattle.tv_doc.specs.Room.{document_room};
 ghost use Rattle.tv_schema.specs.Entry.{Entry};
 ghost use Rattle.tv_store.specs.Stored.{stored};
+ghost use Rattle.tv_store.specs.Refused.{DocumentRefused};
+ghost use Rattle.tv_value.specs.Fault.{Refusal};
 ghost use Rattle.tv_value.specs.Short.{IsDocument};
+ghost use Rattle.tv_value.specs.Version.{Version};
 ghost use Rattle.tv_value.specs.Tree.{Document};
 
 /// The stored pairs of a document that has a spelling have one.
@@ -21,4 +24,9 @@ pub fn stored_pairs_are_handled()
 /// The stored pairs need no more room than all pairs.
 pub fn stored_pairs_need_no_more_room()
     ensures { (schema : List Entry) (d : Document) → document_room (stored schema d) ≤ document_room d }
+{}
+
+/// Bytes of a store are refused in one way only.
+pub fn refusals_are_unique()
+    ensures { (v : Version) (bytes : List ℕ) (r s : Refusal) → DocumentRefused v bytes r → DocumentRefused v bytes s → r ≡ s }
 {}

@@ -1,19 +1,18 @@
 //! Reading the pairs of a document from a source that is lent, with the count of the bytes that were taken of it.
 
-ghost use Rattle.std.specs.Prelude.{◌≡◌, ◌≤◌, IfOk, IsErrOf, string_bytes};
-ghost use Rattle.tv_base.specs.Take.{told};
-ghost use Rattle.tv_base.specs.Take as reads;
+ghost use Rattle.std.specs.Prelude.{◌≡◌, ◌≤◌, IfOk, IfErr, IsErrOf, string_bytes};
 ghost use Rattle.tv_doc.specs.Document.{document_of, Adds};
 ghost use Rattle.tv_store.specs.declared.error.DeserializeError.TheVariants.{HeapFull};
+ghost use Rattle.tv_store.specs.Documents.{IsReadingError, IsPairError};
 ghost use Rattle.tv_store.specs.Error.{TakesBy};
-ghost use Rattle.tv_store.specs.Pairs.{at, taken_tree, taken_pair, HasNoRoom, DocumentHasNoRoom};
+ghost use Rattle.tv_store.specs.Pairs.{taken_tree, taken_pair, HasNoRoom, DocumentHasNoRoom};
 ghost use Rattle.tv_store.specs.Reading.{value_at, field_at, pair_at, pairs_at, document_at};
 
 use crate::error::DeserializeError;
 use crate::type_codes::{F64_CODE, TEXT_CODE, U64_CODE};
 use std::alloc::Global;
 use tv_base::take::{take_text, take_u8, take_u32, take_u64, take_vint};
-use tv_base::{ByteSource, Cause, ReadError};
+use tv_base::{ByteSource, Cause};
 use tv_doc::add_error::AddError;
 use tv_doc::document::CompactDoc;
 use tv_value::field::Field;
@@ -28,26 +27,28 @@ pub(crate) enum Taken {
     U64(u64),
 }
 
-#[tactic(auto, unfolding(crate::specs::Reading::field_at))]
-fn take_field<S: ByteSource>(source: &mut S, count: &mut u64) -> Result<u32, ReadError>
-    ensures takes { reads.TakesBy S.tells S.left S.faults source.old count.old source.new count.new (λ x. x) result field_at }
+#[tactic(auto, using(tv_base::proofs::TakeSteps::Taken_then), unfolding(crate::specs::Reading::field_at))]
+fn take_field<S: ByteSource>(source: &mut S, count: &mut u64) -> Result<u32, DeserializeError>
+    ensures takes { TakesBy S.tells S.left S.faults source.old count.old source.new count.new (λ x. x) result field_at }
     ensures small { IfOk result (λ field. field ≤ 65535) }
+    ensures errors { IfErr result IsPairError }
 {
     let field = take_u32(source, count)?;
     if field > LARGEST_FIELD {
-        return Err(ReadError::Corrupted(Cause::FieldNumber(field)));
+        return Err(DeserializeError::CorruptedValue(Cause::FieldNumber(field)));
     }
     Ok(field)
 }
 
-#[tactic(auto, unfolding(crate::specs::Reading::value_at))]
+#[tactic(auto, using(tv_base::proofs::TakeSteps::Taken_then), unfolding(crate::specs::Reading::value_at))]
 fn take_value<S: ByteSource>(
     alloc: Global,
     source: &mut S,
     count: &mut u64,
     text: &mut String,
-) -> Result<Taken, ReadError>
-    ensures { reads.TakesBy S.tells S.left S.faults source.old count.old source.new count.new (λ taken. taken_tree (string_bytes text.new) taken) result value_at }
+) -> Result<Taken, DeserializeError>
+    ensures takes { TakesBy S.tells S.left S.faults source.old count.old source.new count.new (λ taken. taken_tree (string_bytes text.new) taken) result value_at }
+    ensures errors { IfErr result IsPairError }
 {
     match take_u8(source, count)? {
         TEXT_CODE => {
@@ -55,20 +56,21 @@ fn take_value<S: ByteSource>(
             Ok(Taken::Text)
         }
         U64_CODE => Ok(Taken::U64(take_u64(source, count)?)),
-        F64_CODE => Err(ReadError::Corrupted(Cause::FloatCode)),
-        code => Err(ReadError::Corrupted(Cause::UnknownTypeCode(code))),
+        F64_CODE => Err(DeserializeError::CorruptedValue(Cause::FloatCode)),
+        code => Err(DeserializeError::CorruptedValue(Cause::UnknownTypeCode(code))),
     }
 }
 
-#[tactic(auto, unfolding(crate::specs::Reading::pair_at))]
+#[tactic(auto, using(tv_base::proofs::TakeSteps::Taken_then), unfolding(crate::specs::Reading::pair_at))]
 fn take_pair<S: ByteSource>(
     alloc: Global,
     source: &mut S,
     count: &mut u64,
     text: &mut String,
-) -> Result<(u32, Taken), ReadError>
-    ensures takes { reads.TakesBy S.tells S.left S.faults source.old count.old source.new count.new (λ pair. taken_pair (string_bytes text.new) pair) result pair_at }
+) -> Result<(u32, Taken), DeserializeError>
+    ensures takes { TakesBy S.tells S.left S.faults source.old count.old source.new count.new (λ pair. taken_pair (string_bytes text.new) pair) result pair_at }
     ensures small { IfOk result (λ pair. pair.0 ≤ 65535) }
+    ensures errors { IfErr result IsPairError }
 {
     let field = take_field(source, count)?;
     let value = take_value(alloc, source, count, text)?;
@@ -97,7 +99,8 @@ fn take_pairs<S: ByteSource>(
     announced: u64,
 ) -> Result<CompactDoc, DeserializeError>
     ensures takes { TakesBy S.tells S.left S.faults source.old count.old source.new count.new document_of result (pairs_at announced) }
-    ensures full { told S.tells S.left (at source.old count.old) → IsErrOf result HeapFull → HasNoRoom announced (S.left source.old) }
+    ensures full { S.tells source.old → IsErrOf result HeapFull → HasNoRoom announced (S.left source.old) }
+    ensures errors { IfErr result IsReadingError }
 {
     let mut document = CompactDoc::new(alloc);
     let mut text = String::new(alloc);
@@ -109,14 +112,15 @@ fn take_pairs<S: ByteSource>(
 }
 
 /// Takes a document: the number of its pairs, and each pair.
-#[tactic(auto, unfolding(crate::specs::Reading::document_at))]
+#[tactic(auto, using(tv_base::proofs::TakeSteps::Taken_then), unfolding(crate::specs::Reading::document_at))]
 pub(crate) fn take_document<S: ByteSource>(
     alloc: Global,
     source: &mut S,
     count: &mut u64,
 ) -> Result<CompactDoc, DeserializeError>
     ensures takes { TakesBy S.tells S.left S.faults source.old count.old source.new count.new document_of result document_at }
-    ensures full { told S.tells S.left (at source.old count.old) → IsErrOf result HeapFull → DocumentHasNoRoom (S.left source.old) }
+    ensures full { S.tells source.old → IsErrOf result HeapFull → DocumentHasNoRoom (S.left source.old) }
+    ensures errors { IfErr result IsReadingError }
 {
     let announced = take_vint(source, count)?;
     take_pairs(alloc, source, count, announced)

@@ -1,11 +1,12 @@
 //! Writing documents into the store.
 
-ghost use Rattle.std.specs.Prelude.{◌≡◌, ◌<◌, [], ◌∷◌, IfErr, IsTrue, length};
+ghost use Rattle.std.specs.Prelude.{◌≡◌, ◌<◌, [], ◌∷◌, Ok, IfErr, IsTrue, length};
 ghost use Rattle.tv_base.specs.Sink.{Writes};
 ghost use Rattle.tv_doc.specs.Belongs.{Belongs};
 ghost use Rattle.tv_doc.specs.Document.{document_of};
 ghost use Rattle.tv_doc.specs.Handled.{is_handled};
 ghost use Rattle.tv_doc.specs.Value.{tree_of};
+ghost use Rattle.tv_store.specs.Error as store;
 ghost use Rattle.tv_store.specs.Error.{IsIo};
 ghost use Rattle.tv_store.specs.Stored.{stored, written_pairs};
 ghost use Rattle.tv_value.specs.Short.{short, short_pair, short_document};
@@ -142,7 +143,7 @@ impl<'se, K: ByteSink> BinaryDocumentSerializer<'se, K> {
         requires { Belongs self.old.schema.now (document_of document.now) }
         ensures same_sink { self.new.sink.ghost_name ≡ self.old.sink.ghost_name }
         ensures schema { self.new.schema.now ≡ self.old.schema.now }
-        ensures writes { Writes K.tells K.held K.faults self.old.sink.now self.new.sink.now result (short_document V2 (stored self.old.schema.now (document_of document.now))) }
+        ensures writes { store.Writes K.tells K.held K.faults self.old.sink.now self.new.sink.now result (Ok (short_document V2 (stored self.old.schema.now (document_of document.now)))) }
         ensures io { IfErr result IsIo }
     {
         write_vint(self.sink, stored_count(self.schema, document))?;

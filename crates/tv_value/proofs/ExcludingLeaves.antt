@@ -18,7 +18,7 @@ use Rattle.tv_base.specs.Number.{Signed}
 use Rattle.tv_base.specs.Parts.{Behind, Text}
 use Rattle.tv_base.specs.PartFault.{InEach, NumberFault, TextFault}
 
-excludes_token : (t : Token) → Excludes TokenFault (λ b. TokenSpelling b t)
+pub excludes_token : (t : Token) → Excludes TokenFault (λ b. TokenSpelling b t)
 excludes_token t =
     excludes_then NumberFault VNum _ t.offset_from (excludes_number t.offset_from) one_number
     (excludes_then NumberFault VNum _ t.offset_to (excludes_number t.offset_to) one_number

@@ -6,7 +6,7 @@ use Rattle.tv_value.specs.Tree.{Leaf, Tree, leaf, array, object, Elements, no_el
 use Rattle.tv_base.specs.Number.{VNum, Fixed}
 use Rattle.tv_value.specs.Version.{Version, entry_total}
 use Rattle.tv_value.specs.Spelling.{leaf_code, Key, Spells, SpellsElements, SpellsEntries, SpellsPair, SpellsDocument, NoLegacy}
-use Rattle.tv_value.specs.Fault.{Refusal, Corrupt, LeafFault, FieldFault, field_ends, field_large, ValueFault, value_ends, unknown_code, float_code, in_leaf, in_legacy, in_count, in_element, in_entry_count, odd_count, in_entry_key, in_entry, PairFault, DocumentFault, NoLegacyFault}
+use Rattle.tv_value.specs.Fault.{Refusal, Corrupt, LeafFault, FieldFault, field_ends, field_large, SmallField, ValueFault, value_ends, unknown_code, float_code, in_leaf, in_legacy, in_count, in_element, in_entry_count, odd_count, in_entry_key, in_entry, PairFault, DocumentFault, NoLegacyFault}
 use Rattle.tv_base.proofs.Numbers.{agree_number, agree_fixed, one_number, length-fixed}
 use Rattle.tv_value.proofs.Leaves.{agree_key, leaf_code_small, total_same}
 use Rattle.tv_value.proofs.Trees.{agree_tree, one_pair}
@@ -39,7 +39,7 @@ module _ (Legacy : List ℕ → Entries → Type 0) (LegacyFault : List ℕ → 
   ]
 
   -- Behind fewer elements than there are stands the next one.
-  elements_reach : (ts us : Elements) → element_count ts < element_count us → (front rest b x : List ℕ)
+  pub elements_reach : (ts us : Elements) → element_count ts < element_count us → (front rest b x : List ℕ)
       → SpellsElements Legacy v front ts → SpellsElements Legacy v b us → front ++ rest ≡ b ++ x
       → (t : Tree) × (a : List ℕ) × (y : List ℕ) × Spells Legacy v a t × (rest ≡ a ++ y)
   elements_reach no_elements (element u us) l front rest b x p q e =
@@ -53,7 +53,7 @@ module _ (Legacy : List ℕ → Entries → Type 0) (LegacyFault : List ℕ → 
   elements_reach no_elements no_elements l front rest b x p q e = absurd (omega arith)
   elements_reach (element t ts) no_elements l front rest b x p q e = absurd (omega arith)
 
-  entries_reach : (es fs : Entries) → entry_count es < entry_count fs → (front rest b x : List ℕ)
+  pub entries_reach : (es fs : Entries) → entry_count es < entry_count fs → (front rest b x : List ℕ)
       → SpellsEntries Legacy v front es → SpellsEntries Legacy v b fs → front ++ rest ≡ b ++ x
       → (k : List ℕ) × (t : Tree) × (key : List ℕ) × (a : List ℕ) × (y : List ℕ) × Key v key k × Spells Legacy v a t × (rest ≡ key ++ (a ++ y))
   entries_reach no_entries (entry l u fs) less front rest b x p q e =
@@ -157,18 +157,24 @@ module _ (Legacy : List ℕ → Entries → Type 0) (LegacyFault : List ℕ → 
       let same = (agree_key v k r.0).agree key r.2 rest (r.3 ++ r.4) keyed r.5 r.7 in
       value_excludes f r.1 r.3 r.4 r.6 (rests key rest r.2 (r.3 ++ r.4) same.0 r.7)
 
-  field_excludes : (n : ℕ) → n ≤ 65535 → (whole a x : List ℕ) (c : Cause) → FieldFault whole c → Fixed 4 a n → whole ≡ a ++ x → ⊥
-  field_excludes n small whole a x c (field_ends h) p e = omega (arith, ap length e, length-append a x, length-fixed p)
-  field_excludes n small whole a x c (field_large m front rest joined q l) p e =
-      omega (arith, ((agree_fixed 4 m n).agree front a rest x q p (sym joined ∙ e)).1)
+  field_refused : (n : ℕ) (whole a x : List ℕ) (c : Cause) → FieldFault whole c → SmallField a n → whole ≡ a ++ x → ⊥
+  field_refused n whole a x c (field_ends h) p e = omega (arith, ap length e, length-append a x, length-fixed p.0)
+  field_refused n whole a x c (field_large m front rest joined q l) p e =
+      omega (arith, ((agree_fixed 4 m n).agree front a rest x q p.0 (sym joined ∙ e)).1, p.1)
 
-  pair_excludes : (pair : ℕ × Tree) → Excludes (PairFault Legacy LegacyFault v) (λ b. SpellsPair Legacy v b pair)
+  pub excludes_field : (n : ℕ) → Excludes FieldFault (λ b. SmallField b n)
+  excludes_field n = record { excludes = field_refused n }
+
+  pub one_field : OneReading SmallField
+  one_field a b x y m n p q e = (agree_fixed 4 m n).agree a b x y p.0 q.0 e
+
+  pub pair_excludes : (pair : ℕ × Tree) → Excludes (PairFault Legacy LegacyFault v) (λ b. SpellsPair Legacy v b pair)
   pair_excludes pair = record {
     excludes = λ whole a x c f p e.
-        (excludes_then (Corrupt FieldFault) (Fixed 4) (λ _. ValueFault Legacy LegacyFault v) {Q = λ b. Spells Legacy v b pair.1} pair.0
-        (excludes_corrupt (record { excludes = field_excludes pair.0 p.small }))
-        (λ s t y z m n q r d. (agree_fixed 4 m n).agree s t y z q r d)
-        (record { excludes = λ w s y d g q k. value_excludes g pair.1 s y q k })).excludes whole a x c f p.parts e;
+        (excludes_then (Corrupt FieldFault) SmallField (λ _. ValueFault Legacy LegacyFault v) {Q = λ b. Spells Legacy v b pair.1} pair.0
+        (excludes_corrupt (excludes_field pair.0)) one_field
+        (record { excludes = λ w s y d g q k. value_excludes g pair.1 s y q k })).excludes whole a x c f
+        (record { front = p.parts.front; rest = p.parts.rest; joined = p.parts.joined; first = (p.parts.first, p.small); second = p.parts.second }) e;
   }
 
   pub document_excludes : (d : Document) → Excludes (DocumentFault Legacy LegacyFault v) (λ b. SpellsDocument Legacy v b d)

@@ -2,6 +2,8 @@ pub mod Leaves
 pub mod Trees
 pub mod ExcludingLeaves
 pub mod ExcludingTrees
+pub mod SingleLeaves
+pub mod SingleTrees
 pub mod ShortSpellings
 pub mod PlainParts
 pub mod PlainLeaves

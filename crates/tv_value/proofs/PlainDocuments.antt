@@ -39,11 +39,11 @@ field_fault e v pairs n whole rest l p h =
     (λ L r f. item_fault (PairFault NoLegacy L v) (SpellsPair NoLegacy v) (document_of pairs) n whole rest (omega (arith, pairs-length pairs)) p r (inl f)) h
 
 pub pair_fault : (e : PlainRefusal) (v : Version) (pairs : List (ℕ × PlainValue)) (n field : ℕ) (whole rest after : List ℕ) → length pairs < n
-    → Begins (λ b. Each (SpellsPair NoLegacy v) b (document_of pairs)) whole rest → Begins (λ b. Fixed 4 b field) rest after → NoValue v after e → NoPairs v n whole e
-pair_fault e v pairs n field whole rest after l p q h =
+    → Begins (λ b. Each (SpellsPair NoLegacy v) b (document_of pairs)) whole rest → field ≤ 65535 → Begins (λ b. Fixed 4 b field) rest after → NoValue v after e → NoPairs v n whole e
+pair_fault e v pairs n field whole rest after l p small q h =
     because_map e (λ L r. ValueFault NoLegacy L v after r) (λ L r. InEach (PairFault NoLegacy L v) (SpellsPair NoLegacy v) n whole r)
     (λ L r f. item_fault (PairFault NoLegacy L v) (SpellsPair NoLegacy v) (document_of pairs) n whole rest (omega (arith, pairs-length pairs)) p r
-    (inr (field, behind_part rest after q f))) h
+    (inr (field, behind_part rest after (record { front = q.front; joined = q.joined; spelled = (q.spelled, small) }) f))) h
 
 pub begins_document : (v : Version) (pairs : List (ℕ × PlainValue)) (n : ℕ) (whole rest after : List ℕ) → length pairs ≡ n → Begins (λ b. VNum b n) whole rest
     → Begins (λ b. Each (SpellsPair NoLegacy v) b (document_of pairs)) rest after → Begins (λ b. SpellsDocument NoLegacy v b (document_of pairs)) whole after

@@ -24,13 +24,13 @@ module _ (Legacy : List ℕ → Entries → Type 0) (v : Version) (one_legacy : 
         (agree_right (agree_map (λ e. ap object e.1) (agree_behind (λ _. agree_then (agree_number (entry_total v (entry_count es)) (entry_total v (entry_count fs))) (λ e. agree_entries es fs (total_same v (entry_count es) (entry_count fs) e))))) (agree_behind (λ e. absurd (omega arith))))
         (agree_right (agree_behind (λ e. absurd (omega arith))) (agree_map (ap object) (agree_behind (λ _. agree_from {R = Legacy} one_legacy es fs))))
 
-    agree_elements : (ts us : Elements) → element_count ts ≡ element_count us → Agree (λ b. SpellsElements Legacy v b ts) (λ b. SpellsElements Legacy v b us) (ts ≡ us)
+    pub agree_elements : (ts us : Elements) → element_count ts ≡ element_count us → Agree (λ b. SpellsElements Legacy v b ts) (λ b. SpellsElements Legacy v b us) (ts ≡ us)
     agree_elements no_elements no_elements e = agree_map (λ _. refl) agree_empty
     agree_elements (element t ts) (element u us) e = agree_map (λ s. λ i. element (s.0 i) (s.1 i)) (agree_then (agree_tree t u) (λ _. agree_elements ts us (omega arith)))
     agree_elements no_elements (element u us) e = absurd (omega arith)
     agree_elements (element t ts) no_elements e = absurd (omega arith)
 
-    agree_entries : (es fs : Entries) → entry_count es ≡ entry_count fs → Agree (λ b. SpellsEntries Legacy v b es) (λ b. SpellsEntries Legacy v b fs) (es ≡ fs)
+    pub agree_entries : (es fs : Entries) → entry_count es ≡ entry_count fs → Agree (λ b. SpellsEntries Legacy v b es) (λ b. SpellsEntries Legacy v b fs) (es ≡ fs)
     agree_entries no_entries no_entries e = agree_map (λ _. refl) agree_empty
     agree_entries (entry k t es) (entry l u fs) e =
         agree_map (λ s. λ i. entry (s.0 i) (s.1.0 i) (s.1.1 i)) (agree_then (agree_key v k l) (λ _. agree_then (agree_tree t u) (λ _. agree_entries es fs (omega arith))))

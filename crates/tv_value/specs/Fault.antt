@@ -1,5 +1,5 @@
 -- What is wrong with bytes that spell no value: the first parts are spelled, and the next part is at fault.
-use Rattle.std.specs.Prelude.{◌≡◌, ◌≢◌, ℕ, ◌<◌, ◌⊎◌, List, [], ◌∷◌, ◌++◌, length, ℤ, pos, negsuc, ◌<ℤ◌, FitsSigned}
+use Rattle.std.specs.Prelude.{◌≡◌, ◌≢◌, ℕ, ◌<◌, ◌≤◌, ◌⊎◌, List, [], ◌∷◌, ◌++◌, length, ℤ, pos, negsuc, ◌<ℤ◌, FitsSigned}
 use Rattle.std.specs.Int.{w64, cast_unsigned}
 use Rattle.tv_base.specs.declared.cause.Cause.{Cause}
 use Rattle.tv_base.specs.declared.cause.Cause.TheVariants.{UnexpectedEnd, UnknownTypeCode, FloatCode, UnknownExtCode, BadBool, OddObject, FieldNumber, DateRange}
@@ -76,6 +76,10 @@ pub data FieldFault (whole : List ℕ) : Cause → Type 0 where
   field_ends : length whole < 4 → FieldFault whole UnexpectedEnd
   field_large : (n : ℕ) (front rest : List ℕ) → whole ≡ front ++ rest → Fixed 4 front n → 65535 < n → FieldFault whole (FieldNumber n)
 
+-- a field of at most 16 bits
+abbrev pub SmallField : List ℕ → ℕ → Type 0
+SmallField whole field = Fixed 4 whole field × (field ≤ 65535)
+
 -- `Legacy` says what spells a legacy object behind code 8, and `LegacyFault` what is wrong with bytes that spell none.
 module _ (Legacy : List ℕ → Entries → Type 0) (LegacyFault : List ℕ → Cause → Type 0) (v : Version) where
   pub data ValueFault : List ℕ → Refusal → Type 0 where
@@ -102,7 +106,7 @@ module _ (Legacy : List ℕ → Entries → Type 0) (LegacyFault : List ℕ → 
 
   -- of a pair: its field, or its value
   abbrev pub PairFault : List ℕ → Refusal → Type 0
-  PairFault = InThen (Corrupt FieldFault) (Fixed 4) (λ _. ValueFault)
+  PairFault = InThen (Corrupt FieldFault) SmallField (λ _. ValueFault)
 
   -- of a document: the number of its pairs, or one of them
   abbrev pub DocumentFault : List ℕ → Refusal → Type 0

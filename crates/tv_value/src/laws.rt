@@ -39,3 +39,13 @@ pub fn faulty_documents_derive_none()
     ensures { (v : Version) (bytes : List ℕ) (refusal : Refusal) (d : Document) →
         DocumentFault NoLegacy NoLegacyFault v bytes refusal → Derives NoLegacy v bytes d → ⊥ }
 {}
+
+/// Bytes that spell no value are at fault in one way only.
+pub fn faults_of_values_are_unique()
+    ensures { (v : Version) (bytes : List ℕ) (r s : Refusal) → ValueFault NoLegacy NoLegacyFault v bytes r → ValueFault NoLegacy NoLegacyFault v bytes s → r ≡ s }
+{}
+
+/// The same of documents.
+pub fn faults_of_documents_are_unique()
+    ensures { (v : Version) (bytes : List ℕ) (r s : Refusal) → DocumentFault NoLegacy NoLegacyFault v bytes r → DocumentFault NoLegacy NoLegacyFault v bytes s → r ≡ s }
+{}

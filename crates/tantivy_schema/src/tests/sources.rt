@@ -1,5 +1,7 @@
 //! A source that gives one byte at a time.
 
+ghost use Rattle.std.specs.Prelude.{Some};
+ghost use Rattle.std.specs.declared.io.ErrorKind.TheVariants.{TimedOut};
 ghost use Rattle.tv_base.specs.Source.{AllBytes};
 
 use std::io;
@@ -33,7 +35,7 @@ impl<'a> ByteSource for DripSource<'a> {
 
     ghost left = { λ s. s.rest.now };
 
-    ghost faults = { λ s. s.faults };
+    ghost faults = { λ s. record { number = s.faults; last = Some TimedOut } };
 
     fn read(&mut self, buf: &mut [u8]) -> Result<usize, io::ErrorKind> {
         if self.fails_at == Some(self.rest.len()) {

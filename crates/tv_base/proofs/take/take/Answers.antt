@@ -1,19 +1,32 @@
-use Rattle.std.proofs.Common.{rules, arith, ◌∙◌, ap, length}
-use Rattle.tv_base.proofs.Pieces.{fills_more, is_full, ends_early, took}
+use Rattle.std.proofs.Common.{rules, arith, ◌∙◌, sym}
+use Rattle.tv_base.proofs.TakeSteps.{failed_since}
+use Rattle.tv_base.proofs.Pieces.{fills_more, is_full, ends_early, none_read, given_still, taken_so_far}
 use Rattle.tv_base.proofs.take.take.Goals as goal
+
+pub returns-then-room-eq0-clause-takes : goal.returns-then-room-eq0-clause-takes
+returns-then-room-eq0-clause-takes g c =
+    let before = c.loop-filled.invariant in
+    record {
+      gives = λ told few. absurd (omega arith);
+      taken = λ told. taken_so_far _ _ _ before.within before.taken (before.given told);
+      still_tells = before.still_tells;
+      counts = before.counts;
+      rises = omega (arith, before.taken);
+    }
 
 pub returns-in-Ok-eq0-clause-takes : goal.returns-in-Ok-eq0-clause-takes
 returns-in-Ok-eq0-clause-takes g c =
     let l = c.loop-filled in
     let before = l.invariant in
+    let read = λ (told : g.S.ByteSource.tells c.args.source.now). c.in-Ok-eq0.ensures.bytes (before.still_tells told) in
+    let same = λ (told : g.S.ByteSource.tells c.args.source.now). none_read _ _ _ _ c.in-Ok-eq0.field-0-test (read told).0 in
+    let given = λ (told : g.S.ByteSource.tells c.args.source.now). given_still _ _ _ _ (before.given told) (same told) in
     record {
-      gives = λ told. ends_early l.filled _ l.buf _ _ (omega arith) before.within (before.given told) ((c.in-Ok-eq0.ensures.bytes (before.still_tells told)).1 c.in-Ok-eq0.field-0-test (omega arith));
-      still_tells = λ told. (
-        c.in-Ok-eq0.ensures.tells (before.still_tells told),
-        omega (arith, told.1, before.taken, took l.filled l.buf _ _ before.within (before.given told), took _ _ _ _ c.in-Ok-eq0.ensures.bound (c.in-Ok-eq0.ensures.bytes (before.still_tells told)).0),
-      );
+      gives = λ told few. ends_early l.filled _ l.buf _ _ (omega arith) before.within (given told) (sym (same told) ∙ (read told).1 c.in-Ok-eq0.field-0-test (omega arith));
+      taken = λ told. taken_so_far _ _ _ before.within before.taken (given told);
+      still_tells = λ told. c.in-Ok-eq0.ensures.tells (before.still_tells told);
       counts = c.in-Ok-eq0.ensures.faults ∙ before.counts;
-      taken = λ told. omega (arith, c.in-Ok-eq0.field-0-test, before.taken, took l.filled l.buf _ _ before.within (before.given told), took _ _ _ _ c.in-Ok-eq0.ensures.bound (c.in-Ok-eq0.ensures.bytes (before.still_tells told)).0);
+      rises = omega (arith, before.taken);
     }
 
 pub loop-filled-preserved : goal.loop-filled-preserved
@@ -35,9 +48,10 @@ returns-clause-takes g c =
     let before = l.invariant in
     record {
       gives = λ told. is_full l.filled _ l.buf _ _ c.loop-filled-test.false (omega arith) (before.given told);
-      still_tells = λ told. (before.still_tells told, omega (arith, told.1, before.taken, took l.filled l.buf _ _ before.within (before.given told)));
+      taken = λ told. taken_so_far _ _ _ before.within before.taken (before.given told);
+      still_tells = before.still_tells;
       counts = before.counts;
-      taken = λ told. omega (arith, before.taken, took l.filled l.buf _ _ before.within (before.given told));
+      rises = omega (arith, before.taken);
     }
 
 pub returns-in-Err-clause-takes : goal.returns-in-Err-clause-takes
@@ -46,10 +60,8 @@ returns-in-Err-clause-takes g c =
     let before = l.invariant in
     record {
       gives = λ told. tt;
-      still_tells = λ told. (
-        c.in-Err.ensures.tells (before.still_tells told),
-        omega (arith, told.1, before.taken, took l.filled l.buf _ _ before.within (before.given told), ap length (c.in-Err.ensures.bytes (before.still_tells told))),
-      );
-      counts = omega (arith, before.counts, c.in-Err.ensures.faults);
-      taken = λ told. omega (arith, before.taken, took l.filled l.buf _ _ before.within (before.given told), ap length (c.in-Err.ensures.bytes (before.still_tells told)));
+      taken = λ told. taken_so_far _ _ _ before.within before.taken (given_still _ _ _ _ (before.given told) (sym (c.in-Err.ensures.bytes (before.still_tells told))));
+      still_tells = λ told. c.in-Err.ensures.tells (before.still_tells told);
+      counts = failed_since before.counts c.in-Err.ensures.faults;
+      rises = omega (arith, before.taken);
     }

@@ -1,11 +1,10 @@
 use Rattle.std.proofs.Common.{length, ◌-◌, ◌+◌, ◌≡◌, ◌++◌, take, ◌≤◌}
-use Rattle.tv_base.specs.Take.{told}
 use Rattle.tv_base.proofs.take.take.Given as goal
 
 abbrev pub invariant-loop-filled : goal.invariant-loop-filled
 invariant-loop-filled g l =
     let source = g.S.ByteSource in
-    let knows = told source.tells source.left (record { source = l.initial.source; count = l.initial.count }) in
+    let knows = source.tells l.initial.source in
     record {
       within : l.filled ≤ length l.buf;
       same_length : length l.buf ≡ length l.initial.buf;

@@ -6,7 +6,7 @@ use Rattle.tv_base.proofs.take.take_pieces.Given as goal
 abbrev pub invariant-loop-missing : goal.invariant-loop-missing
 invariant-loop-missing g l =
     let source = g.S.ByteSource in
-    SoFar (told source.tells source.left) (λ p. source.left p.source) (λ p. p.count) (λ p. source.faults p.source) (record { source = l.initial.source; count = l.initial.count }) (record { source = l.source; count = l.count }) (more_at l.initial.bytes.items l.len) (more_at l.bytes.items l.missing)
+    SoFar (told source.tells) (λ p. source.left p.source) (λ p. p.count) (λ p. source.faults p.source) (record { source = l.initial.source; count = l.initial.count }) (record { source = l.source; count = l.count }) (more_at l.initial.bytes.items l.len) (more_at l.bytes.items l.missing)
 
 abbrev pub decreases-loop-missing : goal.decreases-loop-missing
 decreases-loop-missing g l = l.missing

@@ -3,7 +3,7 @@ use Rattle.std.proofs.lemmas.Result.{err_from_is_err_and}
 use Rattle.tv_doc.specs.Document.{document_of, IsFull}
 use Rattle.tv_store.specs.Pairs.{at, taken_tree}
 use Rattle.tv_store.proofs.PairLoop.{taken_none, taken_next, taken_fails, taken_stops}
-use Rattle.tv_store.proofs.Room.{store_stop-read_error, not_full, store_stop-add_error, is_full, no_room}
+use Rattle.tv_store.proofs.Room.{store_stop-add_error, is_full, no_room}
 use Rattle.tv_store.proofs.pairs.take_pairs.Goals as goal
 
 pub loop-init : goal.loop-init
@@ -14,12 +14,7 @@ returns-in_err-field-clause-takes g c =
     let p = err_from_is_err_and c.from_residual.result c.from_residual.ensures.1 in
     let l = c.loop in
     rw (p.1, p.2) (taken_fails {new = at c.take_pair.new.source c.take_pair.new.count}
-    _ _ l.counter c.args.announced (store_stop-read_error _) c.loop-test.true l.invariant c.in_err-field.ensures.takes)
-
-pub returns-in_err-field-clause-full : goal.returns-in_err-field-clause-full
-returns-in_err-field-clause-full g c =
-    let p = err_from_is_err_and c.from_residual.result c.from_residual.ensures.1 in
-    λ told full. absurd (not_full c.from_residual.result p.0 _ p.1 p.2 full)
+    _ l.counter c.args.announced c.loop-test.true l.invariant c.in_err-field.ensures.takes)
 
 pub returns-in_err-add_taken-clause-takes : goal.returns-in_err-add_taken-clause-takes
 returns-in_err-add_taken-clause-takes g c =

@@ -37,7 +37,7 @@ pub invariant_of-self-then-is_err : goal.invariant_of-self-then-is_err
 invariant_of-self-then-is_err c =
     let old = c.args.self.now in
     let cut = cut_written c in
-    let pairs : c.push.new.self.items ≡ old.pairs.items = search rules in
+    let pairs : c.push_pair.new.pairs.items ≡ old.pairs.items = search rules in
     record { document = kept old _ _ cut pairs; room = kept_room old _ _ cut pairs; fits = kept_fits old _ cut; handled = kept_handled old _ _ cut pairs }
 
 pub returns-then-is_err : goal.returns-then-is_err
@@ -46,7 +46,7 @@ returns-then-is_err c =
     let small : c.args.field.id ≤ 65535 = search rules in
     let fits : length (heap_of old) + leaf_room (leaf_of c.args.value) ≤ 4294967295 =
     omega (arith, old.fits, c.if-room-len.false, c.room.ensures, c.len-len.ensures, old.node_data.ok.0) in
-    let pairs : c.push.new.self.items ≡ old.pairs.items = search rules in
+    let pairs : c.push_pair.new.pairs.items ≡ old.pairs.items = search rules in
     ((small, fits), unchanged old _ (cut_written (goal.at.returns-then-is_err c).After-truncate-then-is_err) pairs)
 
 pub invariant_of-self-else-is_err : goal.invariant_of-self-else-is_err
@@ -57,7 +57,7 @@ invariant_of-self-else-is_err c =
     let fits : length (heap_of old) + leaf_room (leaf_of c.args.value) ≤ 4294967295 =
     omega (arith, old.fits, c.if-room-len.false, c.room.ensures, c.len-len.ensures, old.node_data.ok.0) in
     let field : c.in-Ok.small ≡ c.args.field.id = search rules in
-    let pairs : c.push.new.self.items ≡ old.pairs.items ++ pair ∷ [] = search rules in
+    let pairs : c.push_pair.new.pairs.items ≡ old.pairs.items ++ pair ∷ [] = search rules in
     let wrote = c.in-Ok-written.ensures.ok in
     record {
       document = pushed old _ _ pair c.args.field.id _ field small wrote pairs;
@@ -74,5 +74,5 @@ returns c =
     let fits : length (heap_of old) + leaf_room (leaf_of c.args.value) ≤ 4294967295 =
     omega (arith, old.fits, c.if-room-len.false, c.room.ensures, c.len-len.ensures, old.node_data.ok.0) in
     let field : c.in-Ok.small ≡ c.args.field.id = search rules in
-    let pairs : c.push.new.self.items ≡ old.pairs.items ++ pair ∷ [] = search rules in
+    let pairs : c.push_pair.new.pairs.items ≡ old.pairs.items ++ pair ∷ [] = search rules in
     (small, fits, added old _ pair c.args.field.id _ field small c.in-Ok-written.ensures.ok pairs)

@@ -6,4 +6,4 @@ use Rattle.tv_store.proofs.se.BinaryDocumentSerializer.serialize_doc.Goals as go
 pub returns-in_err-write_pairs-clause-writes : goal.returns-in_err-write_pairs-clause-writes
 returns-in_err-write_pairs-clause-writes g c =
     let p = err_from_is_err_and c.from_residual-in_err-write_pairs.result c.from_residual-in_err-write_pairs.ensures.1 in
-    rw (p.1, ← c.stored_count.ensures) (writes_for _ (Writes_then _ _ c.in_ok-write_vint.ensures c.in_err-write_pairs.ensures))
+    rw (p.1, p.2, ← c.stored_count.ensures) (writes_for (Writes_then _ _ c.in_ok-write_vint.ensures c.in_err-write_pairs.ensures))

@@ -21,7 +21,7 @@ returns-in_err-value-clause-fault c =
     let p = err_from_is_err_and c.from_residual-in_err-value.result c.from_residual-in_err-value.ensures.1 in
     let fewer : length c.loop-i.pairs.items < c.args.count = omega arith in
     rw (p.1, p.2) (pair_fault c.in_err-value.field-0.0 (version_of c.args.version) c.loop-i.pairs.items c.args.count c.in_ok-field.field c.args.bytes.now c.loop-i.rest.now
-    c.in_ok-field.behind_field.now fewer c.loop-i.invariant.found c.in_ok-field.ensures.found c.in_err-value.ensures.fault)
+    c.in_ok-field.behind_field.now fewer c.loop-i.invariant.found c.in_ok-field.ensures.small c.in_ok-field.ensures.found c.in_err-value.ensures.fault)
 
 pub loop-i-preserved : goal.loop-i-preserved
 loop-i-preserved c =

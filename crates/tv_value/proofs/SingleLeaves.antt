@@ -1,0 +1,137 @@
+-- A leaf, a key or a field is at fault in one way only.
+use Rattle.std.proofs.Common.{◌≡◌, ℕ, ◌<◌, List, [], ◌∷◌, ◌++◌, length, refl, sym, ◌∙◌, ap, subst, arith, inl, inr, length-append}
+use Rattle.tv_base.specs.declared.cause.Cause.{Cause}
+use Rattle.tv_base.specs.declared.cause.Cause.TheVariants.{UnknownTypeCode, UnknownExtCode, FieldNumber}
+use Rattle.tv_base.specs.Number.{VNum}
+use Rattle.tv_base.specs.Parts.{Text}
+use Rattle.tv_base.specs.PartFault.{InThen, InEach, NumberFault, BytesFault, SizedFault, TextFault}
+use Rattle.tv_base.proofs.Numbers.{one_number, agree_fixed, length-fixed}
+use Rattle.tv_base.proofs.Texts.{one_text}
+use Rattle.tv_base.proofs.Excluding.{excludes_number}
+use Rattle.tv_base.proofs.ExcludingParts.{excludes_text}
+use Rattle.tv_base.proofs.Single.{Single, single_then, single_each, single_number, single_bytes, single_sized, single_text}
+use Rattle.tv_value.specs.Spelling.{TokenSpelling}
+use Rattle.tv_value.specs.Version.{Version, V1, V2, V3}
+use Rattle.tv_value.specs.Fault.{TokenFault, TokenizedFault, DateFault, date_ends, date_range, LeafFault, in_text, in_unsigned, in_signed, in_facet, in_bytes, in_date, no_extension, other_extension, in_tokenized, no_truth, other_truth, in_ip_address, Refusal, corrupted, no_text_key, Corrupt, corrupt, CodedKeyFault, KeyFault, key_ends, key_unknown, key_float, key_other, key_no_extension, key_tokenized, key_other_extension, in_key, FieldFault, field_ends, field_large}
+use Rattle.tv_value.proofs.Leaves.{one_token}
+use Rattle.tv_value.proofs.ExcludingLeaves.{excludes_token}
+
+single_token : Single TokenFault
+single_token =
+    single_then {R = VNum} {G = λ _. InThen NumberFault VNum (λ _. InThen NumberFault VNum (λ _. InThen TextFault Text (λ _. NumberFault)))} single_number excludes_number one_number
+    (λ _. single_then {R = VNum} {G = λ _. InThen NumberFault VNum (λ _. InThen TextFault Text (λ _. NumberFault))} single_number excludes_number one_number
+    (λ _. single_then {R = VNum} {G = λ _. InThen TextFault Text (λ _. NumberFault)} single_number excludes_number one_number
+    (λ _. single_then {R = Text} {G = λ _. NumberFault} single_text excludes_text one_text
+    (λ _. single_number))))
+
+single_tokenized : Single TokenizedFault
+single_tokenized =
+    single_then {R = Text} {G = λ _. InThen NumberFault VNum (λ n. InEach TokenFault TokenSpelling n)} single_text excludes_text one_text
+    (λ _. single_then {R = VNum} {G = λ n. InEach TokenFault TokenSpelling n} single_number excludes_number one_number
+    (λ n. single_each {R = TokenSpelling} single_token excludes_token one_token n))
+
+date_single : (v : Version) (whole : List ℕ) (c d : Cause) → DateFault whole v c → DateFault whole v d → c ≡ d
+date_single v whole c d (date_ends h) (date_ends k) = refl
+date_single V1 whole c d (date_range y front rest joined q o) (date_range z f r e k p) = refl
+date_single V1 whole c d (date_ends h) (date_range y front rest joined q o) = absurd (omega (arith, ap length joined, length-append front rest, length-fixed q))
+date_single V1 whole c d (date_range y front rest joined q o) (date_ends h) = absurd (omega (arith, ap length joined, length-append front rest, length-fixed q))
+
+no_head : {b : ℕ} {rest whole : List ℕ} → whole ≡ [] → whole ≡ b ∷ rest → ⊥
+no_head e f = let g = sym e ∙ f in cc
+
+heads : {a b : ℕ} {x y whole : List ℕ} → whole ≡ a ∷ x → whole ≡ b ∷ y → (a ≡ b) × (x ≡ y)
+heads e f = let g = sym e ∙ f in (cc, cc)
+
+leaf_same : (F : List ℕ → Cause → Type 0) → Single F → {whole other : List ℕ} {c d : Cause} → F whole c → F other d → whole ≡ other → c ≡ d
+leaf_same F f {whole} {other} {c} {d} h k e = f.single whole c d h (subst (λ l. F l d) (sym e) k)
+
+date_same : (v : Version) {whole other : List ℕ} {c d : Cause} → DateFault whole v c → DateFault other v d → whole ≡ other → c ≡ d
+date_same v {whole} {other} {c} {d} h k e = date_single v whole c d h (subst (λ l. DateFault l v d) (sym e) k)
+
+pub leaf_single : (v : Version) {whole other : List ℕ} {code same : ℕ} {c d : Cause} → LeafFault v whole code c → LeafFault v other same d → code ≡ same → whole ≡ other → c ≡ d
+leaf_single v (in_text h) (in_text k) s e = leaf_same TextFault single_text h k e
+leaf_single v (in_unsigned h) (in_unsigned k) s e = leaf_same (BytesFault 8) (single_bytes 8) h k e
+leaf_single v (in_signed h) (in_signed k) s e = leaf_same (BytesFault 8) (single_bytes 8) h k e
+leaf_single v (in_facet h) (in_facet k) s e = leaf_same TextFault single_text h k e
+leaf_single v (in_bytes h) (in_bytes k) s e = leaf_same SizedFault single_sized h k e
+leaf_single v (in_date h) (in_date k) s e = date_same v h k e
+leaf_single v (no_extension h) (no_extension k) s e = refl
+leaf_single v (no_extension h) (other_extension rest k ne) s e = absurd (no_head h (e ∙ k))
+leaf_single v (no_extension h) (in_tokenized rest k f) s e = absurd (no_head h (e ∙ k))
+leaf_single v (other_extension rest h ne) (no_extension k) s e = absurd (no_head k (sym e ∙ h))
+leaf_single v (other_extension rest h ne) (other_extension r k n) s e = ap UnknownExtCode (heads h (e ∙ k)).0
+leaf_single v (other_extension rest h ne) (in_tokenized r k f) s e = absurd (ne (heads h (e ∙ k)).0)
+leaf_single v (in_tokenized rest h f) (no_extension k) s e = absurd (no_head k (sym e ∙ h))
+leaf_single v (in_tokenized rest h f) (other_extension r k ne) s e = absurd (ne (sym (heads h (e ∙ k)).0))
+leaf_single v (in_tokenized rest h f) (in_tokenized r k g) s e = leaf_same TokenizedFault single_tokenized f g (heads h (e ∙ k)).1
+leaf_single v (no_truth h) (no_truth k) s e = refl
+leaf_single v (no_truth h) (other_truth b rest k l) s e = absurd (no_head h (e ∙ k))
+leaf_single v (other_truth b rest h l) (no_truth k) s e = absurd (no_head k (sym e ∙ h))
+leaf_single v (other_truth b rest h l) (other_truth n r k m) s e = refl
+leaf_single v (in_ip_address h) (in_ip_address k) s e = leaf_same (BytesFault 16) (single_bytes 16) h k e
+leaf_single v _ _ s e = absurd (omega (arith, s))
+
+-- ---- keys
+
+coded_key_single : {whole other : List ℕ} {r s : Refusal} → CodedKeyFault whole r → CodedKeyFault other s → whole ≡ other → r ≡ s
+coded_key_single key_ends key_ends e = refl
+coded_key_single (key_unknown h) (key_unknown k) e = ap (λ b. corrupted (UnknownTypeCode b)) (heads refl e).0
+coded_key_single key_float key_float e = refl
+coded_key_single (key_other a b c d) (key_other i j k l) e = ap no_text_key (heads refl e).0
+coded_key_single key_no_extension key_no_extension e = refl
+coded_key_single key_tokenized key_tokenized e = refl
+coded_key_single (key_other_extension h) (key_other_extension k) e = ap (λ b. corrupted (UnknownExtCode b)) (heads refl (heads refl e).1).0
+coded_key_single (in_key h) (in_key k) e = ap corrupted (leaf_same TextFault single_text h k (heads refl e).1)
+coded_key_single key_ends _ e = absurd cc
+coded_key_single _ key_ends e = absurd cc
+coded_key_single key_no_extension key_tokenized e = absurd cc
+coded_key_single key_no_extension (key_other_extension k) e = absurd cc
+coded_key_single key_tokenized key_no_extension e = absurd cc
+coded_key_single (key_other_extension k) key_no_extension e = absurd cc
+coded_key_single key_tokenized (key_other_extension k) e = absurd (k (sym (heads refl (heads refl e).1).0))
+coded_key_single (key_other_extension k) key_tokenized e = absurd (k (heads refl (heads refl e).1).0)
+coded_key_single (key_other a b c d) key_float e = absurd (c (heads refl e).0)
+coded_key_single key_float (key_other a b c d) e = absurd (c (sym (heads refl e).0))
+coded_key_single (key_other a b c d) key_no_extension e = absurd (d (heads refl e).0)
+coded_key_single key_no_extension (key_other a b c d) e = absurd (d (sym (heads refl e).0))
+coded_key_single (key_other a b c d) key_tokenized e = absurd (d (heads refl e).0)
+coded_key_single key_tokenized (key_other a b c d) e = absurd (d (sym (heads refl e).0))
+coded_key_single (key_other a b c d) (key_other_extension k) e = absurd (d (heads refl e).0)
+coded_key_single (key_other_extension k) (key_other a b c d) e = absurd (d (sym (heads refl e).0))
+coded_key_single (key_unknown h) key_float e = absurd (omega (arith, h, (heads refl e).0))
+coded_key_single key_float (key_unknown h) e = absurd (omega (arith, h, (heads refl e).0))
+coded_key_single (key_unknown h) (key_other a b c d) e = absurd (omega (arith, h, (heads refl e).0))
+coded_key_single (key_other a b c d) (key_unknown h) e = absurd (omega (arith, h, (heads refl e).0))
+coded_key_single (key_unknown h) key_no_extension e = absurd (omega (arith, h, (heads refl e).0))
+coded_key_single key_no_extension (key_unknown h) e = absurd (omega (arith, h, (heads refl e).0))
+coded_key_single (key_unknown h) key_tokenized e = absurd (omega (arith, h, (heads refl e).0))
+coded_key_single key_tokenized (key_unknown h) e = absurd (omega (arith, h, (heads refl e).0))
+coded_key_single (key_unknown h) (key_other_extension k) e = absurd (omega (arith, h, (heads refl e).0))
+coded_key_single (key_other_extension k) (key_unknown h) e = absurd (omega (arith, h, (heads refl e).0))
+coded_key_single (key_unknown h) (in_key k) e = absurd (omega (arith, h, (heads refl e).0))
+coded_key_single (in_key k) (key_unknown h) e = absurd (omega (arith, h, (heads refl e).0))
+coded_key_single (key_other a b c d) (in_key k) e = absurd (omega (arith, a, (heads refl e).0))
+coded_key_single (in_key k) (key_other a b c d) e = absurd (omega (arith, a, (heads refl e).0))
+coded_key_single _ _ e = absurd (omega (arith, (heads refl e).0))
+
+corrupt_single : (F : List ℕ → Cause → Type 0) → Single F → (whole : List ℕ) (r s : Refusal) → Corrupt F whole r → Corrupt F whole s → r ≡ s
+corrupt_single F f whole r s (corrupt {c = c} h) (corrupt {c = d} k) = ap corrupted (f.single whole c d h k)
+
+pub single_corrupt : (F : List ℕ → Cause → Type 0) → Single F → Single (Corrupt F)
+single_corrupt F f = record { single = corrupt_single F f }
+
+pub key_single : (v : Version) (whole : List ℕ) (r s : Refusal) → KeyFault v whole r → KeyFault v whole s → r ≡ s
+key_single V1 whole r s h k = coded_key_single h k refl
+key_single V2 whole r s h k = coded_key_single h k refl
+key_single V3 whole r s h k = corrupt_single TextFault single_text whole r s h k
+
+-- ---- fields
+
+field_single : (whole : List ℕ) (c d : Cause) → FieldFault whole c → FieldFault whole d → c ≡ d
+field_single whole c d (field_ends h) (field_ends k) = refl
+field_single whole c d (field_large m front rest joined q l) (field_large n f r e k p) = ap FieldNumber ((agree_fixed 4 m n).agree front f rest r q k (sym joined ∙ e)).1
+field_single whole c d (field_ends h) (field_large m front rest joined q l) = absurd (omega (arith, ap length joined, length-append front rest, length-fixed q))
+field_single whole c d (field_large m front rest joined q l) (field_ends h) = absurd (omega (arith, ap length joined, length-append front rest, length-fixed q))
+
+pub single_field : Single FieldFault
+single_field = record { single = field_single }
