@@ -49,6 +49,7 @@ pub fn take<S: ByteSource>(source: &mut S, count: &mut u64, buf: &mut [u8]) -> R
 }
 
 /// Takes one byte. Errors: those of [`take`].
+#[inline]
 #[tactic(auto, unfolding(crate::specs::Reading::u8_at))]
 pub fn take_u8<S: ByteSource>(source: &mut S, count: &mut u64) -> Result<u8, ReadError>
     ensures takes { TakesBy S.tells S.left S.faults source.old count.old source.new count.new (λ x. x) result u8_at }

@@ -14,6 +14,7 @@ pub struct VInt(pub u64);
 
 impl VInt {
     /// The shortest spelling: so many bytes at the front of the array. What stands behind them is open.
+    #[inline]
     pub fn spelling(self) -> ([u8; 10], usize)
         ensures len { result.1 ≤ 10 }
         ensures bytes { take result.1 result.0 ≡ vnum self.0 }
