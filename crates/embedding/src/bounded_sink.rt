@@ -1,6 +1,9 @@
 //! A sink with a limit.
 
-ghost use Rattle.std.specs.Prelude.{◌≡◌, ◌≤◌, [], length};
+ghost use Rattle.std.specs.Prelude.{◌≡◌, ◌≤◌, ◌-◌, ◌⊎◌, [], length, min, IfErr, IfOk, None};
+ghost use Rattle.std.specs.declared.io.ErrorKind.TheVariants.{OutOfMemory, StorageFull};
+ghost use Rattle.tantivy_schema.specs.Sink.{AppendsSome};
+ghost use Rattle.tantivy_schema.specs.Source.{CountsFault};
 
 use std::alloc::Global;
 use std::io;
@@ -20,7 +23,9 @@ pub struct BoundedSink {
 impl BoundedSink {
     /// A sink that holds no byte, and will hold at most so many. It takes no memory yet.
     pub fn new(alloc: Global, most: usize) -> BoundedSink
-        ensures { ⟦<BoundedSink as ByteSink>⟧.held result ≡ [] }
+        ensures bytes { ⟦<BoundedSink as ByteSink>⟧.held result ≡ [] }
+        ensures faults { ⟦<BoundedSink as ByteSink>⟧.faults result ≡ record { number = 0; last = None } }
+        ensures limit { result.most ≡ most }
     {
         BoundedSink {
             bytes: Vec::new(alloc),
@@ -45,7 +50,16 @@ impl ByteSink for BoundedSink {
 
     ghost faults = { λ s. record { number = s.faults; last = s.last } };
 
-    fn write(&mut self, buf: &[u8]) -> Result<usize, io::ErrorKind> {
+    /// Appends as much of `buf` as has room. Errors: `StorageFull` where the sink is full, `OutOfMemory` where memory is
+    /// refused.
+    fn write(&mut self, buf: &[u8]) -> Result<usize, io::ErrorKind>
+        ensures bytes { AppendsSome self.old.bytes.items self.new.bytes.items result buf.now }
+        ensures room { IfOk result (λ n. n ≡ min (length buf.now) (self.old.most - length self.old.bytes.items)) }
+        ensures some { IfOk result (λ n. n ≡ 0 → length buf.now ≡ 0) }
+        ensures kind { IfErr result (λ kind. (kind ≡ OutOfMemory) ⊎ ((kind ≡ StorageFull) × (length self.old.bytes.items ≡ self.old.most))) }
+        ensures faults { CountsFault result (⟦<BoundedSink as ByteSink>⟧.faults self.old) (⟦<BoundedSink as ByteSink>⟧.faults self.new) }
+        ensures limit { self.new.most ≡ self.old.most }
+    {
         let count = buf.len().min(self.most - self.bytes.len());
         let kind = if count < 1 && !buf.is_empty() {
             io::ErrorKind::StorageFull

@@ -19,7 +19,8 @@ impl<'a> PacketSource<'a> {
     /// A source that has these bytes left, and gives at most so many of them at a time.
     pub fn new(bytes: &'a [u8], packet: usize) -> PacketSource<'a>
         requires { 0 < packet }
-        ensures { ⟦<PacketSource<'a> as ByteSource>⟧.left result ≡ bytes.now }
+        ensures bytes { ⟦<PacketSource<'a> as ByteSource>⟧.left result ≡ bytes.now }
+        ensures packet { result.packet ≡ packet }
     {
         PacketSource {
             rest: bytes,
