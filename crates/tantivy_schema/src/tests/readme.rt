@@ -18,12 +18,12 @@ fn a_document_in_use(rt: HostRuntime) -> Result<(), Fail> {
     let mut document = TantivyDocument::new(alloc);
     document.add_text(name, "ChillFish8")?;
     document.add_u64(age, 20)?;
+    assert!(rt; document.fits(&schema));
 
     let mut sink = VecSink::new(alloc);
-    assert!(rt; document.fits(&schema));
     BinaryDocumentSerializer::new(&mut sink, &schema).serialize_doc(&document)?;
-    let bytes =
-        b"\x82\x00\x00\x00\x00\x00\x8aChillFish8\x01\x00\x00\x00\x01\x14\x00\x00\x00\x00\x00\x00\x00";
+    // two pairs: field 0 and a text of ten bytes, field 1 and a number
+    let bytes = b"\x82\0\0\0\0\0\x8aChillFish8\x01\0\0\0\x01\x14\0\0\0\0\0\0\0";
     assert_eq!(rt; sink.as_slice(), bytes.as_slice());
 
     let mut source = SliceSource::new(sink.as_slice());
