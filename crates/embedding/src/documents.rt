@@ -2,6 +2,8 @@
 
 ghost use Rattle.std.specs.Prelude.{◌≡◌, ◌≤◌, ◌++◌, Ok, IfErr, IsErrOf, IsTrue, List, ℕ};
 ghost use Rattle.tantivy_schema.specs.Belongs.{Belongs};
+ghost use Rattle.tantivy_schema.specs.CodeTypes.Cause.{Cause};
+ghost use Rattle.tantivy_schema.specs.CodeTypes.DeserializeError.TheVariants.{CorruptedValue};
 ghost use Rattle.tantivy_schema.specs.Document.{document_of};
 ghost use Rattle.tantivy_schema.specs.Documents.{Answers, ShowsCause, Tells};
 ghost use Rattle.tantivy_schema.specs.Handled.{are_handled};
@@ -16,7 +18,7 @@ ghost use Rattle.tantivy_schema.specs.Tree.{Document};
 ghost use Rattle.tantivy_schema.specs.Version.{V2};
 
 use std::alloc::Global;
-use tantivy_schema::common::{ByteSink, ByteSource, Cause};
+use tantivy_schema::common::{ByteSink, ByteSource};
 use tantivy_schema::schema::document::{
     BinaryDocumentSerializer, DeserializeError, SerializeError,
 };
@@ -49,7 +51,7 @@ pub fn fetch_document<S: ByteSource>(
 ) -> Result<TantivyDocument, DeserializeError>
     ensures only { Known S.tells S.left source.old → (d : Document) (front rest : List ℕ) → S.left source.old ≡ front ++ rest → SpellsDocument NoLegacy V2 front d → IsTrue (are_handled d) → document_room d ≤ 4294967295 → Answers result d rest (S.left source.new) }
     ensures tells { Known S.tells S.left source.old → IfErr result (Tells V2 (S.left source.old)) }
-    ensures shows { Known S.tells S.left source.old → (c : Cause) → IsErrOf result (DeserializeError.CorruptedValue c) → ShowsCause V2 (S.left source.old) (S.left source.new) c }
+    ensures shows { Known S.tells S.left source.old → (c : Cause) → IsErrOf result (CorruptedValue c) → ShowsCause V2 (S.left source.old) (S.left source.new) c }
     ensures faults { Counts store_stop result (S.faults source.old) (S.faults source.new) }
 {
     read_document(alloc, source, DocStoreVersion::V2)
