@@ -1,0 +1,62 @@
+-- The definitions that public contracts are said with, for the clauses and the implementations of callers.
+
+-- sources and sinks of bytes, and what was read or written
+pub use Rattle.tv_base.specs.Source
+pub use Rattle.tv_base.specs.Sink
+pub use Rattle.tv_base.specs.Stop
+pub use Rattle.tv_base.specs.Take
+pub use Rattle.tv_base.specs.Append
+pub use Rattle.tv_base.specs.ReadsAs
+-- numbers, texts and paths
+pub use Rattle.tv_base.specs.Number
+pub use Rattle.tv_base.specs.Parts
+pub use Rattle.tv_base.specs.PartFault
+pub use Rattle.tv_base.specs.Escapes
+pub use Rattle.tv_base.specs.Facet
+pub use Rattle.tv_base.specs.JsonPath
+-- values, and the store format's grammar
+pub use Rattle.tv_value.specs.Tree
+pub use Rattle.tv_value.specs.Version
+pub use Rattle.tv_value.specs.Spelling
+pub use Rattle.tv_value.specs.Short
+pub use Rattle.tv_value.specs.Fault
+pub use Rattle.tv_value.specs.DateTime
+-- options, types and schemas
+pub use Rattle.tv_options.specs.BytesOptions
+pub use Rattle.tv_options.specs.DateOptions
+pub use Rattle.tv_options.specs.FacetOptions
+pub use Rattle.tv_options.specs.IndexRecordOption
+pub use Rattle.tv_options.specs.IpAddrOptions
+pub use Rattle.tv_options.specs.JsonObjectOptions
+pub use Rattle.tv_options.specs.NumericOptions
+pub use Rattle.tv_options.specs.TextOptions
+pub use Rattle.tv_options.specs.Types
+pub use Rattle.tv_schema.specs.Entry
+pub use Rattle.tv_schema.specs.Schema
+pub use Rattle.tv_schema.specs.Path
+pub use Rattle.tv_schema.specs.SchemaJson
+pub use Rattle.tv_schema.specs.SchemaJsonOptions
+pub use Rattle.tv_schema.specs.SchemaJsonReading
+-- terms
+pub use Rattle.tv_term.specs.Key
+pub use Rattle.tv_term.specs.Reading as TermReading
+pub use Rattle.tv_term.specs.Lending
+-- documents
+pub use Rattle.tv_doc.specs.Additions
+pub use Rattle.tv_doc.specs.Belongs
+pub use Rattle.tv_doc.specs.Document
+pub use Rattle.tv_doc.specs.Handled
+pub use Rattle.tv_doc.specs.Held
+pub use Rattle.tv_doc.specs.Reads
+pub use Rattle.tv_doc.specs.Room
+pub use Rattle.tv_doc.specs.TypeCode
+pub use Rattle.tv_doc.specs.Value
+-- the store
+pub use Rattle.tv_store.specs.Documents
+pub use Rattle.tv_store.specs.Error as StoreError
+pub use Rattle.tv_store.specs.Refused
+pub use Rattle.tv_store.specs.Stored
+pub use Rattle.tv_store.specs.Version as StoreVersion
+
+-- the types of code that contracts speak of
+pub mod CodeTypes

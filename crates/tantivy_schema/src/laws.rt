@@ -34,7 +34,8 @@ pub use tv_schema::laws::{
     names_are_of_one_field, record_options_agree, the_last_dot_counts, whole_paths_come_first,
 };
 pub use tv_store::laws::{
-    stored_pairs_are_handled, stored_pairs_are_valid, stored_pairs_need_no_more_room,
+    refusals_are_unique, stored_pairs_are_handled, stored_pairs_are_valid,
+    stored_pairs_need_no_more_room,
 };
 use tv_store::{
     BinaryDocumentSerializer, DeserializeError, DocStoreVersion, SerializeError, read_document,
@@ -44,8 +45,9 @@ pub use tv_term::laws::{
     joined_paths_have_no_zero, terms_are_ordered, written_values_are_read,
 };
 pub use tv_value::laws::{
-    documents_have_one_reading, faulty_documents_derive_none, faulty_values_spell_none,
-    short_documents_spell, short_values_spell, values_have_one_reading,
+    documents_have_one_reading, faults_of_documents_are_unique, faults_of_values_are_unique,
+    faulty_documents_derive_none, faulty_values_spell_none, short_documents_spell,
+    short_values_spell, values_have_one_reading,
 };
 
 /// What `serialize_doc` writes of a document is its stored pairs in the shortest spelling: here, in memory.

@@ -7,7 +7,7 @@ pub mod laws;
 pub mod schema;
 pub mod store;
 
-pub use schema::Term;
+pub use schema::{TantivyDocument, Term};
 pub use tv_value::date_time::DateTime;
 
 #[cfg(test)]

@@ -2,8 +2,8 @@
 
 pub mod document;
 
-pub use tv_base::{Facet, FacetParseError};
-pub use tv_doc::document::CompactDoc;
+pub use tv_base::{FACET_SEP_BYTE, FACET_SEP_CHAR, Facet, FacetParseError};
+pub use tv_doc::document::{CompactDoc, CompactDoc as TantivyDocument};
 pub use tv_options::{
     BytesOptions, COERCE, CoerceFlag, DATE_TIME_PRECISION_INDEXED, DateOptions, DateTimePrecision,
     FAST, FacetOptions, FastFieldTextOptions, FastFlag, INDEXED, IndexRecordOption, IndexedFlag,

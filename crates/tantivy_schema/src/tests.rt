@@ -1,5 +1,7 @@
 //! Tests over the public calls of all crates.
 
 mod agreement;
+mod announced;
+mod readme;
 mod rows;
 mod sources;

@@ -50,7 +50,7 @@ fn is_alike(
 fn agrees(alloc: Global, bytes: &[u8]) -> Result<bool, AllocError> {
     let mut whole = SliceSource::new(bytes);
     let at_once = read_document(alloc, &mut whole, DocStoreVersion::V2);
-    let mut dripping = DripSource::new(bytes, None);
+    let mut dripping = DripSource::new(bytes);
     let by_bytes = read_document(alloc, &mut dripping, DocStoreVersion::V2);
     Ok(
         is_alike(alloc, bytes, at_once, whole.rest())?

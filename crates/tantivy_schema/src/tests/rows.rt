@@ -1,6 +1,7 @@
 //! Worked examples, with their bytes.
 
 use crate::common::{Cause, SliceSource, VecSink};
+use crate::laws::{stored_pairs_are_read_back, written_documents_are_shortest};
 use crate::schema::document::{AddError, BinaryDocumentSerializer, DeserializeError};
 use crate::schema::{
     CompactDoc, Field, NumericOptions, Schema, SchemaBuilder, SchemaError, TextOptions,
@@ -58,22 +59,35 @@ fn written(alloc: Global, schema: &Schema, document: &CompactDoc) -> Result<Vec<
     Ok(sink.into_vec())
 }
 
+/// No clause says that memory is there. Where it is, no call answers that it was refused.
 #[test]
-fn both_fields_are_stored(rt: HostRuntime) -> Result<(), Fail> {
+fn always_memory(rt: HostRuntime) -> Result<(), Fail> {
     let alloc = rt.alloc();
     let schema = schema_of(alloc, NumericOptions::default().set_stored())?;
     let document = document_of(alloc)?;
     assert!(rt; is_two_pairs(&document));
-    assert_eq!(rt;
-        written(alloc, &schema, &document)?.as_slice(),
-        TWO_PAIRS.as_slice()
-    );
-    let mut whole = SliceSource::new(&TWO_PAIRS);
+    let bytes = written(alloc, &schema, &document)?;
+    assert_eq!(rt; bytes.as_slice(), TWO_PAIRS.as_slice());
+    let mut whole = SliceSource::new(&bytes);
     assert!(rt; is_two_pairs(&read_document(alloc, &mut whole, DocStoreVersion::V2)?));
     assert!(rt; whole.rest().is_empty());
-    let mut dripping = DripSource::new(&TWO_PAIRS, None);
+    let mut dripping = DripSource::new(&bytes);
     assert!(rt; is_two_pairs(&read_document(alloc, &mut dripping, DocStoreVersion::V1)?));
     assert!(rt; dripping.rest().is_empty());
+    Ok(())
+}
+
+#[test]
+fn laws_of_calls_in_memory(rt: HostRuntime) -> Result<(), Fail> {
+    let alloc = rt.alloc();
+    let schema = schema_of(alloc, NumericOptions::default().set_stored())?;
+    let document = document_of(alloc)?;
+    assert!(rt; document.fits(&schema));
+    let bytes = written_documents_are_shortest(alloc, &schema, &document)?;
+    assert_eq!(rt; bytes.as_slice(), TWO_PAIRS.as_slice());
+    let mut source = DripSource::new(&bytes);
+    let read = stored_pairs_are_read_back(alloc, &mut source, &schema, &document)?;
+    assert!(rt; is_two_pairs(&read));
     Ok(())
 }
 
@@ -122,7 +136,7 @@ fn outcomes(alloc: Global, bytes: &[u8]) -> [Result<(usize, usize), DeserializeE
     let at_once = read_document(alloc, &mut whole, DocStoreVersion::V2)
         .map(|document| document.len())
         .map(|len| (len, whole.rest().len()));
-    let mut dripping = DripSource::new(bytes, None);
+    let mut dripping = DripSource::new(bytes);
     let by_bytes = read_document(alloc, &mut dripping, DocStoreVersion::V2)
         .map(|document| document.len())
         .map(|len| (len, dripping.rest().len()));
@@ -176,14 +190,21 @@ fn faults_have_their_true_cause(rt: HostRuntime) {
 }
 
 #[test]
-fn a_failed_read_is_told(rt: HostRuntime) {
-    for left in 1..=TWO_PAIRS.len() {
-        let mut source = DripSource::new(&TWO_PAIRS, Some(left));
-        let answer = read_document(rt.alloc(), &mut source, DocStoreVersion::V2);
-        assert_eq!(rt;
-            answer.err(),
-            Some(DeserializeError::Io(io::ErrorKind::TimedOut))
-        );
+fn a_failed_read_is_told_with_its_kind(rt: HostRuntime) {
+    for kind in [
+        io::ErrorKind::TimedOut,
+        io::ErrorKind::ConnectionReset,
+        io::ErrorKind::PermissionDenied,
+        io::ErrorKind::Interrupted,
+        io::ErrorKind::UnexpectedEof,
+        io::ErrorKind::OutOfMemory,
+        io::ErrorKind::Other,
+    ] {
+        for left in 1..=TWO_PAIRS.len() {
+            let mut source = DripSource::failing(&TWO_PAIRS, left, kind);
+            let answer = read_document(rt.alloc(), &mut source, DocStoreVersion::V2);
+            assert_eq!(rt; answer.err(), Some(DeserializeError::Io(kind)));
+        }
     }
 }
 

@@ -1,7 +1,6 @@
 //! A source that gives one byte at a time.
 
 ghost use Rattle.std.specs.Prelude.{Some};
-ghost use Rattle.std.specs.declared.io.ErrorKind.TheVariants.{TimedOut};
 ghost use Rattle.tv_base.specs.Source.{AllBytes};
 
 use std::io;
@@ -12,15 +11,27 @@ use tv_base::ByteSource;
 pub struct DripSource<'a> {
     rest: &'a [u8],
     fails_at: Option<usize>,
+    kind: io::ErrorKind,
     faults: u64,
     ghost are_bytes: { AllBytes rest.now },
 }
 
 impl<'a> DripSource<'a> {
-    pub fn new(bytes: &'a [u8], fails_at: Option<usize>) -> DripSource<'a> {
+    pub fn new(bytes: &'a [u8]) -> DripSource<'a> {
         DripSource {
             rest: bytes,
-            fails_at,
+            fails_at: None,
+            kind: io::ErrorKind::Other,
+            faults: 0,
+        }
+    }
+
+    /// Fails, with an error of this kind, where so many bytes are left.
+    pub fn failing(bytes: &'a [u8], left: usize, kind: io::ErrorKind) -> DripSource<'a> {
+        DripSource {
+            rest: bytes,
+            fails_at: Some(left),
+            kind,
             faults: 0,
         }
     }
@@ -35,12 +46,12 @@ impl<'a> ByteSource for DripSource<'a> {
 
     ghost left = { λ s. s.rest.now };
 
-    ghost faults = { λ s. record { number = s.faults; last = Some TimedOut } };
+    ghost faults = { λ s. record { number = s.faults; last = Some s.kind } };
 
     fn read(&mut self, buf: &mut [u8]) -> Result<usize, io::ErrorKind> {
         if self.fails_at == Some(self.rest.len()) {
             self.faults = self.faults.saturating_add(1);
-            return Err(io::ErrorKind::TimedOut);
+            return Err(self.kind);
         }
         let count = self.rest.len().min(buf.len()).min(1);
         buf[..count].copy_from_slice(&self.rest[..count]);

@@ -1,0 +1,58 @@
+//! Documents on their way through the store.
+
+ghost use Rattle.std.specs.Prelude.{◌≡◌, ◌≤◌, ◌++◌, Ok, IfErr, IsErrOf, IsTrue, List, ℕ};
+ghost use Rattle.tantivy_schema.specs.Belongs.{Belongs};
+ghost use Rattle.tantivy_schema.specs.CodeTypes.Cause.{Cause};
+ghost use Rattle.tantivy_schema.specs.CodeTypes.DeserializeError.TheVariants.{CorruptedValue};
+ghost use Rattle.tantivy_schema.specs.Document.{document_of};
+ghost use Rattle.tantivy_schema.specs.Documents.{Answers, ShowsCause, Tells};
+ghost use Rattle.tantivy_schema.specs.Handled.{are_handled};
+ghost use Rattle.tantivy_schema.specs.ReadsAs.{Known};
+ghost use Rattle.tantivy_schema.specs.Room.{document_room};
+ghost use Rattle.tantivy_schema.specs.Short.{short_document};
+ghost use Rattle.tantivy_schema.specs.Spelling.{SpellsDocument, NoLegacy};
+ghost use Rattle.tantivy_schema.specs.Stop.{Counts};
+ghost use Rattle.tantivy_schema.specs.Stored.{stored};
+ghost use Rattle.tantivy_schema.specs.StoreError.{IsIo, Writes, store_stop};
+ghost use Rattle.tantivy_schema.specs.Tree.{Document};
+ghost use Rattle.tantivy_schema.specs.Version.{V2};
+
+use std::alloc::Global;
+use tantivy_schema::common::{ByteSink, ByteSource};
+use tantivy_schema::schema::document::{
+    BinaryDocumentSerializer, DeserializeError, SerializeError,
+};
+use tantivy_schema::schema::{Schema, TantivyDocument};
+use tantivy_schema::store::{DocStoreVersion, read_document};
+
+/// Appends a document's stored pairs to a sink. The document's fields are the schema's, as `fits` tests.
+///
+/// The only error is `Io`, where the sink failed. The sink then holds a beginning of what was to be written, behind what it
+/// held.
+pub fn store_document<K: ByteSink>(
+    sink: &mut K,
+    schema: &Schema,
+    document: &TantivyDocument,
+) -> Result<(), SerializeError>
+    requires { Belongs schema.now (document_of document.now) }
+    ensures writes { Writes K.tells K.held K.faults sink.old sink.new result (Ok (short_document V2 (stored schema.now (document_of document.now)))) }
+    ensures io { IfErr result IsIo }
+{
+    BinaryDocumentSerializer::new(sink, schema).serialize_doc(document)
+}
+
+/// Reads a document from a source.
+///
+/// Where a front of the bytes spells a document of texts and numbers that has room, it is the answer, and what follows it is
+/// left. Errors: `CorruptedValue` and `HeapFull` where they are true of the bytes, `Io` where the source failed, `Memory`.
+pub fn fetch_document<S: ByteSource>(
+    alloc: Global,
+    source: &mut S,
+) -> Result<TantivyDocument, DeserializeError>
+    ensures only { Known S.tells S.left source.old → (d : Document) (front rest : List ℕ) → S.left source.old ≡ front ++ rest → SpellsDocument NoLegacy V2 front d → IsTrue (are_handled d) → document_room d ≤ 4294967295 → Answers result d rest (S.left source.new) }
+    ensures tells { Known S.tells S.left source.old → IfErr result (Tells V2 (S.left source.old)) }
+    ensures shows { Known S.tells S.left source.old → (c : Cause) → IsErrOf result (CorruptedValue c) → ShowsCause V2 (S.left source.old) (S.left source.new) c }
+    ensures faults { Counts store_stop result (S.faults source.old) (S.faults source.new) }
+{
+    read_document(alloc, source, DocStoreVersion::V2)
+}
