@@ -2,7 +2,7 @@
 use Rattle.std.proofs.Common.{◌≡◌, ℕ, ◌-◌, ◌^◌, ◌<◌, List, ◌++◌, length, Result, Ok, Err, sym, ap, subst, ◌∙◌, arith, length-append}
 use Rattle.std.specs.Prelude.{IfOk, IsErrOf}
 use Rattle.tv_base.specs.declared.cause.Cause.{Cause}
-use Rattle.tv_base.specs.declared.cause.Cause.TheVariants.{UnexpectedEnd}
+use Rattle.tv_base.specs.declared.cause.Cause.TheVariants.{UnexpectedEnd, TooLong}
 use Rattle.tv_base.specs.declared.read_error.ReadError.{ReadError}
 use Rattle.tv_base.specs.declared.read_error.ReadError.TheVariants.{Corrupted, Io, Memory}
 use Rattle.tv_base.specs.Source.{AllBytes, Faults}
@@ -47,8 +47,8 @@ few_taken {new = new} few t = omega (arith, t.counted, ap length t.joined, lengt
 
 pub by_grammar : {S X Y : Type 0} (tells : S → Type 0) (left : S → List ℕ) (faults : S → Faults) (are_bytes : (source : S) → tells source → AllBytes (left source)) (old new : S) (new_count : ℕ) (view : X → Y) (result : Result X ReadError)
     {reading : List ℕ → Result (Y × List ℕ) (Cause × List ℕ)} {Spells : List ℕ → Y → Type 0} {IsFault : List ℕ → Cause → Type 0}
-    → Agrees UnexpectedEnd reading Spells IsFault → TakesBy tells left faults old 0 new new_count view result reading → ReadsAs tells left faults old new view result Spells IsFault
-by_grammar tells left faults are_bytes old new new_count view result {reading = reading} agrees h =
+    → Agrees UnexpectedEnd reading Spells IsFault → TakesBy tells left faults old 0 new new_count view result reading → (IsErrOf result (Corrupted TooLong) → new_count ≡ 2 ^ 64 - 1) → ReadsAs tells left faults old new view result Spells IsFault
+by_grammar tells left faults are_bytes old new new_count view result {reading = reading} agrees h most =
     let fault = λ (known : Known tells left old) (c : Cause) (e : IsErrOf result (Corrupted c)). refused_by view (reading (left old)) (left new) new_count result (few_taken known.1 (h.taken known.0)) (h.gives known.0) c e in
     record {
       found = λ told. found_by view agrees (left old) (left new) new_count result (are_bytes old told) (h.gives told);
@@ -56,6 +56,7 @@ by_grammar tells left faults are_bytes old new new_count view result {reading = 
       cause = λ known c e. agrees.refused (left old) c (left new) (are_bytes old known.0) (fault known c e);
       shows = λ known c e. shows_by agrees (left old) (left new) c (are_bytes old known.0) (fault known c e);
       taken = λ told. let t = h.taken told in (t.front, t.joined);
+      too_long = λ told e. let t = h.taken told in (t.front, t.joined, omega (arith, t.counted, most e));
       still_tells = h.still_tells;
       counts = h.counts;
     }

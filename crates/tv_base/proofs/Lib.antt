@@ -11,7 +11,6 @@ pub mod TakenBytes
 pub mod TakenGroups
 pub mod TakeSteps
 pub mod Written
-pub mod SliceGroups
 pub mod ShortGroups
 pub mod SmallBytes
 pub mod Agrees
@@ -23,6 +22,7 @@ pub mod ItemLoop
 pub mod ByGrammar
 pub mod Appending
 pub mod Shortest
+pub mod SliceNumbers
 pub mod Rewriting
 pub mod Unescaping
 pub mod Printing

@@ -1,7 +1,7 @@
 -- What a reader gives, by the grammar of the bytes alone.
 use Rattle.std.specs.Prelude.{◌≡◌, ◌≢◌, ℕ, ◌-◌, ◌^◌, ◌<◌, List, [], ◌∷◌, ◌++◌, length, Result, Ok, Err, IfOk, IsErrOf}
 use Rattle.tv_base.specs.declared.cause.Cause.{Cause}
-use Rattle.tv_base.specs.declared.cause.Cause.TheVariants.{UnexpectedEnd}
+use Rattle.tv_base.specs.declared.cause.Cause.TheVariants.{UnexpectedEnd, TooLong}
 use Rattle.tv_base.specs.declared.read_error.ReadError.{ReadError}
 use Rattle.tv_base.specs.declared.read_error.ReadError.TheVariants.{Corrupted, Io, Memory}
 use Rattle.tv_base.specs.Source.{Faults}
@@ -28,9 +28,14 @@ pub record Shows {C : Type 0} (end : C) (IsFault : List ℕ → C → Type 0) (o
   pub all : fault ≡ end → new ≡ []
   pub early : fault ≢ end → (front : List ℕ) (byte : ℕ) → taken ≡ front ++ byte ∷ [] → IsFault front end
 
+-- as many bytes were taken as are counted, 2 ^ 64 - 1
+abbrev pub TakesMost : List ℕ → List ℕ → Type 0
+TakesMost old new = (front : List ℕ) × (old ≡ front ++ new) × (length front ≡ 2 ^ 64 - 1)
+
 -- Where the bytes left are known: what is read is spelled by the bytes that were taken, and after an error too a slice of them was
 -- taken. Where they are few enough: what a front spells is read, unless a read failed or memory was refused; and where the bytes are
--- refused, that fault stands in them, and just the bytes that show it were taken. `Io` is told where a read failed, with its kind,
+-- refused, that fault stands in them, and just the bytes that show it were taken. `TooLong`
+-- comes only behind the most bytes that are counted. `Io` is told where a read failed, with its kind,
 -- and only there.
 pub record ReadsAs {S X Y : Type 0} (tells : S → Type 0) (left : S → List ℕ) (faults : S → Faults) (old new : S) (view : X → Y) (result : Result X ReadError) (Spells : List ℕ → Y → Type 0) (IsFault : List ℕ → Cause → Type 0) : Type 0 where
   pub found : tells old → IfOk result (λ x. (front : List ℕ) × Spells front (view x) × (left old ≡ front ++ left new))
@@ -38,5 +43,6 @@ pub record ReadsAs {S X Y : Type 0} (tells : S → Type 0) (left : S → List �
   pub cause : Known tells left old → (c : Cause) → IsErrOf result (Corrupted c) → IsFault (left old) c
   pub shows : Known tells left old → (c : Cause) → IsErrOf result (Corrupted c) → Shows UnexpectedEnd IsFault (left old) (left new) c
   pub taken : tells old → (front : List ℕ) × (left old ≡ front ++ left new)
+  pub too_long : tells old → IsErrOf result (Corrupted TooLong) → TakesMost (left old) (left new)
   pub still_tells : tells old → tells new
   pub counts : Counts read_stop result (faults old) (faults new)

@@ -1,5 +1,5 @@
 -- What a read does to the bytes that a source has left, and to its count of faults.
-use Rattle.std.specs.Prelude.{◌≡◌, ℕ, ◌+◌, ◌-◌, ◌^◌, ◌<◌, ◌≤◌, min, List, [], ◌++◌, length, take, All, Result, Ok, Err, Option, Some}
+use Rattle.std.specs.Prelude.{◌≡◌, ℕ, ◌+◌, ◌-◌, ◌^◌, ◌<◌, ◌≤◌, min, List, [], ◌∷◌, ◌++◌, length, take, All, Result, Ok, Err, Option, Some, None}
 use Rattle.std.specs.declared.io.ErrorKind.{ErrorKind}
 
 -- each number is a byte
@@ -10,6 +10,12 @@ AllBytes bytes = All (λ b. b < 256) bytes
 abbrev pub GivesSome : {E : Type 0} → List ℕ → List ℕ → Result ℕ E → List ℕ → Type 0
 GivesSome old new (Ok n) buf = (old ≡ take n buf ++ new) × (n ≡ 0 → 0 < length buf → old ≡ [])
 GivesSome old new (Err e) buf = new ≡ old
+
+-- The byte that was given is the first of those that were left. None is given only at the end, and an error takes none.
+abbrev pub GivesFirst : {E : Type 0} → List ℕ → List ℕ → Result (Option ℕ) E → Type 0
+GivesFirst old new (Ok (Some byte)) = old ≡ byte ∷ new
+GivesFirst old new (Ok None) = (old ≡ []) × (new ≡ [])
+GivesFirst old new (Err e) = new ≡ old
 
 -- a count of faults has risen, or is the largest that is counted
 abbrev pub HasRisen : ℕ → ℕ → Type 0

@@ -1,8 +1,9 @@
 //! Values that are written and read by a grammar of their own.
 
-ghost use Rattle.std.specs.Prelude.{◌≡◌, ℕ, ℤ, Bool, List, IsErrOf, string_bytes};
+ghost use Rattle.std.specs.Prelude.{◌≡◌, ◌-◌, ◌^◌, ℕ, ℤ, Bool, List, IsErrOf, string_bytes};
 ghost use Rattle.tv_base.specs.declared.cause.Cause.{Cause};
-ghost use Rattle.tv_base.specs.declared.read_error.ReadError.TheVariants.{Memory};
+ghost use Rattle.tv_base.specs.declared.cause.Cause.TheVariants.{TooLong};
+ghost use Rattle.tv_base.specs.declared.read_error.ReadError.TheVariants.{Corrupted, Memory};
 ghost use Rattle.tv_base.specs.Number.{VNum, vnum, Fixed, one_byte, four_bytes, eight_bytes, sixteen_bytes, Signed, signed_bytes, Truth, truth_byte};
 ghost use Rattle.tv_base.specs.Parts.{Sized, Text, short_sized};
 ghost use Rattle.tv_base.specs.PartFault.{NumberFault, BytesFault, TruthFault, SizedFault, TextFault};
@@ -51,8 +52,9 @@ pub trait BinarySerializable: Sized {
 
     /// Reads a value, and takes the bytes that spell it and no more.
     ///
-    /// Errors: `Corrupted` with the first fault in the bytes, from left to right, `Io` where a read failed, and `Memory`. What
-    /// was taken of the source then is open.
+    /// Errors: `Corrupted` with the first fault in the bytes, from left to right, `Io` with the kind of the read that failed, and
+    /// `Memory`. At `Corrupted` just the bytes that show the fault were taken: without the last of them only an end was to be seen,
+    /// and at `UnexpectedEnd` all were taken. `TooLong` comes behind 2^64 - 1 bytes. After each other error some front was taken.
     fn deserialize<S: ByteSource>(alloc: Global, source: &mut S) -> Result<Self, ReadError>
         ensures { ReadsAs S.tells S.left S.faults source.old source.new view result spells is_fault };
 }
@@ -83,6 +85,7 @@ impl BinarySerializable for VInt {
 
 fn take_wrapped<S: ByteSource>(source: &mut S, count: &mut u64) -> Result<VInt, ReadError>
     ensures takes { TakesBy S.tells S.left S.faults source.old count.old source.new count.new (λ x. x.0) result vint_at }
+    ensures too_long { IsErrOf result (Corrupted TooLong) → count.new ≡ 2 ^ 64 - 1 }
     ensures spares { ¬ IsErrOf result Memory }
 {
     Ok(VInt(take_vint(source, count)?))

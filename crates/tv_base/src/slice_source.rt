@@ -44,6 +44,16 @@ impl<'a> ByteSource for SliceSource<'a> {
         Ok(count)
     }
 
+    fn next_byte(&mut self) -> Result<Option<u8>, io::ErrorKind> {
+        match self.rest.split_first() {
+            Some((first, rest)) => {
+                self.rest = rest;
+                Ok(Some(*first))
+            }
+            None => Ok(None),
+        }
+    }
+
     fn append(&mut self, bytes: &mut Vec<u8>, most: usize) -> Result<usize, ReadError> {
         let moved = self.rest.len().min(most);
         bytes.extend_from_slice(&self.rest[..moved])?;

@@ -3,7 +3,7 @@
 ghost use Rattle.std.specs.Prelude.{◌≡◌, ℕ, List, ◌≤◌, length, IfOk};
 ghost use Rattle.tv_base.specs.Append.{AppendsNext, append_stop};
 ghost use Rattle.tv_base.specs.Stop.{Counts};
-ghost use Rattle.tv_base.specs.Source.{AllBytes, GivesSome, Faults, CountsFault};
+ghost use Rattle.tv_base.specs.Source.{AllBytes, GivesSome, GivesFirst, Faults, CountsFault};
 
 use crate::read_error::ReadError;
 use std::io;
@@ -27,6 +27,20 @@ pub trait ByteSource {
         ensures bytes { tells self.old → GivesSome (left self.old) (left self.new) result buf.new }
         ensures tells { tells self.old → tells self.new }
         ensures faults { CountsFault result (faults self.old) (faults self.new) };
+
+    /// Gives the next byte, or `None` at the end. An `Err` is counted as a fault of its kind and takes no byte.
+    fn next_byte(&mut self) -> Result<Option<u8>, io::ErrorKind>
+        ensures bytes { tells self.old → GivesFirst (left self.old) (left self.new) result }
+        ensures tells { tells self.old → tells self.new }
+        ensures faults { CountsFault result (faults self.old) (faults self.new) }
+    {
+        let mut byte = [0; 1];
+        match self.read(&mut byte) {
+            Ok(0) => Ok(None),
+            Ok(_) => Ok(Some(byte[0])),
+            Err(kind) => Err(kind),
+        }
+    }
 
     /// Puts the next bytes behind those of `bytes`, and gives their number: at most `most`, and possibly fewer than are left.
     /// `Ok(0)` where `most` isn't 0 is the end.

@@ -49,17 +49,27 @@ pub fn take<S: ByteSource>(source: &mut S, count: &mut u64, buf: &mut [u8]) -> R
 }
 
 /// Takes one byte. Errors: those of [`take`].
-#[tactic(auto, using(crate::proofs::TakenBytes::u8_at_is))]
+#[inline]
+#[tactic(auto, unfolding(crate::specs::Reading::u8_at))]
 pub fn take_u8<S: ByteSource>(source: &mut S, count: &mut u64) -> Result<u8, ReadError>
     ensures takes { TakesBy S.tells S.left S.faults source.old count.old source.new count.new (λ x. x) result u8_at }
     ensures causes { (cause : Cause) → IsErrOf result (Corrupted cause) → (cause ≡ UnexpectedEnd) ⊎ (cause ≡ TooLong) }
+    ensures refused { OnErr result (count.new ≡ count.old) }
     ensures counted { OnOk result (count.new ≡ count.old + 1) }
     ensures too_long { IsErrOf result (Corrupted TooLong) → count.new ≡ 2 ^ 64 - 1 }
     ensures spares { ¬ IsErrOf result Memory }
 {
-    let mut bytes = [0; 1];
-    take(source, count, &mut bytes)?;
-    Ok(bytes[0])
+    if *count == u64::MAX {
+        return Err(ReadError::Corrupted(Cause::TooLong));
+    }
+    match source.next_byte() {
+        Ok(Some(byte)) => {
+            *count += 1;
+            Ok(byte)
+        }
+        Ok(None) => Err(ReadError::Corrupted(Cause::UnexpectedEnd)),
+        Err(kind) => Err(ReadError::Io(kind)),
+    }
 }
 
 /// Takes a number in four bytes, the lowest first. Errors: those of [`take`].
@@ -131,27 +141,6 @@ pub fn take_bool<S: ByteSource>(source: &mut S, count: &mut u64) -> Result<bool,
     }
 }
 
-/// Takes `more` bytes, at most 4096, and puts them behind those that are there.
-///
-/// Errors: those of [`take`], and `Memory`. After an error what `bytes` holds is open.
-pub fn take_more<S: ByteSource>(
-    source: &mut S,
-    count: &mut u64,
-    bytes: &mut Vec<u8>,
-    more: usize,
-) -> Result<(), ReadError>
-    requires { more ≤ 4096 }
-    ensures longer { OnOk result (length bytes.new.items ≡ length bytes.old.items + more) }
-    ensures takes { TakesBy S.tells S.left S.faults source.old count.old source.new count.new (λ _. bytes.new.items) result (more_at bytes.old.items more) }
-    ensures counted { OnOk result (count.new ≡ count.old + more) }
-    ensures too_long { IsErrOf result (Corrupted TooLong) → count.new ≡ 2 ^ 64 - 1 }
-{
-    let filled = bytes.len();
-    bytes.resize(filled + more, 0)?;
-    take(source, count, &mut bytes[filled..])?;
-    Ok(())
-}
-
 /// Nine groups of seven bits may come before the last.
 const MORE_GROUPS: u32 = 9;
 
@@ -162,6 +151,7 @@ pub fn take_vint<S: ByteSource>(source: &mut S, count: &mut u64) -> Result<u64, 
     ensures takes { TakesBy S.tells S.left S.faults source.old count.old source.new count.new (λ x. x) result vint_at }
     ensures too_long { IsErrOf result (Corrupted TooLong) → count.new ≡ 2 ^ 64 - 1 }
     ensures spares { ¬ IsErrOf result Memory }
+    ensures few { count.new ≤ count.old + 10 }
     ensures ten { IsErrOf result (Corrupted BadNumber) → count.new ≡ count.old + 10 }
 {
     let mut value = 0u64;

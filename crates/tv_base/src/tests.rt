@@ -4,7 +4,7 @@ ghost use Rattle.std.specs.declared.io.ErrorKind.TheVariants.{TimedOut};
 ghost use Rattle.tv_base.specs.Source.{AllBytes};
 
 use crate::take::{
-    take, take_more, take_sized, take_string, take_text, take_u8, take_u32, take_u64, take_vint,
+    take, take_sized, take_string, take_text, take_u8, take_u32, take_u64, take_vint,
 };
 use crate::write::{
     write_all, write_sized, write_text, write_u8, write_u32, write_u64, write_vint,
@@ -199,9 +199,6 @@ fn texts(rt: HostRuntime) -> Result<(), Fail> {
     let mut count = 0;
     assert_eq!(rt; take_sized(&mut source, &mut count, &mut bytes), Ok(()));
     assert_eq!(rt; bytes.as_slice(), b"ChillFish8".as_slice());
-    let mut source = DripSource::new(b"!?");
-    assert_eq!(rt; take_more(&mut source, &mut count, &mut bytes, 1), Ok(()));
-    assert_eq!(rt; bytes.as_slice(), b"ChillFish8!".as_slice());
     Ok(())
 }
 

@@ -5,12 +5,16 @@ ghost use Rattle.tv_base.specs.declared.cause.Cause.{Cause};
 ghost use Rattle.tv_base.specs.Number.{VNum, vnum};
 ghost use Rattle.tv_base.specs.PartFault.{NumberFault};
 
+use crate::slice_source::SliceSource;
+use crate::take::take_vint;
+
 /// A number that is spelled in base 128, in one to ten bytes: the lowest seven bits first, the high bit of the last byte set.
 #[derive(Clone, Copy, Debug, PartialEq, Eq)]
 pub struct VInt(pub u64);
 
 impl VInt {
     /// The shortest spelling: so many bytes at the front of the array. What stands behind them is open.
+    #[inline]
     pub fn spelling(self) -> ([u8; 10], usize)
         ensures len { result.1 ≤ 10 }
         ensures bytes { take result.1 result.0 ≡ vnum self.0 }
@@ -36,19 +40,11 @@ impl VInt {
         ensures only { (n : ℕ) (front rest : List ℕ) → bytes.now ≡ front ++ rest → VNum front n → result ≡ Some (n, length front) }
         ensures none { IfNone result ((cause : Cause) × NumberFault bytes.now cause) }
     {
-        let mut value: u64 = 0;
-        let mut place: u64 = 1;
-        for (i, byte) in bytes.iter().enumerate() {
-            let digit = u64::from(*byte);
-            if i == 9 && digit != 128 && digit != 129 {
-                return None;
-            }
-            if digit >= 128 {
-                return Some((value + (digit - 128) * place, i + 1));
-            }
-            value += digit * place;
-            place *= 128;
+        let mut source = SliceSource::new(bytes);
+        let mut count = 0;
+        match take_vint(&mut source, &mut count) {
+            Ok(number) => Some((number, count as usize)),
+            Err(_) => None,
         }
-        None
     }
 }

@@ -13,19 +13,15 @@ ghost use Rattle.tv_doc.specs.Wrote.{Wrote};
 use crate::new_leaf::NewLeaf;
 use crate::value_type::ValueType;
 use std::alloc::AllocError;
+use tv_base::vint::VInt;
 
 // Adds the shortest spelling of a number.
 fn push_number(heap: &mut Vec<u8>, number: u64) -> Result<(), AllocError>
     ensures ok { OnOk result (heap.new.items ≡ heap.old.items ++ vnum number) }
     ensures err { OnErr result (IsFront heap.old.items heap.new.items) }
 {
-    let mut rest = number;
-    while rest >= 128 {
-        heap.push((rest % 128) as u8)?;
-        rest /= 128;
-    }
-    heap.push((rest + 128) as u8)?;
-    Ok(())
+    let (bytes, len) = VInt(number).spelling();
+    heap.extend_from_slice(&bytes[..len])
 }
 
 // Adds the length of some bytes, and the bytes.
@@ -66,8 +62,9 @@ fn write_u64(heap: &mut Vec<u8>, number: u64) -> Result<u32, AllocError>
     Ok(at)
 }
 
-/// The first addition to a heap makes room for so many bytes.
-const FIRST_ROOM: usize = 1024;
+/// The first addition to a heap makes room for so many bytes: enough for the values of a short document, and no more than such
+/// documents fill, since room that is left empty makes each later walk over many documents slower.
+const FIRST_ROOM: usize = 256;
 
 // Makes room in a heap that has none.
 fn make_room(heap: &mut Vec<u8>) -> Result<(), AllocError>

@@ -2,8 +2,9 @@
 
 ghost use Rattle.std.specs.Prelude.{◌≡◌, ◌≤◌, ◌++◌, ℕ, List, Ok, Err, IfOk, IfErr, IsErrOf, IsTrue, MatchOption};
 ghost use Rattle.tv_base.specs.declared.cause.Cause.{Cause};
+ghost use Rattle.tv_base.specs.declared.cause.Cause.TheVariants.{TooLong};
 ghost use Rattle.tv_store.specs.declared.error.DeserializeError.TheVariants.{CorruptedValue};
-ghost use Rattle.tv_base.specs.ReadsAs.{Known};
+ghost use Rattle.tv_base.specs.ReadsAs.{Known, TakesMost};
 ghost use Rattle.tv_base.specs.Stop.{Counts};
 ghost use Rattle.tv_doc.specs.Document.{document_of};
 ghost use Rattle.tv_doc.specs.Room.{document_room};
@@ -69,6 +70,9 @@ pub fn read_document<S: ByteSource>(
     // just the bytes that show the cause were taken, and after every error a slice of what was left
     ensures shows { Known S.tells S.left source.old → (c : Cause) → IsErrOf result (CorruptedValue c) → ShowsCause (version_of version) (S.left source.old) (S.left source.new) c }
     ensures taken { S.tells source.old → (front : List ℕ) × (S.left source.old ≡ front ++ S.left source.new) }
+
+    // so many bytes that no more can be counted were taken
+    ensures too_long { S.tells source.old → IsErrOf result (CorruptedValue TooLong) → TakesMost (S.left source.old) (S.left source.new) }
 
     // the source failed exactly where its count of faults rose, with the kind that it answered
     ensures faults { Counts store_stop result (S.faults source.old) (S.faults source.new) }

@@ -5,6 +5,7 @@ ghost use Rattle.tv_store.specs.declared.error.DeserializeError.{DeserializeErro
 ghost use Rattle.tv_store.specs.declared.error.SerializeError.{SerializeError};
 ghost use Rattle.tv_store.specs.Error.{read_error, add_error, write_error};
 
+use std::alloc::AllocError;
 use std::io;
 use thiserror::Error;
 use tv_base::{Cause, ReadError};
@@ -87,6 +88,14 @@ impl From<ReadError> for DeserializeError {
             ReadError::Io(kind) => DeserializeError::Io(kind),
             ReadError::Memory => DeserializeError::Memory,
         }
+    }
+}
+
+impl From<AllocError> for DeserializeError {
+    ghost from_gives = { λ _ told. told ≡ DeserializeError.Memory };
+
+    fn from(_error: AllocError) -> DeserializeError {
+        DeserializeError::Memory
     }
 }
 

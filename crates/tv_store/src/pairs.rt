@@ -1,8 +1,9 @@
 //! Reading the pairs of a document from a source that is lent, with the count of the bytes that were taken of it.
 
-ghost use Rattle.std.specs.Prelude.{◌≡◌, ◌≤◌, IfOk, IfErr, IsErrOf, string_bytes};
+ghost use Rattle.std.specs.Prelude.{◌≡◌, ◌≤◌, ◌-◌, ◌^◌, IfOk, IfErr, IsErrOf, string_bytes};
 ghost use Rattle.tv_doc.specs.Document.{document_of, Adds};
-ghost use Rattle.tv_store.specs.declared.error.DeserializeError.TheVariants.{HeapFull};
+ghost use Rattle.tv_store.specs.declared.error.DeserializeError.TheVariants.{CorruptedValue, HeapFull};
+ghost use Rattle.tv_base.specs.declared.cause.Cause.TheVariants.{TooLong};
 ghost use Rattle.tv_store.specs.Documents.{IsReadingError, IsPairError};
 ghost use Rattle.tv_store.specs.Error.{TakesBy};
 ghost use Rattle.tv_store.specs.Pairs.{taken_tree, taken_pair, HasNoRoom, DocumentHasNoRoom};
@@ -20,6 +21,9 @@ use tv_value::field::Field;
 /// The largest field number in a document.
 const LARGEST_FIELD: u32 = 65535;
 
+/// The texts of a document are taken into one buffer, which has this room at first, in bytes.
+const TEXT_ROOM: usize = 64;
+
 /// A value that was taken: a text, which stands in the buffer that was lent, or a number.
 #[derive(Clone, Copy)]
 pub(crate) enum Taken {
@@ -30,6 +34,7 @@ pub(crate) enum Taken {
 #[tactic(auto, using(tv_base::proofs::TakeSteps::Taken_then), unfolding(crate::specs::Reading::field_at))]
 fn take_field<S: ByteSource>(source: &mut S, count: &mut u64) -> Result<u32, DeserializeError>
     ensures takes { TakesBy S.tells S.left S.faults source.old count.old source.new count.new (λ x. x) result field_at }
+    ensures too_long { IsErrOf result (CorruptedValue TooLong) → count.new ≡ 2 ^ 64 - 1 }
     ensures small { IfOk result (λ field. field ≤ 65535) }
     ensures errors { IfErr result IsPairError }
 {
@@ -48,6 +53,7 @@ fn take_value<S: ByteSource>(
     text: &mut String,
 ) -> Result<Taken, DeserializeError>
     ensures takes { TakesBy S.tells S.left S.faults source.old count.old source.new count.new (λ taken. taken_tree (string_bytes text.new) taken) result value_at }
+    ensures too_long { IsErrOf result (CorruptedValue TooLong) → count.new ≡ 2 ^ 64 - 1 }
     ensures errors { IfErr result IsPairError }
 {
     match take_u8(source, count)? {
@@ -69,6 +75,7 @@ fn take_pair<S: ByteSource>(
     text: &mut String,
 ) -> Result<(u32, Taken), DeserializeError>
     ensures takes { TakesBy S.tells S.left S.faults source.old count.old source.new count.new (λ pair. taken_pair (string_bytes text.new) pair) result pair_at }
+    ensures too_long { IsErrOf result (CorruptedValue TooLong) → count.new ≡ 2 ^ 64 - 1 }
     ensures small { IfOk result (λ pair. pair.0 ≤ 65535) }
     ensures errors { IfErr result IsPairError }
 {
@@ -99,11 +106,12 @@ fn take_pairs<S: ByteSource>(
     announced: u64,
 ) -> Result<CompactDoc, DeserializeError>
     ensures takes { TakesBy S.tells S.left S.faults source.old count.old source.new count.new document_of result (pairs_at announced) }
+    ensures too_long { IsErrOf result (CorruptedValue TooLong) → count.new ≡ 2 ^ 64 - 1 }
     ensures full { S.tells source.old → IsErrOf result HeapFull → HasNoRoom announced (S.left source.old) }
     ensures errors { IfErr result IsReadingError }
 {
     let mut document = CompactDoc::new(alloc);
-    let mut text = String::new(alloc);
+    let mut text = String::with_capacity(alloc, TEXT_ROOM)?;
     for _ in 0..announced {
         let (field, value) = take_pair(alloc, source, count, &mut text)?;
         add_taken(&mut document, field, text.as_str(), value)?;
@@ -119,6 +127,7 @@ pub(crate) fn take_document<S: ByteSource>(
     count: &mut u64,
 ) -> Result<CompactDoc, DeserializeError>
     ensures takes { TakesBy S.tells S.left S.faults source.old count.old source.new count.new document_of result document_at }
+    ensures too_long { IsErrOf result (CorruptedValue TooLong) → count.new ≡ 2 ^ 64 - 1 }
     ensures full { S.tells source.old → IsErrOf result HeapFull → DocumentHasNoRoom (S.left source.old) }
     ensures errors { IfErr result IsReadingError }
 {

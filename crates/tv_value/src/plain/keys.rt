@@ -51,7 +51,7 @@ fn coded_key_at(bytes: &[u8]) -> Result<(&[u8], &[u8]), PlainRefusal>
 
 /// The key at the front of the bytes, and what follows it: behind its code in versions 1 and 2, without one in version 3.
 /// NoTextKey where the code is another type's, and what is wrong with the code or the text.
-pub fn key_at(version: PlainVersion, bytes: &[u8]) -> Result<(&[u8], &[u8]), PlainRefusal>
+pub(super) fn key_at(version: PlainVersion, bytes: &[u8]) -> Result<(&[u8], &[u8]), PlainRefusal>
     ensures found { IfOk result (λ x. Begins (λ b. Key (version_of version) b x.0.now) bytes.now x.1.now) }
     ensures fault { IfErr result (BecausePart (KeyFault (version_of version) bytes.now)) }
 {
@@ -64,7 +64,7 @@ pub fn key_at(version: PlainVersion, bytes: &[u8]) -> Result<(&[u8], &[u8]), Pla
 
 /// How many entries an object has that announces this number: half of it in versions 1 and 2, all of it in version 3.
 /// None where it is no object's.
-pub fn entry_count_of(version: PlainVersion, number: u64) -> Option<u64>
+pub(super) fn entry_count_of(version: PlainVersion, number: u64) -> Option<u64>
     ensures some { IfSome result (λ n. entry_total (version_of version) n ≡ number) }
     ensures none { IfNone result ((n : ℕ) → entry_total (version_of version) n ≢ number) }
 {

@@ -129,7 +129,7 @@ fn extension_value(alloc: Global, bytes: &[u8]) -> Result<(PlainValue, &[u8]), P
 
 /// The value of a code that is no array's and no object's, behind it, and what follows it.
 /// FloatCode at 6, LegacyObject at 8, UnknownTypeCode above 13, and what is wrong with its parts.
-pub fn leaf_at(
+pub(super) fn leaf_at(
     alloc: Global,
     version: PlainVersion,
     code: u8,

@@ -13,7 +13,7 @@ use tv_base::vint::VInt;
 
 /// The number of variable length at the front of the bytes, and what follows it.
 /// UnexpectedEnd where it doesn't end, BadNumber where it is 2^64 or more or has more than ten bytes.
-pub fn number_at(bytes: &[u8]) -> Result<(u64, &[u8]), PlainRefusal>
+pub(super) fn number_at(bytes: &[u8]) -> Result<(u64, &[u8]), PlainRefusal>
     ensures found { IfOk result (λ x. Begins (λ b. VNum b x.0) bytes.now x.1.now) }
     ensures fault { IfErr result (BecausePart (Corrupt NumberFault bytes.now)) }
 {
@@ -25,7 +25,7 @@ pub fn number_at(bytes: &[u8]) -> Result<(u64, &[u8]), PlainRefusal>
 }
 
 /// The number in the first four bytes, and what follows them. UnexpectedEnd where there are fewer.
-pub fn four_at(bytes: &[u8]) -> Result<(u32, &[u8]), PlainRefusal>
+pub(super) fn four_at(bytes: &[u8]) -> Result<(u32, &[u8]), PlainRefusal>
     ensures found { IfOk result (λ x. Begins (λ b. Fixed 4 b x.0) bytes.now x.1.now) }
     ensures fault { IfErr result (BecausePart (Corrupt (BytesFault 4) bytes.now)) }
 {
@@ -38,7 +38,7 @@ pub fn four_at(bytes: &[u8]) -> Result<(u32, &[u8]), PlainRefusal>
 }
 
 /// The number in the first eight bytes, and what follows them. UnexpectedEnd where there are fewer.
-pub fn eight_at(bytes: &[u8]) -> Result<(u64, &[u8]), PlainRefusal>
+pub(super) fn eight_at(bytes: &[u8]) -> Result<(u64, &[u8]), PlainRefusal>
     ensures found { IfOk result (λ x. Begins (λ b. Fixed 8 b x.0) bytes.now x.1.now) }
     ensures fault { IfErr result (BecausePart (Corrupt (BytesFault 8) bytes.now)) }
 {
@@ -53,7 +53,7 @@ pub fn eight_at(bytes: &[u8]) -> Result<(u64, &[u8]), PlainRefusal>
 }
 
 /// The number in the first sixteen bytes, and what follows them. UnexpectedEnd where there are fewer.
-pub fn sixteen_at(bytes: &[u8]) -> Result<(u128, &[u8]), PlainRefusal>
+pub(super) fn sixteen_at(bytes: &[u8]) -> Result<(u128, &[u8]), PlainRefusal>
     ensures found { IfOk result (λ x. Begins (λ b. Fixed 16 b x.0) bytes.now x.1.now) }
     ensures fault { IfErr result (BecausePart (Corrupt (BytesFault 16) bytes.now)) }
 {
@@ -70,7 +70,7 @@ pub fn sixteen_at(bytes: &[u8]) -> Result<(u128, &[u8]), PlainRefusal>
 
 /// The bytes behind their length at the front, and what follows them.
 /// UnexpectedEnd where fewer are there, and what `number_at` says of the length.
-pub fn sized_at(bytes: &[u8]) -> Result<(&[u8], &[u8]), PlainRefusal>
+pub(super) fn sized_at(bytes: &[u8]) -> Result<(&[u8], &[u8]), PlainRefusal>
     ensures found { IfOk result (λ x. Begins (λ b. Sized b x.0.now) bytes.now x.1.now) }
     ensures fault { IfErr result (BecausePart (Corrupt SizedFault bytes.now)) }
 {
@@ -82,7 +82,7 @@ pub fn sized_at(bytes: &[u8]) -> Result<(&[u8], &[u8]), PlainRefusal>
 }
 
 /// The text at the front of the bytes, and what follows it. NotUtf8 where its bytes are no UTF-8, and what `sized_at` says.
-pub fn text_at(bytes: &[u8]) -> Result<(&[u8], &[u8]), PlainRefusal>
+pub(super) fn text_at(bytes: &[u8]) -> Result<(&[u8], &[u8]), PlainRefusal>
     ensures found { IfOk result (λ x. Begins (λ b. Text b x.0.now) bytes.now x.1.now) }
     ensures fault { IfErr result (BecausePart (Corrupt TextFault bytes.now)) }
 {

@@ -14,7 +14,7 @@ use crate::plain::value::PlainToken;
 use std::alloc::Global;
 
 /// The token at the front of the bytes, and what follows it. What is wrong with its numbers or its text is refused.
-pub fn token_at(alloc: Global, bytes: &[u8]) -> Result<(PlainToken, &[u8]), PlainRefusal>
+pub(super) fn token_at(alloc: Global, bytes: &[u8]) -> Result<(PlainToken, &[u8]), PlainRefusal>
     ensures found { IfOk result (λ x. Begins (λ b. TokenSpelling b (token_of x.0)) bytes.now x.1.now) }
     ensures fault { IfErr result (BecausePart (Corrupt TokenFault bytes.now)) }
 {
@@ -35,7 +35,7 @@ pub fn token_at(alloc: Global, bytes: &[u8]) -> Result<(PlainToken, &[u8]), Plai
 }
 
 /// So many tokens, and what follows them. What is wrong with one of them is refused.
-pub fn tokens_at(
+pub(super) fn tokens_at(
     alloc: Global,
     count: u64,
     bytes: &[u8],
@@ -56,7 +56,7 @@ pub fn tokens_at(
 
 /// The text and its tokens, behind the code of their extension, and what follows them. What is wrong with the text, the number of
 /// the tokens or one of them is refused.
-pub fn tokenized_at(
+pub(super) fn tokenized_at(
     alloc: Global,
     bytes: &[u8],
 ) -> Result<((Vec<u8>, Vec<PlainToken>), &[u8]), PlainRefusal>

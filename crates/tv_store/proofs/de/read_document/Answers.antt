@@ -1,3 +1,4 @@
+use Rattle.std.proofs.Common.{arith}
 use Rattle.tv_base.proofs.ByGrammar.{few_taken}
 use Rattle.tv_store.specs.Version.{version_of}
 use Rattle.tv_store.proofs.Promises.{found_by, tells_by, shows_cause, only_by}
@@ -24,3 +25,8 @@ returns-clause-shows g c = λ known.
 
 pub returns-clause-taken : goal.returns-clause-taken
 returns-clause-taken g c = λ told. let t = c.take_document.ensures.takes.taken told in (t.front, t.joined)
+
+pub returns-clause-too_long : goal.returns-clause-too_long
+returns-clause-too_long g c = λ told e.
+    let t = c.take_document.ensures.takes.taken told in
+    (t.front, t.joined, omega (arith, t.counted, c.take_document.ensures.too_long e))

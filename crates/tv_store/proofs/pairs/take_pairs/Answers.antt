@@ -11,7 +11,7 @@ loop-init g c = taken_none _ _ _ _ _ _ _ _ c.new-document.ensures.document
 
 pub returns-in_err-field-clause-takes : goal.returns-in_err-field-clause-takes
 returns-in_err-field-clause-takes g c =
-    let p = err_from_is_err_and c.from_residual.result c.from_residual.ensures.1 in
+    let p = err_from_is_err_and c.from_residual-in_err-field.result c.from_residual-in_err-field.ensures.1 in
     let l = c.loop in
     rw (p.1, p.2) (taken_fails {new = at c.take_pair.new.source c.take_pair.new.count}
     _ l.counter c.args.announced c.loop-test.true l.invariant c.in_err-field.ensures.takes)

@@ -1,81 +1,30 @@
-use Rattle.std.proofs.Common.{◌+◌, ◌-◌, ◌*◌, ◌<◌, ◌≤◌, ◌^◌, length, take, ap, sym, ◌∙◌, arith, add-one}
-use Rattle.std.proofs.Math.Nat.{pow-suc}
-use Rattle.tv_base.specs.declared.cause.Cause.TheVariants.{BadNumber, UnexpectedEnd}
+use Rattle.std.proofs.Common.{◌≡◌, ℕ, ◌≤◌, List, ◌++◌, length, take, Err, None, refl, ap, subst, ◌∙◌, arith}
+use Rattle.std.specs.Prelude.{IfSome}
+use Rattle.tv_base.specs.declared.cause.Cause.{Cause}
 use Rattle.tv_base.specs.Number.{VNum}
 use Rattle.tv_base.specs.PartFault.{NumberFault}
-use Rattle.tv_base.proofs.SliceGroups.{only_found, only_none, room, place_fits, ends, goes_on, below_more, fault_large, fault_end}
+use Rattle.tv_base.specs.Reading.{vint_at}
+use Rattle.tv_base.proofs.SliceNumbers.{number_found, number_only, number_refused, fault_of, no_number}
 use Rattle.tv_base.proofs.vint.VInt.from_slice.Goals as goal
-use Rattle.tv_base.proofs.vint.VInt.from_slice.Goals.{Then-digit-ge128, Then-digit-ne129, After-loop-i, else-i-eq9-via-then-i-eq9+then-digit-ne128+else-digit-ne129, else-i-eq9-via-then-i-eq9+else-digit-ne128, else-i-eq9-via-else-i-eq9}
 
-no_number : (c : goal.Then-digit-ne129) → NumberFault c.args.bytes.now BadNumber
-no_number c = fault_large c.args.bytes.now c.loop-i.i c.from-digit.result c.loop-i-test.true c.from-digit.ensures c.if-i-eq9.true c.if-digit-ne128.true c.if-digit-ne129.true c.loop-i.invariant.small
+pub returns-in-Ok-clause-found : goal.returns-in-Ok-clause-found
+returns-in-Ok-clause-found c =
+    let takes = c.in-Ok.ensures.takes in
+    subst (λ bytes. (c.take_vint.new.count ≤ length bytes) × VNum (take c.take_vint.new.count bytes) c.in-Ok.number) c.new-source.ensures
+        (number_found c.new-source.result.rest.now c.take_vint.new.source.rest.now c.in-Ok.number c.take_vint.new.count c.new-source.result.are_bytes (takes.gives tt) (takes.taken tt))
 
-pub returns-then-digit-ne129-clause-only : goal.returns-then-digit-ne129-clause-only
-returns-then-digit-ne129-clause-only c = only_none c.args.bytes.now BadNumber (no_number (goal.at.returns-then-digit-ne129-clause-only c).Then-digit-ne129)
+pub returns-in-Ok-clause-only : goal.returns-in-Ok-clause-only
+returns-in-Ok-clause-only c = λ m front tail joined spells.
+    let takes = c.in-Ok.ensures.takes in
+    number_only c.new-source.result.rest.now c.take_vint.new.source.rest.now c.in-Ok.number c.take_vint.new.count (takes.gives tt) (takes.taken tt) m front tail (c.new-source.ensures ∙ joined) spells
 
-pub returns-then-digit-ne129-clause-none : goal.returns-then-digit-ne129-clause-none
-returns-then-digit-ne129-clause-none c = (BadNumber, no_number (goal.at.returns-then-digit-ne129-clause-none c).Then-digit-ne129)
+refused : (c : goal.In-Err) → (cause : Cause) × (vint_at c.new-source.result.rest.now ≡ Err (cause, c.take_vint.new.source.rest.now))
+refused c =
+    let takes = c.in-Err.ensures.takes in
+    number_refused c.new-source.result.rest.now c.take_vint.new.source.rest.now c.take_vint.new.count c.in-Err.field-0 (record { number = 0; last = None }) refl (omega (arith, c.take_vint.ensures.few)) (λ is. c.in-Err.ensures.spares (ap (λ e. Err e) is)) (takes.gives tt) takes.counts
 
--- the digit is below 256, and the tenth is 128 or 129
-last_fits : (c : goal.Then-digit-ge128) → c.loop-i.value + (c.from-digit.result - 128) * c.loop-i.place < 2 ^ 64
-last_fits c =
-    room c.loop-i.i (c.from-digit.result - 128) c.loop-i.value c.loop-i.place c.loop-i.invariant.place c.loop-i.invariant.early c.loop-i.invariant.below
-    (omega (arith, c.type_inv.bytes c.loop-i.i, c.from-digit.ensures))
-    (λ h. elim c.else-i-eq9.branch [
-      | else-i-eq9-via-then-i-eq9+then-digit-ne128+else-digit-ne129 w ↦ omega arith
-      | else-i-eq9-via-then-i-eq9+else-digit-ne128 w ↦ omega arith
-      | else-i-eq9-via-else-i-eq9 w ↦ omega arith
-    ])
+pub returns-in-Err-clause-only : goal.returns-in-Err-clause-only
+returns-in-Err-clause-only c = λ m front tail joined spells. no_number c.new-source.result.rest.now c.take_vint.new.source.rest.now (refused c) m front tail (c.new-source.ensures ∙ joined) spells
 
--- a digit below 128 isn't the tenth
-not_tenth : (c : goal.Else-digit-ge128) → c.loop-i.i < 9
-not_tenth c = elim c.else-i-eq9.branch [
-  | else-i-eq9-via-then-i-eq9+then-digit-ne128+else-digit-ne129 w ↦ omega arith
-  | else-i-eq9-via-then-i-eq9+else-digit-ne128 w ↦ omega arith
-  | else-i-eq9-via-else-i-eq9 w ↦ omega (arith, c.loop-i.invariant.early)
-]
-
-pub overflow_add-result : goal.overflow_add-result
-overflow_add-result c = record { fits = last_fits c }
-
-number_ends_here : (c : goal.Then-digit-ge128) → (c.loop-i.i + 1 ≤ length c.args.bytes.now) × VNum (take (c.loop-i.i + 1) c.args.bytes.now) (c.loop-i.value + (c.from-digit.result - 128) * c.loop-i.place)
-number_ends_here c = ends c.args.bytes.now c.loop-i.i c.from-digit.result c.loop-i.value c.loop-i.place c.loop-i-test.true c.from-digit.ensures c.if-digit-ge128.true
-    (omega (arith, c.type_inv.bytes c.loop-i.i, c.from-digit.ensures)) c.loop-i.invariant.small c.loop-i.invariant.value c.loop-i.invariant.place c.loop-i.invariant.early (last_fits c)
-
-pub returns-then-digit-ge128-clause-found : goal.returns-then-digit-ge128-clause-found
-returns-then-digit-ge128-clause-found c = number_ends_here (goal.at.returns-then-digit-ge128-clause-found c).Then-digit-ge128
-
-pub returns-then-digit-ge128-clause-only : goal.returns-then-digit-ge128-clause-only
-returns-then-digit-ge128-clause-only c =
-    let here = number_ends_here (goal.at.returns-then-digit-ge128-clause-only c).Then-digit-ge128 in
-    only_found c.args.bytes.now _ _ here.0 here.1
-
-pub overflow_add-value : goal.overflow_add-value
-overflow_add-value c =
-    record {
-      fits = room c.loop-i.i c.from-digit.result c.loop-i.value c.loop-i.place c.loop-i.invariant.place c.loop-i.invariant.early c.loop-i.invariant.below
-          (omega arith) (λ h. let l = not_tenth c in omega arith);
-    }
-
-pub overflow_mul-place : goal.overflow_mul-place
-overflow_mul-place c = record { fits = place_fits c.loop-i.i c.loop-i.place c.loop-i.invariant.place (not_tenth c) }
-
-pub loop-i-preserved : goal.loop-i-preserved
-loop-i-preserved c =
-    let more = goes_on c.args.bytes.now c.loop-i.i c.from-digit.result c.loop-i-test.true c.from-digit.ensures c.if-digit-ge128.false c.loop-i.invariant.small in
-    record {
-      early = omega (arith, not_tenth c);
-      small = more.0;
-      value = (λ j. c.loop-i.invariant.value j + c.from-digit.result * c.loop-i.invariant.place j) ∙ sym more.1;
-      place = rw (add-one, pow-suc) (ap (λ z. z * 128) c.loop-i.invariant.place);
-      below = below_more c.loop-i.i c.from-digit.result c.loop-i.value c.loop-i.place c.loop-i.invariant.below c.if-digit-ge128.false;
-    }
-
-no_end : (c : goal.After-loop-i) → NumberFault c.args.bytes.now UnexpectedEnd
-no_end c = fault_end c.args.bytes.now c.loop-i.i c.loop-i-test.false c.loop-i.invariant.early c.loop-i.invariant.small
-
-pub returns-clause-only : goal.returns-clause-only
-returns-clause-only c = only_none c.args.bytes.now UnexpectedEnd (no_end (goal.at.returns-clause-only c).After-loop-i)
-
-pub returns-clause-none : goal.returns-clause-none
-returns-clause-none c = (UnexpectedEnd, no_end (goal.at.returns-clause-none c).After-loop-i)
+pub returns-in-Err-clause-none : goal.returns-in-Err-clause-none
+returns-in-Err-clause-none c = subst (λ bytes. (cause : Cause) × NumberFault bytes cause) c.new-source.ensures (fault_of c.new-source.result.rest.now c.take_vint.new.source.rest.now c.new-source.result.are_bytes (refused c))
