@@ -11,5 +11,5 @@ returns-clause-order g c =
     let other_fits = other.value_fits.1 in
     c.cmp.ensures ∙ json-values-order _ _ c.args.field.id _ (g.T.FastValue.as_value c.args.one) (g.T.FastValue.as_value c.args.other) one other
     ∙ fast-order _ _ g.T.FastValue.type_tag _ _ one_fits other_fits (laws.stands c.args.one) (laws.stands c.args.other)
-        (laws.is_small c.args.one one_fits) (laws.is_small c.args.other other_fits)
+    (laws.is_small c.args.one one_fits) (laws.is_small c.args.other other_fits)
     ∙ sym (laws.is_ordered c.args.one c.args.other one_fits other_fits)
