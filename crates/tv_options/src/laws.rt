@@ -8,6 +8,7 @@ ghost use Rattle.tv_options.specs.declared.text_options.FastFieldTextOptions.{Fa
 ghost use Rattle.tv_options.specs.declared.flags.CoerceFlag.{CoerceFlag};
 ghost use Rattle.tv_options.specs.declared.flags.FastFlag.{FastFlag};
 ghost use Rattle.tv_options.specs.declared.flags.IndexedFlag.{IndexedFlag};
+ghost use Rattle.tv_options.specs.declared.flags.SchemaFlagList.{SchemaFlagList};
 ghost use Rattle.tv_options.specs.declared.flags.StoredFlag.{StoredFlag};
 ghost use Rattle.tv_options.specs.declared.index_record_option.IndexRecordOption.{IndexRecordOption};
 ghost use Rattle.tv_options.specs.declared.index_record_option.IndexRecordOption.TheVariants.{Basic};
@@ -27,7 +28,7 @@ ghost use Rattle.tv_value.specs.declared.date_time.DateTimePrecision.TheVariants
 
 use crate::facet_options::FacetOptions;
 use crate::flag_options::FlagOptions;
-use crate::flags::{CoerceFlag, FastFlag, IndexedFlag, StoredFlag};
+use crate::flags::{CoerceFlag, FastFlag, IndexedFlag, SchemaFlagList, StoredFlag};
 use crate::index_record_option::IndexRecordOption;
 use crate::own_part::OwnPart;
 use crate::text_options::{FastFieldTextOptions, STRING, TEXT, TextFieldIndexing, TextOptions};
@@ -107,6 +108,12 @@ pub fn comparisons_of_flags_agree()
     ensures indexed { (a b : IndexedFlag) → IsTrue (⟦<IndexedFlag as PartialEq>⟧.eq a b) ↔ (a ≡ b) }
     ensures coerce { (a b : CoerceFlag) → IsTrue (⟦<CoerceFlag as PartialEq>⟧.eq a b) ↔ (a ≡ b) }
     ensures fast { (a b : FastFlag) → IsTrue (⟦<FastFlag as PartialEq>⟧.eq a b) ↔ (a ≡ b) }
+{}
+
+/// `==` on lists of flags tells whether they are the same, where it does so on their parts.
+pub fn comparisons_of_flag_lists_agree<Head: PartialEq, Tail: PartialEq>()
+    ensures { ((a b : Head) → IsTrue (Head.eq a b) ↔ (a ≡ b)) → ((a b : Tail) → IsTrue (Tail.eq a b) ↔ (a ≡ b))
+        → (a b : SchemaFlagList Head Tail) → IsTrue (⟦<SchemaFlagList<Head, Tail> as PartialEq>⟧.eq a b) ↔ (a ≡ b) }
 {}
 
 /// By default the least is kept of terms, dates are kept to the second, and facets aren't stored.
