@@ -5,8 +5,9 @@ ghost use Rattle.std.specs.Prelude.{◌≡◌, ◌&&◌, true};
 use crate::flag_options::FlagOptions;
 use tv_value::date_time::DateTimePrecision;
 
-/// How a field of dates is kept. By default no flag is set and the precision is seconds. Options that are joined have the
-/// precision of the left ones.
+/// How a field of dates is kept. By default no flag is set and the precision is seconds.
+///
+/// Options that are joined have the precision of the left ones; that of a flag is seconds.
 pub type DateOptions = FlagOptions<DateTimePrecision>;
 
 impl FlagOptions<DateTimePrecision> {

@@ -138,8 +138,9 @@ impl<Part: OwnPart> From<FastFlag> for FlagOptions<Part> {
     }
 }
 
-impl<Part: OwnPart, Head: Into<FlagOptions<Part>>, Tail: Into<FlagOptions<Part>>> From<SchemaFlagList<Head, Tail>>
-    for FlagOptions<Part> {
+impl<Part: OwnPart, Head: Into<FlagOptions<Part>>, Tail: Into<FlagOptions<Part>>> From<
+    SchemaFlagList<Head, Tail>,
+> for FlagOptions<Part> {
     ghost from_gives = { λ list options. (head : FlagOptions Part) × (tail : FlagOptions Part) × Head.converts list.head head × Tail.converts list.tail tail × (options ≡ join Part.join head tail) };
 
     /// The options of the first flag, joined with those of the others.

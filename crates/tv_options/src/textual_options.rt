@@ -142,8 +142,9 @@ impl<Part: OwnPart> From<FastFlag> for TextualOptions<Part> {
     }
 }
 
-impl<Part: OwnPart, Head: Into<TextualOptions<Part>>, Tail: Into<TextualOptions<Part>>>
-    From<SchemaFlagList<Head, Tail>> for TextualOptions<Part> {
+impl<Part: OwnPart, Head: Into<TextualOptions<Part>>, Tail: Into<TextualOptions<Part>>> From<
+    SchemaFlagList<Head, Tail>,
+> for TextualOptions<Part> {
     ghost from_gives = { λ list options. (head : TextualOptions Part) × (tail : TextualOptions Part) × Head.converts list.head head × Tail.converts list.tail tail × (options ≡ join Part.join head tail) };
 
     /// The options of the first flag, joined with those of the others.
