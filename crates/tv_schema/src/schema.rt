@@ -22,7 +22,7 @@ use tv_options::{
 use tv_value::field::Field;
 
 /// What a schema is made with: the entries so far, in the order of their numbers. Their names are valid and distinct.
-#[derive(Drop)]
+#[derive(Debug, Drop)]
 pub struct SchemaBuilder {
     table: FieldTable,
     alloc: Global,
@@ -221,7 +221,7 @@ fn check_name(table: &FieldTable, name: &str) -> Result<(), SchemaError>
 }
 
 /// A schema: entries with distinct valid names, where field `i` is entry `i`. Its clones share them.
-#[derive(Drop)]
+#[derive(Debug, Drop)]
 pub struct Schema {
     pub(crate) table: Rc<FieldTable>,
 }
