@@ -258,6 +258,13 @@ impl PartialEq for Schema {
     }
 }
 
+impl Eq for Schema {
+    ghost use Rattle.std.specs.Cmp.Lexicographic.{lists_equiv};
+    ghost use Rattle.tv_schema.specs.contracts.field_entry.FieldEntryEq.TheImpl.Laws.{laws-law};
+
+    ghost laws = { lists_equiv laws-law };
+}
+
 impl Schema {
     /// A builder without fields. It takes no memory.
     pub fn builder(alloc: Global) -> SchemaBuilder
