@@ -13,7 +13,9 @@ use tv_options::laws::{
     comparisons_of_facet_options_agree, comparisons_of_flag_options_agree,
     comparisons_of_textual_options_agree,
 };
-use tv_options::{Coercion, DateTimePrecision, DotExpansion, IndexRecordOption, OfBytes, OfIpAddrs};
+use tv_options::{
+    Coercion, DateTimePrecision, DotExpansion, IndexRecordOption, OfBytes, OfIpAddrs,
+};
 
 /// `index_record_option` and `get_index_record_option` answer the same: what an index keeps of each term.
 pub fn record_options_agree(

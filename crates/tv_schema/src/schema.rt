@@ -235,6 +235,7 @@ impl Model for Schema {
     ghost view = { λ schema. schema.table.value };
 }
 
+/// A clone shares the entries and takes no memory. It is refused only where as many owners share them as can be counted.
 impl Clone for Schema {
     ghost is_clone = { λ schema copy. copy ≡ schema };
 
