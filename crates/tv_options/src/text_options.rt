@@ -17,7 +17,7 @@ use std::borrow::CowStr;
 use std::ops::BitOr;
 
 /// Whether texts have a fast field, and by which tokenizer. By default they have none.
-#[derive(Debug, Drop, PartialEq)]
+#[derive(Debug, Drop, PartialEq, Eq)]
 pub enum FastFieldTextOptions {
     /// Whether there is one, of whole texts.
     IsEnabled(bool),

@@ -17,7 +17,7 @@ use std::ops::BitOr;
 ///
 /// Options are joined by `|` with whatever converts into them: other options of the type, flags that it admits, or a list of
 /// flags.
-#[derive(Debug, Drop, PartialEq)]
+#[derive(Debug, Drop, PartialEq, Eq)]
 pub struct TextualOptions<Part> {
     pub(crate) indexing: Option<TextFieldIndexing>,
     pub(crate) stored: bool,

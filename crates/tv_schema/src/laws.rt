@@ -9,7 +9,13 @@ ghost use Rattle.tv_schema.specs.declared.field_type.FieldType.{FieldType};
 use crate::field_entry::FieldEntry;
 use crate::field_type::FieldType;
 use crate::schema::Schema;
-use tv_options::IndexRecordOption;
+use tv_options::laws::{
+    comparisons_of_facet_options_agree, comparisons_of_flag_options_agree,
+    comparisons_of_textual_options_agree,
+};
+use tv_options::{
+    Coercion, DateTimePrecision, DotExpansion, IndexRecordOption, OfBytes, OfIpAddrs,
+};
 
 /// `index_record_option` and `get_index_record_option` answer the same: what an index keeps of each term.
 pub fn record_options_agree(
@@ -29,7 +35,15 @@ pub fn comparisons_of_schemas_agree()
     ensures types { (one other : FieldType) → IsTrue (⟦<FieldType as PartialEq>⟧.eq one other) ↔ (one ≡ other) }
     ensures entries { (one other : Entry) → IsTrue (⟦<FieldEntry as PartialEq>⟧.eq one other) ↔ (one ≡ other) }
     ensures schemas { (one other : List Entry) → IsTrue (⟦<Schema as PartialEq>⟧.eq one other) ↔ (one ≡ other) }
-{}
+{
+    comparisons_of_flag_options_agree::<Coercion>();
+    comparisons_of_flag_options_agree::<DateTimePrecision>();
+    comparisons_of_flag_options_agree::<OfBytes>();
+    comparisons_of_flag_options_agree::<OfIpAddrs>();
+    comparisons_of_textual_options_agree::<Coercion>();
+    comparisons_of_textual_options_agree::<DotExpansion>();
+    comparisons_of_facet_options_agree();
+}
 
 /// Each field is found by its name, and what is found by a name is a field that has it.
 pub fn names_are_of_one_field()

@@ -235,6 +235,7 @@ impl Model for Schema {
     ghost view = { λ schema. schema.table.value };
 }
 
+/// A clone shares the entries and takes no memory. It is refused only where as many owners share them as can be counted.
 impl Clone for Schema {
     ghost is_clone = { λ schema copy. copy ≡ schema };
 
@@ -256,6 +257,13 @@ impl PartialEq for Schema {
     fn eq(&self, other: &Schema) -> bool {
         self.table.entries() == other.table.entries()
     }
+}
+
+impl Eq for Schema {
+    ghost use Rattle.std.specs.Cmp.Lexicographic.{lists_equiv};
+    ghost use Rattle.tv_schema.specs.contracts.field_entry.FieldEntryEq.TheImpl.Laws.{laws-law};
+
+    ghost laws = { lists_equiv laws-law };
 }
 
 impl Schema {
