@@ -10,7 +10,6 @@ pub use Rattle.tv_store.specs.declared.error.DeserializeError
 pub use Rattle.tv_store.specs.declared.error.SerializeError
 pub use Rattle.tv_store.specs.declared.error.ValueType
 pub use Rattle.tv_term.specs.declared.term_error.TermError
-
 -- what schemas are made of
 pub use Rattle.tv_options.specs.declared.facet_options.FacetOptions
 pub use Rattle.tv_options.specs.declared.flag_options.FlagOptions
@@ -22,7 +21,6 @@ pub use Rattle.tv_options.specs.declared.text_options.TextFieldIndexing
 pub use Rattle.tv_options.specs.declared.textual_options.TextualOptions
 pub use Rattle.tv_options.specs.declared.types.TypeTag
 pub use Rattle.tv_schema.specs.declared.field_type.FieldType
-
 -- values and documents
 pub use Rattle.tv_doc.specs.declared.document.CompactDoc
 pub use Rattle.tv_doc.specs.declared.field_values.FieldValueIterRef

@@ -61,6 +61,5 @@ pub use Rattle.tv_store.specs.Error as StoreError
 pub use Rattle.tv_store.specs.Refused
 pub use Rattle.tv_store.specs.Stored
 pub use Rattle.tv_store.specs.Version as StoreVersion
-
 -- the types of code that contracts speak of
 pub mod CodeTypes
