@@ -10,21 +10,17 @@ pub use Rattle.tv_store.specs.declared.error.DeserializeError
 pub use Rattle.tv_store.specs.declared.error.SerializeError
 pub use Rattle.tv_store.specs.declared.error.ValueType
 pub use Rattle.tv_term.specs.declared.term_error.TermError
-
 -- what schemas are made of
-pub use Rattle.tv_options.specs.declared.bytes_options.BytesOptions
-pub use Rattle.tv_options.specs.declared.date_time_options.DateOptions
 pub use Rattle.tv_options.specs.declared.facet_options.FacetOptions
+pub use Rattle.tv_options.specs.declared.flag_options.FlagOptions
 pub use Rattle.tv_options.specs.declared.index_record_option.IndexRecordOption
-pub use Rattle.tv_options.specs.declared.ip_options.IpAddrOptions
-pub use Rattle.tv_options.specs.declared.json_object_options.JsonObjectOptions
-pub use Rattle.tv_options.specs.declared.numeric_options.NumericOptions
+pub use Rattle.tv_options.specs.declared.own_part.Coercion
+pub use Rattle.tv_options.specs.declared.own_part.DotExpansion
 pub use Rattle.tv_options.specs.declared.text_options.FastFieldTextOptions
 pub use Rattle.tv_options.specs.declared.text_options.TextFieldIndexing
-pub use Rattle.tv_options.specs.declared.text_options.TextOptions
+pub use Rattle.tv_options.specs.declared.textual_options.TextualOptions
 pub use Rattle.tv_options.specs.declared.types.TypeTag
 pub use Rattle.tv_schema.specs.declared.field_type.FieldType
-
 -- values and documents
 pub use Rattle.tv_doc.specs.declared.document.CompactDoc
 pub use Rattle.tv_doc.specs.declared.field_values.FieldValueIterRef

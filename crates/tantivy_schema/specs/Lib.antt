@@ -22,22 +22,26 @@ pub use Rattle.tv_value.specs.Short
 pub use Rattle.tv_value.specs.Fault
 pub use Rattle.tv_value.specs.DateTime
 -- options, types and schemas
-pub use Rattle.tv_options.specs.BytesOptions
-pub use Rattle.tv_options.specs.DateOptions
 pub use Rattle.tv_options.specs.FacetOptions
+pub use Rattle.tv_options.specs.FastFieldTextOptions
+pub use Rattle.tv_options.specs.FlagOptions
 pub use Rattle.tv_options.specs.IndexRecordOption
-pub use Rattle.tv_options.specs.IpAddrOptions
 pub use Rattle.tv_options.specs.JsonObjectOptions
 pub use Rattle.tv_options.specs.NumericOptions
+pub use Rattle.tv_options.specs.TextFieldIndexing
 pub use Rattle.tv_options.specs.TextOptions
+pub use Rattle.tv_options.specs.TextualOptions
 pub use Rattle.tv_options.specs.Types
 pub use Rattle.tv_schema.specs.Entry
 pub use Rattle.tv_schema.specs.Schema
 pub use Rattle.tv_schema.specs.Path
 pub use Rattle.tv_schema.specs.SchemaJson
+pub use Rattle.tv_schema.specs.SchemaJsonEarly
 pub use Rattle.tv_schema.specs.SchemaJsonOptions
 pub use Rattle.tv_schema.specs.SchemaJsonReading
 -- terms
+pub use Rattle.tv_term.specs.FastValue
+pub use Rattle.tv_term.specs.FastValueLaws
 pub use Rattle.tv_term.specs.Key
 pub use Rattle.tv_term.specs.Reading as TermReading
 pub use Rattle.tv_term.specs.Lending
@@ -57,6 +61,5 @@ pub use Rattle.tv_store.specs.Error as StoreError
 pub use Rattle.tv_store.specs.Refused
 pub use Rattle.tv_store.specs.Stored
 pub use Rattle.tv_store.specs.Version as StoreVersion
-
 -- the types of code that contracts speak of
 pub mod CodeTypes

@@ -23,15 +23,23 @@ pub use tv_doc::laws::{
     places_read_as_one_tree,
 };
 pub use tv_options::laws::{
-    comparisons_of_fields_agree, comparisons_of_types_agree, record_options_are_ordered,
-    types_and_codes_agree, types_are_listed_once,
+    comparisons_of_facet_options_agree, comparisons_of_fields_agree,
+    comparisons_of_flag_lists_agree, comparisons_of_flag_options_agree, comparisons_of_flags_agree,
+    comparisons_of_text_indexing_agree, comparisons_of_textual_options_agree,
+    comparisons_of_types_agree, dates_are_indexed_by_seconds, defaults_are_least,
+    facet_options_join_associatively, facet_options_join_idempotently,
+    fast_text_options_join_associatively, fast_text_options_join_idempotently,
+    flag_options_join_associatively, flag_options_join_idempotently, record_options_are_ordered,
+    string_is_one_token, text_is_indexed_by_words, textual_options_join_associatively,
+    textual_options_join_idempotently, types_and_codes_agree, types_are_listed_once,
 };
 use tv_schema::Schema;
 pub use tv_schema::json::laws::{
     printed_schema_is_read_back, written_schemas_are_read_back, written_schemas_tell_all,
 };
 pub use tv_schema::laws::{
-    names_are_of_one_field, record_options_agree, the_last_dot_counts, whole_paths_come_first,
+    comparisons_of_schemas_agree, names_are_of_one_field, record_options_agree,
+    the_last_dot_counts, whole_paths_come_first,
 };
 pub use tv_store::laws::{
     refusals_are_unique, stored_pairs_are_handled, stored_pairs_are_valid,
@@ -41,8 +49,12 @@ use tv_store::{
     BinaryDocumentSerializer, DeserializeError, DocStoreVersion, SerializeError, read_document,
 };
 pub use tv_term::laws::{
+    appended_fast_values_compare_as_values, appended_fast_values_make_terms,
+    appended_numbers_are_read_back, appended_texts_are_read_back, appended_texts_make_terms,
     appended_values_complete_json_terms, comparisons_of_terms_agree, equal_terms_have_equal_keys,
-    joined_paths_have_no_zero, terms_are_ordered, written_values_are_read,
+    fast_types_are_of_eight_bytes, fast_values_are_ordered_as_numbers, fast_values_are_read_back,
+    joined_paths_have_no_zero, json_paths_are_read_back, signed_terms_compare_as_numbers,
+    terms_are_ordered, terms_compare_as_fields_and_values, written_values_are_read,
 };
 pub use tv_value::laws::{
     documents_have_one_reading, faults_of_documents_are_unique, faults_of_values_are_unique,

@@ -5,10 +5,11 @@ pub mod document;
 pub use tv_base::{FACET_SEP_BYTE, FACET_SEP_CHAR, Facet, FacetParseError};
 pub use tv_doc::document::{CompactDoc, CompactDoc as TantivyDocument};
 pub use tv_options::{
-    BytesOptions, COERCE, CoerceFlag, DATE_TIME_PRECISION_INDEXED, DateOptions, DateTimePrecision,
-    FAST, FacetOptions, FastFieldTextOptions, FastFlag, INDEXED, IndexRecordOption, IndexedFlag,
-    IpAddrOptions, JsonObjectOptions, NumericOptions, STORED, STRING, SchemaFlagList, StoredFlag,
-    TEXT, TextFieldIndexing, TextOptions, TokenizerName, Type, TypeIter,
+    BytesOptions, COERCE, CoerceFlag, Coercion, DATE_TIME_PRECISION_INDEXED, DateOptions,
+    DateTimePrecision, DotExpansion, FAST, FacetOptions, FastFieldTextOptions, FastFlag,
+    FlagOptions, INDEXED, IndexRecordOption, IndexedFlag, IpAddrOptions, JsonObjectOptions,
+    NumericOptions, OfBytes, OfIpAddrs, STORED, STRING, SchemaFlagList, StoredFlag, TEXT,
+    TextFieldIndexing, TextOptions, TextualOptions, TokenizerName, Type, TypeIter,
 };
 pub use tv_schema::{
     FieldEntry, FieldIter, FieldType, Schema, SchemaBuilder, SchemaError, is_valid_field_name,

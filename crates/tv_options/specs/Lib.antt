@@ -1,9 +1,10 @@
-pub mod BytesOptions
-pub mod DateOptions
 pub mod FacetOptions
+pub mod FastFieldTextOptions
+pub mod FlagOptions
 pub mod IndexRecordOption
-pub mod IpAddrOptions
 pub mod JsonObjectOptions
 pub mod NumericOptions
+pub mod TextFieldIndexing
 pub mod TextOptions
+pub mod TextualOptions
 pub mod Types

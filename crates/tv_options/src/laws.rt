@@ -1,74 +1,52 @@
 //! Laws of options and types, each the contract of a function that does nothing.
 
-ghost use Rattle.std.specs.Prelude.{◌≡◌, ◌≢◌, ◌↔◌, ℕ, IsTrue, Some, AllPairs, Contains};
+ghost use Rattle.std.specs.Prelude.{◌≡◌, ◌≢◌, ◌↔◌, ℕ, IsTrue, List, Some, AllPairs, Contains};
 ghost use Rattle.std.specs.Ordering.{nat_cmp, is_eq};
-ghost use Rattle.tv_options.specs.declared.bytes_options.BytesOptions.{BytesOptions};
-ghost use Rattle.tv_options.specs.declared.date_time_options.DateOptions.{DateOptions};
 ghost use Rattle.tv_options.specs.declared.facet_options.FacetOptions.{FacetOptions};
-ghost use Rattle.tv_options.specs.declared.ip_options.IpAddrOptions.{IpAddrOptions};
-ghost use Rattle.tv_options.specs.declared.json_object_options.JsonObjectOptions.{JsonObjectOptions};
-ghost use Rattle.tv_options.specs.declared.numeric_options.NumericOptions.{NumericOptions};
-ghost use Rattle.tv_options.specs.declared.text_options.FastFieldTextOptions.{FastFieldTextOptions};
-ghost use Rattle.tv_options.specs.declared.text_options.TextOptions.{TextOptions};
+ghost use Rattle.tv_options.specs.declared.flag_options.FlagOptions.{FlagOptions};
+ghost use Rattle.tv_options.specs.declared.flags.CoerceFlag.{CoerceFlag};
+ghost use Rattle.tv_options.specs.declared.flags.FastFlag.{FastFlag};
+ghost use Rattle.tv_options.specs.declared.flags.IndexedFlag.{IndexedFlag};
+ghost use Rattle.tv_options.specs.declared.flags.SchemaFlagList.{SchemaFlagList};
+ghost use Rattle.tv_options.specs.declared.flags.StoredFlag.{StoredFlag};
+ghost use Rattle.tv_options.specs.declared.index_record_option.IndexRecordOption.TheVariants.{Basic};
 ghost use Rattle.tv_options.specs.declared.index_record_option.IndexRecordOption.{IndexRecordOption};
+ghost use Rattle.tv_options.specs.declared.text_options.FastFieldTextOptions.{FastFieldTextOptions};
+ghost use Rattle.tv_options.specs.declared.text_options.TextFieldIndexing.{TextFieldIndexing};
+ghost use Rattle.tv_options.specs.declared.textual_options.TextualOptions.{TextualOptions};
 ghost use Rattle.tv_options.specs.declared.types.TypeTag.{TypeTag};
-ghost use Rattle.tv_value.specs.declared.field.Field.{Field};
-ghost use Rattle.tv_options.specs.IndexRecordOption.{rank};
-ghost use Rattle.tv_options.specs.Types.{all_types, code, type_of_code};
-ghost use Rattle.tv_options.specs.BytesOptions.{join as join_bytes};
-ghost use Rattle.tv_options.specs.DateOptions.{join as join_date};
-ghost use Rattle.tv_options.specs.FacetOptions.{join as join_facet};
-ghost use Rattle.tv_options.specs.IpAddrOptions.{join as join_ip_addr};
-ghost use Rattle.tv_options.specs.JsonObjectOptions.{join as join_json};
-ghost use Rattle.tv_options.specs.NumericOptions.{join as join_numeric};
-ghost use Rattle.tv_options.specs.TextOptions.{join as join_text, join_fast, string_options, text_options};
 ghost use Rattle.tv_value.specs.declared.date_time.DateTimePrecision.TheVariants.{Seconds};
+ghost use Rattle.tv_value.specs.declared.date_time.DateTimePrecision.{DateTimePrecision};
+ghost use Rattle.tv_value.specs.declared.field.Field.{Field};
+ghost use Rattle.tv_options.specs.FacetOptions.{join as join_facet, none as no_facet_options};
+ghost use Rattle.tv_options.specs.FastFieldTextOptions.{join_fast};
+ghost use Rattle.tv_options.specs.FlagOptions.{join as join_flags};
+ghost use Rattle.tv_options.specs.IndexRecordOption.{rank};
+ghost use Rattle.tv_options.specs.TextOptions.{string_options, text_options};
+ghost use Rattle.tv_options.specs.TextualOptions.{join as join_textual};
+ghost use Rattle.tv_options.specs.Types.{all_types, code, type_of_code};
 
+use crate::facet_options::FacetOptions;
+use crate::flag_options::FlagOptions;
+use crate::flags::{CoerceFlag, FastFlag, IndexedFlag, SchemaFlagList, StoredFlag};
 use crate::index_record_option::IndexRecordOption;
-use crate::text_options::{STRING, TEXT, TextOptions};
+use crate::own_part::OwnPart;
+use crate::text_options::{FastFieldTextOptions, STRING, TEXT, TextFieldIndexing, TextOptions};
+use crate::textual_options::TextualOptions;
+use crate::tokenizer_name::TokenizerName;
 use crate::types::TypeTag;
 use std::hash::Hash;
 use tv_value::date_time::{DATE_TIME_PRECISION_INDEXED, DateTimePrecision};
 use tv_value::field::Field;
 
-/// `|` on `NumericOptions` doesn't depend on how it is grouped.
-pub fn numeric_options_join_associatively()
-    ensures { (a b c : NumericOptions) → join_numeric (join_numeric a b) c ≡ join_numeric a (join_numeric b c) }
+/// `|` on options of flags doesn't depend on how it is grouped.
+pub fn flag_options_join_associatively<Part: OwnPart>()
+    ensures { (a b c : FlagOptions Part) → join_flags Part.join (join_flags Part.join a b) c ≡ join_flags Part.join a (join_flags Part.join b c) }
 {}
 
-/// `NumericOptions` joined with themselves stay as they are.
-pub fn numeric_options_join_idempotently()
-    ensures { (a : NumericOptions) → join_numeric a a ≡ a }
-{}
-
-/// `|` on `DateOptions` doesn't depend on how it is grouped.
-pub fn date_options_join_associatively()
-    ensures { (a b c : DateOptions) → join_date (join_date a b) c ≡ join_date a (join_date b c) }
-{}
-
-/// `DateOptions` joined with themselves stay as they are.
-pub fn date_options_join_idempotently()
-    ensures { (a : DateOptions) → join_date a a ≡ a }
-{}
-
-/// `|` on `BytesOptions` doesn't depend on how it is grouped.
-pub fn bytes_options_join_associatively()
-    ensures { (a b c : BytesOptions) → join_bytes (join_bytes a b) c ≡ join_bytes a (join_bytes b c) }
-{}
-
-/// `BytesOptions` joined with themselves stay as they are.
-pub fn bytes_options_join_idempotently()
-    ensures { (a : BytesOptions) → join_bytes a a ≡ a }
-{}
-
-/// `|` on `IpAddrOptions` doesn't depend on how it is grouped.
-pub fn ip_addr_options_join_associatively()
-    ensures { (a b c : IpAddrOptions) → join_ip_addr (join_ip_addr a b) c ≡ join_ip_addr a (join_ip_addr b c) }
-{}
-
-/// `IpAddrOptions` joined with themselves stay as they are.
-pub fn ip_addr_options_join_idempotently()
-    ensures { (a : IpAddrOptions) → join_ip_addr a a ≡ a }
+/// Options of flags joined with themselves stay as they are.
+pub fn flag_options_join_idempotently<Part: OwnPart>()
+    ensures { (a : FlagOptions Part) → join_flags Part.join a a ≡ a }
 {}
 
 /// `|` on `FacetOptions` doesn't depend on how it is grouped.
@@ -81,24 +59,14 @@ pub fn facet_options_join_idempotently()
     ensures { (a : FacetOptions) → join_facet a a ≡ a }
 {}
 
-/// `|` on `TextOptions` doesn't depend on how it is grouped.
-pub fn text_options_join_associatively()
-    ensures { (a b c : TextOptions) → join_text (join_text a b) c ≡ join_text a (join_text b c) }
+/// `|` on options of texts, or of JSON objects, doesn't depend on how it is grouped.
+pub fn textual_options_join_associatively<Part: OwnPart>()
+    ensures { (a b c : TextualOptions Part) → join_textual Part.join (join_textual Part.join a b) c ≡ join_textual Part.join a (join_textual Part.join b c) }
 {}
 
-/// `TextOptions` joined with themselves stay as they are.
-pub fn text_options_join_idempotently()
-    ensures { (a : TextOptions) → join_text a a ≡ a }
-{}
-
-/// `|` on `JsonObjectOptions` doesn't depend on how it is grouped.
-pub fn json_options_join_associatively()
-    ensures { (a b c : JsonObjectOptions) → join_json (join_json a b) c ≡ join_json a (join_json b c) }
-{}
-
-/// `JsonObjectOptions` joined with themselves stay as they are.
-pub fn json_options_join_idempotently()
-    ensures { (a : JsonObjectOptions) → join_json a a ≡ a }
+/// Options of texts, or of JSON objects, joined with themselves stay as they are.
+pub fn textual_options_join_idempotently<Part: OwnPart>()
+    ensures { (a : TextualOptions Part) → join_textual Part.join a a ≡ a }
 {}
 
 /// `|` on `FastFieldTextOptions` doesn't depend on how it is grouped.
@@ -109,6 +77,50 @@ pub fn fast_text_options_join_associatively()
 /// `FastFieldTextOptions` joined with themselves stay as they are.
 pub fn fast_text_options_join_idempotently()
     ensures { (a : FastFieldTextOptions) → join_fast a a ≡ a }
+{}
+
+/// `==` on options of flags tells whether they are the same.
+pub fn comparisons_of_flag_options_agree<Part: OwnPart>()
+    ensures { (a b : FlagOptions Part) → IsTrue (⟦<FlagOptions<Part> as PartialEq>⟧.eq a b) ↔ (a ≡ b) }
+{}
+
+/// `==` on options of texts, or of JSON objects, tells whether they are the same.
+pub fn comparisons_of_textual_options_agree<Part: OwnPart>()
+    ensures { (a b : TextualOptions Part) → IsTrue (⟦<TextualOptions<Part> as PartialEq>⟧.eq a b) ↔ (a ≡ b) }
+{}
+
+/// `==` on options of facets tells whether they are the same.
+pub fn comparisons_of_facet_options_agree()
+    ensures { (a b : FacetOptions) → IsTrue (⟦<FacetOptions as PartialEq>⟧.eq a b) ↔ (a ≡ b) }
+{}
+
+/// `==` on what says how texts are indexed tells whether it is the same; names of tokenizers are compared as texts.
+pub fn comparisons_of_text_indexing_agree()
+    ensures name { (a b : List ℕ) → IsTrue (⟦<TokenizerName as PartialEq>⟧.eq a b) ↔ (a ≡ b) }
+    ensures kept { (a b : IndexRecordOption) → IsTrue (⟦<IndexRecordOption as PartialEq>⟧.eq a b) ↔ (a ≡ b) }
+    ensures indexing { (a b : TextFieldIndexing) → IsTrue (⟦<TextFieldIndexing as PartialEq>⟧.eq a b) ↔ (a ≡ b) }
+    ensures fast { (a b : FastFieldTextOptions) → IsTrue (⟦<FastFieldTextOptions as PartialEq>⟧.eq a b) ↔ (a ≡ b) }
+{}
+
+/// `==` on two flags of one kind holds, as there is but one of each.
+pub fn comparisons_of_flags_agree()
+    ensures stored { (a b : StoredFlag) → IsTrue (⟦<StoredFlag as PartialEq>⟧.eq a b) ↔ (a ≡ b) }
+    ensures indexed { (a b : IndexedFlag) → IsTrue (⟦<IndexedFlag as PartialEq>⟧.eq a b) ↔ (a ≡ b) }
+    ensures coerce { (a b : CoerceFlag) → IsTrue (⟦<CoerceFlag as PartialEq>⟧.eq a b) ↔ (a ≡ b) }
+    ensures fast { (a b : FastFlag) → IsTrue (⟦<FastFlag as PartialEq>⟧.eq a b) ↔ (a ≡ b) }
+{}
+
+/// `==` on lists of flags tells whether they are the same, where it does so on their parts.
+pub fn comparisons_of_flag_lists_agree<Head: PartialEq, Tail: PartialEq>()
+    ensures { ((a b : Head) → IsTrue (Head.eq a b) ↔ (a ≡ b)) → ((a b : Tail) → IsTrue (Tail.eq a b) ↔ (a ≡ b))
+        → (a b : SchemaFlagList Head Tail) → IsTrue (⟦<SchemaFlagList<Head, Tail> as PartialEq>⟧.eq a b) ↔ (a ≡ b) }
+{}
+
+/// By default the least is kept of terms, dates are kept to the second, and facets aren't stored.
+pub fn defaults_are_least()
+    ensures kept { (kept : IndexRecordOption) → ⟦<IndexRecordOption as Default>⟧.is_default kept ↔ (kept ≡ Basic) }
+    ensures precision { (precision : DateTimePrecision) → ⟦<DateTimePrecision as Default>⟧.is_default precision ↔ (precision ≡ Seconds) }
+    ensures facet { (options : FacetOptions) → ⟦<FacetOptions as Default>⟧.is_default options ↔ (options ≡ no_facet_options) }
 {}
 
 /// The code of a type gives the type, and no other byte does.

@@ -1,3 +1,5 @@
+ghost use Rattle.std.specs.Prelude.{◌≡◌, ◌↔◌, IsTrue};
+
 use crate::bytes_options::BytesOptions;
 use crate::date_time_options::DateOptions;
 use crate::facet_options::FacetOptions;
@@ -5,7 +7,9 @@ use crate::flags::{COERCE, FAST, INDEXED, STORED};
 use crate::index_record_option::IndexRecordOption;
 use crate::ip_options::IpAddrOptions;
 use crate::json_object_options::JsonObjectOptions;
+use crate::laws::{comparisons_of_flag_options_agree, comparisons_of_textual_options_agree};
 use crate::numeric_options::NumericOptions;
+use crate::own_part::Coercion;
 use crate::text_options::{FastFieldTextOptions, STRING, TEXT, TextFieldIndexing, TextOptions};
 use crate::tokenizer_name::TokenizerName;
 use crate::types::TypeTag;
@@ -88,6 +92,8 @@ fn options_of_json_objects(rt: HostRuntime) -> Result<(), Fail> {
     assert!(rt; !json.is_stored() && !json.is_indexed() && json.is_fast());
     let json: JsonObjectOptions = (FAST | STORED).into();
     assert!(rt; json.is_stored() && !json.is_indexed() && json.is_fast());
+    let json = STORED | JsonObjectOptions::from(TEXT).set_expand_dots_enabled();
+    assert!(rt; json.is_stored() && json.is_indexed() && json.is_expand_dots_enabled());
     let json = JsonObjectOptions::default() | STORED | STRING;
     assert!(rt; json.is_stored() && json.is_indexed() && !json.is_expand_dots_enabled());
     Ok(())
@@ -109,6 +115,7 @@ fn options_of_bytes_from_flags(rt: HostRuntime) -> Result<(), Fail> {
     assert_eq!(rt; both, none.set_indexed().set_fast().set_fieldnorms());
     let both: BytesOptions = (STORED | INDEXED).into();
     assert_eq!(rt; both, none.set_stored().set_fieldnorms().set_indexed());
+    assert_eq!(rt; STORED | none.set_fast(), none.set_stored().set_fast());
     Ok(())
 }
 
@@ -153,6 +160,31 @@ fn record_options(rt: HostRuntime) -> Result<(), Fail> {
     Ok(())
 }
 
+// What `==` of two options tells of them, by the law at their type.
+fn same_numbers(one: &NumericOptions, other: &NumericOptions) -> bool
+    ensures { IsTrue result ↔ (one.now ≡ other.now) }
+{
+    comparisons_of_flag_options_agree::<Coercion>();
+    one == other
+}
+
+fn same_texts(one: &TextOptions, other: &TextOptions) -> bool
+    ensures { IsTrue result ↔ (one.now ≡ other.now) }
+{
+    comparisons_of_textual_options_agree::<Coercion>();
+    one == other
+}
+
+#[test]
+fn equal_options_are_the_same(rt: HostRuntime) -> Result<(), Fail> {
+    let number = NumericOptions::default().set_coerce();
+    assert!(rt; same_numbers(&number, &COERCE.into()));
+    assert!(rt; !same_numbers(&number, &FAST.into()));
+    assert!(rt; same_texts(&TEXT, &(TEXT | STRING)));
+    assert!(rt; !same_texts(&TEXT, &STRING));
+    Ok(())
+}
+
 #[test]
 fn types_by_code(rt: HostRuntime) -> Result<(), Fail> {
     assert_eq!(rt; TypeTag::from_code(102), None);
@@ -164,6 +196,9 @@ fn types_by_code(rt: HostRuntime) -> Result<(), Fail> {
     }
     assert_eq!(rt; codes.as_slice(), &b"suiodhbjp"[..]);
     assert_eq!(rt; TypeTag::IpAddr.name(), "IpAddr");
+    assert_eq!(rt; TypeTag::Str as u8, b's');
+    assert_eq!(rt; TypeTag::Json as u8, b'j');
+    assert!(rt; TypeTag::Bytes < TypeTag::Date && TypeTag::Str < TypeTag::U64);
     Ok(())
 }
 

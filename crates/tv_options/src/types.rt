@@ -9,23 +9,23 @@ use std::marker::Model;
 #[derive(Clone, Copy, Debug, PartialEq, Eq, PartialOrd, Ord, Hash)]
 pub enum TypeTag {
     /// Bytes: code `b`.
-    Bytes,
+    Bytes = b'b' as isize,
     /// Dates: code `d`.
-    Date,
+    Date = b'd' as isize,
     /// Facets: code `h`.
-    Facet,
+    Facet = b'h' as isize,
     /// Whole numbers from -2^63 to 2^63 - 1: code `i`.
-    I64,
+    I64 = b'i' as isize,
     /// JSON objects: code `j`.
-    Json,
+    Json = b'j' as isize,
     /// Truth values: code `o`.
-    Bool,
+    Bool = b'o' as isize,
     /// IP addresses: code `p`.
-    IpAddr,
+    IpAddr = b'p' as isize,
     /// Texts: code `s`.
-    Str,
+    Str = b's' as isize,
     /// Whole numbers from 0 to 2^64 - 1: code `u`.
-    U64,
+    U64 = b'u' as isize,
 }
 
 const ALL_TYPES: [TypeTag; 9] = [
@@ -53,17 +53,7 @@ impl TypeTag {
     pub fn to_code(&self) -> u8
         ensures { result ≡ code self.now }
     {
-        match self {
-            TypeTag::Str => b's',
-            TypeTag::U64 => b'u',
-            TypeTag::I64 => b'i',
-            TypeTag::Bool => b'o',
-            TypeTag::Date => b'd',
-            TypeTag::Facet => b'h',
-            TypeTag::Bytes => b'b',
-            TypeTag::Json => b'j',
-            TypeTag::IpAddr => b'p',
-        }
+        *self as u8
     }
 
     /// The type's name for people, as `Str` or `IpAddr`.

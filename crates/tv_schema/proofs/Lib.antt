@@ -4,3 +4,4 @@ pub mod SchemaJsonWords
 pub mod Schemas
 pub mod Names
 pub mod Finding
+pub mod Equality

@@ -6,16 +6,16 @@ use Rattle.std.proofs.lemmas.List.{length-append}
 use Rattle.std.proofs.lemmas.Slice.Eq.{bytes_eq-Decides}
 use Rattle.std.specs.Str.{bytes_eq}
 use Rattle.serde_json.specs.Find.{as_object}
-use Rattle.tv_options.specs.declared.date_time_options.DateOptions.{DateOptions}
+use Rattle.tv_options.specs.declared.flag_options.FlagOptions.{FlagOptions}
 use Rattle.tv_options.specs.declared.index_record_option.IndexRecordOption.{IndexRecordOption}
 use Rattle.tv_options.specs.declared.index_record_option.IndexRecordOption.TheVariants.{Basic, WithFreqs, WithFreqsAndPositions}
-use Rattle.tv_options.specs.declared.numeric_options.NumericOptions.{NumericOptions}
+use Rattle.tv_options.specs.declared.own_part.Coercion.{Coercion}
 use Rattle.tv_options.specs.declared.text_options.FastFieldTextOptions.{FastFieldTextOptions}
 use Rattle.tv_options.specs.declared.text_options.FastFieldTextOptions.TheVariants.{IsEnabled, EnabledWithTokenizer}
 use Rattle.tv_options.specs.declared.text_options.TextFieldIndexing.{TextFieldIndexing}
 use Rattle.tv_options.specs.declared.types.TypeTag.{TypeTag}
 use Rattle.tv_options.specs.declared.types.TypeTag.TheVariants as tags
-use Rattle.tv_options.specs.TextOptions.{is_fast_field, tokenizer_of}
+use Rattle.tv_options.specs.FastFieldTextOptions.{is_fast_field, tokenizer_of}
 use Rattle.tv_value.specs.declared.date_time.DateTimePrecision.{DateTimePrecision}
 use Rattle.tv_value.specs.declared.date_time.DateTimePrecision.TheVariants.{Seconds, Milliseconds, Microseconds, Nanoseconds}
 use Rattle.tv_schema.specs.Entry.{Entry, value_type, is_valid_name}
@@ -67,8 +67,8 @@ unfolding indexing_of record_or_basic bool_or text_or
 indexing_of-indexing_json indexing = rw (record_of_word-record_word indexing.«record»)
 
 text_members_read : (indexing : Option TextFieldIndexing) (stored : Bool) (fast : FastFieldTextOptions) (coerce : Bool)
-    → option_and_then text_options_of (as_object (text_json (record { indexing = indexing; stored = stored; fast = fast; coerce = coerce })))
-    ≡ Some (record { indexing = indexing; stored = stored; fast = fast; coerce = coerce })
+    → option_and_then text_options_of (as_object (text_json (record { indexing = indexing; stored = stored; fast = fast; part = record { coerce = coerce } })))
+    ≡ Some (record { indexing = indexing; stored = stored; fast = fast; part = record { coerce = coerce } })
 unfolding text_options_of optional_indexing bool_or fast_field_or_none
 text_members_read None stored fast true = rw (fast_field_of-fast_json fast)
 text_members_read None stored fast false = rw (fast_field_of-fast_json fast)
@@ -76,22 +76,22 @@ text_members_read (Some indexing) stored fast true = rw (indexing_of-indexing_js
 text_members_read (Some indexing) stored fast false = rw (indexing_of-indexing_json indexing, fast_field_of-fast_json fast)
 
 numeric_members_read : (indexed fieldnorms fast stored coerce : Bool)
-    → option_and_then numeric_options_of (as_object (numeric_json (record { indexed = indexed; fieldnorms = fieldnorms; fast = fast; stored = stored; coerce = coerce })))
-    ≡ Some (record { indexed = indexed; fieldnorms = fieldnorms; fast = fast; stored = stored; coerce = coerce })
+    → option_and_then numeric_options_of (as_object (numeric_json (record { indexed = indexed; fieldnorms = fieldnorms; fast = fast; stored = stored; part = record { coerce = coerce } })))
+    ≡ Some (record { indexed = indexed; fieldnorms = fieldnorms; fast = fast; stored = stored; part = record { coerce = coerce } })
 unfolding numeric_options_of required_bool bool_or fieldnorms_or
 numeric_members_read indexed fieldnorms fast stored true = refl
 numeric_members_read indexed fieldnorms fast stored false = refl
 
-numeric_options_of-numeric_json : (options : NumericOptions) → option_and_then numeric_options_of (as_object (numeric_json options)) ≡ Some options
-numeric_options_of-numeric_json options = numeric_members_read options.indexed options.fieldnorms options.fast options.stored options.coerce
+numeric_options_of-numeric_json : (options : FlagOptions Coercion) → option_and_then numeric_options_of (as_object (numeric_json options)) ≡ Some options
+numeric_options_of-numeric_json options = numeric_members_read options.indexed options.fieldnorms options.fast options.stored options.part.coerce
 
-date_options_of-date_json : (options : DateOptions) → option_and_then date_options_of (as_object (date_json options)) ≡ Some options
+date_options_of-date_json : (options : FlagOptions DateTimePrecision) → option_and_then date_options_of (as_object (date_json options)) ≡ Some options
 unfolding date_options_of required_bool bool_or precision_or_seconds
-date_options_of-date_json options = rw (precision_of_word-precision_word options.precision)
+date_options_of-date_json options = rw (precision_of_word-precision_word options.part)
 
 json_object_members_read : (stored : Bool) (indexing : Option TextFieldIndexing) (fast : FastFieldTextOptions) (expand_dots_enabled : Bool)
-    → option_and_then json_object_options_of (as_object (json_object_json (record { stored = stored; indexing = indexing; fast = fast; expand_dots_enabled = expand_dots_enabled })))
-    ≡ Some (record { stored = stored; indexing = indexing; fast = fast; expand_dots_enabled = expand_dots_enabled })
+    → option_and_then json_object_options_of (as_object (json_object_json (record { stored = stored; indexing = indexing; fast = fast; part = record { expand_dots_enabled = expand_dots_enabled } })))
+    ≡ Some (record { stored = stored; indexing = indexing; fast = fast; part = record { expand_dots_enabled = expand_dots_enabled } })
 unfolding json_object_options_of optional_indexing required_bool bool_or required_fast_field
 json_object_members_read stored None fast dots = rw (fast_field_of-fast_json fast)
 json_object_members_read stored (Some indexing) fast dots = rw (fast_field_of-fast_json fast, indexing_of-indexing_json indexing)
@@ -99,14 +99,14 @@ json_object_members_read stored (Some indexing) fast dots = rw (fast_field_of-fa
 -- each type's options
 options_of-options_json : (field_type : FieldType) → option_and_then (options_of (value_type field_type)) (as_object (options_json field_type)) ≡ Some field_type
 unfolding options_of bytes_options_of facet_options_of ip_addr_options_of required_bool fieldnorms_or
-options_of-options_json (types.Str options) = rw (text_members_read options.indexing options.stored options.fast options.coerce)
+options_of-options_json (types.Str options) = rw (text_members_read options.indexing options.stored options.fast options.part.coerce)
 options_of-options_json (types.U64 options) = rw (numeric_options_of-numeric_json options)
 options_of-options_json (types.I64 options) = rw (numeric_options_of-numeric_json options)
 options_of-options_json (types.Bool options) = rw (numeric_options_of-numeric_json options)
 options_of-options_json (types.Date options) = rw (date_options_of-date_json options)
 options_of-options_json (types.Facet options) = refl
 options_of-options_json (types.Bytes options) = refl
-options_of-options_json (types.JsonObject options) = rw (json_object_members_read options.stored options.indexing options.fast options.expand_dots_enabled)
+options_of-options_json (types.JsonObject options) = rw (json_object_members_read options.stored options.indexing options.fast options.part.expand_dots_enabled)
 options_of-options_json (types.IpAddr options) = refl
 
 -- ---- entries

@@ -1,6 +1,6 @@
 -- An entry of a schema: a name, and a type with its options.
 use Rattle.std.specs.Prelude.{ℕ, Bool, true, false, not, ◌&&◌, ◌==◌, ◌≡◌, List, [], ◌∷◌, IsTrue, Option, None, Some, is_some, if◌then◌else◌, Result, Ok, Err}
-use Rattle.tv_options.specs.TextOptions.{is_fast_field}
+use Rattle.tv_options.specs.FastFieldTextOptions.{is_fast_field}
 use Rattle.tv_options.specs.declared.index_record_option.IndexRecordOption.{IndexRecordOption}
 use Rattle.tv_options.specs.declared.index_record_option.IndexRecordOption.TheVariants.{Basic}
 use Rattle.tv_options.specs.declared.text_options.TextFieldIndexing.{TextFieldIndexing}
@@ -112,5 +112,5 @@ record_option (types.IpAddr options) = basic_where options.indexed
 
 -- whether dots part the keys of the type's JSON objects
 abbrev pub expands_dots : FieldType → Bool
-expands_dots (types.JsonObject options) = options.expand_dots_enabled
+expands_dots (types.JsonObject options) = options.part.expand_dots_enabled
 expands_dots other = false

@@ -5,3 +5,4 @@ pub mod SchemaJsonOptions
 pub mod SchemaJsonReading
 pub mod Table
 pub mod Path
+pub mod SchemaJsonEarly

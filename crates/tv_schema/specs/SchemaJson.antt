@@ -1,17 +1,17 @@
 -- A schema as JSON: what is written of it. The members of an object stand in byte order of their keys, which `put` keeps.
 use Rattle.std.specs.Prelude.{ℕ, Bool, true, List, [], ◌∷◌, Option, None, Some, option_map, codes, if◌then◌else◌}
 use Rattle.serde_json.specs.Data.{Data, null, boolean, string, array, object, Items, no_items, item, Members, no_members, member, put}
-use Rattle.tv_options.specs.TextOptions.{is_fast_field, tokenizer_of}
-use Rattle.tv_options.specs.declared.bytes_options.BytesOptions.{BytesOptions}
-use Rattle.tv_options.specs.declared.date_time_options.DateOptions.{DateOptions}
+use Rattle.tv_options.specs.FastFieldTextOptions.{is_fast_field, tokenizer_of}
 use Rattle.tv_options.specs.declared.facet_options.FacetOptions.{FacetOptions}
+use Rattle.tv_options.specs.declared.flag_options.FlagOptions.{FlagOptions}
 use Rattle.tv_options.specs.declared.index_record_option.IndexRecordOption.{IndexRecordOption}
 use Rattle.tv_options.specs.declared.index_record_option.IndexRecordOption.TheVariants.{Basic, WithFreqs, WithFreqsAndPositions}
-use Rattle.tv_options.specs.declared.ip_options.IpAddrOptions.{IpAddrOptions}
-use Rattle.tv_options.specs.declared.json_object_options.JsonObjectOptions.{JsonObjectOptions}
-use Rattle.tv_options.specs.declared.numeric_options.NumericOptions.{NumericOptions}
+use Rattle.tv_options.specs.declared.own_part.Coercion.{Coercion}
+use Rattle.tv_options.specs.declared.own_part.DotExpansion.{DotExpansion}
+use Rattle.tv_options.specs.declared.own_part.OfBytes.{OfBytes}
+use Rattle.tv_options.specs.declared.own_part.OfIpAddrs.{OfIpAddrs}
 use Rattle.tv_options.specs.declared.text_options.TextFieldIndexing.{TextFieldIndexing}
-use Rattle.tv_options.specs.declared.text_options.TextOptions.{TextOptions}
+use Rattle.tv_options.specs.declared.textual_options.TextualOptions.{TextualOptions}
 use Rattle.tv_options.specs.declared.types.TypeTag.{TypeTag}
 use Rattle.tv_options.specs.declared.types.TypeTag.TheVariants as tags
 use Rattle.tv_value.specs.declared.date_time.DateTimePrecision.{DateTimePrecision}
@@ -69,34 +69,34 @@ indexing_json indexing = object (
     member (codes "tokenizer") (string indexing.tokenizer) no_members)))
 
 -- neither an indexing that isn't there nor `coerce` that isn't set is written
-abbrev pub text_json : TextOptions → Data
+abbrev pub text_json : TextualOptions Coercion → Data
 text_json options = object (
-    put_true (codes "coerce") options.coerce (
+    put_true (codes "coerce") options.part.coerce (
     put_some (codes "indexing") (option_map indexing_json options.indexing) (
     member (codes "fast") (fast_json (is_fast_field options.fast) (tokenizer_of options.fast)) (
     member (codes "stored") (boolean options.stored) no_members))))
 
 -- `fieldnorms` as it was asked for; `coerce` is not written where it isn't set
-abbrev pub numeric_json : NumericOptions → Data
+abbrev pub numeric_json : FlagOptions Coercion → Data
 numeric_json options = object (
-    put_true (codes "coerce") options.coerce (
+    put_true (codes "coerce") options.part.coerce (
     member (codes "fast") (boolean options.fast) (
     member (codes "fieldnorms") (boolean options.fieldnorms) (
     member (codes "indexed") (boolean options.indexed) (
     member (codes "stored") (boolean options.stored) no_members)))))
 
-abbrev pub date_json : DateOptions → Data
+abbrev pub date_json : FlagOptions DateTimePrecision → Data
 date_json options = object (
     member (codes "fast") (boolean options.fast) (
     member (codes "fieldnorms") (boolean options.fieldnorms) (
     member (codes "indexed") (boolean options.indexed) (
-    member (codes "precision") (string (precision_word options.precision)) (
+    member (codes "precision") (string (precision_word options.part)) (
     member (codes "stored") (boolean options.stored) no_members)))))
 
 abbrev pub facet_json : FacetOptions → Data
 facet_json options = object (member (codes "stored") (boolean options.stored) no_members)
 
-abbrev pub bytes_json : BytesOptions → Data
+abbrev pub bytes_json : FlagOptions OfBytes → Data
 bytes_json options = object (
     member (codes "fast") (boolean options.fast) (
     member (codes "fieldnorms") (boolean options.fieldnorms) (
@@ -108,14 +108,14 @@ abbrev pub indexing_or_null : Option TextFieldIndexing → Data
 indexing_or_null None = null
 indexing_or_null (Some indexing) = indexing_json indexing
 
-abbrev pub json_object_json : JsonObjectOptions → Data
+abbrev pub json_object_json : TextualOptions DotExpansion → Data
 json_object_json options = object (
-    member (codes "expand_dots_enabled") (boolean options.expand_dots_enabled) (
+    member (codes "expand_dots_enabled") (boolean options.part.expand_dots_enabled) (
     member (codes "fast") (fast_json (is_fast_field options.fast) (tokenizer_of options.fast)) (
     member (codes "indexing") (indexing_or_null options.indexing) (
     member (codes "stored") (boolean options.stored) no_members))))
 
-abbrev pub ip_addr_json : IpAddrOptions → Data
+abbrev pub ip_addr_json : FlagOptions OfIpAddrs → Data
 ip_addr_json options = object (
     member (codes "fast") (boolean options.fast) (
     member (codes "fieldnorms") (boolean options.fieldnorms) (

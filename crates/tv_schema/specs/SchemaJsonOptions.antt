@@ -5,18 +5,18 @@ use Rattle.std.specs.Str.{bytes_eq}
 use Rattle.serde_json.specs.Data.{Data, null, boolean, object, Members}
 use Rattle.serde_json.specs.Find.{get_member, as_bool, as_str, as_object}
 use Rattle.tv_options.specs.Types.{all_types}
-use Rattle.tv_options.specs.declared.bytes_options.BytesOptions.{BytesOptions}
-use Rattle.tv_options.specs.declared.date_time_options.DateOptions.{DateOptions}
 use Rattle.tv_options.specs.declared.facet_options.FacetOptions.{FacetOptions}
+use Rattle.tv_options.specs.declared.flag_options.FlagOptions.{FlagOptions}
 use Rattle.tv_options.specs.declared.index_record_option.IndexRecordOption.{IndexRecordOption}
 use Rattle.tv_options.specs.declared.index_record_option.IndexRecordOption.TheVariants.{Basic, WithFreqs, WithFreqsAndPositions}
-use Rattle.tv_options.specs.declared.ip_options.IpAddrOptions.{IpAddrOptions}
-use Rattle.tv_options.specs.declared.json_object_options.JsonObjectOptions.{JsonObjectOptions}
-use Rattle.tv_options.specs.declared.numeric_options.NumericOptions.{NumericOptions}
+use Rattle.tv_options.specs.declared.own_part.Coercion.{Coercion}
+use Rattle.tv_options.specs.declared.own_part.DotExpansion.{DotExpansion}
+use Rattle.tv_options.specs.declared.own_part.OfBytes.{OfBytes}
+use Rattle.tv_options.specs.declared.own_part.OfIpAddrs.{OfIpAddrs}
 use Rattle.tv_options.specs.declared.text_options.FastFieldTextOptions.{FastFieldTextOptions}
 use Rattle.tv_options.specs.declared.text_options.FastFieldTextOptions.TheVariants.{IsEnabled, EnabledWithTokenizer}
 use Rattle.tv_options.specs.declared.text_options.TextFieldIndexing.{TextFieldIndexing}
-use Rattle.tv_options.specs.declared.text_options.TextOptions.{TextOptions}
+use Rattle.tv_options.specs.declared.textual_options.TextualOptions.{TextualOptions}
 use Rattle.tv_options.specs.declared.types.TypeTag.{TypeTag}
 use Rattle.tv_options.specs.declared.types.TypeTag.TheVariants as tags
 use Rattle.tv_value.specs.declared.date_time.DateTimePrecision.{DateTimePrecision}
@@ -112,63 +112,63 @@ required_fast_field members = required fast_field_of (codes "fast") members
 
 -- ---- options
 
-unfoldable pub text_options_of : Members → Option TextOptions
+unfoldable pub text_options_of : Members → Option (TextualOptions Coercion)
 text_options_of members = do
   indexing ← optional_indexing members
   stored ← bool_or false (codes "stored") members
   fast ← fast_field_or_none members
   coerce ← bool_or false (codes "coerce") members
-  Some (record { indexing = indexing; stored = stored; fast = fast; coerce = coerce })
+  Some (record { indexing = indexing; stored = stored; fast = fast; part = record { coerce = coerce } })
 
-unfoldable pub numeric_options_of : Members → Option NumericOptions
+unfoldable pub numeric_options_of : Members → Option (FlagOptions Coercion)
 numeric_options_of members = do
   indexed ← required_bool (codes "indexed") members
   stored ← required_bool (codes "stored") members
   fieldnorms ← fieldnorms_or indexed members
   fast ← bool_or false (codes "fast") members
   coerce ← bool_or false (codes "coerce") members
-  Some (record { indexed = indexed; fieldnorms = fieldnorms; fast = fast; stored = stored; coerce = coerce })
+  Some (record { indexed = indexed; fieldnorms = fieldnorms; fast = fast; stored = stored; part = record { coerce = coerce } })
 
-unfoldable pub bytes_options_of : Members → Option BytesOptions
+unfoldable pub bytes_options_of : Members → Option (FlagOptions OfBytes)
 bytes_options_of members = do
   indexed ← required_bool (codes "indexed") members
   fast ← required_bool (codes "fast") members
   stored ← required_bool (codes "stored") members
   fieldnorms ← fieldnorms_or indexed members
-  Some (record { indexed = indexed; fieldnorms = fieldnorms; fast = fast; stored = stored })
+  Some (record { indexed = indexed; fieldnorms = fieldnorms; fast = fast; stored = stored; part = record {} })
 
 unfoldable pub precision_or_seconds : Members → Option DateTimePrecision
 precision_or_seconds members = read_or Seconds (λ found. as_str found >>= precision_of_word) (get_member (codes "precision") members)
 
-unfoldable pub date_options_of : Members → Option DateOptions
+unfoldable pub date_options_of : Members → Option (FlagOptions DateTimePrecision)
 date_options_of members = do
   indexed ← required_bool (codes "indexed") members
   fieldnorms ← required_bool (codes "fieldnorms") members
   stored ← required_bool (codes "stored") members
   fast ← bool_or false (codes "fast") members
   precision ← precision_or_seconds members
-  Some (record { indexed = indexed; fieldnorms = fieldnorms; fast = fast; stored = stored; precision = precision })
+  Some (record { indexed = indexed; fieldnorms = fieldnorms; fast = fast; stored = stored; part = precision })
 
 unfoldable pub facet_options_of : Members → Option FacetOptions
 facet_options_of members = do
   stored ← required_bool (codes "stored") members
   Some (record { stored = stored })
 
-unfoldable pub json_object_options_of : Members → Option JsonObjectOptions
+unfoldable pub json_object_options_of : Members → Option (TextualOptions DotExpansion)
 json_object_options_of members = do
   stored ← required_bool (codes "stored") members
   fast ← required_fast_field members
   indexing ← optional_indexing members
   expand_dots_enabled ← bool_or false (codes "expand_dots_enabled") members
-  Some (record { stored = stored; indexing = indexing; fast = fast; expand_dots_enabled = expand_dots_enabled })
+  Some (record { stored = stored; indexing = indexing; fast = fast; part = record { expand_dots_enabled = expand_dots_enabled } })
 
-unfoldable pub ip_addr_options_of : Members → Option IpAddrOptions
+unfoldable pub ip_addr_options_of : Members → Option (FlagOptions OfIpAddrs)
 ip_addr_options_of members = do
   fast ← required_bool (codes "fast") members
   stored ← required_bool (codes "stored") members
   indexed ← required_bool (codes "indexed") members
   fieldnorms ← required_bool (codes "fieldnorms") members
-  Some (record { indexed = indexed; fieldnorms = fieldnorms; fast = fast; stored = stored })
+  Some (record { indexed = indexed; fieldnorms = fieldnorms; fast = fast; stored = stored; part = record {} })
 
 -- the type with its options
 unfoldable pub options_of : TypeTag → Members → Option FieldType

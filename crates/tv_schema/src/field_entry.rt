@@ -201,3 +201,11 @@ impl PartialEq for FieldEntry {
         self.name() == other.name() && self.field_type == other.field_type
     }
 }
+
+impl Eq for FieldEntry {
+    ghost use Rattle.std.specs.Cmp.{and_equiv, on_equiv};
+    ghost use Rattle.std.specs.Cmp.Lexicographic.{nat_list_eq_equiv};
+    ghost use Rattle.tv_schema.specs.contracts.field_type.FieldTypeEq.TheImpl.Laws.{laws-law as field_type_laws};
+
+    ghost laws = { and_equiv (on_equiv (λ entry. entry.name) nat_list_eq_equiv) (on_equiv (λ entry. entry.field_type) field_type_laws) };
+}

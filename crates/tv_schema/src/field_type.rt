@@ -12,7 +12,7 @@ use tv_options::{
 };
 
 /// The type of a field's values, and how they are kept.
-#[derive(Debug, Drop, PartialEq)]
+#[derive(Debug, Drop, PartialEq, Eq)]
 pub enum FieldType {
     /// Texts.
     Str(TextOptions),

@@ -1,8 +1,9 @@
 //! Schemas as JSON.
 
-ghost use Rattle.std.specs.Prelude.{◌≡◌, ◌≢◌, Ok, Err, IfOk, IfErr};
+ghost use Rattle.std.specs.Prelude.{◌≡◌, ◌≢◌, Ok, Err, IfOk, IfErr, IfSome};
 ghost use Rattle.serde_json.specs.View.{view};
 ghost use Rattle.tv_schema.specs.SchemaJson.{schema_json};
+ghost use Rattle.tv_schema.specs.SchemaJsonEarly.{early_fault};
 ghost use Rattle.tv_schema.specs.SchemaJsonReading.{schema_of};
 ghost use Rattle.tv_schema.specs.declared.schema_error.SchemaError.TheVariants.{Memory};
 
@@ -33,10 +34,13 @@ impl Schema {
     /// Errors: `BadJson { entry: None }` where the value is no array. Else the first faulty entry's, from the place 0:
     /// `BadJson` where it is no object, or its `name` or `type` is no text, or the type's word is unknown; `FloatField`
     /// for the type `f64`; `BadJson` where its `options` are no object, or not those of the type; `InvalidName`,
-    /// `DuplicateName` or `TooManyFields` as `SchemaBuilder::add_field` has them. `Memory` where memory was refused.
+    /// `DuplicateName` or `TooManyFields` as `SchemaBuilder::add_field` has them. `Memory` where memory was refused: no
+    /// memory is taken before the value is an array and its first entry, if there is one, has a name, a type and options,
+    /// so what is refused till then is refused for that alone.
     pub fn from_json_value(alloc: Global, value: &Value) -> Result<Schema, SchemaError>
         ensures ok { IfOk result (λ schema. schema_of (view value.now) ≡ Ok schema) }
         ensures err { IfErr result (λ error. error ≢ Memory → schema_of (view value.now) ≡ Err error) }
+        ensures early { IfSome (early_fault (view value.now)) (λ error. result ≡ Err error) }
     {
         let items = value
             .as_array()

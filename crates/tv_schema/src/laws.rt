@@ -1,17 +1,48 @@
 //! Laws of schemas and paths, and over calls on the types of fields.
 
-ghost use Rattle.std.specs.Prelude.{◌≡◌, ◌<◌, ◌+◌, ℕ, List, [], length, take, drop, None, Some, IsTrue, IsSomeAnd, slice_get};
-ghost use Rattle.tv_schema.specs.Entry.{Entry};
+ghost use Rattle.std.specs.Prelude.{◌≡◌, ◌↔◌, ◌<◌, ◌+◌, ℕ, List, [], length, take, drop, None, Some, IsTrue, IsSomeAnd, slice_get};
+ghost use Rattle.tv_schema.specs.Entry.{Entry, record_option};
 ghost use Rattle.tv_schema.specs.Path.{is_splitting_dot, field_of_front, find};
 ghost use Rattle.tv_schema.specs.Schema.{IsSchema, field_named};
+ghost use Rattle.tv_schema.specs.declared.field_type.FieldType.{FieldType};
 
+use crate::field_entry::FieldEntry;
 use crate::field_type::FieldType;
+use crate::schema::Schema;
+use tv_options::laws::{
+    comparisons_of_facet_options_agree, comparisons_of_flag_options_agree,
+    comparisons_of_textual_options_agree,
+};
+use tv_options::{
+    Coercion, DateTimePrecision, DotExpansion, IndexRecordOption, OfBytes, OfIpAddrs,
+};
 
-/// `index_record_option` and `get_index_record_option` agree.
-pub fn record_options_agree(field_type: &FieldType) -> bool
-    ensures { IsTrue result }
+/// `index_record_option` and `get_index_record_option` answer the same: what an index keeps of each term.
+pub fn record_options_agree(
+    field_type: &FieldType,
+) -> (Option<IndexRecordOption>, Option<IndexRecordOption>)
+    ensures one { result.0 ≡ record_option field_type.now }
+    ensures other { result.1 ≡ record_option field_type.now }
 {
-    field_type.index_record_option() == field_type.get_index_record_option()
+    (
+        field_type.index_record_option(),
+        field_type.get_index_record_option(),
+    )
+}
+
+/// Types, entries and schemas that `==` calls equal are the same, and it calls the same ones equal.
+pub fn comparisons_of_schemas_agree()
+    ensures types { (one other : FieldType) → IsTrue (⟦<FieldType as PartialEq>⟧.eq one other) ↔ (one ≡ other) }
+    ensures entries { (one other : Entry) → IsTrue (⟦<FieldEntry as PartialEq>⟧.eq one other) ↔ (one ≡ other) }
+    ensures schemas { (one other : List Entry) → IsTrue (⟦<Schema as PartialEq>⟧.eq one other) ↔ (one ≡ other) }
+{
+    comparisons_of_flag_options_agree::<Coercion>();
+    comparisons_of_flag_options_agree::<DateTimePrecision>();
+    comparisons_of_flag_options_agree::<OfBytes>();
+    comparisons_of_flag_options_agree::<OfIpAddrs>();
+    comparisons_of_textual_options_agree::<Coercion>();
+    comparisons_of_textual_options_agree::<DotExpansion>();
+    comparisons_of_facet_options_agree();
 }
 
 /// Each field is found by its name, and what is found by a name is a field that has it.

@@ -22,7 +22,7 @@ use tv_options::{
 use tv_value::field::Field;
 
 /// What a schema is made with: the entries so far, in the order of their numbers. Their names are valid and distinct.
-#[derive(Drop)]
+#[derive(Debug, Drop)]
 pub struct SchemaBuilder {
     table: FieldTable,
     alloc: Global,
@@ -221,7 +221,7 @@ fn check_name(table: &FieldTable, name: &str) -> Result<(), SchemaError>
 }
 
 /// A schema: entries with distinct valid names, where field `i` is entry `i`. Its clones share them.
-#[derive(Drop)]
+#[derive(Debug, Drop)]
 pub struct Schema {
     pub(crate) table: Rc<FieldTable>,
 }
@@ -235,6 +235,7 @@ impl Model for Schema {
     ghost view = { λ schema. schema.table.value };
 }
 
+/// A clone shares the entries and takes no memory. It is refused only where as many owners share them as can be counted.
 impl Clone for Schema {
     ghost is_clone = { λ schema copy. copy ≡ schema };
 
@@ -256,6 +257,13 @@ impl PartialEq for Schema {
     fn eq(&self, other: &Schema) -> bool {
         self.table.entries() == other.table.entries()
     }
+}
+
+impl Eq for Schema {
+    ghost use Rattle.std.specs.Cmp.Lexicographic.{lists_equiv};
+    ghost use Rattle.tv_schema.specs.contracts.field_entry.FieldEntryEq.TheImpl.Laws.{laws-law};
+
+    ghost laws = { lists_equiv laws-law };
 }
 
 impl Schema {

@@ -10,7 +10,7 @@ use std::collections::HashMap;
 use std::marker::Model;
 
 /// The entries, and the number of each name.
-#[derive(Drop)]
+#[derive(Debug, Drop)]
 pub(crate) struct FieldTable {
     entries: Vec<FieldEntry>,
     numbers: HashMap<String, u32>,

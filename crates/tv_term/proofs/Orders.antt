@@ -1,6 +1,6 @@
 -- The order of bytes is the order of what they spell.
 use Rattle.std.proofs.Common.{◌≡◌, ◌≢◌, ℕ, suc, zero, ◌+◌, ◌*◌, ◌/◌, ◌%◌, ◌^◌, ◌<◌, Bool, true, false, List, [], ◌∷◌, ◌++◌, length, refl, sym, ◌∙◌, ap, arith}
-use Rattle.std.specs.Prelude.{ℤ, pos, negsuc, FitsSigned}
+use Rattle.std.specs.Prelude.{ℤ, FitsSigned}
 use Rattle.std.specs.Int.{to_be_bytes, bytes_high_first, byte_at, w32, w64}
 use Rattle.std.specs.Ordering.{nat_cmp, int_cmp, bool_cmp, ordering_then}
 use Rattle.std.specs.declared.cmp.Ordering.{Ordering}
@@ -14,6 +14,7 @@ use Rattle.std.proofs.lemmas.Slice.Eq.{bytes_eq-Decides}
 use Rattle.std.specs.Ordering.{is_eq}
 use Rattle.std.proofs.lemmas.Bool.Decides.{nat_tests}
 use Rattle.std.proofs.lemmas.Int.{ints}
+use Rattle.tv_term.specs.FastValueLaws.{from_least-order, from_least-fits}
 use Rattle.tv_term.specs.Key.{TermValue, Text, Unsigned, Signed, Truth, Date, Facet, Bytes, Address, Json, from_least, payload, Fits, value_cmp, coded, term, HasNoZero}
 
 then_assoc : (a b c : Ordering) → ordering_then (ordering_then a b) c ≡ ordering_then a (ordering_then b c)
@@ -66,12 +67,6 @@ bytes-order (suc k) m n =
 pub number-order : (k m n : ℕ) → m < 256 ^ k → n < 256 ^ k → slice_cmp nat_cmp (bytes_high_first k m) (bytes_high_first k n) ≡ nat_cmp m n
 number-order k m n h j = bytes-order k m n ∙ rw (mod-eq_of_lt h, mod-eq_of_lt j) refl
 
-from_least-order : (a b : ℤ) → FitsSigned w64 a → FitsSigned w64 b → nat_cmp (from_least a) (from_least b) ≡ int_cmp a b
-from_least-order (pos a) (pos b) h k = grind (arith, nat_tests, ints)
-from_least-order (pos a) (negsuc b) h k = grind (arith, nat_tests, ints)
-from_least-order (negsuc a) (pos b) h k = grind (arith, nat_tests, ints)
-from_least-order (negsuc a) (negsuc b) h k = grind (arith, nat_tests, ints)
-
 positive : (n : ℕ) → n ≢ 0 → 0 < n
 positive n h = omega arith
 
@@ -83,12 +78,8 @@ slice_cmp-zero (c ∷ p) [] x y h k = let q : 0 < c = positive c h.0 in rw (grea
 slice_cmp-zero (c ∷ p) (d ∷ q) x y h k =
     ap (ordering_then (nat_cmp c d)) (slice_cmp-zero p q x y h.1 k.1) ∙ sym (then_assoc (nat_cmp c d) (slice_cmp nat_cmp p q) (slice_cmp nat_cmp x y))
 
-pub from_least-fits : (z : ℤ) → FitsSigned w64 z → from_least z < 2 ^ 64
-from_least-fits (pos n) h = omega (arith, ints)
-from_least-fits (negsuc n) h = omega (arith, ints)
-
 least-order : (a b : ℤ) → FitsSigned w64 a → FitsSigned w64 b → slice_cmp nat_cmp (bytes_high_first 8 (from_least a)) (bytes_high_first 8 (from_least b)) ≡ int_cmp a b
-least-order a b h k = number-order 8 (from_least a) (from_least b) (from_least-fits a h) (from_least-fits b k) ∙ from_least-order a b h k
+least-order a b h k = number-order 8 (from_least a) (from_least b) (from_least-fits a h) (from_least-fits b k) ∙ sym (from_least-order a b h k)
 
 truth-order : (a b : Bool) → slice_cmp nat_cmp (payload (Truth a)) (payload (Truth b)) ≡ bool_cmp a b
 truth-order true true = refl

@@ -1,10 +1,9 @@
 -- What is written for a value is read back as it.
 use Rattle.std.proofs.Common.{◌≡◌, ◌≢◌, ℕ, suc, zero, ◌+◌, ◌<◌, ◌≤◌, ◌^◌, Bool, true, false, List, [], ◌∷◌, ◌++◌, length, length-append, take, drop, get_or, Some, refl, ◌∙◌, ap, arith}
-use Rattle.std.specs.Prelude.{ℤ, pos, negsuc, FitsSigned, position, slice_index, option_map, nat_lt, ◌-◌, ◌==◌, if◌then◌else◌, ◌&&◌, ◌||◌}
+use Rattle.std.specs.Prelude.{ℤ, FitsSigned, position, slice_index, option_map, nat_lt, ◌-◌, ◌==◌, if◌then◌else◌, ◌&&◌, ◌||◌}
 use Rattle.std.specs.List.{position_or_len}
 use Rattle.std.specs.Option.{option_and_then}
 use Rattle.std.specs.Int.{w64, to_be_bytes}
-use Rattle.std.proofs.lemmas.Int.{ints}
 use Rattle.std.proofs.lemmas.Bool.{lt-ltb}
 use Rattle.std.proofs.lemmas.Bool.Decides.{nat_tests}
 use Rattle.std.proofs.lemmas.Nat.{from_be_bytes-to_be_bytes_8}
@@ -18,14 +17,10 @@ use Rattle.tv_options.specs.declared.types.TypeTag.{TypeTag}
 use Rattle.tv_options.specs.declared.types.TypeTag.TheVariants as tag
 use Rattle.tv_term.specs.Key.{TermValue, Json, coded, type_of, from_least, truth_number, HasNoZero}
 use Rattle.tv_term.specs.Reading.{number_of_eight, signed_at, is_true, cut_behind_zero, type_at, json_type, json_path}
-use Rattle.tv_term.proofs.Orders.{from_least-fits}
+use Rattle.tv_term.specs.FastValueLaws.{from_least-fits, signed_at-from_least, truth_number-fits, is_true-truth_number}
 
 pub eight_again : (n : ℕ) → n < 2 ^ 64 → number_of_eight (to_be_bytes w64 n) ≡ Some n
 eight_again n small = ap Some (from_be_bytes-to_be_bytes_8 n small)
-
-pub signed_at-from_least : (z : ℤ) → FitsSigned w64 z → signed_at (from_least z) ≡ z
-signed_at-from_least (pos n) fits = grind (arith, ints)
-signed_at-from_least (negsuc n) fits = grind (arith, ints)
 
 pub signed_again : (z : ℤ) → FitsSigned w64 z → number_of_eight (to_be_bytes w64 (from_least z)) ≡ Some (from_least z)
 signed_again z fits = eight_again (from_least z) (from_least-fits z fits)
@@ -82,16 +77,8 @@ HasNoZero-rewritten_below expand_dots path (suc place) h inside =
 pub HasNoZero-joined_path : (expand_dots : Bool) (path : List ℕ) → HasNoZero path → HasNoZero (joined_path expand_dots path)
 HasNoZero-joined_path expand_dots path h = rw (joined_path-is expand_dots path) (HasNoZero-rewritten_below expand_dots path (length path) h (omega arith))
 
-pub truth_again : (b : Bool) → is_true (truth_number b) ≡ b
-truth_again true = refl
-truth_again false = refl
-
-truth_number-small : (b : Bool) → truth_number b < 2 ^ 64
-truth_number-small true = omega arith
-truth_number-small false = omega arith
-
 pub truth_read : (b : Bool) → option_map is_true (number_of_eight (to_be_bytes w64 (truth_number b))) ≡ Some b
-truth_read b = ap (option_map is_true) (eight_again (truth_number b) (truth_number-small b)) ∙ ap Some (truth_again b)
+truth_read b = ap (option_map is_true) (eight_again (truth_number b) (truth_number-fits b)) ∙ ap Some (is_true-truth_number b)
 
 pub signed_read : (z : ℤ) → FitsSigned w64 z → option_map signed_at (number_of_eight (to_be_bytes w64 (from_least z))) ≡ Some z
 signed_read z fits = ap (option_map signed_at) (signed_again z fits) ∙ ap Some (signed_at-from_least z fits)

@@ -1,5 +1,5 @@
 -- What a term stands for, its bytes, and the order of both.
-use Rattle.std.specs.Prelude.{ℕ, ◌+◌, ◌-◌, ◌<◌, ◌^◌, Bool, if◌then◌else◌, List, [], ◌∷◌, ◌++◌, ℤ, pos, negsuc, FitsSigned, ◌≢◌}
+use Rattle.std.specs.Prelude.{◌≡◌, ℕ, ◌+◌, ◌-◌, ◌<◌, ◌^◌, Bool, if◌then◌else◌, List, [], ◌∷◌, ◌++◌, ℤ, pos, negsuc, FitsSigned, ◌≢◌, IsUtf8}
 use Rattle.std.specs.List.{AllByRecursion}
 use Rattle.std.specs.Int.{to_be_bytes, w32, w64, w128}
 use Rattle.std.specs.Ordering.{nat_cmp, int_cmp, bool_cmp, ordering_then}
@@ -99,3 +99,20 @@ term field value = to_be_bytes w32 field ++ coded value
 -- the bytes of a term of a JSON field before a value is appended: the joined path, and the zero that ends it
 abbrev pub json_term : ℕ → List ℕ → List ℕ
 json_term field path = to_be_bytes w32 field ++ code tag.Json ∷ (path ++ 0 ∷ [])
+
+-- the bytes are the term of the field and the value, both within their widths
+pub record IsTerm (bytes : List ℕ) (field : ℕ) (value : TermValue) : Type 0 where
+  pub bytes_are : bytes ≡ term field value
+  pub field_fits : field < 2 ^ 32
+  pub value_fits : Fits value
+
+-- the bytes are the term of the field and the path, a text, before a value is appended
+pub record IsJsonTerm (bytes : List ℕ) (field : ℕ) (path : List ℕ) : Type 0 where
+  pub bytes_are : bytes ≡ json_term field path
+  pub field_fits : field < 2 ^ 32
+  pub path_is_text : IsUtf8 path
+
+-- the value, which is within its width, was appended
+pub record Appends (old new : List ℕ) (value : TermValue) : Type 0 where
+  pub bytes_are : new ≡ old ++ coded value
+  pub value_fits : Fits value

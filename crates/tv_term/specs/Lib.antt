@@ -1,3 +1,5 @@
 pub mod Key
 pub mod Reading
 pub mod Lending
+pub mod FastValue
+pub mod FastValueLaws

@@ -1,17 +1,199 @@
-//! Laws of terms, each the contract of a function that does nothing.
+//! Laws of terms, each the contract of a function that makes the calls of which it speaks, or of one that does nothing.
 
-ghost use Rattle.std.specs.Prelude.{◌≡◌, ◌↔◌, ℕ, ℤ, FitsSigned, Bool, List, [], ◌<◌, ◌^◌, ◌++◌, ◌∷◌, Some, IsTrue, option_map};
+ghost use Rattle.std.specs.Prelude.{◌≡◌, ◌↔◌, ℕ, ℤ, FitsSigned, Bool, List, [], ◌<◌, ◌^◌, ◌++◌, ◌∷◌, Some, IfOk, IfErr, IsTrue, IsUtf8, option_map, string_bytes};
 ghost use Rattle.std.specs.Int.{to_be_bytes, w64, w128};
 ghost use Rattle.std.specs.Net.Addr.{IsIpv6Addr, ipv6_bits, ipv6_segments, segments_of};
-ghost use Rattle.std.specs.Ordering.{is_eq, nat_cmp, ordering_then};
+ghost use Rattle.std.specs.Option.{option_copied};
+ghost use Rattle.std.specs.Ordering.{is_eq, nat_cmp, int_cmp, ordering_then};
 ghost use Rattle.std.specs.declared.net.ipv6_addr.Ipv6Addr.{Ipv6Addr};
 ghost use Rattle.tv_base.specs.JsonPath.{joined_path};
 ghost use Rattle.tv_options.specs.declared.types.TypeTag.TheVariants as tag;
-ghost use Rattle.tv_term.specs.Key.{TermValue, Text, Unsigned, Signed, Truth, Date, Facet, Bytes, Address, Json, Fits, HasNoZero, type_of, coded, json_term, term, value_cmp};
+ghost use Rattle.tv_term.specs.FastValue.{IsFastType};
+ghost use Rattle.tv_term.specs.Key.{TermValue, Text, Unsigned, Signed, Truth, Date, Facet, Bytes, Address, Json, Fits, HasNoZero, IsTerm, IsJsonTerm, Appends, type_of, coded, term, value_cmp};
 ghost use Rattle.tv_term.specs.Reading.{number_of, address_of, payload_of, signed_at, is_true, json_parts, json_type, json_path};
+ghost use Rattle.tv_term.specs.declared.term_error.TermError.TheVariants.{Memory};
 
+use crate::fast_value::FastValue;
 use crate::term::Term;
+use crate::term_error::TermError;
+use crate::value_bytes::ValueBytes;
+use std::alloc::Global;
+use std::cmp::Ordering;
 use std::hash::Hash;
+use tv_options::Type;
+use tv_value::field::Field;
+
+/// The type of a fast value is one of values of eight bytes.
+pub fn fast_types_are_of_eight_bytes<T: FastValue>() -> Type
+    ensures { IsFastType result }
+{
+    T::to_type()
+}
+
+/// The number of a fast value gives the value back.
+pub fn fast_values_are_read_back<T: FastValue>(value: T) -> T
+    ensures { result ≡ value }
+{
+    T::from_u64(value.to_u64())
+}
+
+/// Fast values are ordered as their numbers.
+pub fn fast_values_are_ordered_as_numbers<T: FastValue>(one: T, other: T) -> Ordering
+    ensures { result ≡ T.cmp one other }
+{
+    one.to_u64().cmp(&other.to_u64())
+}
+
+/// Any two terms that the typed constructors made, and terms of JSON paths without U+0000 with one appended value each, are
+/// ordered by field, then by the code of the type, then by value.
+pub fn terms_compare_as_fields_and_values(one: &Term, other: &Term) -> Ordering
+    ensures { (f g : ℕ) (a b : TermValue) → IsTerm one.now f a → IsTerm other.now g b →
+        result ≡ ordering_then (nat_cmp f g) (value_cmp a b) }
+{
+    one.cmp(other)
+}
+
+/// Two terms of numbers with a sign of one field compare as the numbers. Errors: `Memory` alone.
+pub fn signed_terms_compare_as_numbers(
+    alloc: Global,
+    field: Field,
+    one: i64,
+    other: i64,
+) -> Result<Ordering, TermError>
+    ensures order { IfOk result (λ order. order ≡ int_cmp one other) }
+    ensures memory { IfErr result (λ error. error ≡ Memory) }
+{
+    let one = Term::from_field_i64(alloc, field, one)?;
+    let other = Term::from_field_i64(alloc, field, other)?;
+    Ok(one.cmp(&other))
+}
+
+/// A JSON term to which a text was appended is the term of the path and the text. Errors: `Memory` alone.
+pub fn appended_texts_make_terms(
+    alloc: Global,
+    field: Field,
+    path: &str,
+    expand_dots: bool,
+    text: &str,
+) -> Result<Term, TermError>
+    requires { HasNoZero path.now }
+    ensures made { IfOk result (λ made. IsTerm made field.id (Json (joined_path expand_dots path.now) (Text text.now))) }
+    ensures memory { IfErr result (λ error. error ≡ Memory) }
+{
+    let mut term = Term::from_field_json_path(alloc, field, path, expand_dots)?;
+    term.append_type_and_str(text)?;
+    Ok(term)
+}
+
+/// A JSON term to which a fast value was appended is the term of the path and the value. Errors: `Memory` alone.
+pub fn appended_fast_values_make_terms<T: FastValue>(
+    alloc: Global,
+    field: Field,
+    path: &str,
+    expand_dots: bool,
+    value: T,
+) -> Result<Term, TermError>
+    requires { HasNoZero path.now }
+    ensures made { IfOk result (λ made. IsTerm made field.id (Json (joined_path expand_dots path.now) (T.as_value value))) }
+    ensures memory { IfErr result (λ error. error ≡ Memory) }
+{
+    let mut term = Term::from_field_json_path(alloc, field, path, expand_dots)?;
+    term.append_type_and_fast_value(value)?;
+    Ok(term)
+}
+
+/// Fast values behind one path compare as the values. Errors: `Memory` alone.
+pub fn appended_fast_values_compare_as_values<T: FastValue>(
+    alloc: Global,
+    field: Field,
+    path: &str,
+    expand_dots: bool,
+    one: T,
+    other: T,
+) -> Result<Ordering, TermError>
+    requires { HasNoZero path.now }
+    ensures order { IfOk result (λ order. order ≡ T.cmp one other) }
+    ensures memory { IfErr result (λ error. error ≡ Memory) }
+{
+    let one = appended_fast_values_make_terms(alloc, field, path, expand_dots, one)?;
+    let other = appended_fast_values_make_terms(alloc, field, path, expand_dots, other)?;
+    Ok(one.cmp(&other))
+}
+
+/// The path of a JSON term with a value is read back. Errors: `Memory` alone.
+pub fn json_paths_are_read_back(
+    alloc: Global,
+    field: Field,
+    path: &str,
+    expand_dots: bool,
+    text: &str,
+) -> Result<Option<String>, TermError>
+    requires { HasNoZero path.now }
+    ensures path { IfOk result (λ found. option_map string_bytes found ≡ Some (joined_path expand_dots path.now)) }
+    ensures memory { IfErr result (λ error. error ≡ Memory) }
+{
+    let mut term = Term::from_field_json_path(alloc, field, path, expand_dots)?;
+    term.append_type_and_str(text)?;
+    Ok(term.get_json_path(alloc)?)
+}
+
+/// A text that was appended to a JSON term is read back. Errors: `Memory` alone.
+pub fn appended_texts_are_read_back(
+    alloc: Global,
+    field: Field,
+    path: &str,
+    expand_dots: bool,
+    text: &str,
+) -> Result<Option<String>, TermError>
+    requires { HasNoZero path.now }
+    ensures text { IfOk result (λ found. option_map string_bytes found ≡ Some text.now) }
+    ensures memory { IfErr result (λ error. error ≡ Memory) }
+{
+    let term = appended_texts_make_terms(alloc, field, path, expand_dots, text)?;
+    match text_behind_path(&term) {
+        Some(found) => Ok(Some(String::from_str(alloc, found)?)),
+        None => Ok(None),
+    }
+}
+
+// The text behind the path of a JSON term.
+fn text_behind_path(term: &Term) -> Option<&str>
+    ensures { (f : ℕ) (path text : List ℕ) → IsUtf8 text → IsTerm term.now f (Json path (Text text)) → option_copied result ≡ Some text }
+{
+    value_behind_path(term)?.as_str()
+}
+
+// The value behind the path of a JSON term.
+fn value_behind_path(term: &Term) -> Option<ValueBytes<'_>>
+    ensures { (f : ℕ) (path : List ℕ) (value : TermValue) → IsTerm term.now f (Json path value) →
+        option_map (λ found. found.serialized.now) result ≡ Some (coded value) }
+{
+    let (_, value) = term.value().as_json()?;
+    ValueBytes::wrap(value).ok()
+}
+
+/// A number that was appended to a JSON term is read back. Errors: `Memory` alone.
+pub fn appended_numbers_are_read_back(
+    alloc: Global,
+    field: Field,
+    path: &str,
+    expand_dots: bool,
+    number: i64,
+) -> Result<Option<i64>, TermError>
+    requires { HasNoZero path.now }
+    ensures number { IfOk result (λ found. found ≡ Some number) }
+    ensures memory { IfErr result (λ error. error ≡ Memory) }
+{
+    let term = appended_fast_values_make_terms(alloc, field, path, expand_dots, number)?;
+    Ok(number_behind_path(&term))
+}
+
+// The number behind the path of a JSON term.
+fn number_behind_path(term: &Term) -> Option<i64>
+    ensures { (f : ℕ) (path : List ℕ) (number : ℤ) → IsTerm term.now f (Json path (Signed number)) → result ≡ Some number }
+{
+    value_behind_path(term)?.as_i64()
+}
 
 /// Terms are ordered by field, then by the code of the type, then by value: numbers, dates and addresses as numbers, false
 /// before true, texts, encoded facets and bytes as bytes. Terms of JSON fields are ordered by path, then by the code of the type
@@ -34,9 +216,10 @@ pub fn comparisons_of_terms_agree()
     ensures hash { (a b : List ℕ) → IsTrue (⟦<Term as PartialEq>⟧.eq a b) → ⟦<Term as Hash>⟧.hash_input a ≡ ⟦<Term as Hash>⟧.hash_input b }
 {}
 
-/// A term of a JSON path with a value appended to it is the term of the path and the value.
+/// What a term of a JSON path without U+0000 becomes by an appended value is the term of the path and the value.
 pub fn appended_values_complete_json_terms()
-    ensures { (f : ℕ) (path : List ℕ) (value : TermValue) → json_term f path ++ coded value ≡ term f (Json path value) }
+    ensures { (old new : List ℕ) (f : ℕ) (path : List ℕ) (value : TermValue) → IsJsonTerm old f path → HasNoZero path →
+        Appends old new value → IsTerm new f (Json path value) }
 {}
 
 /// A path without U+0000 is joined without one.

@@ -1,6 +1,6 @@
 //! Terms.
 
-ghost use Rattle.std.specs.Prelude.{◌≡◌, ◌<◌, ◌≤◌, ◌+◌, ◌++◌, ◌∷◌, ◌↔◌, [], length, take, drop, IfOk, IfErr, MatchResult, OnOk, OnErr, IsTrue, slice_get, slice_index, option_map, string_bytes, Some};
+ghost use Rattle.std.specs.Prelude.{◌≡◌, ◌<◌, ◌≤◌, ◌+◌, ◌^◌, ◌++◌, ◌∷◌, ◌↔◌, [], length, take, drop, IfOk, IfErr, MatchResult, OnOk, OnErr, IsTrue, slice_get, slice_index, option_map, string_bytes, Some};
 ghost use Rattle.std.specs.Int.{to_be_bytes, w32, w64};
 ghost use Rattle.std.specs.Net.Addr.{ipv6_bits};
 ghost use Rattle.std.specs.Option.{option_copied};
@@ -10,7 +10,7 @@ ghost use Rattle.tv_schema.specs.Entry.{Entry};
 ghost use Rattle.tv_options.specs.declared.types.TypeTag.TheVariants as tag;
 ghost use Rattle.tv_value.specs.DateTime.{truncated};
 ghost use Rattle.tv_value.specs.declared.date_time.DateTimePrecision.TheVariants.{Seconds};
-ghost use Rattle.tv_term.specs.Key.{term, json_term, Text, Unsigned, Signed, Truth, Date, Facet as FacetValue, Bytes, Address};
+ghost use Rattle.tv_term.specs.Key.{IsTerm, IsJsonTerm, Appends, Text, Unsigned, Signed, Truth, Date, Facet as FacetValue, Bytes, Address};
 ghost use Rattle.tv_term.specs.Reading.{field_of, value_of, json_path, ReadsText, IsFullPath, dotted};
 ghost use Rattle.tv_term.specs.declared.term_error.TermError.TheVariants.{TooShort, Memory};
 
@@ -97,7 +97,7 @@ impl Term {
         json_path: &str,
         expand_dots: bool,
     ) -> Result<Term, TermError>
-        ensures made { IfOk result (λ made. made ≡ json_term field.id (joined_path expand_dots json_path.now)) }
+        ensures made { IfOk result (λ made. IsJsonTerm made field.id (joined_path expand_dots json_path.now)) }
         ensures memory { IfErr result (λ error. error ≡ Memory) }
     {
         let mut joined = joined_json_path(alloc, json_path, expand_dots)?;
@@ -107,7 +107,7 @@ impl Term {
 
     /// The term of a whole number without a sign. Errors: `Memory` alone.
     pub fn from_field_u64(alloc: Global, field: Field, unsigned: u64) -> Result<Term, TermError>
-        ensures made { IfOk result (λ made. made ≡ term field.id (Unsigned unsigned)) }
+        ensures made { IfOk result (λ made. IsTerm made field.id (Unsigned unsigned)) }
         ensures memory { IfErr result (λ error. error ≡ Memory) }
     {
         Term::from_fast_value(alloc, field, unsigned)
@@ -115,7 +115,7 @@ impl Term {
 
     /// The term of a whole number with a sign. Errors: `Memory` alone.
     pub fn from_field_i64(alloc: Global, field: Field, signed: i64) -> Result<Term, TermError>
-        ensures made { IfOk result (λ made. made ≡ term field.id (Signed signed)) }
+        ensures made { IfOk result (λ made. IsTerm made field.id (Signed signed)) }
         ensures memory { IfErr result (λ error. error ≡ Memory) }
     {
         Term::from_fast_value(alloc, field, signed)
@@ -123,7 +123,7 @@ impl Term {
 
     /// The term of a truth value. Errors: `Memory` alone.
     pub fn from_field_bool(alloc: Global, field: Field, truth: bool) -> Result<Term, TermError>
-        ensures made { IfOk result (λ made. made ≡ term field.id (Truth truth)) }
+        ensures made { IfOk result (λ made. IsTerm made field.id (Truth truth)) }
         ensures memory { IfErr result (λ error. error ≡ Memory) }
     {
         Term::from_fast_value(alloc, field, truth)
@@ -132,7 +132,7 @@ impl Term {
     /// The term of a date, to the nanosecond. Dates are indexed to the second alone: a term that searches is
     /// `from_field_date_for_search`'s. Errors: `Memory` alone.
     pub fn from_field_date(alloc: Global, field: Field, date: DateTime) -> Result<Term, TermError>
-        ensures made { IfOk result (λ made. made ≡ term field.id (Date date.nanoseconds)) }
+        ensures made { IfOk result (λ made. IsTerm made field.id (Date date.nanoseconds)) }
         ensures memory { IfErr result (λ error. error ≡ Memory) }
     {
         Term::from_fast_value(alloc, field, date)
@@ -144,7 +144,7 @@ impl Term {
         field: Field,
         date: DateTime,
     ) -> Result<Term, TermError>
-        ensures made { IfOk result (λ made. made ≡ term field.id (Date (truncated Seconds date.nanoseconds))) }
+        ensures made { IfOk result (λ made. IsTerm made field.id (Date (truncated Seconds date.nanoseconds))) }
         ensures memory { IfErr result (λ error. error ≡ Memory) }
     {
         Term::from_field_date(alloc, field, date.truncate(DATE_TIME_PRECISION_INDEXED))
@@ -156,7 +156,7 @@ impl Term {
         field: Field,
         address: Ipv6Addr,
     ) -> Result<Term, TermError>
-        ensures made { IfOk result (λ made. made ≡ term field.id (Address (ipv6_bits address))) }
+        ensures made { IfOk result (λ made. IsTerm made field.id (Address (ipv6_bits address))) }
         ensures memory { IfErr result (λ error. error ≡ Memory) }
     {
         let number = address.to_bits();
@@ -165,7 +165,7 @@ impl Term {
 
     /// The term of a facet: its encoded text. Errors: `Memory` alone.
     pub fn from_facet(alloc: Global, field: Field, facet: &Facet) -> Result<Term, TermError>
-        ensures made { IfOk result (λ made. made ≡ term field.id (FacetValue facet.now)) }
+        ensures made { IfOk result (λ made. IsTerm made field.id (FacetValue facet.now)) }
         ensures memory { IfErr result (λ error. error ≡ Memory) }
     {
         let encoded = facet.encoded_str().as_bytes();
@@ -174,7 +174,7 @@ impl Term {
 
     /// The term of a text. Errors: `Memory` alone.
     pub fn from_field_text(alloc: Global, field: Field, text: &str) -> Result<Term, TermError>
-        ensures made { IfOk result (λ made. made ≡ term field.id (Text text.now)) }
+        ensures made { IfOk result (λ made. IsTerm made field.id (Text text.now)) }
         ensures memory { IfErr result (λ error. error ≡ Memory) }
     {
         Term::from_payload(alloc, field, Type::Str, text.as_bytes())
@@ -182,23 +182,25 @@ impl Term {
 
     /// The term of bytes. Errors: `Memory` alone.
     pub fn from_field_bytes(alloc: Global, field: Field, bytes: &[u8]) -> Result<Term, TermError>
-        ensures made { IfOk result (λ made. made ≡ term field.id (Bytes bytes.now)) }
+        ensures made { IfOk result (λ made. IsTerm made field.id (Bytes bytes.now)) }
         ensures memory { IfErr result (λ error. error ≡ Memory) }
     {
         Term::from_payload(alloc, field, Type::Bytes, bytes)
     }
 
+    // The term of a value of eight bytes.
     fn from_fast_value<T: FastValue>(
         alloc: Global,
         field: Field,
         value: T,
     ) -> Result<Term, TermError>
-        ensures made { IfOk result (λ made. made ≡ to_be_bytes w32 field.id ++ code T.type_tag ∷ to_be_bytes w64 (T.as_number value)) }
+        ensures made { IfOk result (λ made. IsTerm made field.id (T.as_value value)) }
         ensures memory { IfErr result (λ error. error ≡ Memory) }
     {
         Term::from_payload(alloc, field, T::to_type(), &value.to_u64().to_be_bytes())
     }
 
+    // The bytes of the field, of the type's code and of the payload.
     fn from_payload(
         alloc: Global,
         field: Field,
@@ -206,6 +208,7 @@ impl Term {
         payload: &[u8],
     ) -> Result<Term, TermError>
         ensures made { IfOk result (λ made. made ≡ to_be_bytes w32 field.id ++ code value_type ∷ payload.now) }
+        ensures field { field.id < 2 ^ 32 }
         ensures memory { IfErr result (λ error. error ≡ Memory) }
     {
         let mut bytes = Vec::with_capacity(alloc, payload.len() + 5)?;
@@ -309,7 +312,7 @@ impl Term {
     ///
     /// Errors: memory was refused. Then the term is as it was.
     pub fn append_type_and_fast_value<T: FastValue>(&mut self, value: T) -> Result<(), AllocError>
-        ensures appended { OnOk result (self.new ≡ self.old ++ code T.type_tag ∷ to_be_bytes w64 (T.as_number value)) }
+        ensures appended { OnOk result (Appends self.old self.new (T.as_value value)) }
         ensures unchanged { OnErr result (self.new ≡ self.old) }
     {
         self.append_typed(T::to_type(), &value.to_u64().to_be_bytes())
@@ -319,7 +322,7 @@ impl Term {
     ///
     /// Errors: memory was refused. Then the term is as it was.
     pub fn append_type_and_str(&mut self, text: &str) -> Result<(), AllocError>
-        ensures appended { OnOk result (self.new ≡ self.old ++ code tag.Str ∷ text.now) }
+        ensures appended { OnOk result (Appends self.old self.new (Text text.now)) }
         ensures unchanged { OnErr result (self.new ≡ self.old) }
     {
         self.append_typed(Type::Str, text.as_bytes())

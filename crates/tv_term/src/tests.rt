@@ -1,5 +1,12 @@
+use crate::laws::{
+    appended_fast_values_compare_as_values, appended_numbers_are_read_back,
+    appended_texts_are_read_back, fast_types_are_of_eight_bytes,
+    fast_values_are_ordered_as_numbers, fast_values_are_read_back, json_paths_are_read_back,
+    signed_terms_compare_as_numbers, terms_compare_as_fields_and_values,
+};
 use crate::{FastValue, Term, TermError, ValueBytes};
 use std::alloc::Global;
+use std::cmp::Ordering;
 use std::hash::{DefaultHasher, Hash, Hasher};
 use std::net::Ipv6Addr;
 use std::test::Fail;
@@ -208,5 +215,50 @@ fn order(rt: HostRuntime) -> Result<(), Fail> {
     assert!(rt; text < below);
     assert!(rt; number != text);
     assert_eq!(rt; hash_of(&text), hash_of(&text.try_clone(alloc)?));
+    Ok(())
+}
+
+#[test]
+fn fast_values(rt: HostRuntime) -> Result<(), Fail> {
+    let early = DateTime::from_timestamp_nanos(i64::MIN);
+    let late = DateTime::from_timestamp_nanos(-1);
+    assert_eq!(rt; fast_values_are_read_back(early), early);
+    assert_eq!(rt;
+        fast_values_are_ordered_as_numbers(early, late),
+        Ordering::Less
+    );
+    assert_eq!(rt;
+        fast_values_are_ordered_as_numbers(true, false),
+        Ordering::Greater
+    );
+    assert_eq!(rt; fast_types_are_of_eight_bytes::<bool>(), Type::Bool);
+    let order = appended_fast_values_compare_as_values(
+        rt.alloc(),
+        first_field(),
+        "a.b",
+        false,
+        -2i64,
+        1i64,
+    )?;
+    assert_eq!(rt; order, Ordering::Less);
+    Ok(())
+}
+
+#[test]
+fn terms_are_read_back(rt: HostRuntime) -> Result<(), Fail> {
+    let alloc = rt.alloc();
+    let field = first_field();
+    let order = signed_terms_compare_as_numbers(alloc, field, 3, -4)?;
+    assert_eq!(rt; order, Ordering::Greater);
+    let term = Term::from_field_text(alloc, field, "a")?;
+    let longer = Term::from_field_text(alloc, field, "aa")?;
+    let order = terms_compare_as_fields_and_values(&term, &longer);
+    assert_eq!(rt; order, Ordering::Less);
+    let path = json_paths_are_read_back(alloc, field, PATH, false, "c")?.ok_or("a path")?;
+    assert_eq!(rt; path.as_str(), "k8s.node\u{1}id");
+    let text = appended_texts_are_read_back(alloc, field, "a", true, "c")?.ok_or("a text")?;
+    assert_eq!(rt; text.as_str(), "c");
+    let number = appended_numbers_are_read_back(alloc, field, "a", true, -5)?;
+    assert_eq!(rt; number, Some(-5));
     Ok(())
 }

@@ -1,8 +1,9 @@
 //! Entries out of their JSON descriptions.
 
-ghost use Rattle.std.specs.Prelude.{◌≡◌, ◌+◌, [], length, OnOk, string_bytes};
+ghost use Rattle.std.specs.Prelude.{◌≡◌, ◌+◌, [], length, Err, IfSome, OnOk, string_bytes};
 ghost use Rattle.serde_json.specs.View.{view, items_view};
 ghost use Rattle.tv_schema.specs.Entry.{Entry};
+ghost use Rattle.tv_schema.specs.SchemaJsonEarly.{head_fault, first_fault};
 ghost use Rattle.tv_schema.specs.SchemaJsonReading.{Gives, entry_of, with_entry, with_entries, type_named};
 
 use crate::field_entry::FieldEntry;
@@ -18,7 +19,8 @@ use tv_options::Type;
 
 /// A builder with the entries that the JSON values describe.
 pub(super) fn builder_of(alloc: Global, items: &[Value]) -> Result<SchemaBuilder, SchemaError>
-    ensures { Gives (λ builder. builder) (with_entries [] (items_view items.now)) result }
+    ensures built { Gives (λ builder. builder) (with_entries [] (items_view items.now)) result }
+    ensures early { IfSome (first_fault (items_view items.now)) (λ error. result ≡ Err error) }
 {
     let mut builder = SchemaBuilder::new(alloc);
     for (place, description) in items.iter().enumerate() {
@@ -37,6 +39,7 @@ fn add_entry(
 ) -> Result<(), SchemaError>
     requires { place ≡ length builder.old }
     ensures added { Gives (λ _. builder.new) (with_entry builder.old (view description.now)) result }
+    ensures early { IfSome (head_fault place (view description.now)) (λ error. result ≡ Err error) }
     ensures one_more { OnOk result (length builder.new ≡ place + 1) }
 {
     let (name, field_type) = entry_of(alloc, place, description)?;
@@ -45,14 +48,15 @@ fn add_entry(
 }
 
 /// The name and the type of the entry that the JSON value describes.
-#[tactic(auto, unfolding(crate::specs::SchemaJsonReading::entry_of))]
+#[tactic(auto, unfolding(crate::specs::SchemaJsonReading::entry_of, crate::specs::SchemaJsonEarly::opened))]
 fn entry_of(
     alloc: Global,
     place: usize,
     description: &Value,
 ) -> Result<(String, FieldType), SchemaError>
-    ensures { Gives (λ found. record { name = string_bytes found.0; field_type = found.1 })
+    ensures found { Gives (λ found. record { name = string_bytes found.0; field_type = found.1 })
         (entry_of place (view description.now)) result }
+    ensures early { IfSome (head_fault place (view description.now)) (λ error. result ≡ Err error) }
 {
     let bad = SchemaError::BadJson { entry: Some(place) };
     let members = description.as_object().ok_or(bad)?;
