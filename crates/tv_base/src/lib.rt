@@ -29,10 +29,3 @@ pub use slice_source::SliceSource;
 pub use source::ByteSource;
 pub use vec_sink::VecSink;
 pub use vint::VInt;
-
-#[cfg(test)]
-mod facet_tests;
-#[cfg(test)]
-mod json_path_tests;
-#[cfg(test)]
-mod tests;

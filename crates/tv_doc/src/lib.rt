@@ -8,8 +8,6 @@ pub mod laws;
 mod lent;
 mod new_leaf;
 mod place;
-#[cfg(test)]
-mod tests;
 pub mod value;
 pub mod value_type;
 mod write;

@@ -34,6 +34,3 @@ pub use textual_options::TextualOptions;
 pub use tokenizer_name::TokenizerName;
 pub use tv_value::date_time::{DATE_TIME_PRECISION_INDEXED, DateTimePrecision};
 pub use types::{TypeIter, TypeTag as Type};
-
-#[cfg(test)]
-mod tests;

@@ -16,10 +16,3 @@ pub use field_iter::FieldIter;
 pub use field_type::FieldType;
 pub use schema::{Schema, SchemaBuilder};
 pub use schema_error::SchemaError;
-
-#[cfg(test)]
-mod json_tests;
-#[cfg(test)]
-mod path_tests;
-#[cfg(test)]
-mod tests;

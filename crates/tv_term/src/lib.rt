@@ -11,8 +11,3 @@ pub use fast_value::FastValue;
 pub use term::Term;
 pub use term_error::TermError;
 pub use value_bytes::{OwnedValueBytes, ValueBytes};
-
-#[cfg(test)]
-mod tests;
-#[cfg(test)]
-mod vector_tests;

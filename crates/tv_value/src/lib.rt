@@ -5,5 +5,3 @@ pub mod date_time;
 pub mod field;
 pub mod laws;
 pub mod plain;
-#[cfg(test)]
-mod tests;

@@ -39,6 +39,11 @@ impl<'a> DripSource<'a> {
     pub fn rest(&self) -> &'a [u8] {
         self.rest
     }
+
+    /// How many reads have failed.
+    pub fn faults(&self) -> u64 {
+        self.faults
+    }
 }
 
 impl<'a> ByteSource for DripSource<'a> {

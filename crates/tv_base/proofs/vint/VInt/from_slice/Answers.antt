@@ -11,7 +11,7 @@ pub returns-in-Ok-clause-found : goal.returns-in-Ok-clause-found
 returns-in-Ok-clause-found c =
     let takes = c.in-Ok.ensures.takes in
     subst (λ bytes. (c.take_vint.new.count ≤ length bytes) × VNum (take c.take_vint.new.count bytes) c.in-Ok.number) c.new-source.ensures
-        (number_found c.new-source.result.rest.now c.take_vint.new.source.rest.now c.in-Ok.number c.take_vint.new.count c.new-source.result.are_bytes (takes.gives tt) (takes.taken tt))
+    (number_found c.new-source.result.rest.now c.take_vint.new.source.rest.now c.in-Ok.number c.take_vint.new.count c.new-source.result.are_bytes (takes.gives tt) (takes.taken tt))
 
 pub returns-in-Ok-clause-only : goal.returns-in-Ok-clause-only
 returns-in-Ok-clause-only c = λ m front tail joined spells.

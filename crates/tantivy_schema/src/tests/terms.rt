@@ -1,10 +1,3 @@
-use crate::laws::{
-    appended_fast_values_compare_as_values, appended_numbers_are_read_back,
-    appended_texts_are_read_back, fast_types_are_of_eight_bytes,
-    fast_values_are_ordered_as_numbers, fast_values_are_read_back, json_paths_are_read_back,
-    signed_terms_compare_as_numbers, terms_compare_as_fields_and_values,
-};
-use crate::{FastValue, Term, TermError, ValueBytes};
 use std::alloc::Global;
 use std::cmp::Ordering;
 use std::hash::{DefaultHasher, Hash, Hasher};
@@ -13,6 +6,13 @@ use std::test::Fail;
 use tv_base::Facet;
 use tv_options::{JsonObjectOptions, Type};
 use tv_schema::{FieldEntry, Schema};
+use tv_term::laws::{
+    appended_fast_values_compare_as_values, appended_numbers_are_read_back,
+    appended_texts_are_read_back, fast_types_are_of_eight_bytes,
+    fast_values_are_ordered_as_numbers, fast_values_are_read_back, json_paths_are_read_back,
+    signed_terms_compare_as_numbers, terms_compare_as_fields_and_values,
+};
+use tv_term::{FastValue, Term, TermError, ValueBytes};
 use tv_value::date_time::DateTime;
 use tv_value::field::Field;
 

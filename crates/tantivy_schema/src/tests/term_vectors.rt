@@ -1,9 +1,9 @@
 //! Terms as the original makes them: in each line a field's number, a value, and the term's bytes in hexadecimal digits.
 
-use crate::Term;
 use std::alloc::Global;
 use std::net::Ipv6Addr;
 use std::test::Fail;
+use tv_term::Term;
 use tv_value::date_time::DateTime;
 use tv_value::field::Field;
 

@@ -1,9 +1,9 @@
 //! What no clause says: the bytes of a heap that were worked out by hand, and that additions succeed.
 
-use crate::add_error::AddError;
-use crate::document::CompactDoc;
-use crate::value_type::ValueType;
 use std::test::Fail;
+use tv_doc::add_error::AddError;
+use tv_doc::document::CompactDoc;
+use tv_doc::value_type::ValueType;
 use tv_value::field::Field;
 
 #[test]

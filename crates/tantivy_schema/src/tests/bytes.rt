@@ -1,64 +1,18 @@
 ghost use Rattle.std.specs.Prelude.{List, length};
-ghost use Rattle.std.specs.Prelude.{Some};
-ghost use Rattle.std.specs.declared.io.ErrorKind.TheVariants.{TimedOut};
-ghost use Rattle.tv_base.specs.Source.{AllBytes};
 
-use crate::take::{
-    take, take_sized, take_string, take_text, take_u8, take_u32, take_u64, take_vint,
-};
-use crate::write::{
-    write_all, write_sized, write_text, write_u8, write_u32, write_u64, write_vint,
-};
-use crate::{
-    BinarySerializable, ByteSink, ByteSource, Cause, Facet, ReadError, SliceSource, VInt, VecSink,
-};
+use crate::tests::sources::DripSource;
 use std::alloc::Global;
 use std::io;
 use std::test::Fail;
-
-// Gives one byte at a time, and then fails at the first of the last `kept` bytes.
-#[derive(Drop)]
-pub(crate) struct DripSource<'a> {
-    rest: &'a [u8],
-    kept: usize,
-    faults: u64,
-    ghost are_bytes: { AllBytes rest.now },
-}
-
-impl<'a> DripSource<'a> {
-    pub(crate) fn new(bytes: &'a [u8]) -> DripSource<'a> {
-        DripSource::failing(bytes, 0)
-    }
-
-    fn failing(bytes: &'a [u8], kept: usize) -> DripSource<'a> {
-        DripSource {
-            rest: bytes,
-            kept,
-            faults: 0,
-        }
-    }
-}
-
-impl<'a> ByteSource for DripSource<'a> {
-    ghost tells = { λ _. Unit {0} };
-
-    ghost left = { λ s. s.rest.now };
-
-    ghost faults = { λ s. record { number = s.faults; last = Some TimedOut } };
-
-    fn read(&mut self, buf: &mut [u8]) -> Result<usize, io::ErrorKind> {
-        if self.kept > 0 && self.rest.len() <= self.kept {
-            self.faults = self.faults.saturating_add(1);
-            return Err(io::ErrorKind::TimedOut);
-        }
-        let count = self.rest.len().min(buf.len()).min(1);
-        buf[..count].copy_from_slice(&self.rest[..count]);
-        self.rest = &self.rest[count..];
-        Ok(count)
-    }
-
-    ghost are_bytes = { λ s told. s.are_bytes };
-}
+use tv_base::take::{
+    take, take_sized, take_string, take_text, take_u8, take_u32, take_u64, take_vint,
+};
+use tv_base::write::{
+    write_all, write_sized, write_text, write_u8, write_u32, write_u64, write_vint,
+};
+use tv_base::{
+    BinarySerializable, ByteSink, ByteSource, Cause, Facet, ReadError, SliceSource, VInt, VecSink,
+};
 
 // Takes one byte at a time, and fails where it has no room left.
 #[derive(Drop)]
@@ -72,7 +26,7 @@ struct SmallSink {
 impl ByteSink for SmallSink {
     ghost tells = { λ _. Unit {0} };
 
-    ghost held = { λ s. s.held.bytes.items };
+    ghost held = { λ s. ⟦<VecSink as ByteSink>⟧.held s.held };
 
     ghost faults = { λ s. record { number = s.faults; last = s.last } };
 
@@ -110,7 +64,7 @@ fn number(bytes: &[u8]) -> Result<u64, ReadError> {
     let at_once = take_vint(&mut whole, &mut count);
     let mut count = 0;
     let in_drips = take_vint(&mut dripping, &mut count);
-    if at_once != in_drips || whole.rest() != dripping.rest {
+    if at_once != in_drips || whole.rest() != dripping.rest() {
         return Err(ReadError::Io(io::ErrorKind::Other));
     }
     at_once
@@ -217,7 +171,7 @@ fn faulty_texts(rt: HostRuntime) -> Result<(), Fail> {
         take_text(alloc, &mut wrong, &mut count, &mut text),
         Err(ReadError::Corrupted(Cause::NotUtf8))
     );
-    let mut failing = DripSource::failing(&CHILL_FISH, 4);
+    let mut failing = DripSource::failing(&CHILL_FISH, 4, io::ErrorKind::TimedOut);
     let mut count = 0;
     assert_eq!(rt;
         take_text(alloc, &mut failing, &mut count, &mut text),
@@ -225,7 +179,7 @@ fn faulty_texts(rt: HostRuntime) -> Result<(), Fail> {
     );
     assert_eq!(rt; count, 8);
     assert_eq!(rt; text.as_str(), "");
-    assert_eq!(rt; failing.faults, 1);
+    assert_eq!(rt; failing.faults(), 1);
     Ok(())
 }
 

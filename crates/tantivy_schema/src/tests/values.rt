@@ -1,11 +1,11 @@
-use crate::date_time::{DateTime, DateTimePrecision};
-use crate::plain::documents::read_document;
-use crate::plain::refusal::PlainRefusal;
-use crate::plain::value::{PlainToken, PlainValue, PlainVersion};
-use crate::plain::values::read_value;
 use std::alloc::Global;
 use std::test::Fail;
 use tv_base::cause::Cause;
+use tv_value::date_time::{DateTime, DateTimePrecision};
+use tv_value::plain::documents::read_document;
+use tv_value::plain::refusal::PlainRefusal;
+use tv_value::plain::value::{PlainToken, PlainValue, PlainVersion};
+use tv_value::plain::values::read_value;
 
 // The value of the one pair of a document of version 2, in field 0, whose spelling is this. Where the document has another form,
 // or bytes are left, empty bytes, which no test expects.

@@ -1,13 +1,13 @@
-use crate::field_entry::{FieldEntry, is_valid_field_name};
-use crate::field_type::FieldType;
-use crate::schema::{Schema, SchemaBuilder};
-use crate::schema_error::SchemaError;
 use std::alloc::Global;
 use std::test::Fail;
 use tv_options::{
     BytesOptions, DateOptions, FAST, FacetOptions, INDEXED, IndexRecordOption, IpAddrOptions,
     JsonObjectOptions, NumericOptions, STORED, STRING, TEXT, TextOptions, Type,
 };
+use tv_schema::field_entry::{FieldEntry, is_valid_field_name};
+use tv_schema::field_type::FieldType;
+use tv_schema::schema::{Schema, SchemaBuilder};
+use tv_schema::schema_error::SchemaError;
 
 fn name_of(alloc: Global) -> Result<String, SchemaError> {
     Ok(String::from_str(alloc, "field")?)

@@ -1,6 +1,6 @@
-use crate::{join_json_path, joined_json_path, split_json_path};
 use std::alloc::Global;
 use std::test::Fail;
+use tv_base::{join_json_path, joined_json_path, split_json_path};
 
 // In each line a path, and then its segments.
 const SPLIT: &str = "\t\n\

@@ -1,19 +1,21 @@
 ghost use Rattle.std.specs.Prelude.{◌≡◌, ◌↔◌, IsTrue};
 
-use crate::bytes_options::BytesOptions;
-use crate::date_time_options::DateOptions;
-use crate::facet_options::FacetOptions;
-use crate::flags::{COERCE, FAST, INDEXED, STORED};
-use crate::index_record_option::IndexRecordOption;
-use crate::ip_options::IpAddrOptions;
-use crate::json_object_options::JsonObjectOptions;
-use crate::laws::{comparisons_of_flag_options_agree, comparisons_of_textual_options_agree};
-use crate::numeric_options::NumericOptions;
-use crate::own_part::Coercion;
-use crate::text_options::{FastFieldTextOptions, STRING, TEXT, TextFieldIndexing, TextOptions};
-use crate::tokenizer_name::TokenizerName;
-use crate::types::TypeTag;
 use std::test::Fail;
+use tv_options::Coercion;
+use tv_options::bytes_options::BytesOptions;
+use tv_options::date_time_options::DateOptions;
+use tv_options::facet_options::FacetOptions;
+use tv_options::flags::{COERCE, FAST, INDEXED, STORED};
+use tv_options::index_record_option::IndexRecordOption;
+use tv_options::ip_options::IpAddrOptions;
+use tv_options::json_object_options::JsonObjectOptions;
+use tv_options::laws::{comparisons_of_flag_options_agree, comparisons_of_textual_options_agree};
+use tv_options::numeric_options::NumericOptions;
+use tv_options::text_options::{
+    FastFieldTextOptions, STRING, TEXT, TextFieldIndexing, TextOptions,
+};
+use tv_options::tokenizer_name::TokenizerName;
+use tv_options::types::TypeTag;
 use tv_value::date_time::{DATE_TIME_PRECISION_INDEXED, DateTimePrecision};
 
 // The tokenizer's name and what is kept of terms, where texts are indexed.

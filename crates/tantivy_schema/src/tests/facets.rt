@@ -1,8 +1,8 @@
-use crate::tests::DripSource;
-use crate::{BinarySerializable, Cause, Facet, FacetParseError, ReadError, SliceSource, VecSink};
+use crate::tests::sources::DripSource;
 use std::alloc::Global;
 use std::hash::{DefaultHasher, Hash, Hasher};
 use std::test::Fail;
+use tv_base::{BinarySerializable, Cause, Facet, FacetParseError, ReadError, SliceSource, VecSink};
 
 // In each line a text, the encoded text of the facet that it names, and what is printed for that.
 const READ: &str = "/\t\t/\n\

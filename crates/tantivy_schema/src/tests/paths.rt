@@ -1,8 +1,8 @@
-use crate::schema::{Schema, SchemaBuilder};
-use crate::schema_error::SchemaError;
 use std::alloc::Global;
 use std::test::Fail;
 use tv_options::{JsonObjectOptions, STRING, TextOptions};
+use tv_schema::schema::{Schema, SchemaBuilder};
+use tv_schema::schema_error::SchemaError;
 use tv_value::field::Field;
 
 const NAMES: [&str; 10] = [
