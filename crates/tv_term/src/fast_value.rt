@@ -1,6 +1,6 @@
 //! Values of eight bytes.
 
-ghost use Rattle.std.specs.Prelude.{ℕ, ℤ, ◌≡◌, ◌<◌, ◌^◌, refl};
+ghost use Rattle.std.specs.Prelude.{ℕ, ◌≡◌, ◌<◌, ◌^◌, refl};
 ghost use Rattle.std.specs.Ordering.{nat_cmp};
 ghost use Rattle.tv_options.specs.declared.types.TypeTag.{TypeTag};
 ghost use Rattle.tv_options.specs.declared.types.TypeTag.TheVariants as tag;

@@ -1,13 +1,12 @@
 //! Terms.
 
 ghost use Rattle.std.specs.Prelude.{◌≡◌, ◌<◌, ◌≤◌, ◌+◌, ◌^◌, ◌++◌, ◌∷◌, ◌↔◌, [], length, take, drop, IfOk, IfErr, MatchResult, OnOk, OnErr, IsTrue, slice_get, slice_index, option_map, string_bytes, Some};
-ghost use Rattle.std.specs.Int.{to_be_bytes, w32, w64};
+ghost use Rattle.std.specs.Int.{to_be_bytes, w32};
 ghost use Rattle.std.specs.Net.Addr.{ipv6_bits};
 ghost use Rattle.std.specs.Option.{option_copied};
 ghost use Rattle.tv_base.specs.JsonPath.{joined_path};
 ghost use Rattle.tv_options.specs.Types.{code, type_of_code};
 ghost use Rattle.tv_schema.specs.Entry.{Entry};
-ghost use Rattle.tv_options.specs.declared.types.TypeTag.TheVariants as tag;
 ghost use Rattle.tv_value.specs.DateTime.{truncated};
 ghost use Rattle.tv_value.specs.declared.date_time.DateTimePrecision.TheVariants.{Seconds};
 ghost use Rattle.tv_term.specs.Key.{IsTerm, IsJsonTerm, Appends, Text, Unsigned, Signed, Truth, Date, Facet as FacetValue, Bytes, Address};

@@ -6,6 +6,7 @@ use tv_options::{
 };
 use tv_schema::field_entry::{FieldEntry, is_valid_field_name};
 use tv_schema::field_type::FieldType;
+use tv_schema::laws::record_options_agree;
 use tv_schema::schema::{Schema, SchemaBuilder};
 use tv_schema::schema_error::SchemaError;
 
@@ -72,6 +73,8 @@ fn each_entry_answers_for_its_type(rt: HostRuntime) -> Result<(), Fail> {
             entry.field_type().index_record_option(),
         );
         assert_eq!(rt; found, *wanted);
+        let both = record_options_agree(entry.field_type());
+        assert_eq!(rt; both, (wanted.5, wanted.5));
         assert_eq!(rt; entry.name(), "field");
         assert_eq!(rt; entry.field_type().value_type(), value_type);
         assert_eq!(rt; entry.field_type().is_str(), value_type == Type::Str);
@@ -140,11 +143,12 @@ fn names_are_taken_once(rt: HostRuntime) -> Result<(), Fail> {
     for (answer, error) in refused {
         assert_eq!(rt; answer, Err(error));
     }
+    assert!(rt; !format!(in rt.alloc(); "{builder:?}")?.is_empty());
     let schema = builder.build()?;
     assert_eq!(rt; schema.num_fields(), 1);
     assert_eq!(rt; field.field_id(), 0);
     assert_eq!(rt; schema.get_field("a"), Ok(field));
-    assert!(rt; schema.clone()? == schema);
+    assert_eq!(rt; schema.clone()?, schema);
     assert!(rt; Schema::builder(rt.alloc()).build()? != schema);
     Ok(())
 }
