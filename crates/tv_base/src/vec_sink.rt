@@ -1,13 +1,27 @@
 //! A sink in memory.
 
-ghost use Rattle.std.specs.Prelude.{◌≡◌, [], length, IfOk, IfErr, None};
+ghost use Rattle.std.specs.Prelude.{◌≡◌, [], ◌++◌, length, IfOk, IfErr, OnOk, OnErr, None};
 ghost use Rattle.std.specs.declared.io.ErrorKind.TheVariants.{OutOfMemory};
 ghost use Rattle.tv_base.specs.Source.{CountsFault};
 ghost use Rattle.tv_base.specs.Sink.{AppendsSome};
 
 use crate::sink::ByteSink;
-use std::alloc::Global;
+use std::alloc::{AllocError, Global};
 use std::io;
+
+/// The first write makes room for so many bytes: enough for a short document.
+const FIRST_ROOM: usize = 256;
+
+// Puts the bytes behind those that are there.
+fn append(bytes: &mut Vec<u8>, buf: &[u8]) -> Result<(), AllocError>
+    ensures ok { OnOk result (bytes.new.items ≡ bytes.old.items ++ buf.now) }
+    ensures err { OnErr result (bytes.new.items ≡ bytes.old.items) }
+{
+    if bytes.is_empty() {
+        bytes.reserve(FIRST_ROOM)?;
+    }
+    bytes.extend_from_slice(buf)
+}
 
 /// Keeps the bytes that are written, in memory. A refused growth is a fault of kind `OutOfMemory`.
 #[derive(Drop)]
@@ -64,7 +78,7 @@ impl ByteSink for VecSink {
         ensures faults { CountsFault result (⟦<VecSink as ByteSink>⟧.faults self.old) (⟦<VecSink as ByteSink>⟧.faults self.new) }
         ensures kind { IfErr result (λ kind. kind ≡ OutOfMemory) }
     {
-        match self.bytes.extend_from_slice(buf) {
+        match append(&mut self.bytes, buf) {
             Ok(()) => Ok(buf.len()),
             Err(_) => {
                 self.faults = self.faults.saturating_add(1);
