@@ -2,13 +2,11 @@
 
 ghost use Rattle.std.specs.Prelude.{◌≡◌, true};
 
+pub use crate::flag_options::BytesOptions;
 use crate::flag_options::FlagOptions;
 use crate::own_part::OfBytes;
 
-/// How a field of bytes is kept. By default no flag is set.
-pub type BytesOptions = FlagOptions<OfBytes>;
-
-impl FlagOptions<OfBytes> {
+impl BytesOptions {
     /// Options of these parts (own).
     pub fn from_parts(indexed: bool, fieldnorms: bool, fast: bool, stored: bool) -> BytesOptions
         ensures { result ≡ record {

@@ -2,15 +2,11 @@
 
 ghost use Rattle.std.specs.Prelude.{◌≡◌, ◌&&◌, true};
 
+pub use crate::flag_options::DateOptions;
 use crate::flag_options::FlagOptions;
 use tv_value::date_time::DateTimePrecision;
 
-/// How a field of dates is kept. By default no flag is set and the precision is seconds.
-///
-/// Options that are joined have the precision of the left ones; that of a flag is seconds.
-pub type DateOptions = FlagOptions<DateTimePrecision>;
-
-impl FlagOptions<DateTimePrecision> {
+impl DateOptions {
     /// Options of these parts (own).
     pub fn from_parts(
         indexed: bool,

@@ -5,8 +5,9 @@ ghost use Rattle.tv_options.specs.declared.flag_options.FlagOptions.{FlagOptions
 ghost use Rattle.tv_options.specs.FlagOptions.{join, none, only_stored, only_indexed, only_fast};
 
 use crate::flags::{FastFlag, IndexedFlag, SchemaFlagList, StoredFlag};
-use crate::own_part::OwnPart;
+use crate::own_part::{Coercion, OfBytes, OfIpAddrs, OwnPart};
 use std::ops::BitOr;
+use tv_value::date_time::DateTimePrecision;
 
 /// How the values of a field are kept: four flags, and the part that is the type's own. By default no flag is set.
 ///
@@ -20,6 +21,20 @@ pub struct FlagOptions<Part> {
     pub(crate) stored: bool,
     pub(crate) part: Part,
 }
+
+/// How a field of numbers of 64 bits or booleans is kept. By default no flag is set.
+pub type NumericOptions = FlagOptions<Coercion>;
+
+/// How a field of dates is kept. By default no flag is set and the precision is seconds.
+///
+/// Options that are joined have the precision of the left ones; that of a flag is seconds.
+pub type DateOptions = FlagOptions<DateTimePrecision>;
+
+/// How a field of bytes is kept. By default no flag is set.
+pub type BytesOptions = FlagOptions<OfBytes>;
+
+/// How a field of IP addresses is kept. By default no flag is set.
+pub type IpAddrOptions = FlagOptions<OfIpAddrs>;
 
 impl<Part: OwnPart> FlagOptions<Part> {
     /// Whether the values are kept in the document store.

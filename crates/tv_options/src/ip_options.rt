@@ -3,12 +3,10 @@
 ghost use Rattle.std.specs.Prelude.{◌≡◌, true};
 
 use crate::flag_options::FlagOptions;
+pub use crate::flag_options::IpAddrOptions;
 use crate::own_part::OfIpAddrs;
 
-/// How a field of IP addresses is kept. By default no flag is set.
-pub type IpAddrOptions = FlagOptions<OfIpAddrs>;
-
-impl FlagOptions<OfIpAddrs> {
+impl IpAddrOptions {
     /// Options of these parts (own).
     pub fn from_parts(indexed: bool, fieldnorms: bool, fast: bool, stored: bool) -> IpAddrOptions
         ensures { result ≡ record {

@@ -6,12 +6,10 @@ ghost use Rattle.tv_options.specs.JsonObjectOptions.{of_text};
 
 use crate::own_part::DotExpansion;
 use crate::text_options::{FastFieldTextOptions, TextFieldIndexing, TextOptions};
+pub use crate::textual_options::JsonObjectOptions;
 use crate::textual_options::TextualOptions;
 
-/// How a field of JSON objects is kept. By default nothing of them is indexed, no flag is set and there is no fast field.
-pub type JsonObjectOptions = TextualOptions<DotExpansion>;
-
-impl TextualOptions<DotExpansion> {
+impl JsonObjectOptions {
     /// Options of these parts (own).
     pub fn from_parts(
         stored: bool,
@@ -67,7 +65,7 @@ impl TextualOptions<DotExpansion> {
     }
 }
 
-impl From<TextOptions> for TextualOptions<DotExpansion> {
+impl From<TextOptions> for JsonObjectOptions {
     ghost from_gives = { λ text options. options ≡ of_text text };
 
     /// Stored, indexed and fast as the texts are, with dots in keys as they stand.

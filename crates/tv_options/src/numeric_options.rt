@@ -4,13 +4,11 @@ ghost use Rattle.std.specs.Prelude.{◌≡◌, ◌&&◌, true};
 ghost use Rattle.tv_options.specs.NumericOptions.{only_coerce};
 
 use crate::flag_options::FlagOptions;
+pub use crate::flag_options::NumericOptions;
 use crate::flags::CoerceFlag;
 use crate::own_part::Coercion;
 
-/// How a field of numbers of 64 bits or booleans is kept. By default no flag is set.
-pub type NumericOptions = FlagOptions<Coercion>;
-
-impl FlagOptions<Coercion> {
+impl NumericOptions {
     /// Options of these parts (own).
     pub fn from_parts(
         indexed: bool,
@@ -68,7 +66,7 @@ impl FlagOptions<Coercion> {
     }
 }
 
-impl From<CoerceFlag> for FlagOptions<Coercion> {
+impl From<CoerceFlag> for NumericOptions {
     ghost from_gives = { λ _ options. options ≡ only_coerce };
 
     /// Coercion alone.

@@ -10,6 +10,7 @@ ghost use Rattle.tv_options.specs.TextOptions.{only_coerce};
 use crate::flags::CoerceFlag;
 use crate::index_record_option::IndexRecordOption;
 use crate::own_part::Coercion;
+pub use crate::textual_options::TextOptions;
 use crate::textual_options::TextualOptions;
 use crate::tokenizer_name::TokenizerName;
 use std::alloc::{AllocError, Global};
@@ -200,10 +201,7 @@ impl TextFieldIndexing {
     }
 }
 
-/// How a field of texts is kept. By default texts aren't indexed, no flag is set and there is no fast field.
-pub type TextOptions = TextualOptions<Coercion>;
-
-impl TextualOptions<Coercion> {
+impl TextOptions {
     /// Options of these parts (own).
     pub fn from_parts(
         indexing: Option<TextFieldIndexing>,
@@ -278,7 +276,7 @@ pub const TEXT: TextOptions = TextualOptions {
     part: Coercion { coerce: false },
 };
 
-impl From<CoerceFlag> for TextualOptions<Coercion> {
+impl From<CoerceFlag> for TextOptions {
     ghost from_gives = { λ _ options. options ≡ only_coerce };
 
     /// Coercion alone.

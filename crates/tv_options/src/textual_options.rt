@@ -7,7 +7,7 @@ ghost use Rattle.tv_options.specs.FastFieldTextOptions.{is_fast_field, tokenizer
 ghost use Rattle.tv_options.specs.TextualOptions.{none, only_stored, only_fast, join};
 
 use crate::flags::{FastFlag, SchemaFlagList, StoredFlag};
-use crate::own_part::OwnPart;
+use crate::own_part::{Coercion, DotExpansion, OwnPart};
 use crate::text_options::{FastFieldTextOptions, TextFieldIndexing};
 use std::alloc::{AllocError, Global};
 use std::ops::BitOr;
@@ -38,6 +38,12 @@ impl<Part: OwnPart> Default for TextualOptions<Part> {
         }
     }
 }
+
+/// How a field of texts is kept. By default texts aren't indexed, no flag is set and there is no fast field.
+pub type TextOptions = TextualOptions<Coercion>;
+
+/// How a field of JSON objects is kept. By default nothing of them is indexed, no flag is set and there is no fast field.
+pub type JsonObjectOptions = TextualOptions<DotExpansion>;
 
 impl<Part: OwnPart> TextualOptions<Part> {
     /// Whether the values are kept in the document store.
