@@ -30,18 +30,23 @@ pub fn fast_types_are_of_eight_bytes<T: FastValue>() -> Type
     T::to_type()
 }
 
-/// The number of a fast value gives the value back.
-pub fn fast_values_are_read_back<T: FastValue>(value: T) -> T
-    ensures { result ≡ value }
+/// The number of a fast value, and the value of that number, which is the same.
+pub fn fast_values_are_read_back<T: FastValue>(value: T) -> (u64, T)
+    ensures number { result.0 ≡ T.as_number value }
+    ensures back { result.1 ≡ T.of_number result.0 }
+    ensures same { result.1 ≡ value }
 {
-    T::from_u64(value.to_u64())
+    let number = value.to_u64();
+    (number, T::from_u64(number))
 }
 
-/// Fast values are ordered as their numbers.
-pub fn fast_values_are_ordered_as_numbers<T: FastValue>(one: T, other: T) -> Ordering
-    ensures { result ≡ T.cmp one other }
+/// The order of two fast values, and that of their numbers, which is the same.
+pub fn fast_values_are_ordered_as_numbers<T: FastValue>(one: T, other: T) -> (Ordering, Ordering)
+    ensures values { result.0 ≡ T.cmp one other }
+    ensures numbers { result.1 ≡ nat_cmp (T.as_number one) (T.as_number other) }
+    ensures same { result.0 ≡ result.1 }
 {
-    one.to_u64().cmp(&other.to_u64())
+    (one.cmp(&other), one.to_u64().cmp(&other.to_u64()))
 }
 
 /// Any two terms that the typed constructors made, and terms of JSON paths without U+0000 with one appended value each, are

@@ -222,14 +222,15 @@ fn order(rt: HostRuntime) -> Result<(), Fail> {
 fn fast_values(rt: HostRuntime) -> Result<(), Fail> {
     let early = DateTime::from_timestamp_nanos(i64::MIN);
     let late = DateTime::from_timestamp_nanos(-1);
-    assert_eq!(rt; fast_values_are_read_back(early), early);
+    assert_eq!(rt; fast_values_are_read_back(early), (0, early));
+    assert_eq!(rt; fast_values_are_read_back(late), ((1 << 63) - 1, late));
     assert_eq!(rt;
         fast_values_are_ordered_as_numbers(early, late),
-        Ordering::Less
+        (Ordering::Less, Ordering::Less)
     );
     assert_eq!(rt;
         fast_values_are_ordered_as_numbers(true, false),
-        Ordering::Greater
+        (Ordering::Greater, Ordering::Greater)
     );
     assert_eq!(rt; fast_types_are_of_eight_bytes::<bool>(), Type::Bool);
     let order = appended_fast_values_compare_as_values(
