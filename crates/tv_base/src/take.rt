@@ -22,6 +22,7 @@ use std::mem;
 /// Fills `buf` with the next bytes, in as many reads as it takes.
 ///
 /// Errors: `Corrupted(UnexpectedEnd)` where the source ends before, `Corrupted(TooLong)`, and `Io` where a read fails.
+/// What `buf` then holds is open.
 pub fn take<S: ByteSource>(source: &mut S, count: &mut u64, buf: &mut [u8]) -> Result<(), ReadError>
     ensures takes { TakesBy S.tells S.left S.faults source.old count.old source.new count.new (λ _. buf.new) result (bytes_at (length buf.old)) }
     ensures causes { (cause : Cause) → IsErrOf result (Corrupted cause) → (cause ≡ UnexpectedEnd) ⊎ (cause ≡ TooLong) }
