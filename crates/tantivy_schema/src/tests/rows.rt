@@ -1,6 +1,6 @@
 //! Worked examples, with their bytes.
 
-use crate::common::{Cause, SliceSource, VecSink};
+use crate::common::{Cause, ReadError, SliceSource, VecSink};
 use crate::laws::{stored_pairs_are_read_back, written_documents_are_shortest};
 use crate::schema::document::{AddError, BinaryDocumentSerializer, DeserializeError};
 use crate::schema::{
@@ -11,6 +11,7 @@ use crate::tests::sources::DripSource;
 use std::alloc::Global;
 use std::io;
 use std::test::Fail;
+use tv_base::take::take_text;
 
 /// A document of the text `ChillFish8` in field 0 and the number 20 in field 1.
 const TWO_PAIRS: [u8; 30] = [
@@ -206,6 +207,20 @@ fn a_failed_read_is_told_with_its_kind(rt: HostRuntime) {
             assert_eq!(rt; answer.err(), Some(DeserializeError::Io(kind)));
         }
     }
+}
+
+#[test]
+fn a_text_that_cannot_be_read_leaves_none(rt: HostRuntime) {
+    let mut source = DripSource::failing(b"\x8aChillFish8", 3, io::ErrorKind::TimedOut);
+    let mut text = String::new(rt.alloc());
+    let mut count = 0;
+    assert_eq!(rt;
+        take_text(rt.alloc(), &mut source, &mut count, &mut text),
+        Err(ReadError::Io(io::ErrorKind::TimedOut))
+    );
+    assert_eq!(rt; count, 8);
+    assert_eq!(rt; text.as_str(), "");
+    assert_eq!(rt; source.faults(), 1);
 }
 
 #[test]

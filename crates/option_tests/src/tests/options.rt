@@ -1,5 +1,6 @@
 ghost use Rattle.std.specs.Prelude.{◌≡◌, ◌↔◌, IsTrue};
 
+use std::alloc::Global;
 use std::test::Fail;
 use tv_options::Coercion;
 use tv_options::bytes_options::BytesOptions;
@@ -205,32 +206,49 @@ fn types_by_code(rt: HostRuntime) -> Result<(), Fail> {
 }
 
 #[test]
-fn copies_are_equal(rt: HostRuntime) -> Result<(), Fail> {
+fn names_of_tokenizers(rt: HostRuntime) -> Result<(), Fail> {
     let name = TokenizerName::from_name(rt.alloc(), "stem")?;
     assert_eq!(rt; name.name(), "stem");
     assert!(rt; name.try_clone(rt.alloc())? == name);
     assert!(rt; name != TokenizerName::default());
     assert_eq!(rt; TokenizerName::default().name(), "default");
-    let indexing = TextFieldIndexing::default()
-        .set_tokenizer(rt.alloc(), "stem")?
-        .set_index_option(IndexRecordOption::WithFreqs)
-        .set_fieldnorms(false);
-    assert_eq!(rt; indexing.tokenizer(), "stem");
-    assert!(rt; indexing.try_clone(rt.alloc())? == indexing);
-    let text = TextOptions::default()
-        .set_indexing_options(indexing.try_clone(rt.alloc())?)
-        .set_fast(rt.alloc(), Some("fold"))?;
-    assert!(rt; text.try_clone(rt.alloc())? == text);
-    assert!(rt; text.try_clone(rt.alloc())? != TextOptions::default());
-    let json = JsonObjectOptions::default()
-        .set_indexing_options(indexing)
-        .set_expand_dots_enabled()
-        .set_fast(rt.alloc(), Some("fold"))?;
-    assert_eq!(rt; json.get_fast_field_tokenizer_name(), Some("fold"));
-    assert!(rt; json.try_clone(rt.alloc())? == json);
     let fast = FastFieldTextOptions::EnabledWithTokenizer {
         with_tokenizer: name,
     };
     assert!(rt; fast.try_clone(rt.alloc())? == fast);
+    Ok(())
+}
+
+// How texts are indexed, otherwise than by default.
+fn indexing(alloc: Global) -> Result<TextFieldIndexing, Fail> {
+    let indexing = TextFieldIndexing::default().set_tokenizer(alloc, "stem")?;
+    Ok(
+        indexing
+            .set_index_option(IndexRecordOption::WithFreqs)
+            .set_fieldnorms(false),
+    )
+}
+
+#[test]
+fn copies_of_text_options_are_equal(rt: HostRuntime) -> Result<(), Fail> {
+    let indexing = indexing(rt.alloc())?;
+    assert_eq!(rt; indexing.tokenizer(), "stem");
+    assert!(rt; indexing.try_clone(rt.alloc())? == indexing);
+    let text = TextOptions::default()
+        .set_indexing_options(indexing)
+        .set_fast(rt.alloc(), Some("fold"))?;
+    assert!(rt; text.try_clone(rt.alloc())? == text);
+    assert!(rt; text != TextOptions::default());
+    Ok(())
+}
+
+#[test]
+fn copies_of_json_options_are_equal(rt: HostRuntime) -> Result<(), Fail> {
+    let json = JsonObjectOptions::default()
+        .set_indexing_options(indexing(rt.alloc())?)
+        .set_expand_dots_enabled()
+        .set_fast(rt.alloc(), Some("fold"))?;
+    assert_eq!(rt; json.get_fast_field_tokenizer_name(), Some("fold"));
+    assert!(rt; json.try_clone(rt.alloc())? == json);
     Ok(())
 }

@@ -1,4 +1,3 @@
-use crate::tests::sources::DripSource;
 use std::alloc::Global;
 use std::hash::{DefaultHasher, Hash, Hasher};
 use std::test::Fail;
@@ -68,18 +67,15 @@ fn read(alloc: Global, text: &str) -> Result<Facet, Fail> {
 fn is_so(alloc: Global, facet: &Facet, encoded: &str, printed: &str) -> Result<bool, Fail> {
     let mut sink = VecSink::new(alloc);
     facet.serialize(&mut sink).ok().ok_or("written")?;
-    let mut source = DripSource::new(sink.as_slice());
-    let in_drips = Facet::deserialize(alloc, &mut source).ok().ok_or("read")?;
     let mut source = SliceSource::new(sink.as_slice());
-    let at_once = Facet::deserialize(alloc, &mut source).ok().ok_or("read")?;
+    let back = Facet::deserialize(alloc, &mut source).ok().ok_or("read")?;
     let again = read(alloc, printed)?;
     Ok(
         facet.encoded_str() == encoded
             && facet.to_path_string(alloc)?.as_str() == printed
             && format!(in alloc; "{facet}")?.as_str() == printed
             && again == *facet
-            && in_drips == *facet
-            && at_once == *facet,
+            && back == *facet,
     )
 }
 
@@ -125,13 +121,16 @@ fn the_root(rt: HostRuntime) -> Result<(), Fail> {
     let alloc = rt.alloc();
     let root = Facet::root(alloc);
     assert!(rt; root.is_root());
-    assert!(rt; is_so(alloc, &root, "", "/")?);
-    assert_eq!(rt; root, read(alloc, "/")?);
-    assert_eq!(rt; root, Facet::from_path(alloc, &[])?);
-    assert_eq!(rt; root, Facet::from_path(alloc, &[""])?);
-    let parts = root.to_path(alloc)?;
-    assert_eq!(rt; parts.as_slice(), [""].as_slice());
     assert!(rt; !read(alloc, "//")?.is_root());
+    assert!(rt; is_so(alloc, &root, "", "/")?);
+    assert!(rt; are_steps(alloc, &[""], "/")?);
+    Ok(())
+}
+
+#[test]
+fn no_steps_make_the_root(rt: HostRuntime) -> Result<(), Fail> {
+    let root = Facet::from_path(rt.alloc(), &[])?;
+    assert_eq!(rt; root, read(rt.alloc(), "/")?);
     Ok(())
 }
 
@@ -151,35 +150,43 @@ fn are_steps(alloc: Global, steps: &[&str], printed: &str) -> Result<bool, Fail>
     )
 }
 
+// Steps, and what is printed for the facet of these.
+const STEPS: [(&[&str], &str); 7] = [
+    (&["a", "", "b"], "/a//b"),
+    (&["first", "sec/ond", "third"], "/first/sec\\/ond/third"),
+    (
+        &["second", "third\\/not_fourth"],
+        "/second/third\\\\\\/not_fourth",
+    ),
+    (&["a\\b", "c/d"], "/a\\\\b/c\\/d"),
+    (&["a/b"], "/a\\/b"),
+    (&["", ""], "//"),
+    (&["foo", "☺"], "/foo/☺"),
+];
+
 #[test]
 fn steps(rt: HostRuntime) -> Result<(), Fail> {
     let alloc = rt.alloc();
-    assert!(rt; are_steps(alloc, &["a", "", "b"], "/a//b")?);
-    assert!(rt;
-        are_steps(
-            alloc,
-            &["first", "sec/ond", "third"],
-            "/first/sec\\/ond/third"
-        )?
-    );
-    assert!(rt;
-        are_steps(
-            alloc,
-            &["second", "third\\/not_fourth"],
-            "/second/third\\\\\\/not_fourth"
-        )?
-    );
-    assert!(rt; are_steps(alloc, &["a\\b", "c/d"], "/a\\\\b/c\\/d")?);
-    assert!(rt; are_steps(alloc, &["a/b"], "/a\\/b")?);
-    assert!(rt; are_steps(alloc, &["", ""], "//")?);
-    assert!(rt; are_steps(alloc, &["foo", "☺"], "/foo/☺")?);
+    for (steps, printed) in STEPS {
+        assert!(rt; are_steps(alloc, steps, printed)?);
+    }
+    Ok(())
+}
+
+#[test]
+fn a_zero_parts_two_steps(rt: HostRuntime) -> Result<(), Fail> {
+    let alloc = rt.alloc();
     let facet = read(alloc, "/a\0b")?;
     assert_eq!(rt; facet, Facet::from_path(alloc, &["a", "b"])?);
     assert!(rt; is_so(alloc, &facet, "a\0b", "/a/b")?);
-    assert_eq!(rt; read(alloc, "/a\\")?, Facet::from_path(alloc, &["a"])?);
-    let facet = read(alloc, "/first/second")?;
-    let debug_text = format!(in alloc; "{facet:?}")?;
-    assert_eq!(rt; debug_text.as_str(), "Facet(/first/second)");
+    Ok(())
+}
+
+#[test]
+fn what_is_printed_for_debugging(rt: HostRuntime) -> Result<(), Fail> {
+    let facet = read(rt.alloc(), "/first/second")?;
+    let text = format!(in rt.alloc(); "{facet:?}")?;
+    assert_eq!(rt; text.as_str(), "Facet(/first/second)");
     Ok(())
 }
 
@@ -239,12 +246,12 @@ fn order(rt: HostRuntime) -> Result<(), Fail> {
 #[test]
 fn faulty_facets(rt: HostRuntime) -> Result<(), Fail> {
     let alloc = rt.alloc();
-    let mut source = DripSource::new(&[0x82, b'a']);
+    let mut source = SliceSource::new(&[0x82, b'a']);
     assert_eq!(rt;
         Facet::deserialize(alloc, &mut source),
         Err(ReadError::Corrupted(Cause::UnexpectedEnd))
     );
-    let mut source = DripSource::new(&[0x81, 0xff]);
+    let mut source = SliceSource::new(&[0x81, 0xff]);
     assert_eq!(rt;
         Facet::deserialize(alloc, &mut source),
         Err(ReadError::Corrupted(Cause::NotUtf8))

@@ -9,24 +9,42 @@ use tv_schema::field_type::FieldType;
 use tv_schema::laws::record_options_agree;
 use tv_schema::schema::{Schema, SchemaBuilder};
 use tv_schema::schema_error::SchemaError;
+use tv_value::field::Field;
 
 fn name_of(alloc: Global) -> Result<String, SchemaError> {
     Ok(String::from_str(alloc, "field")?)
 }
 
-fn entries(alloc: Global) -> Result<Vec<FieldEntry>, Fail> {
+fn push_text_and_numbers(alloc: Global, entries: &mut Vec<FieldEntry>) -> Result<(), Fail> {
     let numbers = NumericOptions::default().set_stored();
-    let mut entries = Vec::new(alloc);
     entries.push(FieldEntry::new_text(name_of(alloc)?, TEXT | STORED)?)?;
     entries.push(FieldEntry::new_u64(name_of(alloc)?, numbers | INDEXED)?)?;
     entries.push(FieldEntry::new_i64(name_of(alloc)?, numbers | FAST)?)?;
+    Ok(())
+}
+
+fn push_truth_date_and_facet(alloc: Global, entries: &mut Vec<FieldEntry>) -> Result<(), Fail> {
+    let numbers = NumericOptions::default().set_stored();
     entries.push(FieldEntry::new_bool(name_of(alloc)?, numbers)?)?;
     entries.push(FieldEntry::new_date(name_of(alloc)?, DateOptions::from(INDEXED))?)?;
     entries.push(FieldEntry::new_facet(name_of(alloc)?, FacetOptions::default())?)?;
-    entries.push(FieldEntry::new_bytes(name_of(alloc)?, BytesOptions::from(FAST))?)?;
+    Ok(())
+}
+
+fn push_bytes_object_and_address(alloc: Global, entries: &mut Vec<FieldEntry>) -> Result<(), Fail> {
     let json = JsonObjectOptions::from(STRING).set_expand_dots_enabled();
+    entries.push(FieldEntry::new_bytes(name_of(alloc)?, BytesOptions::from(FAST))?)?;
     entries.push(FieldEntry::new_json(name_of(alloc)?, json)?)?;
     entries.push(FieldEntry::new_ip_addr(name_of(alloc)?, IpAddrOptions::default())?)?;
+    Ok(())
+}
+
+// One of each type, in the order of the types' codes.
+fn entries(alloc: Global) -> Result<Vec<FieldEntry>, Fail> {
+    let mut entries = Vec::new(alloc);
+    push_text_and_numbers(alloc, &mut entries)?;
+    push_truth_date_and_facet(alloc, &mut entries)?;
+    push_bytes_object_and_address(alloc, &mut entries)?;
     Ok(entries)
 }
 
@@ -41,47 +59,72 @@ fn names(rt: HostRuntime) -> Result<(), Fail> {
     Ok(())
 }
 
+// Stored, indexed, with field norms, fast, with dots expanded, and what is kept of terms.
+type Answers = (bool, bool, bool, bool, bool, Option<IndexRecordOption>);
+
+const BASIC: Option<IndexRecordOption> = Some(IndexRecordOption::Basic);
+
+// What the entry of each type answers.
+const ANSWERS: [Answers; 9] = [
+    (
+        true,
+        true,
+        true,
+        false,
+        false,
+        Some(IndexRecordOption::WithFreqsAndPositions),
+    ),
+    (true, true, true, false, false, BASIC),
+    (true, false, false, true, false, None),
+    (true, false, false, false, false, None),
+    (false, true, true, false, false, BASIC),
+    (false, true, false, true, false, BASIC),
+    (false, false, false, true, false, None),
+    (false, true, false, false, true, BASIC),
+    (false, false, false, false, false, None),
+];
+
+fn answers(entry: &FieldEntry) -> Answers {
+    (
+        entry.is_stored(),
+        entry.is_indexed(),
+        entry.has_fieldnorms(),
+        entry.is_fast(),
+        entry.is_expand_dots_enabled(),
+        entry.field_type().index_record_option(),
+    )
+}
+
+// Whether it is one of texts, objects, dates, bytes and addresses.
+fn kinds(field_type: &FieldType) -> [bool; 5] {
+    [
+        field_type.is_str(),
+        field_type.is_json(),
+        field_type.is_date(),
+        field_type.is_bytes(),
+        field_type.is_ip_addr(),
+    ]
+}
+
 #[test]
 fn each_entry_answers_for_its_type(rt: HostRuntime) -> Result<(), Fail> {
     let entries = entries(rt.alloc())?;
-    let all = Some(IndexRecordOption::WithFreqsAndPositions);
-    let basic = Some(IndexRecordOption::Basic);
-    // of each type: stored, indexed, with field norms, fast, with dots expanded, and what is kept of terms
-    let expected = [
-        (true, true, true, false, false, all),
-        (true, true, true, false, false, basic),
-        (true, false, false, true, false, None),
-        (true, false, false, false, false, None),
-        (false, true, true, false, false, basic),
-        (false, true, false, true, false, basic),
-        (false, false, false, true, false, None),
-        (false, true, false, false, true, basic),
-        (false, false, false, false, false, None),
-    ];
-    assert_eq!(rt; entries.len(), expected.len());
-    for ((entry, value_type), wanted) in entries
-        .iter()
-        .zip(Type::iter_values())
-        .zip(expected.iter())
-    {
-        let found = (
-            entry.is_stored(),
-            entry.is_indexed(),
-            entry.has_fieldnorms(),
-            entry.is_fast(),
-            entry.is_expand_dots_enabled(),
-            entry.field_type().index_record_option(),
-        );
-        assert_eq!(rt; found, *wanted);
+    assert_eq!(rt; entries.len(), ANSWERS.len());
+    for (entry, wanted) in entries.iter().zip(ANSWERS.iter()) {
         let both = record_options_agree(entry.field_type());
-        assert_eq!(rt; both, (wanted.5, wanted.5));
+        assert!(rt; answers(entry) == *wanted && both == (wanted.5, wanted.5));
         assert_eq!(rt; entry.name(), "field");
+    }
+    Ok(())
+}
+
+#[test]
+fn each_type_knows_itself(rt: HostRuntime) -> Result<(), Fail> {
+    let asked = [Type::Str, Type::Json, Type::Date, Type::Bytes, Type::IpAddr];
+    for (entry, value_type) in entries(rt.alloc())?.iter().zip(Type::iter_values()) {
         assert_eq!(rt; entry.field_type().value_type(), value_type);
-        assert_eq!(rt; entry.field_type().is_str(), value_type == Type::Str);
-        assert_eq!(rt; entry.field_type().is_json(), value_type == Type::Json);
-        assert_eq!(rt; entry.field_type().is_date(), value_type == Type::Date);
-        assert_eq!(rt; entry.field_type().is_bytes(), value_type == Type::Bytes);
-        assert_eq!(rt; entry.field_type().is_ip_addr(), value_type == Type::IpAddr);
+        let wanted = asked.map(|it| it == value_type);
+        assert_eq!(rt; kinds(entry.field_type()), wanted);
     }
     Ok(())
 }
@@ -99,31 +142,59 @@ fn copies_are_equal(rt: HostRuntime) -> Result<(), Fail> {
     Ok(())
 }
 
-#[test]
-fn each_call_adds_a_field_of_its_type(rt: HostRuntime) -> Result<(), Fail> {
+fn add_text_and_numbers(builder: &mut SchemaBuilder) -> Result<(), SchemaError> {
     let numbers = NumericOptions::default().set_stored();
-    let mut builder = SchemaBuilder::new(rt.alloc());
     builder.add_text_field("Str", TEXT | STORED)?;
     builder.add_u64_field("U64", numbers | INDEXED)?;
     builder.add_i64_field("I64", numbers | FAST)?;
-    builder.add_bool_field("Bool", numbers)?;
+    Ok(())
+}
+
+fn add_truth_date_and_facet(builder: &mut SchemaBuilder) -> Result<(), SchemaError> {
+    builder.add_bool_field("Bool", NumericOptions::default().set_stored())?;
     builder.add_date_field("Date", DateOptions::from(INDEXED))?;
     builder.add_facet_field("Facet", FacetOptions::default())?;
+    Ok(())
+}
+
+fn add_bytes_object_and_address(builder: &mut SchemaBuilder) -> Result<(), SchemaError> {
+    let json = JsonObjectOptions::from(STRING).set_expand_dots_enabled();
     builder.add_bytes_field("Bytes", BytesOptions::from(FAST))?;
-    builder.add_json_field(
-        "Json",
-        JsonObjectOptions::from(STRING).set_expand_dots_enabled(),
-    )?;
+    builder.add_json_field("Json", json)?;
     builder.add_ip_addr_field("IpAddr", IpAddrOptions::default())?;
-    let schema = builder.build()?;
+    Ok(())
+}
+
+fn schema_of_all_types(alloc: Global) -> Result<Schema, Fail> {
+    let mut builder = SchemaBuilder::new(alloc);
+    add_text_and_numbers(&mut builder)?;
+    add_truth_date_and_facet(&mut builder)?;
+    add_bytes_object_and_address(&mut builder)?;
+    Ok(builder.build()?)
+}
+
+// Whether the schema's calls answer with this field and this entry for each other.
+fn is_field_of(schema: &Schema, field: Field, entry: &FieldEntry) -> bool {
+    schema.has_field(field)
+        && schema.get_field(entry.name()) == Ok(field)
+        && schema.get_field_name(field) == entry.name()
+}
+
+#[test]
+fn each_call_adds_a_field_of_its_type(rt: HostRuntime) -> Result<(), Fail> {
+    let schema = schema_of_all_types(rt.alloc())?;
     let wanted = entries(rt.alloc())?;
     assert_eq!(rt; schema.num_fields(), wanted.len());
     for ((field, entry), other) in schema.fields().zip(wanted.iter()) {
         assert!(rt; entry.field_type() == other.field_type());
-        assert_eq!(rt; schema.get_field(entry.name())?, field);
-        assert!(rt; schema.has_field(field));
-        assert_eq!(rt; schema.get_field_name(field), entry.name());
+        assert!(rt; is_field_of(&schema, field, entry));
     }
+    Ok(())
+}
+
+#[test]
+fn another_name_names_no_field(rt: HostRuntime) -> Result<(), Fail> {
+    let schema = schema_of_all_types(rt.alloc())?;
     assert_eq!(rt; schema.get_field("Float"), Err(SchemaError::FieldNotFound));
     Ok(())
 }
@@ -143,11 +214,19 @@ fn names_are_taken_once(rt: HostRuntime) -> Result<(), Fail> {
     for (answer, error) in refused {
         assert_eq!(rt; answer, Err(error));
     }
-    assert!(rt; !format!(in rt.alloc(); "{builder:?}")?.is_empty());
     let schema = builder.build()?;
     assert_eq!(rt; schema.num_fields(), 1);
     assert_eq!(rt; field.field_id(), 0);
     assert_eq!(rt; schema.get_field("a"), Ok(field));
+    Ok(())
+}
+
+#[test]
+fn schemas_are_equal_by_their_fields(rt: HostRuntime) -> Result<(), Fail> {
+    let mut builder = Schema::builder(rt.alloc());
+    builder.add_text_field("a", TEXT)?;
+    assert!(rt; !format!(in rt.alloc(); "{builder:?}")?.is_empty());
+    let schema = builder.build()?;
     assert_eq!(rt; schema.clone()?, schema);
     assert!(rt; Schema::builder(rt.alloc()).build()? != schema);
     Ok(())

@@ -1,0 +1,3 @@
+mod bytes;
+mod facets;
+mod json_paths;

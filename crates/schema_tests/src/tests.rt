@@ -1,0 +1,3 @@
+mod paths;
+mod schema_json;
+mod schemas;

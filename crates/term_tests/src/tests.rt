@@ -1,0 +1,2 @@
+mod term_vectors;
+mod terms;
