@@ -7,3 +7,6 @@ pub mod Fault
 pub mod Plain
 pub mod PlainReading
 pub mod DateTime
+pub mod Cases
+pub mod Size
+pub mod Lent

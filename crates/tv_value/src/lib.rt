@@ -4,4 +4,7 @@
 pub mod date_time;
 pub mod field;
 pub mod laws;
+pub mod leaf;
+pub mod nested;
 pub mod plain;
+pub mod value;

@@ -1,0 +1,185 @@
+//! Values without children, lent.
+
+ghost use Rattle.std.specs.Prelude.{◌≡◌, ◌↔◌, IsTrue, option_map};
+ghost use Rattle.std.specs.Net.Addr.{ipv6_bits};
+ghost use Rattle.tv_value.specs.Cases.{is_null, text_in, unsigned_in, signed_in, boolean_in, date_in, facet_in, bytes_in, ip_address_in};
+ghost use Rattle.tv_value.specs.Lent.{leaf_of};
+ghost use Rattle.tv_value.specs.Tree.{text, unsigned, signed, boolean, date, bytes, ip_address};
+
+use crate::date_time::DateTime;
+use std::net::Ipv6Addr;
+
+/// A value without children. Texts and bytes are borrowed.
+#[derive(Clone, Copy)]
+pub enum ReferenceValueLeaf<'a> {
+    /// No value.
+    Null,
+    /// A text.
+    Str(&'a str),
+    /// A number from 0 to 2^64 - 1.
+    U64(u64),
+    /// A number from -2^63 to 2^63 - 1.
+    I64(i64),
+    /// A date.
+    Date(DateTime),
+    /// A facet, as its encoded text.
+    Facet(&'a str),
+    /// Bytes.
+    Bytes(&'a [u8]),
+    /// An IPv6 address. An address of version 4 is kept as `::ffff:a.b.c.d`.
+    IpAddr(Ipv6Addr),
+    /// A truth value.
+    Bool(bool),
+}
+
+impl<'a> ReferenceValueLeaf<'a> {
+    /// Whether there is no value.
+    pub fn is_null(&self) -> bool
+        ensures { result ≡ is_null (leaf_of self.now) }
+    {
+        matches!(self, ReferenceValueLeaf::Null)
+    }
+
+    /// The text, if it is one. No copy is made.
+    pub fn as_str(&self) -> Option<&'a str>
+        ensures { option_map (λ t. t.now) result ≡ text_in (leaf_of self.now) }
+    {
+        match *self {
+            ReferenceValueLeaf::Str(text) => Some(text),
+            _ => None,
+        }
+    }
+
+    /// The number, if it is an unsigned one.
+    pub fn as_u64(&self) -> Option<u64>
+        ensures { result ≡ unsigned_in (leaf_of self.now) }
+    {
+        match *self {
+            ReferenceValueLeaf::U64(number) => Some(number),
+            _ => None,
+        }
+    }
+
+    /// The number, if it is a signed one.
+    pub fn as_i64(&self) -> Option<i64>
+        ensures { result ≡ signed_in (leaf_of self.now) }
+    {
+        match *self {
+            ReferenceValueLeaf::I64(number) => Some(number),
+            _ => None,
+        }
+    }
+
+    /// The date, if it is one.
+    pub fn as_datetime(&self) -> Option<DateTime>
+        ensures { option_map (λ d. d.nanoseconds) result ≡ date_in (leaf_of self.now) }
+    {
+        match *self {
+            ReferenceValueLeaf::Date(date) => Some(date),
+            _ => None,
+        }
+    }
+
+    /// The IP address, if it is one.
+    pub fn as_ip_addr(&self) -> Option<Ipv6Addr>
+        ensures { option_map ipv6_bits result ≡ ip_address_in (leaf_of self.now) }
+    {
+        match *self {
+            ReferenceValueLeaf::IpAddr(address) => Some(address),
+            _ => None,
+        }
+    }
+
+    /// The truth value, if it is one.
+    pub fn as_bool(&self) -> Option<bool>
+        ensures { result ≡ boolean_in (leaf_of self.now) }
+    {
+        match *self {
+            ReferenceValueLeaf::Bool(truth) => Some(truth),
+            _ => None,
+        }
+    }
+
+    /// The bytes, if it is bytes. No copy is made.
+    pub fn as_bytes(&self) -> Option<&'a [u8]>
+        ensures { option_map (λ bs. bs.now) result ≡ bytes_in (leaf_of self.now) }
+    {
+        match *self {
+            ReferenceValueLeaf::Bytes(bytes) => Some(bytes),
+            _ => None,
+        }
+    }
+
+    /// The encoded text of the facet, if it is one. No copy is made.
+    pub fn as_facet(&self) -> Option<&'a str>
+        ensures { option_map (λ t. t.now) result ≡ facet_in (leaf_of self.now) }
+    {
+        match *self {
+            ReferenceValueLeaf::Facet(encoded) => Some(encoded),
+            _ => None,
+        }
+    }
+}
+
+/// An unsigned number.
+impl From<u64> for ReferenceValueLeaf<'_> {
+    ghost from_gives = { λ number made. leaf_of made ≡ unsigned number };
+
+    fn from(number: u64) -> Self {
+        ReferenceValueLeaf::U64(number)
+    }
+}
+
+/// A signed number.
+impl From<i64> for ReferenceValueLeaf<'_> {
+    ghost from_gives = { λ number made. leaf_of made ≡ signed number };
+
+    fn from(number: i64) -> Self {
+        ReferenceValueLeaf::I64(number)
+    }
+}
+
+/// A truth value.
+impl From<bool> for ReferenceValueLeaf<'_> {
+    ghost from_gives = { λ truth made. leaf_of made ≡ boolean truth };
+
+    fn from(truth: bool) -> Self {
+        ReferenceValueLeaf::Bool(truth)
+    }
+}
+
+/// A text.
+impl<'a> From<&'a str> for ReferenceValueLeaf<'a> {
+    ghost from_gives = { λ content made. leaf_of made ≡ text content.now };
+
+    fn from(content: &'a str) -> Self {
+        ReferenceValueLeaf::Str(content)
+    }
+}
+
+/// Bytes.
+impl<'a> From<&'a [u8]> for ReferenceValueLeaf<'a> {
+    ghost from_gives = { λ content made. leaf_of made ≡ bytes content.now };
+
+    fn from(content: &'a [u8]) -> Self {
+        ReferenceValueLeaf::Bytes(content)
+    }
+}
+
+/// A date.
+impl From<DateTime> for ReferenceValueLeaf<'_> {
+    ghost from_gives = { λ moment made. leaf_of made ≡ date moment.nanoseconds };
+
+    fn from(moment: DateTime) -> Self {
+        ReferenceValueLeaf::Date(moment)
+    }
+}
+
+/// An IP address.
+impl From<Ipv6Addr> for ReferenceValueLeaf<'_> {
+    ghost from_gives = { λ address made. leaf_of made ≡ ip_address (ipv6_bits address) };
+
+    fn from(address: Ipv6Addr) -> Self {
+        ReferenceValueLeaf::IpAddr(address)
+    }
+}
