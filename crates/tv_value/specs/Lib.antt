@@ -10,3 +10,6 @@ pub mod DateTime
 pub mod Cases
 pub mod Size
 pub mod Lent
+pub mod Same
+pub mod SameLaws
+pub mod Owned

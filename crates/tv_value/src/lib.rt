@@ -1,10 +1,13 @@
 //! Values as finite trees, and the bytes that spell them in a store.
 #![tactic(auto)]
 
+mod copy;
 pub mod date_time;
 pub mod field;
 pub mod laws;
 pub mod leaf;
 pub mod nested;
+pub mod owned_value;
 pub mod plain;
+pub mod same;
 pub mod value;

@@ -1,0 +1,164 @@
+//! Values that own what they hold, and how they are lent.
+
+ghost use Rattle.std.specs.Prelude.{◌≡◌, ℕ, List, map, IfOk};
+ghost use Rattle.std.specs.Iterator.{YieldsFirstRef, YieldsFirstBy, item_count};
+
+use crate::copy::owned_of;
+use crate::date_time::DateTime;
+use crate::leaf::ReferenceValueLeaf;
+use crate::nested::lend;
+use crate::same::is_same;
+use crate::value::{ReferenceValue, Value};
+use std::alloc::{AllocError, Global};
+use std::net::Ipv6Addr;
+use tv_base::Facet;
+
+/// A value that owns what it holds.
+#[derive(Drop)]
+pub enum OwnedValue {
+    /// No value.
+    Null,
+    /// A text.
+    Str(String),
+    /// A number from 0 to 2^64 - 1.
+    U64(u64),
+    /// A number from -2^63 to 2^63 - 1.
+    I64(i64),
+    /// A truth value.
+    Bool(bool),
+    /// A date.
+    Date(DateTime),
+    /// A facet.
+    Facet(Facet),
+    /// Bytes.
+    Bytes(Vec<u8>),
+    /// An IPv6 address. An address of version 4 is kept as `::ffff:a.b.c.d`.
+    IpAddr(Ipv6Addr),
+    /// Values, in order.
+    Array(Vec<OwnedValue>),
+    /// Keys and their values, in order. Keys may repeat.
+    Object(Vec<(String, OwnedValue)>),
+}
+
+/// The values of an array that are left, in order.
+#[derive(Clone, Copy)]
+pub struct OwnedArrayIter<'a> {
+    items: &'a [OwnedValue],
+}
+
+impl<'a> Iterator for OwnedArrayIter<'a> {
+    type Item = &'a OwnedValue;
+
+    ghost next_gives = { YieldsFirstRef (λ s. s.items.now) };
+
+    ghost remaining = { item_count (λ s. s.items.now) };
+
+    fn next(&mut self) -> Option<&'a OwnedValue> {
+        let (first, others) = self.items.split_first()?;
+        self.items = others;
+        Some(first)
+    }
+}
+
+/// The keys and values of an object that are left, in order.
+#[derive(Clone, Copy)]
+pub struct OwnedObjectIter<'a> {
+    members: &'a [(String, OwnedValue)],
+}
+
+impl<'a> Iterator for OwnedObjectIter<'a> {
+    ghost use Rattle.tv_value.specs.Lent.{entry_of};
+    ghost use Rattle.tv_value.specs.Owned.{owned_entries, owned_tree};
+
+    type Item = (&'a str, &'a OwnedValue);
+
+    ghost next_gives = { YieldsFirstBy (entry_of (λ x. owned_tree x.now)) (λ s. owned_entries s.members.now) };
+
+    ghost remaining = { item_count (λ s. s.members.now) };
+
+    fn next(&mut self) -> Option<(&'a str, &'a OwnedValue)> {
+        let (first, others) = self.members.split_first()?;
+        self.members = others;
+        let (key, value) = first;
+        Some((key.as_str(), value))
+    }
+}
+
+impl<'a> Value<'a> for &'a OwnedValue {
+    ghost use Rattle.tv_value.specs.Owned.{owned_entries, owned_tree, steps_of_refs};
+
+    type ArrayIter = OwnedArrayIter<'a>;
+
+    type ObjectIter = OwnedObjectIter<'a>;
+
+    ghost tree = { λ x. owned_tree x.now };
+
+    ghost array_rest = { λ s. map owned_tree s.items.now };
+
+    ghost object_rest = { λ s. owned_entries s.members.now };
+
+    ghost array_walks = { λ s. (tt, tt) };
+
+    ghost object_walks = { λ s. (tt, tt) };
+
+    ghost array_steps = { λ s t r steps. steps_of_refs owned_tree (λ s. s.items.now) s t r steps };
+
+    ghost object_steps = { λ s t r steps. steps };
+
+    fn as_value(&self) -> ReferenceValue<'a, &'a OwnedValue> {
+        let leaf = match *self {
+            OwnedValue::Array(items) => {
+                let items = items.as_slice();
+                return ReferenceValue::Array(OwnedArrayIter { items });
+            }
+            OwnedValue::Object(members) => {
+                let members = members.as_slice();
+                return ReferenceValue::Object(OwnedObjectIter { members });
+            }
+            OwnedValue::Null => ReferenceValueLeaf::Null,
+            OwnedValue::Str(text) => ReferenceValueLeaf::Str(text.as_str()),
+            OwnedValue::U64(number) => ReferenceValueLeaf::U64(*number),
+            OwnedValue::I64(number) => ReferenceValueLeaf::I64(*number),
+            OwnedValue::Bool(truth) => ReferenceValueLeaf::Bool(*truth),
+            OwnedValue::Date(date) => ReferenceValueLeaf::Date(*date),
+            OwnedValue::Facet(facet) => ReferenceValueLeaf::Facet(facet.encoded_str()),
+            OwnedValue::Bytes(bytes) => ReferenceValueLeaf::Bytes(bytes.as_slice()),
+            OwnedValue::IpAddr(address) => ReferenceValueLeaf::IpAddr(*address),
+        };
+        ReferenceValue::Leaf(leaf)
+    }
+}
+
+impl OwnedValue {
+    ghost use Rattle.tv_value.specs.Owned.{owned_tree};
+
+    /// A copy of any value. The only error is that memory was refused.
+    pub fn from_value<'a, V: Value<'a>>(alloc: Global, value: &V) -> Result<OwnedValue, AllocError>
+        ensures { IfOk result (λ made. owned_tree made ≡ V.tree value.now) }
+    {
+        owned_of(alloc, lend(value))
+    }
+
+    /// A copy. The only error is that memory was refused.
+    pub fn try_clone(&self, alloc: Global) -> Result<OwnedValue, AllocError>
+        ensures { IfOk result (λ copy. owned_tree copy ≡ owned_tree self.now) }
+    {
+        OwnedValue::from_value(alloc, &self)
+    }
+}
+
+/// Two values are equal exactly where they are of one kind and hold the same, children in the same order. No memory is taken.
+impl PartialEq for OwnedValue {
+    ghost use Rattle.std.specs.Cmp.{on_per};
+    ghost use Rattle.tv_value.specs.Owned.{owned_tree};
+    ghost use Rattle.tv_value.specs.Same.{tree_eq};
+    ghost use Rattle.tv_value.specs.SameLaws.{tree_eq-Decides, deciding_per};
+
+    ghost eq = { λ a b. tree_eq (owned_tree a) (owned_tree b) };
+
+    ghost laws = { on_per owned_tree (deciding_per tree_eq-Decides) };
+
+    fn eq(&self, other: &OwnedValue) -> bool {
+        is_same(&self, &other)
+    }
+}
