@@ -7,3 +7,8 @@ pub mod Fault
 pub mod Plain
 pub mod PlainReading
 pub mod DateTime
+pub mod ShortLaws
+pub mod TokensLaws
+pub mod HeldTokens
+pub mod TokenRef
+pub mod PreTokenized

@@ -5,3 +5,5 @@ pub mod date_time;
 pub mod field;
 pub mod laws;
 pub mod plain;
+pub mod pre_tokenized;
+pub mod tokenizer;
