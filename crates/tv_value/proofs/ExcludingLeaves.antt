@@ -10,7 +10,8 @@ use Rattle.tv_value.specs.Version.{Version, V1, V2, V3, Date}
 use Rattle.tv_value.specs.Spelling.{TokenSpelling, Tokenized, leaf_code, LeafBody, Key}
 use Rattle.tv_value.specs.Fault.{TokenFault, TokenizedFault, IsOutside, DateFault, date_ends, date_range, LeafFault, in_text, in_unsigned, in_signed, in_facet, in_bytes, in_date, no_extension, other_extension, in_tokenized, no_truth, other_truth, in_ip_address, Refusal, Corrupt, corrupt, CodedKeyFault, KeyFault, key_ends, key_unknown, key_float, key_other, key_no_extension, key_tokenized, key_other_extension, in_key}
 use Rattle.tv_base.proofs.Numbers.{one_number, agree_fixed, length-fixed}
-use Rattle.tv_value.proofs.Leaves.{one_token, fits_microseconds}
+use Rattle.tv_value.proofs.Leaves.{fits_microseconds}
+use Rattle.tv_value.specs.TokensLaws.{one_token}
 use Rattle.tv_base.proofs.Texts.{one_text, same_signed}
 use Rattle.tv_base.proofs.ExcludingParts.{excludes_bytes, excludes_sized, excludes_text, behind_head, behind_some}
 use Rattle.tv_base.proofs.Excluding.{Excludes, excludes_then, excludes_each, excludes_number}

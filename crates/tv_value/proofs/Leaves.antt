@@ -3,13 +3,13 @@ use Rattle.std.proofs.Common.{◌≡◌, ℕ, ◌<◌, Bool, true, false, List, 
 use Rattle.std.specs.Prelude.{ℤ, pos, negsuc, ◌*ℤ◌, ◌≤ℤ◌, FitsSigned}
 use Rattle.std.specs.Int.{w64, cast_unsigned}
 use Rattle.std.proofs.lemmas.Int.{ints}
-use Rattle.tv_base.specs.Parts.{OneReading}
 use Rattle.tv_value.specs.Tree.{Token, Leaf, null, text, unsigned, signed, boolean, date, facet, bytes, ip_address, tokenized}
 use Rattle.tv_value.specs.Version.{Version, V1, V2, V3, Date, Microseconds, entry_total}
 use Rattle.tv_base.specs.Number.{Truth}
 use Rattle.tv_value.specs.Spelling.{TokenSpelling, Tokenized, leaf_code, LeafBody, Key}
-use Rattle.tv_base.proofs.Agreement.{Agree, one_from, agree_map, agree_empty, agree_then, agree_behind}
-use Rattle.tv_base.proofs.Numbers.{agree_number, agree_counted, agree_fixed}
+use Rattle.tv_value.specs.TokensLaws.{one_token}
+use Rattle.tv_base.proofs.Agreement.{Agree, agree_map, agree_empty, agree_then, agree_behind}
+use Rattle.tv_base.proofs.Numbers.{agree_counted, agree_fixed}
 use Rattle.tv_base.proofs.Texts.{agree_sized, agree_text, same_signed, agree_signed}
 
 agree_truth : (s t : Bool) → Agree (λ b. Truth b s) (λ b. Truth b t) (s ≡ t)
@@ -34,17 +34,6 @@ agree_date : (v : Version) (s t : ℤ) → Agree (λ b. Date v b s) (λ b. Date 
 agree_date V1 s t = agree_microseconds s t
 agree_date V2 s t = agree_signed s t
 agree_date V3 s t = agree_signed s t
-
-pub agree_token : (s t : Token) → Agree (λ b. TokenSpelling b s) (λ b. TokenSpelling b t) (s ≡ t)
-agree_token s t =
-    agree_map (λ e. λ i. record { offset_from = e.0 i; offset_to = e.1.0 i; position = e.1.1.0 i; text = e.1.1.1.0 i; position_length = e.1.1.1.1 i })
-    (agree_then (agree_number s.offset_from t.offset_from) (λ _.
-    (agree_then (agree_number s.offset_to t.offset_to) (λ _.
-    (agree_then (agree_number s.position t.position) (λ _.
-    (agree_then (agree_text s.text t.text) (λ _. agree_number s.position_length t.position_length))))))))
-
-pub one_token : OneReading TokenSpelling
-one_token = one_from TokenSpelling agree_token
 
 pub agree_tokenized : (s t : List ℕ) (ss ts : List Token) → Agree (λ b. Tokenized b s ss) (λ b. Tokenized b t ts) (tokenized s ss ≡ tokenized t ts)
 agree_tokenized s t ss ts = agree_map (λ e. λ i. tokenized (e.0 i) (e.1 i)) (agree_then (agree_text s t) (λ _. agree_counted {R = TokenSpelling} one_token ss ts))

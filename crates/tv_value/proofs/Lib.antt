@@ -12,3 +12,4 @@ pub mod PlainKeys
 pub mod PlainValues
 pub mod PlainAnswers
 pub mod PlainDocuments
+pub mod Kept

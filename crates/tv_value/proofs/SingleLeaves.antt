@@ -1,5 +1,5 @@
 -- A leaf, a key or a field is at fault in one way only.
-use Rattle.std.proofs.Common.{◌≡◌, ℕ, ◌<◌, List, [], ◌∷◌, ◌++◌, length, refl, sym, ◌∙◌, ap, subst, arith, inl, inr, length-append}
+use Rattle.std.proofs.Common.{◌≡◌, ℕ, List, [], ◌∷◌, length, refl, sym, ◌∙◌, ap, subst, arith, length-append}
 use Rattle.tv_base.specs.declared.cause.Cause.{Cause}
 use Rattle.tv_base.specs.declared.cause.Cause.TheVariants.{UnknownTypeCode, UnknownExtCode, FieldNumber}
 use Rattle.tv_base.specs.Number.{VNum}
@@ -13,7 +13,7 @@ use Rattle.tv_base.proofs.Single.{Single, single_then, single_each, single_numbe
 use Rattle.tv_value.specs.Spelling.{TokenSpelling}
 use Rattle.tv_value.specs.Version.{Version, V1, V2, V3}
 use Rattle.tv_value.specs.Fault.{TokenFault, TokenizedFault, DateFault, date_ends, date_range, LeafFault, in_text, in_unsigned, in_signed, in_facet, in_bytes, in_date, no_extension, other_extension, in_tokenized, no_truth, other_truth, in_ip_address, Refusal, corrupted, no_text_key, Corrupt, corrupt, CodedKeyFault, KeyFault, key_ends, key_unknown, key_float, key_other, key_no_extension, key_tokenized, key_other_extension, in_key, FieldFault, field_ends, field_large}
-use Rattle.tv_value.proofs.Leaves.{one_token}
+use Rattle.tv_value.specs.TokensLaws.{one_token}
 use Rattle.tv_value.proofs.ExcludingLeaves.{excludes_token}
 
 single_token : Single TokenFault

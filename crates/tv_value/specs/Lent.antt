@@ -3,6 +3,7 @@ use Rattle.std.specs.Prelude.{ℕ, List}
 use Rattle.std.specs.Borrow.{Bor}
 use Rattle.std.specs.Net.Addr.{ipv6_bits}
 use Rattle.tv_value.specs.Tree.{Leaf, null, text, unsigned, signed, boolean, date, facet, bytes, ip_address, Tree, leaf, array, object, elements, entries}
+use Rattle.tv_value.specs.PreTokenized.{tokenized_leaf}
 use Rattle.tv_value.specs.declared.leaf.ReferenceValueLeaf.{ReferenceValueLeaf}
 use Rattle.tv_value.specs.declared.leaf.ReferenceValueLeaf.TheVariants as lent
 use Rattle.tv_value.specs.declared.value.ReferenceValue.{ReferenceValue}
@@ -21,6 +22,7 @@ leaf_of (lent.Facet t) = facet t.now
 leaf_of (lent.Bytes bs) = bytes bs.now
 leaf_of (lent.IpAddr a) = ip_address (ipv6_bits a)
 leaf_of (lent.Bool b) = boolean b
+leaf_of (lent.PreTokStr t) = tokenized_leaf t
 
 -- the tree of what is lent, from the children that its iterators have left
 abbrev pub tree_of : {V A O : Type 0} → (A → List Tree) → (O → List (List ℕ × Tree)) → ReferenceValue V A O → Tree

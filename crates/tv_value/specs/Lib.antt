@@ -13,3 +13,8 @@ pub mod Lent
 pub mod Same
 pub mod SameLaws
 pub mod Owned
+pub mod ShortLaws
+pub mod TokensLaws
+pub mod HeldTokens
+pub mod TokenRef
+pub mod PreTokenized

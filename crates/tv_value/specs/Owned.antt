@@ -5,7 +5,8 @@ use Rattle.std.specs.Iterator.{YieldsFirstRef, YieldsFirstBy}
 use Rattle.std.specs.Net.Addr.{ipv6_bits}
 use Rattle.std.specs.declared.alloc.Global.{Global}
 use Rattle.std.proofs.Common.{ap}
-use Rattle.tv_value.specs.Tree.{null, text, unsigned, signed, boolean, date, facet, bytes, ip_address, Tree, leaf, array, object, elements, entries}
+use Rattle.tv_value.specs.Tree.{null, text, unsigned, signed, boolean, date, facet, bytes, ip_address, tokenized, Tree, leaf, array, object, elements, entries}
+use Rattle.tv_value.specs.HeldTokens.{token_of}
 use Rattle.tv_value.specs.declared.owned_value.OwnedValue.{OwnedValue, fold-OwnedValue}
 use Rattle.tv_value.specs.declared.owned_value.OwnedValue.TheOpen.{OwnedValue-F}
 
@@ -17,6 +18,7 @@ key_and e = (string_bytes e.0, e.1)
 abbrev pub tree_step : OwnedValue-F Tree → Tree
 tree_step OwnedValue-F.Null = leaf null
 tree_step (OwnedValue-F.Str t) = leaf (text (string_bytes t))
+tree_step (OwnedValue-F.PreTokStr t) = leaf (tokenized (string_bytes t.text) (map token_of t.tokens.items))
 tree_step (OwnedValue-F.U64 n) = leaf (unsigned n)
 tree_step (OwnedValue-F.I64 z) = leaf (signed z)
 tree_step (OwnedValue-F.Bool b) = leaf (boolean b)

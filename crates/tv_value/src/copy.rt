@@ -34,6 +34,7 @@ fn owned_leaf(alloc: Global, value: ReferenceValueLeaf<'_>) -> Result<OwnedValue
         ReferenceValueLeaf::Bytes(bytes) => Ok(OwnedValue::Bytes(bytes.to_vec(alloc)?)),
         ReferenceValueLeaf::IpAddr(address) => Ok(OwnedValue::IpAddr(address)),
         ReferenceValueLeaf::Bool(truth) => Ok(OwnedValue::Bool(truth)),
+        ReferenceValueLeaf::PreTokStr(_) => Ok(OwnedValue::Null),
     }
 }
 

@@ -2,11 +2,13 @@
 
 ghost use Rattle.std.specs.Prelude.{◌≡◌, ◌↔◌, IsTrue, option_map};
 ghost use Rattle.std.specs.Net.Addr.{ipv6_bits};
-ghost use Rattle.tv_value.specs.Cases.{is_null, text_in, unsigned_in, signed_in, boolean_in, date_in, facet_in, bytes_in, ip_address_in};
+ghost use Rattle.tv_value.specs.Cases.{is_null, text_in, unsigned_in, signed_in, boolean_in, date_in, facet_in, bytes_in, ip_address_in, tokenized_in};
 ghost use Rattle.tv_value.specs.Lent.{leaf_of};
+ghost use Rattle.tv_value.specs.PreTokenized.{text_of, tokens_of, tokenized_leaf};
 ghost use Rattle.tv_value.specs.Tree.{text, unsigned, signed, boolean, date, bytes, ip_address};
 
 use crate::date_time::DateTime;
+use crate::pre_tokenized::PreTokenizedStr;
 use std::net::Ipv6Addr;
 
 /// A value without children. Texts and bytes are borrowed.
@@ -30,6 +32,8 @@ pub enum ReferenceValueLeaf<'a> {
     IpAddr(Ipv6Addr),
     /// A truth value.
     Bool(bool),
+    /// A text and its tokens.
+    PreTokStr(PreTokenizedStr<'a>),
 }
 
 impl<'a> ReferenceValueLeaf<'a> {
@@ -110,6 +114,16 @@ impl<'a> ReferenceValueLeaf<'a> {
         }
     }
 
+    /// The text with its tokens, if it is one. No copy is made.
+    pub fn into_pre_tokenized_text(self) -> Option<PreTokenizedStr<'a>>
+        ensures { option_map (λ t. (text_of t, tokens_of t)) result ≡ tokenized_in (leaf_of self.entry) }
+    {
+        match self {
+            ReferenceValueLeaf::PreTokStr(text) => Some(text),
+            _ => None,
+        }
+    }
+
     /// The encoded text of the facet, if it is one. No copy is made.
     pub fn as_facet(&self) -> Option<&'a str>
         ensures { option_map (λ t. t.now) result ≡ facet_in (leaf_of self.now) }
@@ -181,5 +195,14 @@ impl From<Ipv6Addr> for ReferenceValueLeaf<'_> {
 
     fn from(address: Ipv6Addr) -> Self {
         ReferenceValueLeaf::IpAddr(address)
+    }
+}
+
+/// A text with its tokens.
+impl<'a> From<PreTokenizedStr<'a>> for ReferenceValueLeaf<'a> {
+    ghost from_gives = { λ content made. leaf_of made ≡ tokenized_leaf content };
+
+    fn from(content: PreTokenizedStr<'a>) -> Self {
+        ReferenceValueLeaf::PreTokStr(content)
     }
 }

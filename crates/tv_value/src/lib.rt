@@ -9,5 +9,7 @@ pub mod leaf;
 pub mod nested;
 pub mod owned_value;
 pub mod plain;
+pub mod pre_tokenized;
 pub mod same;
+pub mod tokenizer;
 pub mod value;

@@ -7,7 +7,9 @@ use crate::copy::owned_of;
 use crate::date_time::DateTime;
 use crate::leaf::ReferenceValueLeaf;
 use crate::nested::lend;
+use crate::pre_tokenized::PreTokenizedStr;
 use crate::same::is_same;
+use crate::tokenizer::PreTokenizedString;
 use crate::value::{ReferenceValue, Value};
 use std::alloc::{AllocError, Global};
 use std::net::Ipv6Addr;
@@ -20,6 +22,8 @@ pub enum OwnedValue {
     Null,
     /// A text.
     Str(String),
+    /// A text and its tokens.
+    PreTokStr(PreTokenizedString),
     /// A number from 0 to 2^64 - 1.
     U64(u64),
     /// A number from -2^63 to 2^63 - 1.
@@ -117,6 +121,9 @@ impl<'a> Value<'a> for &'a OwnedValue {
             }
             OwnedValue::Null => ReferenceValueLeaf::Null,
             OwnedValue::Str(text) => ReferenceValueLeaf::Str(text.as_str()),
+            OwnedValue::PreTokStr(text) => {
+                ReferenceValueLeaf::PreTokStr(PreTokenizedStr::from_string(text))
+            }
             OwnedValue::U64(number) => ReferenceValueLeaf::U64(*number),
             OwnedValue::I64(number) => ReferenceValueLeaf::I64(*number),
             OwnedValue::Bool(truth) => ReferenceValueLeaf::Bool(*truth),

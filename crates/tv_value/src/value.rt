@@ -4,12 +4,14 @@ ghost use Rattle.std.specs.Prelude.{◌≡◌, ℕ, List, Option, option_map, is
 ghost use Rattle.std.specs.Borrow.{Bor};
 ghost use Rattle.std.specs.Iterator.{IsFinite, YieldsFirstBy};
 ghost use Rattle.std.specs.Net.Addr.{ipv6_bits};
-ghost use Rattle.tv_value.specs.Cases.{leaf_in, elements_in, entries_in, is_null_leaf, text_in, unsigned_in, signed_in, boolean_in, date_in, facet_in, bytes_in, ip_address_in, in_leaf};
+ghost use Rattle.tv_value.specs.Cases.{leaf_in, elements_in, entries_in, is_null_leaf, text_in, unsigned_in, signed_in, boolean_in, date_in, facet_in, bytes_in, ip_address_in, tokenized_in, in_leaf};
 ghost use Rattle.tv_value.specs.Lent.{leaf_of, tree_of, entry_of};
+ghost use Rattle.tv_value.specs.PreTokenized.{text_of, tokens_of};
 ghost use Rattle.tv_value.specs.Tree.{Tree, leaf, elements, entries};
 
 use crate::date_time::DateTime;
 use crate::leaf::ReferenceValueLeaf;
+use crate::pre_tokenized::PreTokenizedStr;
 use std::net::Ipv6Addr;
 
 /// What a value is: a leaf, or an iterator over its children.
@@ -109,6 +111,13 @@ pub trait Value<'a>: Drop {
         ensures { option_map (λ bs. bs.now) result ≡ in_leaf bytes_in (tree self.now) }
     {
         self.as_leaf()?.as_bytes()
+    }
+
+    /// The text with its tokens, if it is one. No copy is made.
+    final fn as_pre_tokenized_text(&self) -> Option<PreTokenizedStr<'a>>
+        ensures { option_map (λ t. (text_of t, tokens_of t)) result ≡ in_leaf tokenized_in (tree self.now) }
+    {
+        self.as_leaf()?.into_pre_tokenized_text()
     }
 
     /// The encoded text of the facet, if it is one. No copy is made.
@@ -214,6 +223,13 @@ impl<'a, V: Value<'a>> ReferenceValue<'a, V> {
         ensures { option_map (λ bs. bs.now) result ≡ in_leaf bytes_in (tree_of V.array_rest V.object_rest self.now) }
     {
         self.as_leaf()?.as_bytes()
+    }
+
+    /// The text with its tokens, if it is one. No copy is made.
+    pub fn into_pre_tokenized_text(self) -> Option<PreTokenizedStr<'a>>
+        ensures { option_map (λ t. (text_of t, tokens_of t)) result ≡ in_leaf tokenized_in (tree_of V.array_rest V.object_rest self.entry) }
+    {
+        self.into_leaf()?.into_pre_tokenized_text()
     }
 
     /// The encoded text of the facet, if it is one. No copy is made.

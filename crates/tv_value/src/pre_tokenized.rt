@@ -1,0 +1,91 @@
+//! Texts with their tokens, lent from where they are kept or spelled. None of them takes memory.
+
+ghost use Rattle.std.specs.Prelude.{◌≡◌, ◌↔◌, IsTrue, length};
+ghost use Rattle.tv_value.specs.HeldTokens.{HeldTokens, HeldTokens-prop};
+ghost use Rattle.tv_value.specs.Short.{IsText};
+ghost use Rattle.tv_value.specs.ShortLaws.{IsText-prop};
+
+use crate::tokenizer::{PreTokenizedString, Token};
+
+/// A token that is lent. Offsets are in bytes of the text that it is a token of.
+#[derive(Clone, Copy, Debug, PartialEq, Eq)]
+pub struct TokenRef<'a> {
+    /// Where it begins.
+    pub offset_from: usize,
+    /// Where it ends.
+    pub offset_to: usize,
+    /// Which token of the text it is.
+    pub position: usize,
+    /// Its own text.
+    pub text: &'a str,
+    /// How many positions it takes.
+    pub position_length: usize,
+}
+
+/// The tokens of a text that are left, each once and in order.
+#[derive(Clone, Copy)]
+pub struct TokenIter<'a> {
+    kept: &'a [Token],
+    spelled: &'a [u8],
+    count: u64,
+    pub ghost held: { HeldTokens kept.now spelled.now count } by { HeldTokens-prop kept.now spelled.now count },
+}
+
+/// A text and its tokens, both lent.
+#[derive(Clone, Copy)]
+pub struct PreTokenizedStr<'a> {
+    text: &'a str,
+    tokens: TokenIter<'a>,
+    pub ghost valid: { IsText text.now } by { IsText-prop text.now },
+}
+
+impl<'a> PreTokenizedStr<'a> {
+    ghost use Rattle.std.specs.Prelude.{map};
+    ghost use Rattle.std.specs.String.{string_bytes};
+    ghost use Rattle.tv_value.specs.HeldTokens.{token_of};
+    ghost use Rattle.tv_value.specs.PreTokenized.{text_of, tokens_left, tokens_of};
+
+    /// The text and the tokens of the string.
+    pub fn from_string(string: &'a PreTokenizedString) -> PreTokenizedStr<'a>
+        ensures text { text_of result ≡ string_bytes string.now.text }
+        ensures tokens { tokens_of result ≡ map token_of string.now.tokens.items }
+    {
+        let tokens = TokenIter {
+            kept: string.tokens.as_slice(),
+            spelled: &[],
+            count: 0,
+        };
+        PreTokenizedStr {
+            text: string.text.as_str(),
+            tokens,
+        }
+    }
+
+    /// The text.
+    pub fn text(&self) -> &'a str
+        ensures { result.now ≡ text_of self.now }
+    {
+        self.text
+    }
+
+    /// The tokens, in order.
+    pub fn tokens(&self) -> TokenIter<'a>
+        ensures { tokens_left result ≡ tokens_of self.now }
+    {
+        self.tokens
+    }
+
+    /// How many tokens there are.
+    pub fn len(&self) -> usize
+        ensures { result ≡ length (tokens_of self.now) }
+    {
+        self.tokens.kept.len() + self.tokens.count as usize
+    }
+
+    /// Whether there is no token. The text may have characters nevertheless.
+    pub fn is_empty(&self) -> bool
+        ensures { IsTrue result ↔ length (tokens_of self.now) ≡ 0 }
+    {
+        self.len() == 0
+    }
+}
