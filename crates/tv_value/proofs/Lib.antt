@@ -13,3 +13,4 @@ pub mod PlainValues
 pub mod PlainAnswers
 pub mod PlainDocuments
 pub mod Kept
+pub mod InPlace

@@ -3,6 +3,7 @@
 
 pub mod date_time;
 pub mod field;
+mod in_place;
 pub mod laws;
 pub mod plain;
 pub mod pre_tokenized;
