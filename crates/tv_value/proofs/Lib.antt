@@ -14,3 +14,4 @@ pub mod PlainAnswers
 pub mod PlainDocuments
 pub mod Kept
 pub mod InPlace
+pub mod TokenSteps

@@ -1,10 +1,12 @@
 //! Texts with their tokens, lent from where they are kept or spelled. None of them takes memory.
 
 ghost use Rattle.std.specs.Prelude.{◌≡◌, ◌↔◌, IsTrue, length};
-ghost use Rattle.tv_value.specs.HeldTokens.{HeldTokens, HeldTokens-prop};
+ghost use Rattle.tv_value.specs.HeldTokens.{HeldTokens, HeldTokens-prop, token_of};
 ghost use Rattle.tv_value.specs.Short.{IsText};
 ghost use Rattle.tv_value.specs.ShortLaws.{IsText-prop};
+ghost use Rattle.tv_value.specs.TokenRef.{ref_of};
 
+use crate::in_place::token_at;
 use crate::tokenizer::{PreTokenizedString, Token};
 
 /// A token that is lent. Offsets are in bytes of the text that it is a token of.
@@ -87,5 +89,54 @@ impl<'a> PreTokenizedStr<'a> {
         ensures { IsTrue result ↔ length (tokens_of self.now) ≡ 0 }
     {
         self.len() == 0
+    }
+}
+
+// A token that is kept, lent.
+fn lent(token: &Token) -> TokenRef<'_>
+    ensures { ref_of result ≡ token_of token.now }
+{
+    TokenRef {
+        offset_from: token.offset_from,
+        offset_to: token.offset_to,
+        position: token.position,
+        text: token.text.as_str(),
+        position_length: token.position_length,
+    }
+}
+
+impl<'a> Iterator for TokenIter<'a> {
+    ghost use Rattle.std.specs.Iterator.{YieldsFirstBy, item_count};
+
+    type Item = TokenRef<'a>;
+
+    ghost next_gives = { YieldsFirstBy ref_of (λ s. s.held.0) };
+
+    ghost remaining = { item_count (λ s. s.held.0) };
+
+    fn next(&mut self) -> Option<TokenRef<'a>> {
+        let TokenIter {
+            kept,
+            spelled,
+            count,
+        } = *self;
+        if let Some((token, kept)) = kept.split_first() {
+            *self = TokenIter {
+                kept,
+                spelled,
+                count,
+            };
+            return Some(lent(token));
+        }
+        if count == 0 {
+            return None;
+        }
+        let (token, spelled) = token_at(spelled)?;
+        *self = TokenIter {
+            kept,
+            spelled,
+            count: count - 1,
+        };
+        Some(token)
     }
 }
