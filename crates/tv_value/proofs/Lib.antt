@@ -15,3 +15,4 @@ pub mod PlainDocuments
 pub mod Kept
 pub mod InPlace
 pub mod TokenSteps
+pub mod Payloads

@@ -3,7 +3,7 @@
 ghost use Rattle.std.specs.Prelude.{ℕ, List, IfSome, IfNone};
 ghost use Rattle.tv_base.specs.Number.{VNum};
 ghost use Rattle.tv_base.specs.Parts.{Begins, Text};
-ghost use Rattle.tv_value.specs.InPlace.{NoFront};
+ghost use Rattle.tv_value.specs.InPlace.{BeginsTokens, NoFront, NoTokens};
 ghost use Rattle.tv_value.specs.Spelling.{TokenSpelling};
 ghost use Rattle.tv_value.specs.TokenRef.{ref_of};
 ghost use Rattle.tv_value.specs.Tree.{Token};
@@ -54,4 +54,17 @@ pub(crate) fn token_at(bytes: &[u8]) -> Option<(TokenRef<'_>, &[u8])>
         position_length: position_length as usize,
     };
     Some((token, rest))
+}
+
+/// What follows so many tokens at the front of the bytes. None where no front spells so many.
+pub(crate) fn behind_tokens(count: u64, bytes: &[u8]) -> Option<&[u8]>
+    ensures found { IfSome result (λ rest. BeginsTokens count bytes.now rest.now) }
+    ensures none { IfNone result (NoTokens count bytes.now) }
+{
+    let mut rest = bytes;
+    for _i in 0..count {
+        let (_token, behind) = token_at(rest)?;
+        rest = behind;
+    }
+    Some(rest)
 }

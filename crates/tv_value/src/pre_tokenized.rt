@@ -6,7 +6,7 @@ ghost use Rattle.tv_value.specs.Short.{IsText};
 ghost use Rattle.tv_value.specs.ShortLaws.{IsText-prop};
 ghost use Rattle.tv_value.specs.TokenRef.{ref_of};
 
-use crate::in_place::token_at;
+use crate::in_place::{behind_tokens, number_at, text_at, token_at};
 use crate::tokenizer::{PreTokenizedString, Token};
 
 /// A token that is lent. Offsets are in bytes of the text that it is a token of.
@@ -42,10 +42,11 @@ pub struct PreTokenizedStr<'a> {
 }
 
 impl<'a> PreTokenizedStr<'a> {
-    ghost use Rattle.std.specs.Prelude.{map};
+    ghost use Rattle.std.specs.Prelude.{◌≤◌, map, take, IfSome, IfNone};
     ghost use Rattle.std.specs.String.{string_bytes};
-    ghost use Rattle.tv_value.specs.HeldTokens.{token_of};
+    ghost use Rattle.tv_value.specs.InPlace.{NoTokenized};
     ghost use Rattle.tv_value.specs.PreTokenized.{text_of, tokens_left, tokens_of};
+    ghost use Rattle.tv_value.specs.Spelling.{Tokenized};
 
     /// The text and the tokens of the string.
     pub fn from_string(string: &'a PreTokenizedString) -> PreTokenizedStr<'a>
@@ -61,6 +62,24 @@ impl<'a> PreTokenizedStr<'a> {
             text: string.text.as_str(),
             tokens,
         }
+    }
+
+    /// The text and the tokens that a front of the bytes spells as the store does, and how many bytes that front has. None where
+    /// no front spells a text and its tokens. (own)
+    pub fn from_payload(bytes: &'a [u8]) -> Option<(PreTokenizedStr<'a>, usize)>
+        ensures found { IfSome result (λ x. (x.1 ≤ length bytes.now) × Tokenized (take x.1 bytes.now) (text_of x.0) (tokens_of x.0)) }
+        ensures none { IfNone result (NoTokenized bytes.now) }
+    {
+        let (text, behind_text) = text_at(bytes)?;
+        let (count, spelled) = number_at(behind_text)?;
+        let rest = behind_tokens(count, spelled)?;
+        let tokens = TokenIter {
+            kept: &[],
+            spelled,
+            count,
+        };
+        let len = bytes.len() - rest.len();
+        Some((PreTokenizedStr { text, tokens }, len))
     }
 
     /// The text.
