@@ -13,3 +13,6 @@ pub mod PlainValues
 pub mod PlainAnswers
 pub mod PlainDocuments
 pub mod Kept
+pub mod InPlace
+pub mod TokenSteps
+pub mod Payloads

@@ -17,4 +17,5 @@ pub mod ShortLaws
 pub mod TokensLaws
 pub mod HeldTokens
 pub mod TokenRef
+pub mod InPlace
 pub mod PreTokenized

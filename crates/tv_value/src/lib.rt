@@ -4,6 +4,7 @@
 mod copy;
 pub mod date_time;
 pub mod field;
+mod in_place;
 pub mod laws;
 pub mod leaf;
 pub mod nested;

@@ -1,10 +1,12 @@
 //! Texts with their tokens, lent from where they are kept or spelled. None of them takes memory.
 
 ghost use Rattle.std.specs.Prelude.{◌≡◌, ◌↔◌, IsTrue, length};
-ghost use Rattle.tv_value.specs.HeldTokens.{HeldTokens, HeldTokens-prop};
+ghost use Rattle.tv_value.specs.HeldTokens.{HeldTokens, HeldTokens-prop, token_of};
 ghost use Rattle.tv_value.specs.Short.{IsText};
 ghost use Rattle.tv_value.specs.ShortLaws.{IsText-prop};
+ghost use Rattle.tv_value.specs.TokenRef.{ref_of};
 
+use crate::in_place::{behind_tokens, number_at, text_at, token_at};
 use crate::tokenizer::{PreTokenizedString, Token};
 
 /// A token that is lent. Offsets are in bytes of the text that it is a token of.
@@ -40,10 +42,11 @@ pub struct PreTokenizedStr<'a> {
 }
 
 impl<'a> PreTokenizedStr<'a> {
-    ghost use Rattle.std.specs.Prelude.{map};
+    ghost use Rattle.std.specs.Prelude.{◌≤◌, map, take, IfSome, IfNone};
     ghost use Rattle.std.specs.String.{string_bytes};
-    ghost use Rattle.tv_value.specs.HeldTokens.{token_of};
+    ghost use Rattle.tv_value.specs.InPlace.{NoTokenized};
     ghost use Rattle.tv_value.specs.PreTokenized.{text_of, tokens_left, tokens_of};
+    ghost use Rattle.tv_value.specs.Spelling.{Tokenized};
 
     /// The text and the tokens of the string.
     pub fn from_string(string: &'a PreTokenizedString) -> PreTokenizedStr<'a>
@@ -59,6 +62,24 @@ impl<'a> PreTokenizedStr<'a> {
             text: string.text.as_str(),
             tokens,
         }
+    }
+
+    /// The text and the tokens that a front of the bytes spells as the store does, and how many bytes that front has. None where
+    /// no front spells a text and its tokens. (own)
+    pub fn from_payload(bytes: &'a [u8]) -> Option<(PreTokenizedStr<'a>, usize)>
+        ensures found { IfSome result (λ x. (x.1 ≤ length bytes.now) × Tokenized (take x.1 bytes.now) (text_of x.0) (tokens_of x.0)) }
+        ensures none { IfNone result (NoTokenized bytes.now) }
+    {
+        let (text, behind_text) = text_at(bytes)?;
+        let (count, spelled) = number_at(behind_text)?;
+        let rest = behind_tokens(count, spelled)?;
+        let tokens = TokenIter {
+            kept: &[],
+            spelled,
+            count,
+        };
+        let len = bytes.len() - rest.len();
+        Some((PreTokenizedStr { text, tokens }, len))
     }
 
     /// The text.
@@ -87,5 +108,54 @@ impl<'a> PreTokenizedStr<'a> {
         ensures { IsTrue result ↔ length (tokens_of self.now) ≡ 0 }
     {
         self.len() == 0
+    }
+}
+
+// A token that is kept, lent.
+fn lent(token: &Token) -> TokenRef<'_>
+    ensures { ref_of result ≡ token_of token.now }
+{
+    TokenRef {
+        offset_from: token.offset_from,
+        offset_to: token.offset_to,
+        position: token.position,
+        text: token.text.as_str(),
+        position_length: token.position_length,
+    }
+}
+
+impl<'a> Iterator for TokenIter<'a> {
+    ghost use Rattle.std.specs.Iterator.{YieldsFirstBy, item_count};
+
+    type Item = TokenRef<'a>;
+
+    ghost next_gives = { YieldsFirstBy ref_of (λ s. s.held.0) };
+
+    ghost remaining = { item_count (λ s. s.held.0) };
+
+    fn next(&mut self) -> Option<TokenRef<'a>> {
+        let TokenIter {
+            kept,
+            spelled,
+            count,
+        } = *self;
+        if let Some((token, kept)) = kept.split_first() {
+            *self = TokenIter {
+                kept,
+                spelled,
+                count,
+            };
+            return Some(lent(token));
+        }
+        if count == 0 {
+            return None;
+        }
+        let (token, spelled) = token_at(spelled)?;
+        *self = TokenIter {
+            kept,
+            spelled,
+            count: count - 1,
+        };
+        Some(token)
     }
 }

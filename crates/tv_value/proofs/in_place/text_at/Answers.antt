@@ -1,0 +1,27 @@
+use Rattle.std.proofs.Common.{subst, sym}
+use Rattle.tv_base.specs.Parts.{Begins, Text}
+use Rattle.tv_value.proofs.InPlace.{if_none, text_none, text_ends, text_wrong}
+use Rattle.tv_value.proofs.PlainParts.{sized_found, text_found}
+use Rattle.tv_value.proofs.in_place.text_at.Goals as goal
+
+pub returns-in_err-len-clause-none : goal.returns-in_err-len-clause-none
+returns-in_err-len-clause-none c = if_none c.from_residual.result (text_none c.args.bytes.now c.in_err-len.ensures.none)
+
+pub returns-then-behind_len-len-clause-none : goal.returns-then-behind_len-len-clause-none
+returns-then-behind_len-len-clause-none c = text_ends c.args.bytes.now c.in_ok-len.behind_len.now c.in_ok-len.len c.in_ok-len.ensures.found c.if-behind_len-len.true
+
+pub returns-in-Ok-clause-found : goal.returns-in-Ok-clause-found
+returns-in-Ok-clause-found c =
+    let content = c.split_at.result.0.now in
+    let rest = c.split_at.result.1.now in
+    let sized =
+    sized_found c.args.bytes.now c.in_ok-len.behind_len.now content rest c.in_ok-len.len c.in_ok-len.ensures.found c.if-behind_len-len.false c.split_at.ensures.front c.split_at.ensures.back in
+    subst (λ z. Begins (λ b. Text b z) c.args.bytes.now rest) (sym c.in-Ok.ensures.cases.0) (text_found c.args.bytes.now rest content sized c.in-Ok.ensures.cases.1)
+
+pub returns-in-Err-clause-none : goal.returns-in-Err-clause-none
+returns-in-Err-clause-none c =
+    let content = c.split_at.result.0.now in
+    let rest = c.split_at.result.1.now in
+    let sized =
+    sized_found c.args.bytes.now c.in_ok-len.behind_len.now content rest c.in_ok-len.len c.in_ok-len.ensures.found c.if-behind_len-len.false c.split_at.ensures.front c.split_at.ensures.back in
+    text_wrong c.args.bytes.now rest content sized c.in-Err.ensures.cases.0

@@ -1,0 +1,70 @@
+//! Numbers, texts and tokens at the front of bytes. They are read where they stand.
+
+ghost use Rattle.std.specs.Prelude.{ℕ, List, IfSome, IfNone};
+ghost use Rattle.tv_base.specs.Number.{VNum};
+ghost use Rattle.tv_base.specs.Parts.{Begins, Text};
+ghost use Rattle.tv_value.specs.InPlace.{BeginsTokens, NoFront, NoTokens};
+ghost use Rattle.tv_value.specs.Spelling.{TokenSpelling};
+ghost use Rattle.tv_value.specs.TokenRef.{ref_of};
+ghost use Rattle.tv_value.specs.Tree.{Token};
+
+use crate::pre_tokenized::TokenRef;
+use tv_base::vint::VInt;
+
+/// The number of variable length at the front of the bytes, and what follows it. None where no front spells a number.
+pub(crate) fn number_at(bytes: &[u8]) -> Option<(u64, &[u8])>
+    ensures found { IfSome result (λ x. Begins (λ b. VNum b x.0) bytes.now x.1.now) }
+    ensures none { IfNone result ((n : ℕ) → NoFront (λ b. VNum b n) bytes.now) }
+{
+    let (number, len) = VInt::from_slice(bytes)?;
+    Some((number, &bytes[len..]))
+}
+
+/// The text at the front of the bytes, and what follows it. None where no front spells a text.
+pub(crate) fn text_at(bytes: &[u8]) -> Option<(&str, &[u8])>
+    ensures found { IfSome result (λ x. Begins (λ b. Text b x.0.now) bytes.now x.1.now) }
+    ensures none { IfNone result ((content : List ℕ) → NoFront (λ b. Text b content) bytes.now) }
+{
+    let (len, behind_len) = number_at(bytes)?;
+    if (behind_len.len() as u64) < len {
+        return None;
+    }
+    let (content, rest) = behind_len.split_at(len as usize);
+    match str::from_utf8(content) {
+        Ok(text) => Some((text, rest)),
+        Err(_) => None,
+    }
+}
+
+/// The token at the front of the bytes, and what follows it. None where no front spells a token.
+pub(crate) fn token_at(bytes: &[u8]) -> Option<(TokenRef<'_>, &[u8])>
+    ensures found { IfSome result (λ x. Begins (λ b. TokenSpelling b (ref_of x.0)) bytes.now x.1.now) }
+    ensures none { IfNone result ((token : Token) → NoFront (λ b. TokenSpelling b token) bytes.now) }
+{
+    let (offset_from, behind_from) = number_at(bytes)?;
+    let (offset_to, behind_to) = number_at(behind_from)?;
+    let (position, behind_position) = number_at(behind_to)?;
+    let (text, behind_text) = text_at(behind_position)?;
+    let (position_length, rest) = number_at(behind_text)?;
+    let token = TokenRef {
+        offset_from: offset_from as usize,
+        offset_to: offset_to as usize,
+        position: position as usize,
+        text,
+        position_length: position_length as usize,
+    };
+    Some((token, rest))
+}
+
+/// What follows so many tokens at the front of the bytes. None where no front spells so many.
+pub(crate) fn behind_tokens(count: u64, bytes: &[u8]) -> Option<&[u8]>
+    ensures found { IfSome result (λ rest. BeginsTokens count bytes.now rest.now) }
+    ensures none { IfNone result (NoTokens count bytes.now) }
+{
+    let mut rest = bytes;
+    for _i in 0..count {
+        let (_token, behind) = token_at(rest)?;
+        rest = behind;
+    }
+    Some(rest)
+}
