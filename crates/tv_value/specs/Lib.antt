@@ -19,3 +19,5 @@ pub mod HeldTokens
 pub mod TokenRef
 pub mod InPlace
 pub mod PreTokenized
+pub mod SameTokens
+pub mod SameTokensLaws

@@ -16,3 +16,6 @@ tokens_of s = tokens_left s.tokens
 
 abbrev pub tokenized_leaf : PreTokenizedStr → Leaf
 tokenized_leaf s = tokenized (text_of s) (tokens_of s)
+
+abbrev pub parts_of : PreTokenizedStr → List ℕ × List Token
+parts_of s = (text_of s, tokens_of s)

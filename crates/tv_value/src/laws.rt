@@ -3,10 +3,12 @@
 ghost use Rattle.std.specs.Prelude.{◌≡◌, ℕ, ◌++◌, List};
 ghost use Rattle.tv_base.specs.Parts.{OneReading};
 ghost use Rattle.tv_value.specs.Fault.{Refusal, ValueFault, DocumentFault, NoLegacyFault};
-ghost use Rattle.tv_value.specs.Short.{short, short_document, IsValue, IsDocument};
+ghost use Rattle.tv_value.specs.PreTokenized.{text_of, tokens_of};
+ghost use Rattle.tv_value.specs.Short.{short, short_document, IsText, AreTokens, IsValue, IsDocument};
 ghost use Rattle.tv_value.specs.Spelling.{Spells, SpellsDocument, Derives, NoLegacy};
 ghost use Rattle.tv_value.specs.Tree.{Tree, Document};
 ghost use Rattle.tv_value.specs.Version.{Version, IsWritten};
+ghost use Rattle.tv_value.specs.declared.pre_tokenized.PreTokenizedStr.{PreTokenizedStr};
 
 /// In each version no spelling of a value begins another, and each spells one value.
 pub fn values_have_one_reading()
@@ -48,4 +50,9 @@ pub fn faults_of_values_are_unique()
 /// The same of documents.
 pub fn faults_of_documents_are_unique()
     ensures { (v : Version) (bytes : List ℕ) (r s : Refusal) → DocumentFault NoLegacy NoLegacyFault v bytes r → DocumentFault NoLegacy NoLegacyFault v bytes s → r ≡ s }
+{}
+
+/// A text with its tokens has a spelling, however it is kept.
+pub fn pre_tokenized_texts_spell()
+    ensures { (s : PreTokenizedStr) → IsText (text_of s) × AreTokens (tokens_of s) }
 {}

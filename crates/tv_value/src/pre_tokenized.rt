@@ -159,3 +159,45 @@ impl<'a> Iterator for TokenIter<'a> {
         Some(token)
     }
 }
+
+impl TokenIter<'_> {
+    ghost use Rattle.tv_value.specs.PreTokenized.{tokens_left};
+    ghost use Rattle.tv_value.specs.SameTokens.{tokens_eq};
+
+    // Whether the same tokens are left, in the same order.
+    fn is_same(self, mut other: TokenIter<'_>) -> bool
+        ensures { result ≡ tokens_eq (tokens_left self.entry) (tokens_left other.entry) }
+    {
+        for token in self {
+            match other.next() {
+                Some(same) if same == token => {}
+                _ => return false,
+            }
+        }
+        other.next().is_none()
+    }
+}
+
+/// Texts with their tokens are equal where the texts are and the tokens, however they are kept. No memory is taken.
+impl PartialEq for PreTokenizedStr<'_> {
+    ghost use Rattle.std.specs.Cmp.{on_per};
+    ghost use Rattle.tv_value.specs.PreTokenized.{parts_of};
+    ghost use Rattle.tv_value.specs.SameTokens.{tokenized_eq};
+    ghost use Rattle.tv_value.specs.SameTokensLaws.{tokenized_eq-Decides, deciding_per};
+
+    ghost eq = { λ a b. tokenized_eq (parts_of a) (parts_of b) };
+
+    ghost laws = { on_per parts_of (deciding_per tokenized_eq-Decides) };
+
+    fn eq(&self, other: &Self) -> bool {
+        self.text == other.text && self.tokens.is_same(other.tokens)
+    }
+}
+
+impl Eq for PreTokenizedStr<'_> {
+    ghost use Rattle.std.specs.Cmp.{on_equiv};
+    ghost use Rattle.tv_value.specs.PreTokenized.{parts_of};
+    ghost use Rattle.tv_value.specs.SameTokensLaws.{tokenized_eq-Decides, deciding_equiv};
+
+    ghost laws = { on_equiv parts_of (deciding_equiv tokenized_eq-Decides) };
+}
