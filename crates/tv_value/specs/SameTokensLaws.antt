@@ -1,5 +1,5 @@
 -- Tokens are the same exactly where they are equal, and so are texts with their tokens.
-use Rattle.std.specs.Prelude.{◌≡◌, ℕ, Bool, true, List, nat_eq, refl}
+use Rattle.std.specs.Prelude.{◌≡◌, ℕ, Bool, List, nat_eq, refl}
 use Rattle.std.specs.Bool.{Decides}
 use Rattle.std.specs.Cmp.{IsPartialEquivalence, IsEquivalence, equiv, unsigned_Decides}
 use Rattle.std.specs.Cmp.Lexicographic.{pointwise}

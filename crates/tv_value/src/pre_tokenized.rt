@@ -1,6 +1,6 @@
 //! Texts with their tokens, lent from where they are kept or spelled. None of them takes memory.
 
-ghost use Rattle.std.specs.Prelude.{◌≡◌, ◌↔◌, IsTrue, length};
+ghost use Rattle.std.specs.Prelude.{◌≡◌, ◌↔◌, IfOk, IsTrue, length};
 ghost use Rattle.tv_value.specs.HeldTokens.{HeldTokens, HeldTokens-prop, token_of};
 ghost use Rattle.tv_value.specs.Short.{IsText};
 ghost use Rattle.tv_value.specs.ShortLaws.{IsText-prop};
@@ -8,6 +8,7 @@ ghost use Rattle.tv_value.specs.TokenRef.{ref_of};
 
 use crate::in_place::{behind_tokens, number_at, text_at, token_at};
 use crate::tokenizer::{PreTokenizedString, Token};
+use std::alloc::{AllocError, Global};
 
 /// A token that is lent. Offsets are in bytes of the text that it is a token of.
 #[derive(Clone, Copy, Debug, PartialEq, Eq)]
@@ -109,6 +110,19 @@ impl<'a> PreTokenizedStr<'a> {
     {
         self.len() == 0
     }
+
+    /// A copy that owns the text and the tokens. AllocError where memory runs out. (own)
+    pub fn to_owned_string(&self, alloc: Global) -> Result<PreTokenizedString, AllocError>
+        ensures text { IfOk result (λ copy. string_bytes copy.text ≡ text_of self.now) }
+        ensures tokens { IfOk result (λ copy. map token_of copy.tokens.items ≡ tokens_of self.now) }
+    {
+        let mut tokens = Vec::new(alloc);
+        for token in self.tokens {
+            tokens.push(owned(token, alloc)?)?;
+        }
+        let text = String::from_str(alloc, self.text)?;
+        Ok(PreTokenizedString { text, tokens })
+    }
 }
 
 // A token that is kept, lent.
@@ -122,6 +136,19 @@ fn lent(token: &Token) -> TokenRef<'_>
         text: token.text.as_str(),
         position_length: token.position_length,
     }
+}
+
+// A lent token, copied.
+fn owned(token: TokenRef<'_>, alloc: Global) -> Result<Token, AllocError>
+    ensures { IfOk result (λ copy. token_of copy ≡ ref_of token.entry) }
+{
+    Ok(Token {
+        offset_from: token.offset_from,
+        offset_to: token.offset_to,
+        position: token.position,
+        text: String::from_str(alloc, token.text)?,
+        position_length: token.position_length,
+    })
 }
 
 impl<'a> Iterator for TokenIter<'a> {
