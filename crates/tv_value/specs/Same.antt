@@ -1,23 +1,14 @@
 -- A test that two values are one.
-use Rattle.std.specs.Prelude.{ℕ, List, [], ◌∷◌, Bool, true, false, ◌&&◌, nat_eq}
+use Rattle.std.specs.Prelude.{Bool, true, false, ◌&&◌, nat_eq}
 use Rattle.std.specs.Ordering.{int_eq}
 use Rattle.std.specs.Str.{bytes_eq}
-use Rattle.tv_value.specs.Tree.{Token, Leaf, null, text, unsigned, signed, boolean, date, facet, bytes, ip_address, tokenized, Tree, leaf, array, object, Elements, no_elements, element, Entries, no_entries, entry}
+use Rattle.tv_value.specs.SameTokens.{tokenized_eq}
+use Rattle.tv_value.specs.Tree.{Leaf, null, text, unsigned, signed, boolean, date, facet, bytes, ip_address, tokenized, Tree, leaf, array, object, Elements, no_elements, element, Entries, no_entries, entry}
 
 abbrev pub bool_eq : Bool → Bool → Bool
 bool_eq true b = b
 bool_eq false true = false
 bool_eq false false = true
-
-abbrev pub token_eq : Token → Token → Bool
-token_eq s t =
-    nat_eq s.offset_from t.offset_from
-    && (nat_eq s.offset_to t.offset_to && (nat_eq s.position t.position && (bytes_eq s.text t.text && nat_eq s.position_length t.position_length)))
-
-abbrev pub tokens_eq : List Token → List Token → Bool
-tokens_eq [] [] = true
-tokens_eq (s ∷ ss) (t ∷ ts) = token_eq s t && tokens_eq ss ts
-tokens_eq _ _ = false
 
 abbrev pub leaf_eq : Leaf → Leaf → Bool
 leaf_eq null null = true
@@ -29,7 +20,7 @@ leaf_eq (date y) (date z) = int_eq y z
 leaf_eq (facet s) (facet t) = bytes_eq s t
 leaf_eq (bytes s) (bytes t) = bytes_eq s t
 leaf_eq (ip_address m) (ip_address n) = nat_eq m n
-leaf_eq (tokenized s ss) (tokenized t ts) = bytes_eq s t && tokens_eq ss ts
+leaf_eq (tokenized s ss) (tokenized t ts) = tokenized_eq (s, ss) (t, ts)
 leaf_eq _ _ = false
 
 abbrev mutual

@@ -1,12 +1,12 @@
 -- The test decides whether two values are one.
-use Rattle.std.proofs.Common.{◌≡◌, ℕ, List, [], ◌∷◌, Bool, true, false, ◌&&◌, Decides, refl, ap, sym, ◌∙◌, subst}
+use Rattle.std.proofs.Common.{◌≡◌, ℕ, List, Bool, true, false, ◌&&◌, Decides, refl, ap, sym, ◌∙◌, subst}
 use Rattle.std.proofs.lemmas.Bool.Decides.{Decides-eqb, Decides-int_eq}
 use Rattle.std.proofs.lemmas.Slice.Eq.{bytes_eq-Decides}
-use Rattle.std.specs.Cmp.{IsPartialEquivalence}
 use Rattle.std.specs.Prelude.{nat_eq}
 use Rattle.std.specs.Str.{bytes_eq}
-use Rattle.tv_value.specs.Tree.{Token, Leaf, null, text, unsigned, signed, boolean, date, facet, bytes, ip_address, tokenized, Tree, leaf, array, object, Elements, no_elements, element, Entries, no_entries, entry}
-use Rattle.tv_value.specs.Same.{bool_eq, token_eq, tokens_eq, leaf_eq, tree_eq, elements_eq, entries_eq}
+use Rattle.tv_value.specs.SameTokensLaws.{tokenized_eq-Decides}
+use Rattle.tv_value.specs.Tree.{Leaf, null, text, unsigned, signed, boolean, date, facet, bytes, ip_address, tokenized, Tree, leaf, array, object, Elements, no_elements, element, Entries, no_entries, entry}
+use Rattle.tv_value.specs.Same.{bool_eq, leaf_eq, tree_eq, elements_eq, entries_eq}
 
 left_true : (a b : Bool) → (a && b) ≡ true → a ≡ true
 left_true true b h = refl
@@ -28,42 +28,11 @@ bool_refl : (a : Bool) → bool_eq a a ≡ true
 bool_refl true = refl
 bool_refl false = refl
 
-token_same : (s t : Token) → token_eq s t ≡ true → s ≡ t
-token_same s t h =
-    let from = (Decides-eqb s.offset_from t.offset_from).0 (left_true _ _ h) in
-    let a = right_true _ _ h in
-    let to = (Decides-eqb s.offset_to t.offset_to).0 (left_true _ _ a) in
-    let b = right_true _ _ a in
-    let place = (Decides-eqb s.position t.position).0 (left_true _ _ b) in
-    let c = right_true _ _ b in
-    let content = (bytes_eq-Decides s.text t.text).0 (left_true _ _ c) in
-    let long = (Decides-eqb s.position_length t.position_length).0 (right_true _ _ c) in
-    λ i. record { offset_from = from i; offset_to = to i; position = place i; text = content i; position_length = long i }
-
 number_refl : (n : ℕ) → nat_eq n n ≡ true
 number_refl n = (Decides-eqb n n).1 refl
 
 bytes_refl : (s : List ℕ) → bytes_eq s s ≡ true
 bytes_refl s = (bytes_eq-Decides s s).1 refl
-
-token_refl : (t : Token) → token_eq t t ≡ true
-token_refl t =
-    both _ _ (number_refl t.offset_from)
-    (both _ _ (number_refl t.offset_to)
-    (both _ _ (number_refl t.position)
-    (both _ _ (bytes_refl t.text) (number_refl t.position_length))))
-
-tokens_same : (ss ts : List Token) → tokens_eq ss ts ≡ true → ss ≡ ts
-tokens_same [] [] h = refl
-tokens_same (s ∷ ss) (t ∷ ts) h =
-    let first = token_same s t (left_true _ _ h) in
-    let others = tokens_same ss ts (right_true _ _ h) in
-    λ i. first i ∷ others i
-tokens_same _ _ h = cc
-
-tokens_refl : (ts : List Token) → tokens_eq ts ts ≡ true
-tokens_refl [] = refl
-tokens_refl (t ∷ ts) = both _ _ (token_refl t) (tokens_refl ts)
 
 leaf_same : (l m : Leaf) → leaf_eq l m ≡ true → l ≡ m
 leaf_same null null h = refl
@@ -75,10 +44,7 @@ leaf_same (date y) (date z) h = ap date ((Decides-int_eq y z).0 h)
 leaf_same (facet s) (facet t) h = ap facet ((bytes_eq-Decides s t).0 h)
 leaf_same (bytes s) (bytes t) h = ap bytes ((bytes_eq-Decides s t).0 h)
 leaf_same (ip_address m) (ip_address n) h = ap ip_address ((Decides-eqb m n).0 h)
-leaf_same (tokenized s ss) (tokenized t ts) h =
-    let content = (bytes_eq-Decides s t).0 (left_true _ _ h) in
-    let tokens = tokens_same ss ts (right_true _ _ h) in
-    λ i. tokenized (content i) (tokens i)
+leaf_same (tokenized s ss) (tokenized t ts) h = ap (λ x. tokenized x.0 x.1) ((tokenized_eq-Decides (s, ss) (t, ts)).0 h)
 leaf_same _ _ h = cc
 
 leaf_refl : (l : Leaf) → leaf_eq l l ≡ true
@@ -91,7 +57,7 @@ leaf_refl (date z) = (Decides-int_eq z z).1 refl
 leaf_refl (facet s) = bytes_refl s
 leaf_refl (bytes s) = bytes_refl s
 leaf_refl (ip_address n) = number_refl n
-leaf_refl (tokenized s ss) = both _ _ (bytes_refl s) (tokens_refl ss)
+leaf_refl (tokenized s ss) = (tokenized_eq-Decides (s, ss) (s, ss)).1 refl
 
 mutual
   tree_same : (t u : Tree) → tree_eq t u ≡ true → t ≡ u
@@ -133,18 +99,3 @@ leaf_eq-Decides l m = (leaf_same l m, λ e. subst (λ x. leaf_eq l x ≡ true) e
 
 pub tree_eq-Decides : (t u : Tree) → Decides (tree_eq t u) (t ≡ u)
 tree_eq-Decides t u = (tree_same t u, λ e. subst (λ x. tree_eq t x ≡ true) e (tree_refl t))
-
-pub tokens_eq-Decides : (ss ts : List Token) → Decides (tokens_eq ss ts) (ss ≡ ts)
-tokens_eq-Decides ss ts = (tokens_same ss ts, λ e. subst (λ x. tokens_eq ss x ≡ true) e (tokens_refl ss))
-
-same_bools : (a b : Bool) → (a ≡ true → b ≡ true) → (b ≡ true → a ≡ true) → a ≡ b
-same_bools true b f g = sym (f refl)
-same_bools false true f g = g refl
-same_bools false false f g = refl
-
--- what decides equality is a partial equivalence
-pub deciding_per : {A : Type 0} {E : A → A → Bool} → ((a b : A) → Decides (E a b) (a ≡ b)) → IsPartialEquivalence E
-deciding_per {A} {E} d = record {
-  symm = λ x y. same_bools (E x y) (E y x) (λ h. (d y x).1 (sym ((d x y).0 h))) (λ h. (d x y).1 (sym ((d y x).0 h)));
-  trans = λ x y z h k. (d x z).1 ((d x y).0 h ∙ (d y z).0 k);
-}

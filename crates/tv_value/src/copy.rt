@@ -1,17 +1,13 @@
 //! Copies of lent values, that own what they hold.
 
-ghost use Rattle.std.specs.Prelude.{◌≡◌, IfOk, map, string_bytes};
-ghost use Rattle.tv_value.specs.HeldTokens.{token_of};
+ghost use Rattle.std.specs.Prelude.{◌≡◌, IfOk};
 ghost use Rattle.tv_value.specs.Lent.{leaf_of, nested_tree};
 ghost use Rattle.tv_value.specs.Owned.{owned_tree};
-ghost use Rattle.tv_value.specs.PreTokenized.{tokens_left, text_of, tokens_of};
 ghost use Rattle.tv_value.specs.Tree.{leaf};
 
 use crate::leaf::ReferenceValueLeaf;
 use crate::nested::{Nested, NestedValue};
 use crate::owned_value::OwnedValue;
-use crate::pre_tokenized::{PreTokenizedStr, TokenIter};
-use crate::tokenizer::{PreTokenizedString, Token};
 use std::alloc::{AllocError, Global};
 use std::convert::AsStr;
 use tv_base::Facet;
@@ -23,36 +19,6 @@ fn owned_facet(alloc: Global, encoded: &str) -> Result<Facet, AllocError>
         Ok(facet) => Ok(facet),
         Err(_) => unreachable!(),
     }
-}
-
-fn owned_tokens(alloc: Global, tokens: TokenIter<'_>) -> Result<Vec<Token>, AllocError>
-    ensures { IfOk result (λ made. map token_of made.items ≡ tokens_left tokens.entry) }
-{
-    let mut owned = Vec::new(alloc);
-    for token in tokens {
-        let text = String::from_str(alloc, token.text)?;
-        owned.push(Token {
-            offset_from: token.offset_from,
-            offset_to: token.offset_to,
-            position: token.position,
-            text,
-            position_length: token.position_length,
-        })?;
-    }
-    Ok(owned)
-}
-
-/// A copy of a text and of its tokens.
-pub(crate) fn owned_text(
-    alloc: Global,
-    content: PreTokenizedStr<'_>,
-) -> Result<PreTokenizedString, AllocError>
-    ensures text { IfOk result (λ made. string_bytes made.text ≡ text_of content.entry) }
-    ensures tokens { IfOk result (λ made. map token_of made.tokens.items ≡ tokens_of content.entry) }
-{
-    let text = String::from_str(alloc, content.text())?;
-    let tokens = owned_tokens(alloc, content.tokens())?;
-    Ok(PreTokenizedString { text, tokens })
 }
 
 fn owned_leaf(alloc: Global, value: ReferenceValueLeaf<'_>) -> Result<OwnedValue, AllocError>
@@ -68,7 +34,9 @@ fn owned_leaf(alloc: Global, value: ReferenceValueLeaf<'_>) -> Result<OwnedValue
         ReferenceValueLeaf::Bytes(bytes) => Ok(OwnedValue::Bytes(bytes.to_vec(alloc)?)),
         ReferenceValueLeaf::IpAddr(address) => Ok(OwnedValue::IpAddr(address)),
         ReferenceValueLeaf::Bool(truth) => Ok(OwnedValue::Bool(truth)),
-        ReferenceValueLeaf::PreTokStr(text) => Ok(OwnedValue::PreTokStr(owned_text(alloc, text)?)),
+        ReferenceValueLeaf::PreTokStr(text) => Ok(OwnedValue::PreTokStr(text.to_owned_string(
+            alloc,
+        )?)),
     }
 }
 

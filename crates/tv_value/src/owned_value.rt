@@ -159,7 +159,8 @@ impl PartialEq for OwnedValue {
     ghost use Rattle.std.specs.Cmp.{on_per};
     ghost use Rattle.tv_value.specs.Owned.{owned_tree};
     ghost use Rattle.tv_value.specs.Same.{tree_eq};
-    ghost use Rattle.tv_value.specs.SameLaws.{tree_eq-Decides, deciding_per};
+    ghost use Rattle.tv_value.specs.SameLaws.{tree_eq-Decides};
+    ghost use Rattle.tv_value.specs.SameTokensLaws.{deciding_per};
 
     ghost eq = { λ a b. tree_eq (owned_tree a) (owned_tree b) };
 

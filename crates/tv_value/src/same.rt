@@ -2,40 +2,12 @@
 
 ghost use Rattle.std.specs.Prelude.{◌≡◌};
 ghost use Rattle.tv_value.specs.Lent.{leaf_of, nested_tree};
-ghost use Rattle.tv_value.specs.PreTokenized.{tokens_of};
-ghost use Rattle.tv_value.specs.Same.{token_eq, tokens_eq, leaf_eq, tree_eq};
-ghost use Rattle.tv_value.specs.TokenRef.{ref_of};
+ghost use Rattle.tv_value.specs.Same.{leaf_eq, tree_eq};
 
 use crate::leaf::ReferenceValueLeaf;
 use crate::nested::{Nested, NestedValue, lend};
-use crate::pre_tokenized::{PreTokenizedStr, TokenRef};
 use crate::value::Value;
 use std::convert::AsStr;
-
-fn same_token(one: TokenRef<'_>, other: TokenRef<'_>) -> bool
-    ensures { result ≡ token_eq (ref_of one.entry) (ref_of other.entry) }
-{
-    one.offset_from == other.offset_from
-        && one.offset_to == other.offset_to
-        && one.position == other.position
-        && one.text == other.text
-        && one.position_length == other.position_length
-}
-
-fn same_tokens(one: PreTokenizedStr<'_>, other: PreTokenizedStr<'_>) -> bool
-    ensures { result ≡ tokens_eq (tokens_of one.entry) (tokens_of other.entry) }
-{
-    let mut others = other.tokens();
-    for token in one.tokens() {
-        let Some(other) = others.next() else {
-            return false;
-        };
-        if !same_token(token, other) {
-            return false;
-        }
-    }
-    others.next().is_none()
-}
 
 fn same_leaf(one: ReferenceValueLeaf<'_>, other: ReferenceValueLeaf<'_>) -> bool
     ensures { result ≡ leaf_eq (leaf_of one.entry) (leaf_of other.entry) }
@@ -54,9 +26,7 @@ fn same_leaf(one: ReferenceValueLeaf<'_>, other: ReferenceValueLeaf<'_>) -> bool
             s.to_bits() == t.to_bits()
         }
         (ReferenceValueLeaf::Bool(a), ReferenceValueLeaf::Bool(b)) => a == b,
-        (ReferenceValueLeaf::PreTokStr(s), ReferenceValueLeaf::PreTokStr(t)) => {
-            s.text() == t.text() && same_tokens(s, t)
-        }
+        (ReferenceValueLeaf::PreTokStr(s), ReferenceValueLeaf::PreTokStr(t)) => s == t,
         _ => false,
     }
 }
