@@ -5,13 +5,7 @@ pub mod ExcludingTrees
 pub mod SingleLeaves
 pub mod SingleTrees
 pub mod ShortSpellings
-pub mod PlainParts
-pub mod PlainLeaves
-pub mod PlainItems
-pub mod PlainKeys
-pub mod PlainValues
-pub mod PlainAnswers
-pub mod PlainDocuments
+pub mod Fronts
 pub mod Kept
 pub mod InPlace
 pub mod TokenSteps

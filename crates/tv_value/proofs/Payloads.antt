@@ -11,7 +11,7 @@ use Rattle.tv_value.specs.Short.{IsText, IsToken}
 use Rattle.tv_value.specs.Spelling.{TokenSpelling, Tokenized}
 use Rattle.tv_value.specs.Tree.{Token}
 use Rattle.tv_value.proofs.Kept.{same_tokens}
-use Rattle.tv_value.proofs.PlainParts.{begins_length, begins_then}
+use Rattle.tv_value.proofs.Fronts.{begins_length, begins_then}
 
 -- what follows a front has no more bytes
 pub begins_fewer : {P : List ℕ → Type 0} (whole rest : List ℕ) → Begins P whole rest → length whole < 2 ^ 63 → length rest < 2 ^ 63

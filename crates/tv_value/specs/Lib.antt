@@ -4,8 +4,6 @@ pub mod Version
 pub mod Spelling
 pub mod Short
 pub mod Fault
-pub mod Plain
-pub mod PlainReading
 pub mod DateTime
 pub mod Cases
 pub mod Size

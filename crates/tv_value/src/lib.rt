@@ -9,7 +9,6 @@ pub mod laws;
 pub mod leaf;
 pub mod nested;
 pub mod owned_value;
-pub mod plain;
 pub mod pre_tokenized;
 pub mod same;
 pub mod tokenizer;

@@ -1,11 +1,11 @@
+use plain_reader::documents::read_document;
+use plain_reader::refusal::PlainRefusal;
+use plain_reader::value::{PlainToken, PlainValue, PlainVersion};
+use plain_reader::values::read_value;
 use std::alloc::Global;
 use std::test::Fail;
 use tv_base::cause::Cause;
 use tv_value::date_time::{DateTime, DateTimePrecision};
-use tv_value::plain::documents::read_document;
-use tv_value::plain::refusal::PlainRefusal;
-use tv_value::plain::value::{PlainToken, PlainValue, PlainVersion};
-use tv_value::plain::values::read_value;
 
 // The value of the one pair of a document of version 2, in field 0, whose spelling is this. Where the document has another form,
 // or bytes are left, empty bytes, which no test expects.

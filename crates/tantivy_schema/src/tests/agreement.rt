@@ -5,11 +5,11 @@ use crate::schema::CompactDoc;
 use crate::schema::document::DeserializeError;
 use crate::store::{DocStoreVersion, read_document};
 use crate::tests::sources::DripSource;
+use plain_reader::documents::read_document as read_plainly;
+use plain_reader::refusal::PlainRefusal;
+use plain_reader::value::{PlainValue, PlainVersion};
 use std::alloc::{AllocError, Global};
 use std::test::Fail;
-use tv_value::plain::documents::read_document as read_plainly;
-use tv_value::plain::refusal::PlainRefusal;
-use tv_value::plain::value::{PlainValue, PlainVersion};
 
 /// Bytes that are no codes of types which aren't read yet: codes that are read, others, and ends and beginnings of numbers.
 const BYTES: [u8; 9] = [0x00, 0x01, 0x06, 0x0e, 0x61, 0x80, 0x81, 0x82, 0xff];

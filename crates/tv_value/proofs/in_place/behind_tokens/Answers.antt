@@ -2,7 +2,7 @@ use Rattle.std.proofs.Common.{◌<◌, ◌∷◌, [], ◌++◌, length, arith, l
 use Rattle.tv_value.specs.Spelling.{TokenSpelling}
 use Rattle.tv_value.specs.TokenRef.{ref_of}
 use Rattle.tv_value.proofs.InPlace.{if_none, token_missing}
-use Rattle.tv_value.proofs.PlainItems.{begins_item}
+use Rattle.tv_value.proofs.Fronts.{begins_item}
 use Rattle.tv_value.proofs.in_place.behind_tokens.Goals as goal
 
 pub returns-in_err-_token-clause-none : goal.returns-in_err-_token-clause-none

@@ -1,7 +1,7 @@
 use Rattle.std.proofs.Common.{subst, sym}
 use Rattle.tv_base.specs.Parts.{Begins, Text}
 use Rattle.tv_value.proofs.InPlace.{if_none, text_none, text_ends, text_wrong}
-use Rattle.tv_value.proofs.PlainParts.{sized_found, text_found}
+use Rattle.tv_value.proofs.Fronts.{sized_found, text_found}
 use Rattle.tv_value.proofs.in_place.text_at.Goals as goal
 
 pub returns-in_err-len-clause-none : goal.returns-in_err-len-clause-none

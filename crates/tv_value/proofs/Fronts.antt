@@ -1,0 +1,66 @@
+-- How parts that begin the bytes make larger ones.
+use Rattle.std.proofs.Common.{◌≡◌, ℕ, zero, suc, ◌<◌, ◌≤◌, List, [], ◌∷◌, ◌++◌, length, take, drop, get_or, IsUtf8, refl, sym, ◌∙◌, ap, subst, arith, append_assoc, length-append}
+use Rattle.std.proofs.lemmas.List.{append-nil, take-append-drop, length-take-le}
+use Rattle.tv_base.specs.Number.{VNum}
+use Rattle.tv_base.specs.Parts.{Begins, Then, Each, Behind, Sized, Text}
+
+pub begins_behind : {P : List ℕ → Type 0} (k : ℕ) (rest after : List ℕ) → Begins P rest after → Begins (Behind k P) (k ∷ rest) after
+begins_behind k rest after h = record {
+  front = k ∷ h.front;
+  joined = ap (λ z. k ∷ z) h.joined;
+  spelled = record { body = h.front; joined = refl; spelled = h.spelled };
+}
+
+pub begins_then : {P Q : List ℕ → Type 0} (whole rest after : List ℕ) → Begins P whole rest → Begins Q rest after → Begins (Then P Q) whole after
+begins_then whole rest after p q = record {
+  front = p.front ++ q.front;
+  joined = p.joined ∙ ap (λ z. p.front ++ z) q.joined ∙ sym (append_assoc p.front q.front after);
+  spelled = record { front = p.front; rest = q.front; joined = refl; first = p.spelled; second = q.spelled };
+}
+
+pub begins_nothing : {P : List ℕ → Type 0} (rest : List ℕ) → P [] → Begins P rest rest
+begins_nothing rest p = record { front = []; joined = refl; spelled = p }
+
+pub begins_length : {P : List ℕ → Type 0} (whole rest : List ℕ) → Begins P whole rest → length rest ≤ length whole
+begins_length whole rest p = omega (arith, ap length p.joined, length-append p.front rest)
+
+-- bytes that are cut after so many
+pub begins_cut : (P : List ℕ → Type 0) (k : ℕ) (bytes front rest : List ℕ) → front ≡ take k bytes → rest ≡ drop k bytes → P front → Begins P bytes rest
+begins_cut P k bytes front rest p q s = record { front = front; joined = sym (take-append-drop k bytes) ∙ (λ i. sym p i ++ sym q i); spelled = s }
+
+pub small_take : (n : ℕ) (bs : List ℕ) → ((i : ℕ) → get_or bs i 0 < 256) → (i : ℕ) → get_or (take n bs) i 0 < 256
+small_take zero bs small i = omega arith
+small_take (suc n) [] small i = omega arith
+small_take (suc n) (b ∷ bs) small zero = small 0
+small_take (suc n) (b ∷ bs) small (suc i) = small_take n bs (λ j. small (suc j)) i
+
+-- so many bytes behind the number
+pub sized_found : (bytes rest content behind : List ℕ) (n : ℕ) → Begins (λ b. VNum b n) bytes rest → n ≤ length rest → content ≡ take n rest → behind ≡ drop n rest
+    → Begins (λ b. Sized b content) bytes behind
+sized_found bytes rest content behind n p l is after = record {
+  front = p.front ++ content;
+  joined = p.joined ∙ ap (λ z. p.front ++ z) (sym (take-append-drop n rest) ∙ (λ i. sym is i ++ sym after i)) ∙ sym (append_assoc p.front content behind);
+  spelled = record { size = p.front; joined = refl; number = subst (λ m. VNum p.front m) (sym (ap length is ∙ length-take-le n rest l)) p.spelled };
+}
+
+pub text_found : (bytes rest content : List ℕ) → Begins (λ b. Sized b content) bytes rest → IsUtf8 content → Begins (λ b. Text b content) bytes rest
+text_found bytes rest content p u = record { front = p.front; joined = p.joined; spelled = record { sized = p.spelled; utf8 = u } }
+
+each_push : {A : Type 0} (R : List ℕ → A → Type 0) (xs : List A) (x : A) (a b : List ℕ) → Each R a xs → R b x → Each R (a ++ b) (xs ++ x ∷ [])
+each_push R [] x a b p q = record { front = b; rest = []; joined = ap (λ z. z ++ b) p ∙ sym (append-nil b); first = q; second = refl }
+each_push R (y ∷ xs) x a b p q = record {
+  front = p.front;
+  rest = p.rest ++ b;
+  joined = ap (λ z. z ++ b) p.joined ∙ append_assoc p.front p.rest b;
+  first = p.first;
+  second = each_push R xs x p.rest b p.second q;
+}
+
+-- one item more
+pub begins_item : {A : Type 0} (R : List ℕ → A → Type 0) (xs : List A) (x : A) (whole rest after : List ℕ) → Begins (λ b. Each R b xs) whole rest → Begins (λ b. R b x) rest after
+    → Begins (λ b. Each R b (xs ++ x ∷ [])) whole after
+begins_item R xs x whole rest after p q = record {
+  front = p.front ++ q.front;
+  joined = p.joined ∙ ap (λ z. p.front ++ z) q.joined ∙ sym (append_assoc p.front q.front after);
+  spelled = each_push R xs x p.front q.front p.spelled q.spelled;
+}
