@@ -1,2 +1,3 @@
 mod options;
+mod owned_values;
 mod values;
