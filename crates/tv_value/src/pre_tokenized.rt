@@ -1,6 +1,6 @@
 //! Texts with their tokens, lent from where they are kept or spelled. None of them takes memory.
 
-ghost use Rattle.std.specs.Prelude.{◌≡◌, ◌↔◌, IfOk, IsTrue, length};
+ghost use Rattle.std.specs.Prelude.{◌≡◌, ◌↔◌, [], IfOk, IsTrue, length};
 ghost use Rattle.tv_value.specs.HeldTokens.{HeldTokens, HeldTokens-prop, token_of};
 ghost use Rattle.tv_value.specs.Short.{IsText};
 ghost use Rattle.tv_value.specs.ShortLaws.{IsText-prop};
@@ -65,8 +65,8 @@ impl<'a> PreTokenizedStr<'a> {
         }
     }
 
-    /// The text and the tokens that a front of the bytes spells as the store does, and how many bytes that front has. None where
-    /// no front spells a text and its tokens. (own)
+    /// The text and the tokens that a front of the bytes spells as the store does, and how many bytes that front has (own). None
+    /// where no front spells a text and its tokens.
     pub fn from_payload(bytes: &'a [u8]) -> Option<(PreTokenizedStr<'a>, usize)>
         ensures found { IfSome result (λ x. (x.1 ≤ length bytes.now) × Tokenized (take x.1 bytes.now) (text_of x.0) (tokens_of x.0)) }
         ensures none { IfNone result (NoTokenized bytes.now) }
@@ -101,17 +101,18 @@ impl<'a> PreTokenizedStr<'a> {
     pub fn len(&self) -> usize
         ensures { result ≡ length (tokens_of self.now) }
     {
-        self.tokens.kept.len() + self.tokens.count as usize
+        let kept = self.tokens.kept.len();
+        kept + self.tokens.count as usize
     }
 
     /// Whether there is no token. The text may have characters nevertheless.
     pub fn is_empty(&self) -> bool
-        ensures { IsTrue result ↔ length (tokens_of self.now) ≡ 0 }
+        ensures { IsTrue result ↔ (tokens_of self.now ≡ []) }
     {
         self.len() == 0
     }
 
-    /// A copy that owns the text and the tokens. AllocError where memory runs out. (own)
+    /// A copy that owns the text and the tokens (own). AllocError where memory runs out.
     pub fn to_owned_string(&self, alloc: Global) -> Result<PreTokenizedString, AllocError>
         ensures text { IfOk result (λ copy. string_bytes copy.text ≡ text_of self.now) }
         ensures tokens { IfOk result (λ copy. map token_of copy.tokens.items ≡ tokens_of self.now) }
@@ -217,7 +218,8 @@ impl PartialEq for PreTokenizedStr<'_> {
     ghost laws = { on_per parts_of (deciding_per tokenized_eq-Decides) };
 
     fn eq(&self, other: &Self) -> bool {
-        self.text == other.text && self.tokens.is_same(other.tokens)
+        let has_same_text = self.text == other.text;
+        has_same_text && self.tokens.is_same(other.tokens)
     }
 }
 
