@@ -80,9 +80,9 @@ fn kinds(value: &OwnedValue) -> [bool; 12] {
 #[test]
 fn each_value_is_of_one_kind(rt: HostRuntime) -> Result<(), Fail> {
     for (i, leaf) in leaves(rt.alloc())?.iter().enumerate() {
-        let mut wanted = [false; 12];
-        wanted[i] = true;
-        assert_eq!(rt; kinds(leaf), wanted);
+        let kinds = kinds(leaf);
+        assert_eq!(rt; kinds.iter().filter(|it| **it).count(), 1);
+        assert_eq!(rt; kinds.iter().position(|it| *it), Some(i));
     }
     Ok(())
 }
@@ -108,16 +108,18 @@ fn other_values_are_not_equal(rt: HostRuntime) -> Result<(), Fail> {
     Ok(())
 }
 
+// Whether this is the next entry, and its value an array.
+fn is_array_at(entry: Option<(&str, &OwnedValue)>, key: &str) -> bool {
+    entry.is_some_and(|(found, value)| found == key && value.as_array().is_some())
+}
+
 #[test]
 fn entries_are_lent_in_order(rt: HostRuntime) -> Result<(), Fail> {
     let value = nested(rt.alloc())?;
-    let mut count = 0;
-    for (key, items) in (&value).as_object().ok_or("an object")? {
-        assert_eq!(rt; key, "k");
-        assert_eq!(rt; items.as_array().ok_or("an array")?.count(), 10);
-        count += 1;
-    }
-    assert_eq!(rt; count, 2);
+    let mut entries = (&value).as_object().ok_or("an object")?;
+    assert!(rt; is_array_at(entries.next(), "k"));
+    assert!(rt; is_array_at(entries.next(), "k"));
+    assert!(rt; entries.next().is_none());
     Ok(())
 }
 
