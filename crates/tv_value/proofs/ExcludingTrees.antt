@@ -1,9 +1,9 @@
 -- Where a value or a document is at fault, no front of the bytes spells one.
-use Rattle.std.proofs.Common.{subst, ◌≡◌, ℕ, ◌<◌, ◌≤◌, List, [], ◌∷◌, ◌++◌, length, refl, sym, ◌∙◌, ap, arith, append_assoc, inl, inr, length-append}
+use Rattle.std.proofs.Common.{subst, ◌≡◌, ℕ, ◌<◌, List, [], ◌∷◌, ◌++◌, length, refl, sym, ◌∙◌, ap, arith, append_assoc, inl, inr, length-append}
 use Rattle.tv_base.specs.declared.cause.Cause.{Cause}
 use Rattle.tv_base.specs.Parts.{OneReading}
 use Rattle.tv_value.specs.Tree.{Leaf, Tree, leaf, array, object, Elements, no_elements, element, Entries, no_entries, entry, element_count, entry_count, Document}
-use Rattle.tv_base.specs.Number.{VNum, Fixed}
+use Rattle.tv_base.specs.Number.{VNum}
 use Rattle.tv_value.specs.Version.{Version, entry_total}
 use Rattle.tv_value.specs.Spelling.{leaf_code, Key, Spells, SpellsElements, SpellsEntries, SpellsPair, SpellsDocument, NoLegacy}
 use Rattle.tv_value.specs.Fault.{Refusal, Corrupt, LeafFault, FieldFault, field_ends, field_large, SmallField, ValueFault, value_ends, unknown_code, float_code, in_leaf, in_legacy, in_count, in_element, in_entry_count, odd_count, in_entry_key, in_entry, PairFault, DocumentFault, NoLegacyFault}

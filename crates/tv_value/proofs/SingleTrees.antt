@@ -1,5 +1,5 @@
 -- A value or a document is at fault in one way only.
-use Rattle.std.proofs.Common.{◌≡◌, ◌≢◌, ◌⊎◌, ℕ, ◌<◌, ◌≤◌, List, [], ◌∷◌, ◌++◌, length, refl, sym, ◌∙◌, ap, subst, arith, inl, inr}
+use Rattle.std.proofs.Common.{◌≡◌, ◌≢◌, ◌⊎◌, ℕ, ◌<◌, List, [], ◌∷◌, ◌++◌, refl, sym, ◌∙◌, ap, subst, arith, inl, inr}
 use Rattle.std.proofs.lemmas.Bool.{cases_lt}
 use Rattle.tv_base.specs.declared.cause.Cause.{Cause}
 use Rattle.tv_base.specs.declared.cause.Cause.TheVariants.{UnexpectedEnd, UnknownTypeCode, FloatCode, OddObject}
@@ -9,11 +9,11 @@ use Rattle.tv_base.specs.PartFault.{InEach, NumberFault}
 use Rattle.tv_base.proofs.Numbers.{agree_number, one_number}
 use Rattle.tv_base.proofs.Excluding.{Excludes, rests, excludes_number}
 use Rattle.tv_base.proofs.Single.{Single, single_then, single_each, single_number}
-use Rattle.tv_value.specs.Tree.{Tree, Elements, Entries, element_count, entry_count, Document}
+use Rattle.tv_value.specs.Tree.{Tree, Elements, Entries, element_count, entry_count}
 use Rattle.tv_value.specs.Version.{Version, entry_total}
-use Rattle.tv_value.specs.Spelling.{Key, Spells, SpellsElements, SpellsEntries, SpellsPair, NoLegacy}
+use Rattle.tv_value.specs.Spelling.{Key, Spells, SpellsElements, SpellsEntries, SpellsPair}
 use Rattle.tv_value.specs.Fault.{Refusal, corrupted, Corrupt, corrupt, KeyFault, LeafFault, FieldFault, SmallField, ValueFault, value_ends, unknown_code, float_code, in_leaf, in_legacy, in_count, in_element, in_entry_count, odd_count, in_entry_key, in_entry, PairFault, DocumentFault, NoLegacyFault}
-use Rattle.tv_value.proofs.Leaves.{agree_key, total_same}
+use Rattle.tv_value.proofs.Leaves.{agree_key}
 use Rattle.tv_value.proofs.Trees.{agree_elements, agree_entries, one_pair}
 use Rattle.tv_value.proofs.ExcludingLeaves.{leaf_fault_code, key_excludes, excludes_corrupt}
 use Rattle.tv_value.proofs.ExcludingTrees.{elements_reach, entries_reach, value_excludes, excludes_field, one_field, pair_excludes}

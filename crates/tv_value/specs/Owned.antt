@@ -1,5 +1,5 @@
 -- The tree that an owned value is.
-use Rattle.std.specs.Prelude.{◌≡◌, ℕ, List, map, string_bytes, String, Option, Some, None}
+use Rattle.std.specs.Prelude.{ℕ, List, map, string_bytes, String, Option, Some, None}
 use Rattle.std.specs.Borrow.{Bor}
 use Rattle.std.specs.Iterator.{YieldsFirstRef, YieldsFirstBy}
 use Rattle.std.specs.Net.Addr.{ipv6_bits}
