@@ -28,3 +28,12 @@ pub use Rattle.tv_doc.specs.declared.value.CompactDocValue
 pub use Rattle.tv_store.specs.declared.de.DocStoreVersion
 pub use Rattle.tv_value.specs.declared.date_time.DateTimePrecision
 pub use Rattle.tv_value.specs.declared.field.Field
+pub use Rattle.tv_value.specs.declared.leaf.ReferenceValueLeaf
+pub use Rattle.tv_value.specs.declared.nested.NestedValue
+pub use Rattle.tv_value.specs.declared.owned_value.OwnedValue
+pub use Rattle.tv_value.specs.declared.pre_tokenized.PreTokenizedStr
+pub use Rattle.tv_value.specs.declared.pre_tokenized.TokenIter
+pub use Rattle.tv_value.specs.declared.pre_tokenized.TokenRef
+pub use Rattle.tv_value.specs.declared.tokenizer.PreTokenizedString
+pub use Rattle.tv_value.specs.declared.tokenizer.Token
+pub use Rattle.tv_value.specs.declared.value.ReferenceValue

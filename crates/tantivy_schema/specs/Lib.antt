@@ -21,6 +21,16 @@ pub use Rattle.tv_value.specs.Spelling
 pub use Rattle.tv_value.specs.Short
 pub use Rattle.tv_value.specs.Fault
 pub use Rattle.tv_value.specs.DateTime
+pub use Rattle.tv_value.specs.Cases
+pub use Rattle.tv_value.specs.Size
+pub use Rattle.tv_value.specs.Lent
+pub use Rattle.tv_value.specs.Owned
+pub use Rattle.tv_value.specs.Same
+pub use Rattle.tv_value.specs.SameLaws
+pub use Rattle.tv_value.specs.HeldTokens
+pub use Rattle.tv_value.specs.TokenRef
+pub use Rattle.tv_value.specs.PreTokenized
+pub use Rattle.tv_value.specs.SameTokens
 -- options, types and schemas
 pub use Rattle.tv_options.specs.FacetOptions
 pub use Rattle.tv_options.specs.FastFieldTextOptions

@@ -6,6 +6,7 @@ pub mod fastfield;
 pub mod laws;
 pub mod schema;
 pub mod store;
+pub mod tokenizer;
 
 pub use schema::{TantivyDocument, Term};
 pub use tv_value::date_time::DateTime;

@@ -16,3 +16,5 @@ pub use tv_schema::{
 };
 pub use tv_term::{OwnedValueBytes, Term, TermError, ValueBytes};
 pub use tv_value::field::Field;
+pub use tv_value::owned_value::OwnedValue;
+pub use tv_value::value::Value;

@@ -7,3 +7,8 @@ pub use tv_doc::value::CompactDocValue;
 pub use tv_store::{
     BinaryDocumentSerializer, DeserializeError, SerializeError, ValueType, type_codes,
 };
+pub use tv_value::leaf::ReferenceValueLeaf;
+pub use tv_value::nested::{Nested, NestedValue, lend};
+pub use tv_value::owned_value::{OwnedArrayIter, OwnedObjectIter, OwnedValue};
+pub use tv_value::same::is_same;
+pub use tv_value::value::{ReferenceValue, Value};
