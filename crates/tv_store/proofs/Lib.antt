@@ -5,3 +5,4 @@ pub mod Promises
 pub mod Stores
 pub mod StoredLaws
 pub mod SingleRefusals
+pub mod Coded

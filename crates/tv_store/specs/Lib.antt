@@ -5,3 +5,4 @@ pub mod Reading
 pub mod Refused
 pub mod Documents
 pub mod Pairs
+pub mod Children

@@ -7,6 +7,7 @@ pub mod laws;
 mod pairs;
 pub mod se;
 pub mod type_codes;
+mod value_writer;
 
 pub use de::{DocStoreVersion, read_document};
 pub use error::{DeserializeError, SerializeError, ValueType};

@@ -1,0 +1,297 @@
+//! Writing values of any kind, each in its shortest spelling, as the store's version 2 has it.
+//!
+//! Each function hands on the error of a failed write. The sink then holds what it held before, and a beginning of what was
+//! to be written.
+
+ghost use Rattle.std.specs.Prelude.{◌≡◌, ◌<◌, ◌^◌, [], ◌∷◌};
+ghost use Rattle.std.specs.List.{flat_map};
+ghost use Rattle.tv_base.specs.Number.{vnum, eight_bytes, sixteen_bytes, signed_bytes, truth_byte};
+ghost use Rattle.tv_base.specs.Parts.{short_sized};
+ghost use Rattle.tv_base.specs.Sink.{Writes};
+ghost use Rattle.tv_store.specs.Children.{child_count};
+ghost use Rattle.tv_store.specs.Stored.{leaf_written, tree_written};
+ghost use Rattle.tv_value.specs.Lent.{leaf_of, nested_tree};
+ghost use Rattle.tv_value.specs.PreTokenized.{text_of, tokens_left, tokens_of};
+ghost use Rattle.tv_value.specs.Short.{short_token, short_tokenized, short_leaf, short, IsValue};
+ghost use Rattle.tv_value.specs.TokenRef.{ref_of};
+ghost use Rattle.tv_value.specs.Tree.{elements, entries, element_count, entry_count};
+ghost use Rattle.tv_value.specs.Version.{V2};
+
+use crate::type_codes::{
+    ARRAY_CODE, BOOL_CODE, BYTES_CODE, DATE_CODE, EXT_CODE, HIERARCHICAL_FACET_CODE, I64_CODE,
+    IP_CODE, NULL_CODE, OBJECT_CODE, TEXT_CODE, TOK_STR_EXT_CODE, U64_CODE,
+};
+use std::convert::AsStr;
+use std::io;
+use tv_base::ByteSink;
+use tv_base::write::{
+    write_bool, write_i64, write_sized, write_text, write_u8, write_u64, write_u128, write_vint,
+};
+use tv_value::leaf::ReferenceValueLeaf;
+use tv_value::nested::{Nested, NestedValue, lend};
+use tv_value::pre_tokenized::{PreTokenizedStr, TokenIter, TokenRef};
+use tv_value::value::Value;
+
+// The code of a value.
+#[inline]
+#[tactic(auto, unfolding(tv_base::specs::Number::one_byte))]
+fn write_code<K: ByteSink>(sink: &mut K, code: u8) -> Result<(), io::ErrorKind>
+    ensures { Writes K.tells K.held K.faults sink.old sink.new result (code ∷ []) }
+{
+    write_u8(sink, code)
+}
+
+// A code, and a text behind its length.
+#[inline]
+#[tactic(auto, using(crate::proofs::Coded::Coded_then))]
+fn write_coded_text<K: ByteSink>(sink: &mut K, code: u8, text: &str) -> Result<(), io::ErrorKind>
+    ensures { Writes K.tells K.held K.faults sink.old sink.new result (code ∷ short_sized text.now) }
+{
+    write_code(sink, code)?;
+    write_text(sink, text)
+}
+
+// A code, and bytes behind their length.
+#[inline]
+#[tactic(auto, using(crate::proofs::Coded::Coded_then))]
+fn write_coded_bytes<K: ByteSink>(
+    sink: &mut K,
+    code: u8,
+    content: &[u8],
+) -> Result<(), io::ErrorKind>
+    ensures { Writes K.tells K.held K.faults sink.old sink.new result (code ∷ short_sized content.now) }
+{
+    write_code(sink, code)?;
+    write_sized(sink, content)
+}
+
+// A code, and a number in eight bytes.
+#[inline]
+#[tactic(auto, using(crate::proofs::Coded::Coded_then))]
+fn write_coded_u64<K: ByteSink>(sink: &mut K, code: u8, number: u64) -> Result<(), io::ErrorKind>
+    ensures { Writes K.tells K.held K.faults sink.old sink.new result (code ∷ eight_bytes number) }
+{
+    write_code(sink, code)?;
+    write_u64(sink, number)
+}
+
+// A code, and a signed number in eight bytes.
+#[inline]
+#[tactic(auto, using(crate::proofs::Coded::Coded_then))]
+fn write_coded_i64<K: ByteSink>(sink: &mut K, code: u8, number: i64) -> Result<(), io::ErrorKind>
+    ensures { Writes K.tells K.held K.faults sink.old sink.new result (code ∷ signed_bytes number) }
+{
+    write_code(sink, code)?;
+    write_i64(sink, number)
+}
+
+// A code, and a number in sixteen bytes.
+#[inline]
+#[tactic(auto, using(crate::proofs::Coded::Coded_then))]
+fn write_coded_u128<K: ByteSink>(sink: &mut K, code: u8, number: u128) -> Result<(), io::ErrorKind>
+    ensures { Writes K.tells K.held K.faults sink.old sink.new result (code ∷ sixteen_bytes number) }
+{
+    write_code(sink, code)?;
+    write_u128(sink, number)
+}
+
+// A code, and a truth value.
+#[inline]
+#[tactic(auto, using(crate::proofs::Coded::Coded_then))]
+fn write_coded_bool<K: ByteSink>(sink: &mut K, code: u8, truth: bool) -> Result<(), io::ErrorKind>
+    ensures { Writes K.tells K.held K.faults sink.old sink.new result (code ∷ truth_byte truth) }
+{
+    write_code(sink, code)?;
+    write_bool(sink, truth)
+}
+
+// A code, and how many children there are.
+#[inline]
+#[tactic(auto, using(crate::proofs::Coded::Coded_then))]
+fn write_coded_count<K: ByteSink>(sink: &mut K, code: u8, count: u64) -> Result<(), io::ErrorKind>
+    ensures { Writes K.tells K.held K.faults sink.old sink.new result (code ∷ vnum count) }
+{
+    write_code(sink, code)?;
+    write_vint(sink, count)
+}
+
+// A token: where it begins and ends, its position, its text, and how many positions it takes.
+#[tactic(auto, using(tv_base::proofs::Written::Writes_then, tv_base::proofs::Written::Writes_front))]
+fn write_token<K: ByteSink>(sink: &mut K, token: TokenRef<'_>) -> Result<(), io::ErrorKind>
+    ensures { Writes K.tells K.held K.faults sink.old sink.new result (short_token (ref_of token.entry)) }
+{
+    write_vint(sink, token.offset_from as u64)?;
+    write_vint(sink, token.offset_to as u64)?;
+    write_vint(sink, token.position as u64)?;
+    write_text(sink, token.text)?;
+    write_vint(sink, token.position_length as u64)
+}
+
+// The tokens that are left, in order.
+fn write_tokens<K: ByteSink>(sink: &mut K, tokens: TokenIter<'_>) -> Result<(), io::ErrorKind>
+    ensures { Writes K.tells K.held K.faults sink.old sink.new result (flat_map short_token (tokens_left tokens.entry)) }
+{
+    for token in tokens {
+        write_token(sink, token)?;
+    }
+    Ok(())
+}
+
+// A text, how many tokens it has, and each.
+#[tactic(auto, using(tv_base::proofs::Written::Writes_then, tv_base::proofs::Written::Writes_front))]
+fn write_tokenized<K: ByteSink>(
+    sink: &mut K,
+    text: PreTokenizedStr<'_>,
+) -> Result<(), io::ErrorKind>
+    ensures { Writes K.tells K.held K.faults sink.old sink.new result (short_tokenized (text_of text.entry) (tokens_of text.entry)) }
+{
+    write_text(sink, text.text())?;
+    write_vint(sink, text.len() as u64)?;
+    write_tokens(sink, text.tokens())
+}
+
+// The two codes of a text with tokens, and the text with its tokens.
+#[tactic(auto, using(crate::proofs::Coded::Coded_then))]
+fn write_extension<K: ByteSink>(
+    sink: &mut K,
+    text: PreTokenizedStr<'_>,
+) -> Result<(), io::ErrorKind>
+    ensures { Writes K.tells K.held K.faults sink.old sink.new result (7 ∷ 0 ∷ short_tokenized (text_of text.entry) (tokens_of text.entry)) }
+{
+    write_code(sink, EXT_CODE)?;
+    write_code(sink, TOK_STR_EXT_CODE)?;
+    write_tokenized(sink, text)
+}
+
+// A value without children.
+fn write_leaf<K: ByteSink>(sink: &mut K, leaf: ReferenceValueLeaf<'_>) -> Result<(), io::ErrorKind>
+    ensures { Writes K.tells K.held K.faults sink.old sink.new result (short_leaf (leaf_of leaf.entry)) }
+{
+    match leaf {
+        ReferenceValueLeaf::Null => write_code(sink, NULL_CODE),
+        ReferenceValueLeaf::Str(text) => write_coded_text(sink, TEXT_CODE, text),
+        ReferenceValueLeaf::U64(number) => write_coded_u64(sink, U64_CODE, number),
+        ReferenceValueLeaf::I64(number) => write_coded_i64(sink, I64_CODE, number),
+        ReferenceValueLeaf::Date(date) => {
+            write_coded_i64(sink, DATE_CODE, date.into_timestamp_nanos())
+        }
+        ReferenceValueLeaf::Facet(encoded) => {
+            write_coded_text(sink, HIERARCHICAL_FACET_CODE, encoded)
+        }
+        ReferenceValueLeaf::Bytes(content) => write_coded_bytes(sink, BYTES_CODE, content),
+        ReferenceValueLeaf::IpAddr(address) => write_coded_u128(sink, IP_CODE, address.to_bits()),
+        ReferenceValueLeaf::Bool(truth) => write_coded_bool(sink, BOOL_CODE, truth),
+        ReferenceValueLeaf::PreTokStr(text) => write_extension(sink, text),
+    }
+}
+
+// How many values are left of an array.
+fn array_count<N: Nested>(items: N::ArrayIter) -> u64
+    requires { element_count (elements (N.array_rest items)) < 2 ^ 63 }
+    ensures { result ≡ element_count (elements (N.array_rest items)) }
+{
+    let mut count = 0;
+    for _item in items {
+        count += 1;
+    }
+    count
+}
+
+// How many entries are left of an object.
+fn object_count<N: Nested>(members: N::ObjectIter) -> u64
+    requires { entry_count (entries (N.object_rest members)) < 2 ^ 63 }
+    ensures { result ≡ entry_count (entries (N.object_rest members)) }
+{
+    let mut count = 0;
+    for _member in members {
+        count += 1;
+    }
+    count
+}
+
+// How many children a value has.
+fn children<N: Nested>(value: NestedValue<'_, N>) -> u64
+    requires { IsValue (nested_tree N.array_rest N.object_rest value) }
+    ensures { result ≡ child_count (nested_tree N.array_rest N.object_rest value.entry) }
+{
+    match value {
+        NestedValue::Leaf(_) => 0,
+        NestedValue::Array(items) => array_count::<N>(items),
+        NestedValue::Object(members) => object_count::<N>(members),
+    }
+}
+
+// A value of which the children were counted: its code, the announced number, and each child.
+fn write_tree<K: ByteSink, N: Nested>(
+    sink: &mut K,
+    count: u64,
+    value: NestedValue<'_, N>,
+) -> Result<(), io::ErrorKind>
+    requires count { count ≡ child_count (nested_tree N.array_rest N.object_rest value) }
+    requires valid { IsValue (nested_tree N.array_rest N.object_rest value) }
+    ensures { Writes K.tells K.held K.faults sink.old sink.new result (short V2 (nested_tree N.array_rest N.object_rest value.entry)) }
+{
+    match value {
+        NestedValue::Leaf(leaf) => write_leaf(sink, leaf),
+        NestedValue::Array(items) => {
+            write_coded_count(sink, ARRAY_CODE, count)?;
+            for item in items {
+                let below = children(item.as_nested());
+                write_tree(sink, below, item.as_nested())?;
+            }
+            Ok(())
+        }
+        NestedValue::Object(members) => {
+            write_coded_count(sink, OBJECT_CODE, 2 * count)?;
+            for (key, item) in members {
+                write_coded_text(sink, TEXT_CODE, key.as_str())?;
+                let below = children(item.as_nested());
+                write_tree(sink, below, item.as_nested())?;
+            }
+            Ok(())
+        }
+    }
+}
+
+/// Writes a value of any kind: its code, and what it holds. It takes no memory of its own.
+///
+/// The only error is the kind with which a write failed. The sink then holds what it held before, and a beginning of the value.
+pub(crate) fn write_value<'a, K: ByteSink, V: Value<'a>>(
+    sink: &mut K,
+    value: &V,
+) -> Result<(), io::ErrorKind>
+    requires { IsValue (V.tree value.now) }
+    ensures { Writes K.tells K.held K.faults sink.old sink.new result (short V2 (V.tree value.now)) }
+{
+    let count = children(lend(value));
+    write_tree(sink, count, lend(value))
+}
+
+// A value without children, as a pair has it: of a text with tokens the text alone.
+fn write_stored_leaf<K: ByteSink>(
+    sink: &mut K,
+    leaf: ReferenceValueLeaf<'_>,
+) -> Result<(), io::ErrorKind>
+    ensures { Writes K.tells K.held K.faults sink.old sink.new result (short_leaf (leaf_written (leaf_of leaf.entry))) }
+{
+    match leaf {
+        ReferenceValueLeaf::PreTokStr(text) => write_coded_text(sink, TEXT_CODE, text.text()),
+        other => write_leaf(sink, other),
+    }
+}
+
+/// Writes the value of a pair, as `write_value` does, but of a text with tokens the text alone.
+///
+/// The only error is the kind with which a write failed. The sink then holds what it held before, and a beginning of the value.
+pub(crate) fn write_stored<'a, K: ByteSink, V: Value<'a>>(
+    sink: &mut K,
+    value: &V,
+) -> Result<(), io::ErrorKind>
+    requires { IsValue (V.tree value.now) }
+    ensures { Writes K.tells K.held K.faults sink.old sink.new result (short V2 (tree_written (V.tree value.now))) }
+{
+    match lend(value) {
+        NestedValue::Leaf(leaf) => write_stored_leaf(sink, leaf),
+        _ => write_value(sink, value),
+    }
+}
