@@ -54,12 +54,11 @@ tree_written-handled (array ts) h = absurd (no h)
 tree_written-handled (object es) h = absurd (no h)
 
 -- a pair whose field is stored, and one whose field is not
-pub written_one : (schema : List Entry) (field : ℕ) (entry : Entry) (t : Tree) → slice_get schema field ≡ Some entry → true ≡ is_stored_type entry.field_type → is_handled t ≡ true → short_pair V2 (field, t) ≡ written_pairs schema ((field, t) ∷ [])
-written_one schema field entry t found is handled =
+pub written_one : (schema : List Entry) (field : ℕ) (entry : Entry) (t : Tree) → slice_get schema field ≡ Some entry → true ≡ is_stored_type entry.field_type → short_pair V2 (field, tree_written t) ≡ written_pairs schema ((field, t) ∷ [])
+written_one schema field entry t found is =
     let there : is_stored_field schema field ≡ true = ap is_stored_entry found ∙ sym is in
-    let only : stored schema ((field, t) ∷ []) ≡ (field, t) ∷ [] =
-    stored-cons schema (field, t) [] ∙ ap (λ b. cond b ((field, tree_written t) ∷ []) []) there ∙ ap (λ u. (field, u) ∷ []) (tree_written-handled t handled) in
-    sym (ap (flat_map (short_pair V2)) only ∙ flat_map-cons (short_pair V2) (field, t) [] ∙ append-nil (short_pair V2 (field, t)))
+    let only : stored schema ((field, t) ∷ []) ≡ (field, tree_written t) ∷ [] = stored-cons schema (field, t) [] ∙ ap (λ b. cond b ((field, tree_written t) ∷ []) []) there in
+    sym (ap (flat_map (short_pair V2)) only ∙ flat_map-cons (short_pair V2) (field, tree_written t) [] ∙ append-nil (short_pair V2 (field, tree_written t)))
 
 pub written_none : (schema : List Entry) (field : ℕ) (entry : Entry) (t : Tree) → slice_get schema field ≡ Some entry → false ≡ is_stored_type entry.field_type → [] ≡ written_pairs schema ((field, t) ∷ [])
 written_none schema field entry t found is =

@@ -1,71 +1,39 @@
 //! Writing documents into the store.
 
-ghost use Rattle.std.specs.Prelude.{◌≡◌, ◌<◌, [], ◌∷◌, Ok, IfErr, IsTrue, length};
+ghost use Rattle.std.specs.Prelude.{◌≡◌, ◌<◌, [], ◌∷◌, Ok, IfErr, length};
 ghost use Rattle.tv_base.specs.Sink.{Writes};
 ghost use Rattle.tv_doc.specs.Belongs.{Belongs};
 ghost use Rattle.tv_doc.specs.Document.{document_of};
-ghost use Rattle.tv_doc.specs.Handled.{is_handled};
 ghost use Rattle.tv_doc.specs.Value.{tree_of};
 ghost use Rattle.tv_store.specs.Error as store;
 ghost use Rattle.tv_store.specs.Error.{IsIo};
-ghost use Rattle.tv_store.specs.Stored.{stored, written_pairs};
-ghost use Rattle.tv_value.specs.Short.{short, short_pair, short_document};
+ghost use Rattle.tv_store.specs.Stored.{stored, tree_written, written_pairs};
+ghost use Rattle.tv_value.specs.Short.{short_pair, short_document, IsValue};
 ghost use Rattle.tv_value.specs.Version.{V2};
-ghost use Rattle.tv_base.specs.Parts.{short_sized};
-ghost use Rattle.tv_base.specs.Number.{eight_bytes};
 
 use crate::error::SerializeError;
-use crate::type_codes::{TEXT_CODE, U64_CODE};
+use crate::value_writer::write_stored;
 use std::io;
 use tv_base::ByteSink;
-use tv_base::write::{write_text, write_u8, write_u32, write_u64, write_vint};
+use tv_base::write::{write_u32, write_vint};
 use tv_doc::document::CompactDoc;
-use tv_doc::laws::{documents_are_handled, documents_are_valid};
+use tv_doc::laws::documents_are_valid;
 use tv_doc::value::CompactDocValue;
 use tv_schema::Schema;
 use tv_value::field::Field;
 
-#[tactic(auto, using(tv_base::proofs::Written::Writes_then, tv_base::proofs::Written::Writes_front), unfolding(tv_base::specs::Number::one_byte))]
-fn write_coded_text<K: ByteSink>(sink: &mut K, text: &str) -> Result<(), io::ErrorKind>
-    ensures { Writes K.tells K.held K.faults sink.old sink.new result (0 ∷ short_sized text.now) }
-{
-    write_u8(sink, TEXT_CODE)?;
-    write_text(sink, text)
-}
-
-#[tactic(auto, using(tv_base::proofs::Written::Writes_then, tv_base::proofs::Written::Writes_front), unfolding(tv_base::specs::Number::one_byte))]
-fn write_coded_u64<K: ByteSink>(sink: &mut K, number: u64) -> Result<(), io::ErrorKind>
-    ensures { Writes K.tells K.held K.faults sink.old sink.new result (1 ∷ eight_bytes number) }
-{
-    write_u8(sink, U64_CODE)?;
-    write_u64(sink, number)
-}
-
-/// A text or a number, behind its code.
-fn write_value<K: ByteSink>(sink: &mut K, value: CompactDocValue<'_>) -> Result<(), io::ErrorKind>
-    requires { IsTrue (is_handled (tree_of value)) }
-    ensures { Writes K.tells K.held K.faults sink.old sink.new result (short V2 (tree_of value.entry)) }
-{
-    if let Some(text) = value.as_str() {
-        return write_coded_text(sink, text);
-    }
-    match value.as_u64() {
-        Some(number) => write_coded_u64(sink, number),
-        None => unreachable!(),
-    }
-}
-
+/// Writes a pair: its field, and its value. A pre-tokenised text is written as its text.
 #[tactic(auto, using(tv_base::proofs::Written::Writes_then, tv_base::proofs::Written::Writes_front))]
 fn write_pair<K: ByteSink>(
     sink: &mut K,
     field: Field,
     value: CompactDocValue<'_>,
 ) -> Result<(), io::ErrorKind>
-    requires { IsTrue (is_handled (tree_of value)) }
-    ensures { Writes K.tells K.held K.faults sink.old sink.new result (short_pair V2 (field.id, tree_of value.entry)) }
+    requires { IsValue (tree_of value) }
+    ensures { Writes K.tells K.held K.faults sink.old sink.new result (short_pair V2 (field.id, tree_written (tree_of value.entry))) }
 {
     write_u32(sink, field.field_id())?;
-    write_value(sink, value)
+    write_stored(sink, &value)
 }
 
 /// How many pairs have a stored field.
@@ -91,7 +59,7 @@ fn write_if_stored<K: ByteSink>(
     value: CompactDocValue<'_>,
 ) -> Result<(), io::ErrorKind>
     requires belongs { field.id < length schema.now }
-    requires handled { IsTrue (is_handled (tree_of value)) }
+    requires valid { IsValue (tree_of value) }
     ensures { Writes K.tells K.held K.faults sink.old sink.new result (written_pairs schema.now ((field.id, tree_of value.entry) ∷ [])) }
 {
     if schema.get_field_entry(field).is_stored() {
@@ -110,7 +78,7 @@ fn write_pairs<K: ByteSink>(
     requires { Belongs schema.now (document_of document.now) }
     ensures { Writes K.tells K.held K.faults sink.old sink.new result (written_pairs schema.now (document_of document.now)) }
 {
-    documents_are_handled();
+    documents_are_valid();
     for (field, value) in document.field_values() {
         write_if_stored(sink, schema, field, value)?;
     }

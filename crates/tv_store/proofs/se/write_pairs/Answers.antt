@@ -1,15 +1,17 @@
-use Rattle.std.proofs.Common.{◌≡◌, ◌∷◌, rules}
+use Rattle.std.proofs.Common.{◌≡◌, ◌∷◌, subst, rules}
+use Rattle.std.specs.List.{AllByRecursion}
 use Rattle.std.proofs.lemmas.Result.{err_from_is_err_and}
 use Rattle.tv_base.proofs.Written.{Written-start, Written-step, Written-fails}
 use Rattle.tv_doc.specs.Document.{document_of}
 use Rattle.tv_doc.specs.Value.{pairs_left, tree_of}
-use Rattle.tv_store.proofs.Stores.{written_next, others_handled}
+use Rattle.tv_value.specs.Short.{IsPair}
+use Rattle.tv_store.proofs.Stores.{written_next}
 use Rattle.tv_store.proofs.se.write_pairs.Goals as goal
 
 pub loop-field-init : goal.loop-field-init
 loop-field-init g c =
     let all : pairs_left c.into_iter-field-iterator.result ≡ document_of c.args.document.now = search rules in
-    rw all (record { can_next = tt; is_finite = tt; belongs = c.requires; handled = c.documents_are_handled.ensures c.args.document.now; written = Written-start _ _ _ _ _ })
+    rw all (record { can_next = tt; is_finite = tt; belongs = c.requires; valid = (c.documents_are_valid.ensures c.args.document.now).each; written = Written-start _ _ _ _ _ })
 
 pub loop-field-preserved : goal.loop-field-preserved
 loop-field-preserved g c =
@@ -19,7 +21,7 @@ loop-field-preserved g c =
       can_next = tt;
       is_finite = tt;
       belongs = search rules;
-      handled = others_handled _ _ _ cut l.invariant.handled;
+      valid = (subst (AllByRecursion IsPair) cut l.invariant.valid).1;
       written = Written-step _ _ (written_next _ _ _ _ cut) l.invariant.written c.in_ok-write_if_stored.ensures;
     }
 
