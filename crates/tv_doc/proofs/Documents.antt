@@ -8,7 +8,7 @@ use Rattle.std.proofs.Math.Logic.{∥∥₁_elim, ∥∥₁_map}
 use Rattle.std.proofs.Math.Seq.{take-append_seam}
 use Rattle.std.proofs.Math.Nat.{ℕ_set}
 use base.Stored.{Coded-set}
-use Rattle.tv_value.specs.Tree.{Tree, leaf, Document}
+use Rattle.tv_value.specs.Tree.{Tree, Document}
 use Rattle.tv_value.specs.TreeCode.{coded_document}
 use Rattle.tv_doc.specs.declared.document.CompactDoc.{CompactDoc}
 use Rattle.tv_doc.specs.declared.place.FieldValueAddr.{FieldValueAddr}
@@ -19,9 +19,6 @@ use Rattle.tv_doc.specs.TypeCode.{type_code}
 use Rattle.tv_base.specs.Sink.{IsFront}
 use Rattle.tv_doc.specs.Wrote.{Wrote}
 use Rattle.tv_doc.specs.Handled.{is_handled, are_handled}
-use Rattle.tv_doc.specs.declared.new_leaf.NewLeaf.{NewLeaf}
-use Rattle.tv_doc.specs.declared.new_leaf.NewLeaf.TheVariants as new
-use Rattle.tv_doc.specs.NewLeaf.{leaf_of}
 use Rattle.tv_doc.proofs.Grown.{grown}
 
 -- one heap and one list of pairs hold one document
@@ -94,11 +91,6 @@ pub pushed_handled : (old : CompactDoc) (heap : List ℕ) (ps : List FieldValueA
     (w : Wrote (heap_of old) heap (type_code p.value_type) p.address t) (e : ps ≡ old.pairs.items ++ p ∷ []) → is_handled t ≡ true → are_handled ((pushed old heap ps p field t f small w e).0) ≡ true
 unfolding pushed
 pushed_handled old heap ps p field t f small w e k = handled_push (document_of old) (field, t) old.handled k
-
--- each value that is added is a text or a number
-pub new_leaf_handled : (value : NewLeaf) → is_handled (leaf (leaf_of value)) ≡ true
-new_leaf_handled (new.Str s) = refl
-new_leaf_handled (new.U64 n) = refl
 
 pub pushed_fits : (old : CompactDoc) (heap : List ℕ) (code at : ℕ) (t : Tree) → Wrote (heap_of old) heap code at t → length (heap_of old) + room t ≤ 4294967295 → length heap < 2 ^ 32
 pushed_fits old heap code at t w small = omega (arith, w.within, ap length w.grows, length-append (heap_of old) w.added)

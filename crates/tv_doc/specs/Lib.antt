@@ -5,7 +5,6 @@ pub mod TypeCode
 pub mod Held
 pub mod Wrote
 pub mod Document
-pub mod NewLeaf
 pub mod Value
 pub mod Handled
 pub mod Belongs

@@ -2,19 +2,20 @@
 
 ghost use Rattle.std.specs.Prelude.{◌≡◌, ◌<◌, ◌≤◌, ◌^◌, [], ◌∷◌, ◌++◌, ◌↔◌, IsTrue, OnOk, OnErr, length, slice_get};
 ghost use Rattle.tv_value.specs.Tree.{leaf, text, unsigned};
-ghost use Rattle.tv_doc.specs.NewLeaf.{leaf_of};
-ghost use Rattle.tv_doc.specs.Handled.{are_handled};
+ghost use Rattle.tv_value.specs.Lent.{leaf_of};
+ghost use Rattle.tv_doc.specs.Handled.{are_handled, is_handled_leaf};
 ghost use Rattle.tv_doc.specs.Held.{Holds, Holds-prop};
 ghost use Rattle.tv_doc.specs.Room.{document_room};
 
 use crate::add_error::AddError;
 use crate::field_values::FieldValueIterRef;
-use crate::new_leaf::NewLeaf;
 use crate::place::FieldValueAddr;
+use crate::room::leaf_room;
 use crate::write::write_leaf;
 use std::alloc::{AllocError, Global};
 use tv_schema::Schema;
 use tv_value::field::Field;
+use tv_value::leaf::ReferenceValueLeaf;
 
 // The largest length of a heap, so that 32 bits hold each address.
 const MAX_HEAP_LEN: u64 = 4294967295;
@@ -99,14 +100,14 @@ impl CompactDoc {
     pub fn add_text(&mut self, field: Field, content: &str) -> Result<(), AddError>
         ensures { Adds self.old self.new field.id (leaf (text content.now)) result }
     {
-        self.add_leaf(field, NewLeaf::Str(content))
+        self.add_leaf(field, ReferenceValueLeaf::Str(content))
     }
 
     /// Adds a pair of a field and an unsigned number, whose room is 8 bytes. The errors are those of `add_text`.
     pub fn add_u64(&mut self, field: Field, number: u64) -> Result<(), AddError>
         ensures { Adds self.old self.new field.id (leaf (unsigned number)) result }
     {
-        self.add_leaf(field, NewLeaf::U64(number))
+        self.add_leaf(field, ReferenceValueLeaf::U64(number))
     }
 
     /// The fields and their values, in the order in which they were added.
@@ -128,14 +129,18 @@ impl CompactDoc {
         true
     }
 
-    fn add_leaf(&mut self, field: Field, value: NewLeaf<'_>) -> Result<(), AddError>
+    fn add_leaf(&mut self, field: Field, value: ReferenceValueLeaf<'_>) -> Result<(), AddError>
+        requires { IsTrue (is_handled_leaf (leaf_of value)) }
         ensures { Adds self.old self.new field.id (leaf (leaf_of value.entry)) result }
     {
         let Ok(small) = u16::try_from(field.field_id()) else {
             return Err(AddError::FieldNumber(field.field_id()));
         };
+        let Some(room) = leaf_room(value) else {
+            return Err(AddError::HeapFull);
+        };
         let len = self.node_data.len();
-        if value.room() > MAX_HEAP_LEN - len as u64 {
+        if u64::from(room) > MAX_HEAP_LEN - len as u64 {
             return Err(AddError::HeapFull);
         }
         let written = write_leaf(&mut self.node_data, value);

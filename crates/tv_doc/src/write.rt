@@ -1,19 +1,26 @@
 //! Writing values at the end of a heap.
 
 ghost use Rattle.std.specs.Prelude.{◌≡◌, ◌+◌, ◌<◌, ◌^◌, ◌++◌, OnOk, OnErr, IfOk, length};
-ghost use Rattle.tv_base.specs.Number.{vnum, eight_bytes};
+ghost use Rattle.std.specs.Net.Addr.{ipv6_bits};
+ghost use Rattle.tv_base.specs.Number.{vnum, eight_bytes, sixteen_bytes};
 ghost use Rattle.tv_base.specs.Parts.{short_sized};
 ghost use Rattle.tv_base.specs.Sink.{IsFront};
-ghost use Rattle.tv_value.specs.Tree.{leaf, text, unsigned};
-ghost use Rattle.tv_doc.specs.NewLeaf.{leaf_of};
+ghost use Rattle.tv_value.specs.Lent.{leaf_of};
+ghost use Rattle.tv_value.specs.PreTokenized.{tokenized_leaf};
+ghost use Rattle.tv_value.specs.Short.{short_token};
+ghost use Rattle.tv_value.specs.TokenRef.{ref_of};
+ghost use Rattle.tv_value.specs.Tree.{leaf, text, facet, bytes, unsigned, signed, date, ip_address};
 ghost use Rattle.tv_doc.specs.Room.{leaf_room};
 ghost use Rattle.tv_doc.specs.TypeCode.{type_code};
 ghost use Rattle.tv_doc.specs.Wrote.{Wrote};
 
-use crate::new_leaf::NewLeaf;
 use crate::value_type::ValueType;
 use std::alloc::AllocError;
+use std::net::Ipv6Addr;
 use tv_base::vint::VInt;
+use tv_value::laws::pre_tokenized_texts_spell;
+use tv_value::leaf::ReferenceValueLeaf;
+use tv_value::pre_tokenized::{PreTokenizedStr, TokenRef};
 
 // Adds the shortest spelling of a number.
 fn push_number(heap: &mut Vec<u8>, number: u64) -> Result<(), AllocError>
@@ -42,13 +49,46 @@ fn push_eight(heap: &mut Vec<u8>, number: u64) -> Result<(), AllocError>
     heap.extend_from_slice(&number.to_le_bytes())
 }
 
+// Adds the sixteen bytes of a number, the lowest first.
+fn push_sixteen(heap: &mut Vec<u8>, number: u128) -> Result<(), AllocError>
+    ensures ok { OnOk result (heap.new.items ≡ heap.old.items ++ sixteen_bytes number) }
+    ensures small { number < 2 ^ 128 }
+    ensures err { OnErr result (heap.new.items ≡ heap.old.items) }
+{
+    heap.extend_from_slice(&number.to_le_bytes())
+}
+
+// Adds the shortest spelling of a token.
+fn push_token(heap: &mut Vec<u8>, token: TokenRef<'_>) -> Result<(), AllocError>
+    ensures ok { OnOk result (heap.new.items ≡ heap.old.items ++ short_token (ref_of token.entry)) }
+    ensures err { OnErr result (IsFront heap.old.items heap.new.items) }
+{
+    push_number(heap, token.offset_from as u64)?;
+    push_number(heap, token.offset_to as u64)?;
+    push_number(heap, token.position as u64)?;
+    push_sized(heap, token.text.as_bytes())?;
+    push_number(heap, token.position_length as u64)
+}
+
+// A text, or the encoded text of a facet.
 fn write_text(heap: &mut Vec<u8>, content: &str) -> Result<u32, AllocError>
     requires { length heap.old.items + (5 + length content.now) < 2 ^ 32 }
-    ensures ok { IfOk result (λ at. Wrote heap.old.items heap.new.items 1 at (leaf (text content.now))) }
+    ensures text { IfOk result (λ at. Wrote heap.old.items heap.new.items 1 at (leaf (text content.now))) }
+    ensures facet { IfOk result (λ at. Wrote heap.old.items heap.new.items 6 at (leaf (facet content.now))) }
     ensures err { OnErr result (IsFront heap.old.items heap.new.items) }
 {
     let at = heap.len() as u32;
     push_sized(heap, content.as_bytes())?;
+    Ok(at)
+}
+
+fn write_bytes(heap: &mut Vec<u8>, content: &[u8]) -> Result<u32, AllocError>
+    requires { length heap.old.items + (5 + length content.now) < 2 ^ 32 }
+    ensures ok { IfOk result (λ at. Wrote heap.old.items heap.new.items 7 at (leaf (bytes content.now))) }
+    ensures err { OnErr result (IsFront heap.old.items heap.new.items) }
+{
+    let at = heap.len() as u32;
+    push_sized(heap, content)?;
     Ok(at)
 }
 
@@ -59,6 +99,43 @@ fn write_u64(heap: &mut Vec<u8>, number: u64) -> Result<u32, AllocError>
 {
     let at = heap.len() as u32;
     push_eight(heap, number)?;
+    Ok(at)
+}
+
+// A signed number, or the nanoseconds of a date.
+fn write_i64(heap: &mut Vec<u8>, number: i64) -> Result<u32, AllocError>
+    requires { length heap.old.items + 8 < 2 ^ 32 }
+    ensures signed { IfOk result (λ at. Wrote heap.old.items heap.new.items 3 at (leaf (signed number))) }
+    ensures date { IfOk result (λ at. Wrote heap.old.items heap.new.items 5 at (leaf (date number))) }
+    ensures err { OnErr result (IsFront heap.old.items heap.new.items) }
+{
+    let at = heap.len() as u32;
+    push_eight(heap, number.cast_unsigned())?;
+    Ok(at)
+}
+
+fn write_ip_addr(heap: &mut Vec<u8>, address: Ipv6Addr) -> Result<u32, AllocError>
+    requires { length heap.old.items + 16 < 2 ^ 32 }
+    ensures ok { IfOk result (λ at. Wrote heap.old.items heap.new.items 8 at (leaf (ip_address (ipv6_bits address)))) }
+    ensures err { OnErr result (IsFront heap.old.items heap.new.items) }
+{
+    let at = heap.len() as u32;
+    push_sixteen(heap, address.to_bits())?;
+    Ok(at)
+}
+
+fn write_tokenized(heap: &mut Vec<u8>, content: PreTokenizedStr<'_>) -> Result<u32, AllocError>
+    requires { length heap.old.items + leaf_room (tokenized_leaf content) < 2 ^ 32 }
+    ensures ok { IfOk result (λ at. Wrote heap.old.items heap.new.items 10 at (leaf (tokenized_leaf content.entry))) }
+    ensures err { OnErr result (IsFront heap.old.items heap.new.items) }
+{
+    pre_tokenized_texts_spell();
+    let at = heap.len() as u32;
+    push_sized(heap, content.text().as_bytes())?;
+    push_number(heap, content.len() as u64)?;
+    for token in content.tokens() {
+        push_token(heap, token)?;
+    }
     Ok(at)
 }
 
@@ -77,15 +154,34 @@ fn make_room(heap: &mut Vec<u8>) -> Result<(), AllocError>
     }
 }
 
-/// Writes a value, and answers its type and its address. After an error the old heap is still a front of the new.
-pub fn write_leaf(heap: &mut Vec<u8>, value: NewLeaf<'_>) -> Result<(ValueType, u32), AllocError>
+/// Writes a value without children, and answers its type and its address. After an error the old heap is still a front of the
+/// new.
+pub fn write_leaf(
+    heap: &mut Vec<u8>,
+    value: ReferenceValueLeaf<'_>,
+) -> Result<(ValueType, u32), AllocError>
     requires { length heap.old.items + leaf_room (leaf_of value) < 2 ^ 32 }
     ensures ok { IfOk result (λ r. Wrote heap.old.items heap.new.items (type_code r.0) r.1 (leaf (leaf_of value.entry))) }
     ensures err { OnErr result (IsFront heap.old.items heap.new.items) }
 {
     make_room(heap)?;
     match value {
-        NewLeaf::Str(content) => Ok((ValueType::Str, write_text(heap, content)?)),
-        NewLeaf::U64(number) => Ok((ValueType::U64, write_u64(heap, number)?)),
+        ReferenceValueLeaf::Null => Ok((ValueType::Null, 0)),
+        ReferenceValueLeaf::Bool(truth) => Ok((ValueType::Bool, u32::from(truth))),
+        ReferenceValueLeaf::Str(content) => Ok((ValueType::Str, write_text(heap, content)?)),
+        ReferenceValueLeaf::Facet(content) => Ok((ValueType::Facet, write_text(heap, content)?)),
+        ReferenceValueLeaf::Bytes(content) => Ok((ValueType::Bytes, write_bytes(heap, content)?)),
+        ReferenceValueLeaf::U64(number) => Ok((ValueType::U64, write_u64(heap, number)?)),
+        ReferenceValueLeaf::I64(number) => Ok((ValueType::I64, write_i64(heap, number)?)),
+        ReferenceValueLeaf::Date(moment) => {
+            let nanoseconds = moment.into_timestamp_nanos();
+            Ok((ValueType::Date, write_i64(heap, nanoseconds)?))
+        }
+        ReferenceValueLeaf::IpAddr(address) => {
+            Ok((ValueType::IpAddr, write_ip_addr(heap, address)?))
+        }
+        ReferenceValueLeaf::PreTokStr(content) => {
+            Ok((ValueType::PreTokStr, write_tokenized(heap, content)?))
+        }
     }
 }
