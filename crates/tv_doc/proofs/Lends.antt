@@ -1,12 +1,21 @@
 -- What is read in place is what stands there.
-use Rattle.std.proofs.Common.{◌≡◌, ℕ, zero, suc, ◌+◌, ◌<◌, ◌≤◌, List, [], ◌++◌, length, get_or, take, drop, refl, sym, ◌∙◌, ap, arith}
-use Rattle.std.specs.Int.{w64, from_le_bytes}
+use Rattle.std.proofs.Common.{◌≡◌, ℕ, zero, suc, ◌+◌, ◌<◌, ◌≤◌, List, [], ◌++◌, length, get_or, take, drop, take-append-drop, reverse, to_z, of_z, ℤ, ◌^◌, ◌*◌, ◌/◌, ◌%◌, ◌∷◌, refl, sym, ◌∙◌, ap, subst, arith}
+use Rattle.std.specs.Int.{w64, w128, from_le_bytes, from_be_bytes, to_le_bytes, cast_signed}
+use Rattle.std.specs.Net.Addr.{ipv6_bits, IsIpv6OfBits, segments_of, octets_of}
+use Rattle.std.specs.declared.net.ipv6_addr.Ipv6Addr.{Ipv6Addr}
+use Rattle.std.proofs.lemmas.Int.{to_z-of_z}
 use Rattle.std.proofs.lemmas.List.{length-append}
 use Rattle.std.proofs.Math.Seq.{drop-append_seam, take-append_seam}
-use Rattle.tv_base.specs.Number.{Fixed, no_bytes, low_byte}
-use Rattle.tv_base.proofs.Numbers.{agree_fixed, length-fixed}
-use Rattle.tv_base.proofs.Widths.{fixed_8}
-use Rattle.tv_doc.specs.Reads.{Stands, ShortSized, ShortText}
+use Rattle.tv_base.specs.Number.{Fixed, Signed, no_bytes, low_byte}
+use Rattle.tv_base.proofs.Numbers.{length-fixed, fixed_fits}
+use Rattle.tv_base.proofs.Shortest.{sixteen_bytes_spell}
+use Rattle.tv_base.proofs.Widths.{from_8, from_16, sixteen_bytes_is}
+use Rattle.tv_value.proofs.Leaves.{agree_tokenized}
+use Rattle.tv_value.proofs.ShortSpellings.{tokenized_of}
+use Rattle.tv_value.specs.InPlace.{NoTokenized}
+use Rattle.tv_value.specs.Spelling.{Tokenized}
+use Rattle.tv_value.specs.Tree.{Token, tokenized}
+use Rattle.tv_doc.specs.Reads.{Stands, ShortSized, ShortText, ShortTokenized}
 
 -- behind the address
 pub stands_behind : (heap : List ℕ) (at : ℕ) (P : List ℕ → Type 0) (p : Stands heap at P) → drop at heap ≡ p.whole ++ p.behind
@@ -25,19 +34,85 @@ fixed_small no_bytes i = omega arith
 fixed_small (low_byte p f) zero = p
 fixed_small (low_byte p f) (suc i) = fixed_small f i
 
-eight_front : (heap behind : List ℕ) (at n : ℕ) (p : Stands heap at (λ w. Fixed 8 w n)) → behind ≡ drop at heap → take 8 behind ≡ p.whole
-eight_front heap behind at n p e =
-    let l : 8 ≡ length p.whole = sym (length-fixed p.stands) in
+fixed_front : (k : ℕ) (heap behind : List ℕ) (at n : ℕ) (p : Stands heap at (λ w. Fixed k w n)) → behind ≡ drop at heap → take k behind ≡ p.whole
+fixed_front k heap behind at n p e =
+    let l : k ≡ length p.whole = sym (length-fixed p.stands) in
     (λ i. take (l i) ((e ∙ stands_behind heap at _ p) i)) ∙ take-append_seam p.whole p.behind
 
+fixed_short : {A : Type 0} (k : ℕ) (heap behind : List ℕ) (at n : ℕ) → Stands heap at (λ w. Fixed k w n) → behind ≡ drop at heap → length behind < k → A
+fixed_short k heap behind at n p e l =
+    let whole = ap length (e ∙ stands_behind heap at _ p) in
+    let all = length-fixed p.stands in
+    absurd (omega (arith, length-append p.whole p.behind))
+
 pub eight_is : (heap behind front : List ℕ) (at n : ℕ) → Stands heap at (λ w. Fixed 8 w n) → behind ≡ drop at heap → front ≡ take 8 behind → from_le_bytes w64 front ≡ n
-eight_is heap behind front at n p e f =
-    let same : front ≡ p.whole = f ∙ eight_front heap behind at n p e in
-    let spelled = fixed_8 p.whole (length-fixed p.stands) (fixed_small p.stands) in
-    ap (from_le_bytes w64) same ∙ ((agree_fixed 8 _ n).agree p.whole p.whole [] [] spelled p.stands refl).1
+eight_is heap behind front at n p e f = ap (from_le_bytes w64) (f ∙ fixed_front 8 heap behind at n p e) ∙ from_8 p.whole n p.stands
 
 pub eight_short : {A : Type 0} (heap behind : List ℕ) (at n : ℕ) → Stands heap at (λ w. Fixed 8 w n) → behind ≡ drop at heap → length behind < 8 → A
-eight_short heap behind at n p e l =
-    let whole = ap length (e ∙ stands_behind heap at _ p) in
-    let eight = length-fixed p.stands in
-    absurd (omega (arith, length-append p.whole p.behind))
+eight_short heap behind at n p e l = fixed_short 8 heap behind at n p e l
+
+pub signed_is : (heap : List ℕ) (at x : ℕ) (y z : ℤ) → Stands heap at (λ w. Signed w z) → ((n : ℕ) → Stands heap at (λ w. Fixed 8 w n) → x ≡ n) → y ≡ cast_signed w64 x → to_z w64 (of_z w64 y) ≡ z
+signed_is heap at x y z p is f =
+    let number = is _ (record { before = p.before; whole = p.whole; behind = p.behind; joined = p.joined; place = p.place; stands = p.stands.spelled }) in
+    let back = to_z-of_z w64 z p.stands.fits in
+    ap (λ v. to_z w64 (of_z w64 v)) (f ∙ ap (cast_signed w64) number ∙ back) ∙ back
+
+-- ---- IP addresses
+
+abbrev AreBytes : List ℕ → Type 0
+AreBytes [] = Unit {0}
+AreBytes (b ∷ bs) = (b < 256) × AreBytes bs
+
+octets_back : (k : ℕ) (bs : List ℕ) → length bs ≡ k + k → AreBytes bs → octets_of (segments_of bs) ≡ bs
+octets_back k [] l small = refl
+octets_back zero (a ∷ bs) l small = absurd (omega arith)
+octets_back (suc k) (a ∷ []) l small = absurd (omega arith)
+octets_back (suc k) (a ∷ b ∷ bs) l small =
+    let below = small.1.0 in
+    let high : (a * 256 + b) / 256 ≡ a = omega arith in
+    let low : (a * 256 + b) % 256 ≡ b = omega arith in
+    let rest = octets_back k bs (omega arith) small.1.1 in
+    λ i. high i ∷ low i ∷ rest i
+
+turned : (bs : List ℕ) → length bs ≡ 16 → ((i : ℕ) → get_or bs i 0 < 256) → from_be_bytes w128 (octets_of (segments_of (reverse bs))) ≡ from_le_bytes w128 bs
+turned (a ∷ b ∷ c ∷ d ∷ e ∷ f ∷ g ∷ h ∷ i ∷ j ∷ k ∷ m ∷ n ∷ o ∷ p ∷ q ∷ []) l s =
+    let bytes : AreBytes (q ∷ p ∷ o ∷ n ∷ m ∷ k ∷ j ∷ i ∷ h ∷ g ∷ f ∷ e ∷ d ∷ c ∷ b ∷ a ∷ []) = (s 15, (s 14, (s 13, (s 12, (s 11, (s 10, (s 9, (s 8, (s 7, (s 6, (s 5, (s 4, (s 3, (s 2, (s 1, (s 0, tt)))))))))))))))) in
+    ap (from_be_bytes w128) (octets_back 8 (q ∷ p ∷ o ∷ n ∷ m ∷ k ∷ j ∷ i ∷ h ∷ g ∷ f ∷ e ∷ d ∷ c ∷ b ∷ a ∷ []) refl bytes) ∙ omega arith
+turned _ l s = absurd (omega arith)
+
+address_bits : (a : Ipv6Addr) (n : ℕ) → n < 2 ^ 128 → IsIpv6OfBits a n → ipv6_bits a ≡ n
+unfolding IsIpv6OfBits ipv6_bits
+address_bits a n h is =
+    let bs = to_le_bytes w128 n in
+    let spelled : Fixed 16 bs n = subst (λ z. Fixed 16 z n) (sym (sixteen_bytes_is n)) (sixteen_bytes_spell n h) in
+    ap (λ s. from_be_bytes w128 (octets_of s)) is ∙ turned bs (length-fixed spelled) (fixed_small spelled) ∙ from_16 bs n spelled
+
+pub address_is : (heap behind front : List ℕ) (at n : ℕ) (a : Ipv6Addr) (x : ℕ) → Stands heap at (λ w. Fixed 16 w n) → behind ≡ drop at heap → front ≡ take 16 behind → x ≡ from_le_bytes w128 front
+    → IsIpv6OfBits a x → ipv6_bits a ≡ n
+address_is heap behind front at n a x p e f r is =
+    let number : x ≡ n = r ∙ ap (from_le_bytes w128) (f ∙ fixed_front 16 heap behind at n p e) ∙ from_16 p.whole n p.stands in
+    address_bits a n (omega (arith, fixed_fits p.stands)) (subst (λ z. IsIpv6OfBits a z) number is)
+
+pub address_short : {A : Type 0} (heap behind : List ℕ) (at n : ℕ) → Stands heap at (λ w. Fixed 16 w n) → behind ≡ drop at heap → length behind < 16 → A
+address_short heap behind at n p e l = fixed_short 16 heap behind at n p e l
+
+-- a number has bytes
+pub fixed_past : {A : Type 0} (k : ℕ) (heap : List ℕ) (at n : ℕ) → Stands heap at (λ w. Fixed k w n) → length heap < at → A
+fixed_past k heap at n p l = absurd (omega (arith, stands_within heap at _ p))
+
+-- ---- texts with their tokens
+
+tokenized_stands : (heap : List ℕ) (at : ℕ) (s : List ℕ) (ss : List Token) (p : Stands heap at (λ w. ShortTokenized s ss w)) → Tokenized p.whole s ss
+tokenized_stands heap at s ss p = subst (λ w. Tokenized w s ss) (sym p.stands.is) (tokenized_of s ss p.stands.content_fits p.stands.tokens_fit)
+
+pub tokenized_is : (heap behind : List ℕ) (at n : ℕ) (s t : List ℕ) (ss ts : List Token) → Stands heap at (λ w. ShortTokenized s ss w) → behind ≡ drop at heap → Tokenized (take n behind) t ts
+    → tokenized t ts ≡ tokenized s ss
+tokenized_is heap behind at n s t ss ts p e found =
+    let joined : take n behind ++ drop n behind ≡ p.whole ++ p.behind = take-append-drop n behind ∙ e ∙ stands_behind heap at _ p in
+    ((agree_tokenized t s ts ss).agree (take n behind) p.whole (drop n behind) p.behind found (tokenized_stands heap at s ss p) joined).1
+
+pub tokenized_none : {A : Type 0} (heap behind : List ℕ) (at : ℕ) (s : List ℕ) (ss : List Token) → Stands heap at (λ w. ShortTokenized s ss w) → behind ≡ drop at heap → NoTokenized behind → A
+tokenized_none heap behind at s ss p e none = absurd ((none s ss).none p.whole p.behind (e ∙ stands_behind heap at _ p) (tokenized_stands heap at s ss p))
+
+pub tokenized_past : {A : Type 0} (heap : List ℕ) (at : ℕ) (s : List ℕ) (ss : List Token) → Stands heap at (λ w. ShortTokenized s ss w) → length heap < at → A
+tokenized_past heap at s ss p l = absurd (omega (arith, stands_within heap at _ p))

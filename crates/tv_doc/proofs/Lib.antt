@@ -6,3 +6,5 @@ pub mod Lends
 pub mod Values
 pub mod Pairs
 pub mod Additions
+pub mod Shapes
+pub mod Children

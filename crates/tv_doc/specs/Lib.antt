@@ -3,6 +3,7 @@ pub mod Reads
 pub mod ReadsLaws
 pub mod TypeCode
 pub mod Held
+pub mod Lent
 pub mod Wrote
 pub mod Document
 pub mod Value

@@ -1,11 +1,20 @@
 //! Decoding in place. Each call gives what stands at an address, whatever stands elsewhere; where nothing of the kind
 //! stands there it gives some bytes or some number.
 
-ghost use Rattle.std.specs.Prelude.{◌≡◌, ◌++◌, ◌<◌, ◌^◌, ℕ, List};
-ghost use Rattle.tv_base.specs.Number.{vnum, Fixed};
-ghost use Rattle.tv_doc.specs.Reads.{Stands, ShortSized, ShortText};
+ghost use Rattle.std.specs.Prelude.{◌≡◌, [], ◌∷◌, ◌++◌, ◌<◌, ◌^◌, ℕ, ℤ, List, None, Some, option_map};
+ghost use Rattle.std.specs.Net.Addr.{ipv6_bits};
+ghost use Rattle.tv_base.specs.Number.{vnum, Fixed, Signed};
+ghost use Rattle.tv_value.specs.PreTokenized.{tokenized_leaf};
+ghost use Rattle.tv_value.specs.Tree.{Token, tokenized};
+ghost use Rattle.tv_doc.specs.declared.value_type.ValueType.{ValueType};
+ghost use Rattle.tv_doc.specs.Lent.{GivesChild};
+ghost use Rattle.tv_doc.specs.Reads.{Stands, ShortSized, ShortText, ShortTokenized};
+ghost use Rattle.tv_doc.specs.TypeCode.{type_code};
 
+use crate::value_type::ValueType;
+use std::net::Ipv6Addr;
 use tv_base::vint::VInt;
+use tv_value::pre_tokenized::PreTokenizedStr;
 
 // The number whose shortest spelling stands at the front, and what follows it.
 fn short_at(bytes: &[u8]) -> (u64, &[u8])
@@ -57,4 +66,53 @@ pub fn eight_at(heap: &[u8], address: u32) -> u64
         Some(front) => u64::from_le_bytes(*front),
         None => 0,
     }
+}
+
+/// The signed number in the eight bytes that stand at an address.
+pub fn signed_at(heap: &[u8], address: u32) -> i64
+    ensures { (z : ℤ) → Stands heap.now address (λ w. Signed w z) → result ≡ z }
+{
+    eight_at(heap, address).cast_signed()
+}
+
+/// The IP address whose number is in the sixteen bytes that stand at an address.
+pub fn ip_addr_at(heap: &[u8], address: u32) -> Ipv6Addr
+    ensures { (n : ℕ) → Stands heap.now address (λ w. Fixed 16 w n) → ipv6_bits result ≡ n }
+{
+    let at = address as usize;
+    if at > heap.len() {
+        return Ipv6Addr::from_bits(0);
+    }
+    let (_, behind) = heap.split_at(at);
+    match behind.first_chunk::<16>() {
+        Some(front) => Ipv6Addr::from_bits(u128::from_le_bytes(*front)),
+        None => Ipv6Addr::from_bits(0),
+    }
+}
+
+/// The text and the tokens that stand at an address.
+pub fn tokenized_at(heap: &[u8], address: u32) -> Option<PreTokenizedStr<'_>>
+    ensures { (s : List ℕ) (ts : List Token) → Stands heap.now address (λ w. ShortTokenized s ts w) → option_map tokenized_leaf result ≡ Some (tokenized s ts) }
+{
+    let at = address as usize;
+    if at > heap.len() {
+        return None;
+    }
+    let (_, behind) = heap.split_at(at);
+    let (content, _) = PreTokenizedStr::from_payload(behind)?;
+    Some(content)
+}
+
+/// The first child's type and address, and the list behind it.
+pub fn child_at(list: &[u8]) -> Option<(ValueType, u32, &[u8])>
+    ensures first { (t : ValueType) (at : ℕ) (rest : List ℕ) → at < 2 ^ 32 → list.now ≡ type_code t ∷ (vnum at ++ rest) → GivesChild result (type_code t) at rest }
+    ensures none { list.now ≡ [] → result ≡ None }
+{
+    let (code, behind) = list.split_first()?;
+    let (address, rest) = short_at(behind);
+    if address > 4294967295 {
+        return None;
+    }
+    let value_type = ValueType::from_code(*code)?;
+    Some((value_type, address as u32, rest))
 }
