@@ -28,14 +28,14 @@ returns-in_err-write_tree-in-Array g t c =
     let p = err_from_is_err_and c.from_residual-in_err-write_tree-in-Array.result c.from_residual-in_err-write_tree-in-Array.ensures.1 in
     let i = c.loop-item.invariant in
     let cut = g.met.N.Nested.array_steps _ _ _ c.in-Some.ensures.steps in
-    let parts = elements_parts cut c.as_nested-in-loop-item.ensures in
+    let parts = elements_parts cut c.as_nested-shown.ensures in
     rw (p.1, p.2) (Written-fails _ _ parts i.written c.in_err-write_tree-in-Array.ensures)
 
 pub loop-item-preserved : goal.loop-item-preserved
 loop-item-preserved g t c =
     let i = c.loop-item.invariant in
     let cut = g.met.N.Nested.array_steps _ _ _ c.in-Some.ensures.steps in
-    let parts = elements_parts cut c.as_nested-in-loop-item.ensures in
+    let parts = elements_parts cut c.as_nested-shown.ensures in
     record {
       valid = elements_valid cut i.valid;
       smaller = elements_fewer cut i.smaller;
@@ -73,7 +73,7 @@ returns-in_err-write_tree-in-Object g t c =
     let cut = g.met.N.Nested.object_steps _ _ _ c.in-Some-2.ensures.steps in
     let parts = entries_parts cut c.as_str.ensures in
     let behind = Written-step _ _ parts i.written c.in_ok-write_coded_text-in-Object.ensures in
-    let left = child_parts _ c.as_nested-in-loop-key-2.ensures in
+    let left = child_parts _ c.as_nested-shown-in-loop-key.ensures in
     rw (p.1, p.2) (Written-fails _ _ left behind c.in_err-write_tree-in-Object.ensures)
 
 pub loop-key-preserved : goal.loop-key-preserved
@@ -82,7 +82,7 @@ loop-key-preserved g t c =
     let cut = g.met.N.Nested.object_steps _ _ _ c.in-Some-2.ensures.steps in
     let parts = entries_parts cut c.as_str.ensures in
     let behind = Written-step _ _ parts i.written c.in_ok-write_coded_text-in-Object.ensures in
-    let left = child_parts _ c.as_nested-in-loop-key-2.ensures in
+    let left = child_parts _ c.as_nested-shown-in-loop-key.ensures in
     record {
       valid = entries_valid cut i.valid;
       smaller = entries_fewer cut i.smaller;
