@@ -1,6 +1,7 @@
 -- What the errors of the lower layers are called in the store, and which of them stop a reader or a writer for what reason.
 use Rattle.std.specs.Prelude.{ℕ, Result, List}
 use Rattle.std.specs.declared.io.ErrorKind.{ErrorKind}
+use Rattle.tv_base.specs.declared.cause.Cause.{Cause}
 use Rattle.tv_base.specs.declared.cause.Cause.TheVariants as causes
 use Rattle.tv_base.specs.declared.read_error.ReadError.{ReadError}
 use Rattle.tv_base.specs.declared.read_error.ReadError.TheVariants as reads

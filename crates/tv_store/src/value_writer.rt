@@ -221,6 +221,19 @@ fn children<N: Nested>(value: NestedValue<'_, N>) -> u64
     }
 }
 
+// How many children a value has that is shown. Only a second one is walked, since the shown one is still to be written.
+#[inline]
+fn children_of<N: Nested>(item: &N, shown: &NestedValue<'_, N>) -> u64
+    requires same { nested_tree N.array_rest N.object_rest shown.now ≡ N.tree item.now }
+    requires valid { IsValue (N.tree item.now) }
+    ensures { result ≡ child_count (N.tree item.now) }
+{
+    match shown {
+        NestedValue::Leaf(_) => 0,
+        _ => children(item.as_nested()),
+    }
+}
+
 // A value of which the children were counted: its code, the announced number, and each child.
 fn write_tree<K: ByteSink, N: Nested>(
     sink: &mut K,
@@ -236,8 +249,9 @@ fn write_tree<K: ByteSink, N: Nested>(
         NestedValue::Array(items) => {
             write_coded_count(sink, ARRAY_CODE, count)?;
             for item in items {
-                let below = children(item.as_nested());
-                write_tree(sink, below, item.as_nested())?;
+                let shown = item.as_nested();
+                let below = children_of(&item, &shown);
+                write_tree(sink, below, shown)?;
             }
             Ok(())
         }
@@ -245,8 +259,9 @@ fn write_tree<K: ByteSink, N: Nested>(
             write_coded_count(sink, OBJECT_CODE, 2 * count)?;
             for (key, item) in members {
                 write_coded_text(sink, TEXT_CODE, key.as_str())?;
-                let below = children(item.as_nested());
-                write_tree(sink, below, item.as_nested())?;
+                let shown = item.as_nested();
+                let below = children_of(&item, &shown);
+                write_tree(sink, below, shown)?;
             }
             Ok(())
         }
@@ -263,8 +278,10 @@ pub(crate) fn write_value<'a, K: ByteSink, V: Value<'a>>(
     requires { IsValue (V.tree value.now) }
     ensures { Writes K.tells K.held K.faults sink.old sink.new result (short V2 (V.tree value.now)) }
 {
-    let count = children(lend(value));
-    write_tree(sink, count, lend(value))
+    match lend(value) {
+        NestedValue::Leaf(leaf) => write_leaf(sink, leaf),
+        nested => write_tree(sink, children(lend(value)), nested),
+    }
 }
 
 // A value without children, as a pair has it: of a text with tokens the text alone.
