@@ -8,3 +8,4 @@ pub mod Pairs
 pub mod Additions
 pub mod Shapes
 pub mod Children
+pub mod Lists
