@@ -1,5 +1,5 @@
 -- What an addition does to the document that a heap and its pairs hold.
-use Rattle.std.proofs.Common.{Bool, true, false, ◌&&◌, ◌≡◌, ℕ, suc, zero, ◌+◌, ◌^◌, ◌<◌, ◌≤◌, List, [], ◌∷◌, ◌++◌, length, map, take, slice_get, get_or, ltb, true, Some, None, refl, sym, ◌∙◌, ap, subst, arith}
+use Rattle.std.proofs.Common.{true, ◌≡◌, ℕ, suc, zero, ◌+◌, ◌^◌, ◌<◌, ◌≤◌, List, [], ◌∷◌, ◌++◌, length, map, take, slice_get, get_or, ltb, true, Some, None, refl, sym, ◌∙◌, ap, subst, arith}
 use Rattle.std.proofs.lemmas.Bool.{ltb-true}
 use Rattle.std.proofs.lemmas.Option.{slice_get-get_or}
 use Rattle.std.proofs.lemmas.List.{length-append, map-append}
@@ -18,7 +18,6 @@ use Rattle.tv_doc.specs.Room.{room, document_room}
 use Rattle.tv_doc.specs.TypeCode.{type_code}
 use Rattle.tv_base.specs.Sink.{IsFront}
 use Rattle.tv_doc.specs.Wrote.{Wrote}
-use Rattle.tv_doc.specs.Handled.{is_handled, are_handled}
 use Rattle.tv_doc.proofs.Grown.{grown}
 
 -- one heap and one list of pairs hold one document
@@ -26,17 +25,6 @@ pub same_document : (h k : List ℕ) (ps qs : List FieldValueAddr) (x : Holds h 
 same_document h k ps qs x y e f =
     ∥∥₁_elim x.1 (Coded-set coded_document x.0 y.0)
     (λ p. ∥∥₁_elim y.1 (Coded-set coded_document x.0 y.0) (λ q. one_document k qs x.0 y.0 (subst (λ z. ReadsPairs z qs x.0) e (subst (λ z. ReadsPairs h z x.0) f p)) q))
-
-one_true : (a b : Bool) → (a && b) ≡ true → a ≡ true
-one_true true b h = refl
-one_true false b h = h
-
-other_true : (a b : Bool) → (a && b) ≡ true → b ≡ true
-other_true true b h = h
-other_true false b h = absurd (cc)
-
-both_true : (a b : Bool) → a ≡ true → b ≡ true → (a && b) ≡ true
-both_true a b h k = rw (h, k) refl
 
 abbrev place : FieldValueAddr → ℕ × ℕ
 place p = (type_code p.value_type, p.address)
@@ -83,15 +71,6 @@ unfolding pushed
 pushed_room old heap ps p field t f small w e =
     omega (arith, old.room, w.within, ap length w.grows, length-append (heap_of old) w.added, sum_by_push (λ (pair : ℕ × Tree). room pair.1) (document_of old) (field, t))
 
-handled_push : (d : Document) (p : ℕ × Tree) → are_handled d ≡ true → is_handled p.1 ≡ true → are_handled (d ++ p ∷ []) ≡ true
-handled_push [] p h k = rw k refl
-handled_push (x ∷ d) p h k = both_true (is_handled x.1) (are_handled (d ++ p ∷ [])) (one_true (is_handled x.1) (are_handled d) h) (handled_push d p (other_true (is_handled x.1) (are_handled d) h) k)
-
-pub pushed_handled : (old : CompactDoc) (heap : List ℕ) (ps : List FieldValueAddr) (p : FieldValueAddr) (field : ℕ) (t : Tree) (f : p.field ≡ field) (small : field ≤ 65535)
-    (w : Wrote (heap_of old) heap (type_code p.value_type) p.address t) (e : ps ≡ old.pairs.items ++ p ∷ []) → is_handled t ≡ true → are_handled ((pushed old heap ps p field t f small w e).0) ≡ true
-unfolding pushed
-pushed_handled old heap ps p field t f small w e k = handled_push (document_of old) (field, t) old.handled k
-
 pub pushed_fits : (old : CompactDoc) (heap : List ℕ) (code at : ℕ) (t : Tree) → Wrote (heap_of old) heap code at t → length (heap_of old) + room t ≤ 4294967295 → length heap < 2 ^ 32
 pushed_fits old heap code at t w small = omega (arith, w.within, ap length w.grows, length-append (heap_of old) w.added)
 
@@ -115,9 +94,6 @@ kept old heap ps e f = subst (λ z. Holds z ps) (sym e) (subst (λ z. Holds (hea
 
 pub kept_room : (old : CompactDoc) (heap : List ℕ) (ps : List FieldValueAddr) (e : heap ≡ heap_of old) (f : ps ≡ old.pairs.items) → length heap ≤ document_room ((kept old heap ps e f).0)
 kept_room old heap ps e f = omega (arith, ap length e, old.room, ap document_room (same_document heap (heap_of old) ps old.pairs.items (kept old heap ps e f) old.document e f))
-
-pub kept_handled : (old : CompactDoc) (heap : List ℕ) (ps : List FieldValueAddr) (e : heap ≡ heap_of old) (f : ps ≡ old.pairs.items) → are_handled ((kept old heap ps e f).0) ≡ true
-kept_handled old heap ps e f = ap are_handled (same_document heap (heap_of old) ps old.pairs.items (kept old heap ps e f) old.document e f) ∙ old.handled
 
 pub kept_fits : (old : CompactDoc) (heap : List ℕ) → heap ≡ heap_of old → length heap < 2 ^ 32
 kept_fits old heap e = omega (arith, ap length e, old.fits)

@@ -3,8 +3,8 @@ pub mod Writes
 pub mod Documents
 pub mod Valid
 pub mod Lends
-pub mod Values
 pub mod Pairs
 pub mod Additions
 pub mod Shapes
 pub mod Children
+pub mod Lists

@@ -49,7 +49,7 @@ pub sized_some : (content : List ℕ) → length content < 2 ^ 32 → 0 < length
 sized_some content h = omega (arith, length-append (vnum (length content)) content, vnum_some (length content) (omega arith))
 
 -- at the same address, said otherwise
-wrote_at : {old new : List ℕ} {code at to : ℕ} {t : Tree} → Wrote old new code at t → at ≡ to → Wrote old new code to t
+pub wrote_at : {old new : List ℕ} {code at to : ℕ} {t : Tree} → Wrote old new code at t → at ≡ to → Wrote old new code to t
 wrote_at {old} {new} {code} {at} {to} {t} w e = subst (λ m. Wrote old new code m t) e w
 
 -- a leaf whose bytes were added

@@ -1,21 +1,30 @@
 //! Documents: pairs of a field and a value, the values in one heap.
 
-ghost use Rattle.std.specs.Prelude.{◌≡◌, ◌<◌, ◌≤◌, ◌^◌, [], ◌∷◌, ◌++◌, ◌↔◌, IsTrue, OnOk, OnErr, length, slice_get};
-ghost use Rattle.tv_value.specs.Tree.{leaf, text, unsigned};
-ghost use Rattle.tv_value.specs.Lent.{leaf_of};
-ghost use Rattle.tv_doc.specs.Handled.{are_handled, is_handled_leaf};
+ghost use Rattle.std.specs.Prelude.{◌≡◌, ◌<◌, ◌≤◌, ◌^◌, [], ◌∷◌, ◌++◌, ◌↔◌, IsTrue, OnOk, OnErr, SomeIff, length, map, slice_get};
+ghost use Rattle.std.specs.Net.Addr.{ipv6_bits};
+ghost use Rattle.std.specs.String.{string_bytes};
+ghost use Rattle.tv_value.specs.HeldTokens.{token_of};
+ghost use Rattle.tv_value.specs.Tree.{leaf, text, unsigned, signed, boolean, date, facet, bytes, ip_address, tokenized};
+ghost use Rattle.tv_value.specs.Lent.{leaf_of, nested_tree};
 ghost use Rattle.tv_doc.specs.Held.{Holds, Holds-prop};
-ghost use Rattle.tv_doc.specs.Room.{document_room};
+ghost use Rattle.tv_doc.specs.Room.{room, document_room};
 
 use crate::add_error::AddError;
 use crate::field_values::FieldValueIterRef;
 use crate::place::FieldValueAddr;
-use crate::room::leaf_room;
-use crate::write::write_leaf;
+use crate::room::{leaf_room, room};
+use crate::write::{write_leaf, write_tree};
 use std::alloc::{AllocError, Global};
+use std::net::Ipv6Addr;
+use tv_base::Facet;
 use tv_schema::Schema;
+use tv_value::date_time::DateTime;
 use tv_value::field::Field;
 use tv_value::leaf::ReferenceValueLeaf;
+use tv_value::nested::{Nested, NestedValue, lend};
+use tv_value::pre_tokenized::PreTokenizedStr;
+use tv_value::tokenizer::PreTokenizedString;
+use tv_value::value::Value;
 
 // The largest length of a heap, so that 32 bits hold each address.
 const MAX_HEAP_LEN: u64 = 4294967295;
@@ -38,12 +47,12 @@ fn push_pair(pairs: &mut Vec<FieldValueAddr>, pair: FieldValueAddr) -> Result<()
 /// Pairs of a field and a value, in order. The values stand in one heap of bytes, in which each addition is kept apart.
 #[derive(Drop)]
 pub struct CompactDoc {
+    alloc: Global,
     node_data: Vec<u8>,
     pairs: Vec<FieldValueAddr>,
     pub ghost document: { Holds node_data.items pairs.items } by { Holds-prop node_data.items pairs.items },
     pub ghost room: { length node_data.items ≤ document_room document.0 },
     pub ghost fits: { length node_data.items < 2 ^ 32 },
-    pub ghost handled: { IsTrue (are_handled document.0) },
 }
 
 impl CompactDoc {
@@ -57,6 +66,7 @@ impl CompactDoc {
         ensures heap { heap_of result ≡ [] }
     {
         CompactDoc {
+            alloc,
             node_data: Vec::new(alloc),
             pairs: Vec::new(alloc),
         }
@@ -100,14 +110,83 @@ impl CompactDoc {
     pub fn add_text(&mut self, field: Field, content: &str) -> Result<(), AddError>
         ensures { Adds self.old self.new field.id (leaf (text content.now)) result }
     {
-        self.add_leaf(field, ReferenceValueLeaf::Str(content))
+        self.add_leaf_field_value(field, ReferenceValueLeaf::Str(content))
     }
 
     /// Adds a pair of a field and an unsigned number, whose room is 8 bytes. The errors are those of `add_text`.
     pub fn add_u64(&mut self, field: Field, number: u64) -> Result<(), AddError>
         ensures { Adds self.old self.new field.id (leaf (unsigned number)) result }
     {
-        self.add_leaf(field, ReferenceValueLeaf::U64(number))
+        self.add_leaf_field_value(field, ReferenceValueLeaf::U64(number))
+    }
+
+    /// Adds a pair of a field and a signed number, whose room is 8 bytes. The errors are those of `add_text`.
+    pub fn add_i64(&mut self, field: Field, number: i64) -> Result<(), AddError>
+        ensures { Adds self.old self.new field.id (leaf (signed number)) result }
+    {
+        self.add_leaf_field_value(field, ReferenceValueLeaf::I64(number))
+    }
+
+    /// Adds a pair of a field and a truth value, which takes no room. The errors are those of `add_text`.
+    pub fn add_bool(&mut self, field: Field, truth: bool) -> Result<(), AddError>
+        ensures { Adds self.old self.new field.id (leaf (boolean truth)) result }
+    {
+        self.add_leaf_field_value(field, ReferenceValueLeaf::Bool(truth))
+    }
+
+    /// Adds a pair of a field and a date, whose room is 8 bytes. The errors are those of `add_text`.
+    pub fn add_date(&mut self, field: Field, moment: DateTime) -> Result<(), AddError>
+        ensures { Adds self.old self.new field.id (leaf (date moment.nanoseconds)) result }
+    {
+        self.add_leaf_field_value(field, ReferenceValueLeaf::Date(moment))
+    }
+
+    /// Adds a pair of a field and a facet, whose room is 5 bytes and the length of its encoded text. The errors are those of
+    /// `add_text`.
+    pub fn add_facet(&mut self, field: Field, path: &Facet) -> Result<(), AddError>
+        ensures { Adds self.old self.new field.id (leaf (facet path.now)) result }
+    {
+        self.add_leaf_field_value(field, ReferenceValueLeaf::Facet(path.encoded_str()))
+    }
+
+    /// Adds a pair of a field and bytes, whose room is 5 bytes and their length. The errors are those of `add_text`.
+    pub fn add_bytes(&mut self, field: Field, content: &[u8]) -> Result<(), AddError>
+        ensures { Adds self.old self.new field.id (leaf (bytes content.now)) result }
+    {
+        self.add_leaf_field_value(field, ReferenceValueLeaf::Bytes(content))
+    }
+
+    /// Adds a pair of a field and an IP address, whose room is 16 bytes. The errors are those of `add_text`.
+    pub fn add_ip_addr(&mut self, field: Field, address: Ipv6Addr) -> Result<(), AddError>
+        ensures { Adds self.old self.new field.id (leaf (ip_address (ipv6_bits address))) result }
+    {
+        self.add_leaf_field_value(field, ReferenceValueLeaf::IpAddr(address))
+    }
+
+    /// Adds a pair of a field and a text with its tokens. The room is 15 bytes and the text's length, and for each token 50
+    /// and the length of its text. The errors are those of `add_text`.
+    pub fn add_pre_tokenized_text(
+        &mut self,
+        field: Field,
+        content: &PreTokenizedString,
+    ) -> Result<(), AddError>
+        ensures { Adds self.old self.new field.id (leaf (tokenized (string_bytes content.now.text) (map token_of content.now.tokens.items))) result }
+    {
+        let content = PreTokenizedStr::from_string(content);
+        self.add_leaf_field_value(field, ReferenceValueLeaf::PreTokStr(content))
+    }
+
+    /// Adds a pair of a field and a value of any kind. The errors are those of `add_text`, where the room of an array is 5
+    /// bytes, and for each value in it 6 and its room; that of an object 5 bytes, and for each key 17, its length and the room
+    /// of its value; and that of any other value as in `add_leaf_field_value`.
+    pub fn add_field_value<'a, V: Value<'a>>(
+        &mut self,
+        field: Field,
+        value: &V,
+    ) -> Result<(), AddError>
+        ensures { Adds self.old self.new field.id (V.tree value.now) result }
+    {
+        self.add_tree(field, room(value), lend(value))
     }
 
     /// The fields and their values, in the order in which they were added.
@@ -129,8 +208,14 @@ impl CompactDoc {
         true
     }
 
-    fn add_leaf(&mut self, field: Field, value: ReferenceValueLeaf<'_>) -> Result<(), AddError>
-        requires { IsTrue (is_handled_leaf (leaf_of value)) }
+    /// Adds a pair of a field and a value without children. The errors are those of `add_text`, where the value's room is 5
+    /// bytes and its length for a text, a facet and bytes, 8 for a number and a date, 16 for an IP address, none for a truth
+    /// value and no value; for a text with its tokens 15 and its length, and for each token 50 and its text's length.
+    pub fn add_leaf_field_value(
+        &mut self,
+        field: Field,
+        value: ReferenceValueLeaf<'_>,
+    ) -> Result<(), AddError>
         ensures { Adds self.old self.new field.id (leaf (leaf_of value.entry)) result }
     {
         let Ok(small) = u16::try_from(field.field_id()) else {
@@ -144,6 +229,42 @@ impl CompactDoc {
             return Err(AddError::HeapFull);
         }
         let written = write_leaf(&mut self.node_data, value);
+        let Ok((value_type, address)) = written else {
+            self.node_data.truncate(len);
+            return Err(AddError::Memory);
+        };
+        let pair = FieldValueAddr {
+            field: small,
+            value_type,
+            address,
+        };
+        if push_pair(&mut self.pairs, pair).is_err() {
+            self.node_data.truncate(len);
+            return Err(AddError::Memory);
+        }
+        Ok(())
+    }
+
+    fn add_tree<N: Nested>(
+        &mut self,
+        field: Field,
+        room_found: Option<u32>,
+        value: NestedValue<'_, N>,
+    ) -> Result<(), AddError>
+        requires { let n = room (nested_tree N.array_rest N.object_rest value) in SomeIff room_found (n < 2 ^ 32) n }
+        ensures { Adds self.old self.new field.id (nested_tree N.array_rest N.object_rest value.entry) result }
+    {
+        let Ok(small) = u16::try_from(field.field_id()) else {
+            return Err(AddError::FieldNumber(field.field_id()));
+        };
+        let Some(room) = room_found else {
+            return Err(AddError::HeapFull);
+        };
+        let len = self.node_data.len();
+        if u64::from(room) > MAX_HEAP_LEN - len as u64 {
+            return Err(AddError::HeapFull);
+        }
+        let written = write_tree(self.alloc, &mut self.node_data, value);
         let Ok((value_type, address)) = written else {
             self.node_data.truncate(len);
             return Err(AddError::Memory);

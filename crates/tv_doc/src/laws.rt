@@ -1,12 +1,11 @@
 //! Laws of documents, each the contract of a function that does nothing.
 
-ghost use Rattle.std.specs.Prelude.{◌≡◌, ◌≤◌, ℕ, List, length, IsTrue};
+ghost use Rattle.std.specs.Prelude.{◌≡◌, ◌≤◌, ℕ, List, length};
 ghost use Rattle.tv_value.specs.Short.{IsDocument};
 ghost use Rattle.tv_value.specs.Tree.{Tree};
 ghost use Rattle.tv_doc.specs.declared.document.CompactDoc.{CompactDoc};
 ghost use Rattle.tv_doc.specs.Additions.{Addition, Runs, Keeps, accepted};
 ghost use Rattle.tv_doc.specs.Document.{document_of, heap_of};
-ghost use Rattle.tv_doc.specs.Handled.{are_handled};
 ghost use Rattle.tv_doc.specs.Reads.{Reads};
 ghost use Rattle.tv_doc.specs.Room.{document_room};
 
@@ -23,11 +22,6 @@ pub fn documents_are_valid()
 /// A document's heap takes at most the room of its values.
 pub fn heaps_are_within_room()
     ensures { (d : CompactDoc) → length (heap_of d) ≤ document_room (document_of d) }
-{}
-
-/// Each value of a document is a text or a number of type u64, as long as no others can be added.
-pub fn documents_are_handled()
-    ensures { (d : CompactDoc) → IsTrue (are_handled (document_of d)) }
 {}
 
 /// Of additions to a document, one after the other, refused ones among them, each leaves what its answer says, and all of

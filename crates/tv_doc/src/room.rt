@@ -2,12 +2,15 @@
 
 ghost use Rattle.std.specs.Prelude.{◌≡◌, ◌+◌, ◌<◌, ◌^◌, SomeIff};
 ghost use Rattle.std.specs.List.{sum_by};
-ghost use Rattle.tv_doc.specs.Room.{leaf_room, token_room};
-ghost use Rattle.tv_value.specs.Lent.{leaf_of};
+ghost use Rattle.tv_doc.specs.Room.{leaf_room, room, token_room};
+ghost use Rattle.tv_value.specs.Lent.{leaf_of, nested_tree};
 ghost use Rattle.tv_value.specs.PreTokenized.{tokens_left};
 
+use std::convert::AsStr;
 use tv_value::leaf::ReferenceValueLeaf;
+use tv_value::nested::{Nested, NestedValue, lend};
 use tv_value::pre_tokenized::TokenIter;
+use tv_value::value::Value;
 
 // The room of a text or of bytes of this length.
 fn sized_room(len: usize) -> Option<u32>
@@ -46,4 +49,35 @@ pub fn leaf_room(value: ReferenceValueLeaf<'_>) -> Option<u32>
             tokens_above(content.tokens(), base)
         }
     }
+}
+
+// The room of a value above what there is, where the sum fits.
+fn room_above<N: Nested>(value: NestedValue<'_, N>, base: u32) -> Option<u32>
+    ensures { let total = base + room (nested_tree N.array_rest N.object_rest value.entry) in SomeIff result (total < 2 ^ 32) total }
+{
+    match value {
+        NestedValue::Leaf(single) => base.checked_add(leaf_room(single)?),
+        NestedValue::Array(items) => {
+            let mut total = base.checked_add(5)?;
+            for item in items {
+                total = room_above(item.as_nested(), total.checked_add(6)?)?;
+            }
+            Some(total)
+        }
+        NestedValue::Object(members) => {
+            let mut total = base.checked_add(5)?;
+            for (key, item) in members {
+                total = total.checked_add(u32::try_from(key.as_str().len()).ok()?)?;
+                total = room_above(item.as_nested(), total.checked_add(17)?)?;
+            }
+            Some(total)
+        }
+    }
+}
+
+/// The room of a value, where it is at most 4294967295.
+pub fn room<'a, V: Value<'a>>(value: &V) -> Option<u32>
+    ensures { SomeIff result (room (V.tree value.now) < 2 ^ 32) (room (V.tree value.now)) }
+{
+    room_above(lend(value), 0)
 }

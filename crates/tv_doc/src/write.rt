@@ -1,25 +1,27 @@
 //! Writing values at the end of a heap.
 
-ghost use Rattle.std.specs.Prelude.{◌≡◌, ◌+◌, ◌<◌, ◌^◌, ◌++◌, OnOk, OnErr, IfOk, length};
+ghost use Rattle.std.specs.Prelude.{◌≡◌, ◌+◌, ◌<◌, ◌^◌, ◌∷◌, ◌++◌, OnOk, OnErr, IfOk, length};
 ghost use Rattle.std.specs.Net.Addr.{ipv6_bits};
 ghost use Rattle.tv_base.specs.Number.{vnum, eight_bytes, sixteen_bytes};
 ghost use Rattle.tv_base.specs.Parts.{short_sized};
 ghost use Rattle.tv_base.specs.Sink.{IsFront};
-ghost use Rattle.tv_value.specs.Lent.{leaf_of};
+ghost use Rattle.tv_value.specs.Lent.{leaf_of, nested_tree};
 ghost use Rattle.tv_value.specs.PreTokenized.{tokenized_leaf};
 ghost use Rattle.tv_value.specs.Short.{short_token};
 ghost use Rattle.tv_value.specs.TokenRef.{ref_of};
 ghost use Rattle.tv_value.specs.Tree.{leaf, text, facet, bytes, unsigned, signed, date, ip_address};
-ghost use Rattle.tv_doc.specs.Room.{leaf_room};
+ghost use Rattle.tv_doc.specs.Room.{leaf_room, room};
 ghost use Rattle.tv_doc.specs.TypeCode.{type_code};
 ghost use Rattle.tv_doc.specs.Wrote.{Wrote};
 
 use crate::value_type::ValueType;
-use std::alloc::AllocError;
+use std::alloc::{AllocError, Global};
+use std::convert::AsStr;
 use std::net::Ipv6Addr;
 use tv_base::vint::VInt;
 use tv_value::laws::pre_tokenized_texts_spell;
 use tv_value::leaf::ReferenceValueLeaf;
+use tv_value::nested::{Nested, NestedValue};
 use tv_value::pre_tokenized::{PreTokenizedStr, TokenRef};
 
 // Adds the shortest spelling of a number.
@@ -68,6 +70,26 @@ fn push_token(heap: &mut Vec<u8>, token: TokenRef<'_>) -> Result<(), AllocError>
     push_number(heap, token.position as u64)?;
     push_sized(heap, token.text.as_bytes())?;
     push_number(heap, token.position_length as u64)
+}
+
+// Adds a child's type and address.
+fn push_place(list: &mut Vec<u8>, value_type: ValueType, address: u32) -> Result<(), AllocError>
+    ensures { OnOk result (list.new.items ≡ list.old.items ++ (type_code value_type ∷ vnum address)) }
+{
+    list.push(value_type.to_code())?;
+    push_number(list, u64::from(address))
+}
+
+// Writes a key, and adds its type and address.
+fn write_key(heap: &mut Vec<u8>, list: &mut Vec<u8>, key: &str) -> Result<(), AllocError>
+    requires { length heap.old.items + (5 + length key.now) < 2 ^ 32 }
+    ensures heap { OnOk result (heap.new.items ≡ heap.old.items ++ short_sized key.now) }
+    ensures list { OnOk result (list.new.items ≡ list.old.items ++ (1 ∷ vnum (length heap.old.items))) }
+    ensures err { OnErr result (IsFront heap.old.items heap.new.items) }
+{
+    let at = heap.len() as u32;
+    push_sized(heap, key.as_bytes())?;
+    push_place(list, ValueType::Str, at)
 }
 
 // A text, or the encoded text of a facet.
@@ -182,6 +204,43 @@ pub fn write_leaf(
         }
         ReferenceValueLeaf::PreTokStr(content) => {
             Ok((ValueType::PreTokStr, write_tokenized(heap, content)?))
+        }
+    }
+}
+
+/// Writes a value behind its children, and answers its type and its address. After an error the old heap is still a front of
+/// the new.
+pub fn write_tree<N: Nested>(
+    alloc: Global,
+    heap: &mut Vec<u8>,
+    value: NestedValue<'_, N>,
+) -> Result<(ValueType, u32), AllocError>
+    requires { length heap.old.items + room (nested_tree N.array_rest N.object_rest value) < 2 ^ 32 }
+    ensures ok { IfOk result (λ r. Wrote heap.old.items heap.new.items (type_code r.0) r.1 (nested_tree N.array_rest N.object_rest value.entry)) }
+    ensures err { OnErr result (IsFront heap.old.items heap.new.items) }
+{
+    match value {
+        NestedValue::Leaf(single) => write_leaf(heap, single),
+        NestedValue::Array(items) => {
+            let mut list: Vec<u8> = Vec::new(alloc);
+            for item in items {
+                let (code, address) = write_tree(alloc, heap, item.as_nested())?;
+                push_place(&mut list, code, address)?;
+            }
+            let at = heap.len() as u32;
+            push_sized(heap, list.as_slice())?;
+            Ok((ValueType::Array, at))
+        }
+        NestedValue::Object(members) => {
+            let mut list: Vec<u8> = Vec::new(alloc);
+            for (key, item) in members {
+                write_key(heap, &mut list, key.as_str())?;
+                let (code, address) = write_tree(alloc, heap, item.as_nested())?;
+                push_place(&mut list, code, address)?;
+            }
+            let at = heap.len() as u32;
+            push_sized(heap, list.as_slice())?;
+            Ok((ValueType::Object, at))
         }
     }
 }

@@ -1,4 +1,4 @@
-use Rattle.std.proofs.Common.{refl, ap, length, arith, rules}
+use Rattle.std.proofs.Common.{ap, length, arith, rules}
 use Rattle.tv_doc.proofs.Documents.{empty, empty_document}
 use Rattle.tv_doc.proofs.document.CompactDoc.new.Goals as goal
 
@@ -8,7 +8,6 @@ invariant_of-result c = record {
   document = empty c.new.result.items c.new-2.result.items c.new-2.ensures.items;
   room = omega (arith, ap length c.new.ensures.items);
   fits = omega (arith, ap length c.new.ensures.items);
-  handled = refl;
 }
 
 pub returns-clause-document : goal.returns-clause-document

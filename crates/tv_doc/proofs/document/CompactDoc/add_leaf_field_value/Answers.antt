@@ -3,9 +3,9 @@ use Rattle.tv_doc.specs.Document.{heap_of}
 use Rattle.tv_value.specs.Lent.{leaf_of}
 use Rattle.tv_doc.specs.Room.{leaf_room}
 use Rattle.tv_doc.specs.declared.place.FieldValueAddr.{FieldValueAddr}
-use Rattle.tv_doc.proofs.Documents.{unchanged, added, pushed, pushed_room, pushed_handled, kept, kept_handled, kept_room, kept_fits, pushed_fits, restored}
-use Rattle.tv_doc.proofs.document.CompactDoc.add_leaf.Goals as goal
-use Rattle.tv_doc.proofs.document.CompactDoc.add_leaf.Goals.{After-truncate, After-truncate-then-is_err}
+use Rattle.tv_doc.proofs.Documents.{unchanged, added, pushed, pushed_room, kept, kept_room, kept_fits, pushed_fits, restored}
+use Rattle.tv_doc.proofs.document.CompactDoc.add_leaf_field_value.Goals as goal
+use Rattle.tv_doc.proofs.document.CompactDoc.add_leaf_field_value.Goals.{After-truncate, After-truncate-then-is_err}
 
 -- what was written is cut off again
 cut_unwritten : (c : goal.After-truncate) → c.truncate.new.self.items ≡ heap_of c.args.self.now
@@ -23,7 +23,7 @@ pub invariant_of-self : goal.invariant_of-self
 invariant_of-self c =
     let old = c.args.self.now in
     let cut = cut_unwritten c in
-    record { document = kept old _ _ cut refl; room = kept_room old _ _ cut refl; fits = kept_fits old _ cut; handled = kept_handled old _ _ cut refl }
+    record { document = kept old _ _ cut refl; room = kept_room old _ _ cut refl; fits = kept_fits old _ cut }
 
 pub returns-in_default-written : goal.returns-in_default-written
 returns-in_default-written c =
@@ -40,7 +40,7 @@ invariant_of-self-then-is_err c =
     let old = c.args.self.now in
     let cut = cut_written c in
     let pairs : c.push_pair.new.pairs.items ≡ old.pairs.items = search rules in
-    record { document = kept old _ _ cut pairs; room = kept_room old _ _ cut pairs; fits = kept_fits old _ cut; handled = kept_handled old _ _ cut pairs }
+    record { document = kept old _ _ cut pairs; room = kept_room old _ _ cut pairs; fits = kept_fits old _ cut }
 
 pub returns-then-is_err : goal.returns-then-is_err
 returns-then-is_err c =
@@ -69,7 +69,6 @@ invariant_of-self-else-is_err c =
       document = pushed old _ _ pair c.args.field.id _ field small wrote pairs;
       room = pushed_room old _ _ pair c.args.field.id _ field small wrote pairs;
       fits = pushed_fits old _ _ _ _ wrote fits;
-      handled = pushed_handled old _ _ pair c.args.field.id _ field small wrote pairs c.requires;
     }
 
 pub returns : goal.returns
