@@ -6,7 +6,7 @@ ghost use Rattle.tantivy_schema.specs.CodeTypes.Cause.{Cause};
 ghost use Rattle.tantivy_schema.specs.CodeTypes.DeserializeError.TheVariants.{CorruptedValue};
 ghost use Rattle.tantivy_schema.specs.Document.{document_of};
 ghost use Rattle.tantivy_schema.specs.Documents.{Answers, ShowsCause, Tells};
-ghost use Rattle.tantivy_schema.specs.Handled.{are_handled};
+ghost use Rattle.tantivy_schema.specs.AreRead.{are_read};
 ghost use Rattle.tantivy_schema.specs.ReadsAs.{Known};
 ghost use Rattle.tantivy_schema.specs.Room.{document_room};
 ghost use Rattle.tantivy_schema.specs.Short.{short_document};
@@ -49,7 +49,7 @@ pub fn fetch_document<S: ByteSource>(
     alloc: Global,
     source: &mut S,
 ) -> Result<TantivyDocument, DeserializeError>
-    ensures only { Known S.tells S.left source.old → (d : Document) (front rest : List ℕ) → S.left source.old ≡ front ++ rest → SpellsDocument NoLegacy V2 front d → IsTrue (are_handled d) → document_room d ≤ 4294967295 → Answers result d rest (S.left source.new) }
+    ensures only { Known S.tells S.left source.old → (d : Document) (front rest : List ℕ) → S.left source.old ≡ front ++ rest → SpellsDocument NoLegacy V2 front d → IsTrue (are_read d) → document_room d ≤ 4294967295 → Answers result d rest (S.left source.new) }
     ensures tells { Known S.tells S.left source.old → IfErr result (Tells V2 (S.left source.old)) }
     ensures shows { Known S.tells S.left source.old → (c : Cause) → IsErrOf result (CorruptedValue c) → ShowsCause V2 (S.left source.old) (S.left source.new) c }
     ensures faults { Counts store_stop result (S.faults source.old) (S.faults source.new) }

@@ -59,13 +59,13 @@ pub use Rattle.tv_term.specs.Lending
 pub use Rattle.tv_doc.specs.Additions
 pub use Rattle.tv_doc.specs.Belongs
 pub use Rattle.tv_doc.specs.Document
-pub use Rattle.tv_doc.specs.Handled
 pub use Rattle.tv_doc.specs.Held
 pub use Rattle.tv_doc.specs.Reads
 pub use Rattle.tv_doc.specs.Room
 pub use Rattle.tv_doc.specs.TypeCode
 pub use Rattle.tv_doc.specs.Value
 -- the store
+pub use Rattle.tv_store.specs.AreRead
 pub use Rattle.tv_store.specs.Documents
 pub use Rattle.tv_store.specs.Error as StoreError
 pub use Rattle.tv_store.specs.Refused

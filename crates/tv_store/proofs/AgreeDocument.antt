@@ -18,8 +18,8 @@ use Rattle.tv_value.specs.Tree.{null, text, unsigned, signed, boolean, date, fac
 use Rattle.tv_value.specs.Version.{Version}
 use Rattle.tv_value.specs.Spelling.{Spells, SpellsPair, SpellsDocument, NoLegacy}
 use Rattle.tv_value.specs.Fault.{Refusal, corrupted, corrupt, in_text, in_unsigned, Corrupt, FieldFault, field_ends, field_large, SmallField, ValueFault, value_ends, unknown_code, float_code, in_leaf, NoLegacyFault}
-use Rattle.tv_doc.specs.Handled.{is_handled, are_handled}
-use Rattle.tv_store.proofs.Stores.{first_handled, others_handled}
+use Rattle.tv_store.specs.AreRead.{is_read, are_read}
+use Rattle.tv_store.proofs.Stores.{first_read, others_read}
 use Rattle.tv_store.specs.Reading.{coded_at, value_at, field_at, pair_at, pairs_at, document_at}
 use Rattle.tv_store.specs.Refused.{unread_code, IsReadCode, SpellsRead, ValueRefused, PairRefused, DocumentRefused}
 
@@ -69,14 +69,14 @@ is_other code n e = elim (eqb_tells code n) [ inl p ↦ absurd (impossible (sym 
 behind_code : (whole front rest : List ℕ) (code n : ℕ) → whole ≡ front ++ rest → front ≡ code ∷ [] → eqb code n ≡ true → whole ≡ n ∷ rest
 behind_code whole front rest code n joined is e = joined ∙ ap (λ (l : List ℕ). l ++ rest) is ∙ ap (λ k. k ∷ rest) (eqb-true code n e)
 
-value_to : (v : Version) (whole : List ℕ) (t : Tree) → AllBytes whole → InTurn IsCode Coded whole t → Spells NoLegacy v whole t × (is_handled t ≡ true)
+value_to : (v : Version) (whole : List ℕ) (t : Tree) → AllBytes whole → InTurn IsCode Coded whole t → Spells NoLegacy v whole t × (is_read t ≡ true)
 value_to v whole t small p =
     let cut = p.1 in
     let behind = λ (n : ℕ) (e : eqb p.0 n ≡ true). behind_code whole cut.front cut.rest p.0 n cut.joined cut.first e in
     elim cut.second [
-      | inl q ↦ subst (λ z. Spells NoLegacy v whole z × (is_handled z ≡ true)) (sym q.1.2) (record { body = cut.rest; joined = behind 0 q.0; spelled = q.1.1 }, refl)
+      | inl q ↦ subst (λ z. Spells NoLegacy v whole z × (is_read z ≡ true)) (sym q.1.2) (record { body = cut.rest; joined = behind 0 q.0; spelled = q.1.1 }, refl)
       | inr q ↦ elim q.1 [
-        | inl r ↦ subst (λ z. Spells NoLegacy v whole z × (is_handled z ≡ true)) (sym r.1.2) (record { body = cut.rest; joined = behind 1 r.0; spelled = r.1.1 }, refl)
+        | inl r ↦ subst (λ z. Spells NoLegacy v whole z × (is_read z ≡ true)) (sym r.1.2) (record { body = cut.rest; joined = behind 1 r.0; spelled = r.1.1 }, refl)
         | inr r ↦ elim r.1 [ inl s ↦ absurd s.1 | inr s ↦ absurd s.1 ]
       ]
     ]
@@ -84,7 +84,7 @@ value_to v whole t small p =
 no : false ≡ true → ⊥
 no e = absurd cc
 
-value_from : (v : Version) (whole : List ℕ) (t : Tree) → Spells NoLegacy v whole t × (is_handled t ≡ true) → InTurn IsCode Coded whole t
+value_from : (v : Version) (whole : List ℕ) (t : Tree) → Spells NoLegacy v whole t × (is_read t ≡ true) → InTurn IsCode Coded whole t
 value_from v whole (leaf (text s)) p = (0, record { front = 0 ∷ []; rest = p.0.body; joined = p.0.joined; first = refl; second = inl (refl, (s, p.0.spelled, refl)) })
 value_from v whole (leaf (unsigned n)) p = (1, record { front = 1 ∷ []; rest = p.0.body; joined = p.0.joined; first = refl; second = inr (refl, inl (refl, (n, p.0.spelled, refl))) })
 value_from v whole (leaf null) p = absurd (no p.1)
@@ -143,7 +143,7 @@ value_faults v whole r small p = elim p [
       subst (λ w. ValueRefused v w r) (sym there) (coded_faults v q.0 q.1.rest r q.1.second)
 ]
 
-pub value_agrees : (v : Version) → Agrees end value_at (λ b t. Spells NoLegacy v b t × (is_handled t ≡ true)) (ValueRefused v)
+pub value_agrees : (v : Version) → Agrees end value_at (λ b t. Spells NoLegacy v b t × (is_read t ≡ true)) (ValueRefused v)
 unfolding value_at
 value_agrees v = agrees_too (λ b. refl) (value_to v) (value_from v) (value_faults v) (in_turn {b = coded_at} (raised corrupted only_end code_agrees) coded_agrees)
 
@@ -190,7 +190,7 @@ abbrev ReadPair : Version → List ℕ → ℕ × Tree → Type 0
 ReadPair v = SpellsRead v
 
 abbrev OfField : Version → ℕ → List ℕ → ℕ × Tree → Type 0
-OfField v field whole pair = (t : Tree) × (Spells NoLegacy v whole t × (is_handled t ≡ true)) × (pair ≡ (field, t))
+OfField v field whole pair = (t : Tree) × (Spells NoLegacy v whole t × (is_read t ≡ true)) × (pair ≡ (field, t))
 
 pair_to : (v : Version) (whole : List ℕ) (pair : ℕ × Tree) → AllBytes whole → InTurn SmallField (OfField v) whole pair → ReadPair v whole pair
 pair_to v whole pair small p =
@@ -209,15 +209,15 @@ pair_agrees v = agrees_too (λ b. refl) (pair_to v) (pair_from v) (λ whole r sm
 
 -- ---- documents
 
-each_apart : (v : Version) (whole : List ℕ) (d : Document) → Each (ReadPair v) whole d → Each (SpellsPair NoLegacy v) whole d × (are_handled d ≡ true)
+each_apart : (v : Version) (whole : List ℕ) (d : Document) → Each (ReadPair v) whole d → Each (SpellsPair NoLegacy v) whole d × (are_read d ≡ true)
 each_apart v whole [] p = (p, refl)
 each_apart v whole (pair ∷ d) p =
     let others = each_apart v p.rest d p.second in
     (record { front = p.front; rest = p.rest; joined = p.joined; first = p.first.0; second = others.0 }, rw (p.first.1, others.1) refl)
 
-each_together : (v : Version) (whole : List ℕ) (d : Document) → Each (SpellsPair NoLegacy v) whole d → (are_handled d ≡ true) → Each (ReadPair v) whole d
+each_together : (v : Version) (whole : List ℕ) (d : Document) → Each (SpellsPair NoLegacy v) whole d → (are_read d ≡ true) → Each (ReadPair v) whole d
 each_together v whole [] p read = p
-each_together v whole (pair ∷ d) p read = record { front = p.front; rest = p.rest; joined = p.joined; first = (p.first, first_handled pair d (pair ∷ d) refl read); second = each_together v p.rest d p.second (others_handled pair d (pair ∷ d) refl read) }
+each_together v whole (pair ∷ d) p read = record { front = p.front; rest = p.rest; joined = p.joined; first = (p.first, first_read pair d (pair ∷ d) refl read); second = each_together v p.rest d p.second (others_read pair d (pair ∷ d) refl read) }
 
 pub pairs_agree : (v : Version) (n : ℕ) → Agrees end (pairs_at n) (λ b d. (length d ≡ n) × Each (ReadPair v) b d) (InEach (PairRefused v) (ReadPair v) n)
 pairs_agree v n = each_agrees (pair_agrees v) n
@@ -229,7 +229,7 @@ pairs_spelled v n whole x small e =
     (p.0, p.1.0, (each_apart v p.0 x.0 p.1.1).0, p.2)
 
 abbrev ReadDocument : Version → List ℕ → Document → Type 0
-ReadDocument v whole d = SpellsDocument NoLegacy v whole d × (are_handled d ≡ true)
+ReadDocument v whole d = SpellsDocument NoLegacy v whole d × (are_read d ≡ true)
 
 document_to : (v : Version) (whole : List ℕ) (d : Document) → AllBytes whole → InTurn VNum (λ n b ds. (length ds ≡ n) × Each (ReadPair v) b ds) whole d → ReadDocument v whole d
 document_to v whole d small p =

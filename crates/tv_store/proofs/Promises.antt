@@ -12,7 +12,7 @@ use Rattle.tv_base.proofs.ByGrammar.{shows_by}
 use Rattle.tv_base.proofs.SmallBytes.{bytes_after}
 use Rattle.tv_doc.specs.declared.document.CompactDoc.{CompactDoc}
 use Rattle.tv_doc.specs.Document.{document_of}
-use Rattle.tv_doc.specs.Handled.{are_handled}
+use Rattle.tv_store.specs.AreRead.{are_read}
 use Rattle.tv_doc.specs.Room.{room, document_room}
 use Rattle.tv_value.specs.Fault.{Refusal, corrupted}
 use Rattle.tv_value.specs.Tree.{Tree, Document}
@@ -83,7 +83,7 @@ refused_and_read : (old : List ℕ) (c : Refusal × List ℕ) (d : Document) (re
 refused_and_read old c d rest p q = absurd (cc)
 
 pub only_by : (v : Version) (result : Result CompactDoc DeserializeError) (old new : List ℕ) (count : ℕ) → Gives store_stop document_of result (document_at old) new count → (IsErrOf result errors.HeapFull → DocumentHasNoRoom old)
-    → IfErr result IsReadingError → count < 2 ^ 64 - 1 → (d : Document) (front rest : List ℕ) → old ≡ front ++ rest → SpellsDocument NoLegacy v front d → IsTrue (are_handled d) → document_room d ≤ 4294967295 → Answers result d rest new
+    → IfErr result IsReadingError → count < 2 ^ 64 - 1 → (d : Document) (front rest : List ℕ) → old ≡ front ++ rest → SpellsDocument NoLegacy v front d → IsTrue (are_read d) → document_room d ≤ 4294967295 → Answers result d rest new
 only_by v result old new count h full kind few d front rest joined spelled read small = answers result h full kind (ap document_at joined ∙ (document_agrees v).complete front d rest (spelled, read))
   where
     answers : (result : Result CompactDoc DeserializeError) → Gives store_stop document_of result (document_at old) new count → (IsErrOf result errors.HeapFull → DocumentHasNoRoom old) → IfErr result IsReadingError → document_at old ≡ Ok (d, rest) → Answers result d rest new

@@ -17,17 +17,17 @@ use Rattle.tv_value.proofs.ExcludingLeaves.{excludes_corrupt}
 use Rattle.tv_value.proofs.ExcludingTrees.{value_excludes, excludes_field, one_field, no_legacy_excludes}
 use Rattle.tv_value.proofs.SingleLeaves.{single_corrupt, single_field}
 use Rattle.tv_value.proofs.SingleTrees.{value_single, single_no_legacy}
-use Rattle.tv_doc.specs.Handled.{is_handled}
+use Rattle.tv_store.specs.AreRead.{is_read}
 use Rattle.tv_store.specs.Refused.{UnreadCode, unread_code, IsReadCode, ValueRefused, PairRefused, SpellsRead, DocumentRefused}
 
 -- a value of a type that is read
 abbrev ReadValue : Version → Tree → List ℕ → Type 0
-ReadValue v t whole = Spells NoLegacy v whole t × (is_handled t ≡ true)
+ReadValue v t whole = Spells NoLegacy v whole t × (is_read t ≡ true)
 
 no : false ≡ true → ⊥
 no e = absurd cc
 
-unread_apart : (v : Version) {whole : List ℕ} {r : Refusal} → UnreadCode whole r → (t : Tree) (a x : List ℕ) → Spells NoLegacy v a t → is_handled t ≡ true → whole ≡ a ++ x → ⊥
+unread_apart : (v : Version) {whole : List ℕ} {r : Refusal} → UnreadCode whole r → (t : Tree) (a x : List ℕ) → Spells NoLegacy v a t → is_read t ≡ true → whole ≡ a ++ x → ⊥
 unread_apart v (unread_code code rest joined above small ne) (leaf (text s)) a x p h e = omega (arith, above, (behind_head code 0 rest a x p (sym joined ∙ e)).0)
 unread_apart v (unread_code code rest joined above small ne) (leaf (unsigned n)) a x p h e = omega (arith, above, (behind_head code 1 rest a x p (sym joined ∙ e)).0)
 unread_apart v u (leaf null) a x p h e = no h

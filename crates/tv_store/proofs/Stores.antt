@@ -10,7 +10,7 @@ use Rattle.tv_base.specs.Source.{Faults}
 use Rattle.tv_base.specs.Sink.{Writes, WritesBy}
 use Rattle.tv_schema.specs.Entry.{Entry}
 use Rattle.tv_value.specs.Tree.{null, text, unsigned, signed, boolean, date, facet, bytes, ip_address, tokenized, Tree, leaf, array, object, Document}
-use Rattle.tv_doc.specs.Handled.{is_handled, are_handled}
+use Rattle.tv_store.specs.AreRead.{is_read, are_read}
 use Rattle.tv_value.specs.Short.{short_pair}
 use Rattle.tv_value.specs.Version.{V2}
 use Rattle.tv_store.specs.Error.{write_error, write_stop}
@@ -39,19 +39,19 @@ no : false ≡ true → ⊥
 no e = absurd cc
 
 -- a text or a number is written as it is
-pub tree_written-handled : (t : Tree) → is_handled t ≡ true → tree_written t ≡ t
-tree_written-handled (leaf (text s)) h = refl
-tree_written-handled (leaf (unsigned n)) h = refl
-tree_written-handled (leaf null) h = absurd (no h)
-tree_written-handled (leaf (signed z)) h = absurd (no h)
-tree_written-handled (leaf (boolean b)) h = absurd (no h)
-tree_written-handled (leaf (date z)) h = absurd (no h)
-tree_written-handled (leaf (facet s)) h = absurd (no h)
-tree_written-handled (leaf (bytes s)) h = absurd (no h)
-tree_written-handled (leaf (ip_address n)) h = absurd (no h)
-tree_written-handled (leaf (tokenized s ts)) h = absurd (no h)
-tree_written-handled (array ts) h = absurd (no h)
-tree_written-handled (object es) h = absurd (no h)
+pub tree_written-read : (t : Tree) → is_read t ≡ true → tree_written t ≡ t
+tree_written-read (leaf (text s)) h = refl
+tree_written-read (leaf (unsigned n)) h = refl
+tree_written-read (leaf null) h = absurd (no h)
+tree_written-read (leaf (signed z)) h = absurd (no h)
+tree_written-read (leaf (boolean b)) h = absurd (no h)
+tree_written-read (leaf (date z)) h = absurd (no h)
+tree_written-read (leaf (facet s)) h = absurd (no h)
+tree_written-read (leaf (bytes s)) h = absurd (no h)
+tree_written-read (leaf (ip_address n)) h = absurd (no h)
+tree_written-read (leaf (tokenized s ts)) h = absurd (no h)
+tree_written-read (array ts) h = absurd (no h)
+tree_written-read (object es) h = absurd (no h)
 
 -- a pair whose field is stored, and one whose field is not
 pub written_one : (schema : List Entry) (field : ℕ) (entry : Entry) (t : Tree) → slice_get schema field ≡ Some entry → true ≡ is_stored_type entry.field_type → short_pair V2 (field, tree_written t) ≡ written_pairs schema ((field, t) ∷ [])
@@ -75,16 +75,16 @@ written_next schema p rest d cut =
     ap (written_pairs schema) cut ∙ ap (flat_map (short_pair V2)) (stored-cons schema p rest) ∙ next_case (is_stored_field schema p.0) (written p) (stored schema rest)
     ∙ ap (λ (l : List ℕ). l ++ written_pairs schema rest) (ap (flat_map (short_pair V2)) (sym (stored-cons schema p [])))
 
--- the first pair and the others are handled
-pub first_handled : (p : ℕ × Tree) (d whole : Document) → whole ≡ p ∷ d → are_handled whole ≡ true → is_handled p.1 ≡ true
-first_handled p d whole e h = first_true (is_handled p.1) (are_handled d) (sym (ap are_handled e) ∙ h)
+-- the first pair and the others are read
+pub first_read : (p : ℕ × Tree) (d whole : Document) → whole ≡ p ∷ d → are_read whole ≡ true → is_read p.1 ≡ true
+first_read p d whole e h = first_true (is_read p.1) (are_read d) (sym (ap are_read e) ∙ h)
   where
     first_true : (a b : Bool) → (a && b) ≡ true → a ≡ true
     first_true true b h = refl
     first_true false b h = h
 
-pub others_handled : (p : ℕ × Tree) (d whole : Document) → whole ≡ p ∷ d → are_handled whole ≡ true → are_handled d ≡ true
-others_handled p d whole e h = other_true (is_handled p.1) (are_handled d) (sym (ap are_handled e) ∙ h)
+pub others_read : (p : ℕ × Tree) (d whole : Document) → whole ≡ p ∷ d → are_read whole ≡ true → are_read d ≡ true
+others_read p d whole e h = other_true (is_read p.1) (are_read d) (sym (ap are_read e) ∙ h)
   where
     other_true : (a b : Bool) → (a && b) ≡ true → b ≡ true
     other_true true b h = h

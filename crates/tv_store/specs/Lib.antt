@@ -1,3 +1,4 @@
+pub mod AreRead
 pub mod Error
 pub mod Version
 pub mod Stored

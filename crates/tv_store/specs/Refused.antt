@@ -4,7 +4,7 @@ use Rattle.tv_base.specs.declared.cause.Cause.TheVariants.{UnknownTypeCode}
 use Rattle.tv_base.specs.Number.{VNum}
 use Rattle.tv_base.specs.Parts.{Each}
 use Rattle.tv_base.specs.PartFault.{InThen, InEach, NumberFault}
-use Rattle.tv_doc.specs.Handled.{is_handled}
+use Rattle.tv_store.specs.AreRead.{is_read}
 use Rattle.tv_value.specs.Tree.{Tree, Document}
 use Rattle.tv_value.specs.Version.{Version}
 use Rattle.tv_value.specs.Spelling.{SpellsPair, NoLegacy}
@@ -26,7 +26,7 @@ PairRefused v = InThen (Corrupt FieldFault) SmallField (λ _. ValueRefused v)
 
 -- a pair of a type that is read
 abbrev pub SpellsRead : Version → List ℕ → ℕ × Tree → Type 0
-SpellsRead v whole pair = SpellsPair NoLegacy v whole pair × IsTrue (is_handled pair.1)
+SpellsRead v whole pair = SpellsPair NoLegacy v whole pair × IsTrue (is_read pair.1)
 
 -- the number of the pairs is at fault, or the first of them that isn't read is refused
 abbrev pub DocumentRefused : Version → List ℕ → Refusal → Type 0

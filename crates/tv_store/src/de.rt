@@ -11,7 +11,7 @@ ghost use Rattle.tv_doc.specs.Room.{document_room};
 ghost use Rattle.tv_store.specs.Documents.{BeginsWith, Answers, Tells, ShowsCause, IsReadingError};
 ghost use Rattle.tv_store.specs.Error.{store_stop, TakesBy};
 ghost use Rattle.tv_store.specs.Reading.{document_at};
-ghost use Rattle.tv_doc.specs.Handled.{are_handled};
+ghost use Rattle.tv_store.specs.AreRead.{are_read};
 ghost use Rattle.tv_store.specs.Version.{version_of, numbered};
 ghost use Rattle.tv_value.specs.Spelling.{SpellsDocument, NoLegacy};
 ghost use Rattle.tv_value.specs.Tree.{Document};
@@ -61,7 +61,7 @@ pub fn read_document<S: ByteSource>(
     ensures found { S.tells source.old → IfOk result (λ d. BeginsWith (version_of version) (S.left source.old) (S.left source.new) (document_of d)) }
 
     // wherever a front spells a document that has room, that one is answered
-    ensures only { Known S.tells S.left source.old → (d : Document) (front rest : List ℕ) → S.left source.old ≡ front ++ rest → SpellsDocument NoLegacy (version_of version) front d → IsTrue (are_handled d) → document_room d ≤ 4294967295 → Answers result d rest (S.left source.new) }
+    ensures only { Known S.tells S.left source.old → (d : Document) (front rest : List ℕ) → S.left source.old ≡ front ++ rest → SpellsDocument NoLegacy (version_of version) front d → IsTrue (are_read d) → document_room d ≤ 4294967295 → Answers result d rest (S.left source.new) }
 
     // refusals of the bytes are true of them, and others don't come
     ensures tells { Known S.tells S.left source.old → IfErr result (Tells (version_of version) (S.left source.old)) }

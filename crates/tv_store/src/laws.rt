@@ -1,7 +1,7 @@
 //! Laws of the pairs that are written, each the contract of a function that does nothing.
 
 ghost use Rattle.std.specs.Prelude.{◌≡◌, ◌≤◌, ℕ, IsTrue, List};
-ghost use Rattle.tv_doc.specs.Handled.{are_handled};
+ghost use Rattle.tv_store.specs.AreRead.{are_read};
 ghost use Rattle.tv_doc.specs.Room.{document_room};
 ghost use Rattle.tv_schema.specs.Entry.{Entry};
 ghost use Rattle.tv_store.specs.Stored.{stored};
@@ -17,8 +17,8 @@ pub fn stored_pairs_are_valid()
 {}
 
 /// The stored pairs of a document of texts and numbers are such a document.
-pub fn stored_pairs_are_handled()
-    ensures { (schema : List Entry) (d : Document) → IsTrue (are_handled d) → IsTrue (are_handled (stored schema d)) }
+pub fn stored_pairs_can_be_read()
+    ensures { (schema : List Entry) (d : Document) → IsTrue (are_read d) → IsTrue (are_read (stored schema d)) }
 {}
 
 /// The stored pairs need no more room than all pairs.
