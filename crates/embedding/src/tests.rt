@@ -4,7 +4,7 @@ use crate::{BoundedSink, PacketSource, fetch_document, store_document};
 use std::io;
 use std::test::Fail;
 use tantivy_schema::schema::document::SerializeError;
-use tantivy_schema::schema::{STORED, Schema, TEXT, TantivyDocument};
+use tantivy_schema::schema::{STORED, Schema, TEXT, TantivyDocument, Value};
 
 /// The text `ChillFish8` in field 0.
 const ONE_PAIR: &[u8] = b"\x81\x00\x00\x00\x00\x00\x8aChillFish8";

@@ -7,7 +7,7 @@ use std::alloc::Global;
 use std::process::ExitCode;
 use tantivy_schema::common::{SliceSource, VecSink};
 use tantivy_schema::schema::document::{BinaryDocumentSerializer, CompactDoc};
-use tantivy_schema::schema::{NumericOptions, Schema, SchemaBuilder, TextOptions};
+use tantivy_schema::schema::{NumericOptions, Schema, SchemaBuilder, TextOptions, Value};
 use tantivy_schema::store::{DocStoreVersion, read_document};
 
 /// The status where a call or a write fails.

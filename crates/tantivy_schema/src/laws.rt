@@ -42,7 +42,7 @@ pub use tv_schema::laws::{
     the_last_dot_counts, whole_paths_come_first,
 };
 pub use tv_store::laws::{
-    refusals_are_unique, stored_pairs_can_be_read, stored_pairs_are_valid,
+    refusals_are_unique, stored_pairs_are_valid, stored_pairs_can_be_read,
     stored_pairs_need_no_more_room,
 };
 use tv_store::{

@@ -7,6 +7,5 @@ pub mod Lent
 pub mod Wrote
 pub mod Document
 pub mod Value
-pub mod Handled
 pub mod Belongs
 pub mod Additions

@@ -1,8 +1,8 @@
 //! What is read from the store agrees with the plain program that computes the definitions of reading.
 
 use crate::common::SliceSource;
-use crate::schema::CompactDoc;
 use crate::schema::document::DeserializeError;
+use crate::schema::{CompactDoc, Value};
 use crate::store::{DocStoreVersion, read_document};
 use crate::tests::sources::DripSource;
 use plain_reader::documents::read_document as read_plainly;

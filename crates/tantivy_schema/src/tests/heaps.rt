@@ -5,6 +5,7 @@ use tv_doc::add_error::AddError;
 use tv_doc::document::CompactDoc;
 use tv_doc::value_type::ValueType;
 use tv_value::field::Field;
+use tv_value::value::Value;
 
 #[test]
 fn holds_a_text_and_a_number(rt: HostRuntime) -> Result<(), Fail> {

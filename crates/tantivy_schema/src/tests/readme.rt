@@ -2,7 +2,7 @@
 
 use crate::common::{SliceSource, VecSink};
 use crate::schema::document::BinaryDocumentSerializer;
-use crate::schema::{INDEXED, NumericOptions, STORED, Schema, TEXT, TantivyDocument};
+use crate::schema::{INDEXED, NumericOptions, STORED, Schema, TEXT, TantivyDocument, Value};
 use crate::store::{DocStoreVersion, read_document};
 use std::test::Fail;
 

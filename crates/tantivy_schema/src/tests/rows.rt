@@ -4,7 +4,7 @@ use crate::common::{Cause, ReadError, SliceSource, VecSink};
 use crate::laws::{stored_pairs_are_read_back, written_documents_are_shortest};
 use crate::schema::document::{AddError, BinaryDocumentSerializer, DeserializeError};
 use crate::schema::{
-    CompactDoc, Field, NumericOptions, Schema, SchemaBuilder, SchemaError, TextOptions,
+    CompactDoc, Field, NumericOptions, Schema, SchemaBuilder, SchemaError, TextOptions, Value,
 };
 use crate::store::{DocStoreVersion, read_document};
 use crate::tests::sources::DripSource;
