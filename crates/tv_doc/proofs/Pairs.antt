@@ -1,5 +1,5 @@
 -- The first pair that is left, and the others.
-use Rattle.std.proofs.Common.{◌≡◌, ℕ, ◌<◌, List, [], ◌∷◌, length, refl, sym, ◌∙◌, ap, subst, arith}
+use Rattle.std.proofs.Common.{◌≡◌, ℕ, ◌<◌, List, [], ◌∷◌, length, refl, sym, ◌∙◌, ap, subst, true, false, nat_eq, arith}
 use Rattle.std.proofs.Math.Logic.{∥∥₁_elim, ∥∥₁_map}
 use Rattle.std.proofs.Math.Nat.{ℕ_set}
 use mathlib.Core.HLevel.{⊥_prop}
@@ -9,6 +9,7 @@ use Rattle.tv_doc.specs.declared.value_type.ValueType.{ValueType}
 use Rattle.tv_doc.specs.Held.{Held, ReadsPair, ReadsPairs, Holds, same_held}
 use Rattle.tv_doc.specs.Reads.{Reads}
 use Rattle.tv_doc.specs.TypeCode.{type_code}
+use Rattle.tv_doc.specs.Value.{values_of}
 use Rattle.tv_doc.proofs.Documents.{same_document}
 
 pub record FirstPair (heap : List ℕ) (p : FieldValueAddr) (ps : List FieldValueAddr) (d : Document) : Type 0 where
@@ -55,3 +56,10 @@ pub pairs_fewer : (heap : List ℕ) (p : FieldValueAddr) (ps : List FieldValueAd
 pairs_fewer heap p ps d f y =
     let left = same_document heap heap ps ps (f.others, f.left) y refl refl in
     omega (arith, ap length f.is, ap length left)
+
+-- the first pair is of the field, or of another
+pub value_first : (n field : ℕ) (t : Tree) (d rest : Document) → d ≡ (field, t) ∷ rest → nat_eq field n ≡ true → values_of n d ≡ t ∷ values_of n rest
+value_first n field t d rest e same = ap (values_of n) e ∙ rw same refl
+
+pub other_first : (n field : ℕ) (t : Tree) (d rest : Document) → d ≡ (field, t) ∷ rest → nat_eq field n ≡ false → values_of n d ≡ values_of n rest
+other_first n field t d rest e other = ap (values_of n) e ∙ rw other refl

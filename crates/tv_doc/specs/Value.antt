@@ -1,8 +1,10 @@
 -- What values and pairs that are lent out of a document are seen as.
-use Rattle.std.specs.Prelude.{ℕ}
+use Rattle.std.specs.Prelude.{ℕ, List, map, nat_eq}
+use Rattle.std.specs.List.{filter}
 use Rattle.tv_value.specs.declared.field.Field.{Field}
 use Rattle.tv_value.specs.Tree.{Tree, Document}
 use Rattle.tv_doc.specs.declared.field_values.FieldValueIterRef.{FieldValueIterRef}
+use Rattle.tv_doc.specs.declared.field_values.GetAllIter.{GetAllIter}
 use Rattle.tv_doc.specs.declared.value.CompactDocValue.{CompactDocValue}
 
 -- the value's tree
@@ -16,3 +18,11 @@ pair_of pair = (pair.0.id, pair.1.held.0)
 -- the pairs that are left
 abbrev pub pairs_left : FieldValueIterRef → Document
 pairs_left pairs = pairs.held.0
+
+-- the values of a field, in order
+abbrev pub values_of : ℕ → Document → List Tree
+values_of field d = map (λ pair. pair.1) (filter (λ pair. nat_eq pair.0 field) d)
+
+-- those that are left
+abbrev pub values_left : GetAllIter → List Tree
+values_left values = values_of values.field.id (pairs_left values.pairs)

@@ -1,6 +1,6 @@
 //! Documents: pairs of a field and a value, the values in one heap.
 
-ghost use Rattle.std.specs.Prelude.{◌≡◌, ◌<◌, ◌≤◌, ◌^◌, [], ◌∷◌, ◌++◌, ◌↔◌, IsTrue, OnOk, OnErr, SomeIff, length, map, slice_get};
+ghost use Rattle.std.specs.Prelude.{◌≡◌, ◌<◌, ◌≤◌, ◌^◌, [], ◌∷◌, ◌++◌, ◌↔◌, IsTrue, OnOk, OnErr, IfOk, SomeIff, option_map, length, map, slice_get};
 ghost use Rattle.std.specs.Net.Addr.{ipv6_bits};
 ghost use Rattle.std.specs.String.{string_bytes};
 ghost use Rattle.tv_value.specs.HeldTokens.{token_of};
@@ -10,9 +10,10 @@ ghost use Rattle.tv_doc.specs.Held.{Holds, Holds-prop};
 ghost use Rattle.tv_doc.specs.Room.{room, document_room};
 
 use crate::add_error::AddError;
-use crate::field_values::FieldValueIterRef;
+use crate::field_values::{FieldValueIterRef, GetAllIter};
 use crate::place::FieldValueAddr;
 use crate::room::{leaf_room, room};
+use crate::value::CompactDocValue;
 use crate::write::{write_leaf, write_tree};
 use std::alloc::{AllocError, Global};
 use std::net::Ipv6Addr;
@@ -57,8 +58,8 @@ pub struct CompactDoc {
 
 impl CompactDoc {
     ghost use Rattle.tv_doc.specs.Belongs.{Belongs};
-    ghost use Rattle.tv_doc.specs.Document.{document_of, heap_of, places_of, Adds, ReadsAt};
-    ghost use Rattle.tv_doc.specs.Value.{pairs_left};
+    ghost use Rattle.tv_doc.specs.Document.{document_of, heap_of, places_of, Adds, IsUnchanged, ReadsAt};
+    ghost use Rattle.tv_doc.specs.Value.{pairs_left, tree_of, values_left, values_of};
 
     /// A document without pairs, which takes no memory.
     pub fn new(alloc: Global) -> CompactDoc
@@ -70,6 +71,41 @@ impl CompactDoc {
             node_data: Vec::new(alloc),
             pairs: Vec::new(alloc),
         }
+    }
+
+    /// A document without pairs, with memory for so many bytes of values. The only error is that memory was refused.
+    pub fn with_capacity(alloc: Global, bytes: usize) -> Result<CompactDoc, AllocError>
+        ensures document { IfOk result (λ made. document_of made ≡ []) }
+        ensures heap { IfOk result (λ made. heap_of made ≡ []) }
+    {
+        let node_data = Vec::with_capacity(alloc, bytes)?;
+        Ok(CompactDoc {
+            alloc,
+            node_data,
+            pairs: Vec::new(alloc),
+        })
+    }
+
+    /// A copy: the same pairs, and their values at the same places of the same heap. The only error is that memory was
+    /// refused.
+    pub fn try_clone(&self, alloc: Global) -> Result<CompactDoc, AllocError>
+        ensures { IfOk result (λ copy. IsUnchanged self.now copy) }
+    {
+        let node_data = Vec::from_slice(alloc, self.node_data.as_slice())?;
+        let pairs = Vec::from_slice(alloc, self.pairs.as_slice())?;
+        Ok(CompactDoc {
+            alloc,
+            node_data,
+            pairs,
+        })
+    }
+
+    /// Gives memory back that neither the values nor the pairs need. The document stays the same.
+    pub fn shrink_to_fit(&mut self)
+        ensures { IsUnchanged self.old self.new }
+    {
+        self.node_data.shrink_to_fit();
+        self.pairs.shrink_to_fit();
     }
 
     /// The number of pairs.
@@ -194,6 +230,20 @@ impl CompactDoc {
         ensures { pairs_left result ≡ document_of self.now }
     {
         FieldValueIterRef::new(self.node_data.as_slice(), self.pairs.as_slice())
+    }
+
+    /// The values of a field, in the order in which they were added.
+    pub fn get_all(&self, field: Field) -> GetAllIter<'_>
+        ensures { values_left result ≡ values_of field.id (document_of self.now) }
+    {
+        GetAllIter::new(self.field_values(), field)
+    }
+
+    /// The value of a field that was added first; `None` where it has none.
+    pub fn get_first(&self, field: Field) -> Option<CompactDocValue<'_>>
+        ensures { option_map tree_of result ≡ slice_get (values_of field.id (document_of self.now)) 0 }
+    {
+        self.get_all(field).next()
     }
 
     /// Whether each pair's field is one of the schema: its number is below the schema's `num_fields`.

@@ -44,3 +44,42 @@ impl<'a> Iterator for FieldValueIterRef<'a> {
         ))
     }
 }
+
+/// The values of one field of a document that are left: each once, in the order in which they were added.
+#[derive(Clone, Copy)]
+pub struct GetAllIter<'a> {
+    pairs: FieldValueIterRef<'a>,
+    field: Field,
+}
+
+impl<'a> GetAllIter<'a> {
+    pub(crate) fn new(pairs: FieldValueIterRef<'a>, field: Field) -> GetAllIter<'a>
+        ensures pairs { result.pairs ≡ pairs.entry }
+        ensures field { result.field ≡ field }
+    {
+        GetAllIter { pairs, field }
+    }
+}
+
+impl<'a> Iterator for GetAllIter<'a> {
+    ghost use Rattle.tv_doc.specs.Value.{values_left};
+
+    type Item = CompactDocValue<'a>;
+
+    ghost next_gives = { YieldsFirstBy (λ v. v.held.0) values_left };
+
+    ghost remaining = { item_count (λ s. s.pairs.held.0) };
+
+    fn next(&mut self) -> Option<CompactDocValue<'a>> {
+        let field = self.field;
+        let mut pairs = self.pairs;
+        while let Some((other, value)) = pairs.next() {
+            if other == field {
+                *self = GetAllIter { pairs, field };
+                return Some(value);
+            }
+        }
+        *self = GetAllIter { pairs, field };
+        None
+    }
+}
