@@ -3,6 +3,7 @@
 mod agreement;
 mod announced;
 mod heaps;
+mod nested;
 mod readme;
 mod rows;
 mod sources;

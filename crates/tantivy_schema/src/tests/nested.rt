@@ -1,0 +1,186 @@
+//! Values of every kind in a document: added, lent, copied and written.
+
+use crate::DateTime;
+use crate::common::VecSink;
+use crate::schema::document::{BinaryDocumentSerializer, ReferenceValueLeaf, is_same};
+use crate::schema::{
+    CompactDoc, Facet, Field, JsonObjectOptions, OwnedValue, STORED, SchemaBuilder, Value,
+};
+use crate::tokenizer::{PreTokenizedString, Token};
+use std::alloc::{AllocError, Global};
+use std::net::Ipv6Addr;
+use std::test::Fail;
+
+const FIELD: Field = Field::from_field_id(0);
+
+const OTHER: Field = Field::from_field_id(1);
+
+// The array of these values.
+fn array<const N: usize>(alloc: Global, items: [OwnedValue; N]) -> Result<OwnedValue, AllocError> {
+    let mut array = Vec::new(alloc);
+    for item in items {
+        array.push(item)?;
+    }
+    Ok(OwnedValue::Array(array))
+}
+
+// The object with this one entry.
+fn object(alloc: Global, key: &str, value: OwnedValue) -> Result<OwnedValue, AllocError> {
+    let mut members = Vec::new(alloc);
+    members.push((String::from_str(alloc, key)?, value))?;
+    Ok(OwnedValue::Object(members))
+}
+
+#[test]
+fn an_object_stands_behind_its_children(rt: HostRuntime) -> Result<(), Fail> {
+    let alloc = rt.alloc();
+    let value = object(alloc, "k", array(alloc, [OwnedValue::Bool(true)])?)?;
+    let mut document = CompactDoc::new(alloc);
+    document.add_field_value(FIELD, &&value)?;
+    let heap = b"\x81\x6b\x82\x09\x81\x84\x01\x80\x0c\x82";
+    assert_eq!(rt; document.node_data(), heap.as_slice());
+    assert_eq!(rt; document.addr_of(0), Some((11, 5)));
+    Ok(())
+}
+
+#[test]
+fn an_empty_array_is_one_byte(rt: HostRuntime) -> Result<(), Fail> {
+    let value = array(rt.alloc(), [])?;
+    let mut document = CompactDoc::new(rt.alloc());
+    document.add_field_value(FIELD, &&value)?;
+    assert_eq!(rt; document.node_data(), b"\x80".as_slice());
+    assert_eq!(rt; document.addr_of(0), Some((12, 0)));
+    Ok(())
+}
+
+// The text `hi` and its one token.
+fn tokenized(alloc: Global) -> Result<PreTokenizedString, AllocError> {
+    let mut tokens = Vec::new(alloc);
+    tokens.push(Token {
+        offset_from: 0,
+        offset_to: 2,
+        position: 3,
+        text: String::from_str(alloc, "hi")?,
+        position_length: 1,
+    })?;
+    Ok(PreTokenizedString {
+        text: String::from_str(alloc, "hi")?,
+        tokens,
+    })
+}
+
+fn add_numbers(document: &mut CompactDoc) -> Result<(), Fail> {
+    document.add_u64(FIELD, 7)?;
+    document.add_i64(FIELD, -7)?;
+    document.add_bool(FIELD, true)?;
+    document.add_date(FIELD, DateTime::from_timestamp_nanos(-7))?;
+    document.add_ip_addr(FIELD, Ipv6Addr::LOCALHOST)?;
+    Ok(())
+}
+
+fn add_texts(alloc: Global, document: &mut CompactDoc) -> Result<(), Fail> {
+    document.add_text(FIELD, "a")?;
+    document.add_facet(FIELD, &Facet::from_path(alloc, &["a", "b"])?)?;
+    document.add_bytes(FIELD, b"\xff")?;
+    document.add_pre_tokenized_text(FIELD, &tokenized(alloc)?)?;
+    document.add_leaf_field_value(OTHER, ReferenceValueLeaf::Null)?;
+    Ok(())
+}
+
+fn document_of_leaves(alloc: Global) -> Result<CompactDoc, Fail> {
+    let mut document = CompactDoc::with_capacity(alloc, 100)?;
+    add_numbers(&mut document)?;
+    add_texts(alloc, &mut document)?;
+    Ok(document)
+}
+
+// The types and the addresses of all values.
+const PLACES: [(u8, u32); 10] = [
+    (2, 0),
+    (3, 8),
+    (9, 1),
+    (5, 16),
+    (8, 24),
+    (1, 40),
+    (6, 42),
+    (7, 46),
+    (10, 48),
+    (0, 0),
+];
+
+#[test]
+fn each_kind_has_its_place(rt: HostRuntime) -> Result<(), Fail> {
+    let document = document_of_leaves(rt.alloc())?;
+    assert_eq!(rt; document.len(), PLACES.len());
+    for (i, place) in PLACES.iter().enumerate() {
+        assert_eq!(rt; document.addr_of(i), Some(*place));
+    }
+    let payload = b"\x82\x68\x69\x81\x80\x82\x83\x82\x68\x69\x81";
+    assert!(rt; document.node_data().ends_with(payload));
+    Ok(())
+}
+
+#[test]
+fn copies_hold_the_same(rt: HostRuntime) -> Result<(), Fail> {
+    let alloc = rt.alloc();
+    let mut document = document_of_leaves(alloc)?;
+    let copy = document.try_clone(alloc)?;
+    document.shrink_to_fit();
+    assert_eq!(rt; copy.node_data(), document.node_data());
+    for ((_, one), (_, other)) in copy.field_values().zip(document.field_values()) {
+        assert!(rt; one == other);
+        assert!(rt;
+            is_same(
+                &&OwnedValue::from_value(alloc, &one)?,
+                &&OwnedValue::from_value(alloc, &other)?
+            )
+        );
+    }
+    Ok(())
+}
+
+#[test]
+fn values_are_found_by_their_field(rt: HostRuntime) -> Result<(), Fail> {
+    let document = document_of_leaves(rt.alloc())?;
+    let first = document.get_first(FIELD).ok_or("a value")?;
+    assert_eq!(rt; first.as_u64(), Some(7));
+    let mut others = document.get_all(OTHER);
+    let other = others.next().ok_or("a value")?;
+    assert!(rt; other.as_value().is_null());
+    assert!(rt; others.next().is_none());
+    assert!(rt; document.get_first(Field::from_field_id(2)).is_none());
+    Ok(())
+}
+
+// What is written of a document with this one value.
+fn written(alloc: Global, value: &OwnedValue) -> Result<Vec<u8>, Fail> {
+    let mut builder = SchemaBuilder::new(alloc);
+    let field = builder.add_json_field("j", JsonObjectOptions::from(STORED))?;
+    let schema = builder.build()?;
+    let mut document = CompactDoc::new(alloc);
+    document.add_field_value(field, &value)?;
+    let mut sink = VecSink::new(alloc);
+    if document.fits(&schema) {
+        BinaryDocumentSerializer::new(&mut sink, &schema).serialize_doc(&document)?;
+    }
+    Ok(sink.into_vec())
+}
+
+#[test]
+fn nested_values_are_written(rt: HostRuntime) -> Result<(), Fail> {
+    let alloc = rt.alloc();
+    let nulls = array(alloc, [OwnedValue::Null])?;
+    let inner = array(alloc, [array(alloc, [])?, nulls])?;
+    let value = object(alloc, "my-array", array(alloc, [inner])?)?;
+    let bytes = b"\x81\0\0\0\0\x0d\x82\x00\x88my-array\x0c\x81\x0c\x82\x0c\x80\x0c\x81\x0b";
+    assert_eq!(rt; written(alloc, &value)?.as_slice(), bytes.as_slice());
+    Ok(())
+}
+
+#[test]
+fn a_text_with_tokens_is_written_as_its_text(rt: HostRuntime) -> Result<(), Fail> {
+    let value = OwnedValue::PreTokStr(tokenized(rt.alloc())?);
+    let bytes = b"\x81\0\0\0\0\x00\x82hi";
+    assert_eq!(rt; written(rt.alloc(), &value)?.as_slice(), bytes.as_slice());
+    Ok(())
+}
