@@ -11,9 +11,13 @@ use std::alloc::{AllocError, Global};
 use std::net::Ipv6Addr;
 use std::test::Fail;
 
-const FIELD: Field = Field::from_field_id(0);
+fn field() -> Field {
+    Field::from_field_id(0)
+}
 
-const OTHER: Field = Field::from_field_id(1);
+fn other_field() -> Field {
+    Field::from_field_id(1)
+}
 
 // The array of these values.
 fn array<const N: usize>(alloc: Global, items: [OwnedValue; N]) -> Result<OwnedValue, AllocError> {
@@ -36,7 +40,7 @@ fn an_object_stands_behind_its_children(rt: HostRuntime) -> Result<(), Fail> {
     let alloc = rt.alloc();
     let value = object(alloc, "k", array(alloc, [OwnedValue::Bool(true)])?)?;
     let mut document = CompactDoc::new(alloc);
-    document.add_field_value(FIELD, &&value)?;
+    document.add_field_value(field(), &&value)?;
     let heap = b"\x81\x6b\x82\x09\x81\x84\x01\x80\x0c\x82";
     assert_eq!(rt; document.node_data(), heap.as_slice());
     assert_eq!(rt; document.addr_of(0), Some((11, 5)));
@@ -47,7 +51,7 @@ fn an_object_stands_behind_its_children(rt: HostRuntime) -> Result<(), Fail> {
 fn an_empty_array_is_one_byte(rt: HostRuntime) -> Result<(), Fail> {
     let value = array(rt.alloc(), [])?;
     let mut document = CompactDoc::new(rt.alloc());
-    document.add_field_value(FIELD, &&value)?;
+    document.add_field_value(field(), &&value)?;
     assert_eq!(rt; document.node_data(), b"\x80".as_slice());
     assert_eq!(rt; document.addr_of(0), Some((12, 0)));
     Ok(())
@@ -70,20 +74,20 @@ fn tokenized(alloc: Global) -> Result<PreTokenizedString, AllocError> {
 }
 
 fn add_numbers(document: &mut CompactDoc) -> Result<(), Fail> {
-    document.add_u64(FIELD, 7)?;
-    document.add_i64(FIELD, -7)?;
-    document.add_bool(FIELD, true)?;
-    document.add_date(FIELD, DateTime::from_timestamp_nanos(-7))?;
-    document.add_ip_addr(FIELD, Ipv6Addr::LOCALHOST)?;
+    document.add_u64(field(), 7)?;
+    document.add_i64(field(), -7)?;
+    document.add_bool(field(), true)?;
+    document.add_date(field(), DateTime::from_timestamp_nanos(-7))?;
+    document.add_ip_addr(field(), Ipv6Addr::LOCALHOST)?;
     Ok(())
 }
 
 fn add_texts(alloc: Global, document: &mut CompactDoc) -> Result<(), Fail> {
-    document.add_text(FIELD, "a")?;
-    document.add_facet(FIELD, &Facet::from_path(alloc, &["a", "b"])?)?;
-    document.add_bytes(FIELD, b"\xff")?;
-    document.add_pre_tokenized_text(FIELD, &tokenized(alloc)?)?;
-    document.add_leaf_field_value(OTHER, ReferenceValueLeaf::Null)?;
+    document.add_text(field(), "a")?;
+    document.add_facet(field(), &Facet::from_path(alloc, &["a", "b"])?)?;
+    document.add_bytes(field(), b"\xff")?;
+    document.add_pre_tokenized_text(field(), &tokenized(alloc)?)?;
+    document.add_leaf_field_value(other_field(), ReferenceValueLeaf::Null)?;
     Ok(())
 }
 
@@ -142,9 +146,9 @@ fn copies_hold_the_same(rt: HostRuntime) -> Result<(), Fail> {
 #[test]
 fn values_are_found_by_their_field(rt: HostRuntime) -> Result<(), Fail> {
     let document = document_of_leaves(rt.alloc())?;
-    let first = document.get_first(FIELD).ok_or("a value")?;
+    let first = document.get_first(field()).ok_or("a value")?;
     assert_eq!(rt; first.as_u64(), Some(7));
-    let mut others = document.get_all(OTHER);
+    let mut others = document.get_all(other_field());
     let other = others.next().ok_or("a value")?;
     assert!(rt; other.as_value().is_null());
     assert!(rt; others.next().is_none());
