@@ -1,4 +1,4 @@
-//! Texts with their tokens, lent from where they are kept or spelled. None of them takes memory.
+//! Texts with their tokens, lent from where they are kept or spelled. A copy alone takes memory.
 
 ghost use Rattle.std.specs.Prelude.{◌≡◌, ◌↔◌, [], IfOk, IsTrue, length};
 ghost use Rattle.tv_value.specs.HeldTokens.{HeldTokens, HeldTokens-prop, token_of};
