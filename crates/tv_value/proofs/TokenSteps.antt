@@ -16,6 +16,7 @@ use Rattle.tv_value.specs.Tree.{Token}
 use Rattle.tv_value.specs.TreeCode.{coded_token}
 use Rattle.tv_value.proofs.Kept.{same_tokens}
 
+-- the tokens are this first one and those that are still held
 pub record Goes (kept : List tokenizer.Token) (spelled : List ℕ) (count : ℕ) (first : Token) (tokens : List Token) : Type 0 where
   pub others : List Token
   pub is : tokens ≡ first ∷ others

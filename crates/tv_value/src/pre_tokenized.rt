@@ -1,4 +1,4 @@
-//! Texts with their tokens, lent from where they are kept or spelled. None of them takes memory.
+//! Texts with their tokens, lent from where they are kept or spelled. A copy alone takes memory.
 
 ghost use Rattle.std.specs.Prelude.{◌≡◌, ◌↔◌, [], IfOk, IsTrue, length};
 ghost use Rattle.tv_value.specs.HeldTokens.{HeldTokens, HeldTokens-prop, token_of};
@@ -9,8 +9,9 @@ ghost use Rattle.tv_value.specs.TokenRef.{ref_of};
 use crate::in_place::{behind_tokens, number_at, text_at, token_at};
 use crate::tokenizer::{PreTokenizedString, Token};
 use std::alloc::{AllocError, Global};
+use std::fmt;
 
-/// A token that is lent. Offsets are in bytes of the text that it is a token of.
+/// A token that is lent (own). Offsets are in bytes of the text that it is a token of.
 #[derive(Clone, Copy, Debug, PartialEq, Eq)]
 pub struct TokenRef<'a> {
     /// Where it begins.
@@ -25,7 +26,7 @@ pub struct TokenRef<'a> {
     pub position_length: usize,
 }
 
-/// The tokens of a text that are left, each once and in order.
+/// The tokens of a text that are left, each once and in order (own).
 #[derive(Clone, Copy)]
 pub struct TokenIter<'a> {
     kept: &'a [Token],
@@ -34,8 +35,8 @@ pub struct TokenIter<'a> {
     pub ghost held: { HeldTokens kept.now spelled.now count } by { HeldTokens-prop kept.now spelled.now count },
 }
 
-/// A text and its tokens, both lent.
-#[derive(Clone, Copy)]
+/// A text and its tokens, both lent (own).
+#[derive(Clone, Copy, Debug)]
 pub struct PreTokenizedStr<'a> {
     text: &'a str,
     tokens: TokenIter<'a>,
@@ -185,6 +186,13 @@ impl<'a> Iterator for TokenIter<'a> {
             count: count - 1,
         };
         Some(token)
+    }
+}
+
+/// The tokens that are left, as a list.
+impl fmt::Debug for TokenIter<'_> {
+    fn fmt<W: fmt::Write>(&self, f: &mut fmt::Formatter<W>) -> fmt::Result {
+        f.debug_list().entries(*self).finish()
     }
 }
 
