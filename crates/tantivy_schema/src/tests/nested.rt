@@ -19,15 +19,6 @@ fn other_field() -> Field {
     Field::from_field_id(1)
 }
 
-// The array of these values.
-fn array<const N: usize>(alloc: Global, items: [OwnedValue; N]) -> Result<OwnedValue, AllocError> {
-    let mut array = Vec::new(alloc);
-    for item in items {
-        array.push(item)?;
-    }
-    Ok(OwnedValue::Array(array))
-}
-
 // The object with this one entry.
 fn object(alloc: Global, key: &str, value: OwnedValue) -> Result<OwnedValue, AllocError> {
     let mut members = Vec::new(alloc);
@@ -38,7 +29,11 @@ fn object(alloc: Global, key: &str, value: OwnedValue) -> Result<OwnedValue, All
 #[test]
 fn an_object_stands_behind_its_children(rt: HostRuntime) -> Result<(), Fail> {
     let alloc = rt.alloc();
-    let value = object(alloc, "k", array(alloc, [OwnedValue::Bool(true)])?)?;
+    let value = object(
+        alloc,
+        "k",
+        OwnedValue::Array(vec![in alloc; OwnedValue::Bool(true)]?),
+    )?;
     let mut document = CompactDoc::new(alloc);
     document.add_field_value(field(), &&value)?;
     let heap = b"\x81\x6b\x82\x09\x81\x84\x01\x80\x0c\x82";
@@ -49,7 +44,7 @@ fn an_object_stands_behind_its_children(rt: HostRuntime) -> Result<(), Fail> {
 
 #[test]
 fn an_empty_array_is_one_byte(rt: HostRuntime) -> Result<(), Fail> {
-    let value = array(rt.alloc(), [])?;
+    let value = OwnedValue::Array(Vec::new(rt.alloc()));
     let mut document = CompactDoc::new(rt.alloc());
     document.add_field_value(field(), &&value)?;
     assert_eq!(rt; document.node_data(), b"\x80".as_slice());
@@ -173,9 +168,11 @@ fn written(alloc: Global, value: &OwnedValue) -> Result<Vec<u8>, Fail> {
 #[test]
 fn nested_values_are_written(rt: HostRuntime) -> Result<(), Fail> {
     let alloc = rt.alloc();
-    let nulls = array(alloc, [OwnedValue::Null])?;
-    let inner = array(alloc, [array(alloc, [])?, nulls])?;
-    let value = object(alloc, "my-array", array(alloc, [inner])?)?;
+    let nulls = OwnedValue::Array(vec![in alloc; OwnedValue::Null]?);
+    let empty = OwnedValue::Array(Vec::new(alloc));
+    let inner = OwnedValue::Array(vec![in alloc; empty, nulls]?);
+    let outer = OwnedValue::Array(vec![in alloc; inner]?);
+    let value = object(alloc, "my-array", outer)?;
     let bytes = b"\x81\0\0\0\0\x0d\x82\x00\x88my-array\x0c\x81\x0c\x82\x0c\x80\x0c\x81\x0b";
     assert_eq!(rt; written(alloc, &value)?.as_slice(), bytes.as_slice());
     Ok(())
