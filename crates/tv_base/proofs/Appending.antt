@@ -1,12 +1,11 @@
 -- Bytes that a source appends piece by piece.
-use Rattle.std.proofs.Common.{◌≡◌, ℕ, ◌+◌, ◌-◌, ◌^◌, ◌<◌, ◌≤◌, List, [], ◌∷◌, ◌++◌, length, Result, Ok, Err, refl, sym, ap, ◌∙◌, arith}
+use Rattle.std.proofs.Common.{◌≡◌, ℕ, ◌+◌, ◌-◌, ◌<◌, ◌≤◌, List, [], ◌∷◌, ◌++◌, length, Result, Ok, Err, refl, sym, ap, ◌∙◌, arith}
 use Rattle.tv_base.specs.declared.cause.Cause.{Cause}
 use Rattle.tv_base.specs.declared.cause.Cause.TheVariants.{UnexpectedEnd}
-use Rattle.tv_base.specs.declared.read_error.ReadError.{ReadError}
-use Rattle.tv_base.specs.declared.read_error.ReadError.TheVariants.{Corrupted, Io, Memory}
-use Rattle.tv_base.specs.Append.{Moves, append_stop}
-use Rattle.tv_base.specs.Source.{Faults, HasFailed}
-use Rattle.tv_base.specs.Stop.{◌>>=◌, Stops, CountsStop, Taken, Takes}
+use Rattle.tv_base.specs.declared.read_error.ReadError.TheVariants.{Corrupted}
+use Rattle.tv_base.specs.Append.{Moves}
+use Rattle.tv_base.specs.Source.{Faults}
+use Rattle.tv_base.specs.Stop.{◌>>=◌, Taken, Takes}
 use Rattle.tv_base.specs.Take.{read_stop}
 use Rattle.tv_base.specs.Reading.{more_at}
 use Rattle.tv_base.proofs.AgreeWidths.{more_agrees}

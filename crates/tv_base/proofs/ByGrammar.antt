@@ -10,7 +10,7 @@ use Rattle.tv_base.specs.Stop.{Gives, Taken}
 use Rattle.tv_base.specs.Take.{TakesBy, read_stop}
 use Rattle.tv_base.specs.ReadsAs.{Known, IsRead, Shows, ReadsAs}
 use Rattle.tv_base.proofs.SmallBytes.{bytes_before}
-use Rattle.tv_base.proofs.Agrees.{Agrees, Shown, ok_is, no_ok}
+use Rattle.tv_base.proofs.Agrees.{Agrees, ok_is, no_ok}
 
 found_by : {X Y : Type 0} {reading : List ℕ → Result (Y × List ℕ) (Cause × List ℕ)} {Spells : List ℕ → Y → Type 0} {IsFault : List ℕ → Cause → Type 0} (view : X → Y)
     → Agrees UnexpectedEnd reading Spells IsFault → (bytes rest : List ℕ) (count : ℕ) (result : Result X ReadError) → AllBytes bytes → Gives read_stop view result (reading bytes) rest count → IfOk result (λ x. (front : List ℕ) × Spells front (view x) × (bytes ≡ front ++ rest))

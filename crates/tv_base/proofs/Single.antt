@@ -1,8 +1,8 @@
 -- Bytes are at fault in one way only.
-use Rattle.std.proofs.Common.{◌≡◌, ℕ, zero, suc, ◌+◌, ◌<◌, List, [], ◌∷◌, ◌++◌, length, refl, sym, ◌∙◌, ap, subst, arith, inl, inr, length-append}
+use Rattle.std.proofs.Common.{◌≡◌, ℕ, zero, suc, List, ◌∷◌, ◌++◌, length, refl, sym, ◌∙◌, ap, subst, arith, inl, inr, length-append}
 use Rattle.tv_base.specs.declared.cause.Cause.{Cause}
 use Rattle.tv_base.specs.Number.{VNum}
-use Rattle.tv_base.specs.Parts.{OneReading, Then, Sized, Text}
+use Rattle.tv_base.specs.Parts.{OneReading, Then}
 use Rattle.tv_base.specs.PartFault.{InThen, InEach, NumberFault, number_ends, number_large, BytesFault, bytes_end, SizedFault, TextFault, in_sized, no_text}
 use Rattle.tv_base.proofs.Numbers.{one_number}
 use Rattle.tv_base.proofs.Excluding.{Excludes, rests, excludes_number}

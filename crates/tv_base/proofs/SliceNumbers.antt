@@ -1,5 +1,5 @@
 -- A number of variable length that is read in place.
-use Rattle.std.proofs.Common.{◌≡◌, ℕ, ◌-◌, ◌^◌, ◌<◌, ◌≤◌, List, ◌++◌, length, take, Result, Ok, Err, Option, Some, None, refl, sym, ap, subst, ◌∙◌, arith, length-append, take_at}
+use Rattle.std.proofs.Common.{◌≡◌, ℕ, ◌-◌, ◌^◌, ◌<◌, ◌≤◌, List, ◌++◌, length, take, Ok, Err, Option, Some, None, refl, sym, ap, subst, ◌∙◌, arith, length-append, take_at}
 use Rattle.std.proofs.lemmas.List.{append_cancel_right}
 use Rattle.tv_base.specs.declared.cause.Cause.{Cause}
 use Rattle.tv_base.specs.declared.read_error.ReadError.{ReadError}

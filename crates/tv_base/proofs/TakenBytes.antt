@@ -1,5 +1,5 @@
 -- A byte is read and taken.
-use Rattle.std.proofs.Common.{◌≡◌, ℕ, ◌+◌, List, [], ◌∷◌, Ok, ap, refl, arith}
+use Rattle.std.proofs.Common.{◌≡◌, ℕ, ◌+◌, List, [], ◌∷◌, Ok, ap, refl}
 use Rattle.tv_base.specs.Stop.{Taken}
 use Rattle.tv_base.specs.Reading.{u8_at}
 

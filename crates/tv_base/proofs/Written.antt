@@ -1,9 +1,8 @@
 -- One write after the other.
 use Rattle.std.proofs.Common.{◌≡◌, ℕ, List, [], ◌++◌, Result, Ok, Err, refl, sym, ap, subst, ◌∙◌, append_assoc}
 use Rattle.std.proofs.lemmas.List.{append-nil}
-use Rattle.std.specs.declared.io.ErrorKind.{ErrorKind}
-use Rattle.tv_base.specs.Source.{Faults, HasFailed}
-use Rattle.tv_base.specs.Stop.{Stop, CountsStop}
+use Rattle.tv_base.specs.Source.{Faults}
+use Rattle.tv_base.specs.Stop.{Stop}
 use Rattle.tv_base.specs.Stop.Stop.{Fault, Failed, Short, Never}
 use Rattle.tv_base.specs.Sink.{Begins, Halts, WritesBy}
 use Rattle.tv_base.proofs.TakeSteps.{CountsStop-from}

@@ -20,6 +20,19 @@ impl VInt {
         ensures bytes { take result.1 result.0 ≡ vnum self.0 }
     {
         let mut bytes = [0; 10];
+        if self.0 < 128 {
+            bytes[0] = self.0 as u8 + 128;
+            return (bytes, 1);
+        }
+        self.long_spelling()
+    }
+
+    // The same, group by group.
+    fn long_spelling(self) -> ([u8; 10], usize)
+        ensures len { result.1 ≤ 10 }
+        ensures bytes { take result.1 result.0 ≡ vnum self.0 }
+    {
+        let mut bytes = [0; 10];
         let mut rest = self.0;
         for i in 0..9 {
             if rest < 128 {

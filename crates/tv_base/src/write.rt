@@ -13,6 +13,7 @@ use crate::vint::VInt;
 use std::io;
 
 /// Writes all of the bytes, in as many writes as it takes.
+#[inline]
 pub fn write_all<K: ByteSink>(sink: &mut K, bytes: &[u8]) -> Result<(), io::ErrorKind>
     ensures { Writes K.tells K.held K.faults sink.old sink.new result bytes.now }
 {
@@ -25,6 +26,7 @@ pub fn write_all<K: ByteSink>(sink: &mut K, bytes: &[u8]) -> Result<(), io::Erro
 }
 
 /// Writes one byte.
+#[inline]
 #[tactic(auto, unfolding(crate::specs::Number::one_byte))]
 pub fn write_u8<K: ByteSink>(sink: &mut K, number: u8) -> Result<(), io::ErrorKind>
     ensures { Writes K.tells K.held K.faults sink.old sink.new result (one_byte number) }
@@ -33,6 +35,7 @@ pub fn write_u8<K: ByteSink>(sink: &mut K, number: u8) -> Result<(), io::ErrorKi
 }
 
 /// Writes a number in four bytes, the lowest first.
+#[inline]
 #[tactic(auto, using(crate::proofs::Widths::four_bytes_is))]
 pub fn write_u32<K: ByteSink>(sink: &mut K, number: u32) -> Result<(), io::ErrorKind>
     ensures { Writes K.tells K.held K.faults sink.old sink.new result (four_bytes number) }
@@ -42,6 +45,7 @@ pub fn write_u32<K: ByteSink>(sink: &mut K, number: u32) -> Result<(), io::Error
 }
 
 /// Writes a number in eight bytes, the lowest first.
+#[inline]
 #[tactic(auto, using(crate::proofs::Widths::eight_bytes_is))]
 pub fn write_u64<K: ByteSink>(sink: &mut K, number: u64) -> Result<(), io::ErrorKind>
     ensures { Writes K.tells K.held K.faults sink.old sink.new result (eight_bytes number) }
@@ -51,6 +55,7 @@ pub fn write_u64<K: ByteSink>(sink: &mut K, number: u64) -> Result<(), io::Error
 }
 
 /// Writes a number in sixteen bytes, the lowest first.
+#[inline]
 #[tactic(auto, using(crate::proofs::Widths::sixteen_bytes_is))]
 pub fn write_u128<K: ByteSink>(sink: &mut K, number: u128) -> Result<(), io::ErrorKind>
     ensures { Writes K.tells K.held K.faults sink.old sink.new result (sixteen_bytes number) }
@@ -60,6 +65,7 @@ pub fn write_u128<K: ByteSink>(sink: &mut K, number: u128) -> Result<(), io::Err
 }
 
 /// Writes a signed number in eight bytes, the lowest first, in two's complement.
+#[inline]
 pub fn write_i64<K: ByteSink>(sink: &mut K, number: i64) -> Result<(), io::ErrorKind>
     ensures { Writes K.tells K.held K.faults sink.old sink.new result (signed_bytes number) }
 {
@@ -67,6 +73,7 @@ pub fn write_i64<K: ByteSink>(sink: &mut K, number: i64) -> Result<(), io::Error
 }
 
 /// Writes a truth value in one byte: 0 or 1.
+#[inline]
 #[tactic(auto, unfolding(crate::specs::Number::one_byte))]
 pub fn write_bool<K: ByteSink>(sink: &mut K, truth: bool) -> Result<(), io::ErrorKind>
     ensures { Writes K.tells K.held K.faults sink.old sink.new result (truth_byte truth) }
@@ -79,6 +86,7 @@ pub fn write_bool<K: ByteSink>(sink: &mut K, truth: bool) -> Result<(), io::Erro
 }
 
 /// Writes the shortest spelling of a number.
+#[inline]
 pub fn write_vint<K: ByteSink>(sink: &mut K, number: u64) -> Result<(), io::ErrorKind>
     ensures { Writes K.tells K.held K.faults sink.old sink.new result (vnum number) }
 {
@@ -87,6 +95,7 @@ pub fn write_vint<K: ByteSink>(sink: &mut K, number: u64) -> Result<(), io::Erro
 }
 
 /// Writes bytes behind their length.
+#[inline]
 #[tactic(auto, using(crate::proofs::Written::Writes_then, crate::proofs::Written::Writes_front))]
 pub fn write_sized<K: ByteSink>(sink: &mut K, content: &[u8]) -> Result<(), io::ErrorKind>
     ensures { Writes K.tells K.held K.faults sink.old sink.new result (short_sized content.now) }
@@ -96,6 +105,7 @@ pub fn write_sized<K: ByteSink>(sink: &mut K, content: &[u8]) -> Result<(), io::
 }
 
 /// Writes a text behind its length in bytes.
+#[inline]
 pub fn write_text<K: ByteSink>(sink: &mut K, text: &str) -> Result<(), io::ErrorKind>
     ensures { Writes K.tells K.held K.faults sink.old sink.new result (short_sized text.now) }
 {

@@ -1,13 +1,16 @@
 -- What is read in place is what stands there.
-use Rattle.std.proofs.Common.{◌≡◌, ℕ, zero, suc, ◌+◌, ◌<◌, ◌≤◌, List, [], ◌++◌, length, get_or, take, drop, take-append-drop, reverse, to_z, of_z, ℤ, ◌^◌, ◌*◌, ◌/◌, ◌%◌, ◌∷◌, refl, sym, ◌∙◌, ap, subst, arith}
+use Rattle.std.proofs.Common.{IsUtf8, ◌-◌, inl, inr, ◌≡◌, ℕ, zero, suc, ◌+◌, ◌<◌, ◌≤◌, List, [], ◌++◌, length, get_or, take, drop, take-append-drop, reverse, to_z, of_z, ℤ, ◌^◌, ◌*◌, ◌/◌, ◌%◌, ◌∷◌, refl, sym, ◌∙◌, ap, subst, arith}
 use Rattle.std.specs.Int.{w64, w128, from_le_bytes, from_be_bytes, to_le_bytes, cast_signed}
 use Rattle.std.specs.Net.Addr.{ipv6_bits, IsIpv6OfBits, segments_of, octets_of}
 use Rattle.std.specs.declared.net.ipv6_addr.Ipv6Addr.{Ipv6Addr}
+use Rattle.std.proofs.lemmas.Bool.{cases_lt}
 use Rattle.std.proofs.lemmas.Int.{to_z-of_z}
-use Rattle.std.proofs.lemmas.List.{length-append}
+use Rattle.std.proofs.lemmas.Str.{IsUtf8-had}
+use Rattle.std.proofs.Math.Logic.{∥∥₁_map}
+use Rattle.std.proofs.lemmas.List.{length-append, take_all}
 use Rattle.std.proofs.Math.Seq.{drop-append_seam, take-append_seam}
-use Rattle.tv_base.specs.Number.{Fixed, Signed, no_bytes, low_byte}
-use Rattle.tv_base.proofs.Numbers.{length-fixed, fixed_fits}
+use Rattle.tv_base.specs.Number.{vnum, Fixed, Signed, no_bytes, low_byte}
+use Rattle.tv_base.proofs.Numbers.{length-fixed, fixed_fits, vnum-small, vnum-large}
 use Rattle.tv_base.proofs.Shortest.{sixteen_bytes_spell}
 use Rattle.tv_base.proofs.Widths.{from_8, from_16, sixteen_bytes_is}
 use Rattle.tv_value.proofs.Leaves.{agree_tokenized}
@@ -15,6 +18,7 @@ use Rattle.tv_value.proofs.ShortSpellings.{tokenized_of}
 use Rattle.tv_value.specs.InPlace.{NoTokenized}
 use Rattle.tv_value.specs.Spelling.{Tokenized}
 use Rattle.tv_value.specs.Tree.{Token, tokenized}
+use Rattle.tv_doc.specs.Lent.{HasText}
 use Rattle.tv_doc.specs.Reads.{Stands, ShortSized, ShortText, ShortTokenized}
 
 -- behind the address
@@ -116,3 +120,52 @@ tokenized_none heap behind at s ss p e none = absurd ((none s ss).none p.whole p
 
 pub tokenized_past : {A : Type 0} (heap : List ℕ) (at : ℕ) (s : List ℕ) (ss : List Token) → Stands heap at (λ w. ShortTokenized s ss w) → length heap < at → A
 tokenized_past heap at s ss p l = absurd (omega (arith, stands_within heap at _ p))
+
+-- ---- numbers of one and of two bytes
+
+short_front : (n : ℕ) (rest : List ℕ) → 128 ≤ n → n < 2 ^ 64 → vnum n ++ rest ≡ n % 128 ∷ (vnum (n / 128) ++ rest)
+short_front n rest p h = ap (λ z. z ++ rest) (vnum-large n p h)
+
+first_same : (x y : ℕ) (xs ys : List ℕ) → x ∷ xs ≡ y ∷ ys → x ≡ y
+first_same x y xs ys e = ap (λ z. get_or z 0 0) e
+
+rest_same : (x y : ℕ) (xs ys : List ℕ) → x ∷ xs ≡ y ∷ ys → xs ≡ ys
+rest_same x y xs ys e = ap (drop 1) e
+
+-- the first byte is the last of the number
+one_byte_at : (b : ℕ) (bytes : List ℕ) (n : ℕ) (rest : List ℕ) → 128 ≤ b → n < 2 ^ 64 → b ∷ bytes ≡ vnum n ++ rest → (b - 128 ≡ n) × (bytes ≡ rest)
+one_byte_at b bytes n rest high h e =
+    elim (cases_lt n 128) [
+      inl small ↦ let f = e ∙ ap (λ z. z ++ rest) (vnum-small n small) in (omega (arith, first_same _ _ _ _ f), rest_same _ _ _ _ f)
+    | inr large ↦ absurd (omega (arith, first_same _ _ _ _ (e ∙ short_front n rest large h)))
+    ]
+
+-- the second is
+two_bytes_at : (a b : ℕ) (bytes : List ℕ) (n : ℕ) (rest : List ℕ) → a < 128 → 128 ≤ b → n < 2 ^ 64 → a ∷ b ∷ bytes ≡ vnum n ++ rest → (a + 128 * (b - 128) ≡ n) × (bytes ≡ rest)
+two_bytes_at a b bytes n rest low high h e =
+    elim (cases_lt n 128) [
+      inl small ↦ absurd (omega (arith, first_same _ _ _ _ (e ∙ ap (λ z. z ++ rest) (vnum-small n small))))
+    | inr large ↦
+        let f = e ∙ short_front n rest large h in
+        let g = one_byte_at b bytes (n / 128) rest high (omega arith) (rest_same _ _ _ _ f) in
+        (omega (arith, g.0, first_same _ _ _ _ f), g.1)
+    ]
+
+all_behind : (bytes rest : List ℕ) (k : ℕ) → k ≡ length bytes → bytes ≡ rest → take k bytes ≡ rest
+all_behind bytes rest k e same = take_all k bytes (omega arith) ∙ same
+
+pub one_byte_front : (bytes : List ℕ) (n : ℕ) (rest : List ℕ) → 128 ≤ get_or bytes 0 0 → n < 2 ^ 64 → bytes ≡ vnum n ++ rest
+    → (get_or bytes 0 0 - 128 ≡ n) × (take (length bytes - 1) (drop 1 bytes) ≡ rest)
+one_byte_front [] n rest high h e = absurd (omega arith)
+one_byte_front (b ∷ bytes) n rest high h e = let g = one_byte_at b bytes n rest high h e in (g.0, all_behind bytes rest _ (omega arith) g.1)
+
+pub two_bytes_front : (bytes : List ℕ) (n : ℕ) (rest : List ℕ) → get_or bytes 0 0 < 128 → 128 ≤ get_or bytes 1 0 → n < 2 ^ 64 → bytes ≡ vnum n ++ rest
+    → (get_or bytes 0 0 + 128 * (get_or bytes 1 0 - 128) ≡ n) × (take (length bytes - 2) (drop 2 bytes) ≡ rest)
+two_bytes_front [] n rest low high h e = absurd (omega arith)
+two_bytes_front (a ∷ []) n rest low high h e = absurd (omega arith)
+two_bytes_front (a ∷ b ∷ bytes) n rest low high h e = let g = two_bytes_at a b bytes n rest low high h e in (g.0, all_behind bytes rest _ (omega arith) g.1)
+
+-- ---- texts
+
+pub text_utf8 : (heap x : List ℕ) (at : ℕ) → ((s : List ℕ) → Stands heap at (λ w. ShortSized s w) → x ≡ s) → HasText heap at → IsUtf8 x
+text_utf8 heap x at is some = IsUtf8-had x (∥∥₁_map some (λ p. subst IsUtf8 (sym (is p.0 (text_sized heap at p.0 p.1))) p.1.stands.utf8))

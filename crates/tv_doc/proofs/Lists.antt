@@ -1,8 +1,10 @@
 -- How children that are written make an array or an object that reads.
-use Rattle.std.proofs.Common.{◌≡◌, ◌≢◌, ℕ, suc, ◌+◌, ◌^◌, ◌<◌, ◌≤◌, List, [], ◌∷◌, ◌++◌, length, IsUtf8, refl, sym, ◌∙◌, ap, subst, append_assoc, arith}
-use Rattle.std.proofs.lemmas.List.{length-append, append-nil}
+use Rattle.std.proofs.Common.{◌-◌, take, drop, ◌≡◌, ◌≢◌, ℕ, suc, ◌+◌, ◌^◌, ◌<◌, ◌≤◌, List, [], ◌∷◌, ◌++◌, length, IsUtf8, refl, sym, ◌∙◌, ap, subst, append_assoc, arith}
+use Rattle.std.proofs.lemmas.List.{length-append, length-drop, append-nil, take_all}
+use Rattle.std.proofs.Math.Seq.{drop-append_seam}
 use Rattle.tv_base.specs.Number.{vnum}
 use Rattle.tv_base.specs.Parts.{short_sized}
+use Rattle.tv_base.specs.Sink.{IsFront}
 use Rattle.tv_value.specs.Size.{size, elements_size, entries_size}
 use Rattle.tv_value.specs.Tree.{Tree, array, object, elements, entries}
 use Rattle.tv_doc.specs.Reads.{Stands, ShortText, Reads, ReadsElements, ReadsEntries}
@@ -10,6 +12,23 @@ use Rattle.tv_doc.specs.Room.{room, elements_room, entries_room}
 use Rattle.tv_doc.specs.Wrote.{Wrote, ArraySoFar, ObjectSoFar}
 use Rattle.tv_doc.proofs.Grown.{stands_grown, grown_elements, grown_entries}
 use Rattle.tv_doc.proofs.Writes.{vnum_five, at_end, longer, sized_length, sized_some, wrote_at}
+
+-- ---- places
+
+-- one place more behind those of others
+pub place_added : (start places list mid new more : List ℕ) → places ≡ start ++ list → mid ≡ places → new ≡ mid ++ more → new ≡ start ++ (list ++ more)
+place_added start places list mid new more e same added = added ∙ ap (λ z. z ++ more) (same ∙ e) ∙ append_assoc start list more
+
+-- the places behind those of others
+pub places_behind : (start places list all : List ℕ) (n k : ℕ) → places ≡ start ++ list → all ≡ places → k ≡ length start → n ≡ length all - k → take n (drop k all) ≡ list
+places_behind start places list all n k e same is rest =
+    let whole : all ≡ start ++ list = same ∙ e in
+    let behind : drop k all ≡ list = (λ i. drop (is i) (whole i)) ∙ drop-append_seam start list in
+    take_all n (drop k all) (omega (arith, length-drop k all)) ∙ behind
+
+-- what has grown keeps its front
+pub front_more : (old heap new added : List ℕ) → heap ≡ old ++ added → IsFront heap new → IsFront old new
+front_more old heap new added e more = (added ++ more.0, more.1 ∙ ap (λ z. z ++ more.0) e ∙ append_assoc old added more.0)
 
 -- ---- lists
 

@@ -12,6 +12,7 @@ use Rattle.tv_value.specs.PreTokenized.{tokenized_leaf}
 use Rattle.tv_value.specs.Tree.{Token, null, text, unsigned, signed, boolean, date, facet, bytes, ip_address, tokenized, Tree, leaf, array, object, Elements, no_elements, element, elements, element_list, Entries, no_entries, entry, entries, entry_list}
 use Rattle.tv_value.specs.TreeCode.{coded_tree}
 use Rattle.tv_doc.specs.Held.{Held, HeldElements, HeldElements-prop, HeldEntries, HeldEntries-prop}
+use Rattle.tv_doc.specs.Lent.{HasText}
 use Rattle.tv_doc.specs.Reads.{Stands, ShortSized, ShortText, ShortTokenized, flag, Reads, ReadsElements, ReadsEntries}
 use Rattle.tv_doc.specs.ReadsLaws.{leaf_type_small}
 
@@ -31,6 +32,14 @@ text_tree heap code at _ x e is r = absurd (omega (arith, r.0))
 
 pub text_is : (heap : List ℕ) (code at : ℕ) (h : Held heap code at) (x : List ℕ) → code ≡ 1 → ((s : List ℕ) → Stands heap at (λ w. ShortText s w) → x ≡ s) → leaf (text x) ≡ h.0
 text_is heap code at h x e is = by_tree heap code at h (leaf (text x)) (text_tree heap code at h.0 x e is)
+
+text_stands : (heap : List ℕ) (code at : ℕ) (t : Tree) → code ≡ 1 → Reads heap code at t → (s : List ℕ) × Stands heap at (λ w. ShortText s w)
+text_stands heap code at (leaf (text s)) e r = (s, r.1)
+text_stands heap code at _ e r = absurd (omega (arith, r.0))
+
+-- where the type byte is a text's, one stands there
+pub text_there : (heap : List ℕ) (code at : ℕ) → Held heap code at → code ≡ 1 → HasText heap at
+text_there heap code at h e = ∥∥₁_map h.1 (text_stands heap code at h.0 e)
 
 unsigned_tree : (heap : List ℕ) (code at : ℕ) (t : Tree) (x : ℕ) → code ≡ 2 → ((n : ℕ) → Stands heap at (λ w. Fixed 8 w n) → x ≡ n) → Reads heap code at t → leaf (unsigned x) ≡ t
 unsigned_tree heap code at (leaf (unsigned n)) x e is r = ap (λ z. leaf (unsigned z)) (is n r.1)
@@ -63,6 +72,14 @@ facet_tree heap code at _ x e is r = absurd (omega (arith, r.0))
 
 pub facet_is : (heap : List ℕ) (code at : ℕ) (h : Held heap code at) (x : List ℕ) → code ≡ 6 → ((s : List ℕ) → Stands heap at (λ w. ShortText s w) → x ≡ s) → leaf (facet x) ≡ h.0
 facet_is heap code at h x e is = by_tree heap code at h (leaf (facet x)) (facet_tree heap code at h.0 x e is)
+
+facet_stands : (heap : List ℕ) (code at : ℕ) (t : Tree) → code ≡ 6 → Reads heap code at t → (s : List ℕ) × Stands heap at (λ w. ShortText s w)
+facet_stands heap code at (leaf (facet s)) e r = (s, r.1)
+facet_stands heap code at _ e r = absurd (omega (arith, r.0))
+
+-- and where it is a facet's, the text of one
+pub facet_there : (heap : List ℕ) (code at : ℕ) → Held heap code at → code ≡ 6 → HasText heap at
+facet_there heap code at h e = ∥∥₁_map h.1 (facet_stands heap code at h.0 e)
 
 bytes_tree : (heap : List ℕ) (code at : ℕ) (t : Tree) (x : List ℕ) → code ≡ 7 → ((s : List ℕ) → Stands heap at (λ w. ShortSized s w) → x ≡ s) → Reads heap code at t → leaf (bytes x) ≡ t
 bytes_tree heap code at (leaf (bytes s)) x e is r = ap (λ z. leaf (bytes z)) (is s r.1)

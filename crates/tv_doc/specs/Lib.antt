@@ -2,10 +2,12 @@ pub mod Room
 pub mod Reads
 pub mod ReadsLaws
 pub mod TypeCode
+pub mod TypeByte
 pub mod Held
 pub mod Lent
 pub mod Wrote
 pub mod Document
 pub mod Value
+pub mod MapValue
 pub mod Belongs
 pub mod Additions

@@ -33,6 +33,7 @@ impl<'a> Iterator for FieldValueIterRef<'a> {
 
     ghost remaining = { item_count (λ s. s.held.0) };
 
+    #[inline]
     fn next(&mut self) -> Option<(Field, CompactDocValue<'a>)> {
         let heap = self.heap;
         let (pair, pairs) = self.pairs.split_first()?;
@@ -70,6 +71,7 @@ impl<'a> Iterator for GetAllIter<'a> {
 
     ghost remaining = { item_count (λ s. s.pairs.held.0) };
 
+    #[inline]
     fn next(&mut self) -> Option<CompactDocValue<'a>> {
         let field = self.field;
         let mut pairs = self.pairs;

@@ -7,7 +7,7 @@ ghost use Rattle.tv_base.specs.Number.{vnum, Fixed, Signed};
 ghost use Rattle.tv_value.specs.PreTokenized.{tokenized_leaf};
 ghost use Rattle.tv_value.specs.Tree.{Token, tokenized};
 ghost use Rattle.tv_doc.specs.declared.value_type.ValueType.{ValueType};
-ghost use Rattle.tv_doc.specs.Lent.{GivesChild};
+ghost use Rattle.tv_doc.specs.Lent.{GivesChild, HasText};
 ghost use Rattle.tv_doc.specs.Reads.{Stands, ShortSized, ShortText, ShortTokenized};
 ghost use Rattle.tv_doc.specs.TypeCode.{type_code};
 
@@ -16,8 +16,23 @@ use std::net::Ipv6Addr;
 use tv_base::vint::VInt;
 use tv_value::pre_tokenized::PreTokenizedStr;
 
-// The number whose shortest spelling stands at the front, and what follows it.
+// The number whose shortest spelling stands at the front, and what follows it. Most are lengths and addresses of one or two
+// bytes.
+#[inline]
 fn short_at(bytes: &[u8]) -> (u64, &[u8])
+    ensures { (n : ℕ) (rest : List ℕ) → n < 2 ^ 64 → bytes.now ≡ vnum n ++ rest → (result.0 ≡ n) × (result.1.now ≡ rest) }
+{
+    match bytes {
+        [last, rest @ ..] if *last >= 128 => (u64::from(*last - 128), rest),
+        [low, last, rest @ ..] if *last >= 128 => {
+            (u64::from(*low) + 128 * u64::from(*last - 128), rest)
+        }
+        _ => long_at(bytes),
+    }
+}
+
+// The same, of any length.
+fn long_at(bytes: &[u8]) -> (u64, &[u8])
     ensures { (n : ℕ) (rest : List ℕ) → n < 2 ^ 64 → bytes.now ≡ vnum n ++ rest → (result.0 ≡ n) × (result.1.now ≡ rest) }
 {
     match VInt::from_slice(bytes) {
@@ -27,6 +42,7 @@ fn short_at(bytes: &[u8]) -> (u64, &[u8])
 }
 
 /// The bytes that stand at an address, behind their length.
+#[inline]
 pub fn sized_at(heap: &[u8], address: u32) -> &[u8]
     ensures { (s : List ℕ) → Stands heap.now address (λ w. ShortSized s w) → result.now ≡ s }
 {
@@ -43,17 +59,18 @@ pub fn sized_at(heap: &[u8], address: u32) -> &[u8]
     content
 }
 
-/// The text that stands at an address, behind its length.
+/// The text that stands at an address, behind its length. Its bytes were a text when they were written, so they aren't tested
+/// again.
+#[inline]
 pub fn text_at(heap: &[u8], address: u32) -> &str
+    requires { HasText heap.now address }
     ensures { (s : List ℕ) → Stands heap.now address (λ w. ShortText s w) → result.now ≡ s }
 {
-    match str::from_utf8(sized_at(heap, address)) {
-        Ok(text) => text,
-        Err(_) => "",
-    }
+    unsafe { str::from_utf8_unchecked(sized_at(heap, address)) }
 }
 
 /// The number in the eight bytes that stand at an address.
+#[inline]
 pub fn eight_at(heap: &[u8], address: u32) -> u64
     ensures { (n : ℕ) → Stands heap.now address (λ w. Fixed 8 w n) → result ≡ n }
 {
@@ -104,6 +121,7 @@ pub fn tokenized_at(heap: &[u8], address: u32) -> Option<PreTokenizedStr<'_>>
 }
 
 /// The first child's type and address, and the list behind it.
+#[inline]
 pub fn child_at(list: &[u8]) -> Option<(ValueType, u32, &[u8])>
     ensures first { (t : ValueType) (at : ℕ) (rest : List ℕ) → at < 2 ^ 32 → list.now ≡ type_code t ∷ (vnum at ++ rest) → GivesChild result (type_code t) at rest }
     ensures none { list.now ≡ [] → result ≡ None }

@@ -32,8 +32,9 @@ fn tokens_above(tokens: TokenIter<'_>, base: u32) -> Option<u32>
 }
 
 /// The room of a value without children, where it is at most 4294967295.
-pub fn leaf_room(value: ReferenceValueLeaf<'_>) -> Option<u32>
-    ensures { SomeIff result (leaf_room (leaf_of value.entry) < 2 ^ 32) (leaf_room (leaf_of value.entry)) }
+#[inline]
+pub fn leaf_room(value: &ReferenceValueLeaf<'_>) -> Option<u32>
+    ensures { SomeIff result (leaf_room (leaf_of value.now) < 2 ^ 32) (leaf_room (leaf_of value.now)) }
 {
     match value {
         ReferenceValueLeaf::Null | ReferenceValueLeaf::Bool(_) => Some(0),
@@ -56,11 +57,17 @@ fn room_above<N: Nested>(value: NestedValue<'_, N>, base: u32) -> Option<u32>
     ensures { let total = base + room (nested_tree N.array_rest N.object_rest value.entry) in SomeIff result (total < 2 ^ 32) total }
 {
     match value {
-        NestedValue::Leaf(single) => base.checked_add(leaf_room(single)?),
+        NestedValue::Leaf(single) => base.checked_add(leaf_room(&single)?),
         NestedValue::Array(items) => {
             let mut total = base.checked_add(5)?;
             for item in items {
-                total = room_above(item.as_nested(), total.checked_add(6)?)?;
+                total = total.checked_add(6)?;
+                let shown = item.as_nested();
+                if let NestedValue::Leaf(single) = &shown {
+                    total = total.checked_add(leaf_room(single)?)?;
+                    continue;
+                }
+                total = room_above(shown, total)?;
             }
             Some(total)
         }
@@ -68,7 +75,13 @@ fn room_above<N: Nested>(value: NestedValue<'_, N>, base: u32) -> Option<u32>
             let mut total = base.checked_add(5)?;
             for (key, item) in members {
                 total = total.checked_add(u32::try_from(key.as_str().len()).ok()?)?;
-                total = room_above(item.as_nested(), total.checked_add(17)?)?;
+                total = total.checked_add(17)?;
+                let shown = item.as_nested();
+                if let NestedValue::Leaf(single) = &shown {
+                    total = total.checked_add(leaf_room(single)?)?;
+                    continue;
+                }
+                total = room_above(shown, total)?;
             }
             Some(total)
         }

@@ -116,6 +116,7 @@ impl<'a> Value<'a> for CompactDocValue<'a> {
 
     ghost object_steps = { λ s t r steps. steps };
 
+    #[inline]
     fn as_value(&self) -> ReferenceValue<'a, CompactDocValue<'a>> {
         let heap = self.heap;
         let address = self.address;

@@ -15,7 +15,7 @@ ghost use Rattle.tv_doc.specs.TypeCode.{type_code};
 ghost use Rattle.tv_doc.specs.Wrote.{Wrote};
 
 use crate::value_type::ValueType;
-use std::alloc::{AllocError, Global};
+use std::alloc::AllocError;
 use std::convert::AsStr;
 use std::net::Ipv6Addr;
 use tv_base::vint::VInt;
@@ -25,15 +25,21 @@ use tv_value::nested::{Nested, NestedValue};
 use tv_value::pre_tokenized::{PreTokenizedStr, TokenRef};
 
 // Adds the shortest spelling of a number.
+#[inline]
 fn push_number(heap: &mut Vec<u8>, number: u64) -> Result<(), AllocError>
     ensures ok { OnOk result (heap.new.items ≡ heap.old.items ++ vnum number) }
     ensures err { OnErr result (IsFront heap.old.items heap.new.items) }
 {
+    if number < 128 {
+        heap.push(number as u8 + 128)?;
+        return Ok(());
+    }
     let (bytes, len) = VInt(number).spelling();
     heap.extend_from_slice(&bytes[..len])
 }
 
 // Adds the length of some bytes, and the bytes.
+#[inline]
 fn push_sized(heap: &mut Vec<u8>, content: &[u8]) -> Result<(), AllocError>
     ensures ok { OnOk result (heap.new.items ≡ heap.old.items ++ short_sized content.now) }
     ensures err { OnErr result (IsFront heap.old.items heap.new.items) }
@@ -43,6 +49,7 @@ fn push_sized(heap: &mut Vec<u8>, content: &[u8]) -> Result<(), AllocError>
 }
 
 // Adds the eight bytes of a number, the lowest first.
+#[inline]
 fn push_eight(heap: &mut Vec<u8>, number: u64) -> Result<(), AllocError>
     ensures ok { OnOk result (heap.new.items ≡ heap.old.items ++ eight_bytes number) }
     ensures small { number < 2 ^ 64 }
@@ -72,27 +79,34 @@ fn push_token(heap: &mut Vec<u8>, token: TokenRef<'_>) -> Result<(), AllocError>
     push_number(heap, token.position_length as u64)
 }
 
+// The first place of a child makes room for so many bytes of places.
+const FIRST_PLACES: usize = 128;
+
 // Adds a child's type and address.
-fn push_place(list: &mut Vec<u8>, value_type: ValueType, address: u32) -> Result<(), AllocError>
-    ensures { OnOk result (list.new.items ≡ list.old.items ++ (type_code value_type ∷ vnum address)) }
+fn push_place(places: &mut Vec<u8>, value_type: ValueType, address: u32) -> Result<(), AllocError>
+    ensures { OnOk result (places.new.items ≡ places.old.items ++ (type_code value_type ∷ vnum address)) }
 {
-    list.push(value_type.to_code())?;
-    push_number(list, u64::from(address))
+    if places.is_empty() {
+        places.reserve(FIRST_PLACES)?;
+    }
+    places.push(value_type.to_code())?;
+    push_number(places, u64::from(address))
 }
 
 // Writes a key, and adds its type and address.
-fn write_key(heap: &mut Vec<u8>, list: &mut Vec<u8>, key: &str) -> Result<(), AllocError>
+fn write_key(heap: &mut Vec<u8>, places: &mut Vec<u8>, key: &str) -> Result<(), AllocError>
     requires { length heap.old.items + (5 + length key.now) < 2 ^ 32 }
     ensures heap { OnOk result (heap.new.items ≡ heap.old.items ++ short_sized key.now) }
-    ensures list { OnOk result (list.new.items ≡ list.old.items ++ (1 ∷ vnum (length heap.old.items))) }
+    ensures places { OnOk result (places.new.items ≡ places.old.items ++ (1 ∷ vnum (length heap.old.items))) }
     ensures err { OnErr result (IsFront heap.old.items heap.new.items) }
 {
     let at = heap.len() as u32;
     push_sized(heap, key.as_bytes())?;
-    push_place(list, ValueType::Str, at)
+    push_place(places, ValueType::Str, at)
 }
 
 // A text, or the encoded text of a facet.
+#[inline]
 fn write_text(heap: &mut Vec<u8>, content: &str) -> Result<u32, AllocError>
     requires { length heap.old.items + (5 + length content.now) < 2 ^ 32 }
     ensures text { IfOk result (λ at. Wrote heap.old.items heap.new.items 1 at (leaf (text content.now))) }
@@ -114,6 +128,7 @@ fn write_bytes(heap: &mut Vec<u8>, content: &[u8]) -> Result<u32, AllocError>
     Ok(at)
 }
 
+#[inline]
 fn write_u64(heap: &mut Vec<u8>, number: u64) -> Result<u32, AllocError>
     requires { length heap.old.items + 8 < 2 ^ 32 }
     ensures ok { IfOk result (λ at. Wrote heap.old.items heap.new.items 2 at (leaf (unsigned number))) }
@@ -125,6 +140,7 @@ fn write_u64(heap: &mut Vec<u8>, number: u64) -> Result<u32, AllocError>
 }
 
 // A signed number, or the nanoseconds of a date.
+#[inline]
 fn write_i64(heap: &mut Vec<u8>, number: i64) -> Result<u32, AllocError>
     requires { length heap.old.items + 8 < 2 ^ 32 }
     ensures signed { IfOk result (λ at. Wrote heap.old.items heap.new.items 3 at (leaf (signed number))) }
@@ -166,6 +182,7 @@ fn write_tokenized(heap: &mut Vec<u8>, content: PreTokenizedStr<'_>) -> Result<u
 const FIRST_ROOM: usize = 256;
 
 // Makes room in a heap that has none.
+#[inline]
 fn make_room(heap: &mut Vec<u8>) -> Result<(), AllocError>
     ensures { heap.new.items ≡ heap.old.items }
 {
@@ -178,68 +195,85 @@ fn make_room(heap: &mut Vec<u8>) -> Result<(), AllocError>
 
 /// Writes a value without children, and answers its type and its address. After an error the old heap is still a front of the
 /// new.
+#[inline]
 pub fn write_leaf(
     heap: &mut Vec<u8>,
-    value: ReferenceValueLeaf<'_>,
+    value: &ReferenceValueLeaf<'_>,
 ) -> Result<(ValueType, u32), AllocError>
-    requires { length heap.old.items + leaf_room (leaf_of value) < 2 ^ 32 }
-    ensures ok { IfOk result (λ r. Wrote heap.old.items heap.new.items (type_code r.0) r.1 (leaf (leaf_of value.entry))) }
+    requires { length heap.old.items + leaf_room (leaf_of value.now) < 2 ^ 32 }
+    ensures ok { IfOk result (λ r. Wrote heap.old.items heap.new.items (type_code r.0) r.1 (leaf (leaf_of value.now))) }
     ensures err { OnErr result (IsFront heap.old.items heap.new.items) }
 {
     make_room(heap)?;
     match value {
         ReferenceValueLeaf::Null => Ok((ValueType::Null, 0)),
-        ReferenceValueLeaf::Bool(truth) => Ok((ValueType::Bool, u32::from(truth))),
+        ReferenceValueLeaf::Bool(truth) => Ok((ValueType::Bool, u32::from(*truth))),
         ReferenceValueLeaf::Str(content) => Ok((ValueType::Str, write_text(heap, content)?)),
         ReferenceValueLeaf::Facet(content) => Ok((ValueType::Facet, write_text(heap, content)?)),
         ReferenceValueLeaf::Bytes(content) => Ok((ValueType::Bytes, write_bytes(heap, content)?)),
-        ReferenceValueLeaf::U64(number) => Ok((ValueType::U64, write_u64(heap, number)?)),
-        ReferenceValueLeaf::I64(number) => Ok((ValueType::I64, write_i64(heap, number)?)),
+        ReferenceValueLeaf::U64(number) => Ok((ValueType::U64, write_u64(heap, *number)?)),
+        ReferenceValueLeaf::I64(number) => Ok((ValueType::I64, write_i64(heap, *number)?)),
         ReferenceValueLeaf::Date(moment) => {
             let nanoseconds = moment.into_timestamp_nanos();
             Ok((ValueType::Date, write_i64(heap, nanoseconds)?))
         }
         ReferenceValueLeaf::IpAddr(address) => {
-            Ok((ValueType::IpAddr, write_ip_addr(heap, address)?))
+            Ok((ValueType::IpAddr, write_ip_addr(heap, *address)?))
         }
         ReferenceValueLeaf::PreTokStr(content) => {
-            Ok((ValueType::PreTokStr, write_tokenized(heap, content)?))
+            Ok((ValueType::PreTokStr, write_tokenized(heap, *content)?))
         }
     }
 }
 
-/// Writes a value behind its children, and answers its type and its address. After an error the old heap is still a front of
-/// the new.
+/// Writes a value behind its children, and answers its type and its address. The places of children whose list is not yet
+/// written stand at the end of `places`, which is afterwards as it was. After an error the old heap is still a front of the
+/// new, and what `places` holds is open.
 pub fn write_tree<N: Nested>(
-    alloc: Global,
     heap: &mut Vec<u8>,
+    places: &mut Vec<u8>,
     value: NestedValue<'_, N>,
 ) -> Result<(ValueType, u32), AllocError>
     requires { length heap.old.items + room (nested_tree N.array_rest N.object_rest value) < 2 ^ 32 }
     ensures ok { IfOk result (λ r. Wrote heap.old.items heap.new.items (type_code r.0) r.1 (nested_tree N.array_rest N.object_rest value.entry)) }
+    ensures places { OnOk result (places.new.items ≡ places.old.items) }
     ensures err { OnErr result (IsFront heap.old.items heap.new.items) }
 {
     match value {
-        NestedValue::Leaf(single) => write_leaf(heap, single),
+        NestedValue::Leaf(single) => write_leaf(heap, &single),
         NestedValue::Array(items) => {
-            let mut list: Vec<u8> = Vec::new(alloc);
+            let first = places.len();
             for item in items {
-                let (code, address) = write_tree(alloc, heap, item.as_nested())?;
-                push_place(&mut list, code, address)?;
+                let shown = item.as_nested();
+                if let NestedValue::Leaf(single) = &shown {
+                    let (code, address) = write_leaf(heap, single)?;
+                    push_place(places, code, address)?;
+                    continue;
+                }
+                let (code, address) = write_tree(heap, places, shown)?;
+                push_place(places, code, address)?;
             }
             let at = heap.len() as u32;
-            push_sized(heap, list.as_slice())?;
+            push_sized(heap, &places[first..])?;
+            places.truncate(first);
             Ok((ValueType::Array, at))
         }
         NestedValue::Object(members) => {
-            let mut list: Vec<u8> = Vec::new(alloc);
+            let first = places.len();
             for (key, item) in members {
-                write_key(heap, &mut list, key.as_str())?;
-                let (code, address) = write_tree(alloc, heap, item.as_nested())?;
-                push_place(&mut list, code, address)?;
+                write_key(heap, places, key.as_str())?;
+                let shown = item.as_nested();
+                if let NestedValue::Leaf(single) = &shown {
+                    let (code, address) = write_leaf(heap, single)?;
+                    push_place(places, code, address)?;
+                    continue;
+                }
+                let (code, address) = write_tree(heap, places, shown)?;
+                push_place(places, code, address)?;
             }
             let at = heap.len() as u32;
-            push_sized(heap, list.as_slice())?;
+            push_sized(heap, &places[first..])?;
+            places.truncate(first);
             Ok((ValueType::Object, at))
         }
     }

@@ -1,5 +1,10 @@
 -- A code, and then what stands behind it.
-use Rattle.std.proofs.Common.{◌≡◌, ℕ, List, [], ◌∷◌, ◌++◌, Result, Ok, Err}
+use Rattle.std.proofs.Common.{◌+◌, ◌<◌, length, sym, ◌≡◌, ℕ, List, [], ◌∷◌, ◌++◌, Result, Ok, Err, get_or, ap, ◌∙◌, subst}
+use Rattle.std.specs.Int.{w32, w64, to_le_bytes}
+use Rattle.tv_base.specs.Number.{four_bytes, eight_bytes}
+use Rattle.tv_base.specs.Parts.{short_sized}
+use Rattle.tv_base.proofs.Numbers.{vnum-small}
+use Rattle.tv_base.proofs.Widths.{four_bytes_is, eight_bytes_is}
 use Rattle.tv_base.specs.Source.{Faults}
 use Rattle.tv_base.specs.Stop.{Stop}
 use Rattle.tv_base.specs.Sink.{WritesBy}
@@ -19,3 +24,23 @@ Coded_fails {code = code} {body = body} first = Writes_front (code ∷ []) body 
 pub head_written : {S T E R : Type 0} {stop : E → Stop R} {tells : S → Type 0} {held : S → List ℕ} {faults : S → Faults} {old new : S} {text : List ℕ} {x : T} (head rest : List ℕ)
     → text ≡ head ++ rest → WritesBy stop tells held faults old new (Ok x) (Ok head) → Written tells held faults old new text rest
 head_written {tells = tells} {held = held} {faults = faults} {old = old} {text = text} head rest same write = Written-step head rest same (Written-start tells held faults old text) write
+
+-- the same text, said otherwise
+pub Writes_as : {S T E R : Type 0} {stop : E → Stop R} {tells : S → Type 0} {held : S → List ℕ} {faults : S → Faults} {old new : S} {result : Result T E} {a b : List ℕ}
+    → WritesBy stop tells held faults old new result (Ok a) → a ≡ b → WritesBy stop tells held faults old new result (Ok b)
+Writes_as {stop = stop} {tells = tells} {held = held} {faults = faults} {old = old} {new = new} {result = result} write same = subst (λ (l : List ℕ). WritesBy stop tells held faults old new result (Ok l)) same write
+
+-- the four and the eight bytes of a number, one by one
+pub four_listed : (r : List ℕ) (n : ℕ) (rest : List ℕ) → r ≡ to_le_bytes w32 n → get_or r 0 0 ∷ get_or r 1 0 ∷ get_or r 2 0 ∷ get_or r 3 0 ∷ rest ≡ four_bytes n ++ rest
+four_listed r n rest e = ap (λ z. get_or z 0 0 ∷ get_or z 1 0 ∷ get_or z 2 0 ∷ get_or z 3 0 ∷ rest) e ∙ ap (λ z. z ++ rest) (four_bytes_is n)
+
+pub eight_listed : (r : List ℕ) (n : ℕ) → r ≡ to_le_bytes w64 n
+    → get_or r 0 0 ∷ get_or r 1 0 ∷ get_or r 2 0 ∷ get_or r 3 0 ∷ get_or r 4 0 ∷ get_or r 5 0 ∷ get_or r 6 0 ∷ get_or r 7 0 ∷ [] ≡ eight_bytes n
+eight_listed r n e = ap (λ z. get_or z 0 0 ∷ get_or z 1 0 ∷ get_or z 2 0 ∷ get_or z 3 0 ∷ get_or z 4 0 ∷ get_or z 5 0 ∷ get_or z 6 0 ∷ get_or z 7 0 ∷ []) e ∙ eight_bytes_is n
+
+-- a field, a code and a length below 128, and then the bytes
+pub field_head : (r : List ℕ) (field code : ℕ) (content behind : List ℕ) → r ≡ to_le_bytes w32 field → length content < 128 → behind ≡ content
+    → four_bytes field ++ (code ∷ short_sized content) ≡ (get_or r 0 0 ∷ get_or r 1 0 ∷ get_or r 2 0 ∷ get_or r 3 0 ∷ code ∷ (length content + 128) ∷ []) ++ behind
+field_head r field code content behind e small same =
+    sym (four_listed r field (code ∷ short_sized content) e) ∙
+    (λ i. get_or r 0 0 ∷ get_or r 1 0 ∷ get_or r 2 0 ∷ get_or r 3 0 ∷ code ∷ (vnum-small (length content) small i ++ sym same i))

@@ -1,6 +1,8 @@
 //! Writing documents into the store.
 
-ghost use Rattle.std.specs.Prelude.{◌≡◌, ◌<◌, [], ◌∷◌, Ok, IfErr, length};
+ghost use Rattle.std.specs.Prelude.{◌≡◌, ◌<◌, [], ◌∷◌, ◌++◌, Ok, IfErr, length};
+ghost use Rattle.tv_base.specs.Number.{four_bytes, eight_bytes};
+ghost use Rattle.tv_base.specs.Parts.{short_sized};
 ghost use Rattle.tv_base.specs.Sink.{Writes};
 ghost use Rattle.tv_doc.specs.Belongs.{Belongs};
 ghost use Rattle.tv_doc.specs.Document.{document_of};
@@ -12,15 +14,53 @@ ghost use Rattle.tv_value.specs.Short.{short_pair, short_document, IsValue};
 ghost use Rattle.tv_value.specs.Version.{V2};
 
 use crate::error::SerializeError;
-use crate::value_writer::write_stored;
+use crate::type_codes::{TEXT_CODE, U64_CODE};
+use crate::value_writer::{write_coded_text, write_stored};
 use std::io;
 use tv_base::ByteSink;
-use tv_base::write::{write_u32, write_vint};
+use tv_base::write::{write_all, write_u32, write_vint};
 use tv_doc::document::CompactDoc;
 use tv_doc::laws::documents_are_valid;
 use tv_doc::value::CompactDocValue;
 use tv_schema::Schema;
 use tv_value::field::Field;
+use tv_value::leaf::ReferenceValueLeaf;
+use tv_value::value::{ReferenceValue, Value};
+
+/// Writes a field and a text. A length of one byte is written with the field and the code.
+#[inline]
+#[tactic(auto, using(tv_base::proofs::Written::Writes_then, tv_base::proofs::Written::Writes_front))]
+fn write_field_text<K: ByteSink>(
+    sink: &mut K,
+    field: Field,
+    content: &str,
+) -> Result<(), io::ErrorKind>
+    ensures { Writes K.tells K.held K.faults sink.old sink.new result (four_bytes field.id ++ (0 ∷ short_sized content.now)) }
+{
+    let len = content.len();
+    if len < 128 {
+        let [a, b, c, d] = field.field_id().to_le_bytes();
+        write_all(sink, &[a, b, c, d, TEXT_CODE, len as u8 + 128])?;
+        return write_all(sink, content.as_bytes());
+    }
+    write_u32(sink, field.field_id())?;
+    write_coded_text(sink, TEXT_CODE, content)
+}
+
+/// Writes a field and a number in eight bytes, with the code of its type, at once.
+#[inline]
+fn write_field_u64<K: ByteSink>(
+    sink: &mut K,
+    field: Field,
+    code: u8,
+    number: u64,
+) -> Result<(), io::ErrorKind>
+    ensures { Writes K.tells K.held K.faults sink.old sink.new result (four_bytes field.id ++ (code ∷ eight_bytes number)) }
+{
+    let [a, b, c, d] = field.field_id().to_le_bytes();
+    let [e, f, g, h, i, j, k, l] = number.to_le_bytes();
+    write_all(sink, &[a, b, c, d, code, e, f, g, h, i, j, k, l])
+}
 
 /// Writes a pair: its field, and its value. A pre-tokenised text is written as its text.
 #[tactic(auto, using(tv_base::proofs::Written::Writes_then, tv_base::proofs::Written::Writes_front))]
@@ -32,8 +72,18 @@ fn write_pair<K: ByteSink>(
     requires { IsValue (tree_of value) }
     ensures { Writes K.tells K.held K.faults sink.old sink.new result (short_pair V2 (field.id, tree_written (tree_of value.entry))) }
 {
-    write_u32(sink, field.field_id())?;
-    write_stored(sink, &value)
+    match value.as_value() {
+        ReferenceValue::Leaf(ReferenceValueLeaf::Str(content)) => {
+            write_field_text(sink, field, content)
+        }
+        ReferenceValue::Leaf(ReferenceValueLeaf::U64(number)) => {
+            write_field_u64(sink, field, U64_CODE, number)
+        }
+        _ => {
+            write_u32(sink, field.field_id())?;
+            write_stored(sink, &value)
+        }
+    }
 }
 
 /// How many pairs have a stored field.

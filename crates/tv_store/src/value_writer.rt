@@ -25,7 +25,7 @@ use std::convert::AsStr;
 use std::io;
 use tv_base::ByteSink;
 use tv_base::write::{
-    write_bool, write_i64, write_sized, write_text, write_u8, write_u64, write_u128, write_vint,
+    write_all, write_bool, write_sized, write_text, write_u8, write_u128, write_vint,
 };
 use tv_value::leaf::ReferenceValueLeaf;
 use tv_value::nested::{Nested, NestedValue, lend};
@@ -43,15 +43,17 @@ fn write_code<K: ByteSink>(sink: &mut K, code: u8) -> Result<(), io::ErrorKind>
 
 // A code, and a text behind its length.
 #[inline]
-#[tactic(auto, using(crate::proofs::Coded::Coded_then))]
-fn write_coded_text<K: ByteSink>(sink: &mut K, code: u8, text: &str) -> Result<(), io::ErrorKind>
+pub(crate) fn write_coded_text<K: ByteSink>(
+    sink: &mut K,
+    code: u8,
+    text: &str,
+) -> Result<(), io::ErrorKind>
     ensures { Writes K.tells K.held K.faults sink.old sink.new result (code ∷ short_sized text.now) }
 {
-    write_code(sink, code)?;
-    write_text(sink, text)
+    write_coded_bytes(sink, code, text.as_bytes())
 }
 
-// A code, and bytes behind their length.
+// A code, and bytes behind their length. A length of one byte is written with the code.
 #[inline]
 #[tactic(auto, using(crate::proofs::Coded::Coded_then))]
 fn write_coded_bytes<K: ByteSink>(
@@ -61,6 +63,11 @@ fn write_coded_bytes<K: ByteSink>(
 ) -> Result<(), io::ErrorKind>
     ensures { Writes K.tells K.held K.faults sink.old sink.new result (code ∷ short_sized content.now) }
 {
+    let len = content.len();
+    if len < 128 {
+        write_all(sink, &[code, len as u8 + 128])?;
+        return write_all(sink, content);
+    }
     write_code(sink, code)?;
     write_sized(sink, content)
 }
@@ -71,8 +78,8 @@ fn write_coded_bytes<K: ByteSink>(
 fn write_coded_u64<K: ByteSink>(sink: &mut K, code: u8, number: u64) -> Result<(), io::ErrorKind>
     ensures { Writes K.tells K.held K.faults sink.old sink.new result (code ∷ eight_bytes number) }
 {
-    write_code(sink, code)?;
-    write_u64(sink, number)
+    let [a, b, c, d, e, f, g, h] = number.to_le_bytes();
+    write_all(sink, &[code, a, b, c, d, e, f, g, h])
 }
 
 // A code, and a signed number in eight bytes.
@@ -81,8 +88,7 @@ fn write_coded_u64<K: ByteSink>(sink: &mut K, code: u8, number: u64) -> Result<(
 fn write_coded_i64<K: ByteSink>(sink: &mut K, code: u8, number: i64) -> Result<(), io::ErrorKind>
     ensures { Writes K.tells K.held K.faults sink.old sink.new result (code ∷ signed_bytes number) }
 {
-    write_code(sink, code)?;
-    write_i64(sink, number)
+    write_coded_u64(sink, code, number.cast_unsigned())
 }
 
 // A code, and a number in sixteen bytes.
@@ -164,14 +170,17 @@ fn write_extension<K: ByteSink>(
 }
 
 // A value without children.
-fn write_leaf<K: ByteSink>(sink: &mut K, leaf: ReferenceValueLeaf<'_>) -> Result<(), io::ErrorKind>
-    ensures { Writes K.tells K.held K.faults sink.old sink.new result (short_leaf (leaf_of leaf.entry)) }
+fn write_leaf<K: ByteSink>(
+    sink: &mut K,
+    leaf: &ReferenceValueLeaf<'_>,
+) -> Result<(), io::ErrorKind>
+    ensures { Writes K.tells K.held K.faults sink.old sink.new result (short_leaf (leaf_of leaf.now)) }
 {
     match leaf {
         ReferenceValueLeaf::Null => write_code(sink, NULL_CODE),
         ReferenceValueLeaf::Str(text) => write_coded_text(sink, TEXT_CODE, text),
-        ReferenceValueLeaf::U64(number) => write_coded_u64(sink, U64_CODE, number),
-        ReferenceValueLeaf::I64(number) => write_coded_i64(sink, I64_CODE, number),
+        ReferenceValueLeaf::U64(number) => write_coded_u64(sink, U64_CODE, *number),
+        ReferenceValueLeaf::I64(number) => write_coded_i64(sink, I64_CODE, *number),
         ReferenceValueLeaf::Date(date) => {
             write_coded_i64(sink, DATE_CODE, date.into_timestamp_nanos())
         }
@@ -180,8 +189,8 @@ fn write_leaf<K: ByteSink>(sink: &mut K, leaf: ReferenceValueLeaf<'_>) -> Result
         }
         ReferenceValueLeaf::Bytes(content) => write_coded_bytes(sink, BYTES_CODE, content),
         ReferenceValueLeaf::IpAddr(address) => write_coded_u128(sink, IP_CODE, address.to_bits()),
-        ReferenceValueLeaf::Bool(truth) => write_coded_bool(sink, BOOL_CODE, truth),
-        ReferenceValueLeaf::PreTokStr(text) => write_extension(sink, text),
+        ReferenceValueLeaf::Bool(truth) => write_coded_bool(sink, BOOL_CODE, *truth),
+        ReferenceValueLeaf::PreTokStr(text) => write_extension(sink, *text),
     }
 }
 
@@ -221,19 +230,6 @@ fn children<N: Nested>(value: NestedValue<'_, N>) -> u64
     }
 }
 
-// How many children a value has that is shown. Only a second one is walked, since the shown one is still to be written.
-#[inline]
-fn children_of<N: Nested>(item: &N, shown: &NestedValue<'_, N>) -> u64
-    requires same { nested_tree N.array_rest N.object_rest shown.now ≡ N.tree item.now }
-    requires valid { IsValue (N.tree item.now) }
-    ensures { result ≡ child_count (N.tree item.now) }
-{
-    match shown {
-        NestedValue::Leaf(_) => 0,
-        _ => children(item.as_nested()),
-    }
-}
-
 // A value of which the children were counted: its code, the announced number, and each child.
 fn write_tree<K: ByteSink, N: Nested>(
     sink: &mut K,
@@ -245,13 +241,16 @@ fn write_tree<K: ByteSink, N: Nested>(
     ensures { Writes K.tells K.held K.faults sink.old sink.new result (short V2 (nested_tree N.array_rest N.object_rest value.entry)) }
 {
     match value {
-        NestedValue::Leaf(leaf) => write_leaf(sink, leaf),
+        NestedValue::Leaf(leaf) => write_leaf(sink, &leaf),
         NestedValue::Array(items) => {
             write_coded_count(sink, ARRAY_CODE, count)?;
             for item in items {
                 let shown = item.as_nested();
-                let below = children_of(&item, &shown);
-                write_tree(sink, below, shown)?;
+                if let NestedValue::Leaf(leaf) = &shown {
+                    write_leaf(sink, leaf)?;
+                    continue;
+                }
+                write_tree(sink, children(item.as_nested()), shown)?;
             }
             Ok(())
         }
@@ -260,8 +259,11 @@ fn write_tree<K: ByteSink, N: Nested>(
             for (key, item) in members {
                 write_coded_text(sink, TEXT_CODE, key.as_str())?;
                 let shown = item.as_nested();
-                let below = children_of(&item, &shown);
-                write_tree(sink, below, shown)?;
+                if let NestedValue::Leaf(leaf) = &shown {
+                    write_leaf(sink, leaf)?;
+                    continue;
+                }
+                write_tree(sink, children(item.as_nested()), shown)?;
             }
             Ok(())
         }
@@ -279,7 +281,7 @@ pub(crate) fn write_value<'a, K: ByteSink, V: Value<'a>>(
     ensures { Writes K.tells K.held K.faults sink.old sink.new result (short V2 (V.tree value.now)) }
 {
     match lend(value) {
-        NestedValue::Leaf(leaf) => write_leaf(sink, leaf),
+        NestedValue::Leaf(leaf) => write_leaf(sink, &leaf),
         nested => write_tree(sink, children(lend(value)), nested),
     }
 }
@@ -293,7 +295,7 @@ fn write_stored_leaf<K: ByteSink>(
 {
     match leaf {
         ReferenceValueLeaf::PreTokStr(text) => write_coded_text(sink, TEXT_CODE, text.text()),
-        other => write_leaf(sink, other),
+        other => write_leaf(sink, &other),
     }
 }
 

@@ -1,19 +1,13 @@
-use Rattle.std.proofs.Common.{◌≡◌, ◌-◌, length, drop, ◌∙◌, arith}
-use Rattle.std.proofs.lemmas.List.{take_all, length-drop}
-use Rattle.std.proofs.lemmas.Option.{same_Some, none-some}
-use Rattle.std.proofs.Math.Seq.{drop-append_seam}
-use Rattle.tv_base.specs.Number.{vnum}
-use Rattle.tv_base.proofs.Numbers.{vnum_spells}
+use Rattle.std.proofs.Common.{arith}
+use Rattle.tv_doc.proofs.Lends.{one_byte_front, two_bytes_front}
 use Rattle.tv_doc.proofs.lent.short_at.Goals as goal
 
-pub returns-in-Some : goal.returns-in-Some
-returns-in-Some c = λ n rest h e.
-    let bytes = c.args.bytes.now in
-    let len = c.in-Some.len in
-    let same = same_Some _ _ (c.in-Some.ensures.only n (vnum n) rest e (vnum_spells n h)) in
-    let is_len : len ≡ length (vnum n) = λ i. (same i).1 in
-    let behind = (λ i. drop (is_len i) (e i)) ∙ drop-append_seam (vnum n) rest in
-    ((λ i. (same i).0), take_all (length bytes - len) (drop len bytes) (omega (arith, length-drop len bytes)) ∙ behind)
+pub returns-in-len1-up : goal.returns-in-len1-up
+returns-in-len1-up c = λ n rest h e.
+    let g = one_byte_front c.args.bytes.now n rest c.if-last-ge128.true h e in
+    (omega (arith, c.from.ensures, g.0), g.1)
 
-pub returns-in-None : goal.returns-in-None
-returns-in-None c = λ n rest h e. absurd (none-some _ (c.in-None.ensures.only n (vnum n) rest e (vnum_spells n h)))
+pub returns-in-len2-up : goal.returns-in-len2-up
+returns-in-len2-up c = λ n rest h e.
+    let g = two_bytes_front c.args.bytes.now n rest c.if-last-ge128.false c.if-last-ge128-2.true h e in
+    (omega (arith, c.from-in-len2-up.ensures, c.from-in-len2-up-2.ensures, g.0), g.1)

@@ -1,8 +1,6 @@
-use Rattle.std.proofs.lemmas.Result.{err_from_is_err_and}
-use Rattle.tv_store.proofs.Coded.{Coded_fails}
+use Rattle.std.proofs.Common.{◌∷◌, ap}
+use Rattle.tv_store.proofs.Coded.{Writes_as, eight_listed}
 use Rattle.tv_store.proofs.value_writer.write_coded_u64.Goals as goal
 
-pub returns-in_err-write_code : goal.returns-in_err-write_code
-returns-in_err-write_code g c =
-    let p = err_from_is_err_and c.from_residual.result c.from_residual.ensures.1 in
-    rw (p.1, p.2) (Coded_fails c.in_err-write_code.ensures)
+pub returns : goal.returns
+returns g c = Writes_as c.write_all.ensures (ap (λ z. c.args.code ∷ z) (eight_listed c.to_le_bytes.result c.args.number c.to_le_bytes.ensures))

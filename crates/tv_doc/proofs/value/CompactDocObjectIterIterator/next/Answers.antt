@@ -1,4 +1,5 @@
 use Rattle.std.proofs.Common.{rules}
+use Rattle.std.proofs.Math.Logic.{∥∥₁_map}
 use Rattle.tv_doc.proofs.Children.{first_entry, no_entry, no_value, entry_steps, entries_fewer}
 use Rattle.tv_doc.specs.TypeCode.{type_code}
 use Rattle.tv_doc.proofs.value.CompactDocObjectIterIterator.next.Goals as goal
@@ -49,3 +50,11 @@ returns-clause-goes c =
     let first = first_entry s.heap.now s.list.now s.held.0 s.held.1 (k.field-0-0, k.key, k.behind) (x.value_type, x.address, x.list) k.ensures.first k.ensures.none x.ensures.first in
     let fewer = entries_fewer s.heap.now x.list.now k.key (type_code x.value_type) x.address s.held.0 first in
     search (rules, fewer)
+
+pub text_at-requires : goal.text_at-requires
+text_at-requires c =
+    let s = c.args.self.now in
+    let k = c.in_ok-key in
+    let x = c.in_ok-value_type in
+    let first = first_entry s.heap.now s.list.now s.held.0 s.held.1 (k.field-0-0, k.key, k.behind) (x.value_type, x.address, x.list) k.ensures.first k.ensures.none x.ensures.first in
+    ∥∥₁_map first.stands (λ p. (first.key, p))

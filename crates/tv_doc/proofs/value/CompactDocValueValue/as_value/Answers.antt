@@ -1,6 +1,6 @@
 use Rattle.std.proofs.Common.{ap, rules}
 use Rattle.tv_doc.specs.TypeCode.{type_code}
-use Rattle.tv_doc.proofs.Shapes.{null_is, text_is, unsigned_is, signed_is, date_is, facet_is, bytes_is, address_is, boolean_is, tokenized_is, no_tokens, array_list, array_is, object_list, object_is}
+use Rattle.tv_doc.proofs.Shapes.{text_there, facet_there, null_is, text_is, unsigned_is, signed_is, date_is, facet_is, bytes_is, address_is, boolean_is, tokenized_is, no_tokens, array_list, array_is, object_list, object_is}
 use Rattle.tv_doc.proofs.value.CompactDocValueValue.as_value.Goals as goal
 
 pub returns-in-Null : goal.returns-in-Null
@@ -59,3 +59,9 @@ returns-in-Object c =
     let v = c.args.self.now in
     let is = object_is v.heap.now (type_code v.value_type) v.address v.held.0 v.held.1 (ap type_code c.in-Object.is) c.sized_at-list-in-Object.result.now c.sized_at-list-in-Object.ensures in
     search (rules, is)
+
+pub text_at-requires : goal.text_at-requires
+text_at-requires c = let v = c.args.self.now in text_there v.heap.now (type_code v.value_type) v.address v.held (ap type_code c.in-Str.is)
+
+pub text_at-requires-in-Facet : goal.text_at-requires-in-Facet
+text_at-requires-in-Facet c = let v = c.args.self.now in facet_there v.heap.now (type_code v.value_type) v.address v.held (ap type_code c.in-Facet.is)
