@@ -8,6 +8,7 @@ use base.Stored.{Coded-set}
 use Rattle.tv_value.specs.Tree.{Tree, elements, element_list, entries, entry_list, Document}
 use Rattle.tv_value.specs.TreeCode.{coded_text, coded_tree, coded_document}
 use Rattle.tv_doc.specs.declared.place.FieldValueAddr.{FieldValueAddr}
+use Rattle.tv_doc.specs.declared.value_type.ValueType.{ValueType}
 use Rattle.tv_doc.specs.TypeCode.{type_code}
 use Rattle.tv_doc.specs.Reads.{Reads, ReadsElements, ReadsEntries}
 use Rattle.tv_doc.specs.ReadsLaws.{one_tree, one_elements, one_entries}
@@ -23,6 +24,10 @@ Held-prop heap code at x y =
 -- the tree does not depend on how it was shown
 pub same_held : (heap : List ℕ) (code at : ℕ) (x y : Held heap code at) → x.0 ≡ y.0
 same_held heap code at x y = ap (λ p. p.0) (Held-prop heap code at x y)
+
+-- a field, and the type and the address of its value
+abbrev pub pair_at : ℕ → ValueType × ℕ → FieldValueAddr
+pair_at field place = record { field = field; value_type = place.0; address = place.1 }
 
 -- a pair's field and tree
 pub record ReadsPair (heap : List ℕ) (p : FieldValueAddr) (pair : ℕ × Tree) : Type 0 where

@@ -1,12 +1,12 @@
 //! Documents: pairs of a field and a value, the values in one heap.
 
-ghost use Rattle.std.specs.Prelude.{◌≡◌, ◌<◌, ◌≤◌, ◌^◌, [], ◌∷◌, ◌++◌, ◌↔◌, IsTrue, OnOk, OnErr, IfOk, SomeIff, option_map, length, map, slice_get};
+ghost use Rattle.std.specs.Prelude.{◌≡◌, ℕ, ◌+◌, ◌<◌, ◌≤◌, ◌^◌, [], ◌∷◌, ◌++◌, ◌↔◌, IsTrue, OnOk, OnErr, IfOk, IfErr, IsErrOf, IsOkAnd, IsSomeAnd, MatchOption, SomeIff, option_map, length, map, slice_get, take};
 ghost use Rattle.std.specs.Net.Addr.{ipv6_bits};
 ghost use Rattle.std.specs.String.{string_bytes};
 ghost use Rattle.tv_value.specs.HeldTokens.{token_of};
 ghost use Rattle.tv_value.specs.Tree.{leaf, text, unsigned, signed, boolean, date, facet, bytes, ip_address, tokenized};
 ghost use Rattle.tv_value.specs.Lent.{leaf_of, nested_tree};
-ghost use Rattle.tv_doc.specs.Held.{Holds, Holds-prop};
+ghost use Rattle.tv_doc.specs.Held.{Holds, Holds-prop, pair_at};
 ghost use Rattle.tv_doc.specs.Room.{room, document_room};
 
 use crate::add_error::AddError;
@@ -14,6 +14,7 @@ use crate::field_values::{FieldValueIterRef, GetAllIter};
 use crate::place::FieldValueAddr;
 use crate::room::{leaf_room, room};
 use crate::value::CompactDocValue;
+use crate::value_type::ValueType;
 use crate::write::{write_leaf, write_tree};
 use std::alloc::{AllocError, Global};
 use std::net::Ipv6Addr;
@@ -42,6 +43,57 @@ fn push_pair(pairs: &mut Vec<FieldValueAddr>, pair: FieldValueAddr) -> Result<()
         pairs.reserve(FIRST_PAIRS)?;
     }
     pairs.push(pair)?;
+    Ok(())
+}
+
+// The number of a field in 16 bits, where it fits, and a value of this room fits behind so many bytes.
+#[inline]
+fn admit(field: Field, room: Option<u32>, len: usize) -> Result<u16, AddError>
+    requires { len ≤ 4294967295 }
+    ensures small { IfOk result (λ small. (small ≡ field.id) × (field.id ≤ 65535)) }
+    ensures fits { OnOk result (IsSomeAnd room (λ n. len + n ≤ 4294967295)) }
+    ensures number { (n : ℕ) → IsErrOf result (AddError.FieldNumber n) → (n ≡ field.id) × (65535 < field.id) }
+    ensures full { IsErrOf result AddError.HeapFull → (field.id ≤ 65535) × MatchOption room (Unit {0}) (λ n. 4294967295 < len + n) }
+    ensures spares { ¬ IsErrOf result AddError.Memory }
+{
+    let Ok(small) = u16::try_from(field.field_id()) else {
+        return Err(AddError::FieldNumber(field.field_id()));
+    };
+    match room {
+        Some(room) if u64::from(room) <= MAX_HEAP_LEN - len as u64 => Ok(small),
+        _ => Err(AddError::HeapFull),
+    }
+}
+
+// Keeps the place of a value that was written behind the first `len` bytes of the heap. Where memory was refused or is refused
+// now, the heap is cut back to these, and the pairs stay as they were.
+#[inline]
+fn keep_pair(
+    heap: &mut Vec<u8>,
+    pairs: &mut Vec<FieldValueAddr>,
+    len: usize,
+    field: u16,
+    written: Result<(ValueType, u32), AllocError>,
+) -> Result<(), AddError>
+    ensures pair { OnOk result (IsOkAnd written (λ place. pairs.new.items ≡ pairs.old.items ++ pair_at field place ∷ [])) }
+    ensures heap { OnOk result (heap.new.items ≡ heap.old.items) }
+    ensures same_pairs { OnErr result (pairs.new.items ≡ pairs.old.items) }
+    ensures cut { OnErr result (heap.new.items ≡ take len heap.old.items) }
+    ensures memory { IfErr result (λ error. error ≡ AddError.Memory) }
+{
+    let Ok((value_type, address)) = written else {
+        heap.truncate(len);
+        return Err(AddError::Memory);
+    };
+    let pair = FieldValueAddr {
+        field,
+        value_type,
+        address,
+    };
+    if push_pair(pairs, pair).is_err() {
+        heap.truncate(len);
+        return Err(AddError::Memory);
+    }
     Ok(())
 }
 
@@ -268,31 +320,10 @@ impl CompactDoc {
     ) -> Result<(), AddError>
         ensures { Adds self.old self.new field.id (leaf (leaf_of value.entry)) result }
     {
-        let Ok(small) = u16::try_from(field.field_id()) else {
-            return Err(AddError::FieldNumber(field.field_id()));
-        };
-        let Some(room) = leaf_room(value) else {
-            return Err(AddError::HeapFull);
-        };
         let len = self.node_data.len();
-        if u64::from(room) > MAX_HEAP_LEN - len as u64 {
-            return Err(AddError::HeapFull);
-        }
+        let small = admit(field, leaf_room(value), len)?;
         let written = write_leaf(&mut self.node_data, value);
-        let Ok((value_type, address)) = written else {
-            self.node_data.truncate(len);
-            return Err(AddError::Memory);
-        };
-        let pair = FieldValueAddr {
-            field: small,
-            value_type,
-            address,
-        };
-        if push_pair(&mut self.pairs, pair).is_err() {
-            self.node_data.truncate(len);
-            return Err(AddError::Memory);
-        }
-        Ok(())
+        keep_pair(&mut self.node_data, &mut self.pairs, len, small, written)
     }
 
     fn add_tree<N: Nested>(
@@ -304,30 +335,9 @@ impl CompactDoc {
         requires { let n = room (nested_tree N.array_rest N.object_rest value) in SomeIff room_found (n < 2 ^ 32) n }
         ensures { Adds self.old self.new field.id (nested_tree N.array_rest N.object_rest value.entry) result }
     {
-        let Ok(small) = u16::try_from(field.field_id()) else {
-            return Err(AddError::FieldNumber(field.field_id()));
-        };
-        let Some(room) = room_found else {
-            return Err(AddError::HeapFull);
-        };
         let len = self.node_data.len();
-        if u64::from(room) > MAX_HEAP_LEN - len as u64 {
-            return Err(AddError::HeapFull);
-        }
+        let small = admit(field, room_found, len)?;
         let written = write_tree(self.alloc, &mut self.node_data, value);
-        let Ok((value_type, address)) = written else {
-            self.node_data.truncate(len);
-            return Err(AddError::Memory);
-        };
-        let pair = FieldValueAddr {
-            field: small,
-            value_type,
-            address,
-        };
-        if push_pair(&mut self.pairs, pair).is_err() {
-            self.node_data.truncate(len);
-            return Err(AddError::Memory);
-        }
-        Ok(())
+        keep_pair(&mut self.node_data, &mut self.pairs, len, small, written)
     }
 }

@@ -1,73 +1,36 @@
-use Rattle.std.proofs.Common.{◌≡◌, ◌+◌, ◌≤◌, ◌<◌, ◌^◌, SomeIff, subst, ◌∷◌, [], ◌++◌, length, ◌∙◌, refl, arith, rules}
-use Rattle.tv_doc.specs.Document.{heap_of}
+use Rattle.std.proofs.Common.{◌≡◌, length, arith}
 use Rattle.tv_value.specs.Lent.{nested_tree}
-use Rattle.tv_doc.specs.Room.{room}
-use Rattle.tv_doc.specs.declared.place.FieldValueAddr.{FieldValueAddr}
-use Rattle.tv_doc.proofs.Documents.{unchanged, added, pushed, pushed_room, kept, kept_room, kept_fits, pushed_fits, restored}
+use Rattle.tv_doc.specs.Document.{heap_of}
+use Rattle.tv_doc.proofs.Kept.{room_fits, Writing, Keeping, kept_fields, kept_adds}
 use Rattle.tv_doc.proofs.document.CompactDoc.add_tree.Goals as goal
 
 pub invariant_of-self : goal.invariant_of-self
 invariant_of-self g c =
     let old = c.args.self.now in
-    let cut = c.truncate.ensures.items ∙ restored old.node_data.items _ c.len-len.result c.in_default-written.ensures.err (omega (arith, c.len-len.ensures, old.node_data.ok.0)) in
-    record { document = kept old _ _ cut refl; room = kept_room old _ _ cut refl; fits = kept_fits old _ cut }
-
-pub returns-in_default-written : goal.returns-in_default-written
-returns-in_default-written g c =
-    let old = c.args.self.now in
-    let n = room (nested_tree g.N.Nested.array_rest g.N.Nested.object_rest c.args.value) in
-    let found = subst (λ o. SomeIff o (n < 2 ^ 32) n) c.in-Some.is c.requires in
-    let small : c.args.field.id ≤ 65535 = search rules in
-    let fits : length (heap_of old) + n ≤ 4294967295 = omega (arith, old.fits, c.if-from-len.false, c.from.ensures, found.1, c.len-len.ensures, old.node_data.ok.0) in
-    let cut = c.truncate.ensures.items ∙ restored old.node_data.items _ c.len-len.result c.in_default-written.ensures.err (omega (arith, c.len-len.ensures, old.node_data.ok.0)) in
-    ((small, fits), unchanged old _ cut refl)
-
-pub invariant_of-self-then-is_err : goal.invariant_of-self-then-is_err
-invariant_of-self-then-is_err g c =
-    let old = c.args.self.now in
-    let wrote = c.in-Ok-written.ensures.ok in
-    let cut = c.truncate-then-is_err.ensures.items ∙ restored old.node_data.items _ c.len-len.result (wrote.added, wrote.grows) (omega (arith, c.len-len.ensures, old.node_data.ok.0)) in
-    let pairs : c.push_pair.new.pairs.items ≡ old.pairs.items = search rules in
-    record { document = kept old _ _ cut pairs; room = kept_room old _ _ cut pairs; fits = kept_fits old _ cut }
-
-pub returns-then-is_err : goal.returns-then-is_err
-returns-then-is_err g c =
-    let old = c.args.self.now in
-    let n = room (nested_tree g.N.Nested.array_rest g.N.Nested.object_rest c.args.value) in
-    let found = subst (λ o. SomeIff o (n < 2 ^ 32) n) c.in-Some.is c.requires in
-    let small : c.args.field.id ≤ 65535 = search rules in
-    let fits : length (heap_of old) + n ≤ 4294967295 = omega (arith, old.fits, c.if-from-len.false, c.from.ensures, found.1, c.len-len.ensures, old.node_data.ok.0) in
-    let wrote = c.in-Ok-written.ensures.ok in
-    let cut = c.truncate-then-is_err.ensures.items ∙ restored old.node_data.items _ c.len-len.result (wrote.added, wrote.grows) (omega (arith, c.len-len.ensures, old.node_data.ok.0)) in
-    let pairs : c.push_pair.new.pairs.items ≡ old.pairs.items = search rules in
-    ((small, fits), unchanged old _ cut pairs)
-
-pub invariant_of-self-else-is_err : goal.invariant_of-self-else-is_err
-invariant_of-self-else-is_err g c =
-    let old = c.args.self.now in
-    let n = room (nested_tree g.N.Nested.array_rest g.N.Nested.object_rest c.args.value) in
-    let found = subst (λ o. SomeIff o (n < 2 ^ 32) n) c.in-Some.is c.requires in
-    let small : c.args.field.id ≤ 65535 = search rules in
-    let fits : length (heap_of old) + n ≤ 4294967295 = omega (arith, old.fits, c.if-from-len.false, c.from.ensures, found.1, c.len-len.ensures, old.node_data.ok.0) in
-    let pair : FieldValueAddr = record { field = c.in-Ok.small; value_type = c.in-Ok-written.value_type; address = c.in-Ok-written.address } in
-    let field : c.in-Ok.small ≡ c.args.field.id = search rules in
-    let pairs : c.push_pair.new.pairs.items ≡ old.pairs.items ++ pair ∷ [] = search rules in
-    let wrote = c.in-Ok-written.ensures.ok in
-    record {
-      document = pushed old _ _ pair c.args.field.id _ field small wrote pairs;
-      room = pushed_room old _ _ pair c.args.field.id _ field small wrote pairs;
-      fits = pushed_fits old _ _ _ _ wrote fits;
-    }
+    let len : c.len-len.result ≡ length (heap_of old) = omega (arith, c.len-len.ensures, old.node_data.ok.0) in
+    let wrote : Writing old c.write_tree-written.new.heap.items c.len-len.result c.in_ok-small.small c.args.field.id (nested_tree g.N.Nested.array_rest g.N.Nested.object_rest c.args.value) c.write_tree-written.result = record {
+      len_is = len;
+      small_is = c.in_ok-small.ensures.small.0;
+      field_fits = c.in_ok-small.ensures.small.1;
+      tree_fits = room_fits c.args.room_found _ _ _ len c.requires c.in_ok-small.ensures.fits;
+      wrote = c.write_tree-written.ensures.ok;
+      front = c.write_tree-written.ensures.err;
+    } in
+    let keeping : Keeping old c.write_tree-written.new.heap.items c.keep_pair.new.heap.items c.keep_pair.new.pairs.items c.len-len.result c.in_ok-small.small c.write_tree-written.result c.keep_pair.result = record { pair = c.keep_pair.ensures.pair; same_heap = c.keep_pair.ensures.heap; same_pairs = c.keep_pair.ensures.same_pairs; cut = c.keep_pair.ensures.cut; memory = c.keep_pair.ensures.memory } in
+    let fields = kept_fields old _ _ _ _ _ _ _ _ _ wrote keeping in
+    record { document = fields.document; room = fields.room; fits = fields.fits }
 
 pub returns : goal.returns
 returns g c =
     let old = c.args.self.now in
-    let n = room (nested_tree g.N.Nested.array_rest g.N.Nested.object_rest c.args.value) in
-    let found = subst (λ o. SomeIff o (n < 2 ^ 32) n) c.in-Some.is c.requires in
-    let small : c.args.field.id ≤ 65535 = search rules in
-    let fits : length (heap_of old) + n ≤ 4294967295 = omega (arith, old.fits, c.if-from-len.false, c.from.ensures, found.1, c.len-len.ensures, old.node_data.ok.0) in
-    let pair : FieldValueAddr = record { field = c.in-Ok.small; value_type = c.in-Ok-written.value_type; address = c.in-Ok-written.address } in
-    let field : c.in-Ok.small ≡ c.args.field.id = search rules in
-    let pairs : c.push_pair.new.pairs.items ≡ old.pairs.items ++ pair ∷ [] = search rules in
-    let wrote = c.in-Ok-written.ensures.ok in
-    (small, fits, added old _ pair c.args.field.id _ field small wrote pairs)
+    let len : c.len-len.result ≡ length (heap_of old) = omega (arith, c.len-len.ensures, old.node_data.ok.0) in
+    let wrote : Writing old c.write_tree-written.new.heap.items c.len-len.result c.in_ok-small.small c.args.field.id (nested_tree g.N.Nested.array_rest g.N.Nested.object_rest c.args.value) c.write_tree-written.result = record {
+      len_is = len;
+      small_is = c.in_ok-small.ensures.small.0;
+      field_fits = c.in_ok-small.ensures.small.1;
+      tree_fits = room_fits c.args.room_found _ _ _ len c.requires c.in_ok-small.ensures.fits;
+      wrote = c.write_tree-written.ensures.ok;
+      front = c.write_tree-written.ensures.err;
+    } in
+    let keeping : Keeping old c.write_tree-written.new.heap.items c.keep_pair.new.heap.items c.keep_pair.new.pairs.items c.len-len.result c.in_ok-small.small c.write_tree-written.result c.keep_pair.result = record { pair = c.keep_pair.ensures.pair; same_heap = c.keep_pair.ensures.heap; same_pairs = c.keep_pair.ensures.same_pairs; cut = c.keep_pair.ensures.cut; memory = c.keep_pair.ensures.memory } in
+    kept_adds old _ _ _ _ _ _ _ _ wrote keeping
