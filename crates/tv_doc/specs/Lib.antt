@@ -2,6 +2,7 @@ pub mod Room
 pub mod Reads
 pub mod ReadsLaws
 pub mod TypeCode
+pub mod TypeByte
 pub mod Held
 pub mod Lent
 pub mod Wrote

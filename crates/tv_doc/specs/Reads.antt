@@ -42,6 +42,11 @@ leaf_type (ip_address n) = 8
 leaf_type (boolean b) = 9
 leaf_type (tokenized t ts) = 10
 
+abbrev pub tree_type : Tree → ℕ
+tree_type (leaf l) = leaf_type l
+tree_type (array ts) = 12
+tree_type (object es) = 11
+
 abbrev pub flag : Bool → ℕ
 flag false = 0
 flag true = 1

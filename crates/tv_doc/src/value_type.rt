@@ -1,6 +1,18 @@
 //! The types of values in a heap.
 
-ghost use Rattle.std.specs.Prelude.{◌≡◌, ◌≢◌, IfSome, IfNone};
+ghost use Rattle.std.specs.Prelude.{◌≡◌, ◌≢◌, IfSome, IfNone, IsErrOf};
+ghost use Rattle.tv_base.specs.declared.read_error.ReadError.TheVariants.{Memory};
+ghost use Rattle.tv_base.specs.Number.{Fixed, one_byte};
+ghost use Rattle.tv_base.specs.ReadsAs.{ReadsAs};
+ghost use Rattle.tv_value.specs.Lent.{leaf_of, tree_of};
+ghost use Rattle.tv_doc.specs.Reads.{leaf_type, tree_type};
+
+use std::alloc::Global;
+use std::io;
+use tv_base::write::write_u8;
+use tv_base::{BinarySerializable, ByteSink, ByteSource, Cause, ReadError};
+use tv_value::leaf::ReferenceValueLeaf;
+use tv_value::value::{ReferenceValue, Value};
 
 /// The type of a value that stands in a document's heap.
 #[derive(Clone, Copy, Debug, PartialEq, Eq, Default)]
@@ -43,8 +55,8 @@ impl ValueType {
         self as u8
     }
 
-    // The type whose byte it is; `None` for 4 and for bytes above 12.
-    pub(crate) fn from_code(code: u8) -> Option<ValueType>
+    /// The type whose byte it is; `None` for 4 and for bytes above 12.
+    pub fn from_code(code: u8) -> Option<ValueType>
         ensures some { IfSome result (λ t. type_code t ≡ code) }
         ensures none { IfNone result ((t : ValueType) → type_code t ≢ code) }
     {
@@ -62,6 +74,75 @@ impl ValueType {
             11 => Some(ValueType::Object),
             12 => Some(ValueType::Array),
             _ => None,
+        }
+    }
+}
+
+/// A type is one byte.
+impl BinarySerializable for ValueType {
+    ghost use Rattle.tv_doc.specs.declared.value_type.ValueType.{ValueType};
+    ghost use Rattle.tv_doc.specs.TypeCode.{type_code};
+    ghost use Rattle.tv_doc.specs.TypeByte.{TypeFault};
+
+    ghost Seen = { ValueType };
+
+    ghost view = { λ t. t };
+
+    ghost shortest = { λ t. one_byte (type_code t) };
+
+    ghost spells = { λ bytes t. Fixed 1 bytes (type_code t) };
+
+    ghost is_fault = { TypeFault };
+
+    fn serialize<K: ByteSink>(&self, sink: &mut K) -> Result<(), io::ErrorKind> {
+        write_u8(sink, self.to_code())
+    }
+
+    fn deserialize<S: ByteSource>(alloc: Global, source: &mut S) -> Result<ValueType, ReadError>
+        ensures reads { ReadsAs S.tells S.left S.faults source.old source.new (λ t. t) result (λ bytes t. Fixed 1 bytes (type_code t)) TypeFault }
+        ensures spares { ¬ IsErrOf result Memory }
+    {
+        let code = u8::deserialize(alloc, source)?;
+        match ValueType::from_code(code) {
+            Some(value_type) => Ok(value_type),
+            None => Err(ReadError::Corrupted(Cause::UnknownTypeCode(code))),
+        }
+    }
+}
+
+/// The type that a leaf has in a heap.
+impl From<&ReferenceValueLeaf<'_>> for ValueType {
+    ghost use Rattle.tv_doc.specs.TypeCode.{type_code};
+
+    ghost from_gives = { λ value made. type_code made ≡ leaf_type (leaf_of value.now) };
+
+    fn from(value: &ReferenceValueLeaf<'_>) -> ValueType {
+        match value {
+            ReferenceValueLeaf::Null => ValueType::Null,
+            ReferenceValueLeaf::Str(_) => ValueType::Str,
+            ReferenceValueLeaf::U64(_) => ValueType::U64,
+            ReferenceValueLeaf::I64(_) => ValueType::I64,
+            ReferenceValueLeaf::Date(_) => ValueType::Date,
+            ReferenceValueLeaf::Facet(_) => ValueType::Facet,
+            ReferenceValueLeaf::Bytes(_) => ValueType::Bytes,
+            ReferenceValueLeaf::IpAddr(_) => ValueType::IpAddr,
+            ReferenceValueLeaf::Bool(_) => ValueType::Bool,
+            ReferenceValueLeaf::PreTokStr(_) => ValueType::PreTokStr,
+        }
+    }
+}
+
+/// The type that a value has in a heap.
+impl<'a, V: Value<'a>> From<&ReferenceValue<'a, V>> for ValueType {
+    ghost use Rattle.tv_doc.specs.TypeCode.{type_code};
+
+    ghost from_gives = { λ value made. type_code made ≡ tree_type (tree_of V.array_rest V.object_rest value.now) };
+
+    fn from(value: &ReferenceValue<'a, V>) -> ValueType {
+        match value {
+            ReferenceValue::Leaf(leaf) => ValueType::from(leaf),
+            ReferenceValue::Array(_) => ValueType::Array,
+            ReferenceValue::Object(_) => ValueType::Object,
         }
     }
 }
