@@ -8,5 +8,6 @@ pub mod Lent
 pub mod Wrote
 pub mod Document
 pub mod Value
+pub mod MapValue
 pub mod Belongs
 pub mod Additions

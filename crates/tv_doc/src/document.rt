@@ -11,12 +11,14 @@ ghost use Rattle.tv_doc.specs.Room.{room, document_room};
 
 use crate::add_error::AddError;
 use crate::field_values::{FieldValueIterRef, GetAllIter};
+use crate::map_value::MapValue;
 use crate::place::FieldValueAddr;
 use crate::room::{leaf_room, room};
 use crate::value::CompactDocValue;
 use crate::value_type::ValueType;
 use crate::write::{write_leaf, write_tree};
 use std::alloc::{AllocError, Global};
+use std::collections::BTreeMap;
 use std::net::Ipv6Addr;
 use tv_base::Facet;
 use tv_schema::Schema;
@@ -24,6 +26,7 @@ use tv_value::date_time::DateTime;
 use tv_value::field::Field;
 use tv_value::leaf::ReferenceValueLeaf;
 use tv_value::nested::{Nested, NestedValue, lend};
+use tv_value::owned_value::OwnedValue;
 use tv_value::pre_tokenized::PreTokenizedStr;
 use tv_value::tokenizer::PreTokenizedString;
 use tv_value::value::Value;
@@ -111,6 +114,7 @@ pub struct CompactDoc {
 impl CompactDoc {
     ghost use Rattle.tv_doc.specs.Belongs.{Belongs};
     ghost use Rattle.tv_doc.specs.Document.{document_of, heap_of, places_of, Adds, IsUnchanged, ReadsAt};
+    ghost use Rattle.tv_doc.specs.MapValue.{map_tree};
     ghost use Rattle.tv_doc.specs.Value.{pairs_left, tree_of, values_left, values_of};
 
     /// A document without pairs, which takes no memory.
@@ -275,6 +279,18 @@ impl CompactDoc {
         ensures { Adds self.old self.new field.id (V.tree value.now) result }
     {
         self.add_tree(field, room(value), lend(value))
+    }
+
+    /// Adds a pair of a field and an object: the entries of a map, in byte order of the keys. The errors are those of
+    /// `add_field_value`.
+    pub fn add_object(
+        &mut self,
+        field: Field,
+        members: &BTreeMap<String, OwnedValue>,
+    ) -> Result<(), AddError>
+        ensures { Adds self.old self.new field.id (map_tree members.now) result }
+    {
+        self.add_field_value(field, &MapValue::Map(members))
     }
 
     /// The fields and their values, in the order in which they were added.

@@ -6,6 +6,7 @@ pub mod document;
 pub mod field_values;
 pub mod laws;
 mod lent;
+mod map_value;
 mod place;
 mod room;
 pub mod value;
