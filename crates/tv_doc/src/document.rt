@@ -102,7 +102,7 @@ fn keep_pair(
 }
 
 /// Pairs of a field and a value, in order. The values stand in one heap of bytes, in which each addition is kept apart.
-#[derive(Drop)]
+#[derive(Debug, Drop)]
 pub struct CompactDoc {
     alloc: Global,
     node_data: Vec<u8>,
