@@ -2,6 +2,7 @@ pub mod Grown
 pub mod Writes
 pub mod Documents
 pub mod Kept
+pub mod Grouping
 pub mod TypeBytes
 pub mod Valid
 pub mod Lends

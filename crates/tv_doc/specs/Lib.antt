@@ -9,5 +9,6 @@ pub mod Wrote
 pub mod Document
 pub mod Value
 pub mod MapValue
+pub mod Grouped
 pub mod Belongs
 pub mod Additions

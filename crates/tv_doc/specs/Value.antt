@@ -12,15 +12,15 @@ abbrev pub tree_of : CompactDocValue → Tree
 tree_of value = value.held.0
 
 -- a field's number and a value's tree
-abbrev pub pair_of : Field × CompactDocValue → ℕ × Tree
-pair_of pair = (pair.0.id, pair.1.held.0)
+abbrev pub pair_seen : {V : Type 0} → (V → Tree) → Field × V → ℕ × Tree
+pair_seen tree pair = (pair.0.id, tree pair.1)
 
 -- the pairs that are left
 abbrev pub pairs_left : FieldValueIterRef → Document
 pairs_left pairs = pairs.held.0
 
 -- the values of a field, in order
-abbrev pub values_of : ℕ → Document → List Tree
+abbrev pub values_of : {A : Type 0} → ℕ → List (ℕ × A) → List A
 values_of field d = map (λ pair. pair.1) (filter (λ pair. nat_eq pair.0 field) d)
 
 -- those that are left

@@ -10,6 +10,7 @@ ghost use Rattle.tv_doc.specs.Held.{Holds, Holds-prop, pair_at};
 ghost use Rattle.tv_doc.specs.Room.{room, document_room};
 
 use crate::add_error::AddError;
+use crate::document_trait::Document;
 use crate::field_values::{FieldValueIterRef, GetAllIter};
 use crate::map_value::MapValue;
 use crate::place::FieldValueAddr;
@@ -101,7 +102,7 @@ fn keep_pair(
 }
 
 /// Pairs of a field and a value, in order. The values stand in one heap of bytes, in which each addition is kept apart.
-#[derive(Drop)]
+#[derive(Debug, Drop)]
 pub struct CompactDoc {
     alloc: Global,
     node_data: Vec<u8>,
@@ -359,5 +360,27 @@ impl CompactDoc {
         let mut places = Vec::new(self.alloc);
         let written = write_tree(&mut self.node_data, &mut places, value);
         keep_pair(&mut self.node_data, &mut self.pairs, len, small, written)
+    }
+}
+
+/// The pairs are lent in place, without memory.
+impl<'a> Document<'a> for CompactDoc {
+    ghost use Rattle.tv_doc.specs.Document.{document_of};
+    ghost use Rattle.tv_doc.specs.Value.{pairs_left};
+
+    type Value = CompactDocValue<'a>;
+
+    type FieldsValuesIter = FieldValueIterRef<'a>;
+
+    ghost pairs = { document_of };
+
+    ghost pairs_rest = { pairs_left };
+
+    ghost pairs_walk = { λ s. (tt, tt) };
+
+    ghost pairs_steps = { λ s t r steps. steps };
+
+    fn iter_fields_and_values(&'a self) -> FieldValueIterRef<'a> {
+        self.field_values()
     }
 }

@@ -3,7 +3,9 @@
 
 pub mod add_error;
 pub mod document;
+pub mod document_trait;
 pub mod field_values;
+mod grouped;
 pub mod laws;
 mod lent;
 mod map_value;

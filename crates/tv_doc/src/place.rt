@@ -3,7 +3,7 @@
 use crate::value_type::ValueType;
 
 /// A field, and the type and the address of its value in the heap.
-#[derive(Clone, Copy)]
+#[derive(Clone, Copy, Debug)]
 pub struct FieldValueAddr {
     pub field: u16,
     pub value_type: ValueType,

@@ -13,7 +13,7 @@ use tv_value::same::is_same;
 use tv_value::value::{ReferenceValue, Value};
 
 /// A value of a document, which stands in the heap that it is lent from.
-#[derive(Clone, Copy)]
+#[derive(Clone, Copy, Debug)]
 pub struct CompactDocValue<'a> {
     heap: &'a [u8],
     value_type: ValueType,

@@ -9,10 +9,11 @@ ghost use Rattle.tv_value.specs.Tree.{text, unsigned, signed, boolean, date, byt
 
 use crate::date_time::DateTime;
 use crate::pre_tokenized::PreTokenizedStr;
+use crate::same::same_leaf;
 use std::net::Ipv6Addr;
 
 /// A value without children. Texts and bytes are borrowed.
-#[derive(Clone, Copy)]
+#[derive(Clone, Copy, Debug)]
 pub enum ReferenceValueLeaf<'a> {
     /// No value.
     Null,
@@ -132,6 +133,22 @@ impl<'a> ReferenceValueLeaf<'a> {
             ReferenceValueLeaf::Facet(encoded) => Some(encoded),
             _ => None,
         }
+    }
+}
+
+/// Two leaves are equal exactly where they are of one kind and hold the same. No memory is taken.
+impl PartialEq for ReferenceValueLeaf<'_> {
+    ghost use Rattle.std.specs.Cmp.{on_per};
+    ghost use Rattle.tv_value.specs.Same.{leaf_eq};
+    ghost use Rattle.tv_value.specs.SameLaws.{leaf_eq-Decides};
+    ghost use Rattle.tv_value.specs.SameTokensLaws.{deciding_per};
+
+    ghost eq = { λ a b. leaf_eq (leaf_of a) (leaf_of b) };
+
+    ghost laws = { on_per leaf_of (deciding_per leaf_eq-Decides) };
+
+    fn eq(&self, other: &Self) -> bool {
+        same_leaf(*self, *other)
     }
 }
 

@@ -16,7 +16,7 @@ use std::net::Ipv6Addr;
 use tv_base::Facet;
 
 /// A value that owns what it holds.
-#[derive(Drop)]
+#[derive(Debug, Drop)]
 pub enum OwnedValue {
     /// No value.
     Null,

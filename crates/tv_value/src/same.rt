@@ -9,7 +9,8 @@ use crate::nested::{Nested, NestedValue, lend};
 use crate::value::Value;
 use std::convert::AsStr;
 
-fn same_leaf(one: ReferenceValueLeaf<'_>, other: ReferenceValueLeaf<'_>) -> bool
+/// Whether two leaves are one: of one kind, with the same content. It takes no memory.
+pub(crate) fn same_leaf(one: ReferenceValueLeaf<'_>, other: ReferenceValueLeaf<'_>) -> bool
     ensures { result ≡ leaf_eq (leaf_of one.entry) (leaf_of other.entry) }
 {
     match (one, other) {

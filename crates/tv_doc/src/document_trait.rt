@@ -1,0 +1,51 @@
+//! Documents of any kind: pairs of a field and a value.
+
+ghost use Rattle.std.specs.Prelude.{◌≡◌, Option, IfOk, map};
+ghost use Rattle.std.specs.Iterator.{IsFinite, YieldsFirstBy};
+ghost use Rattle.tv_value.specs.declared.field.Field.{Field};
+ghost use Rattle.tv_value.specs.Tree.{Tree, Document as Pairs};
+ghost use Rattle.tv_doc.specs.Grouped.{IsGrouped, group_seen};
+ghost use Rattle.tv_doc.specs.Value.{pair_seen};
+
+use crate::grouped::grouped;
+use std::alloc::{AllocError, Global};
+use tv_value::field::Field;
+use tv_value::value::Value;
+
+/// A document: pairs of a field and a value, in order.
+///
+/// An implementation gives `iter_fields_and_values`, and says which pairs its documents have (`pairs`) and which its iterators have
+/// left (`pairs_rest`). Its iterators give the pairs in order, each once, and end. The calls with a body are final.
+pub trait Document<'a> {
+    /// The values.
+    type Value: Value<'a>;
+
+    /// The fields and their values.
+    type FieldsValuesIter: Iterator<Item = (Field, Self::Value)>;
+
+    ghost pairs: { Self → Pairs };
+
+    ghost pairs_rest: { Self.FieldsValuesIter → Pairs };
+
+    /// The fields and their values, in order.
+    fn iter_fields_and_values(&'a self) -> Self::FieldsValuesIter
+        ensures { pairs_rest result ≡ pairs self.now };
+
+    ghost pairs_walk: { (s : Self.FieldsValuesIter) → Self.FieldsValuesIter.can_next s × IsFinite (Self.FieldsValuesIter.remaining s) };
+
+    ghost pairs_steps: { (s t : Self.FieldsValuesIter) (r : Option (Field × Self.Value)) → Self.FieldsValuesIter.next_gives s r t → YieldsFirstBy (pair_seen Self.Value.tree) pairs_rest s r t };
+
+    /// The fields that have a value, rising, each once and with its values in order. The only error is that memory was refused.
+    final fn get_sorted_field_values(
+        &'a self,
+        alloc: Global,
+    ) -> Result<Vec<(Field, Vec<Self::Value>)>, AllocError>
+        ensures { IfOk result (λ groups. IsGrouped (pairs self.now) (map (group_seen Self.Value.tree) groups.items)) }
+    {
+        let mut pairs = Vec::new(alloc);
+        for pair in self.iter_fields_and_values() {
+            pairs.push(pair)?;
+        }
+        grouped(alloc, pairs)
+    }
+}
