@@ -2,7 +2,6 @@
 #![tactic(auto)]
 
 mod copy;
-pub mod date_time;
 pub mod field;
 mod in_place;
 pub mod laws;
@@ -13,3 +12,5 @@ pub mod pre_tokenized;
 pub mod same;
 pub mod tokenizer;
 pub mod value;
+
+pub use tv_date::{date_error, date_time};
