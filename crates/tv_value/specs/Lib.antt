@@ -19,3 +19,5 @@ pub mod InPlace
 pub mod PreTokenized
 pub mod SameTokens
 pub mod SameTokensLaws
+pub mod JsonTree
+pub mod IpAddress

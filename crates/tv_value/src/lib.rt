@@ -4,6 +4,9 @@
 mod copy;
 pub mod field;
 mod in_place;
+pub mod ip_addr;
+pub mod json;
+pub mod json_error;
 pub mod laws;
 pub mod leaf;
 pub mod nested;
