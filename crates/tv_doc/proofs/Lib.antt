@@ -8,3 +8,4 @@ pub mod Additions
 pub mod Shapes
 pub mod Children
 pub mod Lists
+pub mod JsonDocuments

@@ -9,3 +9,6 @@ pub mod Document
 pub mod Value
 pub mod Belongs
 pub mod Additions
+pub mod AdditionError
+pub mod FirstCharacters
+pub mod JsonObject

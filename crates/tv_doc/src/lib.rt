@@ -2,8 +2,10 @@
 #![tactic(auto)]
 
 pub mod add_error;
+pub mod doc_parsing_error;
 pub mod document;
 pub mod field_values;
+pub mod json;
 pub mod laws;
 mod lent;
 mod place;

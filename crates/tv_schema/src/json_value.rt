@@ -289,8 +289,8 @@ fn lend_str<'a>(
 impl JsonRefusal {
     ghost use Rattle.tv_schema.specs.JsonAnswer.{Refuses};
 
-    // The same with the value that was refused.
-    fn with_json(self, alloc: Global, json: Value) -> ValueParsingError
+    /// The same as an error that holds the value that was refused. (Own.)
+    pub fn with_json(self, alloc: Global, json: Value) -> ValueParsingError
         ensures { Refuses (data_of json) self result }
     {
         match self {
