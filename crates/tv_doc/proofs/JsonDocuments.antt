@@ -1,15 +1,18 @@
 -- Values that are added one after the other.
-use Rattle.std.proofs.Common.{◌≡◌, ℕ, ◌+◌, ◌<◌, ◌≤◌, List, [], ◌∷◌, ◌++◌, length, Option, Some, None, Result, Ok, Err, subst, refl, sym, ap, ◌∙◌, arith, append_assoc, append-nil}
+use Rattle.std.proofs.Common.{◌≡◌, ℕ, List, [], ◌∷◌, ◌++◌, Some, Result, Ok, Err, subst, refl, sym, ap, ◌∙◌, arith, append_assoc, append-nil}
 use Rattle.std.specs.Option.{IfSome}
 use Rattle.std.proofs.lemmas.List.Sums.{sum_by_push}
+use Rattle.serde_json.specs.Data.{Members, object}
+use Rattle.serde_json.specs.Read.{read}
+use Rattle.tv_schema.specs.Entry.{Entry}
 use Rattle.tv_schema.specs.JsonAnswer.{refusal_of}
 use Rattle.tv_schema.specs.declared.json_value.JsonRefusal.{JsonRefusal}
-use Rattle.tv_schema.specs.JsonTable.{Refusal, Table}
+use Rattle.tv_schema.specs.JsonTable.{Table}
 use Rattle.tv_value.specs.Tree.{Tree, Document}
 use Rattle.tv_doc.specs.AdditionError.{addition_error}
-use Rattle.tv_doc.specs.Document.{document_of, heap_of, Refuses}
-use Rattle.tv_doc.specs.JsonObject.{FieldJson, Pairs, IsRefused, StopsAt, IsValueError}
-use Rattle.tv_doc.specs.Room.{room, document_room}
+use Rattle.tv_doc.specs.Document.{document_of, Refuses}
+use Rattle.tv_doc.specs.JsonObject.{FieldJson, Pairs, IsRefused, StopsAt, IsValueError, MakesDocument, Parses, object_values}
+use Rattle.tv_doc.specs.Room.{room}
 use Rattle.tv_doc.specs.declared.add_error.AddError.{AddError}
 use Rattle.tv_doc.specs.declared.add_error.AddError.TheVariants.{FieldNumber, HeapFull, Memory}
 use Rattle.tv_doc.specs.declared.doc_parsing_error.DocParsingError.{DocParsingError}
@@ -87,3 +90,12 @@ stops_later all rest values others there now e s parted h = record {
   added = Pairs-append s.done h.before s.pairs h.pairs s.added h.added;
   refused = subst (λ ps. IsRefused h.at ps e) (ap (λ d. d ++ h.pairs) s.document ∙ append_assoc there s.pairs h.pairs) h.refused;
 }
+
+-- an object that is read, and the document that is made of it
+pub parses_object : (schema : List Entry) (text : List ℕ) (ms : Members) (r : Result CompactDoc DocParsingError) → read text ≡ Some (object ms) → MakesDocument (object_values schema ms) r
+    → Parses schema text r
+parses_object schema text ms (Ok made) is h = (ms, is, h)
+parses_object schema text ms (Err (error.InvalidJson start)) is h = absurd h.refused
+parses_object schema text ms (Err (error.ValueError name e)) is h = (ms, is, h)
+parses_object schema text ms (Err (error.Add e)) is h = (ms, is, h)
+parses_object schema text ms (Err error.Memory) is h = tt

@@ -1,5 +1,6 @@
 -- A JSON object as a document: which values it has for the fields of a schema, and what adding them answers.
-use Rattle.std.specs.Prelude.{◌≡◌, ℕ, ◌<◌, ◌≤◌, List, [], ◌∷◌, ◌++◌, Option, Some, None, option_and_then, Result, Ok, Err, slice_get, string_bytes}
+use Rattle.std.specs.Prelude.{◌≡◌, ℕ, ◌<◌, ◌≤◌, List, [], ◌∷◌, ◌++◌, Option, Some, None, Result, Ok, Err, slice_get, string_bytes}
+use Rattle.std.specs.Fmt.{take_chars}
 use Rattle.serde_json.specs.Data as json
 use Rattle.serde_json.specs.Data.{Data, Items, Members}
 use Rattle.serde_json.specs.Read.{read}
@@ -9,10 +10,8 @@ use Rattle.tv_schema.specs.JsonTable.{Refusal, Table}
 use Rattle.tv_schema.specs.Schema.{field_named}
 use Rattle.tv_schema.specs.declared.field_type.FieldType.{FieldType}
 use Rattle.tv_schema.specs.declared.json_value.JsonRefusal.{JsonRefusal}
-use Rattle.tv_schema.specs.declared.value_parsing_error.ValueParsingError.{ValueParsingError}
 use Rattle.tv_value.specs.Tree.{Tree, Document}
 use Rattle.tv_doc.specs.Document.{document_of}
-use Rattle.tv_doc.specs.FirstCharacters.{first_characters}
 use Rattle.tv_doc.specs.Room.{document_room}
 use Rattle.tv_doc.specs.declared.add_error.AddError.TheVariants as add_error
 use Rattle.tv_doc.specs.declared.doc_parsing_error.DocParsingError.{DocParsingError}
@@ -94,6 +93,12 @@ abbrev pub MakesDocument : List FieldJson → Result CompactDoc DocParsingError 
 MakesDocument values (Ok made) = Pairs values (document_of made)
 MakesDocument values (Err e) = StopsAt values [] e
 
+-- the error for a text that is no JSON object
+abbrev pub IsInvalidJson : List ℕ → DocParsingError → Type 0
+IsInvalidJson text (error.InvalidJson start) = string_bytes start ≡ take_chars 20 text
+IsInvalidJson text error.Memory = Unit {0}
+IsInvalidJson text e = ⊥
+
 -- the text is no JSON object
 abbrev pub IsNoObject : List ℕ → Type 0
 IsNoObject text = (members : Members) → ¬ (read text ≡ Some (json.object members))
@@ -101,6 +106,6 @@ IsNoObject text = (members : Members) → ¬ (read text ≡ Some (json.object me
 -- the document is that of the object that the text spells, or the text is refused with its first 20 characters
 abbrev pub Parses : List Entry → List ℕ → Result CompactDoc DocParsingError → Type 0
 Parses schema text (Ok made) = (members : Members) × (read text ≡ Some (json.object members)) × Pairs (object_values schema members) (document_of made)
-Parses schema text (Err (error.InvalidJson start)) = IsNoObject text × (string_bytes start ≡ first_characters 20 text)
+Parses schema text (Err (error.InvalidJson start)) = IsNoObject text × (string_bytes start ≡ take_chars 20 text)
 Parses schema text (Err error.Memory) = Unit {0}
 Parses schema text (Err e) = (members : Members) × (read text ≡ Some (json.object members)) × StopsAt (object_values schema members) [] e

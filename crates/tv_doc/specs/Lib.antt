@@ -10,5 +10,4 @@ pub mod Value
 pub mod Belongs
 pub mod Additions
 pub mod AdditionError
-pub mod FirstCharacters
 pub mod JsonObject

@@ -5,8 +5,8 @@ ghost use Rattle.serde_json.specs.View.{view as data_of, items_view, members_vie
 ghost use Rattle.tv_value.specs.Tree.{Tree};
 ghost use Rattle.tv_schema.specs.Schema.{field_named};
 ghost use Rattle.tv_schema.specs.JsonAnswer.{lent_tree};
-ghost use Rattle.tv_doc.specs.JsonObject.{FieldJson, item_values, values_for, values_at, object_values, AddsValues, IsValueError, MakesDocument, Parses};
-ghost use Rattle.tv_doc.specs.FirstCharacters.{first_characters};
+ghost use Rattle.tv_doc.specs.JsonObject.{FieldJson, item_values, values_for, values_at, object_values, AddsValues, IsInvalidJson, IsValueError, MakesDocument, Parses};
+ghost use Rattle.std.specs.Fmt.{take_chars};
 ghost use Rattle.tv_doc.specs.Document.{Adds};
 
 use crate::add_error::AddError;
@@ -110,7 +110,47 @@ fn add_member(
     }
 }
 
+// The first 20 characters, or all where it has no more.
+fn start_of(alloc: Global, text: &str) -> Result<String, AllocError>
+    ensures { IfOk result (λ start. string_bytes start ≡ take_chars 20 text.now) }
+{
+    format!(in alloc; "{text:.20}")
+}
+
+// The error for a text that is no JSON object.
+fn invalid_json(alloc: Global, text: &str) -> DocParsingError
+    ensures { IsInvalidJson text.now result }
+{
+    match start_of(alloc, text) {
+        Ok(start) => DocParsingError::InvalidJson(start),
+        Err(_) => DocParsingError::Memory,
+    }
+}
+
 impl CompactDoc {
+    /// The document of the JSON object that the text spells, see `from_json_object`. Errors: `InvalidJson` with the text's first 20
+    /// characters where it isn't JSON or no object, or lists in it nest deeper than 127; else those of `from_json_object`.
+    pub fn parse_json(
+        alloc: Global,
+        schema: &Schema,
+        text: &str,
+    ) -> Result<CompactDoc, DocParsingError>
+        ensures { Parses schema.now text.now result }
+    {
+        match Value::from_str(alloc, text) {
+            Ok(json) => match json {
+                Value::Object(object) => CompactDoc::from_json_object(alloc, schema, object),
+                _ => Err(invalid_json(alloc, text)),
+            },
+            Err(error) => {
+                if error.is_memory() {
+                    return Err(DocParsingError::Memory);
+                }
+                Err(invalid_json(alloc, text))
+            }
+        }
+    }
+
     /// The document of a JSON object: for each key that is a field's name, in byte order of the keys, the value that its JSON value
     /// is to the field's type, or the values of its items where it is an array. Other keys are skipped. Errors, for the first value
     /// that is refused:
@@ -127,7 +167,14 @@ impl CompactDoc {
         let mut document = CompactDoc::new(alloc);
         let mut scratch = JsonScratch::new(alloc);
         for (key, json) in object {
-            match add_member(alloc, &mut document, &mut scratch, schema, key.as_str(), json) {
+            match add_member(
+                alloc,
+                &mut document,
+                &mut scratch,
+                schema,
+                key.as_str(),
+                json,
+            ) {
                 Ok(()) => {}
                 Err(error) => return Err(error),
             }

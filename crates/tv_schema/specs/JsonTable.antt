@@ -1,5 +1,5 @@
 -- What a JSON value is to a field of each type: a tree, or a refusal.
-use Rattle.std.specs.Prelude.{◌≡◌, ℕ, ◌<◌, ◌^◌, ◌⊎◌, List, Bool, true, false, Option, Some, None, option_map, option_and_then, Result, Ok, Err, IfSome, FitsSigned, ℤ, codes, bytes_eq, if◌then◌else◌}
+use Rattle.std.specs.Prelude.{◌≡◌, ℕ, ◌<◌, ◌^◌, ◌⊎◌, List, Bool, true, false, Option, Some, None, option_map, Result, Ok, Err, FitsSigned, ℤ, codes, bytes_eq, if◌then◌else◌}
 use Rattle.std.specs.Fmt.{decimal, signed_decimal}
 use Rattle.std.specs.Int.{w64}
 use Rattle.std.specs.Str.Parse.{IsNumeral, digits_value, signed_digits_value, without_leading_plus, without_leading_sign, true_text, false_text}

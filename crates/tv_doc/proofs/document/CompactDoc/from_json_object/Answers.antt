@@ -1,4 +1,4 @@
-use Rattle.std.proofs.Common.{◌≡◌, ◌∷◌, ◌++◌, [], Ok, Err, ap, subst, List, ℕ, String, string_bytes}
+use Rattle.std.proofs.Common.{[], Ok, ap, subst, List, ℕ, String, string_bytes}
 use Rattle.serde_json.specs.View.{view as data_of, members_view}
 use Rattle.tv_schema.specs.Schema.{field_named}
 use Rattle.std.specs.declared.alloc.Global.{Global}
@@ -16,7 +16,7 @@ loop-key-preserved c =
     let all : List (String Global × Value) → List FieldJson = λ es. object_values schema (members_view es) in
     let added = subst (λ k. AddsValues (at k) c.loop-key.document c.add_member.new.document (Ok c.in-Ok.field-0)) c.as_str.ensures.value c.in-Ok.ensures in
     more_so_far _ (all c.loop-key.key-iterator) (at (string_bytes c.in-Some.key)) (all c.next.new.self) [] (document_of c.loop-key.document)
-        (document_of c.add_member.new.document) added.0 c.loop-key.invariant (ap all c.in-Some.ensures.steps) added.1 added.2
+    (document_of c.add_member.new.document) added.0 c.loop-key.invariant (ap all c.in-Some.ensures.steps) added.1 added.2
 
 pub returns-in-Err : goal.returns-in-Err
 returns-in-Err c =
@@ -26,4 +26,4 @@ returns-in-Err c =
     let all : List (String Global × Value) → List FieldJson = λ es. object_values schema (members_view es) in
     let stopped = subst (λ k. StopsAt (at k) (document_of c.loop-key.document) c.in-Err.error) c.as_str.ensures.value c.in-Err.ensures in
     stops_later _ (all c.loop-key.key-iterator) (at (string_bytes c.in-Some.key)) (all c.next.new.self) [] (document_of c.loop-key.document)
-        c.in-Err.error c.loop-key.invariant (ap all c.in-Some.ensures.steps) stopped
+    c.in-Err.error c.loop-key.invariant (ap all c.in-Some.ensures.steps) stopped
