@@ -1,3 +1,4 @@
+mod dates;
 mod options;
 mod owned_values;
 mod pre_tokenized;

@@ -26,7 +26,7 @@ pub use Rattle.tv_doc.specs.declared.document.CompactDoc
 pub use Rattle.tv_doc.specs.declared.field_values.FieldValueIterRef
 pub use Rattle.tv_doc.specs.declared.value.CompactDocValue
 pub use Rattle.tv_store.specs.declared.de.DocStoreVersion
-pub use Rattle.tv_value.specs.declared.date_time.DateTimePrecision
+pub use Rattle.tv_date.specs.declared.date_time.DateTimePrecision
 pub use Rattle.tv_value.specs.declared.field.Field
 pub use Rattle.tv_value.specs.declared.leaf.ReferenceValueLeaf
 pub use Rattle.tv_value.specs.declared.nested.NestedValue

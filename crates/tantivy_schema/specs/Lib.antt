@@ -20,7 +20,10 @@ pub use Rattle.tv_value.specs.Version
 pub use Rattle.tv_value.specs.Spelling
 pub use Rattle.tv_value.specs.Short
 pub use Rattle.tv_value.specs.Fault
-pub use Rattle.tv_value.specs.DateTime
+pub use Rattle.tv_date.specs.DateTime
+pub use Rattle.tv_date.specs.Rfc3339
+pub use Rattle.tv_date.specs.Shape as DateShape
+pub use Rattle.tv_date.specs.Printed as DatePrinted
 pub use Rattle.tv_value.specs.Cases
 pub use Rattle.tv_value.specs.Size
 pub use Rattle.tv_value.specs.Lent

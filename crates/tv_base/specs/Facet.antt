@@ -1,5 +1,5 @@
 -- Facets as the bytes of their encoded texts, and the texts that name them. 47 is the slash, 92 the backslash.
-use Rattle.std.specs.Prelude.{ℕ, ◌≡◌, ◌≢◌, ◌==◌, ◌&&◌, Bool, if◌then◌else◌, List, [], ◌∷◌, ◌++◌, Option, None, Some}
+use Rattle.std.specs.Prelude.{ℕ, ◌≡◌, ◌≢◌, ◌==◌, ◌&&◌, Bool, true, false, Result, Ok, Err, if◌then◌else◌, List, [], ◌∷◌, ◌++◌, Option, None, Some}
 use lib.Chars.{codes}
 use Rattle.std.specs.List.{AllByRecursion, flat_map, slice_split}
 use Rattle.std.specs.String.{string_bytes}
@@ -56,3 +56,9 @@ Descends f g = (more : List (List ℕ)) × (more ≢ []) × (steps g ≡ steps f
 abbrev pub IsParseError : List ℕ → FacetParseError → Type 0
 IsParseError text parse_error.Memory = Unit {0}
 IsParseError text (parse_error.FacetParseError copy) = (parse text ≡ None) × (string_bytes copy ≡ text)
+
+-- whether the text names a facet, whose encoded text then was written
+abbrev pub IsEncoded : {E : Type 0} → List ℕ → List ℕ → Result Bool E → Type 0
+IsEncoded text encoded (Ok true) = parse text ≡ Some encoded
+IsEncoded text encoded (Ok false) = parse text ≡ None
+IsEncoded text encoded (Err e) = Unit {0}

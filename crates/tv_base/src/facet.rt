@@ -9,7 +9,7 @@ ghost use Rattle.std.proofs.lemmas.Slice.Eq.{bytes_eq-Decides};
 ghost use Rattle.std.specs.String.{from_utf8_error_vec};
 ghost use Rattle.std.specs.Cmp.{partial_equiv_from_equiv};
 ghost use Rattle.std.specs.Cmp.Lexicographic.{slice_cmp, nat_list_eq_equiv, nat_list_cmp_total, texts_ties, texts_po};
-ghost use Rattle.tv_base.specs.Facet.{parse, path, printed, debug_printed, IsParseError, Descends};
+ghost use Rattle.tv_base.specs.Facet.{parse, path, printed, debug_printed, IsParseError, IsEncoded, Descends};
 
 use crate::facet_parse_error::FacetParseError;
 use crate::text_rules::{Rule, printed_text, rewrite};
@@ -94,16 +94,26 @@ impl Facet {
         ensures found { IfOk result (λ facet. parse text.now ≡ Some facet) }
         ensures refused { IfErr result (IsParseError text.now) }
     {
+        let mut encoded = String::new(alloc);
+        if Facet::encode_text(text, &mut encoded)? {
+            return Ok(Facet { encoded });
+        }
+        let copy = String::from_str(alloc, text)?;
+        Err(FacetParseError::FacetParseError(copy))
+    }
+
+    /// Writes the encoded text of the facet that a text names, in place of what is there (own). Answers whether the text names one:
+    /// whether it begins with `/`. Errors: memory was refused.
+    pub fn encode_text(text: &str, encoded: &mut String) -> Result<bool, AllocError>
+        ensures { IsEncoded text.now (string_bytes encoded.new) result }
+    {
         match text.strip_prefix('/') {
             Some(rest) => {
-                let mut encoded = String::new(alloc);
-                rewrite(Rule::Facet, rest, &mut encoded)?;
-                Ok(Facet { encoded })
+                encoded.clear();
+                rewrite(Rule::Facet, rest, encoded)?;
+                Ok(true)
             }
-            None => {
-                let copy = String::from_str(alloc, text)?;
-                Err(FacetParseError::FacetParseError(copy))
-            }
+            None => Ok(false),
         }
     }
 

@@ -11,3 +11,4 @@ pub mod Additions
 pub mod Shapes
 pub mod Children
 pub mod Lists
+pub mod JsonDocuments

@@ -12,3 +12,5 @@ pub mod MapValue
 pub mod Grouped
 pub mod Belongs
 pub mod Additions
+pub mod AdditionError
+pub mod JsonObject

@@ -2,10 +2,12 @@
 #![tactic(auto)]
 
 pub mod add_error;
+pub mod doc_parsing_error;
 pub mod document;
 pub mod document_trait;
 pub mod field_values;
 mod grouped;
+pub mod json;
 pub mod laws;
 mod lent;
 mod map_value;

@@ -15,8 +15,8 @@ ghost use Rattle.tv_options.specs.declared.text_options.FastFieldTextOptions.{Fa
 ghost use Rattle.tv_options.specs.declared.text_options.TextFieldIndexing.{TextFieldIndexing};
 ghost use Rattle.tv_options.specs.declared.textual_options.TextualOptions.{TextualOptions};
 ghost use Rattle.tv_options.specs.declared.types.TypeTag.{TypeTag};
-ghost use Rattle.tv_value.specs.declared.date_time.DateTimePrecision.TheVariants.{Seconds};
-ghost use Rattle.tv_value.specs.declared.date_time.DateTimePrecision.{DateTimePrecision};
+ghost use Rattle.tv_date.specs.declared.date_time.DateTimePrecision.TheVariants.{Seconds};
+ghost use Rattle.tv_date.specs.declared.date_time.DateTimePrecision.{DateTimePrecision};
 ghost use Rattle.tv_value.specs.declared.field.Field.{Field};
 ghost use Rattle.tv_options.specs.FacetOptions.{join as join_facet, none as no_facet_options};
 ghost use Rattle.tv_options.specs.FastFieldTextOptions.{join_fast};

@@ -95,7 +95,7 @@ impl OwnPart for DotExpansion {
 
 impl OwnPart for DateTimePrecision {
     ghost use Rattle.std.proofs.Common.{rules};
-    ghost use Rattle.tv_value.specs.declared.date_time.DateTimePrecision.TheVariants.{Seconds};
+    ghost use Rattle.tv_date.specs.declared.date_time.DateTimePrecision.TheVariants.{Seconds};
 
     ghost unset = { Seconds };
 

@@ -11,7 +11,7 @@ use Rattle.tv_options.specs.declared.own_part.DotExpansion.{DotExpansion}
 use Rattle.tv_options.specs.declared.own_part.OfBytes.{OfBytes}
 use Rattle.tv_options.specs.declared.own_part.OfIpAddrs.{OfIpAddrs}
 use Rattle.tv_options.specs.declared.textual_options.TextualOptions.{TextualOptions}
-use Rattle.tv_value.specs.declared.date_time.DateTimePrecision.{DateTimePrecision}
+use Rattle.tv_date.specs.declared.date_time.DateTimePrecision.{DateTimePrecision}
 use Rattle.tv_schema.specs.Entry.{Entry}
 use Rattle.tv_schema.specs.contracts.field_type.FieldTypePartialEq.TheImpl.{eq-value as type_eq}
 use Rattle.tv_schema.specs.declared.field_type.FieldType.{FieldType}

@@ -16,8 +16,8 @@ use Rattle.tv_options.specs.declared.text_options.TextFieldIndexing.{TextFieldIn
 use Rattle.tv_options.specs.declared.types.TypeTag.{TypeTag}
 use Rattle.tv_options.specs.declared.types.TypeTag.TheVariants as tags
 use Rattle.tv_options.specs.FastFieldTextOptions.{is_fast_field, tokenizer_of}
-use Rattle.tv_value.specs.declared.date_time.DateTimePrecision.{DateTimePrecision}
-use Rattle.tv_value.specs.declared.date_time.DateTimePrecision.TheVariants.{Seconds, Milliseconds, Microseconds, Nanoseconds}
+use Rattle.tv_date.specs.declared.date_time.DateTimePrecision.{DateTimePrecision}
+use Rattle.tv_date.specs.declared.date_time.DateTimePrecision.TheVariants.{Seconds, Milliseconds, Microseconds, Nanoseconds}
 use Rattle.tv_schema.specs.Entry.{Entry, value_type, is_valid_name}
 use Rattle.tv_schema.specs.Schema.{IsSchema, refusal, field_named, place_from}
 use Rattle.tv_schema.specs.SchemaJson.{type_word, record_word, precision_word, fast_json, indexing_json, text_json, numeric_json, date_json, json_object_json, options_json, entry_json, entries_json, schema_json}

@@ -6,3 +6,6 @@ pub mod SchemaJsonReading
 pub mod Table
 pub mod Path
 pub mod SchemaJsonEarly
+pub mod JsonTokens
+pub mod JsonTable
+pub mod JsonAnswer

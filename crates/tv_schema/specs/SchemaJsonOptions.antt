@@ -19,8 +19,8 @@ use Rattle.tv_options.specs.declared.text_options.TextFieldIndexing.{TextFieldIn
 use Rattle.tv_options.specs.declared.textual_options.TextualOptions.{TextualOptions}
 use Rattle.tv_options.specs.declared.types.TypeTag.{TypeTag}
 use Rattle.tv_options.specs.declared.types.TypeTag.TheVariants as tags
-use Rattle.tv_value.specs.declared.date_time.DateTimePrecision.{DateTimePrecision}
-use Rattle.tv_value.specs.declared.date_time.DateTimePrecision.TheVariants.{Seconds, Milliseconds, Microseconds, Nanoseconds}
+use Rattle.tv_date.specs.declared.date_time.DateTimePrecision.{DateTimePrecision}
+use Rattle.tv_date.specs.declared.date_time.DateTimePrecision.TheVariants.{Seconds, Milliseconds, Microseconds, Nanoseconds}
 use Rattle.tv_schema.specs.SchemaJson.{type_word, record_word, precision_word}
 use Rattle.tv_schema.specs.declared.field_type.FieldType.{FieldType}
 use Rattle.tv_schema.specs.declared.field_type.FieldType.TheVariants as types

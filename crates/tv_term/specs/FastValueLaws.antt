@@ -5,7 +5,7 @@ use Rattle.std.specs.Int.{w64}
 use Rattle.std.specs.Ordering.{nat_cmp, int_cmp, bool_cmp}
 use Rattle.std.proofs.lemmas.Bool.Decides.{nat_tests}
 use Rattle.std.proofs.lemmas.Int.{ints}
-use Rattle.tv_value.specs.declared.date_time.DateTime.{DateTime}
+use Rattle.tv_date.specs.declared.date_time.DateTime.{DateTime}
 use Rattle.tv_term.specs.Key.{from_least, truth_number}
 use Rattle.tv_term.specs.Reading.{signed_at, is_true}
 

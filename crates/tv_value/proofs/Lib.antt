@@ -10,3 +10,4 @@ pub mod Kept
 pub mod InPlace
 pub mod TokenSteps
 pub mod Payloads
+pub mod LentJson

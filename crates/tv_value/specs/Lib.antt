@@ -4,7 +4,7 @@ pub mod Version
 pub mod Spelling
 pub mod Short
 pub mod Fault
-pub mod DateTime
+pub use Rattle.tv_date.specs.DateTime
 pub mod Cases
 pub mod Size
 pub mod Lent
@@ -19,3 +19,5 @@ pub mod InPlace
 pub mod PreTokenized
 pub mod SameTokens
 pub mod SameTokensLaws
+pub mod JsonTree
+pub mod IpAddress

@@ -21,7 +21,11 @@ fn owned_facet(alloc: Global, encoded: &str) -> Result<Facet, AllocError>
     }
 }
 
-fn owned_leaf(alloc: Global, value: ReferenceValueLeaf<'_>) -> Result<OwnedValue, AllocError>
+/// A copy of a value without children.
+pub(crate) fn owned_leaf(
+    alloc: Global,
+    value: ReferenceValueLeaf<'_>,
+) -> Result<OwnedValue, AllocError>
     ensures { IfOk result (λ made. owned_tree made ≡ leaf (leaf_of value.entry)) }
 {
     match value {

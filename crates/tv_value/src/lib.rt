@@ -2,9 +2,11 @@
 #![tactic(auto)]
 
 mod copy;
-pub mod date_time;
 pub mod field;
 mod in_place;
+pub mod ip_addr;
+pub mod json;
+pub mod json_error;
 pub mod laws;
 pub mod leaf;
 pub mod nested;
@@ -13,3 +15,5 @@ pub mod pre_tokenized;
 pub mod same;
 pub mod tokenizer;
 pub mod value;
+
+pub use tv_date::{date_error, date_time};

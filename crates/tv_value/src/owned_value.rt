@@ -3,14 +3,17 @@
 ghost use Rattle.std.specs.Prelude.{◌≡◌, ℕ, List, map, IfOk};
 ghost use Rattle.std.specs.Iterator.{YieldsFirstRef, YieldsFirstBy, item_count};
 
-use crate::copy::owned_of;
+use crate::copy::{owned_leaf, owned_of};
 use crate::date_time::DateTime;
+use crate::json::{LentJson, has_float};
+use crate::json_error::JsonError;
 use crate::leaf::ReferenceValueLeaf;
 use crate::nested::lend;
 use crate::pre_tokenized::PreTokenizedStr;
 use crate::same::is_same;
 use crate::tokenizer::PreTokenizedString;
 use crate::value::{ReferenceValue, Value};
+use serde_json::Value as JsonValue;
 use std::alloc::{AllocError, Global};
 use std::net::Ipv6Addr;
 use tv_base::Facet;
@@ -137,13 +140,37 @@ impl<'a> Value<'a> for &'a OwnedValue {
 }
 
 impl OwnedValue {
+    ghost use Rattle.serde_json.specs.View.{view as data_of};
+    ghost use Rattle.tv_value.specs.JsonTree.{AnswersJson};
+    ghost use Rattle.tv_value.specs.Lent.{leaf_of};
     ghost use Rattle.tv_value.specs.Owned.{owned_tree};
+    ghost use Rattle.tv_value.specs.Tree.{leaf};
 
     /// A copy of any value. The only error is that memory was refused.
     pub fn from_value<'a, V: Value<'a>>(alloc: Global, value: &V) -> Result<OwnedValue, AllocError>
         ensures { IfOk result (λ made. owned_tree made ≡ V.tree value.now) }
     {
         owned_of(alloc, lend(value))
+    }
+
+    /// A copy of a value without children. (Own.) The only error is that memory was refused.
+    pub fn from_leaf(alloc: Global, value: ReferenceValueLeaf<'_>) -> Result<OwnedValue, AllocError>
+        ensures { IfOk result (λ made. owned_tree made ≡ leaf (leaf_of value.entry)) }
+    {
+        owned_leaf(alloc, value)
+    }
+
+    /// The value that a JSON value is: each kind as itself, a number as `I64` where it fits, else as `U64`, and an object by byte
+    /// order of its keys. Errors: `FloatNumber` exactly where a number in it isn't whole or doesn't fit 64 bits, else `Memory`
+    /// where memory was refused.
+    pub fn from_json(alloc: Global, json: JsonValue) -> Result<OwnedValue, JsonError>
+        ensures { AnswersJson (data_of json) result }
+    {
+        if has_float(&json) {
+            return Err(JsonError::FloatNumber);
+        }
+        let owned = OwnedValue::from_value(alloc, &LentJson::new(&json))?;
+        Ok(owned)
     }
 
     /// A copy. The only error is that memory was refused.

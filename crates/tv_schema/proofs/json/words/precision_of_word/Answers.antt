@@ -1,5 +1,5 @@
 use Rattle.std.proofs.Common.{[], ◌∷◌, sym, ◌∙◌}
-use Rattle.tv_value.specs.declared.date_time.DateTimePrecision.TheVariants.{Seconds, Milliseconds, Microseconds, Nanoseconds}
+use Rattle.tv_date.specs.declared.date_time.DateTimePrecision.TheVariants.{Seconds, Milliseconds, Microseconds, Nanoseconds}
 use Rattle.tv_schema.specs.SchemaJson.{precision_word}
 use Rattle.tv_schema.specs.SchemaJsonOptions.{precision_of_word}
 use Rattle.tv_schema.proofs.SchemaJsonWords.{by_word-other}

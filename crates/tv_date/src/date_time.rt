@@ -1,8 +1,17 @@
 //! Dates, and to which part of a second they are kept.
 
-ghost use Rattle.std.specs.Prelude.{◌≡◌, pos, ◌*ℤ◌, FitsSigned, IsSome, MatchOption};
+ghost use Rattle.std.specs.Prelude.{◌≡◌, pos, ◌*ℤ◌, FitsSigned, IsSome, MatchOption, IfOk, string_bytes};
 ghost use Rattle.std.specs.Int.{w64};
-ghost use Rattle.tv_value.specs.DateTime.{unit_of, truncated};
+ghost use Rattle.std.specs.Result.{result_map_both};
+ghost use Rattle.tv_date.specs.DateTime.{unit_of, truncated};
+ghost use Rattle.tv_date.specs.Rfc3339.{rfc};
+ghost use Rattle.tv_date.specs.Printed.{IsPrinted, moment_text};
+
+use crate::date_error::DateError;
+use crate::rfc3339::read_fields;
+use jiff_core::Timestamp;
+use jiff_fmt::temporal::DateTimePrinter;
+use std::alloc::{AllocError, Global};
 
 /// To which part of a second dates are kept in a fast field, from the coarsest to the finest. By default to the second.
 #[derive(Clone, Copy, Debug, Default, PartialEq, Eq, PartialOrd, Ord, Hash)]
@@ -77,5 +86,38 @@ impl DateTime {
         DateTime {
             nanoseconds: self.nanoseconds / unit * unit,
         }
+    }
+
+    /// The moment that a text writes by RFC 3339: a date, `T` or `t`, hour, minute and second, perhaps a fraction of any length,
+    /// of which nine digits count, and `Z`, `z` or an offset, as in `1985-04-12T23:20:50.52+02:00`. Errors, the first that holds:
+    /// - `Shape`: the text isn't of this shape, as with a space for the `T`,
+    /// - `Field`: a number is out of its range, as month 13, 30 February, or second 60,
+    /// - `OutOfRange`: the moment's nanoseconds don't fit 64 bits.
+    pub fn from_rfc3339(text: &str) -> Result<DateTime, DateError>
+        ensures { result_map_both (λ d. d.nanoseconds) (λ e. e) result ≡ rfc text.now }
+    {
+        let Some(fields) = read_fields(text.as_bytes()) else {
+            return Err(DateError::Shape);
+        };
+        if !fields.is_valid() {
+            return Err(DateError::Field);
+        }
+        match i64::try_from(fields.instant()) {
+            Ok(nanoseconds) => Ok(DateTime { nanoseconds }),
+            Err(_) => Err(DateError::OutOfRange),
+        }
+    }
+
+    /// The moment's text by RFC 3339, in UTC, with a `T`, a `Z` and the fewest digits of a fraction that tell it, as in
+    /// `1985-04-12T21:20:50.52Z`. Errors: memory was refused.
+    pub fn write_rfc3339(self, alloc: Global) -> Result<String, AllocError>
+        ensures shown { IfOk result (λ text. IsPrinted self.nanoseconds (string_bytes text)) }
+        ensures text { IfOk result (λ text. string_bytes text ≡ moment_text self.nanoseconds) }
+    {
+        let Ok(moment) = Timestamp::from_nanosecond(self.nanoseconds as i128) else {
+            unreachable!();
+        };
+        let text = DateTimePrinter::new().timestamp_text(moment);
+        String::from_str(alloc, text.as_str())
     }
 }

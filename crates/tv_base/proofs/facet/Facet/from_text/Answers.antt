@@ -1,9 +1,0 @@
-use Rattle.std.proofs.Common.{arith}
-use Rattle.std.proofs.lemmas.Str.Pattern.{strip_prefix_char}
-use Rattle.std.specs.Prelude.{None}
-use Rattle.tv_base.proofs.Printing.{parse-None}
-use Rattle.tv_base.proofs.facet.Facet.from_text.Goals as goal
-
-pub returns-in_ok-copy-in-None-clause-refused : goal.returns-in_ok-copy-in-None-clause-refused
-returns-in_ok-copy-in-None-clause-refused c =
-    (parse-None c.args.text.now (strip_prefix_char 47 c.args.text.now None c.in-None.ensures.cases (omega arith)), c.in_ok-copy-in-None.ensures.ok)

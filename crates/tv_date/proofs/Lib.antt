@@ -1,0 +1,5 @@
+pub mod Printing
+pub mod CivilText
+pub mod Shapes
+pub mod ShapesAgain
+pub mod ReadBack

@@ -1,0 +1,4 @@
+pub mod DateTime
+pub mod Rfc3339
+pub mod Shape
+pub mod Printed

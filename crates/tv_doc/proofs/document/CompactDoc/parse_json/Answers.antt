@@ -1,0 +1,11 @@
+use Rattle.std.proofs.Common.{Some, ap, ◌∙◌}
+use Rattle.serde_json.proofs.Views.{view-Object}
+use Rattle.serde_json.specs.View.{view, members_view}
+use Rattle.tv_doc.proofs.JsonDocuments.{parses_object}
+use Rattle.tv_doc.proofs.document.CompactDoc.parse_json.Goals as goal
+
+pub returns-in-Object : goal.returns-in-Object
+returns-in-Object c =
+    let object = c.in-Object.object in
+    parses_object c.args.schema.now c.args.text.now (members_view object.entries) c.from_json_object.result
+    (c.in-Ok.ensures.ok ∙ ap (λ v. Some (view v)) c.in-Object.is ∙ ap Some (view-Object object)) c.from_json_object.ensures

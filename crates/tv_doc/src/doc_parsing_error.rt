@@ -1,0 +1,48 @@
+//! Why there is no document of a JSON object.
+
+ghost use Rattle.std.specs.Prelude.{◌≡◌};
+ghost use Rattle.tv_doc.specs.declared.doc_parsing_error.DocParsingError.TheVariants.{Memory};
+
+use crate::add_error::AddError;
+use std::alloc::AllocError;
+use thiserror::Error;
+use tv_schema::ValueParsingError;
+
+/// Why there is no document of a JSON object.
+#[derive(Debug, PartialEq, Drop, Error)]
+pub enum DocParsingError {
+    /// The text is no JSON object. These are its first 20 characters.
+    #[error("no JSON object: {0}")]
+    InvalidJson(String),
+    /// The value of the field with this name is refused.
+    #[error("the value of the field {0} is refused: {1}")]
+    ValueError(String, ValueParsingError),
+    /// The document refuses the value, for another reason than memory.
+    #[error("the document refuses a value: {0}")]
+    Add(AddError),
+    /// Memory was refused.
+    #[error("memory was refused")]
+    Memory,
+}
+
+impl From<AllocError> for DocParsingError {
+    ghost from_gives = { λ _ error. error ≡ Memory };
+
+    fn from(_error: AllocError) -> DocParsingError {
+        DocParsingError::Memory
+    }
+}
+
+impl From<AddError> for DocParsingError {
+    ghost use Rattle.tv_doc.specs.AdditionError.{addition_error};
+
+    ghost from_gives = { λ refused error. error ≡ addition_error refused };
+
+    fn from(refused: AddError) -> DocParsingError {
+        match refused {
+            AddError::Memory => DocParsingError::Memory,
+            AddError::FieldNumber(number) => DocParsingError::Add(AddError::FieldNumber(number)),
+            AddError::HeapFull => DocParsingError::Add(AddError::HeapFull),
+        }
+    }
+}

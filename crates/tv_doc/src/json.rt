@@ -1,0 +1,184 @@
+//! Documents from JSON objects.
+
+ghost use Rattle.std.specs.Prelude.{◌≡◌, ◌<◌, ◌∷◌, [], IfOk, length, string_bytes, slice_get, Some};
+ghost use Rattle.serde_json.specs.View.{view as data_of, items_view, members_view};
+ghost use Rattle.tv_value.specs.Tree.{Tree};
+ghost use Rattle.tv_schema.specs.Schema.{field_named};
+ghost use Rattle.tv_schema.specs.JsonAnswer.{lent_tree};
+ghost use Rattle.tv_doc.specs.JsonObject.{FieldJson, item_values, values_for, values_at, object_values, AddsValues, IsInvalidJson, IsValueError, MakesDocument, Parses};
+ghost use Rattle.std.specs.Fmt.{take_chars};
+ghost use Rattle.tv_doc.specs.Document.{Adds};
+
+use crate::add_error::AddError;
+use crate::doc_parsing_error::DocParsingError;
+use crate::document::CompactDoc;
+use serde_json::{Map, Value};
+use std::alloc::{AllocError, Global};
+use tv_schema::json_value::{JsonRefusal, JsonScratch, LentFieldValue};
+use tv_schema::{FieldType, Schema};
+use tv_value::field::Field;
+
+// Adds what is lent.
+fn add_lent(
+    document: &mut CompactDoc,
+    field: Field,
+    lent: LentFieldValue<'_>,
+) -> Result<(), AddError>
+    ensures { Adds document.old document.new field.id (lent_tree lent.entry) result }
+{
+    match lent {
+        LentFieldValue::Leaf(leaf) => document.add_leaf_field_value(field, leaf),
+        LentFieldValue::Object(object) => document.add_field_value(field, &object),
+    }
+}
+
+// The error for a value that the type of the field with this name refuses.
+fn value_error(alloc: Global, name: &str, refusal: JsonRefusal, json: Value) -> DocParsingError
+    ensures { IsValueError name.now (data_of json) refusal result }
+{
+    if refusal == JsonRefusal::Memory {
+        return DocParsingError::Memory;
+    }
+    match String::from_str(alloc, name) {
+        Ok(copy) => DocParsingError::ValueError(copy, refusal.with_json(alloc, json)),
+        Err(_) => DocParsingError::Memory,
+    }
+}
+
+// Adds one value of the field.
+fn add_value(
+    alloc: Global,
+    document: &mut CompactDoc,
+    scratch: &mut JsonScratch,
+    name: &str,
+    field: Field,
+    field_type: &FieldType,
+    json: Value,
+) -> Result<(), DocParsingError>
+    ensures { AddsValues (record { name = name.now; field = field.id; field_type = field_type.now; value = data_of json } ∷ []) document.old document.new result }
+{
+    match field_type.lend_json(&json, scratch) {
+        Ok(lent) => match add_lent(document, field, lent) {
+            Ok(()) => Ok(()),
+            Err(refused) => Err(DocParsingError::from(refused)),
+        },
+        Err(refusal) => Err(value_error(alloc, name, refusal, json)),
+    }
+}
+
+// Adds each item.
+fn add_items(
+    alloc: Global,
+    document: &mut CompactDoc,
+    scratch: &mut JsonScratch,
+    name: &str,
+    field: Field,
+    field_type: &FieldType,
+    items: Vec<Value>,
+) -> Result<(), DocParsingError>
+    ensures { AddsValues (item_values name.now field.id field_type.now (items_view items.items)) document.old document.new result }
+{
+    for item in items {
+        match add_value(alloc, document, scratch, name, field, field_type, item) {
+            Ok(()) => {}
+            Err(error) => return Err(error),
+        }
+    }
+    Ok(())
+}
+
+// Adds the values of a member, if its key names a field.
+fn add_member(
+    alloc: Global,
+    document: &mut CompactDoc,
+    scratch: &mut JsonScratch,
+    schema: &Schema,
+    name: &str,
+    json: Value,
+) -> Result<(), DocParsingError>
+    ensures { AddsValues (values_at schema.now name.now (field_named schema.now name.now) (data_of json)) document.old document.new result }
+{
+    let Ok(field) = schema.get_field(name) else {
+        return Ok(());
+    };
+    let field_type = schema.get_field_entry(field).field_type();
+    match json {
+        Value::Array(items) => {
+            add_items(alloc, document, scratch, name, field, field_type, items)
+        }
+        single => add_value(alloc, document, scratch, name, field, field_type, single),
+    }
+}
+
+// The first 20 characters, or all where it has no more.
+fn start_of(alloc: Global, text: &str) -> Result<String, AllocError>
+    ensures { IfOk result (λ start. string_bytes start ≡ take_chars 20 text.now) }
+{
+    format!(in alloc; "{text:.20}")
+}
+
+// The error for a text that is no JSON object.
+fn invalid_json(alloc: Global, text: &str) -> DocParsingError
+    ensures { IsInvalidJson text.now result }
+{
+    match start_of(alloc, text) {
+        Ok(start) => DocParsingError::InvalidJson(start),
+        Err(_) => DocParsingError::Memory,
+    }
+}
+
+impl CompactDoc {
+    /// The document of the JSON object that the text spells, see `from_json_object`. Errors: `InvalidJson` with the text's first 20
+    /// characters where it isn't JSON or no object, or lists in it nest deeper than 127; else those of `from_json_object`.
+    pub fn parse_json(
+        alloc: Global,
+        schema: &Schema,
+        text: &str,
+    ) -> Result<CompactDoc, DocParsingError>
+        ensures { Parses schema.now text.now result }
+    {
+        match Value::from_str(alloc, text) {
+            Ok(json) => match json {
+                Value::Object(object) => CompactDoc::from_json_object(alloc, schema, object),
+                _ => Err(invalid_json(alloc, text)),
+            },
+            Err(error) => {
+                if error.is_memory() {
+                    return Err(DocParsingError::Memory);
+                }
+                Err(invalid_json(alloc, text))
+            }
+        }
+    }
+
+    /// The document of a JSON object: for each key that is a field's name, in byte order of the keys, the value that its JSON value
+    /// is to the field's type, or the values of its items where it is an array. Other keys are skipped. Errors, for the first value
+    /// that is refused:
+    /// - `ValueError` with the field's name: the field's type refuses it, see `FieldType::value_from_json`,
+    /// - `Add`: the field's number is above 65535, or the values need more room than a document has,
+    /// - `Memory`: memory was refused.
+    pub fn from_json_object(
+        alloc: Global,
+        schema: &Schema,
+        object: Map<String, Value>,
+    ) -> Result<CompactDoc, DocParsingError>
+        ensures { MakesDocument (object_values schema.now (members_view object.entries)) result }
+    {
+        let mut document = CompactDoc::new(alloc);
+        let mut scratch = JsonScratch::new(alloc);
+        for (key, json) in object {
+            match add_member(
+                alloc,
+                &mut document,
+                &mut scratch,
+                schema,
+                key.as_str(),
+                json,
+            ) {
+                Ok(()) => {}
+                Err(error) => return Err(error),
+            }
+        }
+        Ok(document)
+    }
+}

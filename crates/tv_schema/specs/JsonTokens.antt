@@ -1,0 +1,48 @@
+-- Texts with their tokens, as JSON objects. Keys that aren't asked for are ignored.
+use Rattle.std.specs.Prelude.{ℕ, List, [], ◌∷◌, ◌≡◌, Bool, true, false, Result, Ok, Err, Option, Some, None, option_map, option_and_then, codes}
+use Rattle.serde_json.specs.Data as json
+use Rattle.serde_json.specs.Data.{Data, Items, Members}
+use Rattle.serde_json.specs.Find.{get, as_str, as_array, as_number, as_u64}
+use Rattle.tv_date.specs.Rfc3339.{◌>>=◌}
+use Rattle.tv_value.specs.Tree.{Token, Leaf, tokenized}
+
+-- the text at a key
+abbrev pub text_at : List ℕ → Data → Option (List ℕ)
+text_at key d = option_and_then as_str (get key d)
+
+-- the whole number from 0 to 2^64 - 1 at a key
+abbrev pub number_at : List ℕ → Data → Option ℕ
+number_at key d = option_and_then as_u64 (option_and_then as_number (get key d))
+
+-- a token is an object with five keys
+unfoldable pub token_in : Data → Option Token
+token_in d = do
+  offset_from ← number_at (codes "offset_from") d
+  offset_to ← number_at (codes "offset_to") d
+  position ← number_at (codes "position") d
+  text ← text_at (codes "text") d
+  position_length ← number_at (codes "position_length") d
+  Some (record { offset_from = offset_from; offset_to = offset_to; position = position; text = text; position_length = position_length })
+
+abbrev pub tokens_in : Items → Option (List Token)
+tokens_in json.no_items = Some []
+tokens_in (json.item d ds) = option_and_then (λ t. option_map (λ ts. t ∷ ts) (tokens_in ds)) (token_in d)
+
+-- an object with a text and an array of tokens
+unfoldable pub tokenized_in : Data → Option Leaf
+tokenized_in d = do
+  content ← text_at (codes "text") d
+  items ← option_and_then as_array (get (codes "tokens") d)
+  option_map (tokenized content) (tokens_in items)
+
+-- whether the items are tokens, and these then
+abbrev pub AreRead : {E : Type 0} → Items → List Token → Result Bool E → Type 0
+AreRead items tokens (Ok true) = tokens_in items ≡ Some tokens
+AreRead items tokens (Ok false) = tokens_in items ≡ None
+AreRead items tokens (Err e) = Unit {0}
+
+-- whether the value is a text with tokens, and this text and these tokens then
+abbrev pub IsRead : {E : Type 0} → Data → List ℕ → List Token → Result Bool E → Type 0
+IsRead d content tokens (Ok true) = tokenized_in d ≡ Some (tokenized content tokens)
+IsRead d content tokens (Ok false) = tokenized_in d ≡ None
+IsRead d content tokens (Err e) = Unit {0}
