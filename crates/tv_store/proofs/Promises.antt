@@ -18,9 +18,9 @@ use Rattle.tv_value.specs.Fault.{Refusal, corrupted}
 use Rattle.tv_value.specs.Tree.{Tree, Document}
 use Rattle.tv_value.specs.Version.{Version}
 use Rattle.tv_value.specs.Spelling.{SpellsDocument, NoLegacy}
-use Rattle.tv_store.specs.declared.error.DeserializeError.{DeserializeError}
-use Rattle.tv_store.specs.declared.error.DeserializeError.TheVariants as errors
-use Rattle.tv_store.specs.Error.{store_stop}
+use Rattle.tv_reader.specs.declared.error.DeserializeError.{DeserializeError}
+use Rattle.tv_reader.specs.declared.error.DeserializeError.TheVariants as errors
+use Rattle.tv_reader.specs.Error.{store_stop}
 use Rattle.tv_store.specs.Documents.{BeginsWith, Answers, Tells, ShowsCause, IsReadingError}
 use Rattle.tv_store.specs.Pairs.{DocumentHasNoRoom}
 use Rattle.tv_store.specs.Reading.{pairs_at, document_at}

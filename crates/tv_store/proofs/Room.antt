@@ -12,9 +12,10 @@ use Rattle.tv_doc.specs.Document.{document_of, heap_of, IsFull, Refuses}
 use Rattle.tv_doc.specs.Room.{room, document_room}
 use Rattle.tv_value.specs.Fault.{Refusal}
 use Rattle.tv_value.specs.Tree.{Tree, Document}
-use Rattle.tv_store.specs.declared.error.DeserializeError.{DeserializeError}
-use Rattle.tv_store.specs.declared.error.DeserializeError.TheVariants as errors
-use Rattle.tv_store.specs.Error.{add_error, store_stop}
+use Rattle.tv_reader.specs.declared.error.DeserializeError.{DeserializeError}
+use Rattle.tv_reader.specs.declared.error.DeserializeError.TheVariants as errors
+use Rattle.tv_reader.specs.Error.{store_stop}
+use Rattle.tv_store.specs.Error.{add_error}
 use Rattle.tv_store.specs.Pairs.{HasNoRoom}
 use Rattle.tv_store.specs.Reading.{pair_at, pairs_at}
 use Rattle.tv_store.proofs.PairLoop.{pairs_at-more}

@@ -11,8 +11,8 @@ use Rattle.tv_value.specs.Fault.{corrupted}
 use Rattle.tv_value.specs.Spelling.{SpellsDocument, NoLegacy}
 use Rattle.tv_value.specs.Tree.{Document}
 use Rattle.tv_value.specs.Version.{Version}
-use Rattle.tv_store.specs.declared.error.DeserializeError.{DeserializeError}
-use Rattle.tv_store.specs.declared.error.DeserializeError.TheVariants as errors
+use Rattle.tv_reader.specs.declared.error.DeserializeError.{DeserializeError}
+use Rattle.tv_reader.specs.declared.error.DeserializeError.TheVariants as errors
 use Rattle.tv_store.specs.Refused.{DocumentRefused, Begun}
 
 -- a front of the bytes spells the document, and the rest is left

@@ -3,16 +3,16 @@
 ghost use Rattle.std.specs.Prelude.{◌≡◌, ◌≤◌, ◌++◌, ℕ, List, Ok, Err, IfOk, IfErr, IsErrOf, IsTrue, MatchOption};
 ghost use Rattle.tv_base.specs.declared.cause.Cause.{Cause};
 ghost use Rattle.tv_base.specs.declared.cause.Cause.TheVariants.{TooLong};
-ghost use Rattle.tv_store.specs.declared.error.DeserializeError.TheVariants.{CorruptedValue};
+ghost use Rattle.tv_reader.specs.declared.error.DeserializeError.TheVariants.{CorruptedValue};
 ghost use Rattle.tv_base.specs.ReadsAs.{Known, TakesMost};
 ghost use Rattle.tv_base.specs.Stop.{Counts};
 ghost use Rattle.tv_doc.specs.Document.{document_of};
 ghost use Rattle.tv_doc.specs.Room.{document_room};
 ghost use Rattle.tv_store.specs.Documents.{BeginsWith, Answers, Tells, ShowsCause, IsReadingError};
-ghost use Rattle.tv_store.specs.Error.{store_stop, TakesBy};
+ghost use Rattle.tv_reader.specs.Error.{store_stop, TakesBy};
 ghost use Rattle.tv_store.specs.Reading.{document_at};
 ghost use Rattle.tv_store.specs.AreRead.{are_read};
-ghost use Rattle.tv_store.specs.Version.{version_of, numbered};
+ghost use Rattle.tv_reader.specs.Version.{version_of};
 ghost use Rattle.tv_value.specs.Spelling.{SpellsDocument, NoLegacy};
 ghost use Rattle.tv_value.specs.Tree.{Document};
 
@@ -22,28 +22,7 @@ use std::alloc::Global;
 use tv_base::ByteSource;
 use tv_doc::document::CompactDoc;
 
-/// A version of the store format.
-#[derive(Clone, Copy, Debug, PartialEq, Eq, PartialOrd, Ord)]
-pub enum DocStoreVersion {
-    /// Dates are microseconds since 1970.
-    V1 = 1,
-    /// Dates are nanoseconds since 1970.
-    V2 = 2,
-}
-
-impl DocStoreVersion {
-    /// The version of this number. Every number other than 1 and 2 is refused as `UnsupportedVersion`, with itself and the
-    /// largest that there is, 2.
-    pub fn from_u32(number: u32) -> Result<DocStoreVersion, DeserializeError>
-        ensures { MatchOption (numbered number) (result ≡ Err (DeserializeError.UnsupportedVersion number 2)) (λ version. result ≡ Ok version) }
-    {
-        match number {
-            1 => Ok(DocStoreVersion::V1),
-            2 => Ok(DocStoreVersion::V2),
-            _ => Err(DeserializeError::UnsupportedVersion(number, 2)),
-        }
-    }
-}
+pub use tv_reader::version::DocStoreVersion;
 
 /// Reads a document, however the source cuts its bytes, and takes no byte behind it.
 ///

@@ -2,15 +2,15 @@
 
 ghost use Rattle.std.specs.Prelude.{◌≡◌, ◌≤◌, ◌-◌, ◌^◌, IfOk, IfErr, IsErrOf, string_bytes};
 ghost use Rattle.tv_doc.specs.Document.{document_of, Adds};
-ghost use Rattle.tv_store.specs.declared.error.DeserializeError.TheVariants.{CorruptedValue, HeapFull};
+ghost use Rattle.tv_reader.specs.declared.error.DeserializeError.TheVariants.{CorruptedValue, HeapFull};
 ghost use Rattle.tv_base.specs.declared.cause.Cause.TheVariants.{TooLong};
 ghost use Rattle.tv_store.specs.Documents.{IsReadingError, IsPairError};
-ghost use Rattle.tv_store.specs.Error.{TakesBy};
+ghost use Rattle.tv_reader.specs.Error.{TakesBy};
 ghost use Rattle.tv_store.specs.Pairs.{taken_tree, taken_pair, HasNoRoom, DocumentHasNoRoom};
 ghost use Rattle.tv_store.specs.Reading.{value_at, field_at, pair_at, pairs_at, document_at};
 
-use crate::error::DeserializeError;
-use crate::type_codes::{F64_CODE, TEXT_CODE, U64_CODE};
+use crate::error::{DeserializeError, addition_error};
+use tv_reader::type_codes::{F64_CODE, TEXT_CODE, U64_CODE};
 use std::alloc::Global;
 use tv_base::take::{take_text, take_u8, take_u32, take_u64, take_vint};
 use tv_base::{ByteSource, Cause};
@@ -114,7 +114,9 @@ fn take_pairs<S: ByteSource>(
     let mut text = String::with_capacity(alloc, TEXT_ROOM)?;
     for _ in 0..announced {
         let (field, value) = take_pair(alloc, source, count, &mut text)?;
-        add_taken(&mut document, field, text.as_str(), value)?;
+        if let Err(error) = add_taken(&mut document, field, text.as_str(), value) {
+            return Err(addition_error(error));
+        }
     }
     Ok(document)
 }

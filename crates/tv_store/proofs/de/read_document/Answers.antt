@@ -1,6 +1,6 @@
 use Rattle.std.proofs.Common.{arith}
 use Rattle.tv_base.proofs.ByGrammar.{few_taken}
-use Rattle.tv_store.specs.Version.{version_of}
+use Rattle.tv_reader.specs.Version.{version_of}
 use Rattle.tv_store.proofs.Promises.{found_by, tells_by, shows_cause, only_by}
 use Rattle.tv_store.proofs.de.read_document.Goals as goal
 

@@ -1,6 +1,6 @@
 use Rattle.std.proofs.Common.{Ok}
 use Rattle.tv_doc.specs.Document.{document_of}
-use Rattle.tv_store.specs.Error.{TakesBy}
+use Rattle.tv_reader.specs.Error.{TakesBy}
 use Rattle.tv_store.specs.Reading.{pairs_at}
 use Rattle.tv_store.proofs.pairs.take_pairs.Given as goal
 
