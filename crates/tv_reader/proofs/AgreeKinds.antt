@@ -21,20 +21,22 @@ differs m n h = elim (eqb_tells m n) [ inl p ↦ absurd (omega (arith, h, p.1)) 
 -- a code above the largest
 far : (code : ℕ) (bytes : List ℕ) → 13 < code → kind_of code bytes ≡ Err (UnknownTypeCode code, bytes)
 far code bytes h =
-    rw (differs code 0 (omega (arith, h)),
-        differs code 1 (omega (arith, h)),
-        differs code 2 (omega (arith, h)),
-        differs code 3 (omega (arith, h)),
-        differs code 4 (omega (arith, h)),
-        differs code 5 (omega (arith, h)),
-        differs code 6 (omega (arith, h)),
-        differs code 7 (omega (arith, h)),
-        differs code 8 (omega (arith, h)),
-        differs code 9 (omega (arith, h)),
-        differs code 10 (omega (arith, h)),
-        differs code 11 (omega (arith, h)),
-        differs code 12 (omega (arith, h)),
-        differs code 13 (omega (arith, h)))
+    rw (
+      differs code 0 (omega (arith, h)),
+      differs code 1 (omega (arith, h)),
+      differs code 2 (omega (arith, h)),
+      differs code 3 (omega (arith, h)),
+      differs code 4 (omega (arith, h)),
+      differs code 5 (omega (arith, h)),
+      differs code 6 (omega (arith, h)),
+      differs code 7 (omega (arith, h)),
+      differs code 8 (omega (arith, h)),
+      differs code 9 (omega (arith, h)),
+      differs code 10 (omega (arith, h)),
+      differs code 11 (omega (arith, h)),
+      differs code 12 (omega (arith, h)),
+      differs code 13 (omega (arith, h)),
+    )
     refl
 
 extension_far : (code : ℕ) (bytes : List ℕ) → code ≢ 0 → extension_of code bytes ≡ Err (UnknownExtCode code, bytes)

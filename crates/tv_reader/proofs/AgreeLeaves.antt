@@ -77,13 +77,16 @@ micros_to whole n small p = elim p.1.second [
 ]
 
 micros_from : (whole : List ℕ) (n : ℤ) → Microseconds whole n → InTurn Signed Ranged whole n
-micros_from whole n h = (h.microseconds, record {
-  front = whole;
-  rest = [];
-  joined = sym (append-nil whole);
-  first = record { fits = within_fits h.microseconds h.from h.to; spelled = h.spelled };
-  second = inr (not_below h.microseconds (negsuc 9223372036854774) h.from, inr (not_below (pos 9223372036854775) h.microseconds h.to, (refl, h.same)));
-})
+micros_from whole n h = (
+  h.microseconds,
+  record {
+    front = whole;
+    rest = [];
+    joined = sym (append-nil whole);
+    first = record { fits = within_fits h.microseconds h.from h.to; spelled = h.spelled };
+    second = inr (not_below h.microseconds (negsuc 9223372036854774) h.from, inr (not_below (pos 9223372036854775) h.microseconds h.to, (refl, h.same)));
+  },
+)
 
 date_ended : (v : Version) (whole : List ℕ) (c : Cause) → BytesFault 8 whole c → DateFault whole v c
 date_ended v whole c h = let q = bytes_fault 8 whole c h in subst (DateFault whole v) (sym q.0) (date_ends q.1)
@@ -189,20 +192,29 @@ token_from : (whole : List ℕ) (t : Token) → TokenSpelling whole t → TokenP
 token_from whole t h =
     let s = h.second in
     let at = s.second in
-    let word = at.second in
-    ((t.offset_from, t.offset_to), record {
-      front = h.front ++ s.front;
-      rest = s.rest;
-      joined = h.joined ∙ ap (λ (l : List ℕ). h.front ++ l) s.joined ∙ sym (append_assoc h.front s.front s.rest);
-      first = (t.offset_from, record { front = h.front; rest = s.front; joined = refl; first = h.first; second = (t.offset_to, s.first, refl) });
-      second = ((t.position, (t.text, t.position_length)), (t.position, record {
-        front = at.front;
-        rest = at.rest;
-        joined = at.joined;
-        first = at.first;
-        second = ((t.text, t.position_length), (t.text, record { front = word.front; rest = word.rest; joined = word.joined; first = word.first; second = (t.position_length, word.second, refl) }), refl);
-      }), refl);
-    })
+    let word = at.second in (
+      (t.offset_from, t.offset_to),
+      record {
+        front = h.front ++ s.front;
+        rest = s.rest;
+        joined = h.joined ∙ ap (λ (l : List ℕ). h.front ++ l) s.joined ∙ sym (append_assoc h.front s.front s.rest);
+        first = (t.offset_from, record { front = h.front; rest = s.front; joined = refl; first = h.first; second = (t.offset_to, s.first, refl) });
+        second = (
+          (t.position, (t.text, t.position_length)),
+          (
+            t.position,
+            record {
+              front = at.front;
+              rest = at.rest;
+              joined = at.joined;
+              first = at.first;
+              second = ((t.text, t.position_length), (t.text, record { front = word.front; rest = word.rest; joined = word.joined; first = word.first; second = (t.position_length, word.second, refl) }), refl);
+            },
+          ),
+          refl,
+        );
+      },
+    )
 
 token_faults : (whole : List ℕ) (c : Cause) → AllBytes whole → InThen OffsetsFault Offsets (λ _. PlacedFault) whole c → TokenFault whole c
 token_faults whole c small p = elim p [
@@ -212,13 +224,16 @@ token_faults whole c small p = elim p [
   ]
   | inr q ↦
       let o = q.1.first.1 in
-      inr (q.1.first.0, record {
-        front = o.front;
-        rest = o.rest ++ q.1.rest;
-        joined = q.1.joined ∙ ap (λ (l : List ℕ). l ++ q.1.rest) o.joined ∙ append_assoc o.front o.rest q.1.rest;
-        first = o.first;
-        second = inr (o.second.0, record { front = o.rest; rest = q.1.rest; joined = refl; first = o.second.1; second = q.1.second });
-      })
+      inr (
+        q.1.first.0,
+        record {
+          front = o.front;
+          rest = o.rest ++ q.1.rest;
+          joined = q.1.joined ∙ ap (λ (l : List ℕ). l ++ q.1.rest) o.joined ∙ append_assoc o.front o.rest q.1.rest;
+          first = o.first;
+          second = inr (o.second.0, record { front = o.rest; rest = q.1.rest; joined = refl; first = o.second.1; second = q.1.second });
+        },
+      )
 ]
 
 token_agrees : Agrees UnexpectedEnd token_at TokenSpelling TokenFault
@@ -249,14 +264,16 @@ tokenized_to whole pair small p =
 
 tokenized_from : (whole : List ℕ) (pair : List ℕ × List Token) → TokenizedPair whole pair → InTurn Text (λ content b x. (ts : List Token) × CountedTokens b ts × (x ≡ (content, ts))) whole pair
 tokenized_from whole pair h =
-    let counted = h.second in
-    (pair.0, record {
-      front = h.front;
-      rest = h.rest;
-      joined = h.joined;
-      first = h.first;
-      second = (pair.1, (length pair.1, record { front = counted.front; rest = counted.rest; joined = counted.joined; first = counted.first; second = (refl, counted.second) }), refl);
-    })
+    let counted = h.second in (
+      pair.0,
+      record {
+        front = h.front;
+        rest = h.rest;
+        joined = h.joined;
+        first = h.first;
+        second = (pair.1, (length pair.1, record { front = counted.front; rest = counted.rest; joined = counted.joined; first = counted.first; second = (refl, counted.second) }), refl);
+      },
+    )
 
 pub tokenized_agrees : Agrees UnexpectedEnd tokenized_at TokenizedPair TokenizedFault
 unfolding tokenized_at

@@ -16,6 +16,8 @@ use Rattle.tv_base.proofs.ByGrammar.{shows_by}
 use Rattle.tv_base.proofs.TakeSteps.{Taken_none, Taken_then, CountsStop-from}
 use Rattle.tv_value.specs.Fault.{Refusal, corrupted}
 use Rattle.tv_reader.specs.Error.{read_error, store_stop}
+use Rattle.tv_reader.specs.Error as store
+use Rattle.tv_reader.specs.declared.error.DeserializeError.{DeserializeError}
 use Rattle.tv_reader.specs.Finds.{Refuses, TellsStop, Found, FindsBy, Finds}
 
 -- ---- bytes that show a fault
@@ -204,5 +206,46 @@ finds_part_fails {left = left} {faults = faults} {old = old} {new = new} {k = k}
   taken = h.taken;
   still_tells = h.still_tells;
   counts = raised_counts e (faults old) (faults new) h.counts;
+  rises = h.rises;
+}
+
+-- ---- parts of the store's own
+
+read_found : {X Y : Type 0} (view : X → Y) {reading : List ℕ → Result (Y × List ℕ) (Refusal × List ℕ)} {Spells : List ℕ → Y → Type 0} {IsFault : List ℕ → Refusal → Type 0}
+    → Agrees (corrupted UnexpectedEnd) reading Spells IsFault → (x : X) (old new : List ℕ) → AllBytes old → reading old ≡ Ok (view x, new) → Begins (λ b. Spells b (view x)) old new
+read_found view agrees x old new small e = let p = agrees.sound old (view x, new) small e in record { front = p.0; joined = p.2; spelled = p.1 }
+
+-- a part was read
+pub finds_read : {S X Y : Type 0} {tells : S → Type 0} {left : S → List ℕ} {faults : S → Faults} {old new : S} {i k : ℕ} {view : X → Y} {x : X} {reading : List ℕ → Result (Y × List ℕ) (Refusal × List ℕ)} {Spells : List ℕ → Y → Type 0} {IsFault : List ℕ → Refusal → Type 0}
+    → ((source : S) → tells source → AllBytes (left source)) → Agrees (corrupted UnexpectedEnd) reading Spells IsFault → store.TakesBy tells left faults old i new k view (Ok x) reading
+    → Finds tells left faults old i new k (Ok x) (λ b x. Spells b (view x)) (λ w f. ⊥)
+finds_read {left = left} {old = old} {new = new} {view = view} {x = x} are_bytes agrees h = record {
+  found = λ t. read_found view agrees x (left old) (left new) (are_bytes old t) (h.gives t);
+  taken = h.taken;
+  still_tells = h.still_tells;
+  counts = h.counts;
+  rises = h.rises;
+}
+
+read_shown : {Y : Type 0} {reading : List ℕ → Result (Y × List ℕ) (Refusal × List ℕ)} {Spells : List ℕ → Y → Type 0} {IsFault : List ℕ → Refusal → Type 0} (s : Stop Refusal) (Q : List ℕ → Refusal → Type 0)
+    → Agrees (corrupted UnexpectedEnd) reading Spells IsFault → ((w : List ℕ) (r : Refusal) → IsFault w r → Q w r) → (old new : List ℕ) (count : ℕ) → AllBytes old → Stops s (reading old) new count
+    → TellsStop (corrupted UnexpectedEnd) Q old new count s
+read_shown (Fault f) Q agrees map old new count small h = λ few. record {
+  stands = map old f (agrees.refused old f new small (h few));
+  shows = shows_map (λ c. c) (λ f e. e) old new f map (shows_by agrees old new f small (h few));
+}
+read_shown (Failed kind) Q agrees map old new count small h = tt
+read_shown Short Q agrees map old new count small h = tt
+read_shown Never Q agrees map old new count small h = h
+
+-- a part was refused
+pub finds_read_fails : {S X Y Z : Type 0} {tells : S → Type 0} {left : S → List ℕ} {faults : S → Faults} {old new : S} {i k : ℕ} {view : X → Y} {e : DeserializeError} {reading : List ℕ → Result (Y × List ℕ) (Refusal × List ℕ)} {Spells : List ℕ → Y → Type 0} {IsFault : List ℕ → Refusal → Type 0}
+    (B : List ℕ → Z → Type 0) (Q : List ℕ → Refusal → Type 0) → ((source : S) → tells source → AllBytes (left source)) → Agrees (corrupted UnexpectedEnd) reading Spells IsFault → ((w : List ℕ) (r : Refusal) → IsFault w r → Q w r)
+    → store.TakesBy tells left faults old i new k view (Err e) reading → Finds tells left faults old i new k (Err e) B Q
+finds_read_fails {left = left} {old = old} {new = new} {k = k} {e = e} B Q are_bytes agrees map h = record {
+  found = λ t. read_shown (store_stop e) Q agrees map (left old) (left new) k (are_bytes old t) (h.gives t);
+  taken = h.taken;
+  still_tells = h.still_tells;
+  counts = h.counts;
   rises = h.rises;
 }

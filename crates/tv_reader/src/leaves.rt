@@ -25,6 +25,7 @@ use tv_value::tokenizer::{PreTokenizedString, Token};
 
 /// The least and the largest number of microseconds whose nanoseconds fit 64 bits.
 const LEAST_MICROSECONDS: i64 = -9223372036854775;
+
 const MOST_MICROSECONDS: i64 = 9223372036854775;
 
 // Microseconds as nanoseconds, where these fit.

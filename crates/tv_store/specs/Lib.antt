@@ -1,4 +1,3 @@
-pub mod AreRead
 pub mod Error
 pub mod Stored
 pub mod Reading

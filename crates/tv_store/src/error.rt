@@ -8,7 +8,6 @@ use std::io;
 use thiserror::Error;
 use tv_base::Cause;
 use tv_doc::add_error::AddError;
-
 pub use tv_reader::error::{DeserializeError, ValueType};
 
 /// Why a value or a document couldn't be written.

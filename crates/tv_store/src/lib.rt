@@ -8,7 +8,7 @@ mod pairs;
 pub mod se;
 mod value_writer;
 
-pub use tv_reader::type_codes;
 pub use de::{DocStoreVersion, read_document};
 pub use error::{DeserializeError, SerializeError, ValueType};
 pub use se::BinaryDocumentSerializer;
+pub use tv_reader::type_codes;
