@@ -1,0 +1,5 @@
+pub mod Finding
+pub mod AgreeKinds
+pub mod AgreeLeaves
+pub mod BehindKinds
+pub mod TreeSteps

@@ -1,0 +1,12 @@
+//! Reading values of the document store, of every type.
+#![tactic(auto)]
+
+pub mod error;
+pub mod kinds;
+mod leaves;
+pub mod trees;
+pub mod type_codes;
+pub mod version;
+
+pub use error::{DeserializeError, ValueType};
+pub use version::DocStoreVersion;
