@@ -1,3 +1,4 @@
+mod json_values;
 mod paths;
 mod schema_json;
 mod schemas;

@@ -25,6 +25,8 @@ pub use Rattle.tv_date.specs.Rfc3339
 pub use Rattle.tv_date.specs.Shape as DateShape
 pub use Rattle.tv_date.specs.Printed as DatePrinted
 pub use Rattle.tv_value.specs.Cases
+pub use Rattle.tv_value.specs.IpAddress
+pub use Rattle.tv_value.specs.JsonTree
 pub use Rattle.tv_value.specs.Size
 pub use Rattle.tv_value.specs.Lent
 pub use Rattle.tv_value.specs.Owned
@@ -48,6 +50,9 @@ pub use Rattle.tv_options.specs.Types
 pub use Rattle.tv_schema.specs.Entry
 pub use Rattle.tv_schema.specs.Schema
 pub use Rattle.tv_schema.specs.Path
+pub use Rattle.tv_schema.specs.JsonAnswer
+pub use Rattle.tv_schema.specs.JsonTable
+pub use Rattle.tv_schema.specs.JsonTokens
 pub use Rattle.tv_schema.specs.SchemaJson
 pub use Rattle.tv_schema.specs.SchemaJsonEarly
 pub use Rattle.tv_schema.specs.SchemaJsonOptions
@@ -59,10 +64,12 @@ pub use Rattle.tv_term.specs.Key
 pub use Rattle.tv_term.specs.Reading as TermReading
 pub use Rattle.tv_term.specs.Lending
 -- documents
+pub use Rattle.tv_doc.specs.AdditionError
 pub use Rattle.tv_doc.specs.Additions
 pub use Rattle.tv_doc.specs.Belongs
 pub use Rattle.tv_doc.specs.Document
 pub use Rattle.tv_doc.specs.Held
+pub use Rattle.tv_doc.specs.JsonObject
 pub use Rattle.tv_doc.specs.Reads
 pub use Rattle.tv_doc.specs.Room
 pub use Rattle.tv_doc.specs.TypeCode

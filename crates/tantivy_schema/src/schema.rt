@@ -12,9 +12,12 @@ pub use tv_options::{
     TextFieldIndexing, TextOptions, TextualOptions, TokenizerName, Type, TypeIter,
 };
 pub use tv_schema::{
-    FieldEntry, FieldIter, FieldType, Schema, SchemaBuilder, SchemaError, is_valid_field_name,
+    FieldEntry, FieldIter, FieldType, ParseCause, Schema, SchemaBuilder, SchemaError,
+    ValueParsingError, is_valid_field_name,
 };
 pub use tv_term::{OwnedValueBytes, Term, TermError, ValueBytes};
 pub use tv_value::field::Field;
+pub use tv_value::ip_addr::IntoIpv6Addr;
+pub use tv_value::json_error::JsonError;
 pub use tv_value::owned_value::OwnedValue;
 pub use tv_value::value::Value;

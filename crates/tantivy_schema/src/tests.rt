@@ -3,6 +3,8 @@
 mod agreement;
 mod announced;
 mod heaps;
+mod json_documents;
+mod json_lines;
 mod nested;
 mod readme;
 mod rows;

@@ -1,6 +1,7 @@
 //! Documents, and their form in the store.
 
 pub use tv_doc::add_error::AddError;
+pub use tv_doc::doc_parsing_error::DocParsingError;
 pub use tv_doc::document::{CompactDoc, CompactDoc as TantivyDocument};
 pub use tv_doc::field_values::{FieldValueIterRef, GetAllIter};
 pub use tv_doc::value::{CompactDocArrayIter, CompactDocObjectIter, CompactDocValue};
