@@ -1,3 +1,4 @@
+pub mod Spelled
 pub mod PairLoop
 pub mod Room
 pub mod AgreeDocument

@@ -2,6 +2,7 @@ pub mod AreRead
 pub mod Error
 pub mod Version
 pub mod Stored
+pub mod Serialized
 pub mod Reading
 pub mod Refused
 pub mod Documents

@@ -12,6 +12,9 @@ ghost use Rattle.tv_value.specs.Short.{short_pair, short_document, IsValue};
 ghost use Rattle.tv_value.specs.Version.{V2};
 
 use crate::error::SerializeError;
+pub use crate::serializers::{
+    BinaryArraySerializer, BinaryObjectSerializer, BinaryValueSerializer,
+};
 use crate::value_writer::write_stored;
 use std::io;
 use tv_base::ByteSink;
