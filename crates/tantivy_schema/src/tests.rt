@@ -2,8 +2,11 @@
 
 mod agreement;
 mod announced;
+mod documents;
 mod heaps;
 mod nested;
 mod readme;
+mod repeated;
 mod rows;
+mod serializers;
 mod sources;
