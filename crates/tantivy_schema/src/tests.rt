@@ -2,10 +2,13 @@
 
 mod agreement;
 mod announced;
+mod documents;
 mod heaps;
 mod json_documents;
 mod json_lines;
 mod nested;
 mod readme;
+mod repeated;
 mod rows;
+mod serializers;
 mod sources;

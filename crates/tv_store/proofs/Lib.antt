@@ -1,3 +1,4 @@
+pub mod Spelled
 pub mod Room
 pub mod AgreeField
 pub mod PairSteps

@@ -1,5 +1,6 @@
 pub mod Error
 pub mod Stored
+pub mod Serialized
 pub mod Reading
 pub mod Refused
 pub mod Documents

@@ -6,9 +6,13 @@ pub mod error;
 pub mod laws;
 mod pairs;
 pub mod se;
+mod serializers;
+mod spelling;
 mod value_writer;
 
 pub use de::{DocStoreVersion, read_document};
 pub use error::{DeserializeError, SerializeError, ValueType};
-pub use se::BinaryDocumentSerializer;
+pub use se::{
+    BinaryArraySerializer, BinaryDocumentSerializer, BinaryObjectSerializer, BinaryValueSerializer,
+};
 pub use tv_reader::type_codes;

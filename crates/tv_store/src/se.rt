@@ -14,6 +14,9 @@ ghost use Rattle.tv_value.specs.Short.{short_pair, short_document, IsValue};
 ghost use Rattle.tv_value.specs.Version.{V2};
 
 use crate::error::SerializeError;
+pub use crate::serializers::{
+    BinaryArraySerializer, BinaryObjectSerializer, BinaryValueSerializer,
+};
 use crate::type_codes::{TEXT_CODE, U64_CODE};
 use crate::value_writer::{write_coded_text, write_stored};
 use std::io;

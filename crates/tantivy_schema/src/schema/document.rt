@@ -3,10 +3,12 @@
 pub use tv_doc::add_error::AddError;
 pub use tv_doc::doc_parsing_error::DocParsingError;
 pub use tv_doc::document::{CompactDoc, CompactDoc as TantivyDocument};
+pub use tv_doc::document_trait::Document;
 pub use tv_doc::field_values::{FieldValueIterRef, GetAllIter};
 pub use tv_doc::value::{CompactDocArrayIter, CompactDocObjectIter, CompactDocValue};
 pub use tv_store::{
-    BinaryDocumentSerializer, DeserializeError, SerializeError, ValueType, type_codes,
+    BinaryArraySerializer, BinaryDocumentSerializer, BinaryObjectSerializer, BinaryValueSerializer,
+    DeserializeError, SerializeError, ValueType, type_codes,
 };
 pub use tv_value::leaf::ReferenceValueLeaf;
 pub use tv_value::nested::{Nested, NestedValue, lend};

@@ -1,0 +1,20 @@
+-- What the serializers of values, arrays and objects do.
+use Rattle.std.specs.Prelude.{◌≡◌, ◌-◌, ℕ, List, Result, Ok, Err, IfErr, is_ok, if◌then◌else◌}
+use Rattle.tv_base.specs.Source.{Faults}
+use Rattle.tv_store.specs.Error.{Writes, IsIo}
+use Rattle.tv_store.specs.declared.error.SerializeError.{SerializeError}
+use Rattle.tv_store.specs.declared.error.SerializeError.TheVariants.{TooMany}
+
+-- a refusal, which writes nothing
+abbrev pub Refuses : {S T : Type 0} → SerializeError → S → S → Result T SerializeError → Type 0
+Refuses error old new result = (result ≡ Err error) × (new ≡ old)
+
+-- The text is written where P holds, unless the sink fails, and else it is refused.
+pub record WritesWhere {S T : Type 0} (P : Type 0) (tells : S → Type 0) (held : S → List ℕ) (faults : S → Faults) (old new : S) (result : Result T SerializeError) (text : List ℕ) : Type 0 where
+  pub writes : P → Writes tells held faults old new result (Ok text)
+  pub io : P → IfErr result IsIo
+  pub refuses : ¬ P → Refuses TooMany old new result
+
+-- how many are awaited after a call that gives one
+abbrev pub awaited_after : {T : Type 0} → ℕ → Result T SerializeError → ℕ
+awaited_after n result = if is_ok result then n - 1 else n

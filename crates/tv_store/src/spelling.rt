@@ -1,0 +1,118 @@
+//! Whether values have a spelling.
+
+ghost use Rattle.std.specs.Prelude.{◌+◌, ◌<◌, ◌^◌};
+ghost use Rattle.std.specs.Bool.{MatchBool};
+ghost use Rattle.tv_value.specs.Lent.{leaf_of, nested_tree};
+ghost use Rattle.tv_value.specs.PreTokenized.{text_of, tokens_of};
+ghost use Rattle.tv_value.specs.Short.{AreTokens, IsLeaf, IsText, IsSized, IsValue};
+ghost use Rattle.std.specs.Net.Addr.{ipv6_bits};
+ghost use Rattle.std.specs.Int.{w64};
+ghost use Rattle.std.specs.Prelude.{FitsSigned};
+
+use std::convert::AsStr;
+use std::net::Ipv6Addr;
+use tv_value::laws::pre_tokenized_texts_spell;
+use tv_value::leaf::ReferenceValueLeaf;
+use tv_value::nested::{Nested, NestedValue, lend};
+use tv_value::pre_tokenized::PreTokenizedStr;
+use tv_value::value::Value;
+
+// No more bytes, and no more children, have a spelling.
+const MOST: u64 = 9223372036854775807;
+
+// Whether a text is short enough.
+fn is_text(content: &str) -> bool
+    ensures { MatchBool result (IsText content.now) (¬ IsText content.now) }
+{
+    content.len() as u64 <= MOST
+}
+
+// Whether bytes are few enough.
+fn is_sized(content: &[u8]) -> bool
+    ensures { MatchBool result (IsSized content.now) (¬ IsSized content.now) }
+{
+    content.len() as u64 <= MOST
+}
+
+// Each 64-bit number has a spelling.
+fn is_unsigned(number: u64) -> bool
+    ensures { MatchBool result (number < 2 ^ 64) (¬ (number < 2 ^ 64)) }
+{
+    number <= u64::MAX
+}
+
+// Each signed 64-bit number has a spelling.
+fn is_signed(number: i64) -> bool
+    ensures { MatchBool result (FitsSigned w64 number) (¬ FitsSigned w64 number) }
+{
+    number <= i64::MAX
+}
+
+// Each IP address has a spelling.
+fn is_address(address: Ipv6Addr) -> bool
+    ensures { MatchBool result (ipv6_bits address < 2 ^ 128) (¬ (ipv6_bits address < 2 ^ 128)) }
+{
+    address.to_bits() <= u128::MAX
+}
+
+// Each text with its tokens has a spelling.
+fn is_tokenized(content: PreTokenizedStr<'_>) -> bool
+    ensures { MatchBool result (IsText (text_of content.entry) × AreTokens (tokens_of content.entry)) (¬ (IsText (text_of content.entry) × AreTokens (tokens_of content.entry))) }
+{
+    pre_tokenized_texts_spell();
+    let _content = content;
+    true
+}
+
+// Whether a value without children has a spelling.
+fn is_leaf(value: ReferenceValueLeaf<'_>) -> bool
+    ensures { MatchBool result (IsLeaf (leaf_of value.entry)) (¬ IsLeaf (leaf_of value.entry)) }
+{
+    match value {
+        ReferenceValueLeaf::Null | ReferenceValueLeaf::Bool(_) => true,
+        ReferenceValueLeaf::Str(content) => is_text(content),
+        ReferenceValueLeaf::Facet(content) => is_text(content),
+        ReferenceValueLeaf::Bytes(content) => is_sized(content),
+        ReferenceValueLeaf::U64(number) => is_unsigned(number),
+        ReferenceValueLeaf::I64(number) => is_signed(number),
+        ReferenceValueLeaf::Date(moment) => is_signed(moment.into_timestamp_nanos()),
+        ReferenceValueLeaf::IpAddr(address) => is_address(address),
+        ReferenceValueLeaf::PreTokStr(content) => is_tokenized(content),
+    }
+}
+
+// Whether a value and all its children have one.
+fn is_spelled<N: Nested>(value: NestedValue<'_, N>) -> bool
+    ensures { MatchBool result (IsValue (nested_tree N.array_rest N.object_rest value.entry)) (¬ IsValue (nested_tree N.array_rest N.object_rest value.entry)) }
+{
+    match value {
+        NestedValue::Leaf(leaf) => is_leaf(leaf),
+        NestedValue::Array(items) => {
+            let mut count = 0;
+            for item in items {
+                if count == MOST || !is_spelled(item.as_nested()) {
+                    return false;
+                }
+                count += 1;
+            }
+            true
+        }
+        NestedValue::Object(members) => {
+            let mut count = 0;
+            for (key, item) in members {
+                if count == MOST || !is_text(key.as_str()) || !is_spelled(item.as_nested()) {
+                    return false;
+                }
+                count += 1;
+            }
+            true
+        }
+    }
+}
+
+/// Whether a value has a spelling: no array and no object in it has 2^63 children, and no text and no bytes have that length.
+pub fn has_spelling<'a, V: Value<'a>>(value: &V) -> bool
+    ensures { MatchBool result (IsValue (V.tree value.now)) (¬ IsValue (V.tree value.now)) }
+{
+    is_spelled(lend(value))
+}
