@@ -1,4 +1,4 @@
-//! Tests of `tv_base`, in a crate of their own, so that `tv_base` is proved once.
+//! Tests of `tv_base` and `tv_io`, in a crate of their own, so that these are proved once.
 #![tactic(auto)]
 
 #[cfg(test)]

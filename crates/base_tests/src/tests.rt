@@ -1,3 +1,4 @@
 mod bytes;
 mod facets;
 mod json_paths;
+mod streams;
