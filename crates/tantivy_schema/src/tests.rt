@@ -7,6 +7,7 @@ mod heaps;
 mod json_documents;
 mod json_lines;
 mod nested;
+mod reading;
 mod readme;
 mod repeated;
 mod rows;

@@ -3,3 +3,5 @@ pub mod AgreeKinds
 pub mod AgreeLeaves
 pub mod BehindKinds
 pub mod TreeSteps
+pub mod SameTypes
+pub mod TypedSteps

@@ -7,3 +7,4 @@ pub mod Finds
 pub mod LeafBodies
 pub mod Trees
 pub mod Counts
+pub mod Typed
