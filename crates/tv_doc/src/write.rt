@@ -18,35 +18,11 @@ use crate::value_type::ValueType;
 use std::alloc::AllocError;
 use std::convert::AsStr;
 use std::net::Ipv6Addr;
-use tv_base::vint::VInt;
 use tv_value::laws::pre_tokenized_texts_spell;
 use tv_value::leaf::ReferenceValueLeaf;
 use tv_value::nested::{Nested, NestedValue};
-use tv_value::pre_tokenized::{PreTokenizedStr, TokenRef};
-
-// Adds the shortest spelling of a number.
-#[inline]
-fn push_number(heap: &mut Vec<u8>, number: u64) -> Result<(), AllocError>
-    ensures ok { OnOk result (heap.new.items ≡ heap.old.items ++ vnum number) }
-    ensures err { OnErr result (IsFront heap.old.items heap.new.items) }
-{
-    if number < 128 {
-        heap.push(number as u8 + 128)?;
-        return Ok(());
-    }
-    let (bytes, len) = VInt(number).spelling();
-    heap.extend_from_slice(&bytes[..len])
-}
-
-// Adds the length of some bytes, and the bytes.
-#[inline]
-fn push_sized(heap: &mut Vec<u8>, content: &[u8]) -> Result<(), AllocError>
-    ensures ok { OnOk result (heap.new.items ≡ heap.old.items ++ short_sized content.now) }
-    ensures err { OnErr result (IsFront heap.old.items heap.new.items) }
-{
-    push_number(heap, content.len() as u64)?;
-    heap.extend_from_slice(content)
-}
+use tv_value::pre_tokenized::PreTokenizedStr;
+use tv_value::spell::{push_number, push_sized, push_token};
 
 // Adds the eight bytes of a number, the lowest first.
 #[inline]
@@ -65,18 +41,6 @@ fn push_sixteen(heap: &mut Vec<u8>, number: u128) -> Result<(), AllocError>
     ensures err { OnErr result (heap.new.items ≡ heap.old.items) }
 {
     heap.extend_from_slice(&number.to_le_bytes())
-}
-
-// Adds the shortest spelling of a token.
-fn push_token(heap: &mut Vec<u8>, token: TokenRef<'_>) -> Result<(), AllocError>
-    ensures ok { OnOk result (heap.new.items ≡ heap.old.items ++ short_token (ref_of token.entry)) }
-    ensures err { OnErr result (IsFront heap.old.items heap.new.items) }
-{
-    push_number(heap, token.offset_from as u64)?;
-    push_number(heap, token.offset_to as u64)?;
-    push_number(heap, token.position as u64)?;
-    push_sized(heap, token.text.as_bytes())?;
-    push_number(heap, token.position_length as u64)
 }
 
 // The first place of a child makes room for so many bytes of places.

@@ -1,9 +1,11 @@
 -- Texts with their tokens, as JSON objects. Keys that aren't asked for are ignored.
-use Rattle.std.specs.Prelude.{ℕ, List, [], ◌∷◌, ◌≡◌, Bool, true, false, Result, Ok, Err, Option, Some, None, option_map, option_and_then, codes}
+use Rattle.std.specs.Prelude.{ℕ, List, [], ◌∷◌, ◌++◌, ◌≡◌, Bool, true, false, Result, Ok, Err, Option, Some, None, option_map, option_and_then, codes}
 use Rattle.serde_json.specs.Data as json
 use Rattle.serde_json.specs.Data.{Data, Items, Members}
 use Rattle.serde_json.specs.Find.{get, as_str, as_array, as_number, as_u64}
 use Rattle.tv_date.specs.Rfc3339.{◌>>=◌}
+use Rattle.std.specs.List.{AllByRecursion, flat_map}
+use Rattle.tv_value.specs.Short.{short_token, short_tokenized, IsText, IsToken, AreTokens}
 use Rattle.tv_value.specs.Tree.{Token, Leaf, tokenized}
 
 -- the text at a key
@@ -35,14 +37,21 @@ tokenized_in d = do
   items ← option_and_then as_array (get (codes "tokens") d)
   option_map (tokenized content) (tokens_in items)
 
--- whether the items are tokens, and these then
-abbrev pub AreRead : {E : Type 0} → Items → List Token → Result Bool E → Type 0
-AreRead items tokens (Ok true) = tokens_in items ≡ Some tokens
-AreRead items tokens (Ok false) = tokens_in items ≡ None
-AreRead items tokens (Err e) = Unit {0}
+-- whether the value is a token, whose shortest spelling then is added
+abbrev pub IsTokenSpelled : {E : Type 0} → Data → List ℕ → List ℕ → Result Bool E → Type 0
+IsTokenSpelled d old new (Ok true) = (t : Token) × (token_in d ≡ Some t) × IsToken t × (new ≡ old ++ short_token t)
+IsTokenSpelled d old new (Ok false) = token_in d ≡ None
+IsTokenSpelled d old new (Err e) = Unit {0}
 
--- whether the value is a text with tokens, and this text and these tokens then
-abbrev pub IsRead : {E : Type 0} → Data → List ℕ → List Token → Result Bool E → Type 0
-IsRead d content tokens (Ok true) = tokenized_in d ≡ Some (tokenized content tokens)
-IsRead d content tokens (Ok false) = tokenized_in d ≡ None
-IsRead d content tokens (Err e) = Unit {0}
+-- whether the items are tokens, whose shortest spellings then are added
+abbrev pub AreTokensSpelled : {E : Type 0} → Items → List ℕ → List ℕ → Result Bool E → Type 0
+AreTokensSpelled items old new (Ok true) = (ts : List Token) × (tokens_in items ≡ Some ts) × AllByRecursion IsToken ts × (new ≡ old ++ flat_map short_token ts)
+AreTokensSpelled items old new (Ok false) = tokens_in items ≡ None
+AreTokensSpelled items old new (Err e) = Unit {0}
+
+-- whether the value is a text with tokens, whose shortest spelling these bytes then are
+abbrev pub IsSpelled : {E : Type 0} → Data → List ℕ → Result Bool E → Type 0
+IsSpelled d spelled (Ok true) =
+    (content : List ℕ) × (ts : List Token) × (tokenized_in d ≡ Some (tokenized content ts)) × IsText content × AreTokens ts × (spelled ≡ short_tokenized content ts)
+IsSpelled d spelled (Ok false) = tokenized_in d ≡ None
+IsSpelled d spelled (Err e) = Unit {0}

@@ -1,16 +1,15 @@
 //! Texts with their tokens, read from JSON objects.
 
-ghost use Rattle.std.specs.Prelude.{◌≡◌, None, Some, List, ℕ, map, option_map, option_and_then, string_bytes};
+ghost use Rattle.std.specs.Prelude.{◌≡◌, option_map, option_and_then};
 ghost use Rattle.serde_json.specs.View.{view as data_of, items_view};
 ghost use Rattle.serde_json.specs.Find.{as_array, get};
-ghost use Rattle.tv_value.specs.HeldTokens.{token_of};
 ghost use Rattle.tv_value.specs.TokenRef.{ref_of};
-ghost use Rattle.tv_schema.specs.JsonTokens.{number_at as number_at_key, text_at as text_at_key, token_in, AreRead, IsRead};
+ghost use Rattle.tv_schema.specs.JsonTokens.{number_at as number_at_key, text_at as text_at_key, token_in, IsTokenSpelled, AreTokensSpelled, IsSpelled};
 
 use serde_json::Value;
-use std::alloc::{AllocError, Global};
-use tv_value::pre_tokenized::{TokenRef, owned_token};
-use tv_value::tokenizer::{PreTokenizedString, Token};
+use std::alloc::AllocError;
+use tv_value::pre_tokenized::TokenRef;
+use tv_value::spell::{push_number, push_text, push_token};
 
 // The whole number at a key.
 fn number_at(json: &Value, key: &str) -> Option<u64>
@@ -47,32 +46,37 @@ fn token_at(json: &Value) -> Option<TokenRef<'_>>
     })
 }
 
-// Reads the tokens, in place of those that are there. Answers whether each item is one.
-fn read_tokens(
-    alloc: Global,
-    items: &Vec<Value>,
-    tokens: &mut Vec<Token>,
-) -> Result<bool, AllocError>
-    ensures { AreRead (items_view items.now.items) (map token_of tokens.new.items) result }
+// Adds the spelling of a token. Answers whether the value is one.
+fn push_json_token(bytes: &mut Vec<u8>, json: &Value) -> Result<bool, AllocError>
+    ensures { IsTokenSpelled (data_of json.now) bytes.old.items bytes.new.items result }
 {
-    tokens.clear();
+    match token_at(json) {
+        Some(token) => {
+            push_token(bytes, token)?;
+            Ok(true)
+        }
+        None => Ok(false),
+    }
+}
+
+// Adds the spellings of tokens. Answers whether each item is one.
+fn push_json_tokens(bytes: &mut Vec<u8>, items: &Vec<Value>) -> Result<bool, AllocError>
+    ensures { AreTokensSpelled (items_view items.now.items) bytes.old.items bytes.new.items result }
+{
     for item in items {
-        let Some(token) = token_at(item) else {
+        let is_token = push_json_token(bytes, item)?;
+        if !is_token {
             return Ok(false);
-        };
-        tokens.push(owned_token(token, alloc)?)?;
+        }
     }
     Ok(true)
 }
 
-/// Reads a text with its tokens, in place of what is there. Answers whether the value is one. Errors: memory was refused.
+/// Writes the spelling of a text with its tokens, in place of what is there. Answers whether the value is one. Errors: memory was
+/// refused.
 #[tactic(auto, unfolding(crate::specs::JsonTokens::tokenized_in))]
-pub fn read_tokenized(
-    alloc: Global,
-    json: &Value,
-    out: &mut PreTokenizedString,
-) -> Result<bool, AllocError>
-    ensures { IsRead (data_of json.now) (string_bytes out.new.text) (map token_of out.new.tokens.items) result }
+pub fn spell_tokenized(json: &Value, bytes: &mut Vec<u8>) -> Result<bool, AllocError>
+    ensures { IsSpelled (data_of json.now) bytes.new.items result }
 {
     let Some(content) = text_at(json, "text") else {
         return Ok(false);
@@ -80,7 +84,8 @@ pub fn read_tokenized(
     let Some(items) = items_at(json, "tokens") else {
         return Ok(false);
     };
-    out.text.clear();
-    out.text.push_str(content)?;
-    read_tokens(alloc, items, &mut out.tokens)
+    bytes.clear();
+    push_text(bytes, content)?;
+    push_number(bytes, items.len() as u64)?;
+    push_json_tokens(bytes, items)
 }

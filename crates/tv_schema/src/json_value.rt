@@ -8,7 +8,7 @@ ghost use Rattle.tv_schema.specs.JsonTokens.{tokenized_in};
 ghost use Rattle.tv_schema.specs.JsonAnswer.{Lends, LendsLeaf, Answers};
 
 use crate::field_type::FieldType;
-use crate::json_tokens::read_tokenized;
+use crate::json_tokens::spell_tokenized;
 use crate::value_parsing_error::{ParseCause, ValueParsingError};
 use base64::DecodeAllocError;
 use base64::engine::general_purpose::STANDARD;
@@ -24,29 +24,21 @@ use tv_value::json::{LentJson, has_float};
 use tv_value::leaf::ReferenceValueLeaf;
 use tv_value::owned_value::OwnedValue;
 use tv_value::pre_tokenized::PreTokenizedStr;
-use tv_value::tokenizer::PreTokenizedString;
 
 /// Where texts and bytes are written that a field's value has and its JSON value hasn't. (Own.) One serves any number of values,
 /// one after the other.
 #[derive(Drop)]
 pub struct JsonScratch {
-    alloc: Global,
     text: String,
     bytes: Vec<u8>,
-    tokenized: PreTokenizedString,
 }
 
 impl JsonScratch {
     /// Takes no memory.
     pub fn new(alloc: Global) -> JsonScratch {
         JsonScratch {
-            alloc,
             text: String::new(alloc),
             bytes: Vec::new(alloc),
-            tokenized: PreTokenizedString {
-                text: String::new(alloc),
-                tokens: Vec::new(alloc),
-            },
         }
     }
 }
@@ -252,18 +244,21 @@ fn lend_object(json: &Value) -> Result<LentFieldValue<'_>, JsonRefusal>
     }
 }
 
-// A text with its tokens.
+// A text with its tokens, lent from its spelling.
 fn lend_tokenized<'a>(
-    alloc: Global,
     json: &Value,
-    out: &'a mut PreTokenizedString,
+    bytes: &'a mut Vec<u8>,
 ) -> Result<ReferenceValueLeaf<'a>, JsonRefusal>
     ensures { LendsLeaf (data_of json.now) (λ o. o ≡ leaf_or (tokenized_in (data_of json.now)) (mismatch (codes "a string or an pretokenized string") (data_of json.now))) result }
 {
-    if !read_tokenized(alloc, json, out)? {
+    let is_tokenized = spell_tokenized(json, bytes)?;
+    if !is_tokenized {
         return Err(JsonRefusal::Mismatch("a string or an pretokenized string"));
     }
-    Ok(ReferenceValueLeaf::PreTokStr(PreTokenizedStr::from_string(out)))
+    match PreTokenizedStr::from_payload(bytes.as_slice()) {
+        Some((text, _)) => Ok(ReferenceValueLeaf::PreTokStr(text)),
+        None => unreachable!(),
+    }
 }
 
 // A value of a field of texts.
@@ -276,7 +271,7 @@ fn lend_str<'a>(
 {
     match json {
         Value::String(text) => Ok(ReferenceValueLeaf::Str(text.as_str())),
-        Value::Object(_) => lend_tokenized(scratch.alloc, json, &mut scratch.tokenized),
+        Value::Object(_) => lend_tokenized(json, &mut scratch.bytes),
         Value::Number(number) if coerce => lend_decimal(number, &mut scratch.text),
         Value::Bool(true) if coerce => Ok(ReferenceValueLeaf::Str("true")),
         Value::Bool(false) if coerce => Ok(ReferenceValueLeaf::Str("false")),

@@ -13,6 +13,7 @@ pub mod nested;
 pub mod owned_value;
 pub mod pre_tokenized;
 pub mod same;
+pub mod spell;
 pub mod tokenizer;
 pub mod value;
 

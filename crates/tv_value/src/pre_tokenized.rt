@@ -120,7 +120,7 @@ impl<'a> PreTokenizedStr<'a> {
     {
         let mut tokens = Vec::new(alloc);
         for token in self.tokens {
-            tokens.push(owned_token(token, alloc)?)?;
+            tokens.push(owned(token, alloc)?)?;
         }
         let text = String::from_str(alloc, self.text)?;
         Ok(PreTokenizedString { text, tokens })
@@ -140,8 +140,8 @@ fn lent(token: &Token) -> TokenRef<'_>
     }
 }
 
-/// A copy of a lent token, that owns its text. (Own.) The only error is that memory was refused.
-pub fn owned_token(token: TokenRef<'_>, alloc: Global) -> Result<Token, AllocError>
+// A lent token, copied.
+fn owned(token: TokenRef<'_>, alloc: Global) -> Result<Token, AllocError>
     ensures { IfOk result (λ copy. token_of copy ≡ ref_of token.entry) }
 {
     Ok(Token {

@@ -1,0 +1,120 @@
+//! The calls that are measured.
+
+use crate::input::{Input, Pair, stored};
+use anyhow::Result;
+use std::alloc::Global;
+use tantivy_schema::common::SliceSource;
+use tantivy_schema::schema::document::{AddError, CompactDoc};
+use tantivy_schema::store::{DocStoreVersion, read_document};
+
+/// A call that is made for each document.
+#[derive(Clone, Copy)]
+pub enum Call {
+    /// From JSON to a document.
+    ParseJson,
+    /// From a document to stored bytes.
+    Serialize,
+    /// From stored bytes to a document.
+    Deserialize,
+    /// From values to a document.
+    Add,
+}
+
+/// What a round did: for how many documents the call was made, how many it can't be made for yet, and how many bytes the answers
+/// have, so that no answer goes unused.
+#[derive(Clone, Copy)]
+pub struct Round {
+    pub calls: u32,
+    pub left_out: u32,
+    pub bytes: usize,
+}
+
+impl Round {
+    pub fn new() -> Round {
+        Round {
+            calls: 0,
+            left_out: 0,
+            bytes: 0,
+        }
+    }
+
+    fn made(&mut self, bytes: usize) {
+        self.calls = self.calls.saturating_add(1);
+        self.bytes = self.bytes.saturating_add(bytes);
+    }
+
+    fn left_out(&mut self) {
+        self.left_out = self.left_out.saturating_add(1);
+    }
+}
+
+impl Call {
+    pub const ALL: [Call; 4] = [Call::ParseJson, Call::Serialize, Call::Deserialize, Call::Add];
+
+    /// The name under which it is told.
+    pub fn name(self) -> &'static str {
+        match self {
+            Call::ParseJson => "parse_json",
+            Call::Serialize => "serialize",
+            Call::Deserialize => "deserialize",
+            Call::Add => "add",
+        }
+    }
+
+    /// Makes the call for each document.
+    pub fn for_each(self, alloc: Global, input: &Input) -> Result<Round> {
+        match self {
+            Call::ParseJson => parse_each(alloc, input),
+            Call::Serialize => serialize_each(alloc, input),
+            Call::Deserialize => deserialize_each(alloc, input),
+            Call::Add => add_each(alloc, input),
+        }
+    }
+}
+
+fn parse_each(alloc: Global, input: &Input) -> Result<Round> {
+    let mut round = Round::new();
+    for line in &input.lines {
+        if let Ok(document) = CompactDoc::parse_json(alloc, &input.schema, line.as_str()) {
+            round.made(document.node_data().len());
+        }
+    }
+    Ok(round)
+}
+
+fn serialize_each(alloc: Global, input: &Input) -> Result<Round> {
+    let mut round = Round::new();
+    for document in &input.documents {
+        round.made(stored(alloc, &input.schema, document)?.len());
+    }
+    Ok(round)
+}
+
+fn deserialize_each(alloc: Global, input: &Input) -> Result<Round> {
+    let mut round = Round::new();
+    for bytes in &input.stored {
+        let mut source = SliceSource::new(bytes.as_slice());
+        match read_document(alloc, &mut source, DocStoreVersion::V2) {
+            Ok(document) => round.made(document.node_data().len()),
+            Err(_) => round.left_out(),
+        }
+    }
+    Ok(round)
+}
+
+fn add_each(alloc: Global, input: &Input) -> Result<Round> {
+    let mut round = Round::new();
+    for pairs in &input.pairs {
+        round.made(document_of(alloc, pairs.as_slice())?.node_data().len());
+    }
+    Ok(round)
+}
+
+#[inline(never)]
+fn document_of(alloc: Global, pairs: &[Pair]) -> Result<CompactDoc, AddError> {
+    let mut document = CompactDoc::new(alloc);
+    for pair in pairs {
+        document.add_field_value(pair.field, &&pair.value)?;
+    }
+    Ok(document)
+}

@@ -1,0 +1,66 @@
+//! Measures the calls that a document store makes most, on a schema and documents that it is given.
+//!
+//! Standard input holds the schema as JSON on its first line, and a document as JSON on each other line. Standard output tells how
+//! many documents were accepted, how many bytes of JSON these have, and how many stored bytes. With the arguments `time N` standard
+//! error tells for each call how many nanoseconds a document takes: the mean over N rounds, and that of the best round.
+#![tactic(auto)]
+
+mod calls;
+mod input;
+
+use crate::calls::{Call, Round};
+use crate::input::Input;
+use anyhow::{Context, Result};
+use std::env;
+use std::rt::Runtime;
+use std::time::Instant;
+
+fn main(rt: HostRuntime) -> Result<()> {
+    let input = Input::read(&rt)?;
+    let documents = input.documents.len();
+    let json_len = input.json_len();
+    let stored_len = input.stored_len();
+    println!(rt; "{documents} accepted documents, {json_len} bytes of JSON, {stored_len} stored bytes")?;
+    if let Some(rounds) = rounds_wanted(&rt)? {
+        for call in Call::ALL {
+            measure(&rt, &input, call, rounds)?;
+        }
+    }
+    Ok(())
+}
+
+/// How many rounds the arguments `time N` ask for.
+fn rounds_wanted(rt: &impl Runtime) -> Result<Option<u32>> {
+    let mut words = env::args(rt)?.skip(1);
+    let Some(first) = words.next() else {
+        return Ok(None);
+    };
+    if first.as_str() != "time" {
+        return Ok(None);
+    }
+    let number = words.next().context("how many rounds?")?;
+    Ok(Some(number.as_str().parse::<u32>().ok().context("a number of rounds")?))
+}
+
+/// Makes the call for each document, in so many rounds, and tells what a document takes.
+fn measure(rt: &impl Runtime, input: &Input, call: Call, rounds: u32) -> Result<()> {
+    let mut total: u128 = 0;
+    let mut best = u128::MAX;
+    let mut done = Round::new();
+    for _ in 0..rounds {
+        let start = Instant::now(rt)?;
+        done = call.for_each(rt.alloc(), input)?;
+        let nanos = start.elapsed(rt)?.as_nanos();
+        total = total.saturating_add(nanos);
+        best = best.min(nanos);
+    }
+    let calls = u128::from(done.calls).max(1);
+    let mean = total / u128::from(rounds).max(1) / calls;
+    let best = best / calls;
+    let name = call.name();
+    eprintln!(rt; "{name} {mean} ns/doc (best round {best}), {} bytes", done.bytes)?;
+    if done.left_out > 0 {
+        eprintln!(rt; "{name} left out {} documents", done.left_out)?;
+    }
+    Ok(())
+}
