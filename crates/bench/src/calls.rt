@@ -1,6 +1,6 @@
 //! The calls that are measured.
 
-use crate::input::{Input, Pair, stored};
+use crate::workload::{Workload, Pair, stored};
 use anyhow::Result;
 use std::alloc::Global;
 use tantivy_schema::common::SliceSource;
@@ -62,37 +62,37 @@ impl Call {
     }
 
     /// Makes the call for each document.
-    pub fn for_each(self, alloc: Global, input: &Input) -> Result<Round> {
+    pub fn for_each(self, alloc: Global, workload: &Workload) -> Result<Round> {
         match self {
-            Call::ParseJson => parse_each(alloc, input),
-            Call::Serialize => serialize_each(alloc, input),
-            Call::Deserialize => deserialize_each(alloc, input),
-            Call::Add => add_each(alloc, input),
+            Call::ParseJson => parse_each(alloc, workload),
+            Call::Serialize => serialize_each(alloc, workload),
+            Call::Deserialize => deserialize_each(alloc, workload),
+            Call::Add => add_each(alloc, workload),
         }
     }
 }
 
-fn parse_each(alloc: Global, input: &Input) -> Result<Round> {
+fn parse_each(alloc: Global, workload: &Workload) -> Result<Round> {
     let mut round = Round::new();
-    for line in &input.lines {
-        if let Ok(document) = CompactDoc::parse_json(alloc, &input.schema, line.as_str()) {
+    for line in &workload.lines {
+        if let Ok(document) = CompactDoc::parse_json(alloc, &workload.schema, line.as_str()) {
             round.made(document.node_data().len());
         }
     }
     Ok(round)
 }
 
-fn serialize_each(alloc: Global, input: &Input) -> Result<Round> {
+fn serialize_each(alloc: Global, workload: &Workload) -> Result<Round> {
     let mut round = Round::new();
-    for document in &input.documents {
-        round.made(stored(alloc, &input.schema, document)?.len());
+    for document in &workload.documents {
+        round.made(stored(alloc, &workload.schema, document)?.len());
     }
     Ok(round)
 }
 
-fn deserialize_each(alloc: Global, input: &Input) -> Result<Round> {
+fn deserialize_each(alloc: Global, workload: &Workload) -> Result<Round> {
     let mut round = Round::new();
-    for bytes in &input.stored {
+    for bytes in &workload.stored {
         let mut source = SliceSource::new(bytes.as_slice());
         match read_document(alloc, &mut source, DocStoreVersion::V2) {
             Ok(document) => round.made(document.node_data().len()),
@@ -102,9 +102,9 @@ fn deserialize_each(alloc: Global, input: &Input) -> Result<Round> {
     Ok(round)
 }
 
-fn add_each(alloc: Global, input: &Input) -> Result<Round> {
+fn add_each(alloc: Global, workload: &Workload) -> Result<Round> {
     let mut round = Round::new();
-    for pairs in &input.pairs {
+    for pairs in &workload.pairs {
         round.made(document_of(alloc, pairs.as_slice())?.node_data().len());
     }
     Ok(round)

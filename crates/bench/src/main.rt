@@ -6,31 +6,31 @@
 #![tactic(auto)]
 
 mod calls;
-mod input;
+mod workload;
 
 use crate::calls::{Call, Round};
-use crate::input::Input;
+use crate::workload::Workload;
 use anyhow::{Context, Result};
 use std::env;
-use std::rt::Runtime;
+use std::rt::{Clock, Env};
 use std::time::Instant;
 
 fn main(rt: HostRuntime) -> Result<()> {
-    let input = Input::read(&rt)?;
-    let documents = input.documents.len();
-    let json_len = input.json_len();
-    let stored_len = input.stored_len();
+    let workload = Workload::read(&rt)?;
+    let documents = workload.documents.len();
+    let json_len = workload.json_len();
+    let stored_len = workload.stored_len();
     println!(rt; "{documents} accepted documents, {json_len} bytes of JSON, {stored_len} stored bytes")?;
     if let Some(rounds) = rounds_wanted(&rt)? {
         for call in Call::ALL {
-            measure(&rt, &input, call, rounds)?;
+            measure(&rt, &workload, call, rounds)?;
         }
     }
     Ok(())
 }
 
 /// How many rounds the arguments `time N` ask for.
-fn rounds_wanted(rt: &impl Runtime) -> Result<Option<u32>> {
+fn rounds_wanted(rt: &(impl Env + AllocGlobal)) -> Result<Option<u32>> {
     let mut words = env::args(rt)?.skip(1);
     let Some(first) = words.next() else {
         return Ok(None);
@@ -43,13 +43,18 @@ fn rounds_wanted(rt: &impl Runtime) -> Result<Option<u32>> {
 }
 
 /// Makes the call for each document, in so many rounds, and tells what a document takes.
-fn measure(rt: &impl Runtime, input: &Input, call: Call, rounds: u32) -> Result<()> {
+fn measure(
+    rt: &(impl Clock + Eprint + AllocGlobal),
+    workload: &Workload,
+    call: Call,
+    rounds: u32,
+) -> Result<()> {
     let mut total: u128 = 0;
     let mut best = u128::MAX;
     let mut done = Round::new();
     for _ in 0..rounds {
         let start = Instant::now(rt)?;
-        done = call.for_each(rt.alloc(), input)?;
+        done = call.for_each(rt.alloc(), workload)?;
         let nanos = start.elapsed(rt)?.as_nanos();
         total = total.saturating_add(nanos);
         best = best.min(nanos);

@@ -3,7 +3,6 @@
 use anyhow::{Context, Result};
 use std::alloc::Global;
 use std::io::{BufRead, BufReader};
-use std::rt::Runtime;
 use tantivy_schema::common::VecSink;
 use tantivy_schema::schema::document::{BinaryDocumentSerializer, CompactDoc, OwnedValue};
 use tantivy_schema::schema::{Field, Schema};
@@ -17,7 +16,7 @@ pub struct Pair {
 
 /// A schema, and the documents that it accepts: as JSON, as documents, as lists of pairs, and as stored bytes.
 #[derive(Drop)]
-pub struct Input {
+pub struct Workload {
     pub schema: Schema,
     pub lines: Vec<String>,
     pub documents: Vec<CompactDoc>,
@@ -25,14 +24,14 @@ pub struct Input {
     pub stored: Vec<Vec<u8>>,
 }
 
-impl Input {
+impl Workload {
     /// Reads a schema and documents from standard input. A line that is refused is left out.
-    pub fn read(rt: &impl Runtime) -> Result<Input> {
+    pub fn read(rt: &(impl Input + AllocGlobal)) -> Result<Workload> {
         let alloc = rt.alloc();
         let mut lines = BufReader::new(alloc, rt.reader())?.lines(alloc);
         let first = lines.next().context("a schema on the first line")??;
         let json = serde_json::Value::from_str(alloc, first.as_str())?;
-        let mut input = Input {
+        let mut workload = Workload {
             schema: Schema::from_json_value(alloc, &json)?,
             lines: Vec::new(alloc),
             documents: Vec::new(alloc),
@@ -40,9 +39,9 @@ impl Input {
             stored: Vec::new(alloc),
         };
         for line in lines {
-            input.keep(alloc, line?)?;
+            workload.keep(alloc, line?)?;
         }
-        Ok(input)
+        Ok(workload)
     }
 
     fn keep(&mut self, alloc: Global, line: String) -> Result<()> {
