@@ -22,40 +22,55 @@ fn is_text(alloc: Global, json: &str, text: &str) -> Result<bool, Fail> {
     Ok(value.as_str() == Some(text) && pairs.next().is_none())
 }
 
-// Whether the object is refused for a value that isn't of the type with this name.
-fn is_of_another_kind(alloc: Global, json: &str, wanted: &str) -> Result<bool, Fail> {
-    let refused = CompactDoc::parse_json(alloc, &coerced_texts(alloc)?, json);
-    let Err(DocParsingError::ValueError(name, ValueParsingError::TypeError { expected, .. })) =
-        refused
-    else {
-        return Ok(false);
-    };
-    Ok(name.as_str() == "id" && expected == wanted)
+// Whether the value of the field was refused because one of another kind is wanted.
+fn wants(error: &DocParsingError, wanted: &str) -> bool {
+    match error {
+        DocParsingError::ValueError(name, ValueParsingError::TypeError { expected, .. }) => {
+            name.as_str() == "id" && *expected == wanted
+        }
+        _ => false,
+    }
+}
+
+// Whether the value of a field was refused because its number isn't whole.
+fn is_float(error: &DocParsingError) -> bool {
+    matches!(
+        error,
+        DocParsingError::ValueError(_, ValueParsingError::FloatNumber)
+    )
+}
+
+// Whether the text was refused as no JSON object that starts like this.
+fn is_no_object(error: &DocParsingError, start: &str) -> bool {
+    match error {
+        DocParsingError::InvalidJson(text) => text.as_str() == start,
+        _ => false,
+    }
+}
+
+// What the object is refused for.
+fn refusal(alloc: Global, json: &str) -> Result<DocParsingError, Fail> {
+    match CompactDoc::parse_json(alloc, &coerced_texts(alloc)?, json) {
+        Ok(_) => Err(Fail::from("a refusal")),
+        Err(error) => Ok(error),
+    }
 }
 
 #[test]
 fn takes_values_for_texts(rt: HostRuntime) -> Result<(), Fail> {
     let alloc = rt.alloc();
     assert!(rt; is_text(alloc, r#"{"id":100,"x":1.5,"id":true}"#, "true")?);
-    assert!(rt; is_of_another_kind(alloc, r#"{"id":[["a"]]}"#, "Str")?);
+    assert!(rt; wants(&refusal(alloc, r#"{"id":[["a"]]}"#)?, "Str"));
+    assert!(rt; is_float(&refusal(alloc, r#"{"id":1.5}"#)?));
     let schema = coerced_texts(alloc)?;
     assert!(rt; CompactDoc::parse_json(alloc, &schema, r#"{"id":[]}"#)?.is_empty());
-    let refused = CompactDoc::parse_json(alloc, &schema, r#"{"id":1.5}"#);
-    let Err(DocParsingError::ValueError(_, reason)) = refused else {
-        return Err(Fail::from("a refusal"));
-    };
-    assert!(rt; matches!(reason, ValueParsingError::FloatNumber));
     Ok(())
 }
 
 #[test]
 fn tells_the_start_of_what_is_no_object(rt: HostRuntime) -> Result<(), Fail> {
-    let alloc = rt.alloc();
-    let schema = coerced_texts(alloc)?;
-    let refused = CompactDoc::parse_json(alloc, &schema, "シャボン玉シャボン玉シャボン玉シャボン玉玉");
-    let Err(DocParsingError::InvalidJson(start)) = refused else {
-        return Err(Fail::from("a refusal"));
-    };
-    assert!(rt; start.as_str() == "シャボン玉シャボン玉シャボン玉シャボン玉");
+    let text = "シャボン玉シャボン玉シャボン玉シャボン玉玉";
+    let start = "シャボン玉シャボン玉シャボン玉シャボン玉";
+    assert!(rt; is_no_object(&refusal(rt.alloc(), text)?, start));
     Ok(())
 }
