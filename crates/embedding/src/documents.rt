@@ -1,19 +1,20 @@
 //! Documents on their way through the store.
 
-ghost use Rattle.std.specs.Prelude.{◌≡◌, ◌≤◌, ◌++◌, Ok, IfErr, IsErrOf, IsTrue, List, ℕ};
+ghost use Rattle.std.specs.Prelude.{◌≡◌, ◌≤◌, ◌++◌, Ok, IfErr, IsErrOf, List, ℕ};
 ghost use Rattle.tantivy_schema.specs.Belongs.{Belongs};
-ghost use Rattle.tantivy_schema.specs.CodeTypes.Cause.{Cause};
-ghost use Rattle.tantivy_schema.specs.CodeTypes.DeserializeError.TheVariants.{CorruptedValue};
+ghost use Rattle.tantivy_schema.specs.CodeTypes.DeserializeError.{DeserializeError};
+ghost use Rattle.tantivy_schema.specs.CodeTypes.DeserializeError.TheVariants.{HeapFull};
 ghost use Rattle.tantivy_schema.specs.Document.{document_of};
-ghost use Rattle.tantivy_schema.specs.Documents.{Answers, ShowsCause, Tells};
-ghost use Rattle.tantivy_schema.specs.AreRead.{are_read};
+ghost use Rattle.tantivy_schema.specs.Documents.{Answers, NoDocument, HasNoRoom, ShowsRefusal, IsRefusal, IsReadingError};
+ghost use Rattle.tantivy_schema.specs.Fault.{Refusal};
 ghost use Rattle.tantivy_schema.specs.ReadsAs.{Known};
 ghost use Rattle.tantivy_schema.specs.Room.{document_room};
 ghost use Rattle.tantivy_schema.specs.Short.{short_document};
 ghost use Rattle.tantivy_schema.specs.Spelling.{SpellsDocument, NoLegacy};
 ghost use Rattle.tantivy_schema.specs.Stop.{Counts};
 ghost use Rattle.tantivy_schema.specs.Stored.{stored};
-ghost use Rattle.tantivy_schema.specs.StoreError.{IsIo, Writes, store_stop};
+ghost use Rattle.tantivy_schema.specs.StoreError.{IsIo, Writes};
+ghost use Rattle.tantivy_schema.specs.ReaderError.{store_stop};
 ghost use Rattle.tantivy_schema.specs.Tree.{Document};
 ghost use Rattle.tantivy_schema.specs.Version.{V2};
 
@@ -43,15 +44,17 @@ pub fn store_document<K: ByteSink>(
 
 /// Reads a document from a source.
 ///
-/// Where a front of the bytes spells a document of texts and numbers that has room, it is the answer, and what follows it is
-/// left. Errors: `CorruptedValue` and `HeapFull` where they are true of the bytes, `Io` where the source failed, `Memory`.
+/// Where a front of the bytes spells a document that has room, it is the answer, and what follows it is left. Errors:
+/// `CorruptedValue`, `TypeMismatch` and `HeapFull` where they are true of the bytes, `Io` where the source failed, `Memory`.
 pub fn fetch_document<S: ByteSource>(
     alloc: Global,
     source: &mut S,
 ) -> Result<TantivyDocument, DeserializeError>
-    ensures only { Known S.tells S.left source.old → (d : Document) (front rest : List ℕ) → S.left source.old ≡ front ++ rest → SpellsDocument NoLegacy V2 front d → IsTrue (are_read d) → document_room d ≤ 4294967295 → Answers result d rest (S.left source.new) }
-    ensures tells { Known S.tells S.left source.old → IfErr result (Tells V2 (S.left source.old)) }
-    ensures shows { Known S.tells S.left source.old → (c : Cause) → IsErrOf result (CorruptedValue c) → ShowsCause V2 (S.left source.old) (S.left source.new) c }
+    ensures only { Known S.tells S.left source.old → (d : Document) (front rest : List ℕ) → S.left source.old ≡ front ++ rest → SpellsDocument NoLegacy V2 front d → document_room d ≤ 4294967295 → Answers result d rest (S.left source.new) }
+    ensures fault { Known S.tells S.left source.old → (e : DeserializeError) (r : Refusal) → IsErrOf result e → IsRefusal e r → NoDocument V2 (S.left source.old) r }
+    ensures full { S.tells source.old → IsErrOf result HeapFull → HasNoRoom V2 (S.left source.old) }
+    ensures errors { IfErr result IsReadingError }
+    ensures shows { Known S.tells S.left source.old → (e : DeserializeError) (r : Refusal) → IsErrOf result e → IsRefusal e r → ShowsRefusal V2 (S.left source.old) (S.left source.new) r }
     ensures faults { Counts store_stop result (S.faults source.old) (S.faults source.new) }
 {
     read_document(alloc, source, DocStoreVersion::V2)

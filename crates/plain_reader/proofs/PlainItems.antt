@@ -1,6 +1,5 @@
 -- Items that are read one after another.
 use Rattle.std.proofs.Common.{ℕ, zero, suc, ◌<◌, List, [], ◌∷◌, ◌++◌, length, refl, sym, ◌∙◌, ap, subst, arith, append_assoc, inl, inr}
-use Rattle.std.proofs.lemmas.List.{append-nil}
 use Rattle.tv_base.specs.PartFault.{InEach}
 use Rattle.tv_base.specs.Parts.{Begins, Then, Each}
 

@@ -1,11 +1,10 @@
 -- How parts that begin the bytes make larger ones, and how faults of parts are faults of the whole.
-use Rattle.std.proofs.Common.{◌≡◌, ℕ, zero, suc, ◌<◌, ◌≤◌, List, [], ◌∷◌, ◌++◌, length, take, drop, get_or, IsUtf8, refl, sym, ◌∙◌, ap, subst, arith, append_assoc, length-append, inr}
-use Rattle.std.proofs.lemmas.List.{take-append-drop, length-take-le}
+use Rattle.std.proofs.Common.{ℕ, ◌<◌, ◌≤◌, List, ◌∷◌, length, IsUtf8, ap, arith, length-append, inr}
 use Rattle.tv_base.specs.declared.cause.Cause.{Cause}
 use Rattle.tv_base.specs.declared.cause.Cause.TheVariants.{UnexpectedEnd, BadNumber, NotUtf8}
 use Rattle.tv_base.specs.Number.{VNum}
 use Rattle.tv_base.specs.PartFault.{NumberFault, number_ends, number_large, SizedFault, TextFault, no_text, bytes_end}
-use Rattle.tv_base.specs.Parts.{Begins, Then, Behind, Sized, Text}
+use Rattle.tv_base.specs.Parts.{Begins, Sized}
 use Rattle.tv_value.specs.Fault.{Refusal, Corrupt, corrupt}
 use Rattle.plain_reader.specs.PlainReading.{Because}
 use Rattle.plain_reader.specs.declared.refusal.PlainRefusal.{PlainRefusal}

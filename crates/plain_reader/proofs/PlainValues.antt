@@ -7,15 +7,17 @@ use Rattle.tv_base.specs.declared.cause.Cause.TheVariants.{UnexpectedEnd, OddObj
 use Rattle.tv_base.specs.Number.{VNum}
 use Rattle.tv_base.specs.PartFault.{NumberFault}
 use Rattle.tv_value.specs.Fault.{Refusal, corrupted, Corrupt, corrupt, KeyFault, ValueFault, value_ends, in_count, in_element, in_entry_count, odd_count, in_entry_key, in_entry}
+use Rattle.tv_value.specs.ListFault.{ElementsFault, EntriesFault, in_next_key, in_next_value}
 use Rattle.tv_value.specs.Spelling.{Key, Spells, SpellsElements, SpellsEntries, NoLegacy}
 use Rattle.tv_value.specs.Tree.{Tree, array, object, elements, element_count, entry_count}
 use Rattle.tv_value.specs.Version.{Version, entry_total}
 use Rattle.plain_reader.specs.Plain.{tree_of, entries_of, entry_trees}
 use Rattle.tv_base.specs.Parts.{Begins}
-use Rattle.plain_reader.specs.PlainReading.{BecausePart, FoundValue, NoValue, ElementsFault, EntriesFault, in_next_key, in_next_value, NoElements, NoEntries}
+use Rattle.plain_reader.specs.PlainReading.{BecausePart, FoundValue, NoValue, NoElements, NoEntries}
 use Rattle.plain_reader.specs.declared.value.PlainValue.{PlainValue, Array, Object, the_lemmas}
 use Rattle.plain_reader.specs.declared.refusal.PlainRefusal.{PlainRefusal}
 use Rattle.tv_value.proofs.Fronts.{begins_behind, begins_then}
+use Rattle.tv_value.proofs.Lists.{elements-length}
 use Rattle.plain_reader.proofs.PlainParts.{because_map}
 
 pub tree_of-Array : (v : Vec PlainValue Global) → tree_of (Array v) ≡ array (elements (map tree_of v.items))
@@ -42,29 +44,6 @@ ends_value v L [] e = value_ends
 ends_value v L (b ∷ whole) e = absurd (omega arith)
 
 -- arrays
-
-elements-length : (ts : List Tree) → element_count (elements ts) ≡ length ts
-elements-length [] = refl
-elements-length (t ∷ ts) = omega (arith, elements-length ts)
-
-spells_push : (v : Version) (ts : List Tree) (t : Tree) (a b : List ℕ) → SpellsElements NoLegacy v a (elements ts) → Spells NoLegacy v b t → SpellsElements NoLegacy v (a ++ b) (elements (ts ++ t ∷ []))
-spells_push v [] t a b p q = record { front = b; rest = []; joined = ap (λ z. z ++ b) p ∙ sym (append-nil b); first = q; second = refl }
-spells_push v (u ∷ ts) t a b p q = record {
-  front = p.front;
-  rest = p.rest ++ b;
-  joined = ap (λ z. z ++ b) p.joined ∙ append_assoc p.front p.rest b;
-  first = p.first;
-  second = spells_push v ts t p.rest b p.second q;
-}
-
--- one element more
-pub begins_push : (v : Version) (ts : List Tree) (t : Tree) (whole rest after : List ℕ) → Begins (λ b. SpellsElements NoLegacy v b (elements ts)) whole rest
-    → Begins (λ b. Spells NoLegacy v b t) rest after → Begins (λ b. SpellsElements NoLegacy v b (elements (ts ++ t ∷ []))) whole after
-begins_push v ts t whole rest after p q = record {
-  front = p.front ++ q.front;
-  joined = p.joined ∙ ap (λ z. p.front ++ z) q.joined ∙ sym (append_assoc p.front q.front after);
-  spelled = spells_push v ts t p.front q.front p.spelled q.spelled;
-}
 
 pub begins_array : (v : Version) (vs : List PlainValue) (n : ℕ) (whole rest after : List ℕ) → length vs ≡ n → Begins (λ b. VNum b n) whole rest
     → Begins (λ b. SpellsElements NoLegacy v b (elements (map tree_of vs))) rest after → Begins (λ b. Spells NoLegacy v b (array (elements (map tree_of vs)))) (12 ∷ whole) after

@@ -1,21 +1,17 @@
 -- What the plain program promises.
-use Rattle.std.specs.Prelude.{◌≡◌, ◌<◌, ℕ, List, ◌∷◌, ◌++◌, Result, Ok, Err}
+use Rattle.std.specs.Prelude.{◌≡◌, ℕ, List, ◌∷◌, Result, Ok, Err}
 use Rattle.tv_base.specs.declared.cause.Cause.{Cause}
 use Rattle.tv_base.specs.declared.cause.Cause.TheVariants.{LegacyJson}
 use Rattle.tv_base.specs.PartFault.{InEach}
 use Rattle.tv_base.specs.Parts.{Begins}
-use Rattle.tv_value.specs.Fault.{Refusal, corrupted, no_text_key, Corrupt, KeyFault, LeafFault, ValueFault, PairFault, DocumentFault, NoLegacyFault}
-use Rattle.tv_value.specs.Spelling.{Key, Spells, SpellsElements, SpellsEntries, SpellsPair, NoLegacy}
-use Rattle.tv_value.specs.Tree.{Elements, element_count, Entries, entry_count}
+use Rattle.tv_value.specs.Fault.{Refusal, corrupted, no_text_key, Corrupt, LeafFault, ValueFault, PairFault, DocumentFault, NoLegacyFault, AnyLegacy}
+use Rattle.tv_value.specs.ListFault.{ElementsFault, EntriesFault}
+use Rattle.tv_value.specs.Spelling.{Spells, SpellsPair, NoLegacy}
 use Rattle.tv_value.specs.Version.{Version}
 use Rattle.plain_reader.specs.Plain.{tree_of}
 use Rattle.plain_reader.specs.declared.value.PlainValue.{PlainValue}
 use Rattle.plain_reader.specs.declared.refusal.PlainRefusal.{PlainRefusal}
 use Rattle.plain_reader.specs.declared.refusal.PlainRefusal.TheVariants.{Corrupted, NoTextKey, LegacyObject, Memory}
-
--- Whatever follows the code of a legacy object is taken for a fault, of one cause.
-abbrev pub AnyLegacy : List ℕ → Cause → Type 0
-AnyLegacy whole cause = cause ≡ LegacyJson
 
 -- Why bytes are refused, by a fault which is told for each reading of legacy objects: without a legacy object on the way,
 -- and for `LegacyObject` because one stands there.
@@ -41,23 +37,6 @@ FoundValue v whole value rest = Begins (λ b. Spells NoLegacy v b (tree_of value
 -- no value is
 abbrev pub NoValue : Version → List ℕ → PlainRefusal → Type 0
 NoValue v whole refusal = Because (λ L r. ValueFault NoLegacy L v whole r) refusal
-
--- some elements are spelled, and the next is at fault
-pub record ElementsFault (L : List ℕ → Cause → Type 0) (v : Version) (count : ℕ) (whole : List ℕ) (refusal : Refusal) : Type 0 where
-  pub before : Elements
-  pub front : List ℕ
-  pub rest : List ℕ
-  pub joined : whole ≡ front ++ rest
-  pub spelled : SpellsElements NoLegacy v front before
-  pub fewer : element_count before < count
-  pub fault : ValueFault NoLegacy L v rest refusal
-
--- some entries are spelled, and the next is at fault: its key, or its value behind the key
-pub data EntriesFault (L : List ℕ → Cause → Type 0) (v : Version) (count : ℕ) (whole : List ℕ) (refusal : Refusal) : Type 0 where
-  in_next_key : (es : Entries) (front rest : List ℕ) → whole ≡ front ++ rest → SpellsEntries NoLegacy v front es → entry_count es < count
-      → KeyFault v rest refusal → EntriesFault L v count whole refusal
-  in_next_value : (es : Entries) (k front key rest : List ℕ) → whole ≡ front ++ (key ++ rest) → SpellsEntries NoLegacy v front es → entry_count es < count
-      → Key v key k → ValueFault NoLegacy L v rest refusal → EntriesFault L v count whole refusal
 
 abbrev pub NoElements : Version → ℕ → List ℕ → PlainRefusal → Type 0
 NoElements v count whole refusal = Because (λ L r. ElementsFault L v count whole r) refusal

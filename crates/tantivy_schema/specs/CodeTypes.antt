@@ -6,9 +6,9 @@ pub use Rattle.tv_base.specs.declared.facet_parse_error.FacetParseError
 pub use Rattle.tv_base.specs.declared.read_error.ReadError
 pub use Rattle.tv_doc.specs.declared.add_error.AddError
 pub use Rattle.tv_schema.specs.declared.schema_error.SchemaError
-pub use Rattle.tv_store.specs.declared.error.DeserializeError
+pub use Rattle.tv_reader.specs.declared.error.DeserializeError
 pub use Rattle.tv_store.specs.declared.error.SerializeError
-pub use Rattle.tv_store.specs.declared.error.ValueType
+pub use Rattle.tv_reader.specs.declared.error.ValueType
 pub use Rattle.tv_term.specs.declared.term_error.TermError
 -- what schemas are made of
 pub use Rattle.tv_options.specs.declared.facet_options.FacetOptions
@@ -25,7 +25,7 @@ pub use Rattle.tv_schema.specs.declared.field_type.FieldType
 pub use Rattle.tv_doc.specs.declared.document.CompactDoc
 pub use Rattle.tv_doc.specs.declared.field_values.FieldValueIterRef
 pub use Rattle.tv_doc.specs.declared.value.CompactDocValue
-pub use Rattle.tv_store.specs.declared.de.DocStoreVersion
+pub use Rattle.tv_reader.specs.declared.version.DocStoreVersion
 pub use Rattle.tv_value.specs.declared.date_time.DateTimePrecision
 pub use Rattle.tv_value.specs.declared.field.Field
 pub use Rattle.tv_value.specs.declared.leaf.ReferenceValueLeaf

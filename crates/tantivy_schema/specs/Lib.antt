@@ -65,11 +65,12 @@ pub use Rattle.tv_doc.specs.Room
 pub use Rattle.tv_doc.specs.TypeCode
 pub use Rattle.tv_doc.specs.Value
 -- the store
-pub use Rattle.tv_store.specs.AreRead
 pub use Rattle.tv_store.specs.Documents
 pub use Rattle.tv_store.specs.Error as StoreError
 pub use Rattle.tv_store.specs.Refused
 pub use Rattle.tv_store.specs.Stored
-pub use Rattle.tv_store.specs.Version as StoreVersion
+pub use Rattle.tv_reader.specs.Error as ReaderError
+pub use Rattle.tv_reader.specs.Version as StoreVersion
+pub use Rattle.tv_reader.specs.ValueType
 -- the types of code that contracts speak of
 pub mod CodeTypes

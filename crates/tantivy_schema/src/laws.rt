@@ -1,11 +1,10 @@
 //! What is proved above single calls: laws of the definitions, and of what calls leave.
 
-ghost use Rattle.std.specs.Prelude.{◌≡◌, ◌≤◌, ◌++◌, List, ℕ, IfOk, IfErr, IsTrue};
+ghost use Rattle.std.specs.Prelude.{◌≡◌, ◌≤◌, ◌++◌, List, ℕ, IfOk, IfErr};
 ghost use Rattle.tv_base.specs.ReadsAs.{Known};
 ghost use Rattle.tv_doc.specs.Belongs.{Belongs};
 ghost use Rattle.tv_doc.specs.Document.{document_of};
 ghost use Rattle.tv_doc.specs.Room.{document_room};
-ghost use Rattle.tv_store.specs.AreRead.{are_read};
 ghost use Rattle.tv_store.specs.Documents.{Answers};
 ghost use Rattle.tv_store.specs.Error.{IsIo};
 ghost use Rattle.tv_store.specs.Stored.{stored};
@@ -42,8 +41,7 @@ pub use tv_schema::laws::{
     the_last_dot_counts, whole_paths_come_first,
 };
 pub use tv_store::laws::{
-    refusals_are_unique, stored_pairs_are_valid, stored_pairs_can_be_read,
-    stored_pairs_need_no_more_room,
+    refusals_are_unique, stored_pairs_are_valid, stored_pairs_need_no_more_room,
 };
 use tv_store::{
     BinaryDocumentSerializer, DeserializeError, DocStoreVersion, SerializeError, read_document,
@@ -80,15 +78,14 @@ pub fn written_documents_are_shortest(
 }
 
 /// What `serialize_doc` writes of a document is read back as its stored pairs, whatever follows it and however the source
-/// cuts it, where the source's bytes are known, the document's values have room, and those of the stored pairs are texts and
-/// `u64` numbers, which are what is read so far.
+/// cuts it, where the source's bytes are known and the document's values have room.
 pub fn stored_pairs_are_read_back<S: ByteSource>(
     alloc: Global,
     source: &mut S,
     schema: &Schema,
     document: &CompactDoc,
 ) -> Result<CompactDoc, DeserializeError>
-    ensures { Known S.tells S.left source.old → IsTrue (are_read (stored schema.now (document_of document.now))) → document_room (document_of document.now) ≤ 4294967295 → (rest : List ℕ) → S.left source.old ≡ short_document V2 (stored schema.now (document_of document.now)) ++ rest → Answers result (stored schema.now (document_of document.now)) rest (S.left source.new) }
+    ensures { Known S.tells S.left source.old → document_room (document_of document.now) ≤ 4294967295 → (rest : List ℕ) → S.left source.old ≡ short_document V2 (stored schema.now (document_of document.now)) ++ rest → Answers result (stored schema.now (document_of document.now)) rest (S.left source.new) }
 {
     let _ = schema;
     let _ = document;

@@ -16,6 +16,7 @@ pub mod SmallBytes
 pub mod Agrees
 pub mod AgreeWidths
 pub mod AgreeNumbers
+pub mod EarlyNumbers
 pub mod AgreeTruth
 pub mod AgreeParts
 pub mod ItemLoop

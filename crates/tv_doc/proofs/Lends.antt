@@ -10,6 +10,7 @@ use Rattle.tv_base.specs.Number.{Fixed, Signed, no_bytes, low_byte}
 use Rattle.tv_base.proofs.Numbers.{length-fixed, fixed_fits}
 use Rattle.tv_base.proofs.Shortest.{sixteen_bytes_spell}
 use Rattle.tv_base.proofs.Widths.{from_8, from_16, sixteen_bytes_is}
+use Rattle.tv_value.proofs.Addresses.{address_bits}
 use Rattle.tv_value.proofs.Leaves.{agree_tokenized}
 use Rattle.tv_value.proofs.ShortSpellings.{tokenized_of}
 use Rattle.tv_value.specs.InPlace.{NoTokenized}
@@ -28,11 +29,6 @@ stands_within heap at P p =
 
 pub text_sized : (heap : List ℕ) (at : ℕ) (s : List ℕ) → Stands heap at (λ w. ShortText s w) → Stands heap at (λ w. ShortSized s w)
 text_sized heap at s p = record { before = p.before; whole = p.whole; behind = p.behind; joined = p.joined; place = p.place; stands = p.stands.sized }
-
-fixed_small : {k : ℕ} {bytes : List ℕ} {n : ℕ} → Fixed k bytes n → (i : ℕ) → get_or bytes i 0 < 256
-fixed_small no_bytes i = omega arith
-fixed_small (low_byte p f) zero = p
-fixed_small (low_byte p f) (suc i) = fixed_small f i
 
 fixed_front : (k : ℕ) (heap behind : List ℕ) (at n : ℕ) (p : Stands heap at (λ w. Fixed k w n)) → behind ≡ drop at heap → take k behind ≡ p.whole
 fixed_front k heap behind at n p e =
@@ -58,34 +54,6 @@ signed_is heap at x y z p is f =
     ap (λ v. to_z w64 (of_z w64 v)) (f ∙ ap (cast_signed w64) number ∙ back) ∙ back
 
 -- ---- IP addresses
-
-abbrev AreBytes : List ℕ → Type 0
-AreBytes [] = Unit {0}
-AreBytes (b ∷ bs) = (b < 256) × AreBytes bs
-
-octets_back : (k : ℕ) (bs : List ℕ) → length bs ≡ k + k → AreBytes bs → octets_of (segments_of bs) ≡ bs
-octets_back k [] l small = refl
-octets_back zero (a ∷ bs) l small = absurd (omega arith)
-octets_back (suc k) (a ∷ []) l small = absurd (omega arith)
-octets_back (suc k) (a ∷ b ∷ bs) l small =
-    let below = small.1.0 in
-    let high : (a * 256 + b) / 256 ≡ a = omega arith in
-    let low : (a * 256 + b) % 256 ≡ b = omega arith in
-    let rest = octets_back k bs (omega arith) small.1.1 in
-    λ i. high i ∷ low i ∷ rest i
-
-turned : (bs : List ℕ) → length bs ≡ 16 → ((i : ℕ) → get_or bs i 0 < 256) → from_be_bytes w128 (octets_of (segments_of (reverse bs))) ≡ from_le_bytes w128 bs
-turned (a ∷ b ∷ c ∷ d ∷ e ∷ f ∷ g ∷ h ∷ i ∷ j ∷ k ∷ m ∷ n ∷ o ∷ p ∷ q ∷ []) l s =
-    let bytes : AreBytes (q ∷ p ∷ o ∷ n ∷ m ∷ k ∷ j ∷ i ∷ h ∷ g ∷ f ∷ e ∷ d ∷ c ∷ b ∷ a ∷ []) = (s 15, (s 14, (s 13, (s 12, (s 11, (s 10, (s 9, (s 8, (s 7, (s 6, (s 5, (s 4, (s 3, (s 2, (s 1, (s 0, tt)))))))))))))))) in
-    ap (from_be_bytes w128) (octets_back 8 (q ∷ p ∷ o ∷ n ∷ m ∷ k ∷ j ∷ i ∷ h ∷ g ∷ f ∷ e ∷ d ∷ c ∷ b ∷ a ∷ []) refl bytes) ∙ omega arith
-turned _ l s = absurd (omega arith)
-
-address_bits : (a : Ipv6Addr) (n : ℕ) → n < 2 ^ 128 → IsIpv6OfBits a n → ipv6_bits a ≡ n
-unfolding IsIpv6OfBits ipv6_bits
-address_bits a n h is =
-    let bs = to_le_bytes w128 n in
-    let spelled : Fixed 16 bs n = subst (λ z. Fixed 16 z n) (sym (sixteen_bytes_is n)) (sixteen_bytes_spell n h) in
-    ap (λ s. from_be_bytes w128 (octets_of s)) is ∙ turned bs (length-fixed spelled) (fixed_small spelled) ∙ from_16 bs n spelled
 
 pub address_is : (heap behind front : List ℕ) (at n : ℕ) (a : Ipv6Addr) (x : ℕ) → Stands heap at (λ w. Fixed 16 w n) → behind ≡ drop at heap → front ≡ take 16 behind → x ≡ from_le_bytes w128 front
     → IsIpv6OfBits a x → ipv6_bits a ≡ n

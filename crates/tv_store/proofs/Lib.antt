@@ -1,9 +1,8 @@
-pub mod PairLoop
 pub mod Room
-pub mod AgreeDocument
+pub mod AgreeField
+pub mod PairSteps
 pub mod Promises
 pub mod Stores
 pub mod StoredLaws
-pub mod SingleRefusals
 pub mod Coded
 pub mod WriterSteps

@@ -1,99 +1,136 @@
--- From the reading of a document to what is promised of it.
-use Rattle.std.proofs.Common.{◌≡◌, ℕ, ◌-◌, ◌^◌, ◌<◌, ◌≤◌, subst, List, ◌++◌, Result, Ok, Err, refl, sym, ap, ◌∙◌, arith}
-use Rattle.std.specs.Prelude.{IfOk, IfErr, IsErrOf, IsTrue}
+-- From the bytes that were taken for a document to what is promised of it.
+use Rattle.std.proofs.Common.{◌≡◌, ℕ, ◌-◌, ◌^◌, ◌<◌, ◌≤◌, subst, List, [], ◌∷◌, ◌++◌, length, Result, Ok, Err, refl, sym, ap, ◌∙◌, arith, append_assoc}
+use Rattle.std.specs.Prelude.{IfOk, IfErr, IsErrOf}
+use Rattle.std.proofs.lemmas.List.{append_cancel_left}
 use Rattle.std.proofs.lemmas.List.Sums.{sum_by-append}
-use Rattle.tv_base.specs.declared.cause.Cause.{Cause}
-use Rattle.tv_base.specs.Source.{AllBytes}
-use Rattle.tv_base.specs.Stop.{◌>>=◌, lifted, Gives}
-use Rattle.tv_base.specs.Reading.{vint_at}
-use Rattle.tv_base.proofs.Agrees.{ok_is}
-use Rattle.tv_base.proofs.AgreeNumbers.{vint_agrees}
-use Rattle.tv_base.proofs.ByGrammar.{shows_by}
-use Rattle.tv_base.proofs.SmallBytes.{bytes_after}
+use Rattle.tv_base.specs.declared.cause.Cause.TheVariants.{UnexpectedEnd}
+use Rattle.tv_base.specs.Parts.{Each}
+use Rattle.tv_base.specs.Source.{Faults}
+use Rattle.tv_base.specs.Stop.{CountsStop, Counts}
+use Rattle.tv_base.proofs.Numbers.{one_number}
 use Rattle.tv_doc.specs.declared.document.CompactDoc.{CompactDoc}
 use Rattle.tv_doc.specs.Document.{document_of}
-use Rattle.tv_store.specs.AreRead.{are_read}
 use Rattle.tv_doc.specs.Room.{room, document_room}
-use Rattle.tv_value.specs.Fault.{Refusal, corrupted}
+use Rattle.tv_reader.specs.Error.{key_stop, store_stop}
+use Rattle.tv_reader.specs.Finds.{Refuses, TellsStop, Found}
+use Rattle.tv_reader.specs.declared.error.DeserializeError.{DeserializeError}
+use Rattle.tv_reader.specs.declared.error.DeserializeError.TheVariants as errors
+use Rattle.tv_reader.specs.declared.error.ValueType.{ValueType}
+use Rattle.tv_reader.specs.declared.error.ValueType.TheVariants as types
+use Rattle.tv_value.specs.Fault.{Refusal, corrupted, no_text_key, AnyLegacy}
+use Rattle.tv_value.specs.Spelling.{SpellsPair, SpellsDocument, NoLegacy}
 use Rattle.tv_value.specs.Tree.{Tree, Document}
 use Rattle.tv_value.specs.Version.{Version}
-use Rattle.tv_value.specs.Spelling.{SpellsDocument, NoLegacy}
-use Rattle.tv_store.specs.declared.error.DeserializeError.{DeserializeError}
-use Rattle.tv_store.specs.declared.error.DeserializeError.TheVariants as errors
-use Rattle.tv_store.specs.Error.{store_stop}
-use Rattle.tv_store.specs.Documents.{BeginsWith, Answers, Tells, ShowsCause, IsReadingError}
-use Rattle.tv_store.specs.Pairs.{DocumentHasNoRoom}
-use Rattle.tv_store.specs.Reading.{pairs_at, document_at}
-use Rattle.tv_store.specs.Refused.{Begun}
-use Rattle.tv_store.proofs.PairLoop.{pairs_at-begins}
-use Rattle.tv_store.proofs.AgreeDocument.{pairs_spelled, document_agrees}
+use Rattle.tv_value.proofs.ExcludingTrees.{document_excludes, any_legacy_excludes}
+use Rattle.tv_value.proofs.Trees.{one_pair, one_document, no_legacy_reads}
+use Rattle.tv_store.specs.Documents as documents
+use Rattle.tv_store.specs.Documents.{BeginsWith, Answers, IsRefusal, is_corrupted, is_no_text, NoDocument, IsReadingError}
+use Rattle.tv_store.specs.Pairs.{SpellsRead, DocumentHasNoRoom}
 
-pub found_by : (v : Version) (result : Result CompactDoc DeserializeError) (old new : List ℕ) (count : ℕ) → AllBytes old → Gives store_stop document_of result (document_at old) new count → IfOk result (λ d. BeginsWith v old new (document_of d))
-found_by v (Ok d) old new count small h =
-    let p = (document_agrees v).sound old (document_of d, new) small h in
-    record { front = p.0; joined = p.2; spelled = p.1.0 }
-found_by v (Err e) old new count small h = tt
+abbrev end : Refusal
+end = corrupted UnexpectedEnd
 
--- pairs without room are pairs that the bytes begin with
-begun : (v : Version) (old : List ℕ) → AllBytes old → (full : DocumentHasNoRoom old) → Begun v old full.no_room.pairs
-begun v old small full =
-    let number = vint_agrees.sound old (full.announced, full.behind) small full.number in
-    let pairs = pairs_spelled v full.no_room.many full.behind (full.no_room.pairs, full.no_room.rest) (bytes_after old number.0 full.behind number.2 small) full.no_room.reads in
-    record {
-      announced = full.announced;
-      number = number.0;
-      front = pairs.0;
-      rest = full.no_room.rest;
-      joined = number.2 ∙ ap (λ (l : List ℕ). number.0 ++ l) pairs.3;
-      counted = number.1;
-      enough = omega (arith, pairs.1, full.no_room.enough);
-      spelled = pairs.2;
-    }
+abbrev FoundDocument : Version → Result CompactDoc DeserializeError → List ℕ → List ℕ → ℕ → Type 0
+FoundDocument v result old new count = Found store_stop end (SpellsRead v) (NoDocument v) old new count result
 
-pub tells_by : (v : Version) (result : Result CompactDoc DeserializeError) (old new : List ℕ) (count : ℕ) → count < 2 ^ 64 - 1 → AllBytes old → Gives store_stop document_of result (document_at old) new count → (IsErrOf result errors.HeapFull → DocumentHasNoRoom old) → IfErr result IsReadingError → IfErr result (Tells v old)
-tells_by v (Ok d) old new count few small h full kind = tt
-tells_by v (Err (errors.CorruptedValue c)) old new count few small h full kind = (document_agrees v).refused old (corrupted c) new small (h few)
-tells_by v (Err errors.HeapFull) old new count few small h full kind = let f = full refl in (f.no_room.pairs, begun v old small f, f.no_room.full)
-tells_by v (Err (errors.Io k)) old new count few small h full kind = tt
-tells_by v (Err errors.Memory) old new count few small h full kind = tt
-tells_by v (Err (errors.UnsupportedType t)) old new count few small h full kind = kind
-tells_by v (Err (errors.TypeMismatch t u)) old new count few small h full kind = kind
-tells_by v (Err (errors.Custom s)) old new count few small h full kind = kind
-tells_by v (Err (errors.UnsupportedVersion m n)) old new count few small h full kind = kind
-tells_by v (Err errors.AlreadyFailed) old new count few small h full kind = kind
+pub found_by : (v : Version) (result : Result CompactDoc DeserializeError) (old new : List ℕ) (count : ℕ) → FoundDocument v result old new count → IfOk result (λ d. BeginsWith v old new (document_of d))
+found_by v (Ok d) old new count h = h
+found_by v (Err e) old new count h = tt
 
--- just the bytes that show the cause were taken
-pub shows_cause : (v : Version) (result : Result CompactDoc DeserializeError) (old new : List ℕ) (count : ℕ) → count < 2 ^ 64 - 1 → AllBytes old → Gives store_stop document_of result (document_at old) new count
-    → (c : Cause) → IsErrOf result (errors.CorruptedValue c) → ShowsCause v old new c
-shows_cause v result old new count few small h c e =
-    shows_by (document_agrees v) old new (corrupted c) small ((subst (λ r. Gives store_stop document_of r (document_at old) new count) e h) few)
+told : (v : Version) (e : DeserializeError) (r : Refusal) (old new : List ℕ) (count : ℕ) → IsRefusal e r → count < 2 ^ 64 - 1 → TellsStop end (NoDocument v) old new count (store_stop e) → Refuses end (NoDocument v) old new r
+told v _ _ old new count is_corrupted few h = h few
+told v _ _ old new count is_no_text few h = h few
 
--- a document that is read has room for the pairs that it begins with
-behind_number : (old behind : List ℕ) (announced : ℕ) (d : Document) (rest : List ℕ) → vint_at old ≡ Ok (announced, behind) → document_at old ≡ Ok (d, rest) → pairs_at announced behind ≡ Ok (d, rest)
-unfolding document_at
-behind_number old behind announced d rest number e = sym (ap (λ (r : Result (ℕ × List ℕ) (Cause × List ℕ)). lifted corrupted r >>= λ n. pairs_at n.0 n.1) number) ∙ e
+pub refused_by : (v : Version) (result : Result CompactDoc DeserializeError) (old new : List ℕ) (count : ℕ) → count < 2 ^ 64 - 1 → FoundDocument v result old new count
+    → (e : DeserializeError) (r : Refusal) → IsErrOf result e → IsRefusal e r → Refuses end (NoDocument v) old new r
+refused_by v result old new count few h e r is refusal = told v e r old new count refusal few (subst (λ z. FoundDocument v z old new count) is h)
 
-has_room : (old : List ℕ) (d : Document) (rest : List ℕ) → document_at old ≡ Ok (d, rest) → DocumentHasNoRoom old → document_room d ≤ 4294967295 → ⊥
-has_room old d rest e full small =
+-- ---- which errors come
+
+mismatched : (expected actual : ValueType) (old new : Faults) → CountsStop (key_stop expected actual) old new → expected ≡ types.String
+mismatched types.String actual old new h = refl
+mismatched types.U64 actual old new h = absurd h
+mismatched types.I64 actual old new h = absurd h
+mismatched types.Facet actual old new h = absurd h
+mismatched types.Bytes actual old new h = absurd h
+mismatched types.DateTime actual old new h = absurd h
+mismatched types.PreTokStr actual old new h = absurd h
+mismatched types.JSONObject actual old new h = absurd h
+mismatched types.Bool actual old new h = absurd h
+mismatched types.IpAddr actual old new h = absurd h
+mismatched types.Null actual old new h = absurd h
+mismatched types.Array actual old new h = absurd h
+mismatched types.Object actual old new h = absurd h
+
+pub errors_by : (result : Result CompactDoc DeserializeError) (old new : Faults) → Counts store_stop result old new → IfErr result IsReadingError
+errors_by (Ok d) old new h = tt
+errors_by (Err (errors.CorruptedValue c)) old new h = tt
+errors_by (Err (errors.TypeMismatch expected actual)) old new h = mismatched expected actual old new h
+errors_by (Err errors.HeapFull) old new h = tt
+errors_by (Err (errors.Io k)) old new h = tt
+errors_by (Err errors.Memory) old new h = tt
+errors_by (Err (errors.UnsupportedType t)) old new h = h
+errors_by (Err (errors.Custom s)) old new h = h
+errors_by (Err (errors.UnsupportedVersion m n)) old new h = h
+errors_by (Err errors.AlreadyFailed) old new h = h
+
+-- ---- want of room
+
+pub begun : (v : Version) (old : List ℕ) → DocumentHasNoRoom v old → documents.HasNoRoom v old
+begun v old full =
+    let f = full.no_room in (
+      f.pairs,
+      record {
+        announced = full.announced;
+        number = full.number;
+        front = f.front;
+        rest = f.rest;
+        joined = full.joined ∙ ap (λ (l : List ℕ). full.number ++ l) f.joined;
+        counted = full.counted;
+        enough = f.enough;
+        spelled = f.spelled;
+      },
+      f.full,
+    )
+
+-- pairs that begin the bytes begin those that are spelled there
+begins_them : (v : Version) (pairs d : Document) (a b x y : List ℕ) → Each (SpellsPair NoLegacy v) a pairs → Each (SpellsPair NoLegacy v) b d → a ++ x ≡ b ++ y → length pairs ≤ length d → (more : Document) × (d ≡ pairs ++ more)
+begins_them v [] d a b x y p q e le = (d, refl)
+begins_them v (pair ∷ pairs) [] a b x y p q e le = absurd (omega (arith, le))
+begins_them v (pair ∷ pairs) (other ∷ d) a b x y p q e le =
+    let whole : p.front ++ (p.rest ++ x) ≡ q.front ++ (q.rest ++ y) = sym (append_assoc p.front p.rest x) ∙ ap (λ (l : List ℕ). l ++ x) (sym p.joined) ∙ e ∙ ap (λ (l : List ℕ). l ++ y) q.joined ∙ append_assoc q.front q.rest y in
+    let same = one_pair NoLegacy v no_legacy_reads p.front q.front (p.rest ++ x) (q.rest ++ y) pair other p.first q.first whole in
+    let rest : p.rest ++ x ≡ q.rest ++ y = append_cancel_left q.front (p.rest ++ x) (q.rest ++ y) (ap (λ (l : List ℕ). l ++ (p.rest ++ x)) (sym same.0) ∙ whole) in
+    let others = begins_them v pairs d p.rest q.rest x y p.second q.second rest (omega (arith, le)) in
+    (others.0, (λ i. sym same.1 i ∷ others.1 i))
+
+has_room : (v : Version) (old front rest : List ℕ) (d : Document) → old ≡ front ++ rest → SpellsDocument NoLegacy v front d → DocumentHasNoRoom v old → document_room d ≤ 4294967295 → ⊥
+has_room v old front rest d joined spelled full small =
     let f = full.no_room in
-    let more = pairs_at-begins f.many full.announced full.behind f.rest rest f.pairs d f.reads f.enough (behind_number old full.behind full.announced d rest full.number e) in
+    let whole : full.number ++ (f.front ++ f.rest) ≡ spelled.front ++ (spelled.rest ++ rest) = sym (full.joined ∙ ap (λ (l : List ℕ). full.number ++ l) f.joined) ∙ joined ∙ ap (λ (l : List ℕ). l ++ rest) spelled.joined ∙ append_assoc spelled.front spelled.rest rest in
+    let same = one_number full.number spelled.front (f.front ++ f.rest) (spelled.rest ++ rest) full.announced (length d) full.counted spelled.first whole in
+    let behind : f.front ++ f.rest ≡ spelled.rest ++ rest = append_cancel_left spelled.front (f.front ++ f.rest) (spelled.rest ++ rest) (ap (λ (l : List ℕ). l ++ (f.front ++ f.rest)) (sym same.0) ∙ whole) in
+    let more = begins_them v f.pairs d f.front spelled.rest f.rest rest f.spelled spelled.second behind (omega (arith, f.enough, same.1)) in
     omega (arith, f.full, small, ap document_room more.1, sum_by-append (λ (pair : ℕ × Tree). room pair.1) f.pairs more.0)
 
-refused_and_read : (old : List ℕ) (c : Refusal × List ℕ) (d : Document) (rest : List ℕ) → document_at old ≡ Err c → document_at old ≡ Ok (d, rest) → ⊥
-refused_and_read old c d rest p q = absurd (cc)
+-- ---- what is spelled is what is answered
 
-pub only_by : (v : Version) (result : Result CompactDoc DeserializeError) (old new : List ℕ) (count : ℕ) → Gives store_stop document_of result (document_at old) new count → (IsErrOf result errors.HeapFull → DocumentHasNoRoom old)
-    → IfErr result IsReadingError → count < 2 ^ 64 - 1 → (d : Document) (front rest : List ℕ) → old ≡ front ++ rest → SpellsDocument NoLegacy v front d → IsTrue (are_read d) → document_room d ≤ 4294967295 → Answers result d rest new
-only_by v result old new count h full kind few d front rest joined spelled read small = answers result h full kind (ap document_at joined ∙ (document_agrees v).complete front d rest (spelled, read))
-  where
-    answers : (result : Result CompactDoc DeserializeError) → Gives store_stop document_of result (document_at old) new count → (IsErrOf result errors.HeapFull → DocumentHasNoRoom old) → IfErr result IsReadingError → document_at old ≡ Ok (d, rest) → Answers result d rest new
-    answers (Ok x) h full kind e = let q = ok_is (Refusal × List ℕ) (document_of x, new) (d, rest) (sym h ∙ e) in (ap (λ z. z.0) q, ap (λ z. z.1) q)
-    answers (Err (errors.CorruptedValue c)) h full kind e = refused_and_read old (corrupted c, new) d rest (h few) e
-    answers (Err errors.HeapFull) h full kind e = has_room old d rest e (full refl) small
-    answers (Err (errors.Io k)) h full kind e = tt
-    answers (Err errors.Memory) h full kind e = tt
-    answers (Err (errors.UnsupportedType t)) h full kind e = kind
-    answers (Err (errors.TypeMismatch t u)) h full kind e = kind
-    answers (Err (errors.Custom s)) h full kind e = kind
-    answers (Err (errors.UnsupportedVersion m n)) h full kind e = kind
-    answers (Err errors.AlreadyFailed) h full kind e = kind
+excluded : (v : Version) (old front rest : List ℕ) (d : Document) (r : Refusal) → old ≡ front ++ rest → SpellsDocument NoLegacy v front d → NoDocument v old r → ⊥
+excluded v old front rest d r joined spelled f = (document_excludes NoLegacy AnyLegacy v no_legacy_reads any_legacy_excludes d).excludes old front rest r f spelled joined
+
+pub only_by : (v : Version) (result : Result CompactDoc DeserializeError) (old new : List ℕ) (count : ℕ) → FoundDocument v result old new count → (IsErrOf result errors.HeapFull → DocumentHasNoRoom v old) → IfErr result IsReadingError → count < 2 ^ 64 - 1
+    → (d : Document) (front rest : List ℕ) → old ≡ front ++ rest → SpellsDocument NoLegacy v front d → document_room d ≤ 4294967295 → Answers result d rest new
+only_by v (Ok x) old new count h full kind few d front rest joined spelled small =
+    let same = one_document NoLegacy v no_legacy_reads h.front front new rest (document_of x) d h.spelled spelled (sym h.joined ∙ joined) in
+    (same.1, append_cancel_left front new rest (ap (λ (l : List ℕ). l ++ new) (sym same.0) ∙ sym h.joined ∙ joined))
+only_by v (Err (errors.CorruptedValue c)) old new count h full kind few d front rest joined spelled small = excluded v old front rest d (corrupted c) joined spelled (h few).stands
+only_by v (Err (errors.TypeMismatch expected actual)) old new count h full kind few d front rest joined spelled small =
+    let r = told v (errors.TypeMismatch types.String actual) (no_text_key _) old new count is_no_text few (subst (λ z. TellsStop end (NoDocument v) old new count (key_stop z actual)) kind h) in
+    excluded v old front rest d (no_text_key _) joined spelled r.stands
+only_by v (Err errors.HeapFull) old new count h full kind few d front rest joined spelled small = has_room v old front rest d joined spelled (full refl) small
+only_by v (Err (errors.Io k)) old new count h full kind few d front rest joined spelled small = tt
+only_by v (Err errors.Memory) old new count h full kind few d front rest joined spelled small = tt
+only_by v (Err (errors.UnsupportedType t)) old new count h full kind few d front rest joined spelled small = kind
+only_by v (Err (errors.Custom s)) old new count h full kind few d front rest joined spelled small = kind
+only_by v (Err (errors.UnsupportedVersion m n)) old new count h full kind few d front rest joined spelled small = kind
+only_by v (Err errors.AlreadyFailed) old new count h full kind few d front rest joined spelled small = kind

@@ -1,14 +1,13 @@
 -- What holds of the stored pairs where it holds of all.
-use Rattle.std.proofs.Common.{◌≡◌, ℕ, ◌+◌, ◌≤◌, Bool, true, false, cond, List, [], ◌∷◌, refl, sym, ap, subst, ◌∙◌, arith}
+use Rattle.std.proofs.Common.{◌≡◌, ℕ, ◌+◌, ◌≤◌, Bool, true, false, cond, List, [], ◌∷◌, sym, ap, subst, arith}
 use Rattle.std.specs.List.{AllByRecursion}
 use Rattle.std.proofs.lemmas.List.Sums.{sum_by-cons}
-use Rattle.tv_store.specs.AreRead.{is_read, are_read}
 use Rattle.tv_doc.specs.Room.{room, document_room}
 use Rattle.tv_schema.specs.Entry.{Entry}
 use Rattle.tv_value.specs.Short.{IsLeaf, IsValue, IsPair, IsDocument}
 use Rattle.tv_value.specs.Tree.{Leaf, null, text, unsigned, signed, boolean, date, facet, bytes, ip_address, tokenized, Tree, leaf, array, object, Document}
 use Rattle.tv_store.specs.Stored.{stored, leaf_written, tree_written, is_stored_field}
-use Rattle.tv_store.proofs.Stores.{stored-cons, stored_fewer, tree_written-read, first_read, others_read}
+use Rattle.tv_store.proofs.Stores.{stored-cons, stored_fewer}
 
 leaf_valid : (l : Leaf) → IsLeaf l → IsLeaf (leaf_written l)
 leaf_valid (tokenized t ts) h = h.0
@@ -39,17 +38,6 @@ each_valid schema (p ∷ d) h =
 
 pub stored_valid : (schema : List Entry) (d : Document) → IsDocument d → IsDocument (stored schema d)
 stored_valid schema d h = record { count = omega (arith, h.count, stored_fewer schema d); each = each_valid schema d h.each }
-
-read_case : (b : Bool) (p : ℕ × Tree) (ps : Document) → is_read p.1 ≡ true → are_read ps ≡ true → are_read (cond b (p ∷ ps) ps) ≡ true
-read_case true p ps h k = rw (h, k) refl
-read_case false p ps h k = k
-
-pub stored_read : (schema : List Entry) (d : Document) → are_read d ≡ true → are_read (stored schema d) ≡ true
-stored_read schema [] h = refl
-stored_read schema (p ∷ d) h =
-    let here = first_read p d (p ∷ d) refl h in
-    let kept : is_read (tree_written p.1) ≡ true = ap is_read (tree_written-read p.1 here) ∙ here in
-    ap are_read (stored-cons schema p d) ∙ read_case (is_stored_field schema p.0) (p.0, tree_written p.1) (stored schema d) kept (stored_read schema d (others_read p d (p ∷ d) refl h))
 
 leaf_room_written : (l : Leaf) → room (leaf (leaf_written l)) ≤ room (leaf l)
 leaf_room_written (tokenized t ts) = omega arith

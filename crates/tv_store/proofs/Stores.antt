@@ -1,7 +1,6 @@
 -- The stored pairs of a document.
 use Rattle.std.proofs.Common.{◌≡◌, ℕ, suc, ◌≤◌, Bool, true, false, cond, List, [], ◌∷◌, ◌++◌, length, map, Some, slice_get, Ok, Err, refl, sym, ap, ◌∙◌, arith}
 use Rattle.std.specs.List.{filter, flat_map}
-use Rattle.std.specs.Prelude.{◌&&◌}
 use Rattle.std.proofs.lemmas.List.{append-nil}
 use Rattle.std.proofs.lemmas.List.Concat.{flat_map-cons}
 use Rattle.tv_schema.specs.Entry.{is_stored_type}
@@ -9,8 +8,7 @@ use Rattle.std.specs.declared.io.ErrorKind.{ErrorKind}
 use Rattle.tv_base.specs.Source.{Faults}
 use Rattle.tv_base.specs.Sink.{Writes, WritesBy}
 use Rattle.tv_schema.specs.Entry.{Entry}
-use Rattle.tv_value.specs.Tree.{null, text, unsigned, signed, boolean, date, facet, bytes, ip_address, tokenized, Tree, leaf, array, object, Document}
-use Rattle.tv_store.specs.AreRead.{is_read, are_read}
+use Rattle.tv_value.specs.Tree.{Tree, Document}
 use Rattle.tv_value.specs.Short.{short_pair}
 use Rattle.tv_value.specs.Version.{V2}
 use Rattle.tv_store.specs.Error.{write_error, write_stop}
@@ -38,21 +36,6 @@ stored_fewer schema (p ∷ d) = rw (stored-cons schema p d) (fewer_case (is_stor
 no : false ≡ true → ⊥
 no e = absurd cc
 
--- a text or a number is written as it is
-pub tree_written-read : (t : Tree) → is_read t ≡ true → tree_written t ≡ t
-tree_written-read (leaf (text s)) h = refl
-tree_written-read (leaf (unsigned n)) h = refl
-tree_written-read (leaf null) h = absurd (no h)
-tree_written-read (leaf (signed z)) h = absurd (no h)
-tree_written-read (leaf (boolean b)) h = absurd (no h)
-tree_written-read (leaf (date z)) h = absurd (no h)
-tree_written-read (leaf (facet s)) h = absurd (no h)
-tree_written-read (leaf (bytes s)) h = absurd (no h)
-tree_written-read (leaf (ip_address n)) h = absurd (no h)
-tree_written-read (leaf (tokenized s ts)) h = absurd (no h)
-tree_written-read (array ts) h = absurd (no h)
-tree_written-read (object es) h = absurd (no h)
-
 -- a pair whose field is stored, and one whose field is not
 pub written_one : (schema : List Entry) (field : ℕ) (entry : Entry) (t : Tree) → slice_get schema field ≡ Some entry → true ≡ is_stored_type entry.field_type → short_pair V2 (field, tree_written t) ≡ written_pairs schema ((field, t) ∷ [])
 written_one schema field entry t found is =
@@ -74,21 +57,6 @@ pub written_next : (schema : List Entry) (p : ℕ × Tree) (rest d : Document) �
 written_next schema p rest d cut =
     ap (written_pairs schema) cut ∙ ap (flat_map (short_pair V2)) (stored-cons schema p rest) ∙ next_case (is_stored_field schema p.0) (written p) (stored schema rest)
     ∙ ap (λ (l : List ℕ). l ++ written_pairs schema rest) (ap (flat_map (short_pair V2)) (sym (stored-cons schema p [])))
-
--- the first pair and the others are read
-pub first_read : (p : ℕ × Tree) (d whole : Document) → whole ≡ p ∷ d → are_read whole ≡ true → is_read p.1 ≡ true
-first_read p d whole e h = first_true (is_read p.1) (are_read d) (sym (ap are_read e) ∙ h)
-  where
-    first_true : (a b : Bool) → (a && b) ≡ true → a ≡ true
-    first_true true b h = refl
-    first_true false b h = h
-
-pub others_read : (p : ℕ × Tree) (d whole : Document) → whole ≡ p ∷ d → are_read whole ≡ true → are_read d ≡ true
-others_read p d whole e h = other_true (is_read p.1) (are_read d) (sym (ap are_read e) ∙ h)
-  where
-    other_true : (a b : Bool) → (a && b) ≡ true → b ≡ true
-    other_true true b h = h
-    other_true false b h = absurd (no h)
 
 -- what the sink told, in the words of the store
 pub writes_for : {S T U : Type 0} {tells : S → Type 0} {held : S → List ℕ} {faults : S → Faults} {old new : S} {kind : ErrorKind} {text : List ℕ}

@@ -7,13 +7,16 @@ use Rattle.tv_base.specs.ReadsAs.{Shows}
 use Rattle.tv_doc.specs.declared.document.CompactDoc.{CompactDoc}
 use Rattle.tv_doc.specs.Document.{document_of}
 use Rattle.tv_doc.specs.Room.{document_room}
-use Rattle.tv_value.specs.Fault.{corrupted}
+use Rattle.tv_reader.specs.ValueType.{type_code}
+use Rattle.tv_reader.specs.declared.error.DeserializeError.{DeserializeError}
+use Rattle.tv_reader.specs.declared.error.DeserializeError.TheVariants as errors
+use Rattle.tv_reader.specs.declared.error.ValueType.{ValueType}
+use Rattle.tv_reader.specs.declared.error.ValueType.TheVariants.{String}
+use Rattle.tv_value.specs.Fault.{Refusal, corrupted, no_text_key, DocumentFault, AnyLegacy}
 use Rattle.tv_value.specs.Spelling.{SpellsDocument, NoLegacy}
 use Rattle.tv_value.specs.Tree.{Document}
 use Rattle.tv_value.specs.Version.{Version}
-use Rattle.tv_store.specs.declared.error.DeserializeError.{DeserializeError}
-use Rattle.tv_store.specs.declared.error.DeserializeError.TheVariants as errors
-use Rattle.tv_store.specs.Refused.{DocumentRefused, Begun}
+use Rattle.tv_store.specs.Refused.{Begun}
 
 -- a front of the bytes spells the document, and the rest is left
 abbrev pub BeginsWith : Version → List ℕ → List ℕ → Document → Type 0
@@ -32,42 +35,32 @@ Answers (Err (errors.UnsupportedVersion m n)) d rest left = ⊥
 Answers (Err errors.HeapFull) d rest left = ⊥
 Answers (Err errors.AlreadyFailed) d rest left = ⊥
 
--- What is told of known bytes: they are refused for this cause, or the pairs that they begin with have no room.
-abbrev pub Tells : Version → List ℕ → DeserializeError → Type 0
-Tells v bytes (errors.CorruptedValue c) = DocumentRefused v bytes (corrupted c)
-Tells v bytes errors.HeapFull = (pairs : Document) × Begun v bytes pairs × (4294967295 < document_room pairs)
-Tells v bytes (errors.Io k) = Unit {0}
-Tells v bytes errors.Memory = Unit {0}
-Tells v bytes (errors.UnsupportedType t) = ⊥
-Tells v bytes (errors.TypeMismatch t u) = ⊥
-Tells v bytes (errors.Custom s) = ⊥
-Tells v bytes (errors.UnsupportedVersion m n) = ⊥
-Tells v bytes errors.AlreadyFailed = ⊥
+-- The fault in the bytes that an error tells: what is corrupt, or in a key's place a value of another type than a text.
+-- Of a document that is read no other mismatch is told.
+pub data IsRefusal : DeserializeError → Refusal → Type 0 where
+  is_corrupted : {c : Cause} → IsRefusal (errors.CorruptedValue c) (corrupted c)
+  is_no_text : {actual : ValueType} → IsRefusal (errors.TypeMismatch String actual) (no_text_key (type_code actual))
 
--- just the bytes that show the cause were taken
-abbrev pub ShowsCause : Version → List ℕ → List ℕ → Cause → Type 0
-ShowsCause v old new c = Shows (corrupted UnexpectedEnd) (DocumentRefused v) old new (corrupted c)
+-- No front of the bytes spells a document, for this reason. A legacy object isn't read.
+abbrev pub NoDocument : Version → List ℕ → Refusal → Type 0
+NoDocument v bytes r = DocumentFault NoLegacy AnyLegacy v bytes r
+
+-- the pairs that the bytes begin with have no room in a heap
+abbrev pub HasNoRoom : Version → List ℕ → Type 0
+HasNoRoom v bytes = (pairs : Document) × Begun v bytes pairs × (4294967295 < document_room pairs)
+
+-- just the bytes that show the refusal were taken
+abbrev pub ShowsRefusal : Version → List ℕ → List ℕ → Refusal → Type 0
+ShowsRefusal v old new r = Shows (corrupted UnexpectedEnd) (NoDocument v) old new r
 
 -- the errors that reading a document has
 abbrev pub IsReadingError : DeserializeError → Type 0
 IsReadingError (errors.CorruptedValue c) = Unit {0}
+IsReadingError (errors.TypeMismatch expected actual) = expected ≡ String
 IsReadingError errors.HeapFull = Unit {0}
 IsReadingError (errors.Io k) = Unit {0}
 IsReadingError errors.Memory = Unit {0}
 IsReadingError (errors.UnsupportedType t) = ⊥
-IsReadingError (errors.TypeMismatch t u) = ⊥
 IsReadingError (errors.Custom s) = ⊥
 IsReadingError (errors.UnsupportedVersion m n) = ⊥
 IsReadingError errors.AlreadyFailed = ⊥
-
--- and those that reading a pair has
-abbrev pub IsPairError : DeserializeError → Type 0
-IsPairError (errors.CorruptedValue c) = Unit {0}
-IsPairError (errors.Io k) = Unit {0}
-IsPairError errors.Memory = Unit {0}
-IsPairError errors.HeapFull = ⊥
-IsPairError (errors.UnsupportedType t) = ⊥
-IsPairError (errors.TypeMismatch t u) = ⊥
-IsPairError (errors.Custom s) = ⊥
-IsPairError (errors.UnsupportedVersion m n) = ⊥
-IsPairError errors.AlreadyFailed = ⊥

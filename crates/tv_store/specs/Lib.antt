@@ -1,6 +1,4 @@
-pub mod AreRead
 pub mod Error
-pub mod Version
 pub mod Stored
 pub mod Reading
 pub mod Refused

@@ -1,10 +1,19 @@
--- Pairs that were taken of a source, before they stand in a document.
-use Rattle.std.specs.Prelude.{◌≡◌, ◌<◌, ◌≤◌, ℕ, List, Ok}
-use Rattle.tv_base.specs.Reading.{vint_at}
-use Rattle.tv_base.specs.Take.{Place}
+-- Pairs that are taken of a source, before they stand in a document, and documents by the bytes that spell them.
+use Rattle.std.specs.Prelude.{◌≡◌, ◌<◌, ◌≤◌, ◌++◌, ℕ, List, length, Result, Ok, Err}
+use Rattle.tv_base.specs.Number.{VNum}
+use Rattle.tv_base.specs.Parts.{Each}
+use Rattle.tv_base.specs.PartFault.{InEach}
+use Rattle.tv_doc.specs.declared.add_error.AddError.{AddError}
+use Rattle.tv_doc.specs.declared.document.CompactDoc.{CompactDoc}
+use Rattle.tv_doc.specs.Document.{document_of, Adds}
 use Rattle.tv_doc.specs.Room.{document_room}
+use Rattle.tv_value.specs.Fault.{Refusal, PairFault, AnyLegacy}
+use Rattle.tv_value.specs.Owned.{owned_tree}
+use Rattle.tv_value.specs.Spelling.{Spells, SpellsPair, SpellsDocument, NoLegacy}
 use Rattle.tv_value.specs.Tree.{Tree, leaf, text, unsigned, Document}
-use Rattle.tv_store.specs.Reading.{pairs_at}
+use Rattle.tv_value.specs.Version.{Version}
+use Rattle.tv_reader.specs.declared.error.DeserializeError.{DeserializeError}
+use Rattle.tv_store.specs.Error.{add_error}
 use Rattle.tv_store.specs.declared.pairs.Taken.{Taken}
 use Rattle.tv_store.specs.declared.pairs.Taken.TheVariants as taken
 
@@ -12,25 +21,53 @@ use Rattle.tv_store.specs.declared.pairs.Taken.TheVariants as taken
 abbrev pub taken_tree : List ℕ → Taken → Tree
 taken_tree buffer taken.Text = leaf (text buffer)
 taken_tree buffer (taken.U64 n) = leaf (unsigned n)
+taken_tree buffer (taken.Other value) = owned_tree value
 
 abbrev pub taken_pair : List ℕ → ℕ × Taken → ℕ × Tree
 taken_pair buffer pair = (pair.0, taken_tree buffer pair.1)
 
-abbrev pub at : {S : Type 0} → S → ℕ → Place S
-at s n = record { source = s; count = n }
+abbrev pub SpellsTaken : Version → List ℕ → List ℕ → Taken → Type 0
+SpellsTaken v buffer b value = Spells NoLegacy v b (taken_tree buffer value)
+
+abbrev pub SpellsTakenPair : Version → List ℕ → List ℕ → ℕ × Taken → Type 0
+SpellsTakenPair v buffer b pair = SpellsPair NoLegacy v b (taken_pair buffer pair)
+
+-- so many pairs, one after the other
+pub record SpellsPairs (v : Version) (n : ℕ) (b : List ℕ) (document : CompactDoc) : Type 0 where
+  pub many : length (document_of document) ≡ n
+  pub spelled : Each (SpellsPair NoLegacy v) b (document_of document)
+
+-- the number of the pairs, and each
+abbrev pub SpellsRead : Version → List ℕ → CompactDoc → Type 0
+SpellsRead v b document = SpellsDocument NoLegacy v b (document_of document)
+
+-- why there is no pair, or not so many: a legacy object isn't read
+abbrev pub NoPair : Version → List ℕ → Refusal → Type 0
+NoPair v = PairFault NoLegacy AnyLegacy v
+
+abbrev pub NoPairs : Version → ℕ → List ℕ → Refusal → Type 0
+NoPairs v n = InEach (NoPair v) (SpellsPair NoLegacy v) n
 
 -- The bytes begin with pairs, so many at most, which have no room in a heap.
-pub record HasNoRoom (announced : ℕ) (bytes : List ℕ) : Type 0 where
-  pub many : ℕ
+pub record HasNoRoom (v : Version) (announced : ℕ) (bytes : List ℕ) : Type 0 where
   pub pairs : Document
+  pub front : List ℕ
   pub rest : List ℕ
-  pub enough : many ≤ announced
-  pub reads : pairs_at many bytes ≡ Ok (pairs, rest)
+  pub joined : bytes ≡ front ++ rest
+  pub enough : length pairs ≤ announced
+  pub spelled : Each (SpellsPair NoLegacy v) front pairs
   pub full : 4294967295 < document_room pairs
 
 -- the same behind their number
-pub record DocumentHasNoRoom (bytes : List ℕ) : Type 0 where
+pub record DocumentHasNoRoom (v : Version) (bytes : List ℕ) : Type 0 where
   pub announced : ℕ
+  pub number : List ℕ
   pub behind : List ℕ
-  pub number : vint_at bytes ≡ Ok (announced, behind)
-  pub no_room : HasNoRoom announced behind
+  pub joined : bytes ≡ number ++ behind
+  pub counted : VNum number announced
+  pub no_room : HasNoRoom v announced behind
+
+-- what the addition of a pair answers, and what it leaves
+abbrev pub AddsPair : {T : Type 0} → CompactDoc → CompactDoc → ℕ → Tree → Result T DeserializeError → Type 0
+AddsPair old new field t (Ok x) = Adds {T = Unit {0}} old new field t (Ok tt)
+AddsPair old new field t (Err e) = (error : AddError) × (e ≡ add_error error) × Adds {T = Unit {0}} old new field t (Err error)

@@ -1,18 +1,17 @@
 //! Reading documents out of the store.
 
-ghost use Rattle.std.specs.Prelude.{◌≡◌, ◌≤◌, ◌++◌, ℕ, List, Ok, Err, IfOk, IfErr, IsErrOf, IsTrue, MatchOption};
-ghost use Rattle.tv_base.specs.declared.cause.Cause.{Cause};
+ghost use Rattle.std.specs.Prelude.{◌≡◌, ◌≤◌, ◌++◌, ℕ, List, IfOk, IfErr, IsErrOf};
 ghost use Rattle.tv_base.specs.declared.cause.Cause.TheVariants.{TooLong};
-ghost use Rattle.tv_store.specs.declared.error.DeserializeError.TheVariants.{CorruptedValue};
 ghost use Rattle.tv_base.specs.ReadsAs.{Known, TakesMost};
 ghost use Rattle.tv_base.specs.Stop.{Counts};
 ghost use Rattle.tv_doc.specs.Document.{document_of};
 ghost use Rattle.tv_doc.specs.Room.{document_room};
-ghost use Rattle.tv_store.specs.Documents.{BeginsWith, Answers, Tells, ShowsCause, IsReadingError};
-ghost use Rattle.tv_store.specs.Error.{store_stop, TakesBy};
-ghost use Rattle.tv_store.specs.Reading.{document_at};
-ghost use Rattle.tv_store.specs.AreRead.{are_read};
-ghost use Rattle.tv_store.specs.Version.{version_of, numbered};
+ghost use Rattle.tv_reader.specs.Error.{store_stop};
+ghost use Rattle.tv_reader.specs.Version.{version_of};
+ghost use Rattle.tv_reader.specs.declared.error.DeserializeError.{DeserializeError};
+ghost use Rattle.tv_reader.specs.declared.error.DeserializeError.TheVariants.{CorruptedValue, HeapFull};
+ghost use Rattle.tv_store.specs.Documents.{BeginsWith, Answers, NoDocument, HasNoRoom, ShowsRefusal, IsRefusal, IsReadingError};
+ghost use Rattle.tv_value.specs.Fault.{Refusal};
 ghost use Rattle.tv_value.specs.Spelling.{SpellsDocument, NoLegacy};
 ghost use Rattle.tv_value.specs.Tree.{Document};
 
@@ -21,37 +20,15 @@ use crate::pairs::take_document;
 use std::alloc::Global;
 use tv_base::ByteSource;
 use tv_doc::document::CompactDoc;
+pub use tv_reader::version::DocStoreVersion;
 
-/// A version of the store format.
-#[derive(Clone, Copy, Debug, PartialEq, Eq, PartialOrd, Ord)]
-pub enum DocStoreVersion {
-    /// Dates are microseconds since 1970.
-    V1 = 1,
-    /// Dates are nanoseconds since 1970.
-    V2 = 2,
-}
-
-impl DocStoreVersion {
-    /// The version of this number. Every number other than 1 and 2 is refused as `UnsupportedVersion`, with itself and the
-    /// largest that there is, 2.
-    pub fn from_u32(number: u32) -> Result<DocStoreVersion, DeserializeError>
-        ensures { MatchOption (numbered number) (result ≡ Err (DeserializeError.UnsupportedVersion number 2)) (λ version. result ≡ Ok version) }
-    {
-        match number {
-            1 => Ok(DocStoreVersion::V1),
-            2 => Ok(DocStoreVersion::V2),
-            _ => Err(DeserializeError::UnsupportedVersion(number, 2)),
-        }
-    }
-}
-
-/// Reads a document, however the source cuts its bytes, and takes no byte behind it.
+/// Reads a document, however the source cuts its bytes, and takes no byte behind it. Values of every type are read, to any
+/// depth, but for legacy objects, which are refused as `LegacyJson`.
 ///
-/// Texts and numbers of type u64 are read; the codes of other types are refused as `UnknownTypeCode`.
-///
-/// Errors, the first fault in reading order: `CorruptedValue` where the bytes spell no document, `HeapFull` where the pairs
-/// so far need more room than 4294967295 bytes, `Io` where the source failed, `Memory` where memory was refused. After
-/// `CorruptedValue` just the bytes that show the cause were taken.
+/// Errors, the first fault in reading order: `CorruptedValue` where the bytes spell no document, `TypeMismatch` where in a key's
+/// place stands a value that isn't a text, `HeapFull` where the pairs so far need more room than 4294967295 bytes, `Io` where
+/// the source failed, `Memory` where memory was refused. After `CorruptedValue` and `TypeMismatch` just the bytes that show the
+/// fault were taken.
 pub fn read_document<S: ByteSource>(
     alloc: Global,
     source: &mut S,
@@ -61,14 +38,15 @@ pub fn read_document<S: ByteSource>(
     ensures found { S.tells source.old → IfOk result (λ d. BeginsWith (version_of version) (S.left source.old) (S.left source.new) (document_of d)) }
 
     // wherever a front spells a document that has room, that one is answered
-    ensures only { Known S.tells S.left source.old → (d : Document) (front rest : List ℕ) → S.left source.old ≡ front ++ rest → SpellsDocument NoLegacy (version_of version) front d → IsTrue (are_read d) → document_room d ≤ 4294967295 → Answers result d rest (S.left source.new) }
+    ensures only { Known S.tells S.left source.old → (d : Document) (front rest : List ℕ) → S.left source.old ≡ front ++ rest → SpellsDocument NoLegacy (version_of version) front d → document_room d ≤ 4294967295 → Answers result d rest (S.left source.new) }
 
     // refusals of the bytes are true of them, and others don't come
-    ensures tells { Known S.tells S.left source.old → IfErr result (Tells (version_of version) (S.left source.old)) }
+    ensures fault { Known S.tells S.left source.old → (e : DeserializeError) (r : Refusal) → IsErrOf result e → IsRefusal e r → NoDocument (version_of version) (S.left source.old) r }
+    ensures full { S.tells source.old → IsErrOf result HeapFull → HasNoRoom (version_of version) (S.left source.old) }
     ensures errors { IfErr result IsReadingError }
 
-    // just the bytes that show the cause were taken, and after every error a slice of what was left
-    ensures shows { Known S.tells S.left source.old → (c : Cause) → IsErrOf result (CorruptedValue c) → ShowsCause (version_of version) (S.left source.old) (S.left source.new) c }
+    // just the bytes that show the fault were taken, and after every error a slice of what was left
+    ensures shows { Known S.tells S.left source.old → (e : DeserializeError) (r : Refusal) → IsErrOf result e → IsRefusal e r → ShowsRefusal (version_of version) (S.left source.old) (S.left source.new) r }
     ensures taken { S.tells source.old → (front : List ℕ) × (S.left source.old ≡ front ++ S.left source.new) }
 
     // so many bytes that no more can be counted were taken
@@ -78,7 +56,6 @@ pub fn read_document<S: ByteSource>(
     ensures faults { Counts store_stop result (S.faults source.old) (S.faults source.new) }
     ensures still_tells { S.tells source.old → S.tells source.new }
 {
-    let _ = version;
     let mut count = 0;
-    take_document(alloc, source, &mut count)
+    take_document(alloc, source, &mut count, version)
 }

@@ -6,9 +6,9 @@ pub mod error;
 pub mod laws;
 mod pairs;
 pub mod se;
-pub mod type_codes;
 mod value_writer;
 
 pub use de::{DocStoreVersion, read_document};
 pub use error::{DeserializeError, SerializeError, ValueType};
 pub use se::BinaryDocumentSerializer;
+pub use tv_reader::type_codes;

@@ -46,7 +46,7 @@ sized_found bytes rest content behind n p l is after = record {
 pub text_found : (bytes rest content : List ℕ) → Begins (λ b. Sized b content) bytes rest → IsUtf8 content → Begins (λ b. Text b content) bytes rest
 text_found bytes rest content p u = record { front = p.front; joined = p.joined; spelled = record { sized = p.spelled; utf8 = u } }
 
-each_push : {A : Type 0} (R : List ℕ → A → Type 0) (xs : List A) (x : A) (a b : List ℕ) → Each R a xs → R b x → Each R (a ++ b) (xs ++ x ∷ [])
+pub each_push : {A : Type 0} (R : List ℕ → A → Type 0) (xs : List A) (x : A) (a b : List ℕ) → Each R a xs → R b x → Each R (a ++ b) (xs ++ x ∷ [])
 each_push R [] x a b p q = record { front = b; rest = []; joined = ap (λ z. z ++ b) p ∙ sym (append-nil b); first = q; second = refl }
 each_push R (y ∷ xs) x a b p q = record {
   front = p.front;

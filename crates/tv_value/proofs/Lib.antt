@@ -1,3 +1,4 @@
+pub mod Addresses
 pub mod Leaves
 pub mod Trees
 pub mod ExcludingLeaves
@@ -6,6 +7,7 @@ pub mod SingleLeaves
 pub mod SingleTrees
 pub mod ShortSpellings
 pub mod Fronts
+pub mod Lists
 pub mod Kept
 pub mod InPlace
 pub mod TokenSteps

@@ -4,6 +4,7 @@ pub mod Version
 pub mod Spelling
 pub mod Short
 pub mod Fault
+pub mod ListFault
 pub mod DateTime
 pub mod Cases
 pub mod Size

@@ -153,7 +153,7 @@ fn a_padded_zero_is_the_empty_document(rt: HostRuntime) {
 
 #[test]
 fn faults_have_their_true_cause(rt: HostRuntime) {
-    let cases: [(&[u8], Cause); 12] = [
+    let cases: [(&[u8], Cause); 16] = [
         (&[], Cause::UnexpectedEnd),
         // 2^64 - 1 pairs are announced, and 2^64
         (
@@ -180,8 +180,19 @@ fn faults_have_their_true_cause(rt: HostRuntime) {
             Cause::UnexpectedEnd,
         ),
         (&[0x81, 0, 0, 0], Cause::UnexpectedEnd),
-        // the code of null, which isn't read yet
-        (&[0x81, 0xff, 0xff, 0, 0, 0x0b], Cause::UnknownTypeCode(11)),
+        // an object that announces one key or value, and one with a number as its key
+        (&[0x81, 0, 0, 0, 0, 0x0d, 0x81], Cause::OddObject),
+        (&[0x81, 0, 0, 0, 0, 0x0d, 0x82, 0x06], Cause::FloatCode),
+        // a legacy object
+        (&[0x81, 0, 0, 0, 0, 0x08, 0x7b], Cause::LegacyJson),
+        // an array and an object of more values than there are
+        (
+            &[
+                0x81, 0, 0, 0, 0, 0x0c, 0x7f, 0x7f, 0x7f, 0x7f, 0x7f, 0x7f, 0x7f, 0x7f, 0x7f, 0x81,
+            ],
+            Cause::UnexpectedEnd,
+        ),
+        (&[0x81, 0, 0, 0, 0, 0x0d, 0x81, 0, 0x80], Cause::OddObject),
     ];
     for (bytes, cause) in cases {
         for outcome in outcomes(rt.alloc(), bytes) {

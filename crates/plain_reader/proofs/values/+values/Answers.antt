@@ -7,7 +7,8 @@ use Rattle.tv_base.specs.Parts.{Begins}
 use Rattle.tv_value.specs.Spelling.{Key, SpellsElements, SpellsEntries, NoLegacy}
 use Rattle.tv_value.specs.Tree.{array, object, elements}
 use Rattle.tv_value.proofs.Fronts.{begins_length}
-use Rattle.plain_reader.proofs.PlainValues.{tree_of-Array, tree_of-Object, found_as, ends_value, begins_push, begins_array, count_fault, array_fault, element_fault, begins_entry, begins_object, number_fault, odd_fault, object_fault, key_fault, entry_fault}
+use Rattle.tv_value.proofs.Lists.{begins_push}
+use Rattle.plain_reader.proofs.PlainValues.{tree_of-Array, tree_of-Object, found_as, ends_value, begins_array, count_fault, array_fault, element_fault, begins_entry, begins_object, number_fault, odd_fault, object_fault, key_fault, entry_fault}
 use Rattle.plain_reader.proofs.values.+values.Goals as goal
 
 pub value_at-returns-in_default-clause-fault : goal.value_at-returns-in_default-clause-fault

@@ -5,11 +5,10 @@ use Rattle.tv_value.specs.Version.{V2}
 use Rattle.tantivy_schema.proofs.laws.stored_pairs_are_read_back.Goals as goal
 
 pub returns : goal.returns
-returns g c = λ known read small rest e.
+returns g c = λ known small rest e.
     let schema = c.args.schema.now in
     let document = c.args.document.now in
     let pairs = stored schema (document_of document) in
     c.read_document.ensures.only known pairs _ rest e
     (c.short_documents_spell.ensures V2 tt pairs (c.stored_pairs_are_valid.ensures schema (document_of document) (c.documents_are_valid.ensures document)))
-    read
     (omega (arith, c.stored_pairs_need_no_more_room.ensures schema (document_of document)))

@@ -1,10 +1,11 @@
 use Rattle.std.proofs.Common.{Ok}
-use Rattle.tv_doc.specs.Document.{document_of}
-use Rattle.tv_store.specs.Error.{TakesBy}
-use Rattle.tv_store.specs.Reading.{pairs_at}
+use Rattle.tv_reader.specs.Finds.{Finds}
+use Rattle.tv_reader.specs.Version.{version_of}
+use Rattle.tv_store.specs.Pairs.{SpellsPairs}
 use Rattle.tv_store.proofs.pairs.take_pairs.Given as goal
 
+-- the pairs so far are spelled by what was taken
 abbrev pub invariant-loop : goal.invariant-loop
 invariant-loop g l =
     let source = g.S.ByteSource in
-    TakesBy source.tells source.left source.faults l.initial.source l.initial.count l.source l.count document_of (Ok l.document) (pairs_at l.counter)
+    Finds source.tells source.left source.faults l.initial.source l.initial.count l.source l.count (Ok l.document) (SpellsPairs (version_of l.version) l.counter) (λ w r. ⊥)

@@ -1,8 +1,8 @@
 -- The versions that stores are read in.
 use Rattle.std.specs.Prelude.{ℕ, zero, suc, Option, Some, None}
 use Rattle.tv_value.specs.Version.{Version, V1, V2}
-use Rattle.tv_store.specs.declared.de.DocStoreVersion.{DocStoreVersion}
-use Rattle.tv_store.specs.declared.de.DocStoreVersion.TheVariants as stores
+use Rattle.tv_reader.specs.declared.version.DocStoreVersion.{DocStoreVersion}
+use Rattle.tv_reader.specs.declared.version.DocStoreVersion.TheVariants as stores
 
 abbrev pub version_of : DocStoreVersion → Version
 version_of stores.V1 = V1

@@ -1,0 +1,299 @@
+-- Readings of values that hold no others agree with their grammar.
+use Rattle.std.proofs.Common.{◌≡◌, ◌⊎◌, ℕ, Bool, true, false, List, [], ◌++◌, length, Result, Ok, Err, refl, sym, ap, subst, ◌∙◌, arith, append_assoc, inl, inr}
+use Rattle.std.specs.Prelude.{ℤ, pos, negsuc, ◌*ℤ◌, ◌≤ℤ◌, ◌<ℤ◌, FitsSigned}
+use Rattle.std.specs.Int.{w64}
+use Rattle.std.specs.Int.Signed.{lt_z}
+use Rattle.std.proofs.lemmas.Int.{ints}
+use Rattle.std.proofs.lemmas.List.{append-nil}
+use Rattle.tv_base.specs.declared.cause.Cause.{Cause}
+use Rattle.tv_base.specs.declared.cause.Cause.TheVariants.{UnexpectedEnd, DateRange, LegacyJson}
+use Rattle.tv_base.specs.Source.{AllBytes}
+use Rattle.tv_base.specs.Stop.{◌>>=◌}
+use Rattle.tv_base.specs.Number.{VNum, Signed}
+use Rattle.tv_base.specs.Parts.{Text, Each, Then}
+use Rattle.tv_base.specs.Reading.{vint_at}
+use Rattle.tv_base.specs.PartFault.{InThen, InEach, NumberFault, BytesFault, TextFault}
+use Rattle.tv_base.proofs.Agrees.{Agrees, InTurn, agrees_too, in_turn, make, made, chosen, nothing_read, nothing_stands}
+use Rattle.tv_base.proofs.AgreeWidths.{bytes_fault, u64_agrees, u128_agrees, i64_agrees}
+use Rattle.tv_base.proofs.AgreeNumbers.{vint_agrees}
+use Rattle.tv_base.proofs.AgreeParts.{sized_agrees, text_agrees, each_agrees}
+use Rattle.tv_base.proofs.AgreeTruth.{truth_agrees}
+use Rattle.tv_value.specs.Fault.{TokenFault, TokenizedFault, DateFault, date_ends, date_range}
+use Rattle.tv_value.specs.Spelling.{TokenSpelling}
+use Rattle.tv_value.specs.Tree.{Token, leaf, null, text, unsigned, signed, boolean, date, facet, bytes, ip_address, tokenized}
+use Rattle.tv_value.specs.Version.{Version, V1, V2, V3, Date, Microseconds}
+use Rattle.tv_reader.specs.LeafBodies.{TokenizedPair, LeafOf, LeafOfFault}
+use Rattle.tv_reader.specs.Leaves.{micros_of, date_at, offsets_at, named_at, placed_at, token_at, tokens_at, counted_tokens_at, tokenized_at, leaf_at}
+use Rattle.tv_reader.specs.declared.error.ValueType.{ValueType}
+use Rattle.tv_reader.specs.declared.error.ValueType.TheVariants as types
+
+-- ---- dates
+
+abbrev Ranged : ℤ → List ℕ → ℤ → Type 0
+Ranged z rest n =
+    ((lt_z z (negsuc 9223372036854774) ≡ true) × ⊥)
+    ⊎ ((lt_z z (negsuc 9223372036854774) ≡ false) × (((lt_z (pos 9223372036854775) z ≡ true) × ⊥)
+    ⊎ ((lt_z (pos 9223372036854775) z ≡ false) × ((rest ≡ []) × (n ≡ z *ℤ pos 1000)))))
+
+abbrev RangeFault : ℤ → List ℕ → Cause → Type 0
+RangeFault z rest c =
+    ((lt_z z (negsuc 9223372036854774) ≡ true) × (c ≡ DateRange))
+    ⊎ ((lt_z z (negsuc 9223372036854774) ≡ false) × (((lt_z (pos 9223372036854775) z ≡ true) × (c ≡ DateRange))
+    ⊎ ((lt_z (pos 9223372036854775) z ≡ false) × ⊥)))
+
+at_least : (a b : ℤ) → lt_z a b ≡ false → b ≤ℤ a
+at_least a b e = omega (arith, ints)
+
+below : (a b : ℤ) → lt_z a b ≡ true → a <ℤ b
+below a b e = omega (arith, ints)
+
+no_true : (b : Bool) → (b ≡ true → ⊥) → b ≡ false
+no_true true h = absurd (h refl)
+no_true false h = refl
+
+not_below : (a b : ℤ) → b ≤ℤ a → lt_z a b ≡ false
+not_below a b e = no_true (lt_z a b) (λ h. let l : a <ℤ b = below a b h in omega (arith, ints))
+
+within_fits : (z : ℤ) → negsuc 9223372036854774 ≤ℤ z → z ≤ℤ pos 9223372036854775 → FitsSigned w64 z
+within_fits (pos n) p q = record { sfits = omega (arith, ints) }
+within_fits (negsuc n) p q = record { sfits = omega (arith, ints) }
+
+micros_to : (whole : List ℕ) (n : ℤ) → AllBytes whole → InTurn Signed Ranged whole n → Microseconds whole n
+micros_to whole n small p = elim p.1.second [
+  | inl q ↦ absurd q.1
+  | inr q ↦ elim q.1 [
+    | inl r ↦ absurd r.1
+    | inr r ↦
+        let all : p.1.front ≡ whole = sym (p.1.joined ∙ ap (λ (l : List ℕ). p.1.front ++ l) r.1.0 ∙ append-nil p.1.front) in
+        let there = subst (λ (l : List ℕ). Signed l p.0) all p.1.first in
+        record {
+          microseconds = p.0;
+          from = at_least p.0 (negsuc 9223372036854774) q.0;
+          to = at_least (pos 9223372036854775) p.0 r.0;
+          same = r.1.1;
+          spelled = there.spelled;
+        }
+  ]
+]
+
+micros_from : (whole : List ℕ) (n : ℤ) → Microseconds whole n → InTurn Signed Ranged whole n
+micros_from whole n h = (
+  h.microseconds,
+  record {
+    front = whole;
+    rest = [];
+    joined = sym (append-nil whole);
+    first = record { fits = within_fits h.microseconds h.from h.to; spelled = h.spelled };
+    second = inr (not_below h.microseconds (negsuc 9223372036854774) h.from, inr (not_below (pos 9223372036854775) h.microseconds h.to, (refl, h.same)));
+  },
+)
+
+date_ended : (v : Version) (whole : List ℕ) (c : Cause) → BytesFault 8 whole c → DateFault whole v c
+date_ended v whole c h = let q = bytes_fault 8 whole c h in subst (DateFault whole v) (sym q.0) (date_ends q.1)
+
+outside : (whole : List ℕ) (c : Cause) (z : ℤ) (p : Then (λ b. Signed b z) (λ rest. RangeFault z rest c) whole) → c ≡ DateRange → (z <ℤ negsuc 9223372036854774) ⊎ (pos 9223372036854775 <ℤ z) → DateFault whole V1 c
+outside whole c z p is out = subst (DateFault whole V1) (sym is) (date_range z p.front p.rest p.joined p.first.spelled (record { fits = p.first.fits; outside = out }))
+
+micros_faults : (whole : List ℕ) (c : Cause) → AllBytes whole → InThen (BytesFault 8) Signed RangeFault whole c → DateFault whole V1 c
+micros_faults whole c small p = elim p [
+  | inl h ↦ date_ended V1 whole c h
+  | inr q ↦ elim q.1.second [
+    | inl r ↦ outside whole c q.0 q.1 r.1 (inl (below q.0 (negsuc 9223372036854774) r.0))
+    | inr r ↦ elim r.1 [
+      | inl s ↦ outside whole c q.0 q.1 s.1 (inr (below (pos 9223372036854775) q.0 s.0))
+      | inr s ↦ absurd s.1
+    ]
+  ]
+]
+
+range_agrees : (z : ℤ) → Agrees UnexpectedEnd (micros_of z) (Ranged z) (RangeFault z)
+range_agrees z =
+    chosen (lt_z z (negsuc 9223372036854774)) (nothing_stands DateRange (λ e. cc))
+    (chosen (lt_z (pos 9223372036854775) z) (nothing_stands DateRange (λ e. cc)) (nothing_read UnexpectedEnd (z *ℤ pos 1000)))
+
+same_read : {F Y : Type 0} (r : Result (Y × List ℕ) F) → (r >>= λ x. Ok (x.0, x.1)) ≡ r
+same_read (Ok x) = refl
+same_read (Err e) = refl
+
+pub date_agrees : (v : Version) → Agrees UnexpectedEnd (date_at v) (Date v) (λ whole c. DateFault whole v c)
+unfolding date_at
+date_agrees V1 = agrees_too (λ whole. refl) micros_to micros_from micros_faults (in_turn {b = micros_of} i64_agrees range_agrees)
+date_agrees V2 = agrees_too (λ whole. same_read _) (λ whole z small h. h) (λ whole z h. h) (λ whole c small h. date_ended V2 whole c h) i64_agrees
+date_agrees V3 = agrees_too (λ whole. same_read _) (λ whole z small h. h) (λ whole z h. h) (λ whole c small h. date_ended V3 whole c h) i64_agrees
+
+-- ---- tokens
+
+abbrev Offsets : List ℕ → ℕ × ℕ → Type 0
+Offsets = InTurn VNum (λ from whole pair. (to : ℕ) × VNum whole to × (pair ≡ (from, to)))
+
+abbrev Named : List ℕ → List ℕ × ℕ → Type 0
+Named = InTurn Text (λ content whole pair. (n : ℕ) × VNum whole n × (pair ≡ (content, n)))
+
+abbrev Placed : List ℕ → ℕ × (List ℕ × ℕ) → Type 0
+Placed = InTurn VNum (λ position whole x. (named : List ℕ × ℕ) × Named whole named × (x ≡ (position, named)))
+
+abbrev OffsetsFault : List ℕ → Cause → Type 0
+OffsetsFault = InThen NumberFault VNum (λ _. NumberFault)
+
+abbrev PlacedFault : List ℕ → Cause → Type 0
+PlacedFault = InThen NumberFault VNum (λ _. InThen TextFault Text (λ _. NumberFault))
+
+offsets_agree : Agrees UnexpectedEnd offsets_at Offsets OffsetsFault
+unfolding offsets_at
+offsets_agree = in_turn {b = λ from whole. vint_at whole >>= make (λ to. (from, to))} vint_agrees (λ from. made (λ to. (from, to)) vint_agrees)
+
+named_agree : Agrees UnexpectedEnd named_at Named (InThen TextFault Text (λ _. NumberFault))
+unfolding named_at
+named_agree = in_turn {b = λ content whole. vint_at whole >>= make (λ n. (content, n))} text_agrees (λ content. made (λ n. (content, n)) vint_agrees)
+
+placed_agree : Agrees UnexpectedEnd placed_at Placed PlacedFault
+unfolding placed_at
+placed_agree = in_turn {b = λ position whole. named_at whole >>= make (λ named. (position, named))} vint_agrees (λ position. made (λ named. (position, named)) named_agree)
+
+abbrev token_with : ℕ × ℕ → ℕ × (List ℕ × ℕ) → Token
+token_with offsets placed = record { offset_from = offsets.0; offset_to = offsets.1; position = placed.0; text = placed.1.0; position_length = placed.1.1 }
+
+abbrev TokenParts : List ℕ → Token → Type 0
+TokenParts = InTurn Offsets (λ offsets whole t. (placed : ℕ × (List ℕ × ℕ)) × Placed whole placed × (t ≡ token_with offsets placed))
+
+token_to : (whole : List ℕ) (t : Token) → AllBytes whole → TokenParts whole t → TokenSpelling whole t
+token_to whole t small p =
+    let o = p.1.first.1 in
+    let q = p.1.second in
+    let at = q.1.1 in
+    let named = at.second in
+    let word = named.1.1 in
+    let same : t ≡ token_with (p.1.first.0, o.second.0) (q.1.0, (named.1.0, word.second.0)) =
+    q.2 ∙ ap (λ x. token_with x q.0) o.second.2 ∙ ap (λ x. token_with (p.1.first.0, o.second.0) x) (named_is q.0 q.1.0 named.0 (named.1.0, word.second.0) named.2 word.second.2) in
+    subst (TokenSpelling whole) (sym same) (record {
+      front = o.front;
+      rest = o.rest ++ p.1.rest;
+      joined = p.1.joined ∙ ap (λ (l : List ℕ). l ++ p.1.rest) o.joined ∙ append_assoc o.front o.rest p.1.rest;
+      first = o.first;
+      second = record {
+        front = o.rest;
+        rest = p.1.rest;
+        joined = refl;
+        first = o.second.1;
+        second = record {
+          front = at.front;
+          rest = at.rest;
+          joined = at.joined;
+          first = at.first;
+          second = record { front = word.front; rest = word.rest; joined = word.joined; first = word.first; second = word.second.1 };
+        };
+      };
+    })
+  where
+    named_is : (x : ℕ × (List ℕ × ℕ)) (position : ℕ) (named pair : List ℕ × ℕ) → x ≡ (position, named) → named ≡ pair → x ≡ (position, pair)
+    named_is x position named pair p q = p ∙ ap (λ z. (position, z)) q
+
+token_from : (whole : List ℕ) (t : Token) → TokenSpelling whole t → TokenParts whole t
+token_from whole t h =
+    let s = h.second in
+    let at = s.second in
+    let word = at.second in (
+      (t.offset_from, t.offset_to),
+      record {
+        front = h.front ++ s.front;
+        rest = s.rest;
+        joined = h.joined ∙ ap (λ (l : List ℕ). h.front ++ l) s.joined ∙ sym (append_assoc h.front s.front s.rest);
+        first = (t.offset_from, record { front = h.front; rest = s.front; joined = refl; first = h.first; second = (t.offset_to, s.first, refl) });
+        second = (
+          (t.position, (t.text, t.position_length)),
+          (
+            t.position,
+            record {
+              front = at.front;
+              rest = at.rest;
+              joined = at.joined;
+              first = at.first;
+              second = ((t.text, t.position_length), (t.text, record { front = word.front; rest = word.rest; joined = word.joined; first = word.first; second = (t.position_length, word.second, refl) }), refl);
+            },
+          ),
+          refl,
+        );
+      },
+    )
+
+token_faults : (whole : List ℕ) (c : Cause) → AllBytes whole → InThen OffsetsFault Offsets (λ _. PlacedFault) whole c → TokenFault whole c
+token_faults whole c small p = elim p [
+  | inl q ↦ elim q [
+    | inl h ↦ inl h
+    | inr h ↦ inr (h.0, record { front = h.1.front; rest = h.1.rest; joined = h.1.joined; first = h.1.first; second = inl h.1.second })
+  ]
+  | inr q ↦
+      let o = q.1.first.1 in
+      inr (
+        q.1.first.0,
+        record {
+          front = o.front;
+          rest = o.rest ++ q.1.rest;
+          joined = q.1.joined ∙ ap (λ (l : List ℕ). l ++ q.1.rest) o.joined ∙ append_assoc o.front o.rest q.1.rest;
+          first = o.first;
+          second = inr (o.second.0, record { front = o.rest; rest = q.1.rest; joined = refl; first = o.second.1; second = q.1.second });
+        },
+      )
+]
+
+token_agrees : Agrees UnexpectedEnd token_at TokenSpelling TokenFault
+unfolding token_at
+token_agrees = agrees_too (λ whole. refl) token_to token_from token_faults
+    (in_turn {b = λ offsets whole. placed_at whole >>= make (λ placed. token_with offsets placed)} offsets_agree (λ offsets. made (λ placed. token_with offsets placed) placed_agree))
+
+-- ---- texts with their tokens
+
+abbrev CountedTokens : List ℕ → List Token → Type 0
+CountedTokens = InTurn VNum (λ n whole ts. (length ts ≡ n) × Each TokenSpelling whole ts)
+
+counted_agree : Agrees UnexpectedEnd counted_tokens_at CountedTokens (InThen NumberFault VNum (InEach TokenFault TokenSpelling))
+unfolding counted_tokens_at
+counted_agree = in_turn {b = tokens_at} vint_agrees (each_agrees token_agrees)
+
+tokenized_to : (whole : List ℕ) (pair : List ℕ × List Token) → AllBytes whole → InTurn Text (λ content b x. (ts : List Token) × CountedTokens b ts × (x ≡ (content, ts))) whole pair → TokenizedPair whole pair
+tokenized_to whole pair small p =
+    let q = p.1.second in
+    let counted = q.1.1 in
+    subst (TokenizedPair whole) (sym q.2) (record {
+      front = p.1.front;
+      rest = p.1.rest;
+      joined = p.1.joined;
+      first = p.1.first;
+      second = record { front = counted.front; rest = counted.rest; joined = counted.joined; first = subst (VNum counted.front) (sym counted.second.0) counted.first; second = counted.second.1 };
+    })
+
+tokenized_from : (whole : List ℕ) (pair : List ℕ × List Token) → TokenizedPair whole pair → InTurn Text (λ content b x. (ts : List Token) × CountedTokens b ts × (x ≡ (content, ts))) whole pair
+tokenized_from whole pair h =
+    let counted = h.second in (
+      pair.0,
+      record {
+        front = h.front;
+        rest = h.rest;
+        joined = h.joined;
+        first = h.first;
+        second = (pair.1, (length pair.1, record { front = counted.front; rest = counted.rest; joined = counted.joined; first = counted.first; second = (refl, counted.second) }), refl);
+      },
+    )
+
+pub tokenized_agrees : Agrees UnexpectedEnd tokenized_at TokenizedPair TokenizedFault
+unfolding tokenized_at
+tokenized_agrees = agrees_too (λ whole. refl) tokenized_to tokenized_from (λ whole c small h. h)
+    (in_turn {b = λ content whole. counted_tokens_at whole >>= make (λ ts. (content, ts))} text_agrees (λ content. made (λ ts. (content, ts)) counted_agree))
+
+-- ---- leaves
+
+pub leaf_agrees : (v : Version) (kind : ValueType) → Agrees UnexpectedEnd (leaf_at v kind) (LeafOf v kind) (LeafOfFault v kind)
+unfolding leaf_at
+leaf_agrees v types.String = made (λ x. leaf (text x)) text_agrees
+leaf_agrees v types.U64 = made (λ x. leaf (unsigned x)) u64_agrees
+leaf_agrees v types.I64 = made (λ x. leaf (signed x)) i64_agrees
+leaf_agrees v types.Facet = made (λ x. leaf (facet x)) text_agrees
+leaf_agrees v types.Bytes = made (λ x. leaf (bytes x)) sized_agrees
+leaf_agrees v types.DateTime = made (λ x. leaf (date x)) (date_agrees v)
+leaf_agrees v types.PreTokStr = made (λ x. leaf (tokenized x.0 x.1)) tokenized_agrees
+leaf_agrees v types.Bool = made (λ x. leaf (boolean x)) truth_agrees
+leaf_agrees v types.IpAddr = made (λ x. leaf (ip_address x)) u128_agrees
+leaf_agrees v types.Null = nothing_read UnexpectedEnd (leaf null)
+leaf_agrees v types.JSONObject = nothing_stands LegacyJson (λ e. cc)
+leaf_agrees v types.Array = nothing_stands LegacyJson (λ e. cc)
+leaf_agrees v types.Object = nothing_stands LegacyJson (λ e. cc)

@@ -1,0 +1,169 @@
+-- How the type of a value and what stands behind it make the value.
+use Rattle.std.proofs.Common.{◌≡◌, ◌≢◌, ℕ, true, false, List, [], ◌∷◌, ◌++◌, Result, Ok, refl, sym, subst, ◌∙◌, arith}
+use Rattle.tv_base.specs.declared.cause.Cause.{Cause}
+use Rattle.tv_base.specs.declared.cause.Cause.TheVariants.{UnexpectedEnd}
+use Rattle.tv_base.specs.PartFault.{TruthFault, truth_ends, truth_large}
+use Rattle.tv_base.specs.Source.{AllBytes, Faults}
+use Rattle.tv_base.specs.Take as reads
+use Rattle.tv_base.proofs.Agrees.{same_start}
+use Rattle.tv_value.specs.Fault.{Refusal, corrupted, no_text_key, in_text, in_unsigned, in_signed, in_facet, in_bytes, in_date, no_extension, other_extension, in_tokenized, no_truth, other_truth, in_ip_address, CodedKeyFault, key_ends, key_unknown, key_float, key_other, key_no_extension, key_tokenized, key_other_extension, value_ends, unknown_code, float_code, in_leaf, in_legacy, in_count, in_element, in_entry_count, odd_count, in_entry_key, in_entry, in_key}
+use Rattle.tv_value.specs.Spelling.{Spells, NoLegacy}
+use Rattle.tv_value.specs.Tree.{Tree}
+use Rattle.tv_value.specs.Version.{Version}
+use Rattle.tv_reader.specs.Finds.{Finds}
+use Rattle.tv_reader.specs.Kinds.{kind_at}
+use Rattle.tv_reader.specs.LeafBodies.{LeafOf, LeafOfFault}
+use Rattle.tv_reader.specs.Leaves.{is_leaf_type}
+use Rattle.tv_reader.specs.Trees.{NoValue}
+use Rattle.tv_reader.specs.ValueType.{type_code, coded, CodeFault, no_code, unknown_type, float_type, no_extension_code, unknown_extension}
+use Rattle.tv_reader.specs.declared.error.DeserializeError.{DeserializeError}
+use Rattle.tv_reader.specs.declared.error.ValueType.{ValueType}
+use Rattle.tv_reader.specs.declared.error.ValueType.TheVariants as types
+use Rattle.tv_reader.proofs.AgreeKinds.{kind_agrees}
+use Rattle.tv_reader.proofs.Finding.{finds_then, finds_part}
+
+abbrev end : Refusal
+end = corrupted UnexpectedEnd
+
+-- ---- behind a code
+
+-- without its last byte a code is at its end
+kind_edge : (Q : List ℕ → Refusal → Type 0) → Q [] end → Q (7 ∷ []) end → (kind : ValueType) (start : List ℕ) (byte : ℕ) → coded kind ≡ start ++ byte ∷ [] → Q start end
+kind_edge Q none seven types.String start byte last = subst (λ l. Q l end) (sym (same_start start [] byte 0 (sym last))) none
+kind_edge Q none seven types.U64 start byte last = subst (λ l. Q l end) (sym (same_start start [] byte 1 (sym last))) none
+kind_edge Q none seven types.I64 start byte last = subst (λ l. Q l end) (sym (same_start start [] byte 2 (sym last))) none
+kind_edge Q none seven types.Facet start byte last = subst (λ l. Q l end) (sym (same_start start [] byte 3 (sym last))) none
+kind_edge Q none seven types.Bytes start byte last = subst (λ l. Q l end) (sym (same_start start [] byte 4 (sym last))) none
+kind_edge Q none seven types.DateTime start byte last = subst (λ l. Q l end) (sym (same_start start [] byte 5 (sym last))) none
+kind_edge Q none seven types.PreTokStr start byte last = subst (λ l. Q l end) (sym (same_start start (7 ∷ []) byte 0 (sym last))) seven
+kind_edge Q none seven types.JSONObject start byte last = subst (λ l. Q l end) (sym (same_start start [] byte 8 (sym last))) none
+kind_edge Q none seven types.Bool start byte last = subst (λ l. Q l end) (sym (same_start start [] byte 9 (sym last))) none
+kind_edge Q none seven types.IpAddr start byte last = subst (λ l. Q l end) (sym (same_start start [] byte 10 (sym last))) none
+kind_edge Q none seven types.Null start byte last = subst (λ l. Q l end) (sym (same_start start [] byte 11 (sym last))) none
+kind_edge Q none seven types.Array start byte last = subst (λ l. Q l end) (sym (same_start start [] byte 12 (sym last))) none
+kind_edge Q none seven types.Object start byte last = subst (λ l. Q l end) (sym (same_start start [] byte 13 (sym last))) none
+
+-- the type was taken, and then what stands behind it
+pub finds_behind : {S Y : Type 0} {tells : S → Type 0} {left : S → List ℕ} {faults : S → Faults} {old mid new : S} {i j k : ℕ} {kind : ValueType} {result : Result Y DeserializeError} (B : List ℕ → Y → Type 0) (Q : List ℕ → Refusal → Type 0)
+    → ((source : S) → tells source → AllBytes (left source)) → Q [] end → Q (7 ∷ []) end → reads.TakesBy tells left faults old i mid j (λ x. x) (Ok kind) kind_at
+    → Finds tells left faults mid j new k result (λ b y. B (coded kind ++ b) y) (λ w r. Q (coded kind ++ w) r) → Finds tells left faults old i new k result B Q
+finds_behind {kind = kind} B Q are_bytes none seven part h =
+    finds_then B Q
+    (λ a b y is p. subst (λ l. B (l ++ b) y) (sym is) p)
+    (λ a w c is q. subst (λ l. Q (l ++ w) c) (sym is) q)
+    (λ a f is _ _ start byte last. kind_edge Q none seven kind start byte (sym is ∙ last))
+    (finds_part are_bytes kind_agrees part) h
+
+pub code_value : (v : Version) (w : List ℕ) (c : Cause) → CodeFault w c → NoValue v w (corrupted c)
+code_value v _ _ no_code = value_ends
+code_value v _ _ (unknown_type h) = unknown_code h
+code_value v _ _ float_type = float_code
+code_value v _ _ no_extension_code = in_leaf (no_extension refl)
+code_value v _ _ (unknown_extension {rest = rest} h) = in_leaf (other_extension rest refl h)
+
+pub code_key : (w : List ℕ) (c : Cause) → CodeFault w c → CodedKeyFault w (corrupted c)
+code_key _ _ no_code = key_ends
+code_key _ _ (unknown_type h) = key_unknown h
+code_key _ _ float_type = key_float
+code_key _ _ no_extension_code = key_no_extension
+code_key _ _ (unknown_extension h) = key_other_extension h
+
+-- a value of another type in a key's place
+pub other_key : (kind : ValueType) (rest : List ℕ) → kind ≢ types.String → CodedKeyFault (coded kind ++ rest) (no_text_key (type_code kind))
+other_key types.String rest ne = absurd (ne refl)
+other_key types.U64 rest ne = key_other (omega arith) (omega arith) (λ e. omega (arith, e)) (λ e. omega (arith, e))
+other_key types.I64 rest ne = key_other (omega arith) (omega arith) (λ e. omega (arith, e)) (λ e. omega (arith, e))
+other_key types.Facet rest ne = key_other (omega arith) (omega arith) (λ e. omega (arith, e)) (λ e. omega (arith, e))
+other_key types.Bytes rest ne = key_other (omega arith) (omega arith) (λ e. omega (arith, e)) (λ e. omega (arith, e))
+other_key types.DateTime rest ne = key_other (omega arith) (omega arith) (λ e. omega (arith, e)) (λ e. omega (arith, e))
+other_key types.PreTokStr rest ne = key_tokenized
+other_key types.JSONObject rest ne = key_other (omega arith) (omega arith) (λ e. omega (arith, e)) (λ e. omega (arith, e))
+other_key types.Bool rest ne = key_other (omega arith) (omega arith) (λ e. omega (arith, e)) (λ e. omega (arith, e))
+other_key types.IpAddr rest ne = key_other (omega arith) (omega arith) (λ e. omega (arith, e)) (λ e. omega (arith, e))
+other_key types.Null rest ne = key_other (omega arith) (omega arith) (λ e. omega (arith, e)) (λ e. omega (arith, e))
+other_key types.Array rest ne = key_other (omega arith) (omega arith) (λ e. omega (arith, e)) (λ e. omega (arith, e))
+other_key types.Object rest ne = key_other (omega arith) (omega arith) (λ e. omega (arith, e)) (λ e. omega (arith, e))
+
+-- ---- leaves
+
+pub leaf_spelled : (v : Version) (kind : ValueType) (a : List ℕ) (t : Tree) → LeafOf v kind a t → Spells NoLegacy v (coded kind ++ a) t
+leaf_spelled v types.String a t p = subst (Spells NoLegacy v (0 ∷ a)) (sym p.2) (record { body = a; joined = refl; spelled = p.1 })
+leaf_spelled v types.U64 a t p = subst (Spells NoLegacy v (1 ∷ a)) (sym p.2) (record { body = a; joined = refl; spelled = p.1 })
+leaf_spelled v types.I64 a t p = subst (Spells NoLegacy v (2 ∷ a)) (sym p.2) (record { body = a; joined = refl; spelled = p.1 })
+leaf_spelled v types.Facet a t p = subst (Spells NoLegacy v (3 ∷ a)) (sym p.2) (record { body = a; joined = refl; spelled = p.1 })
+leaf_spelled v types.Bytes a t p = subst (Spells NoLegacy v (4 ∷ a)) (sym p.2) (record { body = a; joined = refl; spelled = p.1 })
+leaf_spelled v types.DateTime a t p = subst (Spells NoLegacy v (5 ∷ a)) (sym p.2) (record { body = a; joined = refl; spelled = p.1 })
+leaf_spelled v types.PreTokStr a t p = subst (Spells NoLegacy v (7 ∷ 0 ∷ a)) (sym p.2) (record { body = 0 ∷ a; joined = refl; spelled = record { body = a; joined = refl; spelled = p.1 } })
+leaf_spelled v types.JSONObject a t p = absurd p
+leaf_spelled v types.Bool a t p = subst (Spells NoLegacy v (9 ∷ a)) (sym p.2) (record { body = a; joined = refl; spelled = p.1 })
+leaf_spelled v types.IpAddr a t p = subst (Spells NoLegacy v (10 ∷ a)) (sym p.2) (record { body = a; joined = refl; spelled = p.1 })
+leaf_spelled v types.Null a t p = subst (Spells NoLegacy v (11 ∷ a)) (sym p.1) (record { body = a; joined = refl; spelled = p.0 })
+leaf_spelled v types.Array a t p = absurd p
+leaf_spelled v types.Object a t p = absurd p
+
+truth_refused : (v : Version) (w : List ℕ) (c : Cause) → TruthFault w c → NoValue v (9 ∷ w) (corrupted c)
+truth_refused v w _ (truth_ends e) = in_leaf (no_truth e)
+truth_refused v w _ (truth_large b rest e h) = in_leaf (other_truth b rest e h)
+
+impossible : false ≡ true → ⊥
+impossible e = absurd cc
+
+pub leaf_refused : (v : Version) (kind : ValueType) → is_leaf_type kind ≡ true → (w : List ℕ) (c : Cause) → LeafOfFault v kind w c → NoValue v (coded kind ++ w) (corrupted c)
+leaf_refused v types.String is w c h = in_leaf (in_text h)
+leaf_refused v types.U64 is w c h = in_leaf (in_unsigned h)
+leaf_refused v types.I64 is w c h = in_leaf (in_signed h)
+leaf_refused v types.Facet is w c h = in_leaf (in_facet h)
+leaf_refused v types.Bytes is w c h = in_leaf (in_bytes h)
+leaf_refused v types.DateTime is w c h = in_leaf (in_date h)
+leaf_refused v types.PreTokStr is w c h = in_leaf (in_tokenized w refl h)
+leaf_refused v types.JSONObject is w c h = absurd (impossible is)
+leaf_refused v types.Bool is w c h = truth_refused v w c h
+leaf_refused v types.IpAddr is w c h = in_leaf (in_ip_address h)
+leaf_refused v types.Null is w c h = absurd h
+leaf_refused v types.Array is w c h = absurd (impossible is)
+leaf_refused v types.Object is w c h = absurd (impossible is)
+
+-- all types but those of three
+pub leaf_type : (kind : ValueType) → kind ≢ types.Array → kind ≢ types.Object → kind ≢ types.JSONObject → is_leaf_type kind ≡ true
+leaf_type types.String a b c = refl
+leaf_type types.U64 a b c = refl
+leaf_type types.I64 a b c = refl
+leaf_type types.Facet a b c = refl
+leaf_type types.Bytes a b c = refl
+leaf_type types.DateTime a b c = refl
+leaf_type types.PreTokStr a b c = refl
+leaf_type types.JSONObject a b c = absurd (c refl)
+leaf_type types.Bool a b c = refl
+leaf_type types.IpAddr a b c = refl
+leaf_type types.Null a b c = refl
+leaf_type types.Array a b c = absurd (a refl)
+leaf_type types.Object a b c = absurd (b refl)
+
+-- ---- no bytes
+
+no_cons : {b : ℕ} {rest : List ℕ} → b ∷ rest ≡ [] → ⊥
+no_cons e = absurd cc
+
+-- where there are no bytes, their end is the fault
+pub value_ended : {v : Version} {w : List ℕ} {r : Refusal} → w ≡ [] → NoValue v w r → r ≡ end
+value_ended e value_ends = refl
+value_ended e (unknown_code h) = absurd (no_cons e)
+value_ended e float_code = absurd (no_cons e)
+value_ended e (in_leaf h) = absurd (no_cons e)
+value_ended e (in_legacy h) = absurd (no_cons e)
+value_ended e (in_count h) = absurd (no_cons e)
+value_ended e (in_element n ts count front rest joined number spelled fewer h) = absurd (no_cons e)
+value_ended e (in_entry_count h) = absurd (no_cons e)
+value_ended e (odd_count n count rest joined number none) = absurd (no_cons e)
+value_ended e (in_entry_key n es count front rest joined number spelled fewer h) = absurd (no_cons e)
+value_ended e (in_entry n es k count front key rest joined number spelled fewer keyed h) = absurd (no_cons e)
+
+pub key_ended : {w : List ℕ} {r : Refusal} → w ≡ [] → CodedKeyFault w r → r ≡ end
+key_ended e key_ends = refl
+key_ended e (key_unknown h) = absurd (no_cons e)
+key_ended e key_float = absurd (no_cons e)
+key_ended e (key_other a b c d) = absurd (no_cons e)
+key_ended e key_no_extension = absurd (no_cons e)
+key_ended e key_tokenized = absurd (no_cons e)
+key_ended e (key_other_extension h) = absurd (no_cons e)
+key_ended e (in_key h) = absurd (no_cons e)

@@ -1,0 +1,7 @@
+pub mod Finding
+pub mod AgreeKinds
+pub mod AgreeLeaves
+pub mod BehindKinds
+pub mod TreeSteps
+pub mod SameTypes
+pub mod TypedSteps

@@ -1,0 +1,52 @@
+-- What the errors of the lower layers are called in the store, and which of them stop a reader for what reason.
+use Rattle.std.specs.Prelude.{ℕ, Result, List}
+use Rattle.tv_base.specs.declared.read_error.ReadError.{ReadError}
+use Rattle.tv_base.specs.declared.read_error.ReadError.TheVariants as reads
+use Rattle.tv_base.specs.Source.{Faults}
+use Rattle.tv_base.specs.Stop.{Stop, Takes}
+use Rattle.tv_base.specs.Stop.Stop.{Fault, Failed, Short, Never}
+use Rattle.tv_base.specs.Take.{told}
+use Rattle.tv_value.specs.Fault.{Refusal, corrupted, no_text_key}
+use Rattle.tv_reader.specs.ValueType.{type_code}
+use Rattle.tv_reader.specs.declared.error.DeserializeError.{DeserializeError}
+use Rattle.tv_reader.specs.declared.error.DeserializeError.TheVariants as errors
+use Rattle.tv_reader.specs.declared.error.ValueType.{ValueType}
+use Rattle.tv_reader.specs.declared.error.ValueType.TheVariants as types
+
+abbrev pub read_error : ReadError → DeserializeError
+read_error (reads.Corrupted c) = errors.CorruptedValue c
+read_error (reads.Io k) = errors.Io k
+read_error reads.Memory = errors.Memory
+
+-- a value of this type stands where one of that type was expected, which is told of a key alone
+abbrev pub key_stop : ValueType → ValueType → Stop Refusal
+key_stop types.String actual = Fault (no_text_key (type_code actual))
+key_stop types.U64 actual = Never
+key_stop types.I64 actual = Never
+key_stop types.Facet actual = Never
+key_stop types.Bytes actual = Never
+key_stop types.DateTime actual = Never
+key_stop types.PreTokStr actual = Never
+key_stop types.JSONObject actual = Never
+key_stop types.Bool actual = Never
+key_stop types.IpAddr actual = Never
+key_stop types.Null actual = Never
+key_stop types.Array actual = Never
+key_stop types.Object actual = Never
+
+-- Why a reader of documents stopped: its bytes are refused, the source failed, or there is no room.
+abbrev pub store_stop : DeserializeError → Stop Refusal
+store_stop (errors.CorruptedValue c) = Fault (corrupted c)
+store_stop (errors.TypeMismatch expected actual) = key_stop expected actual
+store_stop (errors.Io k) = Failed k
+store_stop errors.Memory = Short
+store_stop errors.HeapFull = Short
+store_stop (errors.UnsupportedType t) = Never
+store_stop (errors.Custom s) = Never
+store_stop (errors.UnsupportedVersion m n) = Never
+store_stop errors.AlreadyFailed = Never
+
+-- what a reader of the store returned and did, by a reading of lists
+abbrev pub TakesBy : {S X Y : Type 0} (tells : S → Type 0) (left : S → List ℕ) (faults : S → Faults) (old : S) (old_count : ℕ) (new : S) (new_count : ℕ) (view : X → Y) (result : Result X DeserializeError) (reading : List ℕ → Result (Y × List ℕ) (Refusal × List ℕ)) → Type 0
+TakesBy tells left faults old old_count new new_count view result reading =
+    Takes store_stop (told tells) (λ p. left p.source) (λ p. p.count) (λ p. faults p.source) (record { source = old; count = old_count }) (record { source = new; count = new_count }) view result reading

@@ -1,0 +1,10 @@
+pub mod ValueType
+pub mod Error
+pub mod Version
+pub mod Kinds
+pub mod Leaves
+pub mod Finds
+pub mod LeafBodies
+pub mod Trees
+pub mod Counts
+pub mod Typed

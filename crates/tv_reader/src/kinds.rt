@@ -1,0 +1,59 @@
+//! Taking the type of a value from a source that is lent, with the count of the bytes that were taken of it.
+
+ghost use Rattle.std.specs.Prelude.{◌≡◌, ◌<◌, ◌-◌, ◌^◌, OnOk, IsErrOf};
+ghost use Rattle.tv_base.specs.Take.{TakesBy};
+ghost use Rattle.tv_base.specs.declared.cause.Cause.TheVariants.{TooLong};
+ghost use Rattle.tv_base.specs.declared.read_error.ReadError.TheVariants.{Corrupted, Memory};
+ghost use Rattle.tv_reader.specs.Kinds.{extension_at, kind_at};
+
+use crate::error::ValueType;
+use crate::type_codes::{
+    ARRAY_CODE, BOOL_CODE, BYTES_CODE, DATE_CODE, EXT_CODE, F64_CODE, HIERARCHICAL_FACET_CODE,
+    I64_CODE, IP_CODE, JSON_OBJ_CODE, NULL_CODE, OBJECT_CODE, TEXT_CODE, TOK_STR_EXT_CODE,
+    U64_CODE,
+};
+use tv_base::take::take_u8;
+use tv_base::{ByteSource, Cause, ReadError};
+
+#[tactic(auto, unfolding(crate::specs::Kinds::extension_at))]
+fn take_extension<S: ByteSource>(source: &mut S, count: &mut u64) -> Result<ValueType, ReadError>
+    ensures takes { TakesBy S.tells S.left S.faults source.old count.old source.new count.new (λ x. x) result extension_at }
+    ensures rises { OnOk result (count.old < count.new) }
+    ensures too_long { IsErrOf result (Corrupted TooLong) → count.new ≡ 2 ^ 64 - 1 }
+    ensures spares { ¬ IsErrOf result Memory }
+{
+    match take_u8(source, count)? {
+        TOK_STR_EXT_CODE => Ok(ValueType::PreTokStr),
+        code => Err(ReadError::Corrupted(Cause::UnknownExtCode(code))),
+    }
+}
+
+/// Takes all that stands before a value: the code of its type, and behind the code of an extension its own.
+///
+/// Errors: those of `take_u8`, `Corrupted(FloatCode)` at the code of floating-point numbers, `Corrupted(UnknownTypeCode)` at one
+/// above 13, and `Corrupted(UnknownExtCode)` at an extension other than 0.
+#[tactic(auto, using(tv_base::proofs::TakeSteps::Taken_then), unfolding(crate::specs::Kinds::kind_at))]
+pub fn take_kind<S: ByteSource>(source: &mut S, count: &mut u64) -> Result<ValueType, ReadError>
+    ensures takes { TakesBy S.tells S.left S.faults source.old count.old source.new count.new (λ x. x) result kind_at }
+    ensures rises { OnOk result (count.old < count.new) }
+    ensures too_long { IsErrOf result (Corrupted TooLong) → count.new ≡ 2 ^ 64 - 1 }
+    ensures spares { ¬ IsErrOf result Memory }
+{
+    match take_u8(source, count)? {
+        TEXT_CODE => Ok(ValueType::String),
+        U64_CODE => Ok(ValueType::U64),
+        I64_CODE => Ok(ValueType::I64),
+        HIERARCHICAL_FACET_CODE => Ok(ValueType::Facet),
+        BYTES_CODE => Ok(ValueType::Bytes),
+        DATE_CODE => Ok(ValueType::DateTime),
+        EXT_CODE => take_extension(source, count),
+        JSON_OBJ_CODE => Ok(ValueType::JSONObject),
+        BOOL_CODE => Ok(ValueType::Bool),
+        IP_CODE => Ok(ValueType::IpAddr),
+        NULL_CODE => Ok(ValueType::Null),
+        ARRAY_CODE => Ok(ValueType::Array),
+        OBJECT_CODE => Ok(ValueType::Object),
+        F64_CODE => Err(ReadError::Corrupted(Cause::FloatCode)),
+        code => Err(ReadError::Corrupted(Cause::UnknownTypeCode(code))),
+    }
+}

@@ -1,0 +1,227 @@
+//! Taking values that hold no others, behind their code.
+
+ghost use Rattle.std.specs.Prelude.{◌≡◌, ◌*ℤ◌, ◌≤ℤ◌, pos, negsuc, ◌-◌, ◌^◌, IsTrue, IsErrOf, string_bytes, map};
+ghost use Rattle.std.specs.Net.Addr.{ipv6_bits};
+ghost use Rattle.tv_base.specs.Reading.{u128_at};
+ghost use Rattle.tv_base.specs.Take.{TakesBy};
+ghost use Rattle.tv_base.specs.declared.cause.Cause.TheVariants.{TooLong};
+ghost use Rattle.tv_base.specs.declared.read_error.ReadError.TheVariants.{Corrupted, Memory};
+ghost use Rattle.tv_reader.specs.Leaves.{date_at, offsets_at, named_at, placed_at, token_at, tokens_at, counted_tokens_at, tokenized_at, leaf_at, is_leaf_type};
+ghost use Rattle.tv_reader.specs.Version.{version_of};
+ghost use Rattle.tv_value.specs.HeldTokens.{token_of};
+ghost use Rattle.tv_value.specs.Owned.{owned_tree};
+
+use crate::error::ValueType;
+use crate::version::DocStoreVersion;
+use std::alloc::Global;
+use std::net::Ipv6Addr;
+use tv_base::take::{
+    take_bool, take_bytes, take_facet, take_i64, take_string, take_u64, take_u128, take_vint,
+};
+use tv_base::{ByteSource, Cause, ReadError};
+use tv_value::date_time::DateTime;
+use tv_value::owned_value::OwnedValue;
+use tv_value::tokenizer::{PreTokenizedString, Token};
+
+/// The least and the largest number of microseconds whose nanoseconds fit 64 bits.
+const LEAST_MICROSECONDS: i64 = -9223372036854775;
+
+const MOST_MICROSECONDS: i64 = 9223372036854775;
+
+// Microseconds as nanoseconds, where these fit.
+fn nanoseconds(microseconds: i64) -> i64
+    requires from { negsuc 9223372036854774 ≤ℤ microseconds }
+    requires to { microseconds ≤ℤ pos 9223372036854775 }
+    ensures { result ≡ microseconds *ℤ pos 1000 }
+{
+    microseconds * 1000
+}
+
+/// Takes a date: microseconds in version 1, and nanoseconds in version 2.
+///
+/// Errors: those of `take_i64`, and in version 1 `Corrupted(DateRange)` where the nanoseconds don't fit 64 bits.
+#[tactic(auto, using(tv_base::proofs::TakeSteps::Taken_then), unfolding(crate::specs::Leaves::date_at))]
+pub(crate) fn take_date<S: ByteSource>(
+    source: &mut S,
+    count: &mut u64,
+    version: DocStoreVersion,
+) -> Result<DateTime, ReadError>
+    ensures takes { TakesBy S.tells S.left S.faults source.old count.old source.new count.new (λ d. d.nanoseconds) result (date_at (version_of version)) }
+    ensures too_long { IsErrOf result (Corrupted TooLong) → count.new ≡ 2 ^ 64 - 1 }
+    ensures spares { ¬ IsErrOf result Memory }
+{
+    let number = take_i64(source, count)?;
+    match version {
+        DocStoreVersion::V1 => {
+            if number < LEAST_MICROSECONDS {
+                return Err(ReadError::Corrupted(Cause::DateRange));
+            }
+            if number > MOST_MICROSECONDS {
+                return Err(ReadError::Corrupted(Cause::DateRange));
+            }
+            Ok(DateTime::from_timestamp_nanos(nanoseconds(number)))
+        }
+        DocStoreVersion::V2 => Ok(DateTime::from_timestamp_nanos(number)),
+    }
+}
+
+// The address of these bits.
+fn address_of(bits: u128) -> Ipv6Addr
+    ensures { ipv6_bits result ≡ bits }
+{
+    Ipv6Addr::from_bits(bits)
+}
+
+/// Takes an IP address in sixteen bytes, the lowest first. Errors: those of `take_u128`.
+pub(crate) fn take_ip_address<S: ByteSource>(
+    source: &mut S,
+    count: &mut u64,
+) -> Result<Ipv6Addr, ReadError>
+    ensures takes { TakesBy S.tells S.left S.faults source.old count.old source.new count.new (λ a. ipv6_bits a) result u128_at }
+    ensures too_long { IsErrOf result (Corrupted TooLong) → count.new ≡ 2 ^ 64 - 1 }
+    ensures spares { ¬ IsErrOf result Memory }
+{
+    let bits = take_u128(source, count)?;
+    Ok(address_of(bits))
+}
+
+// Where a token begins and ends, and which one it is.
+#[tactic(auto, using(tv_base::proofs::TakeSteps::Taken_then), unfolding(crate::specs::Leaves::offsets_at))]
+fn take_offsets<S: ByteSource>(source: &mut S, count: &mut u64) -> Result<(u64, u64), ReadError>
+    ensures takes { TakesBy S.tells S.left S.faults source.old count.old source.new count.new (λ x. x) result offsets_at }
+    ensures too_long { IsErrOf result (Corrupted TooLong) → count.new ≡ 2 ^ 64 - 1 }
+    ensures spares { ¬ IsErrOf result Memory }
+{
+    let offset_from = take_vint(source, count)?;
+    let offset_to = take_vint(source, count)?;
+    Ok((offset_from, offset_to))
+}
+
+// Its own text, and how many positions it takes.
+#[tactic(auto, using(tv_base::proofs::TakeSteps::Taken_then), unfolding(crate::specs::Leaves::named_at))]
+fn take_named<S: ByteSource>(
+    alloc: Global,
+    source: &mut S,
+    count: &mut u64,
+) -> Result<(String, u64), ReadError>
+    ensures takes { TakesBy S.tells S.left S.faults source.old count.old source.new count.new (λ x. (string_bytes x.0, x.1)) result named_at }
+    ensures too_long { IsErrOf result (Corrupted TooLong) → count.new ≡ 2 ^ 64 - 1 }
+{
+    let text = take_string(alloc, source, count)?;
+    let position_length = take_vint(source, count)?;
+    Ok((text, position_length))
+}
+
+// Which token it is, and what follows that.
+#[tactic(auto, using(tv_base::proofs::TakeSteps::Taken_then), unfolding(crate::specs::Leaves::placed_at))]
+fn take_placed<S: ByteSource>(
+    alloc: Global,
+    source: &mut S,
+    count: &mut u64,
+) -> Result<(u64, String, u64), ReadError>
+    ensures takes { TakesBy S.tells S.left S.faults source.old count.old source.new count.new (λ x. (x.0, (string_bytes x.1, x.2))) result placed_at }
+    ensures too_long { IsErrOf result (Corrupted TooLong) → count.new ≡ 2 ^ 64 - 1 }
+{
+    let position = take_vint(source, count)?;
+    let (text, position_length) = take_named(alloc, source, count)?;
+    Ok((position, text, position_length))
+}
+
+#[tactic(auto, using(tv_base::proofs::TakeSteps::Taken_then), unfolding(crate::specs::Leaves::token_at))]
+fn take_token<S: ByteSource>(
+    alloc: Global,
+    source: &mut S,
+    count: &mut u64,
+) -> Result<Token, ReadError>
+    ensures takes { TakesBy S.tells S.left S.faults source.old count.old source.new count.new (λ t. token_of t) result token_at }
+    ensures too_long { IsErrOf result (Corrupted TooLong) → count.new ≡ 2 ^ 64 - 1 }
+{
+    let (offset_from, offset_to) = take_offsets(source, count)?;
+    let (position, text, position_length) = take_placed(alloc, source, count)?;
+    Ok(Token {
+        offset_from: offset_from as usize,
+        offset_to: offset_to as usize,
+        position: position as usize,
+        text,
+        position_length: position_length as usize,
+    })
+}
+
+// So many tokens. Nothing is reserved from their number.
+fn take_tokens<S: ByteSource>(
+    alloc: Global,
+    source: &mut S,
+    count: &mut u64,
+    announced: u64,
+) -> Result<Vec<Token>, ReadError>
+    ensures takes { TakesBy S.tells S.left S.faults source.old count.old source.new count.new (λ ts. map token_of ts.items) result (tokens_at announced) }
+    ensures too_long { IsErrOf result (Corrupted TooLong) → count.new ≡ 2 ^ 64 - 1 }
+{
+    let mut tokens = Vec::new(alloc);
+    for _ in 0..announced {
+        let token = take_token(alloc, source, count)?;
+        tokens.push(token)?;
+    }
+    Ok(tokens)
+}
+
+// The number of the tokens, and each.
+#[tactic(auto, using(tv_base::proofs::TakeSteps::Taken_then), unfolding(crate::specs::Leaves::counted_tokens_at))]
+fn take_counted_tokens<S: ByteSource>(
+    alloc: Global,
+    source: &mut S,
+    count: &mut u64,
+) -> Result<Vec<Token>, ReadError>
+    ensures takes { TakesBy S.tells S.left S.faults source.old count.old source.new count.new (λ ts. map token_of ts.items) result counted_tokens_at }
+    ensures too_long { IsErrOf result (Corrupted TooLong) → count.new ≡ 2 ^ 64 - 1 }
+{
+    let announced = take_vint(source, count)?;
+    take_tokens(alloc, source, count, announced)
+}
+
+/// Takes a text and its tokens. Nothing is reserved from the number of the tokens.
+///
+/// Errors: those of `take_string`.
+#[tactic(auto, using(tv_base::proofs::TakeSteps::Taken_then), unfolding(crate::specs::Leaves::tokenized_at))]
+pub(crate) fn take_tokenized<S: ByteSource>(
+    alloc: Global,
+    source: &mut S,
+    count: &mut u64,
+) -> Result<PreTokenizedString, ReadError>
+    ensures takes { TakesBy S.tells S.left S.faults source.old count.old source.new count.new (λ s. (string_bytes s.text, map token_of s.tokens.items)) result tokenized_at }
+    ensures too_long { IsErrOf result (Corrupted TooLong) → count.new ≡ 2 ^ 64 - 1 }
+{
+    let text = take_string(alloc, source, count)?;
+    let tokens = take_counted_tokens(alloc, source, count)?;
+    Ok(PreTokenizedString { text, tokens })
+}
+
+/// Takes a value of a type whose values hold no others, behind its code.
+///
+/// Errors: those of the parts that it has.
+#[tactic(auto, using(tv_base::proofs::TakeSteps::Taken_then), unfolding(crate::specs::Leaves::leaf_at))]
+pub(crate) fn take_leaf<S: ByteSource>(
+    alloc: Global,
+    source: &mut S,
+    count: &mut u64,
+    version: DocStoreVersion,
+    kind: ValueType,
+) -> Result<OwnedValue, ReadError>
+    requires { IsTrue (is_leaf_type kind) }
+    ensures takes { TakesBy S.tells S.left S.faults source.old count.old source.new count.new owned_tree result (leaf_at (version_of version) kind) }
+    ensures too_long { IsErrOf result (Corrupted TooLong) → count.new ≡ 2 ^ 64 - 1 }
+{
+    match kind {
+        ValueType::String => Ok(OwnedValue::Str(take_string(alloc, source, count)?)),
+        ValueType::U64 => Ok(OwnedValue::U64(take_u64(source, count)?)),
+        ValueType::I64 => Ok(OwnedValue::I64(take_i64(source, count)?)),
+        ValueType::Facet => Ok(OwnedValue::Facet(take_facet(alloc, source, count)?)),
+        ValueType::Bytes => Ok(OwnedValue::Bytes(take_bytes(alloc, source, count)?)),
+        ValueType::DateTime => Ok(OwnedValue::Date(take_date(source, count, version)?)),
+        ValueType::PreTokStr => Ok(OwnedValue::PreTokStr(take_tokenized(alloc, source, count)?)),
+        ValueType::Bool => Ok(OwnedValue::Bool(take_bool(source, count)?)),
+        ValueType::IpAddr => Ok(OwnedValue::IpAddr(take_ip_address(source, count)?)),
+        ValueType::Null => Ok(OwnedValue::Null),
+        ValueType::JSONObject | ValueType::Array | ValueType::Object => unreachable!(),
+    }
+}

@@ -1,0 +1,14 @@
+//! Reading values of the document store, of every type.
+#![tactic(auto)]
+
+pub mod error;
+pub mod kinds;
+mod leaves;
+pub mod store_reader;
+pub mod trees;
+pub mod type_codes;
+pub mod version;
+
+pub use error::{DeserializeError, ValueType};
+pub use store_reader::StoreReader;
+pub use version::DocStoreVersion;

@@ -1,0 +1,176 @@
+//! Taking values of every type from a source that is lent, with the count of the bytes that were taken of it.
+
+ghost use Rattle.std.specs.Prelude.{◌≡◌, ◌-◌, ◌^◌, IsErrOf};
+ghost use Rattle.tv_base.specs.Take as reads;
+ghost use Rattle.tv_base.specs.declared.cause.Cause.TheVariants.{TooLong};
+ghost use Rattle.tv_base.specs.declared.read_error.ReadError.TheVariants.{Corrupted, Memory as NoMemory};
+ghost use Rattle.tv_reader.specs.Counts.{half_at};
+ghost use Rattle.tv_reader.specs.Finds.{Finds};
+ghost use Rattle.tv_reader.specs.Trees.{SpellsValue, NoValue, SpellsBehind, NoneBehind, SpellsItems, NoItems, SpellsMember, NoMember, SpellsMembers, NoMembers, CodedKey};
+ghost use Rattle.tv_reader.specs.Version.{version_of};
+ghost use Rattle.tv_reader.specs.declared.error.DeserializeError.TheVariants.{CorruptedValue, HeapFull};
+ghost use Rattle.tv_value.specs.Fault.{CodedKeyFault};
+
+use crate::error::{DeserializeError, ValueType};
+use crate::kinds::take_kind;
+use crate::leaves::take_leaf;
+use crate::version::DocStoreVersion;
+use std::alloc::Global;
+use tv_base::take::{take_string, take_vint};
+use tv_base::{ByteSource, Cause, ReadError};
+use tv_value::owned_value::OwnedValue;
+
+/// Takes the number of an object's entries, which is announced twice over.
+///
+/// Errors: those of `take_vint`, and `Corrupted(OddObject)` where the number is odd.
+#[tactic(auto, using(tv_base::proofs::TakeSteps::Taken_then), unfolding(crate::specs::Counts::half_at))]
+pub(crate) fn take_half<S: ByteSource>(source: &mut S, count: &mut u64) -> Result<u64, ReadError>
+    ensures takes { reads.TakesBy S.tells S.left S.faults source.old count.old source.new count.new (λ x. x) result half_at }
+    ensures too_long { IsErrOf result (Corrupted TooLong) → count.new ≡ 2 ^ 64 - 1 }
+    ensures spares { ¬ IsErrOf result NoMemory }
+{
+    let number = take_vint(source, count)?;
+    if number % 2 == 0 {
+        Ok(number / 2)
+    } else {
+        Err(ReadError::Corrupted(Cause::OddObject))
+    }
+}
+
+/// Takes a key: a text behind its code.
+///
+/// Errors: those of `take_kind` and of `take_string`, and `TypeMismatch` where a value of another type stands there.
+pub(crate) fn take_key<S: ByteSource>(
+    alloc: Global,
+    source: &mut S,
+    count: &mut u64,
+) -> Result<String, DeserializeError>
+    ensures finds { Finds S.tells S.left S.faults source.old count.old source.new count.new result CodedKey CodedKeyFault }
+    ensures too_long { IsErrOf result (CorruptedValue TooLong) → count.new ≡ 2 ^ 64 - 1 }
+    ensures roomy { ¬ IsErrOf result HeapFull }
+{
+    let kind = take_kind(source, count)?;
+    match kind {
+        ValueType::String => {
+            let key = take_string(alloc, source, count)?;
+            Ok(key)
+        }
+        actual => Err(DeserializeError::TypeMismatch {
+            expected: ValueType::String,
+            actual,
+        }),
+    }
+}
+
+/// Takes a value of any type, to any depth. Nothing is reserved from announced numbers.
+///
+/// Errors: `CorruptedValue` with the first fault in the bytes, `LegacyJson` where a legacy object stands there; `TypeMismatch`
+/// where in a key's place stands a value that isn't a text; `Io` where the source failed; `Memory`.
+#[cycle(trees)]
+pub fn take_tree<S: ByteSource>(
+    alloc: Global,
+    source: &mut S,
+    count: &mut u64,
+    version: DocStoreVersion,
+) -> Result<OwnedValue, DeserializeError>
+    ensures finds { Finds S.tells S.left S.faults source.old count.old source.new count.new result (SpellsValue (version_of version)) (NoValue (version_of version)) }
+    ensures too_long { IsErrOf result (CorruptedValue TooLong) → count.new ≡ 2 ^ 64 - 1 }
+    ensures roomy { ¬ IsErrOf result HeapFull }
+{
+    let before = *count;
+    let kind = take_kind(source, count)?;
+    // so the recursion ends: the count has an end
+    prove!(before < *count);
+    take_behind(alloc, source, count, version, kind)
+}
+
+/// Takes a value whose type was taken. Errors: those of [`take_tree`].
+#[cycle(trees)]
+pub fn take_behind<S: ByteSource>(
+    alloc: Global,
+    source: &mut S,
+    count: &mut u64,
+    version: DocStoreVersion,
+    kind: ValueType,
+) -> Result<OwnedValue, DeserializeError>
+    ensures finds { Finds S.tells S.left S.faults source.old count.old source.new count.new result (SpellsBehind (version_of version) kind) (NoneBehind (version_of version) kind) }
+    ensures too_long { IsErrOf result (CorruptedValue TooLong) → count.new ≡ 2 ^ 64 - 1 }
+    ensures roomy { ¬ IsErrOf result HeapFull }
+{
+    match kind {
+        ValueType::Array => {
+            let announced = take_vint(source, count)?;
+            let items = take_items(alloc, source, count, version, announced)?;
+            Ok(OwnedValue::Array(items))
+        }
+        ValueType::Object => {
+            let announced = take_half(source, count)?;
+            let members = take_members(alloc, source, count, version, announced)?;
+            Ok(OwnedValue::Object(members))
+        }
+        ValueType::JSONObject => Err(DeserializeError::CorruptedValue(Cause::LegacyJson)),
+        leaf => {
+            let value = take_leaf(alloc, source, count, version, leaf)?;
+            Ok(value)
+        }
+    }
+}
+
+// So many values.
+#[cycle(trees)]
+fn take_items<S: ByteSource>(
+    alloc: Global,
+    source: &mut S,
+    count: &mut u64,
+    version: DocStoreVersion,
+    announced: u64,
+) -> Result<Vec<OwnedValue>, DeserializeError>
+    ensures finds { Finds S.tells S.left S.faults source.old count.old source.new count.new result (SpellsItems (version_of version) announced) (NoItems (version_of version) announced) }
+    ensures too_long { IsErrOf result (CorruptedValue TooLong) → count.new ≡ 2 ^ 64 - 1 }
+    ensures roomy { ¬ IsErrOf result HeapFull }
+{
+    let mut items = Vec::new(alloc);
+    for _ in 0..announced {
+        let item = take_tree(alloc, source, count, version)?;
+        items.push(item)?;
+    }
+    Ok(items)
+}
+
+// A key, and the value behind it.
+#[cycle(trees)]
+fn take_member<S: ByteSource>(
+    alloc: Global,
+    source: &mut S,
+    count: &mut u64,
+    version: DocStoreVersion,
+) -> Result<(String, OwnedValue), DeserializeError>
+    ensures finds { Finds S.tells S.left S.faults source.old count.old source.new count.new result (SpellsMember (version_of version)) (NoMember (version_of version)) }
+    ensures too_long { IsErrOf result (CorruptedValue TooLong) → count.new ≡ 2 ^ 64 - 1 }
+    ensures roomy { ¬ IsErrOf result HeapFull }
+{
+    let key = take_key(alloc, source, count)?;
+    let value = take_tree(alloc, source, count, version)?;
+    Ok((key, value))
+}
+
+// So many keys with values.
+#[cycle(trees)]
+fn take_members<S: ByteSource>(
+    alloc: Global,
+    source: &mut S,
+    count: &mut u64,
+    version: DocStoreVersion,
+    announced: u64,
+) -> Result<Vec<(String, OwnedValue)>, DeserializeError>
+    ensures finds { Finds S.tells S.left S.faults source.old count.old source.new count.new result (SpellsMembers (version_of version) announced) (NoMembers (version_of version) announced) }
+    ensures too_long { IsErrOf result (CorruptedValue TooLong) → count.new ≡ 2 ^ 64 - 1 }
+    ensures roomy { ¬ IsErrOf result HeapFull }
+{
+    let mut members = Vec::new(alloc);
+    for _ in 0..announced {
+        let member = take_member(alloc, source, count, version)?;
+        members.push(member)?;
+    }
+    Ok(members)
+}

@@ -1,0 +1,29 @@
+//! The versions of the store format.
+
+ghost use Rattle.std.specs.Prelude.{◌≡◌, Ok, Err, MatchOption};
+ghost use Rattle.tv_reader.specs.Version.{numbered};
+
+use crate::error::DeserializeError;
+
+/// A version of the store format.
+#[derive(Clone, Copy, Debug, PartialEq, Eq, PartialOrd, Ord)]
+pub enum DocStoreVersion {
+    /// Dates are microseconds since 1970.
+    V1 = 1,
+    /// Dates are nanoseconds since 1970.
+    V2 = 2,
+}
+
+impl DocStoreVersion {
+    /// The version of this number. Every number other than 1 and 2 is refused as `UnsupportedVersion`, with itself and the
+    /// largest that there is, 2.
+    pub fn from_u32(number: u32) -> Result<DocStoreVersion, DeserializeError>
+        ensures { MatchOption (numbered number) (result ≡ Err (DeserializeError.UnsupportedVersion number 2)) (λ version. result ≡ Ok version) }
+    {
+        match number {
+            1 => Ok(DocStoreVersion::V1),
+            2 => Ok(DocStoreVersion::V2),
+            _ => Err(DeserializeError::UnsupportedVersion(number, 2)),
+        }
+    }
+}
