@@ -7,6 +7,8 @@ use Rattle.tv_base.specs.Source.{Faults}
 use Rattle.tv_base.specs.Stop.{Stop}
 use Rattle.tv_base.specs.Stop.Stop.{Fault, Failed, Short, Never}
 use Rattle.tv_value.specs.Fault.{Refusal, corrupted, no_text_key}
+use Rattle.tv_value.specs.Spelling.{Spells, NoLegacy}
+use Rattle.tv_value.specs.Tree.{Leaf, leaf}
 use Rattle.tv_value.specs.Version.{Version}
 use Rattle.tv_reader.specs.Error.{read_error}
 use Rattle.tv_reader.specs.Finds.{FindsBy}
@@ -50,6 +52,10 @@ IsCoded b kind = b ≡ coded kind
 -- a code is at fault
 pub data CodeRefused (whole : List ℕ) : DeserializeError → Type 0 where
   in_code : {c : Cause} → CodeFault whole c → CodeRefused whole (errors.CorruptedValue c)
+
+-- a leaf behind the code of its type
+abbrev pub SpellsLeaf : {X : Type 0} → Version → ValueType → (X → Leaf) → List ℕ → X → Type 0
+SpellsLeaf v kind make b x = Spells NoLegacy v (coded kind ++ b) (leaf (make x))
 
 -- A value of one type is expected: behind the code of its own type stands a value of another, or its bytes are at fault.
 pub data LeafRefused (expected : ValueType) (v : Version) (kind : ValueType) (whole : List ℕ) : DeserializeError → Type 0 where

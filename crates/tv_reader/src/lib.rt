@@ -7,8 +7,10 @@ mod leaves;
 pub mod store_reader;
 pub mod trees;
 pub mod type_codes;
+pub mod value_deserializer;
 pub mod version;
 
 pub use error::{DeserializeError, ValueType};
 pub use store_reader::StoreReader;
+pub use value_deserializer::BinaryValueDeserializer;
 pub use version::DocStoreVersion;

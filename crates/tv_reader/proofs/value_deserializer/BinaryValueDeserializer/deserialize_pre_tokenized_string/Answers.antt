@@ -1,0 +1,24 @@
+use Rattle.std.proofs.Common.{refl, subst, string_bytes, map}
+use Rattle.std.specs.Net.Addr.{ipv6_bits}
+use Rattle.std.proofs.lemmas.Result.{err_from_is_err_and}
+use Rattle.tv_reader.proofs.AgreeLeaves.{tokenized_agrees}
+use Rattle.tv_value.specs.HeldTokens.{token_of}
+use Rattle.tv_value.specs.Tree.{tokenized}
+use Rattle.tv_reader.specs.Version.{version_of}
+use Rattle.tv_reader.specs.declared.error.ValueType.TheVariants as types
+use Rattle.tv_reader.proofs.TypedSteps.{leaf_reads, reads_mismatch}
+use Rattle.tv_reader.proofs.value_deserializer.BinaryValueDeserializer.deserialize_pre_tokenized_string.Goals as goal
+
+pub returns-in_err-expect : goal.returns-in_err-expect
+returns-in_err-expect g c =
+    let p = err_from_is_err_and c.from_residual.result c.from_residual.ensures.1 in
+    let e = c.in_err-expect.ensures in
+    rw (p.1, p.2) (reads_mismatch _ _ _ _ _ c.args.self.kind types.PreTokStr (version_of c.args.self.reader.now.version) _ _ e.err e.source e.count e.version e.marks)
+
+pub returns : goal.returns
+returns g c =
+    let e = c.in_ok-expect.ensures in
+    let v = version_of c.args.self.reader.now.version in
+    let m = c.marked.ensures in
+    leaf_reads c.args.self.reader.now c.expect.new.self c.marked.new.self c.marked.result v c.args.self.kind types.PreTokStr (λ s. tokenized (string_bytes s.text) (map token_of s.tokens.items)) g.met.S.ByteSource.are_bytes tokenized_agrees
+    (λ a x h. ((string_bytes x.text, map token_of x.tokens.items), h, refl)) (λ w c f. f) refl e.ok.2 e.ok.0 e.source e.count e.version c.take_tokenized-answer.ensures.takes m.source m.count m.version m.marks m.told
