@@ -5,7 +5,7 @@ ghost use Rattle.tantivy_schema.specs.Belongs.{Belongs};
 ghost use Rattle.tantivy_schema.specs.CodeTypes.DeserializeError.{DeserializeError};
 ghost use Rattle.tantivy_schema.specs.CodeTypes.DeserializeError.TheVariants.{HeapFull};
 ghost use Rattle.tantivy_schema.specs.Document.{document_of};
-ghost use Rattle.tantivy_schema.specs.Documents.{Answers, NoDocument, HasNoRoom, ShowsRefusal, IsRefusal, IsReadingError};
+ghost use Rattle.tantivy_schema.specs.Documents.{Answers, NoDocument, HasNoRoom, ShowsRefusal, IsReadingError};
 ghost use Rattle.tantivy_schema.specs.Fault.{Refusal};
 ghost use Rattle.tantivy_schema.specs.ReadsAs.{Known};
 ghost use Rattle.tantivy_schema.specs.Room.{document_room};
@@ -16,6 +16,7 @@ ghost use Rattle.tantivy_schema.specs.Stored.{stored};
 ghost use Rattle.tantivy_schema.specs.StoreError.{IsIo, Writes};
 ghost use Rattle.tantivy_schema.specs.ReaderError.{store_stop};
 ghost use Rattle.tantivy_schema.specs.Tree.{Document};
+ghost use Rattle.tantivy_schema.specs.Typed.{IsRefusal};
 ghost use Rattle.tantivy_schema.specs.Version.{V2};
 
 use std::alloc::Global;

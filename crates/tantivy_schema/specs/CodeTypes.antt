@@ -37,3 +37,5 @@ pub use Rattle.tv_value.specs.declared.pre_tokenized.TokenRef
 pub use Rattle.tv_value.specs.declared.tokenizer.PreTokenizedString
 pub use Rattle.tv_value.specs.declared.tokenizer.Token
 pub use Rattle.tv_value.specs.declared.value.ReferenceValue
+pub use Rattle.tv_reader.specs.declared.store_reader.StoreReader
+pub use Rattle.tv_reader.specs.declared.value_deserializer.BinaryValueDeserializer

@@ -70,6 +70,9 @@ pub use Rattle.tv_store.specs.Error as StoreError
 pub use Rattle.tv_store.specs.Refused
 pub use Rattle.tv_store.specs.Stored
 pub use Rattle.tv_reader.specs.Error as ReaderError
+pub use Rattle.tv_reader.specs.Finds
+pub use Rattle.tv_reader.specs.Trees
+pub use Rattle.tv_reader.specs.Typed
 pub use Rattle.tv_reader.specs.Version as StoreVersion
 pub use Rattle.tv_reader.specs.ValueType
 -- the types of code that contracts speak of

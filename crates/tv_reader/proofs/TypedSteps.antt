@@ -1,29 +1,28 @@
 -- Typed reads by the parts that they take.
-use Rattle.std.proofs.Common.{◌≡◌, ◌≢◌, ℕ, ◌-◌, ◌^◌, ◌<◌, ◌≤◌, Bool, true, false, List, [], ◌∷◌, ◌++◌, Result, Ok, Err, refl, sym, ap, subst, ◌∙◌, arith}
+use Rattle.std.proofs.Common.{◌≡◌, ℕ, ◌-◌, ◌^◌, ◌<◌, Bool, true, false, List, [], ◌++◌, Result, Ok, Err, refl, sym, ap, subst, ◌∙◌}
 use Rattle.std.specs.Prelude.{is_err, IsErrOf}
 use Rattle.tv_base.specs.declared.cause.Cause.{Cause}
 use Rattle.tv_base.specs.declared.cause.Cause.TheVariants.{UnexpectedEnd}
 use Rattle.tv_base.specs.declared.read_error.ReadError.{ReadError}
 use Rattle.tv_base.specs.declared.read_error.ReadError.TheVariants as reads
-use Rattle.tv_base.specs.Parts.{Begins}
+use Rattle.tv_base.specs.ReadsAs.{Shows}
 use Rattle.tv_base.specs.Source.{AllBytes, Faults}
-use Rattle.tv_base.specs.Stop.{Stop, Stops, CountsStop, Counts, Gives, Taken}
-use Rattle.tv_base.specs.Stop.Stop.{Fault, Failed, Short, Never}
+use Rattle.tv_base.specs.Stop.{CountsStop, Counts, Gives}
 use Rattle.tv_base.specs.Take.{TakesBy, read_stop}
 use Rattle.tv_base.proofs.Agrees.{Agrees}
 use Rattle.tv_base.proofs.ByGrammar.{shows_by}
-use Rattle.tv_base.proofs.TakeSteps.{Taken_none}
 use Rattle.tv_value.specs.Fault.{Refusal, corrupted}
 use Rattle.tv_value.specs.Spelling.{Spells, NoLegacy}
 use Rattle.tv_value.specs.Tree.{Leaf, null, leaf}
 use Rattle.tv_value.specs.Version.{Version}
-use Rattle.tv_reader.specs.Error.{read_error}
-use Rattle.tv_reader.specs.Finds.{Refuses, TellsStop, Found, FindsBy}
+use Rattle.tv_value.specs.declared.owned_value.OwnedValue.{OwnedValue}
+use Rattle.tv_reader.specs.Error.{key_stop, store_stop}
+use Rattle.tv_reader.specs.Finds.{Refuses, TellsStop, Found, FindsBy, Finds}
 use Rattle.tv_reader.specs.LeafBodies.{LeafOf, LeafOfFault}
 use Rattle.tv_reader.specs.Leaves.{is_leaf_type}
-use Rattle.tv_reader.specs.Trees.{NoneBehind}
+use Rattle.tv_reader.specs.Trees.{SpellsBehind, NoneBehind}
 use Rattle.tv_reader.specs.ValueType.{coded}
-use Rattle.tv_reader.specs.Typed.{typed_stop, Reads, raised, SpellsLeaf, IsMismatch, failed_before, mismatched, LeafRefused, other_type, in_body}
+use Rattle.tv_reader.specs.Typed.{IsRefusal, is_corrupted, is_no_text, TreeRefused, typed_stop, Reads, raised, SpellsLeaf, IsMismatch, failed_before, mismatched, LeafRefused, other_type, in_body}
 use Rattle.tv_reader.specs.declared.error.DeserializeError.{DeserializeError}
 use Rattle.tv_reader.specs.declared.error.DeserializeError.TheVariants as errors
 use Rattle.tv_reader.specs.declared.error.ValueType.{ValueType}
@@ -145,6 +144,105 @@ null_reads tells left faults old new v kind x is is_open marks source count vers
       (subst (λ n. FindsBy typed_stop end tells left faults old.source old.count old.source n (Ok x) (SpellsLeaf v kind (λ _. null)) (LeafRefused types.Null v kind)) (sym count)
       (finds_nothing typed_stop end tells left faults old.source old.count x (SpellsLeaf v kind (λ _. null)) (LeafRefused types.Null v kind)
       (subst (λ z. Spells NoLegacy v (coded z ++ []) (leaf null)) (sym is) (record { body = []; joined = refl; spelled = refl }))));
+  marks = marks;
+  same_version = version;
+}
+  where
+    both : (b : Bool) → b ≡ false → b ≡ true → ⊥
+    both b p q = let e = sym p ∙ q in absurd cc
+
+-- ---- values of any type
+
+tree_shows : {v : Version} {kind : ValueType} (e : DeserializeError) (r : Refusal) (old new : List ℕ) → IsRefusal e r → Shows (corrupted UnexpectedEnd) (NoneBehind v kind) old new r → Shows end (TreeRefused v kind) old new e
+tree_shows {v} {kind} e r old new told s = record {
+  taken = s.taken;
+  joined = s.joined;
+  shown = record { refusal = r; told = told; fault = s.shown };
+  all = λ is. s.all (ends e r told is);
+  early = λ other front byte last. record { refusal = corrupted UnexpectedEnd; told = is_corrupted; fault = s.early (λ is. other (ended e r told is)) front byte last };
+}
+  where
+    ends : (e : DeserializeError) (r : Refusal) → IsRefusal e r → e ≡ end → r ≡ corrupted UnexpectedEnd
+    ends _ _ is_corrupted is = cc
+    ends _ _ is_no_text is = cc
+
+    ended : (e : DeserializeError) (r : Refusal) → IsRefusal e r → r ≡ corrupted UnexpectedEnd → e ≡ end
+    ended _ _ is_corrupted is = cc
+    ended _ _ is_no_text is = cc
+
+tree_refuses : {v : Version} {kind : ValueType} (e : DeserializeError) (r : Refusal) (old new : List ℕ) → IsRefusal e r → Refuses (corrupted UnexpectedEnd) (NoneBehind v kind) old new r → Refuses end (TreeRefused v kind) old new e
+tree_refuses e r old new told h = record { stands = record { refusal = r; told = told; fault = h.stands }; shows = tree_shows e r old new told h.shows }
+
+mismatch_found : {v : Version} {kind : ValueType} (expected actual : ValueType) (old new : List ℕ) (count : ℕ) → TellsStop (corrupted UnexpectedEnd) (NoneBehind v kind) old new count (key_stop expected actual)
+    → count < 2 ^ 64 - 1 → Refuses end (TreeRefused v kind) old new (errors.TypeMismatch expected actual)
+mismatch_found types.String actual old new count h = λ few. tree_refuses _ _ old new is_no_text (h few)
+mismatch_found types.U64 actual old new count h = absurd h
+mismatch_found types.I64 actual old new count h = absurd h
+mismatch_found types.Facet actual old new count h = absurd h
+mismatch_found types.Bytes actual old new count h = absurd h
+mismatch_found types.DateTime actual old new count h = absurd h
+mismatch_found types.PreTokStr actual old new count h = absurd h
+mismatch_found types.JSONObject actual old new count h = absurd h
+mismatch_found types.Bool actual old new count h = absurd h
+mismatch_found types.IpAddr actual old new count h = absurd h
+mismatch_found types.Null actual old new count h = absurd h
+mismatch_found types.Array actual old new count h = absurd h
+mismatch_found types.Object actual old new count h = absurd h
+
+mismatch_counts : (expected actual : ValueType) (old new : Faults) → CountsStop (key_stop expected actual) old new → new ≡ old
+mismatch_counts types.String actual old new h = h
+mismatch_counts types.U64 actual old new h = absurd h
+mismatch_counts types.I64 actual old new h = absurd h
+mismatch_counts types.Facet actual old new h = absurd h
+mismatch_counts types.Bytes actual old new h = absurd h
+mismatch_counts types.DateTime actual old new h = absurd h
+mismatch_counts types.PreTokStr actual old new h = absurd h
+mismatch_counts types.JSONObject actual old new h = absurd h
+mismatch_counts types.Bool actual old new h = absurd h
+mismatch_counts types.IpAddr actual old new h = absurd h
+mismatch_counts types.Null actual old new h = absurd h
+mismatch_counts types.Array actual old new h = absurd h
+mismatch_counts types.Object actual old new h = absurd h
+
+tree_found : (v : Version) (kind : ValueType) (result : Result OwnedValue DeserializeError) (old new : List ℕ) (count : ℕ) → (IsErrOf result errors.HeapFull → ⊥) → Found store_stop (corrupted UnexpectedEnd) (SpellsBehind v kind) (NoneBehind v kind) old new count result
+    → Found typed_stop end (SpellsBehind v kind) (TreeRefused v kind) old new count result
+tree_found v kind (Ok x) old new count roomy h = h
+tree_found v kind (Err (errors.CorruptedValue c)) old new count roomy h = λ few. tree_refuses _ _ old new is_corrupted (h few)
+tree_found v kind (Err (errors.TypeMismatch expected actual)) old new count roomy h = mismatch_found expected actual old new count h
+tree_found v kind (Err (errors.Io k)) old new count roomy h = tt
+tree_found v kind (Err errors.Memory) old new count roomy h = tt
+tree_found v kind (Err errors.HeapFull) old new count roomy h = absurd (roomy refl)
+tree_found v kind (Err (errors.UnsupportedType t)) old new count roomy h = absurd h
+tree_found v kind (Err (errors.Custom s)) old new count roomy h = absurd h
+tree_found v kind (Err (errors.UnsupportedVersion m n)) old new count roomy h = absurd h
+tree_found v kind (Err errors.AlreadyFailed) old new count roomy h = absurd h
+
+tree_counts : (result : Result OwnedValue DeserializeError) (old new : Faults) → (IsErrOf result errors.HeapFull → ⊥) → Counts store_stop result old new → Counts typed_stop result old new
+tree_counts (Ok x) old new roomy h = h
+tree_counts (Err (errors.CorruptedValue c)) old new roomy h = h
+tree_counts (Err (errors.TypeMismatch expected actual)) old new roomy h = mismatch_counts expected actual old new h
+tree_counts (Err (errors.Io k)) old new roomy h = h
+tree_counts (Err errors.Memory) old new roomy h = h
+tree_counts (Err errors.HeapFull) old new roomy h = absurd (roomy refl)
+tree_counts (Err (errors.UnsupportedType t)) old new roomy h = absurd h
+tree_counts (Err (errors.Custom s)) old new roomy h = absurd h
+tree_counts (Err (errors.UnsupportedVersion m n)) old new roomy h = absurd h
+tree_counts (Err errors.AlreadyFailed) old new roomy h = absurd h
+
+pub tree_reads : {S : Type 0} {tells : S → Type 0} {left : S → List ℕ} {faults : S → Faults} {s : S} {k : ℕ} (old new : StoreReader S) (result : Result OwnedValue DeserializeError) (v : Version) (kind : ValueType)
+    → old.has_failed ≡ false → Finds tells left faults old.source old.count s k result (SpellsBehind v kind) (NoneBehind v kind) → (IsErrOf result errors.HeapFull → ⊥) → new.source ≡ s → new.count ≡ k → new.version ≡ old.version → new.has_failed ≡ is_err result
+    → Reads tells left faults old new result (SpellsBehind v kind) (TreeRefused v kind)
+tree_reads {tells = tells} {left = left} {faults = faults} {s = s} {k = k} old new result v kind is_open h roomy source count version marks = record {
+  closed = λ failed. absurd (both old.has_failed is_open failed);
+  finds = λ _. subst (λ z. FindsBy typed_stop end tells left faults old.source old.count z new.count result (SpellsBehind v kind) (TreeRefused v kind)) (sym source)
+      (subst (λ n. FindsBy typed_stop end tells left faults old.source old.count s n result (SpellsBehind v kind) (TreeRefused v kind)) (sym count)
+      (record {
+        found = λ t. tree_found v kind result (left old.source) (left s) k roomy (h.found t);
+        taken = h.taken;
+        still_tells = h.still_tells;
+        counts = tree_counts result (faults old.source) (faults s) roomy h.counts;
+        rises = h.rises;
+      }));
   marks = marks;
   same_version = version;
 }

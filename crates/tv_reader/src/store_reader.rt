@@ -1,10 +1,11 @@
 //! A source that is read as a store of one version.
 
 ghost use Rattle.std.specs.Prelude.{◌≡◌, true, false, is_err, IfErr, OnOk, OnErr};
-ghost use Rattle.tv_reader.specs.Typed.{raised, IsMismatch};
+ghost use Rattle.tv_reader.specs.Typed.{Reads, IsCoded, CodeRefused, raised, IsMismatch};
 ghost use Rattle.tv_reader.specs.declared.error.DeserializeError.TheVariants as errors;
 
 use crate::error::{DeserializeError, ValueType};
+use crate::kinds::take_kind;
 use crate::version::DocStoreVersion;
 use tv_base::{ByteSource, ReadError};
 
@@ -112,5 +113,14 @@ impl<S: ByteSource> StoreReader<S> {
             return Err(DeserializeError::TypeMismatch { expected, actual });
         }
         Ok(())
+    }
+
+    // Takes all that stands before the next value.
+    pub(crate) fn code(&mut self) -> Result<ValueType, DeserializeError>
+        ensures { Reads S.tells S.left S.faults self.old self.new result IsCoded CodeRefused }
+    {
+        self.go_on()?;
+        let answer = take_kind(&mut self.source, &mut self.count);
+        self.marked(answer)
     }
 }

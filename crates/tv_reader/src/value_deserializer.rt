@@ -3,7 +3,8 @@
 ghost use Rattle.std.specs.Prelude.{◌≡◌, Ok, Err, IfOk, IfErr, string_bytes, map};
 ghost use Rattle.std.specs.Borrow.{sem, RestsIfErr};
 ghost use Rattle.std.specs.Net.Addr.{ipv6_bits};
-ghost use Rattle.tv_reader.specs.Typed.{Reads, IsCoded, CodeRefused, SpellsLeaf, LeafRefused};
+ghost use Rattle.tv_reader.specs.Typed.{Reads, IsCoded, CodeRefused, SpellsLeaf, LeafRefused, TreeRefused};
+ghost use Rattle.tv_reader.specs.Trees.{SpellsBehind};
 ghost use Rattle.tv_reader.specs.Version.{version_of};
 ghost use Rattle.tv_reader.specs.contracts.store_reader.StoreReader.{the_row};
 ghost use Rattle.tv_reader.specs.declared.error.ValueType.{ValueType};
@@ -14,11 +15,13 @@ ghost use Rattle.tv_value.specs.Tree.{null, text, unsigned, signed, boolean, dat
 use crate::error::{DeserializeError, ValueType};
 use crate::leaves::{take_date, take_ip_address, take_tokenized};
 use crate::store_reader::StoreReader;
+use crate::trees::take_behind;
 use std::alloc::Global;
 use std::net::Ipv6Addr;
 use tv_base::take::{take_bool, take_bytes, take_facet, take_i64, take_string, take_u64};
 use tv_base::{ByteSource, Facet};
 use tv_value::date_time::DateTime;
+use tv_value::owned_value::OwnedValue;
 use tv_value::tokenizer::PreTokenizedString;
 
 /// A value whose code was read. Each call reads the value behind it.
@@ -33,6 +36,35 @@ pub struct BinaryValueDeserializer<'de, S: ByteSource> {
 }
 
 impl<'de, S: ByteSource> BinaryValueDeserializer<'de, S> {
+    /// Reads the code of the next value, which tells its type. Errors: `CorruptedValue` where no type has that code, and just the
+    /// bytes that show it were taken then; `Io`; and `AlreadyFailed` where an earlier read was refused. A refusal is marked in the
+    /// reader.
+    pub fn from_reader(
+        reader: &'de mut StoreReader<S>,
+    ) -> Result<BinaryValueDeserializer<'de, S>, DeserializeError>
+        ensures* rests { sem 𝓛 (RestsIfErr (the_row S.row) reader.entry (λ d. d.reader.ghost_name) result (λ now. IfErr result (λ e. Reads {X = ValueType} S.tells S.left S.faults reader.entry.now now (Err e) IsCoded CodeRefused))) }
+        ensures same_reader { IfOk result (λ d. d.reader.ghost_name ≡ reader.entry.ghost_name) }
+        ensures reads { IfOk result (λ d. Reads S.tells S.left S.faults reader.entry.now d.reader.now (Ok d.kind) IsCoded CodeRefused) }
+    {
+        let kind = reader.code()?;
+        Ok(BinaryValueDeserializer { kind, reader })
+    }
+
+    /// Reads a value of any type, to any depth. Nothing is reserved from announced numbers.
+    ///
+    /// Errors, the first fault in reading order: `CorruptedValue`, with `LegacyJson` where a legacy object stands there;
+    /// `TypeMismatch` where in a key's place stands a value that isn't a text; `Io`; `Memory`; `AlreadyFailed`.
+    pub fn deserialize_tree(self, alloc: Global) -> Result<OwnedValue, DeserializeError>
+        ensures { Reads S.tells S.left S.faults self.entry.reader.now self.exit.1.0.now result (SpellsBehind (version_of self.entry.reader.now.version) self.entry.kind) (TreeRefused (version_of self.entry.reader.now.version) self.entry.kind) }
+    {
+        let BinaryValueDeserializer { kind, reader } = self;
+        reader.go_on()?;
+        let version = reader.version;
+        let answer = take_behind(alloc, &mut reader.source, &mut reader.count, version, kind);
+        reader.has_failed = answer.is_err();
+        answer
+    }
+
     /// Reads null.
     pub fn deserialize_null(self) -> Result<(), DeserializeError>
         ensures { Reads S.tells S.left S.faults self.entry.reader.now self.exit.1.0.now result (SpellsLeaf (version_of self.entry.reader.now.version) self.entry.kind (λ _. null)) (LeafRefused types.Null (version_of self.entry.reader.now.version) self.entry.kind) }

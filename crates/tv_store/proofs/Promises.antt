@@ -12,6 +12,7 @@ use Rattle.tv_doc.specs.declared.document.CompactDoc.{CompactDoc}
 use Rattle.tv_doc.specs.Document.{document_of}
 use Rattle.tv_doc.specs.Room.{room, document_room}
 use Rattle.tv_reader.specs.Error.{key_stop, store_stop}
+use Rattle.tv_reader.specs.Typed.{IsRefusal, is_corrupted, is_no_text}
 use Rattle.tv_reader.specs.Finds.{Refuses, TellsStop, Found}
 use Rattle.tv_reader.specs.declared.error.DeserializeError.{DeserializeError}
 use Rattle.tv_reader.specs.declared.error.DeserializeError.TheVariants as errors
@@ -24,7 +25,7 @@ use Rattle.tv_value.specs.Version.{Version}
 use Rattle.tv_value.proofs.ExcludingTrees.{document_excludes, any_legacy_excludes}
 use Rattle.tv_value.proofs.Trees.{one_pair, one_document, no_legacy_reads}
 use Rattle.tv_store.specs.Documents as documents
-use Rattle.tv_store.specs.Documents.{BeginsWith, Answers, IsRefusal, is_corrupted, is_no_text, NoDocument, IsReadingError}
+use Rattle.tv_store.specs.Documents.{BeginsWith, Answers, NoDocument, IsReadingError}
 use Rattle.tv_store.specs.Pairs.{SpellsRead, DocumentHasNoRoom}
 
 abbrev end : Refusal

@@ -35,12 +35,6 @@ Answers (Err (errors.UnsupportedVersion m n)) d rest left = ⊥
 Answers (Err errors.HeapFull) d rest left = ⊥
 Answers (Err errors.AlreadyFailed) d rest left = ⊥
 
--- The fault in the bytes that an error tells: what is corrupt, or in a key's place a value of another type than a text.
--- Of a document that is read no other mismatch is told.
-pub data IsRefusal : DeserializeError → Refusal → Type 0 where
-  is_corrupted : {c : Cause} → IsRefusal (errors.CorruptedValue c) (corrupted c)
-  is_no_text : {actual : ValueType} → IsRefusal (errors.TypeMismatch String actual) (no_text_key (type_code actual))
-
 -- No front of the bytes spells a document, for this reason. A legacy object isn't read.
 abbrev pub NoDocument : Version → List ℕ → Refusal → Type 0
 NoDocument v bytes r = DocumentFault NoLegacy AnyLegacy v bytes r

@@ -1,10 +1,8 @@
-use Rattle.std.proofs.Common.{refl, subst, string_bytes, map}
-use Rattle.std.specs.Net.Addr.{ipv6_bits}
+use Rattle.std.proofs.Common.{refl, subst}
 use Rattle.std.proofs.lemmas.Result.{err_from_is_err_and}
 use Rattle.tv_base.specs.Take.{TakesBy}
 use Rattle.tv_reader.specs.Leaves.{date_at}
 use Rattle.tv_reader.proofs.AgreeLeaves.{date_agrees}
-use Rattle.tv_value.specs.HeldTokens.{token_of}
 use Rattle.tv_value.specs.Tree.{date}
 use Rattle.tv_reader.specs.Version.{version_of}
 use Rattle.tv_reader.specs.declared.error.ValueType.TheVariants as types

@@ -1,5 +1,4 @@
-use Rattle.std.proofs.Common.{refl, subst, string_bytes, map}
-use Rattle.std.specs.Net.Addr.{ipv6_bits}
+use Rattle.std.proofs.Common.{refl, string_bytes, map}
 use Rattle.std.proofs.lemmas.Result.{err_from_is_err_and}
 use Rattle.tv_reader.proofs.AgreeLeaves.{tokenized_agrees}
 use Rattle.tv_value.specs.HeldTokens.{token_of}

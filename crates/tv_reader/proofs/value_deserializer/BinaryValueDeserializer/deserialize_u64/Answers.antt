@@ -1,8 +1,6 @@
-use Rattle.std.proofs.Common.{refl, subst, string_bytes, map}
-use Rattle.std.specs.Net.Addr.{ipv6_bits}
+use Rattle.std.proofs.Common.{refl}
 use Rattle.std.proofs.lemmas.Result.{err_from_is_err_and}
 use Rattle.tv_base.proofs.AgreeWidths.{u64_agrees}
-use Rattle.tv_value.specs.HeldTokens.{token_of}
 use Rattle.tv_value.specs.Tree.{unsigned}
 use Rattle.tv_reader.specs.Version.{version_of}
 use Rattle.tv_reader.specs.declared.error.ValueType.TheVariants as types
