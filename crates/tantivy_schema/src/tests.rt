@@ -4,6 +4,7 @@ mod agreement;
 mod announced;
 mod heaps;
 mod nested;
+mod reading;
 mod readme;
 mod rows;
 mod sources;
