@@ -22,7 +22,7 @@ use Rattle.tv_reader.specs.LeafBodies.{LeafOf, LeafOfFault}
 use Rattle.tv_reader.specs.Leaves.{is_leaf_type}
 use Rattle.tv_reader.specs.Trees.{SpellsBehind, NoneBehind}
 use Rattle.tv_reader.specs.ValueType.{coded}
-use Rattle.tv_reader.specs.Typed.{IsRefusal, is_corrupted, is_no_text, TreeRefused, typed_stop, Reads, raised, SpellsLeaf, IsMismatch, failed_before, mismatched, LeafRefused, other_type, in_body}
+use Rattle.tv_reader.specs.Typed.{IsRefusal, is_corrupted, is_no_text, TreeRefused, typed_stop, Reads, Deserializes, raised, SpellsLeaf, IsMismatch, failed_before, mismatched, LeafRefused, other_type, in_body}
 use Rattle.tv_reader.specs.declared.error.DeserializeError.{DeserializeError}
 use Rattle.tv_reader.specs.declared.error.DeserializeError.TheVariants as errors
 use Rattle.tv_reader.specs.declared.error.ValueType.{ValueType}
@@ -249,3 +249,14 @@ tree_reads {tells = tells} {left = left} {faults = faults} {s = s} {k = k} old n
   where
     both : (b : Bool) → b ≡ false → b ≡ true → ⊥
     both b p q = let e = sym p ∙ q in absurd cc
+
+-- what is promised of a call that anyone writes
+pub deserializes : {S X : Type 0} {tells : S → Type 0} {left : S → List ℕ} {faults : S → Faults} {old new : StoreReader S} {result : Result X DeserializeError} {B : List ℕ → X → Type 0} {Q : List ℕ → DeserializeError → Type 0}
+    → Reads tells left faults old new result B Q → Deserializes tells left old new result B Q
+deserializes h = record {
+  closed = h.closed;
+  found = λ is_open. (h.finds is_open).found;
+  taken = λ is_open. (h.finds is_open).taken;
+  still_tells = λ is_open. (h.finds is_open).still_tells;
+  same_version = h.same_version;
+}
