@@ -1,6 +1,6 @@
 -- Typed reads by the parts that they take.
 use Rattle.std.proofs.Common.{◌≡◌, ℕ, ◌-◌, ◌^◌, ◌<◌, Bool, true, false, List, [], ◌++◌, Result, Ok, Err, refl, sym, ap, subst, ◌∙◌}
-use Rattle.std.specs.Prelude.{is_err, IsErrOf}
+use Rattle.std.specs.Prelude.{is_err, OnOk, IsErrOf}
 use Rattle.tv_base.specs.declared.cause.Cause.{Cause}
 use Rattle.tv_base.specs.declared.cause.Cause.TheVariants.{UnexpectedEnd}
 use Rattle.tv_base.specs.declared.read_error.ReadError.{ReadError}
@@ -250,11 +250,16 @@ tree_reads {tells = tells} {left = left} {faults = faults} {s = s} {k = k} old n
     both : (b : Bool) → b ≡ false → b ≡ true → ⊥
     both b p q = let e = sym p ∙ q in absurd cc
 
+unmarked_by : {X : Type 0} (result : Result X DeserializeError) (b : Bool) → b ≡ is_err result → OnOk result (b ≡ false)
+unmarked_by (Ok x) b e = e
+unmarked_by (Err e) b h = tt
+
 -- what is promised of a call that anyone writes
 pub deserializes : {S X : Type 0} {tells : S → Type 0} {left : S → List ℕ} {faults : S → Faults} {old new : StoreReader S} {result : Result X DeserializeError} {B : List ℕ → X → Type 0} {Q : List ℕ → DeserializeError → Type 0}
     → Reads tells left faults old new result B Q → Deserializes tells left old new result B Q
-deserializes h = record {
+deserializes {result = result} h = record {
   closed = h.closed;
+  unmarked = unmarked_by result _ h.marks;
   found = λ is_open. (h.finds is_open).found;
   taken = λ is_open. (h.finds is_open).taken;
   still_tells = λ is_open. (h.finds is_open).still_tells;

@@ -1,5 +1,5 @@
 -- What a read through a reader of a store returns and does.
-use Rattle.std.specs.Prelude.{◌≡◌, ◌≢◌, ℕ, Bool, true, false, is_err, List, ◌++◌, Result, Ok, Err, IsErrOf}
+use Rattle.std.specs.Prelude.{◌≡◌, ◌≢◌, ℕ, Bool, true, false, is_err, List, ◌++◌, Result, Ok, Err, OnOk, IsErrOf}
 use Rattle.tv_base.specs.declared.cause.Cause.{Cause}
 use Rattle.tv_base.specs.declared.cause.Cause.TheVariants.{UnexpectedEnd}
 use Rattle.tv_base.specs.declared.read_error.ReadError.{ReadError}
@@ -78,10 +78,11 @@ pub data IsMismatch (has_failed : Bool) (kind expected : ValueType) : Deserializ
   failed_before : has_failed ≡ true → IsMismatch has_failed kind expected errors.AlreadyFailed
   mismatched : has_failed ≡ false → kind ≢ expected → IsMismatch has_failed kind expected (errors.TypeMismatch expected kind)
 
--- What a call that reads a value of a type through a reader promises, whoever wrote it: as `Reads`, but for the mark of a refusal and
--- for the kind of a failure, which the reader alone keeps.
+-- What a call that reads a value of a type through a reader promises, whoever wrote it: as `Reads`, but that a refusal may be left
+-- unmarked, and that a failure of the source may be told in other words.
 pub record Deserializes {S X : Type 0} (tells : S → Type 0) (left : S → List ℕ) (old new : StoreReader S) (result : Result X DeserializeError) (Spells : List ℕ → X → Type 0) (IsFault : List ℕ → DeserializeError → Type 0) : Type 0 where
   pub closed : old.has_failed ≡ true → IsErrOf result errors.AlreadyFailed × (new.source ≡ old.source) × (new.count ≡ old.count)
+  pub unmarked : OnOk result (new.has_failed ≡ false)
   pub found : old.has_failed ≡ false → tells old.source → Found typed_stop (errors.CorruptedValue UnexpectedEnd) Spells IsFault (left old.source) (left new.source) new.count result
   pub taken : old.has_failed ≡ false → tells old.source → Taken (left old.source) (left new.source) old.count new.count
   pub still_tells : old.has_failed ≡ false → tells old.source → tells new.source
