@@ -3,6 +3,8 @@ use Rattle.std.specs.Prelude.{◌≡◌, ◌≢◌, ℕ, Bool, true, false, is_e
 use Rattle.tv_base.specs.declared.cause.Cause.{Cause}
 use Rattle.tv_base.specs.declared.cause.Cause.TheVariants.{UnexpectedEnd}
 use Rattle.tv_base.specs.declared.read_error.ReadError.{ReadError}
+use Rattle.tv_base.specs.Parts.{Then}
+use Rattle.tv_base.specs.PartFault.{InThen}
 use Rattle.tv_base.specs.Source.{Faults}
 use Rattle.tv_base.specs.Stop.{Stop, Taken}
 use Rattle.tv_base.specs.Stop.Stop.{Fault, Failed, Short, Never}
@@ -87,3 +89,10 @@ pub record Deserializes {S X : Type 0} (tells : S → Type 0) (left : S → List
   pub taken : old.has_failed ≡ false → tells old.source → Taken (left old.source) (left new.source) old.count new.count
   pub still_tells : old.has_failed ≡ false → tells old.source → tells new.source
   pub same_version : new.version ≡ old.version
+
+-- The next value: its code, and what stands behind it. `spells` and `refused` are told behind the code.
+abbrev pub SpellsNext : {X : Type 0} → (Version → ValueType → List ℕ → X → Type 0) → Version → List ℕ → X → Type 0
+SpellsNext spells v b x = (kind : ValueType) × Then (λ w. IsCoded w kind) (λ w. spells v kind w x) b
+
+abbrev pub NextRefused : (Version → ValueType → List ℕ → DeserializeError → Type 0) → Version → List ℕ → DeserializeError → Type 0
+NextRefused refused v = InThen CodeRefused IsCoded (λ kind. refused v kind)

@@ -1,9 +1,9 @@
 //! Types of which values are read.
 
-ghost use Rattle.std.specs.Prelude.{List, ℕ, string_bytes, map};
+ghost use Rattle.std.specs.Prelude.{◌≡◌, true, List, ℕ, OnErr, string_bytes, map};
 ghost use Rattle.std.specs.Net.Addr.{ipv6_bits};
 ghost use Rattle.tv_reader.specs.Trees.{SpellsBehind};
-ghost use Rattle.tv_reader.specs.Typed.{Reads, Deserializes, SpellsLeaf, LeafRefused, TreeRefused};
+ghost use Rattle.tv_reader.specs.Typed.{Reads, Deserializes, SpellsNext, NextRefused, SpellsLeaf, LeafRefused, TreeRefused};
 ghost use Rattle.tv_reader.specs.Version.{version_of};
 ghost use Rattle.tv_reader.specs.declared.error.DeserializeError.{DeserializeError};
 ghost use Rattle.tv_reader.specs.declared.error.ValueType.{ValueType};
@@ -13,6 +13,7 @@ ghost use Rattle.tv_value.specs.Tree.{text, unsigned, signed, boolean, date, fac
 ghost use Rattle.tv_value.specs.Version.{Version};
 
 use crate::error::DeserializeError;
+use crate::store_reader::StoreReader;
 use crate::value_deserializer::BinaryValueDeserializer;
 use std::alloc::Global;
 use std::net::Ipv6Addr;
@@ -35,6 +36,24 @@ pub trait ValueDeserialize: Sized + Drop {
         deserializer: BinaryValueDeserializer<'_, S>,
     ) -> Result<Self, DeserializeError>
         ensures deserializes { Deserializes S.tells S.left deserializer.entry.reader.now deserializer.exit.1.0.now result (spells (version_of deserializer.entry.reader.now.version) deserializer.entry.kind) (refused (version_of deserializer.entry.reader.now.version) deserializer.entry.kind) };
+}
+
+impl<S: ByteSource> StoreReader<S> {
+    /// Reads the next value: its code, and what stands behind it. Errors: those of `BinaryValueDeserializer::from_reader` and of
+    /// the type's own `deserialize`. Each is marked, whoever it is of, so that every later read answers `AlreadyFailed`.
+    pub fn read<V: ValueDeserialize>(&mut self, alloc: Global) -> Result<V, DeserializeError>
+        ensures deserializes { Deserializes S.tells S.left self.old self.new result (SpellsNext V.spells (version_of self.old.version)) (NextRefused V.refused (version_of self.old.version)) }
+        ensures marks { OnErr result (self.new.has_failed ≡ true) }
+    {
+        let kind = self.code()?;
+        match V::deserialize(alloc, BinaryValueDeserializer { kind, reader: self }) {
+            Ok(value) => Ok(value),
+            Err(error) => {
+                self.has_failed = true;
+                Err(error)
+            }
+        }
+    }
 }
 
 impl ValueDeserialize for u64 {
