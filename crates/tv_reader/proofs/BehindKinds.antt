@@ -28,20 +28,20 @@ end = corrupted UnexpectedEnd
 -- ---- behind a code
 
 -- without its last byte a code is at its end
-kind_edge : (Q : List ℕ → Refusal → Type 0) → Q [] end → Q (7 ∷ []) end → (kind : ValueType) (start : List ℕ) (byte : ℕ) → coded kind ≡ start ++ byte ∷ [] → Q start end
-kind_edge Q none seven types.String start byte last = subst (λ l. Q l end) (sym (same_start start [] byte 0 (sym last))) none
-kind_edge Q none seven types.U64 start byte last = subst (λ l. Q l end) (sym (same_start start [] byte 1 (sym last))) none
-kind_edge Q none seven types.I64 start byte last = subst (λ l. Q l end) (sym (same_start start [] byte 2 (sym last))) none
-kind_edge Q none seven types.Facet start byte last = subst (λ l. Q l end) (sym (same_start start [] byte 3 (sym last))) none
-kind_edge Q none seven types.Bytes start byte last = subst (λ l. Q l end) (sym (same_start start [] byte 4 (sym last))) none
-kind_edge Q none seven types.DateTime start byte last = subst (λ l. Q l end) (sym (same_start start [] byte 5 (sym last))) none
-kind_edge Q none seven types.PreTokStr start byte last = subst (λ l. Q l end) (sym (same_start start (7 ∷ []) byte 0 (sym last))) seven
-kind_edge Q none seven types.JSONObject start byte last = subst (λ l. Q l end) (sym (same_start start [] byte 8 (sym last))) none
-kind_edge Q none seven types.Bool start byte last = subst (λ l. Q l end) (sym (same_start start [] byte 9 (sym last))) none
-kind_edge Q none seven types.IpAddr start byte last = subst (λ l. Q l end) (sym (same_start start [] byte 10 (sym last))) none
-kind_edge Q none seven types.Null start byte last = subst (λ l. Q l end) (sym (same_start start [] byte 11 (sym last))) none
-kind_edge Q none seven types.Array start byte last = subst (λ l. Q l end) (sym (same_start start [] byte 12 (sym last))) none
-kind_edge Q none seven types.Object start byte last = subst (λ l. Q l end) (sym (same_start start [] byte 13 (sym last))) none
+pub kind_edge : {F : Type 0} (end : F) (Q : List ℕ → F → Type 0) → Q [] end → Q (7 ∷ []) end → (kind : ValueType) (start : List ℕ) (byte : ℕ) → coded kind ≡ start ++ byte ∷ [] → Q start end
+kind_edge end Q none seven types.String start byte last = subst (λ l. Q l end) (sym (same_start start [] byte 0 (sym last))) none
+kind_edge end Q none seven types.U64 start byte last = subst (λ l. Q l end) (sym (same_start start [] byte 1 (sym last))) none
+kind_edge end Q none seven types.I64 start byte last = subst (λ l. Q l end) (sym (same_start start [] byte 2 (sym last))) none
+kind_edge end Q none seven types.Facet start byte last = subst (λ l. Q l end) (sym (same_start start [] byte 3 (sym last))) none
+kind_edge end Q none seven types.Bytes start byte last = subst (λ l. Q l end) (sym (same_start start [] byte 4 (sym last))) none
+kind_edge end Q none seven types.DateTime start byte last = subst (λ l. Q l end) (sym (same_start start [] byte 5 (sym last))) none
+kind_edge end Q none seven types.PreTokStr start byte last = subst (λ l. Q l end) (sym (same_start start (7 ∷ []) byte 0 (sym last))) seven
+kind_edge end Q none seven types.JSONObject start byte last = subst (λ l. Q l end) (sym (same_start start [] byte 8 (sym last))) none
+kind_edge end Q none seven types.Bool start byte last = subst (λ l. Q l end) (sym (same_start start [] byte 9 (sym last))) none
+kind_edge end Q none seven types.IpAddr start byte last = subst (λ l. Q l end) (sym (same_start start [] byte 10 (sym last))) none
+kind_edge end Q none seven types.Null start byte last = subst (λ l. Q l end) (sym (same_start start [] byte 11 (sym last))) none
+kind_edge end Q none seven types.Array start byte last = subst (λ l. Q l end) (sym (same_start start [] byte 12 (sym last))) none
+kind_edge end Q none seven types.Object start byte last = subst (λ l. Q l end) (sym (same_start start [] byte 13 (sym last))) none
 
 -- the type was taken, and then what stands behind it
 pub finds_behind : {S Y : Type 0} {tells : S → Type 0} {left : S → List ℕ} {faults : S → Faults} {old mid new : S} {i j k : ℕ} {kind : ValueType} {result : Result Y DeserializeError} (B : List ℕ → Y → Type 0) (Q : List ℕ → Refusal → Type 0)
@@ -51,7 +51,7 @@ finds_behind {kind = kind} B Q are_bytes none seven part h =
     finds_then B Q
     (λ a b y is p. subst (λ l. B (l ++ b) y) (sym is) p)
     (λ a w c is q. subst (λ l. Q (l ++ w) c) (sym is) q)
-    (λ a f is _ _ start byte last. kind_edge Q none seven kind start byte (sym is ∙ last))
+    (λ a f is _ _ start byte last. kind_edge end Q none seven kind start byte (sym is ∙ last))
     (finds_part are_bytes kind_agrees part) h
 
 pub code_value : (v : Version) (w : List ℕ) (c : Cause) → CodeFault w c → NoValue v w (corrupted c)

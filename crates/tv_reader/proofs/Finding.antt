@@ -71,7 +71,7 @@ counts_from stop (Err e) old mid new same h = CountsStop-from (stop e) old mid n
 
 -- ---- readers
 
-found_behind : {E F X Y : Type 0} (stop : E → Stop F) (end : F) (R : List ℕ → X → Type 0) (P Q : List ℕ → F → Type 0) (A B : List ℕ → Y → Type 0) (x : X) (result : Result Y E) (old mid new : List ℕ) (count : ℕ)
+pub found_behind : {E F X Y : Type 0} (stop : E → Stop F) (end : F) (R : List ℕ → X → Type 0) (P Q : List ℕ → F → Type 0) (A B : List ℕ → Y → Type 0) (x : X) (result : Result Y E) (old mid new : List ℕ) (count : ℕ)
     → ((a b : List ℕ) (y : Y) → R a x → A b y → B (a ++ b) y) → ((a w : List ℕ) (c : F) → R a x → P w c → Q (a ++ w) c)
     → ((a : List ℕ) (f : F) → R a x → f ≢ end → P [] f → (start : List ℕ) (byte : ℕ) → a ≡ start ++ byte ∷ [] → Q start end)
     → Begins (λ b. R b x) old mid → Found stop end A P mid new count result → Found stop end B Q old new count result

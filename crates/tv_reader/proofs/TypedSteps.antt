@@ -1,6 +1,6 @@
 -- Typed reads by the parts that they take.
-use Rattle.std.proofs.Common.{◌≡◌, ℕ, ◌-◌, ◌^◌, ◌<◌, Bool, true, false, List, [], ◌++◌, Result, Ok, Err, refl, sym, ap, subst, ◌∙◌}
-use Rattle.std.specs.Prelude.{is_err, IsErrOf}
+use Rattle.std.proofs.Common.{◌≡◌, ℕ, ◌-◌, ◌^◌, ◌<◌, Bool, true, false, List, [], ◌++◌, Result, Ok, Err, refl, sym, ap, subst, ◌∙◌, inl, inr}
+use Rattle.std.specs.Prelude.{is_err, OnOk, IsErrOf}
 use Rattle.tv_base.specs.declared.cause.Cause.{Cause}
 use Rattle.tv_base.specs.declared.cause.Cause.TheVariants.{UnexpectedEnd}
 use Rattle.tv_base.specs.declared.read_error.ReadError.{ReadError}
@@ -10,6 +10,7 @@ use Rattle.tv_base.specs.Source.{AllBytes, Faults}
 use Rattle.tv_base.specs.Stop.{CountsStop, Counts, Gives}
 use Rattle.tv_base.specs.Take.{TakesBy, read_stop}
 use Rattle.tv_base.proofs.Agrees.{Agrees}
+use Rattle.tv_base.proofs.TakeSteps.{Taken_then}
 use Rattle.tv_base.proofs.ByGrammar.{shows_by}
 use Rattle.tv_value.specs.Fault.{Refusal, corrupted}
 use Rattle.tv_value.specs.Spelling.{Spells, NoLegacy}
@@ -21,15 +22,16 @@ use Rattle.tv_reader.specs.Finds.{Refuses, TellsStop, Found, FindsBy, Finds}
 use Rattle.tv_reader.specs.LeafBodies.{LeafOf, LeafOfFault}
 use Rattle.tv_reader.specs.Leaves.{is_leaf_type}
 use Rattle.tv_reader.specs.Trees.{SpellsBehind, NoneBehind}
-use Rattle.tv_reader.specs.ValueType.{coded}
-use Rattle.tv_reader.specs.Typed.{IsRefusal, is_corrupted, is_no_text, TreeRefused, typed_stop, Reads, raised, SpellsLeaf, IsMismatch, failed_before, mismatched, LeafRefused, other_type, in_body}
+use Rattle.tv_reader.specs.ValueType.{coded, no_code, no_extension_code}
+use Rattle.tv_reader.specs.Typed.{IsCoded, CodeRefused, in_code, SpellsNext, NextRefused, IsRefusal, is_corrupted, is_no_text, TreeRefused, typed_stop, Reads, Deserializes, raised, SpellsLeaf, IsMismatch, failed_before, mismatched, LeafRefused, other_type, in_body}
+use Rattle.tv_reader.specs.Version.{version_of}
 use Rattle.tv_reader.specs.declared.error.DeserializeError.{DeserializeError}
 use Rattle.tv_reader.specs.declared.error.DeserializeError.TheVariants as errors
 use Rattle.tv_reader.specs.declared.error.ValueType.{ValueType}
 use Rattle.tv_reader.specs.declared.error.ValueType.TheVariants as types
 use Rattle.tv_reader.specs.declared.store_reader.StoreReader.{StoreReader}
-use Rattle.tv_reader.proofs.BehindKinds.{leaf_spelled, leaf_refused}
-use Rattle.tv_reader.proofs.Finding.{shows_map, finds_refused, finds_nothing}
+use Rattle.tv_reader.proofs.BehindKinds.{kind_edge, leaf_spelled, leaf_refused}
+use Rattle.tv_reader.proofs.Finding.{found_behind, finds_fails, shows_map, finds_refused, finds_nothing}
 
 abbrev end : DeserializeError
 end = errors.CorruptedValue UnexpectedEnd
@@ -249,3 +251,69 @@ tree_reads {tells = tells} {left = left} {faults = faults} {s = s} {k = k} old n
   where
     both : (b : Bool) → b ≡ false → b ≡ true → ⊥
     both b p q = let e = sym p ∙ q in absurd cc
+
+unmarked_by : {X : Type 0} (result : Result X DeserializeError) (b : Bool) → b ≡ is_err result → OnOk result (b ≡ false)
+unmarked_by (Ok x) b e = e
+unmarked_by (Err e) b h = tt
+
+-- what is promised of a call that anyone writes
+pub deserializes : {S X : Type 0} {tells : S → Type 0} {left : S → List ℕ} {faults : S → Faults} {old new : StoreReader S} {result : Result X DeserializeError} {B : List ℕ → X → Type 0} {Q : List ℕ → DeserializeError → Type 0}
+    → Reads tells left faults old new result B Q → Deserializes tells left old new result B Q
+deserializes {result = result} h = record {
+  closed = h.closed;
+  unmarked = unmarked_by result _ h.marks;
+  found = λ is_open. (h.finds is_open).found;
+  taken = λ is_open. (h.finds is_open).taken;
+  still_tells = λ is_open. (h.finds is_open).still_tells;
+  same_version = h.same_version;
+}
+
+-- ---- the next value
+
+kept : {X : Type 0} (b c : Bool) (result : Result X DeserializeError) → OnOk result (b ≡ false) → OnOk result (c ≡ b) → OnOk result (c ≡ false)
+kept b c (Ok x) p q = q ∙ p
+kept b c (Err e) p q = tt
+
+not_ok : (kind : ValueType) → IsErrOf {T = ValueType} (Ok kind) errors.AlreadyFailed → ⊥
+not_ok kind e = absurd cc
+
+-- its code was taken, and then what stands behind it
+pub next_then : {S X : Type 0} {tells : S → Type 0} {left : S → List ℕ} {faults : S → Faults} {mid : StoreReader S} {kind : ValueType} (old new : StoreReader S) (result : Result X DeserializeError) (has_failed : Bool)
+    (spells : Version → ValueType → List ℕ → X → Type 0) (refused : Version → ValueType → List ℕ → DeserializeError → Type 0)
+    → Reads tells left faults old mid (Ok kind) IsCoded CodeRefused → Deserializes tells left mid new result (spells (version_of mid.version) kind) (refused (version_of mid.version) kind) → OnOk result (has_failed ≡ new.has_failed)
+    → Deserializes tells left old (record new { has_failed = has_failed }) result (SpellsNext spells (version_of old.version)) (NextRefused refused (version_of old.version))
+next_then {tells = tells} {left = left} {mid = mid} {kind = kind} old new result has_failed spells refused p g keeps =
+    let v = version_of old.version in
+    let h = subst (λ z. Deserializes tells left mid new result (spells (version_of z) kind) (refused (version_of z) kind)) p.same_version g in
+    record {
+      closed = λ failed. absurd (not_ok kind (p.closed failed).0);
+      unmarked = kept new.has_failed has_failed result h.unmarked keeps;
+      found = λ is_open t.
+          let first = p.finds is_open in
+          let b = first.found t in
+          found_behind typed_stop end (λ b k. (b ≡ coded kind) × (k ≡ kind)) (refused v kind) (NextRefused refused v) (spells v kind) (SpellsNext spells v) kind result (left old.source) (left mid.source) (left new.source) new.count
+          (λ a b x is s. (kind, record { front = a; rest = b; joined = refl; first = is.0; second = s }))
+          (λ a w c is f. inr (kind, record { front = a; rest = w; joined = refl; first = is.0; second = f }))
+          (λ a f is _ _ start byte last. kind_edge end (NextRefused refused v) (inl (in_code no_code)) (inl (in_code no_extension_code)) kind start byte (sym is.0 ∙ last))
+          (record { front = b.front; joined = b.joined; spelled = (b.spelled, refl) })
+          (h.found p.marks (first.still_tells t));
+      taken = λ is_open t. let first = p.finds is_open in Taken_then (first.taken t) (h.taken p.marks (first.still_tells t));
+      still_tells = λ is_open t. let first = p.finds is_open in h.still_tells p.marks (first.still_tells t);
+      same_version = h.same_version ∙ p.same_version;
+    }
+
+err_for : {A B : Type 0} (e d : DeserializeError) → IsErrOf {T = A} (Err e) d → IsErrOf {T = B} (Err e) d
+err_for e d is = let same : e ≡ d = cc in ap (λ (z : DeserializeError). Err z) same
+
+-- its code was refused
+pub next_code_fails : {S X : Type 0} {tells : S → Type 0} {left : S → List ℕ} {faults : S → Faults} {old new : StoreReader S} {e : DeserializeError}
+    (spells : Version → ValueType → List ℕ → X → Type 0) (refused : Version → ValueType → List ℕ → DeserializeError → Type 0) (v : Version)
+    → Reads {X = ValueType} tells left faults old new (Err e) IsCoded CodeRefused → Deserializes {X = X} tells left old new (Err e) (SpellsNext spells v) (NextRefused refused v)
+next_code_fails {e = e} spells refused v p = record {
+  closed = λ failed. let c = p.closed failed in (err_for e errors.AlreadyFailed c.0, c.1, c.2);
+  unmarked = tt;
+  found = λ is_open. (finds_fails (SpellsNext spells v) (NextRefused refused v) (λ w c f. inl f) (p.finds is_open)).found;
+  taken = λ is_open. (p.finds is_open).taken;
+  still_tells = λ is_open. (p.finds is_open).still_tells;
+  same_version = p.same_version;
+}

@@ -1,17 +1,19 @@
 -- What a read through a reader of a store returns and does.
-use Rattle.std.specs.Prelude.{◌≡◌, ◌≢◌, ℕ, Bool, true, false, is_err, List, ◌++◌, Result, Ok, Err, IsErrOf}
+use Rattle.std.specs.Prelude.{◌≡◌, ◌≢◌, ℕ, Bool, true, false, is_err, List, ◌++◌, Result, Ok, Err, OnOk, IsErrOf}
 use Rattle.tv_base.specs.declared.cause.Cause.{Cause}
 use Rattle.tv_base.specs.declared.cause.Cause.TheVariants.{UnexpectedEnd}
 use Rattle.tv_base.specs.declared.read_error.ReadError.{ReadError}
+use Rattle.tv_base.specs.Parts.{Then}
+use Rattle.tv_base.specs.PartFault.{InThen}
 use Rattle.tv_base.specs.Source.{Faults}
-use Rattle.tv_base.specs.Stop.{Stop}
+use Rattle.tv_base.specs.Stop.{Stop, Taken}
 use Rattle.tv_base.specs.Stop.Stop.{Fault, Failed, Short, Never}
 use Rattle.tv_value.specs.Fault.{Refusal, corrupted, no_text_key}
 use Rattle.tv_value.specs.Spelling.{Spells, NoLegacy}
 use Rattle.tv_value.specs.Tree.{Leaf, leaf}
 use Rattle.tv_value.specs.Version.{Version}
 use Rattle.tv_reader.specs.Error.{read_error}
-use Rattle.tv_reader.specs.Finds.{FindsBy}
+use Rattle.tv_reader.specs.Finds.{Found, FindsBy}
 use Rattle.tv_reader.specs.Trees.{NoneBehind}
 use Rattle.tv_reader.specs.ValueType.{type_code, coded, CodeFault}
 use Rattle.tv_reader.specs.declared.error.DeserializeError.{DeserializeError}
@@ -77,3 +79,20 @@ pub record TreeRefused (v : Version) (kind : ValueType) (whole : List ℕ) (e : 
 pub data IsMismatch (has_failed : Bool) (kind expected : ValueType) : DeserializeError → Type 0 where
   failed_before : has_failed ≡ true → IsMismatch has_failed kind expected errors.AlreadyFailed
   mismatched : has_failed ≡ false → kind ≢ expected → IsMismatch has_failed kind expected (errors.TypeMismatch expected kind)
+
+-- What a call that reads a value of a type through a reader promises, whoever wrote it: as `Reads`, but that a refusal may be left
+-- unmarked, and that a failure of the source may be told in other words.
+pub record Deserializes {S X : Type 0} (tells : S → Type 0) (left : S → List ℕ) (old new : StoreReader S) (result : Result X DeserializeError) (Spells : List ℕ → X → Type 0) (IsFault : List ℕ → DeserializeError → Type 0) : Type 0 where
+  pub closed : old.has_failed ≡ true → IsErrOf result errors.AlreadyFailed × (new.source ≡ old.source) × (new.count ≡ old.count)
+  pub unmarked : OnOk result (new.has_failed ≡ false)
+  pub found : old.has_failed ≡ false → tells old.source → Found typed_stop (errors.CorruptedValue UnexpectedEnd) Spells IsFault (left old.source) (left new.source) new.count result
+  pub taken : old.has_failed ≡ false → tells old.source → Taken (left old.source) (left new.source) old.count new.count
+  pub still_tells : old.has_failed ≡ false → tells old.source → tells new.source
+  pub same_version : new.version ≡ old.version
+
+-- The next value: its code, and what stands behind it. `spells` and `refused` are told behind the code.
+abbrev pub SpellsNext : {X : Type 0} → (Version → ValueType → List ℕ → X → Type 0) → Version → List ℕ → X → Type 0
+SpellsNext spells v b x = (kind : ValueType) × Then (λ w. IsCoded w kind) (λ w. spells v kind w x) b
+
+abbrev pub NextRefused : (Version → ValueType → List ℕ → DeserializeError → Type 0) → Version → List ℕ → DeserializeError → Type 0
+NextRefused refused v = InThen CodeRefused IsCoded (λ kind. refused v kind)

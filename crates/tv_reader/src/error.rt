@@ -77,6 +77,15 @@ pub enum DeserializeError {
     AlreadyFailed,
 }
 
+impl DeserializeError {
+    /// An error of a reader that a user wrote, with this message.
+    pub fn custom(message: String) -> DeserializeError
+        ensures { result ≡ DeserializeError.Custom message }
+    {
+        DeserializeError::Custom(message)
+    }
+}
+
 impl From<ReadError> for DeserializeError {
     ghost from_gives = { λ error told. told ≡ read_error error };
 

@@ -1,6 +1,7 @@
 //! Reading values of the document store, of every type.
 #![tactic(auto)]
 
+pub mod deserialize;
 pub mod error;
 pub mod kinds;
 mod leaves;
@@ -10,6 +11,7 @@ pub mod type_codes;
 pub mod value_deserializer;
 pub mod version;
 
+pub use deserialize::ValueDeserialize;
 pub use error::{DeserializeError, ValueType};
 pub use store_reader::StoreReader;
 pub use value_deserializer::BinaryValueDeserializer;

@@ -155,7 +155,10 @@ impl<'de, S: ByteSource> BinaryValueDeserializer<'de, S> {
     }
 
     /// Reads a text and its tokens.
-    pub fn deserialize_pre_tokenized_string(self, alloc: Global) -> Result<PreTokenizedString, DeserializeError>
+    pub fn deserialize_pre_tokenized_string(
+        self,
+        alloc: Global,
+    ) -> Result<PreTokenizedString, DeserializeError>
         ensures { Reads S.tells S.left S.faults self.entry.reader.now self.exit.1.0.now result (SpellsLeaf (version_of self.entry.reader.now.version) self.entry.kind (λ s. tokenized (string_bytes s.text) (map token_of s.tokens.items))) (LeafRefused types.PreTokStr (version_of self.entry.reader.now.version) self.entry.kind) }
     {
         let BinaryValueDeserializer { kind, reader } = self;

@@ -6,7 +6,7 @@ pub use tv_doc::document::{CompactDoc, CompactDoc as TantivyDocument};
 pub use tv_doc::document_trait::Document;
 pub use tv_doc::field_values::{FieldValueIterRef, GetAllIter};
 pub use tv_doc::value::{CompactDocArrayIter, CompactDocObjectIter, CompactDocValue};
-pub use tv_reader::{BinaryValueDeserializer, StoreReader};
+pub use tv_reader::{BinaryValueDeserializer, StoreReader, ValueDeserialize};
 pub use tv_store::{
     BinaryArraySerializer, BinaryDocumentSerializer, BinaryObjectSerializer, BinaryValueSerializer,
     DeserializeError, SerializeError, ValueType, type_codes,

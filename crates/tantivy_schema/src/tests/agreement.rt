@@ -1,7 +1,7 @@
 //! What is read from the store agrees with the plain program that computes the definitions of reading.
 
-use crate::common::SliceSource;
-use crate::schema::document::DeserializeError;
+use crate::common::{Cause, SliceSource};
+use crate::schema::document::{CompactDocValue, DeserializeError};
 use crate::schema::{CompactDoc, Value};
 use crate::store::{DocStoreVersion, read_document};
 use crate::tests::sources::DripSource;
@@ -11,21 +11,40 @@ use plain_reader::value::{PlainValue, PlainVersion};
 use std::alloc::{AllocError, Global};
 use std::test::Fail;
 
-/// Bytes that are no codes of types which aren't read yet: codes that are read, others, and ends and beginnings of numbers.
-const BYTES: [u8; 9] = [0x00, 0x01, 0x06, 0x0e, 0x61, 0x80, 0x81, 0x82, 0xff];
+/// The codes of texts, numbers, floats, extensions, legacy objects, null, arrays and objects, others, and ends and beginnings of
+/// numbers.
+const BYTES: [u8; 14] = [
+    0x00, 0x01, 0x06, 0x07, 0x08, 0x0b, 0x0c, 0x0d, 0x0e, 0x61, 0x80, 0x81, 0x82, 0xff,
+];
 
 /// So many bytes stand behind each front.
 const LEN: usize = 3;
 
+/// A text, a number, null, an array of nulls or an empty object as a plain value: no others fit into so few bytes.
+fn plain_value(alloc: Global, value: CompactDocValue<'_>) -> Result<PlainValue, AllocError> {
+    if let Some(text) = value.as_str() {
+        return Ok(PlainValue::Text(text.as_bytes().to_vec(alloc)?));
+    }
+    if let Some(number) = value.as_u64() {
+        return Ok(PlainValue::Unsigned(number));
+    }
+    if let Some(items) = value.as_array() {
+        let mut nulls = Vec::new(alloc);
+        for _item in items {
+            nulls.push(PlainValue::Null)?;
+        }
+        return Ok(PlainValue::Array(nulls));
+    }
+    if value.as_object().is_some() {
+        return Ok(PlainValue::Object(Vec::new(alloc)));
+    }
+    Ok(PlainValue::Null)
+}
+
 fn plain_pairs(alloc: Global, document: &CompactDoc) -> Result<Vec<(u32, PlainValue)>, AllocError> {
     let mut pairs = Vec::new(alloc);
     for (field, value) in document.field_values() {
-        let value = match (value.as_str(), value.as_u64()) {
-            (Some(text), _) => PlainValue::Text(text.as_bytes().to_vec(alloc)?),
-            (None, Some(number)) => PlainValue::Unsigned(number),
-            (None, None) => PlainValue::Null,
-        };
-        pairs.push((field.field_id(), value))?;
+        pairs.push((field.field_id(), plain_value(alloc, value)?))?;
     }
     Ok(pairs)
 }
@@ -43,6 +62,10 @@ fn is_alike(
         }
         (Err(DeserializeError::CorruptedValue(cause)), Err(PlainRefusal::Corrupted(plain_cause))) =>
             Ok(cause == plain_cause),
+        (Err(DeserializeError::CorruptedValue(cause)), Err(PlainRefusal::LegacyObject)) => Ok(
+            cause == Cause::LegacyJson,
+        ),
+        (Err(DeserializeError::TypeMismatch { .. }), Err(PlainRefusal::NoTextKey(_))) => Ok(true),
         _ => Ok(false),
     }
 }
@@ -83,6 +106,6 @@ fn on_short_lists(rt: HostRuntime) -> Result<(), Fail> {
             tried = tried.wrapping_add(1);
         }
     }
-    assert_eq!(rt; tried, 2916);
+    assert_eq!(rt; tried, 10976);
     Ok(())
 }
