@@ -203,35 +203,35 @@ impl CompactDoc {
     pub fn add_text(&mut self, field: Field, content: &str) -> Result<(), AddError>
         ensures { Adds self.old self.new field.id (leaf (text content.now)) result }
     {
-        self.add_leaf_field_value(field, ReferenceValueLeaf::Str(content))
+        self.add_leaf(field, &ReferenceValueLeaf::Str(content))
     }
 
     /// Adds a pair of a field and an unsigned number, whose room is 8 bytes. The errors are those of `add_text`.
     pub fn add_u64(&mut self, field: Field, number: u64) -> Result<(), AddError>
         ensures { Adds self.old self.new field.id (leaf (unsigned number)) result }
     {
-        self.add_leaf_field_value(field, ReferenceValueLeaf::U64(number))
+        self.add_leaf(field, &ReferenceValueLeaf::U64(number))
     }
 
     /// Adds a pair of a field and a signed number, whose room is 8 bytes. The errors are those of `add_text`.
     pub fn add_i64(&mut self, field: Field, number: i64) -> Result<(), AddError>
         ensures { Adds self.old self.new field.id (leaf (signed number)) result }
     {
-        self.add_leaf_field_value(field, ReferenceValueLeaf::I64(number))
+        self.add_leaf(field, &ReferenceValueLeaf::I64(number))
     }
 
     /// Adds a pair of a field and a truth value, which takes no room. The errors are those of `add_text`.
     pub fn add_bool(&mut self, field: Field, truth: bool) -> Result<(), AddError>
         ensures { Adds self.old self.new field.id (leaf (boolean truth)) result }
     {
-        self.add_leaf_field_value(field, ReferenceValueLeaf::Bool(truth))
+        self.add_leaf(field, &ReferenceValueLeaf::Bool(truth))
     }
 
     /// Adds a pair of a field and a date, whose room is 8 bytes. The errors are those of `add_text`.
     pub fn add_date(&mut self, field: Field, moment: DateTime) -> Result<(), AddError>
         ensures { Adds self.old self.new field.id (leaf (date moment.nanoseconds)) result }
     {
-        self.add_leaf_field_value(field, ReferenceValueLeaf::Date(moment))
+        self.add_leaf(field, &ReferenceValueLeaf::Date(moment))
     }
 
     /// Adds a pair of a field and a facet, whose room is 5 bytes and the length of its encoded text. The errors are those of
@@ -239,21 +239,21 @@ impl CompactDoc {
     pub fn add_facet(&mut self, field: Field, path: &Facet) -> Result<(), AddError>
         ensures { Adds self.old self.new field.id (leaf (facet path.now)) result }
     {
-        self.add_leaf_field_value(field, ReferenceValueLeaf::Facet(path.encoded_str()))
+        self.add_leaf(field, &ReferenceValueLeaf::Facet(path.encoded_str()))
     }
 
     /// Adds a pair of a field and bytes, whose room is 5 bytes and their length. The errors are those of `add_text`.
     pub fn add_bytes(&mut self, field: Field, content: &[u8]) -> Result<(), AddError>
         ensures { Adds self.old self.new field.id (leaf (bytes content.now)) result }
     {
-        self.add_leaf_field_value(field, ReferenceValueLeaf::Bytes(content))
+        self.add_leaf(field, &ReferenceValueLeaf::Bytes(content))
     }
 
     /// Adds a pair of a field and an IP address, whose room is 16 bytes. The errors are those of `add_text`.
     pub fn add_ip_addr(&mut self, field: Field, address: Ipv6Addr) -> Result<(), AddError>
         ensures { Adds self.old self.new field.id (leaf (ip_address (ipv6_bits address))) result }
     {
-        self.add_leaf_field_value(field, ReferenceValueLeaf::IpAddr(address))
+        self.add_leaf(field, &ReferenceValueLeaf::IpAddr(address))
     }
 
     /// Adds a pair of a field and a text with its tokens. The room is 15 bytes and the text's length, and for each token 50
@@ -266,7 +266,7 @@ impl CompactDoc {
         ensures { Adds self.old self.new field.id (leaf (tokenized (string_bytes content.now.text) (map token_of content.now.tokens.items))) result }
     {
         let content = PreTokenizedStr::from_string(content);
-        self.add_leaf_field_value(field, ReferenceValueLeaf::PreTokStr(content))
+        self.add_leaf(field, &ReferenceValueLeaf::PreTokStr(content))
     }
 
     /// Adds a pair of a field and a value of any kind. The errors are those of `add_text`, where the room of an array is 5
@@ -279,8 +279,8 @@ impl CompactDoc {
     ) -> Result<(), AddError>
         ensures { Adds self.old self.new field.id (V.tree value.now) result }
     {
-        match value.as_value() {
-            ReferenceValue::Leaf(single) => self.add_leaf_field_value(field, single),
+        match &value.as_value() {
+            ReferenceValue::Leaf(single) => self.add_leaf(field, single),
             _ => self.add_tree(field, room(value), lend(value)),
         }
     }
@@ -340,9 +340,21 @@ impl CompactDoc {
     ) -> Result<(), AddError>
         ensures { Adds self.old self.new field.id (leaf (leaf_of value.entry)) result }
     {
+        self.add_leaf(field, &value)
+    }
+
+    // The same of a value that is lent: moving one costs as much as writing it.
+    #[inline]
+    pub(crate) fn add_leaf(
+        &mut self,
+        field: Field,
+        value: &ReferenceValueLeaf<'_>,
+    ) -> Result<(), AddError>
+        ensures { Adds self.old self.new field.id (leaf (leaf_of value.now)) result }
+    {
         let len = self.node_data.len();
-        let small = admit(field, leaf_room(&value), len)?;
-        let written = write_leaf(&mut self.node_data, &value);
+        let small = admit(field, leaf_room(value), len)?;
+        let written = write_leaf(&mut self.node_data, value);
         keep_pair(&mut self.node_data, &mut self.pairs, len, small, written)
     }
 

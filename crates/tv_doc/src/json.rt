@@ -27,7 +27,7 @@ fn add_lent(
     ensures { Adds document.old document.new field.id (lent_tree lent.entry) result }
 {
     match lent {
-        LentFieldValue::Leaf(leaf) => document.add_leaf_field_value(field, leaf),
+        LentFieldValue::Leaf(leaf) => document.add_leaf(field, &leaf),
         LentFieldValue::Object(object) => document.add_field_value(field, &object),
     }
 }

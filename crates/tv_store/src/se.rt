@@ -10,7 +10,7 @@ ghost use Rattle.tv_doc.specs.Value.{tree_of};
 ghost use Rattle.tv_store.specs.Error as store;
 ghost use Rattle.tv_store.specs.Error.{IsIo};
 ghost use Rattle.tv_store.specs.Stored.{stored, tree_written, written_pairs};
-ghost use Rattle.tv_value.specs.Short.{short_pair, short_document, IsValue};
+ghost use Rattle.tv_value.specs.Short.{short, short_pair, short_document, IsValue};
 ghost use Rattle.tv_value.specs.Version.{V2};
 
 use crate::error::SerializeError;
@@ -18,7 +18,7 @@ pub use crate::serializers::{
     BinaryArraySerializer, BinaryObjectSerializer, BinaryValueSerializer,
 };
 use crate::type_codes::{TEXT_CODE, U64_CODE};
-use crate::value_writer::{write_coded_text, write_stored};
+use crate::value_writer::{write_coded_text, write_stored_leaf, write_value};
 use std::io;
 use tv_base::ByteSink;
 use tv_base::write::{write_all, write_u32, write_vint};
@@ -65,6 +65,20 @@ fn write_field_u64<K: ByteSink>(
     write_all(sink, &[a, b, c, d, code, e, f, g, h, i, j, k, l])
 }
 
+/// Writes a field and a value that has children.
+#[tactic(auto, using(tv_base::proofs::Written::Writes_then, tv_base::proofs::Written::Writes_front))]
+fn write_field_list<K: ByteSink>(
+    sink: &mut K,
+    field: Field,
+    value: &CompactDocValue<'_>,
+) -> Result<(), io::ErrorKind>
+    requires { IsValue (tree_of value.now) }
+    ensures { Writes K.tells K.held K.faults sink.old sink.new result (four_bytes field.id ++ short V2 (tree_of value.now)) }
+{
+    write_u32(sink, field.field_id())?;
+    write_value(sink, value)
+}
+
 /// Writes a pair: its field, and its value. A pre-tokenised text is written as its text.
 #[tactic(auto, using(tv_base::proofs::Written::Writes_then, tv_base::proofs::Written::Writes_front))]
 fn write_pair<K: ByteSink>(
@@ -82,10 +96,12 @@ fn write_pair<K: ByteSink>(
         ReferenceValue::Leaf(ReferenceValueLeaf::U64(number)) => {
             write_field_u64(sink, field, U64_CODE, number)
         }
-        _ => {
+        ReferenceValue::Leaf(leaf) => {
             write_u32(sink, field.field_id())?;
-            write_stored(sink, &value)
+            write_stored_leaf(sink, &leaf)
         }
+        ReferenceValue::Array(_) => write_field_list(sink, field, &value),
+        ReferenceValue::Object(_) => write_field_list(sink, field, &value),
     }
 }
 

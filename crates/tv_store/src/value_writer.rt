@@ -286,31 +286,17 @@ pub(crate) fn write_value<'a, K: ByteSink, V: Value<'a>>(
     }
 }
 
-// A value without children, as a pair has it: of a text with tokens the text alone.
-fn write_stored_leaf<K: ByteSink>(
+/// Writes a value without children as a pair has it: of a text with tokens the text alone.
+///
+/// The only error is the kind with which a write failed. The sink then holds what it held before, and a beginning of the value.
+pub(crate) fn write_stored_leaf<K: ByteSink>(
     sink: &mut K,
-    leaf: ReferenceValueLeaf<'_>,
+    leaf: &ReferenceValueLeaf<'_>,
 ) -> Result<(), io::ErrorKind>
-    ensures { Writes K.tells K.held K.faults sink.old sink.new result (short_leaf (leaf_written (leaf_of leaf.entry))) }
+    ensures { Writes K.tells K.held K.faults sink.old sink.new result (short_leaf (leaf_written (leaf_of leaf.now))) }
 {
     match leaf {
         ReferenceValueLeaf::PreTokStr(text) => write_coded_text(sink, TEXT_CODE, text.text()),
-        other => write_leaf(sink, &other),
-    }
-}
-
-/// Writes the value of a pair, as `write_value` does, but of a text with tokens the text alone.
-///
-/// The only error is the kind with which a write failed. The sink then holds what it held before, and a beginning of the value.
-pub(crate) fn write_stored<'a, K: ByteSink, V: Value<'a>>(
-    sink: &mut K,
-    value: &V,
-) -> Result<(), io::ErrorKind>
-    requires { IsValue (V.tree value.now) }
-    ensures { Writes K.tells K.held K.faults sink.old sink.new result (short V2 (tree_written (V.tree value.now))) }
-{
-    match lend(value) {
-        NestedValue::Leaf(leaf) => write_stored_leaf(sink, leaf),
-        _ => write_value(sink, value),
+        other => write_leaf(sink, other),
     }
 }

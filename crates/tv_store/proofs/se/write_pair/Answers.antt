@@ -1,5 +1,14 @@
+use Rattle.std.proofs.Common.{◌++◌, sym, ap, ◌∙◌}
+use Rattle.tv_base.specs.Number.{four_bytes}
 use Rattle.tv_base.proofs.Written.{Writes_then}
+use Rattle.tv_value.specs.Lent.{tree_of}
+use Rattle.tv_value.specs.Short.{short}
+use Rattle.tv_value.specs.Version.{V2}
+use Rattle.tv_store.specs.Stored.{tree_written}
+use Rattle.tv_store.proofs.Coded.{Writes_as}
 use Rattle.tv_store.proofs.se.write_pair.Goals as goal
 
-pub returns-in_ok-write_u32-in_default : goal.returns-in_ok-write_u32-in_default
-returns-in_ok-write_u32-in_default g c = rw (← c.field_id.ensures) (Writes_then _ _ c.in_ok-write_u32-in_default.ensures c.write_stored.ensures)
+pub returns-in_ok-write_u32-in-Leaf : goal.returns-in_ok-write_u32-in-Leaf
+returns-in_ok-write_u32-in-Leaf g c =
+    let tree = sym c.as_value.ensures ∙ ap (tree_of (λ s. s.held.0) (λ s. s.held.0)) c.in-Leaf.is in
+    Writes_as (Writes_then _ _ c.in_ok-write_u32-in-Leaf.ensures c.write_stored_leaf.ensures) (λ i. four_bytes (c.field_id.ensures i) ++ short V2 (tree_written (sym tree i)))

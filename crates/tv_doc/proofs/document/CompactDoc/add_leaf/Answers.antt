@@ -3,13 +3,13 @@ use Rattle.tv_value.specs.Lent.{leaf_of}
 use Rattle.tv_value.specs.Tree.{leaf}
 use Rattle.tv_doc.specs.Document.{heap_of}
 use Rattle.tv_doc.proofs.Kept.{room_fits, Writing, Keeping, kept_fields, kept_adds}
-use Rattle.tv_doc.proofs.document.CompactDoc.add_leaf_field_value.Goals as goal
+use Rattle.tv_doc.proofs.document.CompactDoc.add_leaf.Goals as goal
 
 pub invariant_of-self : goal.invariant_of-self
 invariant_of-self c =
     let old = c.args.self.now in
     let len : c.len-len.result ≡ length (heap_of old) = omega (arith, c.len-len.ensures, old.node_data.ok.0) in
-    let wrote : Writing old c.write_leaf-written.new.heap.items c.len-len.result c.in_ok-small.small c.args.field.id (leaf (leaf_of c.args.value)) c.write_leaf-written.result = record {
+    let wrote : Writing old c.write_leaf-written.new.heap.items c.len-len.result c.in_ok-small.small c.args.field.id (leaf (leaf_of c.args.value.now)) c.write_leaf-written.result = record {
       len_is = len;
       small_is = c.in_ok-small.ensures.small.0;
       field_fits = c.in_ok-small.ensures.small.1;
@@ -25,7 +25,7 @@ pub returns : goal.returns
 returns c =
     let old = c.args.self.now in
     let len : c.len-len.result ≡ length (heap_of old) = omega (arith, c.len-len.ensures, old.node_data.ok.0) in
-    let wrote : Writing old c.write_leaf-written.new.heap.items c.len-len.result c.in_ok-small.small c.args.field.id (leaf (leaf_of c.args.value)) c.write_leaf-written.result = record {
+    let wrote : Writing old c.write_leaf-written.new.heap.items c.len-len.result c.in_ok-small.small c.args.field.id (leaf (leaf_of c.args.value.now)) c.write_leaf-written.result = record {
       len_is = len;
       small_is = c.in_ok-small.ensures.small.0;
       field_fits = c.in_ok-small.ensures.small.1;
