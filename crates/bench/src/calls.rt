@@ -1,7 +1,8 @@
 //! The calls that are measured.
 
-use crate::workload::{Workload, Pair, stored};
+use crate::workload::{Pair, Workload, stored};
 use anyhow::Result;
+use serde_json::Value;
 use std::alloc::Global;
 use tantivy_schema::common::SliceSource;
 use tantivy_schema::schema::document::{AddError, CompactDoc};
@@ -10,6 +11,8 @@ use tantivy_schema::store::{DocStoreVersion, read_document};
 /// A call that is made for each document.
 #[derive(Clone, Copy)]
 pub enum Call {
+    /// From JSON to the JSON library's value alone, which is the first part of the next.
+    ReadJson,
     /// From JSON to a document.
     ParseJson,
     /// From a document to stored bytes.
@@ -49,11 +52,18 @@ impl Round {
 }
 
 impl Call {
-    pub const ALL: [Call; 4] = [Call::ParseJson, Call::Serialize, Call::Deserialize, Call::Add];
+    pub const ALL: [Call; 5] = [
+        Call::ReadJson,
+        Call::ParseJson,
+        Call::Serialize,
+        Call::Deserialize,
+        Call::Add,
+    ];
 
     /// The name under which it is told.
     pub fn name(self) -> &'static str {
         match self {
+            Call::ReadJson => "read_json",
             Call::ParseJson => "parse_json",
             Call::Serialize => "serialize",
             Call::Deserialize => "deserialize",
@@ -64,12 +74,23 @@ impl Call {
     /// Makes the call for each document.
     pub fn for_each(self, alloc: Global, workload: &Workload) -> Result<Round> {
         match self {
+            Call::ReadJson => read_each(alloc, workload),
             Call::ParseJson => parse_each(alloc, workload),
             Call::Serialize => serialize_each(alloc, workload),
             Call::Deserialize => deserialize_each(alloc, workload),
             Call::Add => add_each(alloc, workload),
         }
     }
+}
+
+fn read_each(alloc: Global, workload: &Workload) -> Result<Round> {
+    let mut round = Round::new();
+    for line in &workload.lines {
+        if let Ok(json) = Value::from_str(alloc, line.as_str()) {
+            round.made(json.as_object().map_or(0, |members| members.len()));
+        }
+    }
+    Ok(round)
 }
 
 fn parse_each(alloc: Global, workload: &Workload) -> Result<Round> {

@@ -20,7 +20,9 @@ fn main(rt: HostRuntime) -> Result<()> {
     let documents = workload.documents.len();
     let json_len = workload.json_len();
     let stored_len = workload.stored_len();
-    println!(rt; "{documents} accepted documents, {json_len} bytes of JSON, {stored_len} stored bytes")?;
+    println!(rt;
+        "{documents} accepted documents, {json_len} bytes of JSON, {stored_len} stored bytes"
+    )?;
     if let Some(rounds) = rounds_wanted(&rt)? {
         for call in Call::ALL {
             measure(&rt, &workload, call, rounds)?;
@@ -39,7 +41,13 @@ fn rounds_wanted(rt: &(impl Env + AllocGlobal)) -> Result<Option<u32>> {
         return Ok(None);
     }
     let number = words.next().context("how many rounds?")?;
-    Ok(Some(number.as_str().parse::<u32>().ok().context("a number of rounds")?))
+    Ok(Some(
+        number
+            .as_str()
+            .parse::<u32>()
+            .ok()
+            .context("a number of rounds")?,
+    ))
 }
 
 /// Makes the call for each document, in so many rounds, and tells what a document takes.
@@ -63,7 +71,10 @@ fn measure(
     let mean = total / u128::from(rounds).max(1) / calls;
     let best = best / calls;
     let name = call.name();
-    eprintln!(rt; "{name} {mean} ns/doc (best round {best}), {} bytes", done.bytes)?;
+    eprintln!(rt;
+        "{name} {mean} ns/doc (best round {best}), {} bytes",
+        done.bytes
+    )?;
     if done.left_out > 0 {
         eprintln!(rt; "{name} left out {} documents", done.left_out)?;
     }

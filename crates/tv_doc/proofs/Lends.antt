@@ -104,19 +104,19 @@ rest_same x y xs ys e = ap (drop 1) e
 one_byte_at : (b : ℕ) (bytes : List ℕ) (n : ℕ) (rest : List ℕ) → 128 ≤ b → n < 2 ^ 64 → b ∷ bytes ≡ vnum n ++ rest → (b - 128 ≡ n) × (bytes ≡ rest)
 one_byte_at b bytes n rest high h e =
     elim (cases_lt n 128) [
-      inl small ↦ let f = e ∙ ap (λ z. z ++ rest) (vnum-small n small) in (omega (arith, first_same _ _ _ _ f), rest_same _ _ _ _ f)
-    | inr large ↦ absurd (omega (arith, first_same _ _ _ _ (e ∙ short_front n rest large h)))
+      | inl small ↦ let f = e ∙ ap (λ z. z ++ rest) (vnum-small n small) in (omega (arith, first_same _ _ _ _ f), rest_same _ _ _ _ f)
+      | inr large ↦ absurd (omega (arith, first_same _ _ _ _ (e ∙ short_front n rest large h)))
     ]
 
 -- the second is
 two_bytes_at : (a b : ℕ) (bytes : List ℕ) (n : ℕ) (rest : List ℕ) → a < 128 → 128 ≤ b → n < 2 ^ 64 → a ∷ b ∷ bytes ≡ vnum n ++ rest → (a + 128 * (b - 128) ≡ n) × (bytes ≡ rest)
 two_bytes_at a b bytes n rest low high h e =
     elim (cases_lt n 128) [
-      inl small ↦ absurd (omega (arith, first_same _ _ _ _ (e ∙ ap (λ z. z ++ rest) (vnum-small n small))))
-    | inr large ↦
-        let f = e ∙ short_front n rest large h in
-        let g = one_byte_at b bytes (n / 128) rest high (omega arith) (rest_same _ _ _ _ f) in
-        (omega (arith, g.0, first_same _ _ _ _ f), g.1)
+      | inl small ↦ absurd (omega (arith, first_same _ _ _ _ (e ∙ ap (λ z. z ++ rest) (vnum-small n small))))
+      | inr large ↦
+          let f = e ∙ short_front n rest large h in
+          let g = one_byte_at b bytes (n / 128) rest high (omega arith) (rest_same _ _ _ _ f) in
+          (omega (arith, g.0, first_same _ _ _ _ f), g.1)
     ]
 
 all_behind : (bytes rest : List ℕ) (k : ℕ) → k ≡ length bytes → bytes ≡ rest → take k bytes ≡ rest

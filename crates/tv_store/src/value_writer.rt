@@ -170,10 +170,7 @@ fn write_extension<K: ByteSink>(
 }
 
 // A value without children.
-fn write_leaf<K: ByteSink>(
-    sink: &mut K,
-    leaf: &ReferenceValueLeaf<'_>,
-) -> Result<(), io::ErrorKind>
+fn write_leaf<K: ByteSink>(sink: &mut K, leaf: &ReferenceValueLeaf<'_>) -> Result<(), io::ErrorKind>
     ensures { Writes K.tells K.held K.faults sink.old sink.new result (short_leaf (leaf_of leaf.now)) }
 {
     match leaf {

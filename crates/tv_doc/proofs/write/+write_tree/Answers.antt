@@ -16,9 +16,11 @@ loop-item-preserved g t c =
     let list = l.invariant.0 in
     let x = c.in_ok-code-in-Array-2 in
     let step = g.met.N.Nested.array_steps _ _ _ c.in-Some.ensures.steps in
-    let more = type_code x.code ∷ vnum x.address in
-    (list ++ more, place_added c.args.places.now.items l.places.items list _ _ more l.invariant.1 x.ensures.places c.in_ok-push_place-in-Array-2.ensures,
-    array_step c.args.heap.now.items l.heap.items list _ _ _ _ _ _ _ _ l.invariant.2 (step ∙ ap (λ z. z ∷ g.N.Nested.array_rest c.next.new.self) (sym c.as_nested-shown.ensures)) x.ensures.ok refl)
+    let more = type_code x.code ∷ vnum x.address in (
+      list ++ more,
+      place_added c.args.places.now.items l.places.items list _ _ more l.invariant.1 x.ensures.places c.in_ok-push_place-in-Array-2.ensures,
+      array_step c.args.heap.now.items l.heap.items list _ _ _ _ _ _ _ _ l.invariant.2 (step ∙ ap (λ z. z ∷ g.N.Nested.array_rest c.next.new.self) (sym c.as_nested-shown.ensures)) x.ensures.ok refl,
+    )
 
 pub returns-in_ok-push_sized-in-Array-clause-ok : goal.returns-in_ok-push_sized-in-Array-clause-ok
 returns-in_ok-push_sized-in-Array-clause-ok g t c =
@@ -51,9 +53,11 @@ loop-key-preserved g t c =
     let first = ap (λ z. z ∷ g.N.Nested.object_rest c.next-in-loop-key.new.self) (λ i. (sym c.as_str.ensures i, sym c.as_nested-shown-in-loop-key.ensures i)) in
     let key_place = 1 ∷ vnum (length l.heap.items) in
     let more = type_code x.code ∷ vnum x.address in
-    let keyed = place_added c.args.places.now.items l.places.items list _ _ key_place l.invariant.1 refl k.ensures.places in
-    ((list ++ key_place) ++ more, place_added c.args.places.now.items _ (list ++ key_place) _ _ more keyed x.ensures.places c.in_ok-push_place-in-Object-2.ensures,
-    object_step c.args.heap.now.items l.heap.items list _ _ _ _ _ _ _ _ _ _ _ l.invariant.2 (step ∙ first) c.requires c.as_str.utf8 k.ensures.heap refl x.ensures.ok refl)
+    let keyed = place_added c.args.places.now.items l.places.items list _ _ key_place l.invariant.1 refl k.ensures.places in (
+      (list ++ key_place) ++ more,
+      place_added c.args.places.now.items _ (list ++ key_place) _ _ more keyed x.ensures.places c.in_ok-push_place-in-Object-2.ensures,
+      object_step c.args.heap.now.items l.heap.items list _ _ _ _ _ _ _ _ _ _ _ l.invariant.2 (step ∙ first) c.requires c.as_str.utf8 k.ensures.heap refl x.ensures.ok refl,
+    )
 
 pub returns-in_ok-push_sized-in-Object-clause-ok : goal.returns-in_ok-push_sized-in-Object-clause-ok
 returns-in_ok-push_sized-in-Object-clause-ok g t c =
@@ -69,9 +73,11 @@ loop-item-preserved-in-Leaf-shown g t c =
     let list = l.invariant.0 in
     let x = c.in_ok-code-in-Array in
     let step = g.met.N.Nested.array_steps _ _ _ c.in-Some.ensures.steps in
-    let more = type_code x.code ∷ vnum x.address in
-    (list ++ more, place_added c.args.places.now.items l.places.items list _ _ more l.invariant.1 refl c.in_ok-push_place-in-Array.ensures,
-    array_step c.args.heap.now.items l.heap.items list _ _ _ _ _ _ _ _ l.invariant.2 (step ∙ ap (λ z. z ∷ g.N.Nested.array_rest c.next.new.self) (sym c.as_nested-shown.ensures ∙ ap (nested_tree g.N.Nested.array_rest g.N.Nested.object_rest) c.in-Leaf-shown.is)) x.ensures.ok refl)
+    let more = type_code x.code ∷ vnum x.address in (
+      list ++ more,
+      place_added c.args.places.now.items l.places.items list _ _ more l.invariant.1 refl c.in_ok-push_place-in-Array.ensures,
+      array_step c.args.heap.now.items l.heap.items list _ _ _ _ _ _ _ _ l.invariant.2 (step ∙ ap (λ z. z ∷ g.N.Nested.array_rest c.next.new.self) (sym c.as_nested-shown.ensures ∙ ap (nested_tree g.N.Nested.array_rest g.N.Nested.object_rest) c.in-Leaf-shown.is)) x.ensures.ok refl,
+    )
 
 pub loop-key-preserved-in-Leaf-shown-2 : goal.loop-key-preserved-in-Leaf-shown-2
 loop-key-preserved-in-Leaf-shown-2 g t c =
@@ -83,9 +89,11 @@ loop-key-preserved-in-Leaf-shown-2 g t c =
     let first = ap (λ z. z ∷ g.N.Nested.object_rest c.next-in-loop-key.new.self) (λ i. (sym c.as_str.ensures i, (sym c.as_nested-shown-in-loop-key.ensures ∙ ap (nested_tree g.N.Nested.array_rest g.N.Nested.object_rest) c.in-Leaf-shown-2.is) i)) in
     let key_place = 1 ∷ vnum (length l.heap.items) in
     let more = type_code x.code ∷ vnum x.address in
-    let keyed = place_added c.args.places.now.items l.places.items list _ _ key_place l.invariant.1 refl k.ensures.places in
-    ((list ++ key_place) ++ more, place_added c.args.places.now.items _ (list ++ key_place) _ _ more keyed refl c.in_ok-push_place-in-Object.ensures,
-    object_step c.args.heap.now.items l.heap.items list _ _ _ _ _ _ _ _ _ _ _ l.invariant.2 (step ∙ first) c.requires c.as_str.utf8 k.ensures.heap refl x.ensures.ok refl)
+    let keyed = place_added c.args.places.now.items l.places.items list _ _ key_place l.invariant.1 refl k.ensures.places in (
+      (list ++ key_place) ++ more,
+      place_added c.args.places.now.items _ (list ++ key_place) _ _ more keyed refl c.in_ok-push_place-in-Object.ensures,
+      object_step c.args.heap.now.items l.heap.items list _ _ _ _ _ _ _ _ _ _ _ l.invariant.2 (step ∙ first) c.requires c.as_str.utf8 k.ensures.heap refl x.ensures.ok refl,
+    )
 
 pub returns-in_err-code-in-Array-2 : goal.returns-in_err-code-in-Array-2
 returns-in_err-code-in-Array-2 g t c =
