@@ -227,6 +227,18 @@ fn children<N: Nested>(value: NestedValue<'_, N>) -> u64
     }
 }
 
+// How many children a value has that is shown. Only a second one is walked, since the shown one is still to be written.
+fn children_of<N: Nested>(item: &N, shown: &NestedValue<'_, N>) -> u64
+    requires same { nested_tree N.array_rest N.object_rest shown.now ≡ N.tree item.now }
+    requires valid { IsValue (N.tree item.now) }
+    ensures { result ≡ child_count (N.tree item.now) }
+{
+    match shown {
+        NestedValue::Leaf(_) => 0,
+        _ => children(item.as_nested()),
+    }
+}
+
 // A value of which the children were counted: its code, the announced number, and each child.
 fn write_tree<K: ByteSink, N: Nested>(
     sink: &mut K,
@@ -243,11 +255,8 @@ fn write_tree<K: ByteSink, N: Nested>(
             write_coded_count(sink, ARRAY_CODE, count)?;
             for item in items {
                 let shown = item.as_nested();
-                if let NestedValue::Leaf(leaf) = &shown {
-                    write_leaf(sink, leaf)?;
-                    continue;
-                }
-                write_tree(sink, children(item.as_nested()), shown)?;
+                let below = children_of(&item, &shown);
+                write_tree(sink, below, shown)?;
             }
             Ok(())
         }
@@ -256,11 +265,8 @@ fn write_tree<K: ByteSink, N: Nested>(
             for (key, item) in members {
                 write_coded_text(sink, TEXT_CODE, key.as_str())?;
                 let shown = item.as_nested();
-                if let NestedValue::Leaf(leaf) = &shown {
-                    write_leaf(sink, leaf)?;
-                    continue;
-                }
-                write_tree(sink, children(item.as_nested()), shown)?;
+                let below = children_of(&item, &shown);
+                write_tree(sink, below, shown)?;
             }
             Ok(())
         }

@@ -23,24 +23,6 @@ loop-item-init g t c =
       written = head_written _ _ (array_parts is c.requires.count) c.in_ok-write_coded_count-in-Array.ensures;
     }
 
-pub returns-in_err-write_leaf-in-Array : goal.returns-in_err-write_leaf-in-Array
-returns-in_err-write_leaf-in-Array g t c =
-    let p = err_from_is_err_and c.from_residual-in_err-write_leaf-in-Array.result c.from_residual-in_err-write_leaf-in-Array.ensures.1 in
-    let cut = g.met.N.Nested.array_steps _ _ _ c.in-Some.ensures.steps in
-    let same = sym (ap (nested_tree g.N.Nested.array_rest g.N.Nested.object_rest) c.in-Leaf-shown.is) ∙ c.as_nested-shown.ensures in
-    rw (p.1, p.2) (Written-fails _ _ (elements_parts cut same) c.loop-item.invariant.written c.in_err-write_leaf-in-Array.ensures)
-
-pub loop-item-preserved-in-Leaf-shown : goal.loop-item-preserved-in-Leaf-shown
-loop-item-preserved-in-Leaf-shown g t c =
-    let i = c.loop-item.invariant in
-    let cut = g.met.N.Nested.array_steps _ _ _ c.in-Some.ensures.steps in
-    let same = sym (ap (nested_tree g.N.Nested.array_rest g.N.Nested.object_rest) c.in-Leaf-shown.is) ∙ c.as_nested-shown.ensures in
-    record {
-      valid = elements_valid cut i.valid;
-      smaller = elements_fewer cut i.smaller;
-      written = Written-step _ _ (elements_parts cut same) i.written c.in_ok-write_leaf-in-Array.ensures;
-    }
-
 pub returns-in_err-write_tree-in-Array : goal.returns-in_err-write_tree-in-Array
 returns-in_err-write_tree-in-Array g t c =
     let p = err_from_is_err_and c.from_residual-in_err-write_tree-in-Array.result c.from_residual-in_err-write_tree-in-Array.ensures.1 in
@@ -83,28 +65,6 @@ returns-in_err-write_coded_text-in-Object g t c =
     let cut = g.met.N.Nested.object_steps _ _ _ c.in-Some-2.ensures.steps in
     let parts = entries_parts cut c.as_str.ensures in
     rw (p.1, p.2) (Written-fails _ _ parts i.written c.in_err-write_coded_text-in-Object.ensures)
-
-pub returns-in_err-write_leaf-in-Object : goal.returns-in_err-write_leaf-in-Object
-returns-in_err-write_leaf-in-Object g t c =
-    let p = err_from_is_err_and c.from_residual-in_err-write_leaf-in-Object.result c.from_residual-in_err-write_leaf-in-Object.ensures.1 in
-    let cut = g.met.N.Nested.object_steps _ _ _ c.in-Some-2.ensures.steps in
-    let parts = entries_parts cut c.as_str.ensures in
-    let behind = Written-step _ _ parts c.loop-key.invariant.written c.in_ok-write_coded_text-in-Object.ensures in
-    let same = sym (ap (nested_tree g.N.Nested.array_rest g.N.Nested.object_rest) c.in-Leaf-shown-2.is) ∙ c.as_nested-shown-in-loop-key.ensures in
-    rw (p.1, p.2) (Written-fails _ _ (child_parts _ same) behind c.in_err-write_leaf-in-Object.ensures)
-
-pub loop-key-preserved-in-Leaf-shown-2 : goal.loop-key-preserved-in-Leaf-shown-2
-loop-key-preserved-in-Leaf-shown-2 g t c =
-    let i = c.loop-key.invariant in
-    let cut = g.met.N.Nested.object_steps _ _ _ c.in-Some-2.ensures.steps in
-    let parts = entries_parts cut c.as_str.ensures in
-    let behind = Written-step _ _ parts i.written c.in_ok-write_coded_text-in-Object.ensures in
-    let same = sym (ap (nested_tree g.N.Nested.array_rest g.N.Nested.object_rest) c.in-Leaf-shown-2.is) ∙ c.as_nested-shown-in-loop-key.ensures in
-    record {
-      valid = entries_valid cut i.valid;
-      smaller = entries_fewer cut i.smaller;
-      written = Written-step _ _ (child_parts _ same) behind c.in_ok-write_leaf-in-Object.ensures;
-    }
 
 pub returns-in_err-write_tree-in-Object : goal.returns-in_err-write_tree-in-Object
 returns-in_err-write_tree-in-Object g t c =
