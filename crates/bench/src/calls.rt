@@ -1,11 +1,11 @@
 //! The calls that are measured.
 
-use crate::workload::{Pair, Workload, stored};
+use crate::workload::{Pair, Workload, write_stored};
 use anyhow::Result;
 use serde_json::Value;
 use std::alloc::Global;
-use tantivy_schema::common::SliceSource;
-use tantivy_schema::schema::document::{AddError, CompactDoc};
+use tantivy_schema::common::{SliceSource, VecSink};
+use tantivy_schema::schema::document::{AddError, CompactDoc, Document};
 use tantivy_schema::store::{DocStoreVersion, read_document};
 
 /// A call that is made for each document.
@@ -19,6 +19,8 @@ pub enum Call {
     Serialize,
     /// From stored bytes to a document.
     Deserialize,
+    /// From a document to its JSON.
+    ToJson,
     /// From values to a document.
     Add,
 }
@@ -52,11 +54,12 @@ impl Round {
 }
 
 impl Call {
-    pub const ALL: [Call; 5] = [
+    pub const ALL: [Call; 6] = [
         Call::ReadJson,
         Call::ParseJson,
         Call::Serialize,
         Call::Deserialize,
+        Call::ToJson,
         Call::Add,
     ];
 
@@ -67,6 +70,7 @@ impl Call {
             Call::ParseJson => "parse_json",
             Call::Serialize => "serialize",
             Call::Deserialize => "deserialize",
+            Call::ToJson => "to_json",
             Call::Add => "add",
         }
     }
@@ -78,6 +82,7 @@ impl Call {
             Call::ParseJson => parse_each(alloc, workload),
             Call::Serialize => serialize_each(alloc, workload),
             Call::Deserialize => deserialize_each(alloc, workload),
+            Call::ToJson => print_each(alloc, workload),
             Call::Add => add_each(alloc, workload),
         }
     }
@@ -103,10 +108,14 @@ fn parse_each(alloc: Global, workload: &Workload) -> Result<Round> {
     Ok(round)
 }
 
+// All documents are written into one sink, one after the other: its memory is used again.
 fn serialize_each(alloc: Global, workload: &Workload) -> Result<Round> {
     let mut round = Round::new();
+    let mut sink = VecSink::new(alloc);
     for document in &workload.documents {
-        round.made(stored(alloc, &workload.schema, document)?.len());
+        sink.clear();
+        write_stored(&mut sink, &workload.schema, document)?;
+        round.made(sink.as_slice().len());
     }
     Ok(round)
 }
@@ -119,6 +128,14 @@ fn deserialize_each(alloc: Global, workload: &Workload) -> Result<Round> {
             Ok(document) => round.made(document.node_data().len()),
             Err(_) => round.left_out(),
         }
+    }
+    Ok(round)
+}
+
+fn print_each(alloc: Global, workload: &Workload) -> Result<Round> {
+    let mut round = Round::new();
+    for document in &workload.documents {
+        round.made(document.to_json(alloc, &workload.schema)?.len());
     }
     Ok(round)
 }

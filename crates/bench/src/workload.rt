@@ -83,11 +83,16 @@ fn pairs_of(alloc: Global, document: &CompactDoc) -> Result<Vec<Pair>> {
     Ok(pairs)
 }
 
-/// The stored bytes of a document whose fields belong to the schema; none of another.
-pub fn stored(alloc: Global, schema: &Schema, document: &CompactDoc) -> Result<Vec<u8>> {
+fn stored(alloc: Global, schema: &Schema, document: &CompactDoc) -> Result<Vec<u8>> {
     let mut sink = VecSink::new(alloc);
-    if document.fits(schema) {
-        BinaryDocumentSerializer::new(&mut sink, schema).serialize_doc(document)?;
-    }
+    write_stored(&mut sink, schema, document)?;
     Ok(sink.into_vec())
+}
+
+/// Writes the stored bytes of a document whose fields belong to the schema; nothing of another.
+pub fn write_stored(sink: &mut VecSink, schema: &Schema, document: &CompactDoc) -> Result<()> {
+    if document.fits(schema) {
+        BinaryDocumentSerializer::new(sink, schema).serialize_doc(document)?;
+    }
+    Ok(())
 }

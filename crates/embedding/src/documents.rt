@@ -7,16 +7,16 @@ ghost use Rattle.tantivy_schema.specs.CodeTypes.DeserializeError.TheVariants.{He
 ghost use Rattle.tantivy_schema.specs.Document.{document_of};
 ghost use Rattle.tantivy_schema.specs.Documents.{Answers, NoDocument, HasNoRoom, ShowsRefusal, IsReadingError};
 ghost use Rattle.tantivy_schema.specs.Fault.{Refusal};
+ghost use Rattle.tantivy_schema.specs.Legacy.{Legacy};
 ghost use Rattle.tantivy_schema.specs.ReadsAs.{Known};
 ghost use Rattle.tantivy_schema.specs.Room.{document_room};
 ghost use Rattle.tantivy_schema.specs.Short.{short_document};
-ghost use Rattle.tantivy_schema.specs.Spelling.{SpellsDocument, NoLegacy};
+ghost use Rattle.tantivy_schema.specs.Spelling.{SpellsDocument};
 ghost use Rattle.tantivy_schema.specs.Stop.{Counts};
 ghost use Rattle.tantivy_schema.specs.Stored.{stored};
 ghost use Rattle.tantivy_schema.specs.StoreError.{IsIo, Writes};
-ghost use Rattle.tantivy_schema.specs.ReaderError.{store_stop};
+ghost use Rattle.tantivy_schema.specs.ReaderError.{IsRefusal, store_stop};
 ghost use Rattle.tantivy_schema.specs.Tree.{Document};
-ghost use Rattle.tantivy_schema.specs.Typed.{IsRefusal};
 ghost use Rattle.tantivy_schema.specs.Version.{V2};
 
 use std::alloc::Global;
@@ -51,7 +51,7 @@ pub fn fetch_document<S: ByteSource>(
     alloc: Global,
     source: &mut S,
 ) -> Result<TantivyDocument, DeserializeError>
-    ensures only { Known S.tells S.left source.old → (d : Document) (front rest : List ℕ) → S.left source.old ≡ front ++ rest → SpellsDocument NoLegacy V2 front d → document_room d ≤ 4294967295 → Answers result d rest (S.left source.new) }
+    ensures only { Known S.tells S.left source.old → (d : Document) (front rest : List ℕ) → S.left source.old ≡ front ++ rest → SpellsDocument Legacy V2 front d → document_room d ≤ 4294967295 → Answers result d rest (S.left source.new) }
     ensures fault { Known S.tells S.left source.old → (e : DeserializeError) (r : Refusal) → IsErrOf result e → IsRefusal e r → NoDocument V2 (S.left source.old) r }
     ensures full { S.tells source.old → IsErrOf result HeapFull → HasNoRoom V2 (S.left source.old) }
     ensures errors { IfErr result IsReadingError }

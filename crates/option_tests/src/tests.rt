@@ -2,4 +2,3 @@ mod dates;
 mod options;
 mod owned_values;
 mod pre_tokenized;
-mod values;

@@ -44,5 +44,8 @@ pub use Rattle.tv_value.specs.declared.pre_tokenized.TokenRef
 pub use Rattle.tv_value.specs.declared.tokenizer.PreTokenizedString
 pub use Rattle.tv_value.specs.declared.tokenizer.Token
 pub use Rattle.tv_value.specs.declared.value.ReferenceValue
-pub use Rattle.tv_reader.specs.declared.store_reader.StoreReader
-pub use Rattle.tv_reader.specs.declared.value_deserializer.BinaryValueDeserializer
+pub use Rattle.tv_typed.specs.declared.store_reader.StoreReader
+pub use Rattle.tv_typed.specs.declared.value_deserializer.BinaryValueDeserializer
+pub use Rattle.tv_typed.specs.declared.array.BinaryArrayDeserializer
+pub use Rattle.tv_typed.specs.declared.object.BinaryObjectDeserializer
+pub use Rattle.tv_typed.specs.declared.document.BinaryDocumentDeserializer

@@ -28,6 +28,8 @@ pub use Rattle.tv_value.specs.Cases
 pub use Rattle.tv_value.specs.IpAddress
 pub use Rattle.tv_value.specs.JsonTree
 pub use Rattle.tv_value.specs.Size
+pub use Rattle.tv_json.specs.JsonOf
+pub use Rattle.tv_json.specs.Named as NamedJson
 pub use Rattle.tv_value.specs.Lent
 pub use Rattle.tv_value.specs.Owned
 pub use Rattle.tv_value.specs.Same
@@ -36,6 +38,8 @@ pub use Rattle.tv_value.specs.HeldTokens
 pub use Rattle.tv_value.specs.TokenRef
 pub use Rattle.tv_value.specs.PreTokenized
 pub use Rattle.tv_value.specs.SameTokens
+pub use Rattle.tv_legacy.specs.Legacy
+pub use Rattle.tv_legacy.specs.LegacyLaws
 -- options, types and schemas
 pub use Rattle.tv_options.specs.FacetOptions
 pub use Rattle.tv_options.specs.FastFieldTextOptions
@@ -70,6 +74,8 @@ pub use Rattle.tv_doc.specs.Belongs
 pub use Rattle.tv_doc.specs.Document
 pub use Rattle.tv_doc.specs.Held
 pub use Rattle.tv_doc.specs.JsonObject
+pub use Rattle.tv_doc.specs.Named
+pub use Rattle.tv_doc.specs.NamedPairs
 pub use Rattle.tv_doc.specs.Reads
 pub use Rattle.tv_doc.specs.Room
 pub use Rattle.tv_doc.specs.TypeCode
@@ -78,12 +84,16 @@ pub use Rattle.tv_doc.specs.Value
 pub use Rattle.tv_store.specs.Documents
 pub use Rattle.tv_store.specs.Error as StoreError
 pub use Rattle.tv_store.specs.Refused
+pub use Rattle.tv_store.specs.PairsGiven
 pub use Rattle.tv_store.specs.Stored
 pub use Rattle.tv_reader.specs.Error as ReaderError
 pub use Rattle.tv_reader.specs.Finds
 pub use Rattle.tv_reader.specs.Trees
-pub use Rattle.tv_reader.specs.Typed
 pub use Rattle.tv_reader.specs.Version as StoreVersion
 pub use Rattle.tv_reader.specs.ValueType
+pub use Rattle.tv_typed.specs.Typed
+pub use Rattle.tv_typed.specs.Values
+pub use Rattle.tv_typed.specs.Lists
+pub use Rattle.tv_typed.specs.Documents as DocumentPairs
 -- the types of code that contracts speak of
 pub mod CodeTypes

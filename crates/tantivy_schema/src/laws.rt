@@ -21,6 +21,8 @@ use tv_doc::document::CompactDoc;
 pub use tv_doc::laws::{
     additions_are_kept, documents_are_valid, heaps_are_within_room, places_read_as_one_tree,
 };
+/// The laws of legacy objects, and of values and documents that have them.
+pub use tv_legacy::laws as legacy;
 pub use tv_options::laws::{
     comparisons_of_facet_options_agree, comparisons_of_fields_agree,
     comparisons_of_flag_lists_agree, comparisons_of_flag_options_agree, comparisons_of_flags_agree,
@@ -92,6 +94,6 @@ pub fn stored_pairs_are_read_back<S: ByteSource>(
     documents_are_valid();
     stored_pairs_are_valid();
     stored_pairs_need_no_more_room();
-    short_documents_spell();
+    legacy::short_documents_spell();
     read_document(alloc, source, DocStoreVersion::V2)
 }

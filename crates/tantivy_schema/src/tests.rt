@@ -1,11 +1,11 @@
 //! Tests over the public calls of all crates.
 
-mod agreement;
 mod announced;
 mod documents;
 mod heaps;
 mod json_documents;
 mod json_lines;
+mod legacy;
 mod nested;
 mod reading;
 mod readme;
@@ -13,3 +13,4 @@ mod repeated;
 mod rows;
 mod serializers;
 mod sources;
+mod typed;

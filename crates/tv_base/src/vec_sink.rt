@@ -51,6 +51,14 @@ impl VecSink {
         self.bytes.as_slice()
     }
 
+    /// Forgets the bytes that the sink holds, and keeps their memory for those to come. The faults that were counted stay.
+    pub fn clear(&mut self)
+        ensures bytes { ⟦<VecSink as ByteSink>⟧.held self.new ≡ [] }
+        ensures faults { ⟦<VecSink as ByteSink>⟧.faults self.new ≡ ⟦<VecSink as ByteSink>⟧.faults self.old }
+    {
+        self.bytes.clear();
+    }
+
     /// The bytes that the sink holds, taken out of it.
     pub fn into_vec(self) -> Vec<u8>
         ensures { result.items ≡ ⟦<VecSink as ByteSink>⟧.held self }

@@ -12,3 +12,5 @@ pub mod Shapes
 pub mod Children
 pub mod Lists
 pub mod JsonDocuments
+pub mod ByName
+pub mod PairsSoFar

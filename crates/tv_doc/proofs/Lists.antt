@@ -237,7 +237,7 @@ wrote_object old heap list new es tree s none e small at is =
 
 -- before the value behind a key is written: it is smaller, and there is room for it
 pub object_next : (old heap list mid : List ℕ) (es fs : List (List ℕ × Tree)) (tree : Tree) (key : List ℕ) (t : Tree) → ObjectSoFar old heap list es tree → es ≡ (key, t) ∷ fs
-    → length old + room tree < 2 ^ 32 → mid ≡ heap ++ (short_sized key) → (size t < size tree) × (length mid + room t < 2 ^ 32)
+    → length old + room tree < 2 ^ 32 → mid ≡ heap ++ (short_sized key) → (size t + 1 < size tree) × (length mid + room t < 2 ^ 32)
 object_next old heap list mid es fs tree key t s e small is_mid =
     let body = short_sized key in
     let rooms : entries_room (entries es) ≡ 17 + length key + room t + entries_room (entries fs) = ap (λ z. entries_room (entries z)) e in

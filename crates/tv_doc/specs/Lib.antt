@@ -14,3 +14,5 @@ pub mod Belongs
 pub mod Additions
 pub mod AdditionError
 pub mod JsonObject
+pub mod Named
+pub mod NamedPairs

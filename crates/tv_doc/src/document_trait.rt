@@ -1,14 +1,17 @@
 //! Documents of any kind: pairs of a field and a value.
 
-ghost use Rattle.std.specs.Prelude.{◌≡◌, Option, IfOk, map};
+ghost use Rattle.std.specs.Prelude.{◌≡◌, Option, IfOk, map, string_bytes};
 ghost use Rattle.std.specs.Iterator.{IsFinite, YieldsFirstBy};
 ghost use Rattle.tv_value.specs.declared.field.Field.{Field};
 ghost use Rattle.tv_value.specs.Tree.{Tree, Document as Pairs};
 ghost use Rattle.tv_doc.specs.Grouped.{IsGrouped, group_seen};
+ghost use Rattle.tv_doc.specs.Named.{IsNamed, IsJsonText, named_of};
 ghost use Rattle.tv_doc.specs.Value.{pair_seen};
 
 use crate::grouped::grouped;
+use crate::named::{FieldNames, NamedFieldDocument, by_name, owned_by_name};
 use std::alloc::{AllocError, Global};
+use tv_json::named::named_to_json;
 use tv_value::field::Field;
 use tv_value::value::Value;
 
@@ -47,5 +50,32 @@ pub trait Document<'a> {
             pairs.push(pair)?;
         }
         grouped(alloc, pairs)
+    }
+
+    /// Copies of the values under the names of their fields: for each field of the schema that has a value its values in order. Those
+    /// of a field that the schema doesn't have are left out. The only error is that memory was refused.
+    final fn to_named_doc<S: FieldNames>(
+        &'a self,
+        alloc: Global,
+        schema: &S,
+    ) -> Result<NamedFieldDocument, AllocError>
+        ensures { IfOk result (λ named. IsNamed (S.names schema.now) (pairs self.now) (named_of named)) }
+    {
+        owned_by_name(alloc, schema, self.get_sorted_field_values(alloc)?)
+    }
+
+    /// The document as a text of JSON, without spaces: an object of the names of the fields that have a value, in byte order, and the
+    /// arrays of their values. Those of a field that the schema doesn't have are left out. The only error is that memory was refused.
+    final fn to_json<S: FieldNames>(
+        &'a self,
+        alloc: Global,
+        schema: &S,
+    ) -> Result<String, AllocError>
+        ensures { IfOk result (λ text. IsJsonText (S.names schema.now) (pairs self.now) (string_bytes text)) }
+    {
+        named_to_json(
+            alloc,
+            by_name(alloc, schema, self.get_sorted_field_values(alloc)?)?,
+        )
     }
 }

@@ -2,6 +2,7 @@
 #![tactic(auto)]
 
 pub mod add_error;
+mod convert;
 pub mod doc_parsing_error;
 pub mod document;
 pub mod document_trait;
@@ -11,6 +12,7 @@ pub mod json;
 pub mod laws;
 mod lent;
 mod map_value;
+pub mod named;
 mod place;
 mod room;
 pub mod value;

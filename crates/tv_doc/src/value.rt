@@ -59,6 +59,7 @@ impl<'a> Iterator for CompactDocArrayIter<'a> {
 
     ghost remaining = { item_count (λ s. s.held.0) };
 
+    #[inline]
     fn next(&mut self) -> Option<CompactDocValue<'a>> {
         let heap = self.heap;
         let (value_type, address, list) = child_at(self.list)?;
@@ -80,6 +81,7 @@ impl<'a> Iterator for CompactDocObjectIter<'a> {
 
     ghost remaining = { item_count (λ s. s.held.0) };
 
+    #[inline]
     fn next(&mut self) -> Option<(&'a str, CompactDocValue<'a>)> {
         let heap = self.heap;
         let (_, key, behind) = child_at(self.list)?;
@@ -116,7 +118,7 @@ impl<'a> Value<'a> for CompactDocValue<'a> {
 
     ghost object_steps = { λ s t r steps. steps };
 
-    #[inline]
+    #[inline(always)]
     fn as_value(&self) -> ReferenceValue<'a, CompactDocValue<'a>> {
         let heap = self.heap;
         let address = self.address;

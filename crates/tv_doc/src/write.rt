@@ -9,7 +9,7 @@ ghost use Rattle.tv_value.specs.Lent.{leaf_of, nested_tree};
 ghost use Rattle.tv_value.specs.PreTokenized.{tokenized_leaf};
 ghost use Rattle.tv_value.specs.Short.{short_token};
 ghost use Rattle.tv_value.specs.TokenRef.{ref_of};
-ghost use Rattle.tv_value.specs.Tree.{leaf, text, facet, bytes, unsigned, signed, date, ip_address};
+ghost use Rattle.tv_value.specs.Tree.{leaf, text, facet, bytes, unsigned, signed, date, ip_address, array, object, elements, entries};
 ghost use Rattle.tv_doc.specs.Room.{leaf_room, room};
 ghost use Rattle.tv_doc.specs.TypeCode.{type_code};
 ghost use Rattle.tv_doc.specs.Wrote.{Wrote};
@@ -57,6 +57,22 @@ fn push_place(places: &mut Vec<u8>, value_type: ValueType, address: u32) -> Resu
     push_number(places, u64::from(address))
 }
 
+/// The first addition to a heap makes room for so many bytes: enough for the values of a short document, and no more than such
+/// documents fill, since room that is left empty makes each later walk over many documents slower.
+const FIRST_ROOM: usize = 256;
+
+// Makes room in a heap that has none.
+#[inline]
+fn make_room(heap: &mut Vec<u8>) -> Result<(), AllocError>
+    ensures { heap.new.items ≡ heap.old.items }
+{
+    if heap.is_empty() {
+        heap.reserve(FIRST_ROOM)
+    } else {
+        Ok(())
+    }
+}
+
 // Writes a key, and adds its type and address.
 fn write_key(heap: &mut Vec<u8>, places: &mut Vec<u8>, key: &str) -> Result<(), AllocError>
     requires { length heap.old.items + (5 + length key.now) < 2 ^ 32 }
@@ -64,6 +80,7 @@ fn write_key(heap: &mut Vec<u8>, places: &mut Vec<u8>, key: &str) -> Result<(), 
     ensures places { OnOk result (places.new.items ≡ places.old.items ++ (1 ∷ vnum (length heap.old.items))) }
     ensures err { OnErr result (IsFront heap.old.items heap.new.items) }
 {
+    make_room(heap)?;
     let at = heap.len() as u32;
     push_sized(heap, key.as_bytes())?;
     push_place(places, ValueType::Str, at)
@@ -141,22 +158,6 @@ fn write_tokenized(heap: &mut Vec<u8>, content: PreTokenizedStr<'_>) -> Result<u
     Ok(at)
 }
 
-/// The first addition to a heap makes room for so many bytes: enough for the values of a short document, and no more than such
-/// documents fill, since room that is left empty makes each later walk over many documents slower.
-const FIRST_ROOM: usize = 256;
-
-// Makes room in a heap that has none.
-#[inline]
-fn make_room(heap: &mut Vec<u8>) -> Result<(), AllocError>
-    ensures { heap.new.items ≡ heap.old.items }
-{
-    if heap.is_empty() {
-        heap.reserve(FIRST_ROOM)
-    } else {
-        Ok(())
-    }
-}
-
 /// Writes a value without children, and answers its type and its address. After an error the old heap is still a front of the
 /// new.
 #[inline]
@@ -193,6 +194,8 @@ pub fn write_leaf(
 /// Writes a value behind its children, and answers its type and its address. The places of children whose list is not yet
 /// written stand at the end of `places`, which is afterwards as it was. After an error the old heap is still a front of the
 /// new, and what `places` holds is open.
+#[inline]
+#[cycle(values)]
 pub fn write_tree<N: Nested>(
     heap: &mut Vec<u8>,
     places: &mut Vec<u8>,
@@ -206,39 +209,57 @@ pub fn write_tree<N: Nested>(
     match value {
         NestedValue::Leaf(single) => write_leaf(heap, &single),
         NestedValue::Array(items) => {
-            let first = places.len();
-            for item in items {
-                let shown = item.as_nested();
-                if let NestedValue::Leaf(single) = &shown {
-                    let (code, address) = write_leaf(heap, single)?;
-                    push_place(places, code, address)?;
-                    continue;
-                }
-                let (code, address) = write_tree(heap, places, shown)?;
-                push_place(places, code, address)?;
-            }
-            let at = heap.len() as u32;
-            push_sized(heap, &places[first..])?;
-            places.truncate(first);
-            Ok((ValueType::Array, at))
+            Ok((ValueType::Array, write_array::<N>(heap, places, items)?))
         }
         NestedValue::Object(members) => {
-            let first = places.len();
-            for (key, item) in members {
-                write_key(heap, places, key.as_str())?;
-                let shown = item.as_nested();
-                if let NestedValue::Leaf(single) = &shown {
-                    let (code, address) = write_leaf(heap, single)?;
-                    push_place(places, code, address)?;
-                    continue;
-                }
-                let (code, address) = write_tree(heap, places, shown)?;
-                push_place(places, code, address)?;
-            }
-            let at = heap.len() as u32;
-            push_sized(heap, &places[first..])?;
-            places.truncate(first);
-            Ok((ValueType::Object, at))
+            Ok((ValueType::Object, write_object::<N>(heap, places, members)?))
         }
     }
+}
+
+// Writes an array behind its values, and answers its address.
+#[cycle(values)]
+fn write_array<N: Nested>(
+    heap: &mut Vec<u8>,
+    places: &mut Vec<u8>,
+    items: N::ArrayIter,
+) -> Result<u32, AllocError>
+    requires { length heap.old.items + room (array (elements (N.array_rest items))) < 2 ^ 32 }
+    ensures ok { IfOk result (λ at. Wrote heap.old.items heap.new.items 12 at (array (elements (N.array_rest items)))) }
+    ensures places { OnOk result (places.new.items ≡ places.old.items) }
+    ensures err { OnErr result (IsFront heap.old.items heap.new.items) }
+{
+    let first = places.len();
+    for item in items {
+        let (code, address) = write_tree(heap, places, item.as_nested())?;
+        push_place(places, code, address)?;
+    }
+    let at = heap.len() as u32;
+    push_sized(heap, &places[first..])?;
+    places.truncate(first);
+    Ok(at)
+}
+
+// Writes an object behind its keys and values, and answers its address.
+#[cycle(values)]
+fn write_object<N: Nested>(
+    heap: &mut Vec<u8>,
+    places: &mut Vec<u8>,
+    members: N::ObjectIter,
+) -> Result<u32, AllocError>
+    requires { length heap.old.items + room (object (entries (N.object_rest members))) < 2 ^ 32 }
+    ensures ok { IfOk result (λ at. Wrote heap.old.items heap.new.items 11 at (object (entries (N.object_rest members)))) }
+    ensures places { OnOk result (places.new.items ≡ places.old.items) }
+    ensures err { OnErr result (IsFront heap.old.items heap.new.items) }
+{
+    let first = places.len();
+    for (key, item) in members {
+        write_key(heap, places, key.as_str())?;
+        let (code, address) = write_tree(heap, places, item.as_nested())?;
+        push_place(places, code, address)?;
+    }
+    let at = heap.len() as u32;
+    push_sized(heap, &places[first..])?;
+    places.truncate(first);
+    Ok(at)
 }

@@ -9,11 +9,7 @@ use Rattle.tv_base.proofs.AgreeWidths.{ended_shown}
 use Rattle.tv_reader.specs.declared.error.ValueType.{ValueType}
 use Rattle.tv_reader.specs.declared.error.ValueType.TheVariants as types
 use Rattle.tv_reader.specs.Kinds.{extension_of, extension_at, kind_of, kind_at}
-use Rattle.tv_reader.specs.ValueType.{coded, CodeFault, no_code, unknown_type, float_type, no_extension_code, unknown_extension}
-
--- what stands before a value
-abbrev pub IsCoded : List ℕ → ValueType → Type 0
-IsCoded b k = b ≡ coded k
+use Rattle.tv_reader.specs.ValueType.{coded, IsCoded, CodeFault, no_code, unknown_type, float_type, no_extension_code, unknown_extension}
 
 differs : (m n : ℕ) → n < m → eqb m n ≡ false
 differs m n h = elim (eqb_tells m n) [ inl p ↦ absurd (omega (arith, h, p.1)) | inr p ↦ p.0 ]
@@ -42,7 +38,7 @@ far code bytes h =
 extension_far : (code : ℕ) (bytes : List ℕ) → code ≢ 0 → extension_of code bytes ≡ Err (UnknownExtCode code, bytes)
 extension_far code bytes h = rw (differs code 0 (omega (arith, h))) refl
 
-known_read : (k : ValueType) (rest : List ℕ) → kind_at (coded k ++ rest) ≡ Ok (k, rest)
+pub known_read : (k : ValueType) (rest : List ℕ) → kind_at (coded k ++ rest) ≡ Ok (k, rest)
 unfolding kind_at extension_at u8_at
 known_read types.String rest = refl
 known_read types.U64 rest = refl
@@ -57,6 +53,12 @@ known_read types.IpAddr rest = refl
 known_read types.Null rest = refl
 known_read types.Array rest = refl
 known_read types.Object rest = refl
+
+-- a code tells the type, and where what is behind it begins
+pub same_coded : (k l : ValueType) (a b : List ℕ) → coded k ++ a ≡ coded l ++ b → (k ≡ l) × (a ≡ b)
+same_coded k l a b e =
+    let q = ok_is (Cause × List ℕ) (k, a) (l, b) (sym (known_read k a) ∙ ap kind_at e ∙ known_read l b) in
+    (ap (λ z. z.0) q, ap (λ z. z.1) q)
 
 nothing_read : kind_at [] ≡ Err (UnexpectedEnd, [])
 unfolding kind_at u8_at

@@ -6,8 +6,9 @@ use Rattle.tv_base.specs.PartFault.{TruthFault, truth_ends, truth_large}
 use Rattle.tv_base.specs.Source.{AllBytes, Faults}
 use Rattle.tv_base.specs.Take as reads
 use Rattle.tv_base.proofs.Agrees.{same_start}
+use Rattle.tv_legacy.specs.Legacy.{Legacy}
 use Rattle.tv_value.specs.Fault.{Refusal, corrupted, no_text_key, in_text, in_unsigned, in_signed, in_facet, in_bytes, in_date, no_extension, other_extension, in_tokenized, no_truth, other_truth, in_ip_address, CodedKeyFault, key_ends, key_unknown, key_float, key_other, key_no_extension, key_tokenized, key_other_extension, value_ends, unknown_code, float_code, in_leaf, in_legacy, in_count, in_element, in_entry_count, odd_count, in_entry_key, in_entry, in_key}
-use Rattle.tv_value.specs.Spelling.{Spells, NoLegacy}
+use Rattle.tv_value.specs.Spelling.{Spells}
 use Rattle.tv_value.specs.Tree.{Tree}
 use Rattle.tv_value.specs.Version.{Version}
 use Rattle.tv_reader.specs.Finds.{Finds}
@@ -86,18 +87,18 @@ other_key types.Object rest ne = key_other (omega arith) (omega arith) (λ e. om
 
 -- ---- leaves
 
-pub leaf_spelled : (v : Version) (kind : ValueType) (a : List ℕ) (t : Tree) → LeafOf v kind a t → Spells NoLegacy v (coded kind ++ a) t
-leaf_spelled v types.String a t p = subst (Spells NoLegacy v (0 ∷ a)) (sym p.2) (record { body = a; joined = refl; spelled = p.1 })
-leaf_spelled v types.U64 a t p = subst (Spells NoLegacy v (1 ∷ a)) (sym p.2) (record { body = a; joined = refl; spelled = p.1 })
-leaf_spelled v types.I64 a t p = subst (Spells NoLegacy v (2 ∷ a)) (sym p.2) (record { body = a; joined = refl; spelled = p.1 })
-leaf_spelled v types.Facet a t p = subst (Spells NoLegacy v (3 ∷ a)) (sym p.2) (record { body = a; joined = refl; spelled = p.1 })
-leaf_spelled v types.Bytes a t p = subst (Spells NoLegacy v (4 ∷ a)) (sym p.2) (record { body = a; joined = refl; spelled = p.1 })
-leaf_spelled v types.DateTime a t p = subst (Spells NoLegacy v (5 ∷ a)) (sym p.2) (record { body = a; joined = refl; spelled = p.1 })
-leaf_spelled v types.PreTokStr a t p = subst (Spells NoLegacy v (7 ∷ 0 ∷ a)) (sym p.2) (record { body = 0 ∷ a; joined = refl; spelled = record { body = a; joined = refl; spelled = p.1 } })
+pub leaf_spelled : (v : Version) (kind : ValueType) (a : List ℕ) (t : Tree) → LeafOf v kind a t → Spells Legacy v (coded kind ++ a) t
+leaf_spelled v types.String a t p = subst (Spells Legacy v (0 ∷ a)) (sym p.2) (record { body = a; joined = refl; spelled = p.1 })
+leaf_spelled v types.U64 a t p = subst (Spells Legacy v (1 ∷ a)) (sym p.2) (record { body = a; joined = refl; spelled = p.1 })
+leaf_spelled v types.I64 a t p = subst (Spells Legacy v (2 ∷ a)) (sym p.2) (record { body = a; joined = refl; spelled = p.1 })
+leaf_spelled v types.Facet a t p = subst (Spells Legacy v (3 ∷ a)) (sym p.2) (record { body = a; joined = refl; spelled = p.1 })
+leaf_spelled v types.Bytes a t p = subst (Spells Legacy v (4 ∷ a)) (sym p.2) (record { body = a; joined = refl; spelled = p.1 })
+leaf_spelled v types.DateTime a t p = subst (Spells Legacy v (5 ∷ a)) (sym p.2) (record { body = a; joined = refl; spelled = p.1 })
+leaf_spelled v types.PreTokStr a t p = subst (Spells Legacy v (7 ∷ 0 ∷ a)) (sym p.2) (record { body = 0 ∷ a; joined = refl; spelled = record { body = a; joined = refl; spelled = p.1 } })
 leaf_spelled v types.JSONObject a t p = absurd p
-leaf_spelled v types.Bool a t p = subst (Spells NoLegacy v (9 ∷ a)) (sym p.2) (record { body = a; joined = refl; spelled = p.1 })
-leaf_spelled v types.IpAddr a t p = subst (Spells NoLegacy v (10 ∷ a)) (sym p.2) (record { body = a; joined = refl; spelled = p.1 })
-leaf_spelled v types.Null a t p = subst (Spells NoLegacy v (11 ∷ a)) (sym p.1) (record { body = a; joined = refl; spelled = p.0 })
+leaf_spelled v types.Bool a t p = subst (Spells Legacy v (9 ∷ a)) (sym p.2) (record { body = a; joined = refl; spelled = p.1 })
+leaf_spelled v types.IpAddr a t p = subst (Spells Legacy v (10 ∷ a)) (sym p.2) (record { body = a; joined = refl; spelled = p.1 })
+leaf_spelled v types.Null a t p = subst (Spells Legacy v (11 ∷ a)) (sym p.1) (record { body = a; joined = refl; spelled = p.0 })
 leaf_spelled v types.Array a t p = absurd p
 leaf_spelled v types.Object a t p = absurd p
 

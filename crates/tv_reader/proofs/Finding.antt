@@ -108,7 +108,7 @@ finds_as y B Q map p = record {
   rises = p.rises;
 }
 
-stop_map : {F : Type 0} (end : F) (P Q : List ℕ → F → Type 0) (s : Stop F) (old new : List ℕ) (count : ℕ) → ((w : List ℕ) (c : F) → P w c → Q w c) → TellsStop end P old new count s → TellsStop end Q old new count s
+pub stop_map : {F : Type 0} (end : F) (P Q : List ℕ → F → Type 0) (s : Stop F) (old new : List ℕ) (count : ℕ) → ((w : List ℕ) (c : F) → P w c → Q w c) → TellsStop end P old new count s → TellsStop end Q old new count s
 stop_map end P Q (Fault f) old new count map h = λ few. record { stands = map old f (h few).stands; shows = shows_map (λ c. c) (λ f e. e) old new f map (h few).shows }
 stop_map end P Q (Failed kind) old new count map h = tt
 stop_map end P Q Short old new count map h = tt

@@ -3,5 +3,4 @@ pub mod AgreeKinds
 pub mod AgreeLeaves
 pub mod BehindKinds
 pub mod TreeSteps
-pub mod SameTypes
-pub mod TypedSteps
+pub mod AgreeField

@@ -5,7 +5,7 @@ use Rattle.std.proofs.lemmas.Bool.{eqb-true}
 use Rattle.std.proofs.lemmas.Bool.Decides.{eqb_tells}
 use Rattle.std.proofs.lemmas.List.{append-nil, length-append, length-map, map_push}
 use Rattle.tv_base.specs.declared.cause.Cause.{Cause}
-use Rattle.tv_base.specs.declared.cause.Cause.TheVariants.{UnexpectedEnd, OddObject, LegacyJson}
+use Rattle.tv_base.specs.declared.cause.Cause.TheVariants.{UnexpectedEnd, OddObject}
 use Rattle.tv_base.specs.declared.read_error.ReadError.{ReadError}
 use Rattle.tv_base.specs.Number.{VNum}
 use Rattle.tv_base.specs.PartFault.{InThen, NumberFault}
@@ -16,11 +16,14 @@ use Rattle.tv_base.proofs.Agrees.{Agrees, InTurn, agrees_too, in_turn, chosen, n
 use Rattle.tv_base.proofs.AgreeNumbers.{vint_agrees}
 use Rattle.tv_base.proofs.AgreeParts.{text_agrees}
 use Rattle.tv_base.proofs.EarlyNumbers.{number_early}
+use Rattle.tv_legacy.specs.Legacy.{Legacy}
+use Rattle.tv_legacy.specs.LegacyReading.{legacy_at}
+use Rattle.tv_legacy.proofs.Agrees.{LegacyTree, legacy_agrees}
 use Rattle.tv_value.specs.Fault.{Refusal, corrupted, no_text_key, CodedKeyFault, key_ends, key_no_extension, in_key, KeyFault, value_ends, in_leaf, no_extension, in_legacy, in_count, in_element, in_entry_count, odd_count, in_entry_key, in_entry}
 use Rattle.tv_value.specs.ListFault.{in_next_key, in_next_value}
 use Rattle.tv_value.specs.Owned.{owned_tree, owned_entries, key_and}
-use Rattle.tv_value.specs.Spelling.{Key, Spells, SpellsElements, SpellsEntries, NoLegacy}
-use Rattle.tv_value.specs.Tree.{array, object, elements, element_count, entries, entry_count}
+use Rattle.tv_value.specs.Spelling.{Key, Spells, SpellsElements, SpellsEntries}
+use Rattle.tv_value.specs.Tree.{Tree, array, object, elements, element_count, entries, entry_count}
 use Rattle.tv_value.specs.Version.{Version, entry_total}
 use Rattle.tv_value.specs.declared.owned_value.OwnedValue.{OwnedValue, Array, Object, the_lemmas}
 use Rattle.tv_value.proofs.Lists.{elements-length, entries-length, spells_push, entries_push}
@@ -69,19 +72,19 @@ key_refused {tells = tells} {left = left} {faults = faults} {mid = mid} {j = j} 
     (finds_refused store_stop end tells left faults mid j (errors.TypeMismatch types.String kind) (no_text_key (type_code kind)) _ _ refl (λ e. cc) (λ w. other_key kind w other))
 
 -- a key of the versions that are read
-key_at : (version : DocStoreVersion) (b : List ℕ) (key : String Global) → CodedKey b key → Key (version_of version) b (string_bytes key)
+pub key_at : (version : DocStoreVersion) (b : List ℕ) (key : String Global) → CodedKey b key → Key (version_of version) b (string_bytes key)
 key_at stores.V1 b key h = h
 key_at stores.V2 b key h = h
 
-key_fault_at : (version : DocStoreVersion) (w : List ℕ) (r : Refusal) → CodedKeyFault w r → KeyFault (version_of version) w r
+pub key_fault_at : (version : DocStoreVersion) (w : List ℕ) (r : Refusal) → CodedKeyFault w r → KeyFault (version_of version) w r
 key_fault_at stores.V1 w r h = h
 key_fault_at stores.V2 w r h = h
 
-key_fault_ended : (version : DocStoreVersion) (w : List ℕ) (r : Refusal) → w ≡ [] → KeyFault (version_of version) w r → r ≡ end
+pub key_fault_ended : (version : DocStoreVersion) (w : List ℕ) (r : Refusal) → w ≡ [] → KeyFault (version_of version) w r → r ≡ end
 key_fault_ended stores.V1 w r e h = key_ended e h
 key_fault_ended stores.V2 w r e h = key_ended e h
 
-total : (version : DocStoreVersion) (n : ℕ) → entry_total (version_of version) n ≡ 2 * n
+pub total : (version : DocStoreVersion) (n : ℕ) → entry_total (version_of version) n ≡ 2 * n
 total stores.V1 n = refl
 total stores.V2 n = refl
 
@@ -141,8 +144,20 @@ pub leaf_fails : {S : Type 0} {tells : S → Type 0} {left : S → List ℕ} {fa
     → Finds tells left faults old i new k (Err (read_error e)) (SpellsBehind v kind) (NoneBehind v kind)
 leaf_fails v kind are_bytes is h = finds_part_fails _ _ are_bytes (leaf_agrees v kind) (leaf_refused v kind is) h
 
-pub legacy_refused : {S : Type 0} (tells : S → Type 0) (left : S → List ℕ) (faults : S → Faults) (p : S) (i : ℕ) (v : Version) → Finds tells left faults p i p i (Err (errors.CorruptedValue LegacyJson)) (SpellsBehind v types.JSONObject) (NoneBehind v types.JSONObject)
-legacy_refused tells left faults p i v = finds_refused store_stop end tells left faults p i (errors.CorruptedValue LegacyJson) (corrupted LegacyJson) _ _ refl (λ e. cc) (λ w. in_legacy refl)
+-- ---- legacy objects
+
+legacy_spelled : (v : Version) (a : List ℕ) (t : Tree) → LegacyTree a t → Spells Legacy v (8 ∷ a) t
+legacy_spelled v a t h = subst (Spells Legacy v (8 ∷ a)) (sym h.is) (inr (record { body = a; joined = refl; spelled = h.spelled }))
+
+pub legacy_found : {S : Type 0} {tells : S → Type 0} {left : S → List ℕ} {faults : S → Faults} {old new : S} {i k : ℕ} {value : OwnedValue} (v : Version)
+    → ((source : S) → tells source → AllBytes (left source)) → reads.TakesBy tells left faults old i new k owned_tree (Ok value) legacy_at
+    → Finds tells left faults old i new k (Ok value) (SpellsBehind v types.JSONObject) (NoneBehind v types.JSONObject)
+legacy_found {value = value} v are_bytes h = finds_as value _ _ (λ a p. legacy_spelled v a (owned_tree value) p) (finds_part are_bytes legacy_agrees h)
+
+pub legacy_fails : {S : Type 0} {tells : S → Type 0} {left : S → List ℕ} {faults : S → Faults} {old new : S} {i k : ℕ} {e : ReadError} (v : Version)
+    → ((source : S) → tells source → AllBytes (left source)) → reads.TakesBy tells left faults old i new k owned_tree (Err e) legacy_at
+    → Finds tells left faults old i new k (Err (read_error e)) (SpellsBehind v types.JSONObject) (NoneBehind v types.JSONObject)
+legacy_fails v are_bytes h = finds_part_fails _ _ are_bytes legacy_agrees (λ w c f. in_legacy f) h
 
 -- a value, by its type and what stands behind it
 pub value_then : {S : Type 0} {tells : S → Type 0} {left : S → List ℕ} {faults : S → Faults} {old mid new : S} {i j k : ℕ} {kind : ValueType} {result : Result OwnedValue DeserializeError} (v : Version)
@@ -158,7 +173,7 @@ owned-Array v = search (rules, the_lemmas)
 owned-Object : (v : Vec (String Global × OwnedValue) Global) → owned_tree (Object v) ≡ object (entries (owned_entries v.items))
 owned-Object v = search (rules, the_lemmas)
 
-array_of : (v : Version) (n : ℕ) (a b : List ℕ) (xs : Vec OwnedValue Global) → VNum a n → SpellsItems v n b xs → Spells NoLegacy v (12 ∷ (a ++ b)) (array (elements (map owned_tree xs.items)))
+array_of : (v : Version) (n : ℕ) (a b : List ℕ) (xs : Vec OwnedValue Global) → VNum a n → SpellsItems v n b xs → Spells Legacy v (12 ∷ (a ++ b)) (array (elements (map owned_tree xs.items)))
 array_of v n a b xs r s =
     let many : n ≡ element_count (elements (map owned_tree xs.items)) = sym s.many ∙ sym (length-map xs.items owned_tree) ∙ sym (elements-length (map owned_tree xs.items)) in
     record { body = a ++ b; joined = refl; spelled = record { front = a; rest = b; joined = refl; first = subst (λ m. VNum a m) many r; second = s.spelled } }
@@ -170,8 +185,8 @@ pub array_found : {S : Type 0} {tells : S → Type 0} {left : S → List ℕ} {f
     → ((source : S) → tells source → AllBytes (left source)) → reads.TakesBy tells left faults old i mid j (λ x. x) (Ok n) vint_at
     → Finds tells left faults mid j new k (Ok items) (SpellsItems v n) (NoItems v n) → Finds tells left faults old i new k (Ok (Array items)) (SpellsBehind v types.Array) (NoneBehind v types.Array)
 array_found {n = n} {items = items} v are_bytes part h =
-    finds_as (Array items) _ _ (λ a s. subst (Spells NoLegacy v (12 ∷ a)) (sym (owned-Array items)) s)
-    (finds_then (λ b xs. Spells NoLegacy v (12 ∷ b) (array (elements (map owned_tree xs.items)))) (λ w r. NoValue v (12 ∷ w) r)
+    finds_as (Array items) _ _ (λ a s. subst (Spells Legacy v (12 ∷ a)) (sym (owned-Array items)) s)
+    (finds_then (λ b xs. Spells Legacy v (12 ∷ b) (array (elements (map owned_tree xs.items)))) (λ w r. NoValue v (12 ∷ w) r)
     (λ a b xs r s. array_of v n a b xs r s) (λ a w c r f. array_refused v n a w c r f) (λ a f r _ _ start byte last. in_count (number_early a n r start byte last))
     (finds_part are_bytes vint_agrees part) h)
 
@@ -193,7 +208,7 @@ item_more v n a b items more y is p q =
     let trees : map owned_tree more.items ≡ map owned_tree items.items ++ owned_tree y ∷ [] = ap (map owned_tree) is ∙ map_push owned_tree items.items y in
     record {
       many = ap length is ∙ omega (arith, length-append items.items (y ∷ []), p.many);
-      spelled = subst (λ ts. SpellsElements NoLegacy v (a ++ b) (elements ts)) (sym trees) (spells_push v (map owned_tree items.items) (owned_tree y) a b p.spelled q);
+      spelled = subst (λ ts. SpellsElements Legacy v (a ++ b) (elements ts)) (sym trees) (spells_push Legacy v (map owned_tree items.items) (owned_tree y) a b p.spelled q);
     }
 
 item_refused : (v : Version) (m n : ℕ) (a w : List ℕ) (items : Vec OwnedValue Global) (r : Refusal) → m < n → SpellsItems v m a items → NoValue v w r → NoItems v n (a ++ w) r
@@ -225,7 +240,7 @@ items_fail {m = m} {n = n} {items = items} v less p q =
 -- ---- objects
 
 object_of : (version : DocStoreVersion) (n : ℕ) (a b : List ℕ) (xs : Vec (String Global × OwnedValue) Global) → SpellsTwice a n → SpellsMembers (version_of version) n b xs
-    → Spells NoLegacy (version_of version) (13 ∷ (a ++ b)) (object (entries (owned_entries xs.items)))
+    → Spells Legacy (version_of version) (13 ∷ (a ++ b)) (object (entries (owned_entries xs.items)))
 object_of version n a b xs r s =
     let v = version_of version in
     let count : length (owned_entries xs.items) ≡ n = length-map (map (λ m. (m.0, owned_tree m.1)) xs.items) key_and ∙ length-map xs.items (λ m. (m.0, owned_tree m.1)) ∙ s.many in
@@ -247,8 +262,8 @@ pub object_found : {S : Type 0} {tells : S → Type 0} {left : S → List ℕ} {
     → Finds tells left faults mid j new k (Ok members) (SpellsMembers (version_of version) n) (NoMembers (version_of version) n)
     → Finds tells left faults old i new k (Ok (Object members)) (SpellsBehind (version_of version) types.Object) (NoneBehind (version_of version) types.Object)
 object_found {n = n} {members = members} version are_bytes part h =
-    finds_as (Object members) _ _ (λ a s. subst (Spells NoLegacy (version_of version) (13 ∷ a)) (sym (owned-Object members)) s)
-    (finds_then (λ b xs. Spells NoLegacy (version_of version) (13 ∷ b) (object (entries (owned_entries xs.items)))) (λ w r. NoValue (version_of version) (13 ∷ w) r)
+    finds_as (Object members) _ _ (λ a s. subst (Spells Legacy (version_of version) (13 ∷ a)) (sym (owned-Object members)) s)
+    (finds_then (λ b xs. Spells Legacy (version_of version) (13 ∷ b) (object (entries (owned_entries xs.items)))) (λ w r. NoValue (version_of version) (13 ∷ w) r)
     (λ a b xs r s. object_of version n a b xs r s) (λ a w c r f. object_refused version n a w c r f) (λ a f r _ _ start byte last. in_entry_count (number_early a (2 * n) r start byte last))
     (finds_part are_bytes half_agrees part) h)
 
@@ -308,9 +323,9 @@ member_more version n a b members more y is p q =
     let entered : owned_entries more.items ≡ owned_entries members.items ++ (string_bytes y.0, owned_tree y.1) ∷ [] = ap owned_entries is ∙ step in
     record {
       many = ap length is ∙ omega (arith, length-append members.items (y ∷ []), p.many);
-      spelled = subst (λ es. SpellsEntries NoLegacy v (a ++ b) (entries es)) (sym entered)
-          (subst (λ l. SpellsEntries NoLegacy v (a ++ l) (entries (owned_entries members.items ++ (string_bytes y.0, owned_tree y.1) ∷ []))) (sym q.joined)
-          (entries_push v (owned_entries members.items) (string_bytes y.0) (owned_tree y.1) a q.front q.rest p.spelled q.first q.second));
+      spelled = subst (λ es. SpellsEntries Legacy v (a ++ b) (entries es)) (sym entered)
+          (subst (λ l. SpellsEntries Legacy v (a ++ l) (entries (owned_entries members.items ++ (string_bytes y.0, owned_tree y.1) ∷ []))) (sym q.joined)
+          (entries_push Legacy v (owned_entries members.items) (string_bytes y.0) (owned_tree y.1) a q.front q.rest p.spelled q.first q.second));
     }
 
 member_refused : (v : Version) (m n : ℕ) (a w : List ℕ) (members : Vec (String Global × OwnedValue) Global) (r : Refusal) → m < n → SpellsMembers v m a members → NoMember v w r → NoMembers v n (a ++ w) r

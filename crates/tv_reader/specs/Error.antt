@@ -1,5 +1,6 @@
 -- What the errors of the lower layers are called in the store, and which of them stop a reader for what reason.
 use Rattle.std.specs.Prelude.{ℕ, Result, List}
+use Rattle.tv_base.specs.declared.cause.Cause.{Cause}
 use Rattle.tv_base.specs.declared.read_error.ReadError.{ReadError}
 use Rattle.tv_base.specs.declared.read_error.ReadError.TheVariants as reads
 use Rattle.tv_base.specs.Source.{Faults}
@@ -45,6 +46,11 @@ store_stop (errors.UnsupportedType t) = Never
 store_stop (errors.Custom s) = Never
 store_stop (errors.UnsupportedVersion m n) = Never
 store_stop errors.AlreadyFailed = Never
+
+-- The fault in the bytes that an error tells: what is corrupt, or in a key's place a value of another type than a text.
+pub data IsRefusal : DeserializeError → Refusal → Type 0 where
+  is_corrupted : {c : Cause} → IsRefusal (errors.CorruptedValue c) (corrupted c)
+  is_no_text : {actual : ValueType} → IsRefusal (errors.TypeMismatch types.String actual) (no_text_key (type_code actual))
 
 -- what a reader of the store returned and did, by a reading of lists
 abbrev pub TakesBy : {S X Y : Type 0} (tells : S → Type 0) (left : S → List ℕ) (faults : S → Faults) (old : S) (old_count : ℕ) (new : S) (new_count : ℕ) (view : X → Y) (result : Result X DeserializeError) (reading : List ℕ → Result (Y × List ℕ) (Refusal × List ℕ)) → Type 0

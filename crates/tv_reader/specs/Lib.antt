@@ -7,4 +7,4 @@ pub mod Finds
 pub mod LeafBodies
 pub mod Trees
 pub mod Counts
-pub mod Typed
+pub mod Fields

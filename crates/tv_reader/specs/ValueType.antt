@@ -1,5 +1,5 @@
 -- The types of values in the store: their codes, and what is wrong with bytes that begin with none.
-use Rattle.std.specs.Prelude.{◌≢◌, ◌<◌, ℕ, List, [], ◌∷◌}
+use Rattle.std.specs.Prelude.{◌≡◌, ◌≢◌, ◌<◌, ℕ, List, [], ◌∷◌}
 use Rattle.tv_base.specs.declared.cause.Cause.{Cause}
 use Rattle.tv_base.specs.declared.cause.Cause.TheVariants.{UnexpectedEnd, UnknownTypeCode, FloatCode, UnknownExtCode}
 use Rattle.tv_reader.specs.declared.error.ValueType.{ValueType}
@@ -36,6 +36,10 @@ coded types.IpAddr = 10 ∷ []
 coded types.Null = 11 ∷ []
 coded types.Array = 12 ∷ []
 coded types.Object = 13 ∷ []
+
+-- the bytes are all that stands before a value of this type
+abbrev pub IsCoded : List ℕ → ValueType → Type 0
+IsCoded b kind = b ≡ coded kind
 
 -- of a value's code: there is none, it is unknown, or it is that of floating-point numbers
 pub data CodeFault : List ℕ → Cause → Type 0 where

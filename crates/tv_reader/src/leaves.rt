@@ -41,7 +41,7 @@ fn nanoseconds(microseconds: i64) -> i64
 ///
 /// Errors: those of `take_i64`, and in version 1 `Corrupted(DateRange)` where the nanoseconds don't fit 64 bits.
 #[tactic(auto, using(tv_base::proofs::TakeSteps::Taken_then), unfolding(crate::specs::Leaves::date_at))]
-pub(crate) fn take_date<S: ByteSource>(
+pub fn take_date<S: ByteSource>(
     source: &mut S,
     count: &mut u64,
     version: DocStoreVersion,
@@ -73,7 +73,7 @@ fn address_of(bits: u128) -> Ipv6Addr
 }
 
 /// Takes an IP address in sixteen bytes, the lowest first. Errors: those of `take_u128`.
-pub(crate) fn take_ip_address<S: ByteSource>(
+pub fn take_ip_address<S: ByteSource>(
     source: &mut S,
     count: &mut u64,
 ) -> Result<Ipv6Addr, ReadError>
@@ -183,7 +183,7 @@ fn take_counted_tokens<S: ByteSource>(
 ///
 /// Errors: those of `take_string`.
 #[tactic(auto, using(tv_base::proofs::TakeSteps::Taken_then), unfolding(crate::specs::Leaves::tokenized_at))]
-pub(crate) fn take_tokenized<S: ByteSource>(
+pub fn take_tokenized<S: ByteSource>(
     alloc: Global,
     source: &mut S,
     count: &mut u64,

@@ -1,18 +1,13 @@
-//! Reading values of the document store, of every type.
+//! Reading the parts and the trees of values in the document store.
 #![tactic(auto)]
 
-pub mod deserialize;
 pub mod error;
+pub mod fields;
 pub mod kinds;
-mod leaves;
-pub mod store_reader;
+pub mod leaves;
 pub mod trees;
 pub mod type_codes;
-pub mod value_deserializer;
 pub mod version;
 
-pub use deserialize::ValueDeserialize;
 pub use error::{DeserializeError, ValueType};
-pub use store_reader::StoreReader;
-pub use value_deserializer::BinaryValueDeserializer;
 pub use version::DocStoreVersion;

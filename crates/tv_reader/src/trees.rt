@@ -18,13 +18,14 @@ use crate::version::DocStoreVersion;
 use std::alloc::Global;
 use tv_base::take::{take_string, take_vint};
 use tv_base::{ByteSource, Cause, ReadError};
+use tv_legacy::take::take_legacy;
 use tv_value::owned_value::OwnedValue;
 
 /// Takes the number of an object's entries, which is announced twice over.
 ///
 /// Errors: those of `take_vint`, and `Corrupted(OddObject)` where the number is odd.
 #[tactic(auto, using(tv_base::proofs::TakeSteps::Taken_then), unfolding(crate::specs::Counts::half_at))]
-pub(crate) fn take_half<S: ByteSource>(source: &mut S, count: &mut u64) -> Result<u64, ReadError>
+pub fn take_half<S: ByteSource>(source: &mut S, count: &mut u64) -> Result<u64, ReadError>
     ensures takes { reads.TakesBy S.tells S.left S.faults source.old count.old source.new count.new (λ x. x) result half_at }
     ensures too_long { IsErrOf result (Corrupted TooLong) → count.new ≡ 2 ^ 64 - 1 }
     ensures spares { ¬ IsErrOf result NoMemory }
@@ -40,7 +41,7 @@ pub(crate) fn take_half<S: ByteSource>(source: &mut S, count: &mut u64) -> Resul
 /// Takes a key: a text behind its code.
 ///
 /// Errors: those of `take_kind` and of `take_string`, and `TypeMismatch` where a value of another type stands there.
-pub(crate) fn take_key<S: ByteSource>(
+pub fn take_key<S: ByteSource>(
     alloc: Global,
     source: &mut S,
     count: &mut u64,
@@ -64,8 +65,8 @@ pub(crate) fn take_key<S: ByteSource>(
 
 /// Takes a value of any type, to any depth. Nothing is reserved from announced numbers.
 ///
-/// Errors: `CorruptedValue` with the first fault in the bytes, `LegacyJson` where a legacy object stands there; `TypeMismatch`
-/// where in a key's place stands a value that isn't a text; `Io` where the source failed; `Memory`.
+/// Errors: `CorruptedValue` with the first fault in the bytes; `TypeMismatch` where in a key's place stands a value that isn't a
+/// text; `Io` where the source failed; `Memory`.
 #[cycle(trees)]
 pub fn take_tree<S: ByteSource>(
     alloc: Global,
@@ -108,7 +109,10 @@ pub fn take_behind<S: ByteSource>(
             let members = take_members(alloc, source, count, version, announced)?;
             Ok(OwnedValue::Object(members))
         }
-        ValueType::JSONObject => Err(DeserializeError::CorruptedValue(Cause::LegacyJson)),
+        ValueType::JSONObject => {
+            let value = take_legacy(alloc, source, count)?;
+            Ok(value)
+        }
         leaf => {
             let value = take_leaf(alloc, source, count, version, leaf)?;
             Ok(value)

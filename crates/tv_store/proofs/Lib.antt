@@ -1,7 +1,7 @@
 pub mod Spelled
 pub mod Room
-pub mod AgreeField
 pub mod PairSteps
+pub mod GivenSteps
 pub mod Promises
 pub mod Stores
 pub mod StoredLaws

@@ -17,14 +17,16 @@ use Rattle.tv_base.proofs.Numbers.{length-fixed}
 use Rattle.tv_doc.specs.declared.document.CompactDoc.{CompactDoc}
 use Rattle.tv_doc.specs.Document.{document_of, heap_of, IsFull}
 use Rattle.tv_doc.specs.Room.{room, document_room}
+use Rattle.tv_legacy.specs.Legacy.{Legacy}
 use Rattle.tv_value.specs.Fault.{Refusal, corrupted, Corrupt, corrupt, FieldFault, field_ends, field_large, value_ends, in_leaf, in_text, in_unsigned, no_extension}
-use Rattle.tv_value.specs.Spelling.{Spells, SpellsPair, NoLegacy}
+use Rattle.tv_value.specs.Spelling.{Spells, SpellsPair}
 use Rattle.tv_value.specs.Tree.{Tree, leaf, text, unsigned, Document}
 use Rattle.tv_value.specs.Version.{Version}
 use Rattle.tv_value.specs.declared.owned_value.OwnedValue.{OwnedValue}
 use Rattle.tv_value.proofs.Fronts.{each_push}
 use Rattle.tv_reader.specs.Error as stores
 use Rattle.tv_reader.specs.Error.{read_error, store_stop}
+use Rattle.tv_reader.specs.Fields.{field_at}
 use Rattle.tv_reader.specs.Finds.{Finds}
 use Rattle.tv_reader.specs.Kinds.{kind_at}
 use Rattle.tv_reader.specs.Trees.{NoValue, SpellsBehind, NoneBehind}
@@ -32,14 +34,13 @@ use Rattle.tv_reader.specs.ValueType.{coded}
 use Rattle.tv_reader.specs.declared.error.DeserializeError.{DeserializeError}
 use Rattle.tv_reader.specs.declared.error.ValueType.{ValueType}
 use Rattle.tv_reader.specs.declared.error.ValueType.TheVariants as types
+use Rattle.tv_reader.proofs.AgreeField.{field_agrees}
 use Rattle.tv_reader.proofs.BehindKinds.{finds_behind, value_ended}
 use Rattle.tv_reader.proofs.Finding.{finds_then, finds_as, finds_fails, finds_part, finds_part_fails, finds_nothing, finds_read, finds_read_fails}
 use Rattle.tv_store.specs.Documents.{NoDocument}
 use Rattle.tv_store.specs.Pairs.{taken_tree, taken_pair, SpellsTaken, SpellsTakenPair, SpellsPairs, SpellsRead, NoPair, NoPairs, HasNoRoom, DocumentHasNoRoom}
-use Rattle.tv_store.specs.Reading.{field_at}
 use Rattle.tv_store.specs.declared.pairs.Taken.{Taken}
 use Rattle.tv_store.specs.declared.pairs.Taken.TheVariants as taken
-use Rattle.tv_store.proofs.AgreeField.{field_agrees}
 
 abbrev end : Refusal
 end = corrupted UnexpectedEnd
@@ -51,7 +52,7 @@ pub text_found : {S X : Type 0} {tells : S → Type 0} {left : S → List ℕ} {
     → reads.TakesBy tells left faults mid j new k (λ _. buffer) (Ok x) text_at → Finds tells left faults old i new k (Ok taken.Text) (SpellsTaken v buffer) (NoValue v)
 text_found {buffer = buffer} v are_bytes is part text_part =
     finds_behind (SpellsTaken v buffer) (NoValue v) are_bytes value_ends (in_leaf (no_extension refl)) part
-    (finds_as taken.Text _ _ (λ a t. subst (λ z. Spells NoLegacy v (coded z ++ a) (leaf (text buffer))) (sym is) (record { body = a; joined = refl; spelled = t })) (finds_part are_bytes text_agrees text_part))
+    (finds_as taken.Text _ _ (λ a t. subst (λ z. Spells Legacy v (coded z ++ a) (leaf (text buffer))) (sym is) (record { body = a; joined = refl; spelled = t })) (finds_part are_bytes text_agrees text_part))
 
 pub text_fails : {S X : Type 0} {tells : S → Type 0} {left : S → List ℕ} {faults : S → Faults} {old mid new : S} {i j k : ℕ} {kind : ValueType} {buffer : List ℕ} {e : ReadError} (v : Version)
     → ((source : S) → tells source → AllBytes (left source)) → kind ≡ types.String → reads.TakesBy tells left faults old i mid j (λ x. x) (Ok kind) kind_at
@@ -65,7 +66,7 @@ pub number_found : {S : Type 0} {tells : S → Type 0} {left : S → List ℕ} {
     → reads.TakesBy tells left faults mid j new k (λ x. x) (Ok n) u64_at → Finds tells left faults old i new k (Ok (taken.U64 n)) (SpellsTaken v buffer) (NoValue v)
 number_found {n = n} v buffer are_bytes is part number =
     finds_behind (SpellsTaken v buffer) (NoValue v) are_bytes value_ends (in_leaf (no_extension refl)) part
-    (finds_as (taken.U64 n) _ _ (λ a t. subst (λ z. Spells NoLegacy v (coded z ++ a) (leaf (unsigned n))) (sym is) (record { body = a; joined = refl; spelled = t })) (finds_part are_bytes u64_agrees number))
+    (finds_as (taken.U64 n) _ _ (λ a t. subst (λ z. Spells Legacy v (coded z ++ a) (leaf (unsigned n))) (sym is) (record { body = a; joined = refl; spelled = t })) (finds_part are_bytes u64_agrees number))
 
 pub number_fails : {S : Type 0} {tells : S → Type 0} {left : S → List ℕ} {faults : S → Faults} {old mid new : S} {i j k : ℕ} {kind : ValueType} {e : ReadError} (v : Version) (buffer : List ℕ)
     → ((source : S) → tells source → AllBytes (left source)) → kind ≡ types.U64 → reads.TakesBy tells left faults old i mid j (λ x. x) (Ok kind) kind_at
@@ -124,12 +125,12 @@ pair_ended v r p = elim p [ inl f ↦ field_ended r f | inr q ↦ value_ended (n
 
 pub pairs_none : {S : Type 0} (tells : S → Type 0) (left : S → List ℕ) (faults : S → Faults) (p : S) (i : ℕ) (v : Version) (document : CompactDoc) → document_of document ≡ [] → Finds tells left faults p i p i (Ok document) (SpellsPairs v 0) (λ w r. ⊥)
 pairs_none tells left faults p i v document is =
-    finds_nothing store_stop end tells left faults p i document (SpellsPairs v 0) (λ w r. ⊥) (record { many = ap length is; spelled = subst (Each (SpellsPair NoLegacy v) []) (sym is) refl })
+    finds_nothing store_stop end tells left faults p i document (SpellsPairs v 0) (λ w r. ⊥) (record { many = ap length is; spelled = subst (Each (SpellsPair Legacy v) []) (sym is) refl })
 
 pair_more : (v : Version) (n : ℕ) (a b buffer : List ℕ) (document more : CompactDoc) (pair : ℕ × Taken) → document_of more ≡ document_of document ++ taken_pair buffer pair ∷ [] → SpellsPairs v n a document → SpellsTakenPair v buffer b pair → SpellsPairs v (n + 1) (a ++ b) more
 pair_more v n a b buffer document more pair is p q = record {
   many = ap length is ∙ omega (arith, length-append (document_of document) (taken_pair buffer pair ∷ []), p.many);
-  spelled = subst (Each (SpellsPair NoLegacy v) (a ++ b)) (sym is) (each_push (SpellsPair NoLegacy v) (document_of document) (taken_pair buffer pair) a b p.spelled q);
+  spelled = subst (Each (SpellsPair Legacy v) (a ++ b)) (sym is) (each_push (SpellsPair Legacy v) (document_of document) (taken_pair buffer pair) a b p.spelled q);
 }
 
 pub pairs_more : {S : Type 0} {tells : S → Type 0} {left : S → List ℕ} {faults : S → Faults} {old mid new : S} {i j k m : ℕ} {document : CompactDoc} {pair : ℕ × Taken} (v : Version) (buffer : List ℕ) (more : CompactDoc)
@@ -141,7 +142,7 @@ pairs_more {m = m} {document = document} {pair = pair} v buffer more is p q =
     (λ a b z r s e. pair_more v m a b buffer document more z (is ∙ ap (λ (u : ℕ × Taken). document_of document ++ taken_pair buffer u ∷ []) (sym e)) r s) (λ a w c r f. tt) (λ a f r _ _ start byte last. tt) p q)
 
 -- one of so many pairs is at fault behind those that are spelled
-in_pairs : (v : Version) (d : Document) (n : ℕ) (a w : List ℕ) (r : Refusal) → length d < n → Each (SpellsPair NoLegacy v) a d → NoPair v w r → NoPairs v n (a ++ w) r
+in_pairs : (v : Version) (d : Document) (n : ℕ) (a w : List ℕ) (r : Refusal) → length d < n → Each (SpellsPair Legacy v) a d → NoPair v w r → NoPairs v n (a ++ w) r
 in_pairs v d zero a w r less p f = absurd (omega (arith, less))
 in_pairs v [] (suc n) a w r less p f = inl (subst (λ l. NoPair v l r) (ap (λ (l : List ℕ). l ++ w) (sym p)) f)
 in_pairs v (pair ∷ d) (suc n) a w r less p f = inr (
@@ -166,7 +167,7 @@ pairs_fail {n = n} {document = document} v buffer less p q =
 -- ---- want of room
 
 -- one pair more needs its value's room
-document_room-push : (d : Document) (p : ℕ × Tree) → document_room (d ++ p ∷ []) ≡ document_room d + room p.1
+pub document_room-push : (d : Document) (p : ℕ × Tree) → document_room (d ++ p ∷ []) ≡ document_room d + room p.1
 document_room-push d p = sum_by-append (λ (pair : ℕ × Tree). room pair.1) d (p ∷ []) ∙ ap (λ n. document_room d + n) (zero-add (room p.1))
 
 -- the pairs so far and the next one have no room
@@ -182,7 +183,7 @@ no_room {left = left} {new = new} {document = document} {pair = pair} v buffer l
       rest = left new;
       joined = before.joined ∙ ap (λ (l : List ℕ). before.front ++ l) next.joined ∙ sym (append_assoc before.front next.front (left new));
       enough = omega (arith, length-append (document_of document) (taken_pair buffer pair ∷ []), before.spelled.many, less);
-      spelled = each_push (SpellsPair NoLegacy v) (document_of document) (taken_pair buffer pair) before.front next.front before.spelled.spelled next.spelled;
+      spelled = each_push (SpellsPair Legacy v) (document_of document) (taken_pair buffer pair) before.front next.front before.spelled.spelled next.spelled;
       full = omega (arith, document_room-push (document_of document) (taken_pair buffer pair), room_is, full);
     }
 

@@ -11,19 +11,21 @@ use Rattle.tv_base.proofs.Numbers.{one_number}
 use Rattle.tv_doc.specs.declared.document.CompactDoc.{CompactDoc}
 use Rattle.tv_doc.specs.Document.{document_of}
 use Rattle.tv_doc.specs.Room.{room, document_room}
+use Rattle.tv_legacy.specs.Legacy.{Legacy, LegacyFault}
+use Rattle.tv_legacy.proofs.Unique.{one_legacy, legacy_excludes}
 use Rattle.tv_reader.specs.Error.{key_stop, store_stop}
-use Rattle.tv_reader.specs.Typed.{IsRefusal, is_corrupted, is_no_text}
+use Rattle.tv_reader.specs.Error.{IsRefusal, is_corrupted, is_no_text}
 use Rattle.tv_reader.specs.Finds.{Refuses, TellsStop, Found}
 use Rattle.tv_reader.specs.declared.error.DeserializeError.{DeserializeError}
 use Rattle.tv_reader.specs.declared.error.DeserializeError.TheVariants as errors
 use Rattle.tv_reader.specs.declared.error.ValueType.{ValueType}
 use Rattle.tv_reader.specs.declared.error.ValueType.TheVariants as types
-use Rattle.tv_value.specs.Fault.{Refusal, corrupted, no_text_key, AnyLegacy}
-use Rattle.tv_value.specs.Spelling.{SpellsPair, SpellsDocument, NoLegacy}
+use Rattle.tv_value.specs.Fault.{Refusal, corrupted, no_text_key}
+use Rattle.tv_value.specs.Spelling.{SpellsPair, SpellsDocument}
 use Rattle.tv_value.specs.Tree.{Tree, Document}
 use Rattle.tv_value.specs.Version.{Version}
-use Rattle.tv_value.proofs.ExcludingTrees.{document_excludes, any_legacy_excludes}
-use Rattle.tv_value.proofs.Trees.{one_pair, one_document, no_legacy_reads}
+use Rattle.tv_value.proofs.ExcludingTrees.{document_excludes}
+use Rattle.tv_value.proofs.Trees.{one_pair, one_document}
 use Rattle.tv_store.specs.Documents as documents
 use Rattle.tv_store.specs.Documents.{BeginsWith, Answers, NoDocument, IsReadingError}
 use Rattle.tv_store.specs.Pairs.{SpellsRead, DocumentHasNoRoom}
@@ -95,17 +97,17 @@ begun v old full =
     )
 
 -- pairs that begin the bytes begin those that are spelled there
-begins_them : (v : Version) (pairs d : Document) (a b x y : List ℕ) → Each (SpellsPair NoLegacy v) a pairs → Each (SpellsPair NoLegacy v) b d → a ++ x ≡ b ++ y → length pairs ≤ length d → (more : Document) × (d ≡ pairs ++ more)
+begins_them : (v : Version) (pairs d : Document) (a b x y : List ℕ) → Each (SpellsPair Legacy v) a pairs → Each (SpellsPair Legacy v) b d → a ++ x ≡ b ++ y → length pairs ≤ length d → (more : Document) × (d ≡ pairs ++ more)
 begins_them v [] d a b x y p q e le = (d, refl)
 begins_them v (pair ∷ pairs) [] a b x y p q e le = absurd (omega (arith, le))
 begins_them v (pair ∷ pairs) (other ∷ d) a b x y p q e le =
     let whole : p.front ++ (p.rest ++ x) ≡ q.front ++ (q.rest ++ y) = sym (append_assoc p.front p.rest x) ∙ ap (λ (l : List ℕ). l ++ x) (sym p.joined) ∙ e ∙ ap (λ (l : List ℕ). l ++ y) q.joined ∙ append_assoc q.front q.rest y in
-    let same = one_pair NoLegacy v no_legacy_reads p.front q.front (p.rest ++ x) (q.rest ++ y) pair other p.first q.first whole in
+    let same = one_pair Legacy v one_legacy p.front q.front (p.rest ++ x) (q.rest ++ y) pair other p.first q.first whole in
     let rest : p.rest ++ x ≡ q.rest ++ y = append_cancel_left q.front (p.rest ++ x) (q.rest ++ y) (ap (λ (l : List ℕ). l ++ (p.rest ++ x)) (sym same.0) ∙ whole) in
     let others = begins_them v pairs d p.rest q.rest x y p.second q.second rest (omega (arith, le)) in
     (others.0, (λ i. sym same.1 i ∷ others.1 i))
 
-has_room : (v : Version) (old front rest : List ℕ) (d : Document) → old ≡ front ++ rest → SpellsDocument NoLegacy v front d → DocumentHasNoRoom v old → document_room d ≤ 4294967295 → ⊥
+has_room : (v : Version) (old front rest : List ℕ) (d : Document) → old ≡ front ++ rest → SpellsDocument Legacy v front d → DocumentHasNoRoom v old → document_room d ≤ 4294967295 → ⊥
 has_room v old front rest d joined spelled full small =
     let f = full.no_room in
     let whole : full.number ++ (f.front ++ f.rest) ≡ spelled.front ++ (spelled.rest ++ rest) = sym (full.joined ∙ ap (λ (l : List ℕ). full.number ++ l) f.joined) ∙ joined ∙ ap (λ (l : List ℕ). l ++ rest) spelled.joined ∙ append_assoc spelled.front spelled.rest rest in
@@ -116,13 +118,13 @@ has_room v old front rest d joined spelled full small =
 
 -- ---- what is spelled is what is answered
 
-excluded : (v : Version) (old front rest : List ℕ) (d : Document) (r : Refusal) → old ≡ front ++ rest → SpellsDocument NoLegacy v front d → NoDocument v old r → ⊥
-excluded v old front rest d r joined spelled f = (document_excludes NoLegacy AnyLegacy v no_legacy_reads any_legacy_excludes d).excludes old front rest r f spelled joined
+excluded : (v : Version) (old front rest : List ℕ) (d : Document) (r : Refusal) → old ≡ front ++ rest → SpellsDocument Legacy v front d → NoDocument v old r → ⊥
+excluded v old front rest d r joined spelled f = (document_excludes Legacy LegacyFault v one_legacy legacy_excludes d).excludes old front rest r f spelled joined
 
 pub only_by : (v : Version) (result : Result CompactDoc DeserializeError) (old new : List ℕ) (count : ℕ) → FoundDocument v result old new count → (IsErrOf result errors.HeapFull → DocumentHasNoRoom v old) → IfErr result IsReadingError → count < 2 ^ 64 - 1
-    → (d : Document) (front rest : List ℕ) → old ≡ front ++ rest → SpellsDocument NoLegacy v front d → document_room d ≤ 4294967295 → Answers result d rest new
+    → (d : Document) (front rest : List ℕ) → old ≡ front ++ rest → SpellsDocument Legacy v front d → document_room d ≤ 4294967295 → Answers result d rest new
 only_by v (Ok x) old new count h full kind few d front rest joined spelled small =
-    let same = one_document NoLegacy v no_legacy_reads h.front front new rest (document_of x) d h.spelled spelled (sym h.joined ∙ joined) in
+    let same = one_document Legacy v one_legacy h.front front new rest (document_of x) d h.spelled spelled (sym h.joined ∙ joined) in
     (same.1, append_cancel_left front new rest (ap (λ (l : List ℕ). l ++ new) (sym same.0) ∙ sym h.joined ∙ joined))
 only_by v (Err (errors.CorruptedValue c)) old new count h full kind few d front rest joined spelled small = excluded v old front rest d (corrupted c) joined spelled (h few).stands
 only_by v (Err (errors.TypeMismatch expected actual)) old new count h full kind few d front rest joined spelled small =

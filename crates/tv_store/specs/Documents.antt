@@ -7,20 +7,21 @@ use Rattle.tv_base.specs.ReadsAs.{Shows}
 use Rattle.tv_doc.specs.declared.document.CompactDoc.{CompactDoc}
 use Rattle.tv_doc.specs.Document.{document_of}
 use Rattle.tv_doc.specs.Room.{document_room}
+use Rattle.tv_legacy.specs.Legacy.{Legacy, LegacyFault}
 use Rattle.tv_reader.specs.ValueType.{type_code}
 use Rattle.tv_reader.specs.declared.error.DeserializeError.{DeserializeError}
 use Rattle.tv_reader.specs.declared.error.DeserializeError.TheVariants as errors
 use Rattle.tv_reader.specs.declared.error.ValueType.{ValueType}
 use Rattle.tv_reader.specs.declared.error.ValueType.TheVariants.{String}
-use Rattle.tv_value.specs.Fault.{Refusal, corrupted, no_text_key, DocumentFault, AnyLegacy}
-use Rattle.tv_value.specs.Spelling.{SpellsDocument, NoLegacy}
+use Rattle.tv_value.specs.Fault.{Refusal, corrupted, no_text_key, DocumentFault}
+use Rattle.tv_value.specs.Spelling.{SpellsDocument}
 use Rattle.tv_value.specs.Tree.{Document}
 use Rattle.tv_value.specs.Version.{Version}
 use Rattle.tv_store.specs.Refused.{Begun}
 
 -- a front of the bytes spells the document, and the rest is left
 abbrev pub BeginsWith : Version → List ℕ → List ℕ → Document → Type 0
-BeginsWith v bytes rest d = Begins (λ front. SpellsDocument NoLegacy v front d) bytes rest
+BeginsWith v bytes rest d = Begins (λ front. SpellsDocument Legacy v front d) bytes rest
 
 -- this document is answered and this rest left, unless the source failed or memory was refused
 abbrev pub Answers : Result CompactDoc DeserializeError → Document → List ℕ → List ℕ → Type 0
@@ -35,9 +36,9 @@ Answers (Err (errors.UnsupportedVersion m n)) d rest left = ⊥
 Answers (Err errors.HeapFull) d rest left = ⊥
 Answers (Err errors.AlreadyFailed) d rest left = ⊥
 
--- No front of the bytes spells a document, for this reason. A legacy object isn't read.
+-- no front of the bytes spells a document, for this reason
 abbrev pub NoDocument : Version → List ℕ → Refusal → Type 0
-NoDocument v bytes r = DocumentFault NoLegacy AnyLegacy v bytes r
+NoDocument v bytes r = DocumentFault Legacy LegacyFault v bytes r
 
 -- the pairs that the bytes begin with have no room in a heap
 abbrev pub HasNoRoom : Version → List ℕ → Type 0

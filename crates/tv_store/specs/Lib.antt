@@ -1,8 +1,8 @@
 pub mod Error
 pub mod Stored
 pub mod Serialized
-pub mod Reading
 pub mod Refused
 pub mod Documents
 pub mod Pairs
+pub mod PairsGiven
 pub mod Children

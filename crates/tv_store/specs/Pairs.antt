@@ -7,9 +7,10 @@ use Rattle.tv_doc.specs.declared.add_error.AddError.{AddError}
 use Rattle.tv_doc.specs.declared.document.CompactDoc.{CompactDoc}
 use Rattle.tv_doc.specs.Document.{document_of, Adds}
 use Rattle.tv_doc.specs.Room.{document_room}
-use Rattle.tv_value.specs.Fault.{Refusal, PairFault, AnyLegacy}
+use Rattle.tv_legacy.specs.Legacy.{Legacy, LegacyFault}
+use Rattle.tv_value.specs.Fault.{Refusal, PairFault}
 use Rattle.tv_value.specs.Owned.{owned_tree}
-use Rattle.tv_value.specs.Spelling.{Spells, SpellsPair, SpellsDocument, NoLegacy}
+use Rattle.tv_value.specs.Spelling.{Spells, SpellsPair, SpellsDocument}
 use Rattle.tv_value.specs.Tree.{Tree, leaf, text, unsigned, Document}
 use Rattle.tv_value.specs.Version.{Version}
 use Rattle.tv_reader.specs.declared.error.DeserializeError.{DeserializeError}
@@ -27,26 +28,26 @@ abbrev pub taken_pair : List ℕ → ℕ × Taken → ℕ × Tree
 taken_pair buffer pair = (pair.0, taken_tree buffer pair.1)
 
 abbrev pub SpellsTaken : Version → List ℕ → List ℕ → Taken → Type 0
-SpellsTaken v buffer b value = Spells NoLegacy v b (taken_tree buffer value)
+SpellsTaken v buffer b value = Spells Legacy v b (taken_tree buffer value)
 
 abbrev pub SpellsTakenPair : Version → List ℕ → List ℕ → ℕ × Taken → Type 0
-SpellsTakenPair v buffer b pair = SpellsPair NoLegacy v b (taken_pair buffer pair)
+SpellsTakenPair v buffer b pair = SpellsPair Legacy v b (taken_pair buffer pair)
 
 -- so many pairs, one after the other
 pub record SpellsPairs (v : Version) (n : ℕ) (b : List ℕ) (document : CompactDoc) : Type 0 where
   pub many : length (document_of document) ≡ n
-  pub spelled : Each (SpellsPair NoLegacy v) b (document_of document)
+  pub spelled : Each (SpellsPair Legacy v) b (document_of document)
 
 -- the number of the pairs, and each
 abbrev pub SpellsRead : Version → List ℕ → CompactDoc → Type 0
-SpellsRead v b document = SpellsDocument NoLegacy v b (document_of document)
+SpellsRead v b document = SpellsDocument Legacy v b (document_of document)
 
--- why there is no pair, or not so many: a legacy object isn't read
+-- why there is no pair, or not so many
 abbrev pub NoPair : Version → List ℕ → Refusal → Type 0
-NoPair v = PairFault NoLegacy AnyLegacy v
+NoPair v = PairFault Legacy LegacyFault v
 
 abbrev pub NoPairs : Version → ℕ → List ℕ → Refusal → Type 0
-NoPairs v n = InEach (NoPair v) (SpellsPair NoLegacy v) n
+NoPairs v n = InEach (NoPair v) (SpellsPair Legacy v) n
 
 -- The bytes begin with pairs, so many at most, which have no room in a heap.
 pub record HasNoRoom (v : Version) (announced : ℕ) (bytes : List ℕ) : Type 0 where
@@ -55,7 +56,7 @@ pub record HasNoRoom (v : Version) (announced : ℕ) (bytes : List ℕ) : Type 0
   pub rest : List ℕ
   pub joined : bytes ≡ front ++ rest
   pub enough : length pairs ≤ announced
-  pub spelled : Each (SpellsPair NoLegacy v) front pairs
+  pub spelled : Each (SpellsPair Legacy v) front pairs
   pub full : 4294967295 < document_room pairs
 
 -- the same behind their number

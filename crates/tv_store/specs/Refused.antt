@@ -2,7 +2,8 @@
 use Rattle.std.specs.Prelude.{◌≡◌, ◌≤◌, ℕ, List, ◌++◌, length}
 use Rattle.tv_base.specs.Number.{VNum}
 use Rattle.tv_base.specs.Parts.{Each}
-use Rattle.tv_value.specs.Spelling.{SpellsPair, NoLegacy}
+use Rattle.tv_legacy.specs.Legacy.{Legacy}
+use Rattle.tv_value.specs.Spelling.{SpellsPair}
 use Rattle.tv_value.specs.Tree.{Document}
 use Rattle.tv_value.specs.Version.{Version}
 
@@ -15,4 +16,4 @@ pub record Begun (v : Version) (whole : List ℕ) (pairs : Document) : Type 0 wh
   pub joined : whole ≡ number ++ (front ++ rest)
   pub counted : VNum number announced
   pub enough : length pairs ≤ announced
-  pub spelled : Each (SpellsPair NoLegacy v) front pairs
+  pub spelled : Each (SpellsPair Legacy v) front pairs

@@ -6,14 +6,15 @@ ghost use Rattle.tv_base.specs.ReadsAs.{Known, TakesMost};
 ghost use Rattle.tv_base.specs.Stop.{Counts};
 ghost use Rattle.tv_doc.specs.Document.{document_of};
 ghost use Rattle.tv_doc.specs.Room.{document_room};
+ghost use Rattle.tv_legacy.specs.Legacy.{Legacy};
 ghost use Rattle.tv_reader.specs.Error.{store_stop};
-ghost use Rattle.tv_reader.specs.Typed.{IsRefusal};
+ghost use Rattle.tv_reader.specs.Error.{IsRefusal};
 ghost use Rattle.tv_reader.specs.Version.{version_of};
 ghost use Rattle.tv_reader.specs.declared.error.DeserializeError.{DeserializeError};
 ghost use Rattle.tv_reader.specs.declared.error.DeserializeError.TheVariants.{CorruptedValue, HeapFull};
 ghost use Rattle.tv_store.specs.Documents.{BeginsWith, Answers, NoDocument, HasNoRoom, ShowsRefusal, IsReadingError};
 ghost use Rattle.tv_value.specs.Fault.{Refusal};
-ghost use Rattle.tv_value.specs.Spelling.{SpellsDocument, NoLegacy};
+ghost use Rattle.tv_value.specs.Spelling.{SpellsDocument};
 ghost use Rattle.tv_value.specs.Tree.{Document};
 
 use crate::error::DeserializeError;
@@ -24,7 +25,7 @@ use tv_doc::document::CompactDoc;
 pub use tv_reader::version::DocStoreVersion;
 
 /// Reads a document, however the source cuts its bytes, and takes no byte behind it. Values of every type are read, to any
-/// depth, but for legacy objects, which are refused as `LegacyJson`.
+/// depth, and objects as older stores hold them.
 ///
 /// Errors, the first fault in reading order: `CorruptedValue` where the bytes spell no document, `TypeMismatch` where in a key's
 /// place stands a value that isn't a text, `HeapFull` where the pairs so far need more room than 4294967295 bytes, `Io` where
@@ -39,7 +40,7 @@ pub fn read_document<S: ByteSource>(
     ensures found { S.tells source.old → IfOk result (λ d. BeginsWith (version_of version) (S.left source.old) (S.left source.new) (document_of d)) }
 
     // wherever a front spells a document that has room, that one is answered
-    ensures only { Known S.tells S.left source.old → (d : Document) (front rest : List ℕ) → S.left source.old ≡ front ++ rest → SpellsDocument NoLegacy (version_of version) front d → document_room d ≤ 4294967295 → Answers result d rest (S.left source.new) }
+    ensures only { Known S.tells S.left source.old → (d : Document) (front rest : List ℕ) → S.left source.old ≡ front ++ rest → SpellsDocument Legacy (version_of version) front d → document_room d ≤ 4294967295 → Answers result d rest (S.left source.new) }
 
     // refusals of the bytes are true of them, and others don't come
     ensures fault { Known S.tells S.left source.old → (e : DeserializeError) (r : Refusal) → IsErrOf result e → IsRefusal e r → NoDocument (version_of version) (S.left source.old) r }

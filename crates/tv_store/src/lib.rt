@@ -5,6 +5,7 @@ pub mod de;
 pub mod error;
 pub mod laws;
 mod pairs;
+pub mod pairs_given;
 pub mod se;
 mod serializers;
 mod spelling;
@@ -12,6 +13,7 @@ mod value_writer;
 
 pub use de::{DocStoreVersion, read_document};
 pub use error::{DeserializeError, SerializeError, ValueType};
+pub use pairs_given::DocumentDeserialize;
 pub use se::{
     BinaryArraySerializer, BinaryDocumentSerializer, BinaryObjectSerializer, BinaryValueSerializer,
 };

@@ -3,29 +3,25 @@
 ghost use Rattle.std.specs.Prelude.{◌≡◌, ◌≤◌, ◌-◌, ◌^◌, IfOk, IsErrOf, string_bytes};
 ghost use Rattle.tv_base.specs.declared.cause.Cause.TheVariants.{TooLong};
 ghost use Rattle.tv_doc.specs.Document.{Adds};
-ghost use Rattle.tv_reader.specs.Error.{TakesBy};
 ghost use Rattle.tv_reader.specs.Finds.{Finds};
 ghost use Rattle.tv_reader.specs.Trees.{NoValue};
 ghost use Rattle.tv_reader.specs.Version.{version_of};
 ghost use Rattle.tv_reader.specs.declared.error.DeserializeError.TheVariants.{CorruptedValue, HeapFull};
 ghost use Rattle.tv_store.specs.Documents.{NoDocument};
 ghost use Rattle.tv_store.specs.Pairs.{AddsPair, taken_tree, SpellsTaken, SpellsTakenPair, SpellsPairs, SpellsRead, NoPair, NoPairs, HasNoRoom, DocumentHasNoRoom};
-ghost use Rattle.tv_store.specs.Reading.{field_at};
 
 use crate::error::{DeserializeError, addition_error};
 use std::alloc::Global;
-use tv_base::take::{take_text, take_u32, take_u64, take_vint};
-use tv_base::{ByteSource, Cause};
+use tv_base::ByteSource;
+use tv_base::take::{take_text, take_u64, take_vint};
 use tv_doc::add_error::AddError;
 use tv_doc::document::CompactDoc;
+use tv_reader::fields::take_field;
 use tv_reader::kinds::take_kind;
 use tv_reader::trees::take_behind;
 use tv_reader::{DocStoreVersion, ValueType};
 use tv_value::field::Field;
 use tv_value::owned_value::OwnedValue;
-
-/// The largest field number in a document.
-const LARGEST_FIELD: u32 = 65535;
 
 /// The texts of a document are taken into one buffer, which has this room at first, in bytes.
 const TEXT_ROOM: usize = 64;
@@ -36,20 +32,6 @@ pub(crate) enum Taken {
     Text,
     U64(u64),
     Other(OwnedValue),
-}
-
-#[tactic(auto, using(tv_base::proofs::TakeSteps::Taken_then), unfolding(crate::specs::Reading::field_at))]
-fn take_field<S: ByteSource>(source: &mut S, count: &mut u64) -> Result<u32, DeserializeError>
-    ensures takes { TakesBy S.tells S.left S.faults source.old count.old source.new count.new (λ x. x) result field_at }
-    ensures too_long { IsErrOf result (CorruptedValue TooLong) → count.new ≡ 2 ^ 64 - 1 }
-    ensures roomy { ¬ IsErrOf result HeapFull }
-    ensures small { IfOk result (λ field. field ≤ 65535) }
-{
-    let field = take_u32(source, count)?;
-    if field > LARGEST_FIELD {
-        return Err(DeserializeError::CorruptedValue(Cause::FieldNumber(field)));
-    }
-    Ok(field)
 }
 
 fn take_value<S: ByteSource>(

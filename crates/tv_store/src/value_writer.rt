@@ -12,7 +12,7 @@ ghost use Rattle.tv_store.specs.Children.{child_count};
 ghost use Rattle.tv_store.specs.Stored.{leaf_written, tree_written};
 ghost use Rattle.tv_value.specs.Lent.{leaf_of, nested_tree};
 ghost use Rattle.tv_value.specs.PreTokenized.{text_of, tokens_left, tokens_of};
-ghost use Rattle.tv_value.specs.Short.{short_token, short_tokenized, short_leaf, short, IsValue};
+ghost use Rattle.tv_value.specs.Short.{short_token, short_tokenized, short_leaf, short, short_elements, short_entries, IsValue, AreElements, AreEntries};
 ghost use Rattle.tv_value.specs.TokenRef.{ref_of};
 ghost use Rattle.tv_value.specs.Tree.{elements, entries, element_count, entry_count};
 ghost use Rattle.tv_value.specs.Version.{V2};
@@ -28,7 +28,7 @@ use tv_base::write::{
     write_all, write_bool, write_sized, write_text, write_u8, write_u128, write_vint,
 };
 use tv_value::leaf::ReferenceValueLeaf;
-use tv_value::nested::{Nested, NestedValue, lend};
+use tv_value::nested::{Lent, Nested, NestedValue, lend};
 use tv_value::pre_tokenized::{PreTokenizedStr, TokenIter, TokenRef};
 use tv_value::value::Value;
 
@@ -216,6 +216,7 @@ fn object_count<N: Nested>(members: N::ObjectIter) -> u64
 }
 
 // How many children a value has.
+#[inline]
 fn children<N: Nested>(value: NestedValue<'_, N>) -> u64
     requires { IsValue (nested_tree N.array_rest N.object_rest value) }
     ensures { result ≡ child_count (nested_tree N.array_rest N.object_rest value.entry) }
@@ -227,50 +228,62 @@ fn children<N: Nested>(value: NestedValue<'_, N>) -> u64
     }
 }
 
-// How many children a value has that is shown. Only a second one is walked, since the shown one is still to be written.
-fn children_of<N: Nested>(item: &N, shown: &NestedValue<'_, N>) -> u64
-    requires same { nested_tree N.array_rest N.object_rest shown.now ≡ N.tree item.now }
-    requires valid { IsValue (N.tree item.now) }
-    ensures { result ≡ child_count (N.tree item.now) }
+// A value: its code, and what it holds. Of an array or an object the children are counted first, on a walk of their own. The
+// commonest leaves are written as they are lent, without standing in memory before.
+#[cycle(values)]
+fn write_tree<K: ByteSink, N: Nested>(sink: &mut K, value: &N) -> Result<(), io::ErrorKind>
+    requires { IsValue (N.tree value.now) }
+    ensures { Writes K.tells K.held K.faults sink.old sink.new result (short V2 (N.tree value.now)) }
 {
-    match shown {
-        NestedValue::Leaf(_) => 0,
-        _ => children(item.as_nested()),
+    match value.as_nested() {
+        NestedValue::Leaf(ReferenceValueLeaf::Str(text)) => write_coded_text(sink, TEXT_CODE, text),
+        NestedValue::Leaf(ReferenceValueLeaf::U64(number)) => {
+            write_coded_u64(sink, U64_CODE, number)
+        }
+        NestedValue::Leaf(ReferenceValueLeaf::I64(number)) => {
+            write_coded_i64(sink, I64_CODE, number)
+        }
+        NestedValue::Leaf(leaf) => write_leaf(sink, &leaf),
+        NestedValue::Array(items) => {
+            write_coded_count(sink, ARRAY_CODE, children(value.as_nested()))?;
+            write_items::<K, N>(sink, items)
+        }
+        NestedValue::Object(members) => {
+            write_coded_count(sink, OBJECT_CODE, 2 * children(value.as_nested()))?;
+            write_members::<K, N>(sink, members)
+        }
     }
 }
 
-// A value of which the children were counted: its code, the announced number, and each child.
-fn write_tree<K: ByteSink, N: Nested>(
+// The values that are left of an array, in order.
+#[cycle(values)]
+fn write_items<K: ByteSink, N: Nested>(
     sink: &mut K,
-    count: u64,
-    value: NestedValue<'_, N>,
+    items: N::ArrayIter,
 ) -> Result<(), io::ErrorKind>
-    requires count { count ≡ child_count (nested_tree N.array_rest N.object_rest value) }
-    requires valid { IsValue (nested_tree N.array_rest N.object_rest value) }
-    ensures { Writes K.tells K.held K.faults sink.old sink.new result (short V2 (nested_tree N.array_rest N.object_rest value.entry)) }
+    requires { AreElements (elements (N.array_rest items)) }
+    ensures { Writes K.tells K.held K.faults sink.old sink.new result (short_elements V2 (elements (N.array_rest items))) }
 {
-    match value {
-        NestedValue::Leaf(leaf) => write_leaf(sink, &leaf),
-        NestedValue::Array(items) => {
-            write_coded_count(sink, ARRAY_CODE, count)?;
-            for item in items {
-                let shown = item.as_nested();
-                let below = children_of(&item, &shown);
-                write_tree(sink, below, shown)?;
-            }
-            Ok(())
-        }
-        NestedValue::Object(members) => {
-            write_coded_count(sink, OBJECT_CODE, 2 * count)?;
-            for (key, item) in members {
-                write_coded_text(sink, TEXT_CODE, key.as_str())?;
-                let shown = item.as_nested();
-                let below = children_of(&item, &shown);
-                write_tree(sink, below, shown)?;
-            }
-            Ok(())
-        }
+    for item in items {
+        write_tree(sink, &item)?;
     }
+    Ok(())
+}
+
+// The keys and values that are left of an object, in order.
+#[cycle(values)]
+fn write_members<K: ByteSink, N: Nested>(
+    sink: &mut K,
+    members: N::ObjectIter,
+) -> Result<(), io::ErrorKind>
+    requires { AreEntries (entries (N.object_rest members)) }
+    ensures { Writes K.tells K.held K.faults sink.old sink.new result (short_entries V2 (entries (N.object_rest members))) }
+{
+    for (key, item) in members {
+        write_coded_text(sink, TEXT_CODE, key.as_str())?;
+        write_tree(sink, &item)?;
+    }
+    Ok(())
 }
 
 /// Writes a value of any kind: its code, and what it holds. It takes no memory of its own.
@@ -285,7 +298,14 @@ pub(crate) fn write_value<'a, K: ByteSink, V: Value<'a>>(
 {
     match lend(value) {
         NestedValue::Leaf(leaf) => write_leaf(sink, &leaf),
-        nested => write_tree(sink, children(lend(value)), nested),
+        NestedValue::Array(items) => {
+            write_coded_count(sink, ARRAY_CODE, children(lend(value)))?;
+            write_items::<K, Lent<'a, V>>(sink, items)
+        }
+        NestedValue::Object(members) => {
+            write_coded_count(sink, OBJECT_CODE, 2 * children(lend(value)))?;
+            write_members::<K, Lent<'a, V>>(sink, members)
+        }
     }
 }
 

@@ -6,7 +6,7 @@ use Rattle.tv_value.specs.Tree.{Leaf, Tree, leaf, array, object, Elements, no_el
 use Rattle.tv_base.specs.Number.{VNum}
 use Rattle.tv_value.specs.Version.{Version, entry_total}
 use Rattle.tv_value.specs.Spelling.{leaf_code, Key, Spells, SpellsElements, SpellsEntries, SpellsPair, SpellsDocument, NoLegacy}
-use Rattle.tv_value.specs.Fault.{Refusal, Corrupt, LeafFault, FieldFault, field_ends, field_large, SmallField, ValueFault, value_ends, unknown_code, float_code, in_leaf, in_legacy, in_count, in_element, in_entry_count, odd_count, in_entry_key, in_entry, PairFault, DocumentFault, NoLegacyFault, AnyLegacy}
+use Rattle.tv_value.specs.Fault.{Refusal, Corrupt, LeafFault, FieldFault, field_ends, field_large, SmallField, ValueFault, value_ends, unknown_code, float_code, in_leaf, in_legacy, in_count, in_element, in_entry_count, odd_count, in_entry_key, in_entry, PairFault, DocumentFault, NoLegacyFault}
 use Rattle.tv_base.proofs.Numbers.{agree_number, agree_fixed, one_number, length-fixed}
 use Rattle.tv_value.proofs.Leaves.{agree_key, leaf_code_small, total_same}
 use Rattle.tv_value.proofs.Trees.{agree_tree, one_pair}
@@ -184,7 +184,3 @@ module _ (Legacy : List ℕ → Entries → Type 0) (LegacyFault : List ℕ → 
 
 pub no_legacy_excludes : (es : Entries) → Excludes NoLegacyFault (λ b. NoLegacy b es)
 no_legacy_excludes es = record { excludes = λ whole a x c f p e. f }
-
--- where nothing is a legacy object, any fault of one excludes it
-pub any_legacy_excludes : (es : Entries) → Excludes AnyLegacy (λ b. NoLegacy b es)
-any_legacy_excludes es = record { excludes = λ whole a x c f p e. p }

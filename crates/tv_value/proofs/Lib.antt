@@ -1,4 +1,5 @@
 pub mod Addresses
+pub mod AddressBytes
 pub mod Leaves
 pub mod Trees
 pub mod ExcludingLeaves
@@ -13,3 +14,4 @@ pub mod InPlace
 pub mod TokenSteps
 pub mod Payloads
 pub mod LentJson
+pub mod MovedJson

@@ -12,7 +12,7 @@ use Rattle.tv_base.proofs.Single.{Single, single_then, single_each, single_numbe
 use Rattle.tv_value.specs.Tree.{Tree, Elements, Entries, element_count, entry_count}
 use Rattle.tv_value.specs.Version.{Version, entry_total}
 use Rattle.tv_value.specs.Spelling.{Key, Spells, SpellsElements, SpellsEntries, SpellsPair}
-use Rattle.tv_value.specs.Fault.{Refusal, corrupted, Corrupt, corrupt, KeyFault, LeafFault, FieldFault, SmallField, ValueFault, value_ends, unknown_code, float_code, in_leaf, in_legacy, in_count, in_element, in_entry_count, odd_count, in_entry_key, in_entry, PairFault, DocumentFault, NoLegacyFault, AnyLegacy}
+use Rattle.tv_value.specs.Fault.{Refusal, corrupted, Corrupt, corrupt, KeyFault, LeafFault, FieldFault, SmallField, ValueFault, value_ends, unknown_code, float_code, in_leaf, in_legacy, in_count, in_element, in_entry_count, odd_count, in_entry_key, in_entry, PairFault, DocumentFault, NoLegacyFault}
 use Rattle.tv_value.proofs.Leaves.{agree_key}
 use Rattle.tv_value.proofs.Trees.{agree_elements, agree_entries, one_pair}
 use Rattle.tv_value.proofs.ExcludingLeaves.{leaf_fault_code, key_excludes, excludes_corrupt}
@@ -281,7 +281,3 @@ no_legacy_single whole c d f g = absurd f
 
 pub single_no_legacy : Single NoLegacyFault
 single_no_legacy = record { single = no_legacy_single }
-
--- and where each legacy object is refused, it is for one cause
-pub single_any_legacy : Single AnyLegacy
-single_any_legacy = record { single = λ whole c d f g. f ∙ sym g }

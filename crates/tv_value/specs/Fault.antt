@@ -2,7 +2,7 @@
 use Rattle.std.specs.Prelude.{◌≡◌, ◌≢◌, ℕ, ◌<◌, ◌≤◌, ◌⊎◌, List, [], ◌∷◌, ◌++◌, length, ℤ, pos, negsuc, ◌<ℤ◌, FitsSigned}
 use Rattle.std.specs.Int.{w64, cast_unsigned}
 use Rattle.tv_base.specs.declared.cause.Cause.{Cause}
-use Rattle.tv_base.specs.declared.cause.Cause.TheVariants.{UnexpectedEnd, UnknownTypeCode, FloatCode, UnknownExtCode, BadBool, OddObject, FieldNumber, DateRange, LegacyJson}
+use Rattle.tv_base.specs.declared.cause.Cause.TheVariants.{UnexpectedEnd, UnknownTypeCode, FloatCode, UnknownExtCode, BadBool, OddObject, FieldNumber, DateRange}
 use Rattle.tv_base.specs.Number.{VNum, Fixed}
 use Rattle.tv_base.specs.Parts.{Text}
 use Rattle.tv_base.specs.PartFault.{InThen, InEach, NumberFault, BytesFault, SizedFault, TextFault}
@@ -115,7 +115,3 @@ module _ (Legacy : List ℕ → Entries → Type 0) (LegacyFault : List ℕ → 
 -- no fault of a legacy object
 abbrev pub NoLegacyFault : List ℕ → Cause → Type 0
 NoLegacyFault whole cause = ⊥
-
--- Whatever follows the code of a legacy object is taken for a fault, of one cause.
-abbrev pub AnyLegacy : List ℕ → Cause → Type 0
-AnyLegacy whole cause = cause ≡ LegacyJson

@@ -9,6 +9,7 @@ pub mod json;
 pub mod json_error;
 pub mod laws;
 pub mod leaf;
+mod moved;
 pub mod nested;
 pub mod owned_value;
 pub mod pre_tokenized;

@@ -57,6 +57,18 @@ pub struct Lent<'a, V: Value<'a>> {
     marker: PhantomData<&'a ()>,
 }
 
+impl<'a, V: Value<'a>> Lent<'a, V> {
+    /// The value, lent.
+    pub fn new(value: V) -> Lent<'a, V>
+        ensures { result.value ≡ value }
+    {
+        Lent {
+            value,
+            marker: PhantomData,
+        }
+    }
+}
+
 impl<'a, V: Value<'a>> Drop for Lent<'a, V> {
     fn drop(self) {
         let Lent {
@@ -92,6 +104,7 @@ impl<'a, V: Value<'a>> Iterator for LentArray<'a, V> {
         (0, None)
     }
 
+    #[inline]
     fn next(&mut self) -> Option<Lent<'a, V>> {
         match self.items.next() {
             Some(value) => Some(Lent {
@@ -129,6 +142,7 @@ impl<'a, V: Value<'a>> Iterator for LentObject<'a, V> {
         (0, None)
     }
 
+    #[inline]
     fn next(&mut self) -> Option<(&'a str, Lent<'a, V>)> {
         match self.members.next() {
             Some((key, value)) => Some((
@@ -164,12 +178,14 @@ impl<'a, V: Value<'a>> Nested for Lent<'a, V> {
 
     ghost object_steps = { λ s t r steps. steps };
 
+    #[inline]
     fn as_nested(&self) -> NestedValue<'_, Lent<'a, V>> {
         lend(&self.value)
     }
 }
 
 /// What a value is, with its children lent the same way. (Own.)
+#[inline]
 pub fn lend<'a, V: Value<'a>>(value: &V) -> NestedValue<'a, Lent<'a, V>>
     ensures { nested_tree (λ s. V.array_rest s.items) (λ s. V.object_rest s.members) result ≡ V.tree value.now }
 {

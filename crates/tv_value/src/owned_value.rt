@@ -5,9 +5,10 @@ ghost use Rattle.std.specs.Iterator.{YieldsFirstRef, YieldsFirstBy, item_count};
 
 use crate::copy::{owned_leaf, owned_of};
 use crate::date_time::DateTime;
-use crate::json::{LentJson, has_float};
+use crate::json::has_float;
 use crate::json_error::JsonError;
 use crate::leaf::ReferenceValueLeaf;
+use crate::moved::moved;
 use crate::nested::lend;
 use crate::pre_tokenized::PreTokenizedStr;
 use crate::same::is_same;
@@ -161,7 +162,7 @@ impl OwnedValue {
     }
 
     /// The value that a JSON value is: each kind as itself, a number as `I64` where it fits, else as `U64`, and an object by byte
-    /// order of its keys. Errors: `FloatNumber` exactly where a number in it isn't whole or doesn't fit 64 bits, else `Memory`
+    /// order of its keys. Texts are taken over as they are. Errors: `FloatNumber` exactly where a number in it isn't whole or doesn't fit 64 bits, else `Memory`
     /// where memory was refused.
     pub fn from_json(alloc: Global, json: JsonValue) -> Result<OwnedValue, JsonError>
         ensures { AnswersJson (data_of json) result }
@@ -169,7 +170,7 @@ impl OwnedValue {
         if has_float(&json) {
             return Err(JsonError::FloatNumber);
         }
-        let owned = OwnedValue::from_value(alloc, &LentJson::new(&json))?;
+        let owned = moved(alloc, json)?;
         Ok(owned)
     }
 

@@ -22,6 +22,10 @@ pub fn push_number(bytes: &mut Vec<u8>, number: u64) -> Result<(), AllocError>
         bytes.push(number as u8 + 128)?;
         return Ok(());
     }
+    if number < 16384 {
+        bytes.extend_from_slice(&[(number % 128) as u8, (number / 128) as u8 + 128])?;
+        return Ok(());
+    }
     let (spelling, len) = VInt(number).spelling();
     bytes.extend_from_slice(&spelling[..len])
 }

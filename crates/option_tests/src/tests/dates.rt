@@ -1,6 +1,6 @@
 use std::alloc::{AllocError, Global};
 use std::test::Fail;
-use tv_date::{DateError, DateTime};
+use tv_date::{DateError, DateTime, DateTimePrecision};
 
 // Whether the text is of the date so many nanoseconds after 1970.
 fn is_read(text: &str, nanoseconds: i64) -> bool {
@@ -46,4 +46,19 @@ fn dates_are_printed(rt: HostRuntime) -> Result<(), Fail> {
     assert!(rt; is_printed(alloc, 401116800000000000, "1982-09-17T13:20:00Z")?);
     assert!(rt; is_printed(alloc, -500000000, "1969-12-31T23:59:59.5Z")?);
     Ok(())
+}
+
+#[test]
+fn moments(rt: HostRuntime) {
+    let date = DateTime::from_timestamp_nanos(-1500000000);
+    let cut = date.truncate(DateTimePrecision::Seconds);
+    assert_eq!(rt; cut.into_timestamp_nanos(), -1000000000);
+    assert!(rt; date < cut);
+    assert_eq!(rt; date.truncate(DateTimePrecision::Milliseconds), date);
+    let last = DateTime::from_timestamp_nanos(9223372036854775000);
+    assert_eq!(rt;
+        DateTime::from_timestamp_micros(9223372036854775),
+        Some(last)
+    );
+    assert_eq!(rt; DateTime::from_timestamp_micros(9223372036854776), None);
 }

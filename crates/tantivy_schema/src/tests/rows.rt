@@ -183,8 +183,8 @@ fn faults_have_their_true_cause(rt: HostRuntime) {
         // an object that announces one key or value, and one with a number as its key
         (&[0x81, 0, 0, 0, 0, 0x0d, 0x81], Cause::OddObject),
         (&[0x81, 0, 0, 0, 0, 0x0d, 0x82, 0x06], Cause::FloatCode),
-        // a legacy object
-        (&[0x81, 0, 0, 0, 0, 0x08, 0x7b], Cause::LegacyJson),
+        // a legacy object that isn't closed
+        (&[0x81, 0, 0, 0, 0, 0x08, 0x7b], Cause::UnexpectedEnd),
         // an array and an object of more values than there are
         (
             &[

@@ -6,7 +6,7 @@ use Rattle.tv_reader.specs.Version.{version_of}
 use Rattle.tv_reader.proofs.AgreeKinds.{kind_agrees}
 use Rattle.tv_reader.proofs.BehindKinds.{code_value, leaf_type}
 use Rattle.tv_reader.proofs.Finding.{finds_part_fails, finds_short_then}
-use Rattle.tv_reader.proofs.TreeSteps.{value_then, leaf_found, leaf_fails, legacy_refused, array_found, array_fails, array_count_fails, items_more, items_fail, object_found, object_fails, object_count_fails, member_found, member_key_fails, member_value_fails, members_more, members_fail}
+use Rattle.tv_reader.proofs.TreeSteps.{value_then, leaf_found, leaf_fails, legacy_found, legacy_fails, array_found, array_fails, array_count_fails, items_more, items_fail, object_found, object_fails, object_count_fails, member_found, member_key_fails, member_value_fails, members_more, members_fail}
 use Rattle.tv_reader.proofs.trees.+trees.Goals as goal
 
 pub take_tree-returns-in_err-kind-clause-finds : goal.take_tree-returns-in_err-kind-clause-finds
@@ -50,8 +50,14 @@ pub take_behind-returns-in_ok-members-in-Object-clause-finds :
 take_behind-returns-in_ok-members-in-Object-clause-finds g t c =
     rw c.in-Object.is (object_found c.args.version g.met.S.ByteSource.are_bytes c.in_ok-announced-in-Object.ensures.takes c.in_ok-members-in-Object.ensures.finds)
 
-pub take_behind-returns-in-JSONObject-clause-finds : goal.take_behind-returns-in-JSONObject-clause-finds
-take_behind-returns-in-JSONObject-clause-finds g t c = rw c.in-JSONObject.is (legacy_refused _ _ _ _ _ (version_of c.args.version))
+pub take_behind-returns-in_err-value-in-JSONObject-clause-finds : goal.take_behind-returns-in_err-value-in-JSONObject-clause-finds
+take_behind-returns-in_err-value-in-JSONObject-clause-finds g t c =
+    let p = err_from_is_err_and c.from_residual-in_err-value-in-JSONObject.result c.from_residual-in_err-value-in-JSONObject.ensures.1 in
+    rw (p.1, p.2, c.in-JSONObject.is) (legacy_fails (version_of c.args.version) g.met.S.ByteSource.are_bytes c.in_err-value-in-JSONObject.ensures.takes)
+
+pub take_behind-returns-in_ok-value-in-JSONObject-clause-finds : goal.take_behind-returns-in_ok-value-in-JSONObject-clause-finds
+take_behind-returns-in_ok-value-in-JSONObject-clause-finds g t c =
+    rw c.in-JSONObject.is (legacy_found (version_of c.args.version) g.met.S.ByteSource.are_bytes c.in_ok-value-in-JSONObject.ensures.takes)
 
 pub take_behind-returns-in_err-value-in_default-clause-finds : goal.take_behind-returns-in_err-value-in_default-clause-finds
 take_behind-returns-in_err-value-in_default-clause-finds g t c =

@@ -1,9 +1,7 @@
-use Rattle.tv_value.specs.Fault.{AnyLegacy}
-use Rattle.tv_value.specs.Spelling.{NoLegacy}
-use Rattle.tv_value.proofs.ExcludingTrees.{any_legacy_excludes}
-use Rattle.tv_value.proofs.SingleTrees.{single_document, single_any_legacy}
-use Rattle.tv_value.proofs.Trees.{no_legacy_reads}
+use Rattle.tv_legacy.specs.Legacy.{Legacy, LegacyFault}
+use Rattle.tv_legacy.proofs.Unique.{one_legacy, legacy_excludes, single_legacy}
+use Rattle.tv_value.proofs.SingleTrees.{single_document}
 use Rattle.tv_store.proofs.laws.refusals_are_unique.Goals as goal
 
 pub returns : goal.returns
-returns c = λ v bytes r s f g. (single_document NoLegacy AnyLegacy v no_legacy_reads any_legacy_excludes single_any_legacy).single bytes r s f g
+returns c = λ v bytes r s f g. (single_document Legacy LegacyFault v one_legacy legacy_excludes single_legacy).single bytes r s f g

@@ -2,7 +2,7 @@ use Rattle.std.proofs.Common.{◌∙◌, ap, Some}
 use Rattle.std.specs.Int.{to_be_bytes, w128}
 use Rattle.std.specs.Net.Addr.{segments_of}
 use Rattle.tv_term.specs.Key.{coded}
-use Rattle.tv_term.proofs.Addresses.{ipv6_bits-again, segments_of-ipv6_bits}
+use Rattle.tv_value.proofs.AddressBytes.{ipv6_bits-again, segments_of-ipv6_bits}
 use Rattle.tv_term.proofs.Written.{eight_again, signed_read, truth_read, cut_behind_zero-path, json_type_read, json_path_read}
 use Rattle.tv_term.proofs.laws.written_values_are_read.Goals as goal
 

@@ -1,0 +1,5 @@
+//! Tests of JSON texts and values.
+#![tactic(auto)]
+
+#[cfg(test)]
+mod tests;

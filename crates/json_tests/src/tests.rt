@@ -1,0 +1,4 @@
+//! Tests over the public calls.
+
+mod named;
+mod printed_lines;

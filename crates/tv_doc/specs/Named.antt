@@ -1,0 +1,41 @@
+-- Documents by the names of their fields.
+use Rattle.std.specs.Prelude.{◌≡◌, ℕ, List, [], ◌∷◌, map, Option, Some, None, slice_get, string_bytes}
+use Rattle.std.specs.BTreeMap.{insert_entry}
+use Rattle.std.specs.Cmp.Lexicographic.{slice_cmp}
+use Rattle.std.specs.Ordering.{nat_cmp}
+use Rattle.serde_json.specs.Data.{object}
+use Rattle.serde_json.specs.Written.{compact_text}
+use Rattle.tv_value.specs.Owned.{owned_tree}
+use Rattle.tv_value.specs.Tree.{Tree, Document}
+use Rattle.tv_schema.specs.Entry.{Entry}
+use Rattle.tv_json.specs.Named.{named_json}
+use Rattle.tv_doc.specs.Grouped.{IsGrouped}
+use Rattle.tv_doc.specs.declared.named.NamedFieldDocument.{NamedFieldDocument}
+
+-- names with their values, in byte order of the names
+abbrev pub Named : Type 0
+Named = List (List ℕ × List Tree)
+
+-- the names of a schema's fields, in the order of their numbers
+abbrev pub field_names : List Entry → List (List ℕ)
+field_names schema = map (λ entry. entry.name) schema
+
+-- the values of a field go under its name, those of a field without a name are left out
+abbrev pub put_under : Option (List ℕ) → List Tree → Named → Named
+put_under None ts named = named
+put_under (Some name) ts named = insert_entry (slice_cmp nat_cmp) named name ts
+
+abbrev pub by_name : List (List ℕ) → List (ℕ × List Tree) → Named → Named
+by_name names [] named = named
+by_name names (g ∷ gs) named = by_name names gs (put_under (slice_get names g.0) g.1 named)
+
+-- for each name of a field that has a value, the list of its values in order
+abbrev pub IsNamed : List (List ℕ) → Document → Named → Type 0
+IsNamed names d named = (groups : List (ℕ × List Tree)) × IsGrouped d groups × (named ≡ by_name names groups [])
+
+-- the text of the object of these names and the arrays of their values, without spaces
+abbrev pub IsJsonText : List (List ℕ) → Document → List ℕ → Type 0
+IsJsonText names d text = (named : Named) × IsNamed names d named × (text ≡ compact_text (object (named_json named)))
+
+abbrev pub named_of : NamedFieldDocument → Named
+named_of n = map (λ e. (string_bytes e.0, map owned_tree e.1.items)) n.0.entries

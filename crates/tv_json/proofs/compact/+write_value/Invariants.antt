@@ -1,0 +1,46 @@
+use Rattle.std.proofs.Common.{◌≡◌, ◌++◌, ◌<◌, ◌≤◌}
+use Rattle.std.specs.List.{AllByRecursion}
+use Rattle.tv_value.specs.Size.{size, elements_size, entries_size}
+use Rattle.tv_value.specs.Tree.{elements, entries}
+use Rattle.tv_json.specs.JsonOf.{elements_json}
+use Rattle.tv_json.specs.Rising.{rest_of_array, rest_of_object, listed_json, pairs_json}
+use Rattle.tv_json.proofs.compact.+write_value.Given as goal
+
+abbrev pub decreases-write_by_key : goal.decreases-write_by_key
+decreases-write_by_key g l = entries_size (entries (g.N.Nested.object_rest l.members))
+
+abbrev pub decreases-write_items : goal.decreases-write_items
+decreases-write_items g l = elements_size (elements (g.N.Nested.array_rest l.items))
+
+abbrev pub decreases-write_members : goal.decreases-write_members
+decreases-write_members g l = entries_size (entries (g.N.Nested.object_rest l.members))
+
+abbrev pub decreases-write_value : goal.decreases-write_value
+decreases-write_value g l = size (g.N.Nested.tree l.value.now)
+
+abbrev pub invariant-write_by_key-loop-key : goal.invariant-write_by_key-loop-key
+invariant-write_by_key-loop-key g l = record {
+  tokens : l.json.out.tokens ++ rest_of_object (pairs_json g.N.Nested.tree l.key-iterator) ≡ l.initial.json.out.tokens ++ rest_of_object (pairs_json g.N.Nested.tree l.initial.key-iterator);
+  before : l.json.out.before ≡ l.initial.json.out.before;
+  smaller : AllByRecursion (λ pair. size (g.N.Nested.tree pair.1) < entries_size (entries (g.N.Nested.object_rest l.fn.members))) l.key-iterator;
+}
+
+abbrev pub invariant-write_items-loop-item : goal.invariant-write_items-loop-item
+invariant-write_items-loop-item g l =
+    let rest = elements (g.N.Nested.array_rest l.item-iterator) in
+    let all = elements (g.N.Nested.array_rest l.fn.items) in
+    record {
+      tokens : l.json.out.tokens ++ rest_of_array (elements_json rest) ≡ l.initial.json.out.tokens ++ rest_of_array (elements_json all);
+      before : l.json.out.before ≡ l.initial.json.out.before;
+      left : elements_size rest ≤ elements_size all;
+    }
+
+abbrev pub invariant-write_members-loop-key : goal.invariant-write_members-loop-key
+invariant-write_members-loop-key g l =
+    let rest = entries (g.N.Nested.object_rest l.key-iterator) in
+    let all = entries (g.N.Nested.object_rest l.fn.members) in
+    record {
+      tokens : l.json.out.tokens ++ rest_of_object (listed_json rest) ≡ l.initial.json.out.tokens ++ rest_of_object (listed_json all);
+      before : l.json.out.before ≡ l.initial.json.out.before;
+      left : entries_size rest ≤ entries_size all;
+    }

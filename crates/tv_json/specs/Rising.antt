@@ -1,0 +1,57 @@
+-- Entries whose keys rise in byte order, and the tokens that are written for values.
+use Rattle.std.specs.Prelude.{◌≡◌, ℕ, List, [], ◌∷◌, String, string_bytes, decimal}
+use lib.Chars.{codes}
+use Rattle.std.specs.Cmp.Lexicographic.{slice_cmp}
+use Rattle.std.specs.Ordering.{nat_cmp}
+use Rattle.std.specs.declared.cmp.Ordering.TheVariants.{Less}
+use Rattle.std.specs.declared.alloc.Global.{Global}
+use Rattle.json.specs.Token as json_token
+use Rattle.json.specs.Tree.{json_tokens, items_tokens, members_tokens}
+use Rattle.serde_json.specs.Data as json
+use Rattle.serde_json.specs.Data.{Data, Items, Members}
+use Rattle.serde_json.specs.Written.{outline, items_outline, members_outline}
+use Rattle.tv_value.specs.Tree.{Token, Tree, Entries, no_entries, entry}
+use Rattle.tv_json.specs.JsonOf.{json_of}
+
+-- the first text comes before the second
+abbrev pub Below : List ℕ → List ℕ → Type 0
+Below k l = slice_cmp nat_cmp k l ≡ Less
+
+abbrev pub RiseFrom : List ℕ → Entries → Type 0
+RiseFrom k no_entries = Unit {0}
+RiseFrom k (entry l t es) = Below k l × RiseFrom l es
+
+-- each key is below the next
+abbrev pub KeysRise : Entries → Type 0
+KeysRise no_entries = Unit {0}
+KeysRise (entry k t es) = RiseFrom k es
+
+-- ---- for private clauses
+
+-- the members as the entries stand
+abbrev pub listed_json : Entries → Members
+listed_json no_entries = json.no_members
+listed_json (entry k t es) = json.member k (json_of t) (listed_json es)
+
+-- the members of a map's pairs
+abbrev pub pairs_json : {N : Type 0} → (N → Tree) → List (String Global × N) → Members
+pairs_json tree [] = json.no_members
+pairs_json tree (p ∷ ps) = json.member (string_bytes p.0) (json_of (tree p.1)) (pairs_json tree ps)
+
+-- the tokens of JSON values, of lists and of objects with their closing brackets
+abbrev pub data_tokens : Data → List json_token.Token
+data_tokens d = json_tokens (outline d)
+
+abbrev pub rest_of_array : Items → List json_token.Token
+rest_of_array ds = items_tokens (items_outline ds)
+
+abbrev pub rest_of_object : Members → List json_token.Token
+rest_of_object ms = members_tokens (members_outline ms)
+
+-- the members of a token that are numbers
+abbrev pub counts_tokens : Token → List json_token.Token
+counts_tokens t =
+    json_token.key (codes "offset_from") ∷ json_token.number (decimal t.offset_from)
+    ∷ json_token.key (codes "offset_to") ∷ json_token.number (decimal t.offset_to)
+    ∷ json_token.key (codes "position") ∷ json_token.number (decimal t.position)
+    ∷ json_token.key (codes "position_length") ∷ json_token.number (decimal t.position_length) ∷ []

@@ -1,0 +1,175 @@
+//! Values as JSON values.
+
+ghost use Rattle.std.specs.Prelude.{◌≡◌, IfOk, OnOk};
+ghost use Rattle.serde_json.specs.Data.{no_members, put};
+ghost use Rattle.serde_json.specs.View.{view as data_of, items_view, members_view};
+ghost use Rattle.tv_json.specs.JsonOf.{json_of, leaf_json, count_json, token_json, tokens_json, tokenized_json, elements_json, entries_json};
+ghost use Rattle.tv_value.specs.Lent.{leaf_of, nested_tree};
+ghost use Rattle.tv_value.specs.PreTokenized.{text_of, tokens_of, tokens_left};
+ghost use Rattle.tv_value.specs.TokenRef.{ref_of};
+ghost use Rattle.tv_value.specs.Owned.{owned_tree};
+ghost use Rattle.tv_value.specs.Tree.{Tree, elements, entries};
+
+use crate::leaf_text::{push_address, push_base64, push_date, push_facet};
+use serde_json::{Map, Value as JsonValue};
+use std::alloc::{AllocError, Global};
+use std::convert::AsStr;
+use tv_value::leaf::ReferenceValueLeaf;
+use tv_value::nested::{Lent, Nested, NestedValue};
+use tv_value::owned_value::OwnedValue;
+use tv_value::pre_tokenized::{PreTokenizedStr, TokenIter, TokenRef};
+use tv_value::value::Value;
+
+// Puts a member in.
+fn put_member(
+    alloc: Global,
+    members: &mut Map<String, JsonValue>,
+    key: &str,
+    value: JsonValue,
+) -> Result<(), AllocError>
+    ensures { OnOk result (members_view members.new.entries ≡ put key.now (data_of value) (members_view members.old.entries)) }
+{
+    let name = String::from_str(alloc, key)?;
+    drop(members.insert(name, value)?);
+    Ok(())
+}
+
+fn token_value(alloc: Global, token: TokenRef<'_>) -> Result<JsonValue, AllocError>
+    ensures { IfOk result (λ value. data_of value ≡ token_json (ref_of token.entry)) }
+{
+    let mut members = Map::new(alloc);
+    let text = String::from_str(alloc, token.text)?;
+    put_member(
+        alloc,
+        &mut members,
+        "offset_from",
+        JsonValue::from(token.offset_from as u64),
+    )?;
+    put_member(
+        alloc,
+        &mut members,
+        "offset_to",
+        JsonValue::from(token.offset_to as u64),
+    )?;
+    put_member(
+        alloc,
+        &mut members,
+        "position",
+        JsonValue::from(token.position as u64),
+    )?;
+    put_member(
+        alloc,
+        &mut members,
+        "position_length",
+        JsonValue::from(token.position_length as u64),
+    )?;
+    put_member(alloc, &mut members, "text", JsonValue::String(text))?;
+    Ok(JsonValue::Object(members))
+}
+
+fn token_values(alloc: Global, tokens: TokenIter<'_>) -> Result<Vec<JsonValue>, AllocError>
+    ensures { IfOk result (λ values. items_view values.items ≡ tokens_json (tokens_left tokens.entry)) }
+{
+    let mut values = Vec::new(alloc);
+    for token in tokens {
+        let value = token_value(alloc, token)?;
+        values.push(value)?;
+    }
+    Ok(values)
+}
+
+fn tokenized_value(alloc: Global, content: PreTokenizedStr<'_>) -> Result<JsonValue, AllocError>
+    ensures { IfOk result (λ value. data_of value ≡ tokenized_json (text_of content.entry) (tokens_of content.entry)) }
+{
+    let mut members = Map::new(alloc);
+    let text = String::from_str(alloc, content.text())?;
+    let tokens = token_values(alloc, content.tokens())?;
+    put_member(alloc, &mut members, "text", JsonValue::String(text))?;
+    put_member(alloc, &mut members, "tokens", JsonValue::Array(tokens))?;
+    Ok(JsonValue::Object(members))
+}
+
+fn leaf_value(alloc: Global, leaf: &ReferenceValueLeaf<'_>) -> Result<JsonValue, AllocError>
+    ensures { IfOk result (λ value. data_of value ≡ leaf_json (leaf_of leaf.now)) }
+{
+    let mut text = String::new(alloc);
+    match *leaf {
+        ReferenceValueLeaf::Null => return Ok(JsonValue::Null),
+        ReferenceValueLeaf::U64(number) => return Ok(JsonValue::from(number)),
+        ReferenceValueLeaf::I64(number) => return Ok(JsonValue::from(number)),
+        ReferenceValueLeaf::Bool(truth) => return Ok(JsonValue::Bool(truth)),
+        ReferenceValueLeaf::PreTokStr(content) => return tokenized_value(alloc, content),
+        ReferenceValueLeaf::Str(content) => text.push_str(content)?,
+        ReferenceValueLeaf::Date(date) => push_date(alloc, &mut text, date)?,
+        ReferenceValueLeaf::Facet(path) => push_facet(alloc, &mut text, path)?,
+        ReferenceValueLeaf::Bytes(bytes) => push_base64(&mut text, bytes)?,
+        ReferenceValueLeaf::IpAddr(address) => push_address(&mut text, address)?,
+    }
+    Ok(JsonValue::String(text))
+}
+
+// The JSON value of a value of any depth.
+#[cycle(nested_value)]
+fn nested_value<N: Nested>(alloc: Global, value: &N) -> Result<JsonValue, AllocError>
+    ensures { IfOk result (λ made. data_of made ≡ json_of (N.tree value.now)) }
+{
+    match value.as_nested() {
+        NestedValue::Leaf(leaf) => leaf_value(alloc, &leaf),
+        NestedValue::Array(items) => Ok(JsonValue::Array(item_values::<N>(alloc, items)?)),
+        NestedValue::Object(members) => Ok(JsonValue::Object(member_values::<N>(alloc, members)?)),
+    }
+}
+
+#[cycle(nested_value)]
+fn item_values<N: Nested>(alloc: Global, items: N::ArrayIter) -> Result<Vec<JsonValue>, AllocError>
+    ensures { IfOk result (λ values. items_view values.items ≡ elements_json (elements (N.array_rest items))) }
+{
+    let mut values = Vec::new(alloc);
+    for item in items {
+        let value = nested_value(alloc, &item)?;
+        values.push(value)?;
+    }
+    Ok(values)
+}
+
+#[cycle(nested_value)]
+fn member_values<N: Nested>(
+    alloc: Global,
+    members: N::ObjectIter,
+) -> Result<Map<String, JsonValue>, AllocError>
+    ensures { IfOk result (λ values. members_view values.entries ≡ entries_json (entries (N.object_rest members)) no_members) }
+{
+    let mut values = Map::new(alloc);
+    for (key, member) in members {
+        let value = nested_value(alloc, &member)?;
+        put_member(alloc, &mut values, key.as_str(), value)?;
+    }
+    Ok(values)
+}
+
+/// The JSON value of a value: null, texts, numbers and truth values as themselves; a date as it is printed by RFC 3339, a facet as
+/// the text that names it, bytes by the standard alphabet of base64 with padding, an address of version 4 by that and another by
+/// version 6; a text with its tokens as an object of `text` and `tokens`; arrays and objects by their parts, of equal keys the last.
+/// (Own.) The only error is that memory was refused.
+pub fn to_json_value<'a, V: Value<'a>>(alloc: Global, value: V) -> Result<JsonValue, AllocError>
+    ensures { IfOk result (λ made. data_of made ≡ json_of (V.tree value)) }
+{
+    nested_value(alloc, &Lent::new(value))
+}
+
+/// What has a JSON value. (Own.)
+pub trait ToJsonValue {
+    ghost tree: { Self → Tree };
+
+    /// The JSON value, see the function `to_json_value`. The only error is that memory was refused.
+    fn to_json_value(&self, alloc: Global) -> Result<JsonValue, AllocError>
+        ensures { IfOk result (λ made. data_of made ≡ json_of (tree self.now)) };
+}
+
+impl ToJsonValue for OwnedValue {
+    ghost tree = { owned_tree };
+
+    fn to_json_value(&self, alloc: Global) -> Result<JsonValue, AllocError> {
+        to_json_value(alloc, self)
+    }
+}

@@ -1,0 +1,8 @@
+//! Values as JSON: as JSON values, and as texts without spaces.
+#![tactic(auto)]
+
+pub mod compact;
+pub mod json_value;
+mod leaf_text;
+pub mod named;
+mod write;

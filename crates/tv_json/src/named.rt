@@ -1,0 +1,61 @@
+//! Values under names, as texts of JSON.
+
+ghost use Rattle.std.specs.Prelude.{◌≡◌, ◌++◌, ◌∷◌, [], OnOk, IfOk, string_bytes, map};
+ghost use Rattle.std.specs.BTreeMap.{BTreeMap};
+ghost use Rattle.json.specs.Token as Token;
+ghost use Rattle.serde_json.specs.Data.{object};
+ghost use Rattle.serde_json.specs.Written.{compact_text};
+ghost use Rattle.tv_json.specs.JsonOf.{json_of};
+ghost use Rattle.tv_json.specs.Named.{list_json, named_json, named_trees};
+ghost use Rattle.tv_json.specs.Rising.{data_tokens, rest_of_object};
+
+use crate::compact::write_value;
+use crate::write::{JsonWriter, begin_list};
+use std::alloc::{AllocError, Global};
+use std::collections::BTreeMap;
+use tv_value::nested::Lent;
+use tv_value::value::Value;
+
+// Writes a name and the array of its values.
+fn write_list<'a, V: Value<'a>>(
+    json: &mut JsonWriter,
+    name: &str,
+    values: Vec<V>,
+) -> Result<(), AllocError>
+    ensures ok { OnOk result (json.new.out.tokens ≡ json.old.out.tokens ++ Token.key name.now ∷ data_tokens (list_json (map V.tree values.items))) }
+    ensures before { json.new.out.before ≡ json.old.out.before }
+{
+    begin_list(&mut json.out, name)?;
+    for value in values {
+        write_value(json, &Lent::new(value))?;
+    }
+    json.out.end_array()
+}
+
+// Writes names and the arrays of their values, and the end of the object in which they stand.
+fn write_lists<'a, V: Value<'a>>(
+    json: &mut JsonWriter,
+    named: BTreeMap<&str, Vec<V>>,
+) -> Result<(), AllocError>
+    ensures ok { OnOk result (json.new.out.tokens ≡ json.old.out.tokens ++ rest_of_object (named_json (map (named_trees V.tree) named.entry.entries))) }
+    ensures before { json.new.out.before ≡ json.old.out.before }
+{
+    for (name, values) in named {
+        write_list(json, name, values)?;
+    }
+    json.out.end_object()
+}
+
+/// The text of an object, without spaces: for each name, in byte order, the array of its values. (Own.) The only error is that
+/// memory was refused.
+pub fn named_to_json<'a, V: Value<'a>>(
+    alloc: Global,
+    named: BTreeMap<&str, Vec<V>>,
+) -> Result<String, AllocError>
+    ensures { IfOk result (λ text. string_bytes text ≡ compact_text (object (named_json (map (named_trees V.tree) named.entry.entries)))) }
+{
+    let mut json = JsonWriter::new(alloc, Vec::new(alloc));
+    json.out.begin_object()?;
+    write_lists(&mut json, named)?;
+    Ok(json.into_text())
+}

@@ -1,0 +1,9 @@
+pub mod Ended
+pub mod Blanks
+pub mod Braces
+pub mod Rests
+pub mod Slices
+pub mod Objects
+pub mod Agrees
+pub mod Unique
+pub mod Steps

@@ -1,0 +1,21 @@
+use Rattle.std.proofs.Common.{◌≡◌, ◌≤◌, ◌^◌, ◌-◌, length}
+use Rattle.tv_base.specs.Take.{told}
+use Rattle.tv_base.proofs.TakeSteps.{SoFar}
+use Rattle.tv_legacy.specs.Legacy.{behind}
+use Rattle.tv_legacy.specs.LegacyReading.{rest_at}
+use Rattle.tv_legacy.specs.LegacyScan.{place_of}
+use Rattle.tv_legacy.proofs.Steps.{IsDepth, rest_from}
+use Rattle.tv_legacy.proofs.take.take_rest.Given as goal
+
+abbrev pub invariant-loop-scan : goal.invariant-loop-scan
+invariant-loop-scan g l =
+    let source = g.S.ByteSource in
+    record {
+      depth : IsDepth l.scan.depth l.slice.items;
+      place : place_of l.scan.position ≡ behind l.slice.items;
+      bound : l.scan.depth ≤ length l.slice.items;
+      so_far : SoFar (told source.tells) (λ p. source.left p.source) (λ p. p.count) (λ p. source.faults p.source) (record { source = l.initial.source; count = l.initial.count }) (record { source = l.source; count = l.count }) (rest_at l.initial.slice.items) (rest_from l.slice.items);
+    }
+
+abbrev pub decreases-loop-scan : goal.decreases-loop-scan
+decreases-loop-scan g l = 2 ^ 64 - l.count

@@ -1,0 +1,4 @@
+pub mod Legacy
+pub mod LegacyReading
+pub mod LegacyScan
+pub mod LegacyLaws

@@ -1,0 +1,32 @@
+//! Taking the field of a pair from a source that is lent, with the count of the bytes that were taken of it.
+
+ghost use Rattle.std.specs.Prelude.{◌≡◌, ◌≤◌, ◌-◌, ◌^◌, IfOk, IsErrOf};
+ghost use Rattle.tv_base.specs.declared.cause.Cause.TheVariants.{TooLong};
+ghost use Rattle.tv_reader.specs.Error.{TakesBy};
+ghost use Rattle.tv_reader.specs.Fields.{field_at};
+ghost use Rattle.tv_reader.specs.declared.error.DeserializeError.TheVariants.{CorruptedValue, HeapFull};
+
+use crate::error::DeserializeError;
+use tv_base::take::take_u32;
+use tv_base::{ByteSource, Cause};
+
+/// The largest field number in a document.
+const LARGEST_FIELD: u32 = 65535;
+
+/// Takes a field number.
+///
+/// Errors: `CorruptedValue(UnexpectedEnd)` where fewer than four bytes are left, `CorruptedValue(FieldNumber)` where it is above
+/// 65535, and `Io`.
+#[tactic(auto, using(tv_base::proofs::TakeSteps::Taken_then), unfolding(crate::specs::Fields::field_at))]
+pub fn take_field<S: ByteSource>(source: &mut S, count: &mut u64) -> Result<u32, DeserializeError>
+    ensures takes { TakesBy S.tells S.left S.faults source.old count.old source.new count.new (λ x. x) result field_at }
+    ensures too_long { IsErrOf result (CorruptedValue TooLong) → count.new ≡ 2 ^ 64 - 1 }
+    ensures roomy { ¬ IsErrOf result HeapFull }
+    ensures small { IfOk result (λ field. field ≤ 65535) }
+{
+    let field = take_u32(source, count)?;
+    if field > LARGEST_FIELD {
+        return Err(DeserializeError::CorruptedValue(Cause::FieldNumber(field)));
+    }
+    Ok(field)
+}

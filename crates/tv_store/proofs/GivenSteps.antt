@@ -1,0 +1,45 @@
+-- Pairs that are given, one after the other.
+use Rattle.std.proofs.Common.{◌≡◌, ℕ, suc, Option, Some, None, ◌+◌, ◌<◌, ◌≤◌, List, [], ◌∷◌, ◌++◌, length, refl, sym, ap, subst, arith}
+use Rattle.tv_base.specs.declared.cause.Cause.TheVariants.{FieldNumber}
+use Rattle.tv_doc.specs.declared.add_error.AddError.{AddError}
+use Rattle.tv_doc.specs.declared.add_error.AddError.TheVariants as adds
+use Rattle.tv_doc.specs.declared.document.CompactDoc.{CompactDoc}
+use Rattle.tv_doc.specs.Document.{document_of, heap_of, Refuses}
+use Rattle.tv_doc.specs.Room.{room, document_room}
+use Rattle.tv_value.specs.Tree.{Tree, Document}
+use Rattle.tv_value.specs.Version.{Version}
+use Rattle.tv_reader.specs.declared.error.DeserializeError.{DeserializeError}
+use Rattle.tv_reader.specs.declared.error.DeserializeError.TheVariants as errors
+use Rattle.tv_reader.specs.declared.error.ValueType.{ValueType}
+use Rattle.tv_store.specs.Error.{add_error}
+use Rattle.tv_store.specs.PairsGiven.{PairsRefused, large_field, no_room, no_memory}
+use Rattle.tv_store.proofs.PairSteps.{document_room-push}
+use Rattle.tv_value.specs.declared.field.Field.{Field}
+use Rattle.tv_typed.specs.Documents.{NextField, GivesAll}
+
+-- one more
+pub gives_push : {D : Type 0} (gives : D → ℕ × Tree → D → Type 0) (first mid last : D) (pairs : Document) (pair : ℕ × Tree) → GivesAll gives first pairs mid → gives mid pair last → GivesAll gives first (pairs ++ pair ∷ []) last
+gives_push gives first mid last [] pair p g = (last, subst (λ z. gives z pair last) p g, refl)
+gives_push gives first mid last (q ∷ pairs) pair p g = (p.0, p.1, gives_push gives p.0 mid last pairs pair p.2 g)
+
+refused_by : {D : Type 0} (gives : D → ℕ × Tree → D → Type 0) (refuses : D → (Version → ValueType → List ℕ → DeserializeError → Type 0) → DeserializeError → Type 0) (first mid last : D) (doc : CompactDoc) (field : ℕ) (t : Tree) (error : AddError)
+    → GivesAll gives first (document_of doc) mid → gives mid (field, t) last → length (heap_of doc) ≤ document_room (document_of doc) → Refuses doc field t error → PairsRefused gives refuses first (add_error error)
+refused_by gives refuses first mid last doc field t (adds.FieldNumber n) p g within h =
+    subst (λ m. PairsRefused gives refuses first (errors.CorruptedValue (FieldNumber m))) (sym h.0) (large_field (document_of doc) last field t (gives_push gives first mid last (document_of doc) (field, t) p g) h.1)
+refused_by gives refuses first mid last doc field t adds.HeapFull p g within h =
+    no_room (document_of doc ++ (field, t) ∷ []) last (gives_push gives first mid last (document_of doc) (field, t) p g) (omega (arith, document_room-push (document_of doc) (field, t), within, h.1))
+refused_by gives refuses first mid last doc field t adds.Memory p g within h = no_memory
+
+pub addition_refused : {D : Type 0} (gives : D → ℕ × Tree → D → Type 0) (refuses : D → (Version → ValueType → List ℕ → DeserializeError → Type 0) → DeserializeError → Type 0) (first mid last : D) (doc : CompactDoc) (field : ℕ) (t : Tree) (error : AddError) (e : DeserializeError)
+    → e ≡ add_error error → GivesAll gives first (document_of doc) mid → gives mid (field, t) last → length (heap_of doc) ≤ document_room (document_of doc) → Refuses doc field t error → PairsRefused gives refuses first e
+addition_refused gives refuses first mid last doc field t error e is p g within h = subst (PairsRefused gives refuses first) (sym is) (refused_by gives refuses first mid last doc field t error p g within h)
+
+-- ---- the next pair
+
+pub given_next : {D X : Type 0} (remaining : D → ℕ) (tells : D → Type 0) (gives : D → ℕ × Tree → D → Type 0) (is : Tree → X → Type 0) (old new : D) (result : Option (Field × X)) (field : Field) (value : X) → result ≡ Some (field, value) → NextField remaining tells gives is old new result
+    → (remaining old ≡ suc (remaining new)) × (tells old → tells new × ((t : Tree) × gives old (field.id, t) new × is t value))
+given_next remaining tells gives is old new result field value same h = subst (NextField remaining tells gives is old new) same h
+
+pub none_left : {D X : Type 0} (remaining : D → ℕ) (tells : D → Type 0) (gives : D → ℕ × Tree → D → Type 0) (is : Tree → X → Type 0) (old new : D) (result : Option (Field × X)) → ((p : Field × X) → result ≡ Some p → ⊥) → NextField remaining tells gives is old new result → remaining old ≡ 0
+none_left remaining tells gives is old new None none h = h
+none_left remaining tells gives is old new (Some p) none h = absurd (none p refl)

@@ -1,0 +1,23 @@
+-- Documents that are read of the pairs that something gives.
+use Rattle.std.specs.Prelude.{◌≡◌, ◌<◌, ℕ, List, [], ◌∷◌, ◌++◌}
+use Rattle.tv_base.specs.declared.cause.Cause.TheVariants.{FieldNumber}
+use Rattle.tv_doc.specs.Room.{document_room}
+use Rattle.tv_value.specs.Tree.{Tree, Document}
+use Rattle.tv_value.specs.Version.{Version}
+use Rattle.tv_reader.specs.declared.error.DeserializeError.{DeserializeError}
+use Rattle.tv_reader.specs.declared.error.DeserializeError.TheVariants as errors
+use Rattle.tv_reader.specs.declared.error.ValueType.{ValueType}
+use Rattle.tv_typed.specs.Documents.{GivesAll}
+use Rattle.tv_typed.specs.Values.{TreeRefused}
+
+-- these pairs are given, and then no more
+abbrev pub IsGiven : {D : Type 0} → (D → ℕ × Tree → D → Type 0) → (D → ℕ) → D → Document → Type 0
+IsGiven {D} gives remaining first pairs = (last : D) × GivesAll gives first pairs last × (remaining last ≡ 0)
+
+-- No document is read: some pairs are given, and the next is refused, or has a field above 65535, or no room beside them in a heap. Or
+-- memory was refused.
+pub data PairsRefused {D : Type 0} (gives : D → ℕ × Tree → D → Type 0) (refuses : D → (Version → ValueType → List ℕ → DeserializeError → Type 0) → DeserializeError → Type 0) (first : D) : DeserializeError → Type 0 where
+  in_next : {e : DeserializeError} (pairs : Document) (last : D) → GivesAll gives first pairs last → refuses last TreeRefused e → PairsRefused gives refuses first e
+  large_field : (pairs : Document) (last : D) (field : ℕ) (t : Tree) → GivesAll gives first (pairs ++ (field, t) ∷ []) last → 65535 < field → PairsRefused gives refuses first (errors.CorruptedValue (FieldNumber field))
+  no_room : (pairs : Document) (last : D) → GivesAll gives first pairs last → 4294967295 < document_room pairs → PairsRefused gives refuses first errors.HeapFull
+  no_memory : PairsRefused gives refuses first errors.Memory

@@ -1,0 +1,20 @@
+use Rattle.std.proofs.lemmas.Result.{err_from_is_err_and}
+use Rattle.tv_typed.proofs.ListSteps.{entry_found, entry_key_fails, entry_value_fails}
+use Rattle.tv_typed.proofs.store_reader.StoreReader.entry.Goals as goal
+
+pub returns-in_err-key-clause-deserializes : goal.returns-in_err-key-clause-deserializes
+returns-in_err-key-clause-deserializes g c =
+    let p = err_from_is_err_and c.from_residual.result c.from_residual.ensures.1 in
+    let V = g.V.ValueDeserialize in
+    rw (p.1, p.2) (entry_key_fails V.is V.refused c.in_err-key.ensures)
+
+pub returns-in_err-value-clause-deserializes : goal.returns-in_err-value-clause-deserializes
+returns-in_err-value-clause-deserializes g c =
+    let p = err_from_is_err_and c.from_residual-in_err-value.result c.from_residual-in_err-value.ensures.1 in
+    let V = g.V.ValueDeserialize in
+    rw (p.1, p.2) (entry_value_fails V.is V.refused c.in_ok-key.ensures c.in_err-value.ensures.deserializes)
+
+pub returns-clause-deserializes : goal.returns-clause-deserializes
+returns-clause-deserializes g c =
+    let V = g.V.ValueDeserialize in
+    entry_found V.is V.refused c.in_ok-key.ensures c.in_ok-value.ensures.deserializes

@@ -1,0 +1,8 @@
+use Rattle.std.proofs.lemmas.Result.{err_from_is_err_and}
+use Rattle.tv_typed.proofs.VisitSteps.{items_refused}
+use Rattle.tv_typed.proofs.store_reader.StoreReader.visit_entries.Goals as goal
+
+pub returns-in_err-announced : goal.returns-in_err-announced
+returns-in_err-announced g c =
+    let p = err_from_is_err_and c.from_residual.result c.from_residual.ensures.1 in
+    rw (p.1, p.2) (items_refused _ c.in_err-announced.ensures)

@@ -1,0 +1,111 @@
+-- Where a value is refused, no front of its bytes spells a tree of which one is read.
+use Rattle.std.specs.Prelude.{◌≡◌, ℕ, List, [], ◌∷◌, ◌++◌}
+use Rattle.std.proofs.Common.{refl, sym, ap, subst, ◌∙◌, append_assoc, inl, inr}
+use Rattle.tv_base.specs.declared.cause.Cause.{Cause}
+use Rattle.tv_legacy.specs.Legacy.{Legacy, LegacyFault}
+use Rattle.tv_legacy.proofs.Unique.{one_legacy, legacy_excludes}
+use Rattle.tv_value.specs.Fault.{Refusal}
+use Rattle.tv_value.specs.Spelling.{Spells, SpellsElements, SpellsEntries, NoLegacy}
+use Rattle.tv_value.specs.Tree.{Leaf, null, text, unsigned, signed, boolean, date, facet, bytes, ip_address, tokenized, Tree, leaf, array, object, Elements, no_elements, element, Entries, no_entries, entry}
+use Rattle.tv_value.specs.Version.{Version}
+use Rattle.tv_value.proofs.ExcludingTrees.{value_excludes}
+use Rattle.tv_reader.specs.Trees.{NoValue}
+use Rattle.tv_reader.specs.ValueType.{coded}
+use Rattle.tv_reader.specs.declared.error.DeserializeError.{DeserializeError}
+use Rattle.tv_reader.specs.declared.error.ValueType.{ValueType}
+use Rattle.tv_reader.specs.declared.error.ValueType.TheVariants as types
+use Rattle.tv_reader.proofs.AgreeKinds.{same_coded}
+use Rattle.tv_reader.proofs.BehindKinds.{code_value}
+use Rattle.tv_typed.specs.Values.{CodeRefused, in_code, LeafRefused, other_type, in_body, TreeRefused, NextRefused, RefusalsExclude}
+
+-- ---- trees
+
+-- what is spelled without legacy objects is spelled
+mutual
+  pub with_legacy : (v : Version) (t : Tree) (b : List ℕ) → Spells NoLegacy v b t → Spells Legacy v b t
+  with_legacy v (leaf l) b p = p
+  with_legacy v (array ts) b p = record { body = p.body; joined = p.joined; spelled = let s = p.spelled in record { front = s.front; rest = s.rest; joined = s.joined; first = s.first; second = elements_with_legacy v ts s.rest s.second } }
+  with_legacy v (object es) b (inl p) = inl (record { body = p.body; joined = p.joined; spelled = let s = p.spelled in record { front = s.front; rest = s.rest; joined = s.joined; first = s.first; second = entries_with_legacy v es s.rest s.second } })
+  with_legacy v (object es) b (inr p) = absurd p.spelled
+
+  elements_with_legacy : (v : Version) (ts : Elements) (b : List ℕ) → SpellsElements NoLegacy v b ts → SpellsElements Legacy v b ts
+  elements_with_legacy v no_elements b p = p
+  elements_with_legacy v (element t ts) b p = record { front = p.front; rest = p.rest; joined = p.joined; first = with_legacy v t p.front p.first; second = elements_with_legacy v ts p.rest p.second }
+
+  entries_with_legacy : (v : Version) (es : Entries) (b : List ℕ) → SpellsEntries NoLegacy v b es → SpellsEntries Legacy v b es
+  entries_with_legacy v no_entries b p = p
+  entries_with_legacy v (entry k t es) b p =
+      let s = p.second in
+      record { front = p.front; rest = p.rest; joined = p.joined; first = p.first; second = record { front = s.front; rest = s.rest; joined = s.joined; first = with_legacy v t s.front s.first; second = entries_with_legacy v es s.rest s.second } }
+
+-- bytes at fault, whatever stands behind a front of them
+pub faulty : (v : Version) (front rest : List ℕ) (r : Refusal) (t : Tree) → NoValue v (front ++ rest) r → Spells NoLegacy v front t → ⊥
+faulty v front rest r t f p = value_excludes Legacy LegacyFault v one_legacy legacy_excludes f t front rest (with_legacy v t front p) refl
+
+-- the same behind the code of a type
+pub faulty_behind : (v : Version) (kind : ValueType) (front rest : List ℕ) (r : Refusal) (t : Tree) → NoValue v (coded kind ++ (front ++ rest)) r → Spells NoLegacy v (coded kind ++ front) t → ⊥
+faulty_behind v kind front rest r t f p = faulty v (coded kind ++ front) rest r t (subst (λ w. NoValue v w r) (sym (append_assoc (coded kind) front rest)) f) p
+
+pub tree_excludes : {X : Type 0} (is : Tree → X → Type 0) → RefusalsExclude is TreeRefused
+tree_excludes is v kind front rest e t x r p same = faulty_behind v kind front rest r.refusal t r.fault p
+
+-- ---- leaves
+
+-- the type of a leaf
+abbrev pub leaf_type : Leaf → ValueType
+leaf_type (text t) = types.String
+leaf_type (unsigned n) = types.U64
+leaf_type (signed z) = types.I64
+leaf_type (facet t) = types.Facet
+leaf_type (bytes bs) = types.Bytes
+leaf_type (date z) = types.DateTime
+leaf_type (tokenized t ts) = types.PreTokStr
+leaf_type (boolean b) = types.Bool
+leaf_type (ip_address n) = types.IpAddr
+leaf_type null = types.Null
+
+-- its code stands first
+leaf_coded : (v : Version) (whole : List ℕ) (l : Leaf) → Spells NoLegacy v whole (leaf l) → (body : List ℕ) × (whole ≡ coded (leaf_type l) ++ body)
+leaf_coded v whole (text t) p = (p.body, p.joined)
+leaf_coded v whole (unsigned n) p = (p.body, p.joined)
+leaf_coded v whole (signed z) p = (p.body, p.joined)
+leaf_coded v whole (facet t) p = (p.body, p.joined)
+leaf_coded v whole (bytes bs) p = (p.body, p.joined)
+leaf_coded v whole (date z) p = (p.body, p.joined)
+leaf_coded v whole (tokenized t ts) p = (p.spelled.body, p.joined ∙ ap (λ (l : List ℕ). 7 ∷ l) p.spelled.joined)
+leaf_coded v whole (boolean b) p = (p.body, p.joined)
+leaf_coded v whole (ip_address n) p = (p.body, p.joined)
+leaf_coded v whole null p = (p.body, p.joined)
+
+leaf_excluded : (expected : ValueType) (l : Leaf) → leaf_type l ≡ expected → (v : Version) (kind : ValueType) (front rest : List ℕ) (e : DeserializeError) → LeafRefused expected v kind (front ++ rest) e → Spells NoLegacy v (coded kind ++ front) (leaf l) → ⊥
+leaf_excluded expected l is v kind front rest e (other_type other) p =
+    let q = leaf_coded v (coded kind ++ front) l p in
+    other ((same_coded kind (leaf_type l) front q.0 q.1).0 ∙ is)
+leaf_excluded expected l is v kind front rest e (in_body {c} same f) p = faulty_behind v kind front rest _ (leaf l) f p
+
+pub leaf_excludes : (expected : ValueType) (l : Leaf) → leaf_type l ≡ expected → (v : Version) (kind : ValueType) (front rest : List ℕ) (e : DeserializeError) (t : Tree) → LeafRefused expected v kind (front ++ rest) e → Spells NoLegacy v (coded kind ++ front) t → t ≡ leaf l → ⊥
+leaf_excludes expected l is v kind front rest e t r p same = leaf_excluded expected l is v kind front rest e r (subst (λ z. Spells NoLegacy v (coded kind ++ front) z) same p)
+
+-- ---- the next value
+
+code_excluded : (v : Version) (front rest : List ℕ) (e : DeserializeError) (t : Tree) → CodeRefused (front ++ rest) e → Spells NoLegacy v front t → ⊥
+code_excluded v front rest e t (in_code {c} f) p = faulty v front rest _ t (code_value v (front ++ rest) c f) p
+
+-- each value begins with the code of its type
+tree_coded : (v : Version) (whole : List ℕ) (t : Tree) → Spells NoLegacy v whole t → (kind : ValueType) × (body : List ℕ) × (whole ≡ coded kind ++ body)
+tree_coded v whole (leaf l) p = let q = leaf_coded v whole l p in (leaf_type l, q.0, q.1)
+tree_coded v whole (array ts) p = (types.Array, p.body, p.joined)
+tree_coded v whole (object es) (inl p) = (types.Object, p.body, p.joined)
+tree_coded v whole (object es) (inr p) = (types.JSONObject, p.body, p.joined)
+
+pub next_excludes : {X : Type 0} (is : Tree → X → Type 0) (refused : Version → ValueType → List ℕ → DeserializeError → Type 0) → RefusalsExclude is refused
+    → (v : Version) (whole front rest : List ℕ) (e : DeserializeError) (t : Tree) (x : X) → NextRefused refused v whole e → whole ≡ front ++ rest → Spells NoLegacy v front t → is t x → ⊥
+next_excludes is refused excludes v whole front rest e t x (inl f) joined p same = code_excluded v front rest e t (subst (λ w. CodeRefused w e) joined f) p
+next_excludes is refused excludes v whole front rest e t x (inr f) joined p same =
+    let q = tree_coded v front t p in
+    let kind = f.0 in
+    let h = f.1 in
+    let cut : coded q.0 ++ (q.1 ++ rest) ≡ coded kind ++ h.rest =
+    sym (append_assoc (coded q.0) q.1 rest) ∙ ap (λ l. l ++ rest) (sym q.2) ∙ sym joined ∙ h.joined ∙ ap (λ l. l ++ h.rest) h.first in
+    let both = same_coded q.0 kind (q.1 ++ rest) h.rest cut in
+    excludes v kind q.1 rest e t x (subst (λ w. refused v kind w e) (sym both.1) h.second) (subst (λ w. Spells NoLegacy v w t) (q.2 ∙ ap (λ k. coded k ++ q.1) both.0) p) same

@@ -1,0 +1,55 @@
+-- What a visitor is handed, and what is done through a reader then.
+use Rattle.std.specs.Prelude.{◌≡◌, ℕ, true, is_err, List, Result, Ok, Err}
+use Rattle.tv_base.specs.Source.{Faults}
+use Rattle.tv_base.specs.Stop.{Taken}
+use Rattle.tv_reader.specs.ValueType.{coded}
+use Rattle.tv_reader.specs.Version.{version_of}
+use Rattle.tv_reader.specs.declared.error.DeserializeError.{DeserializeError}
+use Rattle.tv_reader.specs.declared.error.ValueType.{ValueType}
+use Rattle.tv_reader.specs.declared.error.ValueType.TheVariants as types
+use Rattle.tv_value.specs.Tree.{Leaf}
+use Rattle.tv_typed.specs.Lists.{Length, LengthRefused}
+use Rattle.tv_typed.specs.Typed.{Reads}
+use Rattle.tv_typed.specs.Values.{IsLeaf, SpellsLeaf, LeafRefused, Only}
+use Rattle.tv_typed.specs.declared.store_reader.StoreReader.{StoreReader}
+
+-- ---- leaves
+
+-- what was read is handed on and answered, and a refusal is given as it is
+abbrev pub Answered : {A X : Type 0} → (A → Result X DeserializeError → Type 0) → Result A DeserializeError → Result X DeserializeError → Type 0
+Answered answers (Ok a) result = answers a result
+Answered answers (Err e) result = result ≡ Err e
+
+-- The leaf behind the code of its type was read, and the answer to it is given. Where none was read, its refusal is. The reader is
+-- as reading has left it, but that its mark may also tell of the answer.
+pub record Visits {S X : Type 0} (tells : S → Type 0) (left : S → List ℕ) (faults : S → Faults) (old new : StoreReader S) (kind : ValueType) (answers : Leaf → Result X DeserializeError → Type 0) (result : Result X DeserializeError) : Type 0 where
+  pub read : Result Leaf DeserializeError
+  pub reads : Reads tells left faults old (record new { has_failed = is_err read }) read (SpellsLeaf (version_of old.version) kind (λ l. l)) (LeafRefused kind (version_of old.version) kind)
+  pub only : Only tells left old (record new { has_failed = is_err read }) read (IsLeaf (λ l. l)) (version_of old.version) (coded kind)
+  pub answered : Answered answers read result
+
+-- ---- arrays and objects
+
+-- Some bytes were taken through a reader, or none, whoever took them.
+pub record TakesSome {S : Type 0} (tells : S → Type 0) (left : S → List ℕ) (old new : StoreReader S) : Type 0 where
+  pub closed : old.has_failed ≡ true → (new.has_failed ≡ true) × (new.source ≡ old.source) × (new.count ≡ old.count)
+  pub taken : tells old.source → Taken (left old.source) (left new.source) old.count new.count
+  pub still_tells : tells old.source → tells new.source
+  pub same_version : new.version ≡ old.version
+
+-- What was done with so many values: behind their number some bytes were taken. Where no number was read, nothing was done, and its refusal is given.
+abbrev pub Handed : {S X : Type 0} (tells : S → Type 0) (left : S → List ℕ) (mid new : StoreReader S) → Result ℕ DeserializeError → Result X DeserializeError → Type 0
+Handed tells left mid new (Ok n) result = TakesSome tells left mid new
+Handed tells left mid new (Err e) result = (result ≡ Err e) × (new ≡ mid)
+
+-- the type of an object, or that of a legacy object, which isn't handed on
+pub data IsObjectType : ValueType → Type 0 where
+  object_type : IsObjectType types.Object
+  legacy_type : IsObjectType types.JSONObject
+
+-- The number of the values was read behind the code, and then they were handed on.
+pub record VisitsItems {S X : Type 0} (tells : S → Type 0) (left : S → List ℕ) (faults : S → Faults) (old new : StoreReader S) (collection : ValueType) (total : ℕ → ℕ) (kind : ValueType) (result : Result X DeserializeError) : Type 0 where
+  pub behind_number : StoreReader S
+  pub announced : Result ℕ DeserializeError
+  pub reads : Reads tells left faults old behind_number announced (Length collection total kind) (LengthRefused collection total kind)
+  pub handed : Handed tells left behind_number new announced result

@@ -1,0 +1,70 @@
+//! Arrays in a store.
+
+ghost use Rattle.std.specs.Prelude.{◌≡◌, ◌+◌, false, true, OnErr, if◌then◌else◌};
+ghost use Rattle.tv_base.specs.PartFault.{InEach};
+ghost use Rattle.tv_reader.specs.Version.{version_of};
+ghost use Rattle.tv_typed.specs.Lists.{SpellsInto, NextItem, NextItemRefused, gives_some};
+ghost use Rattle.tv_typed.specs.Typed.{Deserializes};
+ghost use Rattle.tv_typed.specs.Values.{SpellsAs, NextRefused};
+
+use crate::deserialize::ValueDeserialize;
+use crate::store_reader::StoreReader;
+use std::alloc::Global;
+use tv_base::ByteSource;
+use tv_reader::DeserializeError;
+
+// Reads so many values. Nothing is reserved from their number. That memory was refused isn't marked yet.
+pub(crate) fn read_elements<T: ValueDeserialize, S: ByteSource>(
+    alloc: Global,
+    reader: &mut StoreReader<S>,
+    announced: u64,
+) -> Result<Vec<T>, DeserializeError>
+    requires { reader.old.has_failed ≡ false }
+    ensures { Deserializes S.tells S.left reader.old reader.new result (SpellsInto (λ items xs. items.items ≡ xs) (SpellsAs T.is (version_of reader.old.version)) announced) (InEach (NextRefused T.refused (version_of reader.old.version)) (SpellsAs T.is (version_of reader.old.version)) announced) }
+{
+    let mut items = Vec::new(alloc);
+    for _ in 0..announced {
+        let item = reader.read::<T>(alloc)?;
+        items.push(item)?;
+    }
+    Ok(items)
+}
+
+/// The values of an array, which are read one after the other.
+#[derive(Drop)]
+pub struct BinaryArrayDeserializer<'de, S: ByteSource> {
+    pub(crate) announced: u64,
+    pub(crate) position: u64,
+    pub(crate) reader: &'de mut StoreReader<S>,
+}
+
+impl<'de, S: ByteSource> BinaryArrayDeserializer<'de, S> {
+    /// How many values the array announces, however many were read.
+    pub fn size_hint(&self) -> usize
+        ensures { result ≡ self.now.announced }
+    {
+        self.announced as usize
+    }
+
+    /// Reads the next value. None where as many were read as are announced.
+    ///
+    /// Errors: those of `StoreReader::read`. Each is marked in the reader, and the place in the array stays.
+    pub fn next_element<V: ValueDeserialize>(
+        &mut self,
+        alloc: Global,
+    ) -> Result<Option<V>, DeserializeError>
+        ensures same_reader { self.new.reader.ghost_name ≡ self.old.reader.ghost_name }
+        ensures announced { self.new.announced ≡ self.old.announced }
+        ensures position { self.new.position ≡ self.old.position + (if gives_some result then 1 else 0) }
+        ensures deserializes { Deserializes S.tells S.left self.old.reader.now self.new.reader.now result (NextItem (SpellsAs V.is (version_of self.old.reader.now.version)) self.old.position self.old.announced) (NextItemRefused (NextRefused V.refused (version_of self.old.reader.now.version)) self.old.position self.old.announced) }
+        ensures marks { OnErr result (self.new.reader.now.has_failed ≡ true) }
+    {
+        self.reader.go_on()?;
+        if self.position >= self.announced {
+            return Ok(None);
+        }
+        let value = self.reader.read::<V>(alloc)?;
+        self.position += 1;
+        Ok(Some(value))
+    }
+}

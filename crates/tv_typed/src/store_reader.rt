@@ -1,0 +1,184 @@
+//! A source that is read as a store of one version.
+
+ghost use Rattle.std.specs.Prelude.{◌≡◌, true, false, is_err, IfErr, OnOk, OnErr, string_bytes};
+ghost use Rattle.tv_reader.specs.ValueType.{IsCoded};
+ghost use Rattle.tv_reader.specs.Version.{version_of};
+ghost use Rattle.tv_reader.specs.declared.error.ValueType.TheVariants as types;
+ghost use Rattle.tv_value.specs.Spelling.{Key};
+ghost use Rattle.tv_value.specs.Version.{entry_total};
+ghost use Rattle.tv_typed.specs.Lists.{Length, LengthRefused, KeyRefused, element_total};
+ghost use Rattle.tv_typed.specs.Typed.{Reads, raised, IsMismatch};
+ghost use Rattle.tv_typed.specs.Values.{CodeRefused};
+ghost use Rattle.tv_reader.specs.declared.error.DeserializeError.TheVariants as errors;
+
+use std::alloc::Global;
+use tv_base::take::take_vint;
+use tv_base::{ByteSource, ReadError};
+use tv_reader::kinds::take_kind;
+use tv_reader::trees::{take_half, take_key};
+use tv_reader::{DeserializeError, DocStoreVersion, ValueType};
+
+/// A source, the version of what it holds, how many bytes were taken of it, and whether a read was refused. After a refusal
+/// every later read answers `AlreadyFailed` and takes nothing.
+#[derive(Drop)]
+pub struct StoreReader<S: ByteSource> {
+    pub(crate) source: S,
+    pub(crate) count: u64,
+    pub(crate) has_failed: bool,
+    pub(crate) version: DocStoreVersion,
+}
+
+impl<S: ByteSource> StoreReader<S> {
+    /// Reads this source. Nothing is read yet.
+    pub fn new(source: S, version: DocStoreVersion) -> StoreReader<S>
+        ensures source { result.source ≡ source }
+        ensures version { result.version ≡ version }
+        ensures count { result.count ≡ 0 }
+        ensures fresh { result.has_failed ≡ false }
+    {
+        StoreReader {
+            source,
+            count: 0,
+            has_failed: false,
+            version,
+        }
+    }
+
+    /// How many bytes were taken of the source.
+    pub fn bytes_read(&self) -> u64
+        ensures { result ≡ self.now.count }
+    {
+        self.count
+    }
+
+    /// Whether a read was refused.
+    pub fn has_failed(&self) -> bool
+        ensures { result ≡ self.now.has_failed }
+    {
+        self.has_failed
+    }
+
+    /// The source, where reading has left it.
+    pub fn into_source(self) -> S
+        ensures { result ≡ self.source }
+    {
+        let StoreReader {
+            source,
+            count: _,
+            has_failed: _,
+            version: _,
+        } = self;
+        source
+    }
+
+    // Goes on where nothing was refused before.
+    pub(crate) fn go_on(&self) -> Result<(), DeserializeError>
+        ensures ok { OnOk result (self.now.has_failed ≡ false) }
+        ensures err { IfErr result (λ e. (e ≡ errors.AlreadyFailed) × (self.now.has_failed ≡ true)) }
+    {
+        if self.has_failed {
+            return Err(DeserializeError::AlreadyFailed);
+        }
+        Ok(())
+    }
+
+    // Marks a refusal, and tells it in the words of the store.
+    pub(crate) fn marked<T>(&mut self, answer: Result<T, ReadError>) -> Result<T, DeserializeError>
+        ensures source { self.new.source ≡ self.old.source }
+        ensures count { self.new.count ≡ self.old.count }
+        ensures version { self.new.version ≡ self.old.version }
+        ensures told { result ≡ raised answer }
+        ensures marks { self.new.has_failed ≡ is_err result }
+    {
+        match answer {
+            Ok(value) => {
+                self.has_failed = false;
+                Ok(value)
+            }
+            Err(error) => {
+                self.has_failed = true;
+                Err(DeserializeError::from(error))
+            }
+        }
+    }
+
+    // Goes on where nothing was refused before and the type is the one that is expected.
+    pub(crate) fn expect(
+        &mut self,
+        kind: ValueType,
+        expected: ValueType,
+    ) -> Result<(), DeserializeError>
+        ensures source { self.new.source ≡ self.old.source }
+        ensures count { self.new.count ≡ self.old.count }
+        ensures version { self.new.version ≡ self.old.version }
+        ensures ok { OnOk result ((self.old.has_failed ≡ false) × (self.new.has_failed ≡ false) × (kind ≡ expected)) }
+        ensures err { IfErr result (IsMismatch self.old.has_failed kind expected (errors.TypeMismatch expected kind)) }
+        ensures marks { OnErr result (self.new.has_failed ≡ true) }
+    {
+        self.go_on()?;
+        if kind != expected {
+            self.has_failed = true;
+            let actual = kind;
+            return Err(DeserializeError::TypeMismatch { expected, actual });
+        }
+        Ok(())
+    }
+
+    // Takes all that stands before the next value.
+    pub(crate) fn code(&mut self) -> Result<ValueType, DeserializeError>
+        ensures { Reads S.tells S.left S.faults self.old self.new result IsCoded CodeRefused }
+    {
+        self.go_on()?;
+        let answer = take_kind(&mut self.source, &mut self.count);
+        self.marked(answer)
+    }
+
+    // Goes on where nothing was refused before and the type is that of these collections.
+    fn expect_collection(
+        &mut self,
+        kind: ValueType,
+        collection: ValueType,
+    ) -> Result<(), DeserializeError>
+        ensures source { self.new.source ≡ self.old.source }
+        ensures count { self.new.count ≡ self.old.count }
+        ensures version { self.new.version ≡ self.old.version }
+        ensures ok { OnOk result ((self.old.has_failed ≡ false) × (self.new.has_failed ≡ false) × (kind ≡ collection)) }
+        ensures err { IfErr result (IsMismatch self.old.has_failed kind collection (errors.UnsupportedType kind)) }
+        ensures marks { OnErr result (self.new.has_failed ≡ true) }
+    {
+        self.go_on()?;
+        if kind != collection {
+            self.has_failed = true;
+            return Err(DeserializeError::UnsupportedType(kind));
+        }
+        Ok(())
+    }
+
+    // Takes the number of an array's values, behind its code.
+    pub(crate) fn array_length(&mut self, kind: ValueType) -> Result<u64, DeserializeError>
+        ensures { Reads S.tells S.left S.faults self.old self.new result (Length types.Array element_total kind) (LengthRefused types.Array element_total kind) }
+    {
+        self.expect_collection(kind, ValueType::Array)?;
+        let answer = take_vint(&mut self.source, &mut self.count);
+        self.marked(answer)
+    }
+
+    // Takes the number of an object's entries, behind its code.
+    pub(crate) fn object_length(&mut self, kind: ValueType) -> Result<u64, DeserializeError>
+        ensures { Reads S.tells S.left S.faults self.old self.new result (Length types.Object (entry_total (version_of self.old.version)) kind) (LengthRefused types.Object (entry_total (version_of self.old.version)) kind) }
+    {
+        self.expect_collection(kind, ValueType::Object)?;
+        let answer = take_half(&mut self.source, &mut self.count);
+        self.marked(answer)
+    }
+
+    // Takes a key.
+    pub(crate) fn key(&mut self, alloc: Global) -> Result<String, DeserializeError>
+        ensures { Reads S.tells S.left S.faults self.old self.new result (λ b key. Key (version_of self.old.version) b (string_bytes key)) (KeyRefused (version_of self.old.version)) }
+    {
+        self.go_on()?;
+        let answer = take_key(alloc, &mut self.source, &mut self.count);
+        self.has_failed = answer.is_err();
+        answer
+    }
+}
