@@ -74,7 +74,7 @@ fixed_past k heap at n p l = absurd (omega (arith, stands_within heap at _ p))
 
 -- ---- texts with their tokens
 
-tokenized_stands : (heap : List ℕ) (at : ℕ) (s : List ℕ) (ss : List Token) (p : Stands heap at (λ w. ShortTokenized s ss w)) → Tokenized p.whole s ss
+pub tokenized_stands : (heap : List ℕ) (at : ℕ) (s : List ℕ) (ss : List Token) (p : Stands heap at (λ w. ShortTokenized s ss w)) → Tokenized p.whole s ss
 tokenized_stands heap at s ss p = subst (λ w. Tokenized w s ss) (sym p.stands.is) (tokenized_of s ss p.stands.content_fits p.stands.tokens_fit)
 
 pub tokenized_is : (heap behind : List ℕ) (at n : ℕ) (s t : List ℕ) (ss ts : List Token) → Stands heap at (λ w. ShortTokenized s ss w) → behind ≡ drop at heap → Tokenized (take n behind) t ts

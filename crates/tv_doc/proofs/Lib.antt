@@ -9,6 +9,7 @@ pub mod Lends
 pub mod Pairs
 pub mod Additions
 pub mod Shapes
+pub mod InPlace
 pub mod Children
 pub mod Lists
 pub mod JsonDocuments

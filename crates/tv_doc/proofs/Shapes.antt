@@ -95,7 +95,7 @@ address_tree heap code at _ x e is r = absurd (omega (arith, r.0))
 pub address_is : (heap : List ℕ) (code at : ℕ) (h : Held heap code at) (x : ℕ) → code ≡ 8 → ((n : ℕ) → Stands heap at (λ w. Fixed 16 w n) → x ≡ n) → leaf (ip_address x) ≡ h.0
 address_is heap code at h x e is = by_tree heap code at h (leaf (ip_address x)) (address_tree heap code at h.0 x e is)
 
-flag_is : (b : Bool) (n : ℕ) → n ≡ flag b → not (nat_eq n 0) ≡ b
+pub flag_is : (b : Bool) (n : ℕ) → n ≡ flag b → not (nat_eq n 0) ≡ b
 flag_is false n e = ap (λ z. not (nat_eq z 0)) e
 flag_is true n e = ap (λ z. not (nat_eq z 0)) e
 
@@ -126,7 +126,7 @@ no_tokens heap code at h u e is = by_tree heap code at h u (not_tokenized heap c
 
 -- ---- lists
 
-elements_listed : (ts : Elements) → elements (element_list ts) ≡ ts
+pub elements_listed : (ts : Elements) → elements (element_list ts) ≡ ts
 elements_listed no_elements = refl
 elements_listed (element t ts) = ap (λ z. element t z) (elements_listed ts)
 
@@ -151,9 +151,13 @@ array_list heap code at (array ts) h e list is =
 array_list heap code at (leaf l) h e list is = absurd (∥∥₁_elim h ⊥_prop (λ r. omega (arith, r.0, leaf_type_small l)))
 array_list heap code at (object es) h e list is = absurd (∥∥₁_elim h ⊥_prop (λ r. omega (arith, r.0)))
 
-pub array_is : (heap : List ℕ) (code at : ℕ) (t : Tree) → ∥ Reads heap code at t ∥₁ → code ≡ 12 → (list : List ℕ) → GivesSized heap at list → (x : HeldElements heap list) → array (elements x.0) ≡ t
+-- the trees that are left of an array are its own
+pub children_are : (heap : List ℕ) (code at : ℕ) (ts : Elements) → ∥ Reads heap code at (array ts) ∥₁ → code ≡ 12 → (list : List ℕ) → GivesSized heap at list → (x : HeldElements heap list) → elements x.0 ≡ ts
 unfolding array_list
-array_is heap code at (array ts) h e list is x = ap (λ z. array (elements z)) (same_elements heap list x (array_list heap code at (array ts) h e list is)) ∙ ap array (elements_listed ts)
+children_are heap code at ts h e list is x = ap elements (same_elements heap list x (array_list heap code at (array ts) h e list is)) ∙ elements_listed ts
+
+pub array_is : (heap : List ℕ) (code at : ℕ) (t : Tree) → ∥ Reads heap code at t ∥₁ → code ≡ 12 → (list : List ℕ) → GivesSized heap at list → (x : HeldElements heap list) → array (elements x.0) ≡ t
+array_is heap code at (array ts) h e list is x = ap array (children_are heap code at ts h e list is x)
 array_is heap code at (leaf l) h e list is x = absurd (∥∥₁_elim h ⊥_prop (λ r. omega (arith, r.0, leaf_type_small l)))
 array_is heap code at (object es) h e list is x = absurd (∥∥₁_elim h ⊥_prop (λ r. omega (arith, r.0)))
 

@@ -5,6 +5,7 @@ pub mod TypeCode
 pub mod TypeByte
 pub mod Held
 pub mod Lent
+pub mod Encoded
 pub mod Wrote
 pub mod Document
 pub mod Value

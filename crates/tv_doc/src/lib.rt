@@ -6,6 +6,7 @@ mod convert;
 pub mod doc_parsing_error;
 pub mod document;
 pub mod document_trait;
+pub mod encoded;
 pub mod field_values;
 mod grouped;
 pub mod json;

@@ -1,15 +1,23 @@
 //! Values that are lent out of a document.
 
-ghost use Rattle.std.specs.Prelude.{◌≡◌};
+ghost use Rattle.std.specs.Prelude.{◌≡◌, ◌↔◌};
 ghost use Rattle.std.specs.Iterator.{YieldsFirstBy, item_count};
 ghost use Rattle.tv_doc.specs.Held.{Held, Held-prop, HeldElements, HeldElements-prop, HeldEntries, HeldEntries-prop};
 ghost use Rattle.tv_doc.specs.TypeCode.{type_code};
 
-use crate::lent::{child_at, eight_at, ip_addr_at, signed_at, sized_at, text_at, tokenized_at};
+use crate::encoded::Encoded;
+use crate::lent::{
+    child_at, children, eight_at, ip_addr_at, signed_at, sixteen_at, sized_at, spelled_at,
+    spelled_tokens_at, text_at, tokenized_at,
+};
 use crate::value_type::ValueType;
 use tv_value::date_time::DateTime;
 use tv_value::leaf::ReferenceValueLeaf;
 use tv_value::same::is_same;
+use tv_value::type_codes::{
+    ARRAY_CODE, BYTES_CODE, DATE_CODE, HIERARCHICAL_FACET_CODE, I64_CODE, IP_CODE, OBJECT_CODE,
+    TEXT_CODE, U64_CODE,
+};
 use tv_value::value::{ReferenceValue, Value};
 
 /// A value of a document, which stands in the heap that it is lent from.
@@ -38,6 +46,11 @@ pub struct CompactDocObjectIter<'a> {
 }
 
 impl<'a> CompactDocValue<'a> {
+    ghost use Rattle.tv_doc.specs.Encoded.{encoded_bytes, IsTokenized, SaysTokenized};
+    ghost use Rattle.tv_doc.specs.Value.{tree_of};
+    ghost use Rattle.tv_value.specs.Short.{short};
+    ghost use Rattle.tv_value.specs.Version.{V2};
+
     pub(crate) fn new(heap: &'a [u8], value_type: ValueType, address: u32) -> CompactDocValue<'a>
         requires held { Held heap.now (type_code value_type) address }
         ensures heap { result.heap.now ≡ heap.now }
@@ -48,6 +61,36 @@ impl<'a> CompactDocValue<'a> {
             heap,
             value_type,
             address,
+        }
+    }
+
+    /// What the store's version 2 has for the value: its shortest spelling, out of the heap and without memory. (Own.)
+    #[inline(always)]
+    pub fn encoded(&self) -> Encoded<'a>
+        ensures bytes { encoded_bytes result ≡ short V2 (tree_of self.now) }
+        ensures tokens { SaysTokenized result ↔ IsTokenized (tree_of self.now) }
+    {
+        let heap = self.heap;
+        let address = self.address;
+        match self.value_type {
+            ValueType::Null => Encoded::Null,
+            ValueType::Str => Encoded::Bytes(TEXT_CODE, spelled_at(heap, address)),
+            ValueType::U64 => Encoded::Number(U64_CODE, eight_at(heap, address)),
+            ValueType::I64 => Encoded::Number(I64_CODE, eight_at(heap, address)),
+            ValueType::Date => Encoded::Number(DATE_CODE, eight_at(heap, address)),
+            ValueType::Facet => Encoded::Bytes(HIERARCHICAL_FACET_CODE, spelled_at(heap, address)),
+            ValueType::Bytes => Encoded::Bytes(BYTES_CODE, spelled_at(heap, address)),
+            ValueType::IpAddr => Encoded::Bytes(IP_CODE, sixteen_at(heap, address)),
+            ValueType::Bool => Encoded::Bool(address != 0),
+            ValueType::PreTokStr => Encoded::Tokenized(spelled_tokens_at(heap, address)),
+            ValueType::Array => {
+                let list = sized_at(heap, address);
+                Encoded::List(ARRAY_CODE, children(list), CompactDocArrayIter { heap, list })
+            }
+            ValueType::Object => {
+                let list = sized_at(heap, address);
+                Encoded::List(OBJECT_CODE, children(list), CompactDocArrayIter { heap, list })
+            }
         }
     }
 }

@@ -6,8 +6,8 @@ pub mod fields;
 pub mod kinds;
 pub mod leaves;
 pub mod trees;
-pub mod type_codes;
 pub mod version;
 
 pub use error::{DeserializeError, ValueType};
+pub use tv_value::type_codes;
 pub use version::DocStoreVersion;

@@ -2,7 +2,6 @@
 
 ghost use Rattle.std.specs.Prelude.{◌≡◌, ◌<◌, [], ◌∷◌, ◌++◌, Ok, IfErr, length};
 ghost use Rattle.tv_base.specs.Number.{four_bytes, eight_bytes};
-ghost use Rattle.tv_base.specs.Parts.{short_sized};
 ghost use Rattle.tv_base.specs.Sink.{Writes};
 ghost use Rattle.tv_doc.specs.Belongs.{Belongs};
 ghost use Rattle.tv_doc.specs.Document.{document_of};
@@ -10,44 +9,39 @@ ghost use Rattle.tv_doc.specs.Value.{tree_of};
 ghost use Rattle.tv_store.specs.Error as store;
 ghost use Rattle.tv_store.specs.Error.{IsIo};
 ghost use Rattle.tv_store.specs.Stored.{stored, tree_written, written_pairs};
-ghost use Rattle.tv_value.specs.Short.{short, short_pair, short_document, IsValue};
+ghost use Rattle.tv_value.specs.Short.{short_pair, short_document};
 ghost use Rattle.tv_value.specs.Version.{V2};
 
 use crate::error::SerializeError;
 pub use crate::serializers::{
     BinaryArraySerializer, BinaryObjectSerializer, BinaryValueSerializer,
 };
-use crate::type_codes::{TEXT_CODE, U64_CODE};
-use crate::value_writer::{write_coded_text, write_stored_leaf, write_value};
+use crate::value_writer::{write_encoded, write_stored_leaf};
 use std::io;
 use tv_base::ByteSink;
 use tv_base::write::{write_all, write_u32, write_vint};
 use tv_doc::document::CompactDoc;
+use tv_doc::encoded::Encoded;
 use tv_doc::laws::documents_are_valid;
 use tv_doc::value::CompactDocValue;
 use tv_schema::Schema;
 use tv_value::field::Field;
-use tv_value::leaf::ReferenceValueLeaf;
 use tv_value::value::{ReferenceValue, Value};
 
-/// Writes a field and a text. A length of one byte is written with the field and the code.
+/// Writes a field and bytes behind their code.
 #[inline]
 #[tactic(auto, using(tv_base::proofs::Written::Writes_then, tv_base::proofs::Written::Writes_front))]
-fn write_field_text<K: ByteSink>(
+fn write_field_bytes<K: ByteSink>(
     sink: &mut K,
     field: Field,
-    content: &str,
+    code: u8,
+    content: &[u8],
 ) -> Result<(), io::ErrorKind>
-    ensures { Writes K.tells K.held K.faults sink.old sink.new result (four_bytes field.id ++ (0 ∷ short_sized content.now)) }
+    ensures { Writes K.tells K.held K.faults sink.old sink.new result (four_bytes field.id ++ (code ∷ content.now)) }
 {
-    let len = content.len();
-    if len < 128 {
-        let [a, b, c, d] = field.field_id().to_le_bytes();
-        write_all(sink, &[a, b, c, d, TEXT_CODE, len as u8 + 128])?;
-        return write_all(sink, content.as_bytes());
-    }
-    write_u32(sink, field.field_id())?;
-    write_coded_text(sink, TEXT_CODE, content)
+    let [a, b, c, d] = field.field_id().to_le_bytes();
+    write_all(sink, &[a, b, c, d, code])?;
+    write_all(sink, content)
 }
 
 /// Writes a field and a number in eight bytes, with the code of its type, at once.
@@ -65,43 +59,35 @@ fn write_field_u64<K: ByteSink>(
     write_all(sink, &[a, b, c, d, code, e, f, g, h, i, j, k, l])
 }
 
-/// Writes a field and a value that has children.
+/// Writes a field and a value of any kind. A pre-tokenised text is written as its text.
 #[tactic(auto, using(tv_base::proofs::Written::Writes_then, tv_base::proofs::Written::Writes_front))]
-fn write_field_list<K: ByteSink>(
+fn write_field_value<K: ByteSink>(
     sink: &mut K,
     field: Field,
-    value: &CompactDocValue<'_>,
+    value: CompactDocValue<'_>,
 ) -> Result<(), io::ErrorKind>
-    requires { IsValue (tree_of value.now) }
-    ensures { Writes K.tells K.held K.faults sink.old sink.new result (four_bytes field.id ++ short V2 (tree_of value.now)) }
+    ensures { Writes K.tells K.held K.faults sink.old sink.new result (short_pair V2 (field.id, tree_written (tree_of value.entry))) }
 {
     write_u32(sink, field.field_id())?;
-    write_value(sink, value)
+    match value.as_value() {
+        ReferenceValue::Leaf(leaf) => write_stored_leaf(sink, &leaf),
+        ReferenceValue::Array(_) => write_encoded(sink, value),
+        ReferenceValue::Object(_) => write_encoded(sink, value),
+    }
 }
 
-/// Writes a pair: its field, and its value. A pre-tokenised text is written as its text.
-#[tactic(auto, using(tv_base::proofs::Written::Writes_then, tv_base::proofs::Written::Writes_front))]
+/// Writes a pair: its field, and its value. The commonest values are written as they stand in the heap.
 fn write_pair<K: ByteSink>(
     sink: &mut K,
     field: Field,
     value: CompactDocValue<'_>,
 ) -> Result<(), io::ErrorKind>
-    requires { IsValue (tree_of value) }
     ensures { Writes K.tells K.held K.faults sink.old sink.new result (short_pair V2 (field.id, tree_written (tree_of value.entry))) }
 {
-    match value.as_value() {
-        ReferenceValue::Leaf(ReferenceValueLeaf::Str(content)) => {
-            write_field_text(sink, field, content)
-        }
-        ReferenceValue::Leaf(ReferenceValueLeaf::U64(number)) => {
-            write_field_u64(sink, field, U64_CODE, number)
-        }
-        ReferenceValue::Leaf(leaf) => {
-            write_u32(sink, field.field_id())?;
-            write_stored_leaf(sink, &leaf)
-        }
-        ReferenceValue::Array(_) => write_field_list(sink, field, &value),
-        ReferenceValue::Object(_) => write_field_list(sink, field, &value),
+    match value.encoded() {
+        Encoded::Number(code, number) => write_field_u64(sink, field, code, number),
+        Encoded::Bytes(code, content) => write_field_bytes(sink, field, code, content),
+        _ => write_field_value(sink, field, value),
     }
 }
 
@@ -127,8 +113,7 @@ fn write_if_stored<K: ByteSink>(
     field: Field,
     value: CompactDocValue<'_>,
 ) -> Result<(), io::ErrorKind>
-    requires belongs { field.id < length schema.now }
-    requires valid { IsValue (tree_of value) }
+    requires { field.id < length schema.now }
     ensures { Writes K.tells K.held K.faults sink.old sink.new result (written_pairs schema.now ((field.id, tree_of value.entry) ∷ [])) }
 {
     if schema.get_field_entry(field).is_stored() {
@@ -147,7 +132,6 @@ fn write_pairs<K: ByteSink>(
     requires { Belongs schema.now (document_of document.now) }
     ensures { Writes K.tells K.held K.faults sink.old sink.new result (written_pairs schema.now (document_of document.now)) }
 {
-    documents_are_valid();
     for (field, value) in document.field_values() {
         write_if_stored(sink, schema, field, value)?;
     }

@@ -8,6 +8,7 @@ ghost use Rattle.std.specs.List.{flat_map};
 ghost use Rattle.tv_base.specs.Number.{vnum, eight_bytes, sixteen_bytes, signed_bytes, truth_byte};
 ghost use Rattle.tv_base.specs.Parts.{short_sized};
 ghost use Rattle.tv_base.specs.Sink.{Writes};
+ghost use Rattle.tv_doc.specs.Value.{tree_of};
 ghost use Rattle.tv_store.specs.Children.{child_count};
 ghost use Rattle.tv_store.specs.Stored.{leaf_written, tree_written};
 ghost use Rattle.tv_value.specs.Lent.{leaf_of, nested_tree};
@@ -27,6 +28,8 @@ use tv_base::ByteSink;
 use tv_base::write::{
     write_all, write_bool, write_sized, write_text, write_u8, write_u128, write_vint,
 };
+use tv_doc::encoded::Encoded;
+use tv_doc::value::{CompactDocArrayIter, CompactDocValue};
 use tv_value::leaf::ReferenceValueLeaf;
 use tv_value::nested::{Lent, Nested, NestedValue, lend};
 use tv_value::pre_tokenized::{PreTokenizedStr, TokenIter, TokenRef};
@@ -307,6 +310,66 @@ pub(crate) fn write_value<'a, K: ByteSink, V: Value<'a>>(
             write_members::<K, Lent<'a, V>>(sink, members)
         }
     }
+}
+
+// A code, and the bytes behind it.
+#[inline]
+#[tactic(auto, using(crate::proofs::Coded::Coded_then))]
+fn write_behind<K: ByteSink>(
+    sink: &mut K,
+    code: u8,
+    content: &[u8],
+) -> Result<(), io::ErrorKind>
+    ensures { Writes K.tells K.held K.faults sink.old sink.new result (code ∷ content.now) }
+{
+    write_code(sink, code)?;
+    write_all(sink, content)
+}
+
+// A text and its tokens, as they are spelled behind their two codes.
+#[tactic(auto, using(tv_base::proofs::Written::Writes_then, tv_base::proofs::Written::Writes_front))]
+fn write_spelled_tokens<K: ByteSink>(sink: &mut K, content: &[u8]) -> Result<(), io::ErrorKind>
+    ensures { Writes K.tells K.held K.faults sink.old sink.new result (7 ∷ 0 ∷ content.now) }
+{
+    write_all(sink, &[EXT_CODE, TOK_STR_EXT_CODE])?;
+    write_all(sink, content)
+}
+
+/// Writes a value of a document as it stands in the heap. It takes no memory of its own.
+///
+/// The only error is the kind with which a write failed. The sink then holds what it held before, and a beginning of the value.
+#[cycle(encoded)]
+pub(crate) fn write_encoded<K: ByteSink>(
+    sink: &mut K,
+    value: CompactDocValue<'_>,
+) -> Result<(), io::ErrorKind>
+    ensures { Writes K.tells K.held K.faults sink.old sink.new result (short V2 (tree_of value.entry)) }
+{
+    match value.encoded() {
+        Encoded::Null => write_code(sink, NULL_CODE),
+        Encoded::Bool(truth) => write_coded_bool(sink, BOOL_CODE, truth),
+        Encoded::Number(code, number) => write_coded_u64(sink, code, number),
+        Encoded::Bytes(code, content) => write_behind(sink, code, content),
+        Encoded::Tokenized(content) => write_spelled_tokens(sink, content),
+        Encoded::List(code, count, items) => {
+            write_coded_count(sink, code, count)?;
+            write_encoded_items(sink, items)
+        }
+    }
+}
+
+// The values that are left of a list, in order.
+#[cycle(encoded)]
+fn write_encoded_items<K: ByteSink>(
+    sink: &mut K,
+    items: CompactDocArrayIter<'_>,
+) -> Result<(), io::ErrorKind>
+    ensures { Writes K.tells K.held K.faults sink.old sink.new result (short_elements V2 (elements items.held.0)) }
+{
+    for item in items {
+        write_encoded(sink, item)?;
+    }
+    Ok(())
 }
 
 /// Writes a value without children as a pair has it: of a text with tokens the text alone.

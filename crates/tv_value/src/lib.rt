@@ -16,6 +16,7 @@ pub mod pre_tokenized;
 pub mod same;
 pub mod spell;
 pub mod tokenizer;
+pub mod type_codes;
 pub mod value;
 
 pub use tv_date::{date_error, date_time};

@@ -1,0 +1,21 @@
+//! What the store has for a value of a document, as it stands in the heap.
+
+use crate::value::CompactDocArrayIter;
+
+/// What the store has for a value: a code, and what stands in the heap is what the store has behind it. (Own.)
+#[derive(Clone, Copy)]
+pub enum Encoded<'a> {
+    /// No value.
+    Null,
+    /// A truth value.
+    Bool(bool),
+    /// A code, and a number in eight bytes behind it.
+    Number(u8, u64),
+    /// A code, and the bytes behind it.
+    Bytes(u8, &'a [u8]),
+    /// A text and its tokens: the bytes behind their two codes.
+    Tokenized(&'a [u8]),
+    /// A code, the number of the children, and each of them: the values of an array, or the keys and values of an object, each key before
+    /// its value.
+    List(u8, u64, CompactDocArrayIter<'a>),
+}
