@@ -1,12 +1,15 @@
 -- The parts of an array and of an object, as they are written, and what is left of each.
-use Rattle.std.proofs.Common.{◌≡◌, ℕ, ◌≤◌, List, ◌∷◌, ◌++◌, sym, ap, subst, ◌∙◌, arith}
+use Rattle.std.proofs.Common.{◌≡◌, ℕ, ◌<◌, ◌≤◌, List, ◌∷◌, ◌++◌, length, refl, sym, ap, subst, ◌∙◌, arith}
+use Rattle.std.proofs.lemmas.List.{length-append}
 use Rattle.tv_base.specs.Number.{vnum}
 use Rattle.tv_base.specs.Parts.{short_sized}
 use Rattle.tv_value.specs.Short.{short, short_elements, short_entries, IsValue, AreElements, AreEntries}
 use Rattle.tv_value.specs.Size.{size, elements_size, entries_size}
-use Rattle.tv_value.specs.Tree.{Tree, array, object, Elements, elements, Entries, entries}
+use Rattle.tv_value.specs.Tree.{null, text, unsigned, signed, boolean, date, facet, bytes, ip_address, tokenized, Tree, leaf, array, object, Elements, elements, Entries, entries}
 use Rattle.tv_value.specs.Version.{V2, entry_total}
+use Rattle.tv_doc.specs.Encoded.{IsTokenized}
 use Rattle.tv_store.specs.Children.{child_count}
+use Rattle.tv_store.specs.Stored.{tree_written}
 
 -- ---- arrays
 
@@ -38,3 +41,36 @@ entries_valid cut valid = (subst (λ es. AreEntries (entries es)) cut valid).2
 
 pub entries_at_most : {all others : List (List ℕ × Tree)} {first : List ℕ × Tree} {n : ℕ} → all ≡ first ∷ others → entries_size (entries all) ≤ n → entries_size (entries others) ≤ n
 entries_at_most cut most = let sizes = ap (λ es. entries_size (entries es)) cut in omega (arith, most, sizes)
+
+-- ---- values as they stand in a heap
+
+-- a list has fewer bytes behind its head
+pub list_fewer : (tree : Tree) (es : Elements) (code count : ℕ) → code ∷ (vnum count ++ short_elements V2 es) ≡ short V2 tree → length (short_elements V2 es) < length (short V2 tree)
+list_fewer tree es code count is = omega (arith, ap length is, length-append (vnum count) (short_elements V2 es))
+
+pub first_fewer : {all others : List Tree} {first : Tree} {n : ℕ} → all ≡ first ∷ others → length (short_elements V2 (elements all)) ≤ n → length (short V2 first) ≤ n
+first_fewer {others = others} {first = first} cut most = omega (arith, most, ap length (elements_parts cut), length-append (short V2 first) (short_elements V2 (elements others)))
+
+pub others_fewer : {all others : List Tree} {first : Tree} {n : ℕ} → all ≡ first ∷ others → length (short_elements V2 (elements all)) ≤ n → length (short_elements V2 (elements others)) ≤ n
+others_fewer {others = others} {first = first} cut most = omega (arith, most, ap length (elements_parts cut), length-append (short V2 first) (short_elements V2 (elements others)))
+
+-- a value without tokens is written as it is
+pub plainly_written : (t : Tree) → (IsTokenized t → ⊥) → tree_written t ≡ t
+plainly_written (leaf null) none = refl
+plainly_written (leaf (text t)) none = refl
+plainly_written (leaf (unsigned n)) none = refl
+plainly_written (leaf (signed z)) none = refl
+plainly_written (leaf (boolean b)) none = refl
+plainly_written (leaf (date z)) none = refl
+plainly_written (leaf (facet t)) none = refl
+plainly_written (leaf (bytes t)) none = refl
+plainly_written (leaf (ip_address n)) none = refl
+plainly_written (leaf (tokenized t ts)) none = absurd (none tt)
+plainly_written (array ts) none = refl
+plainly_written (object es) none = refl
+
+pub written_array : {t : Tree} {es : Elements} → t ≡ array es → tree_written t ≡ t
+written_array e = ap tree_written e ∙ sym e
+
+pub written_object : {t : Tree} {es : Entries} → t ≡ object es → tree_written t ≡ t
+written_object e = ap tree_written e ∙ sym e

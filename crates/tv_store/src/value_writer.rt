@@ -364,7 +364,7 @@ fn write_encoded_items<K: ByteSink>(
     sink: &mut K,
     items: CompactDocArrayIter<'_>,
 ) -> Result<(), io::ErrorKind>
-    ensures { Writes K.tells K.held K.faults sink.old sink.new result (short_elements V2 (elements items.held.0)) }
+    ensures { Writes K.tells K.held K.faults sink.old sink.new result (short_elements V2 (elements items.entry.held.0)) }
 {
     for item in items {
         write_encoded(sink, item)?;

@@ -1,14 +1,23 @@
-use Rattle.std.proofs.Common.{◌++◌, sym, ap, ◌∙◌}
-use Rattle.tv_base.specs.Number.{four_bytes}
-use Rattle.tv_base.proofs.Written.{Writes_then}
-use Rattle.tv_value.specs.Lent.{tree_of}
+use Rattle.std.proofs.Common.{◌≡◌, ◌∷◌, ◌++◌, sym, ap, subst, ◌∙◌}
+use Rattle.tv_base.specs.Number.{four_bytes, eight_bytes}
+use Rattle.tv_doc.specs.Encoded.{encoded_bytes, SaysTokenized}
+use Rattle.tv_doc.specs.Value.{tree_of}
 use Rattle.tv_value.specs.Short.{short}
 use Rattle.tv_value.specs.Version.{V2}
-use Rattle.tv_store.specs.Stored.{tree_written}
 use Rattle.tv_store.proofs.Coded.{Writes_as}
+use Rattle.tv_store.proofs.WriterSteps.{plainly_written}
 use Rattle.tv_store.proofs.se.write_pair.Goals as goal
 
-pub returns-in_ok-write_u32-in-Leaf : goal.returns-in_ok-write_u32-in-Leaf
-returns-in_ok-write_u32-in-Leaf g c =
-    let tree = sym c.as_value.ensures ∙ ap (tree_of (λ s. s.held.0) (λ s. s.held.0)) c.in-Leaf.is in
-    Writes_as (Writes_then _ _ c.in_ok-write_u32-in-Leaf.ensures c.write_stored_leaf.ensures) (λ i. four_bytes (c.field_id.ensures i) ++ short V2 (tree_written (sym tree i)))
+pub returns-in-Number : goal.returns-in-Number
+returns-in-Number g c =
+    let x = c.in-Number in
+    let plain = plainly_written (tree_of c.args.value) (λ t. subst SaysTokenized x.is (c.encoded.ensures.tokens.1 t)) in
+    let is : x.code ∷ eight_bytes x.number ≡ short V2 (tree_of c.args.value) = sym (ap encoded_bytes x.is) ∙ c.encoded.ensures.bytes in
+    Writes_as c.write_field_u64.ensures (ap (λ z. four_bytes c.args.field.id ++ z) (is ∙ ap (short V2) (sym plain)))
+
+pub returns-in-Bytes : goal.returns-in-Bytes
+returns-in-Bytes g c =
+    let x = c.in-Bytes in
+    let plain = plainly_written (tree_of c.args.value) (λ t. subst SaysTokenized x.is (c.encoded.ensures.tokens.1 t)) in
+    let is : x.code ∷ x.content.now ≡ short V2 (tree_of c.args.value) = sym (ap encoded_bytes x.is) ∙ c.encoded.ensures.bytes in
+    Writes_as c.write_field_bytes.ensures (ap (λ z. four_bytes c.args.field.id ++ z) (is ∙ ap (short V2) (sym plain)))

@@ -11,7 +11,7 @@ use Rattle.tv_store.proofs.se.write_pairs.Goals as goal
 pub loop-field-init : goal.loop-field-init
 loop-field-init g c =
     let all : pairs_left c.into_iter-field-iterator.result ≡ document_of c.args.document.now = search rules in
-    rw all (record { can_next = tt; is_finite = tt; belongs = c.requires; valid = (c.documents_are_valid.ensures c.args.document.now).each; written = Written-start _ _ _ _ _ })
+    rw all (record { can_next = tt; is_finite = tt; belongs = c.requires; written = Written-start _ _ _ _ _ })
 
 pub loop-field-preserved : goal.loop-field-preserved
 loop-field-preserved g c =
@@ -21,7 +21,6 @@ loop-field-preserved g c =
       can_next = tt;
       is_finite = tt;
       belongs = search rules;
-      valid = (subst (AllByRecursion IsPair) cut l.invariant.valid).1;
       written = Written-step _ _ (written_next _ _ _ _ cut) l.invariant.written c.in_ok-write_if_stored.ensures;
     }
 

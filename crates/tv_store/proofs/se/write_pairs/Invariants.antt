@@ -1,9 +1,7 @@
 use Rattle.tv_base.proofs.Written.{Written}
-use Rattle.std.specs.List.{AllByRecursion}
 use Rattle.tv_doc.specs.Document.{document_of}
 use Rattle.tv_doc.specs.Value.{pairs_left}
 use Rattle.tv_doc.specs.Belongs.{Belongs}
-use Rattle.tv_value.specs.Short.{IsPair}
 use Rattle.tv_store.specs.Stored.{written_pairs}
 use Rattle.tv_store.proofs.se.write_pairs.Given as goal
 
@@ -12,7 +10,6 @@ invariant-loop-field g l = record {
   can_next : (goal.iterator-loop-field g).can_next l.field-iterator;
   is_finite : (goal.iterator-loop-field g).is_finite l.field-iterator;
   belongs : Belongs l.schema (pairs_left l.field-iterator);
-  valid : AllByRecursion IsPair (pairs_left l.field-iterator);
   written : Written g.K.ByteSink.tells g.K.ByteSink.held g.K.ByteSink.faults l.initial.sink l.sink
       (written_pairs l.schema (document_of l.document)) (written_pairs l.schema (pairs_left l.field-iterator));
 }
