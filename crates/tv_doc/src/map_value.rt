@@ -31,6 +31,7 @@ impl<'a> Iterator for MapArrayIter<'a> {
 
     ghost remaining = { item_count items_left };
 
+    #[inline]
     fn next(&mut self) -> Option<MapValue<'a>> {
         Some(MapValue::Owned(self.items.next()?))
     }
@@ -52,6 +53,7 @@ impl<'a> Iterator for MapObjectIter<'a> {
 
     ghost remaining = { item_count members_left };
 
+    #[inline]
     fn next(&mut self) -> Option<(&'a str, MapValue<'a>)> {
         match self {
             MapObjectIter::Map(entries) => {
@@ -87,6 +89,7 @@ impl<'a> Value<'a> for MapValue<'a> {
 
     ghost object_steps = { λ s t r steps. steps };
 
+    #[inline(always)]
     fn as_value(&self) -> ReferenceValue<'a, MapValue<'a>> {
         match *self {
             MapValue::Map(map) => ReferenceValue::Object(MapObjectIter::Map(map.iter())),

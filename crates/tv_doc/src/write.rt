@@ -43,34 +43,42 @@ fn push_sixteen(heap: &mut Vec<u8>, number: u128) -> Result<(), AllocError>
     heap.extend_from_slice(&number.to_le_bytes())
 }
 
+/// The first addition to a heap makes room for so many bytes: enough for the values of a short document.
+const FIRST_ROOM: usize = 512;
+
 // The first place of a child makes room for so many bytes of places.
 const FIRST_PLACES: usize = 128;
 
-// Adds a child's type and address.
-fn push_place(places: &mut Vec<u8>, value_type: ValueType, address: u32) -> Result<(), AllocError>
-    ensures { OnOk result (places.new.items ≡ places.old.items ++ (type_code value_type ∷ vnum address)) }
-{
-    if places.is_empty() {
-        places.reserve(FIRST_PLACES)?;
-    }
-    places.push(value_type.to_code())?;
-    push_number(places, u64::from(address))
-}
-
-/// The first addition to a heap makes room for so many bytes: enough for the values of a short document, and no more than such
-/// documents fill, since room that is left empty makes each later walk over many documents slower.
-const FIRST_ROOM: usize = 256;
-
-// Makes room in a heap that has none.
+// Makes room for so many bytes where there is none.
 #[inline]
-fn make_room(heap: &mut Vec<u8>) -> Result<(), AllocError>
-    ensures { heap.new.items ≡ heap.old.items }
+fn make_room(bytes: &mut Vec<u8>, room: usize) -> Result<(), AllocError>
+    ensures { bytes.new.items ≡ bytes.old.items }
 {
-    if heap.is_empty() {
-        heap.reserve(FIRST_ROOM)
+    if bytes.is_empty() {
+        bytes.reserve(room)
     } else {
         Ok(())
     }
+}
+
+// Adds a child's type and address. The addresses in a short document have one byte or two.
+#[inline]
+fn push_place(places: &mut Vec<u8>, value_type: ValueType, address: u32) -> Result<(), AllocError>
+    ensures { OnOk result (places.new.items ≡ places.old.items ++ (type_code value_type ∷ vnum address)) }
+{
+    make_room(places, FIRST_PLACES)?;
+    let code = value_type.to_code();
+    if address < 128 {
+        places.extend_from_slice(&[code, address as u8 + 128])?;
+        return Ok(());
+    }
+    if address < 16384 {
+        let last = (address / 128) as u8 + 128;
+        places.extend_from_slice(&[code, (address % 128) as u8, last])?;
+        return Ok(());
+    }
+    places.push(code)?;
+    push_number(places, u64::from(address))
 }
 
 // Writes a key, and adds its type and address.
@@ -80,7 +88,7 @@ fn write_key(heap: &mut Vec<u8>, places: &mut Vec<u8>, key: &str) -> Result<(), 
     ensures places { OnOk result (places.new.items ≡ places.old.items ++ (1 ∷ vnum (length heap.old.items))) }
     ensures err { OnErr result (IsFront heap.old.items heap.new.items) }
 {
-    make_room(heap)?;
+    make_room(heap, FIRST_ROOM)?;
     let at = heap.len() as u32;
     push_sized(heap, key.as_bytes())?;
     push_place(places, ValueType::Str, at)
@@ -169,7 +177,7 @@ pub fn write_leaf(
     ensures ok { IfOk result (λ r. Wrote heap.old.items heap.new.items (type_code r.0) r.1 (leaf (leaf_of value.now))) }
     ensures err { OnErr result (IsFront heap.old.items heap.new.items) }
 {
-    make_room(heap)?;
+    make_room(heap, FIRST_ROOM)?;
     match value {
         ReferenceValueLeaf::Null => Ok((ValueType::Null, 0)),
         ReferenceValueLeaf::Bool(truth) => Ok((ValueType::Bool, u32::from(*truth))),

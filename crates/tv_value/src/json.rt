@@ -88,6 +88,7 @@ impl<'a> Iterator for LentJsonArray<'a> {
 
     ghost remaining = { item_count (λ s. s.items.now) };
 
+    #[inline]
     fn next(&mut self) -> Option<LentJson<'a>> {
         let (json, others) = self.items.split_first()?;
         self.items = others;
@@ -111,6 +112,7 @@ impl<'a> Iterator for LentJsonObject<'a> {
 
     ghost remaining = { item_count (λ s. s.members) };
 
+    #[inline]
     fn next(&mut self) -> Option<(&'a str, LentJson<'a>)> {
         let (key, json) = self.members.next()?;
         Some((key.as_str(), LentJson { json }))
@@ -151,6 +153,7 @@ impl<'a> Value<'a> for LentJson<'a> {
 
     ghost object_steps = { λ s t r steps. steps };
 
+    #[inline(always)]
     fn as_value(&self) -> ReferenceValue<'a, LentJson<'a>> {
         match self.json {
             JsonValue::Null => ReferenceValue::Leaf(ReferenceValueLeaf::Null),

@@ -104,7 +104,7 @@ impl<'a, V: Value<'a>> Iterator for LentArray<'a, V> {
         (0, None)
     }
 
-    #[inline]
+    #[inline(always)]
     fn next(&mut self) -> Option<Lent<'a, V>> {
         match self.items.next() {
             Some(value) => Some(Lent {
@@ -142,7 +142,7 @@ impl<'a, V: Value<'a>> Iterator for LentObject<'a, V> {
         (0, None)
     }
 
-    #[inline]
+    #[inline(always)]
     fn next(&mut self) -> Option<(&'a str, Lent<'a, V>)> {
         match self.members.next() {
             Some((key, value)) => Some((
@@ -178,14 +178,14 @@ impl<'a, V: Value<'a>> Nested for Lent<'a, V> {
 
     ghost object_steps = { λ s t r steps. steps };
 
-    #[inline]
+    #[inline(always)]
     fn as_nested(&self) -> NestedValue<'_, Lent<'a, V>> {
         lend(&self.value)
     }
 }
 
 /// What a value is, with its children lent the same way. (Own.)
-#[inline]
+#[inline(always)]
 pub fn lend<'a, V: Value<'a>>(value: &V) -> NestedValue<'a, Lent<'a, V>>
     ensures { nested_tree (λ s. V.array_rest s.items) (λ s. V.object_rest s.members) result ≡ V.tree value.now }
 {

@@ -61,6 +61,7 @@ impl<'a> Iterator for OwnedArrayIter<'a> {
 
     ghost remaining = { item_count (λ s. s.items.now) };
 
+    #[inline]
     fn next(&mut self) -> Option<&'a OwnedValue> {
         let (first, others) = self.items.split_first()?;
         self.items = others;
@@ -84,6 +85,7 @@ impl<'a> Iterator for OwnedObjectIter<'a> {
 
     ghost remaining = { item_count (λ s. s.members.now) };
 
+    #[inline]
     fn next(&mut self) -> Option<(&'a str, &'a OwnedValue)> {
         let (first, others) = self.members.split_first()?;
         self.members = others;
@@ -113,6 +115,7 @@ impl<'a> Value<'a> for &'a OwnedValue {
 
     ghost object_steps = { λ s t r steps. steps };
 
+    #[inline(always)]
     fn as_value(&self) -> ReferenceValue<'a, &'a OwnedValue> {
         let leaf = match *self {
             OwnedValue::Array(items) => {
