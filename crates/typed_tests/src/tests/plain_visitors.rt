@@ -75,5 +75,7 @@ fn arrays_and_objects_need_calls_of_their_own(rt: HostRuntime) {
     assert_eq!(rt; ending(alloc, b"\x0c\x82\x0b\x0b"), Err(array));
     let object = DeserializeError::UnsupportedType(ValueType::Object);
     assert_eq!(rt; ending(alloc, b"\x0d\x82\x00\x81a\x0b"), Err(object));
+    let legacy = DeserializeError::UnsupportedType(ValueType::Object);
+    assert_eq!(rt; ending(alloc, b"\x08{}"), Err(legacy));
     assert_eq!(rt; ending(alloc, b"\x0b"), Ok(()));
 }
