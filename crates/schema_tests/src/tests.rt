@@ -1,3 +1,4 @@
+mod fields;
 mod json_values;
 mod paths;
 mod schema_json;

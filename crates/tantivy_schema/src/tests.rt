@@ -1,16 +1,4 @@
-//! Tests over the public calls of all crates.
+//! Tests of the names and laws of this crate. Tests of one layer stand in a crate on that layer.
 
-mod announced;
-mod documents;
-mod heaps;
-mod json_documents;
-mod json_lines;
-mod legacy;
-mod nested;
-mod reading;
+mod laws;
 mod readme;
-mod repeated;
-mod rows;
-mod serializers;
-mod sources;
-mod typed;

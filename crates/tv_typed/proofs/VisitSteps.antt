@@ -8,6 +8,8 @@ use Rattle.tv_legacy.specs.Legacy.{Legacy}
 use Rattle.tv_value.specs.Spelling.{Spells, NoLegacy}
 use Rattle.tv_value.specs.Tree.{Leaf, signed, Tree, leaf}
 use Rattle.tv_value.specs.Version.{Version}
+use Rattle.tv_value.specs.declared.owned_value.OwnedValue.{OwnedValue}
+use Rattle.tv_reader.specs.Trees.{SpellsBehind}
 use Rattle.tv_reader.specs.ValueType.{coded}
 use Rattle.tv_reader.specs.Version.{version_of}
 use Rattle.tv_reader.specs.declared.error.DeserializeError.{DeserializeError}
@@ -16,9 +18,9 @@ use Rattle.tv_reader.specs.declared.error.ValueType.{ValueType}
 use Rattle.tv_reader.specs.declared.error.ValueType.TheVariants as types
 use Rattle.tv_typed.specs.Excluding.{faulty_behind}
 use Rattle.tv_typed.specs.Typed.{typed_stop, Reads}
-use Rattle.tv_typed.specs.Values.{IsLeaf, SpellsLeaf, LeafRefused, other_type, in_body}
+use Rattle.tv_typed.specs.Values.{IsLeaf, SpellsLeaf, LeafRefused, other_type, in_body, TreeRefused}
 use Rattle.tv_typed.specs.Lists.{Length, LengthRefused}
-use Rattle.tv_typed.specs.Visits.{Answered, Visits, Handed, IsObjectType, object_type, legacy_type, VisitsItems}
+use Rattle.tv_typed.specs.Visits.{Answered, Visits, Handed, VisitsItems, VisitsLegacy}
 use Rattle.tv_typed.specs.declared.store_reader.StoreReader.{StoreReader}
 use Rattle.tv_typed.proofs.DeserializeSteps.{end, only_by, leaf_deserializes}
 use Rattle.tv_reader.specs.Finds.{TellsStop}
@@ -110,7 +112,18 @@ pub items_marked : {S X : Type 0} {tells : S → Type 0} {left : S → List ℕ}
     → VisitsItems tells left faults old new collection total kind result → VisitsItems tells left faults old (record new { has_failed = true }) collection total kind result
 items_marked {tells = tells} {left = left} {new = new} {result = result} h = record { behind_number = h.behind_number; announced = h.announced; reads = h.reads; handed = handed_marked tells left h.behind_number new h.announced result h.reads.marks h.handed }
 
--- arrays are no objects
-pub no_object : (kind : ValueType) → kind ≡ types.Array → IsObjectType kind → ⊥
-no_object _ is object_type = absurd cc
-no_object _ is legacy_type = absurd cc
+-- ---- legacy objects
+
+-- what the visitor refused was marked
+pub legacy_marked : {S X : Type 0} {tells : S → Type 0} {left : S → List ℕ} {faults : S → Faults} {old new : StoreReader S} {result : Result X DeserializeError} → VisitsLegacy tells left faults old new result → VisitsLegacy tells left faults old (record new { has_failed = true }) result
+legacy_marked h = record { behind_object = h.behind_object; read = h.read; reads = h.reads; gives = h.gives; same_source = h.same_source; same_count = h.same_count; same_version = h.same_version }
+
+-- the object was refused
+pub legacy_refused : {S X : Type 0} {tells : S → Type 0} {left : S → List ℕ} {faults : S → Faults} {old new : StoreReader S} (e : DeserializeError)
+    → Reads {X = OwnedValue} tells left faults old new (Err e) (SpellsBehind (version_of old.version) types.JSONObject) (TreeRefused (version_of old.version) types.JSONObject) → VisitsLegacy {X = X} tells left faults old new (Err e)
+legacy_refused {new = new} e h = record { behind_object = new; read = Err e; reads = h; gives = refl; same_source = refl; same_count = refl; same_version = refl }
+
+-- it was read
+pub legacy_visited : {S X : Type 0} {tells : S → Type 0} {left : S → List ℕ} {faults : S → Faults} {old new : StoreReader S} (tree : OwnedValue) (result : Result X DeserializeError)
+    → Reads tells left faults old new (Ok tree) (SpellsBehind (version_of old.version) types.JSONObject) (TreeRefused (version_of old.version) types.JSONObject) → VisitsLegacy tells left faults old new result
+legacy_visited {new = new} tree result h = record { behind_object = new; read = Ok tree; reads = h; gives = tt; same_source = refl; same_count = refl; same_version = refl }

@@ -5,3 +5,5 @@ pub mod Documents
 pub mod Excluding
 pub mod ExcludingLists
 pub mod Visits
+pub mod LegacyObjects
+pub mod ExcludingLegacy

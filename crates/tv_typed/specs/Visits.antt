@@ -2,15 +2,17 @@
 use Rattle.std.specs.Prelude.{◌≡◌, ℕ, true, is_err, List, Result, Ok, Err}
 use Rattle.tv_base.specs.Source.{Faults}
 use Rattle.tv_base.specs.Stop.{Taken}
+use Rattle.tv_reader.specs.Trees.{SpellsBehind}
 use Rattle.tv_reader.specs.ValueType.{coded}
 use Rattle.tv_reader.specs.Version.{version_of}
 use Rattle.tv_reader.specs.declared.error.DeserializeError.{DeserializeError}
 use Rattle.tv_reader.specs.declared.error.ValueType.{ValueType}
 use Rattle.tv_reader.specs.declared.error.ValueType.TheVariants as types
 use Rattle.tv_value.specs.Tree.{Leaf}
+use Rattle.tv_value.specs.declared.owned_value.OwnedValue.{OwnedValue}
 use Rattle.tv_typed.specs.Lists.{Length, LengthRefused}
 use Rattle.tv_typed.specs.Typed.{Reads}
-use Rattle.tv_typed.specs.Values.{IsLeaf, SpellsLeaf, LeafRefused, Only}
+use Rattle.tv_typed.specs.Values.{IsLeaf, SpellsLeaf, LeafRefused, TreeRefused, Only}
 use Rattle.tv_typed.specs.declared.store_reader.StoreReader.{StoreReader}
 
 -- ---- leaves
@@ -42,14 +44,27 @@ abbrev pub Handed : {S X : Type 0} (tells : S → Type 0) (left : S → List ℕ
 Handed tells left mid new (Ok n) result = TakesSome tells left mid new
 Handed tells left mid new (Err e) result = (result ≡ Err e) × (new ≡ mid)
 
--- the type of an object, or that of a legacy object, which isn't handed on
-pub data IsObjectType : ValueType → Type 0 where
-  object_type : IsObjectType types.Object
-  legacy_type : IsObjectType types.JSONObject
-
 -- The number of the values was read behind the code, and then they were handed on.
 pub record VisitsItems {S X : Type 0} (tells : S → Type 0) (left : S → List ℕ) (faults : S → Faults) (old new : StoreReader S) (collection : ValueType) (total : ℕ → ℕ) (kind : ValueType) (result : Result X DeserializeError) : Type 0 where
   pub behind_number : StoreReader S
   pub announced : Result ℕ DeserializeError
   pub reads : Reads tells left faults old behind_number announced (Length collection total kind) (LengthRefused collection total kind)
   pub handed : Handed tells left behind_number new announced result
+
+-- ---- legacy objects
+
+-- where a legacy object was refused, that is given
+abbrev pub GivesRefusal : {X : Type 0} → Result OwnedValue DeserializeError → Result X DeserializeError → Type 0
+GivesRefusal (Ok tree) result = Unit {0}
+GivesRefusal (Err e) result = result ≡ Err e
+
+-- A legacy object was read whole behind its code, and then the entries that its tree spells were handed on, or its refusal is given. Nothing more is taken
+-- through the reader, whose mark may also tell of the answer.
+pub record VisitsLegacy {S X : Type 0} (tells : S → Type 0) (left : S → List ℕ) (faults : S → Faults) (old new : StoreReader S) (result : Result X DeserializeError) : Type 0 where
+  pub behind_object : StoreReader S
+  pub read : Result OwnedValue DeserializeError
+  pub reads : Reads tells left faults old behind_object read (SpellsBehind (version_of old.version) types.JSONObject) (TreeRefused (version_of old.version) types.JSONObject)
+  pub gives : GivesRefusal read result
+  pub same_source : new.source ≡ behind_object.source
+  pub same_count : new.count ≡ behind_object.count
+  pub same_version : new.version ≡ behind_object.version

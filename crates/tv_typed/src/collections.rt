@@ -3,24 +3,32 @@
 //! Errors of each: `UnsupportedType` where a value of another type stands there, and nothing more is taken then; `CorruptedValue`
 //! where the number of values is at fault, with `OddObject` where no object announces it; and the first refusal of a key or of a
 //! value. `Memory` where the list or the map can't grow: nothing is reserved from the number.
+//!
+//! A legacy object is read too, as a list of keys and values and as a map: its tree is spelled in memory, in its shortest spelling, and read
+//! from there. Its own errors are those of `deserialize_tree`; the first refusal of a value in it comes behind the whole object.
+//! `UnsupportedType(JSONObject)` where the type of its values reads past the end of that spelling, which none of this library does.
 
 ghost use Rattle.std.specs.Prelude.{◌≡◌, true, OnErr};
 ghost use Rattle.std.specs.BTreeMap as tree;
 ghost use Rattle.std.specs.HashMap as hash;
 ghost use Rattle.tv_reader.specs.Version.{version_of};
+ghost use Rattle.tv_typed.specs.ExcludingLegacy.{members_exclude};
 ghost use Rattle.tv_typed.specs.ExcludingLists.{array_excludes, object_excludes};
+ghost use Rattle.tv_typed.specs.LegacyObjects.{MembersRefused};
 ghost use Rattle.tv_typed.specs.Lists.{ArrayOf, ObjectOf, MapOf, ArrayRefused, ObjectRefused};
 ghost use Rattle.tv_typed.specs.Typed.{Deserializes};
 ghost use Rattle.tv_typed.specs.Values.{SpelledAs};
 
 use crate::array::read_elements;
 use crate::deserialize::ValueDeserialize;
+use crate::legacy_object::{CodedObject, read_object};
 use crate::object::{read_entries, read_hashed, read_map};
+use crate::store_reader::StoreReader;
 use crate::value_deserializer::BinaryValueDeserializer;
 use std::alloc::Global;
 use std::collections::{BTreeMap, HashMap};
 use tv_base::ByteSource;
-use tv_reader::DeserializeError;
+use tv_reader::{DeserializeError, ValueType};
 
 impl<T: ValueDeserialize> ValueDeserialize for Vec<T> {
     ghost is = { λ t list. ArrayOf T.is t list.items };
@@ -44,68 +52,122 @@ impl<T: ValueDeserialize> ValueDeserialize for Vec<T> {
     ghost excludes = { λ v kind front rest e t list refused spelled is. array_excludes T.is T.refused T.excludes v kind front rest e t list.items refused spelled is };
 }
 
-impl<T: ValueDeserialize> ValueDeserialize for Vec<(String, T)> {
+impl<T: ValueDeserialize> CodedObject for Vec<(String, T)> {
     ghost is = { λ t list. ObjectOf T.is t list.items };
 
     ghost refused = { ObjectRefused T.is T.refused };
 
-    fn deserialize<S: ByteSource>(
+    fn behind<S: ByteSource>(
         alloc: Global,
-        deserializer: BinaryValueDeserializer<'_, S>,
+        kind: ValueType,
+        reader: &mut StoreReader<S>,
     ) -> Result<Vec<(String, T)>, DeserializeError>
-        ensures deserializes { Deserializes S.tells S.left deserializer.entry.reader.now deserializer.exit.1.0.now result (SpelledAs (λ t list. ObjectOf T.is t list.items) (version_of deserializer.entry.reader.now.version) deserializer.entry.kind) (ObjectRefused T.is T.refused (version_of deserializer.entry.reader.now.version) deserializer.entry.kind) }
-        ensures marks { OnErr result (deserializer.exit.1.0.now.has_failed ≡ true) }
+        ensures { Deserializes S.tells S.left reader.old reader.new result (SpelledAs (λ t list. ObjectOf T.is t list.items) (version_of reader.old.version) kind) (ObjectRefused T.is T.refused (version_of reader.old.version) kind) }
     {
-        let BinaryValueDeserializer { kind, reader } = deserializer;
         let announced = reader.object_length(kind)?;
         let answer = read_entries(alloc, reader, announced);
         reader.has_failed = answer.is_err();
         answer
     }
-
-    ghost excludes = { λ v kind front rest e t list refused spelled is. object_excludes T.is T.refused T.excludes v kind front rest e t list.items refused spelled is };
 }
 
-impl<T: ValueDeserialize> ValueDeserialize for BTreeMap<String, T> {
-    ghost is = { λ t map. MapOf T.is t (λ key. tree.get_by_text map key) };
+impl<T: ValueDeserialize> ValueDeserialize for Vec<(String, T)> {
+    ghost is = { λ t list. ObjectOf T.is t list.items };
 
-    ghost refused = { ObjectRefused T.is T.refused };
+    ghost refused = { MembersRefused (ObjectRefused T.is T.refused) };
 
     fn deserialize<S: ByteSource>(
         alloc: Global,
         deserializer: BinaryValueDeserializer<'_, S>,
-    ) -> Result<BTreeMap<String, T>, DeserializeError>
-        ensures deserializes { Deserializes S.tells S.left deserializer.entry.reader.now deserializer.exit.1.0.now result (SpelledAs (λ t map. MapOf T.is t (λ key. tree.get_by_text map key)) (version_of deserializer.entry.reader.now.version) deserializer.entry.kind) (ObjectRefused T.is T.refused (version_of deserializer.entry.reader.now.version) deserializer.entry.kind) }
+    ) -> Result<Vec<(String, T)>, DeserializeError>
+        ensures deserializes { Deserializes S.tells S.left deserializer.entry.reader.now deserializer.exit.1.0.now result (SpelledAs (λ t list. ObjectOf T.is t list.items) (version_of deserializer.entry.reader.now.version) deserializer.entry.kind) (MembersRefused (ObjectRefused T.is T.refused) (version_of deserializer.entry.reader.now.version) deserializer.entry.kind) }
         ensures marks { OnErr result (deserializer.exit.1.0.now.has_failed ≡ true) }
     {
         let BinaryValueDeserializer { kind, reader } = deserializer;
+        let answer = read_object::<Vec<(String, T)>, S>(alloc, kind, reader);
+        reader.has_failed = answer.is_err();
+        answer
+    }
+
+    ghost excludes = { λ v kind front rest e t list refused spelled is. members_exclude (ObjectRefused T.is T.refused) v kind front rest e t (λ f. object_excludes T.is T.refused T.excludes v kind front rest e t list.items f spelled is) refused spelled };
+}
+
+impl<T: ValueDeserialize> CodedObject for BTreeMap<String, T> {
+    ghost is = { λ t map. MapOf T.is t (λ key. tree.get_by_text map key) };
+
+    ghost refused = { ObjectRefused T.is T.refused };
+
+    fn behind<S: ByteSource>(
+        alloc: Global,
+        kind: ValueType,
+        reader: &mut StoreReader<S>,
+    ) -> Result<BTreeMap<String, T>, DeserializeError>
+        ensures { Deserializes S.tells S.left reader.old reader.new result (SpelledAs (λ t map. MapOf T.is t (λ key. tree.get_by_text map key)) (version_of reader.old.version) kind) (ObjectRefused T.is T.refused (version_of reader.old.version) kind) }
+    {
         let announced = reader.object_length(kind)?;
         let answer = read_map(alloc, reader, announced);
         reader.has_failed = answer.is_err();
         answer
     }
-
-    ghost excludes = { λ v kind front rest e t map refused spelled is. object_excludes T.is T.refused T.excludes v kind front rest e t is.pairs refused spelled is.read };
 }
 
-impl<T: ValueDeserialize> ValueDeserialize for HashMap<String, T> {
-    ghost is = { λ t map. MapOf T.is t (λ key. hash.get_by_text map key) };
+impl<T: ValueDeserialize> ValueDeserialize for BTreeMap<String, T> {
+    ghost is = { λ t map. MapOf T.is t (λ key. tree.get_by_text map key) };
 
-    ghost refused = { ObjectRefused T.is T.refused };
+    ghost refused = { MembersRefused (ObjectRefused T.is T.refused) };
 
     fn deserialize<S: ByteSource>(
         alloc: Global,
         deserializer: BinaryValueDeserializer<'_, S>,
-    ) -> Result<HashMap<String, T>, DeserializeError>
-        ensures deserializes { Deserializes S.tells S.left deserializer.entry.reader.now deserializer.exit.1.0.now result (SpelledAs (λ t map. MapOf T.is t (λ key. hash.get_by_text map key)) (version_of deserializer.entry.reader.now.version) deserializer.entry.kind) (ObjectRefused T.is T.refused (version_of deserializer.entry.reader.now.version) deserializer.entry.kind) }
+    ) -> Result<BTreeMap<String, T>, DeserializeError>
+        ensures deserializes { Deserializes S.tells S.left deserializer.entry.reader.now deserializer.exit.1.0.now result (SpelledAs (λ t map. MapOf T.is t (λ key. tree.get_by_text map key)) (version_of deserializer.entry.reader.now.version) deserializer.entry.kind) (MembersRefused (ObjectRefused T.is T.refused) (version_of deserializer.entry.reader.now.version) deserializer.entry.kind) }
         ensures marks { OnErr result (deserializer.exit.1.0.now.has_failed ≡ true) }
     {
         let BinaryValueDeserializer { kind, reader } = deserializer;
+        let answer = read_object::<BTreeMap<String, T>, S>(alloc, kind, reader);
+        reader.has_failed = answer.is_err();
+        answer
+    }
+
+    ghost excludes = { λ v kind front rest e t map refused spelled is. members_exclude (ObjectRefused T.is T.refused) v kind front rest e t (λ f. object_excludes T.is T.refused T.excludes v kind front rest e t is.pairs f spelled is.read) refused spelled };
+}
+
+impl<T: ValueDeserialize> CodedObject for HashMap<String, T> {
+    ghost is = { λ t map. MapOf T.is t (λ key. hash.get_by_text map key) };
+
+    ghost refused = { ObjectRefused T.is T.refused };
+
+    fn behind<S: ByteSource>(
+        alloc: Global,
+        kind: ValueType,
+        reader: &mut StoreReader<S>,
+    ) -> Result<HashMap<String, T>, DeserializeError>
+        ensures { Deserializes S.tells S.left reader.old reader.new result (SpelledAs (λ t map. MapOf T.is t (λ key. hash.get_by_text map key)) (version_of reader.old.version) kind) (ObjectRefused T.is T.refused (version_of reader.old.version) kind) }
+    {
         let announced = reader.object_length(kind)?;
         let answer = read_hashed(alloc, reader, announced);
         reader.has_failed = answer.is_err();
         answer
     }
+}
 
-    ghost excludes = { λ v kind front rest e t map refused spelled is. object_excludes T.is T.refused T.excludes v kind front rest e t is.pairs refused spelled is.read };
+impl<T: ValueDeserialize> ValueDeserialize for HashMap<String, T> {
+    ghost is = { λ t map. MapOf T.is t (λ key. hash.get_by_text map key) };
+
+    ghost refused = { MembersRefused (ObjectRefused T.is T.refused) };
+
+    fn deserialize<S: ByteSource>(
+        alloc: Global,
+        deserializer: BinaryValueDeserializer<'_, S>,
+    ) -> Result<HashMap<String, T>, DeserializeError>
+        ensures deserializes { Deserializes S.tells S.left deserializer.entry.reader.now deserializer.exit.1.0.now result (SpelledAs (λ t map. MapOf T.is t (λ key. hash.get_by_text map key)) (version_of deserializer.entry.reader.now.version) deserializer.entry.kind) (MembersRefused (ObjectRefused T.is T.refused) (version_of deserializer.entry.reader.now.version) deserializer.entry.kind) }
+        ensures marks { OnErr result (deserializer.exit.1.0.now.has_failed ≡ true) }
+    {
+        let BinaryValueDeserializer { kind, reader } = deserializer;
+        let answer = read_object::<HashMap<String, T>, S>(alloc, kind, reader);
+        reader.has_failed = answer.is_err();
+        answer
+    }
+
+    ghost excludes = { λ v kind front rest e t map refused spelled is. members_exclude (ObjectRefused T.is T.refused) v kind front rest e t (λ f. object_excludes T.is T.refused T.excludes v kind front rest e t is.pairs f spelled is.read) refused spelled };
 }

@@ -1,1 +1,2 @@
+mod plain_visitors;
 mod visitors;

@@ -94,7 +94,7 @@ fn told(alloc: Global, bytes: &[u8]) -> (Result<u64, DeserializeError>, bool) {
 #[test]
 fn values_are_handed_to_the_call_of_their_type(rt: HostRuntime) {
     let alloc = rt.alloc();
-    let cases: [(&[u8], u64); 10] = [
+    let cases: [(&[u8], u64); 11] = [
         (b"\x0b", 11),
         (b"\x00\x82ab", 2),
         (b"\x01\x05\0\0\0\0\0\0\0", 5),
@@ -105,6 +105,8 @@ fn values_are_handed_to_the_call_of_their_type(rt: HostRuntime) {
         (b"\x09\x01", 1),
         (b"\x0c\x82\x0b\x0b", 2),
         (b"\x0d\x82\x00\x81a\x0b", 1),
+        // a legacy object
+        (b"\x08{\"a\":1,\"b\":2}", 2),
     ];
     for (bytes, number) in cases {
         assert_eq!(rt; told(alloc, bytes), (Ok(number), false));
@@ -121,8 +123,8 @@ fn refusals_are_given_and_marked(rt: HostRuntime) {
             DeserializeError::UnsupportedType(ValueType::DateTime),
         ),
         (
-            b"\x08{}",
-            DeserializeError::UnsupportedType(ValueType::JSONObject),
+            b"\x08[",
+            DeserializeError::CorruptedValue(Cause::LegacyJson),
         ),
         (
             b"\x0d\x81",

@@ -1,17 +1,19 @@
 //! Worked examples, with their bytes.
 
-use crate::common::{Cause, ReadError, SliceSource, VecSink};
-use crate::laws::{stored_pairs_are_read_back, written_documents_are_shortest};
-use crate::schema::document::{AddError, BinaryDocumentSerializer, DeserializeError};
-use crate::schema::{
-    CompactDoc, Field, NumericOptions, Schema, SchemaBuilder, SchemaError, TextOptions, Value,
-};
-use crate::store::{DocStoreVersion, read_document};
-use crate::tests::sources::DripSource;
+use crate::tests::sources::{DripSource, endings};
 use std::alloc::Global;
 use std::io;
 use std::test::Fail;
 use tv_base::take::take_text;
+use tv_base::{Cause, ReadError, VecSink};
+use tv_doc::add_error::AddError;
+use tv_doc::document::CompactDoc;
+use tv_options::{NumericOptions, TextOptions};
+use tv_reader::{DeserializeError, DocStoreVersion};
+use tv_schema::{Schema, SchemaBuilder, SchemaError};
+use tv_store::{BinaryDocumentSerializer, read_document};
+use tv_value::field::Field;
+use tv_value::value::Value;
 
 /// A document of the text `ChillFish8` in field 0 and the number 20 in field 1.
 const TWO_PAIRS: [u8; 30] = [
@@ -69,26 +71,12 @@ fn always_memory(rt: HostRuntime) -> Result<(), Fail> {
     assert!(rt; is_two_pairs(&document));
     let bytes = written(alloc, &schema, &document)?;
     assert_eq!(rt; bytes.as_slice(), TWO_PAIRS.as_slice());
-    let mut whole = SliceSource::new(&bytes);
-    assert!(rt; is_two_pairs(&read_document(alloc, &mut whole, DocStoreVersion::V2)?));
-    assert!(rt; whole.rest().is_empty());
-    let mut dripping = DripSource::new(&bytes);
-    assert!(rt; is_two_pairs(&read_document(alloc, &mut dripping, DocStoreVersion::V1)?));
-    assert!(rt; dripping.rest().is_empty());
-    Ok(())
-}
-
-#[test]
-fn laws_of_calls_in_memory(rt: HostRuntime) -> Result<(), Fail> {
-    let alloc = rt.alloc();
-    let schema = schema_of(alloc, NumericOptions::default().set_stored())?;
-    let document = document_of(alloc)?;
-    assert!(rt; document.fits(&schema));
-    let bytes = written_documents_are_shortest(alloc, &schema, &document)?;
-    assert_eq!(rt; bytes.as_slice(), TWO_PAIRS.as_slice());
-    let mut source = DripSource::new(&bytes);
-    let read = stored_pairs_are_read_back(alloc, &mut source, &schema, &document)?;
-    assert!(rt; is_two_pairs(&read));
+    for version in [DocStoreVersion::V1, DocStoreVersion::V2] {
+        for (ending, left) in endings(alloc, &bytes, version) {
+            assert!(rt; is_two_pairs(&ending?));
+            assert_eq!(rt; left, 0);
+        }
+    }
     Ok(())
 }
 
@@ -101,102 +89,93 @@ fn one_field_is_stored(rt: HostRuntime) -> Result<(), Fail> {
         0x81, 0, 0, 0, 0, 0, 0x8a, 0x43, 0x68, 0x69, 0x6c, 0x6c, 0x46, 0x69, 0x73, 0x68, 0x38,
     ];
     assert_eq!(rt; bytes.as_slice(), expected.as_slice());
+    for (ending, left) in endings(alloc, &bytes, DocStoreVersion::V2) {
+        let read = ending?;
+        let value = read.get_first(Field::from_field_id(0)).ok_or("a value")?;
+        assert_eq!(rt; read.len(), 1);
+        assert_eq!(rt; value.as_str(), Some("ChillFish8"));
+        assert_eq!(rt; left, 0);
+    }
     Ok(())
 }
 
 #[test]
-fn a_schema_finds_its_fields(rt: HostRuntime) -> Result<(), Fail> {
-    let alloc = rt.alloc();
-    let schema = schema_of(alloc, NumericOptions::default())?;
-    assert_eq!(rt; schema.num_fields(), 2);
-    let name = Field::from_field_id(0);
-    let age = Field::from_field_id(1);
-    assert!(rt; schema.has_field(name) && schema.has_field(age));
-    assert!(rt; !schema.has_field(Field::from_field_id(2)));
-    assert_eq!(rt; schema.get_field_entry(name).name(), "name");
-    assert!(rt; schema.get_field_entry(name).is_stored());
-    assert!(rt; !schema.get_field_entry(age).is_stored());
-    let mut builder = SchemaBuilder::new(alloc);
-    let first = builder.add_text_field("a", TextOptions::default())?;
-    assert_eq!(rt; first.field_id(), 0);
-    for (name, error) in [
-        ("a", SchemaError::DuplicateName),
-        ("-a", SchemaError::InvalidName),
-        ("", SchemaError::InvalidName),
-    ] {
-        let answer = builder.add_text_field(name, TextOptions::default());
-        assert_eq!(rt; answer, Err(error));
+fn a_padded_zero_is_the_empty_document(rt: HostRuntime) -> Result<(), Fail> {
+    for (ending, left) in endings(rt.alloc(), &[0, 0x80, 0xff], DocStoreVersion::V2) {
+        assert_eq!(rt; ending?.len(), 0);
+        assert_eq!(rt; left, 1);
     }
-    assert_eq!(rt; builder.build()?.num_fields(), 1);
     Ok(())
 }
 
-/// What a read left: the number of pairs or the error, and the number of bytes that are left after an `Ok`.
-fn outcomes(alloc: Global, bytes: &[u8]) -> [Result<(usize, usize), DeserializeError>; 2] {
-    let mut whole = SliceSource::new(bytes);
-    let at_once = read_document(alloc, &mut whole, DocStoreVersion::V2)
-        .map(|document| document.len())
-        .map(|len| (len, whole.rest().len()));
-    let mut dripping = DripSource::new(bytes);
-    let by_bytes = read_document(alloc, &mut dripping, DocStoreVersion::V2)
-        .map(|document| document.len())
-        .map(|len| (len, dripping.rest().len()));
-    [at_once, by_bytes]
+/// Whether the document has one pair, of the largest field and null.
+fn is_largest_field(document: &CompactDoc) -> bool {
+    let mut pairs = document.field_values();
+    let Some((field, value)) = pairs.next() else {
+        return false;
+    };
+    field.field_id() == 65535 && value.as_value().is_null() && pairs.next().is_none()
 }
 
 #[test]
-fn a_padded_zero_is_the_empty_document(rt: HostRuntime) {
-    for outcome in outcomes(rt.alloc(), &[0, 0x80, 0xff]) {
-        assert_eq!(rt; outcome, Ok((0, 1)));
+fn the_largest_field_is_read(rt: HostRuntime) -> Result<(), Fail> {
+    for (ending, left) in endings(rt.alloc(), b"\x81\xff\xff\0\0\x0b", DocStoreVersion::V2) {
+        assert!(rt; is_largest_field(&ending?));
+        assert_eq!(rt; left, 0);
     }
+    Ok(())
 }
 
 #[test]
 fn faults_have_their_true_cause(rt: HostRuntime) {
-    let cases: [(&[u8], Cause); 16] = [
-        (&[], Cause::UnexpectedEnd),
+    // the bytes, why they are refused, and how many of them are left
+    let cases: [(&[u8], Cause, usize); 18] = [
+        (b"", Cause::UnexpectedEnd, 0),
         // 2^64 - 1 pairs are announced, and 2^64
         (
-            &[0x7f, 0x7f, 0x7f, 0x7f, 0x7f, 0x7f, 0x7f, 0x7f, 0x7f, 0x81],
+            b"\x7f\x7f\x7f\x7f\x7f\x7f\x7f\x7f\x7f\x81",
             Cause::UnexpectedEnd,
+            0,
         ),
         (
-            &[0x7f, 0x7f, 0x7f, 0x7f, 0x7f, 0x7f, 0x7f, 0x7f, 0x7f, 0x82],
+            b"\x7f\x7f\x7f\x7f\x7f\x7f\x7f\x7f\x7f\x82",
             Cause::BadNumber,
+            0,
         ),
         // a text of 2^31 bytes is announced, and three are there
-        (
-            &[0x81, 0, 0, 0, 0, 0, 0, 0, 0, 0, 0x88, 0x41, 0x42, 0x43],
-            Cause::UnexpectedEnd,
-        ),
+        (b"\x81\0\0\0\0\0\0\0\0\0\x88ABC", Cause::UnexpectedEnd, 0),
         // a text of two bytes, and one is there
-        (&[0x81, 0, 0, 0, 0, 0, 0x82, 0x61], Cause::UnexpectedEnd),
-        (&[0x81, 0, 0, 1, 0, 0x0b], Cause::FieldNumber(65536)),
-        (&[0x81, 0, 0, 0, 0, 0x63], Cause::UnknownTypeCode(99)),
-        (&[0x81, 0, 0, 0, 0, 0x06], Cause::FloatCode),
-        (&[0x81, 0, 0, 0, 0, 0, 0x81, 0xff], Cause::NotUtf8),
-        (
-            &[0x81, 0, 0, 0, 0, 1, 0x14, 0, 0, 0, 0, 0, 0],
-            Cause::UnexpectedEnd,
-        ),
-        (&[0x81, 0, 0, 0], Cause::UnexpectedEnd),
+        (b"\x81\0\0\0\0\0\x82a", Cause::UnexpectedEnd, 0),
+        (b"\x81\0\0\x01\0\x0b", Cause::FieldNumber(65536), 1),
+        (b"\x81\0\0\0\0\x63", Cause::UnknownTypeCode(99), 0),
+        (b"\x81\0\0\0\0\x06", Cause::FloatCode, 0),
+        (b"\x81\0\0\0\0\x09\x02", Cause::BadBool, 0),
+        (b"\x81\0\0\0\0\0\x81\xff", Cause::NotUtf8, 0),
+        (b"\x81\0\0\0\0\x01\x14\0\0\0\0\0\0", Cause::UnexpectedEnd, 0),
+        (b"\x81\0\0\0", Cause::UnexpectedEnd, 0),
         // an object that announces one key or value, and one with a number as its key
-        (&[0x81, 0, 0, 0, 0, 0x0d, 0x81], Cause::OddObject),
-        (&[0x81, 0, 0, 0, 0, 0x0d, 0x82, 0x06], Cause::FloatCode),
+        (b"\x81\0\0\0\0\x0d\x81", Cause::OddObject, 0),
+        (b"\x81\0\0\0\0\x0d\x82\x06", Cause::FloatCode, 0),
         // a legacy object that isn't closed
-        (&[0x81, 0, 0, 0, 0, 0x08, 0x7b], Cause::UnexpectedEnd),
+        (b"\x81\0\0\0\0\x08{", Cause::UnexpectedEnd, 0),
         // an array and an object of more values than there are
         (
-            &[
-                0x81, 0, 0, 0, 0, 0x0c, 0x7f, 0x7f, 0x7f, 0x7f, 0x7f, 0x7f, 0x7f, 0x7f, 0x7f, 0x81,
-            ],
+            b"\x81\0\0\0\0\x0c\x7f\x7f\x7f\x7f\x7f\x7f\x7f\x7f\x7f\x81",
             Cause::UnexpectedEnd,
+            0,
         ),
-        (&[0x81, 0, 0, 0, 0, 0x0d, 0x81, 0, 0x80], Cause::OddObject),
+        (
+            b"\x81\0\0\0\0\x0d\x7e\x7f\x7f\x7f\x7f\x7f\x7f\x7f\x7f\x81",
+            Cause::UnexpectedEnd,
+            0,
+        ),
+        (b"\x81\0\0\0\0\x0d\x81\0\x80", Cause::OddObject, 2),
     ];
-    for (bytes, cause) in cases {
-        for outcome in outcomes(rt.alloc(), bytes) {
-            assert_eq!(rt; outcome, Err(DeserializeError::CorruptedValue(cause)));
+    for (bytes, cause, rest) in cases {
+        for (ending, left) in endings(rt.alloc(), bytes, DocStoreVersion::V2) {
+            let refused = DeserializeError::CorruptedValue(cause);
+            assert_eq!(rt; ending.err(), Some(refused), "at {bytes:?}");
+            assert_eq!(rt; left, rest, "at {bytes:?}");
         }
     }
 }

@@ -1,86 +1,97 @@
 //! Values read into types, and documents read of the pairs that are given.
 
-use super::sources::DripSource;
-use crate::common::{ByteSource, Cause, ReadSource, SliceSource};
-use crate::schema::Value;
-use crate::schema::document::{
-    BinaryDocumentDeserializer, CompactDoc, DeserializeError, DocumentDeserialize,
-    DocumentDeserializer, StoreReader, ValueDeserialize, ValueType,
-};
-use crate::store::DocStoreVersion;
+use crate::tests::sources::{DripSource, endings, readings};
 use std::alloc::Global;
 use std::collections::{BTreeMap, HashMap};
+use std::test::Fail;
+use tv_base::{ByteSource, Cause, SliceSource};
+use tv_doc::document::CompactDoc;
+use tv_reader::{DeserializeError, DocStoreVersion, ValueType};
+use tv_store::DocumentDeserialize;
+use tv_typed::{BinaryDocumentDeserializer, DocumentDeserializer, StoreReader};
+use tv_value::value::Value;
 
 /// An object that has the key `a` twice, with 1 and with 2.
 const TWICE: &[u8] = b"\x0d\x84\x00\x81a\x01\x01\0\0\0\0\0\0\0\x00\x81a\x01\x02\0\0\0\0\0\0\0";
-
-fn read<V: ValueDeserialize, S: ByteSource + Drop>(
-    alloc: Global,
-    source: S,
-) -> Result<V, DeserializeError> {
-    let mut reader = StoreReader::new(source, DocStoreVersion::V2);
-    reader.read::<V>(alloc)
-}
-
-fn numbers(alloc: Global, bytes: &[u8]) -> Result<Vec<u64>, DeserializeError> {
-    read(alloc, SliceSource::new(bytes))
-}
 
 #[test]
 fn lists_are_read(rt: HostRuntime) -> Result<(), DeserializeError> {
     let alloc = rt.alloc();
     let bytes = b"\x0c\x82\x01\x05\0\0\0\0\0\0\0\x01\x06\0\0\0\0\0\0\0";
-    let expected: &[u64] = &[5, 6];
-    let list = numbers(alloc, bytes)?;
-    assert_eq!(rt; list.as_slice(), expected);
-    let list: Vec<u64> = read(alloc, DripSource::new(bytes))?;
-    assert_eq!(rt; list.as_slice(), expected);
-    let list: Vec<u64> = read(alloc, ReadSource::new(bytes.as_slice()))?;
-    assert_eq!(rt; list.as_slice(), expected);
-    let two: &[u8] = &[1, 2];
-    let list: Vec<u8> = read(alloc, SliceSource::new(b"\x04\x82\x01\x02"))?;
-    assert_eq!(rt; list.as_slice(), two);
-    let nested: Vec<Vec<bool>> = read(alloc, DripSource::new(b"\x0c\x82\x0c\x80\x0c\x81\x09\x01"))?;
-    assert_eq!(rt; nested.len(), 2);
-    assert_eq!(rt; nested[1].as_slice(), [true].as_slice());
+    for list in readings::<Vec<u64>>(alloc, bytes) {
+        assert_eq!(rt; list?.as_slice(), [5, 6].as_slice());
+    }
+    for list in readings::<Vec<u8>>(alloc, b"\x04\x82\x01\x02") {
+        assert_eq!(rt; list?.as_slice(), [1, 2].as_slice());
+    }
+    for list in readings::<Vec<Vec<bool>>>(alloc, b"\x0c\x82\x0c\x80\x0c\x81\x09\x01") {
+        let nested = list?;
+        assert_eq!(rt; nested.len(), 2);
+        assert_eq!(rt; nested[1].as_slice(), [true].as_slice());
+    }
     Ok(())
 }
 
 #[test]
 fn collections_of_other_kinds_are_refused(rt: HostRuntime) {
     let alloc = rt.alloc();
-    let number = numbers(alloc, b"\x01\x05\0\0\0\0\0\0\0");
-    assert_eq!(rt;
-        number,
-        Err(DeserializeError::UnsupportedType(ValueType::U64))
-    );
-    let map = read::<BTreeMap<String, u64>, _>(alloc, DripSource::new(b"\x0c\x80"));
-    assert_eq!(rt;
-        map.err(),
-        Some(DeserializeError::UnsupportedType(ValueType::Array))
-    );
-    let odd = read::<HashMap<String, u64>, _>(alloc, SliceSource::new(b"\x0d\x81"));
-    assert_eq!(rt;
-        odd.err(),
-        Some(DeserializeError::CorruptedValue(Cause::OddObject))
-    );
+    for list in readings::<Vec<u64>>(alloc, b"\x01\x05\0\0\0\0\0\0\0") {
+        let refused = DeserializeError::UnsupportedType(ValueType::U64);
+        assert_eq!(rt; list.err(), Some(refused));
+    }
+    for map in readings::<BTreeMap<String, u64>>(alloc, b"\x0c\x80") {
+        let refused = DeserializeError::UnsupportedType(ValueType::Array);
+        assert_eq!(rt; map.err(), Some(refused));
+    }
+    for map in readings::<HashMap<String, u64>>(alloc, b"\x0d\x81") {
+        let refused = DeserializeError::CorruptedValue(Cause::OddObject);
+        assert_eq!(rt; map.err(), Some(refused));
+    }
+}
+
+#[test]
+fn pairs_keep_equal_keys(rt: HostRuntime) -> Result<(), DeserializeError> {
+    for read in readings::<Vec<(String, u64)>>(rt.alloc(), TWICE) {
+        let pairs = read?;
+        assert_eq!(rt; pairs.len(), 2);
+        assert_eq!(rt; pairs[0].0.as_str(), "a");
+        assert_eq!(rt; pairs[0].1, 1);
+        assert_eq!(rt; pairs[1].0.as_str(), "a");
+        assert_eq!(rt; pairs[1].1, 2);
+    }
+    Ok(())
 }
 
 #[test]
 fn of_equal_keys_maps_keep_the_last(rt: HostRuntime) -> Result<(), DeserializeError> {
-    let alloc = rt.alloc();
-    let pairs: Vec<(String, u64)> = read(alloc, DripSource::new(TWICE))?;
-    assert_eq!(rt; pairs.len(), 2);
-    assert_eq!(rt; pairs[0].0.as_str(), "a");
-    assert_eq!(rt; pairs[0].1, 1);
-    assert_eq!(rt; pairs[1].0.as_str(), "a");
-    assert_eq!(rt; pairs[1].1, 2);
-    let tree: BTreeMap<String, u64> = read(alloc, ReadSource::new(TWICE))?;
-    assert_eq!(rt; tree.len(), 1);
-    assert_eq!(rt; tree.get("a"), Some(&2));
-    let map: HashMap<String, u64> = read(alloc, SliceSource::new(TWICE))?;
-    assert_eq!(rt; map.len(), 1);
-    assert_eq!(rt; map.get("a"), Some(&2));
+    for read in readings::<BTreeMap<String, u64>>(rt.alloc(), TWICE) {
+        let map = read?;
+        assert_eq!(rt; map.len(), 1);
+        assert_eq!(rt; map.get("a"), Some(&2));
+    }
+    for read in readings::<HashMap<String, u64>>(rt.alloc(), TWICE) {
+        let map = read?;
+        assert_eq!(rt; map.len(), 1);
+        assert_eq!(rt; map.get("a"), Some(&2));
+    }
+    Ok(())
+}
+
+/// How many entries the object in the only pair has.
+fn entries(document: &CompactDoc) -> Option<usize> {
+    let mut pairs = document.field_values();
+    let (_, value) = pairs.next()?;
+    value.as_object().map(|members| members.count())
+}
+
+#[test]
+fn documents_keep_equal_keys(rt: HostRuntime) -> Result<(), Fail> {
+    let mut bytes = b"\x81\0\0\0\0".to_vec(rt.alloc())?;
+    bytes.extend_from_slice(TWICE)?;
+    for (ending, left) in endings(rt.alloc(), &bytes, DocStoreVersion::V2) {
+        assert_eq!(rt; entries(&ending?), Some(2));
+        assert_eq!(rt; left, 0);
+    }
     Ok(())
 }
 

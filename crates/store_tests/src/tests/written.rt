@@ -1,14 +1,17 @@
-//! Documents: maps that are added, values by field, and values of great room or depth.
+//! Documents that are written: maps, values in values, and values of great depth.
 
-use crate::common::{BinarySerializable, Cause, ReadError, SliceSource, VecSink};
-use crate::schema::document::{AddError, BinaryDocumentSerializer, Document, ReferenceValueLeaf};
-use crate::schema::{
-    CompactDoc, Field, JsonObjectOptions, OwnedValue, STORED, SchemaBuilder, Value,
-};
 use std::alloc::{AllocError, Global};
 use std::collections::BTreeMap;
 use std::test::Fail;
-use tv_doc::value_type::ValueType;
+use tv_base::VecSink;
+use tv_doc::document::CompactDoc;
+use tv_options::{JsonObjectOptions, STORED};
+use tv_schema::SchemaBuilder;
+use tv_store::BinaryDocumentSerializer;
+use tv_value::field::Field;
+use tv_value::owned_value::OwnedValue;
+use tv_value::tokenizer::{PreTokenizedString, Token};
+use tv_value::value::Value;
 
 fn field(number: u32) -> Field {
     Field::from_field_id(number)
@@ -44,47 +47,57 @@ fn a_map_is_an_object(rt: HostRuntime) -> Result<(), Fail> {
     Ok(())
 }
 
-fn document_of_fields(alloc: Global) -> Result<CompactDoc, AddError> {
+// The object with this one entry.
+fn object(alloc: Global, key: &str, value: OwnedValue) -> Result<OwnedValue, AllocError> {
+    let mut members = Vec::new(alloc);
+    members.push((String::from_str(alloc, key)?, value))?;
+    Ok(OwnedValue::Object(members))
+}
+
+// The text `hi` and its one token.
+fn tokenized(alloc: Global) -> Result<PreTokenizedString, AllocError> {
+    let mut tokens = Vec::new(alloc);
+    tokens.push(Token {
+        offset_from: 0,
+        offset_to: 2,
+        position: 3,
+        text: String::from_str(alloc, "hi")?,
+        position_length: 1,
+    })?;
+    Ok(PreTokenizedString {
+        text: String::from_str(alloc, "hi")?,
+        tokens,
+    })
+}
+
+// What is written of a document with this one value.
+fn written_of(alloc: Global, value: &OwnedValue) -> Result<Vec<u8>, Fail> {
     let mut document = CompactDoc::new(alloc);
-    document.add_u64(field(7), 1)?;
-    document.add_u64(field(3), 2)?;
-    document.add_u64(field(7), 3)?;
-    Ok(document)
+    document.add_field_value(field(0), &value)?;
+    written(alloc, &document)
 }
 
 #[test]
-fn values_are_brought_together_by_field(rt: HostRuntime) -> Result<(), Fail> {
-    let document = document_of_fields(rt.alloc())?;
-    let groups = document.get_sorted_field_values(rt.alloc())?;
-    let mut fields = groups.iter();
-    let (lower, values) = fields.next().ok_or("a field")?;
-    assert_eq!(rt; lower.field_id(), 3);
-    assert_eq!(rt; values.len(), 1);
-    let (higher, values) = fields.next().ok_or("another field")?;
-    assert_eq!(rt; higher.field_id(), 7);
-    assert!(rt;
-        values
-            .iter()
-            .map(|value| value.as_u64())
-            .eq([Some(1), Some(3)])
-    );
-    assert!(rt; fields.next().is_none());
+fn nested_values_are_written(rt: HostRuntime) -> Result<(), Fail> {
+    let alloc = rt.alloc();
+    let nulls = OwnedValue::Array(vec![in alloc; OwnedValue::Null]?);
+    let empty = OwnedValue::Array(Vec::new(alloc));
+    let inner = OwnedValue::Array(vec![in alloc; empty, nulls]?);
+    let outer = OwnedValue::Array(vec![in alloc; inner]?);
+    let value = object(alloc, "my-array", outer)?;
+    let bytes = b"\x81\0\0\0\0\x0d\x82\x00\x88my-array\x0c\x81\x0c\x82\x0c\x80\x0c\x81\x0b";
+    assert_eq!(rt; written_of(alloc, &value)?.as_slice(), bytes.as_slice());
     Ok(())
 }
 
 #[test]
-fn types_are_bytes(rt: HostRuntime) -> Result<(), Fail> {
-    assert_eq!(rt; ValueType::from_code(5), Some(ValueType::Date));
+fn a_text_with_tokens_is_written_as_its_text(rt: HostRuntime) -> Result<(), Fail> {
+    let value = OwnedValue::PreTokStr(tokenized(rt.alloc())?);
+    let bytes = b"\x81\0\0\0\0\x00\x82hi";
     assert_eq!(rt;
-        ValueType::from(&ReferenceValueLeaf::Str("5")),
-        ValueType::Str
+        written_of(rt.alloc(), &value)?.as_slice(),
+        bytes.as_slice()
     );
-    let mut sink = VecSink::new(rt.alloc());
-    ValueType::Object.serialize(&mut sink)?;
-    assert_eq!(rt; sink.as_slice(), b"\x0b".as_slice());
-    let read = ValueType::deserialize(rt.alloc(), &mut SliceSource::new(b"\x04\x0b"));
-    let unknown = ReadError::Corrupted(Cause::UnknownTypeCode(4));
-    assert_eq!(rt; read, Err(unknown));
     Ok(())
 }
 

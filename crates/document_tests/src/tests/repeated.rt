@@ -5,9 +5,12 @@ ghost use Rattle.std.specs.Iterator.{YieldsFirstBy, at_most, item_count};
 ghost use Rattle.tv_value.specs.Lent.{entry_of};
 ghost use Rattle.tv_value.specs.Tree.{leaf, bytes, array, elements};
 
-use crate::schema::document::{AddError, ReferenceValue, ReferenceValueLeaf};
-use crate::schema::{CompactDoc, Field, Value};
 use std::test::Fail;
+use tv_doc::add_error::AddError;
+use tv_doc::document::CompactDoc;
+use tv_value::field::Field;
+use tv_value::leaf::ReferenceValueLeaf;
+use tv_value::value::{ReferenceValue, Value};
 
 /// Bytes, or an array that lends them so many times.
 #[derive(Clone, Copy)]

@@ -1,4 +1,5 @@
-use serde_json::Value;
+//! Documents from JSON, and what is refused.
+
 use std::alloc::Global;
 use std::test::Fail;
 use tv_doc::doc_parsing_error::DocParsingError;

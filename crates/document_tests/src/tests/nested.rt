@@ -1,15 +1,17 @@
-//! Values of every kind in a document: added, lent, copied and written.
+//! Values of every kind in a document: added, lent and copied.
 
-use crate::DateTime;
-use crate::common::VecSink;
-use crate::schema::document::{BinaryDocumentSerializer, ReferenceValueLeaf, is_same};
-use crate::schema::{
-    CompactDoc, Facet, Field, JsonObjectOptions, OwnedValue, STORED, SchemaBuilder, Value,
-};
-use crate::tokenizer::{PreTokenizedString, Token};
 use std::alloc::{AllocError, Global};
 use std::net::Ipv6Addr;
 use std::test::Fail;
+use tv_base::Facet;
+use tv_doc::document::CompactDoc;
+use tv_value::date_time::DateTime;
+use tv_value::field::Field;
+use tv_value::leaf::ReferenceValueLeaf;
+use tv_value::owned_value::OwnedValue;
+use tv_value::same::is_same;
+use tv_value::tokenizer::{PreTokenizedString, Token};
+use tv_value::value::Value;
 
 fn field() -> Field {
     Field::from_field_id(0)
@@ -148,40 +150,5 @@ fn values_are_found_by_their_field(rt: HostRuntime) -> Result<(), Fail> {
     assert!(rt; other.as_value().is_null());
     assert!(rt; others.next().is_none());
     assert!(rt; document.get_first(Field::from_field_id(2)).is_none());
-    Ok(())
-}
-
-// What is written of a document with this one value.
-fn written(alloc: Global, value: &OwnedValue) -> Result<Vec<u8>, Fail> {
-    let mut builder = SchemaBuilder::new(alloc);
-    let field = builder.add_json_field("j", JsonObjectOptions::from(STORED))?;
-    let schema = builder.build()?;
-    let mut document = CompactDoc::new(alloc);
-    document.add_field_value(field, &value)?;
-    let mut sink = VecSink::new(alloc);
-    if document.fits(&schema) {
-        BinaryDocumentSerializer::new(&mut sink, &schema).serialize_doc(&document)?;
-    }
-    Ok(sink.into_vec())
-}
-
-#[test]
-fn nested_values_are_written(rt: HostRuntime) -> Result<(), Fail> {
-    let alloc = rt.alloc();
-    let nulls = OwnedValue::Array(vec![in alloc; OwnedValue::Null]?);
-    let empty = OwnedValue::Array(Vec::new(alloc));
-    let inner = OwnedValue::Array(vec![in alloc; empty, nulls]?);
-    let outer = OwnedValue::Array(vec![in alloc; inner]?);
-    let value = object(alloc, "my-array", outer)?;
-    let bytes = b"\x81\0\0\0\0\x0d\x82\x00\x88my-array\x0c\x81\x0c\x82\x0c\x80\x0c\x81\x0b";
-    assert_eq!(rt; written(alloc, &value)?.as_slice(), bytes.as_slice());
-    Ok(())
-}
-
-#[test]
-fn a_text_with_tokens_is_written_as_its_text(rt: HostRuntime) -> Result<(), Fail> {
-    let value = OwnedValue::PreTokStr(tokenized(rt.alloc())?);
-    let bytes = b"\x81\0\0\0\0\x00\x82hi";
-    assert_eq!(rt; written(rt.alloc(), &value)?.as_slice(), bytes.as_slice());
     Ok(())
 }

@@ -1,12 +1,11 @@
 //! What is announced and isn't there: nothing is reserved for it, and the bytes that are there are read to their end.
 
-use crate::common::{BinarySerializable, Cause, ReadError, SliceSource};
-use crate::schema::document::DeserializeError;
-use crate::schema::{CompactDoc, Facet};
-use crate::store::{DocStoreVersion, read_document};
-use crate::tests::sources::DripSource;
+use crate::tests::sources::{DripSource, endings};
 use std::alloc::{AllocError, Global};
 use std::test::Fail;
+use tv_base::{BinarySerializable, Cause, Facet, ReadError, SliceSource};
+use tv_io::ReadSource;
+use tv_reader::{DeserializeError, DocStoreVersion};
 
 /// 2^62, as a number of variable length.
 const MANY: [u8; 9] = [0, 0, 0, 0, 0, 0, 0, 0, 0xc0];
@@ -22,18 +21,6 @@ fn announced(alloc: Global, front: &[u8], there: &[u8]) -> Result<Vec<u8>, Alloc
     Ok(bytes)
 }
 
-/// How reading a document ends, and how many bytes are left, at once and byte by byte.
-fn endings(alloc: Global, bytes: &[u8]) -> [(Result<CompactDoc, DeserializeError>, usize); 2] {
-    let mut whole = SliceSource::new(bytes);
-    let at_once = read_document(alloc, &mut whole, DocStoreVersion::V2);
-    let mut dripping = DripSource::new(bytes);
-    let by_bytes = read_document(alloc, &mut dripping, DocStoreVersion::V2);
-    [
-        (at_once, whole.rest().len()),
-        (by_bytes, dripping.rest().len()),
-    ]
-}
-
 #[test]
 fn documents_end_early(rt: HostRuntime) -> Result<(), Fail> {
     let alloc = rt.alloc();
@@ -47,7 +34,7 @@ fn documents_end_early(rt: HostRuntime) -> Result<(), Fail> {
     ];
     for (front, there) in cases {
         let bytes = announced(alloc, front, there)?;
-        for (ending, left) in endings(alloc, &bytes) {
+        for (ending, left) in endings(alloc, &bytes, DocStoreVersion::V2) {
             let end = DeserializeError::CorruptedValue(Cause::UnexpectedEnd);
             assert_eq!(rt; ending.err(), Some(end), "at {bytes:?}");
             assert_eq!(rt; left, 0, "at {bytes:?}");
@@ -56,11 +43,12 @@ fn documents_end_early(rt: HostRuntime) -> Result<(), Fail> {
     Ok(())
 }
 
-/// What ends reading a value, if anything does, at once and byte by byte.
-fn refusals<T: BinarySerializable + Drop>(alloc: Global, bytes: &[u8]) -> [Option<ReadError>; 2] {
+/// What ends reading a value, if anything does: at once, byte by byte and through a reader of std.
+fn refusals<T: BinarySerializable + Drop>(alloc: Global, bytes: &[u8]) -> [Option<ReadError>; 3] {
     let at_once = T::deserialize(alloc, &mut SliceSource::new(bytes));
     let by_bytes = T::deserialize(alloc, &mut DripSource::new(bytes));
-    [at_once.err(), by_bytes.err()]
+    let by_reads = T::deserialize(alloc, &mut ReadSource::new(bytes));
+    [at_once.err(), by_bytes.err(), by_reads.err()]
 }
 
 #[test]
@@ -82,7 +70,7 @@ fn values_end_early(rt: HostRuntime) -> Result<(), Fail> {
 #[test]
 fn a_large_field_is_told_before_its_value_is_read(rt: HostRuntime) {
     let bytes = [0x81, 0, 0, 1, 0, 0x63];
-    for (ending, left) in endings(rt.alloc(), &bytes) {
+    for (ending, left) in endings(rt.alloc(), &bytes, DocStoreVersion::V2) {
         let large = DeserializeError::CorruptedValue(Cause::FieldNumber(65536));
         assert_eq!(rt; ending.err(), Some(large));
         assert_eq!(rt; left, 1);

@@ -1,0 +1,22 @@
+use Rattle.std.proofs.Common.{◌≡◌, sym, subst}
+use Rattle.tv_typed.specs.Lists.{ObjectOf, SpellsEntry, EntryRefused}
+use Rattle.tv_value.specs.Version.{entry_total}
+use Rattle.tv_typed.specs.Values.{SpelledAs}
+use Rattle.tv_typed.proofs.ItemSteps.{object_then, collection_fails}
+use Rattle.std.proofs.lemmas.Result.{err_from_is_err_and}
+use Rattle.tv_reader.specs.Version.{version_of}
+use Rattle.tv_reader.specs.declared.error.ValueType.TheVariants as types
+use Rattle.tv_typed.proofs.DeserializeSteps.{goes_told}
+use Rattle.tv_typed.proofs.collections.VecTuple2StringCodedObject.behind.Goals as goal
+
+pub returns-in_err-announced : goal.returns-in_err-announced
+returns-in_err-announced g c =
+    let p = err_from_is_err_and c.from_residual.result c.from_residual.ensures.1 in
+    let T = g.T.ValueDeserialize in
+    let v = version_of c.args.reader.now.version in
+    rw (p.1, p.2) (collection_fails types.Object (entry_total v) c.args.kind (SpellsEntry T.is v) (EntryRefused T.refused v) (SpelledAs (λ t list. ObjectOf T.is t list.items) v c.args.kind) c.in_err-announced.ensures)
+
+pub returns : goal.returns
+returns g c =
+    let T = g.T.ValueDeserialize in
+    goes_told c.is_err-reader.result c.is_err-reader.ensures.value (object_then T.is T.refused (λ t list. ObjectOf T.is t list.items) (λ list xs. list.items ≡ xs) (λ t list xs same o. subst (ObjectOf T.is t) (sym same) o) c.args.kind c.in_ok-announced.ensures c.read_entries-answer.ensures)

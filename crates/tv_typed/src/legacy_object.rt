@@ -1,0 +1,98 @@
+//! Legacy objects, read as lists and maps: the object's tree is spelled in memory, and read from there.
+
+ghost use Rattle.std.specs.Prelude.{◌≡◌, List, ℕ};
+ghost use Rattle.tv_reader.specs.Version.{version_of};
+ghost use Rattle.tv_reader.specs.declared.error.DeserializeError.{DeserializeError};
+ghost use Rattle.tv_reader.specs.declared.error.ValueType.{ValueType};
+ghost use Rattle.tv_reader.specs.declared.error.ValueType.TheVariants as types;
+ghost use Rattle.tv_typed.specs.LegacyObjects.{Retold, OfSpelling, LegacyRefused, MembersRefused};
+ghost use Rattle.tv_typed.specs.Typed.{Deserializes};
+ghost use Rattle.tv_typed.specs.Values.{SpellsAs, SpelledAs, NextRefused};
+ghost use Rattle.tv_value.specs.Tree.{Tree};
+ghost use Rattle.tv_value.specs.Version.{Version, V2};
+
+use crate::spell::spelled;
+use crate::store_reader::StoreReader;
+use crate::value_deserializer::BinaryValueDeserializer;
+use std::alloc::Global;
+use tv_base::{ByteSource, Cause, SliceSource};
+use tv_reader::{DeserializeError, DocStoreVersion, ValueType};
+
+/// What is read of an object that isn't a legacy one, behind the code of its type.
+pub(crate) trait CodedObject: Sized + Drop {
+    /// Which values are read of which trees.
+    ghost is: { Tree → Self → Type 0 };
+
+    /// Which refusal bytes behind the code of a type have.
+    ghost refused: { Version → ValueType → List ℕ → DeserializeError → Type 0 };
+
+    /// Reads the value behind the code.
+    fn behind<S: ByteSource>(
+        alloc: Global,
+        kind: ValueType,
+        reader: &mut StoreReader<S>,
+    ) -> Result<Self, DeserializeError>
+        ensures { Deserializes S.tells S.left reader.old reader.new result (SpelledAs is (version_of reader.old.version) kind) (refused (version_of reader.old.version) kind) };
+}
+
+// The code, and the value behind it.
+fn next_object<V: CodedObject, S: ByteSource>(
+    alloc: Global,
+    reader: &mut StoreReader<S>,
+) -> Result<V, DeserializeError>
+    ensures { Deserializes S.tells S.left reader.old reader.new result (SpellsAs V.is (version_of reader.old.version)) (NextRefused V.refused (version_of reader.old.version)) }
+{
+    let kind = reader.code()?;
+    V::behind(alloc, kind, reader)
+}
+
+// How a refusal of what was spelled is told.
+fn retold(error: DeserializeError) -> DeserializeError
+    ensures { Retold error result }
+{
+    match error {
+        DeserializeError::CorruptedValue(cause) => match cause {
+            Cause::UnexpectedEnd => DeserializeError::UnsupportedType(ValueType::JSONObject),
+            cause => DeserializeError::CorruptedValue(cause),
+        },
+        error => error,
+    }
+}
+
+// What is read of the shortest spelling of a tree.
+fn of_spelling<V: CodedObject>(alloc: Global, bytes: &Vec<u8>) -> Result<V, DeserializeError>
+    ensures { OfSpelling V.is (NextRefused V.refused V2) bytes.now.items result }
+{
+    let mut reader = StoreReader::new(SliceSource::new(bytes), DocStoreVersion::V2);
+    match next_object::<V, SliceSource<'_>>(alloc, &mut reader) {
+        Ok(value) => Ok(value),
+        Err(error) => Err(retold(error)),
+    }
+}
+
+// The value of a legacy object, behind its code.
+fn legacy_object<V: CodedObject, S: ByteSource>(
+    alloc: Global,
+    reader: &mut StoreReader<S>,
+) -> Result<V, DeserializeError>
+    ensures { Deserializes S.tells S.left reader.old reader.new result (SpelledAs V.is (version_of reader.old.version) types.JSONObject) (LegacyRefused V.refused (version_of reader.old.version)) }
+{
+    let kind = ValueType::JSONObject;
+    let tree = BinaryValueDeserializer { kind, reader }.deserialize_tree(alloc)?;
+    let bytes = spelled(alloc, &tree)?;
+    of_spelling(alloc, &bytes)
+}
+
+/// Reads a value behind its code, of a legacy object too.
+pub(crate) fn read_object<V: CodedObject, S: ByteSource>(
+    alloc: Global,
+    kind: ValueType,
+    reader: &mut StoreReader<S>,
+) -> Result<V, DeserializeError>
+    ensures { Deserializes S.tells S.left reader.old reader.new result (SpelledAs V.is (version_of reader.old.version) kind) (MembersRefused V.refused (version_of reader.old.version) kind) }
+{
+    match kind {
+        ValueType::JSONObject => legacy_object(alloc, reader),
+        kind => V::behind(alloc, kind, reader),
+    }
+}
