@@ -14,3 +14,5 @@ pub mod Lists
 pub mod JsonDocuments
 pub mod ByName
 pub mod PairsSoFar
+pub mod FieldTexts
+pub mod NamedBack

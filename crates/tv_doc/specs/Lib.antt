@@ -16,3 +16,4 @@ pub mod AdditionError
 pub mod JsonObject
 pub mod Named
 pub mod NamedPairs
+pub mod SameTexts
