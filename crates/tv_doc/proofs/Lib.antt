@@ -16,3 +16,4 @@ pub mod ByName
 pub mod PairsSoFar
 pub mod FieldTexts
 pub mod NamedBack
+pub mod Spans
