@@ -1,9 +1,11 @@
 -- What is printed for a facet, and that it is read.
-use Rattle.std.proofs.Common.{◌≡◌, ◌≢◌, ℕ, Bool, true, false, cond, List, [], ◌∷◌, ◌++◌, Some, None, refl, sym, ◌∙◌, ap, eqb, append_assoc, ◌+◌, ◌<◌, length, take, get_or}
+use Rattle.std.proofs.Common.{◌≡◌, ◌≢◌, ℕ, Bool, true, false, cond, List, [], ◌∷◌, ◌++◌, Some, None, refl, sym, ◌∙◌, ap, eqb, append_assoc, ◌+◌, ◌<◌, length, take, drop, get_or}
 use Rattle.std.specs.List.{flat_map, onto_first}
 use Rattle.std.proofs.lemmas.Bool.{eqb-true}
-use Rattle.std.proofs.lemmas.List.{take_more, flat_map_more}
+use Rattle.std.proofs.lemmas.Grind.{flat_map-append}
+use Rattle.std.proofs.lemmas.List.{take_more, take-append-drop, flat_map_more}
 use Rattle.tv_base.specs.Facet.{decoded_byte, decoded, parse, path, printed_byte, printed, printed_or_slash}
+use Rattle.tv_base.specs.Sink.{IsFront}
 use Rattle.tv_base.proofs.Rewriting.{rewritten_from, rewritten-from}
 
 abbrev printed_step : List ℕ → List ℕ
@@ -61,3 +63,11 @@ parse_case false b bs e h = refl
 pub parse-None : (bs : List ℕ) → ((rest : List ℕ) → bs ≢ 47 ∷ rest) → parse bs ≡ None
 parse-None [] h = refl
 parse-None (b ∷ bs) h = parse_case (eqb b 47) b bs refl h
+
+-- what is printed of the bytes before a place begins the text
+pub printed-front : (encoded front more : List ℕ) (i : ℕ) → front ++ more ≡ 47 ∷ flat_map printed_or_slash (take i encoded) → IsFront front (printed encoded)
+printed-front encoded front more i e = (
+  more ++ flat_map printed_or_slash (drop i encoded),
+  printed-is encoded ∙ ap (λ l. 47 ∷ flat_map printed_or_slash l) (sym (take-append-drop i encoded)) ∙ ap (λ l. 47 ∷ l) (flat_map-append printed_or_slash (take i encoded) (drop i encoded))
+      ∙ ap (λ l. l ++ flat_map printed_or_slash (drop i encoded)) (sym e) ∙ append_assoc front more (flat_map printed_or_slash (drop i encoded)),
+)

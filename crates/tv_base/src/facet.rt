@@ -1,6 +1,6 @@
 //! Places in a hierarchy.
 
-ghost use Rattle.std.specs.Prelude.{◌≡◌, ◌≢◌, ◌↔◌, ℕ, List, [], ◌∷◌, ◌++◌, map, refl, Some, IfOk, IfErr, IsOk, IsTrue, MatchOption, IsUtf8, string_bytes, bytes_eq};
+ghost use Rattle.std.specs.Prelude.{◌≡◌, ◌≢◌, ◌↔◌, ℕ, List, [], ◌∷◌, ◌++◌, map, refl, Some, IfOk, IfErr, IsOk, IsTrue, MatchOption, OnErr, OnOk, IsUtf8, string_bytes, bytes_eq};
 ghost use Rattle.std.specs.List.{join_with_byte};
 ghost use Rattle.std.specs.Ordering.{nat_cmp};
 ghost use Rattle.std.specs.Hash as fed;
@@ -10,9 +10,10 @@ ghost use Rattle.std.specs.String.{from_utf8_error_vec};
 ghost use Rattle.std.specs.Cmp.{partial_equiv_from_equiv};
 ghost use Rattle.std.specs.Cmp.Lexicographic.{slice_cmp, nat_list_eq_equiv, nat_list_cmp_total, texts_ties, texts_po};
 ghost use Rattle.tv_base.specs.Facet.{parse, path, printed, debug_printed, IsParseError, IsEncoded, Descends};
+ghost use Rattle.tv_base.specs.Sink.{Begins};
 
 use crate::facet_parse_error::FacetParseError;
-use crate::text_rules::{Rule, printed_text, rewrite};
+use crate::text_rules::{Rule, printed_text, push_printed, rewrite};
 use std::alloc::{AllocError, Global};
 use std::cmp::Ordering;
 use std::fmt;
@@ -115,6 +116,15 @@ impl Facet {
             }
             None => Ok(false),
         }
+    }
+
+    /// Adds the text that names the facet with an encoded text to a text (own). The only error is that memory was refused, and then a
+    /// beginning of it may be added.
+    pub fn print_encoded(encoded: &str, text: &mut String) -> Result<(), AllocError>
+        ensures ok { OnOk result (string_bytes text.new ≡ string_bytes text.old ++ printed encoded.now) }
+        ensures err { OnErr result (Begins (string_bytes text.old) (string_bytes text.new) (printed encoded.now)) }
+    {
+        push_printed(encoded, text)
     }
 
     /// The facet that has these steps. No step and one empty step are the root. Errors: memory was refused.

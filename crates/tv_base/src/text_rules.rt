@@ -1,10 +1,11 @@
 //! Texts that are rewritten byte by byte, where a backslash keeps the character behind it.
 
-ghost use Rattle.std.specs.Prelude.{◌≡◌, ◌<◌, ◌∷◌, ◌++◌, [], OnOk, MatchOption};
+ghost use Rattle.std.specs.Prelude.{◌≡◌, ◌<◌, ◌∷◌, ◌++◌, [], OnErr, OnOk, MatchOption};
 ghost use Rattle.std.specs.String.{string_bytes};
 ghost use Rattle.tv_base.specs.Escapes.{rewritten};
-ghost use Rattle.tv_base.specs.Facet.{printed_or_slash};
+ghost use Rattle.tv_base.specs.Facet.{printed, printed_or_slash};
 ghost use Rattle.tv_base.specs.Rewriting.{stands_for};
+ghost use Rattle.tv_base.specs.Sink.{Begins};
 
 use std::alloc::AllocError;
 
@@ -61,4 +62,23 @@ pub(crate) fn printed_text(byte: u8) -> Option<&'static str>
         b'\\' => Some("\\\\"),
         _ => None,
     }
+}
+
+/// Writes the text that names the facet with an encoded text, behind what is there. Errors: memory was refused, and then a beginning of
+/// it may be written.
+pub(crate) fn push_printed(encoded: &str, out: &mut String) -> Result<(), AllocError>
+    ensures ok { OnOk result (string_bytes out.new ≡ string_bytes out.old ++ printed encoded.now) }
+    ensures err { OnErr result (Begins (string_bytes out.old) (string_bytes out.new) (printed encoded.now)) }
+{
+    let bytes = encoded.as_bytes();
+    out.push_str("/")?;
+    let mut start = 0;
+    for place in 0..bytes.len() {
+        if let Some(other) = printed_text(bytes[place]) {
+            out.push_str(&encoded[start..place])?;
+            out.push_str(other)?;
+            start = place + 1;
+        }
+    }
+    out.push_str(&encoded[start..])
 }

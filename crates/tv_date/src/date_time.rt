@@ -1,6 +1,6 @@
 //! Dates, and to which part of a second they are kept.
 
-ghost use Rattle.std.specs.Prelude.{◌≡◌, pos, ◌*ℤ◌, FitsSigned, IsSome, MatchOption, IfOk, string_bytes};
+ghost use Rattle.std.specs.Prelude.{◌≡◌, ◌++◌, pos, ◌*ℤ◌, FitsSigned, IsSome, MatchOption, IfOk, OnErr, OnOk, string_bytes};
 ghost use Rattle.std.specs.Int.{w64};
 ghost use Rattle.std.specs.Result.{result_map_both};
 ghost use Rattle.tv_date.specs.DateTime.{unit_of, truncated};
@@ -114,10 +114,21 @@ impl DateTime {
         ensures shown { IfOk result (λ text. IsPrinted self.nanoseconds (string_bytes text)) }
         ensures text { IfOk result (λ text. string_bytes text ≡ moment_text self.nanoseconds) }
     {
+        let mut text = String::new(alloc);
+        self.push_rfc3339(&mut text)?;
+        Ok(text)
+    }
+
+    /// Adds the text of `write_rfc3339` to a text (own). The only error is that memory was refused, and then the text is as it was.
+    pub fn push_rfc3339(self, text: &mut String) -> Result<(), AllocError>
+        ensures shown { IsPrinted self.nanoseconds (moment_text self.nanoseconds) }
+        ensures ok { OnOk result (string_bytes text.new ≡ string_bytes text.old ++ moment_text self.nanoseconds) }
+        ensures err { OnErr result (string_bytes text.new ≡ string_bytes text.old) }
+    {
         let Ok(moment) = Timestamp::from_nanosecond(self.nanoseconds as i128) else {
             unreachable!();
         };
-        let text = DateTimePrinter::new().timestamp_text(moment);
-        String::from_str(alloc, text.as_str())
+        let printed = DateTimePrinter::new().timestamp_text(moment);
+        text.push_str(printed.as_str())
     }
 }

@@ -6,6 +6,7 @@ use Rattle.std.specs.Cmp.Lexicographic.{slice_cmp}
 use Rattle.std.specs.Ordering.{match_ordering, nat_cmp}
 use Rattle.tv_value.specs.Owned.{owned_tree}
 use Rattle.tv_value.specs.Tree.{Tree}
+use Rattle.tv_value.specs.declared.field.Field.{Field}
 use Rattle.tv_value.specs.declared.owned_value.OwnedValue.{OwnedValue}
 use Rattle.tv_json.specs.Named.{named_trees}
 
@@ -17,8 +18,8 @@ map-match_ordering f Less a b c = refl
 map-match_ordering f Equal a b c = refl
 map-match_ordering f Greater a b c = refl
 
-pub lent-insert_entry : {V : Type 0} (tree : V → Tree) (es : List (Bor (List ℕ) × Vec V Global)) (k : Bor (List ℕ)) (v : Vec V Global)
-    → map (named_trees tree) (insert_entry (λ x y. slice_cmp nat_cmp x.now y.now) es k v) ≡ insert_entry (slice_cmp nat_cmp) (map (named_trees tree) es) k.now (map tree v.items)
+pub lent-insert_entry : {V : Type 0} (tree : V → Tree) (es : List (Bor (List ℕ) × Bor (List (Field × V)))) (k : Bor (List ℕ)) (v : Bor (List (Field × V)))
+    → map (named_trees tree) (insert_entry (λ x y. slice_cmp nat_cmp x.now y.now) es k v) ≡ insert_entry (slice_cmp nat_cmp) (map (named_trees tree) es) k.now (map (λ p. tree p.1) v.now)
 lent-insert_entry tree [] k v = refl
 lent-insert_entry tree (e ∷ es) k v = map-match_ordering (named_trees tree) (slice_cmp nat_cmp k.now e.0.now) _ _ _ ∙ rw (lent-insert_entry tree es k v)
 

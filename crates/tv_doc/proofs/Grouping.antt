@@ -256,7 +256,7 @@ filter_map_first f test (x ∷ xs) = by_test (test (f x)) (filter_map_first f te
     by_test true e = ap (λ l. f x ∷ l) e
     by_test false e = e
 
-map_map : {A B C : Type 0} (f : A → B) (g : B → C) (xs : List A) → map g (map f xs) ≡ map (λ x. g (f x)) xs
+pub map_map : {A B C : Type 0} (f : A → B) (g : B → C) (xs : List A) → map g (map f xs) ≡ map (λ x. g (f x)) xs
 map_map f g [] = refl
 map_map f g (x ∷ xs) = ap (λ l. g (f x) ∷ l) (map_map f g xs)
 

@@ -15,3 +15,6 @@ pub mod Lists
 pub mod JsonDocuments
 pub mod ByName
 pub mod PairsSoFar
+pub mod FieldTexts
+pub mod NamedBack
+pub mod Spans

@@ -17,3 +17,4 @@ pub mod AdditionError
 pub mod JsonObject
 pub mod Named
 pub mod NamedPairs
+pub mod SameTexts

@@ -8,12 +8,29 @@ ghost use Rattle.tv_doc.specs.Grouped.{IsGrouped, group_seen};
 ghost use Rattle.tv_doc.specs.Named.{IsNamed, IsJsonText, named_of};
 ghost use Rattle.tv_doc.specs.Value.{pair_seen};
 
-use crate::grouped::grouped;
+use crate::grouped::{grouped, sort_pairs};
 use crate::named::{FieldNames, NamedFieldDocument, by_name, owned_by_name};
 use std::alloc::{AllocError, Global};
 use tv_json::named::named_to_json;
 use tv_value::field::Field;
 use tv_value::value::Value;
+
+// So many pairs are gathered in memory that is taken once.
+const FIRST_PAIRS: usize = 16;
+
+// The pairs of a document.
+fn gathered<'a, D: Document<'a>>(
+    alloc: Global,
+    document: &'a D,
+) -> Result<Vec<(Field, D::Value)>, AllocError>
+    ensures { IfOk result (λ gathered. map (pair_seen D.Value.tree) gathered.items ≡ D.pairs document.now) }
+{
+    let mut pairs = Vec::with_capacity(alloc, FIRST_PAIRS)?;
+    for pair in document.iter_fields_and_values() {
+        pairs.push(pair)?;
+    }
+    Ok(pairs)
+}
 
 /// A document: pairs of a field and a value, in order.
 ///
@@ -45,11 +62,7 @@ pub trait Document<'a> {
     ) -> Result<Vec<(Field, Vec<Self::Value>)>, AllocError>
         ensures { IfOk result (λ groups. IsGrouped (pairs self.now) (map (group_seen Self.Value.tree) groups.items)) }
     {
-        let mut pairs = Vec::new(alloc);
-        for pair in self.iter_fields_and_values() {
-            pairs.push(pair)?;
-        }
-        grouped(alloc, pairs)
+        grouped(alloc, gathered(alloc, self)?)
     }
 
     /// Copies of the values under the names of their fields: for each field of the schema that has a value its values in order. Those
@@ -73,9 +86,8 @@ pub trait Document<'a> {
     ) -> Result<String, AllocError>
         ensures { IfOk result (λ text. IsJsonText (S.names schema.now) (pairs self.now) (string_bytes text)) }
     {
-        named_to_json(
-            alloc,
-            by_name(alloc, schema, self.get_sorted_field_values(alloc)?)?,
-        )
+        let mut pairs = gathered(alloc, self)?;
+        sort_pairs(&mut pairs)?;
+        named_to_json(alloc, by_name(alloc, schema, pairs.as_slice())?)
     }
 }

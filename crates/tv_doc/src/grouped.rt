@@ -8,8 +8,8 @@ ghost use Rattle.tv_doc.specs.Value.{values_of};
 use std::alloc::{AllocError, Global};
 use tv_value::field::Field;
 
-// Sorts pairs by their fields. The values of a field stay in order.
-fn sort_pairs<V: Drop>(pairs: &mut Vec<(Field, V)>) -> Result<(), AllocError>
+/// Sorts pairs by their fields. The values of a field stay in order. The only error is that memory was refused.
+pub(crate) fn sort_pairs<V: Drop>(pairs: &mut Vec<(Field, V)>) -> Result<(), AllocError>
     ensures rises { OnOk result (IsNonDecreasingBy (λ pair. pair.0.id) pairs.new.items) }
     ensures same { (field : ℕ) → values_of field (map numbered pairs.new.items) ≡ values_of field (map numbered pairs.old.items) }
 {

@@ -1,13 +1,26 @@
 //! Laws of documents, each the contract of a function that does nothing.
 
-ghost use Rattle.std.specs.Prelude.{◌≡◌, ◌≤◌, ℕ, List, length};
+ghost use Rattle.std.specs.Prelude.{◌≡◌, ◌<◌, ◌≤◌, ℕ, List, [], length, IfOk};
+ghost use Rattle.tv_schema.specs.Entry.{Entry};
+ghost use Rattle.tv_schema.specs.Schema.{IsSchema};
 ghost use Rattle.tv_value.specs.Short.{IsDocument};
-ghost use Rattle.tv_value.specs.Tree.{Tree};
+ghost use Rattle.tv_value.specs.Tree.{Tree, Document as Pairs};
 ghost use Rattle.tv_doc.specs.declared.document.CompactDoc.{CompactDoc};
 ghost use Rattle.tv_doc.specs.Additions.{Addition, Runs, Keeps, accepted};
+ghost use Rattle.tv_doc.specs.Belongs.{Belongs};
 ghost use Rattle.tv_doc.specs.Document.{document_of, heap_of};
+ghost use Rattle.tv_doc.specs.Named.{IsNamed, Named, field_names};
+ghost use Rattle.tv_doc.specs.NamedPairs.{named_pairs};
 ghost use Rattle.tv_doc.specs.Reads.{Reads};
 ghost use Rattle.tv_doc.specs.Room.{document_room};
+ghost use Rattle.tv_doc.specs.Value.{values_of};
+
+use crate::doc_parsing_error::DocParsingError;
+use crate::document::CompactDoc;
+use crate::document_trait::Document;
+use std::alloc::Global;
+use tv_schema::Schema;
+use tv_schema::laws::names_are_of_one_field;
 
 /// One type and address reads as one tree at most.
 pub fn places_read_as_one_tree()
@@ -29,3 +42,30 @@ pub fn heaps_are_within_room()
 pub fn additions_are_kept()
     ensures { (additions : List Addition) (old new : CompactDoc) → Runs additions old new → Keeps (accepted additions) old new }
 {}
+
+/// The values by name of a document, as pairs again: each field of the schema has the values that it has in the document, in their order,
+/// and nothing else has a value. So where each pair's field is one of the schema, they are the document's pairs, those of each field in order.
+pub fn named_values_make_the_same_pairs()
+    ensures kept { (schema : List Entry) (d : Pairs) (named : Named) (field : ℕ) → IsSchema schema → IsNamed (field_names schema) d named → field < length schema → values_of field (named_pairs schema named) ≡ values_of field d }
+    ensures others { (schema : List Entry) (named : Named) (field : ℕ) → length schema ≤ field → values_of field (named_pairs schema named) ≡ [] }
+    ensures all { (schema : List Entry) (d : Pairs) (named : Named) (field : ℕ) → IsSchema schema → IsNamed (field_names schema) d named → Belongs schema d → values_of field (named_pairs schema named) ≡ values_of field d }
+{
+    names_are_of_one_field();
+}
+
+/// What `convert_named_doc` makes of what `to_named_doc` makes of a document: each field of the schema has its values in their order, and
+/// each pair's field is one of the schema. The errors are those of `convert_named_doc`.
+pub fn named_documents_are_converted_back(
+    alloc: Global,
+    schema: &Schema,
+    document: &CompactDoc,
+) -> Result<CompactDoc, DocParsingError>
+    ensures kept { IfOk result (λ back. (field : ℕ) → field < length schema.now → values_of field (document_of back) ≡ values_of field (document_of document.now)) }
+    ensures belongs { IfOk result (λ back. Belongs schema.now (document_of back)) }
+    ensures all { IfOk result (λ back. Belongs schema.now (document_of document.now) → (field : ℕ) → values_of field (document_of back) ≡ values_of field (document_of document.now)) }
+{
+    names_are_of_one_field();
+    let _names_are_distinct = schema.num_fields();
+    let named = document.to_named_doc(alloc, schema)?;
+    CompactDoc::convert_named_doc(alloc, schema, &named)
+}

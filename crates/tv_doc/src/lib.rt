@@ -16,6 +16,7 @@ mod map_value;
 pub mod named;
 mod place;
 mod room;
+mod same;
 pub mod value;
 pub mod value_type;
 mod write;

@@ -15,7 +15,7 @@ use std::cmp::Ordering;
 use std::collections::BTreeMap;
 use std::convert::AsStr;
 use std::mem::replace;
-use tv_value::nested::{Lent, Nested, NestedValue};
+use tv_value::nested::{Lent, Nested, NestedValue, lend};
 use tv_value::value::Value;
 
 // Whether each key is below the next in byte order.
@@ -114,6 +114,35 @@ fn write_by_key<N: Nested>(json: &mut JsonWriter, members: N::ObjectIter) -> Res
         write_value(json, &value)?;
     }
     json.out.end_object()
+}
+
+// Writes a value from where it is lent.
+pub(crate) fn write_lent<'a, V: Value<'a>>(
+    json: &mut JsonWriter,
+    value: &V,
+) -> Result<(), AllocError>
+    ensures ok { OnOk result (json.new.out.tokens ≡ json.old.out.tokens ++ data_tokens (json_of (V.tree value.now))) }
+    ensures before { json.new.out.before ≡ json.old.out.before }
+{
+    match lend(value) {
+        NestedValue::Leaf(leaf) => write_leaf(json, &leaf),
+        NestedValue::Array(items) => {
+            json.out.begin_array()?;
+            write_items::<Lent<'a, V>>(json, items)
+        }
+        NestedValue::Object(members) => {
+            json.out.begin_object()?;
+            let in_order = keys_rise::<Lent<'a, V>>(members);
+            let NestedValue::Object(members) = lend(value) else {
+                unreachable!();
+            };
+            if in_order {
+                write_members::<Lent<'a, V>>(json, members)
+            } else {
+                write_by_key::<Lent<'a, V>>(json, members)
+            }
+        }
+    }
 }
 
 /// Adds a value's JSON to a text, without spaces: the members of an object by byte order of their keys, of equal keys the last.

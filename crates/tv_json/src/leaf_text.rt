@@ -9,27 +9,25 @@ ghost use Rattle.tv_date.specs.Printed.{moment_text};
 ghost use Rattle.tv_json.specs.JsonOf.{address_text, segments_text};
 
 use base64::engine::general_purpose::STANDARD;
-use std::alloc::{AllocError, Global};
+use std::alloc::AllocError;
 use std::net::Ipv6Addr;
 use tv_base::Facet;
 use tv_value::date_time::DateTime;
 
 // The text of a moment, as it is printed by RFC 3339.
-pub(crate) fn push_date(alloc: Global, text: &mut String, date: DateTime) -> Result<(), AllocError>
+#[inline]
+pub(crate) fn push_date(text: &mut String, date: DateTime) -> Result<(), AllocError>
     ensures { OnOk result (string_bytes text.new ≡ string_bytes text.old ++ moment_text date.nanoseconds) }
 {
-    let printed = date.write_rfc3339(alloc)?;
-    text.push_str(printed.as_str())
+    date.push_rfc3339(text)
 }
 
 // The text that names a facet.
-pub(crate) fn push_facet(alloc: Global, text: &mut String, encoded: &str) -> Result<(), AllocError>
+#[inline]
+pub(crate) fn push_facet(text: &mut String, encoded: &str) -> Result<(), AllocError>
     ensures { OnOk result (string_bytes text.new ≡ string_bytes text.old ++ printed encoded.now) }
 {
-    match Facet::from_encoded(encoded.as_bytes().to_vec(alloc)?) {
-        Ok(facet) => write!(text, "{facet}"),
-        Err(_) => unreachable!(),
-    }
+    Facet::print_encoded(encoded, text)
 }
 
 // Bytes by the standard alphabet, with padding.

@@ -9,25 +9,28 @@ ghost use Rattle.tv_json.specs.JsonOf.{json_of};
 ghost use Rattle.tv_json.specs.Named.{list_json, named_json, named_trees};
 ghost use Rattle.tv_json.specs.Rising.{data_tokens, rest_of_object};
 
-use crate::compact::write_value;
+use crate::compact::write_lent;
 use crate::write::{JsonWriter, begin_list};
 use std::alloc::{AllocError, Global};
 use std::collections::BTreeMap;
-use tv_value::nested::Lent;
+use tv_value::field::Field;
 use tv_value::value::Value;
 
-// Writes a name and the array of its values.
+// The first room of a text.
+const FIRST_BYTES: usize = 256;
+
+// Writes a name and the array of the values.
 fn write_list<'a, V: Value<'a>>(
     json: &mut JsonWriter,
     name: &str,
-    values: Vec<V>,
+    pairs: &[(Field, V)],
 ) -> Result<(), AllocError>
-    ensures ok { OnOk result (json.new.out.tokens ≡ json.old.out.tokens ++ Token.key name.now ∷ data_tokens (list_json (map V.tree values.items))) }
+    ensures ok { OnOk result (json.new.out.tokens ≡ json.old.out.tokens ++ Token.key name.now ∷ data_tokens (list_json (map (λ pair. V.tree pair.1) pairs.now))) }
     ensures before { json.new.out.before ≡ json.old.out.before }
 {
     begin_list(&mut json.out, name)?;
-    for value in values {
-        write_value(json, &Lent::new(value))?;
+    for (_, value) in pairs {
+        write_lent(json, value)?;
     }
     json.out.end_array()
 }
@@ -35,26 +38,26 @@ fn write_list<'a, V: Value<'a>>(
 // Writes names and the arrays of their values, and the end of the object in which they stand.
 fn write_lists<'a, V: Value<'a>>(
     json: &mut JsonWriter,
-    named: BTreeMap<&str, Vec<V>>,
+    named: BTreeMap<&str, &[(Field, V)]>,
 ) -> Result<(), AllocError>
     ensures ok { OnOk result (json.new.out.tokens ≡ json.old.out.tokens ++ rest_of_object (named_json (map (named_trees V.tree) named.entry.entries))) }
     ensures before { json.new.out.before ≡ json.old.out.before }
 {
-    for (name, values) in named {
-        write_list(json, name, values)?;
+    for (name, pairs) in named {
+        write_list(json, name, pairs)?;
     }
     json.out.end_object()
 }
 
-/// The text of an object, without spaces: for each name, in byte order, the array of its values. (Own.) The only error is that
-/// memory was refused.
+/// The text of an object, without spaces: for each name, in byte order, the array of the values that stand under it, beside whatever
+/// fields. (Own.) The only error is that memory was refused.
 pub fn named_to_json<'a, V: Value<'a>>(
     alloc: Global,
-    named: BTreeMap<&str, Vec<V>>,
+    named: BTreeMap<&str, &[(Field, V)]>,
 ) -> Result<String, AllocError>
     ensures { IfOk result (λ text. string_bytes text ≡ compact_text (object (named_json (map (named_trees V.tree) named.entry.entries)))) }
 {
-    let mut json = JsonWriter::new(alloc, Vec::new(alloc));
+    let mut json = JsonWriter::new(alloc, Vec::with_capacity(alloc, FIRST_BYTES)?);
     json.out.begin_object()?;
     write_lists(&mut json, named)?;
     Ok(json.into_text())

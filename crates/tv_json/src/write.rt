@@ -147,8 +147,8 @@ pub(crate) fn write_leaf(
         ReferenceValueLeaf::I64(number) => return json.out.i64(number),
         ReferenceValueLeaf::Bool(truth) => return json.out.boolean(truth),
         ReferenceValueLeaf::PreTokStr(text) => return write_tokenized(&mut json.out, text),
-        ReferenceValueLeaf::Date(date) => push_date(json.alloc, &mut json.scratch, date)?,
-        ReferenceValueLeaf::Facet(path) => push_facet(json.alloc, &mut json.scratch, path)?,
+        ReferenceValueLeaf::Date(date) => push_date(&mut json.scratch, date)?,
+        ReferenceValueLeaf::Facet(path) => push_facet(&mut json.scratch, path)?,
         ReferenceValueLeaf::Bytes(bytes) => push_base64(&mut json.scratch, bytes)?,
         ReferenceValueLeaf::IpAddr(address) => push_address(&mut json.scratch, address)?,
     }

@@ -1,5 +1,4 @@
-use Rattle.std.proofs.Common.{◌≡◌, ◌++◌, map}
-use Rattle.std.specs.Vec.Iter.{into_iter_items}
+use Rattle.std.proofs.Common.{◌≡◌, ◌++◌, map, drop}
 use Rattle.tv_value.specs.Tree.{elements}
 use Rattle.tv_json.specs.JsonOf.{elements_json}
 use Rattle.tv_json.specs.Rising.{rest_of_array}
@@ -7,7 +6,7 @@ use Rattle.tv_json.proofs.named.write_list.Given as goal
 
 abbrev pub invariant-loop-value : goal.invariant-loop-value
 invariant-loop-value g l = record {
-  tokens : l.json.out.tokens ++ rest_of_array (elements_json (elements (map g.V.Value.tree (into_iter_items l.value-iterator))))
-      ≡ l.initial.json.out.tokens ++ rest_of_array (elements_json (elements (map g.V.Value.tree l.fn.values.items)));
+  tokens : l.json.out.tokens ++ rest_of_array (elements_json (elements (map (λ pair. g.V.Value.tree pair.1) (drop l.value-index l.fn.pairs))))
+      ≡ l.initial.json.out.tokens ++ rest_of_array (elements_json (elements (map (λ pair. g.V.Value.tree pair.1) l.fn.pairs)));
   before : l.json.out.before ≡ l.initial.json.out.before;
 }

@@ -1,7 +1,0 @@
-use Rattle.std.proofs.Common.{◌≡◌, ◌++◌, map}
-use Rattle.tv_doc.specs.Value.{pair_seen}
-use Rattle.tv_doc.proofs.document_trait.Document.get_sorted_field_values.Given as goal
-
--- those that were gathered, and those that are left
-abbrev pub invariant-loop-pair : goal.invariant-loop-pair
-invariant-loop-pair g l = map (pair_seen g.Self.Value.Value.tree) l.pairs.items ++ g.Self.Document.pairs_rest l.pair-iterator ≡ g.Self.Document.pairs l.fn.self
