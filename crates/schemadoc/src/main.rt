@@ -1,60 +1,41 @@
-//! Shows a document's way into the store and back: its stored bytes in hexadecimal, and then each pair that is read from
-//! them, the field's number before the value. It ends with 0, or with 2 where a call or a write fails.
+//! Answers the lines of its input: the first is a schema's JSON, and each other one a document's. Each document is answered by a
+//! line of its stored bytes in hexadecimal and of its text of JSON, and what is refused by `error` and the names of the refusal.
+//!
+//! It ends with 0 where each line was answered, with 1 where the schema was refused, and with 2 where a read or a write failed, or
+//! there was no memory for a line.
 #![tactic(auto)]
 
-use anyhow::{Context, Result, ensure};
-use std::alloc::Global;
+use std::io;
+use std::io::{BufWriter, Write};
 use std::process::ExitCode;
-use tantivy_schema::common::{SliceSource, VecSink};
-use tantivy_schema::schema::document::{BinaryDocumentSerializer, CompactDoc};
-use tantivy_schema::schema::{NumericOptions, Schema, SchemaBuilder, TextOptions, Value};
-use tantivy_schema::store::{DocStoreVersion, read_document};
+use tantivy_schema::common::{ReadSource, WriteSink};
+use tantivy_schema::{RunEnd, run};
 
-/// The status where a call or a write fails.
-const FAILED: u8 = 2;
+/// So many bytes of answers are collected before they are written.
+const BUFFERED: usize = 65536;
+
+/// The status where the schema is refused.
+const BAD_SCHEMA: u8 = 1;
+
+/// The status where a read or a write fails, or there is no memory for a line.
+const BROKEN: u8 = 2;
 
 fn main(rt: HostRuntime) -> ExitCode {
-    match show(&rt) {
-        Ok(()) => ExitCode::SUCCESS,
-        Err(_) => ExitCode::from(FAILED),
+    match answer(&rt) {
+        Ok(RunEnd::Done) => ExitCode::SUCCESS,
+        Ok(RunEnd::BadSchema) => ExitCode::from(BAD_SCHEMA),
+        Ok(RunEnd::Broken) => ExitCode::from(BROKEN),
+        Err(_) => ExitCode::from(BROKEN),
     }
 }
 
-fn show(rt: &(impl Print + AllocGlobal)) -> Result<()> {
+/// Answers the lines of standard input on standard output, and writes out what was collected.
+fn answer(rt: &(impl Input + Print + AllocGlobal)) -> io::Result<RunEnd> {
     let alloc = rt.alloc();
-    let (schema, document) = example(alloc)?;
-    ensure!(document.fits(&schema), "a field is not the schema's");
-    let mut sink = VecSink::new(alloc);
-    BinaryDocumentSerializer::new(&mut sink, &schema).serialize_doc(&document)?;
-    for byte in sink.as_slice() {
-        print!(rt; "{byte:02x}")?;
-    }
-    println!(rt; "")?;
-    let mut source = SliceSource::new(sink.as_slice());
-    show_pairs(rt, &read_document(alloc, &mut source, DocStoreVersion::V2)?)
-}
-
-/// A schema of two stored fields, and a document of one value for each.
-fn example(alloc: Global) -> Result<(Schema, CompactDoc)> {
-    let mut builder = SchemaBuilder::new(alloc);
-    let name = builder.add_text_field("name", TextOptions::default().set_stored())?;
-    let age = builder.add_u64_field("age", NumericOptions::default().set_stored())?;
-    let schema = builder.build().context("no memory")?;
-    let mut document = CompactDoc::new(alloc);
-    document.add_text(name, "ChillFish8")?;
-    document.add_u64(age, 20)?;
-    Ok((schema, document))
-}
-
-/// A line for each pair: the field's number, and the text or the number in decimal.
-fn show_pairs(rt: &impl Print, document: &CompactDoc) -> Result<()> {
-    for (field, value) in document.field_values() {
-        let number = field.field_id();
-        if let Some(text) = value.as_str() {
-            println!(rt; "{number} {text}")?;
-        } else if let Some(value) = value.as_u64() {
-            println!(rt; "{number} {value}")?;
-        }
-    }
-    Ok(())
+    let mut source = ReadSource::new(rt.reader());
+    let writer = BufWriter::with_capacity(alloc, BUFFERED, io::writer(rt))?;
+    let mut sink = WriteSink::new(writer);
+    let end = run(alloc, &mut source, &mut sink);
+    sink.into_inner().flush()?;
+    Ok(end)
 }

@@ -97,3 +97,7 @@ pub use Rattle.tv_typed.specs.Lists
 pub use Rattle.tv_typed.specs.Documents as DocumentPairs
 -- the types of code that contracts speak of
 pub mod CodeTypes
+-- lines of JSON and their answers
+pub use Rattle.tv_lines.specs.Lines
+pub use Rattle.tv_lines.specs.Answers
+pub use Rattle.tv_lines.specs.Run

@@ -1,0 +1,5 @@
+//! Tests of runs over lines.
+#![tactic(auto)]
+
+#[cfg(test)]
+mod tests;

@@ -1,0 +1,89 @@
+-- The texts of refusals are answers.
+use Rattle.std.proofs.Common.{◌≡◌, ℕ, ◌<◌, ◌≤◌, ◌⊎◌, inl, inr, List, [], ◌∷◌, ◌++◌, Result, Ok, Err, Some, None, refl, sym, ap, ◌∙◌, subst, append_assoc}
+use Rattle.std.specs.Prelude.{IsUtf8, OnOk, IfErr}
+use lib.Chars.{codes}
+use Rattle.std.proofs.lemmas.List.{append-nil}
+use Rattle.serde_json.specs.Data.{Data, Members, object}
+use Rattle.serde_json.specs.Read.{read}
+use Rattle.tv_doc.specs.Document.{document_of}
+use Rattle.tv_doc.specs.JsonObject.{FieldJson, object_values, Pairs, StopsAt, Parses}
+use Rattle.tv_doc.specs.declared.add_error.AddError.TheVariants as adds
+use Rattle.tv_doc.specs.declared.doc_parsing_error.DocParsingError.{DocParsingError}
+use Rattle.tv_doc.specs.declared.doc_parsing_error.DocParsingError.TheVariants as errors
+use Rattle.tv_doc.specs.declared.document.CompactDoc.{CompactDoc}
+use Rattle.tv_lines.specs.Answers.{IsJson, refusal_name, RefusalText, LineAnswer, Answer, IsDocumentText}
+use Rattle.tv_lines.specs.Answers.Answer.{answered, no_memory, no_room}
+use Rattle.tv_lines.specs.Answers.LineAnswer.{no_object, refused, written}
+use Rattle.tv_lines.specs.Answers.RefusalText.{by_table, by_number}
+use Rattle.tv_lines.specs.Run.{Leaves}
+use Rattle.tv_lines.specs.Unwritten.{IsUnwritten, error_text, value_error_text}
+use Rattle.tv_schema.specs.Entry.{Entry}
+use Rattle.tv_schema.specs.JsonAnswer.{error_of}
+use Rattle.tv_schema.specs.JsonTable.{Refusal, Table}
+use Rattle.tv_schema.specs.declared.value_parsing_error.ValueParsingError.{ValueParsingError}
+use Rattle.tv_schema.specs.declared.value_parsing_error.ValueParsingError.TheVariants as values
+use Rattle.tv_store.specs.Stored.{stored}
+use Rattle.tv_value.specs.Tree.{Tree, Document}
+
+pub no_text : (schema : List Entry) (line : List ℕ) → ¬ IsUtf8 line → Answer schema line (codes "error InvalidJson")
+no_text schema line none = answered (no_object (λ members h. none h.0) refl)
+
+-- ---- refusals of values
+
+some_is : {A : Type 0} {x y : A} → Some x ≡ Some y → x ≡ y
+some_is e = cc
+
+named_by : (e : ValueParsingError) (refusal : Refusal) → error_of e ≡ Some refusal → value_error_text e ≡ codes "error ValueError " ++ refusal_name refusal
+named_by (values.OverflowError expected json) refusal is = rw (← some_is is)
+named_by (values.TypeError expected json) refusal is = rw (← some_is is)
+named_by (values.ParseError cause json) refusal is = rw (← some_is is)
+named_by (values.InvalidBase64 text) refusal is = rw (← some_is is)
+named_by values.FloatNumber refusal is = rw (← some_is is)
+named_by values.Memory refusal is = absurd (cc)
+
+pairs-snoc : (before : List FieldJson) (at : FieldJson) (tree : Tree) (pairs : Document) → Pairs before pairs → Table at.field_type at.value (Ok tree) → at.field ≤ 65535
+    → Pairs (before ++ at ∷ []) (pairs ++ (at.field, tree) ∷ [])
+pairs-snoc [] at tree pairs made row small = (tree, [], row, small, ap (λ (d : Document). d ++ (at.field, tree) ∷ []) made, refl)
+pairs-snoc (v ∷ vs) at tree pairs made row small =
+    (made.0, made.1 ++ (at.field, tree) ∷ [], made.2, made.3, ap (λ (d : Document). d ++ (at.field, tree) ∷ []) made.4, pairs-snoc vs at tree made.1 made.5 row small)
+
+-- ---- the answer for an error
+
+pub refusal_answers : (schema : List Entry) (line : List ℕ) (error : DocParsingError) → IsUtf8 line → Parses schema line (Err error) → Answer schema line (error_text error)
+refusal_answers schema line (errors.InvalidJson start) utf8 h = answered (no_object (λ members is. h.0 members is.1) refl)
+refusal_answers schema line (errors.ValueError name e) utf8 h =
+    let stop = h.2 in
+    let why = stop.refused in
+    answered (refused h.0 stop.before stop.behind stop.at stop.pairs (utf8, h.1) stop.joined stop.added (by_table why.0 why.3 (named_by e why.0 why.2)))
+refusal_answers schema line (errors.Add (adds.FieldNumber n)) utf8 h =
+    let stop = h.2 in
+    let why = stop.refused in
+    answered (refused h.0 stop.before stop.behind stop.at stop.pairs (utf8, h.1) stop.joined stop.added (by_number why.0 why.1 why.2 refl))
+refusal_answers schema line (errors.Add adds.HeapFull) utf8 h =
+    let stop = h.2 in
+    let why = stop.refused in
+    no_room h.0 (stop.before ++ stop.at ∷ []) stop.behind (stop.pairs ++ (stop.at.field, why.0) ∷ []) (utf8, h.1)
+    (stop.joined ∙ sym (append_assoc stop.before (stop.at ∷ []) stop.behind)) (pairs-snoc stop.before stop.at why.0 stop.pairs stop.added why.1 why.2) why.3 refl
+refusal_answers schema line (errors.Add adds.Memory) utf8 h = no_memory refl
+refusal_answers schema line errors.Memory utf8 h = no_memory refl
+
+-- ---- the answer for a document
+
+pub document_answers : (schema : List Entry) (line old new : List ℕ) (made : CompactDoc) → IsUtf8 line → Parses schema line (Ok made)
+    → Leaves (IsDocumentText schema (stored schema (document_of made))) old new → Leaves (Answer schema line) old new
+document_answers schema line old new made utf8 h leaves = (leaves.0, answered (written h.0 (document_of made) (utf8, h.1) h.2 leaves.1), leaves.2)
+
+pub unwritten_answers : (schema : List Entry) (line text : List ℕ) (made : CompactDoc) → IsUtf8 line → Parses schema line (Ok made)
+    → IsUnwritten (document_of made) text → Answer schema line text
+unwritten_answers schema line text made utf8 h why =
+    elim why [ inl e ↦ no_memory e | inr full ↦ no_room h.0 (object_values schema h.0) [] (document_of made) (utf8, h.1) (sym (append-nil (object_values schema h.0))) h.2 full.0 full.1 ]
+
+-- ---- clauses of results
+
+pub ok_maps : {A E P Q : Type 0} (result : Result A E) → (P → Q) → OnOk result P → OnOk result Q
+ok_maps (Ok x) f h = f h
+ok_maps (Err e) f h = tt
+
+pub err_maps : {A E : Type 0} {P Q : E → Type 0} (result : Result A E) → ((e : E) → P e → Q e) → IfErr result P → IfErr result Q
+err_maps (Ok x) f h = tt
+err_maps (Err e) f h = f e h

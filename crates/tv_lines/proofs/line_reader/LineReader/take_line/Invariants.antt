@@ -1,0 +1,18 @@
+use Rattle.std.proofs.Common.{◌≡◌, ◌++◌, ◌+◌, ◌≤◌, ◌-◌, ◌^◌, length}
+use Rattle.tv_lines.specs.Lines.{IsUnbroken}
+use Rattle.tv_lines.specs.Reader.{unread, most_left}
+use Rattle.tv_lines.proofs.line_reader.LineReader.take_line.Given as goal
+
+abbrev pub invariant-pieces : goal.invariant-pieces
+invariant-pieces g l =
+    let source = g.S.ByteSource in
+    record {
+      whole : IsUnbroken l.line.items;
+      cut : source.tells l.initial.source → unread l.initial.self ++ source.left l.initial.source ≡ l.line.items ++ (unread l.self ++ source.left l.source);
+      still_tells : source.tells l.initial.source → source.tells l.source;
+      same_faults : source.faults l.source ≡ source.faults l.initial.source;
+      fewer : most_left l.self + length l.line.items ≤ most_left l.initial.self;
+    }
+
+abbrev pub decreases-pieces : goal.decreases-pieces
+decreases-pieces g l = 2 ^ 64 - 1 - l.self.count

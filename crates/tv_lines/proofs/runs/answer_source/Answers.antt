@@ -1,0 +1,22 @@
+use Rattle.std.proofs.Common.{◌≡◌, ◌++◌, subst, ap, ◌∙◌}
+use Rattle.tv_lines.proofs.LineSteps.{first_of}
+use Rattle.tv_lines.proofs.Progress.{broken_lines, broken_refusal, broken_early, on_err}
+use Rattle.tv_lines.proofs.runs.answer_source.Goals as goal
+
+pub returns-in_err-reader-clause-err : goal.returns-in_err-reader-clause-err
+returns-in_err-reader-clause-err g c = λ s k. on_err _ (broken_early _ _)
+
+pub returns-in_err-take_line-clause-err : goal.returns-in_err-take_line-clause-err
+returns-in_err-take_line-clause-err g c = λ s k. on_err _ (broken_early _ _)
+
+pub returns-in_err-answer_lines-in-Ok-clause-err : goal.returns-in_err-answer_lines-in-Ok-clause-err
+returns-in_err-answer_lines-in-Ok-clause-err g c = λ s k.
+    on_err _
+    (broken_lines _ _ (first_of _ _ _ _ (rw c.in_ok-reader.ensures at c.in_ok-take_line.ensures.takes s)) (rw c.as_slice.ensures.value at c.in-Ok.ensures.ok)
+    (c.in_err-answer_lines-in-Ok.ensures.err (c.in_ok-take_line.ensures.tells s) k))
+
+pub returns-in_err-write_line-in-Err-clause-err : goal.returns-in_err-write_line-in-Err-clause-err
+returns-in_err-write_line-in-Err-clause-err g c = λ s k.
+    on_err _
+    (broken_refusal _ _ (first_of _ _ _ _ (rw c.in_ok-reader.ensures at c.in_ok-take_line.ensures.takes s)) (rw c.as_slice.ensures.value at c.in-Err.ensures.err)
+    (rw c.as_bytes.ensures.value at c.in_err-write_line-in-Err.ensures.err k))

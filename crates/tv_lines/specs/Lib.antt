@@ -1,0 +1,5 @@
+pub mod Lines
+pub mod Answers
+pub mod Run
+pub mod Reader
+pub mod Unwritten

@@ -1,0 +1,50 @@
+-- What a run over an input writes.
+use Rattle.std.specs.Prelude.{◌≡◌, ◌⊎◌, ℕ, List, [], ◌∷◌, ◌++◌}
+use Rattle.tv_base.specs.Sink.{IsFront}
+use Rattle.tv_lines.specs.Answers.{ReadsSchema, SchemaRefusal, Answers}
+use Rattle.tv_lines.specs.Lines.{FirstLine, Lines}
+use Rattle.tv_lines.specs.declared.run_end.RunEnd.{RunEnd}
+use Rattle.tv_lines.specs.declared.run_end.RunEnd.TheVariants.{Done, BadSchema, Broken}
+use Rattle.tv_schema.specs.Entry.{Entry}
+
+-- such an answer, and a line feed
+abbrev pub IsEnded : (List ℕ → Type 0) → List ℕ → Type 0
+IsEnded P text = (answer : List ℕ) × P answer × (text ≡ answer ++ 10 ∷ [])
+
+-- the answers of the lines of an input
+abbrev pub AnswersOf : List Entry → List ℕ → List ℕ → Type 0
+AnswersOf schema input text = (lines : List (List ℕ)) × Lines input lines × Answers schema lines text
+
+-- the first line describes a schema, and the text is the answers of the other lines
+pub record DoneText (input text : List ℕ) : Type 0 where
+  pub line : List ℕ
+  pub rest : List ℕ
+  pub schema : List Entry
+  pub first : FirstLine input line rest
+  pub reads : ReadsSchema line schema
+  pub answers : AnswersOf schema rest text
+
+-- the first line is refused, and the text is its answer
+pub record BadSchemaText (input text : List ℕ) : Type 0 where
+  pub line : List ℕ
+  pub rest : List ℕ
+  pub first : FirstLine input line rest
+  pub refused : IsEnded (SchemaRefusal line) text
+
+-- a beginning of such a text
+abbrev pub FrontOf : (List ℕ → Type 0) → List ℕ → Type 0
+FrontOf P text = (whole : List ℕ) × P whole × IsFront text whole
+
+-- a beginning of what a run over the input can write
+abbrev pub BrokenText : List ℕ → List ℕ → Type 0
+BrokenText input text = FrontOf (λ whole. DoneText input whole ⊎ BadSchemaText input whole) text
+
+-- such a text was written behind what was held
+abbrev pub Leaves : (List ℕ → Type 0) → List ℕ → List ℕ → Type 0
+Leaves P old new = (text : List ℕ) × P text × (new ≡ old ++ text)
+
+-- what is written at an end that isn't broken
+abbrev pub EndsWith : RunEnd → List ℕ → List ℕ → List ℕ → Type 0
+EndsWith Done input old new = Leaves (DoneText input) old new
+EndsWith BadSchema input old new = Leaves (BadSchemaText input) old new
+EndsWith Broken input old new = ⊥

@@ -1,0 +1,170 @@
+//! The line of a document.
+
+ghost use Rattle.std.specs.Prelude.{◌≡◌, ◌∷◌, ◌++◌, [], codes, IfErr, OnOk};
+ghost use Rattle.tv_doc.specs.Belongs.{Belongs};
+ghost use Rattle.tv_doc.specs.Document.{document_of};
+ghost use Rattle.tv_lines.specs.Answers.{Answer, IsDocumentText};
+ghost use Rattle.tv_lines.specs.Run.{IsEnded, Leaves};
+ghost use Rattle.tv_lines.specs.Unwritten.{IsTexts, IsUnwritten, error_text, value_error_text};
+ghost use Rattle.tv_store.specs.Stored.{stored};
+ghost use Rattle.tv_value.specs.Short.{short_document};
+ghost use Rattle.tv_value.specs.Version.{V2};
+
+use crate::hex_text::append_hex;
+use crate::read_back::read_back;
+use std::alloc::{AllocError, Global};
+use tv_base::VecSink;
+use tv_doc::add_error::AddError;
+use tv_doc::doc_parsing_error::DocParsingError;
+use tv_doc::document::CompactDoc;
+use tv_doc::document_trait::Document;
+use tv_doc::laws::documents_are_valid;
+use tv_schema::{Schema, ValueParsingError};
+use tv_store::BinaryDocumentSerializer;
+use tv_store::laws::{stored_pairs_are_valid, stored_pairs_need_no_more_room};
+
+/// What is answered where memory was refused.
+const NO_MEMORY: &str = "error Memory";
+
+/// What is answered where a field's type refuses a value.
+fn value_refusal(error: &ValueParsingError) -> &'static str
+    ensures { result.now ≡ value_error_text error.now }
+{
+    match error {
+        ValueParsingError::OverflowError {
+            expected: _,
+            json: _,
+        } => { "error ValueError OverflowError" }
+        ValueParsingError::TypeError {
+            expected: _,
+            json: _,
+        } => "error ValueError TypeError",
+        ValueParsingError::ParseError { cause: _, json: _ } => "error ValueError ParseError",
+        ValueParsingError::InvalidBase64 { base64: _ } => "error ValueError InvalidBase64",
+        ValueParsingError::FloatNumber => "error ValueError FloatNumber",
+        ValueParsingError::Memory => "error Memory",
+    }
+}
+
+/// What is answered where there is no document of a line.
+fn refusal(error: &DocParsingError) -> &'static str
+    ensures { result.now ≡ error_text error.now }
+{
+    match error {
+        DocParsingError::InvalidJson(_) => "error InvalidJson",
+        DocParsingError::ValueError(_, error) => value_refusal(error),
+        DocParsingError::Add(AddError::FieldNumber(_)) => "error FieldNumber",
+        DocParsingError::Add(AddError::HeapFull) => "error HeapFull",
+        DocParsingError::Add(AddError::Memory) => "error Memory",
+        DocParsingError::Memory => "error Memory",
+    }
+}
+
+/// Puts the stored bytes of a document in the place of what `bytes` holds. The only error is that memory was refused.
+fn write_stored(
+    schema: &Schema,
+    document: &CompactDoc,
+    bytes: &mut VecSink,
+) -> Result<(), AllocError>
+    requires { Belongs schema.now (document_of document.now) }
+    ensures { OnOk result (bytes.new.bytes.items ≡ short_document V2 (stored schema.now (document_of document.now))) }
+{
+    bytes.clear();
+    match BinaryDocumentSerializer::new(bytes, schema).serialize_doc(document) {
+        Ok(()) => Ok(()),
+        Err(_) => Err(AllocError),
+    }
+}
+
+/// Appends the stored bytes in hexadecimal, a space, and the text of JSON of what is read back from them. Else it gives what is
+/// answered.
+fn append_document(
+    alloc: Global,
+    schema: &Schema,
+    document: &CompactDoc,
+    bytes: &mut VecSink,
+    text: &mut Vec<u8>,
+) -> Result<(), &'static str>
+    requires { Belongs schema.now (document_of document.now) }
+    ensures ok { OnOk result (Leaves (IsDocumentText schema.now (stored schema.now (document_of document.now))) text.old.items text.new.items) }
+    ensures err { IfErr result (λ answer. IsUnwritten (document_of document.now) answer.now) }
+{
+    documents_are_valid();
+    stored_pairs_are_valid();
+    stored_pairs_need_no_more_room();
+    if write_stored(schema, document, bytes).is_err() {
+        return Err(NO_MEMORY);
+    }
+    let found = read_back(alloc, bytes.as_slice())?;
+    match append_texts(alloc, schema, &found, bytes.as_slice(), text) {
+        Ok(()) => Ok(()),
+        Err(_) => Err(NO_MEMORY),
+    }
+}
+
+/// Appends these bytes in hexadecimal, a space, and the document's text of JSON. The only error is that memory was refused.
+fn append_texts(
+    alloc: Global,
+    schema: &Schema,
+    found: &CompactDoc,
+    bytes: &[u8],
+    text: &mut Vec<u8>,
+) -> Result<(), AllocError>
+    ensures { OnOk result (Leaves (IsTexts schema.now bytes.now (document_of found.now)) text.old.items text.new.items) }
+{
+    let json = found.to_json(alloc, schema)?;
+    append_hex(text, bytes)?;
+    text.push(b' ')?;
+    text.extend_from_slice(json.as_bytes())
+}
+
+/// Appends what is answered for the line where there is a document of it. Else it gives what is answered.
+fn append_answer(
+    alloc: Global,
+    schema: &Schema,
+    line: &[u8],
+    bytes: &mut VecSink,
+    text: &mut Vec<u8>,
+) -> Result<(), &'static str>
+    ensures ok { OnOk result (Leaves (Answer schema.now line.now) text.old.items text.new.items) }
+    ensures err { IfErr result (λ answer. Answer schema.now line.now answer.now) }
+{
+    let Ok(json) = str::from_utf8(line) else {
+        return Err("error InvalidJson");
+    };
+    match CompactDoc::parse_json(alloc, schema, json) {
+        Ok(document) => append_document(alloc, schema, &document, bytes, text),
+        Err(error) => Err(refusal(&error)),
+    }
+}
+
+/// Puts an answer and a line feed in the place of what `text` holds. The only error is that memory was refused.
+fn put_line(text: &mut Vec<u8>, answer: &str) -> Result<(), AllocError>
+    ensures { OnOk result (text.new.items ≡ answer.now ++ 10 ∷ []) }
+{
+    text.clear();
+    text.extend_from_slice(answer.as_bytes())?;
+    text.push(b'\n')?;
+    Ok(())
+}
+
+/// Puts what is answered for a document's line, with a line feed, in the place of what `text` holds. `bytes` is for what is stored.
+/// The only error is that memory was refused.
+pub fn answer_line(
+    alloc: Global,
+    schema: &Schema,
+    line: &[u8],
+    bytes: &mut VecSink,
+    text: &mut Vec<u8>,
+) -> Result<(), AllocError>
+    ensures { OnOk result (IsEnded (Answer schema.now line.now) text.new.items) }
+{
+    text.clear();
+    match append_answer(alloc, schema, line, bytes, text) {
+        Ok(()) => {
+            text.push(b'\n')?;
+            Ok(())
+        }
+        Err(answer) => put_line(text, answer),
+    }
+}

@@ -1,0 +1,14 @@
+//! Documents line by line: a source of JSON lines is answered, line by line, by stored documents.
+#![tactic(auto)]
+
+mod document_line;
+mod halt;
+mod hex_text;
+mod line_reader;
+mod read_back;
+pub mod run_end;
+pub mod runs;
+mod schema_line;
+
+pub use run_end::RunEnd;
+pub use runs::run;

@@ -1,0 +1,46 @@
+//! Documents that are read back from what was written of them.
+
+ghost use Rattle.std.specs.Prelude.{◌≡◌, ◌⊎◌, codes, IfErr, IfOk};
+ghost use Rattle.tv_doc.specs.Document.{document_of};
+ghost use Rattle.tv_lines.specs.Unwritten.{IsUnwritten};
+ghost use Rattle.tv_reader.specs.declared.error.DeserializeError.TheVariants.{Memory, HeapFull};
+ghost use Rattle.tv_value.specs.Short.{short_document, IsDocument};
+ghost use Rattle.tv_value.specs.Tree.{Document};
+ghost use Rattle.tv_value.specs.Version.{V2};
+
+use std::alloc::Global;
+use tv_base::SliceSource;
+use tv_doc::document::CompactDoc;
+use tv_legacy::laws::{
+    documents_have_one_reading, faulty_documents_derive_none, short_documents_spell,
+};
+use tv_store::{DeserializeError, DocStoreVersion, read_document};
+
+/// What is answered where there is no memory or no room for a document.
+fn unwritten(error: &DeserializeError) -> &'static str
+    requires { (error.now ≡ Memory) ⊎ (error.now ≡ HeapFull) }
+    ensures memory { error.now ≡ Memory → result.now ≡ codes "error Memory" }
+    ensures full { error.now ≡ HeapFull → result.now ≡ codes "error HeapFull" }
+{
+    match error {
+        DeserializeError::Memory => "error Memory",
+        DeserializeError::HeapFull => "error HeapFull",
+        _ => unreachable!(),
+    }
+}
+
+/// Reads back a document from its shortest spelling, or gives the text that is answered where that takes more memory or room than
+/// there is.
+pub fn read_back(alloc: Global, bytes: &[u8]) -> Result<CompactDoc, &'static str>
+    requires { (d : Document) × (IsDocument d × (bytes.now ≡ short_document V2 d)) }
+    ensures ok { (d : Document) → IsDocument d → bytes.now ≡ short_document V2 d → IfOk result (λ found. document_of found ≡ d) }
+    ensures err { (d : Document) → IsDocument d → bytes.now ≡ short_document V2 d → IfErr result (λ text. IsUnwritten d text.now) }
+{
+    documents_have_one_reading();
+    faulty_documents_derive_none();
+    short_documents_spell();
+    match read_document(alloc, &mut SliceSource::new(bytes), DocStoreVersion::V2) {
+        Ok(found) => Ok(found),
+        Err(error) => Err(unwritten(&error)),
+    }
+}
