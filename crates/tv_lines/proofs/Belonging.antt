@@ -1,5 +1,5 @@
 -- The fields of an object's values are those of the schema.
-use Rattle.std.proofs.Common.{◌≡◌, ℕ, zero, suc, ◌<◌, List, [], ◌∷◌, ◌++◌, length, Option, Some, None, refl, subst, sym, ap, arith}
+use Rattle.std.proofs.Common.{◌≡◌, ℕ, zero, suc, ◌<◌, List, [], ◌∷◌, ◌++◌, length, Option, Some, None, refl, subst, sym, arith}
 use Rattle.std.specs.Prelude.{slice_get}
 use Rattle.std.specs.List.{AllByRecursion}
 use Rattle.serde_json.specs.Data as json
@@ -9,7 +9,7 @@ use Rattle.tv_doc.specs.JsonObject.{FieldJson, item_values, values_for, values_o
 use Rattle.tv_schema.specs.Entry.{Entry}
 use Rattle.tv_schema.specs.Schema.{field_named}
 use Rattle.tv_schema.specs.declared.field_type.FieldType.{FieldType}
-use Rattle.tv_value.specs.Tree.{Tree, Document}
+use Rattle.tv_value.specs.Tree.{Document}
 
 abbrev HaveFields : ℕ → List FieldJson → Type 0
 HaveFields n values = AllByRecursion (λ v. v.field < n) values

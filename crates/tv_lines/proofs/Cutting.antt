@@ -1,5 +1,5 @@
 -- A piece up to its first line feed.
-use Rattle.std.proofs.Common.{◌≡◌, ◌≢◌, ℕ, suc, zero, ◌+◌, ◌-◌, ◌<◌, ◌≤◌, Bool, true, false, List, [], ◌∷◌, ◌++◌, length, take, drop, get_or, refl, sym, ap, ◌∙◌, subst, arith, append_assoc, add-one, drop-cons, take_all}
+use Rattle.std.proofs.Common.{◌≡◌, ℕ, suc, zero, ◌+◌, ◌-◌, ◌<◌, ◌≤◌, true, false, List, [], ◌∷◌, ◌++◌, length, take, drop, get_or, sym, ap, ◌∙◌, subst, arith, append_assoc, add-one, drop-cons, take_all}
 use borrow.Author.Tests.{eq-eqb, eqb-true}
 use Rattle.std.proofs.lemmas.List.{take-append-drop, take-append-le, take-take, drop-take, drop-drop}
 use Rattle.std.specs.List.{slice_range}

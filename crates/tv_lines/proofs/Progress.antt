@@ -1,5 +1,5 @@
 -- What was answered so far, and what a run that breaks off leaves.
-use Rattle.std.proofs.Common.{◌≡◌, ℕ, Bool, true, false, Result, Ok, Err, List, [], ◌∷◌, ◌++◌, refl, sym, ap, ◌∙◌, subst, append_assoc, inl, inr}
+use Rattle.std.proofs.Common.{◌≡◌, ℕ, true, false, Result, Ok, Err, List, [], ◌∷◌, ◌++◌, refl, sym, ap, ◌∙◌, subst, append_assoc, inl, inr}
 use lib.Chars.{codes}
 use Rattle.std.specs.Prelude.{OnErr}
 use Rattle.std.proofs.lemmas.List.{append-nil}
@@ -8,11 +8,11 @@ use Rattle.tv_lines.specs.Answers.{Answer, Answers, ReadsSchema, SchemaRefusal}
 use Rattle.tv_lines.specs.Answers.Answer.{no_memory}
 use Rattle.tv_lines.specs.Answers.Answers.{no_answers, next_answer}
 use Rattle.tv_lines.specs.Answers.SchemaRefusal.{no_memory as no_schema_memory}
-use Rattle.tv_lines.specs.Lines.{FirstLine, Lines}
+use Rattle.tv_lines.specs.Lines.{FirstLine}
 use Rattle.tv_lines.specs.Lines.Lines.{no_lines, next_line}
 use Rattle.tv_lines.specs.Reader.{TakesLine}
 use Rattle.tv_lines.specs.Run.{AnswersOf, BadSchemaText, BrokenText, DoneText, FrontOf, IsEnded, Leaves}
-use Rattle.tv_lines.proofs.LineSteps.{some_lines, some_line, first_of}
+use Rattle.tv_lines.proofs.LineSteps.{some_lines, some_line}
 use Rattle.tv_schema.specs.Entry.{Entry}
 
 -- ---- any input has answers

@@ -1,9 +1,8 @@
 -- What reading back a document can answer.
-use Rattle.std.proofs.Common.{◌≡◌, ℕ, ◌<◌, ◌≤◌, ◌⊎◌, inl, inr, List, [], ◌++◌, Result, Ok, Err, Some, None, refl, sym, ap, ◌∙◌, subst, arith}
+use Rattle.std.proofs.Common.{◌≡◌, ℕ, ◌<◌, ◌≤◌, ◌⊎◌, inl, inr, List, Err, Some, None, refl, sym, ◌∙◌, subst, arith}
 use lib.Chars.{codes}
-use Rattle.std.proofs.lemmas.List.{append-nil}
 use Rattle.tv_base.specs.Source.{Faults}
-use Rattle.tv_base.specs.Stop.{Counts, CountsStop}
+use Rattle.tv_base.specs.Stop.{CountsStop}
 use Rattle.tv_doc.specs.Room.{document_room}
 use Rattle.tv_lines.specs.Unwritten.{IsUnwritten}
 use Rattle.tv_reader.specs.Error.{store_stop, IsRefusal}
@@ -15,7 +14,6 @@ use Rattle.tv_reader.specs.declared.error.ValueType.{ValueType}
 use Rattle.tv_store.specs.Documents.{Answers, IsReadingError}
 use Rattle.tv_value.specs.Fault.{Refusal, corrupted, no_text_key}
 use Rattle.tv_value.specs.Tree.{Document}
-use Rattle.tv_value.specs.Version.{V2}
 
 -- where the bytes aren't refused and no read fails, only memory and room are left
 pub only_short : (e : DeserializeError) (f g : Faults) → ((r : Refusal) → IsRefusal e r → ⊥) → IsReadingError e → g.last ≡ None → CountsStop (store_stop e) f g

@@ -1,5 +1,5 @@
 -- What is answered for a schema that is refused.
-use Rattle.std.proofs.Common.{◌≡◌, ◌≢◌, ℕ, List, [], ◌∷◌, ◌++◌, Option, Some, None, Result, Ok, Err, refl, sym, ◌∙◌}
+use Rattle.std.proofs.Common.{◌≡◌, ◌≢◌, ℕ, List, [], ◌∷◌, ◌++◌, Some, None, Err, refl, sym, ◌∙◌}
 use lib.Chars.{codes}
 use Rattle.std.specs.Prelude.{IsUtf8}
 use Rattle.serde_json.specs.Data.{Data}

@@ -1,17 +1,15 @@
 -- The texts of refusals are answers.
-use Rattle.std.proofs.Common.{◌≡◌, ℕ, ◌<◌, ◌≤◌, ◌⊎◌, inl, inr, List, [], ◌∷◌, ◌++◌, Result, Ok, Err, Some, None, refl, sym, ap, ◌∙◌, subst, append_assoc}
+use Rattle.std.proofs.Common.{◌≡◌, ℕ, ◌≤◌, inl, inr, List, [], ◌∷◌, ◌++◌, Result, Ok, Err, Some, refl, sym, ap, ◌∙◌, append_assoc}
 use Rattle.std.specs.Prelude.{IsUtf8, OnOk, IfErr}
 use lib.Chars.{codes}
 use Rattle.std.proofs.lemmas.List.{append-nil}
-use Rattle.serde_json.specs.Data.{Data, Members, object}
-use Rattle.serde_json.specs.Read.{read}
 use Rattle.tv_doc.specs.Document.{document_of}
-use Rattle.tv_doc.specs.JsonObject.{FieldJson, object_values, Pairs, StopsAt, Parses}
+use Rattle.tv_doc.specs.JsonObject.{FieldJson, object_values, Pairs, Parses}
 use Rattle.tv_doc.specs.declared.add_error.AddError.TheVariants as adds
 use Rattle.tv_doc.specs.declared.doc_parsing_error.DocParsingError.{DocParsingError}
 use Rattle.tv_doc.specs.declared.doc_parsing_error.DocParsingError.TheVariants as errors
 use Rattle.tv_doc.specs.declared.document.CompactDoc.{CompactDoc}
-use Rattle.tv_lines.specs.Answers.{IsJson, refusal_name, RefusalText, LineAnswer, Answer, IsDocumentText}
+use Rattle.tv_lines.specs.Answers.{refusal_name, Answer, IsDocumentText}
 use Rattle.tv_lines.specs.Answers.Answer.{answered, no_memory, no_room}
 use Rattle.tv_lines.specs.Answers.LineAnswer.{no_object, refused, written}
 use Rattle.tv_lines.specs.Answers.RefusalText.{by_table, by_number}

@@ -1,5 +1,5 @@
 -- What is answered for a line: the first is a schema's, each other one a document's.
-use Rattle.std.specs.Prelude.{◌≡◌, ℕ, ◌<◌, List, [], ◌∷◌, ◌++◌, Result, Ok, Err, Some, IsUtf8}
+use Rattle.std.specs.Prelude.{◌≡◌, ℕ, ◌<◌, List, [], ◌∷◌, ◌++◌, Ok, Err, Some, IsUtf8}
 use lib.Chars.{codes}
 use Rattle.hex.specs.Hex.{encode_lower}
 use Rattle.serde_json.specs.Data.{Data, object, Members}

@@ -1,5 +1,5 @@
 -- What a reader of lines takes, for private clauses.
-use Rattle.std.specs.Prelude.{◌≡◌, ◌≢◌, ℕ, ◌+◌, ◌<◌, ◌≤◌, ◌-◌, ◌^◌, Bool, true, false, List, [], ◌∷◌, ◌++◌, length, slice_range}
+use Rattle.std.specs.Prelude.{◌≡◌, ◌≢◌, ℕ, ◌+◌, ◌-◌, ◌^◌, Bool, true, false, List, [], ◌∷◌, ◌++◌, length, slice_range}
 use Rattle.tv_lines.specs.Lines.{IsUnbroken, FirstLine}
 use Rattle.tv_lines.specs.declared.line_reader.LineReader.{LineReader}
 

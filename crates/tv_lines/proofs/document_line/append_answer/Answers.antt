@@ -1,7 +1,7 @@
-use Rattle.std.proofs.Common.{◌≡◌, ap, ◌∙◌, sym, subst, List, ℕ, Err}
+use Rattle.std.proofs.Common.{subst, List, ℕ, Err}
 use Rattle.tv_doc.specs.JsonObject.{Parses}
 use Rattle.tv_lines.proofs.Belonging.{object_belongs}
-use Rattle.tv_lines.proofs.Refusing.{no_text, refusal_answers, document_answers, unwritten_answers, ok_maps, err_maps}
+use Rattle.tv_lines.proofs.Refusing.{refusal_answers, document_answers, unwritten_answers, ok_maps, err_maps}
 use Rattle.tv_lines.proofs.document_line.append_answer.Goals as goal
 
 pub append_document-requires : goal.append_document-requires

@@ -1,13 +1,9 @@
-use Rattle.std.proofs.Common.{◌≡◌, ℕ, ◌≤◌, ◌⊎◌, inl, inr, List, [], ◌++◌, length, refl, sym, ap, ◌∙◌, subst, arith, Ok, Err}
+use Rattle.std.proofs.Common.{[], length, refl, sym, ap, ◌∙◌, arith}
 use Rattle.std.proofs.lemmas.List.{append-nil}
 use Rattle.tv_doc.specs.Room.{document_room}
 use Rattle.tv_legacy.specs.Legacy.{Legacy}
-use Rattle.tv_reader.specs.declared.error.DeserializeError.{DeserializeError}
-use Rattle.tv_reader.specs.declared.error.DeserializeError.TheVariants as errors
-use Rattle.tv_store.specs.Documents.{Answers}
 use Rattle.tv_value.specs.Short.{short_document}
 use Rattle.tv_value.specs.Spelling.{Derives}
-use Rattle.tv_value.specs.Tree.{Document}
 use Rattle.tv_value.specs.Version.{V2}
 use Rattle.tv_lines.proofs.ReadingBack.{only_short, above, full_answers_none, unwritten_is}
 use Rattle.tv_lines.proofs.read_back.read_back.Goals as goal

@@ -1,5 +1,4 @@
-use Rattle.std.proofs.Common.{◌≡◌, ◌++◌, Bool, true, false, subst, ap, ◌∙◌}
-use Rattle.tv_lines.specs.Reader.{TakesLine}
+use Rattle.std.proofs.Common.{◌++◌, ap, ◌∙◌}
 use Rattle.tv_lines.proofs.Progress.{Answered-step, Answered-ends, Answered-breaks, Answered-cut, on_err}
 use Rattle.tv_lines.proofs.runs.answer_lines.Goals as goal
 

@@ -1,4 +1,3 @@
-use Rattle.std.proofs.Common.{◌≡◌, ◌++◌, subst, ap, ◌∙◌}
 use Rattle.tv_lines.proofs.LineSteps.{first_of}
 use Rattle.tv_lines.proofs.Progress.{broken_lines, broken_refusal, broken_early, on_err}
 use Rattle.tv_lines.proofs.runs.answer_source.Goals as goal

@@ -1,4 +1,4 @@
-use Rattle.std.proofs.Common.{◌≡◌, ap, ◌∙◌, sym, Some, None}
+use Rattle.std.proofs.Common.{ap, ◌∙◌, sym}
 use Rattle.serde_json.specs.Read.{read}
 use Rattle.serde_json.specs.View.{view}
 use Rattle.tv_lines.proofs.Refused.{no_text, not_read, not_kept, not_described}
