@@ -2,3 +2,4 @@
 
 mod named;
 mod printed_lines;
+mod same_documents;
