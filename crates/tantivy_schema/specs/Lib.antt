@@ -94,6 +94,8 @@ pub use Rattle.tv_reader.specs.ValueType
 pub use Rattle.tv_typed.specs.Typed
 pub use Rattle.tv_typed.specs.Values
 pub use Rattle.tv_typed.specs.Lists
+pub use Rattle.tv_typed.specs.LegacyObjects
+pub use Rattle.tv_typed.specs.Visits
 pub use Rattle.tv_typed.specs.Documents as DocumentPairs
 -- the types of code that contracts speak of
 pub mod CodeTypes

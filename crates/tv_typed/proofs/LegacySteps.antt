@@ -1,10 +1,9 @@
 -- Legacy objects as lists and maps: a code and the object behind it are read, and then the spelling of its tree.
 use Rattle.std.proofs.Common.{◌≡◌, ◌≢◌, ℕ, ◌-◌, ◌^◌, ◌<◌, Bool, true, false, List, [], ◌∷◌, ◌++◌, Result, Ok, Err, refl, sym, ap, subst, ◌∙◌, append_assoc, length, length-append, arith, inl, inr}
-use Rattle.std.specs.Prelude.{is_err, OnOk}
+use Rattle.std.specs.Prelude.{OnOk}
 use Rattle.std.specs.List.{AllByRecursion}
 use Rattle.std.proofs.lemmas.List.{append-nil}
 use Rattle.tv_base.specs.declared.cause.Cause.TheVariants.{UnexpectedEnd}
-use Rattle.tv_base.specs.Parts.{Begins}
 use Rattle.tv_base.specs.Source.{Faults}
 use Rattle.tv_base.specs.Stop.{Stop, Taken}
 use Rattle.tv_base.specs.Stop.Stop.{Fault, Failed, Short, Never}
@@ -15,7 +14,7 @@ use Rattle.tv_value.specs.Fault.{corrupted, in_legacy}
 use Rattle.tv_value.specs.Owned.{owned_tree}
 use Rattle.tv_value.specs.Short.{short, IsValue}
 use Rattle.tv_value.specs.Spelling.{Spells}
-use Rattle.tv_value.specs.Tree.{Leaf, null, text, unsigned, signed, boolean, date, facet, bytes, ip_address, tokenized, Tree, leaf, array, object}
+use Rattle.tv_value.specs.Tree.{null, text, unsigned, signed, boolean, date, facet, bytes, ip_address, tokenized, Tree, leaf, array, object}
 use Rattle.tv_value.specs.Version.{Version, V2}
 use Rattle.tv_value.specs.declared.owned_value.OwnedValue.{OwnedValue}
 use Rattle.tv_value.proofs.ShortSpellings.{short_spells}
@@ -23,7 +22,6 @@ use Rattle.tv_value.proofs.Trees.{one_tree}
 use Rattle.tv_reader.specs.Error.{is_corrupted}
 use Rattle.tv_reader.specs.Finds.{TellsStop, Found}
 use Rattle.tv_reader.specs.Trees.{SpellsBehind}
-use Rattle.tv_reader.specs.ValueType.{coded}
 use Rattle.tv_reader.specs.Version.{version_of}
 use Rattle.tv_reader.specs.declared.error.DeserializeError.{DeserializeError}
 use Rattle.tv_reader.specs.declared.error.DeserializeError.TheVariants as errors

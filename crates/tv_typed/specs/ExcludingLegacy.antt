@@ -1,8 +1,8 @@
 -- Where an object is refused, a legacy one among them, no front of its bytes spells without legacy objects one of which something is read.
-use Rattle.std.specs.Prelude.{◌≡◌, List, ℕ, ◌∷◌, ◌++◌}
+use Rattle.std.specs.Prelude.{List, ℕ, ◌∷◌, ◌++◌}
 use Rattle.std.proofs.Common.{subst, inl, inr}
 use Rattle.tv_value.specs.Spelling.{Spells, NoLegacy}
-use Rattle.tv_value.specs.Tree.{Leaf, null, text, unsigned, signed, boolean, date, facet, bytes, ip_address, tokenized, Tree, leaf, array, object}
+use Rattle.tv_value.specs.Tree.{null, text, unsigned, signed, boolean, date, facet, bytes, ip_address, tokenized, Tree, leaf, array, object}
 use Rattle.tv_value.specs.Version.{Version}
 use Rattle.tv_reader.specs.ValueType.{coded}
 use Rattle.tv_reader.specs.declared.error.DeserializeError.{DeserializeError}

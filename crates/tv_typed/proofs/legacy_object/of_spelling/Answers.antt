@@ -1,4 +1,4 @@
-use Rattle.std.proofs.Common.{◌≡◌, ap, ◌∙◌, arith, length}
+use Rattle.std.proofs.Common.{ap, ◌∙◌, arith, length}
 use Rattle.tv_typed.specs.Values.{NextRefused}
 use Rattle.tv_typed.proofs.LegacySteps.{spelling_refused, few_taken}
 use Rattle.tv_typed.proofs.legacy_object.of_spelling.Goals as goal
