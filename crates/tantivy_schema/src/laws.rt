@@ -19,7 +19,8 @@ pub use tv_base::laws::{
 use tv_base::{ByteSource, VecSink};
 use tv_doc::document::CompactDoc;
 pub use tv_doc::laws::{
-    additions_are_kept, documents_are_valid, heaps_are_within_room, places_read_as_one_tree,
+    additions_are_kept, documents_are_valid, heaps_are_within_room,
+    named_documents_are_converted_back, named_values_make_the_same_pairs, places_read_as_one_tree,
 };
 /// The laws of legacy objects, and of values and documents that have them.
 pub use tv_legacy::laws as legacy;

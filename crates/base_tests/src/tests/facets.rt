@@ -70,9 +70,12 @@ fn is_so(alloc: Global, facet: &Facet, encoded: &str, printed: &str) -> Result<b
     let mut source = SliceSource::new(sink.as_slice());
     let back = Facet::deserialize(alloc, &mut source).ok().ok_or("read")?;
     let again = read(alloc, printed)?;
+    let mut path = String::new(alloc);
+    Facet::print_encoded(encoded, &mut path)?;
     Ok(
         facet.encoded_str() == encoded
             && facet.to_path_string(alloc)?.as_str() == printed
+            && path.as_str() == printed
             && format!(in alloc; "{facet}")?.as_str() == printed
             && again == *facet
             && back == *facet,

@@ -12,10 +12,13 @@ fn is_refused(text: &str, reason: DateError) -> bool {
     DateTime::from_rfc3339(text) == Err(reason)
 }
 
-// Whether the date so many nanoseconds after 1970 is printed as this.
+// Whether the date so many nanoseconds after 1970 is printed as this, alone and behind a text.
 fn is_printed(alloc: Global, nanoseconds: i64, text: &str) -> Result<bool, AllocError> {
-    let printed = DateTime::from_timestamp_nanos(nanoseconds).write_rfc3339(alloc)?;
-    Ok(printed.as_str() == text)
+    let date = DateTime::from_timestamp_nanos(nanoseconds);
+    let printed = date.write_rfc3339(alloc)?;
+    let mut behind = String::from_str(alloc, "on ")?;
+    date.push_rfc3339(&mut behind)?;
+    Ok(printed.as_str() == text && behind.as_str() == format!(in alloc; "on {text}")?.as_str())
 }
 
 #[test]
