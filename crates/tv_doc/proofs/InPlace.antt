@@ -200,23 +200,21 @@ array_bytes heap code at (array ts) h e list is n counted x =
     let same = children_are heap code at ts h e list is x in
     ∥∥₁_elim h (Coded-set coded_text (12 ∷ (vnum n ++ short_elements V2 (elements x.0))) (short V2 (array ts)))
     (λ r.
-        let number : n ≡ element_count ts = counted ∙ ap last_bytes (is r.1.list r.1.stands) ∙ elements_last heap at r.1.list ts r.1.children in
-        λ i. 12 ∷ (vnum (number i) ++ short_elements V2 (same i)))
+    let number : n ≡ element_count ts = counted ∙ ap last_bytes (is r.1.list r.1.stands) ∙ elements_last heap at r.1.list ts r.1.children in
+    λ i. 12 ∷ (vnum (number i) ++ short_elements V2 (same i)))
 array_bytes heap code at (leaf l) h e list is n counted x = absurd (∥∥₁_elim h ⊥_prop (λ r. omega (arith, r.0, leaf_type_small l)))
 array_bytes heap code at (object es) h e list is n counted x = absurd (∥∥₁_elim h ⊥_prop (λ r. omega (arith, r.0)))
 
 pub object_children : (heap : List ℕ) (code at : ℕ) (t : Tree) → ∥ Reads heap code at t ∥₁ → code ≡ 11 → (list : List ℕ) → GivesSized heap at list → HeldElements heap list
-object_children heap code at (object es) h e list is =
-    (
-        element_list (flat es),
-        ∥∥₁_map h
-        (λ r.
-            (
-                at,
-                subst (λ z. ReadsElements heap at z (elements (element_list (flat es)))) (sym (is r.1.list r.1.stands))
-                (subst (λ u. ReadsElements heap at r.1.list u) (sym (elements_listed (flat es))) (flat_reads heap at r.1.list es r.1.children))
-            ))
-    )
+object_children heap code at (object es) h e list is = (
+  element_list (flat es),
+  ∥∥₁_map h
+      (λ r. (
+        at,
+        subst (λ z. ReadsElements heap at z (elements (element_list (flat es)))) (sym (is r.1.list r.1.stands))
+            (subst (λ u. ReadsElements heap at r.1.list u) (sym (elements_listed (flat es))) (flat_reads heap at r.1.list es r.1.children)),
+      )),
+)
 object_children heap code at (leaf l) h e list is = absurd (∥∥₁_elim h ⊥_prop (λ r. omega (arith, r.0, leaf_type_small l)))
 object_children heap code at (array ts) h e list is = absurd (∥∥₁_elim h ⊥_prop (λ r. omega (arith, r.0)))
 
@@ -227,8 +225,8 @@ object_bytes heap code at (object es) h e list is n counted x =
     let same : elements x.0 ≡ flat es = ap elements (same_elements heap list x (object_children heap code at (object es) h e list is)) ∙ elements_listed (flat es) in
     ∥∥₁_elim h (Coded-set coded_text (13 ∷ (vnum n ++ short_elements V2 (elements x.0))) (short V2 (object es)))
     (λ r.
-        let number : n ≡ 2 * entry_count es = counted ∙ ap last_bytes (is r.1.list r.1.stands) ∙ elements_last heap at r.1.list (flat es) (flat_reads heap at r.1.list es r.1.children) ∙ flat_count es in
-        (λ i. 13 ∷ (vnum (number i) ++ short_elements V2 (same i))) ∙ ap (λ z. 13 ∷ (vnum (2 * entry_count es) ++ z)) (flat_short es))
+    let number : n ≡ 2 * entry_count es = counted ∙ ap last_bytes (is r.1.list r.1.stands) ∙ elements_last heap at r.1.list (flat es) (flat_reads heap at r.1.list es r.1.children) ∙ flat_count es in
+    (λ i. 13 ∷ (vnum (number i) ++ short_elements V2 (same i))) ∙ ap (λ z. 13 ∷ (vnum (2 * entry_count es) ++ z)) (flat_short es))
 object_bytes heap code at (leaf l) h e list is n counted x = absurd (∥∥₁_elim h ⊥_prop (λ r. omega (arith, r.0, leaf_type_small l)))
 object_bytes heap code at (array ts) h e list is n counted x = absurd (∥∥₁_elim h ⊥_prop (λ r. omega (arith, r.0)))
 
@@ -275,7 +273,7 @@ spelled_is heap behind rest front at len n s p e is count f =
     let parts : behind ≡ vnum (length s) ++ (s ++ p.behind) = e ∙ stands_behind heap at _ p ∙ ap (λ z. z ++ p.behind) p.stands.is ∙ append_assoc (vnum (length s)) s p.behind in
     let found = is (length s) (s ++ p.behind) (omega (arith, p.stands.fits)) parts in
     let whole : n ≡ length p.whole =
-        omega (arith, count, found.0, ap length found.1, ap length parts, length-append (vnum (length s)) (s ++ p.behind), length-append s p.behind, ap length p.stands.is, length-append (vnum (length s)) s) in
+    omega (arith, count, found.0, ap length found.1, ap length parts, length-append (vnum (length s)) (s ++ p.behind), length-append s p.behind, ap length p.stands.is, length-append (vnum (length s)) s) in
     front_is heap at _ p behind front n e f whole ∙ p.stands.is
 
 pub spelled_short : {A : Type 0} (heap behind rest : List ℕ) (at len : ℕ) (s : List ℕ) → Stands heap at (λ w. ShortSized s w) → behind ≡ drop at heap

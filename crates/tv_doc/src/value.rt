@@ -85,11 +85,19 @@ impl<'a> CompactDocValue<'a> {
             ValueType::PreTokStr => Encoded::Tokenized(spelled_tokens_at(heap, address)),
             ValueType::Array => {
                 let list = sized_at(heap, address);
-                Encoded::List(ARRAY_CODE, children(list), CompactDocArrayIter { heap, list })
+                Encoded::List(
+                    ARRAY_CODE,
+                    children(list),
+                    CompactDocArrayIter { heap, list },
+                )
             }
             ValueType::Object => {
                 let list = sized_at(heap, address);
-                Encoded::List(OBJECT_CODE, children(list), CompactDocArrayIter { heap, list })
+                Encoded::List(
+                    OBJECT_CODE,
+                    children(list),
+                    CompactDocArrayIter { heap, list },
+                )
             }
         }
     }

@@ -315,11 +315,7 @@ pub(crate) fn write_value<'a, K: ByteSink, V: Value<'a>>(
 // A code, and the bytes behind it.
 #[inline]
 #[tactic(auto, using(crate::proofs::Coded::Coded_then))]
-fn write_behind<K: ByteSink>(
-    sink: &mut K,
-    code: u8,
-    content: &[u8],
-) -> Result<(), io::ErrorKind>
+fn write_behind<K: ByteSink>(sink: &mut K, code: u8, content: &[u8]) -> Result<(), io::ErrorKind>
     ensures { Writes K.tells K.held K.faults sink.old sink.new result (code ∷ content.now) }
 {
     write_code(sink, code)?;
