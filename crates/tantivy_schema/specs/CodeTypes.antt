@@ -7,11 +7,11 @@ pub use Rattle.tv_base.specs.declared.read_error.ReadError
 pub use Rattle.tv_date.specs.declared.date_error.DateError
 pub use Rattle.tv_doc.specs.declared.add_error.AddError
 pub use Rattle.tv_doc.specs.declared.doc_parsing_error.DocParsingError
-pub use Rattle.tv_schema.specs.declared.json_value.JsonRefusal
-pub use Rattle.tv_schema.specs.declared.schema_error.SchemaError
+pub use Rattle.tv_field.specs.declared.json_value.JsonRefusal
+pub use Rattle.tv_field.specs.declared.schema_error.SchemaError
 pub use Rattle.tv_reader.specs.declared.error.DeserializeError
-pub use Rattle.tv_schema.specs.declared.value_parsing_error.ParseCause
-pub use Rattle.tv_schema.specs.declared.value_parsing_error.ValueParsingError
+pub use Rattle.tv_field.specs.declared.value_parsing_error.ParseCause
+pub use Rattle.tv_field.specs.declared.value_parsing_error.ValueParsingError
 pub use Rattle.tv_store.specs.declared.error.SerializeError
 pub use Rattle.tv_reader.specs.declared.error.ValueType
 pub use Rattle.tv_term.specs.declared.term_error.TermError
@@ -26,12 +26,12 @@ pub use Rattle.tv_options.specs.declared.text_options.FastFieldTextOptions
 pub use Rattle.tv_options.specs.declared.text_options.TextFieldIndexing
 pub use Rattle.tv_options.specs.declared.textual_options.TextualOptions
 pub use Rattle.tv_options.specs.declared.types.TypeTag
-pub use Rattle.tv_schema.specs.declared.field_type.FieldType
-pub use Rattle.tv_schema.specs.declared.json_value.LentFieldValue
+pub use Rattle.tv_field.specs.declared.field_type.FieldType
+pub use Rattle.tv_field.specs.declared.json_value.LentFieldValue
 -- values and documents
 pub use Rattle.tv_doc.specs.declared.document.CompactDoc
 pub use Rattle.tv_doc.specs.declared.field_values.FieldValueIterRef
-pub use Rattle.tv_doc.specs.declared.value.CompactDocValue
+pub use Rattle.tv_heap.specs.declared.value.CompactDocValue
 pub use Rattle.tv_reader.specs.declared.version.DocStoreVersion
 pub use Rattle.tv_date.specs.declared.date_time.DateTimePrecision
 pub use Rattle.tv_value.specs.declared.field.Field

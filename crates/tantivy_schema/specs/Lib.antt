@@ -51,12 +51,12 @@ pub use Rattle.tv_options.specs.TextFieldIndexing
 pub use Rattle.tv_options.specs.TextOptions
 pub use Rattle.tv_options.specs.TextualOptions
 pub use Rattle.tv_options.specs.Types
-pub use Rattle.tv_schema.specs.Entry
+pub use Rattle.tv_field.specs.Entry
 pub use Rattle.tv_schema.specs.Schema
 pub use Rattle.tv_schema.specs.Path
-pub use Rattle.tv_schema.specs.JsonAnswer
-pub use Rattle.tv_schema.specs.JsonTable
-pub use Rattle.tv_schema.specs.JsonTokens
+pub use Rattle.tv_field.specs.JsonAnswer
+pub use Rattle.tv_field.specs.JsonTable
+pub use Rattle.tv_field.specs.JsonTokens
 pub use Rattle.tv_schema.specs.SchemaJson
 pub use Rattle.tv_schema.specs.SchemaJsonEarly
 pub use Rattle.tv_schema.specs.SchemaJsonOptions
@@ -72,14 +72,14 @@ pub use Rattle.tv_doc.specs.AdditionError
 pub use Rattle.tv_doc.specs.Additions
 pub use Rattle.tv_doc.specs.Belongs
 pub use Rattle.tv_doc.specs.Document
-pub use Rattle.tv_doc.specs.Held
+pub use Rattle.tv_heap.specs.Held
 pub use Rattle.tv_doc.specs.JsonObject
 pub use Rattle.tv_doc.specs.Named
 pub use Rattle.tv_doc.specs.NamedPairs
-pub use Rattle.tv_doc.specs.Reads
-pub use Rattle.tv_doc.specs.Room
-pub use Rattle.tv_doc.specs.TypeCode
-pub use Rattle.tv_doc.specs.Value
+pub use Rattle.tv_heap.specs.Reads
+pub use Rattle.tv_heap.specs.Room
+pub use Rattle.tv_heap.specs.TypeCode
+pub use Rattle.tv_heap.specs.Value
 -- the store
 pub use Rattle.tv_store.specs.Documents
 pub use Rattle.tv_store.specs.Error as StoreError

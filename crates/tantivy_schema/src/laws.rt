@@ -4,7 +4,7 @@ ghost use Rattle.std.specs.Prelude.{◌≡◌, ◌≤◌, ◌++◌, List, ℕ, I
 ghost use Rattle.tv_base.specs.ReadsAs.{Known};
 ghost use Rattle.tv_doc.specs.Belongs.{Belongs};
 ghost use Rattle.tv_doc.specs.Document.{document_of};
-ghost use Rattle.tv_doc.specs.Room.{document_room};
+ghost use Rattle.tv_heap.specs.Room.{document_room};
 ghost use Rattle.tv_store.specs.Documents.{Answers};
 ghost use Rattle.tv_store.specs.Error.{IsIo};
 ghost use Rattle.tv_store.specs.Stored.{stored};
@@ -20,8 +20,9 @@ use tv_base::{ByteSource, VecSink};
 use tv_doc::document::CompactDoc;
 pub use tv_doc::laws::{
     additions_are_kept, documents_are_valid, heaps_are_within_room,
-    named_documents_are_converted_back, named_values_make_the_same_pairs, places_read_as_one_tree,
+    named_documents_are_converted_back, named_values_make_the_same_pairs,
 };
+pub use tv_heap::laws::places_read_as_one_tree;
 /// The laws of legacy objects, and of values and documents that have them.
 pub use tv_legacy::laws as legacy;
 pub use tv_options::laws::{

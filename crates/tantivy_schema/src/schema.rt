@@ -4,6 +4,9 @@ pub mod document;
 
 pub use tv_base::{FACET_SEP_BYTE, FACET_SEP_CHAR, Facet, FacetParseError};
 pub use tv_doc::document::{CompactDoc, CompactDoc as TantivyDocument};
+pub use tv_field::{
+    FieldEntry, FieldType, ParseCause, SchemaError, ValueParsingError, is_valid_field_name,
+};
 pub use tv_options::{
     BytesOptions, COERCE, CoerceFlag, Coercion, DATE_TIME_PRECISION_INDEXED, DateOptions,
     DateTimePrecision, DotExpansion, FAST, FacetOptions, FastFieldTextOptions, FastFlag,
@@ -11,10 +14,7 @@ pub use tv_options::{
     NumericOptions, OfBytes, OfIpAddrs, STORED, STRING, SchemaFlagList, StoredFlag, TEXT,
     TextFieldIndexing, TextOptions, TextualOptions, TokenizerName, Type, TypeIter,
 };
-pub use tv_schema::{
-    FieldEntry, FieldIter, FieldType, ParseCause, Schema, SchemaBuilder, SchemaError,
-    ValueParsingError, is_valid_field_name,
-};
+pub use tv_schema::{FieldIter, Schema, SchemaBuilder};
 pub use tv_term::{OwnedValueBytes, Term, TermError, ValueBytes};
 pub use tv_value::field::Field;
 pub use tv_value::ip_addr::IntoIpv6Addr;

@@ -13,12 +13,12 @@ use Rattle.tv_value.specs.TreeCode.{coded_document}
 use Rattle.tv_doc.specs.declared.document.CompactDoc.{CompactDoc}
 use Rattle.tv_doc.specs.declared.place.FieldValueAddr.{FieldValueAddr}
 use Rattle.tv_doc.specs.Document.{heap_of, document_of, IsUnchanged, Added, ReadsAt}
-use Rattle.tv_doc.specs.Held.{ReadsPair, ReadsPairs, Holds, one_document}
-use Rattle.tv_doc.specs.Room.{room, document_room}
-use Rattle.tv_doc.specs.TypeCode.{type_code}
+use Rattle.tv_doc.specs.Holds.{ReadsPair, ReadsPairs, Holds, one_document}
+use Rattle.tv_heap.specs.Room.{room, document_room}
+use Rattle.tv_heap.specs.TypeCode.{type_code}
 use Rattle.tv_base.specs.Sink.{IsFront}
-use Rattle.tv_doc.specs.Wrote.{Wrote}
-use Rattle.tv_doc.proofs.Grown.{grown}
+use Rattle.tv_heap.specs.Wrote.{Wrote}
+use Rattle.tv_heap.proofs.Grown.{grown}
 
 -- one heap and one list of pairs hold one document
 pub same_document : (h k : List ℕ) (ps qs : List FieldValueAddr) (x : Holds h ps) (y : Holds k qs) → h ≡ k → ps ≡ qs → x.0 ≡ y.0

@@ -9,7 +9,7 @@ use Rattle.std.proofs.lemmas.List.Elements.{Contains-append_left, Contains-appen
 use Rattle.tv_value.specs.Tree.{Document}
 use Rattle.tv_value.specs.declared.field.Field.{Field}
 use Rattle.tv_doc.specs.SameTexts.{HasAll, SameTexts, field_texts, json_text, text_seen, texts_seen}
-use Rattle.tv_doc.specs.Value.{values_of}
+use Rattle.tv_doc.specs.FieldValues.{values_of}
 use Rattle.tv_doc.proofs.Grouping.{values_seen}
 
 -- ---- the elements of a list by its first

@@ -12,7 +12,7 @@ use Rattle.std.proofs.lemmas.List.Elements.{Contains-append_left, Contains-push,
 use Rattle.tv_value.specs.declared.field.Field.{Field}
 use Rattle.tv_value.specs.Tree.{Tree}
 use Rattle.tv_doc.specs.Grouped.{IsGrouped, numbered, numbered_all, group_seen}
-use Rattle.tv_doc.specs.Value.{values_of, pair_seen}
+use Rattle.tv_doc.specs.FieldValues.{values_of, pair_seen}
 
 -- ---- the values of a field
 

@@ -4,15 +4,15 @@ use Rattle.std.specs.Option.{IfSome}
 use Rattle.std.proofs.lemmas.List.Sums.{sum_by_push}
 use Rattle.serde_json.specs.Data.{Members, object}
 use Rattle.serde_json.specs.Read.{read}
-use Rattle.tv_schema.specs.Entry.{Entry}
-use Rattle.tv_schema.specs.JsonAnswer.{refusal_of}
-use Rattle.tv_schema.specs.declared.json_value.JsonRefusal.{JsonRefusal}
-use Rattle.tv_schema.specs.JsonTable.{Table}
+use Rattle.tv_field.specs.Entry.{Entry}
+use Rattle.tv_field.specs.JsonAnswer.{refusal_of}
+use Rattle.tv_field.specs.declared.json_value.JsonRefusal.{JsonRefusal}
+use Rattle.tv_field.specs.JsonTable.{Table}
 use Rattle.tv_value.specs.Tree.{Tree, Document}
 use Rattle.tv_doc.specs.AdditionError.{addition_error}
 use Rattle.tv_doc.specs.Document.{document_of, Refuses}
 use Rattle.tv_doc.specs.JsonObject.{FieldJson, Pairs, IsRefused, StopsAt, IsValueError, MakesDocument, Parses, object_values}
-use Rattle.tv_doc.specs.Room.{room}
+use Rattle.tv_heap.specs.Room.{room}
 use Rattle.tv_doc.specs.declared.add_error.AddError.{AddError}
 use Rattle.tv_doc.specs.declared.add_error.AddError.TheVariants.{FieldNumber, HeapFull, Memory}
 use Rattle.tv_doc.specs.declared.doc_parsing_error.DocParsingError.{DocParsingError}

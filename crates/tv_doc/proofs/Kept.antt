@@ -8,12 +8,12 @@ use Rattle.tv_doc.specs.declared.add_error.AddError.{AddError}
 use Rattle.tv_doc.specs.declared.add_error.AddError.TheVariants.{Memory}
 use Rattle.tv_doc.specs.declared.document.CompactDoc.{CompactDoc}
 use Rattle.tv_doc.specs.declared.place.FieldValueAddr.{FieldValueAddr}
-use Rattle.tv_doc.specs.declared.value_type.ValueType.{ValueType}
+use Rattle.tv_heap.specs.declared.value_type.ValueType.{ValueType}
 use Rattle.tv_doc.specs.Document.{heap_of, Adds}
-use Rattle.tv_doc.specs.Held.{Holds, pair_at}
-use Rattle.tv_doc.specs.Room.{room, document_room}
-use Rattle.tv_doc.specs.TypeCode.{type_code}
-use Rattle.tv_doc.specs.Wrote.{Wrote}
+use Rattle.tv_doc.specs.Holds.{Holds, pair_at}
+use Rattle.tv_heap.specs.Room.{room, document_room}
+use Rattle.tv_heap.specs.TypeCode.{type_code}
+use Rattle.tv_heap.specs.Wrote.{Wrote}
 use Rattle.tv_doc.proofs.Documents.{unchanged, added, pushed, pushed_room, pushed_fits, kept, kept_room, kept_fits, restored}
 
 -- the room that was found is the tree's

@@ -1,17 +1,9 @@
-pub mod Grown
-pub mod Writes
 pub mod Documents
 pub mod Kept
 pub mod Grouping
-pub mod TypeBytes
 pub mod Valid
-pub mod Lends
 pub mod Pairs
 pub mod Additions
-pub mod Shapes
-pub mod InPlace
-pub mod Children
-pub mod Lists
 pub mod JsonDocuments
 pub mod ByName
 pub mod PairsSoFar

@@ -12,13 +12,13 @@ use Rattle.std.proofs.lemmas.List.Kept.{AllPairs-from_increasing}
 use Rattle.std.proofs.lemmas.Map.Text.{is_eq-slice_cmp}
 use Rattle.std.proofs.lemmas.Option.{slice_get-get_or, slice_get-map, slice_get_within}
 use Rattle.std.proofs.lemmas.Slice.Eq.{bytes_eq-Decides}
-use Rattle.tv_schema.specs.Entry.{Entry}
+use Rattle.tv_field.specs.Entry.{Entry}
 use Rattle.tv_schema.specs.Schema.{field_named}
 use Rattle.tv_value.specs.Tree.{Tree, Document}
 use Rattle.tv_doc.specs.Belongs.{Belongs}
 use Rattle.tv_doc.specs.Named.{Named, IsNamed, by_name, field_names, put_under}
 use Rattle.tv_doc.specs.NamedPairs.{named_pairs, pairs_of_field}
-use Rattle.tv_doc.specs.Value.{values_of}
+use Rattle.tv_doc.specs.FieldValues.{values_of}
 use Rattle.tv_doc.proofs.FieldTexts.{first_in, later_in, in_cases}
 
 -- ---- lists

@@ -5,11 +5,12 @@ use Rattle.std.proofs.Math.Nat.{ℕ_set}
 use mathlib.Core.HLevel.{⊥_prop}
 use Rattle.tv_value.specs.Tree.{Tree, Document}
 use Rattle.tv_doc.specs.declared.place.FieldValueAddr.{FieldValueAddr}
-use Rattle.tv_doc.specs.declared.value_type.ValueType.{ValueType}
-use Rattle.tv_doc.specs.Held.{Held, ReadsPair, ReadsPairs, Holds, same_held}
-use Rattle.tv_doc.specs.Reads.{Reads}
-use Rattle.tv_doc.specs.TypeCode.{type_code}
-use Rattle.tv_doc.specs.Value.{values_of}
+use Rattle.tv_heap.specs.declared.value_type.ValueType.{ValueType}
+use Rattle.tv_heap.specs.Held.{Held, same_held}
+use Rattle.tv_doc.specs.Holds.{ReadsPair, ReadsPairs, Holds}
+use Rattle.tv_heap.specs.Reads.{Reads}
+use Rattle.tv_heap.specs.TypeCode.{type_code}
+use Rattle.tv_doc.specs.FieldValues.{values_of}
 use Rattle.tv_doc.proofs.Documents.{same_document}
 
 pub record FirstPair (heap : List ℕ) (p : FieldValueAddr) (ps : List FieldValueAddr) (d : Document) : Type 0 where
@@ -41,14 +42,12 @@ no_pair heap [] [] h e = refl
 no_pair heap [] (x ∷ d) h e = absurd (∥∥₁_elim h ⊥_prop (λ r. r))
 no_pair heap (p ∷ ps) d h e = absurd (cc)
 
--- `v`, `at` and `x` are what was made of the first pair
+-- `t` is what is lent of the first pair
 pub pair_steps : (heap : List ℕ) (p : FieldValueAddr) (ps : List FieldValueAddr) (d : Document) → FirstPair heap p ps d → (field : ℕ) → field ≡ p.field
-    → (same : List ℕ) (v : ValueType) (at : ℕ) (x : Held same (type_code v) at) → same ≡ heap → v ≡ p.value_type → at ≡ p.address → (y : Holds heap ps) → d ≡ (field, x.0) ∷ y.0
-pair_steps heap p ps d f field is same v at x a b c y =
+    → (t : Tree) → ((held : Held heap (type_code p.value_type) p.address) → t ≡ held.0) → (y : Holds heap ps) → d ≡ (field, t) ∷ y.0
+pair_steps heap p ps d f field is t same y =
     let number : f.pair.0 ≡ field = sym f.field ∙ sym is in
-    let reads : ∥ Reads same (type_code v) at f.pair.1 ∥₁ =
-    subst (λ z. ∥ Reads z (type_code v) at f.pair.1 ∥₁) (sym a) (subst (λ z. ∥ Reads heap (type_code z) at f.pair.1 ∥₁) (sym b) (subst (λ z. ∥ Reads heap (type_code p.value_type) z f.pair.1 ∥₁) (sym c) f.reads)) in
-    let tree = same_held same (type_code v) at (f.pair.1, reads) x in
+    let tree : f.pair.1 ≡ t = sym (same (f.pair.1, f.reads)) in
     let left = same_document heap heap ps ps (f.others, f.left) y refl refl in
     f.is ∙ (λ i. (number i, tree i) ∷ left i)
 

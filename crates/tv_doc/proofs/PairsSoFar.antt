@@ -4,7 +4,7 @@ use Rattle.std.proofs.lemmas.List.Sums.{sum_by_push}
 use Rattle.tv_value.specs.Tree.{Tree, Document}
 use Rattle.tv_doc.specs.Document.{document_of, Refuses}
 use Rattle.tv_doc.specs.NamedPairs.{RefusesPair, StopsAtPair}
-use Rattle.tv_doc.specs.Room.{room}
+use Rattle.tv_heap.specs.Room.{room}
 use Rattle.tv_doc.specs.declared.add_error.AddError.{AddError}
 use Rattle.tv_doc.specs.declared.add_error.AddError.TheVariants.{FieldNumber, HeapFull, Memory}
 use Rattle.tv_doc.specs.declared.document.CompactDoc.{CompactDoc}

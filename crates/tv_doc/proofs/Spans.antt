@@ -8,7 +8,7 @@ use Rattle.tv_value.specs.declared.field.Field.{Field}
 use Rattle.tv_value.specs.Tree.{Tree, Document}
 use Rattle.tv_doc.specs.Grouped.{IsGrouped, numbered}
 use Rattle.tv_doc.specs.Named.{Named, IsNamed, by_name, put_under}
-use Rattle.tv_doc.specs.Value.{pair_seen, values_of}
+use Rattle.tv_doc.specs.FieldValues.{pair_seen, values_of}
 use Rattle.tv_doc.proofs.Grouping.{Stage, stage_start, stage_same, stage_next, stage_done, stage_is, nothing_grouped, grouped_alike, grouped_seen, map_map, values_seen}
 
 -- ---- a span of a list

@@ -11,9 +11,9 @@ use Rattle.tv_value.specs.Tree.{Token, Leaf, null, text, unsigned, signed, boole
 use Rattle.tv_doc.specs.declared.document.CompactDoc.{CompactDoc}
 use Rattle.tv_doc.specs.declared.place.FieldValueAddr.{FieldValueAddr}
 use Rattle.tv_doc.specs.Document.{document_of}
-use Rattle.tv_doc.specs.Held.{ReadsPairs}
-use Rattle.tv_doc.specs.Reads.{ShortText, LeafStands, Reads, ReadsElements, ReadsEntries}
-use Rattle.tv_doc.specs.TypeCode.{type_code}
+use Rattle.tv_doc.specs.Holds.{ReadsPairs}
+use Rattle.tv_heap.specs.Reads.{ShortText, LeafStands, Reads, ReadsElements, ReadsEntries}
+use Rattle.tv_heap.specs.TypeCode.{type_code}
 use Rattle.tv_doc.proofs.Documents.{document_length}
 
 -- there is one proof at most of each of these

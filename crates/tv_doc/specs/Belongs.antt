@@ -1,7 +1,7 @@
 -- Documents of a schema.
 use Rattle.std.specs.Prelude.{◌<◌, List, length}
 use Rattle.std.specs.List.{AllByRecursion}
-use Rattle.tv_schema.specs.Entry.{Entry}
+use Rattle.tv_field.specs.Entry.{Entry}
 use Rattle.tv_value.specs.Tree.{Document}
 
 -- each field is one of the schema

@@ -4,9 +4,9 @@ use Rattle.tv_value.specs.Tree.{Tree, Document}
 use Rattle.tv_doc.specs.declared.add_error.AddError.{AddError}
 use Rattle.tv_doc.specs.declared.add_error.AddError.TheVariants.{FieldNumber, HeapFull, Memory}
 use Rattle.tv_doc.specs.declared.document.CompactDoc.{CompactDoc}
-use Rattle.tv_doc.specs.Reads.{Reads}
-use Rattle.tv_doc.specs.Room.{room}
-use Rattle.tv_doc.specs.TypeCode.{type_code}
+use Rattle.tv_heap.specs.Reads.{Reads}
+use Rattle.tv_heap.specs.Room.{room}
+use Rattle.tv_heap.specs.TypeCode.{type_code}
 
 -- its fields and trees, in order
 abbrev pub document_of : CompactDoc → Document

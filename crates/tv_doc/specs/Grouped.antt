@@ -5,7 +5,7 @@ use Rattle.std.specs.List.Sorted.{IsStrictlyIncreasing}
 use Rattle.std.specs.declared.alloc.Global.{Global}
 use Rattle.tv_value.specs.Tree.{Tree}
 use Rattle.tv_value.specs.declared.field.Field.{Field}
-use Rattle.tv_doc.specs.Value.{values_of}
+use Rattle.tv_doc.specs.FieldValues.{values_of}
 
 -- The fields that have a value, rising, each once and with its values in order.
 pub record IsGrouped {A : Type 0} (pairs : List (ℕ × A)) (groups : List (ℕ × List A)) : Type 0 where

@@ -4,15 +4,15 @@ use Rattle.std.specs.Fmt.{take_chars}
 use Rattle.serde_json.specs.Data as json
 use Rattle.serde_json.specs.Data.{Data, Items, Members}
 use Rattle.serde_json.specs.Read.{read}
-use Rattle.tv_schema.specs.Entry.{Entry}
-use Rattle.tv_schema.specs.JsonAnswer.{error_of, refusal_of}
-use Rattle.tv_schema.specs.JsonTable.{Refusal, Table}
+use Rattle.tv_field.specs.Entry.{Entry}
+use Rattle.tv_field.specs.JsonAnswer.{error_of, refusal_of}
+use Rattle.tv_field.specs.JsonTable.{Refusal, Table}
 use Rattle.tv_schema.specs.Schema.{field_named}
-use Rattle.tv_schema.specs.declared.field_type.FieldType.{FieldType}
-use Rattle.tv_schema.specs.declared.json_value.JsonRefusal.{JsonRefusal}
+use Rattle.tv_field.specs.declared.field_type.FieldType.{FieldType}
+use Rattle.tv_field.specs.declared.json_value.JsonRefusal.{JsonRefusal}
 use Rattle.tv_value.specs.Tree.{Tree, Document}
 use Rattle.tv_doc.specs.Document.{document_of}
-use Rattle.tv_doc.specs.Room.{document_room}
+use Rattle.tv_heap.specs.Room.{document_room}
 use Rattle.tv_doc.specs.declared.add_error.AddError.TheVariants as add_error
 use Rattle.tv_doc.specs.declared.doc_parsing_error.DocParsingError.{DocParsingError}
 use Rattle.tv_doc.specs.declared.doc_parsing_error.DocParsingError.TheVariants as error

@@ -1,14 +1,6 @@
-pub mod Room
-pub mod Reads
-pub mod ReadsLaws
-pub mod TypeCode
-pub mod TypeByte
-pub mod Held
-pub mod Lent
-pub mod Encoded
-pub mod Wrote
+pub mod Holds
 pub mod Document
-pub mod Value
+pub mod FieldValues
 pub mod MapValue
 pub mod Grouped
 pub mod Belongs

@@ -7,7 +7,7 @@ use Rattle.serde_json.specs.Data.{object}
 use Rattle.serde_json.specs.Written.{compact_text}
 use Rattle.tv_value.specs.Owned.{owned_tree}
 use Rattle.tv_value.specs.Tree.{Tree, Document}
-use Rattle.tv_schema.specs.Entry.{Entry}
+use Rattle.tv_field.specs.Entry.{Entry}
 use Rattle.tv_json.specs.Named.{named_json}
 use Rattle.tv_doc.specs.Grouped.{IsGrouped}
 use Rattle.tv_doc.specs.declared.named.NamedFieldDocument.{NamedFieldDocument}

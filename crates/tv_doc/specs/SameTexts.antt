@@ -6,7 +6,7 @@ use Rattle.serde_json.specs.Written.{compact_text}
 use Rattle.tv_json.specs.JsonOf.{json_of}
 use Rattle.tv_value.specs.Tree.{Tree, Document}
 use Rattle.tv_value.specs.declared.field.Field.{Field}
-use Rattle.tv_doc.specs.Value.{values_of}
+use Rattle.tv_doc.specs.FieldValues.{values_of}
 
 -- a value's JSON as a text without spaces
 abbrev pub json_text : Tree → List ℕ

@@ -6,7 +6,7 @@ ghost use Rattle.tv_doc.specs.declared.doc_parsing_error.DocParsingError.TheVari
 use crate::add_error::AddError;
 use std::alloc::AllocError;
 use thiserror::Error;
-use tv_schema::ValueParsingError;
+use tv_field::ValueParsingError;
 
 /// Why there is no document of a JSON object.
 #[derive(Debug, PartialEq, Drop, Error)]

@@ -6,22 +6,22 @@ ghost use Rattle.std.specs.String.{string_bytes};
 ghost use Rattle.tv_value.specs.HeldTokens.{token_of};
 ghost use Rattle.tv_value.specs.Tree.{leaf, text, unsigned, signed, boolean, date, facet, bytes, ip_address, tokenized};
 ghost use Rattle.tv_value.specs.Lent.{leaf_of, nested_tree};
-ghost use Rattle.tv_doc.specs.Held.{Holds, Holds-prop, pair_at};
-ghost use Rattle.tv_doc.specs.Room.{room, document_room};
+ghost use Rattle.tv_doc.specs.Holds.{Holds, Holds-prop, pair_at};
+ghost use Rattle.tv_heap.specs.Room.{room, document_room};
 
 use crate::add_error::AddError;
 use crate::document_trait::Document;
 use crate::field_values::{FieldValueIterRef, GetAllIter};
 use crate::map_value::MapValue;
 use crate::place::FieldValueAddr;
-use crate::room::{leaf_room, room};
-use crate::value::CompactDocValue;
-use crate::value_type::ValueType;
-use crate::write::{write_leaf, write_tree};
 use std::alloc::{AllocError, Global};
 use std::collections::BTreeMap;
 use std::net::Ipv6Addr;
 use tv_base::Facet;
+use tv_heap::room::{leaf_room, room};
+use tv_heap::value::CompactDocValue;
+use tv_heap::value_type::ValueType;
+use tv_heap::write::{write_leaf, write_tree};
 use tv_schema::Schema;
 use tv_value::date_time::DateTime;
 use tv_value::field::Field;
@@ -116,7 +116,8 @@ impl CompactDoc {
     ghost use Rattle.tv_doc.specs.Belongs.{Belongs};
     ghost use Rattle.tv_doc.specs.Document.{document_of, heap_of, places_of, Adds, IsUnchanged, ReadsAt};
     ghost use Rattle.tv_doc.specs.MapValue.{map_tree};
-    ghost use Rattle.tv_doc.specs.Value.{pairs_left, tree_of, values_left, values_of};
+    ghost use Rattle.tv_heap.specs.Value.{tree_of};
+    ghost use Rattle.tv_doc.specs.FieldValues.{pairs_left, values_left, values_of};
 
     /// A document without pairs, which takes no memory.
     pub fn new(alloc: Global) -> CompactDoc
@@ -378,7 +379,7 @@ impl CompactDoc {
 /// The pairs are lent in place, without memory.
 impl<'a> Document<'a> for CompactDoc {
     ghost use Rattle.tv_doc.specs.Document.{document_of};
-    ghost use Rattle.tv_doc.specs.Value.{pairs_left};
+    ghost use Rattle.tv_doc.specs.FieldValues.{pairs_left};
 
     type Value = CompactDocValue<'a>;
 

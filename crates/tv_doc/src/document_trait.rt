@@ -6,7 +6,7 @@ ghost use Rattle.tv_value.specs.declared.field.Field.{Field};
 ghost use Rattle.tv_value.specs.Tree.{Tree, Document as Pairs};
 ghost use Rattle.tv_doc.specs.Grouped.{IsGrouped, group_seen};
 ghost use Rattle.tv_doc.specs.Named.{IsNamed, IsJsonText, named_of};
-ghost use Rattle.tv_doc.specs.Value.{pair_seen};
+ghost use Rattle.tv_doc.specs.FieldValues.{pair_seen};
 
 use crate::grouped::{grouped, sort_pairs};
 use crate::named::{FieldNames, NamedFieldDocument, by_name, owned_by_name};

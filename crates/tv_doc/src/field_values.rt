@@ -2,10 +2,10 @@
 
 ghost use Rattle.std.specs.Prelude.{◌≡◌};
 ghost use Rattle.std.specs.Iterator.{YieldsFirstBy, item_count};
-ghost use Rattle.tv_doc.specs.Held.{Holds, Holds-prop};
+ghost use Rattle.tv_doc.specs.Holds.{Holds, Holds-prop};
 
 use crate::place::FieldValueAddr;
-use crate::value::CompactDocValue;
+use tv_heap::value::CompactDocValue;
 use tv_value::field::Field;
 
 /// The pairs of a document that are left: each once, in the order in which they were added.
@@ -63,7 +63,7 @@ impl<'a> GetAllIter<'a> {
 }
 
 impl<'a> Iterator for GetAllIter<'a> {
-    ghost use Rattle.tv_doc.specs.Value.{values_left};
+    ghost use Rattle.tv_doc.specs.FieldValues.{values_left};
 
     type Item = CompactDocValue<'a>;
 

@@ -3,7 +3,7 @@
 ghost use Rattle.std.specs.Prelude.{◌≡◌, ℕ, map, OnOk, IfOk};
 ghost use Rattle.std.specs.List.Sorted.{IsNonDecreasingBy};
 ghost use Rattle.tv_doc.specs.Grouped.{IsGrouped, numbered, numbered_all};
-ghost use Rattle.tv_doc.specs.Value.{values_of};
+ghost use Rattle.tv_doc.specs.FieldValues.{values_of};
 
 use std::alloc::{AllocError, Global};
 use tv_value::field::Field;

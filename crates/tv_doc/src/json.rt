@@ -4,7 +4,7 @@ ghost use Rattle.std.specs.Prelude.{◌≡◌, ◌<◌, ◌∷◌, [], IfOk, len
 ghost use Rattle.serde_json.specs.View.{view as data_of, items_view, members_view};
 ghost use Rattle.tv_value.specs.Tree.{Tree};
 ghost use Rattle.tv_schema.specs.Schema.{field_named};
-ghost use Rattle.tv_schema.specs.JsonAnswer.{lent_tree};
+ghost use Rattle.tv_field.specs.JsonAnswer.{lent_tree};
 ghost use Rattle.tv_doc.specs.JsonObject.{FieldJson, item_values, values_for, values_at, object_values, AddsValues, IsInvalidJson, IsValueError, MakesDocument, Parses};
 ghost use Rattle.std.specs.Fmt.{take_chars};
 ghost use Rattle.tv_doc.specs.Document.{Adds};
@@ -14,8 +14,9 @@ use crate::doc_parsing_error::DocParsingError;
 use crate::document::CompactDoc;
 use serde_json::{Map, Value};
 use std::alloc::{AllocError, Global};
-use tv_schema::json_value::{JsonRefusal, JsonScratch, LentFieldValue};
-use tv_schema::{FieldType, Schema};
+use tv_field::FieldType;
+use tv_field::json_value::{JsonRefusal, JsonScratch, LentFieldValue};
+use tv_schema::Schema;
 use tv_value::field::Field;
 
 // Adds what is lent.

@@ -1,7 +1,7 @@
 //! Laws of documents, each the contract of a function that does nothing.
 
 ghost use Rattle.std.specs.Prelude.{◌≡◌, ◌<◌, ◌≤◌, ℕ, List, [], length, IfOk};
-ghost use Rattle.tv_schema.specs.Entry.{Entry};
+ghost use Rattle.tv_field.specs.Entry.{Entry};
 ghost use Rattle.tv_schema.specs.Schema.{IsSchema};
 ghost use Rattle.tv_value.specs.Short.{IsDocument};
 ghost use Rattle.tv_value.specs.Tree.{Tree, Document as Pairs};
@@ -11,9 +11,9 @@ ghost use Rattle.tv_doc.specs.Belongs.{Belongs};
 ghost use Rattle.tv_doc.specs.Document.{document_of, heap_of};
 ghost use Rattle.tv_doc.specs.Named.{IsNamed, Named, field_names};
 ghost use Rattle.tv_doc.specs.NamedPairs.{named_pairs};
-ghost use Rattle.tv_doc.specs.Reads.{Reads};
-ghost use Rattle.tv_doc.specs.Room.{document_room};
-ghost use Rattle.tv_doc.specs.Value.{values_of};
+ghost use Rattle.tv_heap.specs.Reads.{Reads};
+ghost use Rattle.tv_heap.specs.Room.{document_room};
+ghost use Rattle.tv_doc.specs.FieldValues.{values_of};
 
 use crate::doc_parsing_error::DocParsingError;
 use crate::document::CompactDoc;
@@ -21,11 +21,6 @@ use crate::document_trait::Document;
 use std::alloc::Global;
 use tv_schema::Schema;
 use tv_schema::laws::names_are_of_one_field;
-
-/// One type and address reads as one tree at most.
-pub fn places_read_as_one_tree()
-    ensures { (heap : List ℕ) (code at : ℕ) (t u : Tree) → Reads heap code at t → Reads heap code at u → t ≡ u }
-{}
 
 /// Each document has a spelling in the store: its fields are numbers up to 65535, and its numbers, texts and lists fit.
 pub fn documents_are_valid()

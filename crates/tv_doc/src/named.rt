@@ -6,7 +6,7 @@ ghost use Rattle.tv_json.specs.Named.{named_trees};
 ghost use Rattle.tv_value.specs.Owned.{owned_tree};
 ghost use Rattle.tv_doc.specs.Grouped.{group_seen};
 ghost use Rattle.tv_doc.specs.Named.{IsNamed, by_name as named_by, field_names, named_of, put_under};
-ghost use Rattle.tv_doc.specs.Value.{pair_seen};
+ghost use Rattle.tv_doc.specs.FieldValues.{pair_seen};
 
 use std::alloc::{AllocError, Global};
 use std::collections::BTreeMap;

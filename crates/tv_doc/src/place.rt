@@ -1,6 +1,6 @@
 //! Where a pair's value stands.
 
-use crate::value_type::ValueType;
+use tv_heap::value_type::ValueType;
 
 /// A field, and the type and the address of its value in the heap.
 #[derive(Clone, Copy, Debug)]

@@ -6,9 +6,9 @@ use Rattle.serde_json.specs.Data as json
 use Rattle.serde_json.specs.Data.{Data, Items, Members}
 use Rattle.tv_doc.specs.Belongs.{Belongs}
 use Rattle.tv_doc.specs.JsonObject.{FieldJson, item_values, values_for, values_of_entry, values_at, object_values, Pairs}
-use Rattle.tv_schema.specs.Entry.{Entry}
+use Rattle.tv_field.specs.Entry.{Entry}
 use Rattle.tv_schema.specs.Schema.{field_named}
-use Rattle.tv_schema.specs.declared.field_type.FieldType.{FieldType}
+use Rattle.tv_field.specs.declared.field_type.FieldType.{FieldType}
 use Rattle.tv_value.specs.Tree.{Document}
 
 abbrev HaveFields : ℕ → List FieldJson → Type 0

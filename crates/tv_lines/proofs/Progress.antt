@@ -13,7 +13,7 @@ use Rattle.tv_lines.specs.Lines.Lines.{no_lines, next_line}
 use Rattle.tv_lines.specs.Reader.{TakesLine}
 use Rattle.tv_lines.specs.Run.{AnswersOf, BadSchemaText, BrokenText, DoneText, FrontOf, IsEnded, Leaves}
 use Rattle.tv_lines.proofs.LineSteps.{some_lines, some_line}
-use Rattle.tv_schema.specs.Entry.{Entry}
+use Rattle.tv_field.specs.Entry.{Entry}
 
 -- ---- any input has answers
 

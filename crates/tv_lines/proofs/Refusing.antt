@@ -15,11 +15,11 @@ use Rattle.tv_lines.specs.Answers.LineAnswer.{no_object, refused, written}
 use Rattle.tv_lines.specs.Answers.RefusalText.{by_table, by_number}
 use Rattle.tv_lines.specs.Run.{Leaves}
 use Rattle.tv_lines.specs.Unwritten.{IsUnwritten, error_text, value_error_text}
-use Rattle.tv_schema.specs.Entry.{Entry}
-use Rattle.tv_schema.specs.JsonAnswer.{error_of}
-use Rattle.tv_schema.specs.JsonTable.{Refusal, Table}
-use Rattle.tv_schema.specs.declared.value_parsing_error.ValueParsingError.{ValueParsingError}
-use Rattle.tv_schema.specs.declared.value_parsing_error.ValueParsingError.TheVariants as values
+use Rattle.tv_field.specs.Entry.{Entry}
+use Rattle.tv_field.specs.JsonAnswer.{error_of}
+use Rattle.tv_field.specs.JsonTable.{Refusal, Table}
+use Rattle.tv_field.specs.declared.value_parsing_error.ValueParsingError.{ValueParsingError}
+use Rattle.tv_field.specs.declared.value_parsing_error.ValueParsingError.TheVariants as values
 use Rattle.tv_store.specs.Stored.{stored}
 use Rattle.tv_value.specs.Tree.{Tree, Document}
 

@@ -6,12 +6,12 @@ use Rattle.serde_json.specs.Data.{Data, object, Members}
 use Rattle.serde_json.specs.Read.{read}
 use Rattle.tv_doc.specs.JsonObject.{FieldJson, object_values, Pairs}
 use Rattle.tv_doc.specs.Named.{IsJsonText, field_names}
-use Rattle.tv_doc.specs.Room.{document_room}
-use Rattle.tv_schema.specs.Entry.{Entry}
-use Rattle.tv_schema.specs.JsonTable.{Refusal, overflow, mismatch, bad_text, bad_base64, float_number, Table}
+use Rattle.tv_heap.specs.Room.{document_room}
+use Rattle.tv_field.specs.Entry.{Entry}
+use Rattle.tv_field.specs.JsonTable.{Refusal, overflow, mismatch, bad_text, bad_base64, float_number, Table}
 use Rattle.tv_schema.specs.SchemaJsonReading.{schema_of}
-use Rattle.tv_schema.specs.declared.schema_error.SchemaError.{SchemaError}
-use Rattle.tv_schema.specs.declared.schema_error.SchemaError.TheVariants as schema_error
+use Rattle.tv_field.specs.declared.schema_error.SchemaError.{SchemaError}
+use Rattle.tv_field.specs.declared.schema_error.SchemaError.TheVariants as schema_error
 use Rattle.tv_store.specs.Stored.{stored}
 use Rattle.tv_value.specs.Short.{short_document}
 use Rattle.tv_value.specs.Tree.{Tree, Document}

@@ -5,7 +5,7 @@ use Rattle.tv_lines.specs.Answers.{ReadsSchema, SchemaRefusal, Answers}
 use Rattle.tv_lines.specs.Lines.{FirstLine, Lines}
 use Rattle.tv_lines.specs.declared.run_end.RunEnd.{RunEnd}
 use Rattle.tv_lines.specs.declared.run_end.RunEnd.TheVariants.{Done, BadSchema, Broken}
-use Rattle.tv_schema.specs.Entry.{Entry}
+use Rattle.tv_field.specs.Entry.{Entry}
 
 -- such an answer, and a line feed
 abbrev pub IsEnded : (List ℕ → Type 0) → List ℕ → Type 0

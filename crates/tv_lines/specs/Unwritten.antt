@@ -3,13 +3,13 @@ use Rattle.std.specs.Prelude.{◌≡◌, ◌<◌, ◌⊎◌, List, ◌∷◌, �
 use lib.Chars.{codes}
 use Rattle.hex.specs.Hex.{encode_lower}
 use Rattle.tv_doc.specs.Named.{IsJsonText, field_names}
-use Rattle.tv_schema.specs.Entry.{Entry}
-use Rattle.tv_doc.specs.Room.{document_room}
+use Rattle.tv_field.specs.Entry.{Entry}
+use Rattle.tv_heap.specs.Room.{document_room}
 use Rattle.tv_doc.specs.declared.add_error.AddError.TheVariants as adds
 use Rattle.tv_doc.specs.declared.doc_parsing_error.DocParsingError.{DocParsingError}
 use Rattle.tv_doc.specs.declared.doc_parsing_error.DocParsingError.TheVariants as errors
-use Rattle.tv_schema.specs.declared.value_parsing_error.ValueParsingError.{ValueParsingError}
-use Rattle.tv_schema.specs.declared.value_parsing_error.ValueParsingError.TheVariants as values
+use Rattle.tv_field.specs.declared.value_parsing_error.ValueParsingError.{ValueParsingError}
+use Rattle.tv_field.specs.declared.value_parsing_error.ValueParsingError.TheVariants as values
 use Rattle.tv_value.specs.Tree.{Document}
 
 abbrev pub value_error_text : ValueParsingError → List ℕ

@@ -19,7 +19,8 @@ use tv_doc::doc_parsing_error::DocParsingError;
 use tv_doc::document::CompactDoc;
 use tv_doc::document_trait::Document;
 use tv_doc::laws::documents_are_valid;
-use tv_schema::{Schema, ValueParsingError};
+use tv_field::ValueParsingError;
+use tv_schema::Schema;
 use tv_store::BinaryDocumentSerializer;
 use tv_store::laws::{stored_pairs_are_valid, stored_pairs_need_no_more_room};
 

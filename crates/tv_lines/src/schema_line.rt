@@ -6,7 +6,8 @@ ghost use Rattle.tv_lines.specs.Run.{IsEnded};
 
 use serde_json::Value;
 use std::alloc::Global;
-use tv_schema::{Schema, SchemaError};
+use tv_field::SchemaError;
+use tv_schema::Schema;
 
 /// The line that is answered for this error.
 fn error_line(error: SchemaError) -> &'static str

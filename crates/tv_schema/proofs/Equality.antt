@@ -12,10 +12,10 @@ use Rattle.tv_options.specs.declared.own_part.OfBytes.{OfBytes}
 use Rattle.tv_options.specs.declared.own_part.OfIpAddrs.{OfIpAddrs}
 use Rattle.tv_options.specs.declared.textual_options.TextualOptions.{TextualOptions}
 use Rattle.tv_date.specs.declared.date_time.DateTimePrecision.{DateTimePrecision}
-use Rattle.tv_schema.specs.Entry.{Entry}
-use Rattle.tv_schema.specs.contracts.field_type.FieldTypePartialEq.TheImpl.{eq-value as type_eq}
-use Rattle.tv_schema.specs.declared.field_type.FieldType.{FieldType}
-use Rattle.tv_schema.specs.declared.field_type.FieldType.TheVariants as types
+use Rattle.tv_field.specs.Entry.{Entry}
+use Rattle.tv_field.specs.contracts.field_type.FieldTypePartialEq.TheImpl.{eq-value as type_eq}
+use Rattle.tv_field.specs.declared.field_type.FieldType.{FieldType}
+use Rattle.tv_field.specs.declared.field_type.FieldType.TheVariants as types
 
 -- options of one type are equal exactly where they are the same
 pub record OptionsDecide : Type 0 where

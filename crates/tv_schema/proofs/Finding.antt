@@ -2,7 +2,7 @@
 use Rattle.std.proofs.Common.{◌≡◌, ℕ, suc, zero, ◌+◌, ◌<◌, Bool, true, false, cond, List, [], length, take, drop, Option, None, Some, refl, sym, ◌∙◌, ap, arith, IsTrue, inl, inr}
 use Rattle.std.specs.Option.{option_map}
 use Rattle.std.proofs.lemmas.Bool.{cases_lt}
-use Rattle.tv_schema.specs.Entry.{Entry}
+use Rattle.tv_field.specs.Entry.{Entry}
 use Rattle.tv_schema.specs.Path.{is_splitting_dot, field_of_front, parted_at, last_given, find}
 use Rattle.tv_schema.specs.Schema.{field_named}
 

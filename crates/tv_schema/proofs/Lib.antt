@@ -5,4 +5,3 @@ pub mod Schemas
 pub mod Names
 pub mod Finding
 pub mod Equality
-pub mod JsonTokens

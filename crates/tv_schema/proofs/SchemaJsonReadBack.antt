@@ -18,15 +18,15 @@ use Rattle.tv_options.specs.declared.types.TypeTag.TheVariants as tags
 use Rattle.tv_options.specs.FastFieldTextOptions.{is_fast_field, tokenizer_of}
 use Rattle.tv_date.specs.declared.date_time.DateTimePrecision.{DateTimePrecision}
 use Rattle.tv_date.specs.declared.date_time.DateTimePrecision.TheVariants.{Seconds, Milliseconds, Microseconds, Nanoseconds}
-use Rattle.tv_schema.specs.Entry.{Entry, value_type, is_valid_name}
+use Rattle.tv_field.specs.Entry.{Entry, value_type, is_valid_name}
 use Rattle.tv_schema.specs.Schema.{IsSchema, refusal, field_named, place_from}
 use Rattle.tv_schema.specs.SchemaJson.{type_word, record_word, precision_word, fast_json, indexing_json, text_json, numeric_json, date_json, json_object_json, options_json, entry_json, entries_json, schema_json}
 use Rattle.tv_schema.specs.SchemaJsonOptions.{type_of_word, record_of_word, precision_of_word, required_bool, required_text, required_object, bool_or, text_or, fieldnorms_or, record_or_basic, indexing_of, optional_indexing, fast_field_of, fast_field_or_none, required_fast_field, text_options_of, numeric_options_of, bytes_options_of, precision_or_seconds, date_options_of, facet_options_of, json_object_options_of, ip_addr_options_of, options_of}
 use Rattle.tv_schema.specs.SchemaJsonReading.{or_bad, ◌>>=◌, type_named, entry_of, with_entry, with_entries, schema_of}
 use Rattle.tv_schema.proofs.SchemaJsonWords.{cond-not}
-use Rattle.tv_schema.specs.declared.schema_error.SchemaError.{SchemaError}
-use Rattle.tv_schema.specs.declared.field_type.FieldType.{FieldType}
-use Rattle.tv_schema.specs.declared.field_type.FieldType.TheVariants as types
+use Rattle.tv_field.specs.declared.schema_error.SchemaError.{SchemaError}
+use Rattle.tv_field.specs.declared.field_type.FieldType.{FieldType}
+use Rattle.tv_field.specs.declared.field_type.FieldType.TheVariants as types
 
 -- ---- words
 

@@ -5,7 +5,7 @@ use Rattle.std.proofs.lemmas.List.Elements.{All-push}
 use Rattle.std.proofs.lemmas.List.Quantifiers.{all_pairs_push}
 use Rattle.std.proofs.lemmas.Slice.Eq.{bytes_eq-Decides}
 use Rattle.std.specs.Str.{bytes_eq}
-use Rattle.tv_schema.specs.Entry.{Entry, IsValidName}
+use Rattle.tv_field.specs.Entry.{Entry, IsValidName}
 use Rattle.std.specs.Prelude.{String}
 use Rattle.std.specs.HashMap.{HashMap, Updates, get_by_text}
 use Rattle.std.specs.String.{string_bytes, string_eq}

@@ -1,4 +1,3 @@
-pub mod Entry
 pub mod Schema
 pub mod SchemaJson
 pub mod SchemaJsonOptions
@@ -6,6 +5,3 @@ pub mod SchemaJsonReading
 pub mod Table
 pub mod Path
 pub mod SchemaJsonEarly
-pub mod JsonTokens
-pub mod JsonTable
-pub mod JsonAnswer

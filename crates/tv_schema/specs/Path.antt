@@ -2,10 +2,10 @@
 use Rattle.std.specs.Prelude.{ℕ, suc, zero, ◌+◌, ◌==◌, ◌&&◌, ◌||◌, Bool, true, false, if◌then◌else◌, List, [], length, take, drop, slice_index, slice_get, Option, None, Some}
 use Rattle.std.specs.Option.{option_or, option_map, option_and_then, option_map_or}
 use Rattle.tv_base.specs.Escapes.{is_unescaped, without_escapes}
-use Rattle.tv_schema.specs.Entry.{Entry}
+use Rattle.tv_field.specs.Entry.{Entry}
 use Rattle.tv_schema.specs.Schema.{field_named}
-use Rattle.tv_schema.specs.declared.field_type.FieldType.{FieldType}
-use Rattle.tv_schema.specs.declared.field_type.FieldType.TheVariants as types
+use Rattle.tv_field.specs.declared.field_type.FieldType.{FieldType}
+use Rattle.tv_field.specs.declared.field_type.FieldType.TheVariants as types
 
 -- a dot that isn't taken by a backslash
 abbrev pub is_splitting_dot : List ℕ → ℕ → Bool

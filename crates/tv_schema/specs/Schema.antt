@@ -1,10 +1,10 @@
 -- A schema as the list of its entries.
 use Rattle.std.specs.Prelude.{ℕ, ◌+◌, ◌<◌, ◌^◌, ◌≢◌, if◌then◌else◌, List, [], ◌∷◌, length, Option, None, Some, is_some, not, ◌==◌, ◌≡◌, ◌++◌, Result, Ok, Err, All, AllPairs}
 use Rattle.std.specs.Str.{bytes_eq}
-use Rattle.tv_schema.specs.Entry.{Entry, IsValidName, is_valid_name}
+use Rattle.tv_field.specs.Entry.{Entry, IsValidName, is_valid_name}
 use Rattle.tv_value.specs.declared.field.Field.{Field}
-use Rattle.tv_schema.specs.declared.schema_error.SchemaError.{SchemaError}
-use Rattle.tv_schema.specs.declared.schema_error.SchemaError.TheVariants.{InvalidName, DuplicateName, TooManyFields, Memory}
+use Rattle.tv_field.specs.declared.schema_error.SchemaError.{SchemaError}
+use Rattle.tv_field.specs.declared.schema_error.SchemaError.TheVariants.{InvalidName, DuplicateName, TooManyFields, Memory}
 
 -- names are valid and distinct, and each has a number of 32 bits
 pub record IsSchema (schema : List Entry) : Type 0 where

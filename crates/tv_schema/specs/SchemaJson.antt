@@ -16,9 +16,9 @@ use Rattle.tv_options.specs.declared.types.TypeTag.{TypeTag}
 use Rattle.tv_options.specs.declared.types.TypeTag.TheVariants as tags
 use Rattle.tv_date.specs.declared.date_time.DateTimePrecision.{DateTimePrecision}
 use Rattle.tv_date.specs.declared.date_time.DateTimePrecision.TheVariants.{Seconds, Milliseconds, Microseconds, Nanoseconds}
-use Rattle.tv_schema.specs.Entry.{Entry, value_type}
-use Rattle.tv_schema.specs.declared.field_type.FieldType.{FieldType}
-use Rattle.tv_schema.specs.declared.field_type.FieldType.TheVariants as types
+use Rattle.tv_field.specs.Entry.{Entry, value_type}
+use Rattle.tv_field.specs.declared.field_type.FieldType.{FieldType}
+use Rattle.tv_field.specs.declared.field_type.FieldType.TheVariants as types
 
 -- ---- words
 

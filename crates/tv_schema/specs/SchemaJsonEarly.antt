@@ -4,8 +4,8 @@ use Rattle.serde_json.specs.Data.{Data, Items, no_items, item, Members}
 use Rattle.serde_json.specs.Find.{as_array, as_object}
 use Rattle.tv_schema.specs.SchemaJsonOptions.{required_text, required_object}
 use Rattle.tv_schema.specs.SchemaJsonReading.{◌>>=◌, or_bad, type_named}
-use Rattle.tv_schema.specs.declared.schema_error.SchemaError.{SchemaError}
-use Rattle.tv_schema.specs.declared.schema_error.SchemaError.TheVariants.{BadJson}
+use Rattle.tv_field.specs.declared.schema_error.SchemaError.{SchemaError}
+use Rattle.tv_field.specs.declared.schema_error.SchemaError.TheVariants.{BadJson}
 
 -- the members of an entry's options, behind its name and the word of its type
 unfoldable pub opened : ℕ → Data → Result Members SchemaError

@@ -22,8 +22,8 @@ use Rattle.tv_options.specs.declared.types.TypeTag.TheVariants as tags
 use Rattle.tv_date.specs.declared.date_time.DateTimePrecision.{DateTimePrecision}
 use Rattle.tv_date.specs.declared.date_time.DateTimePrecision.TheVariants.{Seconds, Milliseconds, Microseconds, Nanoseconds}
 use Rattle.tv_schema.specs.SchemaJson.{type_word, record_word, precision_word}
-use Rattle.tv_schema.specs.declared.field_type.FieldType.{FieldType}
-use Rattle.tv_schema.specs.declared.field_type.FieldType.TheVariants as types
+use Rattle.tv_field.specs.declared.field_type.FieldType.{FieldType}
+use Rattle.tv_field.specs.declared.field_type.FieldType.TheVariants as types
 
 infixl 10 ◌>>=◌
 abbrev pub ◌>>=◌ : {A B : Type 0} → Option A → (A → Option B) → Option B

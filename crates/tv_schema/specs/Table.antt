@@ -4,7 +4,7 @@ use Rattle.std.specs.HashMap.{HashMap, get_by_text}
 use Rattle.std.specs.declared.alloc.Global.{Global}
 use Rattle.std.specs.declared.hash.FoldHasher.{FoldHasher}
 use Rattle.std.specs.declared.hash.BuildHasherDefault.{BuildHasherDefault}
-use Rattle.tv_schema.specs.Entry.{Entry}
+use Rattle.tv_field.specs.Entry.{Entry}
 use Rattle.tv_schema.specs.Schema.{IsSchema, field_named}
 
 -- the entries are a schema, and the map has the number of each name

@@ -3,8 +3,8 @@
 ghost use Rattle.std.specs.Prelude.{◌≡◌, ◌<◌, ◌^◌, length};
 ghost use Rattle.std.specs.List.{enumerate_from};
 
-use crate::field_entry::FieldEntry;
 use std::marker::Model;
+use tv_field::field_entry::FieldEntry;
 use tv_value::field::Field;
 
 /// The fields of a schema that are left, each with its entry, in the order of their numbers.
@@ -17,7 +17,7 @@ pub struct FieldIter<'a> {
 impl<'a> Model for FieldIter<'a> {
     ghost use Rattle.std.specs.Prelude.{List, ℕ, length, ◌+◌, ◌<◌, ◌^◌};
     ghost use Rattle.std.specs.List.{enumerate_from};
-    ghost use Rattle.tv_schema.specs.Entry.{Entry};
+    ghost use Rattle.tv_field.specs.Entry.{Entry};
 
     ghost Value = { List (ℕ × Entry) };
 

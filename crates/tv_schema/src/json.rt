@@ -5,7 +5,7 @@ ghost use Rattle.serde_json.specs.View.{view};
 ghost use Rattle.tv_schema.specs.SchemaJson.{schema_json};
 ghost use Rattle.tv_schema.specs.SchemaJsonEarly.{early_fault};
 ghost use Rattle.tv_schema.specs.SchemaJsonReading.{schema_of};
-ghost use Rattle.tv_schema.specs.declared.schema_error.SchemaError.TheVariants.{Memory};
+ghost use Rattle.tv_field.specs.declared.schema_error.SchemaError.TheVariants.{Memory};
 
 mod entries;
 pub mod laws;
@@ -15,9 +15,9 @@ mod words;
 mod write;
 
 use crate::schema::Schema;
-use crate::schema_error::SchemaError;
 use serde_json::Value;
 use std::alloc::{AllocError, Global};
+use tv_field::schema_error::SchemaError;
 
 impl Schema {
     /// The schema as JSON: an array of the entries in the order of their numbers, each an object of `name`, `options`

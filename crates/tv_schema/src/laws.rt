@@ -1,14 +1,14 @@
 //! Laws of schemas and paths, and over calls on the types of fields.
 
 ghost use Rattle.std.specs.Prelude.{◌≡◌, ◌↔◌, ◌<◌, ◌+◌, ℕ, List, [], length, take, drop, None, Some, IsTrue, IsSomeAnd, slice_get};
-ghost use Rattle.tv_schema.specs.Entry.{Entry, record_option};
+ghost use Rattle.tv_field.specs.Entry.{Entry, record_option};
 ghost use Rattle.tv_schema.specs.Path.{is_splitting_dot, field_of_front, find};
 ghost use Rattle.tv_schema.specs.Schema.{IsSchema, field_named};
-ghost use Rattle.tv_schema.specs.declared.field_type.FieldType.{FieldType};
+ghost use Rattle.tv_field.specs.declared.field_type.FieldType.{FieldType};
 
-use crate::field_entry::FieldEntry;
-use crate::field_type::FieldType;
 use crate::schema::Schema;
+use tv_field::field_entry::FieldEntry;
+use tv_field::field_type::FieldType;
 use tv_options::laws::{
     comparisons_of_facet_options_agree, comparisons_of_flag_options_agree,
     comparisons_of_textual_options_agree,

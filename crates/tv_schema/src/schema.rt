@@ -6,15 +6,15 @@ ghost use Rattle.std.specs.List.{enumerate_from};
 ghost use Rattle.tv_schema.specs.Path.{find, find_or};
 ghost use Rattle.tv_schema.specs.Schema.{IsSchema, AddsField, refusal, field_named};
 
-use crate::field_entry::{FieldEntry, is_valid_field_name};
 use crate::field_iter::FieldIter;
-use crate::field_type::FieldType;
 use crate::path;
-use crate::schema_error::SchemaError;
 use crate::table::FieldTable;
 use std::alloc::{AllocError, Global};
 use std::marker::Model;
 use std::rc::Rc;
+use tv_field::field_entry::{FieldEntry, is_valid_field_name};
+use tv_field::field_type::FieldType;
+use tv_field::schema_error::SchemaError;
 use tv_options::{
     BytesOptions, DateOptions, FacetOptions, IpAddrOptions, JsonObjectOptions, NumericOptions,
     TextOptions,
@@ -30,7 +30,7 @@ pub struct SchemaBuilder {
 
 impl Model for SchemaBuilder {
     ghost use Rattle.std.specs.Prelude.{List};
-    ghost use Rattle.tv_schema.specs.Entry.{Entry};
+    ghost use Rattle.tv_field.specs.Entry.{Entry};
 
     ghost Value = { List Entry };
 
@@ -228,7 +228,7 @@ pub struct Schema {
 
 impl Model for Schema {
     ghost use Rattle.std.specs.Prelude.{List};
-    ghost use Rattle.tv_schema.specs.Entry.{Entry};
+    ghost use Rattle.tv_field.specs.Entry.{Entry};
 
     ghost Value = { List Entry };
 
@@ -248,7 +248,7 @@ impl Clone for Schema {
 
 impl PartialEq for Schema {
     ghost use Rattle.std.specs.Cmp.Lexicographic.{pointwise, lists_per};
-    ghost use Rattle.tv_schema.specs.contracts.field_entry.FieldEntryPartialEq.TheImpl.Laws.{laws-law};
+    ghost use Rattle.tv_field.specs.contracts.field_entry.FieldEntryPartialEq.TheImpl.Laws.{laws-law};
 
     ghost eq = { λ one other. pointwise ⟦<FieldEntry as PartialEq>⟧.eq one other };
 
@@ -261,7 +261,7 @@ impl PartialEq for Schema {
 
 impl Eq for Schema {
     ghost use Rattle.std.specs.Cmp.Lexicographic.{lists_equiv};
-    ghost use Rattle.tv_schema.specs.contracts.field_entry.FieldEntryEq.TheImpl.Laws.{laws-law};
+    ghost use Rattle.tv_field.specs.contracts.field_entry.FieldEntryEq.TheImpl.Laws.{laws-law};
 
     ghost laws = { lists_equiv laws-law };
 }

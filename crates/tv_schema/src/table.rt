@@ -1,13 +1,13 @@
 //! The entries of a schema, and their numbers by name.
 
 ghost use Rattle.std.specs.Prelude.{◌≡◌, ◌<◌, ◌+◌, ◌^◌, ◌++◌, ◌∷◌, [], length, None, Some, IfOk, IfSome, OnOk, OnErr, slice_get, vec_len};
-ghost use Rattle.tv_schema.specs.Entry.{IsValidName};
+ghost use Rattle.tv_field.specs.Entry.{IsValidName};
 ghost use Rattle.tv_schema.specs.Schema.{IsSchema, field_named};
 
-use crate::field_entry::FieldEntry;
 use std::alloc::{AllocError, Global};
 use std::collections::HashMap;
 use std::marker::Model;
+use tv_field::field_entry::FieldEntry;
 
 /// The entries, and the number of each name.
 #[derive(Debug, Drop)]
@@ -18,7 +18,7 @@ pub(crate) struct FieldTable {
 
 impl Model for FieldTable {
     ghost use Rattle.std.specs.Prelude.{List};
-    ghost use Rattle.tv_schema.specs.Entry.{Entry};
+    ghost use Rattle.tv_field.specs.Entry.{Entry};
 
     ghost Value = { List Entry };
 

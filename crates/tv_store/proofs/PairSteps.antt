@@ -16,7 +16,7 @@ use Rattle.tv_base.proofs.EarlyNumbers.{number_early}
 use Rattle.tv_base.proofs.Numbers.{length-fixed}
 use Rattle.tv_doc.specs.declared.document.CompactDoc.{CompactDoc}
 use Rattle.tv_doc.specs.Document.{document_of, heap_of, IsFull}
-use Rattle.tv_doc.specs.Room.{room, document_room}
+use Rattle.tv_heap.specs.Room.{room, document_room}
 use Rattle.tv_legacy.specs.Legacy.{Legacy}
 use Rattle.tv_value.specs.Fault.{Refusal, corrupted, Corrupt, corrupt, FieldFault, field_ends, field_large, value_ends, in_leaf, in_text, in_unsigned, no_extension}
 use Rattle.tv_value.specs.Spelling.{Spells, SpellsPair}

@@ -10,7 +10,7 @@ use Rattle.tv_base.specs.Stop.{CountsStop, Counts}
 use Rattle.tv_base.proofs.Numbers.{one_number}
 use Rattle.tv_doc.specs.declared.document.CompactDoc.{CompactDoc}
 use Rattle.tv_doc.specs.Document.{document_of}
-use Rattle.tv_doc.specs.Room.{room, document_room}
+use Rattle.tv_heap.specs.Room.{room, document_room}
 use Rattle.tv_legacy.specs.Legacy.{Legacy, LegacyFault}
 use Rattle.tv_legacy.proofs.Unique.{one_legacy, legacy_excludes}
 use Rattle.tv_reader.specs.Error.{key_stop, store_stop}

@@ -2,8 +2,8 @@
 use Rattle.std.proofs.Common.{◌≡◌, ℕ, ◌+◌, ◌≤◌, Bool, true, false, cond, List, [], ◌∷◌, sym, ap, subst, arith}
 use Rattle.std.specs.List.{AllByRecursion}
 use Rattle.std.proofs.lemmas.List.Sums.{sum_by-cons}
-use Rattle.tv_doc.specs.Room.{room, document_room}
-use Rattle.tv_schema.specs.Entry.{Entry}
+use Rattle.tv_heap.specs.Room.{room, document_room}
+use Rattle.tv_field.specs.Entry.{Entry}
 use Rattle.tv_value.specs.Short.{IsLeaf, IsValue, IsPair, IsDocument}
 use Rattle.tv_value.specs.Tree.{Leaf, null, text, unsigned, signed, boolean, date, facet, bytes, ip_address, tokenized, Tree, leaf, array, object, Document}
 use Rattle.tv_store.specs.Stored.{stored, leaf_written, tree_written, is_stored_field}

@@ -7,7 +7,7 @@ use Rattle.tv_value.specs.Short.{short, short_elements, short_entries, IsValue, 
 use Rattle.tv_value.specs.Size.{size, elements_size, entries_size}
 use Rattle.tv_value.specs.Tree.{null, text, unsigned, signed, boolean, date, facet, bytes, ip_address, tokenized, Tree, leaf, array, object, Elements, elements, Entries, entries}
 use Rattle.tv_value.specs.Version.{V2, entry_total}
-use Rattle.tv_doc.specs.Encoded.{IsTokenized}
+use Rattle.tv_heap.specs.Encoded.{IsTokenized}
 use Rattle.tv_store.specs.Children.{child_count}
 use Rattle.tv_store.specs.Stored.{tree_written}
 

@@ -6,7 +6,7 @@ use Rattle.tv_base.specs.Parts.{Begins}
 use Rattle.tv_base.specs.ReadsAs.{Shows}
 use Rattle.tv_doc.specs.declared.document.CompactDoc.{CompactDoc}
 use Rattle.tv_doc.specs.Document.{document_of}
-use Rattle.tv_doc.specs.Room.{document_room}
+use Rattle.tv_heap.specs.Room.{document_room}
 use Rattle.tv_legacy.specs.Legacy.{Legacy, LegacyFault}
 use Rattle.tv_reader.specs.ValueType.{type_code}
 use Rattle.tv_reader.specs.declared.error.DeserializeError.{DeserializeError}

@@ -6,7 +6,7 @@ use Rattle.tv_base.specs.PartFault.{InEach}
 use Rattle.tv_doc.specs.declared.add_error.AddError.{AddError}
 use Rattle.tv_doc.specs.declared.document.CompactDoc.{CompactDoc}
 use Rattle.tv_doc.specs.Document.{document_of, Adds}
-use Rattle.tv_doc.specs.Room.{document_room}
+use Rattle.tv_heap.specs.Room.{document_room}
 use Rattle.tv_legacy.specs.Legacy.{Legacy, LegacyFault}
 use Rattle.tv_value.specs.Fault.{Refusal, PairFault}
 use Rattle.tv_value.specs.Owned.{owned_tree}

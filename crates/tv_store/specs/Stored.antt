@@ -3,7 +3,7 @@ use Rattle.std.specs.Prelude.{ℕ, Bool, false, List, map, filter, Option, Some,
 use Rattle.std.specs.List.{flat_map}
 use Rattle.tv_value.specs.Version.{V2}
 use Rattle.tv_value.specs.Short.{short_pair}
-use Rattle.tv_schema.specs.Entry.{Entry, is_stored_type}
+use Rattle.tv_field.specs.Entry.{Entry, is_stored_type}
 use Rattle.tv_value.specs.Tree.{Tree, leaf, array, object, Leaf, text, null, unsigned, signed, boolean, date, facet, bytes, ip_address, tokenized, Document}
 
 abbrev pub is_stored_entry : Option Entry → Bool

@@ -5,7 +5,7 @@ ghost use Rattle.tv_base.specs.declared.cause.Cause.TheVariants.{TooLong};
 ghost use Rattle.tv_base.specs.ReadsAs.{Known, TakesMost};
 ghost use Rattle.tv_base.specs.Stop.{Counts};
 ghost use Rattle.tv_doc.specs.Document.{document_of};
-ghost use Rattle.tv_doc.specs.Room.{document_room};
+ghost use Rattle.tv_heap.specs.Room.{document_room};
 ghost use Rattle.tv_legacy.specs.Legacy.{Legacy};
 ghost use Rattle.tv_reader.specs.Error.{store_stop};
 ghost use Rattle.tv_reader.specs.Error.{IsRefusal};

@@ -1,8 +1,8 @@
 //! Laws of the pairs that are written, each the contract of a function that does nothing.
 
 ghost use Rattle.std.specs.Prelude.{◌≡◌, ◌≤◌, ℕ, List};
-ghost use Rattle.tv_doc.specs.Room.{document_room};
-ghost use Rattle.tv_schema.specs.Entry.{Entry};
+ghost use Rattle.tv_heap.specs.Room.{document_room};
+ghost use Rattle.tv_field.specs.Entry.{Entry};
 ghost use Rattle.tv_store.specs.Stored.{stored};
 ghost use Rattle.tv_store.specs.Documents.{NoDocument};
 ghost use Rattle.tv_value.specs.Fault.{Refusal};

@@ -8,7 +8,7 @@ ghost use Rattle.std.specs.List.{flat_map};
 ghost use Rattle.tv_base.specs.Number.{vnum, eight_bytes, sixteen_bytes, signed_bytes, truth_byte};
 ghost use Rattle.tv_base.specs.Parts.{short_sized};
 ghost use Rattle.tv_base.specs.Sink.{Writes};
-ghost use Rattle.tv_doc.specs.Value.{tree_of};
+ghost use Rattle.tv_heap.specs.Value.{tree_of};
 ghost use Rattle.tv_store.specs.Children.{child_count};
 ghost use Rattle.tv_store.specs.Stored.{leaf_written, tree_written};
 ghost use Rattle.tv_value.specs.Lent.{leaf_of, nested_tree};
@@ -28,8 +28,8 @@ use tv_base::ByteSink;
 use tv_base::write::{
     write_all, write_bool, write_sized, write_text, write_u8, write_u128, write_vint,
 };
-use tv_doc::encoded::Encoded;
-use tv_doc::value::{CompactDocArrayIter, CompactDocValue};
+use tv_heap::encoded::Encoded;
+use tv_heap::value::{CompactDocArrayIter, CompactDocValue};
 use tv_value::leaf::ReferenceValueLeaf;
 use tv_value::nested::{Lent, Nested, NestedValue, lend};
 use tv_value::pre_tokenized::{PreTokenizedStr, TokenIter, TokenRef};

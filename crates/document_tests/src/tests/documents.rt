@@ -6,7 +6,7 @@ use tv_base::{BinarySerializable, Cause, ReadError, SliceSource, VecSink};
 use tv_doc::add_error::AddError;
 use tv_doc::document::CompactDoc;
 use tv_doc::document_trait::Document;
-use tv_doc::value_type::ValueType;
+use tv_heap::value_type::ValueType;
 use tv_value::field::Field;
 use tv_value::leaf::ReferenceValueLeaf;
 use tv_value::value::Value;

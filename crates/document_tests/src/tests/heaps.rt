@@ -3,7 +3,7 @@
 use std::test::Fail;
 use tv_doc::add_error::AddError;
 use tv_doc::document::CompactDoc;
-use tv_doc::value_type::ValueType;
+use tv_heap::value_type::ValueType;
 use tv_value::field::Field;
 use tv_value::value::Value;
 

@@ -4,8 +4,9 @@ use std::alloc::Global;
 use std::test::Fail;
 use tv_doc::doc_parsing_error::DocParsingError;
 use tv_doc::document::CompactDoc;
+use tv_field::ValueParsingError;
 use tv_options::{COERCE, TextOptions};
-use tv_schema::{Schema, ValueParsingError};
+use tv_schema::Schema;
 use tv_value::value::Value as _;
 
 // One field of texts, which takes other values for texts.

@@ -5,7 +5,8 @@ use std::alloc::{AllocError, Global};
 use std::test::Fail;
 use tv_doc::doc_parsing_error::DocParsingError;
 use tv_doc::document::CompactDoc;
-use tv_schema::{Schema, ValueParsingError};
+use tv_field::ValueParsingError;
+use tv_schema::Schema;
 
 // The schema of the documents.
 const SCHEMA: &str =

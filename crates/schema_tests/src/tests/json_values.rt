@@ -1,10 +1,10 @@
 use serde_json::{Error, Value};
 use std::alloc::Global;
 use std::test::Fail;
+use tv_field::{FieldType, ParseCause, ValueParsingError};
 use tv_options::{
     BytesOptions, COERCE, DateOptions, FacetOptions, JsonObjectOptions, NumericOptions, TextOptions,
 };
-use tv_schema::{FieldType, ParseCause, ValueParsingError};
 use tv_value::owned_value::OwnedValue;
 use tv_value::value::Value as _;
 

@@ -1,8 +1,8 @@
 use std::alloc::Global;
 use std::test::Fail;
+use tv_field::schema_error::SchemaError;
 use tv_options::{JsonObjectOptions, STRING, TextOptions};
 use tv_schema::schema::{Schema, SchemaBuilder};
-use tv_schema::schema_error::SchemaError;
 use tv_value::field::Field;
 
 const NAMES: [&str; 10] = [

@@ -1,10 +1,10 @@
 use serde_json::Value;
 use std::alloc::Global;
 use std::test::Fail;
+use tv_field::schema_error::SchemaError;
 use tv_options::TEXT;
 use tv_schema::json::laws::printed_schema_is_read_back;
 use tv_schema::schema::Schema;
-use tv_schema::schema_error::SchemaError;
 
 fn schema_of(alloc: Global, text: &str) -> Result<Result<Schema, SchemaError>, Fail> {
     let description = Value::from_str(alloc, text)?;

@@ -1,14 +1,14 @@
 use std::alloc::Global;
 use std::test::Fail;
+use tv_field::field_entry::{FieldEntry, is_valid_field_name};
+use tv_field::field_type::FieldType;
+use tv_field::schema_error::SchemaError;
 use tv_options::{
     BytesOptions, DateOptions, FAST, FacetOptions, INDEXED, IndexRecordOption, IpAddrOptions,
     JsonObjectOptions, NumericOptions, STORED, STRING, TEXT, TextOptions, Type,
 };
-use tv_schema::field_entry::{FieldEntry, is_valid_field_name};
-use tv_schema::field_type::FieldType;
 use tv_schema::laws::record_options_agree;
 use tv_schema::schema::{Schema, SchemaBuilder};
-use tv_schema::schema_error::SchemaError;
 use tv_value::field::Field;
 
 fn name_of(alloc: Global) -> Result<String, SchemaError> {

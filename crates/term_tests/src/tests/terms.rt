@@ -4,8 +4,9 @@ use std::hash::{DefaultHasher, Hash, Hasher};
 use std::net::Ipv6Addr;
 use std::test::Fail;
 use tv_base::Facet;
+use tv_field::FieldEntry;
 use tv_options::{JsonObjectOptions, Type};
-use tv_schema::{FieldEntry, Schema};
+use tv_schema::Schema;
 use tv_term::laws::{
     appended_fast_values_compare_as_values, appended_numbers_are_read_back,
     appended_texts_are_read_back, fast_types_are_of_eight_bytes,

@@ -2,19 +2,19 @@
 
 ghost use Rattle.std.specs.Prelude.{◌≡◌, ◌+◌, [], length, Err, IfSome, OnOk, string_bytes};
 ghost use Rattle.serde_json.specs.View.{view, items_view};
-ghost use Rattle.tv_schema.specs.Entry.{Entry};
+ghost use Rattle.tv_field.specs.Entry.{Entry};
 ghost use Rattle.tv_schema.specs.SchemaJsonEarly.{head_fault, first_fault};
 ghost use Rattle.tv_schema.specs.SchemaJsonReading.{Gives, entry_of, with_entry, with_entries, type_named};
 
-use crate::field_entry::FieldEntry;
-use crate::field_type::FieldType;
 use crate::json::members::{required_object, required_text};
 use crate::json::options::options_of;
 use crate::json::words::type_of_word;
 use crate::schema::SchemaBuilder;
-use crate::schema_error::SchemaError;
 use serde_json::Value;
 use std::alloc::Global;
+use tv_field::field_entry::FieldEntry;
+use tv_field::field_type::FieldType;
+use tv_field::schema_error::SchemaError;
 use tv_options::Type;
 
 /// A builder with the entries that the JSON values describe.

@@ -1,15 +1,15 @@
 //! Laws on the JSON of schemas.
 
 ghost use Rattle.std.specs.Prelude.{◌≡◌, List, Ok, IfOk, IfErr};
-ghost use Rattle.tv_schema.specs.Entry.{Entry};
+ghost use Rattle.tv_field.specs.Entry.{Entry};
 ghost use Rattle.tv_schema.specs.Schema.{IsSchema};
 ghost use Rattle.tv_schema.specs.SchemaJson.{schema_json};
 ghost use Rattle.tv_schema.specs.SchemaJsonReading.{schema_of};
-ghost use Rattle.tv_schema.specs.declared.schema_error.SchemaError.TheVariants.{Memory};
+ghost use Rattle.tv_field.specs.declared.schema_error.SchemaError.TheVariants.{Memory};
 
 use crate::schema::Schema;
-use crate::schema_error::SchemaError;
 use std::alloc::Global;
+use tv_field::schema_error::SchemaError;
 
 /// What is written of a schema is read as that schema.
 pub fn written_schemas_are_read_back()

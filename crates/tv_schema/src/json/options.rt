@@ -4,13 +4,13 @@ ghost use Rattle.std.specs.Prelude.{◌≡◌, IfOk};
 ghost use Rattle.serde_json.specs.View.{view, members_view};
 ghost use Rattle.tv_schema.specs.SchemaJsonOptions.{options_of, text_options_of, numeric_options_of, date_options_of, facet_options_of, bytes_options_of, json_object_options_of, ip_addr_options_of, optional_indexing, indexing_of, fieldnorms_or, fast_field_of, fast_field_or_none, required_fast_field, record_or_basic, precision_or_seconds};
 
-use crate::field_type::FieldType;
 use crate::json::members::{
     Members, bool_or, member, present, required_bool, required_text, text_or,
 };
 use crate::json::words::{precision_of_word, record_of_word};
 use serde_json::Value;
 use std::alloc::{AllocError, Global};
+use tv_field::field_type::FieldType;
 use tv_options::{
     BytesOptions, DateOptions, DateTimePrecision, FacetOptions, FastFieldTextOptions,
     IndexRecordOption, IpAddrOptions, JsonObjectOptions, NumericOptions, TextFieldIndexing,

@@ -1,6 +1,6 @@
 use Rattle.std.proofs.Common.{◌≡◌, ◌++◌, [], map, sym, ap, ◌∙◌, rules}
 use Rattle.std.proofs.lemmas.List.{append-nil}
-use Rattle.tv_doc.specs.Value.{pair_seen}
+use Rattle.tv_doc.specs.FieldValues.{pair_seen}
 use Rattle.tv_doc.proofs.document_trait.gathered.Goals as goal
 
 pub returns : goal.returns

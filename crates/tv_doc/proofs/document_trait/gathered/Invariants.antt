@@ -1,5 +1,5 @@
 use Rattle.std.proofs.Common.{◌≡◌, ◌++◌, map}
-use Rattle.tv_doc.specs.Value.{pair_seen}
+use Rattle.tv_doc.specs.FieldValues.{pair_seen}
 use Rattle.tv_doc.proofs.document_trait.gathered.Given as goal
 
 -- those that were gathered, and those that are left

@@ -1,6 +1,6 @@
 use Rattle.std.proofs.Common.{subst, sym}
 use Rattle.serde_json.specs.View.{view as data_of}
-use Rattle.tv_schema.specs.JsonAnswer.{lent_tree}
+use Rattle.tv_field.specs.JsonAnswer.{lent_tree}
 use Rattle.tv_doc.specs.Document.{document_of}
 use Rattle.tv_doc.specs.JsonObject.{FieldJson, IsRefused}
 use Rattle.tv_doc.proofs.JsonDocuments.{stops_at_one, refused_value, refused_addition}

@@ -3,7 +3,7 @@ use Rattle.tv_value.specs.Tree.{Document}
 use Rattle.tv_doc.specs.Belongs.{Belongs}
 use Rattle.tv_doc.specs.Document.{document_of}
 use Rattle.tv_doc.specs.NamedPairs.{MakesPairs}
-use Rattle.tv_doc.specs.Value.{values_of}
+use Rattle.tv_doc.specs.FieldValues.{values_of}
 use Rattle.tv_doc.specs.declared.document.CompactDoc.{CompactDoc}
 use Rattle.tv_doc.specs.declared.doc_parsing_error.DocParsingError.{DocParsingError}
 use Rattle.tv_doc.proofs.NamedBack.{names_keep_values, names_keep_all, named_pairs_belong}

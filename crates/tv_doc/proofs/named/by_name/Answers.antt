@@ -2,7 +2,7 @@ use Rattle.std.proofs.Common.{◌≡◌, ◌≤◌, ℕ, [], length, map, refl, 
 use Rattle.std.proofs.lemmas.List.{nil_from_length}
 use Rattle.tv_json.specs.Named.{named_trees}
 use Rattle.tv_doc.specs.Named.{IsNamed}
-use Rattle.tv_doc.specs.Value.{pair_seen}
+use Rattle.tv_doc.specs.FieldValues.{pair_seen}
 use Rattle.tv_doc.proofs.Grouping.{if_ok}
 use Rattle.tv_doc.proofs.Spans.{Spanned, spanned_none, spanned_start, spanned_same, spanned_next, spanned_done, span-all}
 use Rattle.tv_doc.proofs.named.by_name.Goals as goal

@@ -1,7 +1,7 @@
 use Rattle.std.proofs.Common.{◌≡◌, ◌++◌}
 use Rattle.tv_doc.specs.Document.{document_of}
 use Rattle.tv_doc.specs.SameTexts.{field_texts, texts_seen}
-use Rattle.tv_doc.specs.Value.{pairs_left}
+use Rattle.tv_doc.specs.FieldValues.{pairs_left}
 use Rattle.tv_doc.proofs.same.texts_of.Given as goal
 
 abbrev pub invariant-loop-field : goal.invariant-loop-field

@@ -1,6 +1,6 @@
 use Rattle.std.proofs.Common.{[], length, refl, sym, ap, ◌∙◌, arith}
 use Rattle.std.proofs.lemmas.List.{append-nil}
-use Rattle.tv_doc.specs.Room.{document_room}
+use Rattle.tv_heap.specs.Room.{document_room}
 use Rattle.tv_legacy.specs.Legacy.{Legacy}
 use Rattle.tv_value.specs.Short.{short_document}
 use Rattle.tv_value.specs.Spelling.{Derives}

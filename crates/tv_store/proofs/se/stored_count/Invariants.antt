@@ -1,6 +1,6 @@
 use Rattle.std.proofs.Common.{◌≡◌, ◌+◌, length}
 use Rattle.tv_doc.specs.Document.{document_of}
-use Rattle.tv_doc.specs.Value.{pairs_left}
+use Rattle.tv_doc.specs.FieldValues.{pairs_left}
 use Rattle.tv_doc.specs.Belongs.{Belongs}
 use Rattle.tv_store.specs.Stored.{stored}
 use Rattle.tv_store.proofs.se.stored_count.Given as goal

@@ -1,7 +1,7 @@
 use Rattle.std.proofs.Common.{◌≡◌, ◌∷◌, ◌++◌, sym, ap, subst, ◌∙◌}
 use Rattle.tv_base.specs.Number.{four_bytes, eight_bytes}
-use Rattle.tv_doc.specs.Encoded.{encoded_bytes, SaysTokenized}
-use Rattle.tv_doc.specs.Value.{tree_of}
+use Rattle.tv_heap.specs.Encoded.{encoded_bytes, SaysTokenized}
+use Rattle.tv_heap.specs.Value.{tree_of}
 use Rattle.tv_value.specs.Short.{short}
 use Rattle.tv_value.specs.Version.{V2}
 use Rattle.tv_store.proofs.Coded.{Writes_as}

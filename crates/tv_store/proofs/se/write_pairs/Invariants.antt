@@ -1,6 +1,6 @@
 use Rattle.tv_base.proofs.Written.{Written}
 use Rattle.tv_doc.specs.Document.{document_of}
-use Rattle.tv_doc.specs.Value.{pairs_left}
+use Rattle.tv_doc.specs.FieldValues.{pairs_left}
 use Rattle.tv_doc.specs.Belongs.{Belongs}
 use Rattle.tv_store.specs.Stored.{written_pairs}
 use Rattle.tv_store.proofs.se.write_pairs.Given as goal

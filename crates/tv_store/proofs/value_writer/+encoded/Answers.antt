@@ -2,8 +2,8 @@ use Rattle.std.proofs.Common.{◌≡◌, ◌∷◌, ◌++◌, ◌∙◌, sym, ap
 use Rattle.std.proofs.lemmas.Result.{err_from_is_err_and}
 use Rattle.tv_base.specs.Number.{vnum}
 use Rattle.tv_base.proofs.Written.{Writes_some, Writes_both, Written-step, Written-fails, Written-start}
-use Rattle.tv_doc.specs.Encoded.{encoded_bytes}
-use Rattle.tv_doc.specs.Value.{tree_of}
+use Rattle.tv_heap.specs.Encoded.{encoded_bytes}
+use Rattle.tv_heap.specs.Value.{tree_of}
 use Rattle.tv_value.specs.Short.{short, short_elements}
 use Rattle.tv_value.specs.Tree.{elements}
 use Rattle.tv_value.specs.Version.{V2}

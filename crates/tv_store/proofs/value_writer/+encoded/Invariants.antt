@@ -1,6 +1,6 @@
 use Rattle.std.proofs.Common.{suc, ◌*◌, ◌≤◌, length}
 use Rattle.tv_base.proofs.Written.{Written}
-use Rattle.tv_doc.specs.Value.{tree_of}
+use Rattle.tv_heap.specs.Value.{tree_of}
 use Rattle.tv_value.specs.Short.{short, short_elements}
 use Rattle.tv_value.specs.Tree.{elements}
 use Rattle.tv_value.specs.Version.{V2}

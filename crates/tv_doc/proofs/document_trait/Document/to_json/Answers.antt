@@ -1,7 +1,7 @@
 use Rattle.std.proofs.Common.{map, subst}
 use Rattle.tv_json.specs.Named.{named_trees}
 use Rattle.tv_doc.specs.Named.{IsNamed}
-use Rattle.tv_doc.specs.Value.{pair_seen}
+use Rattle.tv_doc.specs.FieldValues.{pair_seen}
 use Rattle.tv_doc.proofs.Grouping.{if_ok}
 use Rattle.tv_doc.proofs.Spans.{named_sorted}
 use Rattle.tv_doc.proofs.document_trait.Document.to_json.Goals as goal

@@ -20,7 +20,7 @@ returns-clause-steps c =
     let first = first_pair s.heap.now s.pairs.now c.in_ok-pair.pairs.now c.in_ok-pair.pair.now s.held.0 s.held.1 c.in_ok-pair.ensures.cases.0 in
     let v = c.new.result in
     let steps = pair_steps s.heap.now c.in_ok-pair.pair.now c.in_ok-pair.pairs.now s.held.0 first c.from_field_id-field.result.id (c.from_field_id-field.ensures ∙ c.from.ensures)
-    v.heap.now v.value_type v.address v.held c.new.ensures.heap c.new.ensures.value_type c.new.ensures.address in
+    v.held.0 c.new.ensures.tree in
     search (rules, steps)
 
 pub returns-clause-goes : goal.returns-clause-goes

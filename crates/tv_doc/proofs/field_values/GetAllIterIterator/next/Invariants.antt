@@ -1,5 +1,5 @@
 use Rattle.std.proofs.Common.{◌≡◌, ◌≤◌, length}
-use Rattle.tv_doc.specs.Value.{pairs_left, values_of, values_left}
+use Rattle.tv_doc.specs.FieldValues.{pairs_left, values_of, values_left}
 use Rattle.tv_doc.proofs.field_values.GetAllIterIterator.next.Given as goal
 
 -- the pairs that are passed over are those of other fields

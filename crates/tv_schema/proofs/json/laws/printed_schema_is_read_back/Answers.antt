@@ -2,8 +2,8 @@ use Rattle.std.proofs.Common.{◌≡◌, ◌≢◌, Ok, refl, sym, ap, ◌∙◌
 use Rattle.std.proofs.lemmas.Result.{IfOk-weaker, IfErr-weaker}
 use Rattle.serde_json.specs.View.{view}
 use Rattle.tv_schema.specs.SchemaJsonReading.{schema_of}
-use Rattle.tv_schema.specs.declared.schema_error.SchemaError.{SchemaError}
-use Rattle.tv_schema.specs.declared.schema_error.SchemaError.TheVariants.{InvalidName, DuplicateName, TooManyFields, Memory, FieldNotFound, BadJson, FloatField}
+use Rattle.tv_field.specs.declared.schema_error.SchemaError.{SchemaError}
+use Rattle.tv_field.specs.declared.schema_error.SchemaError.TheVariants.{InvalidName, DuplicateName, TooManyFields, Memory, FieldNotFound, BadJson, FloatField}
 use Rattle.tv_schema.proofs.SchemaJsonReadBack.{schema_of-schema_json}
 use Rattle.tv_schema.proofs.json.laws.printed_schema_is_read_back.Goals as goal
 

@@ -1,7 +1,7 @@
 use Rattle.std.proofs.Common.{◌≡◌, ℕ, List, ◌++◌, Option, Some, Result, Ok, Err}
 use Rattle.std.specs.Prelude.{slice_get, IfOk, string_bytes}
 use Rattle.std.specs.Option.{option_copied}
-use Rattle.tv_schema.specs.Entry.{Entry}
+use Rattle.tv_field.specs.Entry.{Entry}
 use Rattle.tv_term.specs.Reading.{ReadsText, json_path, dotted, IsFullPath}
 use Rattle.tv_term.proofs.term.Term.get_full_path.Goals as goal
 

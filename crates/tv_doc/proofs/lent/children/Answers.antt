@@ -1,8 +1,0 @@
-use Rattle.std.proofs.Common.{drop, arith}
-use Rattle.std.proofs.lemmas.List.{length-drop}
-use Rattle.tv_doc.proofs.InPlace.{last_at_most}
-use Rattle.tv_doc.proofs.lent.children.Goals as goal
-
-pub overflow_add-count : goal.overflow_add-count
-overflow_add-count c =
-    omega (arith, c.loop-byte.invariant, c.loop-byte-test.true, last_at_most c.args.list.now)

@@ -1,8 +1,0 @@
-use Rattle.std.proofs.Common.{arith}
-use Rattle.tv_doc.proofs.Writes.{wrote_bytes}
-use Rattle.tv_doc.proofs.write.write_bytes.Goals as goal
-
-pub returns-clause-ok : goal.returns-clause-ok
-returns-clause-ok c =
-    let old = c.args.heap.now in
-    wrote_bytes old.items _ c.args.content.now _ c.in_ok-push_sized.ensures.ok c.requires (omega (arith, old.ok.0, c.len-at.ensures))

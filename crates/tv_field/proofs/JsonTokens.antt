@@ -1,0 +1,103 @@
+-- Tokens that are spelled one after the other, and the view of their spelling.
+use Rattle.std.proofs.Common.{◌≡◌, ℕ, suc, codes, ◌<◌, ◌^◌, List, [], ◌∷◌, ◌++◌, take, drop, length, Option, Some, None, option_map, option_and_then, Bool, true, false, Result, Ok, Err, refl, sym, ap, ◌∙◌, arith, append_assoc, append-nil}
+use Rattle.std.specs.List.{AllByRecursion, flat_map}
+use Rattle.std.proofs.lemmas.List.{take-append-drop}
+use Rattle.serde_json.proofs.Views.{items_len-items_view}
+use Rattle.serde_json.specs.Data as json
+use Rattle.serde_json.specs.Data.{Data, Items}
+use Rattle.serde_json.specs.Events.{items_len}
+use Rattle.serde_json.specs.Find.{as_array, get}
+use Rattle.serde_json.specs.View.{items_view}
+use Rattle.serde_json.specs.declared.value.Value.{Value}
+use Rattle.tv_base.specs.Number.{vnum}
+use Rattle.tv_base.specs.Parts.{short_sized}
+use Rattle.tv_value.specs.Short.{short_token, short_tokenized, IsText, IsToken, AreTokens}
+use Rattle.tv_value.specs.Spelling.{Tokenized}
+use Rattle.tv_value.specs.Tree.{Token, tokenized}
+use Rattle.tv_value.proofs.Leaves.{agree_tokenized}
+use Rattle.tv_value.proofs.ShortSpellings.{tokenized_of}
+use Rattle.tv_field.specs.JsonTokens.{token_in, tokens_in, tokenized_in, text_at, AreTokensSpelled, IsSpelled}
+
+-- the tokens that are spelled so far, and then those of the other items
+pub record TokensSoFar (all rest : Items) (old new : List ℕ) : Type 0 where
+  pub done : List Token
+  pub parted : tokens_in all ≡ option_map (λ ts. done ++ ts) (tokens_in rest)
+  pub valid : AllByRecursion IsToken done
+  pub grown : new ≡ old ++ flat_map short_token done
+
+same_option : (o : Option (List Token)) → o ≡ option_map (λ ts. [] ++ ts) o
+same_option None = refl
+same_option (Some ts) = refl
+
+pub no_tokens_so_far : (all : Items) (old : List ℕ) → TokensSoFar all all old old
+no_tokens_so_far all old = record { done = []; parted = same_option (tokens_in all); valid = tt; grown = sym (append-nil old) }
+
+one_more_at : (done : List Token) (t : Token) (o : Option (List Token)) → option_map (λ ts. done ++ ts) (option_map (λ ts. t ∷ ts) o) ≡ option_map (λ ts. (done ++ t ∷ []) ++ ts) o
+one_more_at done t None = refl
+one_more_at done t (Some ts) = ap Some (sym (append_assoc done (t ∷ []) ts))
+
+all_and_one : (done : List Token) (t : Token) → AllByRecursion IsToken done → IsToken t → AllByRecursion IsToken (done ++ t ∷ [])
+all_and_one [] t h k = (k, tt)
+all_and_one (d ∷ ds) t h k = (h.0, all_and_one ds t h.1 k)
+
+flat_and_one : (done : List Token) (t : Token) → flat_map short_token (done ++ t ∷ []) ≡ flat_map short_token done ++ short_token t
+flat_and_one [] t = append-nil (short_token t)
+flat_and_one (d ∷ ds) t = ap (λ bs. short_token d ++ bs) (flat_and_one ds t) ∙ sym (append_assoc (short_token d) (flat_map short_token ds) (short_token t))
+
+pub one_more_token : (all rest others : Items) (d : Data) (t : Token) (old mid new : List ℕ) → TokensSoFar all rest old mid → rest ≡ json.item d others → token_in d ≡ Some t → IsToken t → new ≡ mid ++ short_token t
+    → TokensSoFar all others old new
+one_more_token all rest others d t old mid new s first is valid grown = record {
+  done = s.done ++ t ∷ [];
+  parted = s.parted ∙ ap (λ xs. option_map (λ ts. s.done ++ ts) (tokens_in xs)) first
+      ∙ ap (λ o. option_map (λ ts. s.done ++ ts) (option_and_then (λ x. option_map (λ ts. x ∷ ts) (tokens_in others)) o)) is ∙ one_more_at s.done t (tokens_in others);
+  valid = all_and_one s.done t s.valid valid;
+  grown = grown ∙ ap (λ bs. bs ++ short_token t) s.grown ∙ append_assoc old (flat_map short_token s.done) (short_token t) ∙ ap (λ bs. old ++ bs) (sym (flat_and_one s.done t));
+}
+
+pub no_token_more : (all rest others : Items) (d : Data) (old mid : List ℕ) → TokensSoFar all rest old mid → rest ≡ json.item d others → token_in d ≡ None → tokens_in all ≡ None
+no_token_more all rest others d old mid s first is =
+    s.parted ∙ ap (λ xs. option_map (λ ts. s.done ++ ts) (tokens_in xs)) first
+    ∙ ap (λ o. option_map (λ ts. s.done ++ ts) (option_and_then (λ x. option_map (λ ts. x ∷ ts) (tokens_in others)) o)) is
+
+pub all_tokens : (all rest : Items) (old new : List ℕ) → TokensSoFar all rest old new → rest ≡ json.no_items
+    → (ts : List Token) × (tokens_in all ≡ Some ts) × AllByRecursion IsToken ts × (new ≡ old ++ flat_map short_token ts)
+all_tokens all rest old new s none =
+    (s.done, s.parted ∙ ap (λ xs. option_map (λ ts. s.done ++ ts) (tokens_in xs)) none ∙ ap Some (append-nil s.done), s.valid, s.grown)
+
+-- what a front of the shortest spelling spells
+pub spelled_once : (bytes content t : List ℕ) (tokens ts : List Token) (n : ℕ) → IsText content → AreTokens tokens → bytes ≡ short_tokenized content tokens → Tokenized (take n bytes) t ts
+    → tokenized t ts ≡ tokenized content tokens
+spelled_once bytes content t tokens ts n text valid is front =
+    ((agree_tokenized t content ts tokens).agree (take n bytes) (short_tokenized content tokens) (drop n bytes) [] front (tokenized_of content tokens text valid)
+    (take-append-drop n bytes ∙ is ∙ sym (append-nil (short_tokenized content tokens)))).1
+
+unsome : {A : Type 0} (a b : A) → Some a ≡ Some b → a ≡ b
+unsome a b e = cc
+
+count_at : (o : Option Token) (p : Option (List Token)) (n : ℕ) → ((us : List Token) → p ≡ Some us → length us ≡ n) → (ts : List Token)
+    → option_and_then (λ t. option_map (λ us. t ∷ us) p) o ≡ Some ts → length ts ≡ suc n
+count_at None p n h ts e = absurd (cc)
+count_at (Some t) None n h ts e = absurd (cc)
+count_at (Some t) (Some us) n h ts e = ap length (sym (unsome (t ∷ us) ts e)) ∙ ap suc (h us refl)
+
+tokens_count : (items : Items) (ts : List Token) → tokens_in items ≡ Some ts → length ts ≡ items_len items
+tokens_count json.no_items ts e = ap length (sym (unsome [] ts e))
+tokens_count (json.item d ds) ts e = count_at (token_in d) (tokens_in ds) (items_len ds) (tokens_count ds) ts e
+
+-- a text and its tokens, spelled one after the other
+pub spelled_all : {E : Type 0} (d : Data) (content : List ℕ) (items : List Value) (mid new : List ℕ) (r : Result Bool E) → text_at (codes "text") d ≡ Some content
+    → option_and_then as_array (get (codes "tokens") d) ≡ Some (items_view items) → IsText content → length items < 2 ^ 63 → mid ≡ short_sized content ++ vnum (length items)
+    → AreTokensSpelled (items_view items) mid new r → IsSpelled d new r
+unfolding tokenized_in
+spelled_all d content items mid new (Ok true) named listed text few start (ts, is, valid, grown) =
+    let count : length ts ≡ length items = tokens_count (items_view items) ts is ∙ items_len-items_view items in
+    let few_tokens : length ts < 2 ^ 63 = omega arith in (
+      content,
+      ts,
+      rw (named, listed, is),
+      text,
+      record { count = few_tokens; each = valid },
+      grown ∙ ap (λ bs. bs ++ flat_map short_token ts) (start ∙ ap (λ n. short_sized content ++ vnum n) (sym count)) ∙ append_assoc (short_sized content) (vnum (length ts)) (flat_map short_token ts),
+    )
+spelled_all d content items mid new (Ok false) named listed text few start none = rw (named, listed, none)
+spelled_all d content items mid new (Err e) named listed text few start h = tt

@@ -1,0 +1,65 @@
+-- What is answered for a JSON value by the table of a field type.
+use Rattle.std.specs.Prelude.{◌≡◌, ℕ, List, [], Option, Some, None, Result, Ok, Err, IfSome, string_bytes}
+use Rattle.serde_json.specs.Data as json
+use Rattle.serde_json.specs.Data.{Data}
+use Rattle.serde_json.specs.View.{view}
+use Rattle.tv_value.specs.JsonTree.{lent_json_tree}
+use Rattle.tv_value.specs.Lent.{leaf_of}
+use Rattle.tv_value.specs.Owned.{owned_tree}
+use Rattle.tv_value.specs.Tree.{Tree, leaf}
+use Rattle.tv_value.specs.declared.leaf.ReferenceValueLeaf.{ReferenceValueLeaf}
+use Rattle.tv_value.specs.declared.owned_value.OwnedValue.{OwnedValue}
+use Rattle.tv_field.specs.JsonTable.{Refusal, overflow, mismatch, bad_text, bad_base64, float_number, Outcome}
+use Rattle.tv_field.specs.declared.json_value.JsonRefusal.{JsonRefusal}
+use Rattle.tv_field.specs.declared.json_value.JsonRefusal.TheVariants as refusal
+use Rattle.tv_field.specs.declared.json_value.LentFieldValue.{LentFieldValue}
+use Rattle.tv_field.specs.declared.json_value.LentFieldValue.TheVariants as lent
+use Rattle.tv_field.specs.declared.value_parsing_error.ValueParsingError.{ValueParsingError}
+use Rattle.tv_field.specs.declared.value_parsing_error.ValueParsingError.TheVariants as error
+
+-- the tree of what is lent
+abbrev pub lent_tree : LentFieldValue → Tree
+lent_tree (lent.Leaf l) = leaf (leaf_of l)
+lent_tree (lent.Object o) = lent_json_tree o.json.now
+
+-- a text, and of another value none
+abbrev pub text_in : Data → List ℕ
+text_in (json.string s) = s
+text_in d = []
+
+-- what a refusal says of the value, where it isn't for want of memory
+abbrev pub refusal_of : Data → JsonRefusal → Option Refusal
+refusal_of d (refusal.Overflow expected) = Some (overflow expected.now d)
+refusal_of d (refusal.Mismatch expected) = Some (mismatch expected.now d)
+refusal_of d (refusal.Parse cause) = Some (bad_text cause d)
+refusal_of d refusal.InvalidBase64 = Some (bad_base64 (text_in d))
+refusal_of d refusal.FloatNumber = Some float_number
+refusal_of d refusal.Memory = None
+
+-- the outcome for the value that was lent satisfies P, unless memory was refused
+abbrev pub Lends : Data → (Outcome → Type 0) → Result LentFieldValue JsonRefusal → Type 0
+Lends d P (Ok found) = P (Ok (lent_tree found))
+Lends d P (Err e) = IfSome (refusal_of d e) (λ r. P (Err r))
+
+-- the same of an error that holds the value
+abbrev pub error_of : ValueParsingError → Option Refusal
+error_of (error.OverflowError expected value) = Some (overflow expected.now (view value))
+error_of (error.TypeError expected value) = Some (mismatch expected.now (view value))
+error_of (error.ParseError cause value) = Some (bad_text cause (view value))
+error_of (error.InvalidBase64 text) = Some (bad_base64 (string_bytes text))
+error_of error.FloatNumber = Some float_number
+error_of error.Memory = None
+
+-- and of a value that is owned
+abbrev pub Answers : (Outcome → Type 0) → Result OwnedValue ValueParsingError → Type 0
+Answers P (Ok made) = P (Ok (owned_tree made))
+Answers P (Err e) = IfSome (error_of e) (λ r. P (Err r))
+
+-- and of a value without children that is lent
+abbrev pub LendsLeaf : Data → (Outcome → Type 0) → Result ReferenceValueLeaf JsonRefusal → Type 0
+LendsLeaf d P (Ok found) = P (Ok (leaf (leaf_of found)))
+LendsLeaf d P (Err e) = IfSome (refusal_of d e) (λ r. P (Err r))
+
+-- the error says what the refusal says of the value
+abbrev pub Refuses : Data → JsonRefusal → ValueParsingError → Type 0
+Refuses d r e = error_of e ≡ refusal_of d r

@@ -1,0 +1,4 @@
+pub mod Entry
+pub mod JsonTokens
+pub mod JsonTable
+pub mod JsonAnswer

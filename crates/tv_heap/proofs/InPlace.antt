@@ -1,0 +1,290 @@
+-- What stands in a heap is what the store has behind a value's code.
+use Rattle.std.proofs.Common.{inl, inr, append_assoc, take-append-drop, ◌≡◌, ◌≢◌, ℕ, ◌+◌, ◌*◌, ◌-◌, ◌/◌, ◌%◌, ◌^◌, ◌<◌, ◌≤◌, suc, ℤ, Bool, not, nat_eq, true, false, List, [], ◌∷◌, ◌++◌, ◌↔◌, length, take, drop, refl, sym, ◌∙◌, ap, subst, arith}
+use Rattle.std.specs.Int.{w64, cast_unsigned}
+use Rattle.std.specs.List.{filter}
+use Rattle.std.proofs.lemmas.Bool.{cases_lt, cond-true, cond-false, lt-ltb, le-ltb}
+use Rattle.std.proofs.lemmas.List.{length-append}
+use Rattle.std.proofs.lemmas.List.Elements.{filter-append}
+use Rattle.std.proofs.Math.Logic.{∥∥₁_elim, ∥∥₁_map}
+use Rattle.std.proofs.Math.Seq.{take-append_seam}
+use mathlib.Core.HLevel.{⊥_prop}
+use base.Stored.{Coded-set}
+use Rattle.tv_base.specs.Number.{Groups, last, more, vnum, low_bytes, eight_bytes, sixteen_bytes, truth_byte, Fixed, no_bytes, low_byte, Signed}
+use Rattle.tv_base.specs.Parts.{short_sized}
+use Rattle.tv_base.proofs.Numbers.{vnum_spells, length-fixed}
+use Rattle.tv_value.specs.Short.{short, short_elements, short_entries, short_tokenized}
+use Rattle.tv_value.specs.Tree.{Token, Leaf, null, text, unsigned, signed, boolean, date, facet, bytes, ip_address, tokenized, Tree, leaf, array, object, Elements, no_elements, element, elements, element_list, element_count, Entries, no_entries, entry, entry_count}
+use Rattle.tv_value.specs.TreeCode.{coded_text}
+use Rattle.tv_value.specs.Version.{V2}
+use Rattle.tv_heap.specs.Encoded.{IsTokenized, is_last, last_bytes}
+use Rattle.tv_heap.specs.Held.{Held, HeldElements}
+use Rattle.tv_heap.specs.Reads.{Stands, ShortSized, ShortText, ShortTokenized, flag, Reads, ReadsElements, ReadsEntries}
+use Rattle.tv_heap.specs.ReadsLaws.{leaf_type_small}
+use Rattle.tv_value.proofs.Leaves.{agree_tokenized}
+use Rattle.tv_value.specs.Spelling.{Tokenized}
+use Rattle.tv_heap.proofs.Lends.{text_sized, stands_behind, tokenized_stands}
+use Rattle.tv_heap.proofs.Shapes.{GivesSized, flag_is, elements_listed, same_elements, children_are}
+
+-- ---- the last bytes of numbers
+
+pub last_more : (b : ℕ) (bs : List ℕ) → 128 ≤ b → last_bytes (b ∷ bs) ≡ suc (last_bytes bs)
+last_more b bs h = ap length (cond-true (is_last b) (b ∷ filter is_last bs) (filter is_last bs) (ap not (le-ltb b 128 h)))
+
+pub last_same : (b : ℕ) (bs : List ℕ) → b < 128 → last_bytes (b ∷ bs) ≡ last_bytes bs
+last_same b bs h = ap length (cond-false (is_last b) (b ∷ filter is_last bs) (filter is_last bs) (ap not (lt-ltb b 128 h)))
+
+last_append : (a b : List ℕ) → last_bytes (a ++ b) ≡ last_bytes a + last_bytes b
+last_append a b = ap length (filter-append is_last a b) ∙ length-append (filter is_last a) (filter is_last b)
+
+-- there are no more than bytes
+pub last_at_most : (bs : List ℕ) → last_bytes bs ≤ length bs
+last_at_most [] = omega arith
+last_at_most (b ∷ bs) =
+    elim (cases_lt b 128) [
+      | inl p ↦ omega (arith, last_same b bs p, last_at_most bs)
+      | inr p ↦ omega (arith, last_more b bs p, last_at_most bs)
+    ]
+
+groups_last : {bytes : List ℕ} {n : ℕ} → Groups bytes n → last_bytes bytes ≡ 1
+groups_last (last {n = n} p) = last_more (n + 128) [] (omega arith)
+groups_last (more {b = b} {bytes = bs} p g) = last_same b bs p ∙ groups_last g
+
+number_last : (n : ℕ) → n < 2 ^ 32 → last_bytes (vnum n) ≡ 1
+number_last n h = groups_last (vnum_spells n (omega (arith, h))).groups
+
+code_small : (heap : List ℕ) (code at : ℕ) (t : Tree) → Reads heap code at t → code < 128
+code_small heap code at (leaf l) r = omega (arith, r.0, leaf_type_small l)
+code_small heap code at (array ts) r = omega (arith, r.0)
+code_small heap code at (object es) r = omega (arith, r.0)
+
+child_last : (code at : ℕ) (rest whole : List ℕ) → code < 128 → at < 2 ^ 32 → whole ≡ code ∷ (vnum at ++ rest) → last_bytes whole ≡ suc (last_bytes rest)
+child_last code at rest whole small fits joined = omega (arith, ap last_bytes joined, last_same code (vnum at ++ rest) small, last_append (vnum at) rest, number_last at fits)
+
+elements_last : (heap : List ℕ) (parent : ℕ) (whole : List ℕ) (ts : Elements) → ReadsElements heap parent whole ts → last_bytes whole ≡ element_count ts
+elements_last heap parent whole no_elements r = ap last_bytes r
+elements_last heap parent whole (element t ts) r =
+    child_last r.code r.at r.rest whole (code_small heap r.code r.at t r.reads) r.fits r.joined ∙ ap suc (elements_last heap parent r.rest ts r.others)
+
+-- ---- an object's keys and values in turn
+
+abbrev flat : Entries → Elements
+flat no_entries = no_elements
+flat (entry k t es) = element (leaf (text k)) (element t (flat es))
+
+flat_reads : (heap : List ℕ) (parent : ℕ) (whole : List ℕ) (es : Entries) → ReadsEntries heap parent whole es → ReadsElements heap parent whole (flat es)
+flat_reads heap parent whole no_entries r = r
+flat_reads heap parent whole (entry k t es) r = record {
+  code = r.code;
+  at = r.at;
+  rest = r.rest;
+  joined = r.joined;
+  fits = r.fits;
+  below = r.below;
+  reads = r.reads;
+  others = record {
+    code = r.others.code;
+    at = r.others.at;
+    rest = r.others.rest;
+    joined = r.others.joined;
+    fits = r.others.fits;
+    below = r.others.below;
+    reads = r.others.reads;
+    others = flat_reads heap parent r.others.rest es r.others.others;
+  };
+}
+
+flat_count : (es : Entries) → element_count (flat es) ≡ 2 * entry_count es
+flat_count no_entries = refl
+flat_count (entry k t es) = omega (arith, flat_count es)
+
+flat_short : (es : Entries) → short_elements V2 (flat es) ≡ short_entries V2 es
+flat_short no_entries = refl
+flat_short (entry k t es) = ap (λ z. (0 ∷ short_sized k) ++ (short V2 t ++ z)) (flat_short es)
+
+-- ---- values
+
+by_bytes : (heap : List ℕ) (code at : ℕ) (h : Held heap code at) (x : List ℕ) → (Reads heap code at h.0 → x ≡ short V2 h.0) → x ≡ short V2 h.0
+by_bytes heap code at h x f = ∥∥₁_elim h.1 (Coded-set coded_text x (short V2 h.0)) f
+
+-- what `spelled_at` promises
+abbrev GivesSpelled : List ℕ → ℕ → List ℕ → Type 0
+GivesSpelled heap at x = (s : List ℕ) → Stands heap at (λ w. ShortSized s w) → x ≡ short_sized s
+
+-- what `eight_at` promises
+abbrev GivesNumber : List ℕ → ℕ → ℕ → Type 0
+GivesNumber heap at x = (n : ℕ) → Stands heap at (λ w. Fixed 8 w n) → x ≡ n
+
+null_tree : (heap : List ℕ) (code at : ℕ) (t : Tree) → code ≡ 0 → Reads heap code at t → 11 ∷ [] ≡ short V2 t
+null_tree heap code at (leaf null) e r = refl
+null_tree heap code at _ e r = absurd (omega (arith, r.0))
+
+pub null_bytes : (heap : List ℕ) (code at : ℕ) (h : Held heap code at) → code ≡ 0 → 11 ∷ [] ≡ short V2 h.0
+null_bytes heap code at h e = by_bytes heap code at h _ (null_tree heap code at h.0 e)
+
+text_tree : (heap : List ℕ) (code at : ℕ) (t : Tree) (x : List ℕ) → code ≡ 1 → GivesSpelled heap at x → Reads heap code at t → 0 ∷ x ≡ short V2 t
+text_tree heap code at (leaf (text s)) x e is r = ap (λ z. 0 ∷ z) (is s (text_sized heap at s r.1))
+text_tree heap code at _ x e is r = absurd (omega (arith, r.0))
+
+pub text_bytes : (heap : List ℕ) (code at : ℕ) (h : Held heap code at) (x : List ℕ) → code ≡ 1 → GivesSpelled heap at x → 0 ∷ x ≡ short V2 h.0
+text_bytes heap code at h x e is = by_bytes heap code at h _ (text_tree heap code at h.0 x e is)
+
+unsigned_tree : (heap : List ℕ) (code at : ℕ) (t : Tree) (x : ℕ) → code ≡ 2 → GivesNumber heap at x → Reads heap code at t → 1 ∷ eight_bytes x ≡ short V2 t
+unsigned_tree heap code at (leaf (unsigned n)) x e is r = ap (λ z. 1 ∷ eight_bytes z) (is n r.1)
+unsigned_tree heap code at _ x e is r = absurd (omega (arith, r.0))
+
+pub unsigned_bytes : (heap : List ℕ) (code at : ℕ) (h : Held heap code at) (x : ℕ) → code ≡ 2 → GivesNumber heap at x → 1 ∷ eight_bytes x ≡ short V2 h.0
+unsigned_bytes heap code at h x e is = by_bytes heap code at h _ (unsigned_tree heap code at h.0 x e is)
+
+-- the eight bytes of a signed number are a number's
+pattern_is : (heap : List ℕ) (at x : ℕ) (z : ℤ) → GivesNumber heap at x → Stands heap at (λ w. Signed w z) → x ≡ cast_unsigned w64 z
+pattern_is heap at x z is p = is _ (record { before = p.before; whole = p.whole; behind = p.behind; joined = p.joined; place = p.place; stands = p.stands.spelled })
+
+signed_tree : (heap : List ℕ) (code at : ℕ) (t : Tree) (x : ℕ) → code ≡ 3 → GivesNumber heap at x → Reads heap code at t → 2 ∷ eight_bytes x ≡ short V2 t
+signed_tree heap code at (leaf (signed z)) x e is r = ap (λ n. 2 ∷ eight_bytes n) (pattern_is heap at x z is r.1)
+signed_tree heap code at _ x e is r = absurd (omega (arith, r.0))
+
+pub signed_bytes : (heap : List ℕ) (code at : ℕ) (h : Held heap code at) (x : ℕ) → code ≡ 3 → GivesNumber heap at x → 2 ∷ eight_bytes x ≡ short V2 h.0
+signed_bytes heap code at h x e is = by_bytes heap code at h _ (signed_tree heap code at h.0 x e is)
+
+date_tree : (heap : List ℕ) (code at : ℕ) (t : Tree) (x : ℕ) → code ≡ 5 → GivesNumber heap at x → Reads heap code at t → 5 ∷ eight_bytes x ≡ short V2 t
+date_tree heap code at (leaf (date z)) x e is r = ap (λ n. 5 ∷ eight_bytes n) (pattern_is heap at x z is r.1)
+date_tree heap code at _ x e is r = absurd (omega (arith, r.0))
+
+pub date_bytes : (heap : List ℕ) (code at : ℕ) (h : Held heap code at) (x : ℕ) → code ≡ 5 → GivesNumber heap at x → 5 ∷ eight_bytes x ≡ short V2 h.0
+date_bytes heap code at h x e is = by_bytes heap code at h _ (date_tree heap code at h.0 x e is)
+
+facet_tree : (heap : List ℕ) (code at : ℕ) (t : Tree) (x : List ℕ) → code ≡ 6 → GivesSpelled heap at x → Reads heap code at t → 3 ∷ x ≡ short V2 t
+facet_tree heap code at (leaf (facet s)) x e is r = ap (λ z. 3 ∷ z) (is s (text_sized heap at s r.1))
+facet_tree heap code at _ x e is r = absurd (omega (arith, r.0))
+
+pub facet_bytes : (heap : List ℕ) (code at : ℕ) (h : Held heap code at) (x : List ℕ) → code ≡ 6 → GivesSpelled heap at x → 3 ∷ x ≡ short V2 h.0
+facet_bytes heap code at h x e is = by_bytes heap code at h _ (facet_tree heap code at h.0 x e is)
+
+bytes_tree : (heap : List ℕ) (code at : ℕ) (t : Tree) (x : List ℕ) → code ≡ 7 → GivesSpelled heap at x → Reads heap code at t → 4 ∷ x ≡ short V2 t
+bytes_tree heap code at (leaf (bytes s)) x e is r = ap (λ z. 4 ∷ z) (is s r.1)
+bytes_tree heap code at _ x e is r = absurd (omega (arith, r.0))
+
+pub bytes_bytes : (heap : List ℕ) (code at : ℕ) (h : Held heap code at) (x : List ℕ) → code ≡ 7 → GivesSpelled heap at x → 4 ∷ x ≡ short V2 h.0
+bytes_bytes heap code at h x e is = by_bytes heap code at h _ (bytes_tree heap code at h.0 x e is)
+
+address_tree : (heap : List ℕ) (code at : ℕ) (t : Tree) (x : List ℕ) → code ≡ 8 → ((n : ℕ) → Stands heap at (λ w. Fixed 16 w n) → x ≡ sixteen_bytes n) → Reads heap code at t → 10 ∷ x ≡ short V2 t
+address_tree heap code at (leaf (ip_address n)) x e is r = ap (λ z. 10 ∷ z) (is n r.1)
+address_tree heap code at _ x e is r = absurd (omega (arith, r.0))
+
+pub address_bytes : (heap : List ℕ) (code at : ℕ) (h : Held heap code at) (x : List ℕ) → code ≡ 8 → ((n : ℕ) → Stands heap at (λ w. Fixed 16 w n) → x ≡ sixteen_bytes n) → 10 ∷ x ≡ short V2 h.0
+address_bytes heap code at h x e is = by_bytes heap code at h _ (address_tree heap code at h.0 x e is)
+
+boolean_tree : (heap : List ℕ) (code at : ℕ) (t : Tree) → code ≡ 9 → Reads heap code at t → 9 ∷ truth_byte (not (nat_eq at 0)) ≡ short V2 t
+boolean_tree heap code at (leaf (boolean b)) e r = ap (λ z. 9 ∷ truth_byte z) (flag_is b at r.1)
+boolean_tree heap code at _ e r = absurd (omega (arith, r.0))
+
+pub boolean_bytes : (heap : List ℕ) (code at : ℕ) (h : Held heap code at) → code ≡ 9 → 9 ∷ truth_byte (not (nat_eq at 0)) ≡ short V2 h.0
+boolean_bytes heap code at h e = by_bytes heap code at h _ (boolean_tree heap code at h.0 e)
+
+-- what `spelled_tokens_at` promises
+abbrev GivesSpelledTokens : List ℕ → ℕ → List ℕ → Type 0
+GivesSpelledTokens heap at x = (s : List ℕ) (ts : List Token) → Stands heap at (λ w. ShortTokenized s ts w) → x ≡ short_tokenized s ts
+
+tokenized_tree : (heap : List ℕ) (code at : ℕ) (t : Tree) (x : List ℕ) → code ≡ 10 → GivesSpelledTokens heap at x → Reads heap code at t → 7 ∷ 0 ∷ x ≡ short V2 t
+tokenized_tree heap code at (leaf (tokenized s ts)) x e is r = ap (λ z. 7 ∷ 0 ∷ z) (is s ts r.1)
+tokenized_tree heap code at _ x e is r = absurd (omega (arith, r.0))
+
+pub tokenized_bytes : (heap : List ℕ) (code at : ℕ) (h : Held heap code at) (x : List ℕ) → code ≡ 10 → GivesSpelledTokens heap at x → 7 ∷ 0 ∷ x ≡ short V2 h.0
+tokenized_bytes heap code at h x e is = by_bytes heap code at h _ (tokenized_tree heap code at h.0 x e is)
+
+-- ---- lists
+
+pub array_bytes : (heap : List ℕ) (code at : ℕ) (t : Tree) → ∥ Reads heap code at t ∥₁ → code ≡ 12 → (list : List ℕ) → GivesSized heap at list → (n : ℕ) → n ≡ last_bytes list → (x : HeldElements heap list)
+    → 12 ∷ (vnum n ++ short_elements V2 (elements x.0)) ≡ short V2 t
+array_bytes heap code at (array ts) h e list is n counted x =
+    let same = children_are heap code at ts h e list is x in
+    ∥∥₁_elim h (Coded-set coded_text (12 ∷ (vnum n ++ short_elements V2 (elements x.0))) (short V2 (array ts)))
+    (λ r.
+    let number : n ≡ element_count ts = counted ∙ ap last_bytes (is r.1.list r.1.stands) ∙ elements_last heap at r.1.list ts r.1.children in
+    λ i. 12 ∷ (vnum (number i) ++ short_elements V2 (same i)))
+array_bytes heap code at (leaf l) h e list is n counted x = absurd (∥∥₁_elim h ⊥_prop (λ r. omega (arith, r.0, leaf_type_small l)))
+array_bytes heap code at (object es) h e list is n counted x = absurd (∥∥₁_elim h ⊥_prop (λ r. omega (arith, r.0)))
+
+pub object_children : (heap : List ℕ) (code at : ℕ) (t : Tree) → ∥ Reads heap code at t ∥₁ → code ≡ 11 → (list : List ℕ) → GivesSized heap at list → HeldElements heap list
+object_children heap code at (object es) h e list is = (
+  element_list (flat es),
+  ∥∥₁_map h
+      (λ r. (
+        at,
+        subst (λ z. ReadsElements heap at z (elements (element_list (flat es)))) (sym (is r.1.list r.1.stands))
+            (subst (λ u. ReadsElements heap at r.1.list u) (sym (elements_listed (flat es))) (flat_reads heap at r.1.list es r.1.children)),
+      )),
+)
+object_children heap code at (leaf l) h e list is = absurd (∥∥₁_elim h ⊥_prop (λ r. omega (arith, r.0, leaf_type_small l)))
+object_children heap code at (array ts) h e list is = absurd (∥∥₁_elim h ⊥_prop (λ r. omega (arith, r.0)))
+
+pub object_bytes : (heap : List ℕ) (code at : ℕ) (t : Tree) → ∥ Reads heap code at t ∥₁ → code ≡ 11 → (list : List ℕ) → GivesSized heap at list → (n : ℕ) → n ≡ last_bytes list → (x : HeldElements heap list)
+    → 13 ∷ (vnum n ++ short_elements V2 (elements x.0)) ≡ short V2 t
+unfolding object_children
+object_bytes heap code at (object es) h e list is n counted x =
+    let same : elements x.0 ≡ flat es = ap elements (same_elements heap list x (object_children heap code at (object es) h e list is)) ∙ elements_listed (flat es) in
+    ∥∥₁_elim h (Coded-set coded_text (13 ∷ (vnum n ++ short_elements V2 (elements x.0))) (short V2 (object es)))
+    (λ r.
+    let number : n ≡ 2 * entry_count es = counted ∙ ap last_bytes (is r.1.list r.1.stands) ∙ elements_last heap at r.1.list (flat es) (flat_reads heap at r.1.list es r.1.children) ∙ flat_count es in
+    (λ i. 13 ∷ (vnum (number i) ++ short_elements V2 (same i))) ∙ ap (λ z. 13 ∷ (vnum (2 * entry_count es) ++ z)) (flat_short es))
+object_bytes heap code at (leaf l) h e list is n counted x = absurd (∥∥₁_elim h ⊥_prop (λ r. omega (arith, r.0, leaf_type_small l)))
+object_bytes heap code at (array ts) h e list is n counted x = absurd (∥∥₁_elim h ⊥_prop (λ r. omega (arith, r.0)))
+
+-- ---- texts with their tokens
+
+has_tokens : (heap : List ℕ) (code at : ℕ) (t : Tree) → code ≡ 10 → Reads heap code at t → IsTokenized t
+has_tokens heap code at (leaf (tokenized s ts)) e r = tt
+has_tokens heap code at _ e r = absurd (omega (arith, r.0))
+
+tokenized_prop : (t : Tree) → IsProp (IsTokenized t)
+tokenized_prop (leaf (tokenized s ts)) x y = refl
+tokenized_prop _ x y = absurd x
+
+pub with_tokens : (heap : List ℕ) (code at : ℕ) (h : Held heap code at) → code ≡ 10 → Unit {0} ↔ IsTokenized h.0
+with_tokens heap code at h e = (λ u. ∥∥₁_elim h.1 (tokenized_prop h.0) (has_tokens heap code at h.0 e), λ t. tt)
+
+not_tokens : (heap : List ℕ) (code at : ℕ) (t : Tree) → code ≢ 10 → Reads heap code at t → IsTokenized t → ⊥
+not_tokens heap code at (leaf (tokenized s ts)) e r is = e r.0
+not_tokens heap code at _ e r is = is
+
+pub without_tokens : (heap : List ℕ) (code at : ℕ) (h : Held heap code at) → code ≢ 10 → ⊥ ↔ IsTokenized h.0
+without_tokens heap code at h e = (λ x. absurd x, λ t. ∥∥₁_elim h.1 ⊥_prop (λ r. not_tokens heap code at h.0 e r t))
+
+-- ---- bytes at an address
+
+fixed_is : {k : ℕ} {bs : List ℕ} {n : ℕ} → Fixed k bs n → bs ≡ low_bytes k n
+fixed_is no_bytes = refl
+fixed_is (low_byte {k = k} {b = b} {high = high} p f) =
+    let low : b ≡ (b + 256 * high) % 256 = omega arith in
+    let above : high ≡ (b + 256 * high) / 256 = omega arith in
+    λ i. low i ∷ (fixed_is f ∙ ap (low_bytes k) above) i
+
+front_is : (heap : List ℕ) (at : ℕ) (P : List ℕ → Type 0) (p : Stands heap at P) (behind front : List ℕ) (n : ℕ) → behind ≡ drop at heap → front ≡ take n behind → n ≡ length p.whole → front ≡ p.whole
+front_is heap at P p behind front n e f l = f ∙ (λ i. take (l i) ((e ∙ stands_behind heap at P p) i)) ∙ take-append_seam p.whole p.behind
+
+pub sixteen_is : (heap behind front : List ℕ) (at n : ℕ) → Stands heap at (λ w. Fixed 16 w n) → behind ≡ drop at heap → front ≡ take 16 behind → front ≡ sixteen_bytes n
+unfolding sixteen_bytes
+sixteen_is heap behind front at n p e f = front_is heap at _ p behind front 16 e f (sym (length-fixed p.stands)) ∙ fixed_is p.stands
+
+-- the length before the bytes, and as many bytes as it says
+pub spelled_is : (heap behind rest front : List ℕ) (at len n : ℕ) (s : List ℕ) → Stands heap at (λ w. ShortSized s w) → behind ≡ drop at heap
+    → ((m : ℕ) (r : List ℕ) → m < 2 ^ 64 → behind ≡ vnum m ++ r → (len ≡ m) × (rest ≡ r)) → n ≡ length behind - length rest + len → front ≡ take n behind → front ≡ short_sized s
+spelled_is heap behind rest front at len n s p e is count f =
+    let parts : behind ≡ vnum (length s) ++ (s ++ p.behind) = e ∙ stands_behind heap at _ p ∙ ap (λ z. z ++ p.behind) p.stands.is ∙ append_assoc (vnum (length s)) s p.behind in
+    let found = is (length s) (s ++ p.behind) (omega (arith, p.stands.fits)) parts in
+    let whole : n ≡ length p.whole =
+    omega (arith, count, found.0, ap length found.1, ap length parts, length-append (vnum (length s)) (s ++ p.behind), length-append s p.behind, ap length p.stands.is, length-append (vnum (length s)) s) in
+    front_is heap at _ p behind front n e f whole ∙ p.stands.is
+
+pub spelled_short : {A : Type 0} (heap behind rest : List ℕ) (at len : ℕ) (s : List ℕ) → Stands heap at (λ w. ShortSized s w) → behind ≡ drop at heap
+    → ((m : ℕ) (r : List ℕ) → m < 2 ^ 64 → behind ≡ vnum m ++ r → (len ≡ m) × (rest ≡ r)) → length rest < len → A
+spelled_short heap behind rest at len s p e is short =
+    let parts : behind ≡ vnum (length s) ++ (s ++ p.behind) = e ∙ stands_behind heap at _ p ∙ ap (λ z. z ++ p.behind) p.stands.is ∙ append_assoc (vnum (length s)) s p.behind in
+    let found = is (length s) (s ++ p.behind) (omega (arith, p.stands.fits)) parts in
+    absurd (omega (arith, found.0, ap length found.1, length-append s p.behind))
+
+pub tokens_is : (heap behind front : List ℕ) (at n : ℕ) (t s : List ℕ) (ts ss : List Token) → Stands heap at (λ w. ShortTokenized s ss w) → behind ≡ drop at heap → Tokenized (take n behind) t ts → front ≡ take n behind
+    → front ≡ short_tokenized s ss
+tokens_is heap behind front at n t s ts ss p e found f =
+    let joined : take n behind ++ drop n behind ≡ p.whole ++ p.behind = take-append-drop n behind ∙ e ∙ stands_behind heap at _ p in
+    f ∙ ((agree_tokenized t s ts ss).agree (take n behind) p.whole (drop n behind) p.behind found (tokenized_stands heap at s ss p) joined).0 ∙ p.stands.is

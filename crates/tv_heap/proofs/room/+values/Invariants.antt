@@ -1,0 +1,36 @@
+use Rattle.std.proofs.Common.{◌≡◌, ◌+◌, ◌*◌, ◌<◌, ◌≤◌, ◌^◌}
+use Rattle.tv_value.specs.Lent.{nested_tree}
+use Rattle.tv_value.specs.Size.{size, elements_size, entries_size}
+use Rattle.tv_value.specs.Tree.{elements, entries}
+use Rattle.tv_heap.specs.Room.{elements_room, entries_room}
+use Rattle.tv_heap.proofs.room.+values.Given as goal
+
+-- each child is smaller
+abbrev pub decreases-value_above : goal.decreases-value_above
+decreases-value_above g l = size (nested_tree g.N.Nested.array_rest g.N.Nested.object_rest l.value)
+
+abbrev pub decreases-items_above : goal.decreases-items_above
+decreases-items_above g l = elements_size (elements (g.N.Nested.array_rest l.items))
+
+abbrev pub decreases-members_above : goal.decreases-members_above
+decreases-members_above g l = entries_size (entries (g.N.Nested.object_rest l.members))
+
+abbrev pub invariant-items_above-loop-item : goal.invariant-items_above-loop-item
+invariant-items_above-loop-item g l =
+    let all = elements (g.N.Nested.array_rest l.fn.items) in
+    let rest = elements (g.N.Nested.array_rest l.item-iterator) in
+    record {
+      fits : l.total < 2 ^ 32;
+      sum : l.total + elements_room rest ≡ l.fn.base + elements_room all;
+      smaller : elements_size rest ≤ elements_size all;
+    }
+
+abbrev pub invariant-members_above-loop-key : goal.invariant-members_above-loop-key
+invariant-members_above-loop-key g l =
+    let all = entries (g.N.Nested.object_rest l.fn.members) in
+    let rest = entries (g.N.Nested.object_rest l.key-iterator) in
+    record {
+      fits : l.total < 2 ^ 32;
+      sum : l.total + entries_room rest ≡ l.fn.base + entries_room all;
+      smaller : entries_size rest ≤ entries_size all;
+    }

@@ -1,0 +1,71 @@
+use Rattle.std.proofs.Common.{◌++◌, ◌∷◌, [], length, refl, ap, sym, ◌∙◌, arith, rules, append-nil}
+use Rattle.tv_base.specs.Number.{vnum}
+use Rattle.tv_base.specs.Parts.{short_sized}
+use Rattle.tv_value.specs.Tree.{array, object, elements, entries}
+use Rattle.tv_heap.specs.TypeCode.{type_code}
+use Rattle.tv_heap.proofs.Lists.{array_start, array_step, wrote_array, object_start, object_step, object_next, wrote_object, place_added, places_behind}
+use Rattle.tv_heap.proofs.write.+values.Goals as goal
+
+pub write_array-loop-item-init : goal.write_array-loop-item-init
+write_array-loop-item-init g t c =
+    let whole = ap (λ s. array (elements (g.N.Nested.array_rest s))) c.into_iter-item-iterator.ensures.into_iter_gives in
+    ([], sym (append-nil c.args.places.now.items), array_start _ _ _ _ refl whole)
+
+pub write_array-loop-item-preserved : goal.write_array-loop-item-preserved
+write_array-loop-item-preserved g t c =
+    let l = c.loop-item in
+    let list = l.invariant.0 in
+    let x = c.in_ok-code in
+    let step = g.met.N.Nested.array_steps _ _ _ c.in-Some.ensures.steps in
+    let more = type_code x.code ∷ vnum x.address in (
+      list ++ more,
+      place_added c.args.places.now.items l.places.items list _ _ more l.invariant.1 x.ensures.places c.in_ok-push_place.ensures,
+      array_step c.args.heap.now.items l.heap.items list _ _ _ _ _ _ _ _ l.invariant.2 (step ∙ ap (λ z. z ∷ g.N.Nested.array_rest c.next.new.self) (sym c.as_nested.ensures)) x.ensures.ok refl,
+    )
+
+pub write_array-returns-clause-ok : goal.write_array-returns-clause-ok
+write_array-returns-clause-ok g t c =
+    let done = g.met.N.Nested.array_steps _ _ _ c.in-None.ensures.steps in
+    let l = c.loop-item in
+    let behind = places_behind c.args.places.now.items l.places.items l.invariant.0 _ _ _ l.invariant.1 c.deref.ensures.value (omega (arith, c.args.places.now.ok.0, c.len-first.ensures)) (search rules) in
+    let whole = c.in_ok-push_sized.ensures.ok ∙ ap (λ z. l.heap.items ++ short_sized z) behind in
+    wrote_array c.args.heap.now.items l.heap.items l.invariant.0 _ _ _ l.invariant.2 done.0 whole c.requires _ (omega (arith, l.heap.ok.0, c.len-at.ensures))
+
+pub write_object-loop-key-init : goal.write_object-loop-key-init
+write_object-loop-key-init g t c =
+    let whole = ap (λ s. object (entries (g.N.Nested.object_rest s))) c.into_iter-key-iterator.ensures.into_iter_gives in
+    ([], sym (append-nil c.args.places.now.items), object_start _ _ _ _ refl whole)
+
+pub write_object-write_tree-requires : goal.write_object-write_tree-requires
+write_object-write_tree-requires g t c κs within =
+    let l = c.loop-key in
+    let step = g.met.N.Nested.object_steps _ _ _ c.in-Some.ensures.steps in
+    let first = ap (λ z. z ∷ g.N.Nested.object_rest c.next.new.self) (λ i. (sym c.as_str.ensures i, sym c.as_nested.ensures i)) in
+    let next = object_next c.args.heap.now.items l.heap.items l.invariant.0 _ _ _ _ _ _ l.invariant.2 (step ∙ first) c.requires c.in_ok-write_key.ensures.heap in
+    let smaller = next.0 in
+    let fits = next.1 in
+    search (rules, smaller, fits)
+
+pub write_object-loop-key-preserved : goal.write_object-loop-key-preserved
+write_object-loop-key-preserved g t c =
+    let l = c.loop-key in
+    let list = l.invariant.0 in
+    let k = c.in_ok-write_key in
+    let x = c.in_ok-code in
+    let step = g.met.N.Nested.object_steps _ _ _ c.in-Some.ensures.steps in
+    let first = ap (λ z. z ∷ g.N.Nested.object_rest c.next.new.self) (λ i. (sym c.as_str.ensures i, sym c.as_nested.ensures i)) in
+    let key_place = 1 ∷ vnum (length l.heap.items) in
+    let more = type_code x.code ∷ vnum x.address in
+    let keyed = place_added c.args.places.now.items l.places.items list _ _ key_place l.invariant.1 refl k.ensures.places in (
+      (list ++ key_place) ++ more,
+      place_added c.args.places.now.items _ (list ++ key_place) _ _ more keyed x.ensures.places c.in_ok-push_place.ensures,
+      object_step c.args.heap.now.items l.heap.items list _ _ _ _ _ _ _ _ _ _ _ l.invariant.2 (step ∙ first) c.requires c.as_str.utf8 k.ensures.heap refl x.ensures.ok refl,
+    )
+
+pub write_object-returns-clause-ok : goal.write_object-returns-clause-ok
+write_object-returns-clause-ok g t c =
+    let done = g.met.N.Nested.object_steps _ _ _ c.in-None.ensures.steps in
+    let l = c.loop-key in
+    let behind = places_behind c.args.places.now.items l.places.items l.invariant.0 _ _ _ l.invariant.1 c.deref.ensures.value (omega (arith, c.args.places.now.ok.0, c.len-first.ensures)) (search rules) in
+    let whole = c.in_ok-push_sized.ensures.ok ∙ ap (λ z. l.heap.items ++ short_sized z) behind in
+    wrote_object c.args.heap.now.items l.heap.items l.invariant.0 _ _ _ l.invariant.2 done.0 whole c.requires _ (omega (arith, l.heap.ok.0, c.len-at.ensures))

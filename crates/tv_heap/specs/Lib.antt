@@ -1,0 +1,10 @@
+pub mod Room
+pub mod Reads
+pub mod ReadsLaws
+pub mod TypeCode
+pub mod TypeByte
+pub mod Held
+pub mod Lent
+pub mod Encoded
+pub mod Wrote
+pub mod Value

@@ -1,0 +1,10 @@
+//! Values in a heap of bytes: how they are written at its end, and lent out of it.
+#![tactic(auto)]
+
+pub mod encoded;
+pub mod laws;
+mod lent;
+pub mod room;
+pub mod value;
+pub mod value_type;
+pub mod write;

@@ -1,0 +1,231 @@
+//! Values that are lent out of a document.
+
+ghost use Rattle.std.specs.Prelude.{◌≡◌, ◌↔◌};
+ghost use Rattle.std.specs.Iterator.{YieldsFirstBy, item_count};
+ghost use Rattle.tv_heap.specs.Held.{Held, Held-prop, HeldElements, HeldElements-prop, HeldEntries, HeldEntries-prop};
+ghost use Rattle.tv_heap.specs.TypeCode.{type_code};
+
+use crate::encoded::Encoded;
+use crate::lent::{
+    child_at, children, eight_at, ip_addr_at, signed_at, sixteen_at, sized_at, spelled_at,
+    spelled_tokens_at, text_at, tokenized_at,
+};
+use crate::value_type::ValueType;
+use tv_value::date_time::DateTime;
+use tv_value::leaf::ReferenceValueLeaf;
+use tv_value::same::is_same;
+use tv_value::type_codes::{
+    ARRAY_CODE, BYTES_CODE, DATE_CODE, HIERARCHICAL_FACET_CODE, I64_CODE, IP_CODE, OBJECT_CODE,
+    TEXT_CODE, U64_CODE,
+};
+use tv_value::value::{ReferenceValue, Value};
+
+/// A value of a document, which stands in the heap that it is lent from.
+#[derive(Clone, Copy, Debug)]
+pub struct CompactDocValue<'a> {
+    heap: &'a [u8],
+    value_type: ValueType,
+    address: u32,
+    pub ghost held: { Held heap.now (type_code value_type) address } by { Held-prop heap.now (type_code value_type) address },
+}
+
+/// The values of an array that are left, in order.
+#[derive(Clone, Copy)]
+pub struct CompactDocArrayIter<'a> {
+    heap: &'a [u8],
+    list: &'a [u8],
+    pub ghost held: { HeldElements heap.now list.now } by { HeldElements-prop heap.now list.now },
+}
+
+/// The keys and values of an object that are left, in order.
+#[derive(Clone, Copy)]
+pub struct CompactDocObjectIter<'a> {
+    heap: &'a [u8],
+    list: &'a [u8],
+    pub ghost held: { HeldEntries heap.now list.now } by { HeldEntries-prop heap.now list.now },
+}
+
+impl<'a> CompactDocValue<'a> {
+    ghost use Rattle.tv_heap.specs.Encoded.{encoded_bytes, IsTokenized, SaysTokenized};
+    ghost use Rattle.tv_heap.specs.Value.{tree_of};
+    ghost use Rattle.tv_value.specs.Short.{short};
+    ghost use Rattle.tv_value.specs.Version.{V2};
+
+    /// The value of this type that stands at this address of the heap. (Own.)
+    pub fn new(heap: &'a [u8], value_type: ValueType, address: u32) -> CompactDocValue<'a>
+        requires held { Held heap.now (type_code value_type) address }
+        ensures tree { (held : Held heap.now (type_code value_type) address) → tree_of result ≡ held.0 }
+    {
+        CompactDocValue {
+            heap,
+            value_type,
+            address,
+        }
+    }
+
+    /// What the store's version 2 has for the value: its shortest spelling, out of the heap and without memory. (Own.)
+    #[inline(always)]
+    pub fn encoded(&self) -> Encoded<'a>
+        ensures bytes { encoded_bytes result ≡ short V2 (tree_of self.now) }
+        ensures tokens { SaysTokenized result ↔ IsTokenized (tree_of self.now) }
+    {
+        let heap = self.heap;
+        let address = self.address;
+        match self.value_type {
+            ValueType::Null => Encoded::Null,
+            ValueType::Str => Encoded::Bytes(TEXT_CODE, spelled_at(heap, address)),
+            ValueType::U64 => Encoded::Number(U64_CODE, eight_at(heap, address)),
+            ValueType::I64 => Encoded::Number(I64_CODE, eight_at(heap, address)),
+            ValueType::Date => Encoded::Number(DATE_CODE, eight_at(heap, address)),
+            ValueType::Facet => Encoded::Bytes(HIERARCHICAL_FACET_CODE, spelled_at(heap, address)),
+            ValueType::Bytes => Encoded::Bytes(BYTES_CODE, spelled_at(heap, address)),
+            ValueType::IpAddr => Encoded::Bytes(IP_CODE, sixteen_at(heap, address)),
+            ValueType::Bool => Encoded::Bool(address != 0),
+            ValueType::PreTokStr => Encoded::Tokenized(spelled_tokens_at(heap, address)),
+            ValueType::Array => {
+                let list = sized_at(heap, address);
+                Encoded::List(
+                    ARRAY_CODE,
+                    children(list),
+                    CompactDocArrayIter { heap, list },
+                )
+            }
+            ValueType::Object => {
+                let list = sized_at(heap, address);
+                Encoded::List(
+                    OBJECT_CODE,
+                    children(list),
+                    CompactDocArrayIter { heap, list },
+                )
+            }
+        }
+    }
+}
+
+impl<'a> Iterator for CompactDocArrayIter<'a> {
+    type Item = CompactDocValue<'a>;
+
+    ghost next_gives = { YieldsFirstBy (λ v. v.held.0) (λ s. s.held.0) };
+
+    ghost remaining = { item_count (λ s. s.held.0) };
+
+    #[inline]
+    fn next(&mut self) -> Option<CompactDocValue<'a>> {
+        let heap = self.heap;
+        let (value_type, address, list) = child_at(self.list)?;
+        *self = CompactDocArrayIter { heap, list };
+        Some(CompactDocValue {
+            heap,
+            value_type,
+            address,
+        })
+    }
+}
+
+impl<'a> Iterator for CompactDocObjectIter<'a> {
+    ghost use Rattle.tv_value.specs.Lent.{entry_of};
+
+    type Item = (&'a str, CompactDocValue<'a>);
+
+    ghost next_gives = { YieldsFirstBy (entry_of (λ v. v.held.0)) (λ s. s.held.0) };
+
+    ghost remaining = { item_count (λ s. s.held.0) };
+
+    #[inline]
+    fn next(&mut self) -> Option<(&'a str, CompactDocValue<'a>)> {
+        let heap = self.heap;
+        let (_, key, behind) = child_at(self.list)?;
+        let (value_type, address, list) = child_at(behind)?;
+        *self = CompactDocObjectIter { heap, list };
+        Some((
+            text_at(heap, key),
+            CompactDocValue {
+                heap,
+                value_type,
+                address,
+            },
+        ))
+    }
+}
+
+/// A value of a document is lent in place, without memory.
+impl<'a> Value<'a> for CompactDocValue<'a> {
+    type ArrayIter = CompactDocArrayIter<'a>;
+
+    type ObjectIter = CompactDocObjectIter<'a>;
+
+    ghost tree = { λ v. v.held.0 };
+
+    ghost array_rest = { λ s. s.held.0 };
+
+    ghost object_rest = { λ s. s.held.0 };
+
+    ghost array_walks = { λ s. (tt, tt) };
+
+    ghost object_walks = { λ s. (tt, tt) };
+
+    ghost array_steps = { λ s t r steps. steps };
+
+    ghost object_steps = { λ s t r steps. steps };
+
+    #[inline(always)]
+    fn as_value(&self) -> ReferenceValue<'a, CompactDocValue<'a>> {
+        let heap = self.heap;
+        let address = self.address;
+        match self.value_type {
+            ValueType::Null => ReferenceValue::Leaf(ReferenceValueLeaf::Null),
+            ValueType::Str => {
+                ReferenceValue::Leaf(ReferenceValueLeaf::Str(text_at(heap, address)))
+            }
+            ValueType::U64 => {
+                ReferenceValue::Leaf(ReferenceValueLeaf::U64(eight_at(heap, address)))
+            }
+            ValueType::I64 => {
+                ReferenceValue::Leaf(ReferenceValueLeaf::I64(signed_at(heap, address)))
+            }
+            ValueType::Date => {
+                let moment = DateTime::from_timestamp_nanos(signed_at(heap, address));
+                ReferenceValue::Leaf(ReferenceValueLeaf::Date(moment))
+            }
+            ValueType::Facet => {
+                ReferenceValue::Leaf(ReferenceValueLeaf::Facet(text_at(heap, address)))
+            }
+            ValueType::Bytes => {
+                ReferenceValue::Leaf(ReferenceValueLeaf::Bytes(sized_at(heap, address)))
+            }
+            ValueType::IpAddr => {
+                ReferenceValue::Leaf(ReferenceValueLeaf::IpAddr(ip_addr_at(heap, address)))
+            }
+            ValueType::Bool => ReferenceValue::Leaf(ReferenceValueLeaf::Bool(address != 0)),
+            ValueType::PreTokStr => match tokenized_at(heap, address) {
+                Some(content) => ReferenceValue::Leaf(ReferenceValueLeaf::PreTokStr(content)),
+                None => ReferenceValue::Leaf(ReferenceValueLeaf::Null),
+            },
+            ValueType::Array => {
+                let list = sized_at(heap, address);
+                ReferenceValue::Array(CompactDocArrayIter { heap, list })
+            }
+            ValueType::Object => {
+                let list = sized_at(heap, address);
+                ReferenceValue::Object(CompactDocObjectIter { heap, list })
+            }
+        }
+    }
+}
+
+/// Two values are equal exactly where they are of one kind and hold the same, children in the same order. No memory is taken.
+impl PartialEq for CompactDocValue<'_> {
+    ghost use Rattle.std.specs.Cmp.{on_per};
+    ghost use Rattle.tv_heap.specs.Value.{tree_of};
+    ghost use Rattle.tv_value.specs.Same.{tree_eq};
+    ghost use Rattle.tv_value.specs.SameLaws.{tree_eq-Decides};
+    ghost use Rattle.tv_value.specs.SameTokensLaws.{deciding_per};
+
+    ghost eq = { λ a b. tree_eq (tree_of a) (tree_of b) };
+
+    ghost laws = { on_per tree_of (deciding_per tree_eq-Decides) };
+
+    fn eq(&self, other: &Self) -> bool {
+        is_same(self, other)
+    }
+}

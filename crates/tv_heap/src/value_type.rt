@@ -1,0 +1,148 @@
+//! The types of values in a heap.
+
+ghost use Rattle.std.specs.Prelude.{◌≡◌, ◌≢◌, IfSome, IfNone, IsErrOf};
+ghost use Rattle.tv_base.specs.declared.read_error.ReadError.TheVariants.{Memory};
+ghost use Rattle.tv_base.specs.Number.{Fixed, one_byte};
+ghost use Rattle.tv_base.specs.ReadsAs.{ReadsAs};
+ghost use Rattle.tv_value.specs.Lent.{leaf_of, tree_of};
+ghost use Rattle.tv_heap.specs.Reads.{leaf_type, tree_type};
+
+use std::alloc::Global;
+use std::io;
+use tv_base::write::write_u8;
+use tv_base::{BinarySerializable, ByteSink, ByteSource, Cause, ReadError};
+use tv_value::leaf::ReferenceValueLeaf;
+use tv_value::value::{ReferenceValue, Value};
+
+/// The type of a value that stands in a document's heap.
+#[derive(Clone, Copy, Debug, PartialEq, Eq, Default)]
+pub enum ValueType {
+    /// No value.
+    #[default]
+    Null = 0,
+    /// A text.
+    Str = 1,
+    /// An unsigned number of 64 bits.
+    U64 = 2,
+    /// A signed number of 64 bits.
+    I64 = 3,
+    /// A date, in nanoseconds since 1970.
+    Date = 5,
+    /// The encoded text of a facet.
+    Facet = 6,
+    /// Bytes.
+    Bytes = 7,
+    /// An IPv6 address.
+    IpAddr = 8,
+    /// A truth value.
+    Bool = 9,
+    /// A text and its tokens.
+    PreTokStr = 10,
+    /// Keys and their values, in order.
+    Object = 11,
+    /// Values, in order.
+    Array = 12,
+}
+
+impl ValueType {
+    ghost use Rattle.tv_heap.specs.declared.value_type.ValueType.{ValueType};
+    ghost use Rattle.tv_heap.specs.TypeCode.{type_code};
+
+    /// The type byte that stands for it in a heap: 0 to 12 in the order of the variants, without 4.
+    pub fn to_code(self) -> u8
+        ensures { result ≡ type_code self }
+    {
+        self as u8
+    }
+
+    /// The type whose byte it is; `None` for 4 and for bytes above 12.
+    pub fn from_code(code: u8) -> Option<ValueType>
+        ensures some { IfSome result (λ t. type_code t ≡ code) }
+        ensures none { IfNone result ((t : ValueType) → type_code t ≢ code) }
+    {
+        match code {
+            0 => Some(ValueType::Null),
+            1 => Some(ValueType::Str),
+            2 => Some(ValueType::U64),
+            3 => Some(ValueType::I64),
+            5 => Some(ValueType::Date),
+            6 => Some(ValueType::Facet),
+            7 => Some(ValueType::Bytes),
+            8 => Some(ValueType::IpAddr),
+            9 => Some(ValueType::Bool),
+            10 => Some(ValueType::PreTokStr),
+            11 => Some(ValueType::Object),
+            12 => Some(ValueType::Array),
+            _ => None,
+        }
+    }
+}
+
+/// A type is one byte.
+impl BinarySerializable for ValueType {
+    ghost use Rattle.tv_heap.specs.declared.value_type.ValueType.{ValueType};
+    ghost use Rattle.tv_heap.specs.TypeCode.{type_code};
+    ghost use Rattle.tv_heap.specs.TypeByte.{TypeFault};
+
+    ghost Seen = { ValueType };
+
+    ghost view = { λ t. t };
+
+    ghost shortest = { λ t. one_byte (type_code t) };
+
+    ghost spells = { λ bytes t. Fixed 1 bytes (type_code t) };
+
+    ghost is_fault = { TypeFault };
+
+    fn serialize<K: ByteSink>(&self, sink: &mut K) -> Result<(), io::ErrorKind> {
+        write_u8(sink, self.to_code())
+    }
+
+    fn deserialize<S: ByteSource>(alloc: Global, source: &mut S) -> Result<ValueType, ReadError>
+        ensures reads { ReadsAs S.tells S.left S.faults source.old source.new (λ t. t) result (λ bytes t. Fixed 1 bytes (type_code t)) TypeFault }
+        ensures spares { ¬ IsErrOf result Memory }
+    {
+        let code = u8::deserialize(alloc, source)?;
+        match ValueType::from_code(code) {
+            Some(value_type) => Ok(value_type),
+            None => Err(ReadError::Corrupted(Cause::UnknownTypeCode(code))),
+        }
+    }
+}
+
+/// The type that a leaf has in a heap.
+impl From<&ReferenceValueLeaf<'_>> for ValueType {
+    ghost use Rattle.tv_heap.specs.TypeCode.{type_code};
+
+    ghost from_gives = { λ value made. type_code made ≡ leaf_type (leaf_of value.now) };
+
+    fn from(value: &ReferenceValueLeaf<'_>) -> ValueType {
+        match value {
+            ReferenceValueLeaf::Null => ValueType::Null,
+            ReferenceValueLeaf::Str(_) => ValueType::Str,
+            ReferenceValueLeaf::U64(_) => ValueType::U64,
+            ReferenceValueLeaf::I64(_) => ValueType::I64,
+            ReferenceValueLeaf::Date(_) => ValueType::Date,
+            ReferenceValueLeaf::Facet(_) => ValueType::Facet,
+            ReferenceValueLeaf::Bytes(_) => ValueType::Bytes,
+            ReferenceValueLeaf::IpAddr(_) => ValueType::IpAddr,
+            ReferenceValueLeaf::Bool(_) => ValueType::Bool,
+            ReferenceValueLeaf::PreTokStr(_) => ValueType::PreTokStr,
+        }
+    }
+}
+
+/// The type that a value has in a heap.
+impl<'a, V: Value<'a>> From<&ReferenceValue<'a, V>> for ValueType {
+    ghost use Rattle.tv_heap.specs.TypeCode.{type_code};
+
+    ghost from_gives = { λ value made. type_code made ≡ tree_type (tree_of V.array_rest V.object_rest value.now) };
+
+    fn from(value: &ReferenceValue<'a, V>) -> ValueType {
+        match value {
+            ReferenceValue::Leaf(leaf) => ValueType::from(leaf),
+            ReferenceValue::Array(_) => ValueType::Array,
+            ReferenceValue::Object(_) => ValueType::Object,
+        }
+    }
+}

@@ -1,0 +1,273 @@
+//! Writing values at the end of a heap.
+
+ghost use Rattle.std.specs.Prelude.{◌≡◌, ◌+◌, ◌<◌, ◌^◌, ◌∷◌, ◌++◌, OnOk, OnErr, IfOk, length};
+ghost use Rattle.std.specs.Net.Addr.{ipv6_bits};
+ghost use Rattle.tv_base.specs.Number.{vnum, eight_bytes, sixteen_bytes};
+ghost use Rattle.tv_base.specs.Parts.{short_sized};
+ghost use Rattle.tv_base.specs.Sink.{IsFront};
+ghost use Rattle.tv_value.specs.Lent.{leaf_of, nested_tree};
+ghost use Rattle.tv_value.specs.PreTokenized.{tokenized_leaf};
+ghost use Rattle.tv_value.specs.Short.{short_token};
+ghost use Rattle.tv_value.specs.TokenRef.{ref_of};
+ghost use Rattle.tv_value.specs.Tree.{leaf, text, facet, bytes, unsigned, signed, date, ip_address, array, object, elements, entries};
+ghost use Rattle.tv_heap.specs.Room.{leaf_room, room};
+ghost use Rattle.tv_heap.specs.TypeCode.{type_code};
+ghost use Rattle.tv_heap.specs.Wrote.{Wrote};
+
+use crate::value_type::ValueType;
+use std::alloc::AllocError;
+use std::convert::AsStr;
+use std::net::Ipv6Addr;
+use tv_value::laws::pre_tokenized_texts_spell;
+use tv_value::leaf::ReferenceValueLeaf;
+use tv_value::nested::{Nested, NestedValue};
+use tv_value::pre_tokenized::PreTokenizedStr;
+use tv_value::spell::{push_number, push_sized, push_token};
+
+// Adds the eight bytes of a number, the lowest first.
+#[inline]
+fn push_eight(heap: &mut Vec<u8>, number: u64) -> Result<(), AllocError>
+    ensures ok { OnOk result (heap.new.items ≡ heap.old.items ++ eight_bytes number) }
+    ensures small { number < 2 ^ 64 }
+    ensures err { OnErr result (heap.new.items ≡ heap.old.items) }
+{
+    heap.extend_from_slice(&number.to_le_bytes())
+}
+
+// Adds the sixteen bytes of a number, the lowest first.
+fn push_sixteen(heap: &mut Vec<u8>, number: u128) -> Result<(), AllocError>
+    ensures ok { OnOk result (heap.new.items ≡ heap.old.items ++ sixteen_bytes number) }
+    ensures small { number < 2 ^ 128 }
+    ensures err { OnErr result (heap.new.items ≡ heap.old.items) }
+{
+    heap.extend_from_slice(&number.to_le_bytes())
+}
+
+/// The first addition to a heap makes room for so many bytes: enough for the values of a short document.
+const FIRST_ROOM: usize = 512;
+
+// The first place of a child makes room for so many bytes of places.
+const FIRST_PLACES: usize = 128;
+
+// Makes room for so many bytes where there is none.
+#[inline]
+fn make_room(bytes: &mut Vec<u8>, room: usize) -> Result<(), AllocError>
+    ensures { bytes.new.items ≡ bytes.old.items }
+{
+    if bytes.is_empty() {
+        bytes.reserve(room)
+    } else {
+        Ok(())
+    }
+}
+
+// Adds a child's type and address. The addresses in a short document have one byte or two.
+#[inline]
+fn push_place(places: &mut Vec<u8>, value_type: ValueType, address: u32) -> Result<(), AllocError>
+    ensures { OnOk result (places.new.items ≡ places.old.items ++ (type_code value_type ∷ vnum address)) }
+{
+    make_room(places, FIRST_PLACES)?;
+    let code = value_type.to_code();
+    if address < 128 {
+        places.extend_from_slice(&[code, address as u8 + 128])?;
+        return Ok(());
+    }
+    if address < 16384 {
+        let last = (address / 128) as u8 + 128;
+        places.extend_from_slice(&[code, (address % 128) as u8, last])?;
+        return Ok(());
+    }
+    places.push(code)?;
+    push_number(places, u64::from(address))
+}
+
+// Writes a key, and adds its type and address.
+fn write_key(heap: &mut Vec<u8>, places: &mut Vec<u8>, key: &str) -> Result<(), AllocError>
+    requires { length heap.old.items + (5 + length key.now) < 2 ^ 32 }
+    ensures heap { OnOk result (heap.new.items ≡ heap.old.items ++ short_sized key.now) }
+    ensures places { OnOk result (places.new.items ≡ places.old.items ++ (1 ∷ vnum (length heap.old.items))) }
+    ensures err { OnErr result (IsFront heap.old.items heap.new.items) }
+{
+    make_room(heap, FIRST_ROOM)?;
+    let at = heap.len() as u32;
+    push_sized(heap, key.as_bytes())?;
+    push_place(places, ValueType::Str, at)
+}
+
+// A text, or the encoded text of a facet.
+#[inline]
+fn write_text(heap: &mut Vec<u8>, content: &str) -> Result<u32, AllocError>
+    requires { length heap.old.items + (5 + length content.now) < 2 ^ 32 }
+    ensures text { IfOk result (λ at. Wrote heap.old.items heap.new.items 1 at (leaf (text content.now))) }
+    ensures facet { IfOk result (λ at. Wrote heap.old.items heap.new.items 6 at (leaf (facet content.now))) }
+    ensures err { OnErr result (IsFront heap.old.items heap.new.items) }
+{
+    let at = heap.len() as u32;
+    push_sized(heap, content.as_bytes())?;
+    Ok(at)
+}
+
+fn write_bytes(heap: &mut Vec<u8>, content: &[u8]) -> Result<u32, AllocError>
+    requires { length heap.old.items + (5 + length content.now) < 2 ^ 32 }
+    ensures ok { IfOk result (λ at. Wrote heap.old.items heap.new.items 7 at (leaf (bytes content.now))) }
+    ensures err { OnErr result (IsFront heap.old.items heap.new.items) }
+{
+    let at = heap.len() as u32;
+    push_sized(heap, content)?;
+    Ok(at)
+}
+
+#[inline]
+fn write_u64(heap: &mut Vec<u8>, number: u64) -> Result<u32, AllocError>
+    requires { length heap.old.items + 8 < 2 ^ 32 }
+    ensures ok { IfOk result (λ at. Wrote heap.old.items heap.new.items 2 at (leaf (unsigned number))) }
+    ensures err { OnErr result (IsFront heap.old.items heap.new.items) }
+{
+    let at = heap.len() as u32;
+    push_eight(heap, number)?;
+    Ok(at)
+}
+
+// A signed number, or the nanoseconds of a date.
+#[inline]
+fn write_i64(heap: &mut Vec<u8>, number: i64) -> Result<u32, AllocError>
+    requires { length heap.old.items + 8 < 2 ^ 32 }
+    ensures signed { IfOk result (λ at. Wrote heap.old.items heap.new.items 3 at (leaf (signed number))) }
+    ensures date { IfOk result (λ at. Wrote heap.old.items heap.new.items 5 at (leaf (date number))) }
+    ensures err { OnErr result (IsFront heap.old.items heap.new.items) }
+{
+    let at = heap.len() as u32;
+    push_eight(heap, number.cast_unsigned())?;
+    Ok(at)
+}
+
+fn write_ip_addr(heap: &mut Vec<u8>, address: Ipv6Addr) -> Result<u32, AllocError>
+    requires { length heap.old.items + 16 < 2 ^ 32 }
+    ensures ok { IfOk result (λ at. Wrote heap.old.items heap.new.items 8 at (leaf (ip_address (ipv6_bits address)))) }
+    ensures err { OnErr result (IsFront heap.old.items heap.new.items) }
+{
+    let at = heap.len() as u32;
+    push_sixteen(heap, address.to_bits())?;
+    Ok(at)
+}
+
+fn write_tokenized(heap: &mut Vec<u8>, content: PreTokenizedStr<'_>) -> Result<u32, AllocError>
+    requires { length heap.old.items + leaf_room (tokenized_leaf content) < 2 ^ 32 }
+    ensures ok { IfOk result (λ at. Wrote heap.old.items heap.new.items 10 at (leaf (tokenized_leaf content.entry))) }
+    ensures err { OnErr result (IsFront heap.old.items heap.new.items) }
+{
+    pre_tokenized_texts_spell();
+    let at = heap.len() as u32;
+    push_sized(heap, content.text().as_bytes())?;
+    push_number(heap, content.len() as u64)?;
+    for token in content.tokens() {
+        push_token(heap, token)?;
+    }
+    Ok(at)
+}
+
+/// Writes a value without children, and answers its type and its address. After an error the old heap is still a front of the
+/// new.
+#[inline]
+pub fn write_leaf(
+    heap: &mut Vec<u8>,
+    value: &ReferenceValueLeaf<'_>,
+) -> Result<(ValueType, u32), AllocError>
+    requires { length heap.old.items + leaf_room (leaf_of value.now) < 2 ^ 32 }
+    ensures ok { IfOk result (λ r. Wrote heap.old.items heap.new.items (type_code r.0) r.1 (leaf (leaf_of value.now))) }
+    ensures err { OnErr result (IsFront heap.old.items heap.new.items) }
+{
+    make_room(heap, FIRST_ROOM)?;
+    match value {
+        ReferenceValueLeaf::Null => Ok((ValueType::Null, 0)),
+        ReferenceValueLeaf::Bool(truth) => Ok((ValueType::Bool, u32::from(*truth))),
+        ReferenceValueLeaf::Str(content) => Ok((ValueType::Str, write_text(heap, content)?)),
+        ReferenceValueLeaf::Facet(content) => Ok((ValueType::Facet, write_text(heap, content)?)),
+        ReferenceValueLeaf::Bytes(content) => Ok((ValueType::Bytes, write_bytes(heap, content)?)),
+        ReferenceValueLeaf::U64(number) => Ok((ValueType::U64, write_u64(heap, *number)?)),
+        ReferenceValueLeaf::I64(number) => Ok((ValueType::I64, write_i64(heap, *number)?)),
+        ReferenceValueLeaf::Date(moment) => {
+            let nanoseconds = moment.into_timestamp_nanos();
+            Ok((ValueType::Date, write_i64(heap, nanoseconds)?))
+        }
+        ReferenceValueLeaf::IpAddr(address) => {
+            Ok((ValueType::IpAddr, write_ip_addr(heap, *address)?))
+        }
+        ReferenceValueLeaf::PreTokStr(content) => {
+            Ok((ValueType::PreTokStr, write_tokenized(heap, *content)?))
+        }
+    }
+}
+
+/// Writes a value behind its children, and answers its type and its address. The places of children whose list is not yet
+/// written stand at the end of `places`, which is afterwards as it was. After an error the old heap is still a front of the
+/// new, and what `places` holds is open.
+#[inline]
+#[cycle(values)]
+pub fn write_tree<N: Nested>(
+    heap: &mut Vec<u8>,
+    places: &mut Vec<u8>,
+    value: NestedValue<'_, N>,
+) -> Result<(ValueType, u32), AllocError>
+    requires { length heap.old.items + room (nested_tree N.array_rest N.object_rest value) < 2 ^ 32 }
+    ensures ok { IfOk result (λ r. Wrote heap.old.items heap.new.items (type_code r.0) r.1 (nested_tree N.array_rest N.object_rest value.entry)) }
+    ensures places { OnOk result (places.new.items ≡ places.old.items) }
+    ensures err { OnErr result (IsFront heap.old.items heap.new.items) }
+{
+    match value {
+        NestedValue::Leaf(single) => write_leaf(heap, &single),
+        NestedValue::Array(items) => {
+            Ok((ValueType::Array, write_array::<N>(heap, places, items)?))
+        }
+        NestedValue::Object(members) => {
+            Ok((ValueType::Object, write_object::<N>(heap, places, members)?))
+        }
+    }
+}
+
+// Writes an array behind its values, and answers its address.
+#[cycle(values)]
+fn write_array<N: Nested>(
+    heap: &mut Vec<u8>,
+    places: &mut Vec<u8>,
+    items: N::ArrayIter,
+) -> Result<u32, AllocError>
+    requires { length heap.old.items + room (array (elements (N.array_rest items))) < 2 ^ 32 }
+    ensures ok { IfOk result (λ at. Wrote heap.old.items heap.new.items 12 at (array (elements (N.array_rest items)))) }
+    ensures places { OnOk result (places.new.items ≡ places.old.items) }
+    ensures err { OnErr result (IsFront heap.old.items heap.new.items) }
+{
+    let first = places.len();
+    for item in items {
+        let (code, address) = write_tree(heap, places, item.as_nested())?;
+        push_place(places, code, address)?;
+    }
+    let at = heap.len() as u32;
+    push_sized(heap, &places[first..])?;
+    places.truncate(first);
+    Ok(at)
+}
+
+// Writes an object behind its keys and values, and answers its address.
+#[cycle(values)]
+fn write_object<N: Nested>(
+    heap: &mut Vec<u8>,
+    places: &mut Vec<u8>,
+    members: N::ObjectIter,
+) -> Result<u32, AllocError>
+    requires { length heap.old.items + room (object (entries (N.object_rest members))) < 2 ^ 32 }
+    ensures ok { IfOk result (λ at. Wrote heap.old.items heap.new.items 11 at (object (entries (N.object_rest members)))) }
+    ensures places { OnOk result (places.new.items ≡ places.old.items) }
+    ensures err { OnErr result (IsFront heap.old.items heap.new.items) }
+{
+    let first = places.len();
+    for (key, item) in members {
+        write_key(heap, places, key.as_str())?;
+        let (code, address) = write_tree(heap, places, item.as_nested())?;
+        push_place(places, code, address)?;
+    }
+    let at = heap.len() as u32;
+    push_sized(heap, &places[first..])?;
+    places.truncate(first);
+    Ok(at)
+}
