@@ -1,4 +1,5 @@
 pub mod Room
+pub mod LeafBytes
 pub mod Reads
 pub mod ReadsLaws
 pub mod TypeCode

@@ -3,6 +3,7 @@
 
 pub mod encoded;
 pub mod laws;
+pub mod len;
 mod lent;
 pub mod room;
 pub mod value;

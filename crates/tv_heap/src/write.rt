@@ -6,11 +6,13 @@ ghost use Rattle.tv_base.specs.Number.{vnum, eight_bytes, sixteen_bytes};
 ghost use Rattle.tv_base.specs.Parts.{short_sized};
 ghost use Rattle.tv_base.specs.Sink.{IsFront};
 ghost use Rattle.tv_value.specs.Lent.{leaf_of, nested_tree};
-ghost use Rattle.tv_value.specs.PreTokenized.{tokenized_leaf};
-ghost use Rattle.tv_value.specs.Short.{short_token};
+ghost use Rattle.tv_value.specs.PreTokenized.{tokenized_leaf, text_of, tokens_of};
+ghost use Rattle.std.specs.Int.{w64, cast_unsigned};
+ghost use Rattle.tv_value.specs.Short.{short_token, short_tokenized};
 ghost use Rattle.tv_value.specs.TokenRef.{ref_of};
 ghost use Rattle.tv_value.specs.Tree.{leaf, text, facet, bytes, unsigned, signed, date, ip_address, array, object, elements, entries};
-ghost use Rattle.tv_heap.specs.Room.{leaf_room, room};
+ghost use Rattle.tv_heap.specs.LeafBytes.{leaf_bytes};
+ghost use Rattle.tv_heap.specs.Room.{room};
 ghost use Rattle.tv_heap.specs.TypeCode.{type_code};
 ghost use Rattle.tv_heap.specs.Wrote.{Wrote};
 
@@ -97,7 +99,8 @@ fn write_key(heap: &mut Vec<u8>, places: &mut Vec<u8>, key: &str) -> Result<(), 
 // A text, or the encoded text of a facet.
 #[inline]
 fn write_text(heap: &mut Vec<u8>, content: &str) -> Result<u32, AllocError>
-    requires { length heap.old.items + (5 + length content.now) < 2 ^ 32 }
+    requires { length heap.old.items + length (short_sized content.now) < 2 ^ 32 }
+    ensures heap { OnOk result (heap.new.items ≡ heap.old.items ++ short_sized content.now) }
     ensures text { IfOk result (λ at. Wrote heap.old.items heap.new.items 1 at (leaf (text content.now))) }
     ensures facet { IfOk result (λ at. Wrote heap.old.items heap.new.items 6 at (leaf (facet content.now))) }
     ensures err { OnErr result (IsFront heap.old.items heap.new.items) }
@@ -108,7 +111,8 @@ fn write_text(heap: &mut Vec<u8>, content: &str) -> Result<u32, AllocError>
 }
 
 fn write_bytes(heap: &mut Vec<u8>, content: &[u8]) -> Result<u32, AllocError>
-    requires { length heap.old.items + (5 + length content.now) < 2 ^ 32 }
+    requires { length heap.old.items + length (short_sized content.now) < 2 ^ 32 }
+    ensures heap { OnOk result (heap.new.items ≡ heap.old.items ++ short_sized content.now) }
     ensures ok { IfOk result (λ at. Wrote heap.old.items heap.new.items 7 at (leaf (bytes content.now))) }
     ensures err { OnErr result (IsFront heap.old.items heap.new.items) }
 {
@@ -119,7 +123,8 @@ fn write_bytes(heap: &mut Vec<u8>, content: &[u8]) -> Result<u32, AllocError>
 
 #[inline]
 fn write_u64(heap: &mut Vec<u8>, number: u64) -> Result<u32, AllocError>
-    requires { length heap.old.items + 8 < 2 ^ 32 }
+    requires { length heap.old.items + length (eight_bytes number) < 2 ^ 32 }
+    ensures heap { OnOk result (heap.new.items ≡ heap.old.items ++ eight_bytes number) }
     ensures ok { IfOk result (λ at. Wrote heap.old.items heap.new.items 2 at (leaf (unsigned number))) }
     ensures err { OnErr result (IsFront heap.old.items heap.new.items) }
 {
@@ -131,7 +136,8 @@ fn write_u64(heap: &mut Vec<u8>, number: u64) -> Result<u32, AllocError>
 // A signed number, or the nanoseconds of a date.
 #[inline]
 fn write_i64(heap: &mut Vec<u8>, number: i64) -> Result<u32, AllocError>
-    requires { length heap.old.items + 8 < 2 ^ 32 }
+    requires { length heap.old.items + length (eight_bytes (cast_unsigned w64 number)) < 2 ^ 32 }
+    ensures heap { OnOk result (heap.new.items ≡ heap.old.items ++ eight_bytes (cast_unsigned w64 number)) }
     ensures signed { IfOk result (λ at. Wrote heap.old.items heap.new.items 3 at (leaf (signed number))) }
     ensures date { IfOk result (λ at. Wrote heap.old.items heap.new.items 5 at (leaf (date number))) }
     ensures err { OnErr result (IsFront heap.old.items heap.new.items) }
@@ -142,7 +148,8 @@ fn write_i64(heap: &mut Vec<u8>, number: i64) -> Result<u32, AllocError>
 }
 
 fn write_ip_addr(heap: &mut Vec<u8>, address: Ipv6Addr) -> Result<u32, AllocError>
-    requires { length heap.old.items + 16 < 2 ^ 32 }
+    requires { length heap.old.items + length (sixteen_bytes (ipv6_bits address)) < 2 ^ 32 }
+    ensures heap { OnOk result (heap.new.items ≡ heap.old.items ++ sixteen_bytes (ipv6_bits address)) }
     ensures ok { IfOk result (λ at. Wrote heap.old.items heap.new.items 8 at (leaf (ip_address (ipv6_bits address)))) }
     ensures err { OnErr result (IsFront heap.old.items heap.new.items) }
 {
@@ -152,7 +159,8 @@ fn write_ip_addr(heap: &mut Vec<u8>, address: Ipv6Addr) -> Result<u32, AllocErro
 }
 
 fn write_tokenized(heap: &mut Vec<u8>, content: PreTokenizedStr<'_>) -> Result<u32, AllocError>
-    requires { length heap.old.items + leaf_room (tokenized_leaf content) < 2 ^ 32 }
+    requires { length heap.old.items + length (short_tokenized (text_of content) (tokens_of content)) < 2 ^ 32 }
+    ensures heap { OnOk result (heap.new.items ≡ heap.old.items ++ short_tokenized (text_of content.entry) (tokens_of content.entry)) }
     ensures ok { IfOk result (λ at. Wrote heap.old.items heap.new.items 10 at (leaf (tokenized_leaf content.entry))) }
     ensures err { OnErr result (IsFront heap.old.items heap.new.items) }
 {
@@ -173,7 +181,8 @@ pub fn write_leaf(
     heap: &mut Vec<u8>,
     value: &ReferenceValueLeaf<'_>,
 ) -> Result<(ValueType, u32), AllocError>
-    requires { length heap.old.items + leaf_room (leaf_of value.now) < 2 ^ 32 }
+    requires { length heap.old.items + length (leaf_bytes (leaf_of value.now)) < 2 ^ 32 }
+    ensures heap { OnOk result (heap.new.items ≡ heap.old.items ++ leaf_bytes (leaf_of value.now)) }
     ensures ok { IfOk result (λ r. Wrote heap.old.items heap.new.items (type_code r.0) r.1 (leaf (leaf_of value.now))) }
     ensures err { OnErr result (IsFront heap.old.items heap.new.items) }
 {

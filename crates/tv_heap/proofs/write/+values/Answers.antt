@@ -3,6 +3,7 @@ use Rattle.tv_base.specs.Number.{vnum}
 use Rattle.tv_base.specs.Parts.{short_sized}
 use Rattle.tv_value.specs.Tree.{array, object, elements, entries}
 use Rattle.tv_heap.specs.TypeCode.{type_code}
+use Rattle.tv_heap.proofs.Writes.{leaf_fits}
 use Rattle.tv_heap.proofs.Lists.{array_start, array_step, wrote_array, object_start, object_step, object_next, wrote_object, place_added, places_behind}
 use Rattle.tv_heap.proofs.write.+values.Goals as goal
 
@@ -69,3 +70,6 @@ write_object-returns-clause-ok g t c =
     let behind = places_behind c.args.places.now.items l.places.items l.invariant.0 _ _ _ l.invariant.1 c.deref.ensures.value (omega (arith, c.args.places.now.ok.0, c.len-first.ensures)) (search rules) in
     let whole = c.in_ok-push_sized.ensures.ok ∙ ap (λ z. l.heap.items ++ short_sized z) behind in
     wrote_object c.args.heap.now.items l.heap.items l.invariant.0 _ _ _ l.invariant.2 done.0 whole c.requires _ (omega (arith, l.heap.ok.0, c.len-at.ensures))
+
+pub write_tree-write_leaf-requires : goal.write_tree-write_leaf-requires
+write_tree-write_leaf-requires g t c = leaf_fits (length c.args.heap.now.items) c.in-Leaf.single (search (rules, c.requires))

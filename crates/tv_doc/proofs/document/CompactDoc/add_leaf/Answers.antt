@@ -3,6 +3,7 @@ use Rattle.tv_value.specs.Lent.{leaf_of}
 use Rattle.tv_value.specs.Tree.{leaf}
 use Rattle.tv_doc.specs.Document.{heap_of}
 use Rattle.tv_doc.proofs.Kept.{room_fits, Writing, Keeping, kept_fields, kept_adds}
+use Rattle.tv_heap.proofs.Writes.{leaf_fits}
 use Rattle.tv_doc.proofs.document.CompactDoc.add_leaf.Goals as goal
 
 pub invariant_of-self : goal.invariant_of-self
@@ -35,3 +36,10 @@ returns c =
     } in
     let keeping : Keeping old c.write_leaf-written.new.heap.items c.keep_pair.new.heap.items c.keep_pair.new.pairs.items c.len-len.result c.in_ok-small.small c.write_leaf-written.result c.keep_pair.result = record { pair = c.keep_pair.ensures.pair; same_heap = c.keep_pair.ensures.heap; same_pairs = c.keep_pair.ensures.same_pairs; cut = c.keep_pair.ensures.cut; memory = c.keep_pair.ensures.memory } in
     kept_adds old _ _ _ _ _ _ _ _ wrote keeping
+
+pub write_leaf-written-requires : goal.write_leaf-written-requires
+write_leaf-written-requires c =
+    let old = c.args.self.now in
+    let len : c.len-len.result ≡ length (heap_of old) = omega (arith, c.len-len.ensures, old.node_data.ok.0) in
+    let room = room_fits c.leaf_room.result _ _ _ len c.leaf_room.ensures c.in_ok-small.ensures.fits in
+    leaf_fits (length (heap_of old)) c.args.value.now (omega (arith, room))
