@@ -61,5 +61,17 @@ impl<'a> ByteSource for SliceSource<'a> {
         Ok(moved)
     }
 
+    fn at_hand(&self) -> &[u8] {
+        self.rest
+    }
+
+    fn pass(&mut self, count: usize) -> bool {
+        if count > self.rest.len() {
+            return false;
+        }
+        self.rest = &self.rest[count..];
+        true
+    }
+
     ghost are_bytes = { λ s told. s.are_bytes };
 }

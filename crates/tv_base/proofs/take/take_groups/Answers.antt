@@ -5,8 +5,8 @@ use Rattle.tv_base.proofs.TakeSteps.{SoFar-start, SoFar-is, SoFar-step, SoFar-fa
 use Rattle.tv_base.proofs.TakenGroups.{with_low, weight_fits, group_fits, after_group, first_group, start, goes_on, ends, tenth_group, is_low, is_large, is_last}
 use Rattle.tv_base.specs.Take.{read_stop}
 use Rattle.tv_base.specs.Reading.{last_group}
-use Rattle.tv_base.proofs.take.take_vint.Goals as goal
-use Rattle.tv_base.proofs.take.take_vint.Goals.{then-last-lt128-via-then-last-lt128, then-last-lt128-via-else-last-lt128+then-last-gt1}
+use Rattle.tv_base.proofs.take.take_groups.Goals as goal
+use Rattle.tv_base.proofs.take.take_groups.Goals.{then-last-lt128-via-then-last-lt128, then-last-lt128-via-else-last-lt128+then-last-gt1}
 
 pub loop-init : goal.loop-init
 loop-init g c = record {

@@ -1,7 +1,7 @@
 use Rattle.std.proofs.Common.{rules, arith, ◌∙◌, sym}
 use Rattle.tv_base.proofs.TakeSteps.{failed_since}
 use Rattle.tv_base.proofs.Pieces.{fills_more, is_full, ends_early, none_read, given_still, taken_so_far}
-use Rattle.tv_base.proofs.take.take.Goals as goal
+use Rattle.tv_base.proofs.take.take_by_reads.Goals as goal
 
 pub returns-then-room-eq0-clause-takes : goal.returns-then-room-eq0-clause-takes
 returns-then-room-eq0-clause-takes g c =
