@@ -1,6 +1,5 @@
 -- Of any bytes some front is of a kind, or they are at fault: how parts that are decided so make a whole that is.
 use Rattle.std.proofs.Common.{◌≡◌, ℕ, zero, suc, ◌≤◌, List, [], ◌∷◌, ◌++◌, length, Result, Ok, Err, refl, ap, ◌∙◌, sym, arith, append_assoc, length-append, inl, inr}
-use Rattle.tv_base.specs.declared.cause.Cause.{Cause}
 use Rattle.tv_base.specs.Parts.{Then, Each}
 use Rattle.tv_base.specs.PartFault.{InThen, InEach}
 use Rattle.tv_base.specs.Source.{AllBytes}
@@ -45,11 +44,11 @@ behind_code {R = R} {F = F} S G to tell code spell refuse d rest small le = code
 
 -- ---- one part after the other
 
-then_faulty : {A B C : Type 0} {F : List ℕ → C → Type 0} {R : List ℕ → A → Type 0} {S : A → List ℕ → B → Type 0} {G : A → List ℕ → C → Type 0} (bytes : List ℕ) (x : A) (front rest : List ℕ)
+then_second : {A B C : Type 0} (F : List ℕ → C → Type 0) (R : List ℕ → A → Type 0) (S : A → List ℕ → B → Type 0) (G : A → List ℕ → C → Type 0) (bytes : List ℕ) (x : A) (front rest : List ℕ)
     → bytes ≡ front ++ rest → R front x → Decided (S x) (G x) rest → Decided (Both R S) (InThen F R G) bytes
-then_faulty bytes x front rest joined r (begins y middle after cut s) =
+then_second F R S G bytes x front rest joined r (begins y middle after cut s) =
     begins (x, y) (front ++ middle) after (joined ∙ ap (λ (l : List ℕ). front ++ l) cut ∙ sym (append_assoc front middle after)) (record { front = front; rest = middle; joined = refl; first = r; second = s })
-then_faulty bytes x front rest joined r (faulty c f) = faulty c (inr (x, record { front = front; rest = rest; joined = joined; first = r; second = f }))
+then_second F R S G bytes x front rest joined r (faulty c f) = faulty c (inr (x, record { front = front; rest = rest; joined = joined; first = r; second = f }))
 
 pub decides_then : {most : ℕ} {A B C : Type 0} (F : List ℕ → C → Type 0) (R : List ℕ → A → Type 0) (S : A → List ℕ → B → Type 0) (G : A → List ℕ → C → Type 0)
     → Decides most R F → ((x : A) → Decides most (S x) (G x)) → Decides most (Both R S) (InThen F R G)
@@ -57,7 +56,7 @@ decides_then {most} {A} {B} {C} F R S G first second = record { decides = λ byt
   where
     after : (bytes : List ℕ) → AllBytes bytes → length bytes ≤ most → Decided R F bytes → Decided (Both R S) (InThen F R G) bytes
     after bytes small le (begins x front rest joined r) =
-        then_faulty bytes x front rest joined r ((second x).decides rest (bytes_after bytes front rest joined small) (omega (arith, ap length joined, length-append front rest)))
+        then_second F R S G bytes x front rest joined r ((second x).decides rest (bytes_after bytes front rest joined small) (omega (arith, ap length joined, length-append front rest)))
     after bytes small le (faulty c f) = faulty c (inl f)
 
 -- ---- so many items

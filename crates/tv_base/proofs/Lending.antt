@@ -1,20 +1,17 @@
 -- What a source lends is a front of the bytes that it has left.
-use Rattle.std.proofs.Common.{◌≡◌, ℕ, suc, ◌+◌, ◌-◌, ◌*◌, ◌%◌, ◌<◌, ◌≤◌, Bool, true, false, List, [], ◌∷◌, ◌++◌, length, take, drop, get_or, Option, Some, None, Result, Ok, Err, refl, sym, ap, subst, ◌∙◌, arith, take_at, length-append, length-drop}
-use Rattle.std.proofs.lemmas.List.{drop_more}
+use Rattle.std.proofs.Common.{◌≡◌, ℕ, ◌+◌, ◌-◌, ◌<◌, ◌≤◌, Bool, true, false, List, ◌++◌, length, take, drop, get_or, Some, Ok, refl, sym, ap, subst, ◌∙◌, arith, take_at, take_all, length-append, length-drop, length-take-le}
+use Rattle.std.proofs.lemmas.List.{drop_more, take-append-drop}
 use lib.Seq.{take-append-le}
-use Rattle.tv_base.specs.declared.cause.Cause.{Cause}
 use Rattle.tv_base.specs.Lend.{Passes, Fills, PassesNumber}
 use Rattle.tv_base.specs.Number.{VNum}
 use Rattle.tv_base.specs.Reading.{bytes_at, u8_at, vint_at, groups_at}
 use Rattle.tv_base.specs.Sink.{IsFront}
-use Rattle.tv_base.specs.Source.{AllBytes, Faults}
-use Rattle.tv_base.specs.Stop.{◌>>=◌, Stop, Stops, CountsStop, Counts, Gives, Taken, Takes}
-use Rattle.tv_base.specs.Take.{TakesBy}
+use Rattle.tv_base.specs.Source.{AllBytes}
+use Rattle.tv_base.specs.Stop.{◌>>=◌, Taken}
 use Rattle.tv_base.proofs.AgreeNumbers.{vint_agrees}
 use Rattle.tv_base.proofs.AgreeWidths.{bytes_agree}
 use Rattle.tv_base.proofs.SmallBytes.{bytes_before}
-use Rattle.tv_base.proofs.TakenGroups.{with_low, after_group, first_group, ends}
-use Rattle.tv_base.proofs.TakeSteps.{CountsStop-from}
+use Rattle.tv_base.proofs.TakenGroups.{with_low, after_group, first_group}
 
 -- the bytes that were lent, as many as were passed
 front_lent : (old new lent : List ℕ) (n : ℕ) → IsFront lent old → n ≤ length lent → (p : (front : List ℕ) × (old ≡ front ++ new) × (length front ≡ n)) → p.0 ≡ take n lent
@@ -33,24 +30,6 @@ full old new buf n len e =
 pub full_taken : {old new : List ℕ} (buf : List ℕ) {n i k : ℕ} → n ≡ length buf → k ≡ i + n → Fills old new buf true → Taken old new i k
 full_taken buf len counted e = record { front = buf; joined = e; counted = omega (arith, len, counted) }
 
--- ---- nothing was taken
-
-counts_behind : {E F X : Type 0} (stop : E → Stop F) (result : Result X E) (old mid new : Faults) → mid ≡ old → Counts stop result mid new → Counts stop result old new
-counts_behind stop (Ok x) old mid new same h = h ∙ same
-counts_behind stop (Err e) old mid new same h = CountsStop-from (stop e) old mid new same h
-
--- what comes then is read of the same bytes
-pub Takes_behind : {P E F X Y : Type 0} {stop : E → Stop F} {tells : P → Type 0} {left : P → List ℕ} {count : P → ℕ} {faults : P → Faults} {old mid new : P} {view : X → Y} {result : Result X E} {reading : List ℕ → Result (Y × List ℕ) (F × List ℕ)}
-    → (tells old → left mid ≡ left old) → (tells old → tells mid) → faults mid ≡ faults old → count mid ≡ count old
-    → Takes stop tells left count faults mid new view result reading → Takes stop tells left count faults old new view result reading
-Takes_behind {stop = stop} {left = left} {count = count} {faults = faults} {old = old} {mid = mid} {new = new} {view = view} {result = result} {reading = reading} same still same_faults same_count h = record {
-  gives = λ told. subst (λ bytes. Gives stop view result (reading bytes) (left new) (count new)) (same told) (h.gives (still told));
-  taken = λ told. let t = h.taken (still told) in record { front = t.front; joined = sym (same told) ∙ t.joined; counted = omega (arith, t.counted, same_count) };
-  still_tells = λ told. h.still_tells (still told);
-  counts = counts_behind stop result (faults old) (faults mid) (faults new) same_faults h.counts;
-  rises = omega (arith, h.rises, same_count);
-}
-
 -- ---- a number at hand
 
 -- the next group
@@ -61,14 +40,24 @@ group_at value weight i bytes lt within =
     first_group value weight i lt (drop i bytes) ∙ ap (λ (l : List ℕ). u8_at l >>= λ first. with_low value weight (after_group (9 - (i + 1)) first)) (drop_more bytes i 0 within)
 
 -- a spelling that is lent was passed
-pub number_passed : (old new lent : List ℕ) (n len : ℕ) (taken : Bool) → AllBytes old → IsFront lent old → len ≤ length lent → vint_at lent ≡ Ok (n, drop len lent) → Passes old new len taken → taken ≡ true
-    → PassesNumber old new (Some (n, len))
-number_passed old new lent n len taken small lend within read p is =
-    let q = subst (Passes old new len) is p in
+pub number_passed : (old new lent : List ℕ) (n len : ℕ) → AllBytes old → IsFront lent old → len ≤ length lent → vint_at lent ≡ Ok (n, drop len lent) → Passes old new len true → PassesNumber old new (Some (n, len))
+number_passed old new lent n len small lend within read p =
     let s = vint_agrees.sound lent (n, drop len lent) (bytes_before old lent lend.0 lend.1 small) read in
     let long : length s.0 ≡ len = omega (arith, ap length s.2, length-append s.0 (drop len lent), length-drop len lent) in
-    let same : s.0 ≡ q.0 = sym (take_at s.0 (drop len lent) len long) ∙ ap (take len) (sym s.2) ∙ sym (front_lent old new lent len lend within q) in
-    (q.0, subst (λ l. VNum l n) same s.1, q.1, q.2)
+    let same : s.0 ≡ p.0 = sym (take_at s.0 (drop len lent) len long) ∙ ap (take len) (sym s.2) ∙ sym (front_lent old new lent len lend within p) in
+    (p.0, subst (λ l. VNum l n) same s.1, p.1, p.2)
 
-pub not_passed : (old new : List ℕ) (len : ℕ) (taken : Bool) → Passes old new len taken → taken ≡ false → new ≡ old
-not_passed old new len taken p is = subst (Passes old new len) is p
+-- a slice without its first bytes
+pub passed : (bytes : List ℕ) (n : ℕ) → n ≤ length bytes → (front : List ℕ) × (bytes ≡ front ++ take (length bytes - n) (drop n bytes)) × (length front ≡ n)
+passed bytes n within = (
+  take n bytes,
+  sym (take-append-drop n bytes) ∙ ap (λ (l : List ℕ). take n bytes ++ l) (sym (take_all (length bytes - n) (drop n bytes) (omega (arith, length-drop n bytes)))),
+  length-take-le n bytes within,
+)
+
+-- what was passed is what is read
+pub number_read : (old new : List ℕ) (n len : ℕ) → PassesNumber old new (Some (n, len)) → vint_at old ≡ Ok (n, new)
+number_read old new n len p = ap vint_at p.2 ∙ vint_agrees.complete p.0 n new p.1
+
+pub number_taken : {old new : List ℕ} {n len i k : ℕ} → k ≡ i + len → PassesNumber old new (Some (n, len)) → Taken old new i k
+number_taken counted p = record { front = p.0; joined = p.2; counted = omega (arith, counted, p.3) }

@@ -65,11 +65,11 @@ impl<'a> ByteSource for SliceSource<'a> {
         self.rest
     }
 
-    fn pass(&mut self, count: usize) -> bool {
-        if count > self.rest.len() {
+    fn pass(&mut self, len: usize) -> bool {
+        if len > self.rest.len() {
             return false;
         }
-        self.rest = &self.rest[count..];
+        self.rest = &self.rest[len..];
         true
     }
 

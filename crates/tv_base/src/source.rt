@@ -75,12 +75,12 @@ pub trait ByteSource {
     }
 
     /// Takes so many of the bytes at hand without a read, and says whether it did. If it didn't, nothing has changed. (Own.)
-    fn pass(&mut self, count: usize) -> bool
-        ensures bytes { tells self.old → Passes (left self.old) (left self.new) count result }
+    fn pass(&mut self, len: usize) -> bool
+        ensures bytes { tells self.old → Passes (left self.old) (left self.new) len result }
         ensures tells { tells self.old → tells self.new }
         ensures faults { faults self.new ≡ faults self.old }
     {
-        let _count = count;
+        let _len = len;
         false
     }
 

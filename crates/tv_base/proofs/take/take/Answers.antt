@@ -1,0 +1,13 @@
+use Rattle.std.proofs.Common.{refl, arith}
+use Rattle.tv_base.proofs.Lending.{full, full_taken}
+use Rattle.tv_base.proofs.take.take.Goals as goal
+
+pub returns-then-fill-clause-takes : goal.returns-then-fill-clause-takes
+returns-then-fill-clause-takes g c =
+    record {
+      gives = λ told. full _ _ _ _ (omega (arith, c.if-fill.ensures.length)) (c.if-fill.ensures.bytes told);
+      taken = λ told. full_taken _ (omega (arith, c.if-fill.ensures.length)) refl (c.if-fill.ensures.bytes told);
+      still_tells = c.if-fill.ensures.tells;
+      counts = c.if-fill.ensures.faults;
+      rises = omega arith;
+    }

@@ -1,0 +1,14 @@
+use Rattle.std.proofs.Common.{refl, arith}
+use Rattle.tv_base.proofs.Lending.{number_read, number_taken}
+use Rattle.tv_base.proofs.take.take_vint.Goals as goal
+
+pub returns-in-Some-clause-takes : goal.returns-in-Some-clause-takes
+returns-in-Some-clause-takes g c =
+    let gave = rw c.in-Some.is at c.pass_number.ensures in
+    record {
+      gives = λ told. number_read _ _ c.in-Some.number c.in-Some.len (gave.bytes told);
+      taken = λ told. number_taken {n = c.in-Some.number} refl (gave.bytes told);
+      still_tells = gave.tells;
+      counts = gave.faults;
+      rises = omega arith;
+    }
