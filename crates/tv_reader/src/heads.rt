@@ -24,7 +24,7 @@ use tv_base::{ByteSource, ReadError};
 use tv_value::leaf::ReferenceValueLeaf;
 
 /// What is taken of a value at once.
-#[derive(Clone, Copy, Debug)]
+#[derive(Clone, Copy, Debug, PartialEq)]
 pub enum Head {
     /// A whole value: null, a number, a date, a truth value or an address.
     Leaf(ReferenceValueLeaf<'static>),
