@@ -1,4 +1,5 @@
 mod bytes;
 mod facets;
 mod json_paths;
+mod lending;
 mod streams;

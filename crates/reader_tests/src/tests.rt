@@ -1,1 +1,2 @@
+mod heads;
 mod values;

@@ -21,7 +21,9 @@ pub mod AgreeTruth
 pub mod AgreeParts
 pub mod ItemLoop
 pub mod ByGrammar
+pub mod Deciding
 pub mod Appending
+pub mod Lending
 pub mod Shortest
 pub mod SliceNumbers
 pub mod Rewriting

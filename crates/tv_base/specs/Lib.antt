@@ -6,6 +6,7 @@ pub mod Sink
 pub mod Stop
 pub mod Take
 pub mod Append
+pub mod Lend
 pub mod Reading
 pub mod ReadsAs
 pub mod Escapes

@@ -1,6 +1,7 @@
 //! Bytes: where they come from and go to, and the numbers and texts that they spell.
 #![tactic(auto)]
 
+mod at_hand;
 pub mod cause;
 pub mod escapes;
 pub mod facet;

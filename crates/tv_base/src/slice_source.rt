@@ -61,5 +61,17 @@ impl<'a> ByteSource for SliceSource<'a> {
         Ok(moved)
     }
 
+    fn at_hand(&self) -> &[u8] {
+        self.rest
+    }
+
+    fn pass(&mut self, len: usize) -> bool {
+        if len > self.rest.len() {
+            return false;
+        }
+        self.rest = &self.rest[len..];
+        true
+    }
+
     ghost are_bytes = { λ s told. s.are_bytes };
 }

@@ -2,6 +2,8 @@
 
 ghost use Rattle.std.specs.Prelude.{◌≡◌, ℕ, List, ◌≤◌, length, IfOk};
 ghost use Rattle.tv_base.specs.Append.{AppendsNext, append_stop};
+ghost use Rattle.tv_base.specs.Lend.{Passes};
+ghost use Rattle.tv_base.specs.Sink.{IsFront};
 ghost use Rattle.tv_base.specs.Stop.{Counts};
 ghost use Rattle.tv_base.specs.Source.{AllBytes, GivesSome, GivesFirst, Faults, CountsFault};
 
@@ -62,6 +64,24 @@ pub trait ByteSource {
             }
             Err(kind) => Err(ReadError::Io(kind)),
         }
+    }
+
+    /// The next bytes, lent without a read: a front of those that are left, and possibly none of them. An empty slice doesn't say
+    /// that the source is at its end. (Own.)
+    fn at_hand(&self) -> &[u8]
+        ensures { tells self.now → IsFront result.now (left self.now) }
+    {
+        &[]
+    }
+
+    /// Takes so many of the bytes at hand without a read, and says whether it did. If it didn't, nothing has changed. (Own.)
+    fn pass(&mut self, len: usize) -> bool
+        ensures bytes { tells self.old → Passes (left self.old) (left self.new) len result }
+        ensures tells { tells self.old → tells self.new }
+        ensures faults { faults self.new ≡ faults self.old }
+    {
+        let _len = len;
+        false
     }
 
     /// Each number that is left is a byte.

@@ -12,6 +12,7 @@ ghost use Rattle.tv_base.specs.declared.read_error.ReadError.TheVariants.{Corrup
 ghost use Rattle.tv_base.specs.Take.{TakesBy};
 ghost use Rattle.tv_base.specs.Reading.{bytes_at, more_at, u8_at, u32_at, u64_at, u128_at, i64_at, truth_at, vint_at, sized_at, text_at};
 
+use crate::at_hand::{fill, pass_number};
 use crate::cause::Cause;
 use crate::facet::Facet;
 use crate::read_error::ReadError;
@@ -19,11 +20,35 @@ use crate::source::ByteSource;
 use std::alloc::Global;
 use std::mem;
 
-/// Fills `buf` with the next bytes, in as many reads as it takes.
+/// Fills `buf` with the next bytes: those at hand, or else in as many reads as it takes.
 ///
 /// Errors: `Corrupted(UnexpectedEnd)` where the source ends before, `Corrupted(TooLong)`, and `Io` where a read fails.
 /// What `buf` then holds is open.
+#[inline]
 pub fn take<S: ByteSource>(source: &mut S, count: &mut u64, buf: &mut [u8]) -> Result<(), ReadError>
+    ensures takes { TakesBy S.tells S.left S.faults source.old count.old source.new count.new (λ _. buf.new) result (bytes_at (length buf.old)) }
+    ensures causes { (cause : Cause) → IsErrOf result (Corrupted cause) → (cause ≡ UnexpectedEnd) ⊎ (cause ≡ TooLong) }
+    ensures counted { OnOk result (count.new ≡ count.old + length buf.old) }
+    ensures too_long { IsErrOf result (Corrupted TooLong) → count.new ≡ 2 ^ 64 - 1 }
+    ensures spares { ¬ IsErrOf result Memory }
+{
+    let len = buf.len() as u64;
+    if u64::MAX - *count < len {
+        return take_by_reads(source, count, buf);
+    }
+    if fill(source, buf) {
+        *count += len;
+        return Ok(());
+    }
+    take_by_reads(source, count, buf)
+}
+
+// The same by reads alone.
+fn take_by_reads<S: ByteSource>(
+    source: &mut S,
+    count: &mut u64,
+    buf: &mut [u8],
+) -> Result<(), ReadError>
     ensures takes { TakesBy S.tells S.left S.faults source.old count.old source.new count.new (λ _. buf.new) result (bytes_at (length buf.old)) }
     ensures causes { (cause : Cause) → IsErrOf result (Corrupted cause) → (cause ≡ UnexpectedEnd) ⊎ (cause ≡ TooLong) }
     ensures counted { OnOk result (count.new ≡ count.old + length buf.old) }
@@ -142,13 +167,37 @@ pub fn take_bool<S: ByteSource>(source: &mut S, count: &mut u64) -> Result<bool,
     }
 }
 
-/// Nine groups of seven bits may come before the last.
-const MORE_GROUPS: u32 = 9;
+/// A number of variable length has at most so many bytes.
+const LONGEST_NUMBER: u64 = 10;
 
 /// Takes a number of variable length. No byte is taken behind the first fault.
 ///
 /// Errors: those of [`take`], and `Corrupted(BadNumber)` where the number has more than ten bytes or is 2^64 or more.
+#[inline]
 pub fn take_vint<S: ByteSource>(source: &mut S, count: &mut u64) -> Result<u64, ReadError>
+    ensures takes { TakesBy S.tells S.left S.faults source.old count.old source.new count.new (λ x. x) result vint_at }
+    ensures too_long { IsErrOf result (Corrupted TooLong) → count.new ≡ 2 ^ 64 - 1 }
+    ensures spares { ¬ IsErrOf result Memory }
+    ensures few { count.new ≤ count.old + 10 }
+    ensures ten { IsErrOf result (Corrupted BadNumber) → count.new ≡ count.old + 10 }
+{
+    if u64::MAX - *count < LONGEST_NUMBER {
+        return take_groups(source, count);
+    }
+    match pass_number(source) {
+        Some((number, len)) => {
+            *count += len as u64;
+            Ok(number)
+        }
+        None => take_groups(source, count),
+    }
+}
+
+/// Nine groups of seven bits may come before the last.
+const MORE_GROUPS: u32 = 9;
+
+// The same, group by group.
+fn take_groups<S: ByteSource>(source: &mut S, count: &mut u64) -> Result<u64, ReadError>
     ensures takes { TakesBy S.tells S.left S.faults source.old count.old source.new count.new (λ x. x) result vint_at }
     ensures too_long { IsErrOf result (Corrupted TooLong) → count.new ≡ 2 ^ 64 - 1 }
     ensures spares { ¬ IsErrOf result Memory }

@@ -6,4 +6,5 @@ pub mod Slices
 pub mod Objects
 pub mod Agrees
 pub mod Unique
+pub mod Deciding
 pub mod Steps

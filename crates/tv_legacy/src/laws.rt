@@ -5,7 +5,7 @@ ghost use Rattle.tv_base.specs.Parts.{OneReading};
 ghost use Rattle.tv_base.specs.Source.{AllBytes};
 ghost use Rattle.tv_base.specs.declared.cause.Cause.{Cause};
 ghost use Rattle.tv_legacy.specs.Legacy.{Legacy, LegacyFault};
-ghost use Rattle.tv_legacy.specs.LegacyLaws.{BeginsLegacy, IsFaulty};
+ghost use Rattle.tv_legacy.specs.LegacyLaws.{BeginsLegacy, IsFaulty, BeginsValue, HasValueFault, DerivesDocument, HasDocumentFault};
 ghost use Rattle.tv_value.specs.Fault.{Refusal, ValueFault, DocumentFault};
 ghost use Rattle.tv_value.specs.Short.{short, short_document, IsValue, IsDocument};
 ghost use Rattle.tv_value.specs.Spelling.{Spells, SpellsDocument, Derives};
@@ -72,4 +72,14 @@ pub fn faults_of_values_are_unique()
 /// The same of documents.
 pub fn faults_of_documents_are_unique()
     ensures { (v : Version) (bytes : List ℕ) (r s : Refusal) → DocumentFault Legacy LegacyFault v bytes r → DocumentFault Legacy LegacyFault v bytes s → r ≡ s }
+{}
+
+/// Any bytes begin with a value, or are at fault. By the laws above not both: in each version exactly one of them holds.
+pub fn bytes_begin_a_value_or_are_faulty()
+    ensures { (v : Version) (bytes : List ℕ) → AllBytes bytes → BeginsValue v bytes ⊎ HasValueFault v bytes }
+{}
+
+/// The same of documents.
+pub fn bytes_derive_a_document_or_are_faulty()
+    ensures { (v : Version) (bytes : List ℕ) → AllBytes bytes → DerivesDocument v bytes ⊎ HasDocumentFault v bytes }
 {}

@@ -4,3 +4,4 @@ pub mod AgreeLeaves
 pub mod BehindKinds
 pub mod TreeSteps
 pub mod AgreeField
+pub mod HeadSteps

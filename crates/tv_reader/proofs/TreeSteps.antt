@@ -253,7 +253,7 @@ object_refused version n a w r number (in_next_key es front rest joined spelled 
 object_refused version n a w r number (in_next_value es k front key rest joined spelled fewer keyed f) =
     in_entry n es k a front key rest (ap (λ (l : List ℕ). a ++ l) joined) (subst (λ m. VNum a m) (sym (total version n)) number) spelled fewer keyed f
 
-twice_refused : (version : DocStoreVersion) (w : List ℕ) (c : Cause) → TwiceFault w c → NoValue (version_of version) (13 ∷ w) (corrupted c)
+pub twice_refused : (version : DocStoreVersion) (w : List ℕ) (c : Cause) → TwiceFault w c → NoValue (version_of version) (13 ∷ w) (corrupted c)
 twice_refused version w c (in_number f) = in_entry_count f
 twice_refused version w _ (odd_number n front rest joined number none) = odd_count n front rest joined number (λ m e. none m (sym (total version m) ∙ e))
 

@@ -8,3 +8,5 @@ pub mod LeafBodies
 pub mod Trees
 pub mod Counts
 pub mod Fields
+pub mod Heads
+pub mod HeadReading

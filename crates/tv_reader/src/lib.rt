@@ -3,6 +3,7 @@
 
 pub mod error;
 pub mod fields;
+pub mod heads;
 pub mod kinds;
 pub mod leaves;
 pub mod trees;

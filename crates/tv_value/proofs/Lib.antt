@@ -6,6 +6,8 @@ pub mod ExcludingLeaves
 pub mod ExcludingTrees
 pub mod SingleLeaves
 pub mod SingleTrees
+pub mod DecidingLeaves
+pub mod DecidingTrees
 pub mod ShortSpellings
 pub mod Fronts
 pub mod Lists

@@ -1,5 +1,5 @@
 use Rattle.std.proofs.Common.{length, ◌-◌, ◌+◌, ◌≡◌, ◌++◌, take, ◌≤◌}
-use Rattle.tv_base.proofs.take.take.Given as goal
+use Rattle.tv_base.proofs.take.take_by_reads.Given as goal
 
 abbrev pub invariant-loop-filled : goal.invariant-loop-filled
 invariant-loop-filled g l =

@@ -3,7 +3,7 @@ use Rattle.std.proofs.Common.{◌≡◌, ◌+◌, ◌-◌, ◌^◌, ◌<◌}
 use Rattle.tv_base.specs.Reading.{groups_at}
 use Rattle.tv_base.proofs.TakeSteps.{SoFar}
 use Rattle.tv_base.proofs.TakenGroups.{with_low}
-use Rattle.tv_base.proofs.take.take_vint.Given as goal
+use Rattle.tv_base.proofs.take.take_groups.Given as goal
 
 abbrev pub invariant-loop : goal.invariant-loop
 invariant-loop g l =

@@ -1,0 +1,165 @@
+//! Taking the head of a value from a source that is lent: as much of it as is taken at once, without memory.
+
+ghost use Rattle.std.specs.Prelude.{◌≡◌, ◌-◌, ◌^◌, IsErrOf};
+ghost use Rattle.tv_base.specs.Number.{VNum};
+ghost use Rattle.tv_base.specs.PartFault.{NumberFault};
+ghost use Rattle.tv_base.specs.Take as reads;
+ghost use Rattle.tv_base.specs.declared.cause.Cause.TheVariants.{TooLong};
+ghost use Rattle.tv_base.specs.declared.read_error.ReadError.TheVariants.{Corrupted, Memory as NoMemory};
+ghost use Rattle.tv_reader.specs.Finds.{Finds};
+ghost use Rattle.tv_reader.specs.Heads.{SpellsHead, SpellsKeyHead, CodedLength};
+ghost use Rattle.tv_reader.specs.HeadReading.{head_part, head_at};
+ghost use Rattle.tv_reader.specs.Trees.{NoValue};
+ghost use Rattle.tv_reader.specs.Version.{version_of};
+ghost use Rattle.tv_reader.specs.declared.error.DeserializeError.TheVariants.{CorruptedValue, HeapFull, Memory};
+ghost use Rattle.tv_value.specs.Fault.{Corrupt, CodedKeyFault, KeyFault};
+
+use crate::error::{DeserializeError, ValueType};
+use crate::kinds::take_kind;
+use crate::leaves::{take_date, take_ip_address};
+use crate::trees::take_half;
+use crate::version::DocStoreVersion;
+use tv_base::take::{take_bool, take_i64, take_u64, take_vint};
+use tv_base::{ByteSource, ReadError};
+use tv_value::leaf::ReferenceValueLeaf;
+
+/// What is taken of a value at once.
+#[derive(Clone, Copy, Debug, PartialEq)]
+pub enum Head {
+    /// A whole value: null, a number, a date, a truth value or an address.
+    Leaf(ReferenceValueLeaf<'static>),
+    /// The length of a text, in bytes. None of its bytes was taken.
+    Text(u64),
+    /// The length of a facet's encoded text, in bytes. None of its bytes was taken.
+    Facet(u64),
+    /// The number of bytes. None of them was taken.
+    Bytes(u64),
+    /// The number of an array's elements. None of them was taken.
+    Array(u64),
+    /// The number of an object's entries. None of them was taken.
+    Object(u64),
+    /// The codes of a pre-tokenized text. Nothing behind them was taken.
+    Tokenized,
+    /// The code of an object as older stores hold it. Nothing behind it was taken.
+    Legacy,
+}
+
+/// Takes the head of a value: all of one of a known width, and of any other its code and what the code is followed by up to the
+/// first byte, element or entry. No memory is taken.
+///
+/// Errors: `CorruptedValue` with the first fault in the head, and `Io` where the source failed.
+pub fn take_head<S: ByteSource>(
+    source: &mut S,
+    count: &mut u64,
+    version: DocStoreVersion,
+) -> Result<Head, DeserializeError>
+    ensures finds { Finds S.tells S.left S.faults source.old count.old source.new count.new result (λ b head. SpellsHead (version_of version) b (head_part head)) (NoValue (version_of version)) }
+    ensures too_long { IsErrOf result (CorruptedValue TooLong) → count.new ≡ 2 ^ 64 - 1 }
+    ensures roomy { ¬ IsErrOf result HeapFull }
+    ensures spares { ¬ IsErrOf result Memory }
+{
+    let kind = take_kind(source, count)?;
+    let head = take_head_behind(source, count, version, kind)?;
+    Ok(head)
+}
+
+// The head of a value whose type was taken.
+#[tactic(auto, using(tv_base::proofs::TakeSteps::Taken_then), unfolding(crate::specs::HeadReading::head_at))]
+fn take_head_behind<S: ByteSource>(
+    source: &mut S,
+    count: &mut u64,
+    version: DocStoreVersion,
+    kind: ValueType,
+) -> Result<Head, ReadError>
+    ensures takes { reads.TakesBy S.tells S.left S.faults source.old count.old source.new count.new head_part result (head_at (version_of version) kind) }
+    ensures too_long { IsErrOf result (Corrupted TooLong) → count.new ≡ 2 ^ 64 - 1 }
+    ensures spares { ¬ IsErrOf result NoMemory }
+{
+    match kind {
+        ValueType::String => Ok(Head::Text(take_vint(source, count)?)),
+        ValueType::Facet => Ok(Head::Facet(take_vint(source, count)?)),
+        ValueType::Bytes => Ok(Head::Bytes(take_vint(source, count)?)),
+        ValueType::Array => Ok(Head::Array(take_vint(source, count)?)),
+        ValueType::Object => Ok(Head::Object(take_half(source, count)?)),
+        ValueType::PreTokStr => Ok(Head::Tokenized),
+        ValueType::JSONObject => Ok(Head::Legacy),
+        ValueType::Null => Ok(Head::Leaf(ReferenceValueLeaf::Null)),
+        ValueType::U64 => {
+            let number = take_u64(source, count)?;
+            Ok(Head::Leaf(ReferenceValueLeaf::U64(number)))
+        }
+        ValueType::I64 => {
+            let number = take_i64(source, count)?;
+            Ok(Head::Leaf(ReferenceValueLeaf::I64(number)))
+        }
+        ValueType::DateTime => {
+            let date = take_date(source, count, version)?;
+            Ok(Head::Leaf(ReferenceValueLeaf::Date(date)))
+        }
+        ValueType::Bool => {
+            let truth = take_bool(source, count)?;
+            Ok(Head::Leaf(ReferenceValueLeaf::Bool(truth)))
+        }
+        ValueType::IpAddr => {
+            let address = take_ip_address(source, count)?;
+            Ok(Head::Leaf(ReferenceValueLeaf::IpAddr(address)))
+        }
+    }
+}
+
+/// Takes the head of a key: its code, and its length in bytes. None of these bytes is taken.
+///
+/// Errors: `CorruptedValue` with the first fault in the head, `TypeMismatch` where a value of another type stands there, and `Io`.
+pub fn take_key_head<S: ByteSource>(
+    source: &mut S,
+    count: &mut u64,
+    version: DocStoreVersion,
+) -> Result<u64, DeserializeError>
+    ensures finds { Finds S.tells S.left S.faults source.old count.old source.new count.new result (SpellsKeyHead (version_of version)) (KeyFault (version_of version)) }
+    ensures too_long { IsErrOf result (CorruptedValue TooLong) → count.new ≡ 2 ^ 64 - 1 }
+    ensures roomy { ¬ IsErrOf result HeapFull }
+    ensures spares { ¬ IsErrOf result Memory }
+{
+    match version {
+        DocStoreVersion::V1 | DocStoreVersion::V2 => take_coded_key_head(source, count),
+    }
+}
+
+// A key's length behind the code of a text.
+fn take_coded_key_head<S: ByteSource>(
+    source: &mut S,
+    count: &mut u64,
+) -> Result<u64, DeserializeError>
+    ensures finds { Finds S.tells S.left S.faults source.old count.old source.new count.new result CodedLength CodedKeyFault }
+    ensures too_long { IsErrOf result (CorruptedValue TooLong) → count.new ≡ 2 ^ 64 - 1 }
+    ensures roomy { ¬ IsErrOf result HeapFull }
+    ensures spares { ¬ IsErrOf result Memory }
+{
+    let kind = take_kind(source, count)?;
+    match kind {
+        ValueType::String => {
+            let len = take_vint(source, count)?;
+            Ok(len)
+        }
+        actual => Err(DeserializeError::TypeMismatch {
+            expected: ValueType::String,
+            actual,
+        }),
+    }
+}
+
+/// Takes the head of a document: the number of its pairs.
+///
+/// Errors: `CorruptedValue` with the first fault in the number, and `Io`.
+pub fn take_document_head<S: ByteSource>(
+    source: &mut S,
+    count: &mut u64,
+) -> Result<u64, DeserializeError>
+    ensures finds { Finds S.tells S.left S.faults source.old count.old source.new count.new result VNum (Corrupt NumberFault) }
+    ensures too_long { IsErrOf result (CorruptedValue TooLong) → count.new ≡ 2 ^ 64 - 1 }
+    ensures roomy { ¬ IsErrOf result HeapFull }
+    ensures spares { ¬ IsErrOf result Memory }
+{
+    let number = take_vint(source, count)?;
+    Ok(number)
+}

@@ -1,0 +1,198 @@
+-- Any bytes begin with a leaf of a code, a key or a field, or they are at fault there.
+use Rattle.std.proofs.Common.{◌≡◌, ◌≢◌, ℕ, zero, suc, ◌<◌, ◌≤◌, Bool, true, false, List, [], ◌∷◌, ◌++◌, length, refl, sym, ap, subst, ◌∙◌, arith, inl, inr}
+use Rattle.std.specs.Prelude.{ℤ, pos, negsuc, ◌*ℤ◌, ◌≤ℤ◌, ◌<ℤ◌}
+use Rattle.std.specs.Int.Signed.{lt_z}
+use Rattle.std.proofs.lemmas.Bool.{cases_lt}
+use Rattle.std.proofs.lemmas.Bool.Decides.{eqb_tells}
+use Rattle.std.proofs.lemmas.Int.{ints}
+use Rattle.tv_base.specs.declared.cause.Cause.{Cause}
+use Rattle.tv_base.specs.declared.cause.Cause.TheVariants.{UnexpectedEnd, UnknownTypeCode, FloatCode, UnknownExtCode, DateRange, FieldNumber}
+use Rattle.tv_base.specs.Number.{VNum, Fixed, Signed}
+use Rattle.tv_base.specs.Parts.{Behind, Text, Counted}
+use Rattle.tv_base.specs.PartFault.{InThen, InEach, NumberFault, BytesFault, TextFault, TruthFault, truth_ends, truth_large}
+use Rattle.tv_base.specs.Source.{AllBytes}
+use Rattle.tv_base.proofs.AgreeNumbers.{vint_agrees}
+use Rattle.tv_base.proofs.AgreeParts.{sized_agrees, text_agrees}
+use Rattle.tv_base.proofs.AgreeTruth.{truth_agrees}
+use Rattle.tv_base.proofs.AgreeWidths.{bytes_fault, u32_agrees, u64_agrees, u128_agrees, i64_agrees}
+use Rattle.tv_base.proofs.Deciding.{Decided, begins, faulty, Decides, Both, Items, decides_as, behind_code, decides_then, decides_each, decides_by}
+use Rattle.tv_base.proofs.SmallBytes.{bytes_after}
+use Rattle.tv_value.specs.Fault.{Refusal, corrupted, no_text_key, Corrupt, corrupt, TokenFault, TokenizedFault, DateFault, date_ends, date_range, LeafFault, in_text, in_unsigned, in_signed, in_facet, in_bytes, in_date, no_extension, other_extension, in_tokenized, no_truth, other_truth, in_ip_address, CodedKeyFault, key_ends, key_unknown, key_float, key_other, key_no_extension, key_tokenized, key_other_extension, in_key, KeyFault, FieldFault, field_ends, field_large, SmallField}
+use Rattle.tv_value.specs.Spelling.{TokenSpelling, Tokenized, leaf_code, LeafBody, Key}
+use Rattle.tv_value.specs.Tree.{Token, Leaf, null, text, unsigned, signed, boolean, date, facet, bytes, ip_address, tokenized}
+use Rattle.tv_value.specs.Version.{Version, V1, V2, V3, Date}
+
+-- ---- dates
+
+below : (a b : ℤ) → lt_z a b ≡ true → a <ℤ b
+below a b e = omega (arith, ints)
+
+at_least : (a b : ℤ) → lt_z a b ≡ false → b ≤ℤ a
+at_least a b e = omega (arith, ints)
+
+abbrev DateOf : Version → List ℕ → Cause → Type 0
+DateOf v whole c = DateFault whole v c
+
+above : (z : ℤ) (whole front rest : List ℕ) (b : Bool) → lt_z (pos 9223372036854775) z ≡ b → whole ≡ front ++ rest → Signed front z → negsuc 9223372036854774 ≤ℤ z → Decided (Date V1) (DateOf V1) whole
+above z whole front rest true e joined s from = faulty DateRange (date_range z front rest joined s.spelled (record { fits = s.fits; outside = inr (below (pos 9223372036854775) z e) }))
+above z whole front rest false e joined s from =
+    begins (z *ℤ pos 1000) front rest joined (record { microseconds = z; from = from; to = at_least (pos 9223372036854775) z e; same = refl; spelled = s.spelled })
+
+ranged : (z : ℤ) (whole front rest : List ℕ) (b : Bool) → lt_z z (negsuc 9223372036854774) ≡ b → whole ≡ front ++ rest → Signed front z → Decided (Date V1) (DateOf V1) whole
+ranged z whole front rest true e joined s = faulty DateRange (date_range z front rest joined s.spelled (record { fits = s.fits; outside = inl (below z (negsuc 9223372036854774) e) }))
+ranged z whole front rest false e joined s = above z whole front rest (lt_z (pos 9223372036854775) z) refl joined s (at_least z (negsuc 9223372036854774) e)
+
+date_ended : (v : Version) (whole : List ℕ) (c : Cause) → BytesFault 8 whole c → DateFault whole v c
+date_ended v whole c h = let q = bytes_fault 8 whole c h in subst (DateFault whole v) (sym q.0) (date_ends q.1)
+
+microseconds : (whole : List ℕ) → Decided Signed (BytesFault 8) whole → Decided (Date V1) (DateOf V1) whole
+microseconds whole (begins z front rest joined s) = ranged z whole front rest (lt_z z (negsuc 9223372036854774)) refl joined s
+microseconds whole (faulty c f) = faulty c (date_ended V1 whole c f)
+
+decides_date : (most : ℕ) (v : Version) → Decides most (Date v) (DateOf v)
+decides_date most V1 = record { decides = λ whole small le. microseconds whole ((decides_by most i64_agrees).decides whole small le) }
+decides_date most V2 = decides_as (Date V2) (DateOf V2) (λ z. z) (λ c. c) (λ b z h. h) (date_ended V2) (decides_by most i64_agrees)
+decides_date most V3 = decides_as (Date V3) (DateOf V3) (λ z. z) (λ c. c) (λ b z h. h) (date_ended V3) (decides_by most i64_agrees)
+
+-- ---- texts with their tokens
+
+abbrev Named : List ℕ → List ℕ × ℕ → Type 0
+Named = Both Text (λ _. VNum)
+
+abbrev Placed : List ℕ → ℕ × (List ℕ × ℕ) → Type 0
+Placed = Both VNum (λ _. Named)
+
+abbrev Ended : List ℕ → ℕ × (ℕ × (List ℕ × ℕ)) → Type 0
+Ended = Both VNum (λ _. Placed)
+
+decides_token : (most : ℕ) → Decides most TokenSpelling TokenFault
+decides_token most =
+    let number = decides_by most vint_agrees in
+    let named = decides_then TextFault Text (λ _. VNum) (λ _. NumberFault) (decides_by most text_agrees) (λ _. number) in
+    let placed = decides_then NumberFault VNum (λ _. Named) (λ _. InThen TextFault Text (λ _. NumberFault)) number (λ _. named) in
+    let ended = decides_then NumberFault VNum (λ _. Placed) (λ _. InThen NumberFault VNum (λ _. InThen TextFault Text (λ _. NumberFault))) number (λ _. placed) in
+    decides_as TokenSpelling TokenFault (λ p. record { offset_from = p.0; offset_to = p.1.0; position = p.1.1.0; text = p.1.1.1.0; position_length = p.1.1.1.1 }) (λ c. c) (λ b p h. h) (λ b c f. f)
+    (decides_then NumberFault VNum (λ _. Ended) (λ _. InThen NumberFault VNum (λ _. InThen NumberFault VNum (λ _. InThen TextFault Text (λ _. NumberFault)))) number (λ _. ended))
+
+abbrev TokenList : List ℕ → ℕ × List Token → Type 0
+TokenList = Both VNum (Items TokenSpelling)
+
+abbrev TokenizedPair : List ℕ → List ℕ × List Token → Type 0
+TokenizedPair whole pair = Tokenized whole pair.0 pair.1
+
+token_list : (whole : List ℕ) (p : List ℕ × (ℕ × List Token)) → Both Text (λ _. TokenList) whole p → Tokenized whole p.0 p.1.1
+token_list whole p h = record {
+  front = h.front;
+  rest = h.rest;
+  joined = h.joined;
+  first = h.first;
+  second = record { front = h.second.front; rest = h.second.rest; joined = h.second.joined; first = subst (VNum h.second.front) (sym h.second.second.0) h.second.first; second = h.second.second.1 };
+}
+
+decides_tokenized : (most : ℕ) → Decides most TokenizedPair TokenizedFault
+decides_tokenized most =
+    decides_as TokenizedPair TokenizedFault (λ p. (p.0, p.1.1)) (λ c. c) token_list (λ b c f. f)
+    (decides_then TextFault Text (λ _. TokenList) (λ _. InThen NumberFault VNum (InEach TokenFault TokenSpelling)) (decides_by most text_agrees)
+    (λ _. decides_then NumberFault VNum (Items TokenSpelling) (InEach TokenFault TokenSpelling) (decides_by most vint_agrees) (decides_each TokenFault TokenSpelling (decides_token most))))
+
+-- ---- leaves
+
+-- a leaf of a code, and what is wrong with bytes behind the code
+abbrev pub LeafAt : Version → ℕ → List ℕ → Leaf → Type 0
+LeafAt v code whole l = (leaf_code l ≡ code) × LeafBody v whole l
+
+abbrev pub LeafWrong : Version → ℕ → List ℕ → Cause → Type 0
+LeafWrong v code whole c = LeafFault v whole code c
+
+pub decides_text : (most : ℕ) (v : Version) → Decides most (LeafAt v 0) (LeafWrong v 0)
+decides_text most v = decides_as (LeafAt v 0) (LeafWrong v 0) text (λ c. c) (λ b x h. (refl, h)) (λ b c f. in_text f) (decides_by most text_agrees)
+
+pub decides_unsigned : (most : ℕ) (v : Version) → Decides most (LeafAt v 1) (LeafWrong v 1)
+decides_unsigned most v = decides_as (LeafAt v 1) (LeafWrong v 1) unsigned (λ c. c) (λ b x h. (refl, h)) (λ b c f. in_unsigned f) (decides_by most u64_agrees)
+
+pub decides_signed : (most : ℕ) (v : Version) → Decides most (LeafAt v 2) (LeafWrong v 2)
+decides_signed most v = decides_as (LeafAt v 2) (LeafWrong v 2) signed (λ c. c) (λ b x h. (refl, h)) (λ b c f. in_signed f) (decides_by most i64_agrees)
+
+pub decides_facet : (most : ℕ) (v : Version) → Decides most (LeafAt v 3) (LeafWrong v 3)
+decides_facet most v = decides_as (LeafAt v 3) (LeafWrong v 3) facet (λ c. c) (λ b x h. (refl, h)) (λ b c f. in_facet f) (decides_by most text_agrees)
+
+pub decides_bytes : (most : ℕ) (v : Version) → Decides most (LeafAt v 4) (LeafWrong v 4)
+decides_bytes most v = decides_as (LeafAt v 4) (LeafWrong v 4) bytes (λ c. c) (λ b x h. (refl, h)) (λ b c f. in_bytes f) (decides_by most sized_agrees)
+
+pub decides_dated : (most : ℕ) (v : Version) → Decides most (LeafAt v 5) (LeafWrong v 5)
+decides_dated most v = decides_as (LeafAt v 5) (LeafWrong v 5) date (λ c. c) (λ b x h. (refl, h)) (λ b c f. in_date f) (decides_date most v)
+
+extended : (most : ℕ) (v : Version) (whole : List ℕ) → AllBytes whole → length whole ≤ suc most → Decided (LeafAt v 7) (LeafWrong v 7) whole
+extended most v [] small le = faulty UnexpectedEnd (no_extension refl)
+extended most v (zero ∷ rest) small le =
+    behind_code (LeafAt v 7) (LeafWrong v 7) (λ p. tokenized p.0 p.1) (λ c. c) 0 (λ b p h. (refl, record { body = b; joined = refl; spelled = h })) (λ b c f. in_tokenized b refl f)
+    (decides_tokenized most) rest (bytes_after (zero ∷ rest) (zero ∷ []) rest refl small) (omega arith)
+extended most v (suc n ∷ rest) small le = faulty (UnknownExtCode (suc n)) (other_extension rest refl (λ e. omega (arith, e)))
+
+pub decides_extended : (most : ℕ) (v : Version) → Decides most (LeafAt v 7) (LeafWrong v 7)
+decides_extended most v = record { decides = λ whole small le. extended most v whole small (omega arith) }
+
+truth_wrong : (v : Version) (whole : List ℕ) (c : Cause) → TruthFault whole c → LeafFault v whole 9 c
+truth_wrong v whole _ (truth_ends e) = no_truth e
+truth_wrong v whole _ (truth_large b rest e h) = other_truth b rest e h
+
+pub decides_boolean : (most : ℕ) (v : Version) → Decides most (LeafAt v 9) (LeafWrong v 9)
+decides_boolean most v = decides_as (LeafAt v 9) (LeafWrong v 9) boolean (λ c. c) (λ b x h. (refl, h)) (truth_wrong v) (decides_by most truth_agrees)
+
+pub decides_ip_address : (most : ℕ) (v : Version) → Decides most (LeafAt v 10) (LeafWrong v 10)
+decides_ip_address most v = decides_as (LeafAt v 10) (LeafWrong v 10) ip_address (λ c. c) (λ b x h. (refl, h)) (λ b c f. in_ip_address f) (decides_by most u128_agrees)
+
+pub decides_null : (most : ℕ) (v : Version) → Decides most (LeafAt v 11) (LeafWrong v 11)
+decides_null most v = record { decides = λ whole small le. begins null [] whole refl (refl, refl) }
+
+-- ---- keys
+
+abbrev CodedKey : List ℕ → List ℕ → Type 0
+CodedKey whole k = Behind 0 (λ b. Text b k) whole
+
+text_key : (most : ℕ) (rest : List ℕ) → AllBytes rest → length rest ≤ most → Decided CodedKey CodedKeyFault (0 ∷ rest)
+text_key most rest small le =
+    behind_code CodedKey CodedKeyFault (λ k. k) corrupted 0 (λ b k h. record { body = b; joined = refl; spelled = h }) (λ b c f. in_key f) (decides_by most text_agrees) rest small le
+
+extended_key : (rest : List ℕ) → Decided CodedKey CodedKeyFault (7 ∷ rest)
+extended_key [] = faulty (corrupted UnexpectedEnd) key_no_extension
+extended_key (zero ∷ rest) = faulty (no_text_key 7) key_tokenized
+extended_key (suc n ∷ rest) = faulty (corrupted (UnknownExtCode (suc n))) (key_other_extension (λ e. omega (arith, e)))
+
+other_key : (b : ℕ) (rest : List ℕ) → b ≢ 0 → b ≢ 6 → b ≢ 7 → Decided CodedKey CodedKeyFault (b ∷ rest)
+other_key b rest not_text not_float not_extended = elim (cases_lt b 14) as (λ _. Decided CodedKey CodedKeyFault (b ∷ rest)) [
+  | inl less ↦ faulty (no_text_key b) (key_other (omega arith) less not_float not_extended)
+  | inr more ↦ faulty (corrupted (UnknownTypeCode b)) (key_unknown (omega arith))
+]
+
+key_behind : (most b : ℕ) (rest : List ℕ) → AllBytes rest → length rest ≤ most → Decided CodedKey CodedKeyFault (b ∷ rest)
+key_behind most b rest small le =
+    let Goal = λ (n : ℕ). Decided CodedKey CodedKeyFault (n ∷ rest) in
+    elim (eqb_tells b 0) as (λ _. Goal b) [
+      | inl p ↦ subst Goal (sym p.1) (text_key most rest small le)
+      | inr p ↦ elim (eqb_tells b 6) as (λ _. Goal b) [
+        | inl q ↦ subst Goal (sym q.1) (faulty (corrupted FloatCode) key_float)
+        | inr q ↦ elim (eqb_tells b 7) as (λ _. Goal b) [ inl r ↦ subst Goal (sym r.1) (extended_key rest) | inr r ↦ other_key b rest p.1 q.1 r.1 ]
+      ]
+    ]
+
+coded_key : (most : ℕ) (whole : List ℕ) → AllBytes whole → length whole ≤ most → Decided CodedKey CodedKeyFault whole
+coded_key most [] small le = faulty (corrupted UnexpectedEnd) key_ends
+coded_key most (b ∷ rest) small le = key_behind most b rest (bytes_after (b ∷ rest) (b ∷ []) rest refl small) (omega arith)
+
+pub decides_key : (most : ℕ) (v : Version) → Decides most (Key v) (KeyFault v)
+decides_key most V1 = record { decides = coded_key most }
+decides_key most V2 = record { decides = coded_key most }
+decides_key most V3 = decides_as (Key V3) (KeyFault V3) (λ k. k) corrupted (λ b k h. h) (λ b c f. corrupt f) (decides_by most text_agrees)
+
+-- ---- fields
+
+small_field : (whole : List ℕ) → Decided (Fixed 4) (BytesFault 4) whole → Decided SmallField (Corrupt FieldFault) whole
+small_field whole (begins n front rest joined h) = elim (cases_lt 65535 n) as (λ _. Decided SmallField (Corrupt FieldFault) whole) [
+  | inl large ↦ faulty (corrupted (FieldNumber n)) (corrupt (field_large n front rest joined h large))
+  | inr fits ↦ begins n front rest joined (h, fits)
+]
+small_field whole (faulty c f) = let q = bytes_fault 4 whole c f in faulty (corrupted UnexpectedEnd) (corrupt (field_ends q.1))
+
+pub decides_field : (most : ℕ) → Decides most SmallField (Corrupt FieldFault)
+decides_field most = record { decides = λ whole small le. small_field whole ((decides_by most u32_agrees).decides whole small le) }
