@@ -33,7 +33,7 @@ front_more old heap new added e more = (added ++ more.0, more.1 ∙ ap (λ z. z 
 -- ---- lists
 
 -- one child more
-elements_push : (heap : List ℕ) (parent : ℕ) (list : List ℕ) (done : List Tree) (code at : ℕ) (t : Tree) → ReadsElements heap parent list (elements done) → Reads heap code at t → at < 2 ^ 32
+pub elements_push : (heap : List ℕ) (parent : ℕ) (list : List ℕ) (done : List Tree) (code at : ℕ) (t : Tree) → ReadsElements heap parent list (elements done) → Reads heap code at t → at < 2 ^ 32
     → (code ≢ 0 → code ≢ 9 → at < parent) → ReadsElements heap parent (list ++ (code ∷ vnum at)) (elements (done ++ t ∷ []))
 elements_push heap parent list [] code at t p r fits below = record {
   code = code;

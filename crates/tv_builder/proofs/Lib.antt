@@ -1,0 +1,6 @@
+pub mod Trading
+pub mod Children
+pub mod Giving
+pub mod OneState
+pub mod Sound
+pub mod Calls
