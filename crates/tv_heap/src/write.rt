@@ -64,7 +64,11 @@ fn make_room(bytes: &mut Vec<u8>, room: usize) -> Result<(), AllocError>
 /// Adds a child's type and address. (Own.) The addresses in a short document have one byte or two. The only error is that memory
 /// was refused; what `places` holds then is open.
 #[inline]
-pub fn push_place(places: &mut Vec<u8>, value_type: ValueType, address: u32) -> Result<(), AllocError>
+pub fn push_place(
+    places: &mut Vec<u8>,
+    value_type: ValueType,
+    address: u32,
+) -> Result<(), AllocError>
     ensures { OnOk result (places.new.items ≡ places.old.items ++ (type_code value_type ∷ vnum address)) }
 {
     make_room(places, FIRST_PLACES)?;
@@ -229,11 +233,7 @@ pub fn write_tree<N: Nested>(
 /// Writes a list behind its children, whose places are those from `first` on, and answers its address. (Own.) The places are taken
 /// off. After an error the old heap is still a front of the new, and what `places` holds is open.
 #[inline]
-pub fn write_list(
-    heap: &mut Vec<u8>,
-    places: &mut Vec<u8>,
-    first: usize,
-) -> Result<u32, AllocError>
+pub fn write_list(heap: &mut Vec<u8>, places: &mut Vec<u8>, first: usize) -> Result<u32, AllocError>
     requires first { first ≤ length places.old.items }
     requires fits { length heap.old.items < 2 ^ 32 }
     ensures heap { OnOk result (heap.new.items ≡ heap.old.items ++ short_sized (drop first places.old.items)) }
