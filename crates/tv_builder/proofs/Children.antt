@@ -1,6 +1,6 @@
 -- The finished children of a list: their parts, their bytes and their room.
-use Rattle.std.proofs.Common.{◌≡◌, ◌≢◌, ℕ, zero, suc, ◌+◌, ◌*◌, ◌%◌, ◌^◌, ◌<◌, ◌≤◌, List, [], ◌∷◌, ◌++◌, length, map, refl, sym, ◌∙◌, ap, subst, append_assoc, length-append, arith}
-use Rattle.std.proofs.lemmas.List.{append-nil, map-append}
+use Rattle.std.proofs.Common.{◌≡◌, ℕ, suc, ◌+◌, ◌*◌, ◌%◌, ◌^◌, ◌<◌, ◌≤◌, List, [], ◌∷◌, ◌++◌, length, map, refl, sym, ◌∙◌, ap, subst, length-append, arith}
+use Rattle.std.proofs.lemmas.List.{map-append}
 use Rattle.tv_base.specs.Number.{vnum}
 use Rattle.tv_base.specs.Parts.{short_sized}
 use Rattle.tv_value.specs.Tree.{Tree, leaf, text, array, object, elements, entries}
@@ -11,9 +11,8 @@ use Rattle.tv_heap.proofs.Grown.{grown_elements, grown_entries}
 use Rattle.tv_heap.proofs.Writes.{at_end, longer, sized_length, sized_some, vnum_five}
 use Rattle.tv_builder.specs.declared.frame.ListKind.{ListKind}
 use Rattle.tv_builder.specs.declared.frame.ListKind.TheVariants.{Array, Object}
-use Rattle.tv_builder.specs.declared.place.Place.{Place}
 use Rattle.tv_builder.specs.Kinds.{list_type, total}
-use Rattle.tv_builder.specs.Parts.{Part, value, key, array_head, object_head, entry_parts, Rule, full_array, full_object}
+use Rattle.tv_builder.specs.Parts.{value, key, array_head, object_head, entry_parts, Rule, full_array, full_object}
 use Rattle.tv_builder.specs.Shows.{Placed}
 use Rattle.tv_builder.specs.State.{text_of, pairs_of, list_tree, IsKey, AreEntries, AreValues, AreChildren, IsValueNext, IsKeyNext, key_parts, value_parts, list_head, children_parts, trees_room}
 

@@ -1,12 +1,11 @@
 -- What a finished value does.
-use Rattle.std.proofs.Common.{◌≡◌, ◌≢◌, ℕ, zero, suc, ◌+◌, ◌*◌, ◌^◌, ◌<◌, ◌≤◌, Bool, true, false, cond, nat_lt, List, [], ◌∷◌, ◌++◌, length, reverse, take, drop, Option, Some, None, refl, sym, ◌∙◌, ap, subst, append_assoc, length-append, arith, inl, inr}
+use Rattle.std.proofs.Common.{◌≡◌, ℕ, suc, ◌+◌, ◌<◌, ◌≤◌, true, false, nat_lt, List, [], ◌∷◌, ◌++◌, length, take, drop, None, refl, sym, ◌∙◌, ap, subst, append_assoc, length-append, arith, inl, inr}
 use Rattle.std.proofs.lemmas.Bool.{cond-true, cond-false, cases_lt, lt-ltb, le-ltb}
 use Rattle.std.proofs.lemmas.List.{append-nil, take-append-le, drop-append-le}
-use Rattle.tv_base.specs.Number.{vnum}
 use Rattle.tv_base.specs.Parts.{short_sized}
 use Rattle.tv_base.specs.Sink.{IsFront}
 use Rattle.tv_value.specs.Tree.{Tree, elements}
-use Rattle.tv_heap.specs.Reads.{Reads, ReadsElements}
+use Rattle.tv_heap.specs.Reads.{ReadsElements}
 use Rattle.tv_heap.specs.Room.{room}
 use Rattle.tv_heap.specs.TypeCode.{type_code}
 use Rattle.tv_heap.proofs.Grown.{grown_elements}
@@ -14,12 +13,12 @@ use Rattle.tv_heap.proofs.Lists.{elements_push}
 use Rattle.tv_heap.proofs.Writes.{longer}
 use Rattle.tv_builder.specs.declared.frame.Frame.{Frame}
 use Rattle.tv_builder.specs.declared.place.Place.{Place}
-use Rattle.tv_builder.specs.Given.{Given, given, place_bytes, still_lacks, one_more, AreCut, pending_in}
+use Rattle.tv_builder.specs.Given.{Given, given, place_bytes, still_lacks, one_more}
 use Rattle.tv_builder.specs.Kinds.{list_type, total}
-use Rattle.tv_builder.specs.Parts.{Part, value, Trades, same}
+use Rattle.tv_builder.specs.Parts.{value, Trades, same}
 use Rattle.tv_builder.specs.Shows.{Placed, ShowsList, ShowsLists, ShowsAt}
-use Rattle.tv_builder.specs.State.{OpenList, State, complete, in_lists, in_bytes, with_child, lacks_more, with_value, list_tree, IsList, AreLists, AllAwait, OthersAwait, IsState, list_parts, lists_parts, parts_of, trees_room, lists_written, written}
-use Rattle.tv_builder.proofs.Children.{child_value, full_list, elements_bytes, list_placed, list_within, trees_room_push}
+use Rattle.tv_builder.specs.State.{OpenList, State, in_lists, with_child, lacks_more, with_value, list_tree, IsList, AreLists, AllAwait, OthersAwait, IsState, list_head, list_parts, lists_parts, parts_of, lists_written, written}
+use Rattle.tv_builder.proofs.Children.{child_value, full_list, list_placed, list_within, trees_room_push}
 use Rattle.tv_builder.proofs.Trading.{trades_as, trades_from, trades_then, trades_last}
 
 -- ---- fronts
@@ -134,7 +133,7 @@ given_shows (f ∷ fs) (l ∷ ls) heap places p t are await h g fits = elim (tes
         within = omega (arith, trees_room_push l.children t);
       } in
       subst (λ x. GivenShows x (with_value (l ∷ ls) t) (length heap) (lists_written (l ∷ ls) + room t)) (sym (given_waits heap places f fs p e))
-      (subst (λ x. GivenShows _ x (length heap) (lists_written (l ∷ ls) + room t)) (sym (value_waits l ls t test)) body)
+      (subst (λ x. GivenShows (record { heap = heap; places = places ++ place_bytes p; frames = one_more f ∷ fs; complete = None }) x (length heap) (lists_written (l ∷ ls) + room t)) (sym (value_waits l ls t test)) body)
   | not_below le e ↦
       let test = same_test heap places f l h.0 ∙ e in
       let own = drop f.first (places ++ place_bytes p) in
@@ -148,13 +147,13 @@ given_shows (f ∷ fs) (l ∷ ls) heap places p t are await h g fits = elim (tes
       let child = child_value l.kind l.children t await.0 are.0.children in
       let reads = pushed_reads heap places f l p t h.0 g in
       let placed : Placed new q (list_tree l.kind ts) = subst (λ k. Placed new (record { value_type = list_type k; address = length heap }) (list_tree l.kind ts)) h.0.same_kind
-          (list_placed l.kind l.announced heap new own ts all child.0 reads refl fits_new) in
+      (list_placed l.kind l.announced heap new own ts all child.0 reads refl fits_new) in
       let within = list_within l.kind l.announced heap new own ts all child.0 reads refl fits_new in
       let next = given_shows fs ls new (take f.first places) q (list_tree l.kind ts) are.1 await.1 (lists_grown heap new (short_sized own) fs (take f.first places) ls refl h.1) placed fits_next in
       let body : GivenShows (given new (take f.first places) fs q) (with_value ls (list_tree l.kind ts)) (length heap) (lists_written (l ∷ ls) + room t) =
-          record { shows = next.shows; within = omega (arith, next.within, within, trees_room_push l.children t) } in
+      record { shows = next.shows; within = omega (arith, next.within, within, trees_room_push l.children t) } in
       subst (λ x. GivenShows x (with_value (l ∷ ls) t) (length heap) (lists_written (l ∷ ls) + room t)) (sym (given_closes heap places f fs p e))
-      (subst (λ x. GivenShows _ x (length heap) (lists_written (l ∷ ls) + room t)) (sym (value_closes l ls t test)) body)
+      (subst (λ x. GivenShows (given new (take f.first places) fs q) x (length heap) (lists_written (l ∷ ls) + room t)) (sym (value_closes l ls t test)) body)
 ]
 
 -- ---- it is a state, and the parts are traded
@@ -175,7 +174,7 @@ value_is (l ∷ ls) t are await = elim (tested (suc (length l.children)) (total 
 -- a list with one child more
 pushed_parts : (l : OpenList) (ls : List OpenList) (t : Tree) → IsList l → AllAwait (l ∷ ls) → lists_parts (l ∷ ls) ++ value t ∷ [] ≡ lists_parts ls ++ list_parts (with_child l t)
 pushed_parts l ls t is await =
-    append_assoc (lists_parts ls) (list_parts l) (value t ∷ []) ∙ ap (λ z. lists_parts ls ++ (_ ∷ z)) (sym (child_value l.kind l.children t await.0 is.children).1)
+    append_assoc (lists_parts ls) (list_parts l) (value t ∷ []) ∙ ap (λ z. lists_parts ls ++ (list_head l.kind l.announced ∷ z)) (sym (child_value l.kind l.children t await.0 is.children).1)
 
 pub value_trades : (ls : List OpenList) (t : Tree) → AreLists ls → AllAwait ls → Trades (lists_parts ls ++ value t ∷ []) (parts_of (with_value ls t))
 value_trades [] t are await = same
@@ -186,5 +185,5 @@ value_trades (l ∷ ls) t are await = elim (tested (suc (length l.children)) (to
       let all : length ts ≡ total l.kind l.announced = omega (arith, length-append l.children (t ∷ []), are.0.lacks, le) in
       trades_from _ (pushed_parts l ls t are.0 await)
       (trades_then (trades_last (lists_parts ls) _ _ (full_list l.kind l.announced ts all))
-        (trades_as _ (ap parts_of (sym (value_closes l ls t e))) (value_trades ls (list_tree l.kind ts) are.1 await.1)))
+      (trades_as _ (ap parts_of (sym (value_closes l ls t e))) (value_trades ls (list_tree l.kind ts) are.1 await.1)))
 ]

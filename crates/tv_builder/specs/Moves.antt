@@ -1,5 +1,5 @@
 -- What a call on a building leaves.
-use Rattle.std.specs.Prelude.{◌≡◌, ◌↔◌, IsTrue, Bool, false, cond, nat_eq, ℕ, suc, ◌+◌, ◌-◌, ◌<◌, ◌≤◌, ◌⊎◌, List, [], ◌∷◌, ◌++◌, length, drop, take, Option, Some, None, Result, Ok, Err}
+use Rattle.std.specs.Prelude.{◌≡◌, ◌↔◌, IsTrue, Bool, false, cond, nat_eq, ℕ, ◌+◌, ◌-◌, ◌<◌, ◌≤◌, ◌⊎◌, List, [], ◌∷◌, ◌++◌, length, drop, take, Option, Some, None, Result, Ok, Err}
 use Rattle.tv_base.specs.Number.{vnum}
 use Rattle.tv_base.specs.Parts.{short_sized}
 use Rattle.tv_base.specs.Sink.{IsFront}
@@ -7,7 +7,6 @@ use Rattle.tv_value.specs.Tree.{Tree}
 use Rattle.tv_heap.specs.Room.{room}
 use Rattle.tv_heap.specs.TypeCode.{type_code}
 use Rattle.tv_heap.specs.Wrote.{Wrote}
-use Rattle.tv_builder.specs.declared.awaits.Awaits.TheVariants as awaits
 use Rattle.tv_builder.specs.declared.build_error.BuildError.{BuildError}
 use Rattle.tv_builder.specs.declared.build_error.BuildError.TheVariants.{OutOfPlace, NotUtf8, HeapFull, Memory}
 use Rattle.tv_builder.specs.declared.building.Building.{Building}
@@ -18,9 +17,9 @@ use Rattle.tv_builder.specs.declared.frame.Frame.{Frame}
 use Rattle.tv_builder.specs.declared.frame.ListKind.{ListKind}
 use Rattle.tv_builder.specs.declared.place.Place.{Place}
 use Rattle.tv_builder.specs.Given.{Given, given, one_more, pending_in, AreCut}
-use Rattle.tv_builder.specs.Kinds.{list_type, bytes_type, IsTextKind}
+use Rattle.tv_builder.specs.Kinds.{list_type, bytes_type}
 use Rattle.tv_builder.specs.Parts.{IsContent}
-use Rattle.tv_builder.specs.Shows.{Shows, frames_of, awaited_by}
+use Rattle.tv_builder.specs.Shows.{Shows, frames_of}
 use Rattle.tv_builder.specs.State.{State, written, and_end}
 
 -- ---- a finished value is handed to the lists

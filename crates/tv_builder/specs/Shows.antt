@@ -12,7 +12,6 @@ use Rattle.tv_builder.specs.declared.bytes_kind.BytesKind.{BytesKind}
 use Rattle.tv_builder.specs.declared.frame.Frame.{Frame}
 use Rattle.tv_builder.specs.declared.place.Place.{Place}
 use Rattle.tv_builder.specs.Given.{pending_in}
-use Rattle.tv_builder.specs.Kinds.{bytes_type}
 use Rattle.tv_builder.specs.State.{OpenList, State, complete, in_lists, in_bytes, next_at, IsState}
 
 -- A tree stands there. Unless it is null or a truth value, it has bytes below the heap's end.
