@@ -151,7 +151,7 @@ fn put_line(text: &mut Vec<u8>, answer: &str) -> Result<(), AllocError>
 
 /// Puts what is answered for a document's line, with a line feed, in the place of what `text` holds. `bytes` is for what is stored.
 /// The only error is that memory was refused.
-pub fn answer_line(
+pub(crate) fn answer_line(
     alloc: Global,
     schema: &Schema,
     line: &[u8],

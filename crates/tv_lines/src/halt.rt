@@ -7,7 +7,7 @@ use std::alloc::AllocError;
 
 /// Why a run breaks off.
 #[derive(Clone, Copy, Drop)]
-pub enum Halt {
+pub(crate) enum Halt {
     /// A read failed.
     Read,
     /// A write failed.

@@ -13,7 +13,7 @@ const CHUNK: usize = 65536;
 
 /// Reads a source in large pieces, and gives it line by line.
 #[derive(Drop)]
-pub struct LineReader {
+pub(crate) struct LineReader {
     /// Where the pieces go.
     chunk: Vec<u8>,
     /// From here on the last piece belongs to no line yet.
@@ -52,7 +52,7 @@ impl LineReader {
     ghost use Rattle.tv_lines.specs.Reader.{unread, most_left, Moves, Fills, TakesLine};
 
     /// A reader that has taken nothing yet. The only error is that memory was refused.
-    pub fn new(alloc: Global) -> Result<LineReader, AllocError>
+    pub(crate) fn new(alloc: Global) -> Result<LineReader, AllocError>
         ensures { IfOk result (λ reader. unread reader ≡ []) }
     {
         let mut chunk = Vec::new(alloc);
@@ -118,7 +118,7 @@ impl LineReader {
     }
 
     /// Takes the next line, without its line feed, in the place of what `line` holds. Tells whether there was one.
-    pub fn take_line<S: ByteSource>(
+    pub(crate) fn take_line<S: ByteSource>(
         &mut self,
         source: &mut S,
         line: &mut Vec<u8>,

@@ -31,7 +31,7 @@ fn unwritten(error: &DeserializeError) -> &'static str
 
 /// Reads back a document from its shortest spelling, or gives the text that is answered where that takes more memory or room than
 /// there is.
-pub fn read_back(alloc: Global, bytes: &[u8]) -> Result<CompactDoc, &'static str>
+pub(crate) fn read_back(alloc: Global, bytes: &[u8]) -> Result<CompactDoc, &'static str>
     requires { (d : Document) × (IsDocument d × (bytes.now ≡ short_document V2 d)) }
     ensures ok { (d : Document) → IsDocument d → bytes.now ≡ short_document V2 d → IfOk result (λ found. document_of found ≡ d) }
     ensures err { (d : Document) → IsDocument d → bytes.now ≡ short_document V2 d → IfErr result (λ text. IsUnwritten d text.now) }

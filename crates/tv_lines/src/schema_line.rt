@@ -25,7 +25,7 @@ fn error_line(error: SchemaError) -> &'static str
 }
 
 /// The schema that the line describes, or the line that is answered.
-pub fn schema_of_line(alloc: Global, line: &[u8]) -> Result<Schema, &'static str>
+pub(crate) fn schema_of_line(alloc: Global, line: &[u8]) -> Result<Schema, &'static str>
     ensures ok { IfOk result (λ schema. ReadsSchema line.now schema) }
     ensures err { IfErr result (λ text. IsEnded (SchemaRefusal line.now) text.now) }
 {
