@@ -1,5 +1,5 @@
 -- What stands in a heap is what the store has behind a value's code.
-use Rattle.std.proofs.Common.{inl, inr, append_assoc, take-append-drop, ◌≡◌, ◌≢◌, ℕ, ◌+◌, ◌*◌, ◌-◌, ◌/◌, ◌%◌, ◌^◌, ◌<◌, ◌≤◌, suc, ℤ, Bool, not, nat_eq, true, false, List, [], ◌∷◌, ◌++◌, ◌↔◌, length, take, drop, refl, sym, ◌∙◌, ap, subst, arith}
+use Rattle.std.proofs.Common.{inl, inr, append_assoc, take-append-drop, ◌≡◌, ◌≢◌, ℕ, ◌+◌, ◌*◌, ◌-◌, ◌/◌, ◌%◌, ◌^◌, ◌<◌, ◌≤◌, suc, ℤ, not, nat_eq, List, [], ◌∷◌, ◌++◌, ◌↔◌, length, take, drop, refl, sym, ◌∙◌, ap, subst, arith}
 use Rattle.std.specs.Int.{w64, cast_unsigned}
 use Rattle.std.specs.List.{filter}
 use Rattle.std.proofs.lemmas.Bool.{cases_lt, cond-true, cond-false, lt-ltb, le-ltb}
@@ -13,12 +13,12 @@ use Rattle.tv_base.specs.Number.{Groups, last, more, vnum, low_bytes, eight_byte
 use Rattle.tv_base.specs.Parts.{short_sized}
 use Rattle.tv_base.proofs.Numbers.{vnum_spells, length-fixed}
 use Rattle.tv_value.specs.Short.{short, short_elements, short_entries, short_tokenized}
-use Rattle.tv_value.specs.Tree.{Token, Leaf, null, text, unsigned, signed, boolean, date, facet, bytes, ip_address, tokenized, Tree, leaf, array, object, Elements, no_elements, element, elements, element_list, element_count, Entries, no_entries, entry, entry_count}
+use Rattle.tv_value.specs.Tree.{Token, null, text, unsigned, signed, boolean, date, facet, bytes, ip_address, tokenized, Tree, leaf, array, object, Elements, no_elements, element, elements, element_list, element_count, Entries, no_entries, entry, entry_count}
 use Rattle.tv_value.specs.TreeCode.{coded_text}
 use Rattle.tv_value.specs.Version.{V2}
 use Rattle.tv_heap.specs.Encoded.{IsTokenized, is_last, last_bytes}
 use Rattle.tv_heap.specs.Held.{Held, HeldElements}
-use Rattle.tv_heap.specs.Reads.{Stands, ShortSized, ShortText, ShortTokenized, flag, Reads, ReadsElements, ReadsEntries}
+use Rattle.tv_heap.specs.Reads.{Stands, ShortSized, ShortTokenized, Reads, ReadsElements, ReadsEntries}
 use Rattle.tv_heap.specs.ReadsLaws.{leaf_type_small}
 use Rattle.tv_value.proofs.Leaves.{agree_tokenized}
 use Rattle.tv_value.specs.Spelling.{Tokenized}

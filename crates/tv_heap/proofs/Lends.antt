@@ -1,7 +1,7 @@
 -- What is read in place is what stands there.
-use Rattle.std.proofs.Common.{IsUtf8, ◌-◌, inl, inr, ◌≡◌, ℕ, zero, suc, ◌+◌, ◌<◌, ◌≤◌, List, [], ◌++◌, length, get_or, take, drop, take-append-drop, reverse, to_z, of_z, ℤ, ◌^◌, ◌*◌, ◌/◌, ◌%◌, ◌∷◌, refl, sym, ◌∙◌, ap, subst, arith}
-use Rattle.std.specs.Int.{w64, w128, from_le_bytes, from_be_bytes, to_le_bytes, cast_signed}
-use Rattle.std.specs.Net.Addr.{ipv6_bits, IsIpv6OfBits, segments_of, octets_of}
+use Rattle.std.proofs.Common.{IsUtf8, ◌-◌, inl, inr, ◌≡◌, ℕ, ◌+◌, ◌<◌, ◌≤◌, List, [], ◌++◌, length, get_or, take, drop, take-append-drop, to_z, of_z, ℤ, ◌^◌, ◌*◌, ◌/◌, ◌%◌, ◌∷◌, sym, ◌∙◌, ap, subst, arith}
+use Rattle.std.specs.Int.{w64, w128, from_le_bytes, cast_signed}
+use Rattle.std.specs.Net.Addr.{ipv6_bits, IsIpv6OfBits}
 use Rattle.std.specs.declared.net.ipv6_addr.Ipv6Addr.{Ipv6Addr}
 use Rattle.std.proofs.lemmas.Bool.{cases_lt}
 use Rattle.std.proofs.lemmas.Int.{to_z-of_z}
@@ -9,10 +9,9 @@ use Rattle.std.proofs.lemmas.Str.{IsUtf8-had}
 use Rattle.std.proofs.Math.Logic.{∥∥₁_map}
 use Rattle.std.proofs.lemmas.List.{length-append, take_all}
 use Rattle.std.proofs.Math.Seq.{drop-append_seam, take-append_seam}
-use Rattle.tv_base.specs.Number.{vnum, Fixed, Signed, no_bytes, low_byte}
+use Rattle.tv_base.specs.Number.{vnum, Fixed, Signed}
 use Rattle.tv_base.proofs.Numbers.{length-fixed, fixed_fits, vnum-small, vnum-large}
-use Rattle.tv_base.proofs.Shortest.{sixteen_bytes_spell}
-use Rattle.tv_base.proofs.Widths.{from_8, from_16, sixteen_bytes_is}
+use Rattle.tv_base.proofs.Widths.{from_8, from_16}
 use Rattle.tv_value.proofs.Addresses.{address_bits}
 use Rattle.tv_value.proofs.Leaves.{agree_tokenized}
 use Rattle.tv_value.proofs.ShortSpellings.{tokenized_of}

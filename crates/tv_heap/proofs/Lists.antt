@@ -1,7 +1,8 @@
 -- How children that are written make an array or an object that reads.
-use Rattle.std.proofs.Common.{◌-◌, take, drop, ◌≡◌, ◌≢◌, ℕ, suc, ◌+◌, ◌^◌, ◌<◌, ◌≤◌, List, [], ◌∷◌, ◌++◌, length, IsUtf8, refl, sym, ◌∙◌, ap, subst, append_assoc, arith}
-use Rattle.std.proofs.lemmas.List.{length-append, length-drop, append-nil, take_all}
-use Rattle.std.proofs.Math.Seq.{drop-append_seam}
+use Rattle.std.proofs.Common.{Result, Ok, Err, OnOk, IfOk, take, drop, ◌≡◌, ◌≢◌, ℕ, suc, ◌+◌, ◌^◌, ◌<◌, ◌≤◌, List, [], ◌∷◌, ◌++◌, length, IsUtf8, refl, sym, ◌∙◌, ap, subst, append_assoc, arith}
+use Rattle.std.proofs.lemmas.List.{length-append, append-nil}
+use Rattle.std.specs.declared.alloc.AllocError.{AllocError}
+use Rattle.std.proofs.Math.Seq.{drop-append_seam, take-append_seam}
 use Rattle.tv_base.specs.Number.{vnum}
 use Rattle.tv_base.specs.Parts.{short_sized}
 use Rattle.tv_base.specs.Sink.{IsFront}
@@ -20,11 +21,13 @@ pub place_added : (start places list mid new more : List ℕ) → places ≡ sta
 place_added start places list mid new more e same added = added ∙ ap (λ z. z ++ more) (same ∙ e) ∙ append_assoc start list more
 
 -- the places behind those of others
-pub places_behind : (start places list all : List ℕ) (n k : ℕ) → places ≡ start ++ list → all ≡ places → k ≡ length start → n ≡ length all - k → take n (drop k all) ≡ list
-places_behind start places list all n k e same is rest =
-    let whole : all ≡ start ++ list = same ∙ e in
-    let behind : drop k all ≡ list = (λ i. drop (is i) (whole i)) ∙ drop-append_seam start list in
-    take_all n (drop k all) (omega (arith, length-drop k all)) ∙ behind
+places_behind : (start places list : List ℕ) (n : ℕ) → places ≡ start ++ list → n ≡ length start → drop n places ≡ list
+places_behind start places list n e is = (λ i. drop (is i) (e i)) ∙ drop-append_seam start list
+
+-- and those of others
+pub places_before : {T : Type 0} (r : Result T AllocError) (start places list new : List ℕ) (n : ℕ) → places ≡ start ++ list → n ≡ length start → OnOk r (new ≡ take n places) → OnOk r (new ≡ start)
+places_before (Ok x) start places list new n e is h = h ∙ (λ i. take (is i) (e i)) ∙ take-append_seam start list
+places_before (Err x) start places list new n e is h = tt
 
 -- what has grown keeps its front
 pub front_more : (old heap new added : List ℕ) → heap ≡ old ++ added → IsFront heap new → IsFront old new
@@ -33,7 +36,7 @@ front_more old heap new added e more = (added ++ more.0, more.1 ∙ ap (λ z. z 
 -- ---- lists
 
 -- one child more
-elements_push : (heap : List ℕ) (parent : ℕ) (list : List ℕ) (done : List Tree) (code at : ℕ) (t : Tree) → ReadsElements heap parent list (elements done) → Reads heap code at t → at < 2 ^ 32
+pub elements_push : (heap : List ℕ) (parent : ℕ) (list : List ℕ) (done : List Tree) (code at : ℕ) (t : Tree) → ReadsElements heap parent list (elements done) → Reads heap code at t → at < 2 ^ 32
     → (code ≢ 0 → code ≢ 9 → at < parent) → ReadsElements heap parent (list ++ (code ∷ vnum at)) (elements (done ++ t ∷ []))
 elements_push heap parent list [] code at t p r fits below = record {
   code = code;
@@ -91,7 +94,7 @@ array_step old heap list new list_new ts us tree t code at s e w is =
       smaller = omega (arith, s.smaller, sizes);
     }
 
-pub wrote_array : (old heap list new : List ℕ) (ts : List Tree) (tree : Tree) → ArraySoFar old heap list ts tree → ts ≡ [] → new ≡ heap ++ (short_sized list)
+wrote_array : (old heap list new : List ℕ) (ts : List Tree) (tree : Tree) → ArraySoFar old heap list ts tree → ts ≡ [] → new ≡ heap ++ (short_sized list)
     → length old + room tree < 2 ^ 32 → (at : ℕ) → length heap ≡ at → Wrote old new 12 at tree
 wrote_array old heap list new ts tree s none e small at is =
     let body = short_sized list in
@@ -216,7 +219,7 @@ object_step old heap list mid new list_mid list_new es fs tree key t code at s e
       smaller = omega (arith, s.smaller, sizes);
     }
 
-pub wrote_object : (old heap list new : List ℕ) (es : List (List ℕ × Tree)) (tree : Tree) → ObjectSoFar old heap list es tree → es ≡ [] → new ≡ heap ++ (short_sized list)
+wrote_object : (old heap list new : List ℕ) (es : List (List ℕ × Tree)) (tree : Tree) → ObjectSoFar old heap list es tree → es ≡ [] → new ≡ heap ++ (short_sized list)
     → length old + room tree < 2 ^ 32 → (at : ℕ) → length heap ≡ at → Wrote old new 11 at tree
 wrote_object old heap list new es tree s none e small at is =
     let body = short_sized list in
@@ -246,3 +249,17 @@ object_next old heap list mid es fs tree key t s e small is_mid =
     let wide : length mid ≡ length heap + length body = longer heap mid body is_mid in
     let key_fits : length key < 2 ^ 32 = omega (arith, s.within, rooms) in
     (omega (arith, s.smaller, sizes), omega (arith, s.within, rooms, sized_length key key_fits))
+
+-- ---- what is written of a list
+
+pub array_written : (r : Result ℕ AllocError) (old heap start places list new : List ℕ) (n : ℕ) (ts : List Tree) (tree : Tree) → ArraySoFar old heap list ts tree → ts ≡ [] → length old + room tree < 2 ^ 32
+    → places ≡ start ++ list → n ≡ length start → OnOk r (new ≡ heap ++ short_sized (drop n places)) → IfOk r (λ at. at ≡ length heap) → IfOk r (λ at. Wrote old new 12 at tree)
+array_written (Ok at) old heap start places list new n ts tree s none small e is whole place =
+    wrote_array old heap list new ts tree s none (whole ∙ ap (λ z. heap ++ short_sized z) (places_behind start places list n e is)) small at (sym place)
+array_written (Err x) old heap start places list new n ts tree s none small e is whole place = tt
+
+pub object_written : (r : Result ℕ AllocError) (old heap start places list new : List ℕ) (n : ℕ) (es : List (List ℕ × Tree)) (tree : Tree) → ObjectSoFar old heap list es tree → es ≡ [] → length old + room tree < 2 ^ 32
+    → places ≡ start ++ list → n ≡ length start → OnOk r (new ≡ heap ++ short_sized (drop n places)) → IfOk r (λ at. at ≡ length heap) → IfOk r (λ at. Wrote old new 11 at tree)
+object_written (Ok at) old heap start places list new n es tree s none small e is whole place =
+    wrote_object old heap list new es tree s none (whole ∙ ap (λ z. heap ++ short_sized z) (places_behind start places list n e is)) small at (sym place)
+object_written (Err x) old heap start places list new n es tree s none small e is whole place = tt

@@ -1,6 +1,6 @@
 //! Writing values at the end of a heap.
 
-ghost use Rattle.std.specs.Prelude.{◌≡◌, ◌+◌, ◌<◌, ◌^◌, ◌∷◌, ◌++◌, OnOk, OnErr, IfOk, length};
+ghost use Rattle.std.specs.Prelude.{◌≡◌, ◌+◌, ◌<◌, ◌≤◌, ◌^◌, ◌∷◌, ◌++◌, OnOk, OnErr, IfOk, length, take, drop};
 ghost use Rattle.std.specs.Net.Addr.{ipv6_bits};
 ghost use Rattle.tv_base.specs.Number.{vnum, eight_bytes, sixteen_bytes};
 ghost use Rattle.tv_base.specs.Parts.{short_sized};
@@ -63,9 +63,14 @@ fn make_room(bytes: &mut Vec<u8>, room: usize) -> Result<(), AllocError>
     }
 }
 
-// Adds a child's type and address. The addresses in a short document have one byte or two.
+/// Adds a child's type and address. (Own.) The addresses in a short document have one byte or two. The only error is that memory
+/// was refused; what `places` holds then is open.
 #[inline]
-fn push_place(places: &mut Vec<u8>, value_type: ValueType, address: u32) -> Result<(), AllocError>
+pub fn push_place(
+    places: &mut Vec<u8>,
+    value_type: ValueType,
+    address: u32,
+) -> Result<(), AllocError>
     ensures { OnOk result (places.new.items ≡ places.old.items ++ (type_code value_type ∷ vnum address)) }
 {
     make_room(places, FIRST_PLACES)?;
@@ -234,6 +239,23 @@ pub fn write_tree<N: Nested>(
     }
 }
 
+/// Writes a list behind its children, whose places are those from `first` on, and answers its address. (Own.) The places are taken
+/// off. After an error the old heap is still a front of the new, and what `places` holds is open.
+#[inline]
+pub fn write_list(heap: &mut Vec<u8>, places: &mut Vec<u8>, first: usize) -> Result<u32, AllocError>
+    requires first { first ≤ length places.old.items }
+    requires fits { length heap.old.items < 2 ^ 32 }
+    ensures heap { OnOk result (heap.new.items ≡ heap.old.items ++ short_sized (drop first places.old.items)) }
+    ensures places { OnOk result (places.new.items ≡ take first places.old.items) }
+    ensures at { IfOk result (λ at. at ≡ length heap.old.items) }
+    ensures err { OnErr result (IsFront heap.old.items heap.new.items) }
+{
+    let at = heap.len() as u32;
+    push_sized(heap, &places[first..])?;
+    places.truncate(first);
+    Ok(at)
+}
+
 // Writes an array behind its values, and answers its address.
 #[cycle(values)]
 fn write_array<N: Nested>(
@@ -251,10 +273,7 @@ fn write_array<N: Nested>(
         let (code, address) = write_tree(heap, places, item.as_nested())?;
         push_place(places, code, address)?;
     }
-    let at = heap.len() as u32;
-    push_sized(heap, &places[first..])?;
-    places.truncate(first);
-    Ok(at)
+    write_list(heap, places, first)
 }
 
 // Writes an object behind its keys and values, and answers its address.
@@ -275,8 +294,5 @@ fn write_object<N: Nested>(
         let (code, address) = write_tree(heap, places, item.as_nested())?;
         push_place(places, code, address)?;
     }
-    let at = heap.len() as u32;
-    push_sized(heap, &places[first..])?;
-    places.truncate(first);
-    Ok(at)
+    write_list(heap, places, first)
 }

@@ -1,5 +1,4 @@
-use Rattle.std.proofs.Common.{drop, arith}
-use Rattle.std.proofs.lemmas.List.{length-drop}
+use Rattle.std.proofs.Common.{arith}
 use Rattle.tv_heap.proofs.InPlace.{last_at_most}
 use Rattle.tv_heap.proofs.lent.children.Goals as goal
 

@@ -1,5 +1,5 @@
 use Rattle.std.proofs.Common.{refl}
-use Rattle.tv_heap.proofs.InPlace.{spelled_is, spelled_short}
+use Rattle.tv_heap.proofs.InPlace.{spelled_is}
 use Rattle.tv_heap.proofs.lent.spelled_at.Goals as goal
 
 pub returns : goal.returns

@@ -1,10 +1,9 @@
 use Rattle.std.proofs.Common.{◌++◌, ◌∷◌, [], length, refl, ap, sym, ◌∙◌, arith, rules, append-nil}
 use Rattle.tv_base.specs.Number.{vnum}
-use Rattle.tv_base.specs.Parts.{short_sized}
 use Rattle.tv_value.specs.Tree.{array, object, elements, entries}
 use Rattle.tv_heap.specs.TypeCode.{type_code}
 use Rattle.tv_heap.proofs.Writes.{leaf_fits}
-use Rattle.tv_heap.proofs.Lists.{array_start, array_step, wrote_array, object_start, object_step, object_next, wrote_object, place_added, places_behind}
+use Rattle.tv_heap.proofs.Lists.{array_start, array_step, array_written, object_start, object_step, object_next, object_written, place_added, places_before}
 use Rattle.tv_heap.proofs.write.+values.Goals as goal
 
 pub write_array-loop-item-init : goal.write_array-loop-item-init
@@ -28,9 +27,13 @@ pub write_array-returns-clause-ok : goal.write_array-returns-clause-ok
 write_array-returns-clause-ok g t c =
     let done = g.met.N.Nested.array_steps _ _ _ c.in-None.ensures.steps in
     let l = c.loop-item in
-    let behind = places_behind c.args.places.now.items l.places.items l.invariant.0 _ _ _ l.invariant.1 c.deref.ensures.value (omega (arith, c.args.places.now.ok.0, c.len-first.ensures)) (search rules) in
-    let whole = c.in_ok-push_sized.ensures.ok ∙ ap (λ z. l.heap.items ++ short_sized z) behind in
-    wrote_array c.args.heap.now.items l.heap.items l.invariant.0 _ _ _ l.invariant.2 done.0 whole c.requires _ (omega (arith, l.heap.ok.0, c.len-at.ensures))
+    array_written c.write_list.result c.args.heap.now.items l.heap.items c.args.places.now.items l.places.items l.invariant.0 _ c.len-first.result _ _ l.invariant.2 done.0 c.requires
+    l.invariant.1 (omega (arith, c.args.places.now.ok.0, c.len-first.ensures)) c.write_list.ensures.heap c.write_list.ensures.at
+
+pub write_array-returns-clause-places : goal.write_array-returns-clause-places
+write_array-returns-clause-places g t c =
+    let l = c.loop-item in
+    places_before c.write_list.result c.args.places.now.items l.places.items l.invariant.0 _ c.len-first.result l.invariant.1 (omega (arith, c.args.places.now.ok.0, c.len-first.ensures)) c.write_list.ensures.places
 
 pub write_object-loop-key-init : goal.write_object-loop-key-init
 write_object-loop-key-init g t c =
@@ -67,9 +70,13 @@ pub write_object-returns-clause-ok : goal.write_object-returns-clause-ok
 write_object-returns-clause-ok g t c =
     let done = g.met.N.Nested.object_steps _ _ _ c.in-None.ensures.steps in
     let l = c.loop-key in
-    let behind = places_behind c.args.places.now.items l.places.items l.invariant.0 _ _ _ l.invariant.1 c.deref.ensures.value (omega (arith, c.args.places.now.ok.0, c.len-first.ensures)) (search rules) in
-    let whole = c.in_ok-push_sized.ensures.ok ∙ ap (λ z. l.heap.items ++ short_sized z) behind in
-    wrote_object c.args.heap.now.items l.heap.items l.invariant.0 _ _ _ l.invariant.2 done.0 whole c.requires _ (omega (arith, l.heap.ok.0, c.len-at.ensures))
+    object_written c.write_list.result c.args.heap.now.items l.heap.items c.args.places.now.items l.places.items l.invariant.0 _ c.len-first.result _ _ l.invariant.2 done.0 c.requires
+    l.invariant.1 (omega (arith, c.args.places.now.ok.0, c.len-first.ensures)) c.write_list.ensures.heap c.write_list.ensures.at
+
+pub write_object-returns-clause-places : goal.write_object-returns-clause-places
+write_object-returns-clause-places g t c =
+    let l = c.loop-key in
+    places_before c.write_list.result c.args.places.now.items l.places.items l.invariant.0 _ c.len-first.result l.invariant.1 (omega (arith, c.args.places.now.ok.0, c.len-first.ensures)) c.write_list.ensures.places
 
 pub write_tree-write_leaf-requires : goal.write_tree-write_leaf-requires
 write_tree-write_leaf-requires g t c = leaf_fits (length c.args.heap.now.items) c.in-Leaf.single (search (rules, c.requires))

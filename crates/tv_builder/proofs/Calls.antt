@@ -1,0 +1,103 @@
+-- What the calls leave.
+use Rattle.std.proofs.Common.{◌≡◌, ℕ, ◌+◌, ◌-◌, ◌^◌, ◌<◌, ◌≤◌, Bool, true, false, List, ◌++◌, length, Option, Some, None, Result, Ok, Err, OnOk, IfErr, SomeIff, sym, ◌∙◌, ap, subst, length-append, arith, inr}
+use Rattle.tv_base.specs.Sink.{IsFront}
+use Rattle.tv_value.specs.Tree.{Tree}
+use Rattle.tv_heap.specs.Room.{room}
+use Rattle.tv_heap.specs.TypeCode.{type_code}
+use Rattle.tv_heap.specs.Wrote.{Wrote}
+use Rattle.tv_builder.specs.declared.awaits.Awaits.TheVariants as awaits
+use Rattle.tv_builder.specs.declared.build_error.BuildError.{BuildError}
+use Rattle.tv_builder.specs.declared.build_error.BuildError.TheVariants.{AlreadyFailed, OutOfPlace, FieldNumber, NotUtf8, HeapFull, Memory}
+use Rattle.tv_builder.specs.declared.building.Building.{Building}
+use Rattle.tv_builder.specs.declared.building.OpenBytes.{OpenBytes}
+use Rattle.tv_builder.specs.declared.frame.Frame.{Frame}
+use Rattle.tv_builder.specs.declared.place.Place.{Place}
+use Rattle.tv_builder.specs.Given.{given}
+use Rattle.tv_builder.specs.Moves.{given_to, Gives, GivesNot, Moves, Does, FitsRoom, ValueHeap, ValueFull}
+use Rattle.tv_builder.specs.Shows.{Placed, ShowsLists, ShowsAt, Shows, frames_of, awaited_by}
+use Rattle.tv_builder.specs.State.{OpenList, State, complete, in_lists, in_bytes, with_value, and_value, AreLists, AllAwait, lists_written, written}
+use Rattle.tv_builder.proofs.Giving.{front_then, given_front, lists_grown, given_shows, value_is}
+use Rattle.tv_builder.proofs.Sound.{awaited_same, value_none, all_await}
+
+-- the same, said otherwise
+shown_as : (s : State) (heap heap_as : List ℕ) (fs fs_as : List Frame) (places places_as : List ℕ) (whole whole_as : Option Place) (bytes bytes_as : Option OpenBytes)
+    → heap_as ≡ heap → fs_as ≡ fs → places_as ≡ places → whole_as ≡ whole → bytes_as ≡ bytes → ShowsAt heap fs places whole bytes s → ShowsAt heap_as fs_as places_as whole_as bytes_as s
+shown_as s heap heap_as fs fs_as places places_as whole whole_as bytes bytes_as a b c d e h =
+    subst (λ z. ShowsAt z fs_as places_as whole_as bytes_as s) (sym a)
+    (subst (λ z. ShowsAt heap z places_as whole_as bytes_as s) (sym b)
+    (subst (λ z. ShowsAt heap fs z whole_as bytes_as s) (sym c)
+    (subst (λ z. ShowsAt heap fs places z bytes_as s) (sym d) (subst (λ z. ShowsAt heap fs places whole z s) (sym e) h))))
+
+pub lists_as : (heap : List ℕ) (fs fs_as : List Frame) (places places_as : List ℕ) (ls : List OpenList) → fs_as ≡ fs → places_as ≡ places → ShowsLists heap fs places ls → ShowsLists heap fs_as places_as ls
+lists_as heap fs fs_as places places_as ls a b h = subst (λ z. ShowsLists heap z places_as ls) (sym a) (subst (λ z. ShowsLists heap fs z ls) (sym b) h)
+
+-- ---- a finished value is handed to the lists
+
+pub handed : (mid new : Building) (p : Place) (t : Tree) (ls : List OpenList) → AreLists ls → AllAwait ls → ShowsLists mid.heap.items (frames_of mid) mid.places.items ls → Placed mid.heap.items p t → mid.open ≡ None
+    → Gives mid p new → Shows new (with_value ls t) × (length new.heap.items + (lists_written ls + room t) ≤ length mid.heap.items + written (with_value ls t))
+handed mid new p t ls are await h placed closed g =
+    let k = given_shows (frames_of mid) ls mid.heap.items mid.places.items p t are await h placed (omega (arith, g.fits, ap length g.heap)) in (
+      record {
+        fits = g.fits;
+        counted = g.counted;
+        is = value_is ls t are await;
+        at = shown_as (with_value ls t) _ new.heap.items _ (frames_of new) _ new.places.items _ new.complete _ new.open g.heap g.frames g.places g.complete (g.same_bytes ∙ closed) k.shows;
+      },
+      omega (arith, k.within, ap length g.heap),
+    )
+
+pub given_grows : (mid new : Building) (p : Place) → Gives mid p new → IsFront mid.heap.items new.heap.items
+given_grows mid new p g = let f = given_front (frames_of mid) mid.heap.items mid.places.items p in (f.0, g.heap ∙ f.1)
+
+-- what stood before stands for lists, which await a value
+pub value_moves : (old mid new : Building) (p : Place) (t : Tree) (more : List ℕ) → awaited_by old ≡ awaits.Value → mid.heap.items ≡ old.heap.items ++ more → length more ≤ room t → frames_of mid ≡ frames_of old
+    → mid.places.items ≡ old.places.items → mid.open ≡ old.open → Placed mid.heap.items p t → Gives mid p new → Moves old new (λ s. and_value s t)
+value_moves old mid new p t more await grows small frames places bytes placed g = record {
+  grows = front_then old.heap.items mid.heap.items new.heap.items (more, grows) (given_grows mid new p g);
+  shows = λ s h. (next s h).0;
+  within = λ s h. (next s h).1;
+}
+  where
+    next : (s : State) → Shows old s → Shows new (and_value s t) × (length new.heap.items + written s ≤ length old.heap.items + written (and_value s t))
+    next (complete u) h = absurd (let e : awaits.Finish ≡ awaits.Value = sym (awaited_same _ _ _ _ _ (complete u) h.at) ∙ await in cc)
+    next (in_bytes ls kind n bs) h = absurd (let e : awaits.Bytes (n - length bs) ≡ awaits.Value = sym (awaited_same _ _ _ _ _ (in_bytes ls kind n bs) h.at) ∙ await in cc)
+    next (in_lists ls) h =
+        let all = all_await ls (sym (awaited_same _ _ _ _ _ (in_lists ls) h.at) ∙ await) h.is.1 in
+        let lists = lists_as mid.heap.items (frames_of old) (frames_of mid) old.places.items mid.places.items ls frames places
+        (lists_grown old.heap.items mid.heap.items more (frames_of old) old.places.items ls grows h.at.lists) in
+        let r = handed mid new p t ls h.is.0 all lists placed (bytes ∙ (value_none old.open old.complete (frames_of old) await).1) g in
+        (r.0, omega (arith, r.1, small, ap length grows, length-append old.heap.items more))
+
+-- what handing it over answers
+pub does_give : (old mid new : Building) (p : Place) (in_place full : Type 0) (heaps : List ℕ → Type 0) (after : State → State) (r : Result (Unit {0}) BuildError) → in_place
+    → (Gives mid p new → heaps new.heap.items) → (4294967295 < length (given_to mid p).heap → full) → IsFront old.heap.items mid.heap.items → (Gives mid p new → Moves old new after)
+    → OnOk r (Gives mid p new) → IfErr r (λ e. GivesNot mid p new e) → Does old new in_place heaps full after r
+does_give old mid new p in_place full heaps after (Ok x) here is over front moves ok err = (here, is ok, moves ok)
+does_give old mid new p in_place full heaps after (Err HeapFull) here is over front moves ok err = (here, over err.why, front_then old.heap.items mid.heap.items new.heap.items front err.front)
+does_give old mid new p in_place full heaps after (Err Memory) here is over front moves ok err = (here, front_then old.heap.items mid.heap.items new.heap.items front err.front)
+does_give old mid new p in_place full heaps after (Err AlreadyFailed) here is over front moves ok err = absurd err.why
+does_give old mid new p in_place full heaps after (Err OutOfPlace) here is over front moves ok err = absurd err.why
+does_give old mid new p in_place full heaps after (Err (FieldNumber n)) here is over front moves ok err = absurd err.why
+does_give old mid new p in_place full heaps after (Err NotUtf8) here is over front moves ok err = absurd err.why
+
+-- ---- a whole value
+
+pub wrote_placed : (old new : List ℕ) (p : Place) (t : Tree) → Wrote old new (type_code p.value_type) p.address t → Placed new p t
+wrote_placed old new p t w = record { reads = w.reads; below = w.below; fits = w.fits }
+
+pub does_value : (old mid new : Building) (p : Place) (t : Tree) (r : Result (Unit {0}) BuildError) → awaited_by old ≡ awaits.Value → length old.heap.items + room t ≤ 4294967295
+    → Wrote old.heap.items mid.heap.items (type_code p.value_type) p.address t → frames_of mid ≡ frames_of old → mid.places.items ≡ old.places.items → mid.open ≡ old.open
+    → OnOk r (Gives mid p new) → IfErr r (λ e. GivesNot mid p new e) → Does old new (awaited_by old ≡ awaits.Value) (ValueHeap old t) (ValueFull old t) (λ s. and_value s t) r
+does_value old mid new p t r await fits w frames places bytes ok err =
+    let as_given : (given_to mid p).heap ≡ (given mid.heap.items old.places.items (frames_of old) p).heap = λ i. (given mid.heap.items (places i) (frames i) p).heap in
+    let one : ValueHeap old t (given_to mid p).heap = (fits, mid.heap.items, p, w, as_given) in
+    does_give old mid new p (awaited_by old ≡ awaits.Value) (ValueFull old t) (ValueHeap old t) (λ s. and_value s t) r await (λ g. subst (ValueHeap old t) (sym g.heap) one) (λ h. inr ((given_to mid p).heap, one, h)) (w.added, w.grows)
+    (λ g. value_moves old mid new p t w.added await w.grows w.within frames places bytes (wrote_placed _ _ p t w) g) ok err
+
+-- whether the room that was found fits
+pub room_fits : (found : Option ℕ) (len n : ℕ) (fits : Bool) → SomeIff found (n < 2 ^ 32) n → FitsRoom found len fits → fits ≡ true → len + n ≤ 4294967295
+room_fits (Some m) len n fits is h e = omega (arith, is.1, h.0 e)
+room_fits None len n fits is h e = absurd (let f : false ≡ true = sym h ∙ e in cc)
+
+pub value_small : (old new : List ℕ) (code at : ℕ) (t : Tree) → Wrote old new code at t → length old + room t ≤ 4294967295 → length new ≤ 4294967295
+value_small old new code at t w h = omega (arith, w.within, ap length w.grows, length-append old w.added)

@@ -1,0 +1,276 @@
+-- The end of open bytes.
+use Rattle.std.proofs.Common.{◌≡◌, ◌≢◌, ℕ, ◌+◌, ◌-◌, ◌%◌, ◌≤◌, nat_eq, List, [], ◌∷◌, ◌++◌, length, drop, Option, Some, None, Result, Ok, Err, OnOk, IfErr, refl, sym, ◌∙◌, ap, subst, append_assoc, length-append, arith}
+use Rattle.std.proofs.Math.Logic.{∥∥₁_elim, ∥∥₁_map}
+use Rattle.std.specs.Coded.{le_prop}
+use Rattle.std.proofs.Math.Seq.{drop-append_seam}
+use Rattle.std.proofs.lemmas.Bool.{cond-true, eq-eqb}
+use mathlib.Core.HLevel.{⊥_prop}
+use Rattle.tv_base.specs.Number.{vnum}
+use Rattle.tv_base.specs.Sink.{IsFront}
+use Rattle.tv_heap.specs.Room.{room}
+use Rattle.tv_heap.specs.declared.value_type.ValueType.{ValueType}
+use Rattle.tv_heap.specs.declared.value_type.ValueType.TheVariants as types
+use Rattle.tv_builder.specs.declared.awaits.Awaits.TheVariants as awaits
+use Rattle.tv_builder.specs.declared.build_error.BuildError.{BuildError}
+use Rattle.tv_builder.specs.declared.build_error.BuildError.TheVariants.{AlreadyFailed, OutOfPlace, FieldNumber, NotUtf8, HeapFull, Memory}
+use Rattle.tv_builder.specs.declared.building.Building.{Building}
+use Rattle.tv_builder.specs.declared.building.OpenBytes.{OpenBytes}
+use Rattle.tv_builder.specs.declared.bytes_kind.BytesKind.{BytesKind}
+use Rattle.tv_builder.specs.declared.bytes_kind.BytesKind.TheVariants as kinds
+use Rattle.tv_builder.specs.declared.frame.Frame.{Frame}
+use Rattle.tv_builder.specs.declared.frame.ListKind.{ListKind}
+use Rattle.tv_builder.specs.declared.frame.ListKind.TheVariants.{Array, Object}
+use Rattle.tv_builder.specs.declared.place.Place.{Place}
+use Rattle.tv_builder.specs.Given.{given, pending_in, AreCut}
+use Rattle.tv_builder.specs.Kinds.{bytes_type}
+use Rattle.tv_builder.specs.Moves.{given_to, CanGive, CanGiveKey, Gives, GivesNot, GivesKey, Moves, EndsBytes, EndsWell, AwaitsEnd, last_bytes, content_heap, end_heap}
+use Rattle.tv_builder.specs.Parts.{IsContent}
+use Rattle.tv_builder.specs.Shows.{Placed, ShowsLists, Shows, Stands, frames_of}
+use Rattle.tv_builder.specs.State.{OpenList, State, complete, in_lists, in_bytes, next_in, next_at, with_value, with_content, and_end, HeadNext, IsKeyNext, AllAwait, lists_written, written}
+use Rattle.tv_builder.proofs.Calls.{handed, lists_as, given_grows}
+use Rattle.tv_builder.proofs.Giving.{front_same}
+use Rattle.tv_builder.proofs.Keys.{content_tree, content_placed, key_handed}
+use Rattle.tv_builder.proofs.Sound.{cut_of, fits_of, counted_of}
+
+some_none : {A : Type 0} (x : Option A) (a : A) → x ≡ Some a → x ≡ None → ⊥
+some_none x a e f = absurd (let g : Some a ≡ None = sym e ∙ f in cc)
+
+-- what is known where bytes are open
+pub record InBytes (b : Building) (o : OpenBytes) (s : State) : Type 0 where
+  pub lists : List OpenList
+  pub so_far : List ℕ
+  pub is : s ≡ in_bytes lists o.kind o.announced so_far
+  pub shows : Shows b (in_bytes lists o.kind o.announced so_far)
+  pub before : List ℕ
+  pub joined : b.heap.items ≡ before ++ (vnum o.announced ++ so_far)
+  pub place : length before ≡ o.address
+  pub counted : length so_far + o.missing ≡ o.announced
+
+pub bytes_state : (b : Building) (o : OpenBytes) (s : State) → b.open ≡ Some o → Shows b s → InBytes b o s
+bytes_state b o (complete t) e h = absurd (some_none b.open o e h.at.closed)
+bytes_state b o (in_lists ls) e h = absurd (some_none b.open o e h.at.closed)
+bytes_state b o (in_bytes ls kind n bs) e h =
+    let f : Some h.at.piece ≡ Some o = sym h.at.is ∙ e in
+    let same_piece : h.at.piece ≡ o = cc in
+    let k : kind ≡ o.kind = sym h.at.same_kind ∙ ap (λ (z : OpenBytes). z.kind) same_piece in
+    let m : n ≡ o.announced = sym h.at.same_announced ∙ ap (λ (z : OpenBytes). z.announced) same_piece in
+    let stand = h.at.stand in
+    record {
+      lists = ls;
+      so_far = bs;
+      is = λ i. in_bytes ls (k i) (m i) bs;
+      shows = subst (Shows b) (λ i. in_bytes ls (k i) (m i) bs) h;
+      before = stand.before;
+      joined = stand.joined ∙ ap (λ z. stand.before ++ (vnum z ++ bs)) m;
+      place = stand.place ∙ ap (λ (z : OpenBytes). z.address) same_piece;
+      counted = let c = stand.counted in omega (arith, c, m, ap (λ (z : OpenBytes). z.missing) same_piece);
+    }
+
+-- so the announced bytes are within the heap, once all have come
+pub announced_small : (b : Building) (o : OpenBytes) → Stands b → b.open ≡ Some o → o.missing ≡ 0 → o.announced ≤ length b.heap.items
+announced_small b o h e none = ∥∥₁_elim h.1 le_prop (λ s.
+    let i = bytes_state b o h.0 e s in
+    omega (arith, ap length i.joined, length-append i.before (vnum o.announced ++ i.so_far), length-append (vnum o.announced) i.so_far, i.counted, none))
+
+-- the last bytes are those that have come
+last_are : (b : Building) (o : OpenBytes) (s : State) (i : InBytes b o s) → o.missing ≡ 0 → last_bytes o.announced b.heap.items ≡ i.so_far
+last_are b o s i none =
+    let front = i.before ++ vnum o.announced in
+    let whole : b.heap.items ≡ front ++ i.so_far = i.joined ∙ sym (append_assoc i.before (vnum o.announced) i.so_far) in
+    let n : length b.heap.items - o.announced ≡ length front = omega (arith, ap length whole, length-append front i.so_far, i.counted, none) in
+    (λ j. drop (n j) (whole j)) ∙ drop-append_seam front i.so_far
+
+-- and they stand behind their shortest length
+content_at : (b : Building) (o : OpenBytes) (s : State) (i : InBytes b o s) → o.missing ≡ 0 → IsContent o.kind (last_bytes o.announced b.heap.items)
+    → Placed b.heap.items (record { value_type = bytes_type o.kind; address = o.address }) (content_tree o.kind i.so_far)
+content_at b o s i none is =
+    let same_count : o.announced ≡ length i.so_far = omega (arith, i.counted, none) in
+    content_placed o.kind i.before b.heap.items i.so_far o.address (i.joined ∙ ap (λ z. i.before ++ (vnum z ++ i.so_far)) same_count) i.shows.fits (subst (IsContent o.kind) (last_are b o s i none) is) (sym i.place)
+
+-- ---- a value
+
+data IsValueKind : BytesKind → Type 0 where
+  of_str : IsValueKind kinds.Str
+  of_facet : IsValueKind kinds.Facet
+  of_bytes : IsValueKind kinds.Bytes
+
+value_kind : (kind : BytesKind) → kind ≢ kinds.Key → IsValueKind kind
+value_kind kinds.Str n = of_str
+value_kind kinds.Facet n = of_facet
+value_kind kinds.Bytes n = of_bytes
+value_kind kinds.Key n = absurd (n refl)
+
+all_next : (kind : BytesKind) (ls : List OpenList) → IsValueKind kind → HeadNext kind ls → AllAwait ls
+all_next _ ls of_str h = h
+all_next _ ls of_facet h = h
+all_next _ ls of_bytes h = h
+
+content_room : (kind : BytesKind) (content : List ℕ) → room (content_tree kind content) ≡ 5 + length content
+content_room kinds.Str content = refl
+content_room kinds.Facet content = refl
+content_room kinds.Bytes content = refl
+content_room kinds.Key content = refl
+
+with_content_is : (kind : BytesKind) (ls : List OpenList) (content : List ℕ) → IsValueKind kind → with_content ls kind content ≡ with_value ls (content_tree kind content)
+with_content_is _ ls content of_str = refl
+with_content_is _ ls content of_facet = refl
+with_content_is _ ls content of_bytes = refl
+
+content_heap_is : (kind : BytesKind) (b : Building) (at : ℕ) → IsValueKind kind → content_heap kind b at ≡ (given_to b (record { value_type = bytes_type kind; address = at })).heap
+content_heap_is _ b at of_str = refl
+content_heap_is _ b at of_facet = refl
+content_heap_is _ b at of_bytes = refl
+
+-- where the building has let go of the open bytes
+pub record LetGo (old mid : Building) : Type 0 where
+  pub heap : mid.heap.items ≡ old.heap.items
+  pub places : mid.places.items ≡ old.places.items
+  pub pending : mid.pending ≡ old.pending
+  pub frames : frames_of mid ≡ frames_of old
+  pub complete : mid.complete ≡ old.complete
+  pub closed : mid.open ≡ None
+
+lists_let_go : (old mid : Building) (ls : List OpenList) → LetGo old mid → ShowsLists old.heap.items (frames_of old) old.places.items ls → ShowsLists mid.heap.items (frames_of mid) mid.places.items ls
+lists_let_go old mid ls l h = lists_as mid.heap.items (frames_of old) (frames_of mid) old.places.items mid.places.items ls l.frames l.places (subst (λ z. ShowsLists z (frames_of old) old.places.items ls) (sym l.heap) h)
+
+value_ends : (old mid new : Building) (o : OpenBytes) → old.open ≡ Some o → o.missing ≡ 0 → IsContent o.kind (last_bytes o.announced old.heap.items) → IsValueKind o.kind → LetGo old mid
+    → Gives mid (record { value_type = bytes_type o.kind; address = o.address }) new → Moves old new and_end
+value_ends old mid new o e none is kind l g = record {
+  grows = subst (λ z. IsFront z new.heap.items) l.heap (given_grows mid new _ g);
+  shows = λ s h. (next s h).0;
+  within = λ s h. (next s h).1;
+}
+  where
+    next : (s : State) → Shows old s → Shows new (and_end s) × (length new.heap.items + written s ≤ length old.heap.items + written (and_end s))
+    next s h =
+        let i = bytes_state old o s e h in
+        let t = content_tree o.kind i.so_far in
+        let placed = subst (λ z. Placed z (record { value_type = bytes_type o.kind; address = o.address }) t) (sym l.heap) (content_at old o s i none is) in
+        let r = handed mid new _ t i.lists i.shows.is.0 (all_next o.kind i.lists kind i.shows.is.2) (lists_let_go old mid i.lists l i.shows.at.lists) placed l.closed g in
+        let after : and_end s ≡ with_value i.lists t = ap and_end i.is ∙ with_content_is o.kind i.lists i.so_far kind in
+        let before_room : written s ≡ lists_written i.lists + room t = ap written i.is ∙ ap (λ z. lists_written i.lists + z) (sym (content_room o.kind i.so_far)) in
+        (subst (Shows new) (sym after) r.0, omega (arith, r.1, before_room, ap written after, ap length l.heap))
+
+pub does_end : (old mid new : Building) (o : OpenBytes) (r : Result (Unit {0}) BuildError) → old.open ≡ Some o → o.missing ≡ 0 → IsContent o.kind (last_bytes o.announced old.heap.items) → o.kind ≢ kinds.Key → LetGo old mid
+    → OnOk r (Gives mid (record { value_type = bytes_type o.kind; address = o.address }) new) → IfErr r (λ x. GivesNot mid (record { value_type = bytes_type o.kind; address = o.address }) new x) → EndsBytes old new r
+does_end old mid new o r e none is not_key l ok err = answer r ok err
+  where
+    p : Place
+    p = record { value_type = bytes_type o.kind; address = o.address }
+
+    here : AwaitsEnd old.open
+    here = subst AwaitsEnd (sym e) none
+
+    well : EndsWell old.open old.heap.items
+    well = subst (λ z. EndsWell z old.heap.items) (sym e) is
+
+    kind : IsValueKind o.kind
+    kind = value_kind o.kind not_key
+
+    heap_is : (given_to mid p).heap ≡ end_heap old old.open
+    heap_is = (λ i. (given (l.heap i) (l.places i) (l.frames i) p).heap) ∙ sym (content_heap_is o.kind old o.address kind) ∙ ap (λ z. end_heap old z) (sym e)
+
+    front : (x : BuildError) → GivesNot mid p new x → IsFront old.heap.items new.heap.items
+    front x g = subst (λ z. IsFront z new.heap.items) l.heap g.front
+
+    answer : (r : Result (Unit {0}) BuildError) → OnOk r (Gives mid p new) → IfErr r (λ x. GivesNot mid p new x) → EndsBytes old new r
+    answer (Ok x) ok err = (here, well, ok.heap ∙ heap_is, value_ends old mid new o e none is kind l ok)
+    answer (Err HeapFull) ok err = (here, well, omega (arith, err.why, ap length heap_is), front HeapFull err)
+    answer (Err Memory) ok err = (here, well, front Memory err)
+    answer (Err AlreadyFailed) ok err = absurd err.why
+    answer (Err OutOfPlace) ok err = absurd err.why
+    answer (Err (FieldNumber n)) ok err = absurd err.why
+    answer (Err NotUtf8) ok err = absurd err.why
+
+pub does_end_at : (old mid new : Building) (o : OpenBytes) (t : ValueType) (r : Result (Unit {0}) BuildError) → old.open ≡ Some o → o.missing ≡ 0 → IsContent o.kind (last_bytes o.announced old.heap.items) → o.kind ≢ kinds.Key → t ≡ bytes_type o.kind → LetGo old mid
+    → OnOk r (Gives mid (record { value_type = t; address = o.address }) new) → IfErr r (λ x. GivesNot mid (record { value_type = t; address = o.address }) new x) → EndsBytes old new r
+does_end_at old mid new o t r e none is not_key same l ok err =
+    does_end old mid new o r e none is not_key l (subst (λ z. OnOk r (Gives mid (record { value_type = z; address = o.address }) new)) same ok)
+    (subst (λ z. IfErr r (λ x. GivesNot mid (record { value_type = z; address = o.address }) new x)) same err)
+
+-- ---- a key
+
+key_next : (ls : List OpenList) → HeadNext kinds.Key ls → next_in ls ≡ awaits.Key
+key_next [] h = absurd h
+key_next (l ∷ ls) h = at_key l.kind (length l.children) h
+  where
+    at_key : (kind : ListKind) (n : ℕ) → IsKeyNext kind n → next_at kind n ≡ awaits.Key
+    at_key Array n h = absurd h
+    at_key Object n h = cond-true (nat_eq (n % 2) 0) awaits.Key awaits.Value (eq-eqb (n % 2) 0 h)
+
+key_ends : (old mid new : Building) (o : OpenBytes) → old.open ≡ Some o → o.missing ≡ 0 → IsContent o.kind (last_bytes o.announced old.heap.items) → o.kind ≡ kinds.Key → LetGo old mid
+    → GivesKey mid o.address new → Moves old new and_end
+key_ends old mid new o e none is kind l g = record {
+  grows = front_same old.heap.items new.heap.items (g.heap ∙ l.heap);
+  shows = λ s h. (next s h).0;
+  within = λ s h. (next s h).1;
+}
+  where
+    next : (s : State) → Shows old s → Shows new (and_end s) × (length new.heap.items + written s ≤ length old.heap.items + written (and_end s))
+    next s h =
+        let i = bytes_state old o s e h in
+        let placed = subst (λ k. Placed old.heap.items (record { value_type = bytes_type k; address = o.address }) (content_tree k i.so_far)) kind (content_at old o s i none is) in
+        let placed_mid = subst (λ z. Placed z (record { value_type = types.Str; address = o.address }) (content_tree kinds.Key i.so_far)) (sym l.heap) placed in
+        let head : HeadNext kinds.Key i.lists = subst (λ k. HeadNext k i.lists) kind i.shows.is.2 in
+        let r = key_handed mid new o.address i.so_far i.lists i.shows.is.0 i.shows.is.1 (key_next i.lists head) (lists_let_go old mid i.lists l i.shows.at.lists) placed_mid (l.complete ∙ i.shows.at.none) l.closed
+        (omega (arith, ap length l.heap, i.shows.fits)) (l.pending ∙ i.shows.counted ∙ ap pending_in (sym l.frames)) g in
+        let after : and_end s ≡ with_content i.lists kinds.Key i.so_far = ap and_end i.is ∙ ap (λ k. with_content i.lists k i.so_far) kind in
+        (subst (Shows new) (sym after) r.0, omega (arith, r.1, ap written i.is, ap written after, ap length l.heap))
+
+pub does_end_key : (old mid new : Building) (o : OpenBytes) (r : Result (Unit {0}) BuildError) → old.open ≡ Some o → o.missing ≡ 0 → IsContent o.kind (last_bytes o.announced old.heap.items) → o.kind ≡ kinds.Key → LetGo old mid
+    → OnOk r (GivesKey mid o.address new) → IfErr r (λ x. (x ≡ Memory) × (new.heap.items ≡ mid.heap.items)) → EndsBytes old new r
+does_end_key old mid new o r e none is kind l ok err = answer r ok err
+  where
+    here : AwaitsEnd old.open
+    here = subst AwaitsEnd (sym e) none
+
+    well : EndsWell old.open old.heap.items
+    well = subst (λ z. EndsWell z old.heap.items) (sym e) is
+
+    heap_is : old.heap.items ≡ end_heap old old.open
+    heap_is = ap (λ k. content_heap k old o.address) (sym kind) ∙ ap (λ z. end_heap old z) (sym e)
+
+    answer : (r : Result (Unit {0}) BuildError) → OnOk r (GivesKey mid o.address new) → IfErr r (λ x. (x ≡ Memory) × (new.heap.items ≡ mid.heap.items)) → EndsBytes old new r
+    answer (Ok x) ok err = (here, well, ok.heap ∙ l.heap ∙ heap_is, key_ends old mid new o e none is kind l ok)
+    answer (Err Memory) ok err = (here, well, front_same old.heap.items new.heap.items (err.1 ∙ l.heap))
+    answer (Err AlreadyFailed) ok err = absurd (let f = err.0 in cc)
+    answer (Err OutOfPlace) ok err = absurd (let f = err.0 in cc)
+    answer (Err (FieldNumber n)) ok err = absurd (let f = err.0 in cc)
+    answer (Err NotUtf8) ok err = absurd (let f = err.0 in cc)
+    answer (Err HeapFull) ok err = absurd (let f = err.0 in cc)
+
+-- ---- what is needed to hand them over
+
+pub let_go_gives : (old mid : Building) (o : OpenBytes) → Stands old → old.open ≡ Some o → LetGo old mid → CanGive mid
+let_go_gives old mid o h e l = record {
+  fits = omega (arith, ap length l.heap, fits_of old h);
+  counted = l.pending ∙ counted_of old h ∙ ap pending_in (sym l.frames);
+  cut = subst (λ z. AreCut z mid.places.items) (sym l.frames) (subst (λ z. AreCut (frames_of old) z) (sym l.places) (cut_of old h));
+  none = l.complete ∙ no_tree old o h e;
+}
+  where
+    none_again : (x : Option Place) → ∥ x ≡ None ∥₁ → x ≡ None
+    none_again None h = refl
+    none_again (Some p) h = absurd (∥∥₁_elim h ⊥_prop (λ f. absurd (cc)))
+
+    no_tree : (b : Building) (o : OpenBytes) → Stands b → b.open ≡ Some o → b.complete ≡ None
+    no_tree b o h e = none_again b.complete (∥∥₁_map h.1 (λ s. (bytes_state b o h.0 e s).shows.at.none))
+
+pub let_go_key : (old mid : Building) (o : OpenBytes) → Stands old → old.open ≡ Some o → o.kind ≡ kinds.Key → LetGo old mid → CanGiveKey mid
+let_go_key old mid o h e kind l =
+    let k = some_frame (frames_of old) (∥∥₁_map h.1 (λ s. let i = bytes_state old o h.0 e s in (i.lists, i.shows.at.lists, subst (λ z. HeadNext z i.lists) kind i.shows.is.2))) in
+    record {
+      frame = k.0;
+      rest = k.1;
+      frames = l.frames ∙ k.2;
+      cut = subst (λ z. AreCut z mid.places.items) (sym l.frames) (subst (λ z. AreCut (frames_of old) z) (sym l.places) (cut_of old h));
+      counted = l.pending ∙ counted_of old h ∙ ap pending_in (sym l.frames);
+    }
+  where
+    some_frame : (fs : List Frame) → ∥ ((ls : List OpenList) × ShowsLists old.heap.items fs old.places.items ls × HeadNext kinds.Key ls) ∥₁ → (f : Frame) × (rest : List Frame) × (fs ≡ f ∷ rest)
+    some_frame (f ∷ rest) h = (f, rest, refl)
+    some_frame [] h = absurd (∥∥₁_elim h ⊥_prop (λ x. none x.0 x.1 x.2))
+      where
+        none : (ls : List OpenList) → ShowsLists old.heap.items [] old.places.items ls → HeadNext kinds.Key ls → ⊥
+        none [] a b = b
+        none (l ∷ ls) a b = a

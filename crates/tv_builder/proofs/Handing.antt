@@ -1,0 +1,155 @@
+-- The loop that hands a finished value from list to list.
+use Rattle.std.proofs.Common.{◌≡◌, ℕ, suc, ◌+◌, ◌≤◌, true, false, nat_lt, List, [], ◌∷◌, ◌++◌, length, reverse, take, drop, Option, Some, None, refl, sym, ◌∙◌, ap, subst, arith}
+use Rattle.std.proofs.lemmas.List.{reverse-append, take-append-le}
+use Rattle.tv_base.specs.Parts.{short_sized}
+use Rattle.tv_base.specs.Sink.{IsFront}
+use Rattle.tv_builder.specs.declared.build_error.BuildError.{BuildError}
+use Rattle.tv_builder.specs.declared.build_error.BuildError.TheVariants.{AlreadyFailed, OutOfPlace, FieldNumber, NotUtf8, HeapFull, Memory}
+use Rattle.tv_builder.specs.declared.building.Building.{Building}
+use Rattle.tv_builder.specs.declared.building.OpenBytes.{OpenBytes}
+use Rattle.tv_builder.specs.declared.frame.Frame.{Frame}
+use Rattle.tv_builder.specs.declared.place.Place.{Place}
+use Rattle.tv_builder.specs.Given.{Given, given, place_bytes, lacks, still_lacks, one_more, AreCut, pending_in}
+use Rattle.tv_builder.specs.Kinds.{list_type, total}
+use Rattle.tv_builder.specs.Moves.{CanGive, given_to, Gives, GivesNot, WhyNot, Closed, ClosedNot}
+use Rattle.tv_builder.specs.Shows.{frames_of}
+use Rattle.tv_builder.proofs.Giving.{front_same, front_then, front_length, given_front, given_waits, given_closes}
+use Rattle.tv_builder.proofs.Sound.{pending_small}
+
+-- some lists are closed, and the last of them comes to the next
+pub record GivesSoFar (old : Building) (p : Place) (heap places : List ℕ) (frames : List Frame) (pending : ℕ) (whole : Option Place) (bytes : Option OpenBytes) (q : Place) : Type 0 where
+  pub same : given_to old p ≡ given heap places (reverse frames) q
+  pub fits : length heap ≤ 4294967295
+  pub counted : pending ≡ pending_in (reverse frames)
+  pub cut : AreCut (reverse frames) places
+  pub none : whole ≡ None
+  pub grows : IsFront old.heap.items heap
+  pub same_bytes : bytes ≡ old.open
+
+pub so_far_start : (old : Building) (p : Place) → CanGive old → GivesSoFar old p old.heap.items old.places.items old.frames.items old.pending old.complete old.open p
+so_far_start old p h = record { same = refl; fits = h.fits; counted = h.counted; cut = h.cut; none = h.none; grows = front_same old.heap.items old.heap.items refl; same_bytes = refl }
+
+reverse_last : (rest : List Frame) (f : Frame) → reverse (rest ++ f ∷ []) ≡ f ∷ reverse rest
+reverse_last rest f = reverse-append rest (f ∷ [])
+
+-- ---- the innermost list
+
+pub record Innermost (heap places : List ℕ) (rest : List Frame) (f : Frame) (pending : ℕ) (q : Place) (g : Given) : Type 0 where
+  pub same : g ≡ given heap places (f ∷ reverse rest) q
+  pub counted : pending ≡ f.finished + pending_in (reverse rest)
+  pub first : f.first ≤ length places
+  pub small : f.finished ≤ length (drop f.first places)
+  pub cut : AreCut (reverse rest) (take f.first places)
+  pub within : pending ≤ length places
+
+pub innermost : (old : Building) (p : Place) (heap places : List ℕ) (frames rest : List Frame) (f : Frame) (pending : ℕ) (whole : Option Place) (bytes : Option OpenBytes) (q : Place)
+    → GivesSoFar old p heap places frames pending whole bytes q → frames ≡ rest ++ f ∷ [] → Innermost heap places rest f pending q (given_to old p)
+innermost old p heap places frames rest f pending whole bytes q s is =
+    let e : reverse frames ≡ f ∷ reverse rest = ap reverse is ∙ reverse_last rest f in
+    let cut = subst (λ z. AreCut z places) e s.cut in
+    record {
+      same = s.same ∙ ap (λ z. given heap places z q) e;
+      counted = s.counted ∙ ap pending_in e;
+      first = cut.0;
+      small = cut.1;
+      cut = cut.3;
+      within = omega (arith, s.counted, pending_small (reverse frames) places s.cut);
+    }
+
+test_same : (f : Frame) → lacks (one_more f) ≡ still_lacks f
+test_same f = let e : f.finished + 1 ≡ suc f.finished = omega arith in ap (λ n. nat_lt n (total f.kind f.announced)) e
+
+-- it waits for more
+pub gives_waits : (old new : Building) (p : Place) (heap places : List ℕ) (frames rest : List Frame) (f : Frame) (pending : ℕ) (whole : Option Place) (bytes : Option OpenBytes) (q : Place)
+    → GivesSoFar old p heap places frames pending whole bytes q → frames ≡ rest ++ f ∷ [] → lacks (one_more f) ≡ true → new.heap.items ≡ heap → new.places.items ≡ places ++ place_bytes q
+    → new.frames.items ≡ rest ++ one_more f ∷ [] → new.pending ≡ pending + 1 → new.complete ≡ whole → new.open ≡ bytes → Gives old p new
+gives_waits old new p heap places frames rest f pending whole bytes q s is test heap_is places_is frames_is pending_is whole_is bytes_is =
+    let i = innermost old p heap places frames rest f pending whole bytes q s is in
+    let g = i.same ∙ given_waits heap places f (reverse rest) q (sym (test_same f) ∙ test) in
+    let now : frames_of new ≡ one_more f ∷ reverse rest = ap reverse frames_is ∙ reverse_last rest (one_more f) in
+    record {
+      fits = omega (arith, s.fits, ap length heap_is);
+      heap = heap_is ∙ ap (λ (z : Given). z.heap) (sym g);
+      places = places_is ∙ ap (λ (z : Given). z.places) (sym g);
+      frames = now ∙ ap (λ (z : Given). z.frames) (sym g);
+      complete = whole_is ∙ s.none ∙ ap (λ (z : Given). z.complete) (sym g);
+      same_bytes = bytes_is ∙ s.same_bytes;
+      counted = let c = i.counted in let k : new.pending ≡ pending_in (one_more f ∷ reverse rest) = omega arith in k ∙ ap pending_in (sym now);
+    }
+
+-- or lacks nothing more, and is closed
+pub gives_closes : (old mid new : Building) (p : Place) (heap places : List ℕ) (frames rest : List Frame) (f : Frame) (pending : ℕ) (whole : Option Place) (bytes : Option OpenBytes) (q r : Place)
+    → GivesSoFar old p heap places frames pending whole bytes q → frames ≡ rest ++ f ∷ [] → lacks (one_more f) ≡ false → mid.heap.items ≡ heap → mid.places.items ≡ places ++ place_bytes q
+    → mid.frames.items ≡ rest → mid.pending ≡ pending + 1 → mid.complete ≡ whole → mid.open ≡ bytes → Closed mid (one_more f) r new
+    → GivesSoFar old p new.heap.items new.places.items new.frames.items new.pending new.complete new.open r
+gives_closes old mid new p heap places frames rest f pending whole bytes q r s is test heap_is places_is frames_is pending_is whole_is bytes_is c =
+    let i = innermost old p heap places frames rest f pending whole bytes q s is in
+    let g = i.same ∙ given_closes heap places f (reverse rest) q (sym (test_same f) ∙ test) in
+    let new_heap : new.heap.items ≡ heap ++ short_sized (drop f.first (places ++ place_bytes q)) = c.heap ∙ (λ j. heap_is j ++ short_sized (drop f.first (places_is j))) in
+    let new_places : new.places.items ≡ take f.first places = c.places ∙ ap (λ z. take f.first z) places_is ∙ take-append-le f.first places (place_bytes q) i.first in
+    let new_frames : reverse new.frames.items ≡ reverse rest = ap reverse (ap (λ z. z.items) c.frames ∙ frames_is) in
+    let place : r ≡ record { value_type = list_type f.kind; address = length heap } = c.place ∙ ap (λ (z : List ℕ). record { value_type = list_type f.kind; address = length z }) heap_is in
+    record {
+      same = g ∙ (λ j. given (sym new_heap j) (sym new_places j) (sym new_frames j) (sym place j));
+      fits = c.fits;
+      counted = let n = i.counted in let m = c.pending in let k : new.pending ≡ pending_in (reverse rest) = omega arith in k ∙ ap pending_in (sym new_frames);
+      cut = subst (λ z. AreCut z new.places.items) (sym new_frames) (subst (λ z. AreCut (reverse rest) z) (sym new_places) i.cut);
+      none = c.complete ∙ whole_is ∙ s.none;
+      grows = front_then old.heap.items heap new.heap.items s.grows (_, new_heap);
+      same_bytes = c.same_bytes ∙ bytes_is ∙ s.same_bytes;
+    }
+
+-- or no list is open
+pub gives_out : (old new : Building) (p : Place) (heap places : List ℕ) (frames : List Frame) (pending : ℕ) (whole : Option Place) (bytes : Option OpenBytes) (q : Place)
+    → GivesSoFar old p heap places frames pending whole bytes q → frames ≡ [] → new.heap.items ≡ heap → new.places.items ≡ places → new.frames.items ≡ []
+    → new.pending ≡ pending → new.complete ≡ Some q → new.open ≡ bytes → Gives old p new
+gives_out old new p heap places frames pending whole bytes q s is heap_is places_is frames_is pending_is whole_is bytes_is =
+    let e : reverse frames ≡ [] = ap reverse is in
+    let g = s.same ∙ ap (λ z. given heap places z q) e in
+    let now : frames_of new ≡ [] = ap reverse frames_is in
+    record {
+      fits = omega (arith, s.fits, ap length heap_is);
+      heap = heap_is ∙ ap (λ (z : Given). z.heap) (sym g);
+      places = places_is ∙ ap (λ (z : Given). z.places) (sym g);
+      frames = now ∙ ap (λ (z : Given). z.frames) (sym g);
+      complete = whole_is ∙ ap (λ (z : Given). z.complete) (sym g);
+      same_bytes = bytes_is ∙ s.same_bytes;
+      counted = pending_is ∙ s.counted ∙ ap pending_in e ∙ ap pending_in (sym now);
+    }
+
+-- or a list can't be closed
+pub gives_not : (old mid new : Building) (p : Place) (heap places : List ℕ) (frames rest : List Frame) (f : Frame) (pending : ℕ) (whole : Option Place) (bytes : Option OpenBytes) (q : Place) (e : BuildError)
+    → GivesSoFar old p heap places frames pending whole bytes q → frames ≡ rest ++ f ∷ [] → lacks (one_more f) ≡ false → mid.heap.items ≡ heap → mid.places.items ≡ places ++ place_bytes q
+    → ClosedNot mid (one_more f) new e → GivesNot old p new e
+gives_not old mid new p heap places frames rest f pending whole bytes q e s is test heap_is places_is c = record {
+  front = front_then old.heap.items heap new.heap.items s.grows (c.front.0, c.front.1 ∙ ap (λ z. z ++ c.front.0) heap_is);
+  why = why_not e c.why;
+}
+  where
+    i : Innermost heap places rest f pending q (given_to old p)
+    i = innermost old p heap places frames rest f pending whole bytes q s is
+
+    written : List ℕ
+    written = heap ++ short_sized (drop f.first (places ++ place_bytes q))
+
+    longer_is : length written ≤ length (given_to old p).heap
+    longer_is =
+        let g = i.same ∙ given_closes heap places f (reverse rest) q (sym (test_same f) ∙ test) in
+        subst (λ (z : Given). length written ≤ length z.heap) (sym g)
+        (front_length written _ (given_front (reverse rest) written (take f.first places) (record { value_type = list_type f.kind; address = length heap })))
+
+    written_is : mid.heap.items ++ short_sized (drop f.first mid.places.items) ≡ written
+    written_is = λ j. heap_is j ++ short_sized (drop f.first (places_is j))
+
+    why_not : (x : BuildError) → WhyNot (mid.heap.items ++ short_sized (drop f.first mid.places.items)) x → WhyNot (given_to old p).heap x
+    why_not HeapFull h = omega (arith, h, ap length written_is, longer_is)
+    why_not Memory h = tt
+    why_not AlreadyFailed h = absurd h
+    why_not OutOfPlace h = absurd h
+    why_not (FieldNumber n) h = absurd h
+    why_not NotUtf8 h = absurd h
+
+-- memory was refused
+pub gives_none : (old new : Building) (p : Place) (heap places : List ℕ) (frames : List Frame) (pending : ℕ) (whole : Option Place) (bytes : Option OpenBytes) (q : Place)
+    → GivesSoFar old p heap places frames pending whole bytes q → new.heap.items ≡ heap → GivesNot old p new Memory
+gives_none old new p heap places frames pending whole bytes q s is = record { front = (s.grows.0, is ∙ s.grows.1); why = tt }

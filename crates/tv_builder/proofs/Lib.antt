@@ -1,0 +1,9 @@
+pub mod Trading
+pub mod Children
+pub mod Giving
+pub mod Sound
+pub mod Handing
+pub mod Calls
+pub mod Keys
+pub mod Opening
+pub mod Ending

@@ -1,0 +1,19 @@
+use Rattle.std.proofs.Common.{◌≡◌, ◌≤◌, ◌+◌, length, refl, ap, arith, rules}
+use Rattle.tv_base.specs.Number.{vnum}
+use Rattle.tv_builder.specs.Shows.{awaited_by}
+use Rattle.tv_builder.specs.State.{head_awaits}
+use Rattle.tv_builder.proofs.Opening.{begins_bytes}
+use Rattle.tv_builder.proofs.Sound.{fits_of}
+use Rattle.tv_builder.proofs.building.Building.begin_bytes.Goals as goal
+
+pub has_room-requires : goal.has_room-requires
+has_room-requires c = let b = c.args.self.now in omega (arith, fits_of b c.requires, c.len.ensures, b.heap.ok.0)
+
+pub returns : goal.returns
+returns c =
+    let b = c.args.self.now in
+    let await : awaited_by b ≡ head_awaits c.args.kind = search rules in
+    let fits : c.len.result + (length (vnum c.args.announced) + c.args.announced) ≤ 4294967295 = c.has_room.ensures.0 c.if-not-has_room.false in
+    let at : c.len-address.result ≡ length b.heap.items = omega (arith, c.len-address.ensures, b.heap.ok.0) in
+    begins_bytes b _ c.args.kind c.args.announced _ await (omega (arith, fits, c.len.ensures, b.heap.ok.0))
+    (ap (λ n. record { kind = c.args.kind; address = n; announced = c.args.announced; missing = c.args.announced }) at) c.in_ok-push_number.ensures.ok refl refl refl refl refl

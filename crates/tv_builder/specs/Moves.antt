@@ -1,0 +1,188 @@
+-- What a call on a building leaves.
+use Rattle.std.specs.Prelude.{◌≡◌, ◌↔◌, IsTrue, Bool, false, cond, nat_eq, ℕ, ◌+◌, ◌-◌, ◌<◌, ◌≤◌, ◌⊎◌, List, [], ◌∷◌, ◌++◌, length, drop, take, Option, Some, None, Result, Ok, Err}
+use Rattle.tv_base.specs.Number.{vnum}
+use Rattle.tv_base.specs.Parts.{short_sized}
+use Rattle.tv_base.specs.Sink.{IsFront}
+use Rattle.tv_value.specs.Tree.{Tree}
+use Rattle.tv_heap.specs.Room.{room}
+use Rattle.tv_heap.specs.TypeCode.{type_code}
+use Rattle.tv_heap.specs.Wrote.{Wrote}
+use Rattle.tv_builder.specs.declared.build_error.BuildError.{BuildError}
+use Rattle.tv_builder.specs.declared.build_error.BuildError.TheVariants.{OutOfPlace, NotUtf8, HeapFull, Memory}
+use Rattle.tv_builder.specs.declared.building.Building.{Building}
+use Rattle.tv_builder.specs.declared.building.OpenBytes.{OpenBytes}
+use Rattle.tv_builder.specs.declared.bytes_kind.BytesKind.{BytesKind}
+use Rattle.tv_builder.specs.declared.bytes_kind.BytesKind.TheVariants as kinds
+use Rattle.tv_builder.specs.declared.frame.Frame.{Frame}
+use Rattle.tv_builder.specs.declared.frame.ListKind.{ListKind}
+use Rattle.tv_builder.specs.declared.place.Place.{Place}
+use Rattle.tv_builder.specs.Given.{Given, given, one_more, pending_in, AreCut}
+use Rattle.tv_builder.specs.Kinds.{list_type, bytes_type}
+use Rattle.tv_builder.specs.Parts.{IsContent}
+use Rattle.tv_builder.specs.Shows.{Shows, frames_of}
+use Rattle.tv_builder.specs.State.{State, written, and_end}
+
+-- ---- a finished value is handed to the lists
+
+-- the heap, the places and the lists that a finished value leaves, whatever the heap's length
+abbrev pub given_to : Building → Place → Given
+given_to b p = given b.heap.items b.places.items (frames_of b) p
+
+pub record CanGive (b : Building) : Type 0 where
+  pub fits : length b.heap.items ≤ 4294967295
+  pub counted : b.pending ≡ pending_in (frames_of b)
+  pub cut : AreCut (frames_of b) b.places.items
+  pub none : b.complete ≡ None
+
+pub record Gives (old : Building) (p : Place) (new : Building) : Type 0 where
+  pub fits : length new.heap.items ≤ 4294967295
+  pub heap : new.heap.items ≡ (given_to old p).heap
+  pub places : new.places.items ≡ (given_to old p).places
+  pub frames : frames_of new ≡ (given_to old p).frames
+  pub complete : new.complete ≡ (given_to old p).complete
+  pub same_bytes : new.open ≡ old.open
+  pub counted : new.pending ≡ pending_in (frames_of new)
+
+-- the innermost list awaits a key
+pub record CanGiveKey (b : Building) : Type 0 where
+  pub frame : Frame
+  pub rest : List Frame
+  pub frames : frames_of b ≡ frame ∷ rest
+  pub cut : AreCut (frames_of b) b.places.items
+  pub counted : b.pending ≡ pending_in (frames_of b)
+
+-- the innermost list has one child more
+pub record GivesKey (old : Building) (at : ℕ) (new : Building) : Type 0 where
+  pub frame : Frame
+  pub rest : List Frame
+  pub was : frames_of old ≡ frame ∷ rest
+  pub frames : frames_of new ≡ one_more frame ∷ rest
+  pub heap : new.heap.items ≡ old.heap.items
+  pub places : new.places.items ≡ old.places.items ++ (1 ∷ vnum at)
+  pub complete : new.complete ≡ old.complete
+  pub same_bytes : new.open ≡ old.open
+  pub counted : new.pending ≡ pending_in (frames_of new)
+
+-- the heap would be too long, or memory was refused
+abbrev pub WhyNot : List ℕ → BuildError → Type 0
+WhyNot heap HeapFull = 4294967295 < length heap
+WhyNot heap Memory = Unit {0}
+WhyNot heap _ = ⊥
+
+pub record GivesNot (old : Building) (p : Place) (new : Building) (e : BuildError) : Type 0 where
+  pub front : IsFront old.heap.items new.heap.items
+  pub why : WhyNot (given_to old p).heap e
+
+-- a list of which the places are the last is written at the heap's end
+pub record Closed (old : Building) (f : Frame) (p : Place) (new : Building) : Type 0 where
+  pub fits : length new.heap.items ≤ 4294967295
+  pub heap : new.heap.items ≡ old.heap.items ++ short_sized (drop f.first old.places.items)
+  pub places : new.places.items ≡ take f.first old.places.items
+  pub pending : new.pending + f.finished ≡ old.pending
+  pub frames : new.frames ≡ old.frames
+  pub complete : new.complete ≡ old.complete
+  pub same_bytes : new.open ≡ old.open
+  pub place : p ≡ record { value_type = list_type f.kind; address = length old.heap.items }
+
+pub record ClosedNot (old : Building) (f : Frame) (new : Building) (e : BuildError) : Type 0 where
+  pub front : IsFront old.heap.items new.heap.items
+  pub why : WhyNot (old.heap.items ++ short_sized (drop f.first old.places.items)) e
+
+-- ---- the calls
+
+-- whether a value of this room, which is known where 32 bits hold it, fits behind so many bytes
+abbrev pub FitsRoom : Option ℕ → ℕ → Bool → Type 0
+FitsRoom None len b = b ≡ false
+FitsRoom (Some n) len b = IsTrue b ↔ (len + n ≤ 4294967295)
+
+-- Each state that was held becomes another, and the heap grows by no more than what is written of it has room.
+pub record Moves (old new : Building) (after : State → State) : Type 0 where
+  pub grows : IsFront old.heap.items new.heap.items
+  pub shows : (s : State) → Shows old s → Shows new (after s)
+  pub within : (s : State) → Shows old s → length new.heap.items + written s ≤ length old.heap.items + written (after s)
+
+-- A call that belongs `in_place`, and for which the heap that it leaves is `heaps`, whatever its length, and is too long where it is
+-- `full`. After a refusal what stood in the heap still stands in front.
+abbrev pub Does : Building → Building → Type 0 → (List ℕ → Type 0) → Type 0 → (State → State) → Result (Unit {0}) BuildError → Type 0
+Does old new in_place heaps full after (Ok x) = in_place × heaps new.heap.items × Moves old new after
+Does old new in_place heaps full after (Err OutOfPlace) = ¬ in_place × IsFront old.heap.items new.heap.items
+Does old new in_place heaps full after (Err HeapFull) = in_place × full × IsFront old.heap.items new.heap.items
+Does old new in_place heaps full after (Err Memory) = in_place × IsFront old.heap.items new.heap.items
+Does old new in_place heaps full after (Err _) = ⊥
+
+-- this is the heap, and it is too long
+abbrev pub Overfills : (List ℕ → Type 0) → Type 0
+Overfills heaps = (heap : List ℕ) × heaps heap × (4294967295 < length heap)
+
+-- a whole value is written, and then the lists that it closes
+abbrev pub ValueHeap : Building → Tree → List ℕ → Type 0
+ValueHeap old t heap =
+    (length old.heap.items + room t ≤ 4294967295) × (mid : List ℕ) × (p : Place) × Wrote old.heap.items mid (type_code p.value_type) p.address t
+    × (heap ≡ (given mid old.places.items (frames_of old) p).heap)
+
+-- its room is too large, or the heap would be too long
+abbrev pub ValueFull : Building → Tree → Type 0
+ValueFull old t = (4294967295 < length old.heap.items + room t) ⊎ Overfills (ValueHeap old t)
+
+-- a list of none is written at once, and then the lists that it closes
+abbrev pub list_heap : Building → ListKind → ℕ → List ℕ
+list_heap old kind n =
+    cond (nat_eq n 0)
+    ((given (old.heap.items ++ short_sized []) old.places.items (frames_of old) (record { value_type = list_type kind; address = length old.heap.items })).heap)
+    old.heap.items
+
+abbrev pub ListHeap : Building → ListKind → ℕ → List ℕ → Type 0
+ListHeap old kind n heap = heap ≡ list_heap old kind n
+
+abbrev pub ListFull : Building → ListKind → ℕ → Type 0
+ListFull old kind n = 4294967295 < length (list_heap old kind n)
+
+abbrev pub KeyHeap : Building → List ℕ → List ℕ → Type 0
+KeyHeap old content heap = heap ≡ old.heap.items ++ short_sized content
+
+abbrev pub KeyFull : Building → List ℕ → Type 0
+KeyFull old content = 4294967295 < length (old.heap.items ++ short_sized content)
+
+-- the length is written, and there has to be room for all announced bytes
+abbrev pub HeadHeap : Building → ℕ → List ℕ → Type 0
+HeadHeap old n heap = (heap ≡ old.heap.items ++ vnum n) × (length old.heap.items + (length (vnum n) + n) ≤ 4294967295)
+
+abbrev pub HeadFull : Building → ℕ → Type 0
+HeadFull old n = 4294967295 < length old.heap.items + (length (vnum n) + n)
+
+-- bytes are open, and so many at least are missing
+abbrev pub AwaitsChunk : Option OpenBytes → ℕ → Type 0
+AwaitsChunk None n = ⊥
+AwaitsChunk (Some o) n = n ≤ o.missing
+
+-- bytes are open, and none is missing
+abbrev pub AwaitsEnd : Option OpenBytes → Type 0
+AwaitsEnd None = ⊥
+AwaitsEnd (Some o) = o.missing ≡ 0
+
+-- the last bytes of the heap
+abbrev pub last_bytes : ℕ → List ℕ → List ℕ
+last_bytes n heap = drop (length heap - n) heap
+
+-- the open bytes are what they are announced to be
+abbrev pub EndsWell : Option OpenBytes → List ℕ → Type 0
+EndsWell None heap = ⊥
+EndsWell (Some o) heap = IsContent o.kind (last_bytes o.announced heap)
+
+-- the lists that the value closes are written; a key closes none
+abbrev pub content_heap : BytesKind → Building → ℕ → List ℕ
+content_heap kinds.Key old at = old.heap.items
+content_heap kind old at = (given_to old (record { value_type = bytes_type kind; address = at })).heap
+
+abbrev pub end_heap : Building → Option OpenBytes → List ℕ
+end_heap old None = old.heap.items
+end_heap old (Some o) = content_heap o.kind old o.address
+
+-- The end of open bytes: which refusal comes when, in this order, and what the call leaves.
+abbrev pub EndsBytes : Building → Building → Result (Unit {0}) BuildError → Type 0
+EndsBytes old new (Ok x) = AwaitsEnd old.open × EndsWell old.open old.heap.items × (new.heap.items ≡ end_heap old old.open) × Moves old new and_end
+EndsBytes old new (Err OutOfPlace) = ¬ AwaitsEnd old.open × IsFront old.heap.items new.heap.items
+EndsBytes old new (Err NotUtf8) = AwaitsEnd old.open × ¬ EndsWell old.open old.heap.items × IsFront old.heap.items new.heap.items
+EndsBytes old new (Err HeapFull) = AwaitsEnd old.open × EndsWell old.open old.heap.items × (4294967295 < length (end_heap old old.open)) × IsFront old.heap.items new.heap.items
+EndsBytes old new (Err Memory) = AwaitsEnd old.open × EndsWell old.open old.heap.items × IsFront old.heap.items new.heap.items
+EndsBytes old new (Err _) = ⊥

@@ -1,0 +1,99 @@
+-- Which state a heap, the places of finished children and the open lists hold.
+use Rattle.std.specs.Prelude.{◌≡◌, ◌≢◌, ℕ, ◌+◌, ◌<◌, ◌≤◌, ◌^◌, List, [], ◌∷◌, ◌++◌, length, reverse, take, drop, Option, Some, None}
+use Rattle.tv_base.specs.Number.{vnum}
+use Rattle.tv_value.specs.Tree.{Tree, elements}
+use Rattle.tv_heap.specs.Reads.{Reads, ReadsElements}
+use Rattle.tv_heap.specs.TypeCode.{type_code}
+use Rattle.tv_builder.specs.declared.awaits.Awaits.{Awaits}
+use Rattle.tv_builder.specs.declared.awaits.Awaits.TheVariants as awaits
+use Rattle.tv_builder.specs.declared.building.Building.{Building}
+use Rattle.tv_builder.specs.declared.building.OpenBytes.{OpenBytes}
+use Rattle.tv_builder.specs.declared.bytes_kind.BytesKind.{BytesKind}
+use Rattle.tv_builder.specs.declared.frame.Frame.{Frame}
+use Rattle.tv_builder.specs.declared.place.Place.{Place}
+use Rattle.tv_builder.specs.Given.{pending_in}
+use Rattle.tv_builder.specs.State.{OpenList, State, complete, in_lists, in_bytes, next_at, IsState}
+
+-- A tree stands there. Unless it is null or a truth value, it has bytes below the heap's end.
+pub record Placed (heap : List ℕ) (p : Place) (t : Tree) : Type 0 where
+  pub reads : Reads heap (type_code p.value_type) p.address t
+  pub below : type_code p.value_type ≢ 0 → type_code p.value_type ≢ 9 → p.address < length heap
+  pub fits : p.address < 2 ^ 32
+
+-- An open list, whose finished children stand at the last places. A key stands there as a text.
+pub record ShowsList (heap places : List ℕ) (f : Frame) (l : OpenList) : Type 0 where
+  pub same_kind : l.kind ≡ f.kind
+  pub same_announced : l.announced ≡ f.announced
+  pub counted : length l.children ≡ f.finished
+  pub cut : f.first ≤ length places
+  pub reads : ReadsElements heap (length heap) (drop f.first places) (elements l.children)
+
+-- all open lists, from the innermost
+abbrev pub ShowsLists : List ℕ → List Frame → List ℕ → List OpenList → Type 0
+ShowsLists heap [] places [] = places ≡ []
+ShowsLists heap (f ∷ fs) places (l ∷ ls) = ShowsList heap places f l × ShowsLists heap fs (take f.first places) ls
+ShowsLists heap _ places _ = ⊥
+
+-- The bytes so far are the heap's last, behind the shortest spelling of their length, and there is room for the others.
+pub record BytesStand (heap : List ℕ) (o : OpenBytes) (n : ℕ) (so_far : List ℕ) : Type 0 where
+  pub before : List ℕ
+  pub joined : heap ≡ before ++ (vnum n ++ so_far)
+  pub place : length before ≡ o.address
+  pub counted : length so_far + o.missing ≡ n
+  pub fits : length before + (length (vnum n) + n) ≤ 4294967295
+
+pub record ShowsTree (heap : List ℕ) (fs : List Frame) (places : List ℕ) (whole : Option Place) (bytes : Option OpenBytes) (t : Tree) : Type 0 where
+  pub at : Place
+  pub is : whole ≡ Some at
+  pub placed : Placed heap at t
+  pub frames : fs ≡ []
+  pub places_none : places ≡ []
+  pub closed : bytes ≡ None
+
+pub record ShowsOpen (heap : List ℕ) (fs : List Frame) (places : List ℕ) (whole : Option Place) (bytes : Option OpenBytes) (ls : List OpenList) : Type 0 where
+  pub none : whole ≡ None
+  pub closed : bytes ≡ None
+  pub lists : ShowsLists heap fs places ls
+
+pub record ShowsBytes (heap : List ℕ) (fs : List Frame) (places : List ℕ) (whole : Option Place) (bytes : Option OpenBytes) (ls : List OpenList) (kind : BytesKind) (n : ℕ) (so_far : List ℕ) : Type 0 where
+  pub none : whole ≡ None
+  pub piece : OpenBytes
+  pub is : bytes ≡ Some piece
+  pub same_kind : piece.kind ≡ kind
+  pub same_announced : piece.announced ≡ n
+  pub stand : BytesStand heap piece n so_far
+  pub lists : ShowsLists heap fs places ls
+
+abbrev pub ShowsAt : List ℕ → List Frame → List ℕ → Option Place → Option OpenBytes → State → Type 0
+ShowsAt heap fs places whole bytes (complete t) = ShowsTree heap fs places whole bytes t
+ShowsAt heap fs places whole bytes (in_lists ls) = ShowsOpen heap fs places whole bytes ls
+ShowsAt heap fs places whole bytes (in_bytes ls kind n so_far) = ShowsBytes heap fs places whole bytes ls kind n so_far
+
+-- the frames from the innermost
+abbrev pub frames_of : Building → List Frame
+frames_of b = reverse b.frames.items
+
+-- all of the state stands there
+pub record Shows (b : Building) (s : State) : Type 0 where
+  pub fits : length b.heap.items ≤ 4294967295
+  pub counted : b.pending ≡ pending_in (frames_of b)
+  pub is : IsState s
+  pub at : ShowsAt b.heap.items (frames_of b) b.places.items b.complete b.open s
+
+-- the state that a builder holds
+abbrev pub Stands : Building → Type 0
+Stands b = (s : State) × ∥ Shows b s ∥₁
+
+-- ---- what comes next, as the code has it
+
+abbrev pub next_frame : List Frame → Awaits
+next_frame [] = awaits.Value
+next_frame (f ∷ fs) = next_at f.kind f.finished
+
+abbrev pub awaited_at : Option OpenBytes → Option Place → List Frame → Awaits
+awaited_at (Some o) whole fs = awaits.Bytes o.missing
+awaited_at None (Some p) fs = awaits.Finish
+awaited_at None None fs = next_frame fs
+
+abbrev pub awaited_by : Building → Awaits
+awaited_by b = awaited_at b.open b.complete (frames_of b)

@@ -1,0 +1,248 @@
+-- What has come so far of a value that comes part by part, and what a part does to it.
+use Rattle.std.specs.Prelude.{◌≡◌, ℕ, suc, ◌+◌, ◌-◌, ◌%◌, ◌<◌, ◌≤◌, Bool, cond, nat_lt, nat_eq, List, [], ◌∷◌, ◌++◌, length, map}
+use Rattle.tv_value.specs.Tree.{Tree, leaf, text, facet, bytes, array, object, elements, entries}
+use Rattle.tv_builder.specs.declared.awaits.Awaits.{Awaits}
+use Rattle.tv_builder.specs.declared.awaits.Awaits.TheVariants as awaits
+use Rattle.tv_builder.specs.declared.bytes_kind.BytesKind.{BytesKind}
+use Rattle.tv_builder.specs.declared.bytes_kind.BytesKind.TheVariants as kinds
+use Rattle.tv_builder.specs.declared.frame.ListKind.{ListKind}
+use Rattle.tv_builder.specs.declared.frame.ListKind.TheVariants as lists
+use Rattle.tv_builder.specs.Kinds.{total}
+use Rattle.tv_builder.specs.Parts.{Part, value, key, array_head, object_head, bytes_head, some_bytes}
+use Rattle.tv_heap.specs.Room.{room}
+
+-- An open list, with the number of elements or entries that is announced, and its finished children. Those of an object are keys
+-- and values in turn, each key as a text.
+pub record OpenList : Type 0 where
+  pub kind : ListKind
+  pub announced : ℕ
+  pub children : List Tree
+
+-- A tree is complete; or lists are open, from the innermost, none of them at first; or, in the innermost, bytes are open, with their
+-- length that is announced and those that have come.
+pub data State : Type 0 where
+  complete : Tree → State
+  in_lists : List OpenList → State
+  in_bytes : List OpenList → BytesKind → ℕ → List ℕ → State
+
+-- ---- what comes next
+
+-- of a list with so many finished children
+abbrev pub next_at : ListKind → ℕ → Awaits
+next_at lists.Array n = awaits.Value
+next_at lists.Object n = cond (nat_eq (n % 2) 0) awaits.Key awaits.Value
+
+abbrev pub next_in : List OpenList → Awaits
+next_in [] = awaits.Value
+next_in (l ∷ ls) = next_at l.kind (length l.children)
+
+abbrev pub awaited : State → Awaits
+awaited (complete t) = awaits.Finish
+awaited (in_lists ls) = next_in ls
+awaited (in_bytes ls kind n bs) = awaits.Bytes (n - length bs)
+
+-- what begins where bytes of a kind are to come
+abbrev pub head_awaits : BytesKind → Awaits
+head_awaits kinds.Str = awaits.Value
+head_awaits kinds.Facet = awaits.Value
+head_awaits kinds.Bytes = awaits.Value
+head_awaits kinds.Key = awaits.Key
+
+-- ---- lists
+
+abbrev pub text_of : Tree → List ℕ
+text_of (leaf (text content)) = content
+text_of _ = []
+
+-- each key with the value behind it
+abbrev pub pairs_of : List Tree → List (List ℕ × Tree)
+pairs_of [] = []
+pairs_of (k ∷ []) = []
+pairs_of (k ∷ t ∷ ts) = (text_of k, t) ∷ pairs_of ts
+
+abbrev pub list_tree : ListKind → List Tree → Tree
+list_tree lists.Array ts = array (elements ts)
+list_tree lists.Object ts = object (entries (pairs_of ts))
+
+abbrev pub with_child : OpenList → Tree → OpenList
+with_child l t = record { kind = l.kind; announced = l.announced; children = l.children ++ t ∷ [] }
+
+-- with one child more it still lacks one
+abbrev pub lacks_more : OpenList → Bool
+lacks_more l = nat_lt (suc (length l.children)) (total l.kind l.announced)
+
+-- ---- what a part does
+
+-- A finished value comes to the innermost list, and a list that lacks nothing more is itself a finished value.
+abbrev pub with_value : List OpenList → Tree → State
+with_value [] t = complete t
+with_value (l ∷ ls) t = cond (lacks_more l) (in_lists (with_child l t ∷ ls)) (with_value ls (list_tree l.kind (l.children ++ t ∷ [])))
+
+abbrev pub with_key : List OpenList → List ℕ → State
+with_key [] k = in_lists []
+with_key (l ∷ ls) k = in_lists (with_child l (leaf (text k)) ∷ ls)
+
+-- a list of none is a finished value at once
+abbrev pub with_list : List OpenList → ListKind → ℕ → State
+with_list ls kind n = cond (nat_eq n 0) (with_value ls (list_tree kind [])) (in_lists (record { kind = kind; announced = n; children = [] } ∷ ls))
+
+abbrev pub with_content : List OpenList → BytesKind → List ℕ → State
+with_content ls kinds.Str content = with_value ls (leaf (text content))
+with_content ls kinds.Facet content = with_value ls (leaf (facet content))
+with_content ls kinds.Bytes content = with_value ls (leaf (bytes content))
+with_content ls kinds.Key content = with_key ls content
+
+-- each where it is awaited
+abbrev pub and_value : State → Tree → State
+and_value (in_lists ls) t = with_value ls t
+and_value s t = s
+
+abbrev pub and_list : State → ListKind → ℕ → State
+and_list (in_lists ls) kind n = with_list ls kind n
+and_list s kind n = s
+
+abbrev pub and_key : State → List ℕ → State
+and_key (in_lists ls) k = with_key ls k
+and_key s k = s
+
+abbrev pub and_head : State → BytesKind → ℕ → State
+and_head (in_lists ls) kind n = in_bytes ls kind n []
+and_head s kind n = s
+
+abbrev pub and_bytes : State → List ℕ → State
+and_bytes (in_bytes ls kind n bs) more = in_bytes ls kind n (bs ++ more)
+and_bytes s more = s
+
+abbrev pub and_end : State → State
+and_end (in_bytes ls kind n bs) = with_content ls kind bs
+and_end s = s
+
+-- ---- which states there are
+
+abbrev pub IsKey : Tree → Type 0
+IsKey (leaf (text content)) = Unit {0}
+IsKey _ = ⊥
+
+abbrev mutual
+  -- where a key comes next
+  pub AreEntries : List Tree → Type 0
+  AreEntries [] = Unit {0}
+  AreEntries (t ∷ ts) = IsKey t × AreValues ts
+
+  pub AreValues : List Tree → Type 0
+  AreValues [] = Unit {0}
+  AreValues (t ∷ ts) = AreEntries ts
+
+abbrev pub AreChildren : ListKind → List Tree → Type 0
+AreChildren lists.Array ts = Unit {0}
+AreChildren lists.Object ts = AreEntries ts
+
+-- some child is still awaited
+pub record IsList (l : OpenList) : Type 0 where
+  pub lacks : length l.children < total l.kind l.announced
+  pub children : AreChildren l.kind l.children
+
+abbrev pub AreLists : List OpenList → Type 0
+AreLists [] = Unit {0}
+AreLists (l ∷ ls) = IsList l × AreLists ls
+
+abbrev pub IsValueNext : ListKind → ℕ → Type 0
+IsValueNext lists.Array n = Unit {0}
+IsValueNext lists.Object n = n % 2 ≡ 1
+
+abbrev pub IsKeyNext : ListKind → ℕ → Type 0
+IsKeyNext lists.Array n = ⊥
+IsKeyNext lists.Object n = n % 2 ≡ 0
+
+-- each awaits a value
+abbrev pub AllAwait : List OpenList → Type 0
+AllAwait [] = Unit {0}
+AllAwait (l ∷ ls) = IsValueNext l.kind (length l.children) × AllAwait ls
+
+-- each but the innermost
+abbrev pub OthersAwait : List OpenList → Type 0
+OthersAwait [] = Unit {0}
+OthersAwait (l ∷ ls) = AllAwait ls
+
+-- where bytes of a kind may come
+abbrev pub HeadNext : BytesKind → List OpenList → Type 0
+HeadNext kinds.Key [] = ⊥
+HeadNext kinds.Key (l ∷ ls) = IsKeyNext l.kind (length l.children)
+HeadNext _ ls = AllAwait ls
+
+abbrev pub IsState : State → Type 0
+IsState (complete t) = Unit {0}
+IsState (in_lists ls) = AreLists ls × OthersAwait ls
+IsState (in_bytes ls kind n bs) = AreLists ls × OthersAwait ls × HeadNext kind ls × (length bs ≤ n)
+
+-- ---- its parts, its room, its counts
+
+abbrev mutual
+  pub key_parts : List Tree → List Part
+  key_parts [] = []
+  key_parts (t ∷ ts) = key (text_of t) ∷ value_parts ts
+
+  pub value_parts : List Tree → List Part
+  value_parts [] = []
+  value_parts (t ∷ ts) = value t ∷ key_parts ts
+
+abbrev pub list_head : ListKind → ℕ → Part
+list_head lists.Array n = array_head n
+list_head lists.Object n = object_head n
+
+abbrev pub children_parts : ListKind → List Tree → List Part
+children_parts lists.Array ts = map value ts
+children_parts lists.Object ts = key_parts ts
+
+abbrev pub list_parts : OpenList → List Part
+list_parts l = list_head l.kind l.announced ∷ children_parts l.kind l.children
+
+-- in reading order, so from the outermost
+abbrev pub lists_parts : List OpenList → List Part
+lists_parts [] = []
+lists_parts (l ∷ ls) = lists_parts ls ++ list_parts l
+
+abbrev pub parts_of : State → List Part
+parts_of (complete t) = value t ∷ []
+parts_of (in_lists ls) = lists_parts ls
+parts_of (in_bytes ls kind n bs) = lists_parts ls ++ (bytes_head kind n ∷ some_bytes bs ∷ [])
+
+-- 6 bytes and its room for each finished child, 5 for each open list
+abbrev pub children_room : List Tree → ℕ
+children_room [] = 0
+children_room (t ∷ ts) = 6 + room t + children_room ts
+
+abbrev pub lists_room : List OpenList → ℕ
+lists_room [] = 0
+lists_room (l ∷ ls) = 5 + children_room l.children + lists_room ls
+
+-- open bytes count with the length that is announced
+abbrev pub state_room : State → ℕ
+state_room (complete t) = room t
+state_room (in_lists ls) = lists_room ls
+state_room (in_bytes ls kind n bs) = lists_room ls + (5 + n)
+
+-- how many finished children open lists have
+abbrev pub children_of : List OpenList → ℕ
+children_of [] = 0
+children_of (l ∷ ls) = length l.children + children_of ls
+
+abbrev pub lists_of : State → List OpenList
+lists_of (complete t) = []
+lists_of (in_lists ls) = ls
+lists_of (in_bytes ls kind n bs) = ls
+
+-- ---- for private clauses: the room of what is written
+
+abbrev pub trees_room : List Tree → ℕ
+trees_room [] = 0
+trees_room (t ∷ ts) = room t + trees_room ts
+
+abbrev pub lists_written : List OpenList → ℕ
+lists_written [] = 0
+lists_written (l ∷ ls) = trees_room l.children + lists_written ls
+
+abbrev pub written : State → ℕ
+written (complete t) = room t
+written (in_lists ls) = lists_written ls
+written (in_bytes ls kind n bs) = lists_written ls + (5 + length bs)

@@ -1,0 +1,17 @@
+//! What comes next.
+
+/// What the next call on a builder must be. (Own.)
+#[derive(Clone, Copy, Debug, PartialEq, Eq)]
+pub enum Awaits {
+    /// A value, or the head of a list or of bytes.
+    Value,
+    /// A key of an object.
+    Key,
+    /// So many more of the announced bytes, and then their end.
+    Bytes {
+        /// How many have not come yet.
+        missing: u32,
+    },
+    /// The field to which the complete value belongs.
+    Finish,
+}

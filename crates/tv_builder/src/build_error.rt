@@ -1,0 +1,49 @@
+//! Why a call on a tree builder is refused.
+
+ghost use Rattle.std.specs.Prelude.{◌≡◌};
+
+use std::alloc::{AllocError, AllocFailed};
+use thiserror::Error;
+
+/// Why a tree builder refuses a call. (Own.) After any refusal it refuses every later call as `AlreadyFailed`.
+#[derive(Clone, Copy, Debug, PartialEq, Eq, Error)]
+pub enum BuildError {
+    /// An earlier call was refused.
+    #[error("an earlier call was refused")]
+    AlreadyFailed,
+    /// Another call is awaited.
+    #[error("another call is awaited")]
+    OutOfPlace,
+    /// The number of the field, which is above 65535.
+    #[error("the field number {0} is above 65535")]
+    FieldNumber(u32),
+    /// The bytes of a text, a facet or a key aren't UTF-8.
+    #[error("the bytes of a text are not UTF-8")]
+    NotUtf8,
+    /// The heap would be longer than 4294967295 bytes.
+    #[error("the values need more room than 4294967295 bytes")]
+    HeapFull,
+    /// The memory for the value was refused.
+    #[error("memory was refused")]
+    Memory,
+}
+
+impl From<AllocError> for BuildError {
+    ghost use Rattle.tv_builder.specs.declared.build_error.BuildError.TheVariants.{Memory};
+
+    ghost from_gives = { λ _ e. e ≡ Memory };
+
+    fn from(_error: AllocError) -> BuildError {
+        BuildError::Memory
+    }
+}
+
+impl<T: Drop> From<AllocFailed<T>> for BuildError {
+    ghost use Rattle.tv_builder.specs.declared.build_error.BuildError.TheVariants.{Memory};
+
+    ghost from_gives = { λ _ e. e ≡ Memory };
+
+    fn from(_error: AllocFailed<T>) -> BuildError {
+        BuildError::Memory
+    }
+}

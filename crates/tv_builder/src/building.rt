@@ -1,0 +1,378 @@
+//! A heap, and a value that is written into it part by part.
+
+ghost use Rattle.std.specs.Prelude.{◌≡◌, ℕ, ◌+◌, ◌-◌, ◌<◌, ◌≤◌, ◌^◌, ◌++◌, [], ◌∷◌, ◌↔◌, length, drop, take, OnOk, OnErr, IfOk, IfErr, IsTrue, IsUtf8};
+ghost use Rattle.tv_base.specs.Number.{vnum};
+ghost use Rattle.tv_base.specs.Parts.{short_sized};
+ghost use Rattle.tv_base.specs.Sink.{IsFront};
+ghost use Rattle.tv_builder.specs.Moves.{FitsRoom};
+ghost use Rattle.tv_value.specs.Lent.{leaf_of};
+ghost use Rattle.tv_value.specs.Tree.{leaf as leaf_tree};
+
+use crate::awaits::Awaits;
+use crate::build_error::BuildError;
+use crate::bytes_kind::BytesKind;
+use crate::frame::{Frame, ListKind};
+use crate::place::Place;
+use std::alloc::Global;
+use std::convert::AsStr;
+use tv_base::vint::VInt;
+use tv_heap::room::{leaf_room, room};
+use tv_heap::value_type::ValueType;
+use tv_heap::write::{push_place, write_leaf, write_list, write_tree};
+use tv_value::leaf::ReferenceValueLeaf;
+use tv_value::nested::lend;
+use tv_value::spell::{push_number, push_sized};
+use tv_value::value::Value;
+
+// The largest length of a heap, so that 32 bits hold each address.
+const MAX_HEAP_LEN: u64 = 4294967295;
+
+// The length of the shortest spelling of a number.
+fn spelled_len(number: u64) -> u64
+    ensures same { result ≡ length (vnum number) }
+    ensures small { result ≤ 10 }
+{
+    let (_, len) = VInt(number).spelling();
+    len as u64
+}
+
+// Whether so many bytes behind their length fit behind a heap of this length.
+fn has_room(len: usize, content: u64) -> bool
+    requires { len ≤ 4294967295 }
+    ensures { IsTrue result ↔ (len + (length (vnum content) + content) ≤ 4294967295) }
+{
+    content <= MAX_HEAP_LEN && len as u64 + (spelled_len(content) + content) <= MAX_HEAP_LEN
+}
+
+// Whether a value of this room fits behind a heap of this length.
+fn has_value_room(len: usize, room: Option<u32>) -> bool
+    requires { len ≤ 4294967295 }
+    ensures { FitsRoom room len result }
+{
+    match room {
+        Some(room) => u64::from(room) <= MAX_HEAP_LEN - len as u64,
+        None => false,
+    }
+}
+
+/// The bytes of an open value. (Own.)
+#[derive(Clone, Copy, Debug)]
+pub struct OpenBytes {
+    /// What they are.
+    pub kind: BytesKind,
+    /// The address of their length.
+    pub address: u32,
+    /// How many are announced.
+    pub announced: u32,
+    /// How many are still awaited.
+    pub missing: u32,
+}
+
+/// A heap, and where what is finished stands in it. (Own.)
+#[derive(Debug, Drop)]
+pub struct Building {
+    /// The bytes in which finished values stand, and behind them open bytes so far.
+    pub heap: Vec<u8>,
+    /// The places of the finished children of all open lists, as they will stand in the bytes of their lists.
+    pub places: Vec<u8>,
+    /// How many they are.
+    pub pending: usize,
+    /// The open lists, from the outermost.
+    pub frames: Vec<Frame>,
+    /// Where the value stands, once it is complete.
+    pub complete: Option<Place>,
+    /// The bytes that are open.
+    pub open: Option<OpenBytes>,
+}
+
+impl Building {
+    ghost use Rattle.tv_builder.specs.Parts.{IsContent};
+    ghost use Rattle.tv_builder.specs.Moves.{CanGive, Gives, GivesNot, CanGiveKey, GivesKey, Closed, ClosedNot, Does, EndsBytes, ValueHeap, ValueFull, HeadHeap, HeadFull, KeyHeap, KeyFull, ListHeap, ListFull, AwaitsChunk, last_bytes};
+    ghost use Rattle.tv_builder.specs.Shows.{Stands, frames_of, awaited_by};
+    ghost use Rattle.tv_builder.specs.State.{and_value, and_list, and_key, and_head, and_bytes, head_awaits};
+    ghost use Rattle.tv_builder.specs.declared.awaits.Awaits.TheVariants.{Value as ValueNext, Key as KeyNext};
+
+    /// Behind this heap, where a value is awaited. It takes no memory.
+    pub fn new(alloc: Global, heap: Vec<u8>) -> Building
+        ensures heap { result.heap.items ≡ heap.items }
+        ensures places { result.places.items ≡ [] }
+        ensures pending { result.pending ≡ 0 }
+        ensures frames { result.frames.items ≡ [] }
+        ensures complete { result.complete ≡ None }
+        ensures closed { result.open ≡ None }
+    {
+        Building {
+            heap,
+            places: Vec::new(alloc),
+            pending: 0,
+            frames: Vec::new(alloc),
+            complete: None,
+            open: None,
+        }
+    }
+
+    /// Lets go of what isn't finished, and cuts the heap to this length.
+    pub fn clear(&mut self, len: usize)
+        ensures heap { self.new.heap.items ≡ take len self.old.heap.items }
+        ensures places { self.new.places.items ≡ [] }
+        ensures pending { self.new.pending ≡ 0 }
+        ensures frames { self.new.frames.items ≡ [] }
+        ensures complete { self.new.complete ≡ None }
+        ensures closed { self.new.open ≡ None }
+    {
+        self.heap.truncate(len);
+        self.places.clear();
+        self.pending = 0;
+        self.frames.clear();
+        self.complete = None;
+        self.open = None;
+    }
+
+    /// What the next call must be.
+    pub fn awaits(&self) -> Awaits
+        ensures { result ≡ awaited_by self.now }
+    {
+        if let Some(open) = self.open {
+            return Awaits::Bytes {
+                missing: open.missing,
+            };
+        }
+        if self.complete.is_some() {
+            return Awaits::Finish;
+        }
+        match self.frames.last() {
+            Some(frame) => frame.awaits(),
+            None => Awaits::Value,
+        }
+    }
+
+    /// A value without children has come.
+    pub fn leaf(&mut self, value: &ReferenceValueLeaf<'_>) -> Result<(), BuildError>
+        requires { Stands self.old }
+        ensures { let t = leaf_tree (leaf_of value.now) in Does self.old self.new (awaited_by self.old ≡ ValueNext) (ValueHeap self.old t) (ValueFull self.old t) (λ s. and_value s t) result }
+    {
+        let Awaits::Value = self.awaits() else {
+            return Err(BuildError::OutOfPlace);
+        };
+        if !has_value_room(self.heap.len(), leaf_room(value)) {
+            return Err(BuildError::HeapFull);
+        }
+        let (value_type, address) = write_leaf(&mut self.heap, value)?;
+        self.give(Place {
+            value_type,
+            address,
+        })
+    }
+
+    /// A whole value of any kind has come.
+    pub fn tree<'a, V: Value<'a>>(&mut self, value: &V) -> Result<(), BuildError>
+        requires { Stands self.old }
+        ensures { let t = V.tree value.now in Does self.old self.new (awaited_by self.old ≡ ValueNext) (ValueHeap self.old t) (ValueFull self.old t) (λ s. and_value s t) result }
+    {
+        let Awaits::Value = self.awaits() else {
+            return Err(BuildError::OutOfPlace);
+        };
+        if !has_value_room(self.heap.len(), room(value)) {
+            return Err(BuildError::HeapFull);
+        }
+        let (value_type, address) = write_tree(&mut self.heap, &mut self.places, lend(value))?;
+        self.give(Place {
+            value_type,
+            address,
+        })
+    }
+
+    /// A list has come, of which so many elements or entries are announced. One of none closes at once.
+    pub fn open_list(&mut self, kind: ListKind, announced: u64) -> Result<(), BuildError>
+        requires { Stands self.old }
+        ensures { Does self.old self.new (awaited_by self.old ≡ ValueNext) (ListHeap self.old kind announced) (ListFull self.old kind announced) (λ s. and_list s kind announced) result }
+    {
+        let Awaits::Value = self.awaits() else {
+            return Err(BuildError::OutOfPlace);
+        };
+        let frame = Frame {
+            kind,
+            announced,
+            finished: 0,
+            first: self.places.len(),
+        };
+        if announced == 0 {
+            let place = self.close(frame)?;
+            return self.give(place);
+        }
+        self.frames.push(frame)?;
+        Ok(())
+    }
+
+    /// A key has come.
+    pub fn key(&mut self, content: &str) -> Result<(), BuildError>
+        requires { Stands self.old }
+        ensures { Does self.old self.new (awaited_by self.old ≡ KeyNext) (KeyHeap self.old content.now) (KeyFull self.old content.now) (λ s. and_key s content.now) result }
+    {
+        let Awaits::Key = self.awaits() else {
+            return Err(BuildError::OutOfPlace);
+        };
+        if !has_room(self.heap.len(), content.len() as u64) {
+            return Err(BuildError::HeapFull);
+        }
+        let address = self.heap.len() as u32;
+        push_sized(&mut self.heap, content.as_bytes())?;
+        self.give_key(address)
+    }
+
+    /// The bytes of a value or a key begin, of which so many are announced.
+    pub fn begin_bytes(&mut self, kind: BytesKind, announced: u64) -> Result<(), BuildError>
+        requires { Stands self.old }
+        ensures { Does self.old self.new (awaited_by self.old ≡ head_awaits kind) (HeadHeap self.old announced) (HeadFull self.old announced) (λ s. and_head s kind announced) result }
+    {
+        if !self.awaits_head(kind) {
+            return Err(BuildError::OutOfPlace);
+        }
+        if !has_room(self.heap.len(), announced) {
+            return Err(BuildError::HeapFull);
+        }
+        let address = self.heap.len() as u32;
+        push_number(&mut self.heap, announced)?;
+        self.open = Some(OpenBytes {
+            kind,
+            address,
+            announced: announced as u32,
+            missing: announced as u32,
+        });
+        Ok(())
+    }
+
+    // Whether bytes of this kind may begin.
+    fn awaits_head(&self, kind: BytesKind) -> bool
+        ensures { IsTrue result ↔ (awaited_by self.now ≡ head_awaits kind) }
+    {
+        match kind {
+            BytesKind::Str | BytesKind::Facet | BytesKind::Bytes => {
+                matches!(self.awaits(), Awaits::Value)
+            }
+            BytesKind::Key => matches!(self.awaits(), Awaits::Key),
+        }
+    }
+
+    /// Some of the announced bytes have come.
+    pub fn chunk(&mut self, bytes: &[u8]) -> Result<(), BuildError>
+        requires { Stands self.old }
+        ensures { Does self.old self.new (AwaitsChunk self.old.open (length bytes.now)) (λ heap. heap ≡ self.old.heap.items ++ bytes.now) ⊥ (λ s. and_bytes s bytes.now) result }
+    {
+        let Some(open) = self.open else {
+            return Err(BuildError::OutOfPlace);
+        };
+        if bytes.len() > open.missing as usize {
+            return Err(BuildError::OutOfPlace);
+        }
+        self.heap.extend_from_slice(bytes)?;
+        self.open = Some(OpenBytes {
+            kind: open.kind,
+            address: open.address,
+            announced: open.announced,
+            missing: open.missing - bytes.len() as u32,
+        });
+        Ok(())
+    }
+
+    /// All announced bytes have come.
+    pub fn end_bytes(&mut self) -> Result<(), BuildError>
+        requires { Stands self.old }
+        ensures { EndsBytes self.old self.new result }
+    {
+        let Some(open) = self.open else {
+            return Err(BuildError::OutOfPlace);
+        };
+        if open.missing > 0 {
+            return Err(BuildError::OutOfPlace);
+        }
+        if !self.ends_well(open) {
+            return Err(BuildError::NotUtf8);
+        }
+        self.open = None;
+        match open.kind {
+            BytesKind::Key => self.give_key(open.address),
+            kind => self.give(Place {
+                value_type: kind.value_type(),
+                address: open.address,
+            }),
+        }
+    }
+
+    // Whether the bytes that were open are what they are announced to be.
+    fn ends_well(&self, open: OpenBytes) -> bool
+        requires { open.announced ≤ length self.now.heap.items }
+        ensures { IsTrue result ↔ IsContent open.kind (last_bytes open.announced self.now.heap.items) }
+    {
+        !open.kind.is_text() || self.ends_in_text(open.announced as usize)
+    }
+
+    // Whether the last so many bytes of the heap are UTF-8.
+    fn ends_in_text(&self, len: usize) -> bool
+        requires { len ≤ length self.now.heap.items }
+        ensures { IsTrue result ↔ IsUtf8 (last_bytes len self.now.heap.items) }
+    {
+        let (_, content) = self.heap.as_slice().split_at(self.heap.len() - len);
+        match str::from_utf8(content) {
+            Ok(_) => true,
+            Err(_) => false,
+        }
+    }
+
+    // Hands a finished key to the innermost list.
+    fn give_key(&mut self, address: u32) -> Result<(), BuildError>
+        requires { CanGiveKey self.old }
+        ensures ok { OnOk result (GivesKey self.old address self.new) }
+        ensures err { IfErr result (λ e. (e ≡ BuildError.Memory) × (self.new.heap.items ≡ self.old.heap.items)) }
+    {
+        let Some(mut frame) = self.frames.pop() else {
+            return Err(BuildError::Memory);
+        };
+        push_place(&mut self.places, ValueType::Str, address)?;
+        self.pending += 1;
+        frame.finished += 1;
+        self.frames.push(frame)?;
+        Ok(())
+    }
+
+    // Hands a finished value to the innermost list, and closes each list that lacks nothing more.
+    fn give(&mut self, place: Place) -> Result<(), BuildError>
+        requires { CanGive self.old }
+        ensures ok { OnOk result (Gives self.old place self.new) }
+        ensures err { IfErr result (λ e. GivesNot self.old place self.new e) }
+    {
+        let mut finished = place;
+        while let Some(mut frame) = self.frames.pop() {
+            push_place(&mut self.places, finished.value_type, finished.address)?;
+            self.pending += 1;
+            frame.finished += 1;
+            if frame.lacks() {
+                self.frames.push(frame)?;
+                return Ok(());
+            }
+            finished = self.close(frame)?;
+        }
+        self.complete = Some(finished);
+        Ok(())
+    }
+
+    // Writes a list of which the places are the last at the heap's end.
+    fn close(&mut self, frame: Frame) -> Result<Place, BuildError>
+        requires fits { length self.old.heap.items ≤ 4294967295 }
+        requires first { frame.first ≤ length self.old.places.items }
+        requires counted { frame.finished ≤ self.old.pending }
+        ensures ok { IfOk result (λ place. Closed self.old frame place self.new) }
+        ensures err { IfErr result (λ e. ClosedNot self.old frame self.new e) }
+    {
+        let len = self.places.len() - frame.first;
+        if !has_room(self.heap.len(), len as u64) {
+            return Err(BuildError::HeapFull);
+        }
+        let address = write_list(&mut self.heap, &mut self.places, frame.first)?;
+        self.pending -= frame.finished;
+        Ok(Place {
+            value_type: frame.kind.value_type(),
+            address,
+        })
+    }
+}

@@ -1,0 +1,1 @@
+//! Laws of parts and states, each the contract of a function that does nothing.

@@ -1,0 +1,10 @@
+//! A value of any depth, written into a heap of bytes as its parts arrive.
+#![tactic(auto)]
+
+pub mod awaits;
+pub mod build_error;
+pub mod building;
+pub mod bytes_kind;
+pub mod frame;
+pub mod laws;
+pub mod place;

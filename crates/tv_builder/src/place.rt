@@ -1,0 +1,12 @@
+//! Where a value stands in a heap.
+
+use tv_heap::value_type::ValueType;
+
+/// The type and the address of a value or a key in a heap.
+#[derive(Clone, Copy, Debug)]
+pub struct Place {
+    /// Its type.
+    pub value_type: ValueType,
+    /// Its address.
+    pub address: u32,
+}
