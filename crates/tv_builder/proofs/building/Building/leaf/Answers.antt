@@ -4,6 +4,7 @@ use Rattle.tv_value.specs.Tree.{leaf}
 use Rattle.tv_heap.specs.Room.{room}
 use Rattle.tv_builder.proofs.Calls.{does_value, room_fits, value_small}
 use Rattle.tv_builder.proofs.Sound.{can_give, fits_of}
+use Rattle.tv_heap.proofs.Writes.{leaf_fits}
 use Rattle.tv_builder.proofs.building.Building.leaf.Goals as goal
 use Rattle.tv_builder.proofs.building.Building.leaf.Goals.{After-leaf_room, In_ok-value_type}
 
@@ -27,3 +28,9 @@ returns c =
     let w = c.in_ok-value_type.ensures.ok in
     let d = (goal.at.returns c).In_ok-value_type in
     does_value b _ c.give.new.self _ (leaf (leaf_of c.args.value.now)) c.give.result (sym c.in-Value.ensures) (small d) w refl refl refl c.give.ensures.ok c.give.ensures.err
+
+pub write_leaf-requires : goal.write_leaf-requires
+write_leaf-requires c =
+    let b = c.args.self.now in
+    leaf_fits (length b.heap.items) c.args.value.now
+    (omega (arith, room_fits c.leaf_room.result c.len.result _ c.has_value_room.result c.leaf_room.ensures c.has_value_room.ensures c.if-not-has_value_room.false, c.len.ensures, b.heap.ok.0))

@@ -1,0 +1,173 @@
+-- What is at fault behind the parts that have come.
+use Rattle.std.proofs.Common.{◌≡◌, ℕ, zero, suc, ◌+◌, ◌*◌, ◌%◌, ◌<◌, ◌≤◌, List, [], ◌∷◌, ◌++◌, length, map, refl, sym, ap, subst, ◌∙◌, append_assoc, length-append, arith, inl, inr, IsUtf8}
+use Rattle.std.proofs.lemmas.List.{append-nil}
+use Rattle.tv_base.specs.declared.cause.Cause.{Cause}
+use Rattle.tv_base.specs.declared.cause.Cause.TheVariants.{NotUtf8, UnexpectedEnd}
+use Rattle.tv_base.specs.Number.{VNum}
+use Rattle.tv_base.specs.PartFault.{InEach, TextFault, SizedFault, bytes_end, in_sized, no_text}
+use Rattle.tv_base.specs.Parts.{Then, Each, Sized}
+use Rattle.tv_value.specs.Fault.{Refusal, corrupted, corrupt, KeyFault, in_key, FieldFault, ValueFault, in_leaf, in_text, in_facet, in_bytes, in_element, in_entry_key, in_entry, PairFault, DocumentFault}
+use Rattle.tv_value.specs.Spelling.{Key, SpellsElements, SpellsEntries, SpellsPair}
+use Rattle.tv_value.specs.Tree.{Tree, leaf, text, elements, element_count, entries, entry_count, Entries, Document}
+use Rattle.tv_value.specs.Version.{Version, V1, V2, V3, entry_total}
+use Rattle.tv_builder.specs.declared.bytes_kind.BytesKind.{BytesKind}
+use Rattle.tv_builder.specs.declared.bytes_kind.BytesKind.TheVariants as kinds
+use Rattle.tv_builder.specs.declared.frame.ListKind.{ListKind}
+use Rattle.tv_builder.specs.declared.frame.ListKind.TheVariants as lists
+use Rattle.tv_builder.specs.Behind.{pairs_parts, document_parts, open_parts, FaultsBehind}
+use Rattle.tv_builder.specs.Front.{SpellsPart, Spelled, BytesHead}
+use Rattle.tv_builder.specs.Kinds.{total, IsTextKind}
+use Rattle.tv_builder.specs.Parts.{Part, number, field, value, bytes_head, some_bytes}
+use Rattle.tv_builder.specs.State.{OpenList, State, in_lists, in_bytes, text_of, pairs_of, IsKey, AreEntries, IsValueNext, IsKeyNext, AllAwait, AreLists, OthersAwait, HeadNext, key_parts, list_head, children_parts, list_parts, lists_parts}
+
+each_split : {A : Type 0} (R : List ℕ → A → Type 0) (xs ys : List A) (whole : List ℕ) → Each R whole (xs ++ ys) → Then (λ b. Each R b xs) (λ b. Each R b ys) whole
+each_split R [] ys whole p = record { front = []; rest = whole; joined = refl; first = refl; second = p }
+each_split R (x ∷ xs) ys whole p =
+    let q = each_split R xs ys p.rest p.second in
+    record {
+      front = p.front ++ q.front;
+      rest = q.rest;
+      joined = p.joined ∙ ap (λ z. p.front ++ z) q.joined ∙ sym (append_assoc p.front q.front q.rest);
+      first = record { front = p.front; rest = q.front; joined = refl; first = p.first; second = q.first };
+      second = q.second;
+    }
+
+-- bytes of two parts, with others behind them
+behind_both : (whole a b rest : List ℕ) → whole ≡ a ++ b → a ++ (b ++ rest) ≡ whole ++ rest
+behind_both whole a b rest e = sym (ap (λ z. z ++ rest) e ∙ append_assoc a b rest)
+
+module _ (Legacy : List ℕ → Entries → Type 0) (L : List ℕ → Cause → Type 0) (v : Version) where
+  abbrev R : List ℕ → Part → Type 0
+  R whole p = SpellsPart Legacy v whole p
+
+  abbrev VF : List ℕ → Refusal → Type 0
+  VF whole r = ValueFault Legacy L v whole r
+
+  -- ---- within a list
+
+  elements_from : (ts : List Tree) (whole : List ℕ) → Each R whole (map value ts) → SpellsElements Legacy v whole (elements ts)
+  elements_from [] whole p = p
+  elements_from (t ∷ ts) whole p = record { front = p.front; rest = p.rest; joined = p.joined; first = p.first; second = elements_from ts p.rest p.second }
+
+  -- each key with its value, where a key comes next
+  entries_from : (ts : List Tree) (whole : List ℕ) → length ts % 2 ≡ 0 → Each R whole (key_parts ts) → SpellsEntries Legacy v whole (entries (pairs_of ts))
+  entries_from [] whole even p = p
+  entries_from (k ∷ []) whole even p = absurd (omega arith)
+  entries_from (k ∷ t ∷ ts) whole even p =
+      let q = p.second in
+      record { front = p.front; rest = p.rest; joined = p.joined; first = p.first; second = record { front = q.front; rest = q.rest; joined = q.joined; first = q.first; second = entries_from ts q.rest (omega (arith, even)) q.second } }
+
+  -- each key with its value, and the last key, where its value comes next
+  record KeyBehind (ts : List Tree) (whole : List ℕ) : Type 0 where
+    front : List ℕ
+    last : List ℕ
+    key : List ℕ
+    joined : whole ≡ front ++ last
+    spelled : SpellsEntries Legacy v front (entries (pairs_of ts))
+    is_key : Key v last key
+
+  key_behind : (ts : List Tree) (whole : List ℕ) → length ts % 2 ≡ 1 → Each R whole (key_parts ts) → KeyBehind ts whole
+  key_behind [] whole odd p = absurd (omega arith)
+  key_behind (k ∷ []) whole odd p = record { front = []; last = p.front; key = text_of k; joined = p.joined ∙ ap (λ z. p.front ++ z) p.second ∙ append-nil p.front; spelled = refl; is_key = p.first }
+  key_behind (k ∷ t ∷ ts) whole odd p =
+      let q = p.second in
+      let b = key_behind ts q.rest (omega (arith, odd)) q.second in
+      record {
+        front = p.front ++ (q.front ++ b.front);
+        last = b.last;
+        key = b.key;
+        joined = p.joined ∙ ap (λ z. p.front ++ z) (q.joined ∙ ap (λ z. q.front ++ z) b.joined ∙ sym (append_assoc q.front b.front b.last)) ∙ sym (append_assoc p.front (q.front ++ b.front) b.last);
+        spelled = record { front = p.front; rest = q.front ++ b.front; joined = refl; first = p.first; second = record { front = q.front; rest = b.front; joined = refl; first = q.first; second = b.spelled } };
+        is_key = b.is_key;
+      }
+
+  elements_counted : (ts : List Tree) → element_count (elements ts) ≡ length ts
+  elements_counted [] = refl
+  elements_counted (t ∷ ts) = omega (arith, elements_counted ts)
+
+  entries_counted : (ts : List Tree) → 2 * entry_count (entries (pairs_of ts)) ≤ length ts
+  entries_counted [] = omega arith
+  entries_counted (k ∷ []) = omega arith
+  entries_counted (k ∷ t ∷ ts) = omega (arith, entries_counted ts)
+
+  -- bytes behind a code
+  coded_both : (code : ℕ) (whole front body rest after : List ℕ) → whole ≡ front ++ rest → front ≡ code ∷ body → code ∷ (body ++ (rest ++ after)) ≡ whole ++ after
+  coded_both code whole front body rest after e f = sym (ap (λ z. z ++ after) (e ∙ ap (λ z. z ++ rest) f) ∙ ap (λ z. code ∷ z) (append_assoc body rest after))
+
+  list_fault : (kind : ListKind) (n : ℕ) (ts : List Tree) (bytes rest : List ℕ) (r : Refusal) → length ts < total kind n → IsValueNext kind (length ts) → Each R bytes (list_head kind n ∷ children_parts kind ts) → VF rest r
+      → VF (bytes ++ rest) r
+  list_fault lists.Array n ts bytes rest r less next p h =
+      subst (λ z. VF z r) (coded_both 12 bytes p.front p.first.body p.rest rest p.joined p.first.joined)
+      (in_element n (elements ts) p.first.body p.rest rest refl p.first.spelled (elements_from ts p.rest p.second) (omega (arith, less, elements_counted ts)) h)
+  list_fault lists.Object n ts bytes rest r less next p h =
+      let b = key_behind ts p.rest next p.second in
+      subst (λ z. VF z r) (coded_both 13 bytes p.front p.first.body p.rest rest p.joined p.first.joined)
+      (in_entry n (entries (pairs_of ts)) b.key p.first.body b.front b.last rest (ap (λ z. p.first.body ++ z) (ap (λ z. z ++ rest) b.joined ∙ append_assoc b.front b.last rest)) p.first.spelled b.spelled
+      (omega (arith, less, entries_counted ts, next)) b.is_key h)
+
+  list_key_fault : (kind : ListKind) (n : ℕ) (ts : List Tree) (bytes rest : List ℕ) (r : Refusal) → length ts < total kind n → IsKeyNext kind (length ts) → Each R bytes (list_head kind n ∷ children_parts kind ts)
+      → KeyFault v rest r → VF (bytes ++ rest) r
+  list_key_fault lists.Array n ts bytes rest r less next p h = absurd next
+  list_key_fault lists.Object n ts bytes rest r less next p h =
+      subst (λ z. VF z r) (coded_both 13 bytes p.front p.first.body p.rest rest p.joined p.first.joined)
+      (in_entry_key n (entries (pairs_of ts)) p.first.body p.rest rest refl p.first.spelled (entries_from ts p.rest next p.second) (omega (arith, less, entries_counted ts)) h)
+
+  -- within all open lists
+  lists_fault : (ls : List OpenList) (bytes rest : List ℕ) (r : Refusal) → AreLists ls → AllAwait ls → Each R bytes (lists_parts ls) → VF rest r → VF (bytes ++ rest) r
+  lists_fault [] bytes rest r are await p h = subst (λ z. VF (z ++ rest) r) (sym p) h
+  lists_fault (l ∷ ls) bytes rest r are await p h =
+      let q = each_split R (lists_parts ls) (list_parts l) bytes p in
+      subst (λ z. VF z r) (behind_both bytes q.front q.rest rest q.joined)
+      (lists_fault ls q.front (q.rest ++ rest) r are.1 await.1 q.first (list_fault l.kind l.announced l.children q.rest rest r are.0.lacks await.0 q.second h))
+
+  lists_key_fault : (l : OpenList) (ls : List OpenList) (bytes rest : List ℕ) (r : Refusal) → AreLists (l ∷ ls) → AllAwait ls → IsKeyNext l.kind (length l.children) → Each R bytes (lists_parts (l ∷ ls)) → KeyFault v rest r
+      → VF (bytes ++ rest) r
+  lists_key_fault l ls bytes rest r are await next p h =
+      let q = each_split R (lists_parts ls) (list_parts l) bytes p in
+      subst (λ z. VF z r) (behind_both bytes q.front q.rest rest q.joined)
+      (lists_fault ls q.front (q.rest ++ rest) r are.1 await q.first (list_key_fault l.kind l.announced l.children q.rest rest r are.0.lacks next q.second h))
+
+  -- ---- within a document
+
+  -- behind pairs that are finished
+  pairs_fault : (d : Document) (n : ℕ) (bytes rest : List ℕ) (r : Refusal) → length d < n → Each R bytes (pairs_parts d) → PairFault Legacy L v rest r
+      → InEach (PairFault Legacy L v) (SpellsPair Legacy v) n (bytes ++ rest) r
+  pairs_fault [] zero bytes rest r less p h = absurd (omega arith)
+  pairs_fault [] (suc n) bytes rest r less p h = inl (subst (λ z. PairFault Legacy L v (z ++ rest) r) (sym p) h)
+  pairs_fault (x ∷ d) zero bytes rest r less p h = absurd (omega arith)
+  pairs_fault (x ∷ d) (suc n) bytes rest r less p h = inr (
+    x,
+    record { front = p.front; rest = p.rest ++ rest; joined = sym (behind_both bytes p.front p.rest rest p.joined); first = p.first; second = pairs_fault d n p.rest rest r (omega arith) p.second h },
+  )
+
+  -- behind the number and the pairs
+  document_fault : (n : ℕ) (d : Document) (bytes rest : List ℕ) (r : Refusal) → length d < n → Each R bytes (document_parts n d) → PairFault Legacy L v rest r → DocumentFault Legacy L v (bytes ++ rest) r
+  document_fault n d bytes rest r less p h = inr (
+    n,
+    record { front = p.front; rest = p.rest ++ rest; joined = sym (behind_both bytes p.front p.rest rest p.joined); first = p.first; second = pairs_fault d n p.rest rest r less p.second h },
+  )
+
+  -- behind a field and parts of its value
+  open_fault : (n : ℕ) (d : Document) (f : ℕ) (ps : List Part) (bytes rest : List ℕ) (r : Refusal) → length d < n → f ≤ 65535 → Each R bytes (document_parts n d ++ (field f ∷ ps))
+      → ((b : List ℕ) → Each R b ps → VF (b ++ rest) r) → DocumentFault Legacy L v (bytes ++ rest) r
+  open_fault n d f ps bytes rest r less small p h =
+      let q = each_split R (document_parts n d) (field f ∷ ps) bytes p in
+      let s = q.second in
+      subst (λ z. DocumentFault Legacy L v z r) (behind_both bytes q.front q.rest rest q.joined)
+      (document_fault n d q.front (q.rest ++ rest) r less q.first (inr (
+        f,
+        record { front = s.front; rest = s.rest ++ rest; joined = sym (behind_both q.rest s.front s.rest rest s.joined); first = (s.first, small); second = h s.rest s.second },
+      )))
+
+  -- ---- by what is awaited
+
+  pub field_faults : (n : ℕ) (d : Document) (rest : List ℕ) (c : Cause) → length d < n → FieldFault rest c → FaultsBehind Legacy L v (document_parts n d) rest (corrupted c)
+  field_faults n d rest c less h = λ bytes p. document_fault n d bytes rest (corrupted c) less p (inl (corrupt h))
+
+  pub value_faults : (n : ℕ) (d : Document) (f : ℕ) (ls : List OpenList) (rest : List ℕ) (r : Refusal) → length d < n → f ≤ 65535 → AreLists ls → AllAwait ls → VF rest r
+      → FaultsBehind Legacy L v (open_parts n d f (in_lists ls)) rest r
+  value_faults n d f ls rest r less small are await h = λ bytes p. open_fault n d f (lists_parts ls) bytes rest r less small p (λ b q. lists_fault ls b rest r are await q h)
+
+  pub key_faults : (n : ℕ) (d : Document) (f : ℕ) (l : OpenList) (ls : List OpenList) (rest : List ℕ) (r : Refusal) → length d < n → f ≤ 65535 → AreLists (l ∷ ls) → AllAwait ls
+      → IsKeyNext l.kind (length l.children) → KeyFault v rest r → FaultsBehind Legacy L v (open_parts n d f (in_lists (l ∷ ls))) rest r
+  key_faults n d f l ls rest r less small are await next h = λ bytes p. open_fault n d f (lists_parts (l ∷ ls)) bytes rest r less small p (λ b q. lists_key_fault l ls b rest r are await next q h)

@@ -1,0 +1,26 @@
+-- What has come of a document, and what is at fault behind that.
+use Rattle.std.specs.Prelude.{ℕ, List, [], ◌∷◌, ◌++◌}
+use Rattle.tv_base.specs.declared.cause.Cause.{Cause}
+use Rattle.tv_value.specs.Fault.{Refusal, DocumentFault}
+use Rattle.tv_value.specs.Tree.{Entries, Document}
+use Rattle.tv_value.specs.Version.{Version}
+use Rattle.tv_builder.specs.Front.{Spelled}
+use Rattle.tv_builder.specs.Parts.{Part, number, pair, field}
+use Rattle.tv_builder.specs.State.{State, parts_of}
+
+abbrev pub pairs_parts : Document → List Part
+pairs_parts [] = []
+pairs_parts (p ∷ d) = pair p.0 p.1 ∷ pairs_parts d
+
+-- the number of the pairs, and the finished ones
+abbrev pub document_parts : ℕ → Document → List Part
+document_parts n d = number n ∷ pairs_parts d
+
+-- and of the next one its field, and what has come of its value
+abbrev pub open_parts : ℕ → Document → ℕ → State → List Part
+open_parts n d f s = document_parts n d ++ (field f ∷ parts_of s)
+
+-- Whatever bytes spell these parts, where the rest follows them no front spells a document, for this reason. `Legacy` and `L` say what
+-- spells a legacy object, and what is wrong with bytes that spell none.
+abbrev pub FaultsBehind : (Legacy : List ℕ → Entries → Type 0) (L : List ℕ → Cause → Type 0) → Version → List Part → List ℕ → Refusal → Type 0
+FaultsBehind Legacy L v ps rest r = (bytes : List ℕ) → Spelled Legacy v bytes ps → DocumentFault Legacy L v (bytes ++ rest) r
