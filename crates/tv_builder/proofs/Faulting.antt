@@ -15,7 +15,7 @@ use Rattle.tv_builder.specs.declared.bytes_kind.BytesKind.TheVariants as kinds
 use Rattle.tv_builder.specs.declared.frame.ListKind.{ListKind}
 use Rattle.tv_builder.specs.declared.frame.ListKind.TheVariants as lists
 use Rattle.tv_builder.specs.Behind.{pairs_parts, document_parts, open_parts, FaultsBehind}
-use Rattle.tv_builder.specs.Front.{SpellsPart, Spelled, BytesHead}
+use Rattle.tv_builder.specs.Front.{SpellsPart, KeyHead}
 use Rattle.tv_builder.specs.Kinds.{total, IsTextKind}
 use Rattle.tv_builder.specs.Parts.{Part, number, field, value, bytes_head, some_bytes}
 use Rattle.tv_builder.specs.State.{OpenList, State, in_lists, in_bytes, text_of, pairs_of, IsKey, AreEntries, IsValueNext, IsKeyNext, AllAwait, AreLists, OthersAwait, HeadNext, key_parts, list_head, children_parts, list_parts, lists_parts}
@@ -171,3 +171,78 @@ module _ (Legacy : List ℕ → Entries → Type 0) (L : List ℕ → Cause → 
   pub key_faults : (n : ℕ) (d : Document) (f : ℕ) (l : OpenList) (ls : List OpenList) (rest : List ℕ) (r : Refusal) → length d < n → f ≤ 65535 → AreLists (l ∷ ls) → AllAwait ls
       → IsKeyNext l.kind (length l.children) → KeyFault v rest r → FaultsBehind Legacy L v (open_parts n d f (in_lists (l ∷ ls))) rest r
   key_faults n d f l ls rest r less small are await next h = λ bytes p. open_fault n d f (lists_parts (l ∷ ls)) bytes rest r less small p (λ b q. lists_key_fault l ls b rest r are await next q h)
+
+  -- ---- behind open bytes
+
+  -- the bytes so far, behind their length
+  content_is : (kind : BytesKind) (m : ℕ) (bs b : List ℕ) (p : Each R b (bytes_head kind m ∷ some_bytes bs ∷ [])) → p.rest ≡ bs
+  content_is kind m bs b p = p.second.joined ∙ ap (λ z. p.second.front ++ z) p.second.second ∙ append-nil p.second.front ∙ p.second.first
+
+  -- the bytes end before so many have come
+  sized_ends : (m : ℕ) (body bs rest : List ℕ) → VNum body m → length bs + length rest < m → SizedFault (body ++ (bs ++ rest)) UnexpectedEnd
+  sized_ends m body bs rest h less = inr (m, record { front = body; rest = bs ++ rest; joined = refl; first = h; second = bytes_end (omega (arith, less, length-append bs rest)) })
+
+  -- so many have come, and they are no text
+  text_is_none : (m : ℕ) (body bs piece rest : List ℕ) → VNum body m → length bs + length piece ≡ m → ¬ IsUtf8 (bs ++ piece) → TextFault (body ++ (bs ++ (piece ++ rest))) NotUtf8
+  text_is_none m body bs piece rest h full none =
+      no_text (bs ++ piece) (body ++ (bs ++ piece)) rest (ap (λ z. body ++ z) (sym (append_assoc bs piece rest)) ∙ sym (append_assoc body (bs ++ piece) rest))
+      (record { size = body; joined = refl; number = subst (λ k. VNum body k) (sym (length-append bs piece ∙ full)) h }) none
+
+  -- a fault behind the head and the bytes so far: of a value, or of a key
+  abbrev FaultsIn : BytesKind → List ℕ → Refusal → Type 0
+  FaultsIn kinds.Str whole r = VF whole r
+  FaultsIn kinds.Facet whole r = VF whole r
+  FaultsIn kinds.Bytes whole r = VF whole r
+  FaultsIn kinds.Key whole r = KeyFault v whole r
+
+  bytes_fault : (n : ℕ) (d : Document) (f : ℕ) (kind : BytesKind) (ls : List OpenList) (m : ℕ) (bs rest : List ℕ) (r : Refusal) → length d < n → f ≤ 65535 → AreLists ls → OthersAwait ls → HeadNext kind ls
+      → ((b : List ℕ) → Each R b (bytes_head kind m ∷ some_bytes bs ∷ []) → FaultsIn kind (b ++ rest) r) → FaultsBehind Legacy L v (open_parts n d f (in_bytes ls kind m bs)) rest r
+  bytes_fault n d f kind ls m bs rest r less small are others next h = λ bytes p. open_fault n d f (lists_parts ls ++ (bytes_head kind m ∷ some_bytes bs ∷ [])) bytes rest r less small p (λ b q.
+      let s = each_split R (lists_parts ls) (bytes_head kind m ∷ some_bytes bs ∷ []) b q in
+      subst (λ z. VF z r) (behind_both b s.front s.rest rest s.joined) (within kind ls s.front (s.rest ++ rest) are others next s.first (h s.rest s.second)))
+    where
+      within : (kind : BytesKind) (ls : List OpenList) (front rest : List ℕ) → AreLists ls → OthersAwait ls → HeadNext kind ls → Each R front (lists_parts ls) → FaultsIn kind rest r → VF (front ++ rest) r
+      within kinds.Str ls front rest are others next p h = lists_fault ls front rest r are next p h
+      within kinds.Facet ls front rest are others next p h = lists_fault ls front rest r are next p h
+      within kinds.Bytes ls front rest are others next p h = lists_fault ls front rest r are next p h
+      within kinds.Key [] front rest are others next p h = absurd next
+      within kinds.Key (l ∷ ls) front rest are others next p h = lists_key_fault l ls front rest r are others next p h
+
+  -- of a key, whose code depends on the version
+  key_fault : (w : Version) (m : ℕ) (b front behind rest : List ℕ) (c : Cause) → b ≡ front ++ behind → KeyHead w front m → ((body : List ℕ) → VNum body m → TextFault (body ++ (behind ++ rest)) c) → KeyFault w (b ++ rest) (corrupted c)
+  key_fault V1 m b front behind rest c e p h = subst (λ z. KeyFault V1 z (corrupted c)) (coded_both 0 b front p.body behind rest e p.joined) (in_key (h p.body p.spelled))
+  key_fault V2 m b front behind rest c e p h = subst (λ z. KeyFault V2 z (corrupted c)) (coded_both 0 b front p.body behind rest e p.joined) (in_key (h p.body p.spelled))
+  key_fault V3 m b front behind rest c e p h = subst (λ z. KeyFault V3 z (corrupted c)) (behind_both b front behind rest e) (corrupt (h front p))
+
+  -- a text at fault behind the head
+  in_head : (kind : BytesKind) (m : ℕ) (bs b rest : List ℕ) (c : Cause) → IsTextKind kind → (p : Each R b (bytes_head kind m ∷ some_bytes bs ∷ []))
+      → ((body : List ℕ) → VNum body m → TextFault (body ++ (p.rest ++ rest)) c) → FaultsIn kind (b ++ rest) (corrupted c)
+  in_head kinds.Str m bs b rest c is p h = subst (λ z. VF z (corrupted c)) (coded_both 0 b p.front p.first.body p.rest rest p.joined p.first.joined) (in_leaf (in_text (h p.first.body p.first.spelled)))
+  in_head kinds.Facet m bs b rest c is p h = subst (λ z. VF z (corrupted c)) (coded_both 3 b p.front p.first.body p.rest rest p.joined p.first.joined) (in_leaf (in_facet (h p.first.body p.first.spelled)))
+  in_head kinds.Bytes m bs b rest c is p h = absurd is
+  in_head kinds.Key m bs b rest c is p h = key_fault v m b p.front p.rest rest c p.joined p.first h
+
+  head_ends : (kind : BytesKind) (m : ℕ) (bs rest : List ℕ) → length bs + length rest < m → (b : List ℕ) → Each R b (bytes_head kind m ∷ some_bytes bs ∷ []) → FaultsIn kind (b ++ rest) (corrupted UnexpectedEnd)
+  head_ends kinds.Bytes m bs rest less b p =
+      subst (λ z. VF z (corrupted UnexpectedEnd)) (coded_both 4 b p.front p.first.body p.rest rest p.joined p.first.joined)
+      (in_leaf (in_bytes (sized_ends m p.first.body p.rest rest p.first.spelled (omega (arith, less, ap length (content_is kinds.Bytes m bs b p))))))
+  head_ends kinds.Str m bs rest less b p = in_head kinds.Str m bs b rest UnexpectedEnd _ p (λ body h. in_sized (sized_ends m body p.rest rest h (omega (arith, less, ap length (content_is kinds.Str m bs b p)))))
+  head_ends kinds.Facet m bs rest less b p = in_head kinds.Facet m bs b rest UnexpectedEnd _ p (λ body h. in_sized (sized_ends m body p.rest rest h (omega (arith, less, ap length (content_is kinds.Facet m bs b p)))))
+  head_ends kinds.Key m bs rest less b p = in_head kinds.Key m bs b rest UnexpectedEnd _ p (λ body h. in_sized (sized_ends m body p.rest rest h (omega (arith, less, ap length (content_is kinds.Key m bs b p)))))
+
+  head_is_none : (kind : BytesKind) (m : ℕ) (bs piece rest : List ℕ) → IsTextKind kind → length bs + length piece ≡ m → ¬ IsUtf8 (bs ++ piece) → (b : List ℕ) → Each R b (bytes_head kind m ∷ some_bytes bs ∷ [])
+      → FaultsIn kind (b ++ (piece ++ rest)) (corrupted NotUtf8)
+  head_is_none kind m bs piece rest is full none b p =
+      let content = content_is kind m bs b p in
+      in_head kind m bs b (piece ++ rest) NotUtf8 is p
+      (λ body h. text_is_none m body p.rest piece rest h (omega (arith, full, ap length content)) (subst (λ z. ¬ IsUtf8 (z ++ piece)) (sym content) none))
+
+  -- the bytes end before so many have come
+  pub end_faults : (n : ℕ) (d : Document) (f : ℕ) (kind : BytesKind) (ls : List OpenList) (m : ℕ) (bs rest : List ℕ) → length d < n → f ≤ 65535 → AreLists ls → OthersAwait ls → HeadNext kind ls → length bs + length rest < m
+      → FaultsBehind Legacy L v (open_parts n d f (in_bytes ls kind m bs)) rest (corrupted UnexpectedEnd)
+  end_faults n d f kind ls m bs rest less small are others next short = bytes_fault n d f kind ls m bs rest (corrupted UnexpectedEnd) less small are others next (λ b p. head_ends kind m bs rest short b p)
+
+  -- all have come, and are no text
+  pub text_faults : (n : ℕ) (d : Document) (f : ℕ) (kind : BytesKind) (ls : List OpenList) (m : ℕ) (bs piece rest : List ℕ) → length d < n → f ≤ 65535 → AreLists ls → OthersAwait ls → HeadNext kind ls → IsTextKind kind
+      → length bs + length piece ≡ m → ¬ IsUtf8 (bs ++ piece) → FaultsBehind Legacy L v (open_parts n d f (in_bytes ls kind m bs)) (piece ++ rest) (corrupted NotUtf8)
+  text_faults n d f kind ls m bs piece rest less small are others next is full none = bytes_fault n d f kind ls m bs (piece ++ rest) (corrupted NotUtf8) less small are others next (λ b p. head_is_none kind m bs piece rest is full none b p)
