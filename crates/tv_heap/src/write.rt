@@ -27,7 +27,7 @@ use tv_value::pre_tokenized::PreTokenizedStr;
 use tv_value::spell::{push_number, push_sized, push_token};
 
 // Adds the eight bytes of a number, the lowest first.
-#[inline]
+#[inline(always)]
 fn push_eight(heap: &mut Vec<u8>, number: u64) -> Result<(), AllocError>
     ensures ok { OnOk result (heap.new.items ≡ heap.old.items ++ eight_bytes number) }
     ensures small { number < 2 ^ 64 }
@@ -52,7 +52,7 @@ const FIRST_ROOM: usize = 512;
 const FIRST_PLACES: usize = 128;
 
 // Makes room for so many bytes where there is none.
-#[inline]
+#[inline(always)]
 fn make_room(bytes: &mut Vec<u8>, room: usize) -> Result<(), AllocError>
     ensures { bytes.new.items ≡ bytes.old.items }
 {
@@ -64,7 +64,7 @@ fn make_room(bytes: &mut Vec<u8>, room: usize) -> Result<(), AllocError>
 }
 
 // Adds a child's type and address. The addresses in a short document have one byte or two.
-#[inline]
+#[inline(always)]
 fn push_place(places: &mut Vec<u8>, value_type: ValueType, address: u32) -> Result<(), AllocError>
     ensures { OnOk result (places.new.items ≡ places.old.items ++ (type_code value_type ∷ vnum address)) }
 {
@@ -84,6 +84,7 @@ fn push_place(places: &mut Vec<u8>, value_type: ValueType, address: u32) -> Resu
 }
 
 // Writes a key, and adds its type and address.
+#[inline(always)]
 fn write_key(heap: &mut Vec<u8>, places: &mut Vec<u8>, key: &str) -> Result<(), AllocError>
     requires { length heap.old.items + (5 + length key.now) < 2 ^ 32 }
     ensures heap { OnOk result (heap.new.items ≡ heap.old.items ++ short_sized key.now) }
@@ -97,7 +98,7 @@ fn write_key(heap: &mut Vec<u8>, places: &mut Vec<u8>, key: &str) -> Result<(), 
 }
 
 // A text, or the encoded text of a facet.
-#[inline]
+#[inline(always)]
 fn write_text(heap: &mut Vec<u8>, content: &str) -> Result<u32, AllocError>
     requires { length heap.old.items + length (short_sized content.now) < 2 ^ 32 }
     ensures heap { OnOk result (heap.new.items ≡ heap.old.items ++ short_sized content.now) }
@@ -121,7 +122,7 @@ fn write_bytes(heap: &mut Vec<u8>, content: &[u8]) -> Result<u32, AllocError>
     Ok(at)
 }
 
-#[inline]
+#[inline(always)]
 fn write_u64(heap: &mut Vec<u8>, number: u64) -> Result<u32, AllocError>
     requires { length heap.old.items + length (eight_bytes number) < 2 ^ 32 }
     ensures heap { OnOk result (heap.new.items ≡ heap.old.items ++ eight_bytes number) }
@@ -134,7 +135,7 @@ fn write_u64(heap: &mut Vec<u8>, number: u64) -> Result<u32, AllocError>
 }
 
 // A signed number, or the nanoseconds of a date.
-#[inline]
+#[inline(always)]
 fn write_i64(heap: &mut Vec<u8>, number: i64) -> Result<u32, AllocError>
     requires { length heap.old.items + length (eight_bytes (cast_unsigned w64 number)) < 2 ^ 32 }
     ensures heap { OnOk result (heap.new.items ≡ heap.old.items ++ eight_bytes (cast_unsigned w64 number)) }
@@ -158,6 +159,7 @@ fn write_ip_addr(heap: &mut Vec<u8>, address: Ipv6Addr) -> Result<u32, AllocErro
     Ok(at)
 }
 
+#[inline(never)]
 fn write_tokenized(heap: &mut Vec<u8>, content: PreTokenizedStr<'_>) -> Result<u32, AllocError>
     requires { length heap.old.items + length (short_tokenized (text_of content) (tokens_of content)) < 2 ^ 32 }
     ensures heap { OnOk result (heap.new.items ≡ heap.old.items ++ short_tokenized (text_of content.entry) (tokens_of content.entry)) }
@@ -176,7 +178,7 @@ fn write_tokenized(heap: &mut Vec<u8>, content: PreTokenizedStr<'_>) -> Result<u
 
 /// Writes a value without children, and answers its type and its address. After an error the old heap is still a front of the
 /// new.
-#[inline]
+#[inline(always)]
 pub fn write_leaf(
     heap: &mut Vec<u8>,
     value: &ReferenceValueLeaf<'_>,
@@ -211,7 +213,7 @@ pub fn write_leaf(
 /// Writes a value behind its children, and answers its type and its address. The places of children whose list is not yet
 /// written stand at the end of `places`, which is afterwards as it was. After an error the old heap is still a front of the
 /// new, and what `places` holds is open.
-#[inline]
+#[inline(always)]
 #[cycle(values)]
 pub fn write_tree<N: Nested>(
     heap: &mut Vec<u8>,
@@ -235,6 +237,7 @@ pub fn write_tree<N: Nested>(
 }
 
 // Writes an array behind its values, and answers its address.
+#[inline(never)]
 #[cycle(values)]
 fn write_array<N: Nested>(
     heap: &mut Vec<u8>,
@@ -258,6 +261,7 @@ fn write_array<N: Nested>(
 }
 
 // Writes an object behind its keys and values, and answers its address.
+#[inline(never)]
 #[cycle(values)]
 fn write_object<N: Nested>(
     heap: &mut Vec<u8>,
