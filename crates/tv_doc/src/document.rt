@@ -39,6 +39,7 @@ const MAX_HEAP_LEN: u64 = 4294967295;
 const FIRST_PAIRS: usize = 16;
 
 // Adds a place behind those that are there.
+#[inline(always)]
 fn push_pair(pairs: &mut Vec<FieldValueAddr>, pair: FieldValueAddr) -> Result<(), AllocError>
     ensures ok { OnOk result (pairs.new.items ≡ pairs.old.items ++ pair ∷ []) }
     ensures err { OnErr result (pairs.new.items ≡ pairs.old.items) }
@@ -51,7 +52,7 @@ fn push_pair(pairs: &mut Vec<FieldValueAddr>, pair: FieldValueAddr) -> Result<()
 }
 
 // The number of a field in 16 bits, where it fits, and a value of this room fits behind so many bytes.
-#[inline]
+#[inline(always)]
 fn admit(field: Field, room: Option<u32>, len: usize) -> Result<u16, AddError>
     requires { len ≤ 4294967295 }
     ensures small { IfOk result (λ small. (small ≡ field.id) × (field.id ≤ 65535)) }
@@ -71,7 +72,7 @@ fn admit(field: Field, room: Option<u32>, len: usize) -> Result<u16, AddError>
 
 // Keeps the place of a value that was written behind the first `len` bytes of the heap. Where memory was refused or is refused
 // now, the heap is cut back to these, and the pairs stay as they were.
-#[inline]
+#[inline(always)]
 fn keep_pair(
     heap: &mut Vec<u8>,
     pairs: &mut Vec<FieldValueAddr>,
@@ -280,8 +281,12 @@ impl CompactDoc {
     ) -> Result<(), AddError>
         ensures { Adds self.old self.new field.id (V.tree value.now) result }
     {
-        match &value.as_value() {
-            ReferenceValue::Leaf(single) => self.add_leaf(field, single),
+        // The commonest leaves are handed on without standing in memory before.
+        match value.as_value() {
+            ReferenceValue::Leaf(ReferenceValueLeaf::Str(content)) => self.add_text(field, content),
+            ReferenceValue::Leaf(ReferenceValueLeaf::U64(number)) => self.add_u64(field, number),
+            ReferenceValue::Leaf(ReferenceValueLeaf::I64(number)) => self.add_i64(field, number),
+            ReferenceValue::Leaf(single) => self.add_leaf_field_value(field, single),
             _ => self.add_tree(field, room(value), lend(value)),
         }
     }
@@ -345,12 +350,8 @@ impl CompactDoc {
     }
 
     // The same of a value that is lent: moving one costs as much as writing it.
-    #[inline]
-    pub(crate) fn add_leaf(
-        &mut self,
-        field: Field,
-        value: &ReferenceValueLeaf<'_>,
-    ) -> Result<(), AddError>
+    #[inline(always)]
+    fn add_leaf(&mut self, field: Field, value: &ReferenceValueLeaf<'_>) -> Result<(), AddError>
         ensures { Adds self.old self.new field.id (leaf (leaf_of value.now)) result }
     {
         let len = self.node_data.len();

@@ -18,8 +18,9 @@ use tv_field::FieldType;
 use tv_field::json_value::{JsonRefusal, JsonScratch, LentFieldValue};
 use tv_schema::Schema;
 use tv_value::field::Field;
+use tv_value::leaf::ReferenceValueLeaf;
 
-// Adds what is lent.
+// Adds what is lent. The commonest leaves are handed on without standing in memory before.
 fn add_lent(
     document: &mut CompactDoc,
     field: Field,
@@ -28,7 +29,10 @@ fn add_lent(
     ensures { Adds document.old document.new field.id (lent_tree lent.entry) result }
 {
     match lent {
-        LentFieldValue::Leaf(leaf) => document.add_leaf(field, &leaf),
+        LentFieldValue::Leaf(ReferenceValueLeaf::Str(content)) => document.add_text(field, content),
+        LentFieldValue::Leaf(ReferenceValueLeaf::U64(number)) => document.add_u64(field, number),
+        LentFieldValue::Leaf(ReferenceValueLeaf::I64(number)) => document.add_i64(field, number),
+        LentFieldValue::Leaf(leaf) => document.add_leaf_field_value(field, leaf),
         LentFieldValue::Object(object) => document.add_field_value(field, &object),
     }
 }

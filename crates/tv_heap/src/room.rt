@@ -14,6 +14,7 @@ use tv_value::pre_tokenized::TokenIter;
 use tv_value::value::Value;
 
 // The room of a text or of bytes of this length.
+#[inline(always)]
 fn sized_room(len: usize) -> Option<u32>
     ensures { SomeIff result (5 + len < 2 ^ 32) (5 + len) }
 {
@@ -21,6 +22,7 @@ fn sized_room(len: usize) -> Option<u32>
 }
 
 // The room of tokens above what there is, where the sum fits.
+#[inline(never)]
 fn tokens_above(tokens: TokenIter<'_>, base: u32) -> Option<u32>
     ensures { let total = base + sum_by token_room (tokens_left tokens.entry) in SomeIff result (total < 2 ^ 32) total }
 {
@@ -33,7 +35,7 @@ fn tokens_above(tokens: TokenIter<'_>, base: u32) -> Option<u32>
 }
 
 /// The room of a value without children, where it is at most 4294967295.
-#[inline]
+#[inline(always)]
 pub fn leaf_room(value: &ReferenceValueLeaf<'_>) -> Option<u32>
     ensures { SomeIff result (leaf_room (leaf_of value.now) < 2 ^ 32) (leaf_room (leaf_of value.now)) }
 {
@@ -54,7 +56,7 @@ pub fn leaf_room(value: &ReferenceValueLeaf<'_>) -> Option<u32>
 }
 
 // The room of a value above what there is, where the sum fits.
-#[inline]
+#[inline(always)]
 #[cycle(values)]
 fn value_above<N: Nested>(value: NestedValue<'_, N>, base: u32) -> Option<u32>
     ensures { let total = base + room (nested_tree N.array_rest N.object_rest value.entry) in SomeIff result (total < 2 ^ 32) total }
@@ -67,6 +69,7 @@ fn value_above<N: Nested>(value: NestedValue<'_, N>, base: u32) -> Option<u32>
 }
 
 // The room of the values that are left of an array above what there is, where the sum fits. Each takes 6 bytes in the list.
+#[inline(never)]
 #[cycle(values)]
 fn items_above<N: Nested>(items: N::ArrayIter, base: u32) -> Option<u32>
     ensures { let total = base + elements_room (elements (N.array_rest items)) in SomeIff result (total < 2 ^ 32) total }
@@ -81,6 +84,7 @@ fn items_above<N: Nested>(items: N::ArrayIter, base: u32) -> Option<u32>
 
 // The room of the keys and values that are left of an object above what there is, where the sum fits. Each key takes 11 bytes
 // beside its own, and each value 6.
+#[inline(never)]
 #[cycle(values)]
 fn members_above<N: Nested>(members: N::ObjectIter, base: u32) -> Option<u32>
     ensures { let total = base + entries_room (entries (N.object_rest members)) in SomeIff result (total < 2 ^ 32) total }

@@ -27,7 +27,7 @@ use tv_value::pre_tokenized::PreTokenizedStr;
 use tv_value::spell::{push_number, push_sized, push_token};
 
 // Adds the eight bytes of a number, the lowest first.
-#[inline]
+#[inline(always)]
 fn push_eight(heap: &mut Vec<u8>, number: u64) -> Result<(), AllocError>
     ensures ok { OnOk result (heap.new.items ≡ heap.old.items ++ eight_bytes number) }
     ensures small { number < 2 ^ 64 }
@@ -52,7 +52,7 @@ const FIRST_ROOM: usize = 512;
 const FIRST_PLACES: usize = 128;
 
 // Makes room for so many bytes where there is none.
-#[inline]
+#[inline(always)]
 fn make_room(bytes: &mut Vec<u8>, room: usize) -> Result<(), AllocError>
     ensures { bytes.new.items ≡ bytes.old.items }
 {
@@ -65,7 +65,7 @@ fn make_room(bytes: &mut Vec<u8>, room: usize) -> Result<(), AllocError>
 
 /// Adds a child's type and address. (Own.) The addresses in a short document have one byte or two. The only error is that memory
 /// was refused; what `places` holds then is open.
-#[inline]
+#[inline(always)]
 pub fn push_place(
     places: &mut Vec<u8>,
     value_type: ValueType,
@@ -89,6 +89,7 @@ pub fn push_place(
 }
 
 // Writes a key, and adds its type and address.
+#[inline(always)]
 fn write_key(heap: &mut Vec<u8>, places: &mut Vec<u8>, key: &str) -> Result<(), AllocError>
     requires { length heap.old.items + (5 + length key.now) < 2 ^ 32 }
     ensures heap { OnOk result (heap.new.items ≡ heap.old.items ++ short_sized key.now) }
@@ -102,7 +103,7 @@ fn write_key(heap: &mut Vec<u8>, places: &mut Vec<u8>, key: &str) -> Result<(), 
 }
 
 // A text, or the encoded text of a facet.
-#[inline]
+#[inline(always)]
 fn write_text(heap: &mut Vec<u8>, content: &str) -> Result<u32, AllocError>
     requires { length heap.old.items + length (short_sized content.now) < 2 ^ 32 }
     ensures heap { OnOk result (heap.new.items ≡ heap.old.items ++ short_sized content.now) }
@@ -126,7 +127,7 @@ fn write_bytes(heap: &mut Vec<u8>, content: &[u8]) -> Result<u32, AllocError>
     Ok(at)
 }
 
-#[inline]
+#[inline(always)]
 fn write_u64(heap: &mut Vec<u8>, number: u64) -> Result<u32, AllocError>
     requires { length heap.old.items + length (eight_bytes number) < 2 ^ 32 }
     ensures heap { OnOk result (heap.new.items ≡ heap.old.items ++ eight_bytes number) }
@@ -139,7 +140,7 @@ fn write_u64(heap: &mut Vec<u8>, number: u64) -> Result<u32, AllocError>
 }
 
 // A signed number, or the nanoseconds of a date.
-#[inline]
+#[inline(always)]
 fn write_i64(heap: &mut Vec<u8>, number: i64) -> Result<u32, AllocError>
     requires { length heap.old.items + length (eight_bytes (cast_unsigned w64 number)) < 2 ^ 32 }
     ensures heap { OnOk result (heap.new.items ≡ heap.old.items ++ eight_bytes (cast_unsigned w64 number)) }
@@ -163,6 +164,7 @@ fn write_ip_addr(heap: &mut Vec<u8>, address: Ipv6Addr) -> Result<u32, AllocErro
     Ok(at)
 }
 
+#[inline(never)]
 fn write_tokenized(heap: &mut Vec<u8>, content: PreTokenizedStr<'_>) -> Result<u32, AllocError>
     requires { length heap.old.items + length (short_tokenized (text_of content) (tokens_of content)) < 2 ^ 32 }
     ensures heap { OnOk result (heap.new.items ≡ heap.old.items ++ short_tokenized (text_of content.entry) (tokens_of content.entry)) }
@@ -181,7 +183,7 @@ fn write_tokenized(heap: &mut Vec<u8>, content: PreTokenizedStr<'_>) -> Result<u
 
 /// Writes a value without children, and answers its type and its address. After an error the old heap is still a front of the
 /// new.
-#[inline]
+#[inline(always)]
 pub fn write_leaf(
     heap: &mut Vec<u8>,
     value: &ReferenceValueLeaf<'_>,
@@ -216,7 +218,7 @@ pub fn write_leaf(
 /// Writes a value behind its children, and answers its type and its address. The places of children whose list is not yet
 /// written stand at the end of `places`, which is afterwards as it was. After an error the old heap is still a front of the
 /// new, and what `places` holds is open.
-#[inline]
+#[inline(always)]
 #[cycle(values)]
 pub fn write_tree<N: Nested>(
     heap: &mut Vec<u8>,
@@ -257,6 +259,7 @@ pub fn write_list(heap: &mut Vec<u8>, places: &mut Vec<u8>, first: usize) -> Res
 }
 
 // Writes an array behind its values, and answers its address.
+#[inline(never)]
 #[cycle(values)]
 fn write_array<N: Nested>(
     heap: &mut Vec<u8>,
@@ -277,6 +280,7 @@ fn write_array<N: Nested>(
 }
 
 // Writes an object behind its keys and values, and answers its address.
+#[inline(never)]
 #[cycle(values)]
 fn write_object<N: Nested>(
     heap: &mut Vec<u8>,
