@@ -3,7 +3,8 @@ use Rattle.std.specs.Prelude.{◌≡◌, ◌↔◌, IsTrue, Bool, false, cond, n
 use Rattle.tv_base.specs.Number.{vnum}
 use Rattle.tv_base.specs.Parts.{short_sized}
 use Rattle.tv_base.specs.Sink.{IsFront}
-use Rattle.tv_value.specs.Tree.{Tree}
+use Rattle.tv_value.specs.Tree.{Leaf, Tree}
+use Rattle.tv_heap.specs.LeafBytes.{leaf_bytes, leaf_value_type, leaf_address}
 use Rattle.tv_heap.specs.Room.{room}
 use Rattle.tv_heap.specs.TypeCode.{type_code}
 use Rattle.tv_heap.specs.Wrote.{Wrote}
@@ -113,6 +114,20 @@ Does old new in_place heaps full after (Err _) = ⊥
 -- this is the heap, and it is too long
 abbrev pub Overfills : (List ℕ → Type 0) → Type 0
 Overfills heaps = (heap : List ℕ) × heaps heap × (4294967295 < length heap)
+
+-- where a leaf stands that is written at the end of a heap of this length
+abbrev pub leaf_place : ℕ → Leaf → Place
+leaf_place len l = record { value_type = leaf_value_type l; address = leaf_address len l }
+
+-- a leaf is written, and then the lists that it closes
+abbrev pub leaf_heap : Building → Leaf → List ℕ
+leaf_heap old l = (given (old.heap.items ++ leaf_bytes l) old.places.items (frames_of old) (leaf_place (length old.heap.items) l)).heap
+
+abbrev pub LeafHeap : Building → Leaf → List ℕ → Type 0
+LeafHeap old l heap = heap ≡ leaf_heap old l
+
+abbrev pub LeafFull : Building → Leaf → Type 0
+LeafFull old l = 4294967295 < length (leaf_heap old l)
 
 -- a whole value is written, and then the lists that it closes
 abbrev pub ValueHeap : Building → Tree → List ℕ → Type 0

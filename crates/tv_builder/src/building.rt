@@ -16,7 +16,8 @@ use crate::place::Place;
 use std::alloc::Global;
 use std::convert::AsStr;
 use tv_base::vint::VInt;
-use tv_heap::room::{leaf_room, room};
+use tv_heap::len::leaf_len;
+use tv_heap::room::room;
 use tv_heap::value_type::ValueType;
 use tv_heap::write::{push_place, write_leaf, write_list, write_tree};
 use tv_value::leaf::ReferenceValueLeaf;
@@ -87,7 +88,7 @@ pub struct Building {
 
 impl Building {
     ghost use Rattle.tv_builder.specs.Parts.{IsContent};
-    ghost use Rattle.tv_builder.specs.Moves.{CanGive, Gives, GivesNot, CanGiveKey, GivesKey, Closed, ClosedNot, Does, EndsBytes, ValueHeap, ValueFull, HeadHeap, HeadFull, KeyHeap, KeyFull, ListHeap, ListFull, AwaitsChunk, last_bytes};
+    ghost use Rattle.tv_builder.specs.Moves.{CanGive, Gives, GivesNot, CanGiveKey, GivesKey, Closed, ClosedNot, Does, EndsBytes, LeafHeap, LeafFull, ValueHeap, ValueFull, HeadHeap, HeadFull, KeyHeap, KeyFull, ListHeap, ListFull, AwaitsChunk, last_bytes};
     ghost use Rattle.tv_builder.specs.Shows.{Stands, frames_of, awaited_by};
     ghost use Rattle.tv_builder.specs.State.{and_value, and_list, and_key, and_head, and_bytes, head_awaits};
     ghost use Rattle.tv_builder.specs.declared.awaits.Awaits.TheVariants.{Value as ValueNext, Key as KeyNext};
@@ -149,12 +150,12 @@ impl Building {
     /// A value without children has come.
     pub fn leaf(&mut self, value: &ReferenceValueLeaf<'_>) -> Result<(), BuildError>
         requires { Stands self.old }
-        ensures { let t = leaf_tree (leaf_of value.now) in Does self.old self.new (awaited_by self.old ≡ ValueNext) (ValueHeap self.old t) (ValueFull self.old t) (λ s. and_value s t) result }
+        ensures { let l = leaf_of value.now in Does self.old self.new (awaited_by self.old ≡ ValueNext) (LeafHeap self.old l) (LeafFull self.old l) (λ s. and_value s (leaf_tree l)) result }
     {
         let Awaits::Value = self.awaits() else {
             return Err(BuildError::OutOfPlace);
         };
-        if !has_value_room(self.heap.len(), leaf_room(value)) {
+        if !has_value_room(self.heap.len(), leaf_len(value)) {
             return Err(BuildError::HeapFull);
         }
         let (value_type, address) = write_leaf(&mut self.heap, value)?;

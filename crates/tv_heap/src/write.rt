@@ -11,7 +11,7 @@ ghost use Rattle.std.specs.Int.{w64, cast_unsigned};
 ghost use Rattle.tv_value.specs.Short.{short_token, short_tokenized};
 ghost use Rattle.tv_value.specs.TokenRef.{ref_of};
 ghost use Rattle.tv_value.specs.Tree.{leaf, text, facet, bytes, unsigned, signed, date, ip_address, array, object, elements, entries};
-ghost use Rattle.tv_heap.specs.LeafBytes.{leaf_bytes};
+ghost use Rattle.tv_heap.specs.LeafBytes.{leaf_bytes, leaf_value_type, leaf_address};
 ghost use Rattle.tv_heap.specs.Room.{room};
 ghost use Rattle.tv_heap.specs.TypeCode.{type_code};
 ghost use Rattle.tv_heap.specs.Wrote.{Wrote};
@@ -107,6 +107,7 @@ fn write_key(heap: &mut Vec<u8>, places: &mut Vec<u8>, key: &str) -> Result<(), 
 fn write_text(heap: &mut Vec<u8>, content: &str) -> Result<u32, AllocError>
     requires { length heap.old.items + length (short_sized content.now) < 2 ^ 32 }
     ensures heap { OnOk result (heap.new.items ≡ heap.old.items ++ short_sized content.now) }
+    ensures at { IfOk result (λ at. at ≡ length heap.old.items) }
     ensures text { IfOk result (λ at. Wrote heap.old.items heap.new.items 1 at (leaf (text content.now))) }
     ensures facet { IfOk result (λ at. Wrote heap.old.items heap.new.items 6 at (leaf (facet content.now))) }
     ensures err { OnErr result (IsFront heap.old.items heap.new.items) }
@@ -119,6 +120,7 @@ fn write_text(heap: &mut Vec<u8>, content: &str) -> Result<u32, AllocError>
 fn write_bytes(heap: &mut Vec<u8>, content: &[u8]) -> Result<u32, AllocError>
     requires { length heap.old.items + length (short_sized content.now) < 2 ^ 32 }
     ensures heap { OnOk result (heap.new.items ≡ heap.old.items ++ short_sized content.now) }
+    ensures at { IfOk result (λ at. at ≡ length heap.old.items) }
     ensures ok { IfOk result (λ at. Wrote heap.old.items heap.new.items 7 at (leaf (bytes content.now))) }
     ensures err { OnErr result (IsFront heap.old.items heap.new.items) }
 {
@@ -131,6 +133,7 @@ fn write_bytes(heap: &mut Vec<u8>, content: &[u8]) -> Result<u32, AllocError>
 fn write_u64(heap: &mut Vec<u8>, number: u64) -> Result<u32, AllocError>
     requires { length heap.old.items + length (eight_bytes number) < 2 ^ 32 }
     ensures heap { OnOk result (heap.new.items ≡ heap.old.items ++ eight_bytes number) }
+    ensures at { IfOk result (λ at. at ≡ length heap.old.items) }
     ensures ok { IfOk result (λ at. Wrote heap.old.items heap.new.items 2 at (leaf (unsigned number))) }
     ensures err { OnErr result (IsFront heap.old.items heap.new.items) }
 {
@@ -144,6 +147,7 @@ fn write_u64(heap: &mut Vec<u8>, number: u64) -> Result<u32, AllocError>
 fn write_i64(heap: &mut Vec<u8>, number: i64) -> Result<u32, AllocError>
     requires { length heap.old.items + length (eight_bytes (cast_unsigned w64 number)) < 2 ^ 32 }
     ensures heap { OnOk result (heap.new.items ≡ heap.old.items ++ eight_bytes (cast_unsigned w64 number)) }
+    ensures at { IfOk result (λ at. at ≡ length heap.old.items) }
     ensures signed { IfOk result (λ at. Wrote heap.old.items heap.new.items 3 at (leaf (signed number))) }
     ensures date { IfOk result (λ at. Wrote heap.old.items heap.new.items 5 at (leaf (date number))) }
     ensures err { OnErr result (IsFront heap.old.items heap.new.items) }
@@ -156,6 +160,7 @@ fn write_i64(heap: &mut Vec<u8>, number: i64) -> Result<u32, AllocError>
 fn write_ip_addr(heap: &mut Vec<u8>, address: Ipv6Addr) -> Result<u32, AllocError>
     requires { length heap.old.items + length (sixteen_bytes (ipv6_bits address)) < 2 ^ 32 }
     ensures heap { OnOk result (heap.new.items ≡ heap.old.items ++ sixteen_bytes (ipv6_bits address)) }
+    ensures at { IfOk result (λ at. at ≡ length heap.old.items) }
     ensures ok { IfOk result (λ at. Wrote heap.old.items heap.new.items 8 at (leaf (ip_address (ipv6_bits address)))) }
     ensures err { OnErr result (IsFront heap.old.items heap.new.items) }
 {
@@ -168,6 +173,7 @@ fn write_ip_addr(heap: &mut Vec<u8>, address: Ipv6Addr) -> Result<u32, AllocErro
 fn write_tokenized(heap: &mut Vec<u8>, content: PreTokenizedStr<'_>) -> Result<u32, AllocError>
     requires { length heap.old.items + length (short_tokenized (text_of content) (tokens_of content)) < 2 ^ 32 }
     ensures heap { OnOk result (heap.new.items ≡ heap.old.items ++ short_tokenized (text_of content.entry) (tokens_of content.entry)) }
+    ensures at { IfOk result (λ at. at ≡ length heap.old.items) }
     ensures ok { IfOk result (λ at. Wrote heap.old.items heap.new.items 10 at (leaf (tokenized_leaf content.entry))) }
     ensures err { OnErr result (IsFront heap.old.items heap.new.items) }
 {
@@ -190,6 +196,7 @@ pub fn write_leaf(
 ) -> Result<(ValueType, u32), AllocError>
     requires { length heap.old.items + length (leaf_bytes (leaf_of value.now)) < 2 ^ 32 }
     ensures heap { OnOk result (heap.new.items ≡ heap.old.items ++ leaf_bytes (leaf_of value.now)) }
+    ensures place { IfOk result (λ r. (r.0 ≡ leaf_value_type (leaf_of value.now)) × (r.1 ≡ leaf_address (length heap.old.items) (leaf_of value.now))) }
     ensures ok { IfOk result (λ r. Wrote heap.old.items heap.new.items (type_code r.0) r.1 (leaf (leaf_of value.now))) }
     ensures err { OnErr result (IsFront heap.old.items heap.new.items) }
 {

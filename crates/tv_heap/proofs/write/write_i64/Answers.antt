@@ -17,3 +17,6 @@ returns-clause-date c =
     let number = c.cast_unsigned.ensures ∙ ap (cast_unsigned w64) (to_z-of_z w64 c.args.number c.ranges.number) in
     wrote_date old.items _ _ c.args.number _ c.in_ok-push_eight.ensures.ok c.push_eight.ensures.small number c.ranges.number c.requires
     (omega (arith, old.ok.0, c.len-at.ensures))
+
+pub returns-clause-at : goal.returns-clause-at
+returns-clause-at c = omega (arith, c.args.heap.now.ok.0, c.len-at.ensures)

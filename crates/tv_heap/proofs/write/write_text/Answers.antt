@@ -16,3 +16,6 @@ returns-clause-facet c =
     let same = c.as_bytes.ensures.value in
     wrote_facet old.items _ c.args.content.now _ (c.in_ok-push_sized.ensures.ok ∙ ap (λ z. old.items ++ short_sized z) same) (c.utf8.content) c.requires
     (omega (arith, old.ok.0, c.len-at.ensures))
+
+pub returns-clause-at : goal.returns-clause-at
+returns-clause-at c = omega (arith, c.args.heap.now.ok.0, c.len-at.ensures)

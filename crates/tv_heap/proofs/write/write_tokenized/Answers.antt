@@ -14,3 +14,6 @@ returns-clause-ok c =
     let valid = c.pre_tokenized_texts_spell.ensures s in
     let none = sym (append-nil heap) ∙ ap (λ z. heap ++ flat_map short_token z) (sym c.in-None.ensures.steps.0) in
     wrote_tokenized old.items heap (text_of s) (tokens_of s) _ (none ∙ c.loop-token.invariant.whole) valid.0 valid.1 c.requires (omega (arith, old.ok.0, c.len-at.ensures))
+
+pub returns-clause-at : goal.returns-clause-at
+returns-clause-at c = omega (arith, c.args.heap.now.ok.0, c.len-at.ensures)

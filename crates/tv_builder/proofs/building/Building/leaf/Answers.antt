@@ -1,36 +1,41 @@
-use Rattle.std.proofs.Common.{◌+◌, ◌≤◌, length, refl, sym, arith}
+use Rattle.std.proofs.Common.{◌≡◌, ◌+◌, ◌≤◌, ◌++◌, ap, length, length-append, refl, sym, arith}
 use Rattle.tv_value.specs.Lent.{leaf_of}
-use Rattle.tv_value.specs.Tree.{leaf}
-use Rattle.tv_heap.specs.Room.{room}
-use Rattle.tv_builder.proofs.Calls.{does_value, room_fits, value_small}
+use Rattle.tv_heap.specs.LeafBytes.{leaf_bytes}
+use Rattle.tv_builder.proofs.Calls.{place_is, does_leaf, leaf_full, room_fits}
+use Rattle.tv_builder.proofs.Giving.{front_same}
 use Rattle.tv_builder.proofs.Sound.{can_give, fits_of}
-use Rattle.tv_heap.proofs.Writes.{leaf_fits}
 use Rattle.tv_builder.proofs.building.Building.leaf.Goals as goal
-use Rattle.tv_builder.proofs.building.Building.leaf.Goals.{After-leaf_room, In_ok-value_type}
+use Rattle.tv_builder.proofs.building.Building.leaf.Goals.{In_ok-value_type}
 
 pub has_value_room-requires : goal.has_value_room-requires
 has_value_room-requires c = let b = c.args.self.now in omega (arith, fits_of b c.requires, c.len.ensures, b.heap.ok.0)
 
-small : (c : In_ok-value_type) → length c.args.self.now.heap.items + room (leaf (leaf_of c.args.value.now)) ≤ 4294967295
+pub write_leaf-requires : goal.write_leaf-requires
+write_leaf-requires c =
+    let b = c.args.self.now in
+    omega (arith, room_fits c.leaf_len.result c.len.result _ c.has_value_room.result c.leaf_len.ensures c.has_value_room.ensures c.if-not-has_value_room.false, c.len.ensures, b.heap.ok.0)
+
+small : (c : In_ok-value_type) → length c.args.self.now.heap.items + length (leaf_bytes (leaf_of c.args.value.now)) ≤ 4294967295
 small c =
     let b = c.args.self.now in
-    omega (arith, room_fits c.leaf_room.result c.len.result _ c.has_value_room.result c.leaf_room.ensures c.has_value_room.ensures c.if-not-has_value_room.false, c.len.ensures, b.heap.ok.0)
+    omega (arith, room_fits c.leaf_len.result c.len.result _ c.has_value_room.result c.leaf_len.ensures c.has_value_room.ensures c.if-not-has_value_room.false, c.len.ensures, b.heap.ok.0)
 
 pub give-requires : goal.give-requires
 give-requires c =
     let b = c.args.self.now in
-    let w = c.in_ok-value_type.ensures.ok in
-    can_give b _ c.requires (sym c.in-Value.ensures) (value_small _ _ _ _ _ w (small ((goal.at.give-requires c).In_ok-value_type))) refl refl refl refl
+    let grows = c.in_ok-value_type.ensures.heap in
+    can_give b _ c.requires (sym c.in-Value.ensures) (omega (arith, small ((goal.at.give-requires c).In_ok-value_type), ap length grows, length-append b.heap.items (leaf_bytes (leaf_of c.args.value.now)))) refl refl refl refl
 
 pub returns : goal.returns
 returns c =
     let b = c.args.self.now in
-    let w = c.in_ok-value_type.ensures.ok in
-    let d = (goal.at.returns c).In_ok-value_type in
-    does_value b _ c.give.new.self _ (leaf (leaf_of c.args.value.now)) c.give.result (sym c.in-Value.ensures) (small d) w refl refl refl c.give.ensures.ok c.give.ensures.err
+    let x = c.in_ok-value_type.ensures in
+    does_leaf b _ c.give.new.self _ (leaf_of c.args.value.now) c.give.result (sym c.in-Value.ensures) (place_is _ _ _ x.place.0 x.place.1) x.heap x.ok refl refl refl c.give.ensures.ok c.give.ensures.err
 
-pub write_leaf-requires : goal.write_leaf-requires
-write_leaf-requires c =
-    let b = c.args.self.now in
-    leaf_fits (length b.heap.items) c.args.value.now
-    (omega (arith, room_fits c.leaf_room.result c.len.result _ c.has_value_room.result c.leaf_room.ensures c.has_value_room.ensures c.if-not-has_value_room.false, c.len.ensures, b.heap.ok.0))
+pub returns-then-not-has_value_room : goal.returns-then-not-has_value_room
+returns-then-not-has_value_room c =
+    let b = c.args.self.now in (
+      sym c.in-Value.ensures,
+      leaf_full b (leaf_of c.args.value.now) c.leaf_len.result c.len.result c.has_value_room.result (omega (arith, c.len.ensures, b.heap.ok.0)) c.leaf_len.ensures c.has_value_room.ensures c.if-not-has_value_room.true,
+      front_same _ _ refl,
+    )
