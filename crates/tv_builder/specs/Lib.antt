@@ -5,3 +5,4 @@ pub mod State
 pub mod Given
 pub mod Shows
 pub mod Moves
+pub mod OneState
