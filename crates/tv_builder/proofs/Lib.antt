@@ -7,3 +7,4 @@ pub mod Calls
 pub mod Keys
 pub mod Opening
 pub mod Ending
+pub mod Counts

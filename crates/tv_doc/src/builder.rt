@@ -7,14 +7,13 @@ ghost use Rattle.tv_builder.specs.State.{written};
 ghost use Rattle.tv_doc.specs.Building.{HoldsFront, HoldsFront-prop, Cleared, Kept, KeptNot};
 ghost use Rattle.tv_heap.specs.Room.{document_room};
 
-pub use tv_builder::awaits::Awaits;
-pub use tv_builder::build_error::BuildError;
-pub use tv_builder::bytes_kind::BytesKind;
-
 use crate::document::{CompactDoc, push_pair};
 use crate::place::FieldValueAddr;
 use std::alloc::Global;
+pub use tv_builder::awaits::Awaits;
+pub use tv_builder::build_error::BuildError;
 use tv_builder::building::Building;
+pub use tv_builder::bytes_kind::BytesKind;
 use tv_builder::frame::ListKind;
 use tv_value::field::Field;
 use tv_value::leaf::ReferenceValueLeaf;

@@ -39,7 +39,10 @@ const MAX_HEAP_LEN: u64 = 4294967295;
 const FIRST_PAIRS: usize = 16;
 
 // Adds a place behind those that are there.
-pub(crate) fn push_pair(pairs: &mut Vec<FieldValueAddr>, pair: FieldValueAddr) -> Result<(), AllocError>
+pub(crate) fn push_pair(
+    pairs: &mut Vec<FieldValueAddr>,
+    pair: FieldValueAddr,
+) -> Result<(), AllocError>
     ensures ok { OnOk result (pairs.new.items ≡ pairs.old.items ++ pair ∷ []) }
     ensures err { OnErr result (pairs.new.items ≡ pairs.old.items) }
 {
