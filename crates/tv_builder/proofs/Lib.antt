@@ -8,3 +8,5 @@ pub mod Keys
 pub mod Opening
 pub mod Ending
 pub mod Counts
+pub mod Grammar
+pub mod CallsTrade

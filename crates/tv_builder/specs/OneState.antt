@@ -1,7 +1,7 @@
 -- A building holds one state at most.
 use Rattle.std.specs.Prelude.{◌≡◌, ℕ, zero, suc, Bool, true, false, List, [], ◌∷◌, ◌++◌, length, take, drop, Option, Some, None, refl}
 use Rattle.std.specs.Coded.{Coded, code_by, coded×, coded_list, coded_ℕ, coded_bool, Coded-set}
-use Rattle.std.proofs.Common.{ap, sym, ◌∙◌, subst, arith}
+use Rattle.std.proofs.Common.{ap, sym, ◌∙◌, subst}
 use Rattle.std.proofs.Math.Logic.{∥∥₁_elim, ∥∥₁_prop}
 use Rattle.std.proofs.lemmas.List.{append_cancel_left}
 use mathlib.Core.HLevel.{Σ_prop_path}
@@ -22,7 +22,7 @@ use Rattle.tv_builder.specs.declared.frame.Frame.{Frame}
 use Rattle.tv_builder.specs.declared.frame.ListKind.{ListKind}
 use Rattle.tv_builder.specs.declared.frame.ListKind.TheVariants.{Array, Object}
 use Rattle.tv_builder.specs.declared.place.Place.{Place}
-use Rattle.tv_builder.specs.Shows.{ShowsList, ShowsLists, ShowsAt, Shows, Stands, frames_of}
+use Rattle.tv_builder.specs.Shows.{ShowsLists, ShowsAt, Stands, frames_of}
 use Rattle.tv_builder.specs.State.{OpenList, State, complete, in_lists, in_bytes}
 
 -- ---- a code for states
