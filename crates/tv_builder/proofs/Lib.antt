@@ -8,3 +8,6 @@ pub mod Keys
 pub mod Opening
 pub mod Ending
 pub mod Faulting
+pub mod Counts
+pub mod Grammar
+pub mod CallsTrade

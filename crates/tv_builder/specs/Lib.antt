@@ -6,3 +6,4 @@ pub mod Given
 pub mod Shows
 pub mod Moves
 pub mod Behind
+pub mod OneState

@@ -1,1 +1,32 @@
 //! Laws of parts and states, each the contract of a function that does nothing.
+
+ghost use Rattle.std.specs.Prelude.{◌≡◌, ◌+◌, ◌*◌, ◌≤◌, ℕ, List, [], ◌∷◌, ◌++◌, length};
+ghost use Rattle.tv_value.specs.Spelling.{NoLegacy};
+ghost use Rattle.tv_value.specs.Tree.{Tree};
+ghost use Rattle.tv_value.specs.Version.{Version};
+ghost use Rattle.tv_builder.specs.Front.{Spelled};
+ghost use Rattle.tv_builder.specs.Parts.{Part, Trades, IsContent, value, key, bytes_head, some_bytes};
+ghost use Rattle.tv_builder.specs.State.{State, OpenList, IsState, HeadNext, in_lists, in_bytes, awaited, and_value, and_list, and_key, and_head, and_bytes, and_end, head_awaits, list_head, parts_of, lists_of, children_of};
+ghost use Rattle.tv_builder.specs.declared.awaits.Awaits.TheVariants.{Value, Key};
+ghost use Rattle.tv_builder.specs.declared.bytes_kind.BytesKind.{BytesKind};
+ghost use Rattle.tv_builder.specs.declared.frame.ListKind.{ListKind};
+
+/// Bytes that spell some parts spell those for which they are traded.
+pub fn parts_are_traded()
+    ensures { (v : Version) (ps qs : List Part) (b : List ℕ) → Trades ps qs → Spelled NoLegacy v b ps → Spelled NoLegacy v b qs }
+{}
+
+/// Open lists and their finished children are paid for by the bytes that spell a state, whatever is announced.
+pub fn lists_are_paid()
+    ensures { (v : Version) (s : State) (b : List ℕ) → Spelled NoLegacy v b (parts_of s) → 2 * length (lists_of s) + children_of (lists_of s) ≤ length b }
+{}
+
+/// What a call does to a state trades its parts, with the call's part behind them, for those of the state that is left.
+pub fn calls_trade()
+    ensures values { (s : State) (t : Tree) → IsState s → awaited s ≡ Value → Trades (parts_of s ++ value t ∷ []) (parts_of (and_value s t)) }
+    ensures lists { (s : State) (kind : ListKind) (n : ℕ) → IsState s → awaited s ≡ Value → Trades (parts_of s ++ list_head kind n ∷ []) (parts_of (and_list s kind n)) }
+    ensures keys { (s : State) (k : List ℕ) → IsState s → awaited s ≡ Key → Trades (parts_of s ++ key k ∷ []) (parts_of (and_key s k)) }
+    ensures heads { (ls : List OpenList) (kind : BytesKind) (n : ℕ) → Trades (parts_of (in_lists ls) ++ bytes_head kind n ∷ []) (parts_of (and_head (in_lists ls) kind n)) }
+    ensures bytes { (ls : List OpenList) (kind : BytesKind) (n : ℕ) (bs more : List ℕ) → Trades (parts_of (in_bytes ls kind n bs) ++ some_bytes more ∷ []) (parts_of (and_bytes (in_bytes ls kind n bs) more)) }
+    ensures ends { (ls : List OpenList) (kind : BytesKind) (bs : List ℕ) → IsState (in_bytes ls kind (length bs) bs) → IsContent kind bs → Trades (parts_of (in_bytes ls kind (length bs) bs)) (parts_of (and_end (in_bytes ls kind (length bs) bs))) }
+{}

@@ -39,13 +39,13 @@ unchanged old new e f = record {
 pair_grown : (old new more : List ℕ) (p : FieldValueAddr) (x : ℕ × Tree) → new ≡ old ++ more → ReadsPair old p x → ReadsPair new p x
 pair_grown old new more p x e r = record { field = r.field; small = r.small; reads = grown old new more (type_code p.value_type) p.address x.1 e r.reads }
 
-pairs_grown : (old new more : List ℕ) (ps : List FieldValueAddr) (d : Document) → new ≡ old ++ more → ReadsPairs old ps d → ReadsPairs new ps d
+pub pairs_grown : (old new more : List ℕ) (ps : List FieldValueAddr) (d : Document) → new ≡ old ++ more → ReadsPairs old ps d → ReadsPairs new ps d
 pairs_grown old new more [] [] e r = tt
 pairs_grown old new more (p ∷ ps) (x ∷ d) e r = (pair_grown old new more p x e r.0, pairs_grown old new more ps d e r.1)
 pairs_grown old new more [] (x ∷ d) e r = absurd r
 pairs_grown old new more (p ∷ ps) [] e r = absurd r
 
-pairs_push : (heap : List ℕ) (ps : List FieldValueAddr) (d : Document) (p : FieldValueAddr) (x : ℕ × Tree) → ReadsPairs heap ps d → ReadsPair heap p x → ReadsPairs heap (ps ++ p ∷ []) (d ++ x ∷ [])
+pub pairs_push : (heap : List ℕ) (ps : List FieldValueAddr) (d : Document) (p : FieldValueAddr) (x : ℕ × Tree) → ReadsPairs heap ps d → ReadsPair heap p x → ReadsPairs heap (ps ++ p ∷ []) (d ++ x ∷ [])
 pairs_push heap [] [] p x r t = (t, tt)
 pairs_push heap (q ∷ ps) (y ∷ d) p x r t = (r.0, pairs_push heap ps d p x r.1 t)
 pairs_push heap [] (y ∷ d) p x r t = absurd r

@@ -10,3 +10,5 @@ pub mod PairsSoFar
 pub mod FieldTexts
 pub mod NamedBack
 pub mod Spans
+pub mod TreeBuilding
+pub mod Finishing

@@ -5,8 +5,7 @@ use Rattle.std.proofs.Math.Nat.{ℕ_set}
 use mathlib.Core.HLevel.{⊥_prop}
 use Rattle.tv_value.specs.Tree.{Tree, Document}
 use Rattle.tv_doc.specs.declared.place.FieldValueAddr.{FieldValueAddr}
-use Rattle.tv_heap.specs.declared.value_type.ValueType.{ValueType}
-use Rattle.tv_heap.specs.Held.{Held, same_held}
+use Rattle.tv_heap.specs.Held.{Held}
 use Rattle.tv_doc.specs.Holds.{ReadsPair, ReadsPairs, Holds}
 use Rattle.tv_heap.specs.Reads.{Reads}
 use Rattle.tv_heap.specs.TypeCode.{type_code}

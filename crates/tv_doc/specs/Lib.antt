@@ -1,4 +1,6 @@
 pub mod Holds
+pub mod Building
+pub mod Builder
 pub mod Document
 pub mod FieldValues
 pub mod MapValue

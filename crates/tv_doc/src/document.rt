@@ -40,7 +40,10 @@ const FIRST_PAIRS: usize = 16;
 
 // Adds a place behind those that are there.
 #[inline(always)]
-fn push_pair(pairs: &mut Vec<FieldValueAddr>, pair: FieldValueAddr) -> Result<(), AllocError>
+pub(crate) fn push_pair(
+    pairs: &mut Vec<FieldValueAddr>,
+    pair: FieldValueAddr,
+) -> Result<(), AllocError>
     ensures ok { OnOk result (pairs.new.items ≡ pairs.old.items ++ pair ∷ []) }
     ensures err { OnErr result (pairs.new.items ≡ pairs.old.items) }
 {
@@ -105,9 +108,9 @@ fn keep_pair(
 /// Pairs of a field and a value, in order. The values stand in one heap of bytes, in which each addition is kept apart.
 #[derive(Debug, Drop)]
 pub struct CompactDoc {
-    alloc: Global,
-    node_data: Vec<u8>,
-    pairs: Vec<FieldValueAddr>,
+    pub(crate) alloc: Global,
+    pub(crate) node_data: Vec<u8>,
+    pub(crate) pairs: Vec<FieldValueAddr>,
     pub ghost document: { Holds node_data.items pairs.items } by { Holds-prop node_data.items pairs.items },
     pub ghost room: { length node_data.items ≤ document_room document.0 },
     pub ghost fits: { length node_data.items < 2 ^ 32 },

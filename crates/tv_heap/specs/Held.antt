@@ -33,7 +33,7 @@ listed_elements : (ts : List Tree) → element_list (elements ts) ≡ ts
 listed_elements [] = refl
 listed_elements (t ∷ ts) = ap (λ z. t ∷ z) (listed_elements ts)
 
-same_list : (ts us : List Tree) → elements ts ≡ elements us → ts ≡ us
+pub same_list : (ts us : List Tree) → elements ts ≡ elements us → ts ≡ us
 same_list ts us e = sym (listed_elements ts) ∙ ap element_list e ∙ listed_elements us
 
 pub HeldElements-prop : (heap whole : List ℕ) → IsProp (HeldElements heap whole)

@@ -1,4 +1,4 @@
-use Rattle.std.proofs.Common.{◌≡◌, ◌<◌, ℕ, length, IfOk, Result, Ok, Err, subst, sym, ap, ◌∙◌}
+use Rattle.std.proofs.Common.{◌≡◌, IfOk, Result, Ok, Err, subst, sym, ap, ◌∙◌}
 use Rattle.tv_value.specs.Tree.{Document}
 use Rattle.tv_doc.specs.Belongs.{Belongs}
 use Rattle.tv_doc.specs.Document.{document_of}

@@ -1,4 +1,4 @@
-use Rattle.std.proofs.Common.{◌≡◌, List, map, Some, None, ap, sym, ◌∙◌, rules}
+use Rattle.std.proofs.Common.{◌≡◌, map, Some, None, ap, sym, ◌∙◌, rules}
 use Rattle.std.specs.Prelude.{slice_get}
 use Rattle.tv_json.specs.Named.{named_trees}
 use Rattle.tv_doc.specs.Named.{put_under}

@@ -1,4 +1,4 @@
-use Rattle.std.proofs.Common.{ℕ, List, take}
+use Rattle.std.proofs.Common.{take}
 use Rattle.std.specs.List.{Contains}
 use Rattle.tv_doc.specs.SameTexts.{texts_seen}
 use Rattle.tv_doc.proofs.same.has_text.Given as goal

@@ -1,0 +1,241 @@
+-- What a call leaves of a tree builder.
+use Rattle.std.proofs.Common.{◌≡◌, ℕ, ◌+◌, ◌^◌, ◌<◌, ◌≤◌, Bool, true, false, List, [], length, reverse, take, None, Result, Ok, Err, OnOk, OnErr, length-append, refl, sym, ◌∙◌, ap, subst, arith}
+use Rattle.std.specs.Coded.{le_prop}
+use Rattle.std.proofs.lemmas.List.{take-append-le, take_all, length-take, length-take-le}
+use Rattle.std.proofs.Math.Logic.{∥∥₁_elim, ∥∥₁_map}
+use Rattle.tv_base.specs.Sink.{IsFront}
+use Rattle.tv_heap.specs.Room.{document_room}
+use Rattle.tv_builder.specs.declared.build_error.BuildError.{BuildError}
+use Rattle.tv_builder.specs.declared.build_error.BuildError.TheVariants.{AlreadyFailed, OutOfPlace, FieldNumber, NotUtf8, HeapFull, Memory}
+use Rattle.tv_builder.specs.declared.building.Building.{Building}
+use Rattle.tv_builder.specs.Moves.{Moves, Does, EndsBytes}
+use Rattle.tv_builder.specs.OneState.{same_state}
+use Rattle.tv_builder.specs.Given.{pending_in}
+use Rattle.tv_builder.specs.Shows.{ShowsLists, Shows, Stands, frames_of}
+use Rattle.tv_builder.specs.State.{State, in_lists, written, and_end}
+use Rattle.tv_doc.specs.declared.builder.TreeBuilder.{TreeBuilder}
+use Rattle.tv_doc.specs.declared.document.CompactDoc.{CompactDoc}
+use Rattle.tv_doc.specs.declared.place.FieldValueAddr.{FieldValueAddr}
+use Rattle.tv_doc.specs.Building.{HoldsFront, Cleared}
+use Rattle.tv_doc.specs.Builder.{built, state_of, heap_so_far, Goes, Fails, BuildsIf, Builds, EndsIf, Ends}
+use Rattle.tv_doc.specs.Document.{document_of}
+use Rattle.tv_doc.specs.Holds.{Holds}
+use Rattle.tv_doc.proofs.Documents.{same_document}
+
+-- ---- the state
+
+pub fits_of : (b : Building) → Stands b → length b.heap.items ≤ 4294967295
+fits_of b h = ∥∥₁_elim h.1 le_prop (λ s. s.fits)
+
+pub shows_none : (b : Building) → length b.heap.items ≤ 4294967295 → b.places.items ≡ [] → b.pending ≡ 0 → frames_of b ≡ [] → b.complete ≡ None → b.open ≡ None → Shows b (in_lists [])
+shows_none b fits places pending frames none closed = record {
+  fits = fits;
+  counted = pending ∙ ap pending_in (sym frames);
+  is = (tt, tt);
+  at = record { none = none; closed = closed; lists = subst (λ z. ShowsLists b.heap.items z b.places.items []) (sym frames) places };
+}
+
+abbrev pub stands_none : (b : Building) → length b.heap.items ≤ 4294967295 → b.places.items ≡ [] → b.pending ≡ 0 → b.frames.items ≡ [] → b.complete ≡ None → b.open ≡ None → Stands b
+stands_none b fits places pending frames none closed = (in_lists [], ∣ shows_none b fits places pending (ap reverse frames) none closed ∣₁)
+
+-- ---- what a call on the building leaves
+
+abbrev pub Answer : Type 0
+Answer = Result (Unit {0}) BuildError
+
+-- it goes on, or what stood in the heap still stands in front
+pub record Left (old mid : Building) (after : State → State) (r : Answer) : Type 0 where
+  pub moves : OnOk r (Moves old mid after)
+  pub front : OnErr r (IsFront old.heap.items mid.heap.items)
+
+pub does_left : (old mid : Building) (in_place : Type 0) (heaps : List ℕ → Type 0) (full : Type 0) (after : State → State) (r : Answer) → Does old mid in_place heaps full after r → Left old mid after r
+does_left old mid in_place heaps full after (Ok x) h = record { moves = h.2; front = tt }
+does_left old mid in_place heaps full after (Err OutOfPlace) h = record { moves = tt; front = h.1 }
+does_left old mid in_place heaps full after (Err HeapFull) h = record { moves = tt; front = h.2 }
+does_left old mid in_place heaps full after (Err Memory) h = record { moves = tt; front = h.1 }
+does_left old mid in_place heaps full after (Err AlreadyFailed) h = absurd h
+does_left old mid in_place heaps full after (Err (FieldNumber n)) h = absurd h
+does_left old mid in_place heaps full after (Err NotUtf8) h = absurd h
+
+pub ends_left : (old mid : Building) (r : Answer) → EndsBytes old mid r → Left old mid and_end r
+ends_left old mid (Ok x) h = record { moves = h.3; front = tt }
+ends_left old mid (Err OutOfPlace) h = record { moves = tt; front = h.1 }
+ends_left old mid (Err NotUtf8) h = record { moves = tt; front = h.2 }
+ends_left old mid (Err HeapFull) h = record { moves = tt; front = h.3 }
+ends_left old mid (Err Memory) h = record { moves = tt; front = h.2 }
+ends_left old mid (Err AlreadyFailed) h = absurd h
+ends_left old mid (Err (FieldNumber n)) h = absurd h
+
+-- and how it is settled
+pub record Settled (mid new : Building) (kept : ℕ) (failed failed_new : Bool) (r : Answer) : Type 0 where
+  pub ok : OnOk r (new ≡ mid)
+  pub live : OnOk r (failed_new ≡ failed)
+  pub err : OnErr r (Cleared mid new kept)
+  pub mark : OnErr r (failed_new ≡ true)
+
+front_kept : (kept : ℕ) (old new : List ℕ) → IsFront old new → kept ≤ length old → take kept new ≡ take kept old
+front_kept kept old new f h = ap (λ z. take kept z) f.1 ∙ take-append-le kept old f.0 h
+
+-- the front that is kept is the same
+same_front_kept : (old mid new : Building) (kept : ℕ) (failed failed_new : Bool) (after : State → State) (r : Answer) → kept ≤ length old.heap.items → Left old mid after r → Settled mid new kept failed failed_new r
+    → (take kept new.heap.items ≡ take kept old.heap.items) × (kept ≤ length new.heap.items)
+same_front_kept old mid new kept failed failed_new after (Ok x) h l s =
+    let same_heap : new.heap.items ≡ mid.heap.items = ap (λ (b : Building). b.heap.items) s.ok in
+    let grows = l.moves.grows in
+    (ap (λ z. take kept z) same_heap ∙ front_kept kept old.heap.items mid.heap.items grows h, omega (arith, h, ap length same_heap, ap length grows.1, length-append old.heap.items grows.0))
+same_front_kept old mid new kept failed failed_new after (Err e) h l s =
+    let cut = front_kept kept old.heap.items mid.heap.items l.front h in
+    let n : length mid.heap.items ≡ length old.heap.items + length l.front.0 = ap length l.front.1 ∙ length-append old.heap.items l.front.0 in
+    let m : length (take kept mid.heap.items) ≡ kept = length-take-le kept mid.heap.items (omega (arith, h, n)) in
+    (ap (λ z. take kept z) s.err.heap ∙ take_all kept (take kept mid.heap.items) (omega (arith, m)) ∙ cut, omega (arith, ap length s.err.heap, m))
+
+pub cut_heap : (old mid new : Building) (kept : ℕ) (after : State → State) (e : BuildError) → kept ≤ length old.heap.items → Left old mid after (Err e) → Cleared mid new kept → new.heap.items ≡ take kept old.heap.items
+cut_heap old mid new kept after e h l c = c.heap ∙ front_kept kept old.heap.items mid.heap.items l.front h
+
+-- what is known of each builder
+pub record Fields (b : Building) (kept : ℕ) (ps : List FieldValueAddr) : Type 0 where
+  pub document : HoldsFront b.heap.items kept ps
+  pub kept_within : kept ≤ length b.heap.items
+  pub room : kept ≤ document_room document.0
+  pub state : Stands b
+  pub written_within : length b.heap.items ≤ kept + written state.0
+
+abbrev pub cleared_stands : (mid new : Building) (kept : ℕ) → kept ≤ 4294967295 → Cleared mid new kept → Stands new
+cleared_stands mid new kept h c = stands_none new (omega (arith, ap length c.heap, length-take kept mid.heap.items, h)) c.places c.pending c.frames c.complete c.closed
+
+abbrev pub moved_stands : (old mid new : Building) (after : State → State) → Stands old → Moves old mid after → new ≡ mid → Stands new
+moved_stands old mid new after h m e = (after h.0, ∥∥₁_map h.1 (λ s. subst (λ z. Shows z (after h.0)) (sym e) (m.shows h.0 s)))
+
+state_left : (old : TreeBuilder) (mid new : Building) (failed_new : Bool) (after : State → State) (r : Answer) → Left old.building mid after r → Settled mid new old.kept old.failed failed_new r
+    → (h : Stands new) × (length new.heap.items ≤ old.kept + written h.0)
+state_left old mid new failed_new after (Ok x) l s =
+    let h = moved_stands old.building mid new after old.state l.moves s.ok in
+    (h, ∥∥₁_elim old.state.1 le_prop (λ shows. omega (arith, l.moves.within old.state.0 shows, old.written, ap (λ (b : Building). length b.heap.items) s.ok)))
+state_left old mid new failed_new after (Err e) l s =
+    let small = fits_of old.building old.state in
+    (cleared_stands mid new old.kept (omega (arith, small, old.kept_within)) s.err, omega (arith, ap length s.err.heap, length-take old.kept mid.heap.items))
+
+pub fields_left : (old : TreeBuilder) (mid new : Building) (failed_new : Bool) (after : State → State) (r : Answer) → Left old.building mid after r → Settled mid new old.kept old.failed failed_new r → Fields new old.kept old.pairs.items
+fields_left old mid new failed_new after r l s =
+    let front = same_front_kept old.building mid new old.kept old.failed failed_new after r old.kept_within l s in
+    let document : HoldsFront new.heap.items old.kept old.pairs.items = subst (λ z. Holds z old.pairs.items) (sym front.0) old.document in
+    let state = state_left old mid new failed_new after r l s in
+    record {
+      document = document;
+      kept_within = front.1;
+      room = omega (arith, old.room, ap document_room (same_document (take old.kept new.heap.items) (take old.kept old.building.heap.items) old.pairs.items old.pairs.items document old.document front.0 refl));
+      state = state.0;
+      written_within = state.1;
+    }
+
+-- ---- what the call says
+
+built_same : (old new : TreeBuilder) → take new.kept new.building.heap.items ≡ take old.kept old.building.heap.items → new.pairs.items ≡ old.pairs.items → built new ≡ built old
+built_same old new e f = same_document (take new.kept new.building.heap.items) (take old.kept old.building.heap.items) new.pairs.items old.pairs.items new.document old.document e f
+
+goes_on : (old new : TreeBuilder) (mid : Building) (after : State → State) → old.failed ≡ false → Left old.building mid after (Ok tt) → Settled mid new.building old.kept old.failed new.failed (Ok tt) → new.kept ≡ old.kept → new.pairs.items ≡ old.pairs.items
+    → Goes old new (after (state_of old))
+goes_on old new mid after live l s kept pairs =
+    let front = same_front_kept old.building mid new.building old.kept old.failed new.failed after (Ok tt) old.kept_within l s in
+    let grows = l.moves.grows in
+    record {
+      live = s.live ∙ live;
+      document = built_same old new (ap (λ z. take z new.building.heap.items) kept ∙ front.0) pairs;
+      state = same_state new.building new.state (moved_stands old.building mid new.building after old.state l.moves s.ok);
+      grows = (grows.0, ap (λ (b : Building). b.heap.items) s.ok ∙ grows.1);
+    }
+
+pub fails_now : (old new : TreeBuilder) (mid : Building) (after : State → State) (e : BuildError) → Left old.building mid after (Err e) → Settled mid new.building old.kept old.failed new.failed (Err e) → new.kept ≡ old.kept → new.pairs.items ≡ old.pairs.items
+    → Fails old new
+fails_now old new mid after e l s kept pairs =
+    let front = same_front_kept old.building mid new.building old.kept old.failed new.failed after (Err e) old.kept_within l s in
+    let small = fits_of old.building old.state in
+    record {
+      failed = s.mark;
+      document = built_same old new (ap (λ z. take z new.building.heap.items) kept ∙ front.0) pairs;
+      state = same_state new.building new.state (cleared_stands mid new.building old.kept (omega (arith, small, old.kept_within)) s.err);
+      heap = cut_heap old.building mid new.building old.kept after e old.kept_within l s.err;
+    }
+
+heap_settled : (mid new : Building) (heaps : List ℕ → Type 0) → new ≡ mid → heaps mid.heap.items → heaps new.heap.items
+heap_settled mid new heaps e h = subst (λ (b : Building). heaps b.heap.items) (sym e) h
+
+builds_live : (old new : TreeBuilder) (mid : Building) (in_place : Type 0) (heaps : List ℕ → Type 0) (full : Type 0) (after : State → State) (r : Answer) → old.failed ≡ false → Does old.building mid in_place heaps full after r
+    → Settled mid new.building old.kept old.failed new.failed r → new.kept ≡ old.kept → new.pairs.items ≡ old.pairs.items → BuildsIf false old new in_place heaps full after r
+builds_live old new mid in_place heaps full after (Ok x) live d s kept pairs =
+    (d.0, heap_settled mid new.building heaps s.ok d.1, goes_on old new mid after live (does_left old.building mid in_place heaps full after (Ok x) d) s kept pairs)
+builds_live old new mid in_place heaps full after (Err OutOfPlace) live d s kept pairs = (d.0, fails_now old new mid after OutOfPlace (does_left old.building mid in_place heaps full after (Err OutOfPlace) d) s kept pairs)
+builds_live old new mid in_place heaps full after (Err HeapFull) live d s kept pairs = (d.0, d.1, fails_now old new mid after HeapFull (does_left old.building mid in_place heaps full after (Err HeapFull) d) s kept pairs)
+builds_live old new mid in_place heaps full after (Err Memory) live d s kept pairs = (d.0, fails_now old new mid after Memory (does_left old.building mid in_place heaps full after (Err Memory) d) s kept pairs)
+builds_live old new mid in_place heaps full after (Err AlreadyFailed) live d s kept pairs = absurd d
+builds_live old new mid in_place heaps full after (Err (FieldNumber n)) live d s kept pairs = absurd d
+builds_live old new mid in_place heaps full after (Err NotUtf8) live d s kept pairs = absurd d
+
+pub builds : (old new : TreeBuilder) (mid : Building) (in_place : Type 0) (heaps : List ℕ → Type 0) (full : Type 0) (after : State → State) (r t : Answer) → old.failed ≡ false → Does old.building mid in_place heaps full after r
+    → Settled mid new.building old.kept old.failed new.failed r → new.kept ≡ old.kept → new.pairs.items ≡ old.pairs.items → t ≡ r → Builds old new in_place heaps full after t
+builds old new mid in_place heaps full after r t live d s kept pairs e =
+    subst (λ z. BuildsIf z old new in_place heaps full after t) (sym live) (subst (λ z. BuildsIf false old new in_place heaps full after z) (sym e) (builds_live old new mid in_place heaps full after r live d s kept pairs))
+
+ends_live : (old new : TreeBuilder) (mid : Building) (r : Answer) → old.failed ≡ false → EndsBytes old.building mid r → Settled mid new.building old.kept old.failed new.failed r → new.kept ≡ old.kept → new.pairs.items ≡ old.pairs.items
+    → EndsIf false old new r
+ends_live old new mid (Ok x) live d s kept pairs = (d.0, d.1, ap (λ (b : Building). b.heap.items) s.ok ∙ d.2, goes_on old new mid and_end live (ends_left old.building mid (Ok x) d) s kept pairs)
+ends_live old new mid (Err OutOfPlace) live d s kept pairs = (d.0, fails_now old new mid and_end OutOfPlace (ends_left old.building mid (Err OutOfPlace) d) s kept pairs)
+ends_live old new mid (Err NotUtf8) live d s kept pairs = (d.0, d.1, fails_now old new mid and_end NotUtf8 (ends_left old.building mid (Err NotUtf8) d) s kept pairs)
+ends_live old new mid (Err HeapFull) live d s kept pairs = (d.0, d.1, d.2, fails_now old new mid and_end HeapFull (ends_left old.building mid (Err HeapFull) d) s kept pairs)
+ends_live old new mid (Err Memory) live d s kept pairs = (d.0, d.1, fails_now old new mid and_end Memory (ends_left old.building mid (Err Memory) d) s kept pairs)
+ends_live old new mid (Err AlreadyFailed) live d s kept pairs = absurd d
+ends_live old new mid (Err (FieldNumber n)) live d s kept pairs = absurd d
+
+pub ends : (old new : TreeBuilder) (mid : Building) (r t : Answer) → old.failed ≡ false → EndsBytes old.building mid r → Settled mid new.building old.kept old.failed new.failed r → new.kept ≡ old.kept → new.pairs.items ≡ old.pairs.items
+    → t ≡ r → Ends old new t
+ends old new mid r t live d s kept pairs e = subst (λ z. EndsIf z old new t) (sym live) (subst (λ z. EndsIf false old new z) (sym e) (ends_live old new mid r live d s kept pairs))
+
+-- ---- a new builder
+
+pub new_document : (doc : CompactDoc) (n : ℕ) → length doc.node_data.items ≡ n → HoldsFront doc.node_data.items n doc.pairs.items
+new_document doc n e = subst (λ z. Holds z doc.pairs.items) (sym (take_all n doc.node_data.items (omega (arith, e)))) doc.document
+
+pub new_same : (doc : CompactDoc) (n : ℕ) (h : HoldsFront doc.node_data.items n doc.pairs.items) → length doc.node_data.items ≡ n → h.0 ≡ document_of doc
+new_same doc n h e = same_document (take n doc.node_data.items) doc.node_data.items doc.pairs.items doc.pairs.items h doc.document (take_all n doc.node_data.items (omega (arith, e))) refl
+
+pub new_fields : (doc : CompactDoc) (b : Building) (n : ℕ) → length doc.node_data.items ≡ n → b.heap.items ≡ doc.node_data.items → b.places.items ≡ [] → b.pending ≡ 0 → b.frames.items ≡ [] → b.complete ≡ None → b.open ≡ None
+    → Fields b n doc.pairs.items
+new_fields doc b n e heap places pending frames none closed =
+    let document : HoldsFront b.heap.items n doc.pairs.items = subst (λ z. HoldsFront z n doc.pairs.items) (sym heap) (new_document doc n e) in
+    record {
+      document = document;
+      kept_within = omega (arith, e, ap length heap);
+      room = omega (arith, e, doc.room, ap document_room (same_document (take n b.heap.items) doc.node_data.items doc.pairs.items doc.pairs.items document doc.document (ap (λ z. take n z) heap ∙ take_all n doc.node_data.items (omega (arith, e))) refl));
+      state = stands_none b (omega (arith, doc.fits, ap length heap)) places pending frames none closed;
+      written_within = omega (arith, e, ap length heap);
+    }
+
+pub built_new : (doc : CompactDoc) (b : TreeBuilder) → heap_so_far b ≡ doc.node_data.items → b.pairs.items ≡ doc.pairs.items → b.kept ≡ length doc.node_data.items → built b ≡ document_of doc
+built_new doc b heap pairs kept =
+    same_document (take b.kept (heap_so_far b)) doc.node_data.items b.pairs.items doc.pairs.items b.document doc.document
+    (ap (λ z. take b.kept z) heap ∙ take_all b.kept doc.node_data.items (omega (arith, kept))) pairs
+
+-- ---- the document at the end
+
+pub end_document : (b : TreeBuilder) (heap : List ℕ) → heap ≡ take b.kept (heap_so_far b) → Holds heap b.pairs.items
+end_document b heap e = subst (λ z. Holds z b.pairs.items) (sym e) b.document
+
+pub end_length : (b : TreeBuilder) (heap : List ℕ) → heap ≡ take b.kept (heap_so_far b) → (length heap ≤ b.kept) × (length heap < 2 ^ 32)
+end_length b heap e = (omega (arith, ap length e, length-take b.kept (heap_so_far b)), omega (arith, ap length e, length-take b.kept (heap_so_far b), fits_of b.building b.state))
+
+pub end_same : (b : TreeBuilder) (heap : List ℕ) (h : Holds heap b.pairs.items) → heap ≡ take b.kept (heap_so_far b) → h.0 ≡ built b
+end_same b heap h e = same_document heap (take b.kept (heap_so_far b)) b.pairs.items b.pairs.items h b.document e refl
+
+pub end_room : (b : TreeBuilder) (heap : List ℕ) (e : heap ≡ take b.kept (heap_so_far b)) → length heap ≤ document_room ((end_document b heap e).0)
+end_room b heap e = omega (arith, (end_length b heap e).0, b.room, ap document_room (end_same b heap (end_document b heap e) e))
+
+pub end_built : (b : TreeBuilder) (d : CompactDoc) → d.node_data.items ≡ take b.kept (heap_so_far b) → d.pairs.items ≡ b.pairs.items → document_of d ≡ built b
+end_built b d heap pairs = same_document d.node_data.items (take b.kept (heap_so_far b)) d.pairs.items b.pairs.items d.document b.document heap pairs
+
+pub none_state : (b : Building) (h : Stands b) → b.places.items ≡ [] → b.pending ≡ 0 → b.frames.items ≡ [] → b.complete ≡ None → b.open ≡ None → h.0 ≡ in_lists []
+none_state b h places pending frames none closed = same_state b h (stands_none b (fits_of b h) places pending frames none closed)
+
+pub new_state : (t : TreeBuilder) (b : Building) → t.building ≡ b → b.places.items ≡ [] → b.pending ≡ 0 → b.frames.items ≡ [] → b.complete ≡ None → b.open ≡ None → state_of t ≡ in_lists []
+new_state t b e places pending frames none closed =
+    none_state t.building t.state (ap (λ (z : Building). z.places.items) e ∙ places) (ap (λ (z : Building). z.pending) e ∙ pending) (ap (λ (z : Building). z.frames.items) e ∙ frames) (ap (λ (z : Building). z.complete) e ∙ none)
+    (ap (λ (z : Building). z.open) e ∙ closed)

@@ -1,0 +1,23 @@
+use Rattle.std.proofs.Common.{refl}
+use Rattle.tv_builder.specs.Moves.{ValueHeap, ValueFull}
+use Rattle.tv_builder.specs.State.{and_value}
+use Rattle.tv_value.specs.Lent.{leaf_of}
+use Rattle.tv_value.specs.Tree.{leaf}
+use Rattle.tv_doc.proofs.TreeBuilding.{Settled, does_left, fields_left, builds}
+use Rattle.tv_doc.proofs.builder.TreeBuilder.leaf.Goals as goal
+
+pub invariant_of-self : goal.invariant_of-self
+invariant_of-self c =
+    let s : Settled c.leaf-result.new.self c.settle.new.building c.args.self.now.kept c.args.self.now.failed c.settle.new.failed c.leaf-result.result =
+    record { ok = c.settle.ensures.ok; live = c.settle.ensures.live; err = c.settle.ensures.err; mark = c.settle.ensures.mark } in
+    let b = c.args.self.now.building in
+    let t = leaf (leaf_of c.args.value) in
+    let l = does_left b c.leaf-result.new.self _ (ValueHeap b t) (ValueFull b t) (λ s. and_value s t) c.leaf-result.result c.leaf-result.ensures in
+    let f = fields_left c.args.self.now c.leaf-result.new.self c.settle.new.building c.settle.new.failed (λ s. and_value s t) c.leaf-result.result l s in
+    record { document = f.document; kept_within = f.kept_within; room = f.room; state = f.state; written = f.written_within }
+
+pub returns : goal.returns
+returns c =
+    let s : Settled c.leaf-result.new.self c.settle.new.building c.args.self.now.kept c.args.self.now.failed c.settle.new.failed c.leaf-result.result =
+    record { ok = c.settle.ensures.ok; live = c.settle.ensures.live; err = c.settle.ensures.err; mark = c.settle.ensures.mark } in
+    builds c.args.self.now _ c.leaf-result.new.self _ _ _ _ c.leaf-result.result c.settle.result c.if-self.false c.leaf-result.ensures s refl refl c.settle.ensures.same

@@ -1,0 +1,85 @@
+-- What a tree builder is seen as, and what its calls answer and leave.
+use Rattle.std.specs.Prelude.{◌≡◌, ℕ, ◌<◌, ◌≤◌, Bool, true, false, List, [], ◌∷◌, ◌++◌, length, take, Result, Ok, Err}
+use Rattle.tv_base.specs.Sink.{IsFront}
+use Rattle.tv_value.specs.Tree.{Tree, Document}
+use Rattle.tv_builder.specs.declared.build_error.BuildError.{BuildError}
+use Rattle.tv_builder.specs.declared.build_error.BuildError.TheVariants.{AlreadyFailed, OutOfPlace, FieldNumber, NotUtf8, HeapFull, Memory}
+use Rattle.tv_builder.specs.Moves.{AwaitsEnd, EndsWell, end_heap}
+use Rattle.tv_builder.specs.State.{State, complete, in_lists, and_end}
+use Rattle.tv_doc.specs.declared.builder.TreeBuilder.{TreeBuilder}
+
+-- the finished pairs
+abbrev pub built : TreeBuilder → Document
+built b = b.document.0
+
+-- what has come so far of the next value
+abbrev pub state_of : TreeBuilder → State
+state_of b = b.state.0
+
+abbrev pub heap_so_far : TreeBuilder → List ℕ
+heap_so_far b = b.building.heap.items
+
+-- a call that goes on to this state
+pub record Goes (old new : TreeBuilder) (after : State) : Type 0 where
+  pub live : new.failed ≡ false
+  pub document : built new ≡ built old
+  pub state : state_of new ≡ after
+  pub grows : IsFront (heap_so_far old) (heap_so_far new)
+
+-- After a refusal nothing is open, and the heap ends behind the last finished pair.
+pub record Fails (old new : TreeBuilder) : Type 0 where
+  pub failed : new.failed ≡ true
+  pub document : built new ≡ built old
+  pub state : state_of new ≡ in_lists []
+  pub heap : heap_so_far new ≡ take old.kept (heap_so_far old)
+
+-- A call that belongs `in_place`, for which the heap that it leaves is `heaps`, whatever its length, and is too long where it is `full`.
+abbrev pub BuildsIf : Bool → TreeBuilder → TreeBuilder → Type 0 → (List ℕ → Type 0) → Type 0 → (State → State) → Result (Unit {0}) BuildError → Type 0
+BuildsIf true old new in_place heaps full after r = (r ≡ Err AlreadyFailed) × (new ≡ old)
+BuildsIf false old new in_place heaps full after (Ok x) = in_place × heaps (heap_so_far new) × Goes old new (after (state_of old))
+BuildsIf false old new in_place heaps full after (Err OutOfPlace) = ¬ in_place × Fails old new
+BuildsIf false old new in_place heaps full after (Err HeapFull) = in_place × full × Fails old new
+BuildsIf false old new in_place heaps full after (Err Memory) = in_place × Fails old new
+BuildsIf false old new in_place heaps full after (Err _) = ⊥
+
+abbrev pub Builds : TreeBuilder → TreeBuilder → Type 0 → (List ℕ → Type 0) → Type 0 → (State → State) → Result (Unit {0}) BuildError → Type 0
+Builds old new in_place heaps full after r = BuildsIf old.failed old new in_place heaps full after r
+
+-- the call at the end of open bytes
+abbrev pub EndsIf : Bool → TreeBuilder → TreeBuilder → Result (Unit {0}) BuildError → Type 0
+EndsIf true old new r = (r ≡ Err AlreadyFailed) × (new ≡ old)
+EndsIf false old new (Ok x) =
+    AwaitsEnd old.building.open × EndsWell old.building.open (heap_so_far old) × (heap_so_far new ≡ end_heap old.building old.building.open) × Goes old new (and_end (state_of old))
+EndsIf false old new (Err OutOfPlace) = ¬ AwaitsEnd old.building.open × Fails old new
+EndsIf false old new (Err NotUtf8) = AwaitsEnd old.building.open × ¬ EndsWell old.building.open (heap_so_far old) × Fails old new
+EndsIf false old new (Err HeapFull) = AwaitsEnd old.building.open × EndsWell old.building.open (heap_so_far old) × (4294967295 < length (end_heap old.building old.building.open)) × Fails old new
+EndsIf false old new (Err Memory) = AwaitsEnd old.building.open × EndsWell old.building.open (heap_so_far old) × Fails old new
+EndsIf false old new (Err _) = ⊥
+
+abbrev pub Ends : TreeBuilder → TreeBuilder → Result (Unit {0}) BuildError → Type 0
+Ends old new r = EndsIf old.failed old new r
+
+-- the complete tree became a pair
+pub record Finished (old new : TreeBuilder) (f : ℕ) : Type 0 where
+  pub tree : Tree
+  pub was : state_of old ≡ complete tree
+  pub small : f ≤ 65535
+  pub live : new.failed ≡ false
+  pub document : built new ≡ built old ++ (f, tree) ∷ []
+  pub state : state_of new ≡ in_lists []
+  pub heap : heap_so_far new ≡ heap_so_far old
+  pub kept : new.kept ≡ length (heap_so_far old)
+
+abbrev pub IsComplete : State → Type 0
+IsComplete s = (tree : Tree) × (s ≡ complete tree)
+
+abbrev pub FinishesIf : Bool → TreeBuilder → TreeBuilder → ℕ → Result (Unit {0}) BuildError → Type 0
+FinishesIf true old new f r = (r ≡ Err AlreadyFailed) × (new ≡ old)
+FinishesIf false old new f (Ok x) = Finished old new f
+FinishesIf false old new f (Err OutOfPlace) = ¬ IsComplete (state_of old) × Fails old new
+FinishesIf false old new f (Err (FieldNumber n)) = IsComplete (state_of old) × (n ≡ f) × (65535 < f) × Fails old new
+FinishesIf false old new f (Err Memory) = IsComplete (state_of old) × (f ≤ 65535) × Fails old new
+FinishesIf false old new f (Err _) = ⊥
+
+abbrev pub Finishes : TreeBuilder → TreeBuilder → ℕ → Result (Unit {0}) BuildError → Type 0
+Finishes old new f r = FinishesIf old.failed old new f r

@@ -1,0 +1,285 @@
+//! Building the values of a document part by part.
+
+ghost use Rattle.std.specs.Prelude.{◌≡◌, ◌+◌, ◌<◌, ◌≤◌, ◌∷◌, [], ◌++◌, OnOk, OnErr, IfErr, length, take, true, false, None};
+ghost use Rattle.tv_builder.specs.OneState.{Stands-prop};
+ghost use Rattle.tv_builder.specs.Shows.{Stands};
+ghost use Rattle.tv_builder.specs.State.{written};
+ghost use Rattle.tv_doc.specs.Building.{HoldsFront, HoldsFront-prop, Cleared, Kept, KeptNot};
+ghost use Rattle.tv_heap.specs.Room.{document_room};
+
+use crate::document::{CompactDoc, push_pair};
+use crate::place::FieldValueAddr;
+use std::alloc::Global;
+pub use tv_builder::awaits::Awaits;
+pub use tv_builder::build_error::BuildError;
+use tv_builder::building::Building;
+pub use tv_builder::bytes_kind::BytesKind;
+use tv_builder::frame::ListKind;
+use tv_value::field::Field;
+use tv_value::leaf::ReferenceValueLeaf;
+use tv_value::value::Value;
+
+// After a refusal, lets go of what isn't finished and marks it.
+fn settle(
+    building: &mut Building,
+    failed: &mut bool,
+    kept: usize,
+    answer: Result<(), BuildError>,
+) -> Result<(), BuildError>
+    ensures same { result ≡ answer }
+    ensures ok { OnOk answer (building.new ≡ building.old) }
+    ensures live { OnOk answer (failed.new ≡ failed.old) }
+    ensures err { OnErr answer (Cleared building.old building.new kept) }
+    ensures mark { OnErr answer (failed.new ≡ true) }
+{
+    if answer.is_err() {
+        building.clear(kept);
+        *failed = true;
+    }
+    answer
+}
+
+// Makes the complete value that of a pair.
+fn keep_tree(
+    building: &mut Building,
+    pairs: &mut Vec<FieldValueAddr>,
+    kept: &mut usize,
+    field: Field,
+) -> Result<(), BuildError>
+    ensures ok { OnOk result (Kept building.old building.new pairs.old.items pairs.new.items kept.new field.id) }
+    ensures err { IfErr result (λ e. KeptNot building.old building.new pairs.old.items pairs.new.items kept.old kept.new field.id e) }
+{
+    let Some(place) = building.complete else {
+        return Err(BuildError::OutOfPlace);
+    };
+    let Ok(small) = u16::try_from(field.field_id()) else {
+        return Err(BuildError::FieldNumber(field.field_id()));
+    };
+    let pair = FieldValueAddr {
+        field: small,
+        value_type: place.value_type,
+        address: place.address,
+    };
+    push_pair(pairs, pair)?;
+    building.complete = None;
+    *kept = building.heap.len();
+    Ok(())
+}
+
+/// A document, and a value of any depth that is written into its heap as its parts arrive. (Own.)
+///
+/// A value comes by one call, or as a list whose children come by as many calls, or as bytes in chunks. A list closes itself with its
+/// last child. The complete value becomes a pair by `finish`. After any refusal nothing is open and every call that can refuse answers
+/// `AlreadyFailed`; the finished pairs stay. No call's time grows with the number of open lists or of finished pairs; what closes a
+/// list takes as long as its own bytes.
+#[derive(Debug, Drop)]
+pub struct TreeBuilder {
+    alloc: Global,
+    building: Building,
+    pairs: Vec<FieldValueAddr>,
+    // The length of the heap behind the last finished pair.
+    kept: usize,
+    failed: bool,
+    pub ghost document: { HoldsFront building.heap.items kept pairs.items } by { HoldsFront-prop building.heap.items kept pairs.items },
+    pub ghost kept_within: { kept ≤ length building.heap.items },
+    pub ghost room: { kept ≤ document_room document.0 },
+    pub ghost state: { Stands building } by { Stands-prop building },
+    pub ghost written: { length building.heap.items ≤ kept + written state.0 },
+}
+
+impl TreeBuilder {
+    ghost use Rattle.tv_builder.specs.Moves.{LeafHeap, LeafFull, ValueHeap, ValueFull, ListHeap, ListFull, KeyHeap, KeyFull, HeadHeap, HeadFull, AwaitsChunk};
+    ghost use Rattle.tv_builder.specs.Shows.{awaited_by};
+    ghost use Rattle.tv_builder.specs.State.{and_value, and_list, and_key, and_head, and_bytes, awaited, head_awaits, in_lists, lists_of, children_of};
+    ghost use Rattle.tv_builder.specs.declared.awaits.Awaits.TheVariants.{Value as ValueNext, Key as KeyNext};
+    ghost use Rattle.tv_builder.specs.declared.frame.ListKind.TheVariants.{Array, Object};
+    ghost use Rattle.tv_doc.specs.Builder.{built, state_of, heap_so_far, Builds, Ends, Finishes};
+    ghost use Rattle.tv_doc.specs.Document.{document_of, heap_of};
+    ghost use Rattle.tv_value.specs.Lent.{leaf_of};
+    ghost use Rattle.tv_value.specs.Tree.{leaf as leaf_tree};
+
+    /// A builder behind a document's pairs. It takes no memory.
+    pub fn new(doc: CompactDoc) -> TreeBuilder
+        ensures document { built result ≡ document_of doc }
+        ensures heap { heap_so_far result ≡ heap_of doc }
+        ensures state { state_of result ≡ in_lists [] }
+        ensures live { result.failed ≡ false }
+    {
+        let alloc = doc.alloc;
+        let kept = doc.node_data.len();
+        TreeBuilder {
+            alloc,
+            building: Building::new(alloc, doc.node_data),
+            pairs: doc.pairs,
+            kept,
+            failed: false,
+        }
+    }
+
+    /// The document of the finished pairs, at any time, also after a refusal. Its heap ends behind the last of their values.
+    pub fn into_doc(self) -> CompactDoc
+        ensures document { document_of result ≡ built self }
+        ensures heap { heap_of result ≡ take self.kept (heap_so_far self) }
+    {
+        let building = self.building;
+        let mut node_data = building.heap;
+        node_data.truncate(self.kept);
+        CompactDoc {
+            alloc: self.alloc,
+            node_data,
+            pairs: self.pairs,
+        }
+    }
+
+    /// The length of the heap, in bytes.
+    pub fn heap_len(&self) -> usize
+        ensures { result ≡ length (heap_so_far self.now) }
+    {
+        self.building.heap.len()
+    }
+
+    /// How many finished children the open lists have, keys among them.
+    pub fn pending(&self) -> usize
+        ensures { result ≡ children_of (lists_of (state_of self.now)) }
+    {
+        self.building.pending
+    }
+
+    /// How many lists are open.
+    pub fn frames(&self) -> usize
+        ensures { result ≡ length (lists_of (state_of self.now)) }
+    {
+        self.building.frames.len()
+    }
+
+    /// What the next call must be; after a refusal, what it would have to be at first. (Own.)
+    pub fn awaits(&self) -> Awaits
+        ensures { result ≡ awaited (state_of self.now) }
+    {
+        self.building.awaits()
+    }
+
+    /// A value without children.
+    ///
+    /// `AlreadyFailed` after a refusal; `OutOfPlace` where no value is awaited; `HeapFull` where the value, or a list that it closes, would
+    /// end above 4294967295; else `Memory` where memory is refused.
+    pub fn leaf(&mut self, value: ReferenceValueLeaf<'_>) -> Result<(), BuildError>
+        ensures { let l = leaf_of value.entry in Builds self.old self.new (awaited_by self.old.building ≡ ValueNext) (LeafHeap self.old.building l) (LeafFull self.old.building l) (λ s. and_value s (leaf_tree l)) result }
+    {
+        if self.failed {
+            return Err(BuildError::AlreadyFailed);
+        }
+        let result = self.building.leaf(&value);
+        settle(&mut self.building, &mut self.failed, self.kept, result)
+    }
+
+    /// A whole value of any kind: what the calls for its parts do.
+    ///
+    /// `AlreadyFailed` after a refusal; `OutOfPlace` where no value is awaited; `HeapFull` where the heap's length and the value's room
+    /// are together above 4294967295, or a list that it closes would end above that; else `Memory` where memory is refused.
+    pub fn tree<'a, V: Value<'a>>(&mut self, value: &V) -> Result<(), BuildError>
+        ensures { let t = V.tree value.now in Builds self.old self.new (awaited_by self.old.building ≡ ValueNext) (ValueHeap self.old.building t) (ValueFull self.old.building t) (λ s. and_value s t) result }
+    {
+        if self.failed {
+            return Err(BuildError::AlreadyFailed);
+        }
+        let result = self.building.tree(value);
+        settle(&mut self.building, &mut self.failed, self.kept, result)
+    }
+
+    /// An array opens, of which so many elements are announced. One of none closes at once. Nothing is reserved.
+    ///
+    /// `AlreadyFailed` after a refusal; `OutOfPlace` where no value is awaited; `HeapFull` where the array, or a list that it closes,
+    /// would end above 4294967295; else `Memory` where memory is refused.
+    pub fn open_array(&mut self, announced: u64) -> Result<(), BuildError>
+        ensures { Builds self.old self.new (awaited_by self.old.building ≡ ValueNext) (ListHeap self.old.building Array announced) (ListFull self.old.building Array announced) (λ s. and_list s Array announced) result }
+    {
+        if self.failed {
+            return Err(BuildError::AlreadyFailed);
+        }
+        let result = self.building.open_list(ListKind::Array, announced);
+        settle(&mut self.building, &mut self.failed, self.kept, result)
+    }
+
+    /// An object opens, of which so many entries are announced. One of none closes at once. Nothing is reserved. The errors are those
+    /// of `open_array`.
+    pub fn open_object(&mut self, announced: u64) -> Result<(), BuildError>
+        ensures { Builds self.old self.new (awaited_by self.old.building ≡ ValueNext) (ListHeap self.old.building Object announced) (ListFull self.old.building Object announced) (λ s. and_list s Object announced) result }
+    {
+        if self.failed {
+            return Err(BuildError::AlreadyFailed);
+        }
+        let result = self.building.open_list(ListKind::Object, announced);
+        settle(&mut self.building, &mut self.failed, self.kept, result)
+    }
+
+    /// A key of the innermost object.
+    ///
+    /// `AlreadyFailed` after a refusal; `OutOfPlace` where no key is awaited; `HeapFull` where the key would end above 4294967295; else
+    /// `Memory` where memory is refused.
+    pub fn key(&mut self, content: &str) -> Result<(), BuildError>
+        ensures { Builds self.old self.new (awaited_by self.old.building ≡ KeyNext) (KeyHeap self.old.building content.now) (KeyFull self.old.building content.now) (λ s. and_key s content.now) result }
+    {
+        if self.failed {
+            return Err(BuildError::AlreadyFailed);
+        }
+        let result = self.building.key(content);
+        settle(&mut self.building, &mut self.failed, self.kept, result)
+    }
+
+    /// The bytes of a value or of a key begin, of which so many are announced. Nothing is reserved.
+    ///
+    /// `AlreadyFailed` after a refusal; `OutOfPlace` where no value, or for a key no key, is awaited; `HeapFull` where the announced
+    /// bytes behind their length would end above 4294967295; else `Memory` where memory is refused.
+    pub fn begin_bytes(&mut self, kind: BytesKind, announced: u64) -> Result<(), BuildError>
+        ensures { Builds self.old self.new (awaited_by self.old.building ≡ head_awaits kind) (HeadHeap self.old.building announced) (HeadFull self.old.building announced) (λ s. and_head s kind announced) result }
+    {
+        if self.failed {
+            return Err(BuildError::AlreadyFailed);
+        }
+        let result = self.building.begin_bytes(kind, announced);
+        settle(&mut self.building, &mut self.failed, self.kept, result)
+    }
+
+    /// Some of the announced bytes.
+    ///
+    /// `AlreadyFailed` after a refusal; `OutOfPlace` where fewer are missing; else `Memory` where memory is refused.
+    pub fn chunk(&mut self, bytes: &[u8]) -> Result<(), BuildError>
+        ensures { Builds self.old self.new (AwaitsChunk self.old.building.open (length bytes.now)) (λ heap. heap ≡ heap_so_far self.old ++ bytes.now) ⊥ (λ s. and_bytes s bytes.now) result }
+    {
+        if self.failed {
+            return Err(BuildError::AlreadyFailed);
+        }
+        let result = self.building.chunk(bytes);
+        settle(&mut self.building, &mut self.failed, self.kept, result)
+    }
+
+    /// All announced bytes have come, and are a finished value or key.
+    ///
+    /// `AlreadyFailed` after a refusal; `OutOfPlace` where no bytes are open, or some are missing; `NotUtf8` where they should be a text,
+    /// a facet or a key and aren't UTF-8; `HeapFull` where a list that the value closes would end above 4294967295; else `Memory` where
+    /// memory is refused.
+    pub fn end_bytes(&mut self) -> Result<(), BuildError>
+        ensures { Ends self.old self.new result }
+    {
+        if self.failed {
+            return Err(BuildError::AlreadyFailed);
+        }
+        let result = self.building.end_bytes();
+        settle(&mut self.building, &mut self.failed, self.kept, result)
+    }
+
+    /// The complete value becomes that of a pair.
+    ///
+    /// `AlreadyFailed` after a refusal; `OutOfPlace` where no value is complete; `FieldNumber(n)` where the field's number `n` is above
+    /// 65535; else `Memory` where memory is refused.
+    pub fn finish(&mut self, field: Field) -> Result<(), BuildError>
+        ensures { Finishes self.old self.new field.id result }
+    {
+        if self.failed {
+            return Err(BuildError::AlreadyFailed);
+        }
+        let result = keep_tree(&mut self.building, &mut self.pairs, &mut self.kept, field);
+        settle(&mut self.building, &mut self.failed, self.kept, result)
+    }
+}
