@@ -1,5 +1,5 @@
 use Rattle.std.proofs.Common.{refl}
-use Rattle.tv_builder.specs.Moves.{ValueHeap, ValueFull}
+use Rattle.tv_builder.specs.Moves.{LeafHeap, LeafFull}
 use Rattle.tv_builder.specs.State.{and_value}
 use Rattle.tv_value.specs.Lent.{leaf_of}
 use Rattle.tv_value.specs.Tree.{leaf}
@@ -11,9 +11,9 @@ invariant_of-self c =
     let s : Settled c.leaf-result.new.self c.settle.new.building c.args.self.now.kept c.args.self.now.failed c.settle.new.failed c.leaf-result.result =
     record { ok = c.settle.ensures.ok; live = c.settle.ensures.live; err = c.settle.ensures.err; mark = c.settle.ensures.mark } in
     let b = c.args.self.now.building in
-    let t = leaf (leaf_of c.args.value) in
-    let l = does_left b c.leaf-result.new.self _ (ValueHeap b t) (ValueFull b t) (λ s. and_value s t) c.leaf-result.result c.leaf-result.ensures in
-    let f = fields_left c.args.self.now c.leaf-result.new.self c.settle.new.building c.settle.new.failed (λ s. and_value s t) c.leaf-result.result l s in
+    let l = leaf_of c.args.value in
+    let d = does_left b c.leaf-result.new.self _ (LeafHeap b l) (LeafFull b l) (λ s. and_value s (leaf l)) c.leaf-result.result c.leaf-result.ensures in
+    let f = fields_left c.args.self.now c.leaf-result.new.self c.settle.new.building c.settle.new.failed (λ s. and_value s (leaf l)) c.leaf-result.result d s in
     record { document = f.document; kept_within = f.kept_within; room = f.room; state = f.state; written = f.written_within }
 
 pub returns : goal.returns
