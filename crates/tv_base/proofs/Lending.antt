@@ -1,5 +1,6 @@
 -- What a source lends is a front of the bytes that it has left.
-use Rattle.std.proofs.Common.{◌≡◌, ℕ, ◌+◌, ◌-◌, ◌<◌, ◌≤◌, Bool, true, false, List, ◌++◌, length, take, drop, get_or, Some, Ok, refl, sym, ap, subst, ◌∙◌, arith, take_at, take_all, length-append, length-drop, length-take-le}
+use Rattle.std.proofs.Common.{◌≡◌, ℕ, ◌+◌, ◌-◌, ◌%◌, ◌<◌, ◌≤◌, Bool, true, false, ltb, List, [], ◌∷◌, ◌++◌, length, take, drop, get_or, Some, Ok, refl, sym, ap, subst, ◌∙◌, arith, take_at, take_all, length-append, length-drop, length-take-le}
+use Rattle.std.proofs.lemmas.Bool.{le-ltb}
 use Rattle.std.proofs.lemmas.List.{drop_more, take-append-drop}
 use lib.Seq.{take-append-le}
 use Rattle.tv_base.specs.Lend.{Passes, Fills, PassesNumber}
@@ -61,3 +62,13 @@ number_read old new n len p = ap vint_at p.2 ∙ vint_agrees.complete p.0 n new 
 
 pub number_taken : {old new : List ℕ} {n len i k : ℕ} → k ≡ i + len → PassesNumber old new (Some (n, len)) → Taken old new i k
 number_taken counted p = record { front = p.0; joined = p.2; counted = omega (arith, counted, p.3) }
+
+-- a number of one byte
+pub number_of_one : (bytes : List ℕ) (first : ℕ) → 0 < length bytes → first ≡ get_or bytes 0 0 → 128 ≤ first → vint_at bytes ≡ Ok (first % 128, drop 1 bytes)
+unfolding groups_at u8_at
+number_of_one [] first some e high = absurd (omega arith)
+number_of_one (b ∷ rest) first some e high =
+    let is : first ≡ b = e in
+    let test : ltb b 128 ≡ false = le-ltb _ _ (omega (arith, is, high)) in
+    let read : vint_at (b ∷ rest) ≡ Ok (b % 128, rest) = rw test refl in
+    read ∙ ap (λ (n : ℕ). Ok (n % 128, rest)) (sym is)

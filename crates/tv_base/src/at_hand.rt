@@ -40,12 +40,25 @@ pub(crate) fn pass_number<S: ByteSource>(source: &mut S) -> Option<(u64, usize)>
     }
 }
 
-/// Nine groups of seven bits fit 64.
-const GROUPS: usize = 9;
-
 // The number at the front of the bytes, and the length of its spelling, where that has at most nine bytes.
 #[inline]
 fn number_at(bytes: &[u8]) -> Option<(u64, usize)>
+    ensures found { IfSome result (λ x. vint_at bytes.now ≡ Ok (x.0, drop x.1 bytes.now)) }
+    ensures within { IfSome result (λ x. x.1 ≤ length bytes.now) }
+    ensures few { IfSome result (λ x. x.1 ≤ 9) }
+{
+    let first = *bytes.first()?;
+    if first >= 128 {
+        return Some((u64::from(first % 128), 1));
+    }
+    long_number_at(bytes)
+}
+
+/// Nine groups of seven bits fit 64.
+const GROUPS: usize = 9;
+
+// The same, group by group.
+fn long_number_at(bytes: &[u8]) -> Option<(u64, usize)>
     ensures found { IfSome result (λ x. vint_at bytes.now ≡ Ok (x.0, drop x.1 bytes.now)) }
     ensures within { IfSome result (λ x. x.1 ≤ length bytes.now) }
     ensures few { IfSome result (λ x. x.1 ≤ 9) }

@@ -1,6 +1,6 @@
 //! Where bytes come from.
 
-ghost use Rattle.std.specs.Prelude.{◌≡◌, ℕ, List, ◌≤◌, length, IfOk};
+ghost use Rattle.std.specs.Prelude.{◌≡◌, ℕ, List, ◌≤◌, ◌+◌, length, IfOk};
 ghost use Rattle.tv_base.specs.Append.{AppendsNext, append_stop};
 ghost use Rattle.tv_base.specs.Lend.{Passes};
 ghost use Rattle.tv_base.specs.Sink.{IsFront};
@@ -51,6 +51,7 @@ pub trait ByteSource {
     fn append(&mut self, bytes: &mut Vec<u8>, most: usize) -> Result<usize, ReadError>
         requires { most ≤ 4096 }
         ensures bound { IfOk result (λ n. n ≤ most) }
+        ensures longer { IfOk result (λ n. length bytes.new.items ≡ length bytes.old.items + n) }
         ensures bytes { tells self.old → AppendsNext (left self.old) (left self.new) bytes.old.items bytes.new.items most result }
         ensures tells { tells self.old → tells self.new }
         ensures faults { Counts append_stop result (faults self.old) (faults self.new) }

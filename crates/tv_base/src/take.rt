@@ -224,14 +224,17 @@ fn take_groups<S: ByteSource>(source: &mut S, count: &mut u64) -> Result<u64, Re
 /// No more than this is made room for before it is read.
 const PIECE: u64 = 4096;
 
-// The next `len` bytes, behind those that are there, piece by piece.
-fn take_pieces<S: ByteSource>(
+/// Takes the next `len` bytes, and puts them behind those that are there. Room is made only as they come.
+///
+/// Errors: those of [`take`], and `Memory`. After an error what `bytes` holds is open.
+pub fn take_pieces<S: ByteSource>(
     source: &mut S,
     count: &mut u64,
     bytes: &mut Vec<u8>,
     len: u64,
 ) -> Result<(), ReadError>
     ensures takes { TakesBy S.tells S.left S.faults source.old count.old source.new count.new (λ _. bytes.new.items) result (more_at bytes.old.items len) }
+    ensures longer { OnOk result (length bytes.new.items ≡ length bytes.old.items + len) }
     ensures too_long { IsErrOf result (Corrupted TooLong) → count.new ≡ 2 ^ 64 - 1 }
 {
     let mut missing = len;

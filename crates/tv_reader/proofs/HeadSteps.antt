@@ -1,5 +1,5 @@
 -- How the type of a value and what is taken behind it make its head.
-use Rattle.std.proofs.Common.{◌≡◌, ◌≢◌, ℕ, ◌*◌, List, [], ◌∷◌, ◌++◌, Result, Ok, Err, refl, sym, ap, subst, ◌∙◌, inl}
+use Rattle.std.proofs.Common.{◌≡◌, ◌≢◌, ℕ, List, [], ◌∷◌, ◌++◌, Ok, Err, refl, sym, ap, subst, inl}
 use Rattle.tv_base.specs.declared.cause.Cause.{Cause}
 use Rattle.tv_base.specs.declared.cause.Cause.TheVariants.{UnexpectedEnd}
 use Rattle.tv_base.specs.declared.read_error.ReadError.{ReadError}
@@ -12,27 +12,25 @@ use Rattle.tv_base.proofs.Agrees.{Agrees, made, nothing_read}
 use Rattle.tv_base.proofs.AgreeNumbers.{vint_agrees}
 use Rattle.tv_base.proofs.AgreeTruth.{truth_agrees}
 use Rattle.tv_base.proofs.AgreeWidths.{u64_agrees, u128_agrees, i64_agrees}
-use Rattle.tv_value.specs.Fault.{Refusal, corrupted, no_text_key, Corrupt, corrupt, DateFault, in_text, in_unsigned, in_signed, in_facet, in_bytes, in_date, no_extension, no_truth, other_truth, in_ip_address, CodedKeyFault, key_ends, key_no_extension, in_key, KeyFault, value_ends, in_leaf, in_count}
-use Rattle.tv_value.specs.Tree.{Leaf, null, unsigned, signed, boolean, date, ip_address}
-use Rattle.tv_value.specs.Version.{Version, Date, entry_total}
+use Rattle.tv_value.specs.Fault.{Refusal, corrupted, no_text_key, DateFault, in_text, in_unsigned, in_signed, in_facet, in_bytes, in_date, no_extension, no_truth, other_truth, in_ip_address, CodedKeyFault, key_ends, key_no_extension, in_key, value_ends, in_leaf, in_count}
+use Rattle.tv_value.specs.Tree.{null, unsigned, signed, boolean, date, ip_address}
+use Rattle.tv_value.specs.Version.{Version, Date}
 use Rattle.tv_reader.specs.Error.{read_error, store_stop}
 use Rattle.tv_reader.specs.Finds.{Finds}
 use Rattle.tv_reader.specs.HeadReading.{head_part, head_at}
-use Rattle.tv_reader.specs.Heads.{HeadPart, leaf_head, text_head, facet_head, bytes_head, array_head, object_head, tokenized_head, legacy_head, SpellsHead, CodedLength, SpellsKeyHead}
+use Rattle.tv_reader.specs.Heads.{HeadPart, leaf_head, text_head, facet_head, bytes_head, array_head, object_head, tokenized_head, legacy_head, SpellsHead, CodedLength}
 use Rattle.tv_reader.specs.Kinds.{kind_at}
 use Rattle.tv_reader.specs.Trees.{NoValue, SpellsTwice, TwiceFault}
 use Rattle.tv_reader.specs.ValueType.{type_code, coded}
 use Rattle.tv_reader.specs.Version.{version_of}
-use Rattle.tv_reader.specs.declared.error.DeserializeError.{DeserializeError}
 use Rattle.tv_reader.specs.declared.error.DeserializeError.TheVariants as errors
 use Rattle.tv_reader.specs.declared.error.ValueType.{ValueType}
 use Rattle.tv_reader.specs.declared.error.ValueType.TheVariants as types
 use Rattle.tv_reader.specs.declared.heads.Head.{Head}
 use Rattle.tv_reader.specs.declared.version.DocStoreVersion.{DocStoreVersion}
-use Rattle.tv_reader.specs.declared.version.DocStoreVersion.TheVariants as stores
 use Rattle.tv_reader.proofs.AgreeLeaves.{date_agrees}
-use Rattle.tv_reader.proofs.BehindKinds.{finds_behind, other_key, code_value, code_key}
-use Rattle.tv_reader.proofs.Finding.{finds_as, finds_fails, finds_part, finds_part_fails, finds_refused}
+use Rattle.tv_reader.proofs.BehindKinds.{finds_behind, other_key}
+use Rattle.tv_reader.proofs.Finding.{finds_as, finds_part, finds_part_fails, finds_refused}
 use Rattle.tv_reader.proofs.TreeSteps.{half_agrees, twice_refused, total}
 
 abbrev end : Refusal

@@ -1,9 +1,9 @@
 -- Reading the head of a value from left to right, behind its code.
-use Rattle.std.specs.Prelude.{ℕ, List, Result, Ok, Err}
+use Rattle.std.specs.Prelude.{ℕ, List, Result, Ok}
+use Rattle.std.specs.Net.Addr.{ipv6_bits}
 use Rattle.tv_base.specs.declared.cause.Cause.{Cause}
 use Rattle.tv_base.specs.Reading.{u64_at, u128_at, i64_at, truth_at, vint_at}
 use Rattle.tv_base.specs.Stop.{◌>>=◌}
-use Rattle.tv_value.specs.Lent.{leaf_of}
 use Rattle.tv_value.specs.Tree.{null, unsigned, signed, boolean, date, ip_address}
 use Rattle.tv_value.specs.Version.{Version}
 use Rattle.tv_reader.specs.Counts.{half_at}
@@ -15,7 +15,12 @@ use Rattle.tv_reader.specs.declared.heads.Head.{Head}
 use Rattle.tv_reader.specs.declared.heads.Head.TheVariants as heads
 
 abbrev pub head_part : Head → HeadPart
-head_part (heads.Leaf l) = leaf_head (leaf_of l)
+head_part heads.Null = leaf_head null
+head_part (heads.U64 n) = leaf_head (unsigned n)
+head_part (heads.I64 z) = leaf_head (signed z)
+head_part (heads.Date d) = leaf_head (date d.nanoseconds)
+head_part (heads.Bool b) = leaf_head (boolean b)
+head_part (heads.IpAddr a) = leaf_head (ip_address (ipv6_bits a))
 head_part (heads.Text n) = text_head n
 head_part (heads.Facet n) = facet_head n
 head_part (heads.Bytes n) = bytes_head n

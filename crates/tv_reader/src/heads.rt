@@ -19,15 +19,26 @@ use crate::kinds::take_kind;
 use crate::leaves::{take_date, take_ip_address};
 use crate::trees::take_half;
 use crate::version::DocStoreVersion;
+use std::net::Ipv6Addr;
 use tv_base::take::{take_bool, take_i64, take_u64, take_vint};
 use tv_base::{ByteSource, ReadError};
-use tv_value::leaf::ReferenceValueLeaf;
+use tv_value::date_time::DateTime;
 
-/// What is taken of a value at once.
+/// What is taken of a value at once: a whole value of a known width, or what stands before the parts of another.
 #[derive(Clone, Copy, Debug, PartialEq)]
 pub enum Head {
-    /// A whole value: null, a number, a date, a truth value or an address.
-    Leaf(ReferenceValueLeaf<'static>),
+    /// No value.
+    Null,
+    /// A number from 0 to 2^64 - 1.
+    U64(u64),
+    /// A number from -2^63 to 2^63 - 1.
+    I64(i64),
+    /// A date.
+    Date(DateTime),
+    /// A truth value.
+    Bool(bool),
+    /// An IPv6 address.
+    IpAddr(Ipv6Addr),
     /// The length of a text, in bytes. None of its bytes was taken.
     Text(u64),
     /// The length of a facet's encoded text, in bytes. None of its bytes was taken.
@@ -83,27 +94,12 @@ fn take_head_behind<S: ByteSource>(
         ValueType::Object => Ok(Head::Object(take_half(source, count)?)),
         ValueType::PreTokStr => Ok(Head::Tokenized),
         ValueType::JSONObject => Ok(Head::Legacy),
-        ValueType::Null => Ok(Head::Leaf(ReferenceValueLeaf::Null)),
-        ValueType::U64 => {
-            let number = take_u64(source, count)?;
-            Ok(Head::Leaf(ReferenceValueLeaf::U64(number)))
-        }
-        ValueType::I64 => {
-            let number = take_i64(source, count)?;
-            Ok(Head::Leaf(ReferenceValueLeaf::I64(number)))
-        }
-        ValueType::DateTime => {
-            let date = take_date(source, count, version)?;
-            Ok(Head::Leaf(ReferenceValueLeaf::Date(date)))
-        }
-        ValueType::Bool => {
-            let truth = take_bool(source, count)?;
-            Ok(Head::Leaf(ReferenceValueLeaf::Bool(truth)))
-        }
-        ValueType::IpAddr => {
-            let address = take_ip_address(source, count)?;
-            Ok(Head::Leaf(ReferenceValueLeaf::IpAddr(address)))
-        }
+        ValueType::Null => Ok(Head::Null),
+        ValueType::U64 => Ok(Head::U64(take_u64(source, count)?)),
+        ValueType::I64 => Ok(Head::I64(take_i64(source, count)?)),
+        ValueType::DateTime => Ok(Head::Date(take_date(source, count, version)?)),
+        ValueType::Bool => Ok(Head::Bool(take_bool(source, count)?)),
+        ValueType::IpAddr => Ok(Head::IpAddr(take_ip_address(source, count)?)),
     }
 }
 

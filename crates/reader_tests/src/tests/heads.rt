@@ -5,7 +5,6 @@ use tv_base::{Cause, SliceSource};
 use tv_date::DateTime;
 use tv_reader::heads::{Head, take_document_head, take_head, take_key_head};
 use tv_reader::{DeserializeError, DocStoreVersion, ValueType};
-use tv_value::leaf::ReferenceValueLeaf;
 
 /// The head at the front of these bytes, and how many of them were taken.
 fn head_of(version: DocStoreVersion, bytes: &[u8]) -> (Result<Head, DeserializeError>, u64) {
@@ -51,42 +50,29 @@ fn heads_behind_a_length_or_a_number(rt: HostRuntime) {
 #[test]
 fn heads_that_are_whole_values(rt: HostRuntime) {
     let address = Ipv6Addr::from_bits(0x2_0000_0000_0000_0001);
-    let cases: [(&[u8], ReferenceValueLeaf, u64); 5] = [
-        (&[11, 5], ReferenceValueLeaf::Null, 1),
-        (
-            &[1, 20, 0, 0, 0, 0, 0, 0, 0, 5],
-            ReferenceValueLeaf::U64(20),
-            9,
-        ),
+    let cases: [(&[u8], Head, u64); 5] = [
+        (&[11, 5], Head::Null, 1),
+        (&[1, 20, 0, 0, 0, 0, 0, 0, 0, 5], Head::U64(20), 9),
         (
             &[2, 0xfe, 255, 255, 255, 255, 255, 255, 255],
-            ReferenceValueLeaf::I64(-2),
+            Head::I64(-2),
             9,
         ),
-        (&[9, 1, 0], ReferenceValueLeaf::Bool(true), 2),
+        (&[9, 1, 0], Head::Bool(true), 2),
         (
             &[10, 1, 0, 0, 0, 0, 0, 0, 0, 2, 0, 0, 0, 0, 0, 0, 0],
-            ReferenceValueLeaf::IpAddr(address),
+            Head::IpAddr(address),
             17,
         ),
     ];
-    for (bytes, leaf, taken) in cases {
-        assert_eq!(rt;
-            head_of(DocStoreVersion::V2, bytes),
-            (Ok(Head::Leaf(leaf)), taken)
-        );
+    for (bytes, head, taken) in cases {
+        assert_eq!(rt; head_of(DocStoreVersion::V2, bytes), (Ok(head), taken));
     }
     let date = [5, 3, 0, 0, 0, 0, 0, 0, 0];
-    let micros = ReferenceValueLeaf::Date(DateTime::from_timestamp_nanos(3000));
-    let nanos = ReferenceValueLeaf::Date(DateTime::from_timestamp_nanos(3));
-    assert_eq!(rt;
-        head_of(DocStoreVersion::V1, &date),
-        (Ok(Head::Leaf(micros)), 9)
-    );
-    assert_eq!(rt;
-        head_of(DocStoreVersion::V2, &date),
-        (Ok(Head::Leaf(nanos)), 9)
-    );
+    let micros = Head::Date(DateTime::from_timestamp_nanos(3000));
+    let nanos = Head::Date(DateTime::from_timestamp_nanos(3));
+    assert_eq!(rt; head_of(DocStoreVersion::V1, &date), (Ok(micros), 9));
+    assert_eq!(rt; head_of(DocStoreVersion::V2, &date), (Ok(nanos), 9));
 }
 
 #[test]

@@ -6,17 +6,20 @@ use Rattle.tv_base.proofs.Appending.{piece_taken, piece_ends}
 use Rattle.tv_base.proofs.take.take_pieces.Goals as goal
 
 pub loop-missing-init : goal.loop-missing-init
-loop-missing-init g c = SoFar-start _ _ _ _ _ _ _ (λ bytes. refl)
+loop-missing-init g c = record { so_far = SoFar-start _ _ _ _ _ _ _ (λ bytes. refl); longer = refl }
 
 pub returns-then-more-eq0-clause-takes : goal.returns-then-more-eq0-clause-takes
 returns-then-more-eq0-clause-takes g c =
     let l = c.loop-missing in
-    piece_ends _ l.bytes.items _ l.missing c.min-most.result c.in_ok-more.more c.if-more-eq0.true (omega arith) (omega arith) l.invariant c.in_ok-more.ensures.bytes c.in_ok-more.ensures.tells c.in_ok-more.ensures.faults refl
+    piece_ends _ l.bytes.items _ l.missing c.min-most.result c.in_ok-more.more c.if-more-eq0.true (omega arith) (omega arith) l.invariant.so_far c.in_ok-more.ensures.bytes c.in_ok-more.ensures.tells c.in_ok-more.ensures.faults refl
 
 pub loop-missing-preserved : goal.loop-missing-preserved
 loop-missing-preserved g c =
     let l = c.loop-missing in
-    piece_taken l.bytes.items _ l.missing _ c.in_ok-more.more (omega (arith, c.in_ok-more.ensures.bound)) l.invariant c.in_ok-more.ensures.bytes c.in_ok-more.ensures.tells c.in_ok-more.ensures.faults refl
+    record {
+      so_far = piece_taken l.bytes.items _ l.missing _ c.in_ok-more.more (omega (arith, c.in_ok-more.ensures.bound)) l.invariant.so_far c.in_ok-more.ensures.bytes c.in_ok-more.ensures.tells c.in_ok-more.ensures.faults refl;
+      longer = omega (arith, l.invariant.longer, c.in_ok-more.ensures.longer, c.in_ok-more.ensures.bound);
+    }
 
 pub returns-clause-takes : goal.returns-clause-takes
-returns-clause-takes g c = SoFar-returns read_stop _ _ (none c.loop-missing.bytes.items c.loop-missing.missing (omega arith)) c.loop-missing.invariant
+returns-clause-takes g c = SoFar-returns read_stop _ _ (none c.loop-missing.bytes.items c.loop-missing.missing (omega arith)) c.loop-missing.invariant.so_far

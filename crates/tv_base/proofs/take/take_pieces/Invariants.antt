@@ -1,3 +1,4 @@
+use Rattle.std.proofs.Common.{◌≡◌, ◌+◌, length}
 use Rattle.tv_base.specs.Take.{told}
 use Rattle.tv_base.specs.Reading.{more_at}
 use Rattle.tv_base.proofs.TakeSteps.{SoFar}
@@ -6,7 +7,10 @@ use Rattle.tv_base.proofs.take.take_pieces.Given as goal
 abbrev pub invariant-loop-missing : goal.invariant-loop-missing
 invariant-loop-missing g l =
     let source = g.S.ByteSource in
-    SoFar (told source.tells) (λ p. source.left p.source) (λ p. p.count) (λ p. source.faults p.source) (record { source = l.initial.source; count = l.initial.count }) (record { source = l.source; count = l.count }) (more_at l.initial.bytes.items l.len) (more_at l.bytes.items l.missing)
+    record {
+      so_far : SoFar (told source.tells) (λ p. source.left p.source) (λ p. p.count) (λ p. source.faults p.source) (record { source = l.initial.source; count = l.initial.count }) (record { source = l.source; count = l.count }) (more_at l.initial.bytes.items l.len) (more_at l.bytes.items l.missing);
+      longer : length l.bytes.items + l.missing ≡ length l.initial.bytes.items + l.len;
+    }
 
 abbrev pub decreases-loop-missing : goal.decreases-loop-missing
 decreases-loop-missing g l = l.missing

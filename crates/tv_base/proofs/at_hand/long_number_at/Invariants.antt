@@ -1,7 +1,7 @@
 use Rattle.std.proofs.Common.{◌≡◌, ◌-◌, ◌^◌, ◌<◌, ◌≤◌, drop, length}
 use Rattle.tv_base.specs.Reading.{groups_at}
 use Rattle.tv_base.proofs.TakenGroups.{with_low}
-use Rattle.tv_base.proofs.at_hand.number_at.Given as goal
+use Rattle.tv_base.proofs.at_hand.long_number_at.Given as goal
 
 abbrev pub invariant-loop-i : goal.invariant-loop-i
 invariant-loop-i l = record {
