@@ -334,6 +334,7 @@ fn write_spelled_tokens<K: ByteSink>(sink: &mut K, content: &[u8]) -> Result<(),
 /// Writes a value of a document as it stands in the heap. It takes no memory of its own.
 ///
 /// The only error is the kind with which a write failed. The sink then holds what it held before, and a beginning of the value.
+#[inline(always)]
 #[cycle(encoded)]
 pub(crate) fn write_encoded<K: ByteSink>(
     sink: &mut K,
@@ -355,6 +356,7 @@ pub(crate) fn write_encoded<K: ByteSink>(
 }
 
 // The values that are left of a list, in order.
+#[inline(never)]
 #[cycle(encoded)]
 fn write_encoded_items<K: ByteSink>(
     sink: &mut K,

@@ -21,6 +21,7 @@ fn is_float_number(number: &Number) -> bool
 }
 
 /// Whether a number in the JSON value, at any depth, isn't whole or doesn't fit 64 bits. (Own.)
+#[inline(always)]
 #[cycle(has_float)]
 pub fn has_float(json: &JsonValue) -> bool
     ensures { result ≡ has_float_in (data_of json.now) }
@@ -33,6 +34,7 @@ pub fn has_float(json: &JsonValue) -> bool
     }
 }
 
+#[inline(never)]
 #[cycle(has_float)]
 fn some_item_has_float(items: &Vec<JsonValue>) -> bool
     ensures { result ≡ items_have_float (items_view items.now.items) }
@@ -45,6 +47,7 @@ fn some_item_has_float(items: &Vec<JsonValue>) -> bool
     false
 }
 
+#[inline(never)]
 #[cycle(has_float)]
 fn some_member_has_float(members: &Map<String, JsonValue>) -> bool
     ensures { result ≡ members_have_float (members_view members.now.entries) }
@@ -120,6 +123,7 @@ impl<'a> Iterator for LentJsonObject<'a> {
 }
 
 // The leaf of a number.
+#[inline(always)]
 fn number_leaf(number: &Number) -> ReferenceValueLeaf<'static>
     ensures { leaf_of result ≡ number_leaf_of (number_view number.now) }
 {

@@ -13,7 +13,7 @@ use tv_base::vint::VInt;
 
 /// Adds the shortest spelling of a number. (Own.) The only error is that memory was refused; what was there then still stands in
 /// front.
-#[inline]
+#[inline(always)]
 pub fn push_number(bytes: &mut Vec<u8>, number: u64) -> Result<(), AllocError>
     ensures ok { OnOk result (bytes.new.items ≡ bytes.old.items ++ vnum number) }
     ensures err { OnErr result (IsFront bytes.old.items bytes.new.items) }
@@ -31,7 +31,7 @@ pub fn push_number(bytes: &mut Vec<u8>, number: u64) -> Result<(), AllocError>
 }
 
 /// Adds the length of some bytes, and the bytes. (Own.) The error is that of `push_number`.
-#[inline]
+#[inline(always)]
 pub fn push_sized(bytes: &mut Vec<u8>, content: &[u8]) -> Result<(), AllocError>
     ensures ok { OnOk result (bytes.new.items ≡ bytes.old.items ++ short_sized content.now) }
     ensures err { OnErr result (IsFront bytes.old.items bytes.new.items) }
