@@ -10,5 +10,6 @@ pub mod PairsSoFar
 pub mod FieldTexts
 pub mod NamedBack
 pub mod Spans
+pub mod CallPlaces
 pub mod TreeBuilding
 pub mod Finishing

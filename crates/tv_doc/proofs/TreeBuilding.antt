@@ -8,18 +8,21 @@ use Rattle.tv_heap.specs.Room.{document_room}
 use Rattle.tv_builder.specs.declared.build_error.BuildError.{BuildError}
 use Rattle.tv_builder.specs.declared.build_error.BuildError.TheVariants.{AlreadyFailed, OutOfPlace, FieldNumber, NotUtf8, HeapFull, Memory}
 use Rattle.tv_builder.specs.declared.building.Building.{Building}
-use Rattle.tv_builder.specs.Moves.{Moves, Does, EndsBytes}
+use Rattle.tv_builder.specs.declared.awaits.Awaits.{Awaits}
+use Rattle.tv_builder.specs.Moves.{Moves, Does, EndsBytes, AwaitsChunk, AwaitsEnd, EndsWell}
 use Rattle.tv_builder.specs.OneState.{same_state}
 use Rattle.tv_builder.specs.Given.{pending_in}
-use Rattle.tv_builder.specs.Shows.{ShowsLists, Shows, Stands, frames_of}
-use Rattle.tv_builder.specs.State.{State, in_lists, written, and_end}
+use Rattle.tv_builder.specs.Shows.{ShowsLists, Shows, Stands, frames_of, awaited_by}
+use Rattle.tv_builder.specs.State.{State, in_lists, written, and_end, awaited}
 use Rattle.tv_doc.specs.declared.builder.TreeBuilder.{TreeBuilder}
 use Rattle.tv_doc.specs.declared.document.CompactDoc.{CompactDoc}
 use Rattle.tv_doc.specs.declared.place.FieldValueAddr.{FieldValueAddr}
 use Rattle.tv_doc.specs.Building.{HoldsFront, Cleared}
-use Rattle.tv_doc.specs.Builder.{built, state_of, heap_so_far, Goes, Fails, BuildsIf, Builds, EndsIf, Ends}
+use Rattle.tv_doc.specs.Builder.{built, state_of, heap_so_far, TakesBytes, HasAllBytes, HasContent, Goes, Fails, BuildsIf, Builds, EndsIf, Ends}
 use Rattle.tv_doc.specs.Document.{document_of}
 use Rattle.tv_doc.specs.Holds.{Holds}
+use Rattle.tv_builder.proofs.Counts.{awaited_is}
+use Rattle.tv_doc.proofs.CallPlaces.{does_as, takes_bytes, takes_chunk, has_all, awaits_end, has_content, ends_well}
 use Rattle.tv_doc.proofs.Documents.{same_document}
 
 -- ---- the state
@@ -171,18 +174,46 @@ builds_live old new mid in_place heaps full after (Err AlreadyFailed) live d s k
 builds_live old new mid in_place heaps full after (Err (FieldNumber n)) live d s kept pairs = absurd d
 builds_live old new mid in_place heaps full after (Err NotUtf8) live d s kept pairs = absurd d
 
-pub builds : (old new : TreeBuilder) (mid : Building) (in_place : Type 0) (heaps : List ℕ → Type 0) (full : Type 0) (after : State → State) (r t : Answer) → old.failed ≡ false → Does old.building mid in_place heaps full after r
+builds : (old new : TreeBuilder) (mid : Building) (in_place : Type 0) (heaps : List ℕ → Type 0) (full : Type 0) (after : State → State) (r t : Answer) → old.failed ≡ false → Does old.building mid in_place heaps full after r
     → Settled mid new.building old.kept old.failed new.failed r → new.kept ≡ old.kept → new.pairs.items ≡ old.pairs.items → t ≡ r → Builds old new in_place heaps full after t
 builds old new mid in_place heaps full after r t live d s kept pairs e =
     subst (λ z. BuildsIf z old new in_place heaps full after t) (sym live) (subst (λ z. BuildsIf false old new in_place heaps full after z) (sym e) (builds_live old new mid in_place heaps full after r live d s kept pairs))
 
+-- a call that belongs where something of this kind comes next
+pub builds_next : (old new : TreeBuilder) (mid : Building) (next : Awaits) (heaps : List ℕ → Type 0) (full : Type 0) (after : State → State) (r t : Answer) → old.failed ≡ false
+    → Does old.building mid (awaited_by old.building ≡ next) heaps full after r → Settled mid new.building old.kept old.failed new.failed r → new.kept ≡ old.kept → new.pairs.items ≡ old.pairs.items → t ≡ r
+    → Builds old new (awaited (state_of old) ≡ next) heaps full after t
+builds_next old new mid next heaps full after r t live d s kept pairs e =
+    let same_next = awaited_is old.building old.state in
+    builds old new mid (awaited (state_of old) ≡ next) heaps full after r t live
+    (does_as old.building mid (awaited_by old.building ≡ next) (awaited (state_of old) ≡ next) heaps full after r (λ p. sym same_next ∙ p) (λ p. same_next ∙ p) d) s kept pairs e
+
+-- a call that belongs where so many bytes are missing
+pub builds_chunk : (old new : TreeBuilder) (mid : Building) (n : ℕ) (heaps : List ℕ → Type 0) (full : Type 0) (after : State → State) (r t : Answer) → old.failed ≡ false
+    → Does old.building mid (AwaitsChunk old.building.open n) heaps full after r → Settled mid new.building old.kept old.failed new.failed r → new.kept ≡ old.kept → new.pairs.items ≡ old.pairs.items → t ≡ r
+    → Builds old new (TakesBytes (state_of old) n) heaps full after t
+builds_chunk old new mid n heaps full after r t live d s kept pairs e =
+    builds old new mid (TakesBytes (state_of old) n) heaps full after r t live
+    (does_as old.building mid (AwaitsChunk old.building.open n) (TakesBytes (state_of old) n) heaps full after r (takes_bytes old.building old.state.0 n old.state.1) (takes_chunk old.building old.state.0 n old.state.1) d) s kept pairs e
+
+all_of : (old : TreeBuilder) → AwaitsEnd old.building.open → HasAllBytes (state_of old)
+all_of old h = has_all old.building old.state.0 old.state.1 h
+
+content_of : (old : TreeBuilder) → AwaitsEnd old.building.open → EndsWell old.building.open (heap_so_far old) → HasContent (state_of old)
+content_of old h w = has_content old.building old.state.0 old.state.1 h w
+
 ends_live : (old new : TreeBuilder) (mid : Building) (r : Answer) → old.failed ≡ false → EndsBytes old.building mid r → Settled mid new.building old.kept old.failed new.failed r → new.kept ≡ old.kept → new.pairs.items ≡ old.pairs.items
     → EndsIf false old new r
-ends_live old new mid (Ok x) live d s kept pairs = (d.0, d.1, ap (λ (b : Building). b.heap.items) s.ok ∙ d.2, goes_on old new mid and_end live (ends_left old.building mid (Ok x) d) s kept pairs)
-ends_live old new mid (Err OutOfPlace) live d s kept pairs = (d.0, fails_now old new mid and_end OutOfPlace (ends_left old.building mid (Err OutOfPlace) d) s kept pairs)
-ends_live old new mid (Err NotUtf8) live d s kept pairs = (d.0, d.1, fails_now old new mid and_end NotUtf8 (ends_left old.building mid (Err NotUtf8) d) s kept pairs)
-ends_live old new mid (Err HeapFull) live d s kept pairs = (d.0, d.1, d.2, fails_now old new mid and_end HeapFull (ends_left old.building mid (Err HeapFull) d) s kept pairs)
-ends_live old new mid (Err Memory) live d s kept pairs = (d.0, d.1, fails_now old new mid and_end Memory (ends_left old.building mid (Err Memory) d) s kept pairs)
+ends_live old new mid (Ok x) live d s kept pairs =
+    (all_of old d.0, content_of old d.0 d.1, ap (λ (b : Building). b.heap.items) s.ok ∙ d.2, goes_on old new mid and_end live (ends_left old.building mid (Ok x) d) s kept pairs)
+ends_live old new mid (Err OutOfPlace) live d s kept pairs =
+    ((λ q. d.0 (awaits_end old.building old.state.0 old.state.1 q)), fails_now old new mid and_end OutOfPlace (ends_left old.building mid (Err OutOfPlace) d) s kept pairs)
+ends_live old new mid (Err NotUtf8) live d s kept pairs =
+    (all_of old d.0, (λ q. d.1 (ends_well old.building old.state.0 old.state.1 d.0 q)), fails_now old new mid and_end NotUtf8 (ends_left old.building mid (Err NotUtf8) d) s kept pairs)
+ends_live old new mid (Err HeapFull) live d s kept pairs =
+    (all_of old d.0, content_of old d.0 d.1, d.2, fails_now old new mid and_end HeapFull (ends_left old.building mid (Err HeapFull) d) s kept pairs)
+ends_live old new mid (Err Memory) live d s kept pairs =
+    (all_of old d.0, content_of old d.0 d.1, fails_now old new mid and_end Memory (ends_left old.building mid (Err Memory) d) s kept pairs)
 ends_live old new mid (Err AlreadyFailed) live d s kept pairs = absurd d
 ends_live old new mid (Err (FieldNumber n)) live d s kept pairs = absurd d
 

@@ -1,11 +1,12 @@
 -- What a tree builder is seen as, and what its calls answer and leave.
-use Rattle.std.specs.Prelude.{◌≡◌, ℕ, ◌<◌, ◌≤◌, Bool, true, false, List, [], ◌∷◌, ◌++◌, length, take, Result, Ok, Err}
+use Rattle.std.specs.Prelude.{◌≡◌, ℕ, ◌+◌, ◌<◌, ◌≤◌, Bool, true, false, List, [], ◌∷◌, ◌++◌, length, take, Result, Ok, Err}
 use Rattle.tv_base.specs.Sink.{IsFront}
 use Rattle.tv_value.specs.Tree.{Tree, Document}
 use Rattle.tv_builder.specs.declared.build_error.BuildError.{BuildError}
 use Rattle.tv_builder.specs.declared.build_error.BuildError.TheVariants.{AlreadyFailed, OutOfPlace, FieldNumber, NotUtf8, HeapFull, Memory}
-use Rattle.tv_builder.specs.Moves.{AwaitsEnd, EndsWell, end_heap}
-use Rattle.tv_builder.specs.State.{State, complete, in_lists, and_end}
+use Rattle.tv_builder.specs.Moves.{end_heap}
+use Rattle.tv_builder.specs.Parts.{IsContent}
+use Rattle.tv_builder.specs.State.{State, complete, in_lists, in_bytes, and_end}
 use Rattle.tv_doc.specs.declared.builder.TreeBuilder.{TreeBuilder}
 
 -- the finished pairs
@@ -18,6 +19,21 @@ state_of b = b.state.0
 
 abbrev pub heap_so_far : TreeBuilder → List ℕ
 heap_so_far b = b.building.heap.items
+
+-- bytes are open, and so many more are announced
+abbrev pub TakesBytes : State → ℕ → Type 0
+TakesBytes (in_bytes ls kind n bs) more = length bs + more ≤ n
+TakesBytes _ more = ⊥
+
+-- all announced bytes have come
+abbrev pub HasAllBytes : State → Type 0
+HasAllBytes (in_bytes ls kind n bs) = length bs ≡ n
+HasAllBytes _ = ⊥
+
+-- and a text is one
+abbrev pub HasContent : State → Type 0
+HasContent (in_bytes ls kind n bs) = IsContent kind bs
+HasContent _ = ⊥
 
 -- a call that goes on to this state
 pub record Goes (old new : TreeBuilder) (after : State) : Type 0 where
@@ -48,12 +64,11 @@ Builds old new in_place heaps full after r = BuildsIf old.failed old new in_plac
 -- the call at the end of open bytes
 abbrev pub EndsIf : Bool → TreeBuilder → TreeBuilder → Result (Unit {0}) BuildError → Type 0
 EndsIf true old new r = (r ≡ Err AlreadyFailed) × (new ≡ old)
-EndsIf false old new (Ok x) =
-    AwaitsEnd old.building.open × EndsWell old.building.open (heap_so_far old) × (heap_so_far new ≡ end_heap old.building old.building.open) × Goes old new (and_end (state_of old))
-EndsIf false old new (Err OutOfPlace) = ¬ AwaitsEnd old.building.open × Fails old new
-EndsIf false old new (Err NotUtf8) = AwaitsEnd old.building.open × ¬ EndsWell old.building.open (heap_so_far old) × Fails old new
-EndsIf false old new (Err HeapFull) = AwaitsEnd old.building.open × EndsWell old.building.open (heap_so_far old) × (4294967295 < length (end_heap old.building old.building.open)) × Fails old new
-EndsIf false old new (Err Memory) = AwaitsEnd old.building.open × EndsWell old.building.open (heap_so_far old) × Fails old new
+EndsIf false old new (Ok x) = HasAllBytes (state_of old) × HasContent (state_of old) × (heap_so_far new ≡ end_heap old.building old.building.open) × Goes old new (and_end (state_of old))
+EndsIf false old new (Err OutOfPlace) = ¬ HasAllBytes (state_of old) × Fails old new
+EndsIf false old new (Err NotUtf8) = HasAllBytes (state_of old) × ¬ HasContent (state_of old) × Fails old new
+EndsIf false old new (Err HeapFull) = HasAllBytes (state_of old) × HasContent (state_of old) × (4294967295 < length (end_heap old.building old.building.open)) × Fails old new
+EndsIf false old new (Err Memory) = HasAllBytes (state_of old) × HasContent (state_of old) × Fails old new
 EndsIf false old new (Err _) = ⊥
 
 abbrev pub Ends : TreeBuilder → TreeBuilder → Result (Unit {0}) BuildError → Type 0

@@ -88,12 +88,11 @@ pub struct TreeBuilder {
 }
 
 impl TreeBuilder {
-    ghost use Rattle.tv_builder.specs.Moves.{LeafHeap, LeafFull, ValueHeap, ValueFull, ListHeap, ListFull, KeyHeap, KeyFull, HeadHeap, HeadFull, AwaitsChunk};
-    ghost use Rattle.tv_builder.specs.Shows.{awaited_by};
+    ghost use Rattle.tv_builder.specs.Moves.{LeafHeap, LeafFull, ValueHeap, ValueFull, ListHeap, ListFull, KeyHeap, KeyFull, HeadHeap, HeadFull};
     ghost use Rattle.tv_builder.specs.State.{and_value, and_list, and_key, and_head, and_bytes, awaited, head_awaits, in_lists, lists_of, children_of};
     ghost use Rattle.tv_builder.specs.declared.awaits.Awaits.TheVariants.{Value as ValueNext, Key as KeyNext};
     ghost use Rattle.tv_builder.specs.declared.frame.ListKind.TheVariants.{Array, Object};
-    ghost use Rattle.tv_doc.specs.Builder.{built, state_of, heap_so_far, Builds, Ends, Finishes};
+    ghost use Rattle.tv_doc.specs.Builder.{built, state_of, heap_so_far, TakesBytes, Builds, Ends, Finishes};
     ghost use Rattle.tv_doc.specs.Document.{document_of, heap_of};
     ghost use Rattle.tv_value.specs.Lent.{leaf_of};
     ghost use Rattle.tv_value.specs.Tree.{leaf as leaf_tree};
@@ -164,7 +163,7 @@ impl TreeBuilder {
     /// `AlreadyFailed` after a refusal; `OutOfPlace` where no value is awaited; `HeapFull` where the value, or a list that it closes, would
     /// end above 4294967295; else `Memory` where memory is refused.
     pub fn leaf(&mut self, value: ReferenceValueLeaf<'_>) -> Result<(), BuildError>
-        ensures { let l = leaf_of value.entry in Builds self.old self.new (awaited_by self.old.building ≡ ValueNext) (LeafHeap self.old.building l) (LeafFull self.old.building l) (λ s. and_value s (leaf_tree l)) result }
+        ensures { let l = leaf_of value.entry in Builds self.old self.new (awaited (state_of self.old) ≡ ValueNext) (LeafHeap self.old.building l) (LeafFull self.old.building l) (λ s. and_value s (leaf_tree l)) result }
     {
         if self.failed {
             return Err(BuildError::AlreadyFailed);
@@ -178,7 +177,7 @@ impl TreeBuilder {
     /// `AlreadyFailed` after a refusal; `OutOfPlace` where no value is awaited; `HeapFull` where the heap's length and the value's room
     /// are together above 4294967295, or a list that it closes would end above that; else `Memory` where memory is refused.
     pub fn tree<'a, V: Value<'a>>(&mut self, value: &V) -> Result<(), BuildError>
-        ensures { let t = V.tree value.now in Builds self.old self.new (awaited_by self.old.building ≡ ValueNext) (ValueHeap self.old.building t) (ValueFull self.old.building t) (λ s. and_value s t) result }
+        ensures { let t = V.tree value.now in Builds self.old self.new (awaited (state_of self.old) ≡ ValueNext) (ValueHeap self.old.building t) (ValueFull self.old.building t) (λ s. and_value s t) result }
     {
         if self.failed {
             return Err(BuildError::AlreadyFailed);
@@ -192,7 +191,7 @@ impl TreeBuilder {
     /// `AlreadyFailed` after a refusal; `OutOfPlace` where no value is awaited; `HeapFull` where the array, or a list that it closes,
     /// would end above 4294967295; else `Memory` where memory is refused.
     pub fn open_array(&mut self, announced: u64) -> Result<(), BuildError>
-        ensures { Builds self.old self.new (awaited_by self.old.building ≡ ValueNext) (ListHeap self.old.building Array announced) (ListFull self.old.building Array announced) (λ s. and_list s Array announced) result }
+        ensures { Builds self.old self.new (awaited (state_of self.old) ≡ ValueNext) (ListHeap self.old.building Array announced) (ListFull self.old.building Array announced) (λ s. and_list s Array announced) result }
     {
         if self.failed {
             return Err(BuildError::AlreadyFailed);
@@ -204,7 +203,7 @@ impl TreeBuilder {
     /// An object opens, of which so many entries are announced. One of none closes at once. Nothing is reserved. The errors are those
     /// of `open_array`.
     pub fn open_object(&mut self, announced: u64) -> Result<(), BuildError>
-        ensures { Builds self.old self.new (awaited_by self.old.building ≡ ValueNext) (ListHeap self.old.building Object announced) (ListFull self.old.building Object announced) (λ s. and_list s Object announced) result }
+        ensures { Builds self.old self.new (awaited (state_of self.old) ≡ ValueNext) (ListHeap self.old.building Object announced) (ListFull self.old.building Object announced) (λ s. and_list s Object announced) result }
     {
         if self.failed {
             return Err(BuildError::AlreadyFailed);
@@ -218,7 +217,7 @@ impl TreeBuilder {
     /// `AlreadyFailed` after a refusal; `OutOfPlace` where no key is awaited; `HeapFull` where the key would end above 4294967295; else
     /// `Memory` where memory is refused.
     pub fn key(&mut self, content: &str) -> Result<(), BuildError>
-        ensures { Builds self.old self.new (awaited_by self.old.building ≡ KeyNext) (KeyHeap self.old.building content.now) (KeyFull self.old.building content.now) (λ s. and_key s content.now) result }
+        ensures { Builds self.old self.new (awaited (state_of self.old) ≡ KeyNext) (KeyHeap self.old.building content.now) (KeyFull self.old.building content.now) (λ s. and_key s content.now) result }
     {
         if self.failed {
             return Err(BuildError::AlreadyFailed);
@@ -232,7 +231,7 @@ impl TreeBuilder {
     /// `AlreadyFailed` after a refusal; `OutOfPlace` where no value, or for a key no key, is awaited; `HeapFull` where the announced
     /// bytes behind their length would end above 4294967295; else `Memory` where memory is refused.
     pub fn begin_bytes(&mut self, kind: BytesKind, announced: u64) -> Result<(), BuildError>
-        ensures { Builds self.old self.new (awaited_by self.old.building ≡ head_awaits kind) (HeadHeap self.old.building announced) (HeadFull self.old.building announced) (λ s. and_head s kind announced) result }
+        ensures { Builds self.old self.new (awaited (state_of self.old) ≡ head_awaits kind) (HeadHeap self.old.building announced) (HeadFull self.old.building announced) (λ s. and_head s kind announced) result }
     {
         if self.failed {
             return Err(BuildError::AlreadyFailed);
@@ -245,7 +244,7 @@ impl TreeBuilder {
     ///
     /// `AlreadyFailed` after a refusal; `OutOfPlace` where fewer are missing; else `Memory` where memory is refused.
     pub fn chunk(&mut self, bytes: &[u8]) -> Result<(), BuildError>
-        ensures { Builds self.old self.new (AwaitsChunk self.old.building.open (length bytes.now)) (λ heap. heap ≡ heap_so_far self.old ++ bytes.now) ⊥ (λ s. and_bytes s bytes.now) result }
+        ensures { Builds self.old self.new (TakesBytes (state_of self.old) (length bytes.now)) (λ heap. heap ≡ heap_so_far self.old ++ bytes.now) ⊥ (λ s. and_bytes s bytes.now) result }
     {
         if self.failed {
             return Err(BuildError::AlreadyFailed);

@@ -1,11 +1,15 @@
 //! Laws of documents, each the contract of a function that does nothing.
 
-ghost use Rattle.std.specs.Prelude.{◌≡◌, ◌<◌, ◌≤◌, ℕ, List, [], length, IfOk};
+ghost use Rattle.std.specs.Prelude.{◌≡◌, ◌+◌, ◌<◌, ◌≤◌, ℕ, List, [], length, IfOk};
 ghost use Rattle.tv_field.specs.Entry.{Entry};
 ghost use Rattle.tv_schema.specs.Schema.{IsSchema};
 ghost use Rattle.tv_value.specs.Short.{IsDocument};
 ghost use Rattle.tv_value.specs.Tree.{Tree, Document as Pairs};
 ghost use Rattle.tv_doc.specs.declared.document.CompactDoc.{CompactDoc};
+ghost use Rattle.tv_builder.specs.Shows.{Shows};
+ghost use Rattle.tv_builder.specs.State.{written};
+ghost use Rattle.tv_doc.specs.declared.builder.TreeBuilder.{TreeBuilder};
+ghost use Rattle.tv_doc.specs.Builder.{built, heap_so_far, state_of};
 ghost use Rattle.tv_doc.specs.Additions.{Addition, Runs, Keeps, accepted};
 ghost use Rattle.tv_doc.specs.Belongs.{Belongs};
 ghost use Rattle.tv_doc.specs.Document.{document_of, heap_of};
@@ -64,3 +68,10 @@ pub fn named_documents_are_converted_back(
     let named = document.to_named_doc(alloc, schema)?;
     CompactDoc::convert_named_doc(alloc, schema, &named)
 }
+
+/// All of a builder's state stands in its heap: each finished child and the complete tree reads at its place, and open bytes so far, behind
+/// their length's shortest spelling, are the heap's last. The heap takes at most the room of the pairs and of what is written.
+pub fn builders_hold_their_state()
+    ensures shown { (b : TreeBuilder) → ∥ Shows b.building (state_of b) ∥₁ }
+    ensures room { (b : TreeBuilder) → length (heap_so_far b) ≤ document_room (built b) + written (state_of b) }
+{}

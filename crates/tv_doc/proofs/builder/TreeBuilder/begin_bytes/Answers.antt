@@ -1,7 +1,7 @@
 use Rattle.std.proofs.Common.{refl}
 use Rattle.tv_builder.specs.Moves.{HeadHeap, HeadFull}
 use Rattle.tv_builder.specs.State.{and_head}
-use Rattle.tv_doc.proofs.TreeBuilding.{Settled, does_left, fields_left, builds}
+use Rattle.tv_doc.proofs.TreeBuilding.{Settled, does_left, fields_left, builds_next}
 use Rattle.tv_doc.proofs.builder.TreeBuilder.begin_bytes.Goals as goal
 
 pub invariant_of-self : goal.invariant_of-self
@@ -17,4 +17,4 @@ pub returns : goal.returns
 returns c =
     let s : Settled c.begin_bytes-result.new.self c.settle.new.building c.args.self.now.kept c.args.self.now.failed c.settle.new.failed c.begin_bytes-result.result =
     record { ok = c.settle.ensures.ok; live = c.settle.ensures.live; err = c.settle.ensures.err; mark = c.settle.ensures.mark } in
-    builds c.args.self.now _ c.begin_bytes-result.new.self _ _ _ _ c.begin_bytes-result.result c.settle.result c.if-self.false c.begin_bytes-result.ensures s refl refl c.settle.ensures.same
+    builds_next c.args.self.now _ c.begin_bytes-result.new.self _ _ _ _ c.begin_bytes-result.result c.settle.result c.if-self.false c.begin_bytes-result.ensures s refl refl c.settle.ensures.same

@@ -1,6 +1,6 @@
 use Rattle.std.proofs.Common.{◌≡◌, ◌++◌, refl}
 use Rattle.tv_builder.specs.State.{and_bytes}
-use Rattle.tv_doc.proofs.TreeBuilding.{Settled, does_left, fields_left, builds}
+use Rattle.tv_doc.proofs.TreeBuilding.{Settled, does_left, fields_left, builds_chunk}
 use Rattle.tv_doc.proofs.builder.TreeBuilder.chunk.Goals as goal
 
 pub invariant_of-self : goal.invariant_of-self
@@ -16,4 +16,4 @@ pub returns : goal.returns
 returns c =
     let s : Settled c.chunk-result.new.self c.settle.new.building c.args.self.now.kept c.args.self.now.failed c.settle.new.failed c.chunk-result.result =
     record { ok = c.settle.ensures.ok; live = c.settle.ensures.live; err = c.settle.ensures.err; mark = c.settle.ensures.mark } in
-    builds c.args.self.now _ c.chunk-result.new.self _ _ _ _ c.chunk-result.result c.settle.result c.if-self.false c.chunk-result.ensures s refl refl c.settle.ensures.same
+    builds_chunk c.args.self.now _ c.chunk-result.new.self _ _ _ _ c.chunk-result.result c.settle.result c.if-self.false c.chunk-result.ensures s refl refl c.settle.ensures.same

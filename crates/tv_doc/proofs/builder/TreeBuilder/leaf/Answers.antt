@@ -3,7 +3,7 @@ use Rattle.tv_builder.specs.Moves.{LeafHeap, LeafFull}
 use Rattle.tv_builder.specs.State.{and_value}
 use Rattle.tv_value.specs.Lent.{leaf_of}
 use Rattle.tv_value.specs.Tree.{leaf}
-use Rattle.tv_doc.proofs.TreeBuilding.{Settled, does_left, fields_left, builds}
+use Rattle.tv_doc.proofs.TreeBuilding.{Settled, does_left, fields_left, builds_next}
 use Rattle.tv_doc.proofs.builder.TreeBuilder.leaf.Goals as goal
 
 pub invariant_of-self : goal.invariant_of-self
@@ -20,4 +20,4 @@ pub returns : goal.returns
 returns c =
     let s : Settled c.leaf-result.new.self c.settle.new.building c.args.self.now.kept c.args.self.now.failed c.settle.new.failed c.leaf-result.result =
     record { ok = c.settle.ensures.ok; live = c.settle.ensures.live; err = c.settle.ensures.err; mark = c.settle.ensures.mark } in
-    builds c.args.self.now _ c.leaf-result.new.self _ _ _ _ c.leaf-result.result c.settle.result c.if-self.false c.leaf-result.ensures s refl refl c.settle.ensures.same
+    builds_next c.args.self.now _ c.leaf-result.new.self _ _ _ _ c.leaf-result.result c.settle.result c.if-self.false c.leaf-result.ensures s refl refl c.settle.ensures.same

@@ -2,7 +2,7 @@ use Rattle.std.proofs.Common.{refl}
 use Rattle.tv_builder.specs.Moves.{ListHeap, ListFull}
 use Rattle.tv_builder.specs.State.{and_list}
 use Rattle.tv_builder.specs.declared.frame.ListKind.TheVariants.{Object}
-use Rattle.tv_doc.proofs.TreeBuilding.{Settled, does_left, fields_left, builds}
+use Rattle.tv_doc.proofs.TreeBuilding.{Settled, does_left, fields_left, builds_next}
 use Rattle.tv_doc.proofs.builder.TreeBuilder.open_object.Goals as goal
 
 pub invariant_of-self : goal.invariant_of-self
@@ -18,4 +18,4 @@ pub returns : goal.returns
 returns c =
     let s : Settled c.open_list-result.new.self c.settle.new.building c.args.self.now.kept c.args.self.now.failed c.settle.new.failed c.open_list-result.result =
     record { ok = c.settle.ensures.ok; live = c.settle.ensures.live; err = c.settle.ensures.err; mark = c.settle.ensures.mark } in
-    builds c.args.self.now _ c.open_list-result.new.self _ _ _ _ c.open_list-result.result c.settle.result c.if-self.false c.open_list-result.ensures s refl refl c.settle.ensures.same
+    builds_next c.args.self.now _ c.open_list-result.new.self _ _ _ _ c.open_list-result.result c.settle.result c.if-self.false c.open_list-result.ensures s refl refl c.settle.ensures.same

@@ -1,0 +1,3 @@
+mod long;
+mod refusals;
+mod values;
