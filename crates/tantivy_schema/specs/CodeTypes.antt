@@ -5,6 +5,14 @@ pub use Rattle.tv_base.specs.declared.cause.Cause
 pub use Rattle.tv_base.specs.declared.facet_parse_error.FacetParseError
 pub use Rattle.tv_base.specs.declared.read_error.ReadError
 pub use Rattle.tv_date.specs.declared.date_error.DateError
+pub use Rattle.tv_builder.specs.declared.awaits.Awaits
+pub use Rattle.tv_builder.specs.declared.build_error.BuildError
+pub use Rattle.tv_builder.specs.declared.building.Building
+pub use Rattle.tv_builder.specs.declared.bytes_kind.BytesKind
+pub use Rattle.tv_builder.specs.declared.frame.Frame
+pub use Rattle.tv_builder.specs.declared.frame.ListKind
+pub use Rattle.tv_builder.specs.declared.place.Place
+pub use Rattle.tv_doc.specs.declared.builder.TreeBuilder
 pub use Rattle.tv_doc.specs.declared.add_error.AddError
 pub use Rattle.tv_doc.specs.declared.doc_parsing_error.DocParsingError
 pub use Rattle.tv_field.specs.declared.json_value.JsonRefusal

@@ -71,6 +71,7 @@ pub use Rattle.tv_term.specs.Lending
 pub use Rattle.tv_doc.specs.AdditionError
 pub use Rattle.tv_doc.specs.Additions
 pub use Rattle.tv_doc.specs.Belongs
+pub use Rattle.tv_doc.specs.Builder
 pub use Rattle.tv_doc.specs.Document
 pub use Rattle.tv_heap.specs.Held
 pub use Rattle.tv_doc.specs.JsonObject
@@ -80,6 +81,14 @@ pub use Rattle.tv_heap.specs.Reads
 pub use Rattle.tv_heap.specs.Room
 pub use Rattle.tv_heap.specs.TypeCode
 pub use Rattle.tv_heap.specs.Value
+-- values that come part by part
+pub use Rattle.tv_builder.specs.Front
+pub use Rattle.tv_builder.specs.Given
+pub use Rattle.tv_builder.specs.Kinds as BuilderKinds
+pub use Rattle.tv_builder.specs.Moves
+pub use Rattle.tv_builder.specs.Parts as ValueParts
+pub use Rattle.tv_builder.specs.Shows
+pub use Rattle.tv_builder.specs.State
 -- the store
 pub use Rattle.tv_store.specs.Documents
 pub use Rattle.tv_store.specs.Error as StoreError

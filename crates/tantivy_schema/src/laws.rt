@@ -17,9 +17,10 @@ pub use tv_base::laws::{
     printed_facets_are_read, short_numbers_are_shortest, short_numbers_spell,
 };
 use tv_base::{ByteSource, VecSink};
+pub use tv_builder::laws::{calls_trade, lists_are_paid, parts_are_traded};
 use tv_doc::document::CompactDoc;
 pub use tv_doc::laws::{
-    additions_are_kept, documents_are_valid, heaps_are_within_room,
+    additions_are_kept, builders_hold_their_state, documents_are_valid, heaps_are_within_room,
     named_documents_are_converted_back, named_values_make_the_same_pairs,
 };
 pub use tv_heap::laws::places_read_as_one_tree;

@@ -1,6 +1,7 @@
 //! Documents, and their form in the store.
 
 pub use tv_doc::add_error::AddError;
+pub use tv_doc::builder::{Awaits, BuildError, BytesKind, TreeBuilder};
 pub use tv_doc::doc_parsing_error::DocParsingError;
 pub use tv_doc::document::{CompactDoc, CompactDoc as TantivyDocument};
 pub use tv_doc::document_trait::Document;
