@@ -1,3 +1,4 @@
+mod lengths;
 mod long;
 mod refusals;
 mod values;
