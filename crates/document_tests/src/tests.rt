@@ -3,4 +3,5 @@ mod heaps;
 mod json_documents;
 mod json_lines;
 mod nested;
+mod part_by_part;
 mod repeated;

@@ -9,11 +9,11 @@ use tv_field::ValueParsingError;
 use tv_schema::Schema;
 
 // The schema of the documents.
-const SCHEMA: &str =
+pub(super) const SCHEMA: &str =
     r#"[{"name": "s", "type": "text", "options": {"stored": true}}, {"name": "sc", "type": "text", "options": {"stored": true, "coerce": true}}, {"name": "u", "type": "u64", "options": {"indexed": false, "stored": true}}, {"name": "uc", "type": "u64", "options": {"indexed": false, "stored": true, "coerce": true}}, {"name": "i", "type": "i64", "options": {"indexed": false, "stored": true}}, {"name": "ic", "type": "i64", "options": {"indexed": false, "stored": true, "coerce": true}}, {"name": "b", "type": "bool", "options": {"indexed": false, "stored": true}}, {"name": "bc", "type": "bool", "options": {"indexed": false, "stored": true, "coerce": true}}, {"name": "d", "type": "date", "options": {"indexed": false, "fieldnorms": false, "stored": true}}, {"name": "f", "type": "facet", "options": {"stored": true}}, {"name": "y", "type": "bytes", "options": {"indexed": false, "fast": false, "stored": true}}, {"name": "j", "type": "json_object", "options": {"stored": true, "fast": false}}, {"name": "p", "type": "ip_addr", "options": {"indexed": false, "fieldnorms": false, "fast": false, "stored": true}}, {"name": "n", "type": "u64", "options": {"indexed": true, "stored": false}}]"#;
 
 // A document, and its heap in hexadecimal (`-` where it is empty) with field, type byte and address of each pair; or its refusal.
-static FIRST_LINES: [(&str, &str); 26] = [
+pub(super) static FIRST_LINES: [(&str, &str); 26] = [
     (r#"{}"#, "-"),
     (
         r#"{"u": 128, "bc": "999.1.1.1", "sc": true}"#,
@@ -102,7 +102,7 @@ static FIRST_LINES: [(&str, &str); 26] = [
     (r#"{"sc": -578099437}"#, "8a2d353738303939343337 1:1:0"),
 ];
 
-static SECOND_LINES: [(&str, &str); 26] = [
+pub(super) static SECOND_LINES: [(&str, &str); 26] = [
     (
         r#"{"uc": ["0", "127", "430470"], "n": 3, "i": 127}"#,
         "7f00000000000000030000000000000000000000000000007f000000000000008691060000000000 4:3:0 13:2:8 3:2:16 3:2:24 3:2:32",
@@ -200,7 +200,7 @@ static SECOND_LINES: [(&str, &str); 26] = [
     ),
 ];
 
-static THIRD_LINES: [(&str, &str); 26] = [
+pub(super) static THIRD_LINES: [(&str, &str); 26] = [
     (r#"{"p": [], "f": "/"}"#, "80 9:6:0"),
     (
         r#"{"b": false, "ic": "-2305843009213693952", "i": 4611686018427387903, "bc": ["-", "18446744073709551616"], "s": [], "zz": false}"#,
@@ -286,7 +286,7 @@ static THIRD_LINES: [(&str, &str); 26] = [
     (r#"{"f": [], "s": ["éab -0 "]}"#, "88c3a96162202d3020 0:1:0"),
 ];
 
-static FOURTH_LINES: [(&str, &str); 25] = [
+pub(super) static FOURTH_LINES: [(&str, &str); 25] = [
     (
         r#"{"j": {"x1": "日本語", "": "a\"b\\c\n", "シ": []}, "sc": true, "zz": ["éab-x1bシ", {}, -1], "ic": "-7", "b": true}"#,
         "f9ffffffffffffff80866122625c630a82783189e697a5e69cace8aa9e83e382b7808c0188018901900193019d0ca18474727565 6:9:1 5:3:0 11:11:34 1:1:47",
@@ -408,7 +408,7 @@ fn push_hexadecimal(text: &mut String, bytes: &[u8]) -> Result<(), AllocError> {
 }
 
 // The heap and the places, as they stand in the lines.
-fn heap_text(alloc: Global, document: &CompactDoc) -> Result<String, AllocError> {
+pub(super) fn heap_text(alloc: Global, document: &CompactDoc) -> Result<String, AllocError> {
     let mut text = String::new(alloc);
     push_hexadecimal(&mut text, document.node_data())?;
     let mut place = 0;
