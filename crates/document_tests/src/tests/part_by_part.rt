@@ -87,7 +87,10 @@ fn add_part<'a>(
             builder.open_object(children.len() as u64 / 2)?;
         }
     }
-    while let Some(child) = children.pop() {
+    for _ in 0..MOST_PARTS {
+        let Some(child) = children.pop() else {
+            return Ok(());
+        };
         parts.push(child)?;
     }
     Ok(())
