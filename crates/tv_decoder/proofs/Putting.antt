@@ -1,0 +1,178 @@
+-- What a part that has come leaves.
+use Rattle.std.proofs.Common.{◌≡◌, ◌≢◌, ℕ, ◌+◌, ◌-◌, ◌<◌, ◌≤◌, true, false, Bool, cond, nat_eq, List, [], ◌∷◌, ◌++◌, length, Option, Some, None, Result, Ok, Err, IsUtf8, refl, sym, ◌∙◌, ap, subst, append_assoc, length-append, arith}
+use Rattle.std.proofs.lemmas.List.{append-nil}
+use Rattle.tv_base.specs.declared.cause.Cause.{Cause}
+use Rattle.tv_base.specs.declared.cause.Cause.TheVariants as causes
+use Rattle.tv_builder.specs.declared.awaits.Awaits.{Awaits}
+use Rattle.tv_builder.specs.declared.awaits.Awaits.TheVariants as awaits
+use Rattle.tv_builder.specs.declared.bytes_kind.BytesKind.{BytesKind}
+use Rattle.tv_builder.specs.declared.bytes_kind.BytesKind.TheVariants as kinds
+use Rattle.tv_builder.specs.declared.frame.ListKind.{ListKind}
+use Rattle.tv_builder.specs.Behind.{document_parts, open_parts}
+use Rattle.tv_builder.specs.Parts.{Part, value, bytes_head, some_bytes, IsContent, Trades, same}
+use Rattle.tv_builder.specs.State.{OpenList, State, complete, in_lists, in_bytes, awaited, head_awaits, lacks_more, with_child, list_tree, with_value, with_key, with_list, with_content, and_value, and_list, and_head, and_bytes, and_end, list_head, IsState, HeadNext, lists_parts, parts_of}
+use Rattle.tv_builder.proofs.CallsTrade.{values_trade, lists_trade, heads_trade, bytes_trade, ends_trade}
+use Rattle.tv_builder.proofs.Trading.{trades_as, trades_from, trades_then}
+use Rattle.tv_doc.specs.declared.builder.TreeBuilder.{TreeBuilder}
+use Rattle.tv_doc.specs.Builder.{built, state_of, Goes, HasAllBytes, HasContent, Finished}
+use Rattle.tv_reader.specs.declared.error.DeserializeError.{DeserializeError}
+use Rattle.tv_reader.specs.declared.error.DeserializeError.TheVariants as errors
+use Rattle.tv_value.specs.Tree.{Tree, leaf, text, facet, bytes, Document}
+use Rattle.tv_decoder.specs.Front.{parts_at, parts_read, Lacks, IsPlace, IsSound, HasField}
+use Rattle.tv_decoder.specs.Puts.{MayStand, IsWithin, IsOpen, IsEnding, AtEnd, Awaiting, Put, Puts, NoContent, PutsEnd, EndNoText, NoText, PutsBytes}
+use Rattle.tv_decoder.specs.declared.reading.Reading.{Reading}
+use Rattle.tv_decoder.proofs.States.{is_state}
+use Rattle.tv_decoder.proofs.Trading.{open_trades, pair_trades}
+
+-- the same with another builder
+abbrev pub with_builder : Reading → TreeBuilder → Reading
+with_builder r b = record { announced = r.announced; finished = r.finished; field = r.field; builder = b }
+
+-- ---- a complete value becomes that of a pair
+
+record ClosedAt (a : Option ℕ) (d : Document) (f : ℕ) (s : State) (t : Tree) : Type 0 where
+  place : IsPlace a (d ++ (f, t) ∷ []) None (in_lists [])
+  trades : Trades (parts_at a d (Some f) s ++ []) (parts_at a (d ++ (f, t) ∷ []) None (in_lists []))
+
+closed_at : (a : Option ℕ) (d : Document) (f : ℕ) (s : State) (t : Tree) → IsWithin a d (Some f) s → s ≡ complete t → ClosedAt a d f s t
+closed_at None d f s t h e = absurd h
+closed_at (Some n) d f s t h e = record {
+  place = (omega (arith, h.0, length-append d ((f, t) ∷ [])), refl);
+  trades = trades_from _ (append-nil (open_parts n d f s) ∙ ap (λ z. open_parts n d f z) e) (pair_trades n d f t h.1);
+}
+
+pub closed : (r new : Reading) (f : ℕ) → IsOpen r → r.field ≡ Some f → Finished r.builder new.builder f → new.announced ≡ r.announced → new.finished ≡ r.finished + 1 → new.field ≡ None → Put r new []
+closed r new f h is g announced finished field =
+    let k = closed_at r.announced (built r.builder) f (state_of r.builder) g.tree (subst (λ z. IsWithin r.announced (built r.builder) z (state_of r.builder)) is h.within) g.was in
+    let now : parts_at r.announced (built r.builder ++ (f, g.tree) ∷ []) None (in_lists []) ≡ parts_read new = λ i. parts_at (sym announced i) (sym g.document i) (sym field i) (sym g.state i) in
+    record {
+      sound = record {
+        live = g.live;
+        counted = omega (arith, finished, h.counted, ap length g.document, length-append (built r.builder) ((f, g.tree) ∷ []));
+        place =
+            subst (λ z. IsPlace z (built new.builder) new.field (state_of new.builder)) (sym announced)
+            (subst (λ z. IsPlace r.announced z new.field (state_of new.builder)) (sym g.document)
+            (subst (λ z. IsPlace r.announced (built r.builder ++ (f, g.tree) ∷ []) z (state_of new.builder)) (sym field)
+            (subst (λ z. IsPlace r.announced (built r.builder ++ (f, g.tree) ∷ []) None z) (sym g.state) k.place)));
+      };
+      trades = trades_from _ (ap (λ z. parts_at r.announced (built r.builder) z (state_of r.builder) ++ []) is) (trades_as _ now k.trades);
+    }
+
+-- or no value is complete
+lacks_at : (s : State) → awaited s ≢ awaits.Finish → MayStand s → Lacks s
+lacks_at (complete t) other h = absurd (other refl)
+lacks_at (in_lists ls) other h = tt
+lacks_at (in_bytes ls kind n bs) other h = h
+
+place_at : (a : Option ℕ) (d : Document) (f : Option ℕ) (s : State) → awaited s ≢ awaits.Finish → IsWithin a d f s → IsPlace a d f s
+place_at (Some n) d (Some f) s other h = (h.0, h.1, lacks_at s other h.2)
+place_at (Some n) d None s other h = absurd h
+place_at None d f s other h = absurd h
+
+pub stays : (r : Reading) → IsOpen r → awaited (state_of r.builder) ≢ awaits.Finish → Put r r []
+stays r h other = record {
+  sound = record { live = h.live; counted = h.counted; place = place_at r.announced (built r.builder) r.field (state_of r.builder) other h.within };
+  trades = trades_from _ (append-nil (parts_read r)) same;
+}
+
+-- a field was read
+pub no_field : (r : Reading) → IsOpen r → r.field ≡ None → ⊥
+no_field r h e = none r.announced (subst (λ z. IsWithin r.announced (built r.builder) z (state_of r.builder)) e h.within)
+  where
+    none : (a : Option ℕ) → IsWithin a (built r.builder) None (state_of r.builder) → ⊥
+    none None w = w
+    none (Some n) w = w
+
+pub small_field : (r : Reading) (f : ℕ) → IsOpen r → r.field ≡ Some f → f ≤ 65535
+small_field r f h e = small r.announced (subst (λ z. IsWithin r.announced (built r.builder) z (state_of r.builder)) e h.within)
+  where
+    small : (a : Option ℕ) → IsWithin a (built r.builder) (Some f) (state_of r.builder) → f ≤ 65535
+    small None w = absurd w
+    small (Some n) w = w.1
+
+-- the next pair can be counted
+pub lacks_pair : (r : Reading) → IsOpen r → (n : ℕ) × (r.announced ≡ Some n) × (r.finished < n)
+lacks_pair r h = lacks r.announced refl h.within
+  where
+    lacks : (a : Option ℕ) → r.announced ≡ a → IsWithin a (built r.builder) r.field (state_of r.builder) → (n : ℕ) × (r.announced ≡ Some n) × (r.finished < n)
+    lacks None e w = absurd w
+    lacks (Some n) e w = (n, e, omega (arith, less r.field w, h.counted))
+      where
+        less : (f : Option ℕ) → IsWithin (Some n) (built r.builder) f (state_of r.builder) → length (built r.builder) < n
+        less None w = absurd w
+        less (Some f) w = w.0
+
+-- ---- a call of the builder, and then what it closes
+
+trades_at : (a f : Option ℕ) (d : Document) (old new : State) (ps : List Part) → HasField f → IsPlace a d f old → Trades (parts_of old ++ ps) (parts_of new) → Trades (parts_at a d f old ++ ps) (parts_at a d f new)
+trades_at None None d old new ps has h t = absurd has
+trades_at None (Some f) d old new ps has h t = absurd h
+trades_at (Some n) None d old new ps has h t = absurd has
+trades_at (Some n) (Some f) d old new ps has h t = open_trades n d f old new ps t
+
+within_at : (a f : Option ℕ) (d : Document) (old new : State) → HasField f → IsPlace a d f old → MayStand new → IsWithin a d f new
+within_at None None d old new has h stands = absurd has
+within_at None (Some f) d old new has h stands = absurd h
+within_at (Some n) None d old new has h stands = absurd has
+within_at (Some n) (Some f) d old new has h stands = (h.0, h.1, stands)
+
+pub opened : (r : Reading) (b : TreeBuilder) (s : State) → IsSound r → HasField r.field → Goes r.builder b s → MayStand s → IsOpen (with_builder r b)
+opened r b s h has g stands = record {
+  live = g.live;
+  counted = h.counted ∙ ap length (sym g.document);
+  within =
+      subst (λ z. IsWithin r.announced z r.field (state_of b)) (sym g.document)
+      (subst (λ z. IsWithin r.announced (built r.builder) r.field z) (sym g.state) (within_at r.announced r.field (built r.builder) (state_of r.builder) s has h.place stands));
+}
+
+pub call_trades : (r : Reading) (b : TreeBuilder) (s : State) (ps : List Part) → IsSound r → HasField r.field → Goes r.builder b s → Trades (parts_of (state_of r.builder) ++ ps) (parts_of s) → Trades (parts_read r ++ ps) (parts_read (with_builder r b))
+call_trades r b s ps h has g t =
+    let now : parts_at r.announced (built r.builder) r.field s ≡ parts_read (with_builder r b) = λ i. parts_at r.announced (sym g.document i) r.field (sym g.state i) in
+    trades_as _ now (trades_at r.announced r.field (built r.builder) (state_of r.builder) s ps has h.place t)
+
+pub puts_on : (r mid new : Reading) (ps : List Part) (result : Result (Unit {0}) DeserializeError) → Trades (parts_read r ++ ps) (parts_read mid) → Puts mid new [] result → Puts r new ps result
+puts_on r mid new ps (Ok x) t h = record { sound = h.sound; trades = trades_then t (trades_from _ (sym (append-nil (parts_read mid))) h.trades) }
+puts_on r mid new ps (Err errors.HeapFull) t h = h
+puts_on r mid new ps (Err errors.Memory) t h = tt
+puts_on r mid new ps (Err (errors.CorruptedValue c)) t h = absurd h
+puts_on r mid new ps (Err (errors.UnsupportedType k)) t h = absurd h
+puts_on r mid new ps (Err (errors.TypeMismatch k l)) t h = absurd h
+puts_on r mid new ps (Err (errors.Custom s)) t h = absurd h
+puts_on r mid new ps (Err (errors.UnsupportedVersion m n)) t h = absurd h
+puts_on r mid new ps (Err (errors.Io k)) t h = absurd h
+puts_on r mid new ps (Err errors.AlreadyFailed) t h = absurd h
+
+-- ---- what may stand
+
+cond_stands : (b : Bool) (x y : State) → MayStand x → MayStand y → MayStand (cond b x y)
+cond_stands true x y h k = h
+cond_stands false x y h k = k
+
+value_stands : (ls : List OpenList) (t : Tree) → MayStand (with_value ls t)
+value_stands [] t = tt
+value_stands (l ∷ ls) t = cond_stands (lacks_more l) (in_lists (with_child l t ∷ ls)) (with_value ls (list_tree l.kind (l.children ++ t ∷ []))) tt (value_stands ls (list_tree l.kind (l.children ++ t ∷ [])))
+
+key_stands : (ls : List OpenList) (k : List ℕ) → MayStand (with_key ls k)
+key_stands [] k = tt
+key_stands (l ∷ ls) k = tt
+
+pub and_value_stands : (s : State) (t : Tree) → awaited s ≡ awaits.Value → MayStand (and_value s t)
+and_value_stands (in_lists ls) t e = value_stands ls t
+and_value_stands (complete u) t e = tt
+and_value_stands (in_bytes ls kind n bs) t e = absurd cc
+
+pub and_list_stands : (s : State) (kind : ListKind) (n : ℕ) → awaited s ≡ awaits.Value → MayStand (and_list s kind n)
+and_list_stands (in_lists ls) kind n e = cond_stands (nat_eq n 0) (with_value ls (list_tree kind [])) (in_lists (record { kind = kind; announced = n; children = [] } ∷ ls)) (value_stands ls (list_tree kind [])) tt
+and_list_stands (complete u) kind n e = tt
+and_list_stands (in_bytes ls k m bs) kind n e = absurd cc
+
+content_stands : (ls : List OpenList) (kind : BytesKind) (content : List ℕ) → MayStand (with_content ls kind content)
+content_stands ls kinds.Str content = value_stands ls (leaf (text content))
+content_stands ls kinds.Facet content = value_stands ls (leaf (facet content))
+content_stands ls kinds.Bytes content = value_stands ls (leaf (bytes content))
+content_stands ls kinds.Key content = key_stands ls content
+
+pub and_end_stands : (s : State) → HasAllBytes s → MayStand (and_end s)
+and_end_stands (in_bytes ls kind n bs) h = content_stands ls kind bs
+and_end_stands (in_lists ls) h = tt
+and_end_stands (complete t) h = tt

@@ -1,0 +1,388 @@
+-- What has come of a document needs no more room than the document.
+use Rattle.std.proofs.Common.{◌≡◌, ℕ, zero, suc, ◌+◌, ◌*◌, ◌-◌, ◌%◌, ◌<◌, ◌≤◌, List, [], ◌∷◌, ◌++◌, length, map, refl, sym, ◌∙◌, ap, subst, append_assoc, length-append, arith, inl, inr}
+use Rattle.std.proofs.lemmas.Bool.Decides.{eqb_tells}
+use Rattle.std.proofs.lemmas.List.{append_cancel_left, append-nil}
+use Rattle.std.proofs.lemmas.List.Sums.{sum_by-append}
+use Rattle.tv_base.specs.Number.{VNum, Fixed}
+use Rattle.tv_base.specs.Parts.{OneReading, Then, Behind, Each, Text, Sized}
+use Rattle.tv_base.proofs.Numbers.{one_number, one_fixed}
+use Rattle.tv_value.specs.Spelling.{Key, Spells, SpellsElements, SpellsEntries, SpellsPair, SpellsDocument, leaf_code, LeafBody}
+use Rattle.tv_value.specs.Tree.{Tree, leaf, null, text, unsigned, signed, boolean, date, facet, bytes, ip_address, tokenized, Leaf, array, object, Elements, no_elements, element, element_count, Entries, no_entries, entry, entry_count, Document}
+use Rattle.tv_value.specs.Version.{Version, V1, V2, V3, entry_total}
+use Rattle.tv_value.proofs.Leaves.{agree_key, total_same, leaf_code_small}
+use Rattle.tv_value.proofs.Trees.{one_tree, one_pair}
+use Rattle.tv_heap.specs.Room.{room, leaf_room, elements_room, entries_room, document_room}
+use Rattle.tv_builder.specs.declared.awaits.Awaits.TheVariants as awaits
+use Rattle.tv_builder.specs.declared.bytes_kind.BytesKind.{BytesKind}
+use Rattle.tv_builder.specs.declared.bytes_kind.BytesKind.TheVariants as kinds
+use Rattle.tv_builder.specs.declared.frame.ListKind.{ListKind}
+use Rattle.tv_builder.specs.declared.frame.ListKind.TheVariants.{Array, Object}
+use Rattle.tv_builder.specs.Behind.{pairs_parts, document_parts, open_parts}
+use Rattle.tv_builder.specs.Front.{KeyHead, SpellsPart}
+use Rattle.tv_builder.specs.Kinds.{total}
+use Rattle.tv_builder.specs.Parts.{Part, number, pair, field, value, key, bytes_head, some_bytes}
+use Rattle.tv_builder.specs.State.{OpenList, State, complete, in_lists, in_bytes, next_at, text_of, IsKey, AreEntries, AreChildren, IsList, AreLists, IsValueNext, IsKeyNext, AllAwait, OthersAwait, HeadNext, IsState, key_parts, list_head, children_parts, list_parts, lists_parts, parts_of, children_room, lists_room, state_room}
+use Rattle.tv_builder.proofs.Grammar.{each_split}
+
+-- ---- lists of bytes
+
+rest_is : (a b x y : List ℕ) → a ≡ b → a ++ x ≡ b ++ y → x ≡ y
+rest_is a b x y same e = append_cancel_left b x y (ap (λ (z : List ℕ). z ++ x) (sym same) ∙ e)
+
+heads : (m n : ℕ) (a b : List ℕ) → m ∷ a ≡ n ∷ b → (m ≡ n) × (a ≡ b)
+heads m n a b e = let code : m ≡ n = cc in let body : a ≡ b = cc in (code, body)
+
+-- two cuts of the same bytes
+both_cut : (c d p q s t x y : List ℕ) → c ≡ p ++ q → d ≡ s ++ t → c ++ x ≡ d ++ y → p ++ (q ++ x) ≡ s ++ (t ++ y)
+both_cut c d p q s t x y f g e = sym (append_assoc p q x) ∙ ap (λ (z : List ℕ). z ++ x) (sym f) ∙ e ∙ ap (λ (z : List ℕ). z ++ y) g ∙ append_assoc s t y
+
+-- the same behind a code
+behind_codes : (m n : ℕ) (c d p q a b x y : List ℕ) → c ≡ p ++ q → p ≡ m ∷ a → d ≡ n ∷ b → c ++ x ≡ d ++ y → (m ≡ n) × (a ++ (q ++ x) ≡ b ++ y)
+behind_codes m n c d p q a b x y f g h e =
+    heads m n (a ++ (q ++ x)) (b ++ y)
+    (ap (λ (z : List ℕ). m ∷ z) (sym (append_assoc a q x)) ∙ ap (λ (z : List ℕ). (z ++ q) ++ x) (sym g) ∙ ap (λ (z : List ℕ). z ++ x) (sym f) ∙ e ∙ ap (λ (z : List ℕ). z ++ y) h)
+
+-- a key's room is that of its text
+key_room : (k : Tree) → IsKey k → room k ≡ 5 + length (text_of k)
+key_room (leaf (text content)) h = refl
+key_room (leaf null) h = absurd h
+key_room (leaf (unsigned n)) h = absurd h
+key_room (leaf (signed z)) h = absurd h
+key_room (leaf (boolean b)) h = absurd h
+key_room (leaf (date z)) h = absurd h
+key_room (leaf (facet f)) h = absurd h
+key_room (leaf (bytes bs)) h = absurd h
+key_room (leaf (ip_address n)) h = absurd h
+key_room (leaf (tokenized t ts)) h = absurd h
+key_room (array ts) h = absurd h
+key_room (object es) h = absurd h
+
+-- the leaves that are bytes
+is_text : (l : Leaf) → leaf_code l ≡ 0 → (content : List ℕ) × (l ≡ text content)
+is_text (text content) e = (content, refl)
+is_text _ e = absurd (omega arith)
+
+is_facet : (l : Leaf) → leaf_code l ≡ 3 → (content : List ℕ) × (l ≡ facet content)
+is_facet (facet content) e = (content, refl)
+is_facet _ e = absurd (omega arith)
+
+is_bytes : (l : Leaf) → leaf_code l ≡ 4 → (content : List ℕ) × (l ≡ bytes content)
+is_bytes (bytes content) e = (content, refl)
+is_bytes _ e = absurd (omega arith)
+
+-- two codes at the same place
+coded : (m n : ℕ) (h b body rest x y : List ℕ) → h ≡ m ∷ body → b ≡ n ∷ rest → h ++ x ≡ b ++ y → (m ≡ n) × (body ++ x ≡ rest ++ y)
+coded m n h b body rest x y f g e = heads m n (body ++ x) (rest ++ y) (ap (λ (z : List ℕ). z ++ x) (sym f) ∙ e ∙ ap (λ (z : List ℕ). z ++ y) g)
+
+document_room-cons : (q : ℕ × Tree) (d : Document) → document_room (q ∷ d) ≡ room q.1 + document_room d
+document_room-cons q d = omega (arith, sum_by-append (λ (pair : ℕ × Tree). room pair.1) (q ∷ []) d)
+
+module _ (L : List ℕ → Entries → Type 0) (v : Version) (one_l : OneReading L) where
+  abbrev R : List ℕ → Part → Type 0
+  R b p = SpellsPart L v b p
+
+  -- the bytes begin with this value
+  record Starts (q : List ℕ) (u : Tree) : Type 0 where
+    front : List ℕ
+    rest : List ℕ
+    joined : q ≡ front ++ rest
+    spelled : Spells L v front u
+
+  -- ---- the next element
+
+  record NextIn (q : List ℕ) (before within : ℕ) : Type 0 where
+    next : Tree
+    starts : Starts q next
+    room_is : before + (6 + room next) ≤ within
+
+  next_element : (ts : List Tree) (us : Elements) (c q d y : List ℕ) → Each R c (map value ts) → SpellsElements L v d us → length ts < element_count us → c ++ q ≡ d ++ y → NextIn q (children_room ts) (elements_room us)
+  next_element [] no_elements c q d y p s less e = absurd (omega (arith, less))
+  next_element [] (element u us) c q d y p s less e = record {
+    next = u;
+    starts = record { front = s.front; rest = s.rest ++ y; joined = ap (λ (z : List ℕ). z ++ q) (sym p) ∙ e ∙ ap (λ (z : List ℕ). z ++ y) s.joined ∙ append_assoc s.front s.rest y; spelled = s.first };
+    room_is = omega arith;
+  }
+  next_element (t ∷ ts) no_elements c q d y p s less e = absurd (omega (arith, less))
+  next_element (t ∷ ts) (element u us) c q d y p s less e =
+      let whole = both_cut c d p.front p.rest s.front s.rest q y p.joined s.joined e in
+      let same = one_tree L v one_l p.front s.front (p.rest ++ q) (s.rest ++ y) t u p.first s.first whole in
+      let n = next_element ts us p.rest q s.rest y p.second s.second (omega (arith, less)) (rest_is p.front s.front (p.rest ++ q) (s.rest ++ y) same.0 whole) in
+      record { next = n.next; starts = n.starts; room_is = omega (arith, n.room_is, ap room same.1) }
+
+  -- ---- the next value behind a key
+
+  next_behind_key : (ts : List Tree) (es : Entries) (c q d y : List ℕ) → AreEntries ts → length ts % 2 ≡ 1 → Each R c (key_parts ts) → SpellsEntries L v d es → length ts < 2 * entry_count es → c ++ q ≡ d ++ y
+      → NextIn q (children_room ts) (entries_room es)
+  next_behind_key [] es c q d y are odd p s less e = absurd (omega (arith, odd))
+  next_behind_key (k ∷ ts) no_entries c q d y are odd p s less e = absurd (omega (arith, less))
+  next_behind_key (k ∷ []) (entry l u es) c q d y are odd p s less e =
+      let whole = both_cut c d p.front p.rest s.front s.rest q y p.joined s.joined e in
+      let same = (agree_key v (text_of k) l).agree p.front s.front (p.rest ++ q) (s.rest ++ y) p.first s.first whole in
+      let rest = rest_is p.front s.front (p.rest ++ q) (s.rest ++ y) same.0 whole in
+      let t = s.second in
+      record {
+        next = u;
+        starts = record { front = t.front; rest = t.rest ++ y; joined = ap (λ (z : List ℕ). z ++ q) (sym p.second) ∙ rest ∙ ap (λ (z : List ℕ). z ++ y) t.joined ∙ append_assoc t.front t.rest y; spelled = t.first };
+        room_is = omega (arith, key_room k are.0, ap length same.1);
+      }
+  next_behind_key (k ∷ t ∷ ts) (entry l u es) c q d y are odd p s less e =
+      let whole = both_cut c d p.front p.rest s.front s.rest q y p.joined s.joined e in
+      let same = (agree_key v (text_of k) l).agree p.front s.front (p.rest ++ q) (s.rest ++ y) p.first s.first whole in
+      let rest = rest_is p.front s.front (p.rest ++ q) (s.rest ++ y) same.0 whole in
+      let r = p.second in
+      let o = s.second in
+      let more = both_cut p.rest s.rest r.front r.rest o.front o.rest q y r.joined o.joined rest in
+      let tree = one_tree L v one_l r.front o.front (r.rest ++ q) (o.rest ++ y) t u r.first o.first more in
+      let n = next_behind_key ts es r.rest q o.rest y are.1 (omega (arith, odd)) r.second o.second (omega (arith, less)) (rest_is r.front o.front (r.rest ++ q) (o.rest ++ y) tree.0 more) in
+      record { next = n.next; starts = n.starts; room_is = omega (arith, n.room_is, key_room k are.0, ap length same.1, ap room tree.1) }
+
+  -- ---- the next key
+
+  record NextKey (q : List ℕ) (before within : ℕ) : Type 0 where
+    next : List ℕ
+    front : List ℕ
+    rest : List ℕ
+    joined : q ≡ front ++ rest
+    spelled : Key v front next
+    room_is : before + (11 + length next) ≤ within
+
+  next_key : (ts : List Tree) (es : Entries) (c q d y : List ℕ) → AreEntries ts → length ts % 2 ≡ 0 → Each R c (key_parts ts) → SpellsEntries L v d es → length ts < 2 * entry_count es → c ++ q ≡ d ++ y
+      → NextKey q (children_room ts) (entries_room es)
+  next_key [] no_entries c q d y are even p s less e = absurd (omega (arith, less))
+  next_key [] (entry l u es) c q d y are even p s less e = record {
+    next = l;
+    front = s.front;
+    rest = s.rest ++ y;
+    joined = ap (λ (z : List ℕ). z ++ q) (sym p) ∙ e ∙ ap (λ (z : List ℕ). z ++ y) s.joined ∙ append_assoc s.front s.rest y;
+    spelled = s.first;
+    room_is = omega arith;
+  }
+  next_key (k ∷ ts) no_entries c q d y are even p s less e = absurd (omega (arith, less))
+  next_key (k ∷ []) (entry l u es) c q d y are even p s less e = absurd (omega (arith, even))
+  next_key (k ∷ t ∷ ts) (entry l u es) c q d y are even p s less e =
+      let whole = both_cut c d p.front p.rest s.front s.rest q y p.joined s.joined e in
+      let same = (agree_key v (text_of k) l).agree p.front s.front (p.rest ++ q) (s.rest ++ y) p.first s.first whole in
+      let rest = rest_is p.front s.front (p.rest ++ q) (s.rest ++ y) same.0 whole in
+      let r = p.second in
+      let o = s.second in
+      let more = both_cut p.rest s.rest r.front r.rest o.front o.rest q y r.joined o.joined rest in
+      let tree = one_tree L v one_l r.front o.front (r.rest ++ q) (o.rest ++ y) t u r.first o.first more in
+      let n = next_key ts es r.rest q o.rest y are.1 (omega (arith, even)) r.second o.second (omega (arith, less)) (rest_is r.front o.front (r.rest ++ q) (o.rest ++ y) tree.0 more) in
+      record { next = n.next; front = n.front; rest = n.rest; joined = n.joined; spelled = n.spelled; room_is = omega (arith, n.room_is, key_room k are.0, ap length same.1, ap room tree.1) }
+
+  -- ---- a list that is open, and the value that it becomes
+
+  -- the number and the children of an array, in the value's own bytes
+  record IsArray (n : ℕ) (c q : List ℕ) (t : Tree) : Type 0 where
+    us : Elements
+    d : List ℕ
+    y : List ℕ
+    is : t ≡ array us
+    counted : n ≡ element_count us
+    spelled : SpellsElements L v d us
+    joined : c ++ q ≡ d ++ y
+
+  record IsObject (n : ℕ) (c q : List ℕ) (t : Tree) : Type 0 where
+    es : Entries
+    d : List ℕ
+    y : List ℕ
+    is : t ≡ object es
+    counted : n ≡ entry_count es
+    spelled : SpellsEntries L v d es
+    joined : c ++ q ≡ d ++ y
+
+  is_array : (n : ℕ) (whole h c q b y : List ℕ) (t : Tree) → whole ≡ h ++ c → Behind 12 (λ z. VNum z n) h → whole ++ q ≡ b ++ y → Spells L v b t → IsArray n c q t
+  is_array n whole h c q b y (leaf l) cut p e s = absurd (let k = behind_codes 12 (leaf_code l) whole b h c p.body s.body q y cut p.joined s.joined e in omega (arith, k.0, (leaf_code_small l).1))
+  is_array n whole h c q b y (array us) cut p e s =
+      let k = behind_codes 12 12 whole b h c p.body s.body q y cut p.joined s.joined e in
+      let parts = s.spelled in
+      let all : p.body ++ (c ++ q) ≡ parts.front ++ (parts.rest ++ y) = k.1 ∙ ap (λ (z : List ℕ). z ++ y) parts.joined ∙ append_assoc parts.front parts.rest y in
+      let same = one_number p.body parts.front (c ++ q) (parts.rest ++ y) n (element_count us) p.spelled parts.first all in
+      record { us = us; d = parts.rest; y = y; is = refl; counted = same.1; spelled = parts.second; joined = rest_is p.body parts.front (c ++ q) (parts.rest ++ y) same.0 all }
+  is_array n whole h c q b y (object es) cut p e s = elim s [
+    | inl o ↦ absurd (let k = behind_codes 12 13 whole b h c p.body o.body q y cut p.joined o.joined e in omega (arith, k.0))
+    | inr o ↦ absurd (let k = behind_codes 12 8 whole b h c p.body o.body q y cut p.joined o.joined e in omega (arith, k.0))
+  ]
+
+  is_object : (n : ℕ) (whole h c q b y : List ℕ) (t : Tree) → whole ≡ h ++ c → Behind 13 (λ z. VNum z (entry_total v n)) h → whole ++ q ≡ b ++ y → Spells L v b t → IsObject n c q t
+  is_object n whole h c q b y (leaf l) cut p e s = absurd (let k = behind_codes 13 (leaf_code l) whole b h c p.body s.body q y cut p.joined s.joined e in omega (arith, k.0, (leaf_code_small l).1))
+  is_object n whole h c q b y (array us) cut p e s = absurd (let k = behind_codes 13 12 whole b h c p.body s.body q y cut p.joined s.joined e in omega (arith, k.0))
+  is_object n whole h c q b y (object es) cut p e s = elim s [
+    | inl o ↦
+        let k = behind_codes 13 13 whole b h c p.body o.body q y cut p.joined o.joined e in
+        let parts = o.spelled in
+        let all : p.body ++ (c ++ q) ≡ parts.front ++ (parts.rest ++ y) = k.1 ∙ ap (λ (z : List ℕ). z ++ y) parts.joined ∙ append_assoc parts.front parts.rest y in
+        let same = one_number p.body parts.front (c ++ q) (parts.rest ++ y) (entry_total v n) (entry_total v (entry_count es)) p.spelled parts.first all in
+        record { es = es; d = parts.rest; y = y; is = refl; counted = total_same v n (entry_count es) same.1; spelled = parts.second; joined = rest_is p.body parts.front (c ++ q) (parts.rest ++ y) same.0 all }
+    | inr o ↦ absurd (let k = behind_codes 13 8 whole b h c p.body o.body q y cut p.joined o.joined e in omega (arith, k.0))
+  ]
+
+  in_list : (kind : ListKind) (n : ℕ) (ts : List Tree) (whole q b y : List ℕ) (t : Tree) → length ts < total kind n → AreChildren kind ts → IsValueNext kind (length ts) → Each R whole (list_head kind n ∷ children_parts kind ts) → whole ++ q ≡ b ++ y → Spells L v b t
+      → NextIn q (5 + children_room ts) (room t)
+  in_list Array n ts whole q b y t lacks are next p e s =
+      let i = is_array n whole p.front p.rest q b y t p.joined p.first e s in
+      let k = next_element ts i.us p.rest q i.d i.y p.second i.spelled (omega (arith, lacks, i.counted)) i.joined in
+      record { next = k.next; starts = k.starts; room_is = omega (arith, k.room_is, ap room i.is) }
+  in_list Object n ts whole q b y t lacks are next p e s =
+      let i = is_object n whole p.front p.rest q b y t p.joined p.first e s in
+      let k = next_behind_key ts i.es p.rest q i.d i.y are next p.second i.spelled (omega (arith, lacks, i.counted)) i.joined in
+      record { next = k.next; starts = k.starts; room_is = omega (arith, k.room_is, ap room i.is) }
+
+  in_list_key : (kind : ListKind) (n : ℕ) (ts : List Tree) (whole q b y : List ℕ) (t : Tree) → length ts < total kind n → AreChildren kind ts → IsKeyNext kind (length ts) → Each R whole (list_head kind n ∷ children_parts kind ts) → whole ++ q ≡ b ++ y → Spells L v b t
+      → NextKey q (5 + children_room ts) (room t)
+  in_list_key Array n ts whole q b y t lacks are next p e s = absurd next
+  in_list_key Object n ts whole q b y t lacks are next p e s =
+      let i = is_object n whole p.front p.rest q b y t p.joined p.first e s in
+      let k = next_key ts i.es p.rest q i.d i.y are next p.second i.spelled (omega (arith, lacks, i.counted)) i.joined in
+      record { next = k.next; front = k.front; rest = k.rest; joined = k.joined; spelled = k.spelled; room_is = omega (arith, k.room_is, ap room i.is) }
+
+  -- ---- all open lists
+
+  record NextValue (ls : List OpenList) (q : List ℕ) (t : Tree) : Type 0 where
+    next : Tree
+    starts : Starts q next
+    room_is : lists_room ls + room next ≤ room t
+
+  next_value : (ls : List OpenList) (p q b y : List ℕ) (t : Tree) → AreLists ls → AllAwait ls → Each R p (lists_parts ls) → p ++ q ≡ b ++ y → Spells L v b t → NextValue ls q t
+  next_value [] p q b y t are await h e s = record { next = t; starts = record { front = b; rest = y; joined = ap (λ (z : List ℕ). z ++ q) (sym h) ∙ e; spelled = s }; room_is = omega arith }
+  next_value (l ∷ ls) p q b y t are await h e s =
+      let c = each_split R (lists_parts ls) (list_parts l) p h in
+      let whole : c.front ++ (c.rest ++ q) ≡ b ++ y = sym (append_assoc c.front c.rest q) ∙ ap (λ (z : List ℕ). z ++ q) (sym c.joined) ∙ e in
+      let outer = next_value ls c.front (c.rest ++ q) b y t are.1 await.1 c.first whole s in
+      let k = in_list l.kind l.announced l.children c.rest q outer.starts.front outer.starts.rest outer.next are.0.lacks are.0.children await.0 c.second outer.starts.joined outer.starts.spelled in
+      record { next = k.next; starts = k.starts; room_is = omega (arith, k.room_is, outer.room_is) }
+
+  next_key_in : (l : OpenList) (ls : List OpenList) (p q b y : List ℕ) (t : Tree) → AreLists (l ∷ ls) → AllAwait ls → IsKeyNext l.kind (length l.children) → Each R p (lists_parts (l ∷ ls)) → p ++ q ≡ b ++ y → Spells L v b t
+      → NextKey q (lists_room (l ∷ ls)) (room t)
+  next_key_in l ls p q b y t are await next h e s =
+      let c = each_split R (lists_parts ls) (list_parts l) p h in
+      let whole : c.front ++ (c.rest ++ q) ≡ b ++ y = sym (append_assoc c.front c.rest q) ∙ ap (λ (z : List ℕ). z ++ q) (sym c.joined) ∙ e in
+      let outer = next_value ls c.front (c.rest ++ q) b y t are.1 await c.first whole s in
+      let k = in_list_key l.kind l.announced l.children c.rest q outer.starts.front outer.starts.rest outer.next are.0.lacks are.0.children next c.second outer.starts.joined outer.starts.spelled in
+      record { next = k.next; front = k.front; rest = k.rest; joined = k.joined; spelled = k.spelled; room_is = omega (arith, k.room_is, outer.room_is) }
+
+  -- ---- open bytes
+
+  -- the length of a text that bytes begin with
+  text_length : (n : ℕ) (a x b y content : List ℕ) → VNum a n → Text b content → a ++ x ≡ b ++ y → n ≡ length content
+  text_length n a x b y content p s e =
+      (one_number a s.sized.size x (content ++ y) n (length content) p s.sized.number (e ∙ ap (λ (z : List ℕ). z ++ y) s.sized.joined ∙ append_assoc s.sized.size content y)).1
+
+  sized_length : (n : ℕ) (a x b y content : List ℕ) → VNum a n → Sized b content → a ++ x ≡ b ++ y → n ≡ length content
+  sized_length n a x b y content p s e = (one_number a s.size x (content ++ y) n (length content) p s.number (e ∙ ap (λ (z : List ℕ). z ++ y) s.joined ∙ append_assoc s.size content y)).1
+
+  str_room : (n : ℕ) (h x b y : List ℕ) (t : Tree) → Behind 0 (λ z. VNum z n) h → h ++ x ≡ b ++ y → Spells L v b t → room t ≡ 5 + n
+  str_room n h x b y (leaf l) p e s =
+      let k = coded 0 (leaf_code l) h b p.body s.body x y p.joined s.joined e in
+      let i = is_text l (sym k.0) in
+      omega (arith, text_length n p.body x s.body y i.0 p.spelled (subst (λ z. LeafBody v s.body z) i.1 s.spelled) k.1, ap leaf_room i.1)
+  str_room n h x b y (array us) p e s = absurd (let k = coded 0 12 h b p.body s.body x y p.joined s.joined e in omega (arith, k.0))
+  str_room n h x b y (object es) p e s = elim s [
+    | inl o ↦ absurd (let k = coded 0 13 h b p.body o.body x y p.joined o.joined e in omega (arith, k.0))
+    | inr o ↦ absurd (let k = coded 0 8 h b p.body o.body x y p.joined o.joined e in omega (arith, k.0))
+  ]
+
+  facet_room : (n : ℕ) (h x b y : List ℕ) (t : Tree) → Behind 3 (λ z. VNum z n) h → h ++ x ≡ b ++ y → Spells L v b t → room t ≡ 5 + n
+  facet_room n h x b y (leaf l) p e s =
+      let k = coded 3 (leaf_code l) h b p.body s.body x y p.joined s.joined e in
+      let i = is_facet l (sym k.0) in
+      omega (arith, text_length n p.body x s.body y i.0 p.spelled (subst (λ z. LeafBody v s.body z) i.1 s.spelled) k.1, ap leaf_room i.1)
+  facet_room n h x b y (array us) p e s = absurd (let k = coded 3 12 h b p.body s.body x y p.joined s.joined e in omega (arith, k.0))
+  facet_room n h x b y (object es) p e s = elim s [
+    | inl o ↦ absurd (let k = coded 3 13 h b p.body o.body x y p.joined o.joined e in omega (arith, k.0))
+    | inr o ↦ absurd (let k = coded 3 8 h b p.body o.body x y p.joined o.joined e in omega (arith, k.0))
+  ]
+
+  bytes_room : (n : ℕ) (h x b y : List ℕ) (t : Tree) → Behind 4 (λ z. VNum z n) h → h ++ x ≡ b ++ y → Spells L v b t → room t ≡ 5 + n
+  bytes_room n h x b y (leaf l) p e s =
+      let k = coded 4 (leaf_code l) h b p.body s.body x y p.joined s.joined e in
+      let i = is_bytes l (sym k.0) in
+      omega (arith, sized_length n p.body x s.body y i.0 p.spelled (subst (λ z. LeafBody v s.body z) i.1 s.spelled) k.1, ap leaf_room i.1)
+  bytes_room n h x b y (array us) p e s = absurd (let k = coded 4 12 h b p.body s.body x y p.joined s.joined e in omega (arith, k.0))
+  bytes_room n h x b y (object es) p e s = elim s [
+    | inl o ↦ absurd (let k = coded 4 13 h b p.body o.body x y p.joined o.joined e in omega (arith, k.0))
+    | inr o ↦ absurd (let k = coded 4 8 h b p.body o.body x y p.joined o.joined e in omega (arith, k.0))
+  ]
+
+  key_length : (w : Version) (n : ℕ) (h x b y k : List ℕ) → KeyHead w h n → Key w b k → h ++ x ≡ b ++ y → n ≡ length k
+  key_length V1 n h x b y k p s e = text_length n p.body x s.body y k p.spelled s.spelled (coded 0 0 h b p.body s.body x y p.joined s.joined e).1
+  key_length V2 n h x b y k p s e = text_length n p.body x s.body y k p.spelled s.spelled (coded 0 0 h b p.body s.body x y p.joined s.joined e).1
+  key_length V3 n h x b y k p s e = text_length n h x b y k p s e
+
+  -- ---- a value of which this has come
+
+  abbrev HeadParts : BytesKind → ℕ → List ℕ → List ℕ → Type 0
+  HeadParts kind n bs b = Each R b (bytes_head kind n ∷ some_bytes bs ∷ [])
+
+  in_value : (kind : BytesKind) (ls : List OpenList) (n : ℕ) (bs h r x b y : List ℕ) (t : Tree) → AreLists ls → HeadNext kind ls → OthersAwait ls → Each R h (lists_parts ls) → HeadParts kind n bs r → h ++ (r ++ x) ≡ b ++ y → Spells L v b t
+      → lists_room ls + (5 + n) ≤ room t
+  in_value kinds.Str ls n bs h r x b y t are next others p g e s =
+      let k = next_value ls h (r ++ x) b y t are next p e s in
+      let head = str_room n g.front (g.rest ++ x) k.starts.front k.starts.rest k.next g.first (sym (append_assoc g.front g.rest x) ∙ ap (λ (z : List ℕ). z ++ x) (sym g.joined) ∙ k.starts.joined) k.starts.spelled in
+      omega (arith, k.room_is, head)
+  in_value kinds.Facet ls n bs h r x b y t are next others p g e s =
+      let k = next_value ls h (r ++ x) b y t are next p e s in
+      let head = facet_room n g.front (g.rest ++ x) k.starts.front k.starts.rest k.next g.first (sym (append_assoc g.front g.rest x) ∙ ap (λ (z : List ℕ). z ++ x) (sym g.joined) ∙ k.starts.joined) k.starts.spelled in
+      omega (arith, k.room_is, head)
+  in_value kinds.Bytes ls n bs h r x b y t are next others p g e s =
+      let k = next_value ls h (r ++ x) b y t are next p e s in
+      let head = bytes_room n g.front (g.rest ++ x) k.starts.front k.starts.rest k.next g.first (sym (append_assoc g.front g.rest x) ∙ ap (λ (z : List ℕ). z ++ x) (sym g.joined) ∙ k.starts.joined) k.starts.spelled in
+      omega (arith, k.room_is, head)
+  in_value kinds.Key [] n bs h r x b y t are next others p g e s = absurd next
+  in_value kinds.Key (l ∷ ls) n bs h r x b y t are next others p g e s =
+      let k = next_key_in l ls h (r ++ x) b y t are others next p e s in
+      let head = key_length v n g.front (g.rest ++ x) k.front k.rest k.next g.first k.spelled (sym (append_assoc g.front g.rest x) ∙ ap (λ (z : List ℕ). z ++ x) (sym g.joined) ∙ k.joined) in
+      omega (arith, k.room_is, head)
+
+  open_within : (l : OpenList) (ls : List OpenList) (p x b y : List ℕ) (t : Tree) → AreLists (l ∷ ls) → AllAwait ls → Each R p (lists_parts (l ∷ ls)) → p ++ x ≡ b ++ y → Spells L v b t → lists_room (l ∷ ls) ≤ room t
+  open_within l ls p x b y t are await h e s = by_next l.kind refl
+    where
+      a_value : IsValueNext l.kind (length l.children) → lists_room (l ∷ ls) ≤ room t
+      a_value next = omega (arith, (next_value (l ∷ ls) p x b y t are (next, await) h e s).room_is)
+
+      a_key : IsKeyNext l.kind (length l.children) → lists_room (l ∷ ls) ≤ room t
+      a_key next = omega (arith, (next_key_in l ls p x b y t are await next h e s).room_is)
+
+      by_next : (kind : ListKind) → l.kind ≡ kind → lists_room (l ∷ ls) ≤ room t
+      by_next Array is = a_value (subst (λ z. IsValueNext z (length l.children)) (sym is) tt)
+      by_next Object is = elim (eqb_tells (length l.children % 2) 0) [
+        | inl q ↦ a_key (subst (λ z. IsKeyNext z (length l.children)) (sym is) q.1)
+        | inr q ↦ a_value (subst (λ z. IsValueNext z (length l.children)) (sym is) (omega (arith, q.1)))
+      ]
+
+  pub state_within : (st : State) (p x b y : List ℕ) (t : Tree) → IsState st → Each R p (parts_of st) → p ++ x ≡ b ++ y → Spells L v b t → state_room st ≤ room t
+  state_within (complete u) p x b y t is h e s =
+      let all : p ≡ h.front = h.joined ∙ ap (λ (z : List ℕ). h.front ++ z) h.second ∙ append-nil h.front in
+      let same = one_tree L v one_l h.front b x y u t h.first s (ap (λ (z : List ℕ). z ++ x) (sym all) ∙ e) in
+      omega (arith, ap room same.1)
+  state_within (in_lists []) p x b y t is h e s = omega arith
+  state_within (in_lists (l ∷ ls)) p x b y t is h e s = open_within l ls p x b y t is.0 is.1 h e s
+  state_within (in_bytes ls kind n bs) p x b y t is h e s =
+      let c = each_split R (lists_parts ls) (bytes_head kind n ∷ some_bytes bs ∷ []) p h in
+      in_value kind ls n bs c.front c.rest x b y t is.0 is.2 is.1 c.first c.second (sym (append_assoc c.front c.rest x) ∙ ap (λ (z : List ℕ). z ++ x) (sym c.joined) ∙ e) s
+
+  -- ---- a document
+
+  pairs_within : (o : Document) (f : ℕ) (st : State) (d : Document) (p x b y : List ℕ) → IsState st → length o < length d → Each R p (pairs_parts o ++ (field f ∷ parts_of st)) → p ++ x ≡ b ++ y → Each (SpellsPair L v) b d
+      → document_room o + state_room st ≤ document_room d
+  pairs_within [] f st [] p x b y is less h e s = absurd (omega (arith, less))
+  pairs_within (q ∷ o) f st [] p x b y is less h e s = absurd (omega (arith, less))
+  pairs_within [] f st (r ∷ d) p x b y is less h e s =
+      let whole = both_cut p b h.front h.rest s.front s.rest x y h.joined s.joined e in
+      let t = s.first.parts in
+      let all : h.front ++ (h.rest ++ x) ≡ t.front ++ (t.rest ++ (s.rest ++ y)) = whole ∙ ap (λ (z : List ℕ). z ++ (s.rest ++ y)) t.joined ∙ append_assoc t.front t.rest (s.rest ++ y) in
+      let same = one_fixed 4 h.front t.front (h.rest ++ x) (t.rest ++ (s.rest ++ y)) f r.0 h.first t.first all in
+      let within = state_within st h.rest x t.rest (s.rest ++ y) r.1 is h.second (rest_is h.front t.front (h.rest ++ x) (t.rest ++ (s.rest ++ y)) same.0 all) t.second in
+      omega (arith, within, document_room-cons r d)
+  pairs_within (q ∷ o) f st (r ∷ d) p x b y is less h e s =
+      let whole = both_cut p b h.front h.rest s.front s.rest x y h.joined s.joined e in
+      let same = one_pair L v one_l h.front s.front (h.rest ++ x) (s.rest ++ y) q r h.first s.first whole in
+      let more = pairs_within o f st d h.rest x s.rest y is (omega (arith, less)) h.second (rest_is h.front s.front (h.rest ++ x) (s.rest ++ y) same.0 whole) s.second in
+      omega (arith, more, document_room-cons q o, document_room-cons r d, ap (λ (z : ℕ × Tree). room z.1) same.1)
+
+  pub document_within : (n : ℕ) (o : Document) (f : ℕ) (st : State) (p x b y : List ℕ) (d : Document) → IsState st → length o < n → Each R p (open_parts n o f st) → p ++ x ≡ b ++ y → SpellsDocument L v b d
+      → document_room o + state_room st ≤ document_room d
+  document_within n o f st p x b y d is less h e s =
+      let whole = both_cut p b h.front h.rest s.front s.rest x y h.joined s.joined e in
+      let same = one_number h.front s.front (h.rest ++ x) (s.rest ++ y) n (length d) h.first s.first whole in
+      pairs_within o f st d h.rest x s.rest y is (omega (arith, less, same.1)) h.second (rest_is h.front s.front (h.rest ++ x) (s.rest ++ y) same.0 whole) s.second

@@ -1,0 +1,24 @@
+-- What the errors of a tree builder are called by a reader of the store.
+use Rattle.std.specs.Prelude.{ℕ}
+use Rattle.tv_base.specs.declared.cause.Cause.TheVariants as causes
+use Rattle.tv_builder.specs.declared.build_error.BuildError.{BuildError}
+use Rattle.tv_builder.specs.declared.build_error.BuildError.TheVariants as builds
+use Rattle.tv_reader.specs.declared.error.DeserializeError.{DeserializeError}
+use Rattle.tv_reader.specs.declared.error.DeserializeError.TheVariants as errors
+
+-- those that come where each call is made in its place
+abbrev pub Comes : BuildError → Type 0
+Comes builds.AlreadyFailed = ⊥
+Comes builds.OutOfPlace = ⊥
+Comes (builds.FieldNumber n) = ⊥
+Comes builds.NotUtf8 = Unit {0}
+Comes builds.HeapFull = Unit {0}
+Comes builds.Memory = Unit {0}
+
+abbrev pub build_error : BuildError → DeserializeError
+build_error builds.AlreadyFailed = errors.AlreadyFailed
+build_error builds.OutOfPlace = errors.AlreadyFailed
+build_error (builds.FieldNumber n) = errors.CorruptedValue (causes.FieldNumber n)
+build_error builds.NotUtf8 = errors.CorruptedValue causes.NotUtf8
+build_error builds.HeapFull = errors.HeapFull
+build_error builds.Memory = errors.Memory

@@ -1,0 +1,4 @@
+pub mod Errors
+pub mod Front
+pub mod Puts
+pub mod Steps

@@ -1,0 +1,5 @@
+//! Reading documents of the store part by part, straight into a heap, with as much memory as was read.
+#![tactic(auto)]
+
+mod errors;
+pub mod reading;

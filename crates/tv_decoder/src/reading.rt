@@ -1,0 +1,382 @@
+//! What has been read of a document, and what its next part does to that.
+
+ghost use Rattle.std.specs.Prelude.{◌≡◌, ◌≢◌, ◌↔◌, ◌-◌, ◌^◌, ◌≤◌, ◌<◌, [], ◌∷◌, length, IsTrue, IsErrOf, OnOk, None, false};
+ghost use Rattle.tv_base.specs.declared.cause.Cause.TheVariants.{TooLong};
+ghost use Rattle.tv_builder.specs.Parts.{value as value_part, key as key_part, some_bytes, bytes_head};
+ghost use Rattle.tv_builder.specs.State.{awaited, head_awaits, list_head, lists_of, children_of};
+ghost use Rattle.tv_builder.specs.declared.awaits.Awaits.TheVariants.{Value as ValueAwaited, Key as KeyAwaited, Bytes as BytesAwaited};
+ghost use Rattle.tv_builder.specs.declared.bytes_kind.BytesKind.TheVariants.{Key as KeyKind};
+ghost use Rattle.tv_decoder.specs.Front.{parts_read, IsSound, IsDone, LacksPair, NoFront, NoRoomBehind};
+ghost use Rattle.tv_decoder.specs.Puts.{IsOpen, AtEnd, Awaiting, Puts, PutsEnd, PutsBytes, IsParts, head_parts};
+ghost use Rattle.tv_decoder.specs.Steps.{Stepped, Sees};
+ghost use Rattle.tv_doc.specs.Builder.{built, state_of, heap_so_far};
+ghost use Rattle.tv_doc.specs.Document.{document_of};
+ghost use Rattle.tv_reader.specs.Finds.{Finds};
+ghost use Rattle.tv_reader.specs.HeadReading.{head_part};
+ghost use Rattle.tv_reader.specs.declared.error.DeserializeError.TheVariants.{CorruptedValue, HeapFull};
+ghost use Rattle.tv_reader.specs.Version.{version_of};
+ghost use Rattle.tv_value.specs.Lent.{leaf_of};
+ghost use Rattle.tv_value.specs.Owned.{owned_tree};
+ghost use Rattle.tv_value.specs.Tree.{leaf as leaf_tree};
+ghost use Rattle.tv_value.specs.Version.{Version};
+
+use crate::errors::store_error;
+use std::alloc::Global;
+use tv_base::ByteSource;
+use tv_base::take::take_pieces;
+use tv_builder::frame::ListKind;
+use tv_doc::builder::{Awaits, BuildError, BytesKind, TreeBuilder};
+use tv_doc::document::CompactDoc;
+use tv_reader::fields::take_field;
+use tv_reader::heads::{Head, take_document_head, take_head, take_key_head};
+use tv_reader::trees::take_behind;
+use tv_reader::{DeserializeError, DocStoreVersion, ValueType};
+use tv_value::field::Field;
+use tv_value::leaf::ReferenceValueLeaf;
+use tv_value::owned_value::OwnedValue;
+use tv_value::pre_tokenized::PreTokenizedStr;
+use tv_value::value::Value;
+
+/// No more than this is read of open bytes at once.
+const PIECE: u32 = 4096;
+
+/// What has been read of a document.
+#[derive(Debug, Drop)]
+pub struct Reading {
+    /// How many pairs there are, once that was read.
+    announced: Option<u64>,
+    /// How many of them are finished.
+    finished: u64,
+    /// The field of the next pair, once that was read.
+    field: Option<u32>,
+    /// The finished pairs, and what has come of the next value.
+    builder: TreeBuilder,
+}
+
+impl Reading {
+    /// Nothing is read yet. It takes no memory.
+    pub fn new(alloc: Global) -> Reading
+        ensures parts { parts_read result ≡ [] }
+        ensures sound { IsSound result }
+        ensures document { built result.builder ≡ [] }
+    {
+        Reading {
+            announced: None,
+            finished: 0,
+            field: None,
+            builder: TreeBuilder::new(CompactDoc::new(alloc)),
+        }
+    }
+
+    /// The document of the finished pairs. Its heap ends behind the last of their values.
+    pub fn into_doc(self) -> CompactDoc
+        ensures { document_of result ≡ built self.builder }
+    {
+        self.builder.into_doc()
+    }
+
+    /// The length of the heap, in bytes.
+    pub fn heap_len(&self) -> usize
+        ensures { result ≡ length (heap_so_far self.now.builder) }
+    {
+        self.builder.heap_len()
+    }
+
+    /// How many finished children the open lists have, keys among them.
+    pub fn pending(&self) -> usize
+        ensures { result ≡ children_of (lists_of (state_of self.now.builder)) }
+    {
+        self.builder.pending()
+    }
+
+    /// How many lists are open.
+    pub fn frames(&self) -> usize
+        ensures { result ≡ length (lists_of (state_of self.now.builder)) }
+    {
+        self.builder.frames()
+    }
+
+    /// Whether all pairs are finished.
+    pub fn is_done(&self) -> bool
+        ensures { IsTrue result ↔ IsDone self.now }
+    {
+        match self.announced {
+            None => false,
+            Some(announced) => self.finished == announced,
+        }
+    }
+
+    // Makes a complete value that of the pair whose field was read.
+    fn close_pair(&mut self) -> Result<(), DeserializeError>
+        requires { IsOpen self.old }
+        ensures { Puts self.old self.new [] result }
+    {
+        let Awaits::Finish = self.builder.awaits() else {
+            return Ok(());
+        };
+        let Some(field) = self.field else {
+            return Ok(());
+        };
+        match self.builder.finish(Field::from_field_id(field)) {
+            Ok(()) => {
+                self.finished += 1;
+                self.field = None;
+                Ok(())
+            }
+            Err(error) => Err(store_error(error)),
+        }
+    }
+
+    // A value without children has come.
+    fn put_leaf(&mut self, value: ReferenceValueLeaf<'_>) -> Result<(), DeserializeError>
+        requires { Awaiting self.old ValueAwaited }
+        ensures { Puts self.old self.new (value_part (leaf_tree (leaf_of value.entry)) ∷ []) result }
+    {
+        match self.builder.leaf(value) {
+            Ok(()) => self.close_pair(),
+            Err(error) => Err(store_error(error)),
+        }
+    }
+
+    // A whole value has come.
+    fn put_tree<'a, V: Value<'a>>(&mut self, value: &V) -> Result<(), DeserializeError>
+        requires { Awaiting self.old ValueAwaited }
+        ensures { Puts self.old self.new (value_part (V.tree value.now) ∷ []) result }
+    {
+        match self.builder.tree(value) {
+            Ok(()) => self.close_pair(),
+            Err(error) => Err(store_error(error)),
+        }
+    }
+
+    // The head of a list has come.
+    fn put_list(&mut self, kind: ListKind, announced: u64) -> Result<(), DeserializeError>
+        requires { Awaiting self.old ValueAwaited }
+        ensures { Puts self.old self.new (list_head kind announced ∷ []) result }
+    {
+        let opened = match kind {
+            ListKind::Array => self.builder.open_array(announced),
+            ListKind::Object => self.builder.open_object(announced),
+        };
+        match opened {
+            Ok(()) => self.close_pair(),
+            Err(error) => Err(store_error(error)),
+        }
+    }
+
+    // All open bytes have come: they are a value or a key.
+    fn put_end(&mut self) -> Result<(), DeserializeError>
+        requires { AtEnd self.old }
+        ensures { PutsEnd self.old self.new result }
+    {
+        match self.builder.end_bytes() {
+            Ok(()) => self.close_pair(),
+            Err(error) => Err(store_error(error)),
+        }
+    }
+
+    // The length of bytes has come. None at all are a value or a key at once.
+    fn put_bytes_head(&mut self, kind: BytesKind, announced: u64) -> Result<(), DeserializeError>
+        requires { Awaiting self.old (head_awaits kind) }
+        ensures { Puts self.old self.new (bytes_head kind announced ∷ []) result }
+    {
+        if let Err(error) = self.builder.begin_bytes(kind, announced) {
+            return Err(store_error(error));
+        }
+        if announced > 0 {
+            return Ok(());
+        }
+        self.put_end()
+    }
+
+    // Some of the announced bytes have come.
+    fn put_bytes(&mut self, bytes: &[u8], missing: u32) -> Result<(), DeserializeError>
+        requires awaiting { Awaiting self.old (BytesAwaited missing) }
+        requires few { length bytes.now ≤ missing }
+        ensures { PutsBytes self.old self.new bytes.now (some_bytes bytes.now ∷ []) result }
+    {
+        if let Err(error) = self.builder.chunk(bytes) {
+            return Err(store_error(error));
+        }
+        if bytes.len() < missing as usize {
+            return Ok(());
+        }
+        self.put_end()
+    }
+
+    // What was taken of a value at once has come.
+    fn put_head(&mut self, head: Head) -> Result<(), DeserializeError>
+        requires awaiting { Awaiting self.old ValueAwaited }
+        requires parts { IsParts (head_part head) }
+        ensures { Puts self.old self.new (head_parts (head_part head)) result }
+    {
+        match head {
+            Head::Null => self.put_leaf(ReferenceValueLeaf::Null),
+            Head::U64(number) => self.put_leaf(ReferenceValueLeaf::U64(number)),
+            Head::I64(number) => self.put_leaf(ReferenceValueLeaf::I64(number)),
+            Head::Date(date) => self.put_leaf(ReferenceValueLeaf::Date(date)),
+            Head::Bool(truth) => self.put_leaf(ReferenceValueLeaf::Bool(truth)),
+            Head::IpAddr(address) => self.put_leaf(ReferenceValueLeaf::IpAddr(address)),
+            Head::Text(len) => self.put_bytes_head(BytesKind::Str, len),
+            Head::Facet(len) => self.put_bytes_head(BytesKind::Facet, len),
+            Head::Bytes(len) => self.put_bytes_head(BytesKind::Bytes, len),
+            Head::Array(announced) => self.put_list(ListKind::Array, announced),
+            Head::Object(announced) => self.put_list(ListKind::Object, announced),
+            Head::Tokenized | Head::Legacy => unreachable!(),
+        }
+    }
+
+    // A whole value has come, which owns what it holds.
+    fn put_owned(&mut self, value: &OwnedValue) -> Result<(), DeserializeError>
+        requires { Awaiting self.old ValueAwaited }
+        ensures { Puts self.old self.new (value_part (owned_tree value.now) ∷ []) result }
+    {
+        match value {
+            OwnedValue::PreTokStr(text) => {
+                let text = PreTokenizedStr::from_string(text);
+                self.put_leaf(ReferenceValueLeaf::PreTokStr(text))
+            }
+            other => self.put_tree(&other),
+        }
+    }
+
+    // Reads how many pairs there are.
+    fn step_number<S: ByteSource>(
+        &mut self,
+        source: &mut S,
+        count: &mut u64,
+    ) -> Result<(), DeserializeError>
+        requires sound { IsSound self.old }
+        requires none { self.old.announced ≡ None }
+        ensures sound { OnOk result (IsSound self.new) }
+        ensures finds { (v : Version) → Finds S.tells S.left S.faults source.old count.old source.new count.new result (λ b _. Stepped v false self.old self.new b) (NoFront v self.old) }
+        ensures too_long { IsErrOf result (CorruptedValue TooLong) → count.new ≡ 2 ^ 64 - 1 }
+        ensures roomy { ¬ IsErrOf result HeapFull }
+    {
+        let announced = take_document_head(source, count)?;
+        self.announced = Some(announced);
+        Ok(())
+    }
+
+    // Reads the field of a pair.
+    fn step_field<S: ByteSource>(
+        &mut self,
+        source: &mut S,
+        count: &mut u64,
+    ) -> Result<(), DeserializeError>
+        requires sound { IsSound self.old }
+        requires none { self.old.field ≡ None }
+        requires lacks { LacksPair self.old.announced self.old.finished }
+        ensures sound { OnOk result (IsSound self.new) }
+        ensures finds { (v : Version) → Finds S.tells S.left S.faults source.old count.old source.new count.new result (λ b _. Stepped v false self.old self.new b) (NoFront v self.old) }
+        ensures too_long { IsErrOf result (CorruptedValue TooLong) → count.new ≡ 2 ^ 64 - 1 }
+        ensures roomy { ¬ IsErrOf result HeapFull }
+    {
+        let field = take_field(source, count)?;
+        self.field = Some(field);
+        Ok(())
+    }
+
+    // Reads a value, or its head.
+    fn step_value<S: ByteSource>(
+        &mut self,
+        alloc: Global,
+        source: &mut S,
+        count: &mut u64,
+        version: DocStoreVersion,
+        legacy_seen: &mut bool,
+    ) -> Result<(), DeserializeError>
+        requires { Awaiting self.old ValueAwaited }
+        ensures sound { OnOk result (IsSound self.new) }
+        ensures finds { Finds S.tells S.left S.faults source.old count.old source.new count.new result (λ b _. Stepped (version_of version) legacy_seen.new self.old self.new b) (NoFront (version_of version) self.old) }
+        ensures full { S.tells source.old → IsErrOf result HeapFull → NoRoomBehind (version_of version) self.old (S.left source.old) }
+        ensures too_long { IsErrOf result (CorruptedValue TooLong) → count.new ≡ 2 ^ 64 - 1 }
+        ensures seen { S.tells source.old → Sees self.old (S.left source.old) legacy_seen.old legacy_seen.new }
+    {
+        let head = take_head(source, count, version)?;
+        match head {
+            Head::Tokenized => {
+                let value = take_behind(alloc, source, count, version, ValueType::PreTokStr)?;
+                self.put_owned(&value)
+            }
+            Head::Legacy => {
+                *legacy_seen = true;
+                let value = take_behind(alloc, source, count, version, ValueType::JSONObject)?;
+                self.put_owned(&value)
+            }
+            head => self.put_head(head),
+        }
+    }
+
+    // Reads the head of a key.
+    fn step_key<S: ByteSource>(
+        &mut self,
+        source: &mut S,
+        count: &mut u64,
+        version: DocStoreVersion,
+    ) -> Result<(), DeserializeError>
+        requires { Awaiting self.old KeyAwaited }
+        ensures sound { OnOk result (IsSound self.new) }
+        ensures finds { Finds S.tells S.left S.faults source.old count.old source.new count.new result (λ b _. Stepped (version_of version) false self.old self.new b) (NoFront (version_of version) self.old) }
+        ensures full { S.tells source.old → IsErrOf result HeapFull → NoRoomBehind (version_of version) self.old (S.left source.old) }
+        ensures too_long { IsErrOf result (CorruptedValue TooLong) → count.new ≡ 2 ^ 64 - 1 }
+    {
+        let len = take_key_head(source, count, version)?;
+        self.put_bytes_head(BytesKind::Key, len)
+    }
+
+    // Reads some of the announced bytes.
+    fn step_bytes<S: ByteSource>(
+        &mut self,
+        alloc: Global,
+        source: &mut S,
+        count: &mut u64,
+        missing: u32,
+    ) -> Result<(), DeserializeError>
+        requires awaiting { Awaiting self.old (BytesAwaited missing) }
+        ensures sound { OnOk result (IsSound self.new) }
+        ensures finds { (v : Version) → Finds S.tells S.left S.faults source.old count.old source.new count.new result (λ b _. Stepped v false self.old self.new b) (NoFront v self.old) }
+        ensures full { (v : Version) → S.tells source.old → IsErrOf result HeapFull → NoRoomBehind v self.old (S.left source.old) }
+        ensures too_long { IsErrOf result (CorruptedValue TooLong) → count.new ≡ 2 ^ 64 - 1 }
+    {
+        let len = missing.min(PIECE);
+        let mut bytes = Vec::new(alloc);
+        take_pieces(source, count, &mut bytes, u64::from(len))?;
+        self.put_bytes(&bytes, missing)
+    }
+
+    /// Reads the next part: the number of the pairs, a field, a key's or a value's head (all of a value of a known width, of a
+    /// pre-tokenized text and of an object as older stores hold it), or at most 4096 of the bytes of a text, a facet, bytes or a key.
+    ///
+    /// Errors: `CorruptedValue` and `TypeMismatch` with the first fault in the bytes, `HeapFull` where what has come needs more room
+    /// than 4294967295 bytes, `Io` where the source failed, `Memory`.
+    pub fn advance<S: ByteSource>(
+        &mut self,
+        alloc: Global,
+        source: &mut S,
+        count: &mut u64,
+        version: DocStoreVersion,
+        legacy_seen: &mut bool,
+    ) -> Result<(), DeserializeError>
+        requires sound { IsSound self.old }
+        requires more { ¬ IsDone self.old }
+        ensures sound { OnOk result (IsSound self.new) }
+        ensures finds { Finds S.tells S.left S.faults source.old count.old source.new count.new result (λ b _. Stepped (version_of version) legacy_seen.new self.old self.new b) (NoFront (version_of version) self.old) }
+        ensures full { S.tells source.old → IsErrOf result HeapFull → NoRoomBehind (version_of version) self.old (S.left source.old) }
+        ensures too_long { IsErrOf result (CorruptedValue TooLong) → count.new ≡ 2 ^ 64 - 1 }
+        ensures seen { S.tells source.old → Sees self.old (S.left source.old) legacy_seen.old legacy_seen.new }
+    {
+        if self.announced.is_none() {
+            return self.step_number(source, count);
+        }
+        if self.field.is_none() {
+            return self.step_field(source, count);
+        }
+        match self.builder.awaits() {
+            Awaits::Value => self.step_value(alloc, source, count, version, legacy_seen),
+            Awaits::Key => self.step_key(source, count, version),
+            Awaits::Bytes { missing } => self.step_bytes(alloc, source, count, missing),
+            Awaits::Finish => unreachable!(),
+        }
+    }
+}
