@@ -16,7 +16,6 @@ use Rattle.tv_builder.specs.Kinds.{list_type, total}
 use Rattle.tv_builder.specs.Parts.{value, key, array_head, object_head, entry_parts, Rule, full_array, full_object}
 use Rattle.tv_builder.specs.Shows.{Placed}
 use Rattle.tv_builder.specs.State.{text_of, pairs_of, list_tree, IsKey, AreEntries, AreValues, AreChildren, IsValueNext, IsKeyNext, key_parts, value_parts, list_head, children_parts, children_room, trees_weight}
-use Rattle.tv_builder.specs.Weight.{children_weight}
 
 -- ---- parts
 
@@ -150,7 +149,7 @@ pub elements_room_is : (ts : List Tree) → elements_room (elements ts) ≡ chil
 elements_room_is [] = refl
 elements_room_is (t ∷ ts) = omega (arith, elements_room_is ts)
 
-pub elements_weight_is : (ts : List Tree) → elements_weight (elements ts) ≡ children_weight ts
+pub elements_weight_is : (ts : List Tree) → elements_weight (elements ts) ≡ 6 * length ts + trees_weight ts
 elements_weight_is [] = refl
 elements_weight_is (t ∷ ts) = omega (arith, elements_weight_is ts)
 
@@ -158,7 +157,7 @@ key_room : (k : Tree) → IsKey k → (room k ≡ 5 + length (text_of k)) × (tr
 key_room (leaf (text content)) h = (refl, refl)
 key_room _ h = absurd h
 
-entries_room_is : (ts : List Tree) → length ts % 2 ≡ 0 → AreEntries ts → (entries_room (entries (pairs_of ts)) ≡ children_room ts) × (entries_weight (entries (pairs_of ts)) ≡ children_weight ts)
+entries_room_is : (ts : List Tree) → length ts % 2 ≡ 0 → AreEntries ts → (entries_room (entries (pairs_of ts)) ≡ children_room ts) × (entries_weight (entries (pairs_of ts)) ≡ 6 * length ts + trees_weight ts)
 entries_room_is [] even h = (refl, refl)
 entries_room_is (k ∷ []) even h = absurd (omega (arith, even))
 entries_room_is (k ∷ t ∷ ts) even h =
@@ -170,19 +169,15 @@ pub list_room : (kind : ListKind) (n : ℕ) (ts : List Tree) → length ts ≡ t
 list_room Array n ts full h = omega (arith, elements_room_is ts)
 list_room Object n ts full h = omega (arith, (entries_room_is ts (omega (arith, full)) h).0)
 
-pub list_weight : (kind : ListKind) (n : ℕ) (ts : List Tree) → length ts ≡ total kind n → AreChildren kind ts → tree_weight (list_tree kind ts) ≡ 5 + children_weight ts
+pub list_weight : (kind : ListKind) (n : ℕ) (ts : List Tree) → length ts ≡ total kind n → AreChildren kind ts → tree_weight (list_tree kind ts) ≡ 5 + 6 * length ts + trees_weight ts
 list_weight Array n ts full h = omega (arith, elements_weight_is ts)
 list_weight Object n ts full h = omega (arith, (entries_room_is ts (omega (arith, full)) h).1)
-
-pub children_weigh : (ts : List Tree) → children_weight ts ≡ 6 * length ts + trees_weight ts
-children_weigh [] = refl
-children_weigh (t ∷ ts) = omega (arith, children_weigh ts)
 
 -- the bytes of a list are within the weight that it adds to that of its children
 pub list_within : (kind : ListKind) (n : ℕ) (heap new own : List ℕ) (ts : List Tree) → length ts ≡ total kind n → AreChildren kind ts → ReadsElements heap (length heap) own (elements ts)
     → new ≡ heap ++ short_sized own → length new ≤ 4294967295 → length new + trees_weight ts ≤ length heap + tree_weight (list_tree kind ts)
 list_within kind n heap new own ts full are h e fits =
-    omega (arith, longer heap new _ e, sized_length own (own_small heap new own e fits), (elements_bytes heap (length heap) own ts h).1, list_weight kind n ts full are, children_weigh ts)
+    omega (arith, longer heap new _ e, sized_length own (own_small heap new own e fits), (elements_bytes heap (length heap) own ts h).1, list_weight kind n ts full are)
 
 pub trees_weight_push : (ts : List Tree) (t : Tree) → trees_weight (ts ++ t ∷ []) ≡ trees_weight ts + tree_weight t
 trees_weight_push [] t = omega arith

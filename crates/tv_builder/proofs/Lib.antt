@@ -12,3 +12,5 @@ pub mod Faulting
 pub mod Counts
 pub mod Grammar
 pub mod CallsTrade
+pub mod Paid
+pub mod Weighing

@@ -20,8 +20,7 @@ use Rattle.tv_builder.specs.Kinds.{list_type, total}
 use Rattle.tv_builder.specs.Moves.{given_to, HasNoRoom}
 use Rattle.tv_builder.specs.Shows.{Placed, ShowsLists, Shows, frames_of, awaited_by}
 use Rattle.tv_builder.specs.State.{OpenList, State, complete, in_lists, in_bytes, next_in, with_child, with_value, with_key, and_value, and_key, and_head, head_awaits, list_tree, AreLists, AllAwait, children_room, lists_room, state_room, trees_weight, lists_written, written}
-use Rattle.tv_builder.specs.Weight.{children_weight}
-use Rattle.tv_builder.proofs.Children.{child_value, list_placed, list_within, list_room, list_weight, elements_bytes, elements_room_is, elements_weight_is, children_weigh, trees_weight_push, children_room_push}
+use Rattle.tv_builder.proofs.Children.{child_value, list_placed, list_within, list_room, list_weight, elements_bytes, elements_room_is, elements_weight_is, trees_weight_push, children_room_push}
 use Rattle.tv_builder.proofs.Giving.{Tested, below, not_below, tested, same_test, given_waits, given_closes, value_waits, value_closes, pushed_reads, lists_grown}
 use Rattle.tv_builder.proofs.Sound.{awaited_same, all_await}
 
@@ -31,7 +30,7 @@ lists_as heap fs fs_as places places_as ls a b h = subst (λ z. ShowsLists heap 
 -- ---- what a state has room for at least
 
 -- children that stand in a heap weigh no more than their room
-children_fit : (heap : List ℕ) (parent : ℕ) (own : List ℕ) (ts : List Tree) → length heap < 2 ^ 32 → ReadsElements heap parent own (elements ts) → children_weight ts ≤ children_room ts
+children_fit : (heap : List ℕ) (parent : ℕ) (own : List ℕ) (ts : List Tree) → length heap < 2 ^ 32 → ReadsElements heap parent own (elements ts) → 6 * length ts + trees_weight ts ≤ children_room ts
 children_fit heap parent own ts small h = omega (arith, elements_weigh heap parent own (elements ts) small h, elements_weight_is ts, elements_room_is ts)
 
 pub lists_fit : (heap : List ℕ) (fs : List Frame) (places : List ℕ) (ls : List OpenList) → length heap < 2 ^ 32 → ShowsLists heap fs places ls → lists_written ls ≤ lists_room ls
@@ -39,7 +38,7 @@ lists_fit heap [] places [] small h = omega arith
 lists_fit heap [] places (l ∷ ls) small h = absurd h
 lists_fit heap (f ∷ fs) places [] small h = absurd h
 lists_fit heap (f ∷ fs) places (l ∷ ls) small h =
-    omega (arith, children_fit heap (length heap) (drop f.first places) l.children small h.0.reads, children_weigh l.children, lists_fit heap fs (take f.first places) ls small h.1)
+    omega (arith, children_fit heap (length heap) (drop f.first places) l.children small h.0.reads, lists_fit heap fs (take f.first places) ls small h.1)
 
 -- the lists, and the value that comes to them
 pub value_room : (ls : List OpenList) (t : Tree) → AreLists ls → AllAwait ls → lists_room ls + room t ≤ state_room (with_value ls t)
@@ -92,7 +91,6 @@ given_over (f ∷ fs) (l ∷ ls) heap places p t are await h g fits over = elim 
               value_room ls u are.1 await.1,
               list_room l.kind l.announced ts all child.0,
               children_fit heap (length heap) own ts (omega (arith, fits)) reads,
-              children_weigh ts,
               trees_weight_push l.children t,
               lists_fit heap fs (take f.first places) ls (omega (arith, fits)) h.1,
             )
