@@ -5,6 +5,7 @@ use Rattle.tv_base.specs.Sink.{IsFront}
 use Rattle.tv_value.specs.Tree.{Leaf, Tree, leaf}
 use Rattle.tv_heap.specs.LeafBytes.{leaf_bytes, leaf_value_type, leaf_address}
 use Rattle.tv_heap.specs.Room.{room}
+use Rattle.tv_heap.specs.Weight.{tree_weight}
 use Rattle.tv_heap.specs.TypeCode.{type_code}
 use Rattle.tv_heap.specs.Wrote.{Wrote}
 use Rattle.tv_builder.specs.declared.awaits.Awaits.TheVariants as awaits
@@ -15,10 +16,11 @@ use Rattle.tv_builder.specs.declared.building.OpenBytes.{OpenBytes}
 use Rattle.tv_builder.specs.declared.frame.Frame.{Frame}
 use Rattle.tv_builder.specs.declared.place.Place.{Place}
 use Rattle.tv_builder.specs.Given.{given}
-use Rattle.tv_builder.specs.Moves.{given_to, Gives, GivesNot, Moves, Does, FitsRoom, leaf_place, leaf_heap, LeafHeap, LeafFull, ValueHeap, ValueFull}
+use Rattle.tv_builder.specs.Moves.{given_to, Gives, GivesNot, Moves, HasNoRoom, Does, FitsRoom, leaf_place, leaf_heap, LeafHeap, LeafFull, ValueHeap, ValueFull}
 use Rattle.tv_builder.specs.Shows.{Placed, ShowsLists, ShowsAt, Shows, frames_of, awaited_by}
 use Rattle.tv_builder.specs.State.{OpenList, State, complete, in_lists, in_bytes, with_value, and_value, AreLists, AllAwait, lists_written, written}
 use Rattle.tv_builder.proofs.Giving.{front_then, front_length, given_front, lists_grown, given_shows, value_is}
+use Rattle.tv_builder.proofs.NoRoom.{lists_as, value_no_room}
 use Rattle.tv_builder.proofs.Sound.{awaited_same, value_none, all_await}
 
 -- the same, said otherwise
@@ -30,13 +32,10 @@ shown_as s heap heap_as fs fs_as places places_as whole whole_as bytes bytes_as 
     (subst (λ z. ShowsAt heap fs z whole_as bytes_as s) (sym c)
     (subst (λ z. ShowsAt heap fs places z bytes_as s) (sym d) (subst (λ z. ShowsAt heap fs places whole z s) (sym e) h))))
 
-pub lists_as : (heap : List ℕ) (fs fs_as : List Frame) (places places_as : List ℕ) (ls : List OpenList) → fs_as ≡ fs → places_as ≡ places → ShowsLists heap fs places ls → ShowsLists heap fs_as places_as ls
-lists_as heap fs fs_as places places_as ls a b h = subst (λ z. ShowsLists heap z places_as ls) (sym a) (subst (λ z. ShowsLists heap fs z ls) (sym b) h)
-
 -- ---- a finished value is handed to the lists
 
 pub handed : (mid new : Building) (p : Place) (t : Tree) (ls : List OpenList) → AreLists ls → AllAwait ls → ShowsLists mid.heap.items (frames_of mid) mid.places.items ls → Placed mid.heap.items p t → mid.open ≡ None
-    → Gives mid p new → Shows new (with_value ls t) × (length new.heap.items + (lists_written ls + room t) ≤ length mid.heap.items + written (with_value ls t))
+    → Gives mid p new → Shows new (with_value ls t) × (length new.heap.items + (lists_written ls + tree_weight t) ≤ length mid.heap.items + written (with_value ls t))
 handed mid new p t ls are await h placed closed g =
     let k = given_shows (frames_of mid) ls mid.heap.items mid.places.items p t are await h placed (omega (arith, g.fits, ap length g.heap)) in (
       record {
@@ -52,7 +51,7 @@ pub given_grows : (mid new : Building) (p : Place) → Gives mid p new → IsFro
 given_grows mid new p g = let f = given_front (frames_of mid) mid.heap.items mid.places.items p in (f.0, g.heap ∙ f.1)
 
 -- what stood before stands for lists, which await a value
-pub value_moves : (old mid new : Building) (p : Place) (t : Tree) (more : List ℕ) → awaited_by old ≡ awaits.Value → mid.heap.items ≡ old.heap.items ++ more → length more ≤ room t → frames_of mid ≡ frames_of old
+pub value_moves : (old mid new : Building) (p : Place) (t : Tree) (more : List ℕ) → awaited_by old ≡ awaits.Value → mid.heap.items ≡ old.heap.items ++ more → length more ≤ tree_weight t → frames_of mid ≡ frames_of old
     → mid.places.items ≡ old.places.items → mid.open ≡ old.open → Placed mid.heap.items p t → Gives mid p new → Moves old new (λ s. and_value s t)
 value_moves old mid new p t more await grows small frames places bytes placed g = record {
   grows = front_then old.heap.items mid.heap.items new.heap.items (more, grows) (given_grows mid new p g);
@@ -72,17 +71,20 @@ value_moves old mid new p t more await grows small frames places bytes placed g 
 
 -- what handing it over answers
 pub does_give : (old mid new : Building) (p : Place) (in_place full : Type 0) (heaps : List ℕ → Type 0) (after : State → State) (r : Result (Unit {0}) BuildError) → in_place
-    → (Gives mid p new → heaps new.heap.items) → (4294967295 < length (given_to mid p).heap → full) → IsFront old.heap.items mid.heap.items → (Gives mid p new → Moves old new after)
+    → (Gives mid p new → heaps new.heap.items) → (4294967295 < length (given_to mid p).heap → full) → (4294967295 < length (given_to mid p).heap → HasNoRoom old after) → IsFront old.heap.items mid.heap.items → (Gives mid p new → Moves old new after)
     → OnOk r (Gives mid p new) → IfErr r (λ e. GivesNot mid p new e) → Does old new in_place heaps full after r
-does_give old mid new p in_place full heaps after (Ok x) here is over front moves ok err = (here, is ok, moves ok)
-does_give old mid new p in_place full heaps after (Err HeapFull) here is over front moves ok err = (here, over err.why, front_then old.heap.items mid.heap.items new.heap.items front err.front)
-does_give old mid new p in_place full heaps after (Err Memory) here is over front moves ok err = (here, front_then old.heap.items mid.heap.items new.heap.items front err.front)
-does_give old mid new p in_place full heaps after (Err AlreadyFailed) here is over front moves ok err = absurd err.why
-does_give old mid new p in_place full heaps after (Err OutOfPlace) here is over front moves ok err = absurd err.why
-does_give old mid new p in_place full heaps after (Err (FieldNumber n)) here is over front moves ok err = absurd err.why
-does_give old mid new p in_place full heaps after (Err NotUtf8) here is over front moves ok err = absurd err.why
+does_give old mid new p in_place full heaps after (Ok x) here is over no_room front moves ok err = (here, is ok, moves ok)
+does_give old mid new p in_place full heaps after (Err HeapFull) here is over no_room front moves ok err = (here, over err.why, front_then old.heap.items mid.heap.items new.heap.items front err.front, no_room err.why)
+does_give old mid new p in_place full heaps after (Err Memory) here is over no_room front moves ok err = (here, front_then old.heap.items mid.heap.items new.heap.items front err.front)
+does_give old mid new p in_place full heaps after (Err AlreadyFailed) here is over no_room front moves ok err = absurd err.why
+does_give old mid new p in_place full heaps after (Err OutOfPlace) here is over no_room front moves ok err = absurd err.why
+does_give old mid new p in_place full heaps after (Err (FieldNumber n)) here is over no_room front moves ok err = absurd err.why
+does_give old mid new p in_place full heaps after (Err NotUtf8) here is over no_room front moves ok err = absurd err.why
 
 -- ---- a whole value
+
+pub value_small : (old new : List ℕ) (code at : ℕ) (t : Tree) → Wrote old new code at t → length old + room t ≤ 4294967295 → length new ≤ 4294967295
+value_small old new code at t w h = omega (arith, w.within, ap length w.grows, length-append old w.added)
 
 pub wrote_placed : (old new : List ℕ) (p : Place) (t : Tree) → Wrote old new (type_code p.value_type) p.address t → Placed new p t
 wrote_placed old new p t w = record { reads = w.reads; below = w.below; fits = w.fits }
@@ -93,27 +95,29 @@ pub does_value : (old mid new : Building) (p : Place) (t : Tree) (r : Result (Un
 does_value old mid new p t r await fits w frames places bytes ok err =
     let as_given : (given_to mid p).heap ≡ (given mid.heap.items old.places.items (frames_of old) p).heap = λ i. (given mid.heap.items (places i) (frames i) p).heap in
     let one : ValueHeap old t (given_to mid p).heap = (fits, mid.heap.items, p, w, as_given) in
-    does_give old mid new p (awaited_by old ≡ awaits.Value) (ValueFull old t) (ValueHeap old t) (λ s. and_value s t) r await (λ g. subst (ValueHeap old t) (sym g.heap) one) (λ h. inr ((given_to mid p).heap, one, h)) (w.added, w.grows)
-    (λ g. value_moves old mid new p t w.added await w.grows w.within frames places bytes (wrote_placed _ _ p t w) g) ok err
+    does_give old mid new p (awaited_by old ≡ awaits.Value) (ValueFull old t) (ValueHeap old t) (λ s. and_value s t) r await (λ g. subst (ValueHeap old t) (sym g.heap) one) (λ h. inr ((given_to mid p).heap, one, h))
+    (value_no_room old mid p t w.added await w.grows w.weighed (value_small _ _ _ _ _ w fits) frames places (wrote_placed _ _ p t w)) (w.added, w.grows)
+    (λ g. value_moves old mid new p t w.added await w.grows w.weighed frames places bytes (wrote_placed _ _ p t w) g) ok err
 
 pub place_is : (p : Place) (len : ℕ) (l : Leaf) → p.value_type ≡ leaf_value_type l → p.address ≡ leaf_address len l → p ≡ leaf_place len l
 place_is p len l a b = λ i. record { value_type = a i; address = b i }
 
 -- a leaf
-pub does_leaf : (old mid new : Building) (p : Place) (l : Leaf) (r : Result (Unit {0}) BuildError) → awaited_by old ≡ awaits.Value → p ≡ leaf_place (length old.heap.items) l → mid.heap.items ≡ old.heap.items ++ leaf_bytes l
+pub does_leaf : (old mid new : Building) (p : Place) (l : Leaf) (r : Result (Unit {0}) BuildError) → awaited_by old ≡ awaits.Value → length mid.heap.items ≤ 4294967295 → p ≡ leaf_place (length old.heap.items) l → mid.heap.items ≡ old.heap.items ++ leaf_bytes l
     → Wrote old.heap.items mid.heap.items (type_code p.value_type) p.address (leaf l) → frames_of mid ≡ frames_of old → mid.places.items ≡ old.places.items → mid.open ≡ old.open
     → OnOk r (Gives mid p new) → IfErr r (λ e. GivesNot mid p new e) → Does old new (awaited_by old ≡ awaits.Value) (LeafHeap old l) (LeafFull old l) (λ s. and_value s (leaf l)) r
-does_leaf old mid new p l r await place grows w frames places bytes ok err =
+does_leaf old mid new p l r await fits place grows w frames places bytes ok err =
     let as_given : (given_to mid p).heap ≡ leaf_heap old l = λ i. (given (grows i) (places i) (frames i) (place i)).heap in
-    does_give old mid new p (awaited_by old ≡ awaits.Value) (LeafFull old l) (LeafHeap old l) (λ s. and_value s (leaf l)) r await (λ g. g.heap ∙ as_given) (λ h. subst (λ z. 4294967295 < length z) as_given h) (w.added, w.grows)
-    (λ g. value_moves old mid new p (leaf l) w.added await w.grows w.within frames places bytes (wrote_placed _ _ p (leaf l) w) g) ok err
+    does_give old mid new p (awaited_by old ≡ awaits.Value) (LeafFull old l) (LeafHeap old l) (λ s. and_value s (leaf l)) r await (λ g. g.heap ∙ as_given) (λ h. subst (λ z. 4294967295 < length z) as_given h)
+    (value_no_room old mid p (leaf l) w.added await w.grows w.weighed fits frames places (wrote_placed _ _ p (leaf l) w)) (w.added, w.grows)
+    (λ g. value_moves old mid new p (leaf l) w.added await w.grows w.weighed frames places bytes (wrote_placed _ _ p (leaf l) w) g) ok err
 
 -- whether what was found fits
-over_bound : (len m : ℕ) (fits : Bool) → FitsRoom (Some m) len fits → fits ≡ false → 4294967295 < len + m
+pub over_bound : (len m : ℕ) (fits : Bool) → FitsRoom (Some m) len fits → fits ≡ false → 4294967295 < len + m
 over_bound len m true h e = absurd (let f : true ≡ false = e in cc)
 over_bound len m false h e = elim (cases_lt 4294967295 (len + m)) [ inl p ↦ p | inr p ↦ absurd (let f : false ≡ true = h.1 (omega (arith, p)) in cc) ]
 
-over : (found : Option ℕ) (len n : ℕ) (fits : Bool) → SomeIff found (n < 2 ^ 32) n → FitsRoom found len fits → fits ≡ false → 4294967295 < len + n
+pub over : (found : Option ℕ) (len n : ℕ) (fits : Bool) → SomeIff found (n < 2 ^ 32) n → FitsRoom found len fits → fits ≡ false → 4294967295 < len + n
 over (Some m) len n fits is h e = omega (arith, is.1, over_bound len m fits h e)
 over None len n fits is h e = elim (cases_lt n (2 ^ 32)) [ inl p ↦ absurd (is p) | inr p ↦ omega (arith, p) ]
 
@@ -129,6 +133,3 @@ leaf_full old l found len fits is known h e =
 pub room_fits : (found : Option ℕ) (len n : ℕ) (fits : Bool) → SomeIff found (n < 2 ^ 32) n → FitsRoom found len fits → fits ≡ true → len + n ≤ 4294967295
 room_fits (Some m) len n fits is h e = omega (arith, is.1, h.0 e)
 room_fits None len n fits is h e = absurd (let f : false ≡ true = sym h ∙ e in cc)
-
-pub value_small : (old new : List ℕ) (code at : ℕ) (t : Tree) → Wrote old new code at t → length old + room t ≤ 4294967295 → length new ≤ 4294967295
-value_small old new code at t w h = omega (arith, w.within, ap length w.grows, length-append old w.added)

@@ -1,13 +1,14 @@
 -- The end of open bytes.
-use Rattle.std.proofs.Common.{◌≡◌, ◌≢◌, ℕ, ◌+◌, ◌-◌, ◌%◌, ◌≤◌, nat_eq, List, [], ◌∷◌, ◌++◌, length, drop, Option, Some, None, Result, Ok, Err, OnOk, IfErr, refl, sym, ◌∙◌, ap, subst, append_assoc, length-append, arith}
+use Rattle.std.proofs.Common.{◌≡◌, ◌≢◌, ℕ, ◌+◌, ◌-◌, ◌%◌, ◌<◌, ◌≤◌, nat_eq, List, [], ◌∷◌, ◌++◌, length, drop, Option, Some, None, Result, Ok, Err, OnOk, IfErr, refl, sym, ◌∙◌, ap, subst, append_assoc, length-append, arith}
 use Rattle.std.proofs.Math.Logic.{∥∥₁_elim, ∥∥₁_map}
 use Rattle.std.specs.Coded.{le_prop}
 use Rattle.std.proofs.Math.Seq.{drop-append_seam}
 use Rattle.std.proofs.lemmas.Bool.{cond-true, eq-eqb}
 use mathlib.Core.HLevel.{⊥_prop}
 use Rattle.tv_base.specs.Number.{vnum}
+use Rattle.tv_base.specs.Parts.{short_sized}
 use Rattle.tv_base.specs.Sink.{IsFront}
-use Rattle.tv_heap.specs.Room.{room}
+use Rattle.tv_heap.specs.Weight.{tree_weight}
 use Rattle.tv_heap.specs.declared.value_type.ValueType.{ValueType}
 use Rattle.tv_heap.specs.declared.value_type.ValueType.TheVariants as types
 use Rattle.tv_builder.specs.declared.awaits.Awaits.TheVariants as awaits
@@ -23,11 +24,12 @@ use Rattle.tv_builder.specs.declared.frame.ListKind.TheVariants.{Array, Object}
 use Rattle.tv_builder.specs.declared.place.Place.{Place}
 use Rattle.tv_builder.specs.Given.{given, pending_in, AreCut}
 use Rattle.tv_builder.specs.Kinds.{bytes_type}
-use Rattle.tv_builder.specs.Moves.{given_to, CanGive, CanGiveKey, Gives, GivesNot, GivesKey, Moves, EndsBytes, EndsWell, AwaitsEnd, last_bytes, content_heap, end_heap}
+use Rattle.tv_builder.specs.Moves.{given_to, CanGive, CanGiveKey, Gives, GivesNot, GivesKey, Moves, HasNoRoom, EndsBytes, EndsWell, AwaitsEnd, last_bytes, content_heap, end_heap}
 use Rattle.tv_builder.specs.Parts.{IsContent}
 use Rattle.tv_builder.specs.Shows.{Placed, ShowsLists, Shows, Stands, frames_of}
-use Rattle.tv_builder.specs.State.{OpenList, State, complete, in_lists, in_bytes, next_in, next_at, with_value, with_content, and_end, HeadNext, IsKeyNext, AllAwait, lists_written, written}
-use Rattle.tv_builder.proofs.Calls.{handed, lists_as, given_grows}
+use Rattle.tv_builder.specs.State.{OpenList, State, complete, in_lists, in_bytes, next_in, next_at, with_value, with_content, and_end, HeadNext, IsKeyNext, AllAwait, state_room, lists_written, written}
+use Rattle.tv_builder.proofs.Calls.{handed, given_grows}
+use Rattle.tv_builder.proofs.NoRoom.{lists_as, given_over}
 use Rattle.tv_builder.proofs.Giving.{front_same}
 use Rattle.tv_builder.proofs.Keys.{content_tree, content_placed, key_handed}
 use Rattle.tv_builder.proofs.Sound.{cut_of, fits_of, counted_of}
@@ -105,11 +107,17 @@ all_next _ ls of_str h = h
 all_next _ ls of_facet h = h
 all_next _ ls of_bytes h = h
 
-content_room : (kind : BytesKind) (content : List ℕ) → room (content_tree kind content) ≡ 5 + length content
-content_room kinds.Str content = refl
-content_room kinds.Facet content = refl
-content_room kinds.Bytes content = refl
-content_room kinds.Key content = refl
+content_weight : (kind : BytesKind) (content : List ℕ) → tree_weight (content_tree kind content) ≡ length (vnum (length content)) + length content
+content_weight kinds.Str content = length-append (vnum (length content)) content
+content_weight kinds.Facet content = length-append (vnum (length content)) content
+content_weight kinds.Bytes content = length-append (vnum (length content)) content
+content_weight kinds.Key content = length-append (vnum (length content)) content
+
+-- what is written of open bytes is what they weigh, once all have come
+bytes_weight : (b : Building) (o : OpenBytes) (s : State) (i : InBytes b o s) → o.missing ≡ 0 → written s ≡ lists_written i.lists + tree_weight (content_tree o.kind i.so_far)
+bytes_weight b o s i none =
+    let same_count : o.announced ≡ length i.so_far = omega (arith, i.counted, none) in
+    omega (arith, ap written i.is, ap (λ z. length (vnum z)) same_count, content_weight o.kind i.so_far)
 
 with_content_is : (kind : BytesKind) (ls : List OpenList) (content : List ℕ) → IsValueKind kind → with_content ls kind content ≡ with_value ls (content_tree kind content)
 with_content_is _ ls content of_str = refl
@@ -148,8 +156,19 @@ value_ends old mid new o e none is kind l g = record {
         let placed = subst (λ z. Placed z (record { value_type = bytes_type o.kind; address = o.address }) t) (sym l.heap) (content_at old o s i none is) in
         let r = handed mid new _ t i.lists i.shows.is.0 (all_next o.kind i.lists kind i.shows.is.2) (lists_let_go old mid i.lists l i.shows.at.lists) placed l.closed g in
         let after : and_end s ≡ with_value i.lists t = ap and_end i.is ∙ with_content_is o.kind i.lists i.so_far kind in
-        let before_room : written s ≡ lists_written i.lists + room t = ap written i.is ∙ ap (λ z. lists_written i.lists + z) (sym (content_room o.kind i.so_far)) in
-        (subst (Shows new) (sym after) r.0, omega (arith, r.1, before_room, ap written after, ap length l.heap))
+        (subst (Shows new) (sym after) r.0, omega (arith, r.1, bytes_weight old o s i none, ap written after, ap length l.heap))
+
+-- a list that the value closes has no room
+value_end_over : (old mid : Building) (o : OpenBytes) → old.open ≡ Some o → o.missing ≡ 0 → IsContent o.kind (last_bytes o.announced old.heap.items) → IsValueKind o.kind → LetGo old mid
+    → 4294967295 < length (given_to mid (record { value_type = bytes_type o.kind; address = o.address })).heap → HasNoRoom old and_end
+value_end_over old mid o e none is kind l over = λ s h.
+    let i = bytes_state old o s e h in
+    let t = content_tree o.kind i.so_far in
+    let placed = subst (λ z. Placed z (record { value_type = bytes_type o.kind; address = o.address }) t) (sym l.heap) (content_at old o s i none is) in
+    let r = given_over (frames_of mid) i.lists mid.heap.items mid.places.items (record { value_type = bytes_type o.kind; address = o.address }) t i.shows.is.0 (all_next o.kind i.lists kind i.shows.is.2)
+    (lists_let_go old mid i.lists l i.shows.at.lists) placed (omega (arith, ap length l.heap, i.shows.fits)) over in
+    let after : and_end s ≡ with_value i.lists t = ap and_end i.is ∙ with_content_is o.kind i.lists i.so_far kind in
+    omega (arith, r, bytes_weight old o s i none, ap state_room after, ap length l.heap)
 
 pub does_end : (old mid new : Building) (o : OpenBytes) (r : Result (Unit {0}) BuildError) → old.open ≡ Some o → o.missing ≡ 0 → IsContent o.kind (last_bytes o.announced old.heap.items) → o.kind ≢ kinds.Key → LetGo old mid
     → OnOk r (Gives mid (record { value_type = bytes_type o.kind; address = o.address }) new) → IfErr r (λ x. GivesNot mid (record { value_type = bytes_type o.kind; address = o.address }) new x) → EndsBytes old new r
@@ -175,7 +194,7 @@ does_end old mid new o r e none is not_key l ok err = answer r ok err
 
     answer : (r : Result (Unit {0}) BuildError) → OnOk r (Gives mid p new) → IfErr r (λ x. GivesNot mid p new x) → EndsBytes old new r
     answer (Ok x) ok err = (here, well, ok.heap ∙ heap_is, value_ends old mid new o e none is kind l ok)
-    answer (Err HeapFull) ok err = (here, well, omega (arith, err.why, ap length heap_is), front HeapFull err)
+    answer (Err HeapFull) ok err = (here, well, omega (arith, err.why, ap length heap_is), front HeapFull err, value_end_over old mid o e none is kind l err.why)
     answer (Err Memory) ok err = (here, well, front Memory err)
     answer (Err AlreadyFailed) ok err = absurd err.why
     answer (Err OutOfPlace) ok err = absurd err.why
@@ -214,8 +233,9 @@ key_ends old mid new o e none is kind l g = record {
         let head : HeadNext kinds.Key i.lists = subst (λ k. HeadNext k i.lists) kind i.shows.is.2 in
         let r = key_handed mid new o.address i.so_far i.lists i.shows.is.0 i.shows.is.1 (key_next i.lists head) (lists_let_go old mid i.lists l i.shows.at.lists) placed_mid (l.complete ∙ i.shows.at.none) l.closed
         (omega (arith, ap length l.heap, i.shows.fits)) (l.pending ∙ i.shows.counted ∙ ap pending_in (sym l.frames)) g in
+        let key_weight : written s ≡ lists_written i.lists + length (short_sized i.so_far) = bytes_weight old o s i none ∙ ap (λ k. lists_written i.lists + tree_weight (content_tree k i.so_far)) kind in
         let after : and_end s ≡ with_content i.lists kinds.Key i.so_far = ap and_end i.is ∙ ap (λ k. with_content i.lists k i.so_far) kind in
-        (subst (Shows new) (sym after) r.0, omega (arith, r.1, ap written i.is, ap written after, ap length l.heap))
+        (subst (Shows new) (sym after) r.0, omega (arith, r.1, key_weight, ap written after, ap length l.heap))
 
 pub does_end_key : (old mid new : Building) (o : OpenBytes) (r : Result (Unit {0}) BuildError) → old.open ≡ Some o → o.missing ≡ 0 → IsContent o.kind (last_bytes o.announced old.heap.items) → o.kind ≡ kinds.Key → LetGo old mid
     → OnOk r (GivesKey mid o.address new) → IfErr r (λ x. (x ≡ Memory) × (new.heap.items ≡ mid.heap.items)) → EndsBytes old new r

@@ -6,7 +6,7 @@ use Rattle.tv_base.specs.Parts.{short_sized}
 use Rattle.tv_base.specs.Sink.{IsFront}
 use Rattle.tv_value.specs.Tree.{Tree, elements}
 use Rattle.tv_heap.specs.Reads.{ReadsElements}
-use Rattle.tv_heap.specs.Room.{room}
+use Rattle.tv_heap.specs.Weight.{tree_weight}
 use Rattle.tv_heap.specs.TypeCode.{type_code}
 use Rattle.tv_heap.proofs.Grown.{grown_elements}
 use Rattle.tv_heap.proofs.Lists.{elements_push}
@@ -18,7 +18,7 @@ use Rattle.tv_builder.specs.Kinds.{list_type, total}
 use Rattle.tv_builder.specs.Parts.{value, Trades, same}
 use Rattle.tv_builder.specs.Shows.{Placed, ShowsList, ShowsLists, ShowsAt}
 use Rattle.tv_builder.specs.State.{OpenList, State, in_lists, with_child, lacks_more, with_value, list_tree, IsList, AreLists, AllAwait, OthersAwait, IsState, list_head, list_parts, lists_parts, parts_of, lists_written, written}
-use Rattle.tv_builder.proofs.Children.{child_value, full_list, list_placed, list_within, trees_room_push}
+use Rattle.tv_builder.proofs.Children.{child_value, full_list, list_placed, list_within, trees_weight_push}
 use Rattle.tv_builder.proofs.Trading.{trades_as, trades_from, trades_then, trades_last}
 
 -- ---- fronts
@@ -49,11 +49,11 @@ pub value_closes : (l : OpenList) (ls : List OpenList) (t : Tree) → lacks_more
 value_closes l ls t e = cond-false (lacks_more l) _ _ e
 
 -- a test comes out one way or the other
-data Tested (n m : ℕ) : Type 0 where
+pub data Tested (n m : ℕ) : Type 0 where
   below : n < m → nat_lt n m ≡ true → Tested n m
   not_below : m ≤ n → nat_lt n m ≡ false → Tested n m
 
-tested : (n m : ℕ) → Tested n m
+pub tested : (n m : ℕ) → Tested n m
 tested n m = elim (cases_lt n m) [ inl h ↦ below h (lt-ltb n m h) | inr h ↦ not_below h (le-ltb n m h) ]
 
 -- ---- the heap only grows
@@ -87,7 +87,7 @@ lists_grown old new more [] places (l ∷ ls) e h = absurd h
 lists_grown old new more (f ∷ fs) places [] e h = absurd h
 
 -- the bytes of a list with one child more
-pushed_reads : (heap places : List ℕ) (f : Frame) (l : OpenList) (p : Place) (t : Tree) → ShowsList heap places f l → Placed heap p t
+pub pushed_reads : (heap places : List ℕ) (f : Frame) (l : OpenList) (p : Place) (t : Tree) → ShowsList heap places f l → Placed heap p t
     → ReadsElements heap (length heap) (drop f.first (places ++ place_bytes p)) (elements (l.children ++ t ∷ []))
 pushed_reads heap places f l p t h g =
     subst (λ z. ReadsElements heap (length heap) z (elements (l.children ++ t ∷ []))) (sym (drop-append-le f.first places (place_bytes p) h.cut))
@@ -109,16 +109,16 @@ pushed_others heap places more n fs ls le h = subst (λ z. ShowsLists heap fs z 
 abbrev ShowsGiven : Given → State → Type 0
 ShowsGiven g s = ShowsAt g.heap g.frames g.places g.complete None s
 
-same_test : (heap places : List ℕ) (f : Frame) (l : OpenList) → ShowsList heap places f l → lacks_more l ≡ still_lacks f
+pub same_test : (heap places : List ℕ) (f : Frame) (l : OpenList) → ShowsList heap places f l → lacks_more l ≡ still_lacks f
 same_test heap places f l h = λ i. nat_lt (suc (h.counted i)) (total (h.same_kind i) (h.same_announced i))
 
--- the state that is left stands there, and what was written is within its room
-pub record GivenShows (g : Given) (s : State) (before room_before : ℕ) : Type 0 where
+-- the state that is left stands there, and what was written is within its weight
+pub record GivenShows (g : Given) (s : State) (before weight_before : ℕ) : Type 0 where
   pub shows : ShowsGiven g s
-  pub within : length g.heap + room_before ≤ before + written s
+  pub within : length g.heap + weight_before ≤ before + written s
 
 pub given_shows : (fs : List Frame) (ls : List OpenList) (heap places : List ℕ) (p : Place) (t : Tree) → AreLists ls → AllAwait ls → ShowsLists heap fs places ls → Placed heap p t
-    → length (given heap places fs p).heap ≤ 4294967295 → GivenShows (given heap places fs p) (with_value ls t) (length heap) (lists_written ls + room t)
+    → length (given heap places fs p).heap ≤ 4294967295 → GivenShows (given heap places fs p) (with_value ls t) (length heap) (lists_written ls + tree_weight t)
 given_shows [] [] heap places p t are await h g fits = record {
   shows = record { at = p; is = refl; placed = g; frames = refl; places_none = h; closed = refl };
   within = omega arith;
@@ -128,12 +128,12 @@ given_shows (f ∷ fs) [] heap places p t are await h g fits = absurd h
 given_shows (f ∷ fs) (l ∷ ls) heap places p t are await h g fits = elim (tested (suc f.finished) (total f.kind f.announced)) [
   | below lt e ↦
       let test = same_test heap places f l h.0 ∙ e in
-      let body : GivenShows (record { heap = heap; places = places ++ place_bytes p; frames = one_more f ∷ fs; complete = None }) (in_lists (with_child l t ∷ ls)) (length heap) (lists_written (l ∷ ls) + room t) = record {
+      let body : GivenShows (record { heap = heap; places = places ++ place_bytes p; frames = one_more f ∷ fs; complete = None }) (in_lists (with_child l t ∷ ls)) (length heap) (lists_written (l ∷ ls) + tree_weight t) = record {
         shows = record { none = refl; closed = refl; lists = (pushed_list heap places f l p t h.0 g, pushed_others heap places (place_bytes p) f.first fs ls h.0.cut h.1) };
-        within = omega (arith, trees_room_push l.children t);
+        within = omega (arith, trees_weight_push l.children t);
       } in
-      subst (λ x. GivenShows x (with_value (l ∷ ls) t) (length heap) (lists_written (l ∷ ls) + room t)) (sym (given_waits heap places f fs p e))
-      (subst (λ x. GivenShows (record { heap = heap; places = places ++ place_bytes p; frames = one_more f ∷ fs; complete = None }) x (length heap) (lists_written (l ∷ ls) + room t)) (sym (value_waits l ls t test)) body)
+      subst (λ x. GivenShows x (with_value (l ∷ ls) t) (length heap) (lists_written (l ∷ ls) + tree_weight t)) (sym (given_waits heap places f fs p e))
+      (subst (λ x. GivenShows (record { heap = heap; places = places ++ place_bytes p; frames = one_more f ∷ fs; complete = None }) x (length heap) (lists_written (l ∷ ls) + tree_weight t)) (sym (value_waits l ls t test)) body)
   | not_below le e ↦
       let test = same_test heap places f l h.0 ∙ e in
       let own = drop f.first (places ++ place_bytes p) in
@@ -150,10 +150,10 @@ given_shows (f ∷ fs) (l ∷ ls) heap places p t are await h g fits = elim (tes
       (list_placed l.kind l.announced heap new own ts all child.0 reads refl fits_new) in
       let within = list_within l.kind l.announced heap new own ts all child.0 reads refl fits_new in
       let next = given_shows fs ls new (take f.first places) q (list_tree l.kind ts) are.1 await.1 (lists_grown heap new (short_sized own) fs (take f.first places) ls refl h.1) placed fits_next in
-      let body : GivenShows (given new (take f.first places) fs q) (with_value ls (list_tree l.kind ts)) (length heap) (lists_written (l ∷ ls) + room t) =
-      record { shows = next.shows; within = omega (arith, next.within, within, trees_room_push l.children t) } in
-      subst (λ x. GivenShows x (with_value (l ∷ ls) t) (length heap) (lists_written (l ∷ ls) + room t)) (sym (given_closes heap places f fs p e))
-      (subst (λ x. GivenShows (given new (take f.first places) fs q) x (length heap) (lists_written (l ∷ ls) + room t)) (sym (value_closes l ls t test)) body)
+      let body : GivenShows (given new (take f.first places) fs q) (with_value ls (list_tree l.kind ts)) (length heap) (lists_written (l ∷ ls) + tree_weight t) =
+      record { shows = next.shows; within = omega (arith, next.within, within, trees_weight_push l.children t) } in
+      subst (λ x. GivenShows x (with_value (l ∷ ls) t) (length heap) (lists_written (l ∷ ls) + tree_weight t)) (sym (given_closes heap places f fs p e))
+      (subst (λ x. GivenShows (given new (take f.first places) fs q) x (length heap) (lists_written (l ∷ ls) + tree_weight t)) (sym (value_closes l ls t test)) body)
 ]
 
 -- ---- it is a state, and the parts are traded

@@ -147,7 +147,7 @@ module _ (Legacy : List ℕ → Entries → Type 0) (v : Version) where
   children_take lists.Array ts b h = elements_take ts b h
   children_take lists.Object ts b h = keys_take ts b h
 
-  head_takes : (kind : ListKind) (n : ℕ) (b : List ℕ) → SpellsPart Legacy v b (list_head kind n) → 2 ≤ length b
+  pub head_takes : (kind : ListKind) (n : ℕ) (b : List ℕ) → SpellsPart Legacy v b (list_head kind n) → 2 ≤ length b
   head_takes lists.Array n b h = omega (arith, ap length h.joined, groups_take h.spelled.groups)
   head_takes lists.Object n b h = omega (arith, ap length h.joined, groups_take h.spelled.groups)
 

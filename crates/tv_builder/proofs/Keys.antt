@@ -20,10 +20,10 @@ use Rattle.tv_builder.specs.Moves.{GivesKey, Moves, Does, KeyHeap, KeyFull}
 use Rattle.tv_builder.specs.Parts.{IsContent}
 use Rattle.tv_builder.specs.Shows.{Placed, ShowsLists, Shows, frames_of, awaited_by}
 use Rattle.tv_builder.specs.State.{OpenList, State, complete, in_lists, in_bytes, next_in, with_key, and_key, with_child, AreLists, OthersAwait, lists_written, written}
-use Rattle.tv_builder.proofs.Children.{child_key, key_lacks, trees_room_push}
+use Rattle.tv_builder.proofs.Children.{child_key, key_lacks, trees_weight_push}
 use Rattle.tv_builder.proofs.Giving.{lists_grown, pushed_list, pushed_others}
 use Rattle.tv_builder.proofs.Sound.{awaited_same, next_key}
-use Rattle.tv_builder.proofs.Calls.{lists_as}
+use Rattle.tv_builder.proofs.NoRoom.{lists_as}
 
 -- ---- texts and bytes at the end of a heap
 
@@ -56,7 +56,7 @@ content_placed kinds.Key old new content at e fits is same =
 
 pub key_handed : (mid new : Building) (at : ℕ) (k : List ℕ) (ls : List OpenList) → AreLists ls → OthersAwait ls → next_in ls ≡ awaits.Key → ShowsLists mid.heap.items (frames_of mid) mid.places.items ls
     → Placed mid.heap.items (record { value_type = types.Str; address = at }) (leaf (text k)) → mid.complete ≡ None → mid.open ≡ None → length mid.heap.items ≤ 4294967295 → mid.pending ≡ pending_in (frames_of mid)
-    → GivesKey mid at new → Shows new (with_key ls k) × (length new.heap.items + (lists_written ls + (5 + length k)) ≤ length mid.heap.items + written (with_key ls k))
+    → GivesKey mid at new → Shows new (with_key ls k) × (length new.heap.items + (lists_written ls + length (short_sized k)) ≤ length mid.heap.items + written (with_key ls k))
 key_handed mid new at k [] are others next h placed none closed fits counted g = absurd (cc)
 key_handed mid new at k (l ∷ ls) are others next h placed none closed fits counted g =
     let p : Place = record { value_type = types.Str; address = at } in
@@ -80,7 +80,7 @@ key_handed mid new at k (l ∷ ls) are others next h placed none closed fits cou
               (lists_as heap _ (frames_of new) _ new.places.items (with_child l (leaf (text k)) ∷ ls) g.frames g.places lists);
         };
       },
-      omega (arith, ap length g.heap, trees_room_push l.children (leaf (text k))),
+      omega (arith, ap length g.heap, trees_weight_push l.children (leaf (text k))),
     )
 
 -- a whole key
@@ -100,9 +100,8 @@ key_moves old mid new content at await utf8 at_is grows fits frames places pendi
         let lists = lists_as mid.heap.items (frames_of old) (frames_of mid) old.places.items mid.places.items ls frames places
         (lists_grown old.heap.items mid.heap.items _ (frames_of old) old.places.items ls grows h.at.lists) in
         let placed = content_placed kinds.Key old.heap.items mid.heap.items content at grows fits utf8 at_is in
-        let small : length content < 2 ^ 32 = omega (arith, longer old.heap.items mid.heap.items (short_sized content) grows, length-append (vnum (length content)) content, fits) in
         let r = key_handed mid new at content ls h.is.0 h.is.1 key_is lists placed (whole ∙ h.at.none) (open_is ∙ h.at.closed) fits (pending ∙ h.counted ∙ ap pending_in (sym frames)) g in
-        (r.0, omega (arith, r.1, longer old.heap.items mid.heap.items (short_sized content) grows, sized_length content small))
+        (r.0, omega (arith, r.1, longer old.heap.items mid.heap.items (short_sized content) grows))
 
 pub does_key : (old mid new : Building) (content : List ℕ) (at : ℕ) (r : Result (Unit {0}) BuildError) → awaited_by old ≡ awaits.Key → IsUtf8 content → at ≡ length old.heap.items → mid.heap.items ≡ old.heap.items ++ short_sized content
     → length mid.heap.items ≤ 4294967295 → frames_of mid ≡ frames_of old → mid.places.items ≡ old.places.items → mid.pending ≡ old.pending → mid.complete ≡ old.complete → mid.open ≡ old.open

@@ -3,6 +3,7 @@ pub mod Children
 pub mod Giving
 pub mod Sound
 pub mod Handing
+pub mod NoRoom
 pub mod Calls
 pub mod Keys
 pub mod Opening
@@ -11,3 +12,5 @@ pub mod Faulting
 pub mod Counts
 pub mod Grammar
 pub mod CallsTrade
+pub mod Paid
+pub mod Weighing

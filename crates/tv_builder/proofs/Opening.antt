@@ -5,7 +5,8 @@ use Rattle.std.proofs.lemmas.List.{append-nil, take_all, drop_all, reverse-appen
 use Rattle.tv_base.specs.Number.{vnum}
 use Rattle.tv_base.specs.Parts.{short_sized}
 use Rattle.tv_heap.specs.Room.{room}
-use Rattle.tv_heap.proofs.Writes.{longer, vnum_five}
+use Rattle.tv_heap.specs.Weight.{tree_weight}
+use Rattle.tv_heap.proofs.Writes.{longer, sized_length}
 use Rattle.tv_builder.specs.declared.awaits.Awaits.TheVariants as awaits
 use Rattle.tv_builder.specs.declared.build_error.BuildError.{BuildError}
 use Rattle.tv_builder.specs.declared.build_error.BuildError.TheVariants.{AlreadyFailed, OutOfPlace, FieldNumber, NotUtf8, HeapFull, Memory}
@@ -19,10 +20,11 @@ use Rattle.tv_builder.specs.declared.frame.ListKind.TheVariants.{Array, Object}
 use Rattle.tv_builder.specs.declared.place.Place.{Place}
 use Rattle.tv_builder.specs.Given.{given, pending_in}
 use Rattle.tv_builder.specs.Kinds.{list_type, total}
-use Rattle.tv_builder.specs.Moves.{given_to, Gives, GivesNot, WhyNot, Closed, ClosedNot, Moves, Does, list_heap, ListHeap, ListFull, HeadHeap, HeadFull, AwaitsChunk}
+use Rattle.tv_builder.specs.Moves.{given_to, Gives, GivesNot, WhyNot, Closed, ClosedNot, Moves, HasNoRoom, Does, list_heap, ListHeap, ListFull, HeadHeap, HeadFull, AwaitsChunk}
 use Rattle.tv_builder.specs.Shows.{Placed, ShowsList, ShowsLists, Shows, frames_of, awaited_by}
 use Rattle.tv_builder.specs.State.{OpenList, State, complete, in_lists, in_bytes, next_in, and_value, with_list, and_list, and_head, and_bytes, head_awaits, HeadNext, list_tree, OthersAwait, AreChildren, written}
-use Rattle.tv_builder.proofs.Calls.{does_give, value_moves, lists_as}
+use Rattle.tv_builder.proofs.Calls.{does_give, value_moves}
+use Rattle.tv_builder.proofs.NoRoom.{lists_as, value_no_room, value_over, no_room_as, head_over}
 use Rattle.tv_builder.proofs.Children.{list_placed, list_within}
 use Rattle.tv_builder.proofs.Giving.{front_same, front_length, given_front, lists_grown}
 use Rattle.tv_builder.proofs.Sound.{awaited_same, all_await, next_key}
@@ -48,6 +50,10 @@ and_empty : (kind : ListKind) (s : State) → and_value s (list_tree kind []) �
 and_empty kind (complete t) = refl
 and_empty kind (in_lists ls) = refl
 and_empty kind (in_bytes ls k n bs) = refl
+
+empty_over : (kind : ListKind) (len : ℕ) → 4294967295 < len + length (short_sized []) → 4294967295 < len + room (list_tree kind [])
+empty_over Array len h = omega (arith, h, sized_length [] (omega arith))
+empty_over Object len h = omega (arith, h, sized_length [] (omega arith))
 
 -- the bytes of no children
 pub record EmptyClosed (old mid : Building) (kind : ListKind) (p : Place) : Type 0 where
@@ -82,8 +88,9 @@ empty_does_at old mid new kind p r await c ok err =
     let t = list_tree kind [] in
     let placed : Placed mid.heap.items p t = subst (λ z. Placed mid.heap.items z t) (sym c.place) (list_placed kind 0 old.heap.items mid.heap.items [] [] (no_total kind) (no_children kind) refl c.heap c.fits) in
     let within = list_within kind 0 old.heap.items mid.heap.items [] [] (no_total kind) (no_children kind) refl c.heap c.fits in
-    let small : length (short_sized []) ≤ room t = omega (arith, within, longer old.heap.items mid.heap.items (short_sized []) c.heap) in
-    does_give old mid new p (awaited_by old ≡ awaits.Value) (ListFull old kind 0) (ListHeap old kind 0) (λ s. and_list s kind 0) r await (λ g. g.heap ∙ as_given) (λ h. omega (arith, h, ap length as_given)) (_, c.heap)
+    let small : length (short_sized []) ≤ tree_weight t = omega (arith, within, longer old.heap.items mid.heap.items (short_sized []) c.heap) in
+    does_give old mid new p (awaited_by old ≡ awaits.Value) (ListFull old kind 0) (ListHeap old kind 0) (λ s. and_list s kind 0) r await (λ g. g.heap ∙ as_given) (λ h. omega (arith, h, ap length as_given))
+    (λ h. no_room_as old _ _ (and_empty kind) (value_no_room old mid p t (short_sized []) await c.heap small c.fits c.frames c.places placed h)) (_, c.heap)
     (λ g. moves_as old new _ _ (and_empty kind) (value_moves old mid new p t (short_sized []) await c.heap small c.frames c.places c.same_bytes placed g)) ok err
 
 pub empty_does : (old mid new : Building) (kind : ListKind) (n : ℕ) (p : Place) (r : Result (Unit {0}) BuildError) → n ≡ 0 → awaited_by old ≡ awaits.Value → EmptyClosed old mid kind p
@@ -104,7 +111,7 @@ empty_not old new f n e none first await c =
     more = front_length _ _ (given_front (frames_of old) (old.heap.items ++ short_sized []) old.places.items (record { value_type = list_type f.kind; address = length old.heap.items }))
 
     answer : (x : BuildError) → WhyNot (old.heap.items ++ short_sized (drop f.first old.places.items)) x → Does old new (awaited_by old ≡ awaits.Value) (ListHeap old f.kind 0) (ListFull old f.kind 0) (λ s. and_list s f.kind 0) (Err x)
-    answer HeapFull h = (await, omega (arith, h, ap length same_heap, more), c.front)
+    answer HeapFull h = (await, omega (arith, h, ap length same_heap, more), c.front, no_room_as old _ _ (and_empty f.kind) (value_over old (list_tree f.kind []) await (empty_over f.kind (length old.heap.items) (omega (arith, h, ap length same_heap, length-append old.heap.items (short_sized []))))))
     answer Memory h = (await, c.front)
     answer AlreadyFailed h = absurd h
     answer OutOfPlace h = absurd h
@@ -186,6 +193,14 @@ no_open kinds.Facet m e = absurd (cc)
 no_open kinds.Bytes m e = absurd (cc)
 no_open kinds.Key m e = absurd (cc)
 
+pub begins_over : (old : Building) (kind : BytesKind) (n : ℕ) → awaited_by old ≡ head_awaits kind → 4294967295 < length old.heap.items + (length (vnum n) + n) → HasNoRoom old (λ s. and_head s kind n)
+begins_over old kind n await over = head_over old kind n await lists over
+  where
+    lists : (s : State) → Shows old s → (ls : List OpenList) × (s ≡ in_lists ls)
+    lists (complete u) h = absurd (no_finish kind (sym (awaited_same _ _ _ _ _ (complete u) h.at) ∙ await))
+    lists (in_bytes ls k m bs) h = absurd (no_open kind (m - length bs) (sym (awaited_same _ _ _ _ _ (in_bytes ls k m bs) h.at) ∙ await))
+    lists (in_lists ls) h = (ls, refl)
+
 pub begins_bytes : (old new : Building) (kind : BytesKind) (n : ℕ) (o : OpenBytes) → awaited_by old ≡ head_awaits kind → length old.heap.items + (length (vnum n) + n) ≤ 4294967295
     → o ≡ record { kind = kind; address = length old.heap.items; announced = n; missing = n } → new.heap.items ≡ old.heap.items ++ vnum n → new.places.items ≡ old.places.items → new.pending ≡ old.pending → new.frames.items ≡ old.frames.items
     → new.complete ≡ old.complete → new.open ≡ Some o → Does old new (awaited_by old ≡ head_awaits kind) (HeadHeap old n) (HeadFull old n) (λ s. and_head s kind n) (Ok tt)
@@ -204,7 +219,6 @@ begins_bytes old new kind n o await room_is is heap places pending frames whole 
     next (in_bytes ls k m bs) h = absurd (no_open kind (m - length bs) (sym (awaited_same _ _ _ _ _ (in_bytes ls k m bs) h.at) ∙ await))
     next (in_lists ls) h =
         let long : length new.heap.items ≡ length old.heap.items + length (vnum n) = longer old.heap.items new.heap.items (vnum n) heap in
-        let five : length (vnum n) ≤ 5 = vnum_five n (omega (arith, room_is)) in
         let same_frames : frames_of new ≡ frames_of old = ap reverse frames in (
           record {
             fits = omega (arith, long, room_is);
@@ -226,7 +240,7 @@ begins_bytes old new kind n o await room_is is heap places pending frames whole 
               lists = lists_as new.heap.items _ (frames_of new) _ new.places.items ls same_frames places (lists_grown old.heap.items new.heap.items (vnum n) (frames_of old) old.places.items ls heap h.at.lists);
             };
           },
-          omega (arith, long, five),
+          omega (arith, long),
         )
 
 -- some more of them

@@ -2,6 +2,7 @@ pub mod Kinds
 pub mod Parts
 pub mod Front
 pub mod State
+pub mod Weight
 pub mod Given
 pub mod Shows
 pub mod Moves

@@ -21,7 +21,7 @@ use Rattle.tv_builder.specs.Given.{Given, given, one_more, pending_in, AreCut}
 use Rattle.tv_builder.specs.Kinds.{list_type, bytes_type}
 use Rattle.tv_builder.specs.Parts.{IsContent}
 use Rattle.tv_builder.specs.Shows.{Shows, frames_of}
-use Rattle.tv_builder.specs.State.{State, written, and_end}
+use Rattle.tv_builder.specs.State.{State, written, and_end, state_room}
 
 -- ---- a finished value is handed to the lists
 
@@ -96,18 +96,22 @@ abbrev pub FitsRoom : Option ℕ → ℕ → Bool → Type 0
 FitsRoom None len b = b ≡ false
 FitsRoom (Some n) len b = IsTrue b ↔ (len + n ≤ 4294967295)
 
--- Each state that was held becomes another, and the heap grows by no more than what is written of it has room.
+-- Each state that was held becomes another, and the heap grows by no more than what is written of it weighs.
 pub record Moves (old new : Building) (after : State → State) : Type 0 where
   pub grows : IsFront old.heap.items new.heap.items
   pub shows : (s : State) → Shows old s → Shows new (after s)
   pub within : (s : State) → Shows old s → length new.heap.items + written s ≤ length old.heap.items + written (after s)
+
+-- Behind what stood in front of the state there is no room for the state that the call would leave.
+abbrev pub HasNoRoom : Building → (State → State) → Type 0
+HasNoRoom old after = (s : State) → Shows old s → 4294967295 + written s < length old.heap.items + state_room (after s)
 
 -- A call that belongs `in_place`, and for which the heap that it leaves is `heaps`, whatever its length, and is too long where it is
 -- `full`. After a refusal what stood in the heap still stands in front.
 abbrev pub Does : Building → Building → Type 0 → (List ℕ → Type 0) → Type 0 → (State → State) → Result (Unit {0}) BuildError → Type 0
 Does old new in_place heaps full after (Ok x) = in_place × heaps new.heap.items × Moves old new after
 Does old new in_place heaps full after (Err OutOfPlace) = ¬ in_place × IsFront old.heap.items new.heap.items
-Does old new in_place heaps full after (Err HeapFull) = in_place × full × IsFront old.heap.items new.heap.items
+Does old new in_place heaps full after (Err HeapFull) = in_place × full × IsFront old.heap.items new.heap.items × HasNoRoom old after
 Does old new in_place heaps full after (Err Memory) = in_place × IsFront old.heap.items new.heap.items
 Does old new in_place heaps full after (Err _) = ⊥
 
@@ -198,6 +202,6 @@ abbrev pub EndsBytes : Building → Building → Result (Unit {0}) BuildError �
 EndsBytes old new (Ok x) = AwaitsEnd old.open × EndsWell old.open old.heap.items × (new.heap.items ≡ end_heap old old.open) × Moves old new and_end
 EndsBytes old new (Err OutOfPlace) = ¬ AwaitsEnd old.open × IsFront old.heap.items new.heap.items
 EndsBytes old new (Err NotUtf8) = AwaitsEnd old.open × ¬ EndsWell old.open old.heap.items × IsFront old.heap.items new.heap.items
-EndsBytes old new (Err HeapFull) = AwaitsEnd old.open × EndsWell old.open old.heap.items × (4294967295 < length (end_heap old old.open)) × IsFront old.heap.items new.heap.items
+EndsBytes old new (Err HeapFull) = AwaitsEnd old.open × EndsWell old.open old.heap.items × (4294967295 < length (end_heap old old.open)) × IsFront old.heap.items new.heap.items × HasNoRoom old and_end
 EndsBytes old new (Err Memory) = AwaitsEnd old.open × EndsWell old.open old.heap.items × IsFront old.heap.items new.heap.items
 EndsBytes old new (Err _) = ⊥

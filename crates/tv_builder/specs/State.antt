@@ -10,6 +10,8 @@ use Rattle.tv_builder.specs.declared.frame.ListKind.TheVariants as lists
 use Rattle.tv_builder.specs.Kinds.{total}
 use Rattle.tv_builder.specs.Parts.{Part, value, key, array_head, object_head, bytes_head, some_bytes}
 use Rattle.tv_heap.specs.Room.{room}
+use Rattle.tv_heap.specs.Weight.{tree_weight}
+use Rattle.tv_base.specs.Number.{vnum}
 
 -- An open list, with the number of elements or entries that is announced, and its finished children. Those of an object are keys
 -- and values in turn, each key as a text.
@@ -232,17 +234,17 @@ lists_of (complete t) = []
 lists_of (in_lists ls) = ls
 lists_of (in_bytes ls kind n bs) = ls
 
--- ---- for private clauses: the room of what is written
+-- ---- for private clauses: the weight of what is written
 
-abbrev pub trees_room : List Tree → ℕ
-trees_room [] = 0
-trees_room (t ∷ ts) = room t + trees_room ts
+abbrev pub trees_weight : List Tree → ℕ
+trees_weight [] = 0
+trees_weight (t ∷ ts) = tree_weight t + trees_weight ts
 
 abbrev pub lists_written : List OpenList → ℕ
 lists_written [] = 0
-lists_written (l ∷ ls) = trees_room l.children + lists_written ls
+lists_written (l ∷ ls) = trees_weight l.children + lists_written ls
 
 abbrev pub written : State → ℕ
-written (complete t) = room t
+written (complete t) = tree_weight t
 written (in_lists ls) = lists_written ls
-written (in_bytes ls kind n bs) = lists_written ls + (5 + length bs)
+written (in_bytes ls kind n bs) = lists_written ls + (length (vnum n) + length bs)

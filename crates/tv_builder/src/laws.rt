@@ -2,11 +2,13 @@
 
 ghost use Rattle.std.specs.Prelude.{◌≡◌, ◌+◌, ◌*◌, ◌≤◌, ℕ, List, [], ◌∷◌, ◌++◌, length};
 ghost use Rattle.tv_value.specs.Spelling.{NoLegacy};
-ghost use Rattle.tv_value.specs.Tree.{Tree};
+ghost use Rattle.tv_value.specs.Tree.{Tree, Document};
 ghost use Rattle.tv_value.specs.Version.{Version};
+ghost use Rattle.tv_builder.specs.Behind.{document_parts, open_parts};
 ghost use Rattle.tv_builder.specs.Front.{Spelled};
 ghost use Rattle.tv_builder.specs.Parts.{Part, Trades, IsContent, value, key, bytes_head, some_bytes};
 ghost use Rattle.tv_builder.specs.State.{State, OpenList, IsState, HeadNext, in_lists, in_bytes, awaited, and_value, and_list, and_key, and_head, and_bytes, and_end, head_awaits, list_head, parts_of, lists_of, children_of};
+ghost use Rattle.tv_builder.specs.Weight.{document_weight, state_weight};
 ghost use Rattle.tv_builder.specs.declared.awaits.Awaits.TheVariants.{Value, Key};
 ghost use Rattle.tv_builder.specs.declared.bytes_kind.BytesKind.{BytesKind};
 ghost use Rattle.tv_builder.specs.declared.frame.ListKind.{ListKind};
@@ -29,4 +31,15 @@ pub fn calls_trade()
     ensures heads { (ls : List OpenList) (kind : BytesKind) (n : ℕ) → Trades (parts_of (in_lists ls) ++ bytes_head kind n ∷ []) (parts_of (and_head (in_lists ls) kind n)) }
     ensures bytes { (ls : List OpenList) (kind : BytesKind) (n : ℕ) (bs more : List ℕ) → Trades (parts_of (in_bytes ls kind n bs) ++ some_bytes more ∷ []) (parts_of (and_bytes (in_bytes ls kind n bs) more)) }
     ensures ends { (ls : List OpenList) (kind : BytesKind) (bs : List ℕ) → IsState (in_bytes ls kind (length bs) bs) → IsContent kind bs → Trades (parts_of (in_bytes ls kind (length bs) bs)) (parts_of (and_end (in_bytes ls kind (length bs) bs))) }
+{}
+
+/// What is written of a document, and of the value that comes next, is at most seven times the bytes that spell it, whatever is announced.
+pub fn what_is_written_is_paid()
+    ensures open { (v : Version) (n : ℕ) (d : Document) (f : ℕ) (s : State) (b : List ℕ) → Spelled NoLegacy v b (open_parts n d f s) → document_weight d + state_weight s ≤ 7 * length b }
+    ensures closed { (v : Version) (n : ℕ) (d : Document) (b : List ℕ) → Spelled NoLegacy v b (document_parts n d) → document_weight d ≤ 7 * length b }
+{}
+
+/// The same of open lists and of their finished children, behind the finished pairs of a document.
+pub fn open_lists_are_paid()
+    ensures { (v : Version) (n : ℕ) (d : Document) (f : ℕ) (s : State) (b : List ℕ) → Spelled NoLegacy v b (open_parts n d f s) → (2 * length (lists_of s) ≤ length b) × (children_of (lists_of s) ≤ length b) }
 {}

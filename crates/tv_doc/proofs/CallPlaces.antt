@@ -24,7 +24,7 @@ use Rattle.tv_doc.specs.Builder.{TakesBytes, HasAllBytes, HasContent}
 pub does_as : (old mid : Building) (P Q : Type 0) (heaps : List ℕ → Type 0) (full : Type 0) (after : State → State) (r : Result (Unit {0}) BuildError) → (P → Q) → (Q → P) → Does old mid P heaps full after r → Does old mid Q heaps full after r
 does_as old mid P Q heaps full after (Ok x) f g d = (f d.0, d.1, d.2)
 does_as old mid P Q heaps full after (Err OutOfPlace) f g d = ((λ q. d.0 (g q)), d.1)
-does_as old mid P Q heaps full after (Err HeapFull) f g d = (f d.0, d.1, d.2)
+does_as old mid P Q heaps full after (Err HeapFull) f g d = (f d.0, d.1, d.2, d.3)
 does_as old mid P Q heaps full after (Err Memory) f g d = (f d.0, d.1)
 does_as old mid P Q heaps full after (Err AlreadyFailed) f g d = absurd d
 does_as old mid P Q heaps full after (Err (FieldNumber n)) f g d = absurd d

@@ -15,6 +15,7 @@ use Rattle.tv_doc.specs.declared.place.FieldValueAddr.{FieldValueAddr}
 use Rattle.tv_doc.specs.Document.{heap_of, document_of, IsUnchanged, Added, ReadsAt}
 use Rattle.tv_doc.specs.Holds.{ReadsPair, ReadsPairs, Holds, one_document}
 use Rattle.tv_heap.specs.Room.{room, document_room}
+use Rattle.tv_heap.specs.Weight.{tree_weight, document_weight}
 use Rattle.tv_heap.specs.TypeCode.{type_code}
 use Rattle.tv_base.specs.Sink.{IsFront}
 use Rattle.tv_heap.specs.Wrote.{Wrote}
@@ -71,6 +72,12 @@ unfolding pushed
 pushed_room old heap ps p field t f small w e =
     omega (arith, old.room, w.within, ap length w.grows, length-append (heap_of old) w.added, sum_by_push (λ (pair : ℕ × Tree). room pair.1) (document_of old) (field, t))
 
+pub pushed_weight : (old : CompactDoc) (heap : List ℕ) (ps : List FieldValueAddr) (p : FieldValueAddr) (field : ℕ) (t : Tree) (f : p.field ≡ field) (small : field ≤ 65535)
+    (w : Wrote (heap_of old) heap (type_code p.value_type) p.address t) (e : ps ≡ old.pairs.items ++ p ∷ []) → length heap ≤ document_weight ((pushed old heap ps p field t f small w e).0)
+unfolding pushed
+pushed_weight old heap ps p field t f small w e =
+    omega (arith, old.weight, w.weighed, ap length w.grows, length-append (heap_of old) w.added, sum_by_push (λ (pair : ℕ × Tree). tree_weight pair.1) (document_of old) (field, t))
+
 pub pushed_fits : (old : CompactDoc) (heap : List ℕ) (code at : ℕ) (t : Tree) → Wrote (heap_of old) heap code at t → length (heap_of old) + room t ≤ 4294967295 → length heap < 2 ^ 32
 pushed_fits old heap code at t w small = omega (arith, w.within, ap length w.grows, length-append (heap_of old) w.added)
 
@@ -94,6 +101,9 @@ kept old heap ps e f = subst (λ z. Holds z ps) (sym e) (subst (λ z. Holds (hea
 
 pub kept_room : (old : CompactDoc) (heap : List ℕ) (ps : List FieldValueAddr) (e : heap ≡ heap_of old) (f : ps ≡ old.pairs.items) → length heap ≤ document_room ((kept old heap ps e f).0)
 kept_room old heap ps e f = omega (arith, ap length e, old.room, ap document_room (same_document heap (heap_of old) ps old.pairs.items (kept old heap ps e f) old.document e f))
+
+pub kept_weight : (old : CompactDoc) (heap : List ℕ) (ps : List FieldValueAddr) (e : heap ≡ heap_of old) (f : ps ≡ old.pairs.items) → length heap ≤ document_weight ((kept old heap ps e f).0)
+kept_weight old heap ps e f = omega (arith, ap length e, old.weight, ap document_weight (same_document heap (heap_of old) ps old.pairs.items (kept old heap ps e f) old.document e f))
 
 pub kept_fits : (old : CompactDoc) (heap : List ℕ) → heap ≡ heap_of old → length heap < 2 ^ 32
 kept_fits old heap e = omega (arith, ap length e, old.fits)

@@ -1,12 +1,15 @@
 -- The complete tree becomes the value of a pair.
-use Rattle.std.proofs.Common.{◌≡◌, ℕ, Bool, false, List, [], ◌∷◌, ◌++◌, length, reverse, take, drop, Option, Some, None, Ok, Err, OnOk, IfErr, refl, sym, ◌∙◌, ap, subst, arith}
+use Rattle.std.proofs.Common.{◌≡◌, ℕ, ◌≤◌, Bool, false, List, [], ◌∷◌, ◌++◌, length, reverse, take, drop, Option, Some, None, Ok, Err, OnOk, IfErr, refl, sym, ◌∙◌, ap, subst, arith}
 use Rattle.std.proofs.lemmas.List.{append-nil, take-append-drop, take_all}
 use Rattle.std.proofs.lemmas.List.Sums.{sum_by_push}
 use Rattle.std.proofs.Math.Logic.{∥∥₁_elim, ∥∥₁_map, ∥∥₁_prop}
 use mathlib.Core.HLevel.{⊥_prop}
+use Rattle.std.specs.Coded.{le_prop}
 use Rattle.tv_value.specs.Tree.{Tree}
 use Rattle.tv_heap.specs.Reads.{Reads}
 use Rattle.tv_heap.specs.Room.{room, document_room}
+use Rattle.tv_heap.specs.Weight.{tree_weight, document_weight}
+use Rattle.tv_heap.proofs.Weights.{reads_weigh}
 use Rattle.tv_heap.specs.TypeCode.{type_code}
 use Rattle.tv_builder.specs.declared.build_error.BuildError.{BuildError}
 use Rattle.tv_builder.specs.declared.build_error.BuildError.TheVariants.{AlreadyFailed, OutOfPlace, FieldNumber, NotUtf8, HeapFull, Memory}
@@ -53,6 +56,10 @@ whole old at e =
     let t = tree_state old.building old.state.0 old.state.1 at e in
     record { tree = t.0; is = t.1; shows = subst (λ z. ∥ Shows old.building z ∥₁) t.1 old.state.1 }
 
+-- it weighs no more than its room
+tree_fits : (old : TreeBuilder) (at : Place) (w : Whole old at) → tree_weight w.tree ≤ room w.tree
+tree_fits old at w = ∥∥₁_elim w.shows le_prop (λ s. reads_weigh (heap_so_far old) (type_code s.at.at.value_type) s.at.at.address w.tree (omega (arith, s.fits)) s.at.placed.reads)
+
 reads_at : (b : Building) (t : Tree) (at : Place) → b.complete ≡ Some at → Shows b (complete t) → Reads b.heap.items (type_code at.value_type) at.address t
 reads_at b t at e s =
     let f : Some s.at.at ≡ Some at = sym s.at.is ∙ e in
@@ -94,7 +101,8 @@ finish_fields_ok old mid new ps kept f k e =
     record {
       document = document;
       kept_within = omega (arith, ap length same_heap, k.kept_is);
-      room = omega (arith, k.kept_is, old.written, old.room, ap written w.is, ap document_room same_doc, sum_by_push (λ (x : ℕ × Tree). room x.1) (built old) (f, w.tree));
+      room = omega (arith, k.kept_is, old.written, old.room, ap written w.is, ap document_room same_doc, sum_by_push (λ (x : ℕ × Tree). room x.1) (built old) (f, w.tree), tree_fits old k.at w);
+      weight = omega (arith, k.kept_is, old.written, old.weight, ap written w.is, ap document_weight same_doc, sum_by_push (λ (x : ℕ × Tree). tree_weight x.1) (built old) (f, w.tree));
       state = after_pair old mid new ps kept f k e;
       written_within = omega (arith, ap length same_heap, k.kept_is);
     }

@@ -12,9 +12,10 @@ use Rattle.tv_heap.specs.declared.value_type.ValueType.{ValueType}
 use Rattle.tv_doc.specs.Document.{heap_of, Adds}
 use Rattle.tv_doc.specs.Holds.{Holds, pair_at}
 use Rattle.tv_heap.specs.Room.{room, document_room}
+use Rattle.tv_heap.specs.Weight.{document_weight}
 use Rattle.tv_heap.specs.TypeCode.{type_code}
 use Rattle.tv_heap.specs.Wrote.{Wrote}
-use Rattle.tv_doc.proofs.Documents.{unchanged, added, pushed, pushed_room, pushed_fits, kept, kept_room, kept_fits, restored}
+use Rattle.tv_doc.proofs.Documents.{unchanged, added, pushed, pushed_room, pushed_weight, pushed_fits, kept, kept_room, kept_weight, kept_fits, restored}
 
 -- the room that was found is the tree's
 pub room_fits : (found : Option ℕ) (len old n : ℕ) → len ≡ old → SomeIff found (n < 2 ^ 32) n → IsSomeAnd found (λ m. len + m ≤ 4294967295) → old + n ≤ 4294967295
@@ -25,6 +26,7 @@ room_fits None len old n same is fits = absurd fits
 pub record Fields (heap : List ℕ) (ps : List FieldValueAddr) : Type 0 where
   pub document : Holds heap ps
   pub room : length heap ≤ document_room document.0
+  pub weight : length heap ≤ document_weight document.0
   pub fits : length heap < 2 ^ 32
 
 -- the field and the tree may be added, and the tree was written behind the old heap, or some beginning of it
@@ -52,12 +54,13 @@ pub kept_fields : (old : CompactDoc) (mid heap : List ℕ) (ps : List FieldValue
     → Writing old mid len small field t written → Keeping old mid heap ps len small written result → Fields heap ps
 kept_fields old mid heap ps len small field t written (Err e) w k =
     let same : heap ≡ heap_of old = k.cut ∙ restored (heap_of old) mid len (front_of old mid len small field t written w) w.len_is in
-    record { document = kept old heap ps same k.same_pairs; room = kept_room old heap ps same k.same_pairs; fits = kept_fits old heap same }
+    record { document = kept old heap ps same k.same_pairs; room = kept_room old heap ps same k.same_pairs; weight = kept_weight old heap ps same k.same_pairs; fits = kept_fits old heap same }
 kept_fields old mid heap ps len small field t (Ok r) (Ok x) w k =
     let wrote = subst (λ h. Wrote (heap_of old) h (type_code r.0) r.1 t) (sym k.same_heap) w.wrote in
     record {
       document = pushed old heap ps (pair_at small r) field t w.small_is w.field_fits wrote k.pair;
       room = pushed_room old heap ps (pair_at small r) field t w.small_is w.field_fits wrote k.pair;
+      weight = pushed_weight old heap ps (pair_at small r) field t w.small_is w.field_fits wrote k.pair;
       fits = pushed_fits old heap (type_code r.0) r.1 t wrote w.tree_fits;
     }
 kept_fields old mid heap ps len small field t (Err f) (Ok x) w k = absurd k.pair

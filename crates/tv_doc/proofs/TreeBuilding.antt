@@ -5,20 +5,21 @@ use Rattle.std.proofs.lemmas.List.{take-append-le, take_all, length-take, length
 use Rattle.std.proofs.Math.Logic.{∥∥₁_elim, ∥∥₁_map}
 use Rattle.tv_base.specs.Sink.{IsFront}
 use Rattle.tv_heap.specs.Room.{document_room}
+use Rattle.tv_heap.specs.Weight.{document_weight}
 use Rattle.tv_builder.specs.declared.build_error.BuildError.{BuildError}
 use Rattle.tv_builder.specs.declared.build_error.BuildError.TheVariants.{AlreadyFailed, OutOfPlace, FieldNumber, NotUtf8, HeapFull, Memory}
 use Rattle.tv_builder.specs.declared.building.Building.{Building}
 use Rattle.tv_builder.specs.declared.awaits.Awaits.{Awaits}
-use Rattle.tv_builder.specs.Moves.{Moves, Does, EndsBytes, AwaitsChunk, AwaitsEnd, EndsWell}
+use Rattle.tv_builder.specs.Moves.{Moves, HasNoRoom, Does, EndsBytes, AwaitsChunk, AwaitsEnd, EndsWell}
 use Rattle.tv_builder.specs.OneState.{same_state}
 use Rattle.tv_builder.specs.Given.{pending_in}
 use Rattle.tv_builder.specs.Shows.{ShowsLists, Shows, Stands, frames_of, awaited_by}
-use Rattle.tv_builder.specs.State.{State, in_lists, written, and_end, awaited}
+use Rattle.tv_builder.specs.State.{State, in_lists, state_room, written, and_end, awaited}
 use Rattle.tv_doc.specs.declared.builder.TreeBuilder.{TreeBuilder}
 use Rattle.tv_doc.specs.declared.document.CompactDoc.{CompactDoc}
 use Rattle.tv_doc.specs.declared.place.FieldValueAddr.{FieldValueAddr}
 use Rattle.tv_doc.specs.Building.{HoldsFront, Cleared}
-use Rattle.tv_doc.specs.Builder.{built, state_of, heap_so_far, TakesBytes, HasAllBytes, HasContent, Goes, Fails, BuildsIf, Builds, EndsIf, Ends}
+use Rattle.tv_doc.specs.Builder.{built, state_of, heap_so_far, TakesBytes, HasAllBytes, HasContent, Goes, Fails, Overfull, BuildsIf, Builds, EndsIf, Ends}
 use Rattle.tv_doc.specs.Document.{document_of}
 use Rattle.tv_doc.specs.Holds.{Holds}
 use Rattle.tv_builder.proofs.Counts.{awaited_is}
@@ -100,6 +101,7 @@ pub record Fields (b : Building) (kept : ℕ) (ps : List FieldValueAddr) : Type 
   pub document : HoldsFront b.heap.items kept ps
   pub kept_within : kept ≤ length b.heap.items
   pub room : kept ≤ document_room document.0
+  pub weight : kept ≤ document_weight document.0
   pub state : Stands b
   pub written_within : length b.heap.items ≤ kept + written state.0
 
@@ -127,6 +129,7 @@ fields_left old mid new failed_new after r l s =
       document = document;
       kept_within = front.1;
       room = omega (arith, old.room, ap document_room (same_document (take old.kept new.heap.items) (take old.kept old.building.heap.items) old.pairs.items old.pairs.items document old.document front.0 refl));
+      weight = omega (arith, old.weight, ap document_weight (same_document (take old.kept new.heap.items) (take old.kept old.building.heap.items) old.pairs.items old.pairs.items document old.document front.0 refl));
       state = state.0;
       written_within = state.1;
     }
@@ -163,12 +166,18 @@ fails_now old new mid after e l s kept pairs =
 heap_settled : (mid new : Building) (heaps : List ℕ → Type 0) → new ≡ mid → heaps mid.heap.items → heaps new.heap.items
 heap_settled mid new heaps e h = subst (λ (b : Building). heaps b.heap.items) (sym e) h
 
+-- the heap in front of the state is within the room of the finished pairs
+overfull : (old : TreeBuilder) (after : State → State) → HasNoRoom old.building after → Overfull old (after (state_of old))
+overfull old after none =
+    let over : 4294967296 ≤ document_room (built old) + state_room (after (state_of old)) = ∥∥₁_elim old.state.1 le_prop (λ s. omega (arith, none old.state.0 s, old.written, old.room)) in
+    omega (arith, over)
+
 builds_live : (old new : TreeBuilder) (mid : Building) (in_place : Type 0) (heaps : List ℕ → Type 0) (full : Type 0) (after : State → State) (r : Answer) → old.failed ≡ false → Does old.building mid in_place heaps full after r
     → Settled mid new.building old.kept old.failed new.failed r → new.kept ≡ old.kept → new.pairs.items ≡ old.pairs.items → BuildsIf false old new in_place heaps full after r
 builds_live old new mid in_place heaps full after (Ok x) live d s kept pairs =
     (d.0, heap_settled mid new.building heaps s.ok d.1, goes_on old new mid after live (does_left old.building mid in_place heaps full after (Ok x) d) s kept pairs)
 builds_live old new mid in_place heaps full after (Err OutOfPlace) live d s kept pairs = (d.0, fails_now old new mid after OutOfPlace (does_left old.building mid in_place heaps full after (Err OutOfPlace) d) s kept pairs)
-builds_live old new mid in_place heaps full after (Err HeapFull) live d s kept pairs = (d.0, d.1, fails_now old new mid after HeapFull (does_left old.building mid in_place heaps full after (Err HeapFull) d) s kept pairs)
+builds_live old new mid in_place heaps full after (Err HeapFull) live d s kept pairs = (d.0, d.1, fails_now old new mid after HeapFull (does_left old.building mid in_place heaps full after (Err HeapFull) d) s kept pairs, overfull old after d.3)
 builds_live old new mid in_place heaps full after (Err Memory) live d s kept pairs = (d.0, fails_now old new mid after Memory (does_left old.building mid in_place heaps full after (Err Memory) d) s kept pairs)
 builds_live old new mid in_place heaps full after (Err AlreadyFailed) live d s kept pairs = absurd d
 builds_live old new mid in_place heaps full after (Err (FieldNumber n)) live d s kept pairs = absurd d
@@ -211,7 +220,7 @@ ends_live old new mid (Err OutOfPlace) live d s kept pairs =
 ends_live old new mid (Err NotUtf8) live d s kept pairs =
     (all_of old d.0, (λ q. d.1 (ends_well old.building old.state.0 old.state.1 d.0 q)), fails_now old new mid and_end NotUtf8 (ends_left old.building mid (Err NotUtf8) d) s kept pairs)
 ends_live old new mid (Err HeapFull) live d s kept pairs =
-    (all_of old d.0, content_of old d.0 d.1, d.2, fails_now old new mid and_end HeapFull (ends_left old.building mid (Err HeapFull) d) s kept pairs)
+    (all_of old d.0, content_of old d.0 d.1, d.2, fails_now old new mid and_end HeapFull (ends_left old.building mid (Err HeapFull) d) s kept pairs, overfull old and_end d.4)
 ends_live old new mid (Err Memory) live d s kept pairs =
     (all_of old d.0, content_of old d.0 d.1, fails_now old new mid and_end Memory (ends_left old.building mid (Err Memory) d) s kept pairs)
 ends_live old new mid (Err AlreadyFailed) live d s kept pairs = absurd d
@@ -237,6 +246,7 @@ new_fields doc b n e heap places pending frames none closed =
       document = document;
       kept_within = omega (arith, e, ap length heap);
       room = omega (arith, e, doc.room, ap document_room (same_document (take n b.heap.items) doc.node_data.items doc.pairs.items doc.pairs.items document doc.document (ap (λ z. take n z) heap ∙ take_all n doc.node_data.items (omega (arith, e))) refl));
+      weight = omega (arith, e, doc.weight, ap document_weight (same_document (take n b.heap.items) doc.node_data.items doc.pairs.items doc.pairs.items document doc.document (ap (λ z. take n z) heap ∙ take_all n doc.node_data.items (omega (arith, e))) refl));
       state = stands_none b (omega (arith, doc.fits, ap length heap)) places pending frames none closed;
       written_within = omega (arith, e, ap length heap);
     }
@@ -259,6 +269,9 @@ end_same b heap h e = same_document heap (take b.kept (heap_so_far b)) b.pairs.i
 
 pub end_room : (b : TreeBuilder) (heap : List ℕ) (e : heap ≡ take b.kept (heap_so_far b)) → length heap ≤ document_room ((end_document b heap e).0)
 end_room b heap e = omega (arith, (end_length b heap e).0, b.room, ap document_room (end_same b heap (end_document b heap e) e))
+
+pub end_weight : (b : TreeBuilder) (heap : List ℕ) (e : heap ≡ take b.kept (heap_so_far b)) → length heap ≤ document_weight ((end_document b heap e).0)
+end_weight b heap e = omega (arith, (end_length b heap e).0, b.weight, ap document_weight (end_same b heap (end_document b heap e) e))
 
 pub end_built : (b : TreeBuilder) (d : CompactDoc) → d.node_data.items ≡ take b.kept (heap_so_far b) → d.pairs.items ≡ b.pairs.items → document_of d ≡ built b
 end_built b d heap pairs = same_document d.node_data.items (take b.kept (heap_so_far b)) d.pairs.items b.pairs.items d.document b.document heap pairs

@@ -6,7 +6,8 @@ use Rattle.tv_builder.specs.declared.build_error.BuildError.{BuildError}
 use Rattle.tv_builder.specs.declared.build_error.BuildError.TheVariants.{AlreadyFailed, OutOfPlace, FieldNumber, NotUtf8, HeapFull, Memory}
 use Rattle.tv_builder.specs.Moves.{end_heap}
 use Rattle.tv_builder.specs.Parts.{IsContent}
-use Rattle.tv_builder.specs.State.{State, complete, in_lists, in_bytes, and_end}
+use Rattle.tv_builder.specs.State.{State, complete, in_lists, in_bytes, and_end, state_room}
+use Rattle.tv_heap.specs.Room.{document_room}
 use Rattle.tv_doc.specs.declared.builder.TreeBuilder.{TreeBuilder}
 
 -- the finished pairs
@@ -49,12 +50,16 @@ pub record Fails (old new : TreeBuilder) : Type 0 where
   pub state : state_of new ≡ in_lists []
   pub heap : heap_so_far new ≡ take old.kept (heap_so_far old)
 
+-- the finished pairs and this state have more room than a heap has
+abbrev pub Overfull : TreeBuilder → State → Type 0
+Overfull old s = 4294967295 < document_room (built old) + state_room s
+
 -- A call that belongs `in_place`, for which the heap that it leaves is `heaps`, whatever its length, and is too long where it is `full`.
 abbrev pub BuildsIf : Bool → TreeBuilder → TreeBuilder → Type 0 → (List ℕ → Type 0) → Type 0 → (State → State) → Result (Unit {0}) BuildError → Type 0
 BuildsIf true old new in_place heaps full after r = (r ≡ Err AlreadyFailed) × (new ≡ old)
 BuildsIf false old new in_place heaps full after (Ok x) = in_place × heaps (heap_so_far new) × Goes old new (after (state_of old))
 BuildsIf false old new in_place heaps full after (Err OutOfPlace) = ¬ in_place × Fails old new
-BuildsIf false old new in_place heaps full after (Err HeapFull) = in_place × full × Fails old new
+BuildsIf false old new in_place heaps full after (Err HeapFull) = in_place × full × Fails old new × Overfull old (after (state_of old))
 BuildsIf false old new in_place heaps full after (Err Memory) = in_place × Fails old new
 BuildsIf false old new in_place heaps full after (Err _) = ⊥
 
@@ -67,7 +72,7 @@ EndsIf true old new r = (r ≡ Err AlreadyFailed) × (new ≡ old)
 EndsIf false old new (Ok x) = HasAllBytes (state_of old) × HasContent (state_of old) × (heap_so_far new ≡ end_heap old.building old.building.open) × Goes old new (and_end (state_of old))
 EndsIf false old new (Err OutOfPlace) = ¬ HasAllBytes (state_of old) × Fails old new
 EndsIf false old new (Err NotUtf8) = HasAllBytes (state_of old) × ¬ HasContent (state_of old) × Fails old new
-EndsIf false old new (Err HeapFull) = HasAllBytes (state_of old) × HasContent (state_of old) × (4294967295 < length (end_heap old.building old.building.open)) × Fails old new
+EndsIf false old new (Err HeapFull) = HasAllBytes (state_of old) × HasContent (state_of old) × (4294967295 < length (end_heap old.building old.building.open)) × Fails old new × Overfull old (and_end (state_of old))
 EndsIf false old new (Err Memory) = HasAllBytes (state_of old) × HasContent (state_of old) × Fails old new
 EndsIf false old new (Err _) = ⊥
 

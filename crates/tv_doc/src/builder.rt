@@ -5,6 +5,7 @@ ghost use Rattle.tv_builder.specs.OneState.{Stands-prop};
 ghost use Rattle.tv_builder.specs.Shows.{Stands};
 ghost use Rattle.tv_builder.specs.State.{written};
 ghost use Rattle.tv_doc.specs.Building.{HoldsFront, HoldsFront-prop, Cleared, Kept, KeptNot};
+ghost use Rattle.tv_builder.specs.Weight.{document_weight, state_weight};
 ghost use Rattle.tv_heap.specs.Room.{document_room};
 
 use crate::document::{CompactDoc, push_pair};
@@ -83,6 +84,7 @@ pub struct TreeBuilder {
     pub ghost document: { HoldsFront building.heap.items kept pairs.items } by { HoldsFront-prop building.heap.items kept pairs.items },
     pub ghost kept_within: { kept ≤ length building.heap.items },
     pub ghost room: { kept ≤ document_room document.0 },
+    pub ghost weight: { kept ≤ document_weight document.0 },
     pub ghost state: { Stands building } by { Stands-prop building },
     pub ghost written: { length building.heap.items ≤ kept + written state.0 },
 }
@@ -130,9 +132,10 @@ impl TreeBuilder {
         }
     }
 
-    /// The length of the heap, in bytes.
+    /// The length of the heap, in bytes: at most what the finished pairs and the value that comes next weigh.
     pub fn heap_len(&self) -> usize
-        ensures { result ≡ length (heap_so_far self.now) }
+        ensures same { result ≡ length (heap_so_far self.now) }
+        ensures within { result ≤ document_weight (built self.now) + state_weight (state_of self.now) }
     {
         self.building.heap.len()
     }

@@ -8,6 +8,7 @@ ghost use Rattle.tv_value.specs.Tree.{leaf, text, unsigned, signed, boolean, dat
 ghost use Rattle.tv_value.specs.Lent.{leaf_of, nested_tree};
 ghost use Rattle.tv_doc.specs.Holds.{Holds, Holds-prop, pair_at};
 ghost use Rattle.tv_heap.specs.Room.{room, document_room};
+ghost use Rattle.tv_heap.specs.Weight.{document_weight};
 
 use crate::add_error::AddError;
 use crate::document_trait::Document;
@@ -113,6 +114,7 @@ pub struct CompactDoc {
     pub(crate) pairs: Vec<FieldValueAddr>,
     pub ghost document: { Holds node_data.items pairs.items } by { Holds-prop node_data.items pairs.items },
     pub ghost room: { length node_data.items ≤ document_room document.0 },
+    pub ghost weight: { length node_data.items ≤ document_weight document.0 },
     pub ghost fits: { length node_data.items < 2 ^ 32 },
 }
 

@@ -1,5 +1,6 @@
 pub mod Grown
 pub mod Writes
+pub mod Weights
 pub mod TypeBytes
 pub mod Lends
 pub mod Shapes

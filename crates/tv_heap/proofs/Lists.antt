@@ -10,6 +10,7 @@ use Rattle.tv_value.specs.Size.{size, elements_size, entries_size}
 use Rattle.tv_value.specs.Tree.{Tree, array, object, elements, entries}
 use Rattle.tv_heap.specs.Reads.{Stands, ShortText, Reads, ReadsElements, ReadsEntries}
 use Rattle.tv_heap.specs.Room.{room, elements_room, entries_room}
+use Rattle.tv_heap.specs.Weight.{tree_weight, elements_weight, entries_weight}
 use Rattle.tv_heap.specs.Wrote.{Wrote, ArraySoFar, ObjectSoFar}
 use Rattle.tv_heap.proofs.Grown.{stands_grown, grown_elements, grown_entries}
 use Rattle.tv_heap.proofs.Writes.{vnum_five, at_end, longer, sized_length, sized_some, wrote_at}
@@ -70,6 +71,7 @@ array_begin heap rest tree e = record {
   grows = sym (append-nil heap);
   children = refl;
   within = subst (λ t. 0 + 0 + 5 + elements_room (elements rest) ≤ room t) e (omega arith);
+  weighed = subst (λ t. 0 + 0 + 5 + elements_weight (elements rest) ≤ tree_weight t) e (omega arith);
   smaller = subst (λ t. elements_size (elements rest) < size t) e (omega arith);
 }
 
@@ -83,6 +85,7 @@ array_step old heap list new list_new ts us tree t code at s e w is =
     let le : length heap ≤ length new = omega (arith, longer heap new w.added w.grows) in
     let children = elements_push new (length new) list s.done code at t (grown_elements heap new w.added (length heap) (length new) list (elements s.done) w.grows le s.children) w.reads w.fits w.below in
     let rooms : elements_room (elements ts) ≡ 6 + room t + elements_room (elements us) = ap (λ z. elements_room (elements z)) e in
+    let weights : elements_weight (elements ts) ≡ 6 + tree_weight t + elements_weight (elements us) = ap (λ z. elements_weight (elements z)) e in
     let sizes : elements_size (elements ts) ≡ suc (size t + elements_size (elements us)) = ap (λ z. elements_size (elements z)) e in
     record {
       done = s.done ++ t ∷ [];
@@ -91,6 +94,7 @@ array_step old heap list new list_new ts us tree t code at s e w is =
       grows = grows;
       children = subst (λ z. ReadsElements new (length new) z (elements (s.done ++ t ∷ []))) (sym is) children;
       within = omega (arith, s.within, w.within, rooms, length-append s.added w.added, longer list list_new (code ∷ vnum at) is, place_length code at w.fits);
+      weighed = omega (arith, s.weighed, w.weighed, weights, length-append s.added w.added, longer list list_new (code ∷ vnum at) is, place_length code at w.fits);
       smaller = omega (arith, s.smaller, sizes);
     }
 
@@ -108,6 +112,7 @@ wrote_array old heap list new ts tree s none e small at is =
       added = s.added ++ body;
       grows = e ∙ ap (λ z. z ++ body) s.grows ∙ append_assoc old s.added body;
       within = omega (arith, s.within, length-append s.added body, sized_length list fits);
+      weighed = omega (arith, s.weighed, length-append s.added body, sized_length list fits);
       reads = subst (λ t. Reads new 12 (length heap) t) whole reads;
       behind = λ x y. omega (arith, high);
       below = λ x y. omega (arith, longer heap new body e, sized_some list fits);
@@ -169,6 +174,7 @@ object_begin heap rest tree e = record {
   grows = sym (append-nil heap);
   children = refl;
   within = subst (λ t. 0 + 0 + 5 + entries_room (entries rest) ≤ room t) e (omega arith);
+  weighed = subst (λ t. 0 + 0 + 5 + entries_weight (entries rest) ≤ tree_weight t) e (omega arith);
   smaller = subst (λ t. entries_size (entries rest) < size t) e (omega arith);
 }
 
@@ -183,6 +189,7 @@ pub object_step : (old heap list mid new list_mid list_new : List ℕ) (es fs : 
 object_step old heap list mid new list_mid list_new es fs tree key t code at s e small utf8 is_mid lists w lists_new =
     let body = short_sized key in
     let rooms : entries_room (entries es) ≡ 17 + length key + room t + entries_room (entries fs) = ap (λ z. entries_room (entries z)) e in
+    let weights : entries_weight (entries es) ≡ 12 + length body + tree_weight t + entries_weight (entries fs) = ap (λ z. entries_weight (entries z)) e in
     let sizes : entries_size (entries es) ≡ suc (size t + entries_size (entries fs)) = ap (λ z. entries_size (entries z)) e in
     let high : length heap ≡ length old + length s.added = longer old heap s.added s.grows in
     let wide : length mid ≡ length heap + length body = longer heap mid body is_mid in
@@ -216,6 +223,18 @@ object_step old heap list mid new list_mid list_new es fs tree key t code at s e
         place_length code at w.fits,
         place_length 1 (length heap) at_fits,
       );
+      weighed = omega (
+        arith,
+        s.weighed,
+        w.weighed,
+        weights,
+        length-append s.added whole_added,
+        length-append body w.added,
+        longer list_mid list_new (code ∷ vnum at) lists_new,
+        longer list list_mid (1 ∷ vnum (length heap)) lists,
+        place_length code at w.fits,
+        place_length 1 (length heap) at_fits,
+      );
       smaller = omega (arith, s.smaller, sizes);
     }
 
@@ -232,6 +251,7 @@ wrote_object old heap list new es tree s none e small at is =
       added = s.added ++ body;
       grows = e ∙ ap (λ z. z ++ body) s.grows ∙ append_assoc old s.added body;
       within = omega (arith, s.within, length-append s.added body, sized_length list fits);
+      weighed = omega (arith, s.weighed, length-append s.added body, sized_length list fits);
       reads = subst (λ t. Reads new 11 (length heap) t) whole reads;
       behind = λ x y. omega (arith, high);
       below = λ x y. omega (arith, longer heap new body e, sized_some list fits);
@@ -244,6 +264,7 @@ pub object_next : (old heap list mid : List ℕ) (es fs : List (List ℕ × Tree
 object_next old heap list mid es fs tree key t s e small is_mid =
     let body = short_sized key in
     let rooms : entries_room (entries es) ≡ 17 + length key + room t + entries_room (entries fs) = ap (λ z. entries_room (entries z)) e in
+    let weights : entries_weight (entries es) ≡ 12 + length body + tree_weight t + entries_weight (entries fs) = ap (λ z. entries_weight (entries z)) e in
     let sizes : entries_size (entries es) ≡ suc (size t + entries_size (entries fs)) = ap (λ z. entries_size (entries z)) e in
     let high : length heap ≡ length old + length s.added = longer old heap s.added s.grows in
     let wide : length mid ≡ length heap + length body = longer heap mid body is_mid in

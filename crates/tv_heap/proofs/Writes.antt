@@ -65,13 +65,14 @@ pub wrote_at : {old new : List ℕ} {code at to : ℕ} {t : Tree} → Wrote old 
 wrote_at {old} {new} {code} {at} {to} {t} w e = subst (λ m. Wrote old new code m t) e w
 
 -- a leaf whose bytes were added
-wrote_leaf : (old new added : List ℕ) (code at : ℕ) (l : Leaf) → new ≡ old ++ added → 0 < length added → length added ≤ leaf_room l → length old + length added < 2 ^ 32 → length old ≡ at
+wrote_leaf : (old new added : List ℕ) (code at : ℕ) (l : Leaf) → new ≡ old ++ added → 0 < length added → length added ≤ leaf_room l → length added ≤ length (leaf_bytes l) → length old + length added < 2 ^ 32 → length old ≡ at
     → Reads new code (length old) (leaf l) → Wrote old new code at (leaf l)
-wrote_leaf old new added code at l e some within small is reads =
+wrote_leaf old new added code at l e some within weighed small is reads =
     wrote_at (record {
       added = added;
       grows = e;
       within = within;
+      weighed = weighed;
       reads = reads;
       behind = λ x y. omega arith;
       below = λ x y. omega (arith, longer old new added e);
@@ -84,6 +85,7 @@ wrote_null old new e = record {
   added = [];
   grows = e ∙ sym (append-nil old);
   within = omega arith;
+  weighed = omega arith;
   reads = (refl, refl);
   behind = λ x y. absurd (x refl);
   below = λ x y. absurd (x refl);
@@ -99,6 +101,7 @@ wrote_flag old new b n e is = record {
   added = [];
   grows = e ∙ sym (append-nil old);
   within = omega arith;
+  weighed = omega arith;
   reads = (refl, is);
   behind = λ x y. absurd (y refl);
   below = λ x y. absurd (y refl);
@@ -112,19 +115,19 @@ pub wrote_text : (old new content : List ℕ) (at : ℕ) → new ≡ old ++ shor
     → Wrote old new 1 at (leaf (text content))
 wrote_text old new content at e utf8 h is =
     let fits : length content < 2 ^ 32 = sized_fits content (omega arith) in
-    wrote_leaf old new (short_sized content) 1 at (text content) e (sized_some content fits) (sized_length content fits) h is (refl, text_at_end old new content e utf8 fits)
+    wrote_leaf old new (short_sized content) 1 at (text content) e (sized_some content fits) (sized_length content fits) (omega arith) h is (refl, text_at_end old new content e utf8 fits)
 
 pub wrote_facet : (old new content : List ℕ) (at : ℕ) → new ≡ old ++ short_sized content → IsUtf8 content → length old + length (short_sized content) < 2 ^ 32 → length old ≡ at
     → Wrote old new 6 at (leaf (facet content))
 wrote_facet old new content at e utf8 h is =
     let fits : length content < 2 ^ 32 = sized_fits content (omega arith) in
-    wrote_leaf old new (short_sized content) 6 at (facet content) e (sized_some content fits) (sized_length content fits) h is (refl, text_at_end old new content e utf8 fits)
+    wrote_leaf old new (short_sized content) 6 at (facet content) e (sized_some content fits) (sized_length content fits) (omega arith) h is (refl, text_at_end old new content e utf8 fits)
 
 pub wrote_bytes : (old new content : List ℕ) (at : ℕ) → new ≡ old ++ short_sized content → length old + length (short_sized content) < 2 ^ 32 → length old ≡ at
     → Wrote old new 7 at (leaf (bytes content))
 wrote_bytes old new content at e h is =
     let fits : length content < 2 ^ 32 = sized_fits content (omega arith) in
-    wrote_leaf old new (short_sized content) 7 at (bytes content) e (sized_some content fits) (sized_length content fits) h is
+    wrote_leaf old new (short_sized content) 7 at (bytes content) e (sized_some content fits) (sized_length content fits) (omega arith) h is
     (refl, at_end old new _ _ e (record { is = refl; fits = fits }))
 
 pub wrote_unsigned : (old new : List ℕ) (n at : ℕ) → new ≡ old ++ eight_bytes n → n < 2 ^ 64 → length old + length (eight_bytes n) < 2 ^ 32 → length old ≡ at
@@ -132,14 +135,14 @@ pub wrote_unsigned : (old new : List ℕ) (n at : ℕ) → new ≡ old ++ eight_
 wrote_unsigned old new n at e h small is =
     let spelled = eight_bytes_spell n h in
     let l = length-fixed spelled in
-    wrote_leaf old new (eight_bytes n) 2 at (unsigned n) e (omega arith) (omega arith) small is (refl, at_end old new _ _ e spelled)
+    wrote_leaf old new (eight_bytes n) 2 at (unsigned n) e (omega arith) (omega arith) (omega arith) small is (refl, at_end old new _ _ e spelled)
 
 pub wrote_signed : (old new : List ℕ) (n : ℕ) (z : ℤ) (at : ℕ) → new ≡ old ++ eight_bytes n → n < 2 ^ 64 → n ≡ cast_unsigned w64 z → FitsSigned w64 z → length old + length (eight_bytes (cast_unsigned w64 z)) < 2 ^ 32
     → length old ≡ at → Wrote old new 3 at (leaf (signed z))
 wrote_signed old new n z at e h same fits small is =
     let spelled = eight_bytes_spell n h in
     let l = length-fixed spelled in
-    wrote_leaf old new (eight_bytes n) 3 at (signed z) e (omega arith) (omega arith) (subst (λ k. length old + length (eight_bytes k) < 2 ^ 32) (sym same) small) is
+    wrote_leaf old new (eight_bytes n) 3 at (signed z) e (omega arith) (omega arith) (omega (arith, ap (λ k. length (eight_bytes k)) same)) (subst (λ k. length old + length (eight_bytes k) < 2 ^ 32) (sym same) small) is
     (refl, at_end old new _ _ e (record { fits = fits; spelled = subst (λ c. Fixed 8 (eight_bytes n) c) same spelled }))
 
 pub wrote_date : (old new : List ℕ) (n : ℕ) (z : ℤ) (at : ℕ) → new ≡ old ++ eight_bytes n → n < 2 ^ 64 → n ≡ cast_unsigned w64 z → FitsSigned w64 z → length old + length (eight_bytes (cast_unsigned w64 z)) < 2 ^ 32
@@ -147,7 +150,7 @@ pub wrote_date : (old new : List ℕ) (n : ℕ) (z : ℤ) (at : ℕ) → new ≡
 wrote_date old new n z at e h same fits small is =
     let spelled = eight_bytes_spell n h in
     let l = length-fixed spelled in
-    wrote_leaf old new (eight_bytes n) 5 at (date z) e (omega arith) (omega arith) (subst (λ k. length old + length (eight_bytes k) < 2 ^ 32) (sym same) small) is
+    wrote_leaf old new (eight_bytes n) 5 at (date z) e (omega arith) (omega arith) (omega (arith, ap (λ k. length (eight_bytes k)) same)) (subst (λ k. length old + length (eight_bytes k) < 2 ^ 32) (sym same) small) is
     (refl, at_end old new _ _ e (record { fits = fits; spelled = subst (λ c. Fixed 8 (eight_bytes n) c) same spelled }))
 
 pub wrote_ip_address : (old new : List ℕ) (n at : ℕ) → new ≡ old ++ sixteen_bytes n → n < 2 ^ 128 → length old + length (sixteen_bytes n) < 2 ^ 32 → length old ≡ at
@@ -155,11 +158,11 @@ pub wrote_ip_address : (old new : List ℕ) (n at : ℕ) → new ≡ old ++ sixt
 wrote_ip_address old new n at e h small is =
     let spelled = sixteen_bytes_spell n h in
     let l = length-fixed spelled in
-    wrote_leaf old new (sixteen_bytes n) 8 at (ip_address n) e (omega arith) (omega arith) small is (refl, at_end old new _ _ e spelled)
+    wrote_leaf old new (sixteen_bytes n) 8 at (ip_address n) e (omega arith) (omega arith) (omega arith) small is (refl, at_end old new _ _ e spelled)
 
 -- ---- texts with their tokens
 
-vnum_ten : (n : ℕ) → n < 2 ^ 64 → length (vnum n) ≤ 10
+pub vnum_ten : (n : ℕ) → n < 2 ^ 64 → length (vnum n) ≤ 10
 vnum_ten n h = vnum_short 9 n h (omega arith)
 
 token_length : (token : Token) → IsToken token → length (short_token token) ≤ token_room token
@@ -179,7 +182,7 @@ token_length token p =
       length-append (vnum (length token.text)) token.text,
     )
 
-tokens_length : (tokens : List Token) → AllByRecursion IsToken tokens → length (flat_map short_token tokens) ≤ sum_by token_room tokens
+pub tokens_length : (tokens : List Token) → AllByRecursion IsToken tokens → length (flat_map short_token tokens) ≤ sum_by token_room tokens
 tokens_length [] p = omega arith
 tokens_length (t ∷ ts) p = omega (arith, token_length t p.0, tokens_length ts p.1, sum_by-cons token_room t ts, length-append (short_token t) (flat_map short_token ts))
 
@@ -195,6 +198,7 @@ wrote_tokenized old new content tokens at e valid each h is =
     wrote_leaf old new (short_tokenized content tokens) 10 at (tokenized content tokens) e
     (omega (arith, whole, sized_some content fits))
     (omega (arith, whole, inner, sized_length content fits, vnum_ten (length tokens) many, tokens_length tokens each.each))
+    (omega arith)
     h is (refl, at_end old new _ _ e (record { is = refl; content_fits = valid; tokens_fit = each }))
 
 -- ---- what is written of a leaf takes its room at most

@@ -1,5 +1,6 @@
 pub mod Room
 pub mod LeafBytes
+pub mod Weight
 pub mod Reads
 pub mod ReadsLaws
 pub mod TypeCode

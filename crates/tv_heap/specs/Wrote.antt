@@ -4,13 +4,15 @@ use Rattle.tv_value.specs.Size.{size, elements_size, entries_size}
 use Rattle.tv_value.specs.Tree.{Tree, array, object, elements, entries}
 use Rattle.tv_heap.specs.Room.{room, elements_room, entries_room}
 use Rattle.tv_heap.specs.Reads.{Reads, ReadsElements, ReadsEntries}
+use Rattle.tv_heap.specs.Weight.{tree_weight, elements_weight, entries_weight}
 
--- The old heap is kept as a front and grew by the tree's room at most, and the tree reads. Unless it is null or a
+-- The old heap is kept as a front and grew by the tree's room at most, and by its weight at most, and the tree reads. Unless it is null or a
 -- truth value, it stands behind the old heap.
 pub record Wrote (old new : List ℕ) (code at : ℕ) (t : Tree) : Type 0 where
   pub added : List ℕ
   pub grows : new ≡ old ++ added
   pub within : length added ≤ room t
+  pub weighed : length added ≤ tree_weight t
   pub reads : Reads new code at t
   pub behind : code ≢ 0 → code ≢ 9 → length old ≤ at
   pub below : code ≢ 0 → code ≢ 9 → at < length new
@@ -24,6 +26,7 @@ pub record ArraySoFar (old heap list : List ℕ) (rest : List Tree) (tree : Tree
   pub grows : heap ≡ old ++ added
   pub children : ReadsElements heap (length heap) list (elements done)
   pub within : length added + length list + 5 + elements_room (elements rest) ≤ room tree
+  pub weighed : length added + length list + 5 + elements_weight (elements rest) ≤ tree_weight tree
   pub smaller : elements_size (elements rest) < size tree
 
 -- the same of an object
@@ -34,4 +37,5 @@ pub record ObjectSoFar (old heap list : List ℕ) (rest : List (List ℕ × Tree
   pub grows : heap ≡ old ++ added
   pub children : ReadsEntries heap (length heap) list (entries done)
   pub within : length added + length list + 5 + entries_room (entries rest) ≤ room tree
+  pub weighed : length added + length list + 5 + entries_weight (entries rest) ≤ tree_weight tree
   pub smaller : entries_size (entries rest) < size tree

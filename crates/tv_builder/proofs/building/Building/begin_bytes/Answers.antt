@@ -1,8 +1,10 @@
-use Rattle.std.proofs.Common.{◌≡◌, ◌≤◌, ◌+◌, length, refl, ap, arith, rules}
+use Rattle.std.proofs.Common.{◌≡◌, ◌<◌, ◌≤◌, ◌+◌, length, refl, ap, arith, rules}
 use Rattle.tv_base.specs.Number.{vnum}
 use Rattle.tv_builder.specs.Shows.{awaited_by}
 use Rattle.tv_builder.specs.State.{head_awaits}
-use Rattle.tv_builder.proofs.Opening.{begins_bytes}
+use Rattle.tv_builder.proofs.Opening.{begins_bytes, begins_over}
+use Rattle.tv_builder.proofs.Calls.{over_bound}
+use Rattle.tv_builder.proofs.Giving.{front_same}
 use Rattle.tv_builder.proofs.Sound.{fits_of}
 use Rattle.tv_builder.proofs.building.Building.begin_bytes.Goals as goal
 
@@ -17,3 +19,11 @@ returns c =
     let at : c.len-address.result ≡ length b.heap.items = omega (arith, c.len-address.ensures, b.heap.ok.0) in
     begins_bytes b _ c.args.kind c.args.announced _ await (omega (arith, fits, c.len.ensures, b.heap.ok.0))
     (ap (λ n. record { kind = c.args.kind; address = n; announced = c.args.announced; missing = c.args.announced }) at) c.in_ok-push_number.ensures.ok refl refl refl refl refl
+
+pub returns-then-not-has_room : goal.returns-then-not-has_room
+returns-then-not-has_room c =
+    let b = c.args.self.now in
+    let await : awaited_by b ≡ head_awaits c.args.kind = search rules in
+    let full : 4294967295 < c.len.result + (length (vnum c.args.announced) + c.args.announced) = over_bound c.len.result _ c.has_room.result c.has_room.ensures c.if-not-has_room.true in
+    let over : 4294967295 < length b.heap.items + (length (vnum c.args.announced) + c.args.announced) = omega (arith, full, c.len.ensures, b.heap.ok.0) in
+    (await, over, front_same _ _ refl, begins_over b c.args.kind c.args.announced await over)

@@ -1,7 +1,10 @@
-use Rattle.std.proofs.Common.{◌≡◌, ◌++◌, ◌≤◌, ◌+◌, length, ap, ◌∙◌, refl, sym, length-append, arith, rules}
+use Rattle.std.proofs.Common.{◌≡◌, ◌↔◌, IsTrue, ◌++◌, ◌<◌, ◌≤◌, ◌+◌, length, ap, ◌∙◌, refl, sym, length-append, arith, rules}
 use Rattle.tv_base.specs.Number.{vnum}
 use Rattle.tv_base.specs.Parts.{short_sized}
+use Rattle.tv_builder.proofs.Calls.{over_bound}
+use Rattle.tv_builder.proofs.Giving.{front_same}
 use Rattle.tv_builder.proofs.Keys.{does_key}
+use Rattle.tv_builder.proofs.NoRoom.{key_over}
 use Rattle.tv_builder.proofs.Sound.{can_give_key, fits_of}
 use Rattle.tv_builder.proofs.building.Building.key.Goals as goal
 
@@ -20,3 +23,13 @@ returns c =
     let small : length c.push_sized.new.bytes.items ≤ 4294967295 = omega (arith, fits, c.len.ensures, b.heap.ok.0, ap length grows, length-append b.heap.items (short_sized content), length-append (vnum (length content)) content) in
     does_key b _ c.give_key.new.self content c.len-address.result c.give_key.result (sym c.in-Key.ensures) c.utf8.content (omega (arith, c.len-address.ensures, b.heap.ok.0)) grows small refl refl refl refl refl
     c.give_key.ensures.ok c.give_key.ensures.err
+
+pub returns-then-not-has_room : goal.returns-then-not-has_room
+returns-then-not-has_room c =
+    let b = c.args.self.now in
+    let content = c.args.content.now in
+    let await = sym c.in-Key.ensures in
+    let known : IsTrue c.has_room.result ↔ (c.len.result + (length (vnum (length content)) + length content) ≤ 4294967295) = search (rules, c.has_room.ensures) in
+    let full = over_bound c.len.result (length (vnum (length content)) + length content) c.has_room.result known c.if-not-has_room.true in
+    let over : 4294967295 < length (b.heap.items ++ short_sized content) = omega (arith, full, c.len.ensures, b.heap.ok.0, length-append b.heap.items (short_sized content), length-append (vnum (length content)) content) in
+    (await, over, front_same _ _ refl, key_over b content await over)

@@ -11,7 +11,7 @@ invariant_of-self c =
     let b = c.args.self.now.building in
     let l = does_left b c.begin_bytes-result.new.self _ (HeadHeap b c.args.announced) (HeadFull b c.args.announced) (λ s. and_head s c.args.kind c.args.announced) c.begin_bytes-result.result c.begin_bytes-result.ensures in
     let f = fields_left c.args.self.now c.begin_bytes-result.new.self c.settle.new.building c.settle.new.failed (λ s. and_head s c.args.kind c.args.announced) c.begin_bytes-result.result l s in
-    record { document = f.document; kept_within = f.kept_within; room = f.room; state = f.state; written = f.written_within }
+    record { document = f.document; kept_within = f.kept_within; room = f.room; weight = f.weight; state = f.state; written = f.written_within }
 
 pub returns : goal.returns
 returns c =

@@ -10,7 +10,7 @@ invariant_of-self c =
     let b = c.args.self.now.building in
     let l = does_left b c.chunk-result.new.self _ (λ heap. heap ≡ b.heap.items ++ c.args.bytes.now) ⊥ (λ s. and_bytes s c.args.bytes.now) c.chunk-result.result c.chunk-result.ensures in
     let f = fields_left c.args.self.now c.chunk-result.new.self c.settle.new.building c.settle.new.failed (λ s. and_bytes s c.args.bytes.now) c.chunk-result.result l s in
-    record { document = f.document; kept_within = f.kept_within; room = f.room; state = f.state; written = f.written_within }
+    record { document = f.document; kept_within = f.kept_within; room = f.room; weight = f.weight; state = f.state; written = f.written_within }
 
 pub returns : goal.returns
 returns c =

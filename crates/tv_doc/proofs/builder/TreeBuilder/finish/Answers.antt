@@ -8,7 +8,7 @@ invariant_of-self c =
     let s : Settled k.new.building c.settle.new.building k.new.kept c.args.self.now.failed c.settle.new.failed k.result =
     record { ok = c.settle.ensures.ok; live = c.settle.ensures.live; err = c.settle.ensures.err; mark = c.settle.ensures.mark } in
     let f = finish_fields c.args.self.now k.new.building c.settle.new.building k.new.pairs.items k.new.kept c.args.field.id c.settle.new.failed k.result k.ensures.ok k.ensures.err s in
-    record { document = f.document; kept_within = f.kept_within; room = f.room; state = f.state; written = f.written_within }
+    record { document = f.document; kept_within = f.kept_within; room = f.room; weight = f.weight; state = f.state; written = f.written_within }
 
 pub returns : goal.returns
 returns c =

@@ -11,7 +11,7 @@ invariant_of-self c =
     let b = c.args.self.now.building in
     let l = does_left b c.key-result.new.self _ (KeyHeap b c.args.content.now) (KeyFull b c.args.content.now) (λ s. and_key s c.args.content.now) c.key-result.result c.key-result.ensures in
     let f = fields_left c.args.self.now c.key-result.new.self c.settle.new.building c.settle.new.failed (λ s. and_key s c.args.content.now) c.key-result.result l s in
-    record { document = f.document; kept_within = f.kept_within; room = f.room; state = f.state; written = f.written_within }
+    record { document = f.document; kept_within = f.kept_within; room = f.room; weight = f.weight; state = f.state; written = f.written_within }
 
 pub returns : goal.returns
 returns c =

@@ -14,7 +14,7 @@ invariant_of-self c =
     let l = leaf_of c.args.value in
     let d = does_left b c.leaf-result.new.self _ (LeafHeap b l) (LeafFull b l) (λ s. and_value s (leaf l)) c.leaf-result.result c.leaf-result.ensures in
     let f = fields_left c.args.self.now c.leaf-result.new.self c.settle.new.building c.settle.new.failed (λ s. and_value s (leaf l)) c.leaf-result.result d s in
-    record { document = f.document; kept_within = f.kept_within; room = f.room; state = f.state; written = f.written_within }
+    record { document = f.document; kept_within = f.kept_within; room = f.room; weight = f.weight; state = f.state; written = f.written_within }
 
 pub returns : goal.returns
 returns c =

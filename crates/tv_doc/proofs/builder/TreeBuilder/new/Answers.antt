@@ -8,7 +8,7 @@ invariant_of-result c =
     let len : length doc.node_data.items ≡ c.len-kept.result = omega (arith, c.len-kept.ensures, doc.node_data.ok.0) in
     let e = c.new.ensures in
     let f = new_fields doc c.new.result c.len-kept.result len e.heap e.places e.pending e.frames e.complete e.closed in
-    record { document = f.document; kept_within = f.kept_within; room = f.room; state = f.state; written = f.written_within }
+    record { document = f.document; kept_within = f.kept_within; room = f.room; weight = f.weight; state = f.state; written = f.written_within }
 
 pub returns-clause-document : goal.returns-clause-document
 returns-clause-document c =

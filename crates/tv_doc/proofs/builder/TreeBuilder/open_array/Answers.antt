@@ -12,7 +12,7 @@ invariant_of-self c =
     let b = c.args.self.now.building in
     let l = does_left b c.open_list-result.new.self _ (ListHeap b Array c.args.announced) (ListFull b Array c.args.announced) (λ s. and_list s Array c.args.announced) c.open_list-result.result c.open_list-result.ensures in
     let f = fields_left c.args.self.now c.open_list-result.new.self c.settle.new.building c.settle.new.failed (λ s. and_list s Array c.args.announced) c.open_list-result.result l s in
-    record { document = f.document; kept_within = f.kept_within; room = f.room; state = f.state; written = f.written_within }
+    record { document = f.document; kept_within = f.kept_within; room = f.room; weight = f.weight; state = f.state; written = f.written_within }
 
 pub returns : goal.returns
 returns c =

@@ -12,7 +12,7 @@ invariant_of-self g c =
     let t = g.V.Value.tree c.args.value.now in
     let l = does_left b c.tree-result.new.self _ (ValueHeap b t) (ValueFull b t) (λ s. and_value s t) c.tree-result.result c.tree-result.ensures in
     let f = fields_left c.args.self.now c.tree-result.new.self c.settle.new.building c.settle.new.failed (λ s. and_value s t) c.tree-result.result l s in
-    record { document = f.document; kept_within = f.kept_within; room = f.room; state = f.state; written = f.written_within }
+    record { document = f.document; kept_within = f.kept_within; room = f.room; weight = f.weight; state = f.state; written = f.written_within }
 
 pub returns : goal.returns
 returns g c =

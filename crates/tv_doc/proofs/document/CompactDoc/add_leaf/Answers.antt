@@ -20,7 +20,7 @@ invariant_of-self c =
     } in
     let keeping : Keeping old c.write_leaf-written.new.heap.items c.keep_pair.new.heap.items c.keep_pair.new.pairs.items c.len-len.result c.in_ok-small.small c.write_leaf-written.result c.keep_pair.result = record { pair = c.keep_pair.ensures.pair; same_heap = c.keep_pair.ensures.heap; same_pairs = c.keep_pair.ensures.same_pairs; cut = c.keep_pair.ensures.cut; memory = c.keep_pair.ensures.memory } in
     let fields = kept_fields old _ _ _ _ _ _ _ _ _ wrote keeping in
-    record { document = fields.document; room = fields.room; fits = fields.fits }
+    record { document = fields.document; room = fields.room; weight = fields.weight; fits = fields.fits }
 
 pub returns : goal.returns
 returns c =

@@ -1,5 +1,5 @@
 use Rattle.std.proofs.Common.{◌∙◌}
-use Rattle.tv_doc.proofs.Documents.{kept, kept_room, kept_fits, unchanged}
+use Rattle.tv_doc.proofs.Documents.{kept, kept_room, kept_weight, kept_fits, unchanged}
 use Rattle.tv_doc.proofs.document.CompactDoc.try_clone.Goals as goal
 
 pub invariant_of-result : goal.invariant_of-result
@@ -7,7 +7,7 @@ invariant_of-result c =
     let old = c.args.self.now in
     let heap = c.in_ok-node_data.ensures.items ∙ c.as_slice.ensures.value in
     let pairs = c.in_ok-pairs.ensures.items ∙ c.as_slice-2.ensures.value in
-    record { document = kept old _ _ heap pairs; room = kept_room old _ _ heap pairs; fits = kept_fits old _ heap }
+    record { document = kept old _ _ heap pairs; room = kept_room old _ _ heap pairs; weight = kept_weight old _ _ heap pairs; fits = kept_fits old _ heap }
 
 pub returns : goal.returns
 returns c =

@@ -7,6 +7,7 @@ unfolding empty
 invariant_of-result c = record {
   document = empty _ _ c.new.ensures.items;
   room = omega (arith, ap length c.in_ok-node_data.ensures.items);
+  weight = omega (arith, ap length c.in_ok-node_data.ensures.items);
   fits = omega (arith, ap length c.in_ok-node_data.ensures.items);
 }
 

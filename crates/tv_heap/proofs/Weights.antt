@@ -1,0 +1,64 @@
+-- The weight of what stands in a heap is within its room.
+use Rattle.std.proofs.Common.{◌≡◌, ℕ, ◌+◌, ◌^◌, ◌<◌, ◌≤◌, List, ◌++◌, length, ap, arith, inl, inr}
+use Rattle.std.specs.Int.{w64, cast_unsigned}
+use Rattle.std.specs.List.{flat_map}
+use Rattle.std.proofs.lemmas.Bool.{cases_lt}
+use Rattle.std.proofs.lemmas.List.{length-append}
+use Rattle.tv_base.specs.Number.{vnum}
+use Rattle.tv_base.specs.Parts.{short_sized}
+use Rattle.tv_value.specs.Lent.{leaf_of}
+use Rattle.tv_value.specs.Short.{short_token, short_tokenized}
+use Rattle.tv_value.specs.Tree.{Token, Leaf, null, text, unsigned, signed, boolean, date, facet, bytes, ip_address, tokenized, Tree, leaf, array, object, Elements, no_elements, element, Entries, no_entries, entry}
+use Rattle.tv_value.specs.declared.leaf.ReferenceValueLeaf.{ReferenceValueLeaf}
+use Rattle.tv_heap.specs.LeafBytes.{leaf_bytes}
+use Rattle.tv_heap.specs.Reads.{Stands, LeafStands, Reads, ReadsElements, ReadsEntries}
+use Rattle.tv_heap.specs.Room.{leaf_room, room, elements_room, entries_room}
+use Rattle.tv_heap.specs.Weight.{tree_weight, elements_weight, entries_weight}
+use Rattle.tv_heap.proofs.Writes.{vnum_five, sized_length, vnum_ten, tokens_length, length_eight, length_sixteen, leaf_within}
+
+-- what stands in a heap isn't longer
+stands_length : (heap : List ℕ) (at : ℕ) (P : List ℕ → Type 0) (s : Stands heap at P) → length s.whole ≤ length heap
+stands_length heap at P s = omega (arith, ap length s.joined, length-append s.before (s.whole ++ s.behind), length-append s.whole s.behind)
+
+leaf_weighs : (heap : List ℕ) (at : ℕ) (l : Leaf) → length heap < 2 ^ 32 → LeafStands heap at l → length (leaf_bytes l) ≤ leaf_room l
+leaf_weighs heap at null small h = omega arith
+leaf_weighs heap at (text t) small h = let s = h.stands in sized_length t s.sized.fits
+leaf_weighs heap at (unsigned n) small h = omega (arith, length_eight n)
+leaf_weighs heap at (signed z) small h = omega (arith, length_eight (cast_unsigned w64 z))
+leaf_weighs heap at (boolean b) small h = omega arith
+leaf_weighs heap at (date z) small h = omega (arith, length_eight (cast_unsigned w64 z))
+leaf_weighs heap at (facet t) small h = let s = h.stands in sized_length t s.sized.fits
+leaf_weighs heap at (bytes bs) small h = let s = h.stands in sized_length bs s.fits
+leaf_weighs heap at (ip_address n) small h = omega (arith, length_sixteen n)
+leaf_weighs heap at (tokenized t ts) small h =
+    let s = h.stands in
+    let body = flat_map short_token ts in
+    let whole : length (short_tokenized t ts) ≡ length (short_sized t) + length (vnum (length ts) ++ body) = length-append (short_sized t) (vnum (length ts) ++ body) in
+    let fits : length t < 2 ^ 32 = omega (arith, small, stands_length heap at _ h, ap length s.is, whole, length-append (vnum (length t)) t) in
+    let many : length ts < 2 ^ 64 = let c = s.tokens_fit.count in omega arith in
+    omega (arith, whole, length-append (vnum (length ts)) body, sized_length t fits, vnum_ten (length ts) many, tokens_length ts s.tokens_fit.each)
+
+mutual
+  pub reads_weigh : (heap : List ℕ) (code at : ℕ) (t : Tree) → length heap < 2 ^ 32 → Reads heap code at t → tree_weight t ≤ room t
+  reads_weigh heap code at (leaf l) small h = leaf_weighs heap at l small h.1
+  reads_weigh heap code at (array ts) small h = omega (arith, elements_weigh heap at h.1.list ts small h.1.children)
+  reads_weigh heap code at (object es) small h = omega (arith, entries_weigh heap at h.1.list es small h.1.children)
+
+  pub elements_weigh : (heap : List ℕ) (parent : ℕ) (whole : List ℕ) (ts : Elements) → length heap < 2 ^ 32 → ReadsElements heap parent whole ts → elements_weight ts ≤ elements_room ts
+  elements_weigh heap parent whole no_elements small h = omega arith
+  elements_weigh heap parent whole (element t ts) small h = omega (arith, reads_weigh heap h.code h.at t small h.reads, elements_weigh heap parent h.rest ts small h.others)
+
+  entries_weigh : (heap : List ℕ) (parent : ℕ) (whole : List ℕ) (es : Entries) → length heap < 2 ^ 32 → ReadsEntries heap parent whole es → entries_weight es ≤ entries_room es
+  entries_weigh heap parent whole no_entries small h = omega arith
+  entries_weigh heap parent whole (entry k t es) small h =
+      let s = h.reads.1.stands in
+      let q = h.others in
+      omega (arith, sized_length k s.sized.fits, reads_weigh heap q.code q.at t small q.reads, entries_weigh heap parent q.rest es small q.others)
+
+-- what has no room by its bytes has none by its room
+pub leaf_over : (len : ℕ) (l : ReferenceValueLeaf) → 4294967295 < len + length (leaf_bytes (leaf_of l)) → 4294967295 < len + leaf_room (leaf_of l)
+leaf_over len l h = elim (cases_lt (leaf_room (leaf_of l)) (2 ^ 32)) [ inl p ↦ omega (arith, h, leaf_within l p) | inr p ↦ omega (arith, p) ]
+
+-- and so have bytes behind their length
+pub sized_over : (len n : ℕ) → 4294967295 < len + (length (vnum n) + n) → 4294967295 < len + (5 + n)
+sized_over len n h = elim (cases_lt n (2 ^ 32)) [ inl p ↦ omega (arith, h, vnum_five n p) | inr p ↦ omega (arith, p) ]
