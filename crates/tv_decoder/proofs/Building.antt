@@ -4,11 +4,11 @@ use Rattle.tv_builder.specs.declared.build_error.BuildError.{BuildError}
 use Rattle.tv_builder.specs.declared.build_error.BuildError.TheVariants.{AlreadyFailed, OutOfPlace, FieldNumber, NotUtf8, HeapFull, Memory}
 use Rattle.tv_builder.specs.State.{State, complete, and_end}
 use Rattle.tv_doc.specs.declared.builder.TreeBuilder.{TreeBuilder}
-use Rattle.tv_doc.specs.Builder.{state_of, Goes, BuildsIf, Builds, HasAllBytes, HasContent, EndsIf, Ends, IsComplete, Finished, FinishesIf, Finishes}
+use Rattle.tv_doc.specs.Builder.{state_of, Overfull, Goes, BuildsIf, Builds, HasAllBytes, HasContent, EndsIf, Ends, IsComplete, Finished, FinishesIf, Finishes}
 
 abbrev pub Called : TreeBuilder → TreeBuilder → State → Result (Unit {0}) BuildError → Type 0
 Called old new after (Ok x) = Goes old new after
-Called old new after (Err HeapFull) = Unit {0}
+Called old new after (Err HeapFull) = Overfull old after
 Called old new after (Err Memory) = Unit {0}
 Called old new after (Err _) = ⊥
 
@@ -18,7 +18,7 @@ called_live old new in_place full heaps after (Err AlreadyFailed) here h = absur
 called_live old new in_place full heaps after (Err OutOfPlace) here h = absurd (h.0 here)
 called_live old new in_place full heaps after (Err (FieldNumber n)) here h = absurd h
 called_live old new in_place full heaps after (Err NotUtf8) here h = absurd h
-called_live old new in_place full heaps after (Err HeapFull) here h = tt
+called_live old new in_place full heaps after (Err HeapFull) here h = h.3
 called_live old new in_place full heaps after (Err Memory) here h = tt
 
 pub called : (old new : TreeBuilder) (in_place full : Type 0) (heaps : List ℕ → Type 0) (after : State → State) (r : Result (Unit {0}) BuildError) → old.failed ≡ false → in_place → Builds old new in_place heaps full after r → Called old new (after (state_of old)) r
@@ -28,7 +28,7 @@ called old new in_place full heaps after r live here h = called_live old new in_
 abbrev pub CalledEnd : TreeBuilder → TreeBuilder → Result (Unit {0}) BuildError → Type 0
 CalledEnd old new (Ok x) = Goes old new (and_end (state_of old)) × HasContent (state_of old)
 CalledEnd old new (Err NotUtf8) = ¬ HasContent (state_of old)
-CalledEnd old new (Err HeapFull) = HasContent (state_of old)
+CalledEnd old new (Err HeapFull) = HasContent (state_of old) × Overfull old (and_end (state_of old))
 CalledEnd old new (Err Memory) = HasContent (state_of old)
 CalledEnd old new (Err _) = ⊥
 
@@ -38,7 +38,7 @@ ended_live old new (Err AlreadyFailed) all h = absurd h
 ended_live old new (Err OutOfPlace) all h = absurd (h.0 all)
 ended_live old new (Err (FieldNumber n)) all h = absurd h
 ended_live old new (Err NotUtf8) all h = h.1
-ended_live old new (Err HeapFull) all h = h.1
+ended_live old new (Err HeapFull) all h = (h.1, h.4)
 ended_live old new (Err Memory) all h = h.1
 
 pub ended : (old new : TreeBuilder) (r : Result (Unit {0}) BuildError) → old.failed ≡ false → HasAllBytes (state_of old) → Ends old new r → CalledEnd old new r

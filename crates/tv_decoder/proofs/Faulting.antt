@@ -1,17 +1,13 @@
 -- What is at fault behind what has come.
 use Rattle.std.proofs.Common.{◌≡◌, ℕ, ◌+◌, ◌-◌, ◌%◌, ◌<◌, ◌≤◌, nat_eq, List, [], ◌∷◌, ◌++◌, length, Option, Some, None, refl, sym, ◌∙◌, ap, subst, append_assoc, length-append, arith, inl, inr}
-use Rattle.std.proofs.lemmas.Bool.{cond-true, cond-false}
-use Rattle.std.proofs.lemmas.Bool.Decides.{eqb_tells}
 use Rattle.tv_base.specs.declared.cause.Cause.{Cause}
 use Rattle.tv_base.specs.declared.cause.Cause.TheVariants.{UnexpectedEnd, NotUtf8}
 use Rattle.tv_base.specs.PartFault.{NumberFault}
 use Rattle.tv_builder.specs.declared.awaits.Awaits.{Awaits}
 use Rattle.tv_builder.specs.declared.awaits.Awaits.TheVariants as awaits
-use Rattle.tv_builder.specs.declared.frame.ListKind.{ListKind}
-use Rattle.tv_builder.specs.declared.frame.ListKind.TheVariants.{Array, Object}
 use Rattle.tv_builder.specs.Behind.{FaultsBehind}
 use Rattle.tv_builder.specs.Front.{Spelled}
-use Rattle.tv_builder.specs.State.{OpenList, State, complete, in_lists, in_bytes, next_at, next_in, awaited, IsState}
+use Rattle.tv_builder.specs.State.{OpenList, State, complete, in_lists, in_bytes, next_in, awaited, IsState}
 use Rattle.tv_builder.proofs.Faulting.{field_faults, value_faults, key_faults, end_faults, text_faults}
 use Rattle.tv_builder.proofs.Sound.{all_await, next_key}
 use Rattle.tv_doc.specs.Builder.{built, state_of}
@@ -22,7 +18,7 @@ use Rattle.tv_value.specs.Version.{Version}
 use Rattle.tv_decoder.specs.Front.{parts_at, parts_read, Lacks, IsPlace, IsSound, HasField, LacksPair, NoFront}
 use Rattle.tv_decoder.specs.Puts.{Awaiting, EndNoText}
 use Rattle.tv_decoder.specs.declared.reading.Reading.{Reading}
-use Rattle.tv_decoder.proofs.States.{is_state}
+use Rattle.tv_decoder.proofs.States.{is_state, no_bytes_next}
 
 abbrev Behind : Version → Option ℕ → Document → Option ℕ → State → List ℕ → Refusal → Type 0
 Behind v a d f s rest r = FaultsBehind Legacy LegacyFault v (parts_at a d f s) rest r
@@ -83,14 +79,7 @@ end_at v (Some n) (Some f) d (in_bytes ls kind m bs) rest missing has h is e les
     end_faults Legacy LegacyFault v n d f kind ls m bs rest h.0 h.1 is.0 is.1 is.2 (omega (arith, less, same, is.3))
 end_at v (Some n) (Some f) d (complete t) rest missing has h is e less = absurd h.2
 end_at v (Some n) (Some f) d (in_lists []) rest missing has h is e less = absurd cc
-end_at v (Some n) (Some f) d (in_lists (l ∷ ls)) rest missing has h is e less = absurd (no_bytes l.kind (length l.children) e)
-  where
-    no_bytes : (kind : ListKind) (k : ℕ) → next_at kind k ≡ awaits.Bytes missing → ⊥
-    no_bytes Array k e = cc
-    no_bytes Object k e = elim (eqb_tells (k % 2) 0) [
-      | inl p ↦ let g : awaits.Key ≡ awaits.Bytes missing = sym (cond-true (nat_eq (k % 2) 0) awaits.Key awaits.Value p.0) ∙ e in cc
-      | inr p ↦ let g : awaits.Value ≡ awaits.Bytes missing = sym (cond-false (nat_eq (k % 2) 0) awaits.Key awaits.Value p.0) ∙ e in cc
-    ]
+end_at v (Some n) (Some f) d (in_lists (l ∷ ls)) rest missing has h is e less = absurd (no_bytes_next l.kind (length l.children) missing e)
 end_at v None (Some f) d s rest missing has h is e less = absurd h
 end_at v a None d s rest missing has h is e less = absurd has
 

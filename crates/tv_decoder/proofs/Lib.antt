@@ -5,3 +5,6 @@ pub mod Putting
 pub mod Faulting
 pub mod Stepping
 pub mod RoomWithin
+pub mod Calls
+pub mod OpenBytes
+pub mod Wholes

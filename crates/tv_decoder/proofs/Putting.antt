@@ -1,5 +1,5 @@
 -- What a part that has come leaves.
-use Rattle.std.proofs.Common.{◌≡◌, ◌≢◌, ℕ, ◌+◌, ◌-◌, ◌<◌, ◌≤◌, true, false, Bool, cond, nat_eq, List, [], ◌∷◌, ◌++◌, length, Option, Some, None, Result, Ok, Err, IsUtf8, refl, sym, ◌∙◌, ap, subst, append_assoc, length-append, arith}
+use Rattle.std.proofs.Common.{◌≡◌, ◌≢◌, ℕ, ◌+◌, ◌-◌, ◌%◌, ◌<◌, ◌≤◌, true, false, Bool, cond, nat_eq, List, [], ◌∷◌, ◌++◌, length, Option, Some, None, Result, Ok, Err, IsUtf8, refl, sym, ◌∙◌, ap, subst, append_assoc, length-append, arith, inl, inr}
 use Rattle.std.proofs.lemmas.List.{append-nil}
 use Rattle.tv_base.specs.declared.cause.Cause.{Cause}
 use Rattle.tv_base.specs.declared.cause.Cause.TheVariants as causes
@@ -10,18 +10,18 @@ use Rattle.tv_builder.specs.declared.bytes_kind.BytesKind.TheVariants as kinds
 use Rattle.tv_builder.specs.declared.frame.ListKind.{ListKind}
 use Rattle.tv_builder.specs.Behind.{document_parts, open_parts}
 use Rattle.tv_builder.specs.Parts.{Part, value, bytes_head, some_bytes, IsContent, Trades, same}
-use Rattle.tv_builder.specs.State.{OpenList, State, complete, in_lists, in_bytes, awaited, head_awaits, lacks_more, with_child, list_tree, with_value, with_key, with_list, with_content, and_value, and_list, and_head, and_bytes, and_end, list_head, IsState, HeadNext, lists_parts, parts_of}
+use Rattle.tv_builder.specs.State.{OpenList, State, complete, in_lists, in_bytes, next_at, awaited, head_awaits, lacks_more, with_child, list_tree, with_value, with_key, with_list, with_content, and_value, and_list, and_head, and_bytes, and_end, list_head, IsState, HeadNext, lists_parts, parts_of}
 use Rattle.tv_builder.proofs.CallsTrade.{values_trade, lists_trade, heads_trade, bytes_trade, ends_trade}
 use Rattle.tv_builder.proofs.Trading.{trades_as, trades_from, trades_then}
 use Rattle.tv_doc.specs.declared.builder.TreeBuilder.{TreeBuilder}
-use Rattle.tv_doc.specs.Builder.{built, state_of, Goes, HasAllBytes, HasContent, Finished}
+use Rattle.tv_doc.specs.Builder.{built, state_of, Goes, HasAllBytes, HasContent, IsComplete, Finished}
 use Rattle.tv_reader.specs.declared.error.DeserializeError.{DeserializeError}
 use Rattle.tv_reader.specs.declared.error.DeserializeError.TheVariants as errors
 use Rattle.tv_value.specs.Tree.{Tree, leaf, text, facet, bytes, Document}
 use Rattle.tv_decoder.specs.Front.{parts_at, parts_read, Lacks, IsPlace, IsSound, HasField}
 use Rattle.tv_decoder.specs.Puts.{MayStand, IsWithin, IsOpen, IsEnding, AtEnd, Awaiting, Put, Puts, NoContent, PutsEnd, EndNoText, NoText, PutsBytes}
 use Rattle.tv_decoder.specs.declared.reading.Reading.{Reading}
-use Rattle.tv_decoder.proofs.States.{is_state}
+use Rattle.tv_decoder.proofs.States.{is_state, no_finish_next}
 use Rattle.tv_decoder.proofs.Trading.{open_trades, pair_trades}
 
 -- the same with another builder
@@ -58,6 +58,13 @@ closed r new f h is g announced finished field =
       trades = trades_from _ (ap (λ z. parts_at r.announced (built r.builder) z (state_of r.builder) ++ []) is) (trades_as _ now k.trades);
     }
 
+-- a value is complete where the field is awaited
+pub finish_awaited : (s : State) → awaited s ≡ awaits.Finish → IsComplete s
+finish_awaited (complete t) e = (t, refl)
+finish_awaited (in_lists []) e = absurd cc
+finish_awaited (in_lists (l ∷ ls)) e = absurd (no_finish_next l.kind (length l.children) e)
+finish_awaited (in_bytes ls kind n bs) e = absurd cc
+
 -- or no value is complete
 lacks_at : (s : State) → awaited s ≢ awaits.Finish → MayStand s → Lacks s
 lacks_at (complete t) other h = absurd (other refl)
@@ -83,6 +90,9 @@ no_field r h e = none r.announced (subst (λ z. IsWithin r.announced (built r.bu
     none None w = w
     none (Some n) w = w
 
+pub no_number : (r : Reading) → IsOpen r → r.announced ≡ None → ⊥
+no_number r h e = subst (λ z. IsWithin z (built r.builder) r.field (state_of r.builder)) e h.within
+
 pub small_field : (r : Reading) (f : ℕ) → IsOpen r → r.field ≡ Some f → f ≤ 65535
 small_field r f h e = small r.announced (subst (λ z. IsWithin r.announced (built r.builder) z (state_of r.builder)) e h.within)
   where
@@ -104,7 +114,7 @@ lacks_pair r h = lacks r.announced refl h.within
 
 -- ---- a call of the builder, and then what it closes
 
-trades_at : (a f : Option ℕ) (d : Document) (old new : State) (ps : List Part) → HasField f → IsPlace a d f old → Trades (parts_of old ++ ps) (parts_of new) → Trades (parts_at a d f old ++ ps) (parts_at a d f new)
+pub trades_at : (a f : Option ℕ) (d : Document) (old new : State) (ps : List Part) → HasField f → IsPlace a d f old → Trades (parts_of old ++ ps) (parts_of new) → Trades (parts_at a d f old ++ ps) (parts_at a d f new)
 trades_at None None d old new ps has h t = absurd has
 trades_at None (Some f) d old new ps has h t = absurd h
 trades_at (Some n) None d old new ps has h t = absurd has
@@ -132,7 +142,7 @@ call_trades r b s ps h has g t =
 
 pub puts_on : (r mid new : Reading) (ps : List Part) (result : Result (Unit {0}) DeserializeError) → Trades (parts_read r ++ ps) (parts_read mid) → Puts mid new [] result → Puts r new ps result
 puts_on r mid new ps (Ok x) t h = record { sound = h.sound; trades = trades_then t (trades_from _ (sym (append-nil (parts_read mid))) h.trades) }
-puts_on r mid new ps (Err errors.HeapFull) t h = h
+puts_on r mid new ps (Err errors.HeapFull) t h = record { announced = h.announced; finished = h.finished; field = h.field; state = h.state; less = h.less; is = h.is; trades = trades_then t (trades_from _ (sym (append-nil (parts_read mid))) h.trades); full = h.full }
 puts_on r mid new ps (Err errors.Memory) t h = tt
 puts_on r mid new ps (Err (errors.CorruptedValue c)) t h = absurd h
 puts_on r mid new ps (Err (errors.UnsupportedType k)) t h = absurd h

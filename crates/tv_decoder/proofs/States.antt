@@ -1,5 +1,8 @@
 -- The state that a builder holds is one.
-use Rattle.std.proofs.Common.{◌≡◌, ℕ, ◌<◌, ◌≤◌, ◌%◌, List, [], ◌∷◌, length, refl}
+use Rattle.std.proofs.Common.{◌≡◌, ℕ, ◌<◌, ◌≤◌, ◌%◌, nat_eq, List, [], ◌∷◌, length, refl, sym, ◌∙◌, inl, inr}
+use Rattle.std.proofs.lemmas.Bool.{cond-true, cond-false}
+use Rattle.std.proofs.lemmas.Bool.Decides.{eqb_tells}
+use Rattle.tv_builder.specs.declared.awaits.Awaits.TheVariants as awaits
 use Rattle.std.specs.Coded.{le_prop}
 use Rattle.std.proofs.Math.Logic.{∥∥₁_elim}
 use Rattle.std.proofs.Math.Nat.{ℕ_set}
@@ -7,7 +10,7 @@ use Rattle.tv_builder.specs.declared.bytes_kind.BytesKind.{BytesKind}
 use Rattle.tv_builder.specs.declared.bytes_kind.BytesKind.TheVariants as kinds
 use Rattle.tv_builder.specs.declared.frame.ListKind.{ListKind}
 use Rattle.tv_builder.specs.declared.frame.ListKind.TheVariants.{Array, Object}
-use Rattle.tv_builder.specs.State.{OpenList, State, complete, in_lists, in_bytes, IsKey, AreEntries, AreValues, AreChildren, IsList, AreLists, IsValueNext, IsKeyNext, AllAwait, OthersAwait, HeadNext, IsState}
+use Rattle.tv_builder.specs.State.{OpenList, State, complete, in_lists, in_bytes, next_at, IsKey, AreEntries, AreValues, AreChildren, IsList, AreLists, IsValueNext, IsKeyNext, AllAwait, OthersAwait, HeadNext, IsState}
 use Rattle.tv_doc.specs.declared.builder.TreeBuilder.{TreeBuilder}
 use Rattle.tv_doc.specs.Builder.{state_of}
 use Rattle.tv_value.specs.Tree.{Tree, leaf, array, object, null, text, unsigned, signed, boolean, date, facet, bytes, ip_address, tokenized}
@@ -76,3 +79,19 @@ state_prop (in_bytes ls kind n bs) x y = λ i. (lists_prop ls x.0 y.0 i, others_
 
 pub is_state : (b : TreeBuilder) → IsState (state_of b)
 is_state b = ∥∥₁_elim b.state.1 (state_prop (state_of b)) (λ s. s.is)
+
+-- behind an open list no bytes are awaited
+pub no_bytes_next : (kind : ListKind) (k missing : ℕ) → next_at kind k ≡ awaits.Bytes missing → ⊥
+no_bytes_next Array k missing e = cc
+no_bytes_next Object k missing e = elim (eqb_tells (k % 2) 0) [
+  | inl p ↦ let g : awaits.Key ≡ awaits.Bytes missing = sym (cond-true (nat_eq (k % 2) 0) awaits.Key awaits.Value p.0) ∙ e in cc
+  | inr p ↦ let g : awaits.Value ≡ awaits.Bytes missing = sym (cond-false (nat_eq (k % 2) 0) awaits.Key awaits.Value p.0) ∙ e in cc
+]
+
+-- nor a finish
+pub no_finish_next : (kind : ListKind) (k : ℕ) → next_at kind k ≡ awaits.Finish → ⊥
+no_finish_next Array k e = cc
+no_finish_next Object k e = elim (eqb_tells (k % 2) 0) [
+  | inl p ↦ let g : awaits.Key ≡ awaits.Finish = sym (cond-true (nat_eq (k % 2) 0) awaits.Key awaits.Value p.0) ∙ e in cc
+  | inr p ↦ let g : awaits.Value ≡ awaits.Finish = sym (cond-false (nat_eq (k % 2) 0) awaits.Key awaits.Value p.0) ∙ e in cc
+]

@@ -1,15 +1,16 @@
 -- What was taken of a source, and then what it does to what is read.
-use Rattle.std.proofs.Common.{◌≡◌, ◌≢◌, ℕ, ◌+◌, ◌<◌, ◌≤◌, ◌⊎◌, Bool, true, false, List, [], ◌∷◌, ◌++◌, length, Option, Some, None, Result, Ok, Err, refl, sym, ◌∙◌, ap, subst, append_assoc, length-append, arith, inl, inr}
+use Rattle.std.proofs.Common.{◌≡◌, ◌≢◌, ℕ, ◌+◌, ◌<◌, ◌≤◌, ◌⊎◌, Bool, true, false, ℤ, List, [], ◌∷◌, ◌++◌, length, Option, Some, None, Result, Ok, Err, IsErrOf, refl, sym, ◌∙◌, ap, subst, append_assoc, length-append, arith, inl, inr}
 use Rattle.std.proofs.lemmas.List.{append-nil}
 use Rattle.tv_base.specs.declared.cause.Cause.{Cause}
 use Rattle.tv_base.specs.declared.cause.Cause.TheVariants.{UnexpectedEnd, NotUtf8}
-use Rattle.tv_base.specs.Number.{Groups, VNum, last, more}
+use Rattle.tv_base.specs.Number.{Groups, VNum, last, more, Truth}
 use Rattle.tv_base.specs.Parts.{Each}
 use Rattle.tv_base.specs.Source.{Faults}
 use Rattle.tv_base.proofs.Numbers.{length-fixed}
 use Rattle.tv_builder.specs.Behind.{document_parts, open_parts}
 use Rattle.tv_builder.specs.Front.{SpellsPart, Spelled}
-use Rattle.tv_builder.specs.Parts.{Part, number, field, Trades, same}
+use Rattle.tv_builder.specs.declared.bytes_kind.BytesKind.TheVariants as kinds
+use Rattle.tv_builder.specs.Parts.{Part, number, field, value, array_head, object_head, bytes_head, Trades, same}
 use Rattle.tv_builder.specs.State.{State, in_lists, parts_of}
 use Rattle.tv_builder.proofs.Grammar.{each_append, trades_sound}
 use Rattle.tv_builder.proofs.Trading.{trades_as, trades_from}
@@ -17,13 +18,21 @@ use Rattle.tv_doc.specs.declared.builder.TreeBuilder.{TreeBuilder}
 use Rattle.tv_doc.specs.Builder.{built, state_of}
 use Rattle.tv_legacy.specs.Legacy.{Legacy}
 use Rattle.tv_reader.specs.Finds.{Finds}
+use Rattle.tv_reader.specs.HeadReading.{head_part}
+use Rattle.tv_reader.specs.Heads as heads_of
+use Rattle.tv_reader.specs.Heads.{HeadPart, leaf_head, text_head, facet_head, array_head as array_number, object_head as object_number, tokenized_head, legacy_head, SpellsHead, SpellsKeyHead}
+use Rattle.tv_reader.specs.declared.error.DeserializeError.{DeserializeError}
+use Rattle.tv_reader.specs.declared.error.DeserializeError.TheVariants as errors
+use Rattle.tv_reader.specs.declared.heads.Head.{Head}
+use Rattle.tv_reader.specs.declared.heads.Head.TheVariants as heads
+use Rattle.tv_reader.proofs.Finding.{finds_as, finds_short}
 use Rattle.tv_value.specs.Fault.{Refusal}
-use Rattle.tv_value.specs.Spelling.{NoLegacy}
-use Rattle.tv_value.specs.Tree.{Entries, Document}
-use Rattle.tv_value.specs.Version.{Version}
-use Rattle.tv_decoder.specs.Front.{parts_at, parts_read, Lacks, IsPlace, IsSound, LacksPair}
-use Rattle.tv_decoder.specs.Puts.{Put}
-use Rattle.tv_decoder.specs.Steps.{Advances, IsTakenWhole, Stepped}
+use Rattle.tv_value.specs.Spelling.{Spells, NoLegacy}
+use Rattle.tv_value.specs.Tree.{Tree, leaf, array, object, Entries, Document}
+use Rattle.tv_value.specs.Version.{Version, V1, V2, V3, Date}
+use Rattle.tv_decoder.specs.Front.{parts_at, parts_read, Lacks, IsPlace, IsSound, LacksPair, NoFront, NoRoomBehind, ValueNext}
+use Rattle.tv_decoder.specs.Puts.{Put, Fills, Puts, IsParts, head_parts}
+use Rattle.tv_decoder.specs.Steps.{Advances, BeginsWith, IsTakenWhole, Stepped}
 use Rattle.tv_decoder.specs.declared.reading.Reading.{Reading}
 
 abbrev pub SpellsIn : (List ℕ → Entries → Type 0) → Version → List ℕ → List Part → Type 0
@@ -103,3 +112,129 @@ field_put r new f sound none lacks small announced finished field_is builder =
       (omega (arith, lacks, sound.counted), small, subst (λ z. Lacks z) (sym h.1) tt),
       ap (λ (z : List Part). document_parts n (built r.builder) ++ (field f ∷ z)) (sym (ap parts_of h.1)),
     )
+
+-- ---- what was taken, and then the call
+
+-- what a part's bytes are
+pub record IsPart (v : Version) (legacy : Bool) (old : Reading) (taken : List ℕ) (ps : List Part) : Type 0 where
+  pub some : 0 < length taken
+  pub few : (length taken ≤ 4096) ⊎ IsTakenWhole old taken
+  pub spelled : SpellsIn Legacy v taken ps
+  pub plain : legacy ≡ false → SpellsIn NoLegacy v taken ps
+
+pub part_steps : (v : Version) (legacy : Bool) (old new : Reading) (ps : List Part) (taken : List ℕ) → IsPart v legacy old taken ps → Put old new ps → Stepped v legacy old new taken
+part_steps v legacy old new ps taken h p = stepped v legacy old new ps taken p h.some h.few h.spelled h.plain
+
+pub puts_found : {S X : Type 0} {tells : S → Type 0} {left : S → List ℕ} {faults : S → Faults} {os ns : S} {i k : ℕ} {x : X} {A : List ℕ → X → Type 0} {I : List ℕ → Refusal → Type 0} (v : Version) (legacy : Bool) (old new : Reading) (ps : List Part) (result : Result (Unit {0}) DeserializeError)
+    → ((a : List ℕ) → A a x → IsPart v legacy old a ps) → Finds tells left faults os i ns k (Ok x) A I → Puts old new ps result → Finds tells left faults os i ns k result (λ b _. Stepped v legacy old new b) (NoFront v old)
+puts_found v legacy old new ps (Ok y) part h p = finds_as y (λ b _. Stepped v legacy old new b) (NoFront v old) (λ a s. part_steps v legacy old new ps a (part a s) p) h
+puts_found v legacy old new ps (Err errors.HeapFull) part h p = finds_short errors.HeapFull (λ b _. Stepped v legacy old new b) (NoFront v old) refl h
+puts_found v legacy old new ps (Err errors.Memory) part h p = finds_short errors.Memory (λ b _. Stepped v legacy old new b) (NoFront v old) refl h
+puts_found v legacy old new ps (Err (errors.CorruptedValue c)) part h p = absurd p
+puts_found v legacy old new ps (Err (errors.UnsupportedType t)) part h p = absurd p
+puts_found v legacy old new ps (Err (errors.TypeMismatch t u)) part h p = absurd p
+puts_found v legacy old new ps (Err (errors.Custom s)) part h p = absurd p
+puts_found v legacy old new ps (Err (errors.UnsupportedVersion m n)) part h p = absurd p
+puts_found v legacy old new ps (Err (errors.Io e)) part h p = absurd p
+puts_found v legacy old new ps (Err errors.AlreadyFailed) part h p = absurd p
+
+-- and where there is no room for it
+pub no_room : (v : Version) (old : Reading) (ps : List Part) (whole rest taken : List ℕ) → whole ≡ taken ++ rest → SpellsIn Legacy v taken ps → Fills old ps → NoRoomBehind v old whole
+no_room v old ps whole rest taken joined spelled f = λ bytes p. record {
+  announced = f.announced;
+  finished = f.finished;
+  field = f.field;
+  state = f.state;
+  front = bytes ++ taken;
+  rest = rest;
+  joined = ap (λ (z : List ℕ). bytes ++ z) joined ∙ sym (append_assoc bytes taken rest);
+  less = f.less;
+  is = f.is;
+  spelled = trades_sound Legacy v (parts_read old ++ ps) (open_parts f.announced f.finished f.field f.state) (bytes ++ taken) f.trades (each_append (SpellsPart Legacy v) (parts_read old) ps bytes taken p spelled);
+  full = f.full;
+}
+
+full_by : (v : Version) (old new : Reading) (ps : List Part) (result : Result (Unit {0}) DeserializeError) → IsErrOf result errors.HeapFull → Puts old new ps result → Fills old ps
+full_by v old new ps result is p = subst (λ z. Puts old new ps z) is p
+
+pub puts_full : {S X : Type 0} {tells : S → Type 0} {left : S → List ℕ} {faults : S → Faults} {os ns : S} {i k : ℕ} {x : X} {A : List ℕ → X → Type 0} {I : List ℕ → Refusal → Type 0} (v : Version) (legacy : Bool) (old new : Reading) (ps : List Part) (result : Result (Unit {0}) DeserializeError)
+    → ((a : List ℕ) → A a x → IsPart v legacy old a ps) → Finds tells left faults os i ns k (Ok x) A I → Puts old new ps result → tells os → IsErrOf result errors.HeapFull → NoRoomBehind v old (left os)
+puts_full {left = left} {os = os} {ns = ns} v legacy old new ps result part h p t is =
+    let f = h.found t in
+    no_room v old ps (left os) (left ns) f.front f.joined (part f.front f.spelled).spelled (full_by v old new ps result is p)
+
+-- ---- the head of a key
+
+pub key_part : (v : Version) (old : Reading) (n : ℕ) (a : List ℕ) → SpellsKeyHead v a n → IsPart v false old a (bytes_head kinds.Key n ∷ [])
+key_part V1 old n a h = record { some = omega (arith, ap length h.joined); few = inl (omega (arith, ap length h.joined, h.spelled.at_most_ten)); spelled = one_part Legacy V1 a (bytes_head kinds.Key n) h; plain = λ _. one_part NoLegacy V1 a (bytes_head kinds.Key n) h }
+key_part V2 old n a h = record { some = omega (arith, ap length h.joined); few = inl (omega (arith, ap length h.joined, h.spelled.at_most_ten)); spelled = one_part Legacy V2 a (bytes_head kinds.Key n) h; plain = λ _. one_part NoLegacy V2 a (bytes_head kinds.Key n) h }
+key_part V3 old n a h = record { some = some_number h; few = inl (omega (arith, h.at_most_ten)); spelled = one_part Legacy V3 a (bytes_head kinds.Key n) h; plain = λ _. one_part NoLegacy V3 a (bytes_head kinds.Key n) h }
+
+-- ---- the head of a value
+
+date_length : (v : Version) (b : List ℕ) (z : ℤ) → Date v b z → length b ≡ 8
+date_length V1 b z h = length-fixed h.spelled
+date_length V2 b z h = length-fixed h.spelled
+date_length V3 b z h = length-fixed h.spelled
+
+truth_length : (t : Bool) (b : List ℕ) → Truth b t → length b ≡ 1
+truth_length true b h = ap length h
+truth_length false b h = ap length h
+
+-- what is taken of a head is short
+small_body : (v : Version) (head : Head) (a : List ℕ) → IsParts (head_part head) → SpellsHead v a (head_part head) → (0 < length a) × (length a ≤ 4096)
+small_body v heads.Null a is h = (omega (arith, ap length h.joined), omega (arith, ap length h.joined, ap length h.spelled))
+small_body v (heads.U64 n) a is h = (omega (arith, ap length h.joined), omega (arith, ap length h.joined, length-fixed h.spelled))
+small_body v (heads.I64 z) a is h = (omega (arith, ap length h.joined), omega (arith, ap length h.joined, length-fixed h.spelled.spelled))
+small_body v (heads.Date d) a is h = (omega (arith, ap length h.joined), omega (arith, ap length h.joined, date_length v h.body d.nanoseconds h.spelled))
+small_body v (heads.Bool b) a is h = (omega (arith, ap length h.joined), omega (arith, ap length h.joined, truth_length b h.body h.spelled))
+small_body v (heads.IpAddr n) a is h = (omega (arith, ap length h.joined), omega (arith, ap length h.joined, length-fixed h.spelled))
+small_body v (heads.Text n) a is h = (omega (arith, ap length h.joined), omega (arith, ap length h.joined, h.spelled.at_most_ten))
+small_body v (heads.Facet n) a is h = (omega (arith, ap length h.joined), omega (arith, ap length h.joined, h.spelled.at_most_ten))
+small_body v (heads.Bytes n) a is h = (omega (arith, ap length h.joined), omega (arith, ap length h.joined, h.spelled.at_most_ten))
+small_body v (heads.Array n) a is h = (omega (arith, ap length h.joined), omega (arith, ap length h.joined, h.spelled.at_most_ten))
+small_body v (heads.Object n) a is h = (omega (arith, ap length h.joined), omega (arith, ap length h.joined, h.spelled.at_most_ten))
+small_body v heads.Tokenized a is h = absurd is
+small_body v heads.Legacy a is h = absurd is
+
+head_spells : (L : List ℕ → Entries → Type 0) (v : Version) (h : HeadPart) (a : List ℕ) → IsParts h → SpellsHead v a h → SpellsIn L v a (head_parts h)
+head_spells L v (leaf_head l) a is h = one_part L v a (value (leaf l)) h
+head_spells L v (text_head n) a is h = one_part L v a (bytes_head kinds.Str n) h
+head_spells L v (facet_head n) a is h = one_part L v a (bytes_head kinds.Facet n) h
+head_spells L v (heads_of.bytes_head n) a is h = one_part L v a (bytes_head kinds.Bytes n) h
+head_spells L v (array_number n) a is h = one_part L v a (array_head n) h
+head_spells L v (object_number n) a is h = one_part L v a (object_head n) h
+head_spells L v tokenized_head a is h = absurd is
+head_spells L v legacy_head a is h = absurd is
+
+pub head_is_part : (v : Version) (legacy : Bool) (old : Reading) (head : Head) (a : List ℕ) → IsParts (head_part head) → SpellsHead v a (head_part head) → IsPart v legacy old a (head_parts (head_part head))
+head_is_part v legacy old head a is h =
+    let small = small_body v head a is h in
+    record { some = small.0; few = inl small.1; spelled = head_spells Legacy v (head_part head) a is h; plain = λ _. head_spells NoLegacy v (head_part head) a is h }
+
+-- ---- a value that is taken whole
+
+-- behind the codes of a pre-tokenized text there is a leaf
+plain_leaf : (v : Version) (a : List ℕ) (t : Tree) → Spells Legacy v (7 ∷ a) t → Spells NoLegacy v (7 ∷ a) t
+plain_leaf v a (leaf l) h = h
+plain_leaf v a (array ts) h = absurd (let e : 7 ∷ a ≡ 12 ∷ h.body = h.joined in let k : ◌≡◌ {A = ℕ} 7 12 = cc in omega (arith, k))
+plain_leaf v a (object es) h = elim h [
+  | inl p ↦ absurd (let e : 7 ∷ a ≡ 13 ∷ p.body = p.joined in let k : ◌≡◌ {A = ℕ} 7 13 = cc in omega (arith, k))
+  | inr p ↦ absurd (let e : 7 ∷ a ≡ 8 ∷ p.body = p.joined in let k : ◌≡◌ {A = ℕ} 7 8 = cc in omega (arith, k))
+]
+
+pub tokenized_part : (v : Version) (legacy : Bool) (old : Reading) (t : Tree) (a : List ℕ) → ValueNext old → (b : List ℕ) → a ≡ 7 ∷ 0 ∷ b → Spells Legacy v a t → IsPart v legacy old a (value t ∷ [])
+tokenized_part v legacy old t a next b is h = record {
+  some = omega (arith, ap length is);
+  few = inr (next, inl (subst (BeginsWith 7) (sym is) refl));
+  spelled = one_part Legacy v a (value t) h;
+  plain = λ _. one_part NoLegacy v a (value t) (subst (λ z. Spells NoLegacy v z t) (sym is) (plain_leaf v (0 ∷ b) t (subst (λ z. Spells Legacy v z t) is h)));
+}
+
+pub legacy_part : (v : Version) (old : Reading) (t : Tree) (a : List ℕ) → ValueNext old → (b : List ℕ) → a ≡ 8 ∷ b → Spells Legacy v a t → IsPart v true old a (value t ∷ [])
+legacy_part v old t a next b is h = record {
+  some = omega (arith, ap length is);
+  few = inr (next, inr (subst (BeginsWith 8) (sym is) refl));
+  spelled = one_part Legacy v a (value t) h;
+  plain = λ e. absurd (let f : true ≡ false = e in cc);
+}

@@ -2,3 +2,5 @@ pub mod Errors
 pub mod Front
 pub mod Puts
 pub mod Steps
+pub mod Decoder
+pub mod Documents

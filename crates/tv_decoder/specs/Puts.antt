@@ -1,5 +1,5 @@
 -- What a part that has come does to what is read.
-use Rattle.std.specs.Prelude.{false, ◌≡◌, ℕ, ◌+◌, ◌<◌, ◌≤◌, List, [], ◌∷◌, ◌++◌, length, Option, Some, None, Result, Ok, Err, IsUtf8}
+use Rattle.std.specs.Prelude.{◌⊎◌, false, ◌≡◌, ℕ, ◌+◌, ◌<◌, ◌≤◌, List, [], ◌∷◌, ◌++◌, length, Option, Some, None, Result, Ok, Err, IsUtf8}
 use Rattle.tv_base.specs.declared.cause.Cause.{Cause}
 use Rattle.tv_base.specs.declared.cause.Cause.TheVariants as causes
 use Rattle.tv_builder.specs.Behind.{open_parts}
@@ -124,3 +124,14 @@ head_parts (array_number n) = array_head n ∷ []
 head_parts (object_number n) = object_head n ∷ []
 head_parts tokenized_head = []
 head_parts legacy_head = []
+
+-- ---- after a refusal
+
+-- what isn't finished was let go of
+pub record LetGo (old new : Reading) : Type 0 where
+  pub document : built new.builder ≡ built old.builder
+  pub state : state_of new.builder ≡ in_lists []
+
+-- or nothing has changed
+abbrev pub KeepsPairs : Reading → Reading → Type 0
+KeepsPairs old new = LetGo old new ⊎ (new ≡ old)

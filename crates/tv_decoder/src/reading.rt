@@ -1,13 +1,13 @@
 //! What has been read of a document, and what its next part does to that.
 
-ghost use Rattle.std.specs.Prelude.{◌≡◌, ◌≢◌, ◌↔◌, ◌-◌, ◌^◌, ◌≤◌, ◌<◌, [], ◌∷◌, length, IsTrue, IsErrOf, OnOk, None, false};
+ghost use Rattle.std.specs.Prelude.{◌≡◌, ◌≢◌, ◌↔◌, ◌-◌, ◌^◌, ◌≤◌, ◌<◌, [], ◌∷◌, length, IsTrue, IsErrOf, OnOk, OnErr, None, false};
 ghost use Rattle.tv_base.specs.declared.cause.Cause.TheVariants.{TooLong};
-ghost use Rattle.tv_builder.specs.Parts.{value as value_part, key as key_part, some_bytes, bytes_head};
-ghost use Rattle.tv_builder.specs.State.{awaited, head_awaits, list_head, lists_of, children_of};
+ghost use Rattle.tv_builder.specs.Parts.{value as value_part, array_head, object_head, some_bytes, bytes_head};
+ghost use Rattle.tv_builder.specs.State.{awaited, head_awaits, lists_of, children_of};
 ghost use Rattle.tv_builder.specs.declared.awaits.Awaits.TheVariants.{Value as ValueAwaited, Key as KeyAwaited, Bytes as BytesAwaited};
 ghost use Rattle.tv_builder.specs.declared.bytes_kind.BytesKind.TheVariants.{Key as KeyKind};
 ghost use Rattle.tv_decoder.specs.Front.{parts_read, IsSound, IsDone, LacksPair, NoFront, NoRoomBehind};
-ghost use Rattle.tv_decoder.specs.Puts.{IsOpen, AtEnd, Awaiting, Puts, PutsEnd, PutsBytes, IsParts, head_parts};
+ghost use Rattle.tv_decoder.specs.Puts.{IsOpen, AtEnd, Awaiting, Puts, PutsEnd, PutsBytes, IsParts, head_parts, LetGo, KeepsPairs};
 ghost use Rattle.tv_decoder.specs.Steps.{Stepped, Sees};
 ghost use Rattle.tv_doc.specs.Builder.{built, state_of, heap_so_far};
 ghost use Rattle.tv_doc.specs.Document.{document_of};
@@ -24,7 +24,6 @@ use crate::errors::store_error;
 use std::alloc::Global;
 use tv_base::ByteSource;
 use tv_base::take::take_pieces;
-use tv_builder::frame::ListKind;
 use tv_doc::builder::{Awaits, BuildError, BytesKind, TreeBuilder};
 use tv_doc::document::CompactDoc;
 use tv_reader::fields::take_field;
@@ -109,14 +108,16 @@ impl Reading {
     // Makes a complete value that of the pair whose field was read.
     fn close_pair(&mut self) -> Result<(), DeserializeError>
         requires { IsOpen self.old }
-        ensures { Puts self.old self.new [] result }
+        ensures puts { Puts self.old self.new [] result }
+        ensures left { OnErr result (LetGo self.old self.new) }
     {
         let Awaits::Finish = self.builder.awaits() else {
             return Ok(());
         };
-        let Some(field) = self.field else {
+        let (Some(field), Some(announced)) = (self.field, self.announced) else {
             return Ok(());
         };
+        prove!(self.finished < announced);
         match self.builder.finish(Field::from_field_id(field)) {
             Ok(()) => {
                 self.finished += 1;
@@ -130,7 +131,8 @@ impl Reading {
     // A value without children has come.
     fn put_leaf(&mut self, value: ReferenceValueLeaf<'_>) -> Result<(), DeserializeError>
         requires { Awaiting self.old ValueAwaited }
-        ensures { Puts self.old self.new (value_part (leaf_tree (leaf_of value.entry)) ∷ []) result }
+        ensures puts { Puts self.old self.new (value_part (leaf_tree (leaf_of value.entry)) ∷ []) result }
+        ensures left { OnErr result (LetGo self.old self.new) }
     {
         match self.builder.leaf(value) {
             Ok(()) => self.close_pair(),
@@ -141,7 +143,8 @@ impl Reading {
     // A whole value has come.
     fn put_tree<'a, V: Value<'a>>(&mut self, value: &V) -> Result<(), DeserializeError>
         requires { Awaiting self.old ValueAwaited }
-        ensures { Puts self.old self.new (value_part (V.tree value.now) ∷ []) result }
+        ensures puts { Puts self.old self.new (value_part (V.tree value.now) ∷ []) result }
+        ensures left { OnErr result (LetGo self.old self.new) }
     {
         match self.builder.tree(value) {
             Ok(()) => self.close_pair(),
@@ -149,16 +152,25 @@ impl Reading {
         }
     }
 
-    // The head of a list has come.
-    fn put_list(&mut self, kind: ListKind, announced: u64) -> Result<(), DeserializeError>
+    // The head of an array has come.
+    fn put_array(&mut self, announced: u64) -> Result<(), DeserializeError>
         requires { Awaiting self.old ValueAwaited }
-        ensures { Puts self.old self.new (list_head kind announced ∷ []) result }
+        ensures puts { Puts self.old self.new (array_head announced ∷ []) result }
+        ensures left { OnErr result (LetGo self.old self.new) }
     {
-        let opened = match kind {
-            ListKind::Array => self.builder.open_array(announced),
-            ListKind::Object => self.builder.open_object(announced),
-        };
-        match opened {
+        match self.builder.open_array(announced) {
+            Ok(()) => self.close_pair(),
+            Err(error) => Err(store_error(error)),
+        }
+    }
+
+    // The head of an object has come.
+    fn put_object(&mut self, announced: u64) -> Result<(), DeserializeError>
+        requires { Awaiting self.old ValueAwaited }
+        ensures puts { Puts self.old self.new (object_head announced ∷ []) result }
+        ensures left { OnErr result (LetGo self.old self.new) }
+    {
+        match self.builder.open_object(announced) {
             Ok(()) => self.close_pair(),
             Err(error) => Err(store_error(error)),
         }
@@ -167,7 +179,8 @@ impl Reading {
     // All open bytes have come: they are a value or a key.
     fn put_end(&mut self) -> Result<(), DeserializeError>
         requires { AtEnd self.old }
-        ensures { PutsEnd self.old self.new result }
+        ensures puts { PutsEnd self.old self.new result }
+        ensures left { OnErr result (LetGo self.old self.new) }
     {
         match self.builder.end_bytes() {
             Ok(()) => self.close_pair(),
@@ -178,7 +191,8 @@ impl Reading {
     // The length of bytes has come. None at all are a value or a key at once.
     fn put_bytes_head(&mut self, kind: BytesKind, announced: u64) -> Result<(), DeserializeError>
         requires { Awaiting self.old (head_awaits kind) }
-        ensures { Puts self.old self.new (bytes_head kind announced ∷ []) result }
+        ensures puts { Puts self.old self.new (bytes_head kind announced ∷ []) result }
+        ensures left { OnErr result (LetGo self.old self.new) }
     {
         if let Err(error) = self.builder.begin_bytes(kind, announced) {
             return Err(store_error(error));
@@ -193,7 +207,8 @@ impl Reading {
     fn put_bytes(&mut self, bytes: &[u8], missing: u32) -> Result<(), DeserializeError>
         requires awaiting { Awaiting self.old (BytesAwaited missing) }
         requires few { length bytes.now ≤ missing }
-        ensures { PutsBytes self.old self.new bytes.now (some_bytes bytes.now ∷ []) result }
+        ensures puts { PutsBytes self.old self.new bytes.now (some_bytes bytes.now ∷ []) result }
+        ensures left { OnErr result (LetGo self.old self.new) }
     {
         if let Err(error) = self.builder.chunk(bytes) {
             return Err(store_error(error));
@@ -208,7 +223,8 @@ impl Reading {
     fn put_head(&mut self, head: Head) -> Result<(), DeserializeError>
         requires awaiting { Awaiting self.old ValueAwaited }
         requires parts { IsParts (head_part head) }
-        ensures { Puts self.old self.new (head_parts (head_part head)) result }
+        ensures puts { Puts self.old self.new (head_parts (head_part head)) result }
+        ensures left { OnErr result (LetGo self.old self.new) }
     {
         match head {
             Head::Null => self.put_leaf(ReferenceValueLeaf::Null),
@@ -220,8 +236,8 @@ impl Reading {
             Head::Text(len) => self.put_bytes_head(BytesKind::Str, len),
             Head::Facet(len) => self.put_bytes_head(BytesKind::Facet, len),
             Head::Bytes(len) => self.put_bytes_head(BytesKind::Bytes, len),
-            Head::Array(announced) => self.put_list(ListKind::Array, announced),
-            Head::Object(announced) => self.put_list(ListKind::Object, announced),
+            Head::Array(announced) => self.put_array(announced),
+            Head::Object(announced) => self.put_object(announced),
             Head::Tokenized | Head::Legacy => unreachable!(),
         }
     }
@@ -229,7 +245,8 @@ impl Reading {
     // A whole value has come, which owns what it holds.
     fn put_owned(&mut self, value: &OwnedValue) -> Result<(), DeserializeError>
         requires { Awaiting self.old ValueAwaited }
-        ensures { Puts self.old self.new (value_part (owned_tree value.now) ∷ []) result }
+        ensures puts { Puts self.old self.new (value_part (owned_tree value.now) ∷ []) result }
+        ensures left { OnErr result (LetGo self.old self.new) }
     {
         match value {
             OwnedValue::PreTokStr(text) => {
@@ -249,6 +266,7 @@ impl Reading {
         requires sound { IsSound self.old }
         requires none { self.old.announced ≡ None }
         ensures sound { OnOk result (IsSound self.new) }
+        ensures left { OnErr result (KeepsPairs self.old self.new) }
         ensures finds { (v : Version) → Finds S.tells S.left S.faults source.old count.old source.new count.new result (λ b _. Stepped v false self.old self.new b) (NoFront v self.old) }
         ensures too_long { IsErrOf result (CorruptedValue TooLong) → count.new ≡ 2 ^ 64 - 1 }
         ensures roomy { ¬ IsErrOf result HeapFull }
@@ -268,6 +286,7 @@ impl Reading {
         requires none { self.old.field ≡ None }
         requires lacks { LacksPair self.old.announced self.old.finished }
         ensures sound { OnOk result (IsSound self.new) }
+        ensures left { OnErr result (KeepsPairs self.old self.new) }
         ensures finds { (v : Version) → Finds S.tells S.left S.faults source.old count.old source.new count.new result (λ b _. Stepped v false self.old self.new b) (NoFront v self.old) }
         ensures too_long { IsErrOf result (CorruptedValue TooLong) → count.new ≡ 2 ^ 64 - 1 }
         ensures roomy { ¬ IsErrOf result HeapFull }
@@ -288,6 +307,7 @@ impl Reading {
     ) -> Result<(), DeserializeError>
         requires { Awaiting self.old ValueAwaited }
         ensures sound { OnOk result (IsSound self.new) }
+        ensures left { OnErr result (KeepsPairs self.old self.new) }
         ensures finds { Finds S.tells S.left S.faults source.old count.old source.new count.new result (λ b _. Stepped (version_of version) legacy_seen.new self.old self.new b) (NoFront (version_of version) self.old) }
         ensures full { S.tells source.old → IsErrOf result HeapFull → NoRoomBehind (version_of version) self.old (S.left source.old) }
         ensures too_long { IsErrOf result (CorruptedValue TooLong) → count.new ≡ 2 ^ 64 - 1 }
@@ -317,6 +337,7 @@ impl Reading {
     ) -> Result<(), DeserializeError>
         requires { Awaiting self.old KeyAwaited }
         ensures sound { OnOk result (IsSound self.new) }
+        ensures left { OnErr result (KeepsPairs self.old self.new) }
         ensures finds { Finds S.tells S.left S.faults source.old count.old source.new count.new result (λ b _. Stepped (version_of version) false self.old self.new b) (NoFront (version_of version) self.old) }
         ensures full { S.tells source.old → IsErrOf result HeapFull → NoRoomBehind (version_of version) self.old (S.left source.old) }
         ensures too_long { IsErrOf result (CorruptedValue TooLong) → count.new ≡ 2 ^ 64 - 1 }
@@ -335,6 +356,7 @@ impl Reading {
     ) -> Result<(), DeserializeError>
         requires awaiting { Awaiting self.old (BytesAwaited missing) }
         ensures sound { OnOk result (IsSound self.new) }
+        ensures left { OnErr result (KeepsPairs self.old self.new) }
         ensures finds { (v : Version) → Finds S.tells S.left S.faults source.old count.old source.new count.new result (λ b _. Stepped v false self.old self.new b) (NoFront v self.old) }
         ensures full { (v : Version) → S.tells source.old → IsErrOf result HeapFull → NoRoomBehind v self.old (S.left source.old) }
         ensures too_long { IsErrOf result (CorruptedValue TooLong) → count.new ≡ 2 ^ 64 - 1 }
@@ -361,6 +383,7 @@ impl Reading {
         requires sound { IsSound self.old }
         requires more { ¬ IsDone self.old }
         ensures sound { OnOk result (IsSound self.new) }
+        ensures left { OnErr result (KeepsPairs self.old self.new) }
         ensures finds { Finds S.tells S.left S.faults source.old count.old source.new count.new result (λ b _. Stepped (version_of version) legacy_seen.new self.old self.new b) (NoFront (version_of version) self.old) }
         ensures full { S.tells source.old → IsErrOf result HeapFull → NoRoomBehind (version_of version) self.old (S.left source.old) }
         ensures too_long { IsErrOf result (CorruptedValue TooLong) → count.new ≡ 2 ^ 64 - 1 }

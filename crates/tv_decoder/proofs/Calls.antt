@@ -1,0 +1,140 @@
+-- A call of the builder, as it leaves what is read.
+use Rattle.std.proofs.Common.{◌≡◌, ◌≢◌, ℕ, ◌+◌, ◌-◌, ◌<◌, ◌≤◌, true, false, Bool, cond, nat_eq, List, [], ◌∷◌, ◌++◌, length, Option, Some, None, Result, Ok, Err, OnErr, IsUtf8, refl, sym, ◌∙◌, ap, subst, append_assoc, length-append, arith, inl, inr}
+use Rattle.std.proofs.lemmas.Bool.{cond-true, cond-false}
+use Rattle.std.proofs.lemmas.Bool.Decides.{eqb_tells}
+use Rattle.tv_builder.specs.declared.awaits.Awaits.{Awaits}
+use Rattle.tv_builder.specs.declared.awaits.Awaits.TheVariants as awaits
+use Rattle.tv_builder.specs.declared.build_error.BuildError.{BuildError}
+use Rattle.tv_builder.specs.declared.build_error.BuildError.TheVariants.{AlreadyFailed, OutOfPlace, FieldNumber, NotUtf8, HeapFull, Memory}
+use Rattle.tv_builder.specs.declared.bytes_kind.BytesKind.{BytesKind}
+use Rattle.tv_builder.specs.declared.bytes_kind.BytesKind.TheVariants as kinds
+use Rattle.tv_builder.specs.declared.frame.ListKind.{ListKind}
+use Rattle.tv_builder.specs.declared.frame.ListKind.TheVariants.{Array, Object}
+use Rattle.tv_builder.specs.Behind.{open_parts}
+use Rattle.tv_builder.specs.Parts.{Part, Trades}
+use Rattle.tv_builder.specs.State.{OpenList, State, complete, in_lists, in_bytes, with_child, list_tree, with_value, with_key, with_list, with_content, and_value, and_list, and_head, and_end, awaited, head_awaits, next_in, AreLists, OthersAwait, HeadNext, IsState, state_room, parts_of}
+use Rattle.tv_builder.proofs.Children.{child_key, key_lacks}
+use Rattle.tv_builder.proofs.Giving.{value_is}
+use Rattle.tv_builder.proofs.Sound.{all_await, next_key}
+use Rattle.tv_doc.specs.declared.builder.TreeBuilder.{TreeBuilder}
+use Rattle.tv_doc.specs.Builder.{built, state_of, Overfull, Goes, Builds}
+use Rattle.tv_heap.specs.Room.{document_room}
+use Rattle.tv_reader.specs.declared.error.DeserializeError.{DeserializeError}
+use Rattle.tv_reader.specs.declared.error.DeserializeError.TheVariants as errors
+use Rattle.tv_value.specs.Tree.{Tree, leaf, text, Document}
+use Rattle.tv_decoder.specs.Errors.{build_error}
+use Rattle.tv_decoder.specs.Front.{parts_at, parts_read, IsPlace, IsSound, HasField}
+use Rattle.tv_decoder.specs.Puts.{MayStand, IsOpen, Awaiting, Put, Fills, Puts, LetGo}
+use Rattle.tv_decoder.specs.declared.reading.Reading.{Reading}
+use Rattle.tv_decoder.proofs.Building.{Called, called}
+use Rattle.tv_decoder.proofs.Putting.{with_builder, trades_at, opened, call_trades, puts_on}
+use Rattle.tv_decoder.proofs.States.{is_state}
+
+-- ---- the state that is left, or would be
+
+pub and_value_is : (s : State) (t : Tree) → IsState s → awaited s ≡ awaits.Value → IsState (and_value s t)
+and_value_is (in_lists ls) t is e = value_is ls t is.0 (all_await ls e is.1)
+and_value_is (complete u) t is e = tt
+and_value_is (in_bytes ls kind n bs) t is e = absurd cc
+
+pub and_list_is : (s : State) (kind : ListKind) (n : ℕ) → IsState s → awaited s ≡ awaits.Value → IsState (and_list s kind n)
+and_list_is (in_lists ls) kind n is e = elim (eqb_tells n 0) [
+  | inl p ↦ subst IsState (sym (cond-true (nat_eq n 0) _ _ p.0)) (value_is ls (list_tree kind []) is.0 (all_await ls e is.1))
+  | inr p ↦ subst IsState (sym (cond-false (nat_eq n 0) _ _ p.0)) (opened_is kind (omega (arith, p.1)))
+]
+  where
+    opened_is : (kind : ListKind) → 0 < n → IsState (in_lists (record { kind = kind; announced = n; children = [] } ∷ ls))
+    opened_is Array some = ((record { lacks = some; children = tt }, is.0), all_await ls e is.1)
+    opened_is Object some = ((record { lacks = omega (arith, some); children = tt }, is.0), all_await ls e is.1)
+and_list_is (complete u) kind n is e = tt
+and_list_is (in_bytes ls k m bs) kind n is e = absurd cc
+
+head_next : (kind : BytesKind) (ls : List OpenList) → OthersAwait ls → next_in ls ≡ head_awaits kind → HeadNext kind ls
+head_next kinds.Str ls others e = all_await ls e others
+head_next kinds.Facet ls others e = all_await ls e others
+head_next kinds.Bytes ls others e = all_await ls e others
+head_next kinds.Key [] others e = absurd cc
+head_next kinds.Key (l ∷ ls) others e = next_key l.kind (length l.children) e
+
+pub not_finish : (kind : BytesKind) → awaits.Finish ≡ head_awaits kind → ⊥
+not_finish kinds.Str e = cc
+not_finish kinds.Facet e = cc
+not_finish kinds.Bytes e = cc
+not_finish kinds.Key e = cc
+
+pub not_bytes : (kind : BytesKind) (n : ℕ) → awaits.Bytes n ≡ head_awaits kind → ⊥
+not_bytes kinds.Str n e = cc
+not_bytes kinds.Facet n e = cc
+not_bytes kinds.Bytes n e = cc
+not_bytes kinds.Key n e = cc
+
+pub and_head_is : (s : State) (kind : BytesKind) (n : ℕ) → IsState s → awaited s ≡ head_awaits kind → IsState (and_head s kind n)
+and_head_is (in_lists ls) kind n is e = (is.0, is.1, head_next kind ls is.1 e, omega arith)
+and_head_is (complete u) kind n is e = tt
+and_head_is (in_bytes ls k m bs) kind n is e = absurd (not_bytes kind (m - length bs) e)
+
+content_is : (ls : List OpenList) (kind : BytesKind) (content : List ℕ) → AreLists ls → OthersAwait ls → HeadNext kind ls → IsState (with_content ls kind content)
+content_is ls kinds.Str content are others next = value_is ls _ are next
+content_is ls kinds.Facet content are others next = value_is ls _ are next
+content_is ls kinds.Bytes content are others next = value_is ls _ are next
+content_is [] kinds.Key content are others next = absurd next
+content_is (l ∷ ls) kinds.Key content are others next =
+    let child = child_key l.kind l.children (leaf (text content)) next tt are.0.children in
+    let lacks = key_lacks l.kind l.announced (length l.children) next are.0.lacks in
+    ((record { lacks = omega (arith, lacks.0, length-append l.children (leaf (text content) ∷ [])); children = child.0 }, are.1), others)
+
+pub and_end_is : (s : State) → IsState s → IsState (and_end s)
+and_end_is (in_bytes ls kind n bs) is = content_is ls kind bs is.0 is.1 is.2
+and_end_is (in_lists ls) is = is
+and_end_is (complete t) is = is
+
+-- ---- what has no room
+
+pub record FillsAt (a f : Option ℕ) (d : Document) (old : State) (ps : List Part) : Type 0 where
+  pub announced : ℕ
+  pub field : ℕ
+  pub state : State
+  pub less : length d < announced
+  pub is : IsState state
+  pub trades : Trades (parts_at a d f old ++ ps) (open_parts announced d field state)
+  pub full : 4294967295 < document_room d + state_room state
+
+pub fills_at : (a f : Option ℕ) (d : Document) (old new : State) (ps : List Part) → HasField f → IsPlace a d f old → IsState new → Trades (parts_of old ++ ps) (parts_of new) → 4294967295 < document_room d + state_room new → FillsAt a f d old ps
+fills_at None None d old new ps has h is t full = absurd has
+fills_at None (Some f) d old new ps has h is t full = absurd h
+fills_at (Some n) None d old new ps has h is t full = absurd has
+fills_at (Some n) (Some f) d old new ps has h is t full = record { announced = n; field = f; state = new; less = h.0; is = is; trades = trades_at (Some n) (Some f) d old new ps has h t; full = full }
+
+pub fills : (r : Reading) (s : State) (ps : List Part) → IsSound r → HasField r.field → IsState s → Trades (parts_of (state_of r.builder) ++ ps) (parts_of s) → Overfull r.builder s → Fills r ps
+fills r s ps sound has is t full =
+    let k = fills_at r.announced r.field (built r.builder) (state_of r.builder) s ps has sound.place is t full in
+    record { announced = k.announced; finished = built r.builder; field = k.field; state = k.state; less = k.less; is = k.is; trades = k.trades; full = k.full }
+
+-- ---- the call, and what it answers
+
+module _ (r : Reading) (b : TreeBuilder) (what : Awaits) (in_place full : Type 0) (heaps : List ℕ → Type 0) (after : State → State) (ps : List Part) where
+  pub call_opens : (x : Unit {0}) → Awaiting r what → in_place → Builds r.builder b in_place heaps full after (Ok x) → MayStand (after (state_of r.builder)) → IsOpen (with_builder r b)
+  call_opens x h here c stands = opened r b (after (state_of r.builder)) h.sound h.field (called r.builder b in_place full heaps after (Ok x) h.sound.live here c) stands
+
+  pub call_trade : (x : Unit {0}) → Awaiting r what → in_place → Builds r.builder b in_place heaps full after (Ok x) → Trades (parts_of (state_of r.builder) ++ ps) (parts_of (after (state_of r.builder))) → Trades (parts_read r ++ ps) (parts_read (with_builder r b))
+  call_trade x h here c t = call_trades r b (after (state_of r.builder)) ps h.sound h.field (called r.builder b in_place full heaps after (Ok x) h.sound.live here c) t
+
+  pub call_puts : (x : Unit {0}) (new : Reading) (result : Result (Unit {0}) DeserializeError) → Awaiting r what → in_place → Builds r.builder b in_place heaps full after (Ok x) → Trades (parts_of (state_of r.builder) ++ ps) (parts_of (after (state_of r.builder)))
+      → Puts (with_builder r b) new [] result → Puts r new ps result
+  call_puts x new result h here c t p = puts_on r (with_builder r b) new ps result (call_trade x h here c t) p
+
+  pub call_left : (x : Unit {0}) (new : Reading) (result : Result (Unit {0}) DeserializeError) → Awaiting r what → in_place → Builds r.builder b in_place heaps full after (Ok x) → OnErr result (LetGo (with_builder r b) new) → OnErr result (LetGo r new)
+  call_left x new (Ok y) h here c l = tt
+  call_left x new (Err e) h here c l = record { document = l.document ∙ (called r.builder b in_place full heaps after (Ok x) h.sound.live here c).document; state = l.state }
+
+  pub call_refused : (e : BuildError) (new : Reading) → Awaiting r what → in_place → Builds r.builder b in_place heaps full after (Err e) → IsState (after (state_of r.builder)) → Trades (parts_of (state_of r.builder) ++ ps) (parts_of (after (state_of r.builder)))
+      → Puts r new ps (Err (build_error e))
+  call_refused e new h here c is t = refused e (called r.builder b in_place full heaps after (Err e) h.sound.live here c)
+    where
+      refused : (e : BuildError) → Called r.builder b (after (state_of r.builder)) (Err e) → Puts r new ps (Err (build_error e))
+      refused HeapFull k = fills r (after (state_of r.builder)) ps h.sound h.field is t k
+      refused Memory k = tt
+      refused AlreadyFailed k = absurd k
+      refused OutOfPlace k = absurd k
+      refused (FieldNumber n) k = absurd k
+      refused NotUtf8 k = absurd k

@@ -1,0 +1,15 @@
+use Rattle.tv_reader.specs.Version.{version_of}
+use Rattle.tv_decoder.proofs.Wholes.{finds_seen}
+use Rattle.tv_decoder.proofs.reading.Reading.advance.Goals as goal
+
+pub returns-then-is_none-clause-finds : goal.returns-then-is_none-clause-finds
+returns-then-is_none-clause-finds g c = finds_seen (version_of c.args.version) c.args.legacy_seen.now c.args.self.now c.step_number.new.self (c.step_number.ensures.finds (version_of c.args.version))
+
+pub returns-then-is_none-2-clause-finds : goal.returns-then-is_none-2-clause-finds
+returns-then-is_none-2-clause-finds g c = finds_seen (version_of c.args.version) c.args.legacy_seen.now c.args.self.now c.step_field.new.self (c.step_field.ensures.finds (version_of c.args.version))
+
+pub returns-in-Key-clause-finds : goal.returns-in-Key-clause-finds
+returns-in-Key-clause-finds g c = finds_seen (version_of c.args.version) c.args.legacy_seen.now c.args.self.now c.step_key.new.self c.step_key.ensures.finds
+
+pub returns-in-Bytes-clause-finds : goal.returns-in-Bytes-clause-finds
+returns-in-Bytes-clause-finds g c = finds_seen (version_of c.args.version) c.args.legacy_seen.now c.args.self.now c.step_bytes.new.self (c.step_bytes.ensures.finds (version_of c.args.version))

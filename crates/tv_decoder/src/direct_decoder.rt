@@ -1,0 +1,152 @@
+//! A decoder of documents with a stack of its own, which is lent its source for each step.
+
+ghost use Rattle.std.specs.Prelude.{◌≡◌, ◌↔◌, ◌-◌, ◌^◌, [], length, true, false, IfOk, OnOk, OnErr, IsErrOf};
+ghost use Rattle.tv_base.specs.declared.cause.Cause.TheVariants.{TooLong};
+ghost use Rattle.tv_decoder.specs.Decoder.{SaysDone, Rests};
+ghost use Rattle.tv_decoder.specs.Front.{parts_read, IsSound, IsDone, NoFront, NoRoomBehind};
+ghost use Rattle.tv_decoder.specs.Steps.{Stepped, Sees};
+ghost use Rattle.tv_doc.specs.Builder.{built, state_of, heap_so_far};
+ghost use Rattle.tv_doc.specs.Document.{document_of};
+ghost use Rattle.tv_builder.specs.State.{lists_of, children_of};
+ghost use Rattle.tv_reader.specs.Finds.{Finds};
+ghost use Rattle.tv_reader.specs.Version.{version_of};
+ghost use Rattle.tv_reader.specs.declared.error.DeserializeError.TheVariants.{CorruptedValue, HeapFull};
+
+use crate::reading::Reading;
+use std::alloc::Global;
+use tv_base::ByteSource;
+use tv_doc::document::CompactDoc;
+use tv_reader::{DeserializeError, DocStoreVersion};
+
+/// Whether a step was the last. (Own.)
+#[derive(Clone, Copy, Debug, PartialEq, Eq)]
+pub enum Step {
+    /// More is to be read.
+    More,
+    /// All announced pairs are finished.
+    Done,
+}
+
+/// A document that is read step by step, straight into its heap. (Own.)
+///
+/// A step reads the number of the pairs, a field, the head of a key or a value (all of a value of a known width, of a pre-tokenized text
+/// and of an object as older stores hold it), or at most 4096 bytes of a text, a facet, bytes or a key. It is lent the source, so the
+/// decoder holds none. After a refusal each step answers `AlreadyFailed` and reads nothing; the finished pairs stay.
+#[derive(Debug, Drop)]
+pub struct DirectDecoder {
+    alloc: Global,
+    version: DocStoreVersion,
+    reading: Reading,
+    count: u64,
+    failed: bool,
+    legacy_seen: bool,
+    pub ghost sound: { failed ≡ false → IsSound reading },
+}
+
+impl DirectDecoder {
+    /// A decoder of a document of this version. It reads nothing and takes no memory.
+    pub fn new(alloc: Global, version: DocStoreVersion) -> DirectDecoder
+        ensures parts { parts_read result.reading ≡ [] }
+        ensures document { built result.reading.builder ≡ [] }
+        ensures version { result.version ≡ version }
+        ensures count { result.count ≡ 0 }
+        ensures live { result.failed ≡ false }
+        ensures none_seen { result.legacy_seen ≡ false }
+    {
+        DirectDecoder {
+            alloc,
+            version,
+            reading: Reading::new(alloc),
+            count: 0,
+            failed: false,
+            legacy_seen: false,
+        }
+    }
+
+    /// Reads the next part from the source, and says whether it was the last. Once all pairs are finished it answers `Done` and reads
+    /// nothing.
+    ///
+    /// Errors: `AlreadyFailed` after a refusal; `CorruptedValue` and `TypeMismatch` with the first fault in the bytes; `HeapFull` where
+    /// what has come needs more room than 4294967295 bytes; `Io` where the source failed; `Memory`.
+    pub fn step<S: ByteSource>(&mut self, source: &mut S) -> Result<Step, DeserializeError>
+        // after a refusal, and once all is read, nothing happens
+        ensures refused { self.old.failed ≡ true → Rests self.old self.new source.old source.new result (Err AlreadyFailed) }
+        ensures finished { self.old.failed ≡ false → IsDone self.old.reading → Rests self.old self.new source.old source.new result (Ok Step.Done) }
+
+        // what was taken, and what has come then; or what is at fault
+        ensures finds { self.old.failed ≡ false → ¬ IsDone self.old.reading → Finds S.tells S.left S.faults source.old self.old.count source.new self.new.count result (λ b _. Stepped (version_of self.old.version) self.new.legacy_seen self.old.reading self.new.reading b) (NoFront (version_of self.old.version) self.old.reading) }
+        ensures full { S.tells source.old → IsErrOf result HeapFull → NoRoomBehind (version_of self.old.version) self.old.reading (S.left source.old) }
+        ensures done { IfOk result (λ step. SaysDone step ↔ IsDone self.new.reading) }
+        ensures live { OnOk result (self.new.failed ≡ false) }
+        ensures mark { OnErr result (self.new.failed ≡ true) }
+
+        // objects of older stores, and what is paid for by the bytes that were read
+        ensures seen { S.tells source.old → Sees self.old.reading (S.left source.old) self.old.legacy_seen self.new.legacy_seen }
+        ensures version { self.new.version ≡ self.old.version }
+    {
+        if self.failed {
+            return Err(DeserializeError::AlreadyFailed);
+        }
+        if self.reading.is_done() {
+            return Ok(Step::Done);
+        }
+        let read = self.reading.advance(
+            self.alloc,
+            source,
+            &mut self.count,
+            self.version,
+            &mut self.legacy_seen,
+        );
+        if let Err(error) = read {
+            self.failed = true;
+            return Err(error);
+        }
+        if self.reading.is_done() {
+            Ok(Step::Done)
+        } else {
+            Ok(Step::More)
+        }
+    }
+
+    /// The document of the finished pairs, at any time, also after a refusal. Its heap ends behind the last of their values.
+    pub fn into_doc(self) -> CompactDoc
+        ensures { document_of result ≡ built self.reading.builder }
+    {
+        self.reading.into_doc()
+    }
+
+    /// How many bytes were read.
+    pub fn bytes_read(&self) -> u64
+        ensures { result ≡ self.now.count }
+    {
+        self.count
+    }
+
+    /// The length of the document's heap so far, in bytes.
+    pub fn heap_len(&self) -> usize
+        ensures { result ≡ length (heap_so_far self.now.reading.builder) }
+    {
+        self.reading.heap_len()
+    }
+
+    /// How many finished children the open lists have, keys among them.
+    pub fn pending(&self) -> usize
+        ensures { result ≡ children_of (lists_of (state_of self.now.reading.builder)) }
+    {
+        self.reading.pending()
+    }
+
+    /// How many lists are open.
+    pub fn frames(&self) -> usize
+        ensures { result ≡ length (lists_of (state_of self.now.reading.builder)) }
+    {
+        self.reading.frames()
+    }
+
+    /// Whether an object as older stores hold it was met: what it takes in the heap isn't bounded by its bytes.
+    pub fn legacy_seen(&self) -> bool
+        ensures { result ≡ self.now.legacy_seen }
+    {
+        self.legacy_seen
+    }
+}

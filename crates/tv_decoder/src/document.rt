@@ -1,0 +1,43 @@
+//! Reading whole documents from a source that is lent, with the count of the bytes that were taken of it.
+
+ghost use Rattle.std.specs.Prelude.{◌≡◌, ◌-◌, ◌^◌, IsErrOf};
+ghost use Rattle.tv_base.specs.declared.cause.Cause.TheVariants.{TooLong};
+ghost use Rattle.tv_decoder.specs.Documents.{SpellsRead, NoDocument};
+ghost use Rattle.tv_decoder.specs.Front.{HasNoRoom};
+ghost use Rattle.tv_reader.specs.Finds.{Finds};
+ghost use Rattle.tv_reader.specs.Version.{version_of};
+ghost use Rattle.tv_reader.specs.declared.error.DeserializeError.TheVariants.{CorruptedValue, HeapFull};
+
+use crate::reading::Reading;
+use std::alloc::Global;
+use tv_base::{ByteSource, Cause};
+use tv_doc::document::CompactDoc;
+use tv_reader::{DeserializeError, DocStoreVersion};
+
+/// Takes a document: the number of its pairs, and each pair, to any depth, without recursion. Nothing is reserved from announced numbers,
+/// and no byte behind the document is taken.
+///
+/// Errors: `CorruptedValue` and `TypeMismatch` with the first fault in the bytes; `HeapFull` where what has come needs more room than
+/// 4294967295 bytes; `Io` where the source failed; `Memory`.
+pub fn take_document<S: ByteSource>(
+    alloc: Global,
+    source: &mut S,
+    count: &mut u64,
+    version: DocStoreVersion,
+) -> Result<CompactDoc, DeserializeError>
+    ensures finds { Finds S.tells S.left S.faults source.old count.old source.new count.new result (SpellsRead (version_of version)) (NoDocument (version_of version)) }
+    ensures full { S.tells source.old → IsErrOf result HeapFull → HasNoRoom (version_of version) (S.left source.old) }
+    ensures too_long { IsErrOf result (CorruptedValue TooLong) → count.new ≡ 2 ^ 64 - 1 }
+{
+    let mut reading = Reading::new(alloc);
+    let mut legacy_seen = false;
+    // each part takes a byte at least
+    for _ in 0..u64::MAX {
+        if reading.is_done() {
+            return Ok(reading.into_doc());
+        }
+        reading.advance(alloc, source, count, version, &mut legacy_seen)?;
+    }
+    *count = u64::MAX;
+    Err(DeserializeError::CorruptedValue(Cause::TooLong))
+}
