@@ -8,3 +8,4 @@ pub mod RoomWithin
 pub mod Calls
 pub mod OpenBytes
 pub mod Wholes
+pub mod WholeDocuments

@@ -38,6 +38,7 @@ pub fn take_document<S: ByteSource>(
         }
         reading.advance(alloc, source, count, version, &mut legacy_seen)?;
     }
+    let _taken = *count;
     *count = u64::MAX;
     Err(DeserializeError::CorruptedValue(Cause::TooLong))
 }

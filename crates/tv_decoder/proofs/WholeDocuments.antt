@@ -1,0 +1,138 @@
+-- Steps that make a document.
+use Rattle.std.proofs.Common.{◌≡◌, ◌≢◌, ℕ, ◌+◌, ◌-◌, ◌^◌, ◌%◌, ◌<◌, ◌≤◌, nat_eq, Bool, List, [], ◌∷◌, ◌++◌, length, Option, Some, None, Result, Ok, Err, refl, sym, ◌∙◌, ap, subst, length-append, arith, inl, inr}
+use Rattle.std.proofs.lemmas.Bool.Decides.{eqb_tells}
+use Rattle.std.proofs.lemmas.Bool.{cond-true, cond-false}
+use Rattle.tv_base.specs.declared.cause.Cause.TheVariants as causes
+use Rattle.tv_base.specs.Number.{VNum}
+use Rattle.tv_base.specs.PartFault.{number_ends, in_sized}
+use Rattle.tv_base.specs.Parts.{Each}
+use Rattle.tv_base.specs.Source.{Faults}
+use Rattle.tv_base.specs.Stop.{Taken}
+use Rattle.tv_builder.specs.declared.awaits.Awaits.{Awaits}
+use Rattle.tv_builder.specs.declared.awaits.Awaits.TheVariants as awaits
+use Rattle.tv_builder.specs.declared.frame.ListKind.{ListKind}
+use Rattle.tv_builder.specs.declared.frame.ListKind.TheVariants.{Array, Object}
+use Rattle.tv_builder.specs.Behind.{pairs_parts}
+use Rattle.tv_builder.specs.Front.{SpellsPart, Spelled}
+use Rattle.tv_builder.specs.State.{OpenList, State, complete, in_lists, in_bytes, next_at, next_in, awaited}
+use Rattle.tv_doc.specs.declared.document.CompactDoc.{CompactDoc}
+use Rattle.tv_doc.specs.Document.{document_of}
+use Rattle.tv_doc.specs.Builder.{built, state_of}
+use Rattle.tv_legacy.specs.Legacy.{Legacy, LegacyFault}
+use Rattle.tv_legacy.proofs.Unique.{one_legacy, legacy_excludes, single_legacy}
+use Rattle.tv_reader.specs.Finds.{Finds}
+use Rattle.tv_reader.specs.declared.error.DeserializeError.{DeserializeError}
+use Rattle.tv_reader.specs.declared.error.DeserializeError.TheVariants as errors
+use Rattle.tv_reader.proofs.Finding.{finds_then, finds_as, finds_fails}
+use Rattle.tv_value.specs.Fault.{Refusal, corrupted, corrupt, KeyFault, key_ends, field_ends, value_ends}
+use Rattle.tv_value.specs.Spelling.{SpellsPair, SpellsDocument}
+use Rattle.tv_value.specs.Tree.{Document}
+use Rattle.tv_value.specs.Version.{Version, V1, V2, V3}
+use Rattle.tv_value.proofs.SingleTrees.{single_document}
+use Rattle.tv_decoder.specs.Documents.{SpellsRead, NoDocument}
+use Rattle.tv_decoder.specs.Front.{parts_at, parts_read, Lacks, IsPlace, IsSound, AllFinished, IsDone, LacksPair, HasField, NoFront}
+use Rattle.tv_decoder.specs.Puts.{Awaiting}
+use Rattle.tv_decoder.specs.Steps.{Stepped}
+use Rattle.tv_decoder.specs.declared.reading.Reading.{Reading}
+use Rattle.tv_decoder.proofs.Faulting.{number_at_fault, field_at_fault, value_at_fault, key_at_fault, end_at_fault}
+
+abbrev end : Refusal
+end = corrupted causes.UnexpectedEnd
+
+-- ---- all pairs are finished
+
+pairs_spell : (v : Version) (d : Document) (b : List ℕ) → Each (SpellsPart Legacy v) b (pairs_parts d) → Each (SpellsPair Legacy v) b d
+pairs_spell v [] b h = h
+pairs_spell v (p ∷ d) b h = record { front = h.front; rest = h.rest; joined = h.joined; first = h.first; second = pairs_spell v d h.rest h.second }
+
+done_at : (v : Version) (a f : Option ℕ) (d : Document) (s : State) (finished : ℕ) (b : List ℕ) → finished ≡ length d → IsPlace a d f s → AllFinished a finished → Spelled Legacy v b (parts_at a d f s) → SpellsDocument Legacy v b d
+done_at v None f d s finished b counted h done p = absurd done
+done_at v (Some n) None d s finished b counted h done p =
+    let many : n ≡ length d = sym done ∙ counted in
+    record { front = p.front; rest = p.rest; joined = p.joined; first = subst (λ z. VNum p.front z) many p.first; second = pairs_spell v d p.rest p.second }
+done_at v (Some n) (Some f) d s finished b counted h done p = absurd (omega (arith, h.0, done, counted))
+
+pub done_spells : (v : Version) (r : Reading) (document : CompactDoc) (b : List ℕ) → IsSound r → IsDone r → document_of document ≡ built r.builder → Spelled Legacy v b (parts_read r) → SpellsRead v b document
+done_spells v r document b sound done is p = subst (λ d. SpellsDocument Legacy v b d) (sym is) (done_at v r.announced r.field (built r.builder) (state_of r.builder) r.finished b sound.counted sound.place done p)
+
+-- ---- at the end of the bytes more is awaited
+
+key_ended : (v : Version) → KeyFault v [] end
+key_ended V1 = key_ends
+key_ended V2 = key_ends
+key_ended V3 = corrupt (in_sized (inl (number_ends (omega arith) tt)))
+
+pair_lacks : (a : Option ℕ) (d : Document) (finished : ℕ) (s : State) → finished ≡ length d → IsPlace a d None s → ¬ AllFinished a finished → a ≢ None → LacksPair a finished
+pair_lacks None d finished s counted h more some = absurd (some refl)
+pair_lacks (Some n) d finished s counted h more some = elim (eqb_tells finished n) [ inl p ↦ absurd (more p.1) | inr p ↦ omega (arith, p.1, counted, h.0) ]
+
+value_ended_at : (v : Version) (r : Reading) → IsSound r → HasField r.field → (s : State) → state_of r.builder ≡ s → Lacks s → NoFront v r [] end
+value_ended_at v r sound has (complete t) is lacks = absurd lacks
+value_ended_at v r sound has (in_lists []) is lacks = value_at_fault v r [] end (record { sound = sound; field = has; next = ap awaited is }) value_ends
+value_ended_at v r sound has (in_lists (l ∷ ls)) is lacks = by_next l.kind refl
+  where
+    a_value : next_in (l ∷ ls) ≡ awaits.Value → NoFront v r [] end
+    a_value e = value_at_fault v r [] end (record { sound = sound; field = has; next = ap awaited is ∙ e }) value_ends
+
+    a_key : next_in (l ∷ ls) ≡ awaits.Key → NoFront v r [] end
+    a_key e = key_at_fault v r [] end (record { sound = sound; field = has; next = ap awaited is ∙ e }) (key_ended v)
+
+    by_next : (kind : ListKind) → l.kind ≡ kind → NoFront v r [] end
+    by_next Array e = a_value (ap (λ z. next_at z (length l.children)) e)
+    by_next Object e = elim (eqb_tells (length l.children % 2) 0) [
+      | inl p ↦ a_key (ap (λ z. next_at z (length l.children)) e ∙ cond-true (nat_eq (length l.children % 2) 0) awaits.Key awaits.Value p.0)
+      | inr p ↦ a_value (ap (λ z. next_at z (length l.children)) e ∙ cond-false (nat_eq (length l.children % 2) 0) awaits.Key awaits.Value p.0)
+    ]
+value_ended_at v r sound has (in_bytes ls kind n bs) is lacks = end_at_fault v r [] (n - length bs) (record { sound = sound; field = has; next = ap awaited is }) (omega (arith, lacks))
+
+ended_at : (v : Version) (r : Reading) → IsSound r → ¬ IsDone r → (a f : Option ℕ) → r.announced ≡ a → r.field ≡ f → NoFront v r [] end
+ended_at v r sound more None f ea ef = number_at_fault v r [] end ea (corrupt (number_ends (omega arith) tt))
+ended_at v r sound more (Some n) None ea ef =
+    let place = subst (λ z. IsPlace r.announced (built r.builder) z (state_of r.builder)) ef sound.place in
+    let some : r.announced ≢ None = λ e. (let g : Some n ≡ None = sym ea ∙ e in cc) in
+    field_at_fault v r [] end sound ef (pair_lacks r.announced (built r.builder) r.finished (state_of r.builder) sound.counted place more some) (corrupt (field_ends (omega arith)))
+ended_at v r sound more (Some n) (Some f) ea ef =
+    let place = subst (λ z. IsPlace z (built r.builder) (Some f) (state_of r.builder)) ea (subst (λ z. IsPlace r.announced (built r.builder) z (state_of r.builder)) ef sound.place) in
+    value_ended_at v r sound (subst HasField (sym ef) tt) (state_of r.builder) refl place.2
+
+-- without a byte more, only the end is at fault
+pub ended : (v : Version) (r : Reading) (b : List ℕ) (f : Refusal) → IsSound r → ¬ IsDone r → Spelled Legacy v b (parts_read r) → NoFront v r [] f → f ≡ end
+ended v r b f sound more p h = (single_document Legacy LegacyFault v one_legacy legacy_excludes single_legacy).single (b ++ []) f end (h b p) (ended_at v r sound more r.announced r.field refl refl b p)
+
+-- ---- steps, one after the other
+
+abbrev pub Spells : Version → List ℕ → Reading → Type 0
+Spells v b r = Spelled Legacy v b (parts_read r)
+
+abbrev pub Nothing : List ℕ → Refusal → Type 0
+Nothing w r = ⊥
+
+module _ {S : Type 0} {tells : S → Type 0} {left : S → List ℕ} {faults : S → Faults} (v : Version) (r : Reading) where
+  pub step_more : {old mid new : S} {i j k : ℕ} (x : Unit {0}) (legacy : Bool) (after : Reading) → Finds tells left faults old i mid j (Ok r) (Spells v) Nothing → Finds tells left faults mid j new k (Ok x) (λ b _. Stepped v legacy r after b) (NoFront v r) → Finds tells left faults old i new k (Ok after) (Spells v) Nothing
+  step_more x legacy after p h =
+      finds_as after (Spells v) Nothing (λ a s. s)
+      (finds_then (λ b z. Spells v b after) (λ w c. Unit {0}) (λ a b z q s. s.goes a q) (λ a w c q f. tt) (λ a f q _ _ start byte last. tt) p h)
+
+  pub step_fails : {old mid new : S} {i j k : ℕ} (e : DeserializeError) (legacy : Bool) (after : Reading) → IsSound r → ¬ IsDone r → Finds tells left faults old i mid j (Ok r) (Spells v) Nothing → Finds {X = Unit {0}} tells left faults mid j new k (Err e) (λ b _. Stepped v legacy r after b) (NoFront v r)
+      → Finds tells left faults old i new k (Err e) (SpellsRead v) (NoDocument v)
+  step_fails e legacy after sound more p h =
+      finds_then (SpellsRead v) (NoDocument v) (λ a b z q s. absurd s) (λ a w c q f. f a q) (λ a f q other nothing start byte last. absurd (other (ended v r a f sound more q nothing)))
+      p (finds_fails (λ b z. ⊥) (NoFront v r) (λ w c f. f) h)
+
+  -- and takes a byte
+  pub step_takes : {mid new : S} {j k : ℕ} (x : Unit {0}) (legacy : Bool) (after : Reading) → Finds tells left faults mid j new k (Ok x) (λ b _. Stepped v legacy r after b) (NoFront v r) → tells mid → j < k
+  step_takes {mid = mid} {new = new} x legacy after h t =
+      let f = h.found t in
+      let g = h.taken t in
+      omega (arith, f.spelled.some, g.counted, ap length f.joined, ap length g.joined, length-append f.front (left new), length-append g.front (left new))
+
+  -- so many steps that no more can be counted
+  pub too_many : {old mid : S} {i j : ℕ} (counter : ℕ) → j < 2 ^ 64 → 2 ^ 64 - 1 ≤ counter → (tells old → counter + i ≤ j) → Finds tells left faults old i mid j (Ok r) (Spells v) Nothing
+      → Finds {X = CompactDoc} tells left faults old i mid 18446744073709551615 (Err (errors.CorruptedValue causes.TooLong)) (SpellsRead v) (NoDocument v)
+  too_many counter second many counts p = record {
+    found = λ t. λ few. absurd (omega (arith, few));
+    taken = λ t. let g = p.taken t in record { front = g.front; joined = g.joined; counted = omega (arith, g.counted, counts t, many, second) };
+    still_tells = p.still_tells;
+    counts = p.counts;
+    rises = omega (arith, p.rises, second);
+  }
