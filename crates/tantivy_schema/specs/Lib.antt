@@ -92,7 +92,11 @@ pub use Rattle.tv_builder.specs.State
 -- the store
 pub use Rattle.tv_store.specs.Documents
 pub use Rattle.tv_store.specs.Error as StoreError
-pub use Rattle.tv_store.specs.Refused
+pub use Rattle.tv_decoder.specs.Decoder
+pub use Rattle.tv_decoder.specs.Documents as DecodedDocuments
+pub use Rattle.tv_decoder.specs.Front as DecoderFront
+pub use Rattle.tv_decoder.specs.Paid
+pub use Rattle.tv_decoder.specs.Steps
 pub use Rattle.tv_store.specs.PairsGiven
 pub use Rattle.tv_store.specs.Stored
 pub use Rattle.tv_reader.specs.Error as ReaderError

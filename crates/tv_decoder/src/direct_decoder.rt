@@ -43,6 +43,8 @@ pub struct DirectDecoder {
     count: u64,
     failed: bool,
     legacy_seen: bool,
+    // A buffer for the bytes of a text.
+    bytes: Vec<u8>,
     pub ghost sound: { failed ≡ false → IsSound reading } by { SoundUnless-prop failed reading },
 }
 
@@ -65,6 +67,7 @@ impl DirectDecoder {
             count: 0,
             failed: false,
             legacy_seen: false,
+            bytes: Vec::new(alloc),
         }
     }
 
@@ -102,6 +105,7 @@ impl DirectDecoder {
             &mut self.count,
             self.version,
             &mut self.legacy_seen,
+            &mut self.bytes,
         );
         if let Err(error) = read {
             self.failed = true;
