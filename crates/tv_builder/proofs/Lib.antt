@@ -4,6 +4,7 @@ pub mod Giving
 pub mod Sound
 pub mod Handing
 pub mod NoRoom
+pub mod Putting
 pub mod Calls
 pub mod Keys
 pub mod Opening

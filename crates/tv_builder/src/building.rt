@@ -4,57 +4,25 @@ ghost use Rattle.std.specs.Prelude.{◌≡◌, ℕ, ◌+◌, ◌-◌, ◌<◌, �
 ghost use Rattle.tv_base.specs.Number.{vnum};
 ghost use Rattle.tv_base.specs.Parts.{short_sized};
 ghost use Rattle.tv_base.specs.Sink.{IsFront};
-ghost use Rattle.tv_builder.specs.Moves.{FitsRoom};
 ghost use Rattle.tv_value.specs.Lent.{leaf_of};
 ghost use Rattle.tv_value.specs.Tree.{leaf as leaf_tree};
 
 use crate::awaits::Awaits;
 use crate::build_error::BuildError;
 use crate::bytes_kind::BytesKind;
+use crate::fits::{has_room, has_value_room};
 use crate::frame::{Frame, ListKind};
 use crate::place::Place;
+use crate::whole::put_tree;
 use std::alloc::Global;
 use std::convert::AsStr;
-use tv_base::vint::VInt;
 use tv_heap::len::leaf_len;
-use tv_heap::room::room;
 use tv_heap::value_type::ValueType;
-use tv_heap::write::{push_place, write_leaf, write_list, write_tree};
+use tv_heap::write::{push_place, write_leaf, write_list};
 use tv_value::leaf::ReferenceValueLeaf;
 use tv_value::nested::lend;
 use tv_value::spell::{push_number, push_sized};
 use tv_value::value::Value;
-
-// The largest length of a heap, so that 32 bits hold each address.
-const MAX_HEAP_LEN: u64 = 4294967295;
-
-// The length of the shortest spelling of a number.
-fn spelled_len(number: u64) -> u64
-    ensures same { result ≡ length (vnum number) }
-    ensures small { result ≤ 10 }
-{
-    let (_, len) = VInt(number).spelling();
-    len as u64
-}
-
-// Whether so many bytes behind their length fit behind a heap of this length.
-fn has_room(len: usize, content: u64) -> bool
-    requires { len ≤ 4294967295 }
-    ensures { IsTrue result ↔ (len + (length (vnum content) + content) ≤ 4294967295) }
-{
-    content <= MAX_HEAP_LEN && len as u64 + (spelled_len(content) + content) <= MAX_HEAP_LEN
-}
-
-// Whether a value of this room fits behind a heap of this length.
-fn has_value_room(len: usize, room: Option<u32>) -> bool
-    requires { len ≤ 4294967295 }
-    ensures { FitsRoom room len result }
-{
-    match room {
-        Some(room) => u64::from(room) <= MAX_HEAP_LEN - len as u64,
-        None => false,
-    }
-}
 
 /// The bytes of an open value. (Own.)
 #[derive(Clone, Copy, Debug)]
@@ -165,7 +133,7 @@ impl Building {
         })
     }
 
-    /// A whole value of any kind has come.
+    /// A whole value of any kind has come: what the calls for its parts do.
     pub fn tree<'a, V: Value<'a>>(&mut self, value: &V) -> Result<(), BuildError>
         requires { Stands self.old }
         ensures { let t = V.tree value.now in Does self.old self.new (awaited_by self.old ≡ ValueNext) (ValueHeap self.old t) (ValueFull self.old t) (λ s. and_value s t) result }
@@ -173,14 +141,8 @@ impl Building {
         let Awaits::Value = self.awaits() else {
             return Err(BuildError::OutOfPlace);
         };
-        if !has_value_room(self.heap.len(), room(value)) {
-            return Err(BuildError::HeapFull);
-        }
-        let (value_type, address) = write_tree(&mut self.heap, &mut self.places, lend(value))?;
-        self.give(Place {
-            value_type,
-            address,
-        })
+        let place = put_tree(&mut self.heap, &mut self.places, lend(value))?;
+        self.give(place)
     }
 
     /// A list has come, of which so many elements or entries are announced. One of none closes at once.

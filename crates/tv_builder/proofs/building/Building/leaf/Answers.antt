@@ -1,4 +1,4 @@
-use Rattle.std.proofs.Common.{◌≡◌, ◌+◌, ◌≤◌, ◌++◌, ap, length, length-append, refl, sym, arith}
+use Rattle.std.proofs.Common.{◌+◌, ◌≤◌, ap, length, length-append, refl, sym, arith}
 use Rattle.tv_value.specs.Lent.{leaf_of}
 use Rattle.tv_heap.specs.LeafBytes.{leaf_bytes}
 use Rattle.tv_value.specs.Tree.{leaf}
