@@ -10,15 +10,14 @@ ghost use Rattle.tv_value.specs.Tree.{leaf as leaf_tree};
 use crate::awaits::Awaits;
 use crate::build_error::BuildError;
 use crate::bytes_kind::BytesKind;
-use crate::fits::{has_room, has_value_room};
+use crate::fits::has_room;
 use crate::frame::{Frame, ListKind};
 use crate::place::Place;
-use crate::whole::put_tree;
+use crate::whole::{put_leaf, put_list, put_tree};
 use std::alloc::Global;
 use std::convert::AsStr;
-use tv_heap::len::leaf_len;
 use tv_heap::value_type::ValueType;
-use tv_heap::write::{push_place, write_leaf, write_list};
+use tv_heap::write::push_place;
 use tv_value::leaf::ReferenceValueLeaf;
 use tv_value::nested::lend;
 use tv_value::spell::{push_number, push_sized};
@@ -123,14 +122,8 @@ impl Building {
         let Awaits::Value = self.awaits() else {
             return Err(BuildError::OutOfPlace);
         };
-        if !has_value_room(self.heap.len(), leaf_len(value)) {
-            return Err(BuildError::HeapFull);
-        }
-        let (value_type, address) = write_leaf(&mut self.heap, value)?;
-        self.give(Place {
-            value_type,
-            address,
-        })
+        let place = put_leaf(&mut self.heap, value)?;
+        self.give(place)
     }
 
     /// A whole value of any kind has come: what the calls for its parts do.
@@ -327,15 +320,8 @@ impl Building {
         ensures ok { IfOk result (λ place. Closed self.old frame place self.new) }
         ensures err { IfErr result (λ e. ClosedNot self.old frame self.new e) }
     {
-        let len = self.places.len() - frame.first;
-        if !has_room(self.heap.len(), len as u64) {
-            return Err(BuildError::HeapFull);
-        }
-        let address = write_list(&mut self.heap, &mut self.places, frame.first)?;
+        let place = put_list(&mut self.heap, &mut self.places, frame.kind, frame.first)?;
         self.pending -= frame.finished;
-        Ok(Place {
-            value_type: frame.kind.value_type(),
-            address,
-        })
+        Ok(place)
     }
 }

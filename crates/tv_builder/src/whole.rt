@@ -1,4 +1,4 @@
-//! Writing a whole value behind a heap, part by part, as far as it fits.
+//! Writing values behind a heap, as far as they fit.
 
 ghost use Rattle.std.specs.Prelude.{◌≡◌, ◌≤◌, ◌++◌, length, take, drop, OnOk, IfOk, IfErr};
 ghost use Rattle.tv_value.specs.Lent.{leaf_of, nested_tree};
@@ -15,8 +15,11 @@ use tv_heap::write::{push_place, write_leaf, write_list};
 use tv_value::leaf::ReferenceValueLeaf;
 use tv_value::nested::{Nested, NestedValue};
 
-// Writes a value without children.
-fn put_leaf(heap: &mut Vec<u8>, value: &ReferenceValueLeaf<'_>) -> Result<Place, BuildError>
+/// Writes a value without children, and answers its place. After an error the old heap is still a front of the new.
+pub(crate) fn put_leaf(
+    heap: &mut Vec<u8>,
+    value: &ReferenceValueLeaf<'_>,
+) -> Result<Place, BuildError>
     requires { length heap.old.items ≤ 4294967295 }
     ensures ok { IfOk result (λ place. Put heap.old.items (leaf_tree (leaf_of value.now)) heap.new.items place) }
     ensures err { IfErr result (λ e. PutNot heap.old.items (leaf_tree (leaf_of value.now)) heap.new.items e) }
@@ -31,8 +34,9 @@ fn put_leaf(heap: &mut Vec<u8>, value: &ReferenceValueLeaf<'_>) -> Result<Place,
     })
 }
 
-// Writes a list behind its children, whose places are those from `first` on, and takes these off.
-fn put_list(
+/// Writes a list behind its children, whose places are those from `first` on, takes these off, and answers its own place. After an
+/// error the old heap is still a front of the new, and what `places` holds is open.
+pub(crate) fn put_list(
     heap: &mut Vec<u8>,
     places: &mut Vec<u8>,
     kind: ListKind,
