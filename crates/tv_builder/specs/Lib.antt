@@ -10,3 +10,4 @@ pub mod Moves
 pub mod Whole
 pub mod Behind
 pub mod OneState
+pub mod Called

@@ -54,6 +54,7 @@ pub struct Building {
 }
 
 impl Building {
+    ghost use Rattle.tv_builder.specs.Called.{held, leaf_called, list_called, key_called, tree_called};
     ghost use Rattle.tv_builder.specs.Parts.{IsContent};
     ghost use Rattle.tv_builder.specs.Moves.{CanGive, Gives, GivesNot, CanGiveKey, GivesKey, Closed, ClosedNot, Does, EndsBytes, LeafHeap, LeafFull, ValueHeap, ValueFull, HeadHeap, HeadFull, KeyHeap, KeyFull, ListHeap, ListFull, AwaitsChunk, last_bytes};
     ghost use Rattle.tv_builder.specs.Shows.{Stands, frames_of, awaited_by};
@@ -117,7 +118,8 @@ impl Building {
     /// A value without children has come.
     pub fn leaf(&mut self, value: &ReferenceValueLeaf<'_>) -> Result<(), BuildError>
         requires { Stands self.old }
-        ensures { let l = leaf_of value.now in Does self.old self.new (awaited_by self.old ≡ ValueNext) (LeafHeap self.old l) (LeafFull self.old l) (λ s. and_value s (leaf_tree l)) result }
+        ensures does { let l = leaf_of value.now in Does self.old self.new (awaited_by self.old ≡ ValueNext) (LeafHeap self.old l) (LeafFull self.old l) (λ s. and_value s (leaf_tree l)) result }
+        ensures exact { OnOk result (held self.new ≡ leaf_called (held self.old) (leaf_of value.now)) }
     {
         let Awaits::Value = self.awaits() else {
             return Err(BuildError::OutOfPlace);
@@ -129,7 +131,8 @@ impl Building {
     /// A whole value of any kind has come: what the calls for its parts do.
     pub fn tree<'a, V: Value<'a>>(&mut self, value: &V) -> Result<(), BuildError>
         requires { Stands self.old }
-        ensures { let t = V.tree value.now in Does self.old self.new (awaited_by self.old ≡ ValueNext) (ValueHeap self.old t) (ValueFull self.old t) (λ s. and_value s t) result }
+        ensures does { let t = V.tree value.now in Does self.old self.new (awaited_by self.old ≡ ValueNext) (ValueHeap self.old t) (ValueFull self.old t) (λ s. and_value s t) result }
+        ensures exact { OnOk result (held self.new ≡ tree_called (held self.old) (V.tree value.now)) }
     {
         let Awaits::Value = self.awaits() else {
             return Err(BuildError::OutOfPlace);
@@ -141,7 +144,8 @@ impl Building {
     /// A list has come, of which so many elements or entries are announced. One of none closes at once.
     pub fn open_list(&mut self, kind: ListKind, announced: u64) -> Result<(), BuildError>
         requires { Stands self.old }
-        ensures { Does self.old self.new (awaited_by self.old ≡ ValueNext) (ListHeap self.old kind announced) (ListFull self.old kind announced) (λ s. and_list s kind announced) result }
+        ensures does { Does self.old self.new (awaited_by self.old ≡ ValueNext) (ListHeap self.old kind announced) (ListFull self.old kind announced) (λ s. and_list s kind announced) result }
+        ensures exact { OnOk result (held self.new ≡ list_called (held self.old) kind announced) }
     {
         let Awaits::Value = self.awaits() else {
             return Err(BuildError::OutOfPlace);
@@ -163,7 +167,8 @@ impl Building {
     /// A key has come.
     pub fn key(&mut self, content: &str) -> Result<(), BuildError>
         requires { Stands self.old }
-        ensures { Does self.old self.new (awaited_by self.old ≡ KeyNext) (KeyHeap self.old content.now) (KeyFull self.old content.now) (λ s. and_key s content.now) result }
+        ensures does { Does self.old self.new (awaited_by self.old ≡ KeyNext) (KeyHeap self.old content.now) (KeyFull self.old content.now) (λ s. and_key s content.now) result }
+        ensures exact { OnOk result (held self.new ≡ key_called (held self.old) content.now) }
     {
         let Awaits::Key = self.awaits() else {
             return Err(BuildError::OutOfPlace);
