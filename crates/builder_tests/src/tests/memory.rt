@@ -10,7 +10,8 @@ use tv_value::leaf::ReferenceValueLeaf;
 use tv_value::owned_value::OwnedValue;
 
 // The heap of the first four pairs, behind one another.
-const HEAP: &[u8] = b"\x01\0\0\0\0\0\0\0\x81a\x86\x00\x80\x01\x88\x09\x81\x81k\x81v\x84\x01\x91\x01\x93\x81k\x80\x84\x01\x9a\x0c\x9c";
+const HEAP: &[u8] =
+    b"\x01\0\0\0\0\0\0\0\x81a\x86\x00\x80\x01\x88\x09\x81\x81k\x81v\x84\x01\x91\x01\x93\x81k\x80\x84\x01\x9a\x0c\x9c";
 
 // Where the heap of each ends.
 const ENDS: [usize; 5] = [0, 8, 17, 26, 34];
