@@ -9,12 +9,17 @@ use tv_value::field::Field;
 use tv_value::leaf::ReferenceValueLeaf;
 use tv_value::owned_value::OwnedValue;
 
-// The heap of the first four pairs, behind one another.
-const HEAP: &[u8] =
-    b"\x01\0\0\0\0\0\0\0\x81a\x86\x00\x80\x01\x88\x09\x81\x81k\x81v\x84\x01\x91\x01\x93\x81k\x80\x84\x01\x9a\x0c\x9c";
-
-// Where the heap of each ends.
-const ENDS: [usize; 5] = [0, 8, 17, 26, 34];
+// The heap of so many of the first four pairs, behind one another.
+fn heap_of(finished: usize) -> &'static [u8] {
+    match finished {
+        0 => b"",
+        1 => b"\x01\0\0\0\0\0\0\0",
+        2 => b"\x01\0\0\0\0\0\0\0\x81a\x86\x00\x80\x01\x88\x09\x81",
+        3 => b"\x01\0\0\0\0\0\0\0\x81a\x86\x00\x80\x01\x88\x09\x81\x81k\x81v\x84\x01\x91\x01\x93",
+        _ =>
+            b"\x01\0\0\0\0\0\0\0\x81a\x86\x00\x80\x01\x88\x09\x81\x81k\x81v\x84\x01\x91\x01\x93\x81k\x80\x84\x01\x9a\x0c\x9c",
+    }
+}
 
 // The type and the address of each.
 const PLACES: [(u8, u32); 4] = [(2, 0), (12, 10), (11, 21), (11, 29)];
@@ -30,8 +35,8 @@ fn object(alloc: Global) -> Result<OwnedValue, AllocError> {
 
 // The call `finish`, which is counted.
 fn finish(builder: &mut TreeBuilder, finished: &mut usize) -> Result<(), BuildError> {
-    builder.finish(Field::from_field_id(*finished as u32))?;
-    *finished += 1;
+    builder.finish(Field::from_field_id(0))?;
+    *finished = finished.saturating_add(1);
     Ok(())
 }
 
@@ -101,13 +106,13 @@ fn keeps_the_finished_pairs_where_memory_is_refused(rt: HostRuntime) -> Result<(
     let document = builder.into_doc();
     assert_eq!(rt; document.len(), finished);
     assert_eq!(rt; document.node_data().len(), len);
-    for index in 0..finished.min(4) {
-        assert_eq!(rt; document.addr_of(index), Some(PLACES[index]));
+    for (index, place) in PLACES.iter().enumerate().take(finished) {
+        assert_eq!(rt; document.addr_of(index), Some(*place));
     }
-    let end = ENDS[finished.min(4)];
-    assert_eq!(rt; &document.node_data()[..end], &HEAP[..end]);
+    let front = heap_of(finished);
+    assert!(rt; document.node_data().starts_with(front));
     if finished < 5 {
-        assert_eq!(rt; len, end);
+        assert_eq!(rt; len, front.len());
     }
     Ok(())
 }
