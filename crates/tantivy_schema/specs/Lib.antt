@@ -81,7 +81,9 @@ pub use Rattle.tv_heap.specs.Reads
 pub use Rattle.tv_heap.specs.Room
 pub use Rattle.tv_heap.specs.TypeCode
 pub use Rattle.tv_heap.specs.Value
+pub use Rattle.tv_heap.specs.Weight
 -- values that come part by part
+pub use Rattle.tv_builder.specs.Called
 pub use Rattle.tv_builder.specs.Front
 pub use Rattle.tv_builder.specs.Given
 pub use Rattle.tv_builder.specs.Kinds as BuilderKinds
@@ -89,6 +91,8 @@ pub use Rattle.tv_builder.specs.Moves
 pub use Rattle.tv_builder.specs.Parts as ValueParts
 pub use Rattle.tv_builder.specs.Shows
 pub use Rattle.tv_builder.specs.State
+pub use Rattle.tv_builder.specs.TreeBytes
+pub use Rattle.tv_builder.specs.Weight as StateWeight
 -- the store
 pub use Rattle.tv_store.specs.Documents
 pub use Rattle.tv_store.specs.Error as StoreError
