@@ -32,13 +32,19 @@ fn object(alloc: Global, key: &str, content: &str) -> Result<OwnedValue, AllocEr
 fn older_map(alloc: Global) -> Result<BTreeMap<String, OwnedValue>, AllocError> {
     let mut map = BTreeMap::new(alloc);
     let _none = map.insert(String::from_str(alloc, "keya:")?, text(alloc, "blub")?)?;
-    let _none = map.insert(String::from_str(alloc, "vals")?, object(alloc, "hey", "ho")?)?;
+    let _none = map.insert(
+        String::from_str(alloc, "vals")?,
+        object(alloc, "hey", "ho")?,
+    )?;
     Ok(map)
 }
 
 #[test]
 fn an_object_is_a_map(rt: HostRuntime) -> Result<(), Fail> {
-    let bytes = legacy(rt.alloc(), b"{\"keya:\":\"blub\",\"vals\":{\"hey\":\"ho\"}}")?;
+    let bytes = legacy(
+        rt.alloc(),
+        b"{\"keya:\":\"blub\",\"vals\":{\"hey\":\"ho\"}}",
+    )?;
     assert!(rt; bytes.len() == 37);
     assert!(rt; reads_as(rt.alloc(), &bytes, &older_map(rt.alloc())?));
     Ok(())

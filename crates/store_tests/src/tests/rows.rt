@@ -191,7 +191,10 @@ const FAULTS: [(&[u8], Cause, usize); 18] = [
 fn faults_have_their_true_cause(rt: HostRuntime) {
     for (bytes, cause, rest) in FAULTS {
         let version = DocStoreVersion::V2;
-        assert!(rt; is_refused(rt.alloc(), bytes, version, cause, rest), "at {bytes:?}");
+        assert!(rt;
+            is_refused(rt.alloc(), bytes, version, cause, rest),
+            "at {bytes:?}"
+        );
     }
 }
 

@@ -141,7 +141,11 @@ pub fn reads_as<V: ValueDeserialize + PartialEq>(alloc: Global, bytes: &[u8], va
 }
 
 /// Whether a value of this type is refused for this, over each source.
-pub fn refuses<V: ValueDeserialize>(alloc: Global, bytes: &[u8], refused: &DeserializeError) -> bool {
+pub fn refuses<V: ValueDeserialize>(
+    alloc: Global,
+    bytes: &[u8],
+    refused: &DeserializeError,
+) -> bool {
     for read in readings::<V>(alloc, bytes) {
         if read.err().as_ref() != Some(refused) {
             return false;

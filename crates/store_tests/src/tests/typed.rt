@@ -80,8 +80,12 @@ fn is_both<'a, V: Value<'a>>(value: &V) -> bool {
     let Some(mut members) = value.as_object() else {
         return false;
     };
-    members.next().is_some_and(|(_, first)| first.as_u64() == Some(1))
-        && members.next().is_some_and(|(_, second)| second.as_u64() == Some(2))
+    members
+        .next()
+        .is_some_and(|(_, first)| first.as_u64() == Some(1))
+        && members
+            .next()
+            .is_some_and(|(_, second)| second.as_u64() == Some(2))
         && members.next().is_none()
 }
 
