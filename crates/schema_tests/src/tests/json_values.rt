@@ -3,98 +3,152 @@ use std::alloc::{AllocError, Global};
 use std::test::Fail;
 use tv_field::{FieldType, ParseCause, ValueParsingError};
 use tv_options::{
-    BytesOptions, COERCE, DateOptions, FacetOptions, JsonObjectOptions, NumericOptions, TextOptions,
+    BytesOptions, COERCE, DateOptions, FacetOptions, JsonObjectOptions, NumericOptions,
+    TextOptions, Type,
 };
+use tv_value::leaf::ReferenceValueLeaf;
 use tv_value::owned_value::OwnedValue;
 use tv_value::pre_tokenized::{PreTokenizedStr, TokenRef};
 use tv_value::value::Value as _;
 
-fn coerced_numbers() -> NumericOptions {
-    NumericOptions::from(COERCE)
+fn numbers(coerces: bool) -> NumericOptions {
+    if coerces {
+        NumericOptions::from(COERCE)
+    } else {
+        NumericOptions::default()
+    }
 }
 
-fn plain_numbers() -> NumericOptions {
-    NumericOptions::default()
+fn texts(coerces: bool) -> TextOptions {
+    if coerces {
+        TextOptions::from(COERCE)
+    } else {
+        TextOptions::default()
+    }
+}
+
+// A field of this type, which takes other values for its own if it coerces.
+fn field_type(kind: Type, coerces: bool) -> FieldType {
+    match kind {
+        Type::U64 => FieldType::U64(numbers(coerces)),
+        Type::I64 => FieldType::I64(numbers(coerces)),
+        Type::Bool => FieldType::Bool(numbers(coerces)),
+        Type::Date => FieldType::Date(DateOptions::default()),
+        Type::Facet => FieldType::Facet(FacetOptions::default()),
+        Type::Bytes => FieldType::Bytes(BytesOptions::default()),
+        Type::Json => FieldType::JsonObject(JsonObjectOptions::default()),
+        _ => FieldType::Str(texts(coerces)),
+    }
 }
 
 // The value of the field that the JSON text is.
 fn value_of(
     alloc: Global,
-    field_type: &FieldType,
+    kind: Type,
+    coerces: bool,
     json: &str,
 ) -> Result<Result<OwnedValue, ValueParsingError>, Error> {
     let json = Value::from_str(alloc, json)?;
-    Ok(field_type.value_from_json(alloc, json))
+    Ok(field_type(kind, coerces).value_from_json(alloc, json))
 }
 
 // Whether the JSON text is this value of the field.
-fn is_value(
+fn is_leaf(
     alloc: Global,
-    field_type: &FieldType,
+    kind: Type,
+    coerces: bool,
     json: &str,
-    wanted: &OwnedValue,
+    wanted: ReferenceValueLeaf<'_>,
 ) -> Result<bool, Error> {
-    match value_of(alloc, field_type, json)? {
-        Ok(value) => Ok(value == *wanted),
+    match value_of(alloc, kind, coerces, json)? {
+        Ok(value) => Ok((&value).as_leaf() == Some(wanted)),
         Err(_) => Ok(false),
     }
 }
 
-// Whether the JSON text is refused because a value of another kind is wanted.
-fn wants(alloc: Global, field_type: &FieldType, json: &str, wanted: &str) -> Result<bool, Error> {
-    match value_of(alloc, field_type, json)? {
-        Err(ValueParsingError::TypeError { expected, .. }) => Ok(expected == wanted),
-        _ => Ok(false),
+// The type of a field, whether it coerces, a JSON text, and its value.
+const LEAVES: [(Type, bool, &str, ReferenceValueLeaf<'static>); 6] = [
+    (Type::Date, false, "5", ReferenceValueLeaf::I64(5)),
+    (Type::U64, true, "\"+7\"", ReferenceValueLeaf::U64(7)),
+    (Type::Str, true, "null", ReferenceValueLeaf::Str("null")),
+    (Type::I64, true, "\"100\"", ReferenceValueLeaf::I64(100)),
+    (
+        Type::Bool,
+        true,
+        "\"false\"",
+        ReferenceValueLeaf::Bool(false),
+    ),
+    (
+        Type::Bytes,
+        false,
+        "\"dGhpcyBpcyBhIHRlc3Q=\"",
+        ReferenceValueLeaf::Bytes(b"this is a test"),
+    ),
+];
+
+#[test]
+fn leaves(rt: HostRuntime) -> Result<(), Fail> {
+    for (kind, coerces, json, wanted) in LEAVES {
+        assert!(rt;
+            is_leaf(rt.alloc(), kind, coerces, json, wanted)?,
+            "at {json}"
+        );
+    }
+    Ok(())
+}
+
+// Which kind of refusal it is, and what is wanted in the place of the value.
+fn refusal(error: &ValueParsingError) -> (&'static str, &str) {
+    match error {
+        ValueParsingError::OverflowError { expected, .. } => ("OverflowError", expected),
+        ValueParsingError::TypeError { expected, .. } => ("TypeError", expected),
+        ValueParsingError::ParseError {
+            cause: ParseCause::Facet,
+            ..
+        } => ("ParseError", "Facet"),
+        ValueParsingError::InvalidBase64 { base64 } => ("InvalidBase64", base64.as_str()),
+        ValueParsingError::FloatNumber => ("FloatNumber", ""),
+        _ => ("", ""),
     }
 }
 
-// Whether the JSON text is refused because its number doesn't fit.
-fn overflows(
+fn is_refused(
     alloc: Global,
-    field_type: &FieldType,
+    kind: Type,
     json: &str,
-    wanted: &str,
+    wanted: (&'static str, &str),
 ) -> Result<bool, Error> {
-    match value_of(alloc, field_type, json)? {
-        Err(ValueParsingError::OverflowError { expected, .. }) => Ok(expected == wanted),
-        _ => Ok(false),
+    match value_of(alloc, kind, false, json)? {
+        Ok(_) => Ok(false),
+        Err(error) => Ok(refusal(&error) == wanted),
     }
 }
 
-#[test]
-fn unsigned_numbers(rt: HostRuntime) -> Result<(), Fail> {
-    let coerced = FieldType::U64(coerced_numbers());
-    assert!(rt; is_value(rt.alloc(), &coerced, "\"+7\"", &OwnedValue::U64(7))?);
-    let unsigned = FieldType::U64(plain_numbers());
-    assert!(rt; overflows(rt.alloc(), &unsigned, "-1", "u64")?);
-    assert!(rt; wants(rt.alloc(), &unsigned, "\"100\"", "a u64")?);
-    Ok(())
-}
+// The type of a field, a JSON text, and why it is refused.
+const REFUSED: [(Type, &str, (&str, &str)); 8] = [
+    (Type::U64, "-1", ("OverflowError", "u64")),
+    (Type::U64, "\"100\"", ("TypeError", "a u64")),
+    (
+        Type::I64,
+        "9223372036854775808",
+        ("OverflowError", "an i64 int"),
+    ),
+    (Type::I64, "\"100\"", ("TypeError", "a i64")),
+    (
+        Type::Json,
+        "{\"n\":18446744073709551616}",
+        ("FloatNumber", ""),
+    ),
+    (Type::Facet, "\"x\"", ("ParseError", "Facet")),
+    (Type::Bytes, "521", ("TypeError", "a string")),
+    (Type::Bytes, "\"-\"", ("InvalidBase64", "-")),
+];
 
 #[test]
-fn signed_numbers(rt: HostRuntime) -> Result<(), Fail> {
-    let coerced = FieldType::I64(coerced_numbers());
-    assert!(rt; is_value(rt.alloc(), &coerced, "\"100\"", &OwnedValue::I64(100))?);
-    let signed = FieldType::I64(plain_numbers());
-    assert!(rt; overflows(rt.alloc(), &signed, "9223372036854775808", "an i64 int")?);
-    assert!(rt; wants(rt.alloc(), &signed, "\"100\"", "a i64")?);
-    Ok(())
-}
-
-#[test]
-fn numbers_of_dates(rt: HostRuntime) -> Result<(), Fail> {
-    let dates = FieldType::Date(DateOptions::default());
-    assert!(rt; is_value(rt.alloc(), &dates, "5", &OwnedValue::I64(5))?);
-    Ok(())
-}
-
-#[test]
-fn coerced_values(rt: HostRuntime) -> Result<(), Fail> {
-    let texts = FieldType::Str(TextOptions::from(COERCE));
-    let null = OwnedValue::Str(String::from_str(rt.alloc(), "null")?);
-    assert!(rt; is_value(rt.alloc(), &texts, "null", &null)?);
-    let truths = FieldType::Bool(coerced_numbers());
-    assert!(rt; is_value(rt.alloc(), &truths, "\"false\"", &OwnedValue::Bool(false))?);
+fn refusals(rt: HostRuntime) -> Result<(), Fail> {
+    for (kind, json, wanted) in REFUSED {
+        assert!(rt; is_refused(rt.alloc(), kind, json, wanted)?, "at {json}");
+    }
     Ok(())
 }
 
@@ -107,57 +161,10 @@ fn object(alloc: Global, key: &str, value: OwnedValue) -> Result<OwnedValue, All
 
 #[test]
 fn objects(rt: HostRuntime) -> Result<(), Fail> {
-    let objects = FieldType::JsonObject(JsonObjectOptions::default());
     let large = object(rt.alloc(), "n", OwnedValue::U64(9223372036854775808))?;
-    assert!(rt; is_value(rt.alloc(), &objects, "{\"n\":9223372036854775808}", &large)?);
-    Ok(())
-}
-
-#[test]
-fn objects_of_larger_numbers(rt: HostRuntime) -> Result<(), Fail> {
-    let objects = FieldType::JsonObject(JsonObjectOptions::default());
-    let larger = value_of(rt.alloc(), &objects, "{\"n\":18446744073709551616}")?;
-    assert!(rt; matches!(larger, Err(ValueParsingError::FloatNumber)));
-    Ok(())
-}
-
-#[test]
-fn faulty_facets(rt: HostRuntime) -> Result<(), Fail> {
-    let facets = FieldType::Facet(FacetOptions::default());
-    let refused = value_of(rt.alloc(), &facets, "\"x\"")?;
-    assert!(rt;
-        matches!(
-            refused,
-            Err(ValueParsingError::ParseError {
-                cause: ParseCause::Facet,
-                ..
-            })
-        )
-    );
-    Ok(())
-}
-
-#[test]
-fn bytes(rt: HostRuntime) -> Result<(), Fail> {
-    let bytes = FieldType::Bytes(BytesOptions::default());
-    let test = OwnedValue::Bytes("this is a test".as_bytes().to_vec(rt.alloc())?);
-    assert!(rt; is_value(rt.alloc(), &bytes, "\"dGhpcyBpcyBhIHRlc3Q=\"", &test)?);
-    assert!(rt; wants(rt.alloc(), &bytes, "521", "a string")?);
-    Ok(())
-}
-
-// Whether the JSON text is refused as no base64.
-fn is_no_base64(alloc: Global, json: &str, text: &str) -> Result<bool, Error> {
-    let bytes = FieldType::Bytes(BytesOptions::default());
-    match value_of(alloc, &bytes, json)? {
-        Err(ValueParsingError::InvalidBase64 { base64 }) => Ok(base64.as_str() == text),
-        _ => Ok(false),
-    }
-}
-
-#[test]
-fn faulty_bytes(rt: HostRuntime) -> Result<(), Fail> {
-    assert!(rt; is_no_base64(rt.alloc(), "\"-\"", "-")?);
+    let json = "{\"n\":9223372036854775808}";
+    let value = value_of(rt.alloc(), Type::Json, false, json)?.map_err(|_| "a value")?;
+    assert!(rt; value == large);
     Ok(())
 }
 
@@ -180,8 +187,7 @@ fn is_tokenized(text: PreTokenizedStr<'_>) -> bool {
 
 #[test]
 fn texts_with_tokens(rt: HostRuntime) -> Result<(), Fail> {
-    let texts = FieldType::Str(TextOptions::default());
-    let value = value_of(rt.alloc(), &texts, TOKENIZED)?.map_err(|_| "a value")?;
+    let value = value_of(rt.alloc(), Type::Str, false, TOKENIZED)?.map_err(|_| "a value")?;
     assert!(rt; (&value).as_pre_tokenized_text().is_some_and(is_tokenized));
     Ok(())
 }
