@@ -97,18 +97,21 @@ fn leaves(rt: HostRuntime) -> Result<(), Fail> {
     Ok(())
 }
 
-// Which kind of refusal it is, and what is wanted in the place of the value.
-fn refusal(error: &ValueParsingError) -> (&'static str, &str) {
+// Whether it is a refusal of this name that tells this.
+fn is_refusal(error: &ValueParsingError, name: &str, told: &str) -> bool {
     match error {
-        ValueParsingError::OverflowError { expected, .. } => ("OverflowError", expected),
-        ValueParsingError::TypeError { expected, .. } => ("TypeError", expected),
-        ValueParsingError::ParseError {
-            cause: ParseCause::Facet,
-            ..
-        } => ("ParseError", "Facet"),
-        ValueParsingError::InvalidBase64 { base64 } => ("InvalidBase64", base64.as_str()),
-        ValueParsingError::FloatNumber => ("FloatNumber", ""),
-        _ => ("", ""),
+        ValueParsingError::OverflowError { expected, .. } => {
+            name == "OverflowError" && *expected == told
+        }
+        ValueParsingError::TypeError { expected, .. } => name == "TypeError" && *expected == told,
+        ValueParsingError::ParseError { cause, .. } => {
+            name == "ParseError" && told == "Facet" && matches!(cause, ParseCause::Facet)
+        }
+        ValueParsingError::InvalidBase64 { base64 } => {
+            name == "InvalidBase64" && base64.as_str() == told
+        }
+        ValueParsingError::FloatNumber => name == "FloatNumber",
+        ValueParsingError::Memory => false,
     }
 }
 
@@ -116,11 +119,11 @@ fn is_refused(
     alloc: Global,
     kind: Type,
     json: &str,
-    wanted: (&'static str, &str),
+    (name, told): (&str, &str),
 ) -> Result<bool, Error> {
     match value_of(alloc, kind, false, json)? {
         Ok(_) => Ok(false),
-        Err(error) => Ok(refusal(&error) == wanted),
+        Err(error) => Ok(is_refusal(&error, name, told)),
     }
 }
 
