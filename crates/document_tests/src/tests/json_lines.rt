@@ -411,10 +411,12 @@ fn push_hexadecimal(text: &mut String, bytes: &[u8]) -> Result<(), AllocError> {
 pub(super) fn heap_text(alloc: Global, document: &CompactDoc) -> Result<String, AllocError> {
     let mut text = String::new(alloc);
     push_hexadecimal(&mut text, document.node_data())?;
-    for (place, (field, _)) in document.field_values().enumerate() {
+    let mut place = 0;
+    for (field, _) in document.field_values() {
         if let Some((code, address)) = document.addr_of(place) {
             push_place(alloc, &mut text, field.field_id(), code, address)?;
         }
+        place = usize::wrapping_add(place, 1);
     }
     Ok(text)
 }
