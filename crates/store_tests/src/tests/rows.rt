@@ -39,16 +39,18 @@ fn document_of(alloc: Global) -> Result<CompactDoc, AddError> {
 
 // Whether the pair is of this field and text.
 fn is_text<'a, V: Value<'a>>(pair: Option<(Field, V)>, number: u32, text: &str) -> bool {
-    pair.is_some_and(|(field, value)| {
-        field.field_id() == number && value.as_str() == Some(text) && value.as_u64().is_none()
-    })
+    let Some((field, value)) = pair else {
+        return false;
+    };
+    field.field_id() == number && value.as_str() == Some(text) && value.as_u64().is_none()
 }
 
 // Whether the pair is of this field and number.
 fn is_number<'a, V: Value<'a>>(pair: Option<(Field, V)>, number: u32, content: u64) -> bool {
-    pair.is_some_and(|(field, value)| {
-        field.field_id() == number && value.as_u64() == Some(content) && value.as_str().is_none()
-    })
+    let Some((field, value)) = pair else {
+        return false;
+    };
+    field.field_id() == number && value.as_u64() == Some(content) && value.as_str().is_none()
 }
 
 fn is_two_pairs(document: &CompactDoc) -> bool {

@@ -132,12 +132,18 @@ pub fn readings<V: ValueDeserialize>(
 
 /// Whether this value is read over each source.
 pub fn reads_as<V: ValueDeserialize + PartialEq>(alloc: Global, bytes: &[u8], value: &V) -> bool {
-    for read in readings::<V>(alloc, bytes) {
-        if read.ok().as_ref() != Some(value) {
-            return false;
-        }
-    }
-    true
+    read::<V, SliceSource<'_>>(alloc, SliceSource::new(bytes))
+        .ok()
+        .as_ref()
+        == Some(value)
+        && read::<V, DripSource<'_>>(alloc, DripSource::new(bytes))
+            .ok()
+            .as_ref()
+            == Some(value)
+        && read::<V, ReadSource<&[u8]>>(alloc, ReadSource::new(bytes))
+            .ok()
+            .as_ref()
+            == Some(value)
 }
 
 /// Whether a value of this type is refused for this, over each source.
@@ -146,12 +152,12 @@ pub fn refuses<V: ValueDeserialize>(
     bytes: &[u8],
     refused: &DeserializeError,
 ) -> bool {
-    for read in readings::<V>(alloc, bytes) {
-        if read.err().as_ref() != Some(refused) {
-            return false;
-        }
-    }
-    true
+    let at_once = read::<V, SliceSource<'_>>(alloc, SliceSource::new(bytes)).err();
+    let by_bytes = read::<V, DripSource<'_>>(alloc, DripSource::new(bytes)).err();
+    let by_reads = read::<V, ReadSource<&[u8]>>(alloc, ReadSource::new(bytes)).err();
+    at_once.as_ref() == Some(refused)
+        && by_bytes.as_ref() == Some(refused)
+        && by_reads.as_ref() == Some(refused)
 }
 
 fn tree<S: ByteSource + Drop>(alloc: Global, source: S) -> Result<OwnedValue, DeserializeError> {

@@ -75,24 +75,22 @@ fn of_equal_keys_hash_maps_keep_the_last(rt: HostRuntime) -> Result<(), Deserial
     Ok(())
 }
 
-/// Whether an object has two entries, with 1 and with 2.
-fn is_both<'a, V: Value<'a>>(value: &V) -> bool {
+/// Whether the object in the only pair has two entries, with 1 and with 2.
+fn has_both(document: &CompactDoc) -> bool {
+    let mut pairs = document.field_values();
+    let Some((_, value)) = pairs.next() else {
+        return false;
+    };
     let Some(mut members) = value.as_object() else {
         return false;
     };
-    members
-        .next()
-        .is_some_and(|(_, first)| first.as_u64() == Some(1))
-        && members
-            .next()
-            .is_some_and(|(_, second)| second.as_u64() == Some(2))
-        && members.next().is_none()
-}
-
-/// Whether the value of the only pair is such an object.
-fn has_both(document: &CompactDoc) -> bool {
-    let mut pairs = document.field_values();
-    pairs.next().is_some_and(|(_, value)| is_both(&value))
+    let Some((_, first)) = members.next() else {
+        return false;
+    };
+    let Some((_, second)) = members.next() else {
+        return false;
+    };
+    first.as_u64() == Some(1) && second.as_u64() == Some(2) && members.next().is_none()
 }
 
 #[test]
