@@ -29,14 +29,14 @@ fn is_group<'a, V: Value<'a>>(
     number: u32,
     content: &[u64],
 ) -> bool {
-    group.is_some_and(|(field, values)| {
-        field.field_id() == number
-            && values.len() == content.len()
-            && values
-                .iter()
-                .zip(content)
-                .all(|(value, number)| value.as_u64() == Some(*number))
-    })
+    let Some((field, values)) = group else {
+        return false;
+    };
+    field.field_id() == number
+        && values
+            .iter()
+            .map(|value| value.as_u64())
+            .eq(content.iter().map(|number| Some(*number)))
 }
 
 #[test]
