@@ -1,4 +1,5 @@
 mod lengths;
 mod long;
+mod memory;
 mod refusals;
 mod values;

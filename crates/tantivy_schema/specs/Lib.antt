@@ -81,7 +81,9 @@ pub use Rattle.tv_heap.specs.Reads
 pub use Rattle.tv_heap.specs.Room
 pub use Rattle.tv_heap.specs.TypeCode
 pub use Rattle.tv_heap.specs.Value
+pub use Rattle.tv_heap.specs.Weight
 -- values that come part by part
+pub use Rattle.tv_builder.specs.Called
 pub use Rattle.tv_builder.specs.Front
 pub use Rattle.tv_builder.specs.Given
 pub use Rattle.tv_builder.specs.Kinds as BuilderKinds
@@ -89,10 +91,16 @@ pub use Rattle.tv_builder.specs.Moves
 pub use Rattle.tv_builder.specs.Parts as ValueParts
 pub use Rattle.tv_builder.specs.Shows
 pub use Rattle.tv_builder.specs.State
+pub use Rattle.tv_builder.specs.TreeBytes
+pub use Rattle.tv_builder.specs.Weight as StateWeight
 -- the store
 pub use Rattle.tv_store.specs.Documents
 pub use Rattle.tv_store.specs.Error as StoreError
-pub use Rattle.tv_store.specs.Refused
+pub use Rattle.tv_decoder.specs.Decoder
+pub use Rattle.tv_decoder.specs.Documents as DecodedDocuments
+pub use Rattle.tv_decoder.specs.Front as DecoderFront
+pub use Rattle.tv_decoder.specs.Paid
+pub use Rattle.tv_decoder.specs.Steps
 pub use Rattle.tv_store.specs.PairsGiven
 pub use Rattle.tv_store.specs.Stored
 pub use Rattle.tv_reader.specs.Error as ReaderError

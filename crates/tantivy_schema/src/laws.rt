@@ -17,7 +17,9 @@ pub use tv_base::laws::{
     printed_facets_are_read, short_numbers_are_shortest, short_numbers_spell,
 };
 use tv_base::{ByteSource, VecSink};
-pub use tv_builder::laws::{calls_trade, lists_are_paid, parts_are_traded};
+pub use tv_builder::laws::{
+    calls_trade, lists_are_paid, open_lists_are_paid, parts_are_traded, what_is_written_is_paid,
+};
 use tv_doc::document::CompactDoc;
 pub use tv_doc::laws::{
     additions_are_kept, builders_hold_their_state, documents_are_valid, heaps_are_within_room,

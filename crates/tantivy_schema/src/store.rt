@@ -1,3 +1,3 @@
 //! The document store.
 
-pub use tv_store::{DocStoreVersion, read_document};
+pub use tv_store::{DirectDecoder, DocStoreVersion, Step, read_document};

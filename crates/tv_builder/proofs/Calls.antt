@@ -2,9 +2,7 @@
 use Rattle.std.proofs.Common.{◌≡◌, ℕ, ◌+◌, ◌-◌, ◌^◌, ◌<◌, ◌≤◌, Bool, true, false, List, ◌++◌, length, Option, Some, None, Result, Ok, Err, OnOk, IfErr, SomeIff, sym, ◌∙◌, ap, subst, length-append, arith, inl, inr}
 use Rattle.std.proofs.lemmas.Bool.{cases_lt}
 use Rattle.tv_base.specs.Sink.{IsFront}
-use Rattle.tv_value.specs.Tree.{Leaf, Tree, leaf}
-use Rattle.tv_heap.specs.LeafBytes.{leaf_bytes, leaf_value_type, leaf_address}
-use Rattle.tv_heap.specs.Room.{room}
+use Rattle.tv_value.specs.Tree.{Tree}
 use Rattle.tv_heap.specs.Weight.{tree_weight}
 use Rattle.tv_heap.specs.TypeCode.{type_code}
 use Rattle.tv_heap.specs.Wrote.{Wrote}
@@ -16,11 +14,15 @@ use Rattle.tv_builder.specs.declared.building.OpenBytes.{OpenBytes}
 use Rattle.tv_builder.specs.declared.frame.Frame.{Frame}
 use Rattle.tv_builder.specs.declared.place.Place.{Place}
 use Rattle.tv_builder.specs.Given.{given}
-use Rattle.tv_builder.specs.Moves.{given_to, Gives, GivesNot, Moves, HasNoRoom, Does, FitsRoom, leaf_place, leaf_heap, LeafHeap, LeafFull, ValueHeap, ValueFull}
+use Rattle.tv_builder.specs.Moves.{given_to, Gives, GivesNot, Moves, HasNoRoom, Does, FitsRoom, value_heap, ValueHeap, ValueFull}
+use Rattle.tv_builder.specs.TreeBytes.{tree_heap, tree_place}
+use Rattle.tv_builder.specs.Whole.{Put, PutNot, WhyNoTree}
+use Rattle.tv_builder.proofs.Putting.{tree_front}
+use Rattle.tv_heap.proofs.Writes.{longer}
 use Rattle.tv_builder.specs.Shows.{Placed, ShowsLists, ShowsAt, Shows, frames_of, awaited_by}
 use Rattle.tv_builder.specs.State.{OpenList, State, complete, in_lists, in_bytes, with_value, and_value, AreLists, AllAwait, lists_written, written}
 use Rattle.tv_builder.proofs.Giving.{front_then, front_length, given_front, lists_grown, given_shows, value_is}
-use Rattle.tv_builder.proofs.NoRoom.{lists_as, value_no_room}
+use Rattle.tv_builder.proofs.NoRoom.{lists_as, value_no_room, value_over}
 use Rattle.tv_builder.proofs.Sound.{awaited_same, value_none, all_await}
 
 -- the same, said otherwise
@@ -83,34 +85,33 @@ does_give old mid new p in_place full heaps after (Err NotUtf8) here is over no_
 
 -- ---- a whole value
 
-pub value_small : (old new : List ℕ) (code at : ℕ) (t : Tree) → Wrote old new code at t → length old + room t ≤ 4294967295 → length new ≤ 4294967295
-value_small old new code at t w h = omega (arith, w.within, ap length w.grows, length-append old w.added)
-
 pub wrote_placed : (old new : List ℕ) (p : Place) (t : Tree) → Wrote old new (type_code p.value_type) p.address t → Placed new p t
 wrote_placed old new p t w = record { reads = w.reads; below = w.below; fits = w.fits }
 
-pub does_value : (old mid new : Building) (p : Place) (t : Tree) (r : Result (Unit {0}) BuildError) → awaited_by old ≡ awaits.Value → length old.heap.items + room t ≤ 4294967295
-    → Wrote old.heap.items mid.heap.items (type_code p.value_type) p.address t → frames_of mid ≡ frames_of old → mid.places.items ≡ old.places.items → mid.open ≡ old.open
-    → OnOk r (Gives mid p new) → IfErr r (λ e. GivesNot mid p new e) → Does old new (awaited_by old ≡ awaits.Value) (ValueHeap old t) (ValueFull old t) (λ s. and_value s t) r
-does_value old mid new p t r await fits w frames places bytes ok err =
-    let as_given : (given_to mid p).heap ≡ (given mid.heap.items old.places.items (frames_of old) p).heap = λ i. (given mid.heap.items (places i) (frames i) p).heap in
-    let one : ValueHeap old t (given_to mid p).heap = (fits, mid.heap.items, p, w, as_given) in
-    does_give old mid new p (awaited_by old ≡ awaits.Value) (ValueFull old t) (ValueHeap old t) (λ s. and_value s t) r await (λ g. subst (ValueHeap old t) (sym g.heap) one) (λ h. inr ((given_to mid p).heap, one, h))
-    (value_no_room old mid p t w.added await w.grows w.weighed (value_small _ _ _ _ _ w fits) frames places (wrote_placed _ _ p t w)) (w.added, w.grows)
-    (λ g. value_moves old mid new p t w.added await w.grows w.weighed frames places bytes (wrote_placed _ _ p t w) g) ok err
+pub does_value : (old mid new : Building) (p : Place) (t : Tree) (r : Result (Unit {0}) BuildError) → awaited_by old ≡ awaits.Value → Put old.heap.items t mid.heap.items p → frames_of mid ≡ frames_of old → mid.places.items ≡ old.places.items
+    → mid.open ≡ old.open → OnOk r (Gives mid p new) → IfErr r (λ e. GivesNot mid p new e) → Does old new (awaited_by old ≡ awaits.Value) (ValueHeap old t) (ValueFull old t) (λ s. and_value s t) r
+does_value old mid new p t r await w frames places bytes ok err =
+    let as_given : (given_to mid p).heap ≡ value_heap old t = λ i. (given (w.heap i) (places i) (frames i) (w.place i)).heap in
+    let f = tree_front old.heap.items t in
+    let grows : mid.heap.items ≡ old.heap.items ++ f.0 = w.heap ∙ f.1 in
+    let small : length f.0 ≤ tree_weight t = omega (arith, w.weighed, longer old.heap.items mid.heap.items f.0 grows) in
+    does_give old mid new p (awaited_by old ≡ awaits.Value) (ValueFull old t) (ValueHeap old t) (λ s. and_value s t) r await (λ g. g.heap ∙ as_given) (λ h. subst (λ z. 4294967295 < length z) as_given h)
+    (value_no_room old mid p t f.0 await grows small w.fits frames places w.placed) (f.0, grows) (λ g. value_moves old mid new p t f.0 await grows small frames places bytes w.placed g) ok err
 
-pub place_is : (p : Place) (len : ℕ) (l : Leaf) → p.value_type ≡ leaf_value_type l → p.address ≡ leaf_address len l → p ≡ leaf_place len l
-place_is p len l a b = λ i. record { value_type = a i; address = b i }
+-- it isn't written
+pub value_not : (old new : Building) (t : Tree) (e : BuildError) → awaited_by old ≡ awaits.Value → PutNot old.heap.items t new.heap.items e → Does old new (awaited_by old ≡ awaits.Value) (ValueHeap old t) (ValueFull old t) (λ s. and_value s t) (Err e)
+value_not old new t e await w = answer e w.why
+  where
+    more : length (tree_heap old.heap.items t) ≤ length (value_heap old t)
+    more = front_length _ _ (given_front (frames_of old) (tree_heap old.heap.items t) old.places.items (tree_place old.heap.items t))
 
--- a leaf
-pub does_leaf : (old mid new : Building) (p : Place) (l : Leaf) (r : Result (Unit {0}) BuildError) → awaited_by old ≡ awaits.Value → length mid.heap.items ≤ 4294967295 → p ≡ leaf_place (length old.heap.items) l → mid.heap.items ≡ old.heap.items ++ leaf_bytes l
-    → Wrote old.heap.items mid.heap.items (type_code p.value_type) p.address (leaf l) → frames_of mid ≡ frames_of old → mid.places.items ≡ old.places.items → mid.open ≡ old.open
-    → OnOk r (Gives mid p new) → IfErr r (λ e. GivesNot mid p new e) → Does old new (awaited_by old ≡ awaits.Value) (LeafHeap old l) (LeafFull old l) (λ s. and_value s (leaf l)) r
-does_leaf old mid new p l r await fits place grows w frames places bytes ok err =
-    let as_given : (given_to mid p).heap ≡ leaf_heap old l = λ i. (given (grows i) (places i) (frames i) (place i)).heap in
-    does_give old mid new p (awaited_by old ≡ awaits.Value) (LeafFull old l) (LeafHeap old l) (λ s. and_value s (leaf l)) r await (λ g. g.heap ∙ as_given) (λ h. subst (λ z. 4294967295 < length z) as_given h)
-    (value_no_room old mid p (leaf l) w.added await w.grows w.weighed fits frames places (wrote_placed _ _ p (leaf l) w)) (w.added, w.grows)
-    (λ g. value_moves old mid new p (leaf l) w.added await w.grows w.weighed frames places bytes (wrote_placed _ _ p (leaf l) w) g) ok err
+    answer : (x : BuildError) → WhyNoTree old.heap.items t x → Does old new (awaited_by old ≡ awaits.Value) (ValueHeap old t) (ValueFull old t) (λ s. and_value s t) (Err x)
+    answer HeapFull h = (await, omega (arith, h.0, more), w.front, value_over old t await h.1)
+    answer Memory h = (await, w.front)
+    answer AlreadyFailed h = absurd h
+    answer OutOfPlace h = absurd h
+    answer (FieldNumber n) h = absurd h
+    answer NotUtf8 h = absurd h
 
 -- whether what was found fits
 pub over_bound : (len m : ℕ) (fits : Bool) → FitsRoom (Some m) len fits → fits ≡ false → 4294967295 < len + m
@@ -120,16 +121,3 @@ over_bound len m false h e = elim (cases_lt 4294967295 (len + m)) [ inl p ↦ p 
 pub over : (found : Option ℕ) (len n : ℕ) (fits : Bool) → SomeIff found (n < 2 ^ 32) n → FitsRoom found len fits → fits ≡ false → 4294967295 < len + n
 over (Some m) len n fits is h e = omega (arith, is.1, over_bound len m fits h e)
 over None len n fits is h e = elim (cases_lt n (2 ^ 32)) [ inl p ↦ absurd (is p) | inr p ↦ omega (arith, p) ]
-
--- a leaf that doesn't fit
-pub leaf_full : (old : Building) (l : Leaf) (found : Option ℕ) (len : ℕ) (fits : Bool) → len ≡ length old.heap.items → SomeIff found (length (leaf_bytes l) < 2 ^ 32) (length (leaf_bytes l)) → FitsRoom found len fits → fits ≡ false
-    → LeafFull old l
-leaf_full old l found len fits is known h e =
-    let mid = old.heap.items ++ leaf_bytes l in
-    let f = front_length _ _ (given_front (frames_of old) mid old.places.items (leaf_place (length old.heap.items) l)) in
-    omega (arith, is, over found len _ fits known h e, f, length-append old.heap.items (leaf_bytes l))
-
--- whether the room that was found fits
-pub room_fits : (found : Option ℕ) (len n : ℕ) (fits : Bool) → SomeIff found (n < 2 ^ 32) n → FitsRoom found len fits → fits ≡ true → len + n ≤ 4294967295
-room_fits (Some m) len n fits is h e = omega (arith, is.1, h.0 e)
-room_fits None len n fits is h e = absurd (let f : false ≡ true = sym h ∙ e in cc)

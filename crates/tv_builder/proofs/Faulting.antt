@@ -5,11 +5,11 @@ use Rattle.tv_base.specs.declared.cause.Cause.{Cause}
 use Rattle.tv_base.specs.declared.cause.Cause.TheVariants.{NotUtf8, UnexpectedEnd}
 use Rattle.tv_base.specs.Number.{VNum}
 use Rattle.tv_base.specs.PartFault.{InEach, TextFault, SizedFault, bytes_end, in_sized, no_text}
-use Rattle.tv_base.specs.Parts.{Then, Each, Sized}
+use Rattle.tv_base.specs.Parts.{Then, Each}
 use Rattle.tv_value.specs.Fault.{Refusal, corrupted, corrupt, KeyFault, in_key, FieldFault, ValueFault, in_leaf, in_text, in_facet, in_bytes, in_element, in_entry_key, in_entry, PairFault, DocumentFault}
 use Rattle.tv_value.specs.Spelling.{Key, SpellsElements, SpellsEntries, SpellsPair}
-use Rattle.tv_value.specs.Tree.{Tree, leaf, text, elements, element_count, entries, entry_count, Entries, Document}
-use Rattle.tv_value.specs.Version.{Version, V1, V2, V3, entry_total}
+use Rattle.tv_value.specs.Tree.{Tree, elements, element_count, entries, entry_count, Entries, Document}
+use Rattle.tv_value.specs.Version.{Version, V1, V2, V3}
 use Rattle.tv_builder.specs.declared.bytes_kind.BytesKind.{BytesKind}
 use Rattle.tv_builder.specs.declared.bytes_kind.BytesKind.TheVariants as kinds
 use Rattle.tv_builder.specs.declared.frame.ListKind.{ListKind}
@@ -17,8 +17,8 @@ use Rattle.tv_builder.specs.declared.frame.ListKind.TheVariants as lists
 use Rattle.tv_builder.specs.Behind.{pairs_parts, document_parts, open_parts, FaultsBehind}
 use Rattle.tv_builder.specs.Front.{SpellsPart, KeyHead}
 use Rattle.tv_builder.specs.Kinds.{total, IsTextKind}
-use Rattle.tv_builder.specs.Parts.{Part, number, field, value, bytes_head, some_bytes}
-use Rattle.tv_builder.specs.State.{OpenList, State, in_lists, in_bytes, text_of, pairs_of, IsKey, AreEntries, IsValueNext, IsKeyNext, AllAwait, AreLists, OthersAwait, HeadNext, key_parts, list_head, children_parts, list_parts, lists_parts}
+use Rattle.tv_builder.specs.Parts.{Part, field, value, bytes_head, some_bytes}
+use Rattle.tv_builder.specs.State.{OpenList, in_lists, in_bytes, text_of, pairs_of, IsValueNext, IsKeyNext, AllAwait, AreLists, OthersAwait, HeadNext, key_parts, list_head, children_parts, list_parts, lists_parts}
 
 each_split : {A : Type 0} (R : List ℕ → A → Type 0) (xs ys : List A) (whole : List ℕ) → Each R whole (xs ++ ys) → Then (λ b. Each R b xs) (λ b. Each R b ys) whole
 each_split R [] ys whole p = record { front = []; rest = whole; joined = refl; first = refl; second = p }

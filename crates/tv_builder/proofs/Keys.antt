@@ -6,7 +6,7 @@ use Rattle.tv_value.specs.Tree.{Tree, leaf, text, facet, bytes}
 use Rattle.tv_heap.specs.Reads.{Stands, ShortSized, ShortText, Reads}
 use Rattle.tv_heap.specs.TypeCode.{type_code}
 use Rattle.tv_heap.specs.declared.value_type.ValueType.TheVariants as types
-use Rattle.tv_heap.proofs.Writes.{at_end, longer, sized_length, sized_some}
+use Rattle.tv_heap.proofs.Writes.{at_end, longer, sized_some}
 use Rattle.tv_builder.specs.declared.awaits.Awaits.TheVariants as awaits
 use Rattle.tv_builder.specs.declared.build_error.BuildError.{BuildError}
 use Rattle.tv_builder.specs.declared.build_error.BuildError.TheVariants.{AlreadyFailed, OutOfPlace, FieldNumber, NotUtf8, HeapFull, Memory}

@@ -4,7 +4,9 @@ pub mod Giving
 pub mod Sound
 pub mod Handing
 pub mod NoRoom
+pub mod Putting
 pub mod Calls
+pub mod Calling
 pub mod Keys
 pub mod Opening
 pub mod Ending

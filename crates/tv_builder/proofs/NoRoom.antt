@@ -1,5 +1,5 @@
 -- Where the heap would be too long, there is no room for the state that would be left.
-use Rattle.std.proofs.Common.{◌≡◌, ◌≢◌, ℕ, suc, ◌+◌, ◌-◌, ◌*◌, ◌^◌, ◌<◌, ◌≤◌, List, [], ◌∷◌, ◌++◌, length, take, drop, refl, sym, ◌∙◌, ap, subst, length-append, arith, inl, inr}
+use Rattle.std.proofs.Common.{◌≡◌, ℕ, suc, ◌+◌, ◌-◌, ◌*◌, ◌^◌, ◌<◌, ◌≤◌, List, [], ◌∷◌, ◌++◌, length, take, drop, refl, sym, ◌∙◌, ap, subst, length-append, arith, inl, inr}
 use Rattle.std.proofs.lemmas.Bool.{cases_lt}
 use Rattle.tv_base.specs.Number.{vnum}
 use Rattle.tv_base.specs.Parts.{short_sized}
@@ -8,20 +8,19 @@ use Rattle.tv_heap.specs.Reads.{ReadsElements}
 use Rattle.tv_heap.specs.Room.{room}
 use Rattle.tv_heap.specs.Weight.{tree_weight}
 use Rattle.tv_heap.proofs.Weights.{elements_weigh, sized_over}
-use Rattle.tv_heap.proofs.Writes.{longer, sized_length}
+use Rattle.tv_heap.proofs.Writes.{longer}
 use Rattle.tv_builder.specs.declared.awaits.Awaits.TheVariants as awaits
 use Rattle.tv_builder.specs.declared.building.Building.{Building}
 use Rattle.tv_builder.specs.declared.bytes_kind.BytesKind.{BytesKind}
 use Rattle.tv_builder.specs.declared.frame.Frame.{Frame}
-use Rattle.tv_builder.specs.declared.frame.ListKind.{ListKind}
 use Rattle.tv_builder.specs.declared.place.Place.{Place}
 use Rattle.tv_builder.specs.Given.{Given, given, place_bytes}
 use Rattle.tv_builder.specs.Kinds.{list_type, total}
 use Rattle.tv_builder.specs.Moves.{given_to, HasNoRoom}
 use Rattle.tv_builder.specs.Shows.{Placed, ShowsLists, Shows, frames_of, awaited_by}
-use Rattle.tv_builder.specs.State.{OpenList, State, complete, in_lists, in_bytes, next_in, with_child, with_value, with_key, and_value, and_key, and_head, head_awaits, list_tree, AreLists, AllAwait, children_room, lists_room, state_room, trees_weight, lists_written, written}
-use Rattle.tv_builder.proofs.Children.{child_value, list_placed, list_within, list_room, list_weight, elements_bytes, elements_room_is, elements_weight_is, trees_weight_push, children_room_push}
-use Rattle.tv_builder.proofs.Giving.{Tested, below, not_below, tested, same_test, given_waits, given_closes, value_waits, value_closes, pushed_reads, lists_grown}
+use Rattle.tv_builder.specs.State.{OpenList, State, complete, in_lists, in_bytes, with_value, and_value, and_key, and_head, head_awaits, list_tree, AreLists, AllAwait, children_room, lists_room, state_room, trees_weight, lists_written, written}
+use Rattle.tv_builder.proofs.Children.{child_value, list_placed, list_within, list_room, elements_bytes, elements_room_is, elements_weight_is, trees_weight_push, children_room_push}
+use Rattle.tv_builder.proofs.Giving.{below, not_below, tested, same_test, given_waits, given_closes, value_waits, value_closes, pushed_reads, lists_grown}
 use Rattle.tv_builder.proofs.Sound.{awaited_same, all_await}
 
 pub lists_as : (heap : List ℕ) (fs fs_as : List Frame) (places places_as : List ℕ) (ls : List OpenList) → fs_as ≡ fs → places_as ≡ places → ShowsLists heap fs places ls → ShowsLists heap fs_as places_as ls
@@ -30,7 +29,7 @@ lists_as heap fs fs_as places places_as ls a b h = subst (λ z. ShowsLists heap 
 -- ---- what a state has room for at least
 
 -- children that stand in a heap weigh no more than their room
-children_fit : (heap : List ℕ) (parent : ℕ) (own : List ℕ) (ts : List Tree) → length heap < 2 ^ 32 → ReadsElements heap parent own (elements ts) → 6 * length ts + trees_weight ts ≤ children_room ts
+pub children_fit : (heap : List ℕ) (parent : ℕ) (own : List ℕ) (ts : List Tree) → length heap < 2 ^ 32 → ReadsElements heap parent own (elements ts) → 6 * length ts + trees_weight ts ≤ children_room ts
 children_fit heap parent own ts small h = omega (arith, elements_weigh heap parent own (elements ts) small h, elements_weight_is ts, elements_room_is ts)
 
 pub lists_fit : (heap : List ℕ) (fs : List Frame) (places : List ℕ) (ls : List OpenList) → length heap < 2 ^ 32 → ShowsLists heap fs places ls → lists_written ls ≤ lists_room ls
@@ -56,7 +55,7 @@ value_room (l ∷ ls) t are await = elim (tested (suc (length l.children)) (tota
 -- ---- where a finished value would make the heap too long
 
 -- the bytes of a list are within the room that it adds, whatever their number
-list_over : (len : ℕ) (own : List ℕ) (n : ℕ) → 4294967295 < len + length (short_sized own) → length own ≤ 6 * n → 4294967295 < len + (5 + 6 * n)
+pub list_over : (len : ℕ) (own : List ℕ) (n : ℕ) → 4294967295 < len + length (short_sized own) → length own ≤ 6 * n → 4294967295 < len + (5 + 6 * n)
 list_over len own n h most = let r = sized_over len (length own) (omega (arith, h, length-append (vnum (length own)) own)) in omega (arith, r, most)
 
 pub given_over : (fs : List Frame) (ls : List OpenList) (heap places : List ℕ) (p : Place) (t : Tree) → AreLists ls → AllAwait ls → ShowsLists heap fs places ls → Placed heap p t → length heap ≤ 4294967295

@@ -20,7 +20,7 @@ use Rattle.tv_builder.specs.declared.frame.ListKind.{ListKind}
 use Rattle.tv_builder.specs.declared.frame.ListKind.TheVariants as lists
 use Rattle.tv_builder.specs.Behind.{pairs_parts, document_parts, open_parts}
 use Rattle.tv_builder.specs.Front.{KeyHead, BytesHead, SpellsPart, Spelled}
-use Rattle.tv_builder.specs.Parts.{Part, value, field}
+use Rattle.tv_builder.specs.Parts.{value, field}
 use Rattle.tv_builder.specs.State.{OpenList, State, complete, in_lists, in_bytes, key_parts, value_parts, children_parts, list_parts, lists_parts, parts_of, text_of, lists_of, children_of}
 use Rattle.tv_builder.specs.Weight.{keys_weight, values_weight, children_weight, lists_weight, state_weight}
 use Rattle.tv_builder.proofs.Grammar.{each_split, head_takes, frames_paid}

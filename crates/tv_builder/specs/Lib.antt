@@ -5,6 +5,9 @@ pub mod State
 pub mod Weight
 pub mod Given
 pub mod Shows
+pub mod TreeBytes
 pub mod Moves
+pub mod Whole
 pub mod Behind
 pub mod OneState
+pub mod Called

@@ -1,13 +1,10 @@
 -- What a call on a building leaves.
-use Rattle.std.specs.Prelude.{◌≡◌, ◌↔◌, IsTrue, Bool, false, cond, nat_eq, ℕ, ◌+◌, ◌-◌, ◌<◌, ◌≤◌, ◌⊎◌, List, [], ◌∷◌, ◌++◌, length, drop, take, Option, Some, None, Result, Ok, Err}
+use Rattle.std.specs.Prelude.{◌≡◌, ◌↔◌, IsTrue, Bool, false, cond, nat_eq, ℕ, ◌+◌, ◌-◌, ◌<◌, ◌≤◌, List, [], ◌∷◌, ◌++◌, length, drop, take, Option, Some, None, Result, Ok, Err}
 use Rattle.tv_base.specs.Number.{vnum}
 use Rattle.tv_base.specs.Parts.{short_sized}
 use Rattle.tv_base.specs.Sink.{IsFront}
 use Rattle.tv_value.specs.Tree.{Leaf, Tree}
-use Rattle.tv_heap.specs.LeafBytes.{leaf_bytes, leaf_value_type, leaf_address}
-use Rattle.tv_heap.specs.Room.{room}
-use Rattle.tv_heap.specs.TypeCode.{type_code}
-use Rattle.tv_heap.specs.Wrote.{Wrote}
+use Rattle.tv_heap.specs.LeafBytes.{leaf_bytes}
 use Rattle.tv_builder.specs.declared.build_error.BuildError.{BuildError}
 use Rattle.tv_builder.specs.declared.build_error.BuildError.TheVariants.{OutOfPlace, NotUtf8, HeapFull, Memory}
 use Rattle.tv_builder.specs.declared.building.Building.{Building}
@@ -21,6 +18,7 @@ use Rattle.tv_builder.specs.Given.{Given, given, one_more, pending_in, AreCut}
 use Rattle.tv_builder.specs.Kinds.{list_type, bytes_type}
 use Rattle.tv_builder.specs.Parts.{IsContent}
 use Rattle.tv_builder.specs.Shows.{Shows, frames_of}
+use Rattle.tv_builder.specs.TreeBytes.{leaf_place, tree_heap, tree_place}
 use Rattle.tv_builder.specs.State.{State, written, and_end, state_room}
 
 -- ---- a finished value is handed to the lists
@@ -115,14 +113,6 @@ Does old new in_place heaps full after (Err HeapFull) = in_place × full × IsFr
 Does old new in_place heaps full after (Err Memory) = in_place × IsFront old.heap.items new.heap.items
 Does old new in_place heaps full after (Err _) = ⊥
 
--- this is the heap, and it is too long
-abbrev pub Overfills : (List ℕ → Type 0) → Type 0
-Overfills heaps = (heap : List ℕ) × heaps heap × (4294967295 < length heap)
-
--- where a leaf stands that is written at the end of a heap of this length
-abbrev pub leaf_place : ℕ → Leaf → Place
-leaf_place len l = record { value_type = leaf_value_type l; address = leaf_address len l }
-
 -- a leaf is written, and then the lists that it closes
 abbrev pub leaf_heap : Building → Leaf → List ℕ
 leaf_heap old l = (given (old.heap.items ++ leaf_bytes l) old.places.items (frames_of old) (leaf_place (length old.heap.items) l)).heap
@@ -133,15 +123,15 @@ LeafHeap old l heap = heap ≡ leaf_heap old l
 abbrev pub LeafFull : Building → Leaf → Type 0
 LeafFull old l = 4294967295 < length (leaf_heap old l)
 
--- a whole value is written, and then the lists that it closes
-abbrev pub ValueHeap : Building → Tree → List ℕ → Type 0
-ValueHeap old t heap =
-    (length old.heap.items + room t ≤ 4294967295) × (mid : List ℕ) × (p : Place) × Wrote old.heap.items mid (type_code p.value_type) p.address t
-    × (heap ≡ (given mid old.places.items (frames_of old) p).heap)
+-- a whole value is written part by part, and then the lists that it closes
+abbrev pub value_heap : Building → Tree → List ℕ
+value_heap old t = (given (tree_heap old.heap.items t) old.places.items (frames_of old) (tree_place old.heap.items t)).heap
 
--- its room is too large, or the heap would be too long
+abbrev pub ValueHeap : Building → Tree → List ℕ → Type 0
+ValueHeap old t heap = heap ≡ value_heap old t
+
 abbrev pub ValueFull : Building → Tree → Type 0
-ValueFull old t = (4294967295 < length old.heap.items + room t) ⊎ Overfills (ValueHeap old t)
+ValueFull old t = 4294967295 < length (value_heap old t)
 
 -- a list of none is written at once, and then the lists that it closes
 abbrev pub list_heap : Building → ListKind → ℕ → List ℕ

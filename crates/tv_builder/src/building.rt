@@ -4,57 +4,24 @@ ghost use Rattle.std.specs.Prelude.{◌≡◌, ℕ, ◌+◌, ◌-◌, ◌<◌, �
 ghost use Rattle.tv_base.specs.Number.{vnum};
 ghost use Rattle.tv_base.specs.Parts.{short_sized};
 ghost use Rattle.tv_base.specs.Sink.{IsFront};
-ghost use Rattle.tv_builder.specs.Moves.{FitsRoom};
 ghost use Rattle.tv_value.specs.Lent.{leaf_of};
 ghost use Rattle.tv_value.specs.Tree.{leaf as leaf_tree};
 
 use crate::awaits::Awaits;
 use crate::build_error::BuildError;
 use crate::bytes_kind::BytesKind;
+use crate::fits::has_room;
 use crate::frame::{Frame, ListKind};
 use crate::place::Place;
+use crate::whole::{put_leaf, put_list, put_tree};
 use std::alloc::Global;
 use std::convert::AsStr;
-use tv_base::vint::VInt;
-use tv_heap::len::leaf_len;
-use tv_heap::room::room;
 use tv_heap::value_type::ValueType;
-use tv_heap::write::{push_place, write_leaf, write_list, write_tree};
+use tv_heap::write::push_place;
 use tv_value::leaf::ReferenceValueLeaf;
 use tv_value::nested::lend;
 use tv_value::spell::{push_number, push_sized};
 use tv_value::value::Value;
-
-// The largest length of a heap, so that 32 bits hold each address.
-const MAX_HEAP_LEN: u64 = 4294967295;
-
-// The length of the shortest spelling of a number.
-fn spelled_len(number: u64) -> u64
-    ensures same { result ≡ length (vnum number) }
-    ensures small { result ≤ 10 }
-{
-    let (_, len) = VInt(number).spelling();
-    len as u64
-}
-
-// Whether so many bytes behind their length fit behind a heap of this length.
-fn has_room(len: usize, content: u64) -> bool
-    requires { len ≤ 4294967295 }
-    ensures { IsTrue result ↔ (len + (length (vnum content) + content) ≤ 4294967295) }
-{
-    content <= MAX_HEAP_LEN && len as u64 + (spelled_len(content) + content) <= MAX_HEAP_LEN
-}
-
-// Whether a value of this room fits behind a heap of this length.
-fn has_value_room(len: usize, room: Option<u32>) -> bool
-    requires { len ≤ 4294967295 }
-    ensures { FitsRoom room len result }
-{
-    match room {
-        Some(room) => u64::from(room) <= MAX_HEAP_LEN - len as u64,
-        None => false,
-    }
-}
 
 /// The bytes of an open value. (Own.)
 #[derive(Clone, Copy, Debug)]
@@ -87,6 +54,7 @@ pub struct Building {
 }
 
 impl Building {
+    ghost use Rattle.tv_builder.specs.Called.{held, leaf_called, list_called, key_called, tree_called};
     ghost use Rattle.tv_builder.specs.Parts.{IsContent};
     ghost use Rattle.tv_builder.specs.Moves.{CanGive, Gives, GivesNot, CanGiveKey, GivesKey, Closed, ClosedNot, Does, EndsBytes, LeafHeap, LeafFull, ValueHeap, ValueFull, HeadHeap, HeadFull, KeyHeap, KeyFull, ListHeap, ListFull, AwaitsChunk, last_bytes};
     ghost use Rattle.tv_builder.specs.Shows.{Stands, frames_of, awaited_by};
@@ -150,43 +118,34 @@ impl Building {
     /// A value without children has come.
     pub fn leaf(&mut self, value: &ReferenceValueLeaf<'_>) -> Result<(), BuildError>
         requires { Stands self.old }
-        ensures { let l = leaf_of value.now in Does self.old self.new (awaited_by self.old ≡ ValueNext) (LeafHeap self.old l) (LeafFull self.old l) (λ s. and_value s (leaf_tree l)) result }
+        ensures does { let l = leaf_of value.now in Does self.old self.new (awaited_by self.old ≡ ValueNext) (LeafHeap self.old l) (LeafFull self.old l) (λ s. and_value s (leaf_tree l)) result }
+        ensures exact { OnOk result (held self.new ≡ leaf_called (held self.old) (leaf_of value.now)) }
     {
         let Awaits::Value = self.awaits() else {
             return Err(BuildError::OutOfPlace);
         };
-        if !has_value_room(self.heap.len(), leaf_len(value)) {
-            return Err(BuildError::HeapFull);
-        }
-        let (value_type, address) = write_leaf(&mut self.heap, value)?;
-        self.give(Place {
-            value_type,
-            address,
-        })
+        let place = put_leaf(&mut self.heap, value)?;
+        self.give(place)
     }
 
-    /// A whole value of any kind has come.
+    /// A whole value of any kind has come: what the calls for its parts do.
     pub fn tree<'a, V: Value<'a>>(&mut self, value: &V) -> Result<(), BuildError>
         requires { Stands self.old }
-        ensures { let t = V.tree value.now in Does self.old self.new (awaited_by self.old ≡ ValueNext) (ValueHeap self.old t) (ValueFull self.old t) (λ s. and_value s t) result }
+        ensures does { let t = V.tree value.now in Does self.old self.new (awaited_by self.old ≡ ValueNext) (ValueHeap self.old t) (ValueFull self.old t) (λ s. and_value s t) result }
+        ensures exact { OnOk result (held self.new ≡ tree_called (held self.old) (V.tree value.now)) }
     {
         let Awaits::Value = self.awaits() else {
             return Err(BuildError::OutOfPlace);
         };
-        if !has_value_room(self.heap.len(), room(value)) {
-            return Err(BuildError::HeapFull);
-        }
-        let (value_type, address) = write_tree(&mut self.heap, &mut self.places, lend(value))?;
-        self.give(Place {
-            value_type,
-            address,
-        })
+        let place = put_tree(&mut self.heap, &mut self.places, lend(value))?;
+        self.give(place)
     }
 
     /// A list has come, of which so many elements or entries are announced. One of none closes at once.
     pub fn open_list(&mut self, kind: ListKind, announced: u64) -> Result<(), BuildError>
         requires { Stands self.old }
-        ensures { Does self.old self.new (awaited_by self.old ≡ ValueNext) (ListHeap self.old kind announced) (ListFull self.old kind announced) (λ s. and_list s kind announced) result }
+        ensures does { Does self.old self.new (awaited_by self.old ≡ ValueNext) (ListHeap self.old kind announced) (ListFull self.old kind announced) (λ s. and_list s kind announced) result }
+        ensures exact { OnOk result (held self.new ≡ list_called (held self.old) kind announced) }
     {
         let Awaits::Value = self.awaits() else {
             return Err(BuildError::OutOfPlace);
@@ -208,7 +167,8 @@ impl Building {
     /// A key has come.
     pub fn key(&mut self, content: &str) -> Result<(), BuildError>
         requires { Stands self.old }
-        ensures { Does self.old self.new (awaited_by self.old ≡ KeyNext) (KeyHeap self.old content.now) (KeyFull self.old content.now) (λ s. and_key s content.now) result }
+        ensures does { Does self.old self.new (awaited_by self.old ≡ KeyNext) (KeyHeap self.old content.now) (KeyFull self.old content.now) (λ s. and_key s content.now) result }
+        ensures exact { OnOk result (held self.new ≡ key_called (held self.old) content.now) }
     {
         let Awaits::Key = self.awaits() else {
             return Err(BuildError::OutOfPlace);
@@ -365,15 +325,8 @@ impl Building {
         ensures ok { IfOk result (λ place. Closed self.old frame place self.new) }
         ensures err { IfErr result (λ e. ClosedNot self.old frame self.new e) }
     {
-        let len = self.places.len() - frame.first;
-        if !has_room(self.heap.len(), len as u64) {
-            return Err(BuildError::HeapFull);
-        }
-        let address = write_list(&mut self.heap, &mut self.places, frame.first)?;
+        let place = put_list(&mut self.heap, &mut self.places, frame.kind, frame.first)?;
         self.pending -= frame.finished;
-        Ok(Place {
-            value_type: frame.kind.value_type(),
-            address,
-        })
+        Ok(place)
     }
 }

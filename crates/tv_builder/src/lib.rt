@@ -5,6 +5,8 @@ pub mod awaits;
 pub mod build_error;
 pub mod building;
 pub mod bytes_kind;
+mod fits;
 pub mod frame;
 pub mod laws;
 pub mod place;
+mod whole;

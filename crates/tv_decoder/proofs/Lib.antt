@@ -9,3 +9,4 @@ pub mod Calls
 pub mod OpenBytes
 pub mod Wholes
 pub mod WholeDocuments
+pub mod Paying

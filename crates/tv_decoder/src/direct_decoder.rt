@@ -1,16 +1,19 @@
 //! A decoder of documents with a stack of its own, which is lent its source for each step.
 
-ghost use Rattle.std.specs.Prelude.{◌≡◌, ◌↔◌, ◌-◌, ◌^◌, [], length, true, false, IfOk, OnOk, OnErr, IsErrOf};
+ghost use Rattle.std.specs.Prelude.{◌≡◌, ◌↔◌, ◌-◌, ◌^◌, List, ℕ, [], length, true, false, Ok, Err, IfOk, OnOk, OnErr, IsErrOf};
 ghost use Rattle.tv_base.specs.declared.cause.Cause.TheVariants.{TooLong};
-ghost use Rattle.tv_decoder.specs.Decoder.{SaysDone, Rests};
 ghost use Rattle.tv_decoder.specs.Front.{parts_read, IsSound, IsDone, NoFront, NoRoomBehind};
+ghost use Rattle.tv_decoder.specs.Paid.{PaidBy};
+ghost use Rattle.tv_decoder.specs.Sound.{SoundUnless-prop};
 ghost use Rattle.tv_decoder.specs.Steps.{Stepped, Sees};
 ghost use Rattle.tv_doc.specs.Builder.{built, state_of, heap_so_far};
 ghost use Rattle.tv_doc.specs.Document.{document_of};
+ghost use Rattle.tv_builder.specs.Front.{Spelled};
 ghost use Rattle.tv_builder.specs.State.{lists_of, children_of};
 ghost use Rattle.tv_reader.specs.Finds.{Finds};
 ghost use Rattle.tv_reader.specs.Version.{version_of};
-ghost use Rattle.tv_reader.specs.declared.error.DeserializeError.TheVariants.{CorruptedValue, HeapFull};
+ghost use Rattle.tv_reader.specs.declared.error.DeserializeError.TheVariants.{AlreadyFailed, CorruptedValue, HeapFull};
+ghost use Rattle.tv_value.specs.Spelling.{NoLegacy};
 
 use crate::reading::Reading;
 use std::alloc::Global;
@@ -40,10 +43,14 @@ pub struct DirectDecoder {
     count: u64,
     failed: bool,
     legacy_seen: bool,
-    pub ghost sound: { failed ≡ false → IsSound reading },
+    // A buffer for the bytes of a text.
+    bytes: Vec<u8>,
+    pub ghost sound: { failed ≡ false → IsSound reading } by { SoundUnless-prop failed reading },
 }
 
 impl DirectDecoder {
+    ghost use Rattle.tv_decoder.specs.Decoder.{SaysDone, Rests};
+
     /// A decoder of a document of this version. It reads nothing and takes no memory.
     pub fn new(alloc: Global, version: DocStoreVersion) -> DirectDecoder
         ensures parts { parts_read result.reading ≡ [] }
@@ -60,6 +67,7 @@ impl DirectDecoder {
             count: 0,
             failed: false,
             legacy_seen: false,
+            bytes: Vec::new(alloc),
         }
     }
 
@@ -82,6 +90,7 @@ impl DirectDecoder {
 
         // objects of older stores, and what is paid for by the bytes that were read
         ensures seen { S.tells source.old → Sees self.old.reading (S.left source.old) self.old.legacy_seen self.new.legacy_seen }
+        ensures paid { S.tells source.old → self.old.failed ≡ false → (bytes : List ℕ) → Spelled NoLegacy (version_of self.old.version) bytes (parts_read self.old.reading) → self.old.count ≡ length bytes → self.new.legacy_seen ≡ false → PaidBy self.new.reading.builder self.new.count }
         ensures version { self.new.version ≡ self.old.version }
     {
         if self.failed {
@@ -96,6 +105,7 @@ impl DirectDecoder {
             &mut self.count,
             self.version,
             &mut self.legacy_seen,
+            &mut self.bytes,
         );
         if let Err(error) = read {
             self.failed = true;

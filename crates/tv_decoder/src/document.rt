@@ -31,12 +31,13 @@ pub fn take_document<S: ByteSource>(
 {
     let mut reading = Reading::new(alloc);
     let mut legacy_seen = false;
+    let mut bytes = Vec::new(alloc);
     // each part takes a byte at least
     for _ in 0..u64::MAX {
         if reading.is_done() {
             return Ok(reading.into_doc());
         }
-        reading.advance(alloc, source, count, version, &mut legacy_seen)?;
+        reading.advance(alloc, source, count, version, &mut legacy_seen, &mut bytes)?;
     }
     let _taken = *count;
     *count = u64::MAX;

@@ -346,13 +346,13 @@ impl Reading {
         self.put_bytes_head(BytesKind::Key, len)
     }
 
-    // Reads some of the announced bytes.
+    // Reads some of the announced bytes, through a buffer.
     fn step_bytes<S: ByteSource>(
         &mut self,
-        alloc: Global,
         source: &mut S,
         count: &mut u64,
         missing: u32,
+        bytes: &mut Vec<u8>,
     ) -> Result<(), DeserializeError>
         requires awaiting { Awaiting self.old (BytesAwaited missing) }
         ensures sound { OnOk result (IsSound self.new) }
@@ -362,13 +362,15 @@ impl Reading {
         ensures too_long { IsErrOf result (CorruptedValue TooLong) → count.new ≡ 2 ^ 64 - 1 }
     {
         let len = missing.min(PIECE);
-        let mut bytes = Vec::new(alloc);
-        take_pieces(source, count, &mut bytes, u64::from(len))?;
-        self.put_bytes(&bytes, missing)
+        bytes.clear();
+        take_pieces(source, count, bytes, u64::from(len))?;
+        self.put_bytes(bytes.as_slice(), missing)
     }
 
     /// Reads the next part: the number of the pairs, a field, a key's or a value's head (all of a value of a known width, of a
     /// pre-tokenized text and of an object as older stores hold it), or at most 4096 of the bytes of a text, a facet, bytes or a key.
+    ///
+    /// `bytes` is a buffer for at most 4096 bytes, which may be lent to one step after the other.
     ///
     /// Errors: `CorruptedValue` and `TypeMismatch` with the first fault in the bytes, `HeapFull` where what has come needs more room
     /// than 4294967295 bytes, `Io` where the source failed, `Memory`.
@@ -379,6 +381,7 @@ impl Reading {
         count: &mut u64,
         version: DocStoreVersion,
         legacy_seen: &mut bool,
+        bytes: &mut Vec<u8>,
     ) -> Result<(), DeserializeError>
         requires sound { IsSound self.old }
         requires more { ¬ IsDone self.old }
@@ -398,7 +401,7 @@ impl Reading {
         match self.builder.awaits() {
             Awaits::Value => self.step_value(alloc, source, count, version, legacy_seen),
             Awaits::Key => self.step_key(source, count, version),
-            Awaits::Bytes { missing } => self.step_bytes(alloc, source, count, missing),
+            Awaits::Bytes { missing } => self.step_bytes(source, count, missing, bytes),
             Awaits::Finish => unreachable!(),
         }
     }

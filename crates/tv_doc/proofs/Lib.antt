@@ -5,6 +5,7 @@ pub mod Valid
 pub mod Pairs
 pub mod Additions
 pub mod JsonDocuments
+pub mod PlainValues
 pub mod ByName
 pub mod PairsSoFar
 pub mod FieldTexts

@@ -8,6 +8,7 @@ pub mod Grouped
 pub mod Belongs
 pub mod Additions
 pub mod AdditionError
+pub mod AddsRow
 pub mod JsonObject
 pub mod Named
 pub mod NamedPairs

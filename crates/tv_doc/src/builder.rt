@@ -177,8 +177,8 @@ impl TreeBuilder {
 
     /// A whole value of any kind: what the calls for its parts do.
     ///
-    /// `AlreadyFailed` after a refusal; `OutOfPlace` where no value is awaited; `HeapFull` where the heap's length and the value's room
-    /// are together above 4294967295, or a list that it closes would end above that; else `Memory` where memory is refused.
+    /// `AlreadyFailed` after a refusal; `OutOfPlace` where no value is awaited; `HeapFull` where a part of the value, or a list that it
+    /// closes, would end above 4294967295; else `Memory` where memory is refused.
     pub fn tree<'a, V: Value<'a>>(&mut self, value: &V) -> Result<(), BuildError>
         ensures { let t = V.tree value.now in Builds self.old self.new (awaited (state_of self.old) ≡ ValueNext) (ValueHeap self.old.building t) (ValueFull self.old.building t) (λ s. and_value s t) result }
     {

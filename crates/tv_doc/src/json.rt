@@ -1,10 +1,11 @@
 //! Documents from JSON objects.
 
-ghost use Rattle.std.specs.Prelude.{◌≡◌, ◌<◌, ◌∷◌, [], IfOk, length, string_bytes, slice_get, Some};
+ghost use Rattle.std.specs.Prelude.{◌≡◌, ◌<◌, ◌∷◌, [], IfOk, IfSome, IfNone, length, string_bytes, slice_get, Some};
 ghost use Rattle.serde_json.specs.View.{view as data_of, items_view, members_view};
 ghost use Rattle.tv_value.specs.Tree.{Tree};
 ghost use Rattle.tv_schema.specs.Schema.{field_named};
 ghost use Rattle.tv_field.specs.JsonAnswer.{lent_tree};
+ghost use Rattle.tv_doc.specs.AddsRow.{AddsRow};
 ghost use Rattle.tv_doc.specs.JsonObject.{FieldJson, item_values, values_for, values_at, object_values, AddsValues, IsInvalidJson, IsValueError, MakesDocument, Parses};
 ghost use Rattle.std.specs.Fmt.{take_chars};
 ghost use Rattle.tv_doc.specs.Document.{Adds};
@@ -20,7 +21,31 @@ use tv_schema::Schema;
 use tv_value::field::Field;
 use tv_value::leaf::ReferenceValueLeaf;
 
-// Adds what is lent. The commonest leaves are handed on without standing in memory before.
+// Adds a text to a field of texts, or a number to a field of such numbers, as it is: the commonest values, which stand in no leaf
+// before. None of any other.
+#[inline(always)]
+fn add_plain(
+    document: &mut CompactDoc,
+    field: Field,
+    field_type: &FieldType,
+    json: &Value,
+) -> Option<Result<(), AddError>>
+    ensures added { IfSome result (AddsRow document.old document.new field.id field_type.now (data_of json.now)) }
+    ensures none { IfNone result (document.new ≡ document.old) }
+{
+    match (field_type, json) {
+        (FieldType::Str(_), Value::String(text)) => Some(document.add_text(field, text.as_str())),
+        (FieldType::U64(_), Value::Number(number)) => {
+            Some(document.add_u64(field, number.as_u64()?))
+        }
+        (FieldType::I64(_), Value::Number(number)) => {
+            Some(document.add_i64(field, number.as_i64()?))
+        }
+        _ => None,
+    }
+}
+
+// Adds what is lent.
 fn add_lent(
     document: &mut CompactDoc,
     field: Field,
@@ -29,9 +54,6 @@ fn add_lent(
     ensures { Adds document.old document.new field.id (lent_tree lent.entry) result }
 {
     match lent {
-        LentFieldValue::Leaf(ReferenceValueLeaf::Str(content)) => document.add_text(field, content),
-        LentFieldValue::Leaf(ReferenceValueLeaf::U64(number)) => document.add_u64(field, number),
-        LentFieldValue::Leaf(ReferenceValueLeaf::I64(number)) => document.add_i64(field, number),
         LentFieldValue::Leaf(leaf) => document.add_leaf_field_value(field, leaf),
         LentFieldValue::Object(object) => document.add_field_value(field, &object),
     }
@@ -62,6 +84,12 @@ fn add_value(
 ) -> Result<(), DocParsingError>
     ensures { AddsValues (record { name = name.now; field = field.id; field_type = field_type.now; value = data_of json } ∷ []) document.old document.new result }
 {
+    if let Some(plain) = add_plain(document, field, field_type, &json) {
+        return match plain {
+            Ok(()) => Ok(()),
+            Err(refused) => Err(DocParsingError::from(refused)),
+        };
+    }
     match field_type.lend_json(&json, scratch) {
         Ok(lent) => match add_lent(document, field, lent) {
             Ok(()) => Ok(()),

@@ -1,5 +1,6 @@
 -- Pairs that are given, one after the other.
-use Rattle.std.proofs.Common.{◌≡◌, ℕ, suc, Option, Some, None, ◌+◌, ◌<◌, ◌≤◌, List, [], ◌∷◌, ◌++◌, length, refl, sym, ap, subst, arith}
+use Rattle.std.proofs.Common.{◌≡◌, ℕ, suc, Option, Some, None, ◌+◌, ◌<◌, ◌≤◌, List, [], ◌∷◌, ◌++◌, length, refl, sym, ◌∙◌, ap, subst, arith, zero-add}
+use Rattle.std.proofs.lemmas.List.Sums.{sum_by-append}
 use Rattle.tv_base.specs.declared.cause.Cause.TheVariants.{FieldNumber}
 use Rattle.tv_doc.specs.declared.add_error.AddError.{AddError}
 use Rattle.tv_doc.specs.declared.add_error.AddError.TheVariants as adds
@@ -13,9 +14,12 @@ use Rattle.tv_reader.specs.declared.error.DeserializeError.TheVariants as errors
 use Rattle.tv_reader.specs.declared.error.ValueType.{ValueType}
 use Rattle.tv_store.specs.Error.{add_error}
 use Rattle.tv_store.specs.PairsGiven.{PairsRefused, large_field, no_room, no_memory}
-use Rattle.tv_store.proofs.PairSteps.{document_room-push}
 use Rattle.tv_value.specs.declared.field.Field.{Field}
 use Rattle.tv_typed.specs.Documents.{NextField, GivesAll}
+
+-- one pair more needs its value's room
+document_room-push : (d : Document) (p : ℕ × Tree) → document_room (d ++ p ∷ []) ≡ document_room d + room p.1
+document_room-push d p = sum_by-append (λ (pair : ℕ × Tree). room pair.1) d (p ∷ []) ∙ ap (λ n. document_room d + n) (zero-add (room p.1))
 
 -- one more
 pub gives_push : {D : Type 0} (gives : D → ℕ × Tree → D → Type 0) (first mid last : D) (pairs : Document) (pair : ℕ × Tree) → GivesAll gives first pairs mid → gives mid pair last → GivesAll gives first (pairs ++ pair ∷ []) last

@@ -1,6 +1,5 @@
 pub mod Spelled
 pub mod Room
-pub mod PairSteps
 pub mod GivenSteps
 pub mod Promises
 pub mod Stores

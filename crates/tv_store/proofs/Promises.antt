@@ -26,9 +26,10 @@ use Rattle.tv_value.specs.Tree.{Tree, Document}
 use Rattle.tv_value.specs.Version.{Version}
 use Rattle.tv_value.proofs.ExcludingTrees.{document_excludes}
 use Rattle.tv_value.proofs.Trees.{one_pair, one_document}
-use Rattle.tv_store.specs.Documents as documents
 use Rattle.tv_store.specs.Documents.{BeginsWith, Answers, NoDocument, IsReadingError}
-use Rattle.tv_store.specs.Pairs.{SpellsRead, DocumentHasNoRoom}
+use Rattle.tv_decoder.specs.Documents.{SpellsRead}
+use Rattle.tv_decoder.specs.Front.{HasNoRoom}
+use Rattle.tv_decoder.proofs.RoomWithin.{document_within}
 
 abbrev end : Refusal
 end = corrupted UnexpectedEnd
@@ -79,49 +80,17 @@ errors_by (Err errors.AlreadyFailed) old new h = h
 
 -- ---- want of room
 
-pub begun : (v : Version) (old : List ℕ) → DocumentHasNoRoom v old → documents.HasNoRoom v old
-begun v old full =
-    let f = full.no_room in (
-      f.pairs,
-      record {
-        announced = full.announced;
-        number = full.number;
-        front = f.front;
-        rest = f.rest;
-        joined = full.joined ∙ ap (λ (l : List ℕ). full.number ++ l) f.joined;
-        counted = full.counted;
-        enough = f.enough;
-        spelled = f.spelled;
-      },
-      f.full,
-    )
-
--- pairs that begin the bytes begin those that are spelled there
-begins_them : (v : Version) (pairs d : Document) (a b x y : List ℕ) → Each (SpellsPair Legacy v) a pairs → Each (SpellsPair Legacy v) b d → a ++ x ≡ b ++ y → length pairs ≤ length d → (more : Document) × (d ≡ pairs ++ more)
-begins_them v [] d a b x y p q e le = (d, refl)
-begins_them v (pair ∷ pairs) [] a b x y p q e le = absurd (omega (arith, le))
-begins_them v (pair ∷ pairs) (other ∷ d) a b x y p q e le =
-    let whole : p.front ++ (p.rest ++ x) ≡ q.front ++ (q.rest ++ y) = sym (append_assoc p.front p.rest x) ∙ ap (λ (l : List ℕ). l ++ x) (sym p.joined) ∙ e ∙ ap (λ (l : List ℕ). l ++ y) q.joined ∙ append_assoc q.front q.rest y in
-    let same = one_pair Legacy v one_legacy p.front q.front (p.rest ++ x) (q.rest ++ y) pair other p.first q.first whole in
-    let rest : p.rest ++ x ≡ q.rest ++ y = append_cancel_left q.front (p.rest ++ x) (q.rest ++ y) (ap (λ (l : List ℕ). l ++ (p.rest ++ x)) (sym same.0) ∙ whole) in
-    let others = begins_them v pairs d p.rest q.rest x y p.second q.second rest (omega (arith, le)) in
-    (others.0, (λ i. sym same.1 i ∷ others.1 i))
-
-has_room : (v : Version) (old front rest : List ℕ) (d : Document) → old ≡ front ++ rest → SpellsDocument Legacy v front d → DocumentHasNoRoom v old → document_room d ≤ 4294967295 → ⊥
+has_room : (v : Version) (old front rest : List ℕ) (d : Document) → old ≡ front ++ rest → SpellsDocument Legacy v front d → HasNoRoom v old → document_room d ≤ 4294967295 → ⊥
 has_room v old front rest d joined spelled full small =
-    let f = full.no_room in
-    let whole : full.number ++ (f.front ++ f.rest) ≡ spelled.front ++ (spelled.rest ++ rest) = sym (full.joined ∙ ap (λ (l : List ℕ). full.number ++ l) f.joined) ∙ joined ∙ ap (λ (l : List ℕ). l ++ rest) spelled.joined ∙ append_assoc spelled.front spelled.rest rest in
-    let same = one_number full.number spelled.front (f.front ++ f.rest) (spelled.rest ++ rest) full.announced (length d) full.counted spelled.first whole in
-    let behind : f.front ++ f.rest ≡ spelled.rest ++ rest = append_cancel_left spelled.front (f.front ++ f.rest) (spelled.rest ++ rest) (ap (λ (l : List ℕ). l ++ (f.front ++ f.rest)) (sym same.0) ∙ whole) in
-    let more = begins_them v f.pairs d f.front spelled.rest f.rest rest f.spelled spelled.second behind (omega (arith, f.enough, same.1)) in
-    omega (arith, f.full, small, ap document_room more.1, sum_by-append (λ (pair : ℕ × Tree). room pair.1) f.pairs more.0)
+    let within = document_within Legacy v one_legacy full.announced full.finished full.field full.state full.front full.rest front rest d full.is full.less full.spelled (sym full.joined ∙ joined) spelled in
+    omega (arith, full.full, small, within)
 
 -- ---- what is spelled is what is answered
 
 excluded : (v : Version) (old front rest : List ℕ) (d : Document) (r : Refusal) → old ≡ front ++ rest → SpellsDocument Legacy v front d → NoDocument v old r → ⊥
 excluded v old front rest d r joined spelled f = (document_excludes Legacy LegacyFault v one_legacy legacy_excludes d).excludes old front rest r f spelled joined
 
-pub only_by : (v : Version) (result : Result CompactDoc DeserializeError) (old new : List ℕ) (count : ℕ) → FoundDocument v result old new count → (IsErrOf result errors.HeapFull → DocumentHasNoRoom v old) → IfErr result IsReadingError → count < 2 ^ 64 - 1
+pub only_by : (v : Version) (result : Result CompactDoc DeserializeError) (old new : List ℕ) (count : ℕ) → FoundDocument v result old new count → (IsErrOf result errors.HeapFull → HasNoRoom v old) → IfErr result IsReadingError → count < 2 ^ 64 - 1
     → (d : Document) (front rest : List ℕ) → old ≡ front ++ rest → SpellsDocument Legacy v front d → document_room d ≤ 4294967295 → Answers result d rest new
 only_by v (Ok x) old new count h full kind few d front rest joined spelled small =
     let same = one_document Legacy v one_legacy h.front front new rest (document_of x) d h.spelled spelled (sym h.joined ∙ joined) in

@@ -17,7 +17,8 @@ use Rattle.tv_value.specs.Fault.{Refusal, corrupted, no_text_key, DocumentFault}
 use Rattle.tv_value.specs.Spelling.{SpellsDocument}
 use Rattle.tv_value.specs.Tree.{Document}
 use Rattle.tv_value.specs.Version.{Version}
-use Rattle.tv_store.specs.Refused.{Begun}
+pub use Rattle.tv_decoder.specs.Documents.{NoDocument}
+pub use Rattle.tv_decoder.specs.Front.{HasNoRoom}
 
 -- a front of the bytes spells the document, and the rest is left
 abbrev pub BeginsWith : Version → List ℕ → List ℕ → Document → Type 0
@@ -35,14 +36,6 @@ Answers (Err (errors.Custom s)) d rest left = ⊥
 Answers (Err (errors.UnsupportedVersion m n)) d rest left = ⊥
 Answers (Err errors.HeapFull) d rest left = ⊥
 Answers (Err errors.AlreadyFailed) d rest left = ⊥
-
--- no front of the bytes spells a document, for this reason
-abbrev pub NoDocument : Version → List ℕ → Refusal → Type 0
-NoDocument v bytes r = DocumentFault Legacy LegacyFault v bytes r
-
--- the pairs that the bytes begin with have no room in a heap
-abbrev pub HasNoRoom : Version → List ℕ → Type 0
-HasNoRoom v bytes = (pairs : Document) × Begun v bytes pairs × (4294967295 < document_room pairs)
 
 -- just the bytes that show the refusal were taken
 abbrev pub ShowsRefusal : Version → List ℕ → List ℕ → Refusal → Type 0

@@ -1,7 +1,6 @@
 pub mod Error
 pub mod Stored
 pub mod Serialized
-pub mod Refused
 pub mod Documents
 pub mod Pairs
 pub mod PairsGiven

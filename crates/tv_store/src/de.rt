@@ -5,6 +5,7 @@ ghost use Rattle.tv_base.specs.declared.cause.Cause.TheVariants.{TooLong};
 ghost use Rattle.tv_base.specs.ReadsAs.{Known, TakesMost};
 ghost use Rattle.tv_base.specs.Stop.{Counts};
 ghost use Rattle.tv_doc.specs.Document.{document_of};
+ghost use Rattle.tv_decoder.specs.Front.{HasNoRoom};
 ghost use Rattle.tv_heap.specs.Room.{document_room};
 ghost use Rattle.tv_legacy.specs.Legacy.{Legacy};
 ghost use Rattle.tv_reader.specs.Error.{store_stop};
@@ -12,23 +13,24 @@ ghost use Rattle.tv_reader.specs.Error.{IsRefusal};
 ghost use Rattle.tv_reader.specs.Version.{version_of};
 ghost use Rattle.tv_reader.specs.declared.error.DeserializeError.{DeserializeError};
 ghost use Rattle.tv_reader.specs.declared.error.DeserializeError.TheVariants.{CorruptedValue, HeapFull};
-ghost use Rattle.tv_store.specs.Documents.{BeginsWith, Answers, NoDocument, HasNoRoom, ShowsRefusal, IsReadingError};
+ghost use Rattle.tv_store.specs.Documents.{BeginsWith, Answers, NoDocument, ShowsRefusal, IsReadingError};
 ghost use Rattle.tv_value.specs.Fault.{Refusal};
 ghost use Rattle.tv_value.specs.Spelling.{SpellsDocument};
 ghost use Rattle.tv_value.specs.Tree.{Document};
 
 use crate::error::DeserializeError;
-use crate::pairs::take_document;
 use std::alloc::Global;
 use tv_base::ByteSource;
+pub use tv_decoder::direct_decoder::{DirectDecoder, Step};
+use tv_decoder::document::take_document;
 use tv_doc::document::CompactDoc;
 pub use tv_reader::version::DocStoreVersion;
 
 /// Reads a document, however the source cuts its bytes, and takes no byte behind it. Values of every type are read, to any
-/// depth, and objects as older stores hold them.
+/// depth and without recursion, straight into the document's heap, and objects as older stores hold them.
 ///
 /// Errors, the first fault in reading order: `CorruptedValue` where the bytes spell no document, `TypeMismatch` where in a key's
-/// place stands a value that isn't a text, `HeapFull` where the pairs so far need more room than 4294967295 bytes, `Io` where
+/// place stands a value that isn't a text, `HeapFull` where what has come so far needs more room than 4294967295 bytes, `Io` where
 /// the source failed, `Memory` where memory was refused. After `CorruptedValue` and `TypeMismatch` just the bytes that show the
 /// fault were taken.
 pub fn read_document<S: ByteSource>(

@@ -4,14 +4,13 @@
 pub mod de;
 pub mod error;
 pub mod laws;
-mod pairs;
 pub mod pairs_given;
 pub mod se;
 mod serializers;
 mod spelling;
 mod value_writer;
 
-pub use de::{DocStoreVersion, read_document};
+pub use de::{DirectDecoder, DocStoreVersion, Step, read_document};
 pub use error::{DeserializeError, SerializeError, ValueType};
 pub use pairs_given::DocumentDeserialize;
 pub use se::{

@@ -60,113 +60,133 @@ fn number(bytes: &[u8]) -> Result<u64, ReadError> {
     take_vint(&mut SliceSource::new(bytes), &mut 0)
 }
 
+// The largest number, and one above it.
+const LARGEST: [u8; 10] = *b"\x7f\x7f\x7f\x7f\x7f\x7f\x7f\x7f\x7f\x81";
+
+const LARGER: [u8; 10] = *b"\x7f\x7f\x7f\x7f\x7f\x7f\x7f\x7f\x7f\x82";
+
+// Bytes, and what is read at their front.
+const READ_NUMBERS: [(&[u8], Result<u64, ReadError>); 6] = [
+    (b"\x80\x55", Ok(0)),
+    (b"\xff", Ok(127)),
+    (b"\0\x80", Ok(0)),
+    (&LARGEST, Ok(18446744073709551615)),
+    (&LARGER, Err(ReadError::Corrupted(Cause::BadNumber))),
+    (b"\x7f\x7f", Err(ReadError::Corrupted(Cause::UnexpectedEnd))),
+];
+
 #[test]
-fn numbers_of_variable_length(rt: HostRuntime) {
-    let mut largest = [0x7f; 10];
-    largest[9] = 0x81;
-    let mut larger = largest;
-    larger[9] = 0x82;
-    assert_eq!(rt; number(&[0x80, 0x55]), Ok(0));
-    assert_eq!(rt; number(&[0xff]), Ok(127));
-    assert_eq!(rt; number(&[0x00, 0x80]), Ok(0));
-    assert_eq!(rt; number(&largest), Ok(18446744073709551615));
-    assert_eq!(rt;
-        number(&larger),
-        Err(ReadError::Corrupted(Cause::BadNumber))
-    );
-    assert_eq!(rt;
-        number(&[0x7f, 0x7f]),
-        Err(ReadError::Corrupted(Cause::UnexpectedEnd))
-    );
-    assert_eq!(rt; VInt::from_slice(&[0x80, 0x55]), Some((0, 1)));
-    assert_eq!(rt; VInt::from_slice(&[0x00, 0x80]), Some((0, 2)));
-    assert_eq!(rt;
-        VInt::from_slice(&largest),
-        Some((18446744073709551615, 10))
-    );
-    assert_eq!(rt; VInt::from_slice(&larger), None);
-    assert_eq!(rt; VInt::from_slice(&[]), None);
-    let (bytes, len) = VInt(18446744073709551615).spelling();
-    assert_eq!(rt; &bytes[..len], largest.as_slice());
-    let (bytes, len) = VInt(127).spelling();
-    assert_eq!(rt; &bytes[..len], [0xff].as_slice());
+fn numbers_are_read(rt: HostRuntime) {
+    for (bytes, expected) in READ_NUMBERS {
+        assert!(rt; number(bytes) == expected);
+    }
+}
+
+// Bytes, and the number at their front with how many bytes spell it.
+const FOUND_NUMBERS: [(&[u8], Option<(u64, usize)>); 5] = [
+    (b"\x80\x55", Some((0, 1))),
+    (b"\0\x80", Some((0, 2))),
+    (&LARGEST, Some((18446744073709551615, 10))),
+    (&LARGER, None),
+    (b"", None),
+];
+
+#[test]
+fn numbers_are_found(rt: HostRuntime) {
+    for (bytes, expected) in FOUND_NUMBERS {
+        assert!(rt; VInt::from_slice(bytes) == expected);
+    }
+}
+
+fn is_spelled(number: u64, expected: &[u8]) -> bool {
+    let (bytes, len) = VInt(number).spelling();
+    &bytes[..len] == expected
 }
 
 #[test]
-fn no_byte_past_a_value(rt: HostRuntime) -> Result<(), Fail> {
-    let mut source = SliceSource::new(&[
-        0x80, 0x55, 0xff, 0xff, 0x00, 0x00, 0x14, 0, 0, 0, 0, 0, 0, 0, 7,
-    ]);
+fn numbers_are_spelled(rt: HostRuntime) {
+    assert!(rt; is_spelled(18446744073709551615, &LARGEST));
+    assert!(rt; is_spelled(127, b"\xff"));
+}
+
+const FIVE_VALUES: &[u8] = b"\x80\x55\xff\xff\0\0\x14\0\0\0\0\0\0\0\x07";
+
+// Whether the first four of those values are read as they are.
+fn are_read(source: &mut SliceSource<'_>, count: &mut u64) -> bool {
+    take_vint(source, count) == Ok(0)
+        && take_u8(source, count) == Ok(0x55)
+        && take_u32(source, count) == Ok(65535)
+        && take_u64(source, count) == Ok(20)
+}
+
+#[test]
+fn no_byte_past_a_value(rt: HostRuntime) {
+    let mut source = SliceSource::new(FIVE_VALUES);
     let mut count = 0;
-    assert_eq!(rt; take_vint(&mut source, &mut count), Ok(0));
-    assert_eq!(rt; take_u8(&mut source, &mut count), Ok(0x55));
-    assert_eq!(rt; take_u32(&mut source, &mut count), Ok(65535));
-    assert_eq!(rt; take_u64(&mut source, &mut count), Ok(20));
-    assert_eq!(rt; source.rest(), [7].as_slice());
-    assert_eq!(rt; count, 14);
-    Ok(())
+    assert!(rt; are_read(&mut source, &mut count));
+    assert!(rt; source.rest() == [7].as_slice());
+    assert!(rt; count == 14);
 }
 
 #[test]
-fn ends_and_too_many_bytes(rt: HostRuntime) -> Result<(), Fail> {
+fn bytes_end_early(rt: HostRuntime) {
     let mut two = [1; 2];
-    assert_eq!(rt;
-        take(&mut SliceSource::new(&[7]), &mut 0, &mut two),
-        Err(ReadError::Corrupted(Cause::UnexpectedEnd))
-    );
+    let taken = take(&mut SliceSource::new(&[7]), &mut 0, &mut two);
+    assert!(rt; taken == Err(ReadError::Corrupted(Cause::UnexpectedEnd)));
+}
+
+#[test]
+fn too_many_bytes(rt: HostRuntime) {
+    let mut two = [1; 2];
     let mut source = SliceSource::new(&[7, 8]);
     let mut count = 18446744073709551614;
-    assert_eq!(rt;
-        take(&mut source, &mut count, &mut two),
-        Err(ReadError::Corrupted(Cause::TooLong))
-    );
-    assert_eq!(rt; source.rest(), [8].as_slice());
+    let taken = take(&mut source, &mut count, &mut two);
+    assert!(rt; taken == Err(ReadError::Corrupted(Cause::TooLong)));
+    assert!(rt; source.rest() == [8].as_slice());
+}
+
+#[test]
+fn a_text_takes_the_place_of_another(rt: HostRuntime) -> Result<(), Fail> {
+    let mut source = SliceSource::new(&CHILL_FISH);
+    let mut count = 0;
+    let mut text = String::from_str(rt.alloc(), "before")?;
+    assert!(rt; take_text(rt.alloc(), &mut source, &mut count, &mut text) == Ok(()));
+    assert!(rt; text.as_str() == "ChillFish8");
+    assert!(rt; source.rest() == [0xee].as_slice());
+    assert!(rt; count == 11);
     Ok(())
 }
 
 #[test]
 fn texts(rt: HostRuntime) -> Result<(), Fail> {
-    let alloc = rt.alloc();
     let mut source = SliceSource::new(&CHILL_FISH);
-    let mut count = 0;
-    let mut text = String::from_str(alloc, "before")?;
-    assert_eq!(rt;
-        take_text(alloc, &mut source, &mut count, &mut text),
-        Ok(())
-    );
-    assert_eq!(rt; text.as_str(), "ChillFish8");
-    assert_eq!(rt; source.rest(), [0xee].as_slice());
-    assert_eq!(rt; count, 11);
-    let mut source = SliceSource::new(&CHILL_FISH);
-    let mut count = 0;
-    let text = take_string(alloc, &mut source, &mut count)
+    let text = take_string(rt.alloc(), &mut source, &mut 0)
         .ok()
         .ok_or("a text")?;
-    assert_eq!(rt; text.as_str(), "ChillFish8");
-    let mut bytes = Vec::new(alloc);
-    let mut source = SliceSource::new(&CHILL_FISH);
-    let mut count = 0;
-    assert_eq!(rt; take_sized(&mut source, &mut count, &mut bytes), Ok(()));
-    assert_eq!(rt; bytes.as_slice(), b"ChillFish8".as_slice());
+    assert!(rt; text.as_str() == "ChillFish8");
     Ok(())
 }
 
 #[test]
-fn faulty_texts(rt: HostRuntime) -> Result<(), Fail> {
-    let alloc = rt.alloc();
-    let mut text = String::new(alloc);
-    let mut count = 0;
-    let mut short = SliceSource::new(&[0x88, 0x41, 0x42, 0x43]);
-    assert_eq!(rt;
-        take_text(alloc, &mut short, &mut count, &mut text),
-        Err(ReadError::Corrupted(Cause::UnexpectedEnd))
-    );
-    let mut wrong = SliceSource::new(&[0x81, 0xff]);
-    assert_eq!(rt;
-        take_text(alloc, &mut wrong, &mut count, &mut text),
-        Err(ReadError::Corrupted(Cause::NotUtf8))
-    );
-    Ok(())
+fn bytes_behind_their_length(rt: HostRuntime) {
+    let mut bytes = Vec::new(rt.alloc());
+    let mut source = SliceSource::new(&CHILL_FISH);
+    assert!(rt; take_sized(&mut source, &mut 0, &mut bytes) == Ok(()));
+    assert!(rt; bytes.as_slice() == b"ChillFish8".as_slice());
+}
+
+// Why the bytes are no text.
+fn text_fault(alloc: Global, bytes: &[u8]) -> Option<ReadError> {
+    let mut source = SliceSource::new(bytes);
+    take_text(alloc, &mut source, &mut 0, &mut String::new(alloc)).err()
+}
+
+#[test]
+fn faulty_texts(rt: HostRuntime) {
+    let end = ReadError::Corrupted(Cause::UnexpectedEnd);
+    assert!(rt; text_fault(rt.alloc(), b"\x88ABC") == Some(end));
+    let wrong = ReadError::Corrupted(Cause::NotUtf8);
+    assert!(rt; text_fault(rt.alloc(), b"\x81\xff") == Some(wrong));
 }
 
 const WRITTEN: [u8; 31] = [
@@ -186,22 +206,24 @@ fn write_each<K: ByteSink>(sink: &mut K) -> Result<(), io::ErrorKind> {
 }
 
 #[test]
-fn what_is_written(rt: HostRuntime) -> Result<(), Fail> {
+fn what_is_written(rt: HostRuntime) {
     let mut sink = VecSink::new(rt.alloc());
-    assert_eq!(rt; write_each(&mut sink), Ok(()));
-    assert_eq!(rt; sink.as_slice(), WRITTEN.as_slice());
-    let bytes = sink.into_vec();
-    assert_eq!(rt; bytes.as_slice(), WRITTEN.as_slice());
+    assert!(rt; write_each(&mut sink) == Ok(()));
+    assert!(rt; sink.as_slice() == WRITTEN.as_slice());
+    assert!(rt; sink.into_vec().as_slice() == WRITTEN.as_slice());
+}
+
+#[test]
+fn what_fits_is_written(rt: HostRuntime) {
     let mut small = SmallSink {
         held: VecSink::new(rt.alloc()),
         room: 20,
         faults: 0,
         last: None,
     };
-    assert_eq!(rt; write_each(&mut small), Err(io::ErrorKind::StorageFull));
-    assert_eq!(rt; small.held.as_slice(), &WRITTEN[..20]);
-    assert_eq!(rt; small.faults, 1);
-    Ok(())
+    assert!(rt; write_each(&mut small) == Err(io::ErrorKind::StorageFull));
+    assert!(rt; small.held.as_slice() == &WRITTEN[..20]);
+    assert!(rt; small.faults == 1);
 }
 
 // What is written of a value, and what is read where it stands.
@@ -218,80 +240,75 @@ fn there_and_back<T: BinarySerializable>(
     T::deserialize(alloc, &mut source)
 }
 
+// Whether the value is written as these bytes, and read back.
+fn is_kept<T: BinarySerializable + PartialEq + Drop>(
+    alloc: Global,
+    value: &T,
+    expected: &[u8],
+) -> bool {
+    let mut sink = VecSink::new(alloc);
+    match there_and_back(alloc, value, &mut sink) {
+        Ok(back) => back == *value && sink.as_slice() == expected,
+        Err(_) => false,
+    }
+}
+
 #[test]
-fn serializable_values(rt: HostRuntime) -> Result<(), Fail> {
+fn numbers_are_kept(rt: HostRuntime) {
     let alloc = rt.alloc();
-    let mut sink = VecSink::new(alloc);
-    assert_eq!(rt; there_and_back(alloc, &VInt(127), &mut sink), Ok(VInt(127)));
-    assert_eq!(rt; sink.as_slice(), [0xff].as_slice());
-    let mut sink = VecSink::new(alloc);
-    assert_eq!(rt; there_and_back(alloc, &0x55u8, &mut sink), Ok(0x55));
-    assert_eq!(rt; sink.as_slice(), [0x55].as_slice());
-    let mut sink = VecSink::new(alloc);
-    assert_eq!(rt; there_and_back(alloc, &65535u32, &mut sink), Ok(65535));
-    assert_eq!(rt; sink.as_slice(), [0xff, 0xff, 0, 0].as_slice());
-    let mut sink = VecSink::new(alloc);
-    assert_eq!(rt; there_and_back(alloc, &20u64, &mut sink), Ok(20));
-    assert_eq!(rt; sink.as_slice(), [0x14, 0, 0, 0, 0, 0, 0, 0].as_slice());
-    let mut sink = VecSink::new(alloc);
+    assert!(rt; is_kept(alloc, &VInt(127), b"\xff"));
+    assert!(rt; is_kept(alloc, &0x55u8, b"\x55"));
+    assert!(rt; is_kept(alloc, &65535u32, b"\xff\xff\0\0"));
+    assert!(rt; is_kept(alloc, &20u64, b"\x14\0\0\0\0\0\0\0"));
+}
+
+#[test]
+fn other_numbers_are_kept(rt: HostRuntime) {
+    let alloc = rt.alloc();
+    assert!(rt; is_kept(alloc, &-2i64, b"\xfe\xff\xff\xff\xff\xff\xff\xff"));
+    assert!(rt; is_kept(alloc, &i64::MIN, b"\0\0\0\0\0\0\0\x80"));
+    let sixteen = b"\x14\0\0\0\0\0\0\0\0\0\0\0\0\0\0\0";
+    assert!(rt; is_kept(alloc, &20u128, sixteen));
+}
+
+#[test]
+fn bytes_are_kept(rt: HostRuntime) -> Result<(), Fail> {
+    let alloc = rt.alloc();
     let text = String::from_str(alloc, "ChillFish8")?;
-    let back = there_and_back(alloc, &text, &mut sink)
-        .ok()
-        .ok_or("a text")?;
-    assert_eq!(rt; back.as_str(), "ChillFish8");
-    assert_eq!(rt; sink.as_slice(), &CHILL_FISH[..11]);
+    assert!(rt; is_kept(alloc, &text, &CHILL_FISH[..11]));
+    let bytes = vec![in alloc; 0x41, 0xff]?;
+    assert!(rt; is_kept(alloc, &bytes, b"\x82\x41\xff"));
+    let facet = Facet::from_path(alloc, &["a", "b"])?;
+    assert!(rt; is_kept(alloc, &facet, b"\x83a\0b"));
     Ok(())
 }
 
 #[test]
-fn other_serializable_values(rt: HostRuntime) -> Result<(), Fail> {
+fn truth_values_are_kept(rt: HostRuntime) {
     let alloc = rt.alloc();
     let mut sink = VecSink::new(alloc);
-    assert_eq!(rt; there_and_back(alloc, &-2i64, &mut sink), Ok(-2));
-    assert_eq!(rt;
-        sink.as_slice(),
-        [0xfe, 0xff, 0xff, 0xff, 0xff, 0xff, 0xff, 0xff].as_slice()
-    );
-    let mut sink = VecSink::new(alloc);
-    assert_eq!(rt; there_and_back(alloc, &i64::MIN, &mut sink), Ok(i64::MIN));
-    assert_eq!(rt; sink.as_slice(), [0, 0, 0, 0, 0, 0, 0, 0x80].as_slice());
-    let mut sink = VecSink::new(alloc);
-    assert_eq!(rt; there_and_back(alloc, &20u128, &mut sink), Ok(20));
-    assert_eq!(rt;
-        sink.as_slice(),
-        [0x14, 0, 0, 0, 0, 0, 0, 0, 0, 0, 0, 0, 0, 0, 0, 0].as_slice()
-    );
-    let mut sink = VecSink::new(alloc);
-    assert_eq!(rt; there_and_back(alloc, &false, &mut sink), Ok(false));
-    assert_eq!(rt;
-        there_and_back(alloc, &true, &mut VecSink::new(alloc)),
-        Ok(true)
-    );
-    assert_eq!(rt; true.serialize(&mut sink), Ok(()));
-    assert_eq!(rt; sink.as_slice(), [0, 1].as_slice());
-    let mut sink = VecSink::new(alloc);
-    let bytes = vec![in alloc; 0x41, 0xff]?;
-    assert_eq!(rt; there_and_back(alloc, &bytes, &mut sink), Ok(bytes));
-    assert_eq!(rt; sink.as_slice(), [0x82, 0x41, 0xff].as_slice());
-    let mut sink = VecSink::new(alloc);
-    let facet = Facet::from_path(alloc, &["a", "b"])?;
-    assert_eq!(rt; there_and_back(alloc, &facet, &mut sink), Ok(facet));
-    assert_eq!(rt; sink.as_slice(), [0x83, b'a', 0, b'b'].as_slice());
-    Ok(())
+    assert!(rt; there_and_back(alloc, &false, &mut sink) == Ok(false));
+    let mut other = VecSink::new(alloc);
+    assert!(rt; there_and_back(alloc, &true, &mut other) == Ok(true));
+    assert!(rt; true.serialize(&mut sink) == Ok(()));
+    assert!(rt; sink.as_slice() == [0, 1].as_slice());
+}
+
+// A read of a truth value behind others that were read.
+fn truths(alloc: Global, source: &mut SliceSource<'_>) -> [Result<bool, ReadError>; 2] {
+    [
+        bool::deserialize(alloc, source),
+        bool::deserialize(alloc, source),
+    ]
 }
 
 #[test]
 fn truth_values(rt: HostRuntime) {
-    let alloc = rt.alloc();
     let mut source = SliceSource::new(&[1, 0, 2]);
-    assert_eq!(rt; bool::deserialize(alloc, &mut source), Ok(true));
-    assert_eq!(rt; bool::deserialize(alloc, &mut source), Ok(false));
-    assert_eq!(rt;
-        bool::deserialize(alloc, &mut source),
-        Err(ReadError::Corrupted(Cause::BadBool))
-    );
-    assert_eq!(rt;
-        bool::deserialize(alloc, &mut source),
-        Err(ReadError::Corrupted(Cause::UnexpectedEnd))
-    );
+    assert!(rt; truths(rt.alloc(), &mut source) == [Ok(true), Ok(false)]);
+    let faults = [
+        Err(ReadError::Corrupted(Cause::BadBool)),
+        Err(ReadError::Corrupted(Cause::UnexpectedEnd)),
+    ];
+    assert!(rt; truths(rt.alloc(), &mut source) == faults);
 }

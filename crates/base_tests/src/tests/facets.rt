@@ -63,77 +63,85 @@ fn read(alloc: Global, text: &str) -> Result<Facet, Fail> {
     Ok(Facet::from_text(alloc, text).ok().ok_or("a facet")?)
 }
 
-// Whether a facet is encoded and printed so, and is read again from what is printed and from what is written.
-fn is_so(alloc: Global, facet: &Facet, encoded: &str, printed: &str) -> Result<bool, Fail> {
+// What is read of what is written of a facet.
+fn written_and_read(alloc: Global, facet: &Facet) -> Result<Facet, Fail> {
     let mut sink = VecSink::new(alloc);
     facet.serialize(&mut sink).ok().ok_or("written")?;
     let mut source = SliceSource::new(sink.as_slice());
-    let back = Facet::deserialize(alloc, &mut source).ok().ok_or("read")?;
-    let again = read(alloc, printed)?;
+    Ok(Facet::deserialize(alloc, &mut source).ok().ok_or("read")?)
+}
+
+// Whether the encoded text is printed so.
+fn is_printed(alloc: Global, encoded: &str, printed: &str) -> Result<bool, Fail> {
     let mut path = String::new(alloc);
     Facet::print_encoded(encoded, &mut path)?;
+    Ok(path.as_str() == printed)
+}
+
+// Whether a facet is encoded and printed so, and is read again from what is printed and from what is written.
+fn is_so(alloc: Global, facet: &Facet, encoded: &str, printed: &str) -> Result<bool, Fail> {
     Ok(
         facet.encoded_str() == encoded
             && facet.to_path_string(alloc)?.as_str() == printed
-            && path.as_str() == printed
             && format!(in alloc; "{facet}")?.as_str() == printed
-            && again == *facet
-            && back == *facet,
+            && is_printed(alloc, encoded, printed)?
+            && read(alloc, printed)? == *facet
+            && written_and_read(alloc, facet)? == *facet,
     )
+}
+
+// Whether a line's text names the facet that stands in the line.
+fn is_line(alloc: Global, line: &str) -> Result<bool, Fail> {
+    let parts: Vec<&str> = line.split('\t').collect(alloc)?;
+    match parts.as_slice() {
+        [text, encoded, printed] => is_so(alloc, &read(alloc, text)?, encoded, printed),
+        _ => Ok(false),
+    }
 }
 
 #[test]
 fn texts_name_facets(rt: HostRuntime) -> Result<(), Fail> {
-    let alloc = rt.alloc();
     for line in READ.split('\n') {
-        let mut parts = line.split('\t');
-        let text = parts.next().ok_or("a text")?;
-        let encoded = parts.next().ok_or("an encoded text")?;
-        let printed = parts.next().ok_or("a printed text")?;
-        let facet = read(alloc, text)?;
-        assert!(rt; is_so(alloc, &facet, encoded, printed)?);
+        assert!(rt; is_line(rt.alloc(), line)?);
     }
     Ok(())
 }
 
+// Whether the text is refused, and handed back.
+fn is_no_facet(alloc: Global, text: &str) -> Result<bool, Fail> {
+    let copy = String::from_str(alloc, text)?;
+    Ok(Facet::from_text(alloc, text) == Err(FacetParseError::FacetParseError(copy)))
+}
+
 #[test]
 fn texts_that_name_no_facet(rt: HostRuntime) -> Result<(), Fail> {
-    let alloc = rt.alloc();
     for text in REFUSED.split('\n') {
-        let copy = String::from_str(alloc, text)?;
-        assert_eq!(rt;
-            Facet::from_text(alloc, text),
-            Err(FacetParseError::FacetParseError(copy))
-        );
+        assert!(rt; is_no_facet(rt.alloc(), text)?);
     }
-    let copy = String::from_str(alloc, "INVALID")?;
-    assert_eq!(rt;
-        Facet::from_text(alloc, "INVALID"),
-        Err(FacetParseError::FacetParseError(copy))
-    );
-    let copy = String::from_str(alloc, "foo/bar")?;
-    assert_eq!(rt;
-        Facet::from_text(alloc, "foo/bar"),
-        Err(FacetParseError::FacetParseError(copy))
-    );
+    assert!(rt; is_no_facet(rt.alloc(), "INVALID")?);
+    assert!(rt; is_no_facet(rt.alloc(), "foo/bar")?);
     Ok(())
 }
 
 #[test]
 fn the_root(rt: HostRuntime) -> Result<(), Fail> {
-    let alloc = rt.alloc();
-    let root = Facet::root(alloc);
+    let root = Facet::root(rt.alloc());
     assert!(rt; root.is_root());
-    assert!(rt; !read(alloc, "//")?.is_root());
-    assert!(rt; is_so(alloc, &root, "", "/")?);
-    assert!(rt; are_steps(alloc, &[""], "/")?);
+    assert!(rt; is_so(rt.alloc(), &root, "", "/")?);
+    assert!(rt; are_steps(rt.alloc(), &[""], "/")?);
+    Ok(())
+}
+
+#[test]
+fn two_slashes_are_not_the_root(rt: HostRuntime) -> Result<(), Fail> {
+    assert!(rt; !read(rt.alloc(), "//")?.is_root());
     Ok(())
 }
 
 #[test]
 fn no_steps_make_the_root(rt: HostRuntime) -> Result<(), Fail> {
     let root = Facet::from_path(rt.alloc(), &[])?;
-    assert_eq!(rt; root, read(rt.alloc(), "/")?);
+    assert!(rt; root == read(rt.alloc(), "/")?);
     Ok(())
 }
 
@@ -195,16 +203,25 @@ fn what_is_printed_for_debugging(rt: HostRuntime) -> Result<(), Fail> {
 
 #[test]
 fn encoded_texts(rt: HostRuntime) -> Result<(), Fail> {
-    let alloc = rt.alloc();
-    let bytes = vec![in alloc; b'a', 0, b'b']?;
+    let bytes = b"a\0b".to_vec(rt.alloc())?;
     let facet = Facet::from_encoded(bytes).ok().ok_or("a facet")?;
-    assert_eq!(rt; facet, read(alloc, "/a/b")?);
-    let copy = facet.try_clone(alloc)?;
-    assert_eq!(rt; copy, facet);
-    match Facet::from_encoded(vec![in alloc; 0xff]?) {
-        Ok(_) => return Err(Fail::from("no facet")),
-        Err(error) => assert_eq!(rt; error.into_bytes().as_slice(), [0xff].as_slice()),
+    assert!(rt; facet == read(rt.alloc(), "/a/b")?);
+    assert!(rt; facet.try_clone(rt.alloc())? == facet);
+    Ok(())
+}
+
+// The bytes that are handed back, if they are refused.
+fn refused_bytes(bytes: Vec<u8>) -> Option<Vec<u8>> {
+    match Facet::from_encoded(bytes) {
+        Ok(_) => None,
+        Err(error) => Some(error.into_bytes()),
     }
+}
+
+#[test]
+fn encoded_bytes_are_text(rt: HostRuntime) -> Result<(), Fail> {
+    let refused = refused_bytes(b"\xff".to_vec(rt.alloc())?).ok_or("no facet")?;
+    assert!(rt; refused.as_slice() == b"\xff".as_slice());
     Ok(())
 }
 
@@ -212,17 +229,23 @@ fn is_prefix(alloc: Global, upper: &str, lower: &str) -> Result<bool, Fail> {
     Ok(read(alloc, upper)?.is_prefix_of(&read(alloc, lower)?))
 }
 
+// Two facets, and whether the first is a prefix of the other.
+const PREFIXES: [(&str, &str, bool); 8] = [
+    ("/a", "/ab", false),
+    ("/a", "/a/", true),
+    ("/a", "/a", false),
+    ("/foo", "/foo/bar", true),
+    ("/foo/bar", "/foo", false),
+    ("/", "/foobar", true),
+    ("/", "//", true),
+    ("/", "/", false),
+];
+
 #[test]
 fn prefixes(rt: HostRuntime) -> Result<(), Fail> {
-    let alloc = rt.alloc();
-    assert!(rt; !is_prefix(alloc, "/a", "/ab")?);
-    assert!(rt; is_prefix(alloc, "/a", "/a/")?);
-    assert!(rt; !is_prefix(alloc, "/a", "/a")?);
-    assert!(rt; is_prefix(alloc, "/foo", "/foo/bar")?);
-    assert!(rt; !is_prefix(alloc, "/foo/bar", "/foo")?);
-    assert!(rt; is_prefix(alloc, "/", "/foobar")?);
-    assert!(rt; is_prefix(alloc, "/", "//")?);
-    assert!(rt; !is_prefix(alloc, "/", "/")?);
+    for (upper, lower, expected) in PREFIXES {
+        assert!(rt; is_prefix(rt.alloc(), upper, lower)? == expected);
+    }
     Ok(())
 }
 
@@ -232,32 +255,37 @@ fn hash_of(facet: &Facet) -> u64 {
     state.finish()
 }
 
+// Whether the first facet is less than the other, and not equal.
+fn is_less(alloc: Global, one: &str, other: &str) -> Result<bool, Fail> {
+    let (one, other) = (read(alloc, one)?, read(alloc, other)?);
+    Ok(one < other && one != other)
+}
+
 #[test]
 fn order(rt: HostRuntime) -> Result<(), Fail> {
-    let alloc = rt.alloc();
-    let upper = read(alloc, "/a")?;
-    let lower = read(alloc, "/a/b")?;
-    let beside = read(alloc, "/ab")?;
-    assert!(rt; Facet::root(alloc) < upper);
-    assert!(rt; upper < lower);
-    assert!(rt; lower < beside);
-    assert!(rt; upper != beside);
-    assert_eq!(rt; hash_of(&lower), hash_of(&lower.try_clone(alloc)?));
+    assert!(rt; is_less(rt.alloc(), "/", "/a")?);
+    assert!(rt; is_less(rt.alloc(), "/a", "/a/b")?);
+    assert!(rt; is_less(rt.alloc(), "/a/b", "/ab")?);
+    assert!(rt; is_less(rt.alloc(), "/a", "/ab")?);
     Ok(())
 }
 
 #[test]
-fn faulty_facets(rt: HostRuntime) -> Result<(), Fail> {
-    let alloc = rt.alloc();
-    let mut source = SliceSource::new(&[0x82, b'a']);
-    assert_eq!(rt;
-        Facet::deserialize(alloc, &mut source),
-        Err(ReadError::Corrupted(Cause::UnexpectedEnd))
-    );
-    let mut source = SliceSource::new(&[0x81, 0xff]);
-    assert_eq!(rt;
-        Facet::deserialize(alloc, &mut source),
-        Err(ReadError::Corrupted(Cause::NotUtf8))
-    );
+fn copies_have_the_same_hash(rt: HostRuntime) -> Result<(), Fail> {
+    let facet = read(rt.alloc(), "/a/b")?;
+    assert!(rt; hash_of(&facet) == hash_of(&facet.try_clone(rt.alloc())?));
     Ok(())
+}
+
+// Why the bytes spell no facet.
+fn facet_fault(alloc: Global, bytes: &[u8]) -> Option<ReadError> {
+    Facet::deserialize(alloc, &mut SliceSource::new(bytes)).err()
+}
+
+#[test]
+fn faulty_facets(rt: HostRuntime) {
+    let end = ReadError::Corrupted(Cause::UnexpectedEnd);
+    assert!(rt; facet_fault(rt.alloc(), b"\x82a") == Some(end));
+    let wrong = ReadError::Corrupted(Cause::NotUtf8);
+    assert!(rt; facet_fault(rt.alloc(), b"\x81\xff") == Some(wrong));
 }

@@ -76,13 +76,17 @@ fn splits(alloc: Global, path: &str, wanted: &[&str]) -> Result<bool, Fail> {
     Ok(same)
 }
 
+// Whether a line's path has the segments that stand in the line.
+fn is_line(alloc: Global, line: &str) -> Result<bool, Fail> {
+    let parts: Vec<&str> = line.split('\t').collect(alloc)?;
+    let (path, wanted) = parts.split_first().ok_or("a path")?;
+    splits(alloc, path, wanted)
+}
+
 #[test]
 fn paths_are_split(rt: HostRuntime) -> Result<(), Fail> {
-    let alloc = rt.alloc();
     for line in SPLIT.split('\n') {
-        let parts: Vec<&str> = line.split('\t').collect(alloc)?;
-        let (path, wanted) = parts.split_first().ok_or("a path")?;
-        assert!(rt; splits(alloc, path, wanted)?, "at {path}");
+        assert!(rt; is_line(rt.alloc(), line)?, "at {line}");
     }
     Ok(())
 }
@@ -95,13 +99,24 @@ fn joins(alloc: Global, path: &str, expand_dots: bool, wanted: &str) -> Result<b
     Ok(by_segments.as_str() == wanted && at_once.as_str() == wanted)
 }
 
+// A path, whether its dots are expanded, and its segments joined.
+const JOINED: [(&str, bool, &str); 4] = [
+    ("k8s\\.node.id", false, "k8s.node\u{1}id"),
+    ("k8s\\.node.id", true, "k8s\u{1}node\u{1}id"),
+    ("", true, ""),
+    ("..", false, "\u{1}\u{1}"),
+];
+
 #[test]
 fn segments_are_joined(rt: HostRuntime) -> Result<(), Fail> {
-    let alloc = rt.alloc();
-    assert!(rt; joins(alloc, "k8s\\.node.id", false, "k8s.node\u{1}id")?);
-    assert!(rt; joins(alloc, "k8s\\.node.id", true, "k8s\u{1}node\u{1}id")?);
-    assert!(rt; joins(alloc, "", true, "")?);
-    assert!(rt; joins(alloc, "..", false, "\u{1}\u{1}")?);
-    assert_eq!(rt; join_json_path(alloc, &[], true)?.as_str(), "");
+    for (path, expand_dots, wanted) in JOINED {
+        assert!(rt; joins(rt.alloc(), path, expand_dots, wanted)?);
+    }
+    Ok(())
+}
+
+#[test]
+fn no_segments_are_joined(rt: HostRuntime) -> Result<(), Fail> {
+    assert!(rt; join_json_path(rt.alloc(), &[], true)?.as_str() == "");
     Ok(())
 }

@@ -10,8 +10,8 @@ use tv_io::{ReadSource, WriteSink};
 fn a_reader_gives_its_bytes(rt: HostRuntime) -> Result<(), Fail> {
     let mut source = ReadSource::new(b"\x81a".as_slice());
     let read = String::deserialize(rt.alloc(), &mut source)?;
-    assert_eq!(rt; read.as_str(), "a");
-    assert_eq!(rt; source.read(&mut [0; 1]), Ok(0));
+    assert!(rt; read.as_str() == "a");
+    assert!(rt; source.read(&mut [0; 1]) == Ok(0));
     assert!(rt; source.into_inner().is_empty());
     Ok(())
 }

@@ -414,12 +414,21 @@ pub(super) fn heap_text(alloc: Global, document: &CompactDoc) -> Result<String, 
     let mut place = 0;
     for (field, _) in document.field_values() {
         if let Some((code, address)) = document.addr_of(place) {
-            let number = field.field_id();
-            text.push_str(format!(in alloc; " {number}:{code}:{address}")?.as_str())?;
+            push_place(alloc, &mut text, field.field_id(), code, address)?;
         }
         place = usize::wrapping_add(place, 1);
     }
     Ok(text)
+}
+
+fn push_place(
+    alloc: Global,
+    text: &mut String,
+    number: u32,
+    code: u8,
+    address: u32,
+) -> Result<(), AllocError> {
+    text.push_str(format!(in alloc; " {number}:{code}:{address}")?.as_str())
 }
 
 fn is_line(alloc: Global, schema: &Schema, line: &(&str, &str)) -> Result<bool, AllocError> {
@@ -430,10 +439,14 @@ fn is_line(alloc: Global, schema: &Schema, line: &(&str, &str)) -> Result<bool, 
     Ok(text.as_str() == line.1)
 }
 
+fn schema(alloc: Global) -> Result<Schema, Fail> {
+    let json = Value::from_str(alloc, SCHEMA)?;
+    Ok(Schema::from_json_value(alloc, &json)?)
+}
+
 // Whether each line is as it stands.
 fn are_lines(alloc: Global, lines: &[(&str, &str)]) -> Result<bool, Fail> {
-    let json = Value::from_str(alloc, SCHEMA)?;
-    let schema = Schema::from_json_value(alloc, &json)?;
+    let schema = schema(alloc)?;
     for line in lines {
         if !is_line(alloc, &schema, line)? {
             return Ok(false);
@@ -443,25 +456,10 @@ fn are_lines(alloc: Global, lines: &[(&str, &str)]) -> Result<bool, Fail> {
 }
 
 #[test]
-fn first_lines(rt: HostRuntime) -> Result<(), Fail> {
+fn lines_are_as_they_stand(rt: HostRuntime) -> Result<(), Fail> {
     assert!(rt; are_lines(rt.alloc(), &FIRST_LINES)?);
-    Ok(())
-}
-
-#[test]
-fn second_lines(rt: HostRuntime) -> Result<(), Fail> {
     assert!(rt; are_lines(rt.alloc(), &SECOND_LINES)?);
-    Ok(())
-}
-
-#[test]
-fn third_lines(rt: HostRuntime) -> Result<(), Fail> {
     assert!(rt; are_lines(rt.alloc(), &THIRD_LINES)?);
-    Ok(())
-}
-
-#[test]
-fn fourth_lines(rt: HostRuntime) -> Result<(), Fail> {
     assert!(rt; are_lines(rt.alloc(), &FOURTH_LINES)?);
     Ok(())
 }

@@ -4,6 +4,7 @@ use std::alloc::{AllocError, Global};
 use std::net::Ipv6Addr;
 use std::test::Fail;
 use tv_base::Facet;
+use tv_doc::add_error::AddError;
 use tv_doc::document::CompactDoc;
 use tv_value::date_time::DateTime;
 use tv_value::field::Field;
@@ -28,29 +29,29 @@ fn object(alloc: Global, key: &str, value: OwnedValue) -> Result<OwnedValue, All
     Ok(OwnedValue::Object(members))
 }
 
+// The document of this one value.
+fn document_of(alloc: Global, value: &OwnedValue) -> Result<CompactDoc, AddError> {
+    let mut document = CompactDoc::new(alloc);
+    document.add_field_value(field(), &value)?;
+    Ok(document)
+}
+
 #[test]
 fn an_object_stands_behind_its_children(rt: HostRuntime) -> Result<(), Fail> {
-    let alloc = rt.alloc();
-    let value = object(
-        alloc,
-        "k",
-        OwnedValue::Array(vec![in alloc; OwnedValue::Bool(true)]?),
-    )?;
-    let mut document = CompactDoc::new(alloc);
-    document.add_field_value(field(), &&value)?;
+    let truths = OwnedValue::Array(vec![in rt.alloc(); OwnedValue::Bool(true)]?);
+    let value = object(rt.alloc(), "k", truths)?;
+    let document = document_of(rt.alloc(), &value)?;
     let heap = b"\x81\x6b\x82\x09\x81\x84\x01\x80\x0c\x82";
-    assert_eq!(rt; document.node_data(), heap.as_slice());
-    assert_eq!(rt; document.addr_of(0), Some((11, 5)));
+    assert!(rt; document.node_data() == heap.as_slice());
+    assert!(rt; document.addr_of(0) == Some((11, 5)));
     Ok(())
 }
 
 #[test]
 fn an_empty_array_is_one_byte(rt: HostRuntime) -> Result<(), Fail> {
-    let value = OwnedValue::Array(Vec::new(rt.alloc()));
-    let mut document = CompactDoc::new(rt.alloc());
-    document.add_field_value(field(), &&value)?;
-    assert_eq!(rt; document.node_data(), b"\x80".as_slice());
-    assert_eq!(rt; document.addr_of(0), Some((12, 0)));
+    let document = document_of(rt.alloc(), &OwnedValue::Array(Vec::new(rt.alloc())))?;
+    assert!(rt; document.node_data() == b"\x80".as_slice());
+    assert!(rt; document.addr_of(0) == Some((12, 0)));
     Ok(())
 }
 
@@ -70,7 +71,7 @@ fn tokenized(alloc: Global) -> Result<PreTokenizedString, AllocError> {
     })
 }
 
-fn add_numbers(document: &mut CompactDoc) -> Result<(), Fail> {
+fn add_numbers(document: &mut CompactDoc) -> Result<(), AddError> {
     document.add_u64(field(), 7)?;
     document.add_i64(field(), -7)?;
     document.add_bool(field(), true)?;
@@ -112,30 +113,34 @@ const PLACES: [(u8, u32); 10] = [
 #[test]
 fn each_kind_has_its_place(rt: HostRuntime) -> Result<(), Fail> {
     let document = document_of_leaves(rt.alloc())?;
-    assert_eq!(rt; document.len(), PLACES.len());
+    assert!(rt; document.len() == PLACES.len());
     for (i, place) in PLACES.iter().enumerate() {
-        assert_eq!(rt; document.addr_of(i), Some(*place));
+        assert!(rt; document.addr_of(i) == Some(*place));
     }
     let payload = b"\x82\x68\x69\x81\x80\x82\x83\x82\x68\x69\x81";
     assert!(rt; document.node_data().ends_with(payload));
     Ok(())
 }
 
+// Whether two values are equal, and what is made of them too.
+fn are_same<'a, V: Value<'a> + PartialEq>(
+    alloc: Global,
+    one: &V,
+    other: &V,
+) -> Result<bool, AllocError> {
+    let owned = OwnedValue::from_value(alloc, one)?;
+    let other_owned = OwnedValue::from_value(alloc, other)?;
+    Ok(*one == *other && is_same(&&owned, &&other_owned))
+}
+
 #[test]
 fn copies_hold_the_same(rt: HostRuntime) -> Result<(), Fail> {
-    let alloc = rt.alloc();
-    let mut document = document_of_leaves(alloc)?;
-    let copy = document.try_clone(alloc)?;
+    let mut document = document_of_leaves(rt.alloc())?;
+    let copy = document.try_clone(rt.alloc())?;
     document.shrink_to_fit();
-    assert_eq!(rt; copy.node_data(), document.node_data());
+    assert!(rt; copy.node_data() == document.node_data());
     for ((_, one), (_, other)) in copy.field_values().zip(document.field_values()) {
-        assert!(rt; one == other);
-        assert!(rt;
-            is_same(
-                &&OwnedValue::from_value(alloc, &one)?,
-                &&OwnedValue::from_value(alloc, &other)?
-            )
-        );
+        assert!(rt; are_same(rt.alloc(), &one, &other)?);
     }
     Ok(())
 }
@@ -144,11 +149,20 @@ fn copies_hold_the_same(rt: HostRuntime) -> Result<(), Fail> {
 fn values_are_found_by_their_field(rt: HostRuntime) -> Result<(), Fail> {
     let document = document_of_leaves(rt.alloc())?;
     let first = document.get_first(field()).ok_or("a value")?;
-    assert_eq!(rt; first.as_u64(), Some(7));
-    let mut others = document.get_all(other_field());
-    let other = others.next().ok_or("a value")?;
-    assert!(rt; other.as_value().is_null());
-    assert!(rt; others.next().is_none());
+    assert!(rt; first.as_u64() == Some(7));
     assert!(rt; document.get_first(Field::from_field_id(2)).is_none());
+    Ok(())
+}
+
+#[test]
+fn all_values_are_found_by_their_field(rt: HostRuntime) -> Result<(), Fail> {
+    let document = document_of_leaves(rt.alloc())?;
+    let mut others = document.get_all(other_field());
+    assert!(rt;
+        others
+            .next()
+            .is_some_and(|value| value.as_value().is_null())
+    );
+    assert!(rt; others.next().is_none());
     Ok(())
 }

@@ -96,18 +96,17 @@ impl<'a> Value<'a> for Repeated<'a> {
 
 #[test]
 fn too_much_room_is_refused(rt: HostRuntime) -> Result<(), Fail> {
-    let alloc = rt.alloc();
-    let content = vec![in alloc; 7u8; 1048576]?;
+    let content = vec![in rt.alloc(); 7u8; 1048576]?;
     let value = Repeated {
         content: content.as_slice(),
         is_array: true,
         times: 4096,
     };
-    let mut document = CompactDoc::new(alloc);
+    let mut document = CompactDoc::new(rt.alloc());
     document.add_u64(Field::from_field_id(0), 1)?;
     let refused = document.add_field_value(Field::from_field_id(0), &value);
-    assert_eq!(rt; refused, Err(AddError::HeapFull));
-    assert_eq!(rt; document.len(), 1);
-    assert_eq!(rt; document.node_data(), b"\x01\0\0\0\0\0\0\0".as_slice());
+    assert!(rt; refused == Err(AddError::HeapFull));
+    assert!(rt; document.len() == 1);
+    assert!(rt; document.node_data() == b"\x01\0\0\0\0\0\0\0".as_slice());
     Ok(())
 }

@@ -26,60 +26,54 @@ fn text(alloc: Global, content: &str) -> Result<String, Fail> {
 fn is_json(alloc: Global, value: &OwnedValue, json: &str) -> Result<bool, Fail> {
     let mut printed = text(alloc, "= ")?;
     push_json(alloc, &mut printed, value)?;
-    let made = value.to_json_value(alloc)?;
-    let wanted = Value::from_str(alloc, json)?;
-    Ok(printed.as_str() == format!(in alloc; "= {json}")?.as_str() && made == wanted)
+    let is_printed = printed.as_str().strip_prefix("= ") == Some(json);
+    Ok(is_printed && value.to_json_value(alloc)? == Value::from_str(alloc, json)?)
 }
 
 #[test]
 fn plain_values(rt: HostRuntime) -> Result<(), Fail> {
-    let alloc = rt.alloc();
-    assert!(rt; is_json(alloc, &OwnedValue::Null, "null")?);
-    assert!(rt; is_json(alloc, &OwnedValue::Bool(true), "true")?);
-    assert!(rt; is_json(alloc, &OwnedValue::Bool(false), "false")?);
-    assert!(rt;
-        is_json(
-            alloc,
-            &OwnedValue::U64(18446744073709551615),
-            "18446744073709551615"
-        )?
-    );
-    assert!(rt;
-        is_json(
-            alloc,
-            &OwnedValue::I64(-9223372036854775808),
-            "-9223372036854775808"
-        )?
-    );
-    assert!(rt;
-        is_json(
-            alloc,
-            &OwnedValue::Str(text(alloc, "a\"b\\c\n\u{1}é")?),
-            "\"a\\\"b\\\\c\\n\\u0001é\""
-        )?
-    );
+    assert!(rt; is_json(rt.alloc(), &OwnedValue::Null, "null")?);
+    assert!(rt; is_json(rt.alloc(), &OwnedValue::Bool(true), "true")?);
+    assert!(rt; is_json(rt.alloc(), &OwnedValue::Bool(false), "false")?);
+    Ok(())
+}
+
+#[test]
+fn numbers(rt: HostRuntime) -> Result<(), Fail> {
+    let largest = OwnedValue::U64(18446744073709551615);
+    assert!(rt; is_json(rt.alloc(), &largest, "18446744073709551615")?);
+    let least = OwnedValue::I64(-9223372036854775808);
+    assert!(rt; is_json(rt.alloc(), &least, "-9223372036854775808")?);
+    Ok(())
+}
+
+#[test]
+fn texts(rt: HostRuntime) -> Result<(), Fail> {
+    let value = OwnedValue::Str(text(rt.alloc(), "a\"b\\c\n\u{1}é")?);
+    assert!(rt; is_json(rt.alloc(), &value, "\"a\\\"b\\\\c\\n\\u0001é\"")?);
     Ok(())
 }
 
 #[test]
 fn values_that_become_texts(rt: HostRuntime) -> Result<(), Fail> {
-    let alloc = rt.alloc();
-    let date = DateTime::from_timestamp_nanos(1570857650520000000);
-    assert!(rt;
-        is_json(
-            alloc,
-            &OwnedValue::Date(date),
-            "\"2019-10-12T05:20:50.52Z\""
-        )?
-    );
-    let facet = Facet::from_path(alloc, &["a\\b", "c/d"])?;
-    assert!(rt; is_json(alloc, &OwnedValue::Facet(facet), "\"/a\\\\\\\\b/c\\\\/d\"")?);
-    let bytes = vec![in alloc; 0u8]?;
-    assert!(rt; is_json(alloc, &OwnedValue::Bytes(bytes), "\"AA==\"")?);
-    let mapped = Ipv6Addr::from_bits(0xffff_c000_0201);
-    assert!(rt; is_json(alloc, &OwnedValue::IpAddr(mapped), "\"192.0.2.1\"")?);
-    let local = Ipv6Addr::from_bits(1);
-    assert!(rt; is_json(alloc, &OwnedValue::IpAddr(local), "\"::1\"")?);
+    let date = OwnedValue::Date(DateTime::from_timestamp_nanos(1570857650520000000));
+    assert!(rt; is_json(rt.alloc(), &date, "\"2019-10-12T05:20:50.52Z\"")?);
+    let facet = OwnedValue::Facet(Facet::from_path(rt.alloc(), &["a\\b", "c/d"])?);
+    assert!(rt; is_json(rt.alloc(), &facet, "\"/a\\\\\\\\b/c\\\\/d\"")?);
+    let bytes = OwnedValue::Bytes(vec![in rt.alloc(); 0u8]?);
+    assert!(rt; is_json(rt.alloc(), &bytes, "\"AA==\"")?);
+    Ok(())
+}
+
+// Addresses, and their texts.
+const ADDRESSES: [(u128, &str); 2] = [(0xffff_c000_0201, "\"192.0.2.1\""), (1, "\"::1\"")];
+
+#[test]
+fn addresses(rt: HostRuntime) -> Result<(), Fail> {
+    for (bits, json) in ADDRESSES {
+        let address = OwnedValue::IpAddr(Ipv6Addr::from_bits(bits));
+        assert!(rt; is_json(rt.alloc(), &address, json)?);
+    }
     Ok(())
 }
 
@@ -113,16 +107,28 @@ fn two_keys(alloc: Global, first: &str, second: &str) -> Result<OwnedValue, Fail
     Ok(OwnedValue::Object(members))
 }
 
+// Two keys, and the object of these.
+const OBJECTS: [(&str, &str, &str); 3] = [
+    ("a", "b", r#"{"a":1,"b":2}"#),
+    ("b", "a", r#"{"a":2,"b":1}"#),
+    ("a", "a", r#"{"a":2}"#),
+];
+
 #[test]
 fn objects_by_their_keys(rt: HostRuntime) -> Result<(), Fail> {
-    let alloc = rt.alloc();
-    assert!(rt; is_json(alloc, &two_keys(alloc, "a", "b")?, r#"{"a":1,"b":2}"#)?);
-    assert!(rt; is_json(alloc, &two_keys(alloc, "b", "a")?, r#"{"a":2,"b":1}"#)?);
-    assert!(rt; is_json(alloc, &two_keys(alloc, "a", "a")?, r#"{"a":2}"#)?);
-    let mut items = Vec::new(alloc);
-    items.push(two_keys(alloc, "b", "a")?)?;
-    items.push(OwnedValue::Array(Vec::new(alloc)))?;
-    assert!(rt; is_json(alloc, &OwnedValue::Array(items), r#"[{"a":2,"b":1},[]]"#)?);
+    for (first, second, json) in OBJECTS {
+        assert!(rt; is_json(rt.alloc(), &two_keys(rt.alloc(), first, second)?, json)?);
+    }
+    Ok(())
+}
+
+#[test]
+fn objects_in_arrays(rt: HostRuntime) -> Result<(), Fail> {
+    let mut items = Vec::new(rt.alloc());
+    items.push(two_keys(rt.alloc(), "b", "a")?)?;
+    items.push(OwnedValue::Array(Vec::new(rt.alloc())))?;
+    let array = OwnedValue::Array(items);
+    assert!(rt; is_json(rt.alloc(), &array, r#"[{"a":2,"b":1},[]]"#)?);
     Ok(())
 }
 
@@ -133,81 +139,123 @@ fn json_field(alloc: Global, name: &str) -> Result<(Schema, Field), Fail> {
     Ok((builder.build()?, field))
 }
 
-#[test]
-fn repeated_keys_of_a_document(rt: HostRuntime) -> Result<(), Fail> {
-    let alloc = rt.alloc();
-    let (schema, field) = json_field(alloc, "j")?;
+// Whether the document is printed so.
+fn is_printed(
+    alloc: Global,
+    schema: &Schema,
+    document: &CompactDoc,
+    json: &str,
+) -> Result<bool, Fail> {
+    Ok(document.to_json(alloc, schema)?.as_str() == json)
+}
+
+// The document of an object that has a key twice.
+fn repeated_keys(alloc: Global, field: Field) -> Result<CompactDoc, Fail> {
     let mut document = CompactDoc::new(alloc);
-    let object = two_keys(alloc, "a", "a")?;
-    document.add_field_value(field, &&object)?;
-    assert!(rt; document.to_json(alloc, &schema)?.as_str() == r#"{"j":[{"a":2}]}"#);
-    let value = document.get_first(field).ok_or("a value")?;
-    assert!(rt; to_json_value(alloc, value)? == Value::from_str(alloc, r#"{"a":2}"#)?);
-    Ok(())
+    document.add_field_value(field, &&two_keys(alloc, "a", "a")?)?;
+    Ok(document)
 }
 
 #[test]
-fn maps_are_printed(rt: HostRuntime) -> Result<(), Fail> {
-    let alloc = rt.alloc();
-    let json = r#"{"date":"1985-04-12T23:20:50.52Z","my_arr":[2,{"k":"two"},[5,-2]]}"#;
-    let mut members = BTreeMap::new(alloc);
+fn repeated_keys_of_a_document(rt: HostRuntime) -> Result<(), Fail> {
+    let (schema, field) = json_field(rt.alloc(), "j")?;
+    let document = repeated_keys(rt.alloc(), field)?;
+    assert!(rt; is_printed(rt.alloc(), &schema, &document, r#"{"j":[{"a":2}]}"#)?);
+    let value = document.get_first(field).ok_or("a value")?;
+    let json = Value::from_str(rt.alloc(), r#"{"a":2}"#)?;
+    assert!(rt; to_json_value(rt.alloc(), value)? == json);
+    Ok(())
+}
+
+// The members of the object.
+fn members(alloc: Global, json: &str) -> Result<BTreeMap<String, OwnedValue>, Fail> {
     let OwnedValue::Object(entries) = OwnedValue::from_json(alloc, Value::from_str(alloc, json)?)?
     else {
         return Err(Fail::from("an object"));
     };
+    let mut members = BTreeMap::new(alloc);
     for (key, value) in entries {
         members.insert(key, value)?;
     }
-    let (schema, field) = json_field(alloc, "json")?;
-    let mut document = CompactDoc::new(alloc);
-    document.add_object(field, &members)?;
-    assert!(rt;
-        document.to_json(alloc, &schema)?.as_str()
-            == format!(in alloc; "{{\"json\":[{json}]}}")?.as_str()
-    );
+    Ok(members)
+}
+
+#[test]
+fn maps_are_printed(rt: HostRuntime) -> Result<(), Fail> {
+    let json = r#"{"date":"1985-04-12T23:20:50.52Z","my_arr":[2,{"k":"two"},[5,-2]]}"#;
+    let (schema, field) = json_field(rt.alloc(), "json")?;
+    let mut document = CompactDoc::new(rt.alloc());
+    document.add_object(field, &members(rt.alloc(), json)?)?;
+    let wanted = format!(in rt.alloc(); "{{\"json\":[{json}]}}")?;
+    assert!(rt; is_printed(rt.alloc(), &schema, &document, wanted.as_str())?);
     Ok(())
+}
+
+// A schema of the fields `z`, `a` and `b`.
+fn three_fields(alloc: Global) -> Result<Schema, Fail> {
+    let mut builder = Schema::builder(alloc);
+    for name in ["z", "a", "b"] {
+        builder.add_json_field(name, JsonObjectOptions::from(STORED))?;
+    }
+    Ok(builder.build()?)
+}
+
+// Two numbers in the first field, a text in the second, and a value of a field that no schema here has.
+fn document_of_fields(alloc: Global) -> Result<CompactDoc, Fail> {
+    let mut document = CompactDoc::new(alloc);
+    document.add_u64(Field::from_field_id(0), 1)?;
+    document.add_text(Field::from_field_id(1), "x")?;
+    document.add_u64(Field::from_field_id(0), 2)?;
+    document.add_bool(Field::from_field_id(7), true)?;
+    Ok(document)
+}
+
+// Whether the name has these values.
+fn has_values(named: &NamedFieldDocument, name: &str, values: &[OwnedValue]) -> bool {
+    named
+        .0
+        .get(name)
+        .is_some_and(|found| found.as_slice() == values)
 }
 
 #[test]
 fn named_documents(rt: HostRuntime) -> Result<(), Fail> {
-    let alloc = rt.alloc();
-    let mut builder = Schema::builder(alloc);
-    let later = builder.add_json_field("z", JsonObjectOptions::from(STORED))?;
-    let first = builder.add_json_field("a", JsonObjectOptions::from(STORED))?;
-    let _unused = builder.add_json_field("b", JsonObjectOptions::from(STORED))?;
-    let schema = builder.build()?;
-    let mut document = CompactDoc::new(alloc);
-    document.add_u64(later, 1)?;
-    document.add_text(first, "x")?;
-    document.add_u64(later, 2)?;
-    document.add_bool(Field::from_field_id(7), true)?;
-    let named = document.to_named_doc(alloc, &schema)?;
+    let schema = three_fields(rt.alloc())?;
+    let named = document_of_fields(rt.alloc())?.to_named_doc(rt.alloc(), &schema)?;
     assert!(rt; named.0.len() == 2);
-    let values = named.0.get("z").ok_or("values")?;
-    assert!(rt; values.as_slice() == [OwnedValue::U64(1), OwnedValue::U64(2)].as_slice());
-    let values = named.0.get("a").ok_or("values")?;
-    assert!(rt; values.as_slice() == [OwnedValue::Str(text(alloc, "x")?)].as_slice());
-    assert!(rt; document.to_json(alloc, &schema)?.as_str() == r#"{"a":["x"],"z":[1,2]}"#);
-    assert!(rt; CompactDoc::new(alloc).to_json(alloc, &schema)?.as_str() == "{}");
+    assert!(rt; has_values(&named, "z", &[OwnedValue::U64(1), OwnedValue::U64(2)]));
+    assert!(rt; has_values(&named, "a", &[OwnedValue::Str(text(rt.alloc(), "x")?)]));
     Ok(())
 }
 
 #[test]
-fn converted_names(rt: HostRuntime) -> Result<(), Fail> {
-    let alloc = rt.alloc();
-    let (schema, field) = json_field(alloc, "json")?;
-    let mut names = BTreeMap::new(alloc);
+fn fields_are_printed_by_name(rt: HostRuntime) -> Result<(), Fail> {
+    let schema = three_fields(rt.alloc())?;
+    let document = document_of_fields(rt.alloc())?;
+    assert!(rt; is_printed(rt.alloc(), &schema, &document, r#"{"a":["x"],"z":[1,2]}"#)?);
+    assert!(rt; is_printed(rt.alloc(), &schema, &CompactDoc::new(rt.alloc()), "{}")?);
+    Ok(())
+}
+
+// The values of two names.
+fn names(alloc: Global) -> Result<NamedFieldDocument, Fail> {
     let mut values = Vec::new(alloc);
     values.push(two_keys(alloc, "a", "b")?)?;
     values.push(OwnedValue::I64(-7))?;
+    let others = vec![in alloc; OwnedValue::Bool(true)]?;
+    let mut names = BTreeMap::new(alloc);
     names.insert(text(alloc, "json")?, values)?;
-    let mut others = Vec::new(alloc);
-    others.push(OwnedValue::Bool(true))?;
     names.insert(text(alloc, "zz")?, others)?;
-    let named = NamedFieldDocument(names);
-    let document = CompactDoc::convert_named_doc(alloc, &schema, &named)?;
+    Ok(NamedFieldDocument(names))
+}
+
+#[test]
+fn converted_names(rt: HostRuntime) -> Result<(), Fail> {
+    let (schema, field) = json_field(rt.alloc(), "json")?;
+    let document = CompactDoc::convert_named_doc(rt.alloc(), &schema, &names(rt.alloc())?)?;
     assert!(rt; document.len() == 2);
     assert!(rt; document.get_all(field).next().is_some());
-    assert!(rt; document.to_json(alloc, &schema)?.as_str() == r#"{"json":[{"a":1,"b":2},-7]}"#);
+    let json = r#"{"json":[{"a":1,"b":2},-7]}"#;
+    assert!(rt; is_printed(rt.alloc(), &schema, &document, json)?);
     Ok(())
 }

@@ -17,30 +17,42 @@ fn number_and_text(alloc: Global, field: Field) -> Result<CompactDoc, Fail> {
     Ok(document)
 }
 
+// Whether they are the same, either way round.
+fn are_same(alloc: Global, one: &CompactDoc, other: &CompactDoc) -> Result<bool, Fail> {
+    Ok(one.same_as(alloc, other)? && other.same_as(alloc, one)?)
+}
+
+// Whether they differ, either way round.
+fn are_different(alloc: Global, one: &CompactDoc, other: &CompactDoc) -> Result<bool, Fail> {
+    Ok(!one.same_as(alloc, other)? && !other.same_as(alloc, one)?)
+}
+
 #[test]
 fn sets_of_values_are_compared(rt: HostRuntime) -> Result<(), Fail> {
-    let alloc = rt.alloc();
     let field = Field::from_field_id(1);
-    let document = number_and_text(alloc, field)?;
-    let mut other = CompactDoc::new(alloc);
+    let document = number_and_text(rt.alloc(), field)?;
+    let mut other = CompactDoc::new(rt.alloc());
     other.add_text(field, "x")?;
-    assert!(rt; !document.same_as(alloc, &other)?);
-    assert!(rt; !other.same_as(alloc, &document)?);
+    assert!(rt; are_different(rt.alloc(), &document, &other)?);
     other.add_i64(field, 1)?;
     other.add_text(field, "x")?;
-    assert!(rt; document.same_as(alloc, &other)?);
-    assert!(rt; other.same_as(alloc, &document)?);
+    assert!(rt; are_same(rt.alloc(), &document, &other)?);
     Ok(())
 }
 
 #[test]
 fn fields_are_compared(rt: HostRuntime) -> Result<(), Fail> {
-    let alloc = rt.alloc();
-    let document = number_and_text(alloc, Field::from_field_id(1))?;
-    let other = number_and_text(alloc, Field::from_field_id(2))?;
-    assert!(rt; !document.same_as(alloc, &other)?);
-    assert!(rt; !document.same_as(alloc, &CompactDoc::new(alloc))?);
-    assert!(rt; CompactDoc::new(alloc).same_as(alloc, &CompactDoc::new(alloc))?);
+    let document = number_and_text(rt.alloc(), Field::from_field_id(1))?;
+    let other = number_and_text(rt.alloc(), Field::from_field_id(2))?;
+    assert!(rt; !document.same_as(rt.alloc(), &other)?);
+    assert!(rt; !document.same_as(rt.alloc(), &CompactDoc::new(rt.alloc()))?);
+    Ok(())
+}
+
+#[test]
+fn empty_documents_are_compared(rt: HostRuntime) -> Result<(), Fail> {
+    let other = CompactDoc::new(rt.alloc());
+    assert!(rt; CompactDoc::new(rt.alloc()).same_as(rt.alloc(), &other)?);
     Ok(())
 }
 
@@ -65,18 +77,28 @@ fn keys_are_compared_in_any_order(rt: HostRuntime) -> Result<(), Fail> {
     Ok(())
 }
 
+// A schema of the fields `z` and `a`.
+fn two_fields(alloc: Global) -> Result<Schema, Fail> {
+    let mut builder = Schema::builder(alloc);
+    for name in ["z", "a"] {
+        builder.add_json_field(name, JsonObjectOptions::from(STORED))?;
+    }
+    Ok(builder.build()?)
+}
+
 #[test]
 fn names_and_back(rt: HostRuntime) -> Result<(), Fail> {
-    let alloc = rt.alloc();
-    let mut builder = Schema::builder(alloc);
-    let later = builder.add_json_field("z", JsonObjectOptions::from(STORED))?;
-    let first = builder.add_json_field("a", JsonObjectOptions::from(STORED))?;
-    let schema = builder.build()?;
-    let mut document = number_and_text(alloc, later)?;
+    let first = Field::from_field_id(1);
+    let mut document = number_and_text(rt.alloc(), Field::from_field_id(0))?;
     document.add_bool(first, true)?;
-    let back = named_documents_are_converted_back(alloc, &schema, &document)?;
+    let schema = two_fields(rt.alloc())?;
+    let back = named_documents_are_converted_back(rt.alloc(), &schema, &document)?;
     assert!(rt; back.len() == 3);
-    assert!(rt; back.field_values().next().ok_or("a pair")?.0 == first);
-    assert!(rt; back.same_as(alloc, &document)?);
+    assert!(rt;
+        back.field_values()
+            .next()
+            .is_some_and(|pair| pair.0 == first)
+    );
+    assert!(rt; back.same_as(rt.alloc(), &document)?);
     Ok(())
 }

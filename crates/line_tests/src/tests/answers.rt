@@ -31,37 +31,30 @@ fn documents_and_refusals(rt: HostRuntime) -> Result<(), Fail> {
     Ok(())
 }
 
-#[test]
-fn refused_lines(rt: HostRuntime) -> Result<(), Fail> {
-    assert!(rt;
-        answers(
-            &rt,
-            b"{\"age\":-1}\n{\"age\":true,\"name\":7}\n",
-            b"error ValueError OverflowError\nerror ValueError TypeError\n"
-        )?
-    );
-    assert!(rt;
-        answers(
-            &rt,
-            b"{\"age\":1\n\xff\n{",
-            b"error InvalidJson\nerror InvalidJson\nerror InvalidJson\n"
-        )?
-    );
-    Ok(())
-}
+/// Lines, and what is answered.
+const LINES: [(&[u8], &[u8]); 7] = [
+    (
+        b"{\"age\":-1}\n{\"age\":true,\"name\":7}\n",
+        b"error ValueError OverflowError\nerror ValueError TypeError\n",
+    ),
+    (
+        b"{\"age\":1\n\xff\n{",
+        b"error InvalidJson\nerror InvalidJson\nerror InvalidJson\n",
+    ),
+    (b"", b""),
+    (b"\n", b"error InvalidJson\n"),
+    (b"{}", b"80 {}\n"),
+    (b"{}\n", b"80 {}\n"),
+    (
+        b"\n\n{}\r\n",
+        b"error InvalidJson\nerror InvalidJson\n80 {}\n",
+    ),
+];
 
 #[test]
-fn line_feeds(rt: HostRuntime) -> Result<(), Fail> {
-    assert!(rt; answers(&rt, b"", b"")?);
-    assert!(rt; answers(&rt, b"\n", b"error InvalidJson\n")?);
-    assert!(rt; answers(&rt, b"{}", b"80 {}\n")?);
-    assert!(rt; answers(&rt, b"{}\n", b"80 {}\n")?);
-    assert!(rt;
-        answers(
-            &rt,
-            b"\n\n{}\r\n",
-            b"error InvalidJson\nerror InvalidJson\n80 {}\n"
-        )?
-    );
+fn refused_lines_and_line_feeds(rt: HostRuntime) -> Result<(), Fail> {
+    for (lines, wanted) in LINES {
+        assert!(rt; answers(&rt, lines, wanted)?, "at {lines:?}");
+    }
     Ok(())
 }

@@ -12,43 +12,42 @@ fn ends(rt: &HostRuntime, input: &[u8], end: RunEnd, wanted: &[u8]) -> bool {
     found == end && sink.as_slice() == wanted
 }
 
+/// Faulty schemas, and what is answered.
+const FAULTY: [(&[u8], &[u8]); 6] = [
+    (b"", b"error InvalidJson\n"),
+    (b"{", b"error InvalidJson\n"),
+    (b"\xff\n{}\n", b"error InvalidJson\n"),
+    (b"{}", b"error BadJson\n"),
+    (
+        b"[{\"name\":\"-a\",\"type\":\"facet\",\"options\":{\"stored\":true}}]\n{}\n",
+        b"error InvalidName\n",
+    ),
+    (
+        b"[{\"name\":\"a\",\"type\":\"f64\",\"options\":{\"stored\":true}}]",
+        b"error FloatField\n",
+    ),
+];
+
 #[test]
 fn refused_schemas(rt: HostRuntime) {
-    assert!(rt; ends(&rt, b"", RunEnd::BadSchema, b"error InvalidJson\n"));
-    assert!(rt; ends(&rt, b"{", RunEnd::BadSchema, b"error InvalidJson\n"));
-    assert!(rt;
-        ends(
-            &rt,
-            b"\xff\n{}\n",
-            RunEnd::BadSchema,
-            b"error InvalidJson\n"
-        )
-    );
-    assert!(rt; ends(&rt, b"{}", RunEnd::BadSchema, b"error BadJson\n"));
-    assert!(rt;
-        ends(
-            &rt,
-            b"[{\"name\":\"-a\",\"type\":\"facet\",\"options\":{\"stored\":true}}]\n{}\n",
-            RunEnd::BadSchema,
-            b"error InvalidName\n"
-        )
-    );
-    assert!(rt;
-        ends(
-            &rt,
-            b"[{\"name\":\"a\",\"type\":\"f64\",\"options\":{\"stored\":true}}]",
-            RunEnd::BadSchema,
-            b"error FloatField\n"
-        )
-    );
+    for (input, wanted) in FAULTY {
+        assert!(rt; ends(&rt, input, RunEnd::BadSchema, wanted), "at {input:?}");
+    }
 }
+
+/// Inputs of a schema without fields, and what is answered.
+const EMPTY: [(&[u8], &[u8]); 4] = [
+    (b"[]", b""),
+    (b"[]\n", b""),
+    (b"[]\n\n", b"error InvalidJson\n"),
+    (b"[]\n{}", b"80 {}\n"),
+];
 
 #[test]
 fn empty_schemas(rt: HostRuntime) {
-    assert!(rt; ends(&rt, b"[]", RunEnd::Done, b""));
-    assert!(rt; ends(&rt, b"[]\n", RunEnd::Done, b""));
-    assert!(rt; ends(&rt, b"[]\n\n", RunEnd::Done, b"error InvalidJson\n"));
-    assert!(rt; ends(&rt, b"[]\n{}", RunEnd::Done, b"80 {}\n"));
+    for (input, wanted) in EMPTY {
+        assert!(rt; ends(&rt, input, RunEnd::Done, wanted), "at {input:?}");
+    }
 }
 
 // With ample memory no line is answered by `error Memory`.

@@ -90,14 +90,23 @@ fn breaks_at(rt: &HostRuntime, input: &[u8], left: usize, wanted: &[u8]) -> bool
     end == RunEnd::Broken && sink.as_slice() == wanted && source.faults == 1
 }
 
+/// A schema without fields, and two lines.
+const INPUT: &[u8] = b"[]\n{}\n[1]\n";
+
+/// How many bytes of the input are left at the failure, and what is written.
+const BROKEN: [(usize, &[u8]); 5] = [
+    (10, b""),
+    (8, b""),
+    (5, b""),
+    (4, b"80 {}\n"),
+    (0, b"80 {}\nerror InvalidJson\n"),
+];
+
 #[test]
 fn failing_sources(rt: HostRuntime) {
-    let input = b"[]\n{}\n[1]\n";
-    assert!(rt; breaks_at(&rt, input, 10, b""));
-    assert!(rt; breaks_at(&rt, input, 8, b""));
-    assert!(rt; breaks_at(&rt, input, 5, b""));
-    assert!(rt; breaks_at(&rt, input, 4, b"80 {}\n"));
-    assert!(rt; breaks_at(&rt, input, 0, b"80 {}\nerror InvalidJson\n"));
+    for (left, wanted) in BROKEN {
+        assert!(rt; breaks_at(&rt, INPUT, left, wanted));
+    }
 }
 
 // Whether the run is broken, and the sink has been filled with this.
@@ -113,12 +122,18 @@ fn fills(rt: &HostRuntime, input: &[u8], room: usize, wanted: &[u8]) -> bool {
     end == RunEnd::Broken && sink.held.as_slice() == wanted && sink.faults == 1
 }
 
+/// An input, how many bytes the sink takes of the answers, and these bytes.
+const FILLED: [(&[u8], usize, &[u8]); 5] = [
+    (INPUT, 0, b""),
+    (INPUT, 3, b"80 "),
+    (INPUT, 6, b"80 {}\n"),
+    (INPUT, 22, b"80 {}\nerror InvalidJso"),
+    (b"", 2, b"er"),
+];
+
 #[test]
 fn failing_sinks(rt: HostRuntime) {
-    let input = b"[]\n{}\n[1]\n";
-    assert!(rt; fills(&rt, input, 0, b""));
-    assert!(rt; fills(&rt, input, 3, b"80 "));
-    assert!(rt; fills(&rt, input, 6, b"80 {}\n"));
-    assert!(rt; fills(&rt, input, 22, b"80 {}\nerror InvalidJso"));
-    assert!(rt; fills(&rt, b"", 2, b"er"));
+    for (input, room, wanted) in FILLED {
+        assert!(rt; fills(&rt, input, room, wanted));
+    }
 }

@@ -15,10 +15,12 @@ fn is_refused(text: &str, reason: DateError) -> bool {
 // Whether the date so many nanoseconds after 1970 is printed as this, alone and behind a text.
 fn is_printed(alloc: Global, nanoseconds: i64, text: &str) -> Result<bool, AllocError> {
     let date = DateTime::from_timestamp_nanos(nanoseconds);
-    let printed = date.write_rfc3339(alloc)?;
     let mut behind = String::from_str(alloc, "on ")?;
     date.push_rfc3339(&mut behind)?;
-    Ok(printed.as_str() == text && behind.as_str() == format!(in alloc; "on {text}")?.as_str())
+    Ok(
+        date.write_rfc3339(alloc)?.as_str() == text
+            && behind.as_str().strip_prefix("on ") == Some(text),
+    )
 }
 
 #[test]
@@ -55,13 +57,14 @@ fn dates_are_printed(rt: HostRuntime) -> Result<(), Fail> {
 fn moments(rt: HostRuntime) {
     let date = DateTime::from_timestamp_nanos(-1500000000);
     let cut = date.truncate(DateTimePrecision::Seconds);
-    assert_eq!(rt; cut.into_timestamp_nanos(), -1000000000);
+    assert!(rt; cut.into_timestamp_nanos() == -1000000000);
     assert!(rt; date < cut);
-    assert_eq!(rt; date.truncate(DateTimePrecision::Milliseconds), date);
+    assert!(rt; date.truncate(DateTimePrecision::Milliseconds) == date);
+}
+
+#[test]
+fn microseconds(rt: HostRuntime) {
     let last = DateTime::from_timestamp_nanos(9223372036854775000);
-    assert_eq!(rt;
-        DateTime::from_timestamp_micros(9223372036854775),
-        Some(last)
-    );
-    assert_eq!(rt; DateTime::from_timestamp_micros(9223372036854776), None);
+    assert!(rt; DateTime::from_timestamp_micros(9223372036854775) == Some(last));
+    assert!(rt; DateTime::from_timestamp_micros(9223372036854776).is_none());
 }

@@ -56,42 +56,50 @@ fn reads_as(bytes: &[u8], wanted: &PreTokenizedStr<'_>) -> bool {
     }
 }
 
-#[test]
-fn payloads_are_read(rt: HostRuntime) -> Result<(), Fail> {
-    let whole = PreTokenizedStr::from_payload(&BYTES);
-    let exact = PreTokenizedStr::from_payload(&BYTES[..11]);
-    assert!(rt; matches!(whole, Some((text, 11)) if is_hi(text)));
-    assert!(rt; matches!(exact, Some((text, 11)) if is_hi(text)));
-    // A text without characters and without tokens.
-    let none = PreTokenizedStr::from_payload(&[0x80, 0x80]);
-    assert!(rt; matches!(none, Some((text, 2)) if text.is_empty() && text.text() == ""));
-    // Numbers may be padded.
-    let padded = PreTokenizedStr::from_payload(&[
-        0x02, 0x80, 0x68, 0x69, 0x01, 0x80, 0x00, 0x80, 0x82, 0x83, 0x82, 0x68, 0x69, 0x81,
-    ]);
-    assert!(rt; matches!(padded, Some((text, 14)) if is_hi(text)));
-    Ok(())
+// Whether the payload at the front of the bytes is the text with its token, and has this length.
+fn spells_hi(bytes: &[u8], len: usize) -> bool {
+    PreTokenizedStr::from_payload(bytes).is_some_and(|(text, used)| used == len && is_hi(text))
 }
 
 #[test]
-fn what_is_no_payload(rt: HostRuntime) -> Result<(), Fail> {
-    // It ends too early.
+fn payloads_are_read(rt: HostRuntime) {
+    assert!(rt; spells_hi(&BYTES, 11));
+    assert!(rt; spells_hi(&BYTES[..11], 11));
+    // Numbers may be padded.
+    assert!(rt;
+        spells_hi(
+            b"\x02\x80\x68\x69\x01\x80\x00\x80\x82\x83\x82\x68\x69\x81",
+            14
+        )
+    );
+}
+
+#[test]
+fn the_empty_payload_is_read(rt: HostRuntime) {
+    // A text without characters and without tokens.
+    let none = PreTokenizedStr::from_payload(&[0x80, 0x80]);
+    assert!(rt; matches!(none, Some((text, 2)) if text.is_empty() && text.text() == ""));
+}
+
+#[test]
+fn payloads_end_early(rt: HostRuntime) {
     for len in 0..11 {
         assert!(rt; PreTokenizedStr::from_payload(&BYTES[..len]).is_none());
     }
-    // The text is no UTF-8, and then the token's text.
-    assert!(rt; PreTokenizedStr::from_payload(&[0x81, 0xff, 0x80]).is_none());
-    assert!(rt;
-        PreTokenizedStr::from_payload(&[0x80, 0x81, 0x80, 0x80, 0x80, 0x81, 0xff, 0x81]).is_none()
-    );
-    // One token more is announced.
-    assert!(rt;
-        PreTokenizedStr::from_payload(&[
-            0x82, 0x68, 0x69, 0x82, 0x80, 0x82, 0x83, 0x82, 0x68, 0x69, 0x81
-        ])
-        .is_none()
-    );
-    Ok(())
+}
+
+// The text is no UTF-8, and then the token's text. One token more is announced.
+const FAULTY: [&[u8]; 3] = [
+    b"\x81\xff\x80",
+    b"\x80\x81\x80\x80\x80\x81\xff\x81",
+    b"\x82\x68\x69\x82\x80\x82\x83\x82\x68\x69\x81",
+];
+
+#[test]
+fn what_is_no_payload(rt: HostRuntime) {
+    for bytes in FAULTY {
+        assert!(rt; PreTokenizedStr::from_payload(bytes).is_none());
+    }
 }
 
 #[test]
@@ -110,17 +118,17 @@ fn kept_and_spelled_are_equal(rt: HostRuntime) -> Result<(), Fail> {
 
 #[test]
 fn copies_are_equal(rt: HostRuntime) -> Result<(), Fail> {
-    let alloc = rt.alloc();
-    let string = string_with(alloc, 3)?;
-    let copy = string.try_clone(alloc)?;
-    assert!(rt; copy == string);
-    if let Some((spelled, _)) = PreTokenizedStr::from_payload(&BYTES) {
-        let owned = spelled.to_owned_string(alloc)?;
-        assert!(rt; owned == string);
-    }
-    let token = token_at(alloc, 3)?;
-    let same = token.try_clone(alloc)?;
-    let other = token_at(alloc, 4)?;
-    assert!(rt; same == token && token != other);
+    let string = string_with(rt.alloc(), 3)?;
+    assert!(rt; string.try_clone(rt.alloc())? == string);
+    let (spelled, _) = PreTokenizedStr::from_payload(&BYTES).ok_or("a payload")?;
+    assert!(rt; spelled.to_owned_string(rt.alloc())? == string);
+    Ok(())
+}
+
+#[test]
+fn copies_of_tokens_are_equal(rt: HostRuntime) -> Result<(), Fail> {
+    let token = token_at(rt.alloc(), 3)?;
+    assert!(rt; token.try_clone(rt.alloc())? == token);
+    assert!(rt; token != token_at(rt.alloc(), 4)?);
     Ok(())
 }

@@ -1,149 +1,196 @@
 use serde_json::{Error, Value};
-use std::alloc::Global;
+use std::alloc::{AllocError, Global};
 use std::test::Fail;
 use tv_field::{FieldType, ParseCause, ValueParsingError};
 use tv_options::{
-    BytesOptions, COERCE, DateOptions, FacetOptions, JsonObjectOptions, NumericOptions, TextOptions,
+    BytesOptions, COERCE, DateOptions, FacetOptions, JsonObjectOptions, NumericOptions,
+    TextOptions, Type,
 };
+use tv_value::leaf::ReferenceValueLeaf;
 use tv_value::owned_value::OwnedValue;
+use tv_value::pre_tokenized::{PreTokenizedStr, TokenRef};
 use tv_value::value::Value as _;
 
-fn coerced_numbers() -> NumericOptions {
-    NumericOptions::from(COERCE)
+fn numbers(coerces: bool) -> NumericOptions {
+    if coerces {
+        NumericOptions::from(COERCE)
+    } else {
+        NumericOptions::default()
+    }
 }
 
-fn plain_numbers() -> NumericOptions {
-    NumericOptions::default()
+fn texts(coerces: bool) -> TextOptions {
+    if coerces {
+        TextOptions::from(COERCE)
+    } else {
+        TextOptions::default()
+    }
+}
+
+// A field of this type, which takes other values for its own if it coerces.
+fn field_type(kind: Type, coerces: bool) -> FieldType {
+    match kind {
+        Type::U64 => FieldType::U64(numbers(coerces)),
+        Type::I64 => FieldType::I64(numbers(coerces)),
+        Type::Bool => FieldType::Bool(numbers(coerces)),
+        Type::Date => FieldType::Date(DateOptions::default()),
+        Type::Facet => FieldType::Facet(FacetOptions::default()),
+        Type::Bytes => FieldType::Bytes(BytesOptions::default()),
+        Type::Json => FieldType::JsonObject(JsonObjectOptions::default()),
+        _ => FieldType::Str(texts(coerces)),
+    }
 }
 
 // The value of the field that the JSON text is.
 fn value_of(
     alloc: Global,
-    field_type: &FieldType,
+    kind: Type,
+    coerces: bool,
     json: &str,
 ) -> Result<Result<OwnedValue, ValueParsingError>, Error> {
     let json = Value::from_str(alloc, json)?;
-    Ok(field_type.value_from_json(alloc, json))
+    Ok(field_type(kind, coerces).value_from_json(alloc, json))
 }
 
 // Whether the JSON text is this value of the field.
-fn is_value(
+fn is_leaf(
     alloc: Global,
-    field_type: &FieldType,
+    kind: Type,
+    coerces: bool,
     json: &str,
-    wanted: &OwnedValue,
+    wanted: ReferenceValueLeaf<'_>,
 ) -> Result<bool, Error> {
-    match value_of(alloc, field_type, json)? {
-        Ok(value) => Ok(value == *wanted),
+    match value_of(alloc, kind, coerces, json)? {
+        Ok(value) => Ok((&value).as_leaf() == Some(wanted)),
         Err(_) => Ok(false),
     }
 }
 
-// Whether the JSON text is refused because a value of another kind is wanted.
-fn wants(alloc: Global, field_type: &FieldType, json: &str, wanted: &str) -> Result<bool, Error> {
-    match value_of(alloc, field_type, json)? {
-        Err(ValueParsingError::TypeError { expected, .. }) => Ok(expected == wanted),
-        _ => Ok(false),
+// The type of a field, whether it coerces, a JSON text, and its value.
+const LEAVES: [(Type, bool, &str, ReferenceValueLeaf<'static>); 6] = [
+    (Type::Date, false, "5", ReferenceValueLeaf::I64(5)),
+    (Type::U64, true, "\"+7\"", ReferenceValueLeaf::U64(7)),
+    (Type::Str, true, "null", ReferenceValueLeaf::Str("null")),
+    (Type::I64, true, "\"100\"", ReferenceValueLeaf::I64(100)),
+    (
+        Type::Bool,
+        true,
+        "\"false\"",
+        ReferenceValueLeaf::Bool(false),
+    ),
+    (
+        Type::Bytes,
+        false,
+        "\"dGhpcyBpcyBhIHRlc3Q=\"",
+        ReferenceValueLeaf::Bytes(b"this is a test"),
+    ),
+];
+
+#[test]
+fn leaves(rt: HostRuntime) -> Result<(), Fail> {
+    for (kind, coerces, json, wanted) in LEAVES {
+        assert!(rt;
+            is_leaf(rt.alloc(), kind, coerces, json, wanted)?,
+            "at {json}"
+        );
+    }
+    Ok(())
+}
+
+// Whether it is a refusal of this name that tells this.
+fn is_refusal(error: &ValueParsingError, name: &str, told: &str) -> bool {
+    match error {
+        ValueParsingError::OverflowError { expected, .. } => {
+            name == "OverflowError" && *expected == told
+        }
+        ValueParsingError::TypeError { expected, .. } => name == "TypeError" && *expected == told,
+        ValueParsingError::ParseError { cause, .. } => {
+            name == "ParseError" && told == "Facet" && matches!(cause, ParseCause::Facet)
+        }
+        ValueParsingError::InvalidBase64 { base64 } => {
+            name == "InvalidBase64" && base64.as_str() == told
+        }
+        ValueParsingError::FloatNumber => name == "FloatNumber",
+        ValueParsingError::Memory => false,
     }
 }
 
-// Whether the JSON text is refused because its number doesn't fit.
-fn overflows(
+fn is_refused(
     alloc: Global,
-    field_type: &FieldType,
+    kind: Type,
     json: &str,
-    wanted: &str,
+    (name, told): (&str, &str),
 ) -> Result<bool, Error> {
-    match value_of(alloc, field_type, json)? {
-        Err(ValueParsingError::OverflowError { expected, .. }) => Ok(expected == wanted),
-        _ => Ok(false),
+    match value_of(alloc, kind, false, json)? {
+        Ok(_) => Ok(false),
+        Err(error) => Ok(is_refusal(&error, name, told)),
     }
 }
 
+// The type of a field, a JSON text, and why it is refused.
+const REFUSED: [(Type, &str, (&str, &str)); 8] = [
+    (Type::U64, "-1", ("OverflowError", "u64")),
+    (Type::U64, "\"100\"", ("TypeError", "a u64")),
+    (
+        Type::I64,
+        "9223372036854775808",
+        ("OverflowError", "an i64 int"),
+    ),
+    (Type::I64, "\"100\"", ("TypeError", "a i64")),
+    (
+        Type::Json,
+        "{\"n\":18446744073709551616}",
+        ("FloatNumber", ""),
+    ),
+    (Type::Facet, "\"x\"", ("ParseError", "Facet")),
+    (Type::Bytes, "521", ("TypeError", "a string")),
+    (Type::Bytes, "\"-\"", ("InvalidBase64", "-")),
+];
+
 #[test]
-fn numbers(rt: HostRuntime) -> Result<(), Fail> {
-    let alloc = rt.alloc();
-    let dates = FieldType::Date(DateOptions::default());
-    assert!(rt; is_value(alloc, &dates, "5", &OwnedValue::I64(5))?);
-    let coerced = FieldType::U64(coerced_numbers());
-    assert!(rt; is_value(alloc, &coerced, "\"+7\"", &OwnedValue::U64(7))?);
-    let unsigned = FieldType::U64(plain_numbers());
-    assert!(rt; overflows(alloc, &unsigned, "-1", "u64")?);
-    assert!(rt; wants(alloc, &unsigned, "\"100\"", "a u64")?);
-    let signed = FieldType::I64(plain_numbers());
-    assert!(rt; overflows(alloc, &signed, "9223372036854775808", "an i64 int")?);
-    assert!(rt; wants(alloc, &signed, "\"100\"", "a i64")?);
+fn refusals(rt: HostRuntime) -> Result<(), Fail> {
+    for (kind, json, wanted) in REFUSED {
+        assert!(rt; is_refused(rt.alloc(), kind, json, wanted)?, "at {json}");
+    }
     Ok(())
 }
 
-#[test]
-fn coerced_values(rt: HostRuntime) -> Result<(), Fail> {
-    let alloc = rt.alloc();
-    let texts = FieldType::Str(TextOptions::from(COERCE));
-    let null = OwnedValue::Str(String::from_str(alloc, "null")?);
-    assert!(rt; is_value(alloc, &texts, "null", &null)?);
-    let signed = FieldType::I64(coerced_numbers());
-    assert!(rt; is_value(alloc, &signed, "\"100\"", &OwnedValue::I64(100))?);
-    let truths = FieldType::Bool(coerced_numbers());
-    assert!(rt; is_value(alloc, &truths, "\"false\"", &OwnedValue::Bool(false))?);
-    Ok(())
+// The object with this one entry.
+fn object(alloc: Global, key: &str, value: OwnedValue) -> Result<OwnedValue, AllocError> {
+    let mut members = Vec::new(alloc);
+    members.push((String::from_str(alloc, key)?, value))?;
+    Ok(OwnedValue::Object(members))
 }
 
 #[test]
 fn objects(rt: HostRuntime) -> Result<(), Fail> {
-    let alloc = rt.alloc();
-    let objects = FieldType::JsonObject(JsonObjectOptions::default());
-    let mut members = Vec::new(alloc);
-    members.push((
-        String::from_str(alloc, "n")?,
-        OwnedValue::U64(9223372036854775808),
-    ))?;
-    let large = OwnedValue::Object(members);
-    assert!(rt; is_value(alloc, &objects, "{\"n\":9223372036854775808}", &large)?);
-    let larger = value_of(alloc, &objects, "{\"n\":18446744073709551616}")?;
-    assert!(rt; matches!(larger, Err(ValueParsingError::FloatNumber)));
+    let large = object(rt.alloc(), "n", OwnedValue::U64(9223372036854775808))?;
+    let json = "{\"n\":9223372036854775808}";
+    let value = value_of(rt.alloc(), Type::Json, false, json)?.map_err(|_| "a value")?;
+    assert!(rt; value == large);
     Ok(())
 }
 
-#[test]
-fn facets_and_bytes(rt: HostRuntime) -> Result<(), Fail> {
-    let alloc = rt.alloc();
-    let facets = FieldType::Facet(FacetOptions::default());
-    let refused = value_of(alloc, &facets, "\"x\"")?;
-    assert!(rt;
-        matches!(
-            refused,
-            Err(ValueParsingError::ParseError {
-                cause: ParseCause::Facet,
-                ..
-            })
-        )
-    );
-    let bytes = FieldType::Bytes(BytesOptions::default());
-    let test = OwnedValue::Bytes("this is a test".as_bytes().to_vec(alloc)?);
-    assert!(rt; is_value(alloc, &bytes, "\"dGhpcyBpcyBhIHRlc3Q=\"", &test)?);
-    assert!(rt; wants(alloc, &bytes, "521", "a string")?);
-    let Err(ValueParsingError::InvalidBase64 { base64 }) = value_of(alloc, &bytes, "\"-\"")? else {
-        return Err(Fail::from("a refusal"));
-    };
-    assert_eq!(rt; base64.as_str(), "-");
-    Ok(())
+const TOKENIZED: &str =
+    "{\"text\":\"The Old\",\"tokens\":[{\"offset_from\":0,\"offset_to\":3,\"position\":0,\"text\":\"The\",\"position_length\":1}]}";
+
+// The token `The`.
+const TOKEN: TokenRef<'static> = TokenRef {
+    offset_from: 0,
+    offset_to: 3,
+    position: 0,
+    text: "The",
+    position_length: 1,
+};
+
+// Whether it is the text with its one token.
+fn is_tokenized(text: PreTokenizedStr<'_>) -> bool {
+    text.text() == "The Old" && text.len() == 1 && text.tokens().next() == Some(TOKEN)
 }
 
 #[test]
 fn texts_with_tokens(rt: HostRuntime) -> Result<(), Fail> {
-    let texts = FieldType::Str(TextOptions::default());
-    let json =
-        "{\"text\":\"The Old\",\"tokens\":[{\"offset_from\":0,\"offset_to\":3,\"position\":0,\"text\":\"The\",\"position_length\":1}]}";
-    let value = value_of(rt.alloc(), &texts, json)?.map_err(|_| "a value")?;
-    let text = (&value)
-        .as_pre_tokenized_text()
-        .ok_or("a text with tokens")?;
-    assert_eq!(rt; text.text(), "The Old");
-    assert_eq!(rt; text.len(), 1);
-    let token = text.tokens().next().ok_or("a token")?;
-    assert_eq!(rt; (token.offset_from, token.offset_to), (0, 3));
-    assert_eq!(rt; (token.position, token.position_length), (0, 1));
-    assert_eq!(rt; token.text, "The");
+    let value = value_of(rt.alloc(), Type::Str, false, TOKENIZED)?.map_err(|_| "a value")?;
+    assert!(rt; (&value).as_pre_tokenized_text().is_some_and(is_tokenized));
     Ok(())
 }

@@ -1,4 +1,4 @@
-use std::alloc::Global;
+use std::alloc::{AllocError, Global};
 use std::test::Fail;
 use tv_field::schema_error::SchemaError;
 use tv_options::{JsonObjectOptions, STRING, TextOptions};
@@ -92,16 +92,27 @@ fn names(schema: &Schema, path: &str, name: &str, rest: &str) -> bool {
     }
 }
 
+// Whether a line's path names the field that stands in the line.
+fn is_line(alloc: Global, schema: &Schema, line: &str) -> Result<bool, AllocError> {
+    let parts: Vec<&str> = line.split('\t').collect(alloc)?;
+    match parts.as_slice() {
+        [path, name, rest] => Ok(names(schema, path, name, rest)),
+        _ => Ok(false),
+    }
+}
+
 #[test]
 fn paths_name_fields(rt: HostRuntime) -> Result<(), Fail> {
     let schema = schema_of(rt.alloc(), &NAMES)?;
     for line in FOUND.split('\n') {
-        let mut parts = line.split('\t');
-        let path = parts.next().ok_or("a path")?;
-        let name = parts.next().ok_or("a name")?;
-        let rest = parts.next().ok_or("a rest")?;
-        assert!(rt; names(&schema, path, name, rest), "at {path}");
+        assert!(rt; is_line(rt.alloc(), &schema, line)?, "at {line}");
     }
+    Ok(())
+}
+
+#[test]
+fn other_paths_name_no_field(rt: HostRuntime) -> Result<(), Fail> {
+    let schema = schema_of(rt.alloc(), &NAMES)?;
     for path in NOT_FOUND.split('\n') {
         assert!(rt; schema.find_field(path).is_none(), "at {path}");
     }
@@ -114,30 +125,47 @@ fn names_with_dots(rt: HostRuntime) -> Result<(), Fail> {
     assert!(rt; names(&schema, "foo.bar.baz", "foo.bar", "baz"));
     assert!(rt; schema.find_field("foo\\.bar").is_none());
     assert!(rt; names(&schema, "foo\\.bar.x", "foo.bar", "x"));
+    Ok(())
+}
+
+#[test]
+fn names_with_escaped_dots(rt: HostRuntime) -> Result<(), Fail> {
     let schema = schema_of(rt.alloc(), &["a\\.b"])?;
     assert!(rt; names(&schema, "a\\.b", "a\\.b", ""));
     Ok(())
 }
 
+// A text `a`, and JSON objects `j`.
+fn text_and_json(alloc: Global) -> Result<Schema, SchemaError> {
+    let mut builder = SchemaBuilder::new(alloc);
+    let _text = builder.add_text_field("a", TextOptions::from(STRING))?;
+    let _json = builder.add_json_field("j", JsonObjectOptions::default())?;
+    Ok(builder.build()?)
+}
+
+// A path, the number of the default field, and the field that is found with the rest.
+const DEFAULTS: [(&str, u32, Option<(u32, &str)>); 4] = [
+    ("a.b", 1, None),
+    ("x.y", 1, Some((1, "x.y"))),
+    ("", 1, Some((1, ""))),
+    ("", 0, Some((0, ""))),
+];
+
+// What is found, with the number of its field.
+fn found<'a>(schema: &Schema, path: &'a str, default: u32) -> Option<(u32, &'a str)> {
+    let default = Field::from_field_id(default);
+    if !schema.has_field(default) {
+        return None;
+    }
+    let (field, rest) = schema.find_field_with_default(path, Some(default))?;
+    Some((field.field_id(), rest))
+}
+
 #[test]
 fn defaults_are_for_json(rt: HostRuntime) -> Result<(), Fail> {
-    let mut builder = SchemaBuilder::new(rt.alloc());
-    let text = builder.add_text_field("a", TextOptions::from(STRING))?;
-    let json = builder.add_json_field("j", JsonObjectOptions::default())?;
-    let schema = builder.build()?;
-    assert!(rt; schema.has_field(text));
-    assert!(rt; schema.has_field(json));
-    let cases = [
-        ("a.b", json, None),
-        ("x.y", json, Some((json, "x.y"))),
-        ("", json, Some((json, ""))),
-        ("", text, Some((text, ""))),
-    ];
-    for (path, default, expected) in cases {
-        assert!(rt;
-            schema.find_field_with_default(path, Some(default)) == expected,
-            "at {path}"
-        );
+    let schema = text_and_json(rt.alloc())?;
+    for (path, default, expected) in DEFAULTS {
+        assert!(rt; found(&schema, path, default) == expected, "at {path}");
     }
     Ok(())
 }

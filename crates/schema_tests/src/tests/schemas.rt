@@ -53,6 +53,11 @@ fn names(rt: HostRuntime) -> Result<(), Fail> {
     assert!(rt; is_valid_field_name("シャボン玉"));
     assert!(rt; !is_valid_field_name("-fieldname"));
     assert!(rt; !is_valid_field_name(""));
+    Ok(())
+}
+
+#[test]
+fn entries_have_valid_names(rt: HostRuntime) -> Result<(), Fail> {
     let name = String::from_str(rt.alloc(), "-fieldname")?;
     let refused = FieldEntry::new_text(name, TextOptions::default());
     assert!(rt; matches!(refused, Err(SchemaError::InvalidName)));
@@ -95,6 +100,12 @@ fn answers(entry: &FieldEntry) -> Answers {
     )
 }
 
+// Whether the entry of this name answers so, by both ways.
+fn is_answered(entry: &FieldEntry, wanted: &Answers) -> bool {
+    let both = record_options_agree(entry.field_type());
+    answers(entry) == *wanted && both == (wanted.5, wanted.5) && entry.name() == "field"
+}
+
 // Whether it is one of texts, objects, dates, bytes and addresses.
 fn kinds(field_type: &FieldType) -> [bool; 5] {
     [
@@ -109,34 +120,48 @@ fn kinds(field_type: &FieldType) -> [bool; 5] {
 #[test]
 fn each_entry_answers_for_its_type(rt: HostRuntime) -> Result<(), Fail> {
     let entries = entries(rt.alloc())?;
-    assert_eq!(rt; entries.len(), ANSWERS.len());
+    assert!(rt; entries.len() == ANSWERS.len());
     for (entry, wanted) in entries.iter().zip(ANSWERS.iter()) {
-        let both = record_options_agree(entry.field_type());
-        assert!(rt; answers(entry) == *wanted && both == (wanted.5, wanted.5));
-        assert_eq!(rt; entry.name(), "field");
+        assert!(rt; is_answered(entry, wanted));
     }
     Ok(())
 }
 
+const ASKED: [Type; 5] = [Type::Str, Type::Json, Type::Date, Type::Bytes, Type::IpAddr];
+
+// Whether it is of this type, and of no other.
+fn is_of_type(field_type: &FieldType, value_type: Type) -> bool {
+    field_type.value_type() == value_type
+        && kinds(field_type) == ASKED.map(|asked| asked == value_type)
+}
+
 #[test]
 fn each_type_knows_itself(rt: HostRuntime) -> Result<(), Fail> {
-    let asked = [Type::Str, Type::Json, Type::Date, Type::Bytes, Type::IpAddr];
     for (entry, value_type) in entries(rt.alloc())?.iter().zip(Type::iter_values()) {
-        assert_eq!(rt; entry.field_type().value_type(), value_type);
-        let wanted = asked.map(|it| it == value_type);
-        assert_eq!(rt; kinds(entry.field_type()), wanted);
+        assert!(rt; is_of_type(entry.field_type(), value_type));
     }
     Ok(())
+}
+
+// Whether copies of an entry and of its type are equal to these.
+fn is_copied(alloc: Global, entry: &FieldEntry) -> Result<bool, Fail> {
+    let copy = entry.try_clone(alloc)?;
+    let field_type = entry.field_type().try_clone(alloc)?;
+    Ok(copy == *entry && field_type == *entry.field_type())
 }
 
 #[test]
 fn copies_are_equal(rt: HostRuntime) -> Result<(), Fail> {
     for entry in &entries(rt.alloc())? {
-        let copy = entry.try_clone(rt.alloc())?;
-        assert!(rt; copy == *entry);
-        let copy = entry.field_type().try_clone(rt.alloc())?;
-        assert!(rt; copy == *entry.field_type());
-        let other = FieldType::Bool(NumericOptions::default().set_coerce());
+        assert!(rt; is_copied(rt.alloc(), entry)?);
+    }
+    Ok(())
+}
+
+#[test]
+fn other_types_are_not_equal(rt: HostRuntime) -> Result<(), Fail> {
+    let other = FieldType::Bool(NumericOptions::default().set_coerce());
+    for entry in &entries(rt.alloc())? {
         assert!(rt; other != *entry.field_type());
     }
     Ok(())
@@ -184,7 +209,7 @@ fn is_field_of(schema: &Schema, field: Field, entry: &FieldEntry) -> bool {
 fn each_call_adds_a_field_of_its_type(rt: HostRuntime) -> Result<(), Fail> {
     let schema = schema_of_all_types(rt.alloc())?;
     let wanted = entries(rt.alloc())?;
-    assert_eq!(rt; schema.num_fields(), wanted.len());
+    assert!(rt; schema.num_fields() == wanted.len());
     for ((field, entry), other) in schema.fields().zip(wanted.iter()) {
         assert!(rt; entry.field_type() == other.field_type());
         assert!(rt; is_field_of(&schema, field, entry));
@@ -195,54 +220,67 @@ fn each_call_adds_a_field_of_its_type(rt: HostRuntime) -> Result<(), Fail> {
 #[test]
 fn another_name_names_no_field(rt: HostRuntime) -> Result<(), Fail> {
     let schema = schema_of_all_types(rt.alloc())?;
-    assert_eq!(rt; schema.get_field("Float"), Err(SchemaError::FieldNotFound));
+    assert!(rt; schema.get_field("Float") == Err(SchemaError::FieldNotFound));
     Ok(())
+}
+
+// Whether a field of texts of this name is refused so.
+fn refuses(builder: &mut SchemaBuilder, name: &str, error: &SchemaError) -> bool {
+    builder.add_text_field(name, TEXT).err().as_ref() == Some(error)
 }
 
 #[test]
 fn names_are_taken_once(rt: HostRuntime) -> Result<(), Fail> {
     let mut builder = Schema::builder(rt.alloc());
     let field = builder.add_text_field("a", TEXT)?;
-    let refused = [
-        (
-            builder.add_text_field("a", TEXT),
-            SchemaError::DuplicateName,
-        ),
-        (builder.add_text_field("-a", TEXT), SchemaError::InvalidName),
-        (builder.add_text_field("", TEXT), SchemaError::InvalidName),
-    ];
-    for (answer, error) in refused {
-        assert_eq!(rt; answer, Err(error));
-    }
-    let schema = builder.build()?;
-    assert_eq!(rt; schema.num_fields(), 1);
-    assert_eq!(rt; field.field_id(), 0);
-    assert_eq!(rt; schema.get_field("a"), Ok(field));
+    assert!(rt; field.field_id() == 0);
+    assert!(rt; refuses(&mut builder, "a", &SchemaError::DuplicateName));
+    assert!(rt; refuses(&mut builder, "-a", &SchemaError::InvalidName));
+    assert!(rt; refuses(&mut builder, "", &SchemaError::InvalidName));
+    assert!(rt; has_one_field(&builder.build()?, field));
+    Ok(())
+}
+
+// Whether the field `a` is this, and the only one.
+fn has_one_field(schema: &Schema, field: Field) -> bool {
+    schema.num_fields() == 1 && schema.get_field("a") == Ok(field)
+}
+
+// The schema of one field of texts.
+fn schema_of_texts(alloc: Global, name: &str) -> Result<Schema, SchemaError> {
+    let mut builder = Schema::builder(alloc);
+    builder.add_text_field(name, TEXT)?;
+    Ok(builder.build()?)
+}
+
+#[test]
+fn builders_are_printed(rt: HostRuntime) -> Result<(), Fail> {
+    let mut builder = Schema::builder(rt.alloc());
+    builder.add_text_field("a", TEXT)?;
+    assert!(rt; !format!(in rt.alloc(); "{builder:?}")?.is_empty());
     Ok(())
 }
 
 #[test]
 fn schemas_are_equal_by_their_fields(rt: HostRuntime) -> Result<(), Fail> {
-    let mut builder = Schema::builder(rt.alloc());
-    builder.add_text_field("a", TEXT)?;
-    assert!(rt; !format!(in rt.alloc(); "{builder:?}")?.is_empty());
-    let schema = builder.build()?;
-    assert_eq!(rt; schema.clone()?, schema);
+    let schema = schema_of_texts(rt.alloc(), "a")?;
+    assert!(rt; schema.clone()? == schema);
     assert!(rt; Schema::builder(rt.alloc()).build()? != schema);
     Ok(())
 }
 
+// The name of the tokenizer of a field of texts.
+fn tokenizer(field_type: &FieldType) -> Option<&str> {
+    match field_type {
+        FieldType::Str(options) => Some(options.get_indexing_options()?.tokenizer()),
+        _ => None,
+    }
+}
+
 #[test]
 fn text_fields_have_the_default_tokenizer(rt: HostRuntime) -> Result<(), Fail> {
-    let mut builder = Schema::builder(rt.alloc());
-    let field = builder.add_text_field("body", TEXT)?;
-    let schema = builder.build()?;
-    let FieldType::Str(options) = schema.get_field_entry(field).field_type() else {
-        return Err(Fail::from("not a field of texts"));
-    };
-    let tokenizer = options
-        .get_indexing_options()
-        .map(|indexing| indexing.tokenizer());
-    assert_eq!(rt; tokenizer, Some("default"));
+    let schema = schema_of_texts(rt.alloc(), "body")?;
+    let (_, entry) = schema.fields().next().ok_or("a field")?;
+    assert!(rt; tokenizer(entry.field_type()) == Some("default"));
     Ok(())
 }

@@ -1,6 +1,6 @@
 //! Values read one by one, over each source.
 
-use crate::tests::sources::{DripSource, endings, trees};
+use crate::tests::sources::{DripSource, endings, is_refused, trees};
 use std::alloc::{AllocError, Global};
 use std::test::Fail;
 use tv_base::{ByteSource, Cause, SliceSource};
@@ -33,32 +33,38 @@ fn refusals<S: ByteSource + Drop>(source: S) -> Refusals {
     (answer, taken, later, reader.bytes_read())
 }
 
+/// Whether the number is refused as a text, and so a later read, at no more bytes than the first.
+fn are_marked(refusals: Refusals) -> bool {
+    let expected = ValueType::U64;
+    let actual = ValueType::String;
+    let (answer, taken, later, finally) = refusals;
+    answer == Err(DeserializeError::TypeMismatch { expected, actual })
+        && taken == 1
+        && later == Some(DeserializeError::AlreadyFailed)
+        && finally == 1
+}
+
 #[test]
 fn a_refusal_is_marked(rt: HostRuntime) {
-    for (answer, taken, later, finally) in [
-        refusals(SliceSource::new(TEXT)),
-        refusals(DripSource::new(TEXT)),
-        refusals(ReadSource::new(TEXT)),
-    ] {
-        let expected = ValueType::U64;
-        let actual = ValueType::String;
-        let mismatch = DeserializeError::TypeMismatch { expected, actual };
-        assert_eq!(rt; answer, Err(mismatch));
-        assert_eq!(rt; (taken, finally), (1, 1));
-        assert_eq!(rt; later, Some(DeserializeError::AlreadyFailed));
+    assert!(rt; are_marked(refusals(SliceSource::new(TEXT))));
+    assert!(rt; are_marked(refusals(DripSource::new(TEXT))));
+    assert!(rt; are_marked(refusals(ReadSource::new(TEXT))));
+}
+
+/// Whether reading a number is refused.
+fn refuses_a_number<S: ByteSource>(reader: &mut StoreReader<S>) -> bool {
+    match BinaryValueDeserializer::from_reader(reader) {
+        Ok(value) => value.deserialize_u64().is_err(),
+        Err(_) => true,
     }
 }
 
 #[test]
 fn a_refused_reader_gives_its_source_back(rt: HostRuntime) {
     let mut reader = StoreReader::new(SliceSource::new(TEXT), DocStoreVersion::V2);
-    let answer = match BinaryValueDeserializer::from_reader(&mut reader) {
-        Ok(value) => value.deserialize_u64(),
-        Err(error) => Err(error),
-    };
-    assert!(rt; answer.is_err());
+    assert!(rt; refuses_a_number(&mut reader));
     assert!(rt; reader.has_failed());
-    assert_eq!(rt; reader.into_source().rest().len(), 2);
+    assert!(rt; reader.into_source().rest().len() == 2);
 }
 
 /// Null, a text and a number in an array.
@@ -87,30 +93,46 @@ fn nanoseconds(document: &CompactDoc) -> Option<i64> {
     value.as_datetime().map(|date| date.into_timestamp_nanos())
 }
 
-#[test]
-fn dates_of_version_one_are_microseconds(rt: HostRuntime) {
-    let alloc = rt.alloc();
-    let cases: [(&[u8], Option<i64>); 4] = [
-        (
-            b"\x81\0\0\0\0\x05\x09\xac\x1c\x5a\x64\x3b\xdf\xff",
-            Some(-9223372036854775000),
-        ),
-        (b"\x81\0\0\0\0\x05\x08\xac\x1c\x5a\x64\x3b\xdf\xff", None),
-        (
-            b"\x81\0\0\0\0\x05\xf7\x53\xe3\xa5\x9b\xc4\x20\0",
-            Some(9223372036854775000),
-        ),
-        (b"\x81\0\0\0\0\x05\xf8\x53\xe3\xa5\x9b\xc4\x20\0", None),
-    ];
-    for (bytes, date) in cases {
-        for (ending, left) in endings(alloc, bytes, DocStoreVersion::V1) {
-            let expected = match date {
-                Some(nanoseconds) => Ok(Some(nanoseconds)),
-                None => Err(DeserializeError::CorruptedValue(Cause::DateRange)),
-            };
-            let read = ending.map(|document| nanoseconds(&document));
-            assert_eq!(rt; read, expected, "at {bytes:?}");
-            assert_eq!(rt; left, 0);
+/// Whether each source gives this date, with no byte left.
+fn is_date(alloc: Global, bytes: &[u8], date: i64) -> Result<bool, DeserializeError> {
+    for (ending, left) in endings(alloc, bytes, DocStoreVersion::V1) {
+        if left != 0 || nanoseconds(&ending?) != Some(date) {
+            return Ok(false);
         }
+    }
+    Ok(true)
+}
+
+/// Dates, and their nanoseconds.
+const DATES: [(&[u8], i64); 2] = [
+    (
+        b"\x81\0\0\0\0\x05\x09\xac\x1c\x5a\x64\x3b\xdf\xff",
+        -9223372036854775000,
+    ),
+    (
+        b"\x81\0\0\0\0\x05\xf7\x53\xe3\xa5\x9b\xc4\x20\0",
+        9223372036854775000,
+    ),
+];
+
+#[test]
+fn dates_of_version_one_are_microseconds(rt: HostRuntime) -> Result<(), Fail> {
+    for (bytes, date) in DATES {
+        assert!(rt; is_date(rt.alloc(), bytes, date)?, "at {bytes:?}");
+    }
+    Ok(())
+}
+
+/// Dates that are too early and too late to be nanoseconds of 64 bits.
+const FAR_DATES: [&[u8]; 2] = [
+    b"\x81\0\0\0\0\x05\x08\xac\x1c\x5a\x64\x3b\xdf\xff",
+    b"\x81\0\0\0\0\x05\xf8\x53\xe3\xa5\x9b\xc4\x20\0",
+];
+
+#[test]
+fn other_dates_of_version_one_are_refused(rt: HostRuntime) {
+    for bytes in FAR_DATES {
+        let version = DocStoreVersion::V1;
+        assert!(rt; is_refused(rt.alloc(), bytes, version, Cause::DateRange, 0));
     }
 }

@@ -24,15 +24,20 @@ fn is_spelled(alloc: Global, value: &OwnedValue, bytes: &[u8]) -> Result<bool, F
 }
 
 #[test]
-fn leaves_are_written_and_read_back(rt: HostRuntime) -> Result<(), Fail> {
-    let alloc = rt.alloc();
-    assert!(rt; is_spelled(alloc, &OwnedValue::U64(123), b"\x01\x7b\0\0\0\0\0\0\0")?);
+fn numbers_are_written_and_read_back(rt: HostRuntime) -> Result<(), Fail> {
+    let number = OwnedValue::U64(123);
+    assert!(rt; is_spelled(rt.alloc(), &number, b"\x01\x7b\0\0\0\0\0\0\0")?);
     let number = OwnedValue::I64(-123);
-    assert!(rt; is_spelled(alloc, &number, b"\x02\x85\xff\xff\xff\xff\xff\xff\xff")?);
+    assert!(rt; is_spelled(rt.alloc(), &number, b"\x02\x85\xff\xff\xff\xff\xff\xff\xff")?);
+    Ok(())
+}
+
+#[test]
+fn leaves_are_written_and_read_back(rt: HostRuntime) -> Result<(), Fail> {
     let date = OwnedValue::Date(DateTime::from_timestamp_nanos(100000));
-    assert!(rt; is_spelled(alloc, &date, b"\x05\xa0\x86\x01\0\0\0\0\0")?);
-    let facet = OwnedValue::Facet(Facet::from_path(alloc, &["hello", "world"])?);
-    assert!(rt; is_spelled(alloc, &facet, b"\x03\x8bhello\0world")?);
+    assert!(rt; is_spelled(rt.alloc(), &date, b"\x05\xa0\x86\x01\0\0\0\0\0")?);
+    let facet = OwnedValue::Facet(Facet::from_path(rt.alloc(), &["hello", "world"])?);
+    assert!(rt; is_spelled(rt.alloc(), &facet, b"\x03\x8bhello\0world")?);
     Ok(())
 }
 
@@ -45,14 +50,17 @@ fn three_values(alloc: Global) -> Result<Vec<OwnedValue>, AllocError> {
     Ok(items)
 }
 
+// Two nulls.
+fn two_nulls(alloc: Global) -> Result<OwnedValue, AllocError> {
+    Ok(OwnedValue::Array(vec![in alloc; OwnedValue::Null, OwnedValue::Null]?))
+}
+
 #[test]
 fn arrays_are_written_and_read_back(rt: HostRuntime) -> Result<(), Fail> {
-    let alloc = rt.alloc();
-    let nulls = OwnedValue::Array(vec![in alloc; OwnedValue::Null, OwnedValue::Null]?);
-    assert!(rt; is_spelled(alloc, &nulls, b"\x0c\x82\x0b\x0b")?);
-    let values = OwnedValue::Array(three_values(alloc)?);
+    assert!(rt; is_spelled(rt.alloc(), &two_nulls(rt.alloc())?, b"\x0c\x82\x0b\x0b")?);
+    let values = OwnedValue::Array(three_values(rt.alloc())?);
     let bytes = b"\x0c\x83\x0b\x00\x89Some demo\x02\x39\x30\0\0\0\0\0\0";
-    assert!(rt; is_spelled(alloc, &values, bytes)?);
+    assert!(rt; is_spelled(rt.alloc(), &values, bytes)?);
     Ok(())
 }
 
@@ -102,18 +110,29 @@ fn tokens_in_an_array_are_kept(rt: HostRuntime) -> Result<(), Fail> {
     Ok(())
 }
 
+// A null is written to the array.
+fn write_null(array: &mut BinaryArraySerializer<'_, VecSink>) -> Result<(), SerializeError> {
+    array.serialize_value(&&OwnedValue::Null)
+}
+
+#[test]
+fn arrays_have_no_more_values_than_announced(rt: HostRuntime) -> Result<(), Fail> {
+    let mut sink = VecSink::new(rt.alloc());
+    let mut array = BinaryArraySerializer::begin(1, &mut sink)?;
+    write_null(&mut array)?;
+    assert!(rt; write_null(&mut array) == Err(SerializeError::WrongCount));
+    array.end()?;
+    assert!(rt; sink.as_slice() == b"\x81\x0b".as_slice());
+    Ok(())
+}
+
 #[test]
 fn arrays_have_as_many_values_as_announced(rt: HostRuntime) -> Result<(), Fail> {
     let mut sink = VecSink::new(rt.alloc());
-    let mut array = BinaryArraySerializer::begin(1, &mut sink)?;
-    array.serialize_value(&&OwnedValue::Null)?;
-    let refused = array.serialize_value(&&OwnedValue::Null);
-    assert_eq!(rt; refused, Err(SerializeError::WrongCount));
-    array.end()?;
     let mut array = BinaryArraySerializer::begin(2, &mut sink)?;
-    array.serialize_value(&&OwnedValue::Null)?;
-    assert_eq!(rt; array.end(), Err(SerializeError::WrongCount));
-    assert_eq!(rt; sink.as_slice(), b"\x81\x0b\x82\x0b".as_slice());
+    write_null(&mut array)?;
+    assert!(rt; array.end() == Err(SerializeError::WrongCount));
+    assert!(rt; sink.as_slice() == b"\x82\x0b".as_slice());
     Ok(())
 }
 
@@ -123,12 +142,24 @@ fn objects_announce_keys_and_values(rt: HostRuntime) -> Result<(), Fail> {
     let mut object = BinaryObjectSerializer::begin(1, &mut sink)?;
     object.serialize_entry("k", &&OwnedValue::Null)?;
     object.end()?;
-    assert_eq!(rt; sink.as_slice(), b"\x82\x00\x81k\x0b".as_slice());
-    let most = BinaryObjectSerializer::begin(9223372036854775807, &mut sink)?.end();
-    assert_eq!(rt; most, Err(SerializeError::WrongCount));
-    let many = BinaryObjectSerializer::begin(9223372036854775808, &mut sink).map(|_| ());
-    assert_eq!(rt; many, Err(SerializeError::TooMany));
-    let number = b"\x7e\x7f\x7f\x7f\x7f\x7f\x7f\x7f\x7f\x81";
-    assert!(rt; sink.as_slice().ends_with(number));
+    assert!(rt; sink.as_slice() == b"\x82\x00\x81k\x0b".as_slice());
     Ok(())
+}
+
+#[test]
+fn objects_announce_the_most_entries(rt: HostRuntime) -> Result<(), Fail> {
+    let mut sink = VecSink::new(rt.alloc());
+    let most = BinaryObjectSerializer::begin(9223372036854775807, &mut sink)?.end();
+    assert!(rt; most == Err(SerializeError::WrongCount));
+    let number = b"\x7e\x7f\x7f\x7f\x7f\x7f\x7f\x7f\x7f\x81";
+    assert!(rt; sink.as_slice() == number.as_slice());
+    Ok(())
+}
+
+#[test]
+fn objects_of_more_entries_are_refused(rt: HostRuntime) {
+    let mut sink = VecSink::new(rt.alloc());
+    let many = BinaryObjectSerializer::begin(9223372036854775808, &mut sink).map(|_| ());
+    assert!(rt; many == Err(SerializeError::TooMany));
+    assert!(rt; sink.as_slice().is_empty());
 }

@@ -5,7 +5,7 @@ ghost use Rattle.tv_base.specs.Source.{AllBytes};
 
 use std::alloc::Global;
 use std::io;
-use tv_base::{ByteSource, SliceSource};
+use tv_base::{ByteSource, Cause, SliceSource};
 use tv_doc::document::CompactDoc;
 use tv_io::ReadSource;
 use tv_reader::{DeserializeError, DocStoreVersion};
@@ -93,6 +93,23 @@ pub fn endings(
     ]
 }
 
+/// Whether a document is refused for this cause, over each source, with so many bytes left.
+pub fn is_refused(
+    alloc: Global,
+    bytes: &[u8],
+    version: DocStoreVersion,
+    cause: Cause,
+    rest: usize,
+) -> bool {
+    let refused = DeserializeError::CorruptedValue(cause);
+    for (ending, left) in endings(alloc, bytes, version) {
+        if left != rest || ending.err().as_ref() != Some(&refused) {
+            return false;
+        }
+    }
+    true
+}
+
 fn read<V: ValueDeserialize, S: ByteSource + Drop>(
     alloc: Global,
     source: S,
@@ -111,6 +128,30 @@ pub fn readings<V: ValueDeserialize>(
         read(alloc, DripSource::new(bytes)),
         read(alloc, ReadSource::new(bytes)),
     ]
+}
+
+/// Whether this value is read over each source.
+pub fn reads_as<V: ValueDeserialize + PartialEq>(alloc: Global, bytes: &[u8], value: &V) -> bool {
+    for read in readings::<V>(alloc, bytes) {
+        if read.ok().as_ref() != Some(value) {
+            return false;
+        }
+    }
+    true
+}
+
+/// Whether a value of this type is refused for this, over each source.
+pub fn refuses<V: ValueDeserialize>(
+    alloc: Global,
+    bytes: &[u8],
+    refused: &DeserializeError,
+) -> bool {
+    for read in readings::<V>(alloc, bytes) {
+        if read.err().as_ref() != Some(refused) {
+            return false;
+        }
+    }
+    true
 }
 
 fn tree<S: ByteSource + Drop>(alloc: Global, source: S) -> Result<OwnedValue, DeserializeError> {

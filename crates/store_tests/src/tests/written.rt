@@ -5,8 +5,9 @@ use std::collections::BTreeMap;
 use std::test::Fail;
 use tv_base::VecSink;
 use tv_doc::document::CompactDoc;
+use tv_field::SchemaError;
 use tv_options::{JsonObjectOptions, STORED};
-use tv_schema::SchemaBuilder;
+use tv_schema::{Schema, SchemaBuilder};
 use tv_store::BinaryDocumentSerializer;
 use tv_value::field::Field;
 use tv_value::owned_value::OwnedValue;
@@ -17,11 +18,16 @@ fn field(number: u32) -> Field {
     Field::from_field_id(number)
 }
 
-// What is written of a document whose one field is stored.
-fn written(alloc: Global, document: &CompactDoc) -> Result<Vec<u8>, Fail> {
+// The schema of one field, which is stored.
+fn schema(alloc: Global) -> Result<Schema, SchemaError> {
     let mut builder = SchemaBuilder::new(alloc);
     let _field = builder.add_json_field("j", JsonObjectOptions::from(STORED))?;
-    let schema = builder.build()?;
+    Ok(builder.build()?)
+}
+
+// What is written of a document with that schema.
+fn written(alloc: Global, document: &CompactDoc) -> Result<Vec<u8>, Fail> {
+    let schema = schema(alloc)?;
     let mut sink = VecSink::new(alloc);
     if document.fits(&schema) {
         BinaryDocumentSerializer::new(&mut sink, &schema).serialize_doc(document)?;
@@ -43,7 +49,7 @@ fn a_map_is_an_object(rt: HostRuntime) -> Result<(), Fail> {
     document.add_object(field(0), &two_entries(alloc)?)?;
     let bytes =
         b"\x81\0\0\0\0\x0d\x84\x00\x81a\x01\x01\0\0\0\0\0\0\0\x00\x81b\x01\x02\0\0\0\0\0\0\0";
-    assert_eq!(rt; written(alloc, &document)?.as_slice(), bytes.as_slice());
+    assert!(rt; written(alloc, &document)?.as_slice() == bytes.as_slice());
     Ok(())
 }
 
@@ -77,16 +83,19 @@ fn written_of(alloc: Global, value: &OwnedValue) -> Result<Vec<u8>, Fail> {
     written(alloc, &document)
 }
 
-#[test]
-fn nested_values_are_written(rt: HostRuntime) -> Result<(), Fail> {
-    let alloc = rt.alloc();
+// An array in an array, which holds an empty array and one of null.
+fn arrays(alloc: Global) -> Result<OwnedValue, AllocError> {
     let nulls = OwnedValue::Array(vec![in alloc; OwnedValue::Null]?);
     let empty = OwnedValue::Array(Vec::new(alloc));
     let inner = OwnedValue::Array(vec![in alloc; empty, nulls]?);
-    let outer = OwnedValue::Array(vec![in alloc; inner]?);
-    let value = object(alloc, "my-array", outer)?;
+    Ok(OwnedValue::Array(vec![in alloc; inner]?))
+}
+
+#[test]
+fn nested_values_are_written(rt: HostRuntime) -> Result<(), Fail> {
+    let value = object(rt.alloc(), "my-array", arrays(rt.alloc())?)?;
     let bytes = b"\x81\0\0\0\0\x0d\x82\x00\x88my-array\x0c\x81\x0c\x82\x0c\x80\x0c\x81\x0b";
-    assert_eq!(rt; written_of(alloc, &value)?.as_slice(), bytes.as_slice());
+    assert!(rt; written_of(rt.alloc(), &value)?.as_slice() == bytes.as_slice());
     Ok(())
 }
 
@@ -94,10 +103,7 @@ fn nested_values_are_written(rt: HostRuntime) -> Result<(), Fail> {
 fn a_text_with_tokens_is_written_as_its_text(rt: HostRuntime) -> Result<(), Fail> {
     let value = OwnedValue::PreTokStr(tokenized(rt.alloc())?);
     let bytes = b"\x81\0\0\0\0\x00\x82hi";
-    assert_eq!(rt;
-        written_of(rt.alloc(), &value)?.as_slice(),
-        bytes.as_slice()
-    );
+    assert!(rt; written_of(rt.alloc(), &value)?.as_slice() == bytes.as_slice());
     Ok(())
 }
 
@@ -136,13 +142,18 @@ fn is_deep(document: &CompactDoc) -> bool {
     value.as_value().is_null()
 }
 
-#[test]
-fn deep_values_are_kept(rt: HostRuntime) -> Result<(), Fail> {
-    let alloc = rt.alloc();
+// A document whose one value is those arrays.
+fn deep_document(alloc: Global) -> Result<CompactDoc, Fail> {
     let mut document = CompactDoc::new(alloc);
     document.add_field_value(field(0), &&deep(alloc)?)?;
+    Ok(document)
+}
+
+#[test]
+fn deep_values_are_kept(rt: HostRuntime) -> Result<(), Fail> {
+    let document = deep_document(rt.alloc())?;
     assert!(rt; is_deep(&document));
-    let bytes = deep_bytes(alloc)?;
-    assert_eq!(rt; written(alloc, &document)?.as_slice(), bytes.as_slice());
+    let bytes = deep_bytes(rt.alloc())?;
+    assert!(rt; written(rt.alloc(), &document)?.as_slice() == bytes.as_slice());
     Ok(())
 }

@@ -1,6 +1,6 @@
 //! Terms as the original makes them: in each line a field's number, a value, and the term's bytes in hexadecimal digits.
 
-use std::alloc::Global;
+use std::alloc::{AllocError, Global};
 use std::net::Ipv6Addr;
 use std::test::Fail;
 use tv_term::Term;
@@ -565,106 +565,147 @@ fn bytes_of(alloc: Global, digits: &str) -> Result<Vec<u8>, Fail> {
 }
 
 #[test]
-fn numbers(rt: HostRuntime) -> Result<(), Fail> {
-    let alloc = rt.alloc();
+fn unsigned_numbers(rt: HostRuntime) -> Result<(), Fail> {
     for (field, value, expected) in &UNSIGNED {
-        let term = Term::from_field_u64(alloc, Field::from_field_id(*field), *value)?;
-        assert!(rt; has_bytes(alloc, &term, *field, expected)?);
-        assert_eq!(rt; term.value().as_u64(), Some(*value));
+        let term = Term::from_field_u64(rt.alloc(), Field::from_field_id(*field), *value)?;
+        assert!(rt; has_bytes(rt.alloc(), &term, *field, expected)?);
+        assert!(rt; term.value().as_u64() == Some(*value));
     }
+    Ok(())
+}
+
+#[test]
+fn signed_numbers(rt: HostRuntime) -> Result<(), Fail> {
     for (field, value, expected) in &SIGNED {
-        let term = Term::from_field_i64(alloc, Field::from_field_id(*field), *value)?;
-        assert!(rt; has_bytes(alloc, &term, *field, expected)?);
-        assert_eq!(rt; term.value().as_i64(), Some(*value));
+        let term = Term::from_field_i64(rt.alloc(), Field::from_field_id(*field), *value)?;
+        assert!(rt; has_bytes(rt.alloc(), &term, *field, expected)?);
+        assert!(rt; term.value().as_i64() == Some(*value));
     }
+    Ok(())
+}
+
+#[test]
+fn truth_values(rt: HostRuntime) -> Result<(), Fail> {
     for (field, value, expected) in &TRUTHS {
-        let term = Term::from_field_bool(alloc, Field::from_field_id(*field), *value)?;
-        assert!(rt; has_bytes(alloc, &term, *field, expected)?);
-        assert_eq!(rt; term.value().as_bool(), Some(*value));
+        let term = Term::from_field_bool(rt.alloc(), Field::from_field_id(*field), *value)?;
+        assert!(rt; has_bytes(rt.alloc(), &term, *field, expected)?);
+        assert!(rt; term.value().as_bool() == Some(*value));
     }
     Ok(())
 }
 
 #[test]
 fn dates(rt: HostRuntime) -> Result<(), Fail> {
-    let alloc = rt.alloc();
     for (field, nanoseconds, expected) in &DATES {
         let date = DateTime::from_timestamp_nanos(*nanoseconds);
-        let term = Term::from_field_date(alloc, Field::from_field_id(*field), date)?;
-        assert!(rt; has_bytes(alloc, &term, *field, expected)?);
-        assert_eq!(rt; term.value().as_date(), Some(date));
-    }
-    for (field, nanoseconds, expected) in &SEARCHED_DATES {
-        let date = DateTime::from_timestamp_nanos(*nanoseconds);
-        let field_of_dates = Field::from_field_id(*field);
-        let term = Term::from_field_date_for_search(alloc, field_of_dates, date)?;
-        assert!(rt; has_bytes(alloc, &term, *field, expected)?);
+        let term = Term::from_field_date(rt.alloc(), Field::from_field_id(*field), date)?;
+        assert!(rt; has_bytes(rt.alloc(), &term, *field, expected)?);
+        assert!(rt; term.value().as_date() == Some(date));
     }
     Ok(())
 }
 
 #[test]
-fn texts_bytes_and_addresses(rt: HostRuntime) -> Result<(), Fail> {
-    let alloc = rt.alloc();
-    for (field, text, expected) in &TEXTS {
-        let term = Term::from_field_text(alloc, Field::from_field_id(*field), text)?;
-        assert!(rt; has_bytes(alloc, &term, *field, expected)?);
-        assert_eq!(rt; term.value().as_str(), Some(*text));
-    }
-    for (field, digits, expected) in &BYTES {
-        let bytes = bytes_of(alloc, digits)?;
-        let term = Term::from_field_bytes(alloc, Field::from_field_id(*field), &bytes)?;
-        assert!(rt; has_bytes(alloc, &term, *field, expected)?);
-        assert_eq!(rt; term.value().as_bytes(), Some(bytes.as_slice()));
-    }
-    for (field, number, expected) in &ADDRESSES {
-        let address = Ipv6Addr::from_bits(*number);
-        let term = Term::from_field_ip_addr(alloc, Field::from_field_id(*field), address)?;
-        assert!(rt; has_bytes(alloc, &term, *field, expected)?);
-        assert_eq!(rt; term.value().as_ip_addr(), Some(address));
+fn searched_dates(rt: HostRuntime) -> Result<(), Fail> {
+    for (field, nanoseconds, expected) in &SEARCHED_DATES {
+        let date = DateTime::from_timestamp_nanos(*nanoseconds);
+        let searched = Field::from_field_id(*field);
+        let term = Term::from_field_date_for_search(rt.alloc(), searched, date)?;
+        assert!(rt; has_bytes(rt.alloc(), &term, *field, expected)?);
     }
     Ok(())
 }
 
+#[test]
+fn texts(rt: HostRuntime) -> Result<(), Fail> {
+    for (field, text, expected) in &TEXTS {
+        let term = Term::from_field_text(rt.alloc(), Field::from_field_id(*field), text)?;
+        assert!(rt; has_bytes(rt.alloc(), &term, *field, expected)?);
+        assert!(rt; term.value().as_str() == Some(*text));
+    }
+    Ok(())
+}
+
+#[test]
+fn bytes(rt: HostRuntime) -> Result<(), Fail> {
+    for (field, digits, expected) in &BYTES {
+        let bytes = bytes_of(rt.alloc(), digits)?;
+        let term = Term::from_field_bytes(rt.alloc(), Field::from_field_id(*field), &bytes)?;
+        assert!(rt; has_bytes(rt.alloc(), &term, *field, expected)?);
+        assert!(rt; term.value().as_bytes() == Some(bytes.as_slice()));
+    }
+    Ok(())
+}
+
+#[test]
+fn addresses(rt: HostRuntime) -> Result<(), Fail> {
+    for (field, number, expected) in &ADDRESSES {
+        let address = Ipv6Addr::from_bits(*number);
+        let term = Term::from_field_ip_addr(rt.alloc(), Field::from_field_id(*field), address)?;
+        assert!(rt; has_bytes(rt.alloc(), &term, *field, expected)?);
+        assert!(rt; term.value().as_ip_addr() == Some(address));
+    }
+    Ok(())
+}
+
+// Appends the value of this type.
 fn append(term: &mut Term, kind: &str, value: &str) -> Result<(), Fail> {
     match kind {
+        "bool" => term.append_type_and_fast_value(value == "true")?,
+        "str" => term.append_type_and_str(value)?,
         "u64" => {
             let number: u64 = value.parse().ok().ok_or("a number")?;
             term.append_type_and_fast_value(number)?;
         }
-        "i64" => {
-            let number: i64 = value.parse().ok().ok_or("a number")?;
-            term.append_type_and_fast_value(number)?;
-        }
-        "bool" => term.append_type_and_fast_value(value == "true")?,
-        "date" => {
-            let nanoseconds: i64 = value.parse().ok().ok_or("a number")?;
-            term.append_type_and_fast_value(DateTime::from_timestamp_nanos(nanoseconds))?;
-        }
-        _ => term.append_type_and_str(value)?,
+        _ => append_signed(term, kind, value.parse().ok().ok_or("a number")?)?,
     }
     Ok(())
 }
 
+// Appends the number, or the date so many nanoseconds after 1970.
+fn append_signed(term: &mut Term, kind: &str, number: i64) -> Result<(), AllocError> {
+    match kind {
+        "date" => term.append_type_and_fast_value(DateTime::from_timestamp_nanos(number)),
+        _ => term.append_type_and_fast_value(number),
+    }
+}
+
+// Whether the term of this path and value has these bytes.
+fn is_json_term(
+    alloc: Global,
+    field: u32,
+    (path, expand_dots): (&str, bool),
+    (kind, value): (&str, &str),
+    expected: &str,
+) -> Result<bool, Fail> {
+    let json = Field::from_field_id(field);
+    let mut term = Term::from_field_json_path(alloc, json, path, expand_dots)?;
+    append(&mut term, kind, value)?;
+    has_bytes(alloc, &term, field, expected)
+}
+
+// Whether the term of a line's parts has the bytes that stand last in the line.
+fn is_line(alloc: Global, line: &str) -> Result<bool, Fail> {
+    let parts: Vec<&str> = line.split('\t').collect(alloc)?;
+    match parts.as_slice() {
+        [field, path, dots, kind, value, expected] => {
+            let field: u32 = field.parse().ok().ok_or("a number")?;
+            is_json_term(
+                alloc,
+                field,
+                (path, *dots == "true"),
+                (kind, value),
+                expected,
+            )
+        }
+        _ => Ok(false),
+    }
+}
+
 #[test]
 fn json_values(rt: HostRuntime) -> Result<(), Fail> {
-    let alloc = rt.alloc();
     for line in JSON.split('\n') {
-        let mut parts = line.split('\t');
-        let field: u32 = parts
-            .next()
-            .ok_or("a field")?
-            .parse()
-            .ok()
-            .ok_or("a number")?;
-        let path = parts.next().ok_or("a path")?;
-        let expand_dots = parts.next().ok_or("a truth value")? == "true";
-        let json = Field::from_field_id(field);
-        let mut term = Term::from_field_json_path(alloc, json, path, expand_dots)?;
-        let kind = parts.next().ok_or("a type")?;
-        append(&mut term, kind, parts.next().ok_or("a value")?)?;
-        let expected = parts.next().ok_or("the bytes")?;
-        assert!(rt; has_bytes(alloc, &term, field, expected)?);
+        assert!(rt; is_line(rt.alloc(), line)?);
     }
     Ok(())
 }

@@ -1,4 +1,4 @@
-use Rattle.std.proofs.Common.{rules, true, false, sym, ◌∙◌, ◌≡◌, ◌+◌, ◌≤◌, arith, refl}
+use Rattle.std.proofs.Common.{rules, true, false, sym, ◌∙◌, ◌≡◌, arith}
 use Rattle.std.proofs.lemmas.Result.{err_from_is_err_and}
 use Rattle.tv_reader.proofs.Finding.{finds_as}
 use Rattle.tv_reader.specs.Version.{version_of}

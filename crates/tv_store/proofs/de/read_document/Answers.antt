@@ -1,7 +1,7 @@
 use Rattle.std.proofs.Common.{arith}
 use Rattle.tv_base.proofs.ByGrammar.{few_taken}
 use Rattle.tv_reader.specs.Version.{version_of}
-use Rattle.tv_store.proofs.Promises.{found_by, refused_by, errors_by, begun, only_by}
+use Rattle.tv_store.proofs.Promises.{found_by, refused_by, errors_by, only_by}
 use Rattle.tv_store.proofs.de.read_document.Goals as goal
 
 pub returns-clause-found : goal.returns-clause-found
@@ -16,9 +16,6 @@ pub returns-clause-fault : goal.returns-clause-fault
 returns-clause-fault g c = λ known e r is refusal.
     let read = c.take_document.ensures.finds in
     (refused_by (version_of c.args.version) _ _ _ _ (few_taken known.1 (read.taken known.0)) (read.found known.0) e r is refusal).stands
-
-pub returns-clause-full : goal.returns-clause-full
-returns-clause-full g c = λ told is. begun (version_of c.args.version) _ (c.take_document.ensures.full told is)
 
 pub returns-clause-errors : goal.returns-clause-errors
 returns-clause-errors g c = errors_by _ _ _ c.take_document.ensures.finds.counts

@@ -1,5 +1,4 @@
-use Rattle.std.proofs.Common.{Ok, refl, sym, ◌∙◌, ap, subst}
-use Rattle.tv_builder.specs.State.{complete}
+use Rattle.std.proofs.Common.{Ok, refl, sym, ◌∙◌, subst}
 use Rattle.tv_doc.specs.Builder.{Finishes, state_of}
 use Rattle.tv_decoder.proofs.Building.{finished}
 use Rattle.tv_decoder.proofs.Putting.{closed, stays, small_field, finish_awaited}

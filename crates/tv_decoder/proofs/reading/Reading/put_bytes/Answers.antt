@@ -1,4 +1,4 @@
-use Rattle.std.proofs.Common.{[], ◌∷◌, length, Ok, arith, sym, ◌∙◌, subst}
+use Rattle.std.proofs.Common.{[], ◌∷◌, length, Ok, sym, subst}
 use Rattle.tv_builder.specs.Parts.{some_bytes}
 use Rattle.tv_builder.specs.State.{and_bytes}
 use Rattle.tv_doc.specs.Builder.{state_of, HasAllBytes}

@@ -1,4 +1,4 @@
-use Rattle.std.proofs.Common.{◌≡◌, [], ◌∷◌, Ok, arith, sym, ◌∙◌, subst}
+use Rattle.std.proofs.Common.{◌≡◌, [], ◌∷◌, Ok, arith, sym, subst}
 use Rattle.tv_builder.specs.Parts.{bytes_head}
 use Rattle.tv_builder.specs.State.{and_head}
 use Rattle.tv_doc.specs.Builder.{state_of, HasContent}

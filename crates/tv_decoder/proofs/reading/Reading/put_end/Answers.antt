@@ -1,4 +1,3 @@
-use Rattle.std.proofs.Common.{◌∙◌}
 use Rattle.tv_decoder.proofs.OpenBytes.{end_opens, end_refused, puts_end}
 use Rattle.tv_decoder.proofs.Putting.{with_builder}
 use Rattle.tv_decoder.proofs.reading.Reading.put_end.Goals as goal

@@ -1,0 +1,43 @@
+-- What writing a whole value leaves.
+use Rattle.std.specs.Prelude.{◌≡◌, ℕ, ◌+◌, ◌<◌, ◌≤◌, List, ◌++◌, length}
+use Rattle.tv_base.specs.Parts.{short_sized}
+use Rattle.tv_base.specs.Sink.{IsFront}
+use Rattle.tv_value.specs.Tree.{Tree}
+use Rattle.tv_heap.specs.Room.{room}
+use Rattle.tv_heap.specs.Weight.{tree_weight}
+use Rattle.tv_builder.specs.declared.build_error.BuildError.{BuildError}
+use Rattle.tv_builder.specs.declared.build_error.BuildError.TheVariants.{HeapFull, Memory}
+use Rattle.tv_builder.specs.declared.frame.ListKind.{ListKind}
+use Rattle.tv_builder.specs.declared.place.Place.{Place}
+use Rattle.tv_builder.specs.Kinds.{list_type}
+use Rattle.tv_builder.specs.Moves.{WhyNot}
+use Rattle.tv_builder.specs.Shows.{Placed}
+use Rattle.tv_builder.specs.TreeBytes.{tree_heap, tree_place}
+
+-- it is written, and it fits
+pub record Put (old : List ℕ) (t : Tree) (new : List ℕ) (p : Place) : Type 0 where
+  pub heap : new ≡ tree_heap old t
+  pub place : p ≡ tree_place old t
+  pub fits : length new ≤ 4294967295
+  pub placed : Placed new p t
+  pub weighed : length new ≤ length old + tree_weight t
+
+-- it has no room, or memory was refused
+abbrev pub WhyNoTree : List ℕ → Tree → BuildError → Type 0
+WhyNoTree old t HeapFull = (4294967295 < length (tree_heap old t)) × (4294967295 < length old + room t)
+WhyNoTree old t Memory = Unit {0}
+WhyNoTree old t _ = ⊥
+
+pub record PutNot (old : List ℕ) (t : Tree) (new : List ℕ) (e : BuildError) : Type 0 where
+  pub front : IsFront old new
+  pub why : WhyNoTree old t e
+
+-- the same of a list's own bytes
+pub record ListPut (old : List ℕ) (kind : ListKind) (own new : List ℕ) (p : Place) : Type 0 where
+  pub heap : new ≡ old ++ short_sized own
+  pub place : p ≡ record { value_type = list_type kind; address = length old }
+  pub fits : length new ≤ 4294967295
+
+pub record ListPutNot (old own new : List ℕ) (e : BuildError) : Type 0 where
+  pub front : IsFront old new
+  pub why : WhyNot (old ++ short_sized own) e

@@ -1,0 +1,126 @@
+//! Writing values behind a heap, as far as they fit.
+
+ghost use Rattle.std.specs.Prelude.{◌≡◌, ◌≤◌, ◌++◌, length, take, drop, OnOk, IfOk, IfErr};
+ghost use Rattle.tv_value.specs.Lent.{leaf_of, nested_tree};
+ghost use Rattle.tv_value.specs.Tree.{leaf as leaf_tree, array, object, elements, entries};
+ghost use Rattle.tv_builder.specs.Whole.{Put, PutNot, ListPut, ListPutNot};
+
+use crate::build_error::BuildError;
+use crate::fits::{has_room, has_value_room};
+use crate::frame::ListKind;
+use crate::place::Place;
+use std::convert::AsStr;
+use tv_heap::len::leaf_len;
+use tv_heap::write::{push_place, write_leaf, write_list};
+use tv_value::leaf::ReferenceValueLeaf;
+use tv_value::nested::{Nested, NestedValue};
+
+/// Writes a value without children, and answers its place. After an error the old heap is still a front of the new.
+pub(crate) fn put_leaf(
+    heap: &mut Vec<u8>,
+    value: &ReferenceValueLeaf<'_>,
+) -> Result<Place, BuildError>
+    requires { length heap.old.items ≤ 4294967295 }
+    ensures ok { IfOk result (λ place. Put heap.old.items (leaf_tree (leaf_of value.now)) heap.new.items place) }
+    ensures err { IfErr result (λ e. PutNot heap.old.items (leaf_tree (leaf_of value.now)) heap.new.items e) }
+{
+    if !has_value_room(heap.len(), leaf_len(value)) {
+        return Err(BuildError::HeapFull);
+    }
+    let (value_type, address) = write_leaf(heap, value)?;
+    Ok(Place {
+        value_type,
+        address,
+    })
+}
+
+/// Writes a list behind its children, whose places are those from `first` on, takes these off, and answers its own place. After an
+/// error the old heap is still a front of the new, and what `places` holds is open.
+pub(crate) fn put_list(
+    heap: &mut Vec<u8>,
+    places: &mut Vec<u8>,
+    kind: ListKind,
+    first: usize,
+) -> Result<Place, BuildError>
+    requires fits { length heap.old.items ≤ 4294967295 }
+    requires first { first ≤ length places.old.items }
+    ensures ok { IfOk result (λ place. ListPut heap.old.items kind (drop first places.old.items) heap.new.items place) }
+    ensures places { OnOk result (places.new.items ≡ take first places.old.items) }
+    ensures err { IfErr result (λ e. ListPutNot heap.old.items (drop first places.old.items) heap.new.items e) }
+{
+    let len = places.len() - first;
+    if !has_room(heap.len(), len as u64) {
+        return Err(BuildError::HeapFull);
+    }
+    let address = write_list(heap, places, first)?;
+    Ok(Place {
+        value_type: kind.value_type(),
+        address,
+    })
+}
+
+/// Writes a value behind its children, and answers its place. The places of children whose list is not yet written stand at the
+/// end of `places`, which is afterwards as it was. After an error the old heap is still a front of the new, and what `places` holds
+/// is open.
+#[inline(always)]
+#[cycle(parts)]
+pub(crate) fn put_tree<N: Nested>(
+    heap: &mut Vec<u8>,
+    places: &mut Vec<u8>,
+    value: NestedValue<'_, N>,
+) -> Result<Place, BuildError>
+    requires { length heap.old.items ≤ 4294967295 }
+    ensures ok { IfOk result (λ place. Put heap.old.items (nested_tree N.array_rest N.object_rest value.entry) heap.new.items place) }
+    ensures places { OnOk result (places.new.items ≡ places.old.items) }
+    ensures err { IfErr result (λ e. PutNot heap.old.items (nested_tree N.array_rest N.object_rest value.entry) heap.new.items e) }
+{
+    match value {
+        NestedValue::Leaf(single) => put_leaf(heap, &single),
+        NestedValue::Array(items) => put_array::<N>(heap, places, items),
+        NestedValue::Object(members) => put_object::<N>(heap, places, members),
+    }
+}
+
+// Writes an array behind its values.
+#[inline(never)]
+#[cycle(parts)]
+fn put_array<N: Nested>(
+    heap: &mut Vec<u8>,
+    places: &mut Vec<u8>,
+    items: N::ArrayIter,
+) -> Result<Place, BuildError>
+    requires { length heap.old.items ≤ 4294967295 }
+    ensures ok { IfOk result (λ place. Put heap.old.items (array (elements (N.array_rest items))) heap.new.items place) }
+    ensures places { OnOk result (places.new.items ≡ places.old.items) }
+    ensures err { IfErr result (λ e. PutNot heap.old.items (array (elements (N.array_rest items))) heap.new.items e) }
+{
+    let first = places.len();
+    for item in items {
+        let place = put_tree(heap, places, item.as_nested())?;
+        push_place(places, place.value_type, place.address)?;
+    }
+    put_list(heap, places, ListKind::Array, first)
+}
+
+// Writes an object behind its keys and values.
+#[inline(never)]
+#[cycle(parts)]
+fn put_object<N: Nested>(
+    heap: &mut Vec<u8>,
+    places: &mut Vec<u8>,
+    members: N::ObjectIter,
+) -> Result<Place, BuildError>
+    requires { length heap.old.items ≤ 4294967295 }
+    ensures ok { IfOk result (λ place. Put heap.old.items (object (entries (N.object_rest members))) heap.new.items place) }
+    ensures places { OnOk result (places.new.items ≡ places.old.items) }
+    ensures err { IfErr result (λ e. PutNot heap.old.items (object (entries (N.object_rest members))) heap.new.items e) }
+{
+    let first = places.len();
+    for (key, item) in members {
+        let name = put_leaf(heap, &ReferenceValueLeaf::Str(key.as_str()))?;
+        push_place(places, name.value_type, name.address)?;
+        let place = put_tree(heap, places, item.as_nested())?;
+        push_place(places, place.value_type, place.address)?;
+    }
+    put_list(heap, places, ListKind::Object, first)
+}
