@@ -3,7 +3,7 @@
 use crate::tests::fronts::is_refused;
 use std::alloc::{AllocError, Global};
 use std::test::Fail;
-use tv_base::{Cause, VInt};
+use tv_base::Cause;
 use tv_reader::{DeserializeError, DocStoreVersion};
 
 /// What comes before the length: of a text, a facet, bytes and a key.
@@ -51,5 +51,25 @@ fn the_longest_with_room(rt: HostRuntime) -> Result<(), Fail> {
         let taken = bytes.len() as u64;
         assert!(rt; is_refused(rt.alloc(), &bytes, DocStoreVersion::V2, &error, taken));
     }
+    Ok(())
+}
+
+#[test]
+fn lengths_behind_a_pair(rt: HostRuntime) -> Result<(), Fail> {
+    // a text whose heap takes three bytes, and the head of another one
+    let front = b"\x82\0\0\0\0\0\x82ab\x01\0\0\0\0";
+    let end = DeserializeError::CorruptedValue(Cause::UnexpectedEnd);
+    let fitting = announced(rt.alloc(), front, b"\x77\x7f\x7f\x7f\x8f")?;
+    assert!(rt; is_refused(rt.alloc(), &fitting, DocStoreVersion::V2, &end, 20));
+    let large = announced(rt.alloc(), front, b"\x78\x7f\x7f\x7f\x8f")?;
+    assert!(rt;
+        is_refused(
+            rt.alloc(),
+            &large,
+            DocStoreVersion::V2,
+            &DeserializeError::HeapFull,
+            19
+        )
+    );
     Ok(())
 }

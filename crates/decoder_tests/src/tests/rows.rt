@@ -8,7 +8,7 @@ type Row = (&'static [u8], &'static [u8], Option<(u8, u32)>, usize);
 
 #[test]
 fn documents_of_both_versions(rt: HostRuntime) {
-    let cases: [Row; 5] = [
+    let cases: [Row; 6] = [
         // no pair, by a padded zero
         (b"\0\x80\xff", b"", None, 1),
         // a text, and a number
@@ -19,6 +19,8 @@ fn documents_of_both_versions(rt: HostRuntime) {
             0,
         ),
         (b"\x81\xff\xff\0\0\x0b", b"", Some((0, 0)), 0),
+        // bytes that are no text
+        (b"\x81\0\0\0\0\x04\x81\x80", b"\x81\x80", Some((7, 0)), 0),
         (
             b"\x81\0\0\0\0\x03\x8bhello\0world",
             b"\x8bhello\0world",
