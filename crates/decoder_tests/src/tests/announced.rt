@@ -28,7 +28,7 @@ fn lengths_without_room(rt: HostRuntime) -> Result<(), Fail> {
     let lengths = [
         b"\x7b\x7f\x7f\x7f\x8f",
         b"\x7f\x7f\x7f\x7f\x8f",
-        b"\0\x64\x0b\x50\x92",
+        b"\0\x64\x17\x50\x92",
     ];
     for front in FRONTS {
         for length in lengths {
