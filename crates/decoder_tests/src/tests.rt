@@ -1,0 +1,10 @@
+mod announced;
+mod fronts;
+mod legacy;
+mod many;
+mod outcomes;
+mod pairs;
+mod refusals;
+mod rows;
+mod sources;
+mod vectors;
