@@ -6,6 +6,7 @@ use tv_base::{BinarySerializable, Cause, ReadError, SliceSource, VecSink};
 use tv_doc::add_error::AddError;
 use tv_doc::document::CompactDoc;
 use tv_doc::document_trait::Document;
+use tv_heap::value::CompactDocValue;
 use tv_heap::value_type::ValueType;
 use tv_value::field::Field;
 use tv_value::leaf::ReferenceValueLeaf;
@@ -24,8 +25,8 @@ fn document_of_fields(alloc: Global) -> Result<CompactDoc, AddError> {
 }
 
 // Whether the group is of this field and of these numbers.
-fn is_group<'a, V: Value<'a>>(
-    group: Option<&(Field, Vec<V>)>,
+fn is_group(
+    group: Option<&(Field, Vec<CompactDocValue<'_>>)>,
     number: u32,
     content: &[u64],
 ) -> bool {
