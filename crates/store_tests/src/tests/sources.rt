@@ -110,6 +110,16 @@ pub fn is_refused(
     true
 }
 
+/// Whether what a document announces has no room, over each source, with so many bytes left.
+pub fn is_full(alloc: Global, bytes: &[u8], version: DocStoreVersion, rest: usize) -> bool {
+    for (ending, left) in endings(alloc, bytes, version) {
+        if left != rest || ending.err().as_ref() != Some(&DeserializeError::HeapFull) {
+            return false;
+        }
+    }
+    true
+}
+
 fn read<V: ValueDeserialize, S: ByteSource + Drop>(
     alloc: Global,
     source: S,
