@@ -29,7 +29,7 @@ pub fn take_document<S: ByteSource>(
     ensures full { S.tells source.old → IsErrOf result HeapFull → HasNoRoom (version_of version) (S.left source.old) }
     ensures too_long { IsErrOf result (CorruptedValue TooLong) → count.new ≡ 2 ^ 64 - 1 }
 {
-    let mut reading = Reading::new(alloc);
+    let mut reading = Reading::with_room(alloc)?;
     let mut legacy_seen = false;
     let mut bytes = Vec::new(alloc);
     // each part takes a byte at least

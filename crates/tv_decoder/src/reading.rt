@@ -1,6 +1,6 @@
 //! What has been read of a document, and what its next part does to that.
 
-ghost use Rattle.std.specs.Prelude.{◌≡◌, ◌≢◌, ◌↔◌, ◌-◌, ◌^◌, ◌≤◌, ◌<◌, [], ◌∷◌, length, IsTrue, IsErrOf, OnOk, OnErr, None, false};
+ghost use Rattle.std.specs.Prelude.{◌≡◌, ◌≢◌, ◌↔◌, ◌-◌, ◌^◌, ◌≤◌, ◌<◌, [], ◌∷◌, length, IsTrue, IsErrOf, IfOk, OnOk, OnErr, None, false};
 ghost use Rattle.tv_base.specs.declared.cause.Cause.TheVariants.{TooLong};
 ghost use Rattle.tv_builder.specs.Parts.{value as value_part, array_head, object_head, some_bytes, bytes_head};
 ghost use Rattle.tv_builder.specs.State.{awaited, head_awaits, lists_of, children_of};
@@ -21,7 +21,7 @@ ghost use Rattle.tv_value.specs.Tree.{leaf as leaf_tree};
 ghost use Rattle.tv_value.specs.Version.{Version};
 
 use crate::errors::store_error;
-use std::alloc::Global;
+use std::alloc::{AllocError, Global};
 use tv_base::ByteSource;
 use tv_base::take::take_pieces;
 use tv_doc::builder::{Awaits, BuildError, BytesKind, TreeBuilder};
@@ -35,6 +35,9 @@ use tv_value::leaf::ReferenceValueLeaf;
 use tv_value::owned_value::OwnedValue;
 use tv_value::pre_tokenized::PreTokenizedStr;
 use tv_value::value::Value;
+
+/// The heap of a document that is read at once has this room at first, in bytes.
+const SHORT_HEAP: usize = 512;
 
 /// No more than this is read of open bytes at once.
 const PIECE: u32 = 4096;
@@ -65,6 +68,22 @@ impl Reading {
             field: None,
             builder: TreeBuilder::new(CompactDoc::new(alloc)),
         }
+    }
+
+    /// The same, with room for a short document, so that its heap doesn't grow from nothing. `Err` where memory is refused.
+    pub(crate) fn with_room(alloc: Global) -> Result<Reading, AllocError>
+        ensures parts { IfOk result (λ r. parts_read r ≡ []) }
+        ensures sound { IfOk result IsSound }
+    {
+        let document = CompactDoc::with_capacity(alloc, SHORT_HEAP)?;
+        let builder = TreeBuilder::new(document);
+        let (announced, field) = (None, None);
+        Ok(Reading {
+            announced,
+            finished: 0,
+            field,
+            builder,
+        })
     }
 
     /// The document of the finished pairs. Its heap ends behind the last of their values.

@@ -13,7 +13,7 @@ returns-then-is_done-clause-finds g c =
 
 pub returns-in_err-advance-clause-finds : goal.returns-in_err-advance-clause-finds
 returns-in_err-advance-clause-finds g c =
-    let p = err_from_is_err_and c.from_residual.result c.from_residual.ensures.1 in
+    let p = err_from_is_err_and c.from_residual-in_err-advance.result c.from_residual-in_err-advance.ensures.1 in
     let v = version_of c.args.version in
     rw (p.1, p.2) (step_fails v c.loop.reading _ c.advance.new.legacy_seen c.advance.new.self c.loop.invariant.0 (λ d. let t : true ≡ false = sym (c.is_done.ensures.1 d) ∙ c.if-is_done.false in cc) c.loop.invariant.1 c.in_err-advance.ensures.finds)
 
