@@ -11,3 +11,4 @@ pub mod Whole
 pub mod Behind
 pub mod OneState
 pub mod Called
+pub mod SpelledPut

@@ -9,4 +9,5 @@ mod fits;
 pub mod frame;
 pub mod laws;
 pub mod place;
+pub mod spelled;
 mod whole;

@@ -1,6 +1,6 @@
 //! What has been read of a document, and what its next part does to that.
 
-ghost use Rattle.std.specs.Prelude.{◌≡◌, ◌≢◌, ◌↔◌, ◌-◌, ◌^◌, ◌≤◌, ◌<◌, [], ◌∷◌, length, IsTrue, IsErrOf, IfOk, OnOk, OnErr, None, false};
+ghost use Rattle.std.specs.Prelude.{◌≡◌, ◌≢◌, ◌↔◌, ◌-◌, ◌^◌, ◌≤◌, ◌<◌, [], ◌∷◌, length, IsTrue, IsErrOf, IfOk, IfErr, ⊥, OnOk, OnErr, None, false};
 ghost use Rattle.tv_base.specs.declared.cause.Cause.TheVariants.{TooLong};
 ghost use Rattle.tv_builder.specs.Parts.{value as value_part, array_head, object_head, some_bytes, bytes_head};
 ghost use Rattle.tv_builder.specs.State.{awaited, head_awaits, lists_of, children_of};
@@ -8,12 +8,13 @@ ghost use Rattle.tv_builder.specs.declared.awaits.Awaits.TheVariants.{Value as V
 ghost use Rattle.tv_builder.specs.declared.bytes_kind.BytesKind.TheVariants.{Key as KeyKind};
 ghost use Rattle.tv_decoder.specs.Front.{parts_read, IsSound, IsDone, LacksPair, NoFront, NoRoomBehind};
 ghost use Rattle.tv_decoder.specs.Puts.{IsOpen, AtEnd, Awaiting, Puts, PutsEnd, PutsBytes, IsParts, head_parts, LetGo, KeepsPairs};
-ghost use Rattle.tv_decoder.specs.Steps.{Stepped, Sees};
+ghost use Rattle.tv_decoder.specs.Steps.{Advances, Stepped, Sees};
 ghost use Rattle.tv_doc.specs.Builder.{built, state_of, heap_so_far};
 ghost use Rattle.tv_doc.specs.Document.{document_of};
 ghost use Rattle.tv_reader.specs.Finds.{Finds};
 ghost use Rattle.tv_reader.specs.HeadReading.{head_part};
-ghost use Rattle.tv_reader.specs.declared.error.DeserializeError.TheVariants.{CorruptedValue, HeapFull};
+ghost use Rattle.tv_reader.specs.declared.error.DeserializeError.TheVariants.{CorruptedValue, HeapFull, Memory as NoMemory};
+ghost use Rattle.tv_legacy.specs.Legacy.{Legacy};
 ghost use Rattle.tv_reader.specs.Version.{version_of};
 ghost use Rattle.tv_value.specs.Lent.{leaf_of};
 ghost use Rattle.tv_value.specs.Owned.{owned_tree};
@@ -84,6 +85,24 @@ impl Reading {
             field,
             builder,
         })
+    }
+
+    /// Where a pair is awaited, the next pairs that the source has whole at hand, at once, as far as that can be. It may read none.
+    ///
+    /// The only error is `Memory`, where a source doesn't give the bytes that it lends.
+    pub(crate) fn with_pairs_at_hand<S: ByteSource>(
+        self,
+        source: &mut S,
+        count: &mut u64,
+        version: DocStoreVersion,
+    ) -> Result<Reading, DeserializeError>
+        requires { IsSound self }
+        ensures sound { IfOk result IsSound }
+        ensures finds { Finds S.tells S.left S.faults source.old count.old source.new count.new result (λ b r. Advances Legacy (version_of version) self r b) (λ w r. ⊥) }
+        ensures memory { IfErr result (λ e. e ≡ NoMemory) }
+    {
+        let _unused = (source.at_hand().len(), *count, version);
+        Ok(self)
     }
 
     /// The document of the finished pairs. Its heap ends behind the last of their values.

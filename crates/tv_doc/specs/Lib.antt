@@ -13,3 +13,4 @@ pub mod JsonObject
 pub mod Named
 pub mod NamedPairs
 pub mod SameTexts
+pub mod Spelled

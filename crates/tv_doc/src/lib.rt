@@ -15,3 +15,4 @@ mod map_value;
 pub mod named;
 mod place;
 mod same;
+mod spelled;

@@ -11,8 +11,8 @@ ghost use Rattle.tv_value.specs.Tree.{Token};
 use crate::pre_tokenized::TokenRef;
 use tv_base::vint::VInt;
 
-/// The number of variable length at the front of the bytes, and what follows it. None where no front spells a number.
-pub(crate) fn number_at(bytes: &[u8]) -> Option<(u64, &[u8])>
+/// The number of variable length at the front of the bytes, and what follows it. None where no front spells a number. (Own.)
+pub fn number_at(bytes: &[u8]) -> Option<(u64, &[u8])>
     ensures found { IfSome result (λ x. Begins (λ b. VNum b x.0) bytes.now x.1.now) }
     ensures none { IfNone result ((n : ℕ) → NoFront (λ b. VNum b n) bytes.now) }
 {
@@ -20,8 +20,8 @@ pub(crate) fn number_at(bytes: &[u8]) -> Option<(u64, &[u8])>
     Some((number, &bytes[len..]))
 }
 
-/// The text at the front of the bytes, and what follows it. None where no front spells a text.
-pub(crate) fn text_at(bytes: &[u8]) -> Option<(&str, &[u8])>
+/// The text at the front of the bytes, and what follows it. None where no front spells a text. (Own.)
+pub fn text_at(bytes: &[u8]) -> Option<(&str, &[u8])>
     ensures found { IfSome result (λ x. Begins (λ b. Text b x.0.now) bytes.now x.1.now) }
     ensures none { IfNone result ((content : List ℕ) → NoFront (λ b. Text b content) bytes.now) }
 {

@@ -3,7 +3,7 @@
 
 mod copy;
 pub mod field;
-mod in_place;
+pub mod in_place;
 pub mod ip_addr;
 pub mod json;
 pub mod json_error;
