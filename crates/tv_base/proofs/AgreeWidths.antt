@@ -130,7 +130,7 @@ u128_agrees = agrees_too (λ bytes. refl)
     (number_agrees w128)
 
 -- the signed number that has these bits
-signed_to : (bytes : List ℕ) (n : ℕ) (z : ℤ) → Fixed 8 bytes n → z ≡ cast_signed w64 n → Signed bytes z
+pub signed_to : (bytes : List ℕ) (n : ℕ) (z : ℤ) → Fixed 8 bytes n → z ≡ cast_signed w64 n → Signed bytes z
 signed_to bytes n z h e =
     let small : n < 2 ^ 64 = fixed_fits h in
     record {

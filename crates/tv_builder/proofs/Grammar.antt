@@ -50,11 +50,11 @@ module _ (Legacy : List ℕ → Entries → Type 0) (v : Version) where
       let q = p.second in
       record { front = p.front; rest = p.rest; joined = p.joined; first = p.first; second = record { front = q.front; rest = q.rest; joined = q.joined; first = q.first; second = entries_from es q.rest q.second } }
 
-  elements_counted : (ts : List Tree) → element_count (elements ts) ≡ length ts
+  pub elements_counted : (ts : List Tree) → element_count (elements ts) ≡ length ts
   elements_counted [] = refl
   elements_counted (t ∷ ts) = omega (arith, elements_counted ts)
 
-  entries_counted : (es : List (List ℕ × Tree)) → entry_count (entries es) ≡ length es
+  pub entries_counted : (es : List (List ℕ × Tree)) → entry_count (entries es) ≡ length es
   entries_counted [] = refl
   entries_counted (e ∷ es) = omega (arith, entries_counted es)
 

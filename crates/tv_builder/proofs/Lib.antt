@@ -16,3 +16,4 @@ pub mod Grammar
 pub mod CallsTrade
 pub mod Paid
 pub mod Weighing
+pub mod Spelling

@@ -48,7 +48,7 @@ mutual
       let mid = heap ++ short_sized k in
       front_then heap mid _ (short_sized k, refl) (front_then mid (tree_heap mid t) _ (tree_front mid t) (entries_front (tree_heap mid t) es))
 
-put_grows : (old : List ℕ) (t : Tree) (new : List ℕ) (p : Place) → Put old t new p → IsFront old new
+pub put_grows : (old : List ℕ) (t : Tree) (new : List ℕ) (p : Place) → Put old t new p → IsFront old new
 put_grows old t new p w = let f = tree_front old t in (f.0, w.heap ∙ f.1)
 
 -- ---- a leaf
@@ -71,10 +71,10 @@ pub record Children (old heap list : List ℕ) (done : List Tree) : Type 0 where
   pub weighed : length heap ≤ length old + trees_weight done
   pub reads : ReadsElements heap (length heap) list (elements done)
 
-no_children : (heap : List ℕ) → length heap ≤ 4294967295 → Children heap heap [] []
+pub no_children : (heap : List ℕ) → length heap ≤ 4294967295 → Children heap heap [] []
 no_children heap fits = record { fits = fits; front = front_same heap heap refl; weighed = omega arith; reads = refl }
 
-children_push : (old heap list new : List ℕ) (done : List Tree) (t : Tree) (p : Place) → Children old heap list done → Put heap t new p → Children old new (list ++ place_bytes p) (done ++ t ∷ [])
+pub children_push : (old heap list new : List ℕ) (done : List Tree) (t : Tree) (p : Place) → Children old heap list done → Put heap t new p → Children old new (list ++ place_bytes p) (done ++ t ∷ [])
 children_push old heap list new done t p c w =
     let grows = put_grows heap t new p w in
     let le : length heap ≤ length new = front_length heap new grows in
@@ -141,7 +141,7 @@ array_all old heap list ts all s none = (
   s.places_are ∙ ap (λ z. list ++ elements_places heap (elements z)) none ∙ append-nil list,
 )
 
-array_put : (old heap list new : List ℕ) (ts all : List Tree) (p : Place) → ArrayPut old heap list ts all → ts ≡ [] → ListPut heap Array list new p → Put old (array (elements all)) new p
+pub array_put : (old heap list new : List ℕ) (ts all : List Tree) (p : Place) → ArrayPut old heap list ts all → ts ≡ [] → ListPut heap Array list new p → Put old (array (elements all)) new p
 array_put old heap list new ts all p s none w =
     let a = array_all old heap list ts all s none in
     let c = s.children in
@@ -205,11 +205,11 @@ array_not_written (Err x) old heap list new own ts all s none e h = array_own_no
 -- ---- objects
 
 -- keys and values in turn
-abbrev flat : List (List ℕ × Tree) → List Tree
+abbrev pub flat : List (List ℕ × Tree) → List Tree
 flat [] = []
 flat (e ∷ es) = leaf (text e.0) ∷ e.1 ∷ flat es
 
-flat_append : (es fs : List (List ℕ × Tree)) → flat (es ++ fs) ≡ flat es ++ flat fs
+pub flat_append : (es fs : List (List ℕ × Tree)) → flat (es ++ fs) ≡ flat es ++ flat fs
 flat_append [] fs = refl
 flat_append (e ∷ es) fs = ap (λ z. leaf (text e.0) ∷ e.1 ∷ z) (flat_append es fs)
 
@@ -274,7 +274,7 @@ object_all old heap list es all s none = (
   s.places_are ∙ ap (λ z. list ++ entries_places heap (entries z)) none ∙ append-nil list,
 )
 
-object_put : (old heap list new : List ℕ) (es all : List (List ℕ × Tree)) (p : Place) → ObjectPut old heap list es all → es ≡ [] → ListPut heap Object list new p → Put old (object (entries all)) new p
+pub object_put : (old heap list new : List ℕ) (es all : List (List ℕ × Tree)) (p : Place) → ObjectPut old heap list es all → es ≡ [] → ListPut heap Object list new p → Put old (object (entries all)) new p
 object_put old heap list new es all p s none w =
     let a = object_all old heap list es all s none in
     let c = s.children in

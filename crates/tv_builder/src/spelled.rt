@@ -1,10 +1,182 @@
 //! Values that stand spelled in bytes, written behind a heap.
 
-ghost use Rattle.std.specs.Prelude.{◌≡◌, ◌≤◌, length, IfSome};
+ghost use Rattle.std.specs.Prelude.{◌≡◌, ◌≤◌, ◌∷◌, length, IfSome};
+ghost use Rattle.tv_base.specs.Number.{Fixed, Signed, Truth};
+ghost use Rattle.tv_base.specs.Parts.{Begins, Behind, Sized};
 ghost use Rattle.tv_base.specs.Sink.{IsFront};
 ghost use Rattle.tv_builder.specs.SpelledPut.{SpelledPut};
+ghost use Rattle.tv_builder.specs.Whole.{Put};
+ghost use Rattle.tv_value.specs.Lent.{leaf_of};
+ghost use Rattle.tv_value.specs.PreTokenized.{text_of, tokens_of};
+ghost use Rattle.tv_value.specs.Spelling.{Key, Tokenized};
+ghost use Rattle.tv_value.specs.Tree.{leaf as leaf_tree};
+ghost use Rattle.tv_value.specs.Version.{V2};
 
+use crate::frame::ListKind;
 use crate::place::Place;
+use crate::whole::{put_leaf, put_list};
+use std::net::Ipv6Addr;
+use tv_heap::write::push_place;
+use tv_value::date_time::DateTime;
+use tv_value::in_place::{number_at, text_at};
+use tv_value::leaf::ReferenceValueLeaf;
+use tv_value::pre_tokenized::PreTokenizedStr;
+use tv_value::type_codes::{
+    ARRAY_CODE, BOOL_CODE, BYTES_CODE, DATE_CODE, EXT_CODE, HIERARCHICAL_FACET_CODE, I64_CODE,
+    IP_CODE, NULL_CODE, OBJECT_CODE, TEXT_CODE, TOK_STR_EXT_CODE, U64_CODE,
+};
+
+// The bytes behind their length at the front.
+fn sized_at(bytes: &[u8]) -> Option<(&[u8], &[u8])>
+    ensures { IfSome result (λ x. Begins (λ b. Sized b x.0.now) bytes.now x.1.now) }
+{
+    let (len, behind_len) = number_at(bytes)?;
+    if (behind_len.len() as u64) < len {
+        return None;
+    }
+    Some(behind_len.split_at(len as usize))
+}
+
+// The number in eight bytes at the front.
+#[inline(always)]
+fn eight_at(bytes: &[u8]) -> Option<(u64, &[u8])>
+    ensures { IfSome result (λ x. Begins (λ b. Fixed 8 b x.0) bytes.now x.1.now) }
+{
+    let (front, rest) = bytes.split_first_chunk::<8>()?;
+    Some((u64::from_le_bytes(*front), rest))
+}
+
+// The signed number in eight bytes at the front.
+#[inline(always)]
+fn signed_at(bytes: &[u8]) -> Option<(i64, &[u8])>
+    ensures { IfSome result (λ x. Begins (λ b. Signed b x.0) bytes.now x.1.now) }
+{
+    let (bits, rest) = eight_at(bytes)?;
+    Some((bits.cast_signed(), rest))
+}
+
+// The number in sixteen bytes at the front.
+#[inline(always)]
+fn sixteen_at(bytes: &[u8]) -> Option<(u128, &[u8])>
+    ensures { IfSome result (λ x. Begins (λ b. Fixed 16 b x.0) bytes.now x.1.now) }
+{
+    let (front, rest) = bytes.split_first_chunk::<16>()?;
+    Some((u128::from_le_bytes(*front), rest))
+}
+
+// The truth value at the front.
+#[inline(always)]
+fn truth_at(bytes: &[u8]) -> Option<(bool, &[u8])>
+    ensures { IfSome result (λ x. Begins (λ b. Truth b x.0) bytes.now x.1.now) }
+{
+    let (byte, rest) = bytes.split_first()?;
+    match *byte {
+        0 => Some((false, rest)),
+        1 => Some((true, rest)),
+        _ => None,
+    }
+}
+
+// The text with its tokens at the front, behind the code of an extension.
+fn tokenized_at(bytes: &[u8]) -> Option<(PreTokenizedStr<'_>, &[u8])>
+    ensures { IfSome result (λ x. Begins (Behind 0 (λ b. Tokenized b (text_of x.0) (tokens_of x.0))) bytes.now x.1.now) }
+{
+    let (code, payload) = bytes.split_first()?;
+    if *code != TOK_STR_EXT_CODE {
+        return None;
+    }
+    let (content, len) = PreTokenizedStr::from_payload(payload)?;
+    Some((content, &payload[len..]))
+}
+
+// The key at the front.
+#[inline(always)]
+fn key_at(bytes: &[u8]) -> Option<(&str, &[u8])>
+    ensures { IfSome result (λ x. Begins (λ b. Key V2 b x.0.now) bytes.now x.1.now) }
+{
+    let (code, behind_code) = bytes.split_first()?;
+    if *code != TEXT_CODE {
+        return None;
+    }
+    let (key, rest) = text_at(behind_code)?;
+    Some((key, rest))
+}
+
+// Writes a value without children, and gives its place. None where it has no room or memory is refused.
+#[inline(always)]
+fn put(heap: &mut Vec<u8>, value: &ReferenceValueLeaf<'_>) -> Option<Place>
+    requires { length heap.old.items ≤ 4294967295 }
+    ensures found { IfSome result (λ place. Put heap.old.items (leaf_tree (leaf_of value.now)) heap.new.items place) }
+    ensures front { IsFront heap.old.items heap.new.items }
+{
+    match put_leaf(heap, value) {
+        Ok(place) => Some(place),
+        Err(_) => None,
+    }
+}
+
+// Writes the value without children that stands behind this code.
+#[inline(always)]
+fn put_spelled_leaf<'a>(code: u8, bytes: &'a [u8], heap: &mut Vec<u8>) -> Option<(&'a [u8], Place)>
+    requires { length heap.old.items ≤ 4294967295 }
+    ensures found { IfSome result (λ x. SpelledPut (code ∷ bytes.now) x.0.now heap.old.items heap.new.items x.1) }
+    ensures front { IsFront heap.old.items heap.new.items }
+{
+    match code {
+        TEXT_CODE => {
+            let (content, rest) = text_at(bytes)?;
+            let place = put(heap, &ReferenceValueLeaf::Str(content))?;
+            Some((rest, place))
+        }
+        HIERARCHICAL_FACET_CODE => {
+            let (content, rest) = text_at(bytes)?;
+            let place = put(heap, &ReferenceValueLeaf::Facet(content))?;
+            Some((rest, place))
+        }
+        BYTES_CODE => {
+            let (content, rest) = sized_at(bytes)?;
+            let place = put(heap, &ReferenceValueLeaf::Bytes(content))?;
+            Some((rest, place))
+        }
+        U64_CODE => {
+            let (number, rest) = eight_at(bytes)?;
+            let place = put(heap, &ReferenceValueLeaf::U64(number))?;
+            Some((rest, place))
+        }
+        I64_CODE => {
+            let (number, rest) = signed_at(bytes)?;
+            let place = put(heap, &ReferenceValueLeaf::I64(number))?;
+            Some((rest, place))
+        }
+        DATE_CODE => {
+            let (nanoseconds, rest) = signed_at(bytes)?;
+            let date = DateTime::from_timestamp_nanos(nanoseconds);
+            let place = put(heap, &ReferenceValueLeaf::Date(date))?;
+            Some((rest, place))
+        }
+        BOOL_CODE => {
+            let (truth, rest) = truth_at(bytes)?;
+            let place = put(heap, &ReferenceValueLeaf::Bool(truth))?;
+            Some((rest, place))
+        }
+        IP_CODE => {
+            let (number, rest) = sixteen_at(bytes)?;
+            let address = Ipv6Addr::from_bits(number);
+            let place = put(heap, &ReferenceValueLeaf::IpAddr(address))?;
+            Some((rest, place))
+        }
+        NULL_CODE => {
+            let place = put(heap, &ReferenceValueLeaf::Null)?;
+            Some((bytes, place))
+        }
+        EXT_CODE => {
+            let (content, rest) = tokenized_at(bytes)?;
+            let place = put(heap, &ReferenceValueLeaf::PreTokStr(content))?;
+            Some((rest, place))
+        }
+        _ => None,
+    }
+}
 
 /// Writes the value that these bytes begin with, as version 2 of the store spells it, behind a heap: what the calls for its parts would
 /// write. Gives the bytes behind it, and its place. (Own.)
@@ -12,6 +184,8 @@ use crate::place::Place;
 /// `None` where they begin with no value, or with an object as older stores hold it; where lists are nested deeper than so many levels; where
 /// a part would end above 4294967295; and where memory is refused. The old heap is then still a front of the new, and what `places` holds is
 /// open. Else `places`, at whose end the places of children stand until their list is written, is afterwards as it was.
+#[inline(always)]
+#[cycle(spelled)]
 pub fn put_spelled<'a>(
     bytes: &'a [u8],
     levels: u32,
@@ -23,6 +197,84 @@ pub fn put_spelled<'a>(
     ensures places { IfSome result (λ x. places.new.items ≡ places.old.items) }
     ensures front { IsFront heap.old.items heap.new.items }
 {
-    let _unused = (bytes.len(), levels, heap.len(), places.len());
-    None
+    let (code, behind) = bytes.split_first()?;
+    match *code {
+        ARRAY_CODE => put_spelled_array(behind, levels, heap, places),
+        OBJECT_CODE => put_spelled_object(behind, levels, heap, places),
+        code => put_spelled_leaf(code, behind, heap),
+    }
+}
+
+// Writes the array that stands behind its code.
+#[inline(never)]
+#[cycle(spelled)]
+fn put_spelled_array<'a>(
+    bytes: &'a [u8],
+    levels: u32,
+    heap: &mut Vec<u8>,
+    places: &mut Vec<u8>,
+) -> Option<(&'a [u8], Place)>
+    requires { length heap.old.items ≤ 4294967295 }
+    ensures found { IfSome result (λ x. SpelledPut (12 ∷ bytes.now) x.0.now heap.old.items heap.new.items x.1) }
+    ensures places { IfSome result (λ x. places.new.items ≡ places.old.items) }
+    ensures front { IsFront heap.old.items heap.new.items }
+{
+    if levels == 0 {
+        return None;
+    }
+    let (announced, behind) = number_at(bytes)?;
+    let first = places.len();
+    let mut rest = behind;
+    for _i in 0..announced {
+        let (after, place) = put_spelled(rest, levels - 1, heap, places)?;
+        let Ok(()) = push_place(places, place.value_type, place.address) else {
+            return None;
+        };
+        rest = after;
+    }
+    let Ok(place) = put_list(heap, places, ListKind::Array, first) else {
+        return None;
+    };
+    Some((rest, place))
+}
+
+// Writes the object that stands behind its code.
+#[inline(never)]
+#[cycle(spelled)]
+fn put_spelled_object<'a>(
+    bytes: &'a [u8],
+    levels: u32,
+    heap: &mut Vec<u8>,
+    places: &mut Vec<u8>,
+) -> Option<(&'a [u8], Place)>
+    requires { length heap.old.items ≤ 4294967295 }
+    ensures found { IfSome result (λ x. SpelledPut (13 ∷ bytes.now) x.0.now heap.old.items heap.new.items x.1) }
+    ensures places { IfSome result (λ x. places.new.items ≡ places.old.items) }
+    ensures front { IsFront heap.old.items heap.new.items }
+{
+    if levels == 0 {
+        return None;
+    }
+    let (total, behind) = number_at(bytes)?;
+    if total % 2 != 0 {
+        return None;
+    }
+    let first = places.len();
+    let mut rest = behind;
+    for _i in 0..total / 2 {
+        let (key, behind_key) = key_at(rest)?;
+        let name = put(heap, &ReferenceValueLeaf::Str(key))?;
+        let Ok(()) = push_place(places, name.value_type, name.address) else {
+            return None;
+        };
+        let (after, place) = put_spelled(behind_key, levels - 1, heap, places)?;
+        let Ok(()) = push_place(places, place.value_type, place.address) else {
+            return None;
+        };
+        rest = after;
+    }
+    let Ok(place) = put_list(heap, places, ListKind::Object, first) else {
+        return None;
+    };
+    Some((rest, place))
 }
