@@ -50,19 +50,28 @@ front_of : (old : CompactDoc) (mid : List ℕ) (len small field : ℕ) (t : Tree
 front_of old mid len small field t (Ok r) w = (w.wrote.added, w.wrote.grows)
 front_of old mid len small field t (Err e) w = w.front
 
+-- what was written is cut off again
+pub cut_fields : (old : CompactDoc) (mid heap : List ℕ) (ps : List FieldValueAddr) (len : ℕ) → IsFront (heap_of old) mid → len ≡ length (heap_of old) → heap ≡ take len mid → ps ≡ old.pairs.items → Fields heap ps
+cut_fields old mid heap ps len front len_is cut same_pairs =
+    let same : heap ≡ heap_of old = cut ∙ restored (heap_of old) mid len front len_is in
+    record { document = kept old heap ps same same_pairs; room = kept_room old heap ps same same_pairs; weight = kept_weight old heap ps same same_pairs; fits = kept_fits old heap same }
+
+-- there is one pair more
+pub pushed_fields : (old : CompactDoc) (heap : List ℕ) (ps : List FieldValueAddr) (p : FieldValueAddr) (field : ℕ) (t : Tree) → p.field ≡ field → field ≤ 65535
+    → Wrote (heap_of old) heap (type_code p.value_type) p.address t → ps ≡ old.pairs.items ++ p ∷ [] → length heap < 2 ^ 32 → Fields heap ps
+pushed_fields old heap ps p field t is small wrote e fits = record {
+  document = pushed old heap ps p field t is small wrote e;
+  room = pushed_room old heap ps p field t is small wrote e;
+  weight = pushed_weight old heap ps p field t is small wrote e;
+  fits = fits;
+}
+
 pub kept_fields : (old : CompactDoc) (mid heap : List ℕ) (ps : List FieldValueAddr) (len small field : ℕ) (t : Tree) (written : Result (ValueType × ℕ) AllocError) (result : Result (Unit {0}) AddError)
     → Writing old mid len small field t written → Keeping old mid heap ps len small written result → Fields heap ps
-kept_fields old mid heap ps len small field t written (Err e) w k =
-    let same : heap ≡ heap_of old = k.cut ∙ restored (heap_of old) mid len (front_of old mid len small field t written w) w.len_is in
-    record { document = kept old heap ps same k.same_pairs; room = kept_room old heap ps same k.same_pairs; weight = kept_weight old heap ps same k.same_pairs; fits = kept_fits old heap same }
+kept_fields old mid heap ps len small field t written (Err e) w k = cut_fields old mid heap ps len (front_of old mid len small field t written w) w.len_is k.cut k.same_pairs
 kept_fields old mid heap ps len small field t (Ok r) (Ok x) w k =
     let wrote = subst (λ h. Wrote (heap_of old) h (type_code r.0) r.1 t) (sym k.same_heap) w.wrote in
-    record {
-      document = pushed old heap ps (pair_at small r) field t w.small_is w.field_fits wrote k.pair;
-      room = pushed_room old heap ps (pair_at small r) field t w.small_is w.field_fits wrote k.pair;
-      weight = pushed_weight old heap ps (pair_at small r) field t w.small_is w.field_fits wrote k.pair;
-      fits = pushed_fits old heap (type_code r.0) r.1 t wrote w.tree_fits;
-    }
+    pushed_fields old heap ps (pair_at small r) field t w.small_is w.field_fits wrote k.pair (pushed_fits old heap (type_code r.0) r.1 t wrote w.tree_fits)
 kept_fields old mid heap ps len small field t (Err f) (Ok x) w k = absurd k.pair
 
 pub kept_adds : (old new : CompactDoc) (mid : List ℕ) (len small field : ℕ) (t : Tree) (written : Result (ValueType × ℕ) AllocError) (result : Result (Unit {0}) AddError)

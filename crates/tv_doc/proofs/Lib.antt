@@ -1,5 +1,6 @@
 pub mod Documents
 pub mod Kept
+pub mod SpelledPairs
 pub mod Grouping
 pub mod Valid
 pub mod Pairs

@@ -77,7 +77,7 @@ fn admit(field: Field, room: Option<u32>, len: usize) -> Result<u16, AddError>
 // Keeps the place of a value that was written behind the first `len` bytes of the heap. Where memory was refused or is refused
 // now, the heap is cut back to these, and the pairs stay as they were.
 #[inline(always)]
-fn keep_pair(
+pub(crate) fn keep_pair(
     heap: &mut Vec<u8>,
     pairs: &mut Vec<FieldValueAddr>,
     len: usize,
