@@ -38,6 +38,7 @@ pub fn take_document<S: ByteSource>(
             return Ok(reading.into_doc());
         }
         reading.advance(alloc, source, count, version, &mut legacy_seen, &mut bytes)?;
+        reading = reading.with_pairs_at_hand(source, count, version)?;
     }
     let _taken = *count;
     *count = u64::MAX;
