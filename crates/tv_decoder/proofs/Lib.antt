@@ -10,3 +10,4 @@ pub mod OpenBytes
 pub mod Wholes
 pub mod WholeDocuments
 pub mod Paying
+pub mod AtHand

@@ -1,5 +1,5 @@
 -- Steps that make a document.
-use Rattle.std.proofs.Common.{◌≡◌, ◌≢◌, ℕ, ◌+◌, ◌-◌, ◌^◌, ◌%◌, ◌<◌, ◌≤◌, nat_eq, Bool, List, [], ◌∷◌, ◌++◌, length, Option, Some, None, Result, Ok, Err, refl, sym, ◌∙◌, ap, subst, length-append, arith, inl, inr}
+use Rattle.std.proofs.Common.{◌≡◌, ◌≢◌, ℕ, ◌+◌, ◌-◌, ◌^◌, ◌%◌, ◌<◌, ◌≤◌, nat_eq, Bool, List, [], ◌∷◌, ◌++◌, length, Option, Some, None, Ok, Err, refl, sym, ◌∙◌, ap, subst, length-append, arith, inl, inr}
 use Rattle.std.proofs.lemmas.Bool.Decides.{eqb_tells}
 use Rattle.std.proofs.lemmas.Bool.{cond-true, cond-false}
 use Rattle.tv_base.specs.declared.cause.Cause.TheVariants as causes
@@ -7,14 +7,12 @@ use Rattle.tv_base.specs.Number.{VNum}
 use Rattle.tv_base.specs.PartFault.{number_ends, in_sized}
 use Rattle.tv_base.specs.Parts.{Each}
 use Rattle.tv_base.specs.Source.{Faults}
-use Rattle.tv_base.specs.Stop.{Taken}
-use Rattle.tv_builder.specs.declared.awaits.Awaits.{Awaits}
 use Rattle.tv_builder.specs.declared.awaits.Awaits.TheVariants as awaits
 use Rattle.tv_builder.specs.declared.frame.ListKind.{ListKind}
 use Rattle.tv_builder.specs.declared.frame.ListKind.TheVariants.{Array, Object}
 use Rattle.tv_builder.specs.Behind.{pairs_parts}
 use Rattle.tv_builder.specs.Front.{SpellsPart, Spelled}
-use Rattle.tv_builder.specs.State.{OpenList, State, complete, in_lists, in_bytes, next_at, next_in, awaited}
+use Rattle.tv_builder.specs.State.{State, complete, in_lists, in_bytes, next_at, next_in, awaited}
 use Rattle.tv_doc.specs.declared.document.CompactDoc.{CompactDoc}
 use Rattle.tv_doc.specs.Document.{document_of}
 use Rattle.tv_doc.specs.Builder.{built, state_of}
@@ -31,8 +29,7 @@ use Rattle.tv_value.specs.Version.{Version, V1, V2, V3}
 use Rattle.tv_value.proofs.SingleTrees.{single_document}
 use Rattle.tv_decoder.specs.Documents.{SpellsRead, NoDocument}
 use Rattle.tv_decoder.specs.Front.{parts_at, parts_read, Lacks, IsPlace, IsSound, AllFinished, IsDone, LacksPair, HasField, NoFront}
-use Rattle.tv_decoder.specs.Puts.{Awaiting}
-use Rattle.tv_decoder.specs.Steps.{Stepped}
+use Rattle.tv_decoder.specs.Steps.{Advances, Stepped}
 use Rattle.tv_decoder.specs.declared.reading.Reading.{Reading}
 use Rattle.tv_decoder.proofs.Faulting.{number_at_fault, field_at_fault, value_at_fault, key_at_fault, end_at_fault}
 
@@ -125,6 +122,14 @@ module _ {S : Type 0} {tells : S → Type 0} {left : S → List ℕ} {faults : S
       let f = h.found t in
       let g = h.taken t in
       omega (arith, f.spelled.some, g.counted, ap length f.joined, ap length g.joined, length-append f.front (left new), length-append g.front (left new))
+
+  -- pairs at hand behind them
+  pub pairs_more : {old mid new : S} {i j k : ℕ} (after : Reading) → Finds tells left faults old i mid j (Ok r) (Spells v) Nothing → Finds tells left faults mid j new k (Ok after) (λ b z. Advances Legacy v r z b) Nothing → Finds tells left faults old i new k (Ok after) (Spells v) Nothing
+  pairs_more after p h = finds_then (Spells v) Nothing (λ a b z q s. s a q) (λ a w c q f. f) (λ a f q _ none start byte last. none) p h
+
+  pub pairs_fail : {old mid new : S} {i j k : ℕ} (e : DeserializeError) → Finds tells left faults old i mid j (Ok r) (Spells v) Nothing → Finds {X = Reading} tells left faults mid j new k (Err e) (λ b z. Advances Legacy v r z b) Nothing
+      → Finds tells left faults old i new k (Err e) (SpellsRead v) (NoDocument v)
+  pairs_fail e p h = finds_then (SpellsRead v) (NoDocument v) (λ a b z q s. absurd s) (λ a w c q f. absurd f) (λ a f q _ none start byte last. absurd none) p (finds_fails (λ b z. ⊥) Nothing (λ w c f. f) h)
 
   -- so many steps that no more can be counted
   pub too_many : {old mid : S} {i j : ℕ} (counter : ℕ) → j < 2 ^ 64 → 2 ^ 64 - 1 ≤ counter → (tells old → counter + i ≤ j) → Finds tells left faults old i mid j (Ok r) (Spells v) Nothing

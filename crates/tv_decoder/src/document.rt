@@ -14,8 +14,8 @@ use tv_base::{ByteSource, Cause};
 use tv_doc::document::CompactDoc;
 use tv_reader::{DeserializeError, DocStoreVersion};
 
-/// Takes a document: the number of its pairs, and each pair, to any depth, without recursion. Nothing is reserved from announced numbers,
-/// and no byte behind the document is taken.
+/// Takes a document: the number of its pairs, and each pair, to any depth, by a recursion of 64 levels at most. Nothing is reserved from
+/// announced numbers, and no byte behind the document is taken.
 ///
 /// Errors: `CorruptedValue` and `TypeMismatch` with the first fault in the bytes; `HeapFull` where what has come needs more room than
 /// 4294967295 bytes; `Io` where the source failed; `Memory`.
@@ -38,6 +38,7 @@ pub fn take_document<S: ByteSource>(
             return Ok(reading.into_doc());
         }
         reading.advance(alloc, source, count, version, &mut legacy_seen, &mut bytes)?;
+        reading = reading.with_pairs_at_hand(source, count, version)?;
     }
     let _taken = *count;
     *count = u64::MAX;

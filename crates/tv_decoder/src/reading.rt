@@ -1,6 +1,6 @@
 //! What has been read of a document, and what its next part does to that.
 
-ghost use Rattle.std.specs.Prelude.{◌≡◌, ◌≢◌, ◌↔◌, ◌-◌, ◌^◌, ◌≤◌, ◌<◌, [], ◌∷◌, length, IsTrue, IsErrOf, IfOk, IfErr, ⊥, OnOk, OnErr, None, false};
+ghost use Rattle.std.specs.Prelude.{◌≡◌, ◌≢◌, ◌↔◌, ◌-◌, ◌^◌, ◌≤◌, ◌<◌, [], ◌∷◌, length, take, IsTrue, IsErrOf, IfOk, IfErr, OnOk, OnErr, Some, None, false};
 ghost use Rattle.tv_base.specs.declared.cause.Cause.TheVariants.{TooLong};
 ghost use Rattle.tv_builder.specs.Parts.{value as value_part, array_head, object_head, some_bytes, bytes_head};
 ghost use Rattle.tv_builder.specs.State.{awaited, head_awaits, lists_of, children_of};
@@ -19,7 +19,7 @@ ghost use Rattle.tv_reader.specs.Version.{version_of};
 ghost use Rattle.tv_value.specs.Lent.{leaf_of};
 ghost use Rattle.tv_value.specs.Owned.{owned_tree};
 ghost use Rattle.tv_value.specs.Tree.{leaf as leaf_tree};
-ghost use Rattle.tv_value.specs.Version.{Version};
+ghost use Rattle.tv_value.specs.Version.{Version, V2};
 
 use crate::errors::store_error;
 use std::alloc::{AllocError, Global};
@@ -101,8 +101,44 @@ impl Reading {
         ensures finds { Finds S.tells S.left S.faults source.old count.old source.new count.new result (λ b r. Advances Legacy (version_of version) self r b) (λ w r. ⊥) }
         ensures memory { IfErr result (λ e. e ≡ NoMemory) }
     {
-        let _unused = (source.at_hand().len(), *count, version);
-        Ok(self)
+        let (Some(announced), None, DocStoreVersion::V2) = (self.announced, self.field, version)
+        else {
+            return Ok(self);
+        };
+        let lent = source.at_hand();
+        if lent.is_empty() || u64::MAX - *count < lent.len() as u64 {
+            return Ok(self);
+        }
+        let (reading, taken) = self.with_pairs_of(lent, announced);
+        if taken == 0 {
+            return Ok(reading);
+        }
+        if !source.pass(taken) {
+            return Err(DeserializeError::Memory);
+        }
+        *count += taken as u64;
+        Ok(reading)
+    }
+
+    // The same with the whole pairs that these bytes begin with, and how many bytes they take.
+    fn with_pairs_of(self, bytes: &[u8], announced: u64) -> (Reading, usize)
+        requires sound { IsSound self }
+        requires announced { self.announced ≡ Some announced }
+        requires none { self.field ≡ None }
+        ensures sound { IsSound result.0 }
+        ensures within { result.1 ≤ length bytes.now }
+        ensures advances { Advances Legacy V2 self result.0 (take result.1 bytes.now) }
+    {
+        let finished = self.finished;
+        let mut document = self.builder.into_doc();
+        let (rest, more) = document.add_spelled(bytes, announced - finished);
+        let reading = Reading {
+            announced: Some(announced),
+            finished: finished + more,
+            field: None,
+            builder: TreeBuilder::new(document),
+        };
+        (reading, bytes.len() - rest.len())
     }
 
     /// The document of the finished pairs. Its heap ends behind the last of their values.

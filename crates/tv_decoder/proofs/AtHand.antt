@@ -1,0 +1,103 @@
+-- Whole pairs that a source has at hand.
+use Rattle.std.proofs.Common.{◌≡◌, ℕ, ◌+◌, ◌-◌, ◌≤◌, true, List, [], ◌∷◌, ◌++◌, length, take, Some, None, Ok, refl, sym, ◌∙◌, ap, subst, arith, length-append, take_at, inl, inr}
+use Rattle.std.proofs.lemmas.List.{take-append-le}
+use Rattle.tv_base.specs.Lend.{Passes}
+use Rattle.tv_base.specs.Parts.{Each}
+use Rattle.tv_base.specs.Sink.{IsFront}
+use Rattle.tv_base.specs.Source.{Faults}
+use Rattle.tv_base.specs.declared.cause.Cause.TheVariants.{UnexpectedEnd}
+use Rattle.tv_builder.specs.Behind.{pairs_parts, document_parts}
+use Rattle.tv_builder.specs.Front.{SpellsPart, Spelled}
+use Rattle.tv_builder.specs.Parts.{Part, number, pair}
+use Rattle.tv_builder.proofs.Grammar.{each_append}
+use Rattle.tv_doc.specs.Builder.{built, state_of}
+use Rattle.tv_legacy.specs.Legacy.{Legacy}
+use Rattle.tv_reader.specs.Error.{store_stop}
+use Rattle.tv_reader.specs.Finds.{Finds}
+use Rattle.tv_reader.proofs.Finding.{finds_nothing}
+use Rattle.tv_value.specs.Fault.{corrupted}
+use Rattle.tv_value.specs.Spelling.{Spells, SpellsElements, SpellsEntries, SpellsPair, NoLegacy}
+use Rattle.tv_value.specs.Tree.{Tree, leaf, array, object, Elements, no_elements, element, Entries, no_entries, entry, Document}
+use Rattle.tv_value.specs.Version.{Version}
+use Rattle.tv_decoder.specs.Front.{parts_at, parts_read}
+use Rattle.tv_decoder.specs.Steps.{Advances}
+use Rattle.tv_decoder.specs.declared.reading.Reading.{Reading}
+use Rattle.tv_decoder.proofs.WholeDocuments.{Nothing}
+
+-- ---- what is spelled without legacy objects is spelled
+
+mutual
+  with_legacy : (L : List ℕ → Entries → Type 0) (v : Version) (t : Tree) (b : List ℕ) → Spells NoLegacy v b t → Spells L v b t
+  with_legacy L v (leaf l) b p = p
+  with_legacy L v (array ts) b p =
+      let s = p.spelled in
+      record { body = p.body; joined = p.joined; spelled = record { front = s.front; rest = s.rest; joined = s.joined; first = s.first; second = elements_with_legacy L v ts s.rest s.second } }
+  with_legacy L v (object es) b (inl p) =
+      let s = p.spelled in
+      inl (record { body = p.body; joined = p.joined; spelled = record { front = s.front; rest = s.rest; joined = s.joined; first = s.first; second = entries_with_legacy L v es s.rest s.second } })
+  with_legacy L v (object es) b (inr p) = absurd p.spelled
+
+  elements_with_legacy : (L : List ℕ → Entries → Type 0) (v : Version) (ts : Elements) (b : List ℕ) → SpellsElements NoLegacy v b ts → SpellsElements L v b ts
+  elements_with_legacy L v no_elements b p = p
+  elements_with_legacy L v (element t ts) b p = record { front = p.front; rest = p.rest; joined = p.joined; first = with_legacy L v t p.front p.first; second = elements_with_legacy L v ts p.rest p.second }
+
+  entries_with_legacy : (L : List ℕ → Entries → Type 0) (v : Version) (es : Entries) (b : List ℕ) → SpellsEntries NoLegacy v b es → SpellsEntries L v b es
+  entries_with_legacy L v no_entries b p = p
+  entries_with_legacy L v (entry k t es) b p =
+      let s = p.second in
+      record { front = p.front; rest = p.rest; joined = p.joined; first = p.first; second = record { front = s.front; rest = s.rest; joined = s.joined; first = with_legacy L v t s.front s.first; second = entries_with_legacy L v es s.rest s.second } }
+
+pair_with_legacy : (L : List ℕ → Entries → Type 0) (v : Version) (p : ℕ × Tree) (b : List ℕ) → SpellsPair NoLegacy v b p → SpellsPair L v b p
+pair_with_legacy L v p b h =
+    let s = h.parts in
+    record { small = h.small; parts = record { front = s.front; rest = s.rest; joined = s.joined; first = s.first; second = with_legacy L v p.1 s.rest s.second } }
+
+pairs_as_parts : (L : List ℕ → Entries → Type 0) (v : Version) (d : Document) (b : List ℕ) → Each (SpellsPair NoLegacy v) b d → Each (SpellsPart L v) b (pairs_parts d)
+pairs_as_parts L v [] b h = h
+pairs_as_parts L v (p ∷ d) b h = record { front = h.front; rest = h.rest; joined = h.joined; first = pair_with_legacy L v p h.front h.first; second = pairs_as_parts L v d h.rest h.second }
+
+-- ---- more pairs behind the finished ones
+
+pairs_append : (d e : Document) → pairs_parts (d ++ e) ≡ pairs_parts d ++ pairs_parts e
+pairs_append [] e = refl
+pairs_append (p ∷ d) e = ap (λ (z : List Part). pair p.0 p.1 ∷ z) (pairs_append d e)
+
+pairs_behind : (v : Version) (n : ℕ) (d more : Document) (bytes taken : List ℕ) → Each (SpellsPair NoLegacy v) taken more → Spelled Legacy v bytes (document_parts n d) → Spelled Legacy v (bytes ++ taken) (document_parts n (d ++ more))
+pairs_behind v n d more bytes taken h p =
+    subst (λ z. Spelled Legacy v (bytes ++ taken) (number n ∷ z)) (sym (pairs_append d more))
+    (each_append (SpellsPart Legacy v) (document_parts n d) (pairs_parts more) bytes taken p (pairs_as_parts Legacy v more taken h))
+
+parts_of_pairs : (r : Reading) (n : ℕ) → r.announced ≡ Some n → r.field ≡ None → parts_read r ≡ document_parts n (built r.builder)
+parts_of_pairs r n a f = λ i. parts_at (a i) (built r.builder) (f i) (state_of r.builder)
+
+-- these bytes spell the pairs that were added
+pub extended_goes : (v : Version) (r : Reading) (n : ℕ) (d more : Document) (taken : List ℕ) → r.announced ≡ Some n → r.field ≡ None → d ≡ built r.builder ++ more → Each (SpellsPair NoLegacy v) taken more
+    → (bytes : List ℕ) → Spelled Legacy v bytes (parts_read r) → Spelled Legacy v (bytes ++ taken) (document_parts n d)
+extended_goes v r n d more taken announced none is each bytes p =
+    subst (λ z. Spelled Legacy v (bytes ++ taken) (document_parts n z)) (sym is)
+    (pairs_behind v n (built r.builder) more bytes taken each (subst (λ z. Spelled Legacy v bytes z) (parts_of_pairs r n announced none) p))
+
+-- the bytes in front of those that are left over
+pub taken_front : (whole front rest : List ℕ) → whole ≡ front ++ rest → take (length whole - length rest) whole ≡ front
+taken_front whole front rest joined = ap (take (length whole - length rest)) joined ∙ take_at front rest (length whole - length rest) (omega (arith, ap length joined, length-append front rest))
+
+-- ---- and the bytes are passed
+
+-- the bytes that were lent, as many as were passed
+front_lent : (old new lent : List ℕ) (n : ℕ) → IsFront lent old → n ≤ length lent → (p : (front : List ℕ) × (old ≡ front ++ new) × (length front ≡ n)) → take n lent ≡ p.0
+front_lent old new lent n lend within p = sym (take-append-le n lent lend.0 within) ∙ ap (take n) (sym lend.1 ∙ p.1) ∙ take_at p.0 new n p.2
+
+module _ {S : Type 0} {tells : S → Type 0} {left : S → List ℕ} {faults : S → Faults} (v : Version) (r new : Reading) where
+  pub passed_finds : {os ns : S} {i k : ℕ} (lent : List ℕ) (n : ℕ) → (tells os → IsFront lent (left os)) → n ≤ length lent → Advances Legacy v r new (take n lent) → (tells os → Passes (left os) (left ns) n true) → (tells os → tells ns) → faults ns ≡ faults os → k ≡ i + n
+      → Finds tells left faults os i ns k (Ok new) (λ b z. Advances Legacy v r z b) Nothing
+  passed_finds {os = os} {ns = ns} lent n lend within goes pass told same counted = record {
+    found = λ t. let p = pass t in record { front = p.0; joined = p.1; spelled = subst (λ z. Advances Legacy v r new z) (front_lent (left os) (left ns) lent n (lend t) within p) goes };
+    taken = λ t. let p = pass t in record { front = p.0; joined = p.1; counted = omega (arith, counted, p.2) };
+    still_tells = told;
+    counts = same;
+    rises = omega (arith, counted);
+  }
+
+  -- or there were none
+  pub none_passed : {p : S} {i : ℕ} → Advances Legacy v r new [] → Finds tells left faults p i p i (Ok new) (λ b z. Advances Legacy v r z b) Nothing
+  none_passed {p = p} {i = i} goes = finds_nothing store_stop (corrupted UnexpectedEnd) tells left faults p i new (λ b z. Advances Legacy v r z b) Nothing goes
