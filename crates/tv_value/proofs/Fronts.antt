@@ -1,7 +1,7 @@
 -- How parts that begin the bytes make larger ones.
-use Rattle.std.proofs.Common.{◌≡◌, ℕ, zero, suc, ◌<◌, ◌≤◌, List, [], ◌∷◌, ◌++◌, length, take, drop, get_or, IsUtf8, refl, sym, ◌∙◌, ap, subst, arith, append_assoc, length-append}
+use Rattle.std.proofs.Common.{◌≡◌, ℕ, zero, suc, ◌+◌, ◌%◌, ◌^◌, ◌<◌, ◌≤◌, List, [], ◌∷◌, ◌++◌, length, take, drop, get_or, IsUtf8, refl, sym, ◌∙◌, ap, subst, arith, append_assoc, length-append}
 use Rattle.std.proofs.lemmas.List.{append-nil, take-append-drop, length-take-le}
-use Rattle.tv_base.specs.Number.{VNum}
+use Rattle.tv_base.specs.Number.{VNum, Groups, last}
 use Rattle.tv_base.specs.Parts.{Begins, Then, Each, Behind, Sized, Text}
 
 pub begins_behind : {P : List ℕ → Type 0} (k : ℕ) (rest after : List ℕ) → Begins P rest after → Begins (Behind k P) (k ∷ rest) after
@@ -20,6 +20,16 @@ begins_then whole rest after p q = record {
 
 pub begins_nothing : {P : List ℕ → Type 0} (rest : List ℕ) → P [] → Begins P rest rest
 begins_nothing rest p = record { front = []; joined = refl; spelled = p }
+
+-- a number of one byte
+pub begins_small : (byte : ℕ) (rest : List ℕ) → 128 ≤ byte → byte < 256 → Begins (λ b. VNum b (byte % 128)) (byte ∷ rest) rest
+begins_small byte rest high small =
+    let same : byte % 128 + 128 ≡ byte = omega arith in
+    record {
+      front = byte ∷ [];
+      joined = refl;
+      spelled = record { groups = subst (λ z. Groups (z ∷ []) (byte % 128)) same (last (omega arith)); at_most_ten = omega arith; fits = omega arith };
+    }
 
 pub begins_length : {P : List ℕ → Type 0} (whole rest : List ℕ) → Begins P whole rest → length rest ≤ length whole
 begins_length whole rest p = omega (arith, ap length p.joined, length-append p.front rest)

@@ -12,10 +12,17 @@ use crate::pre_tokenized::TokenRef;
 use tv_base::vint::VInt;
 
 /// The number of variable length at the front of the bytes, and what follows it. None where no front spells a number. (Own.)
+#[inline]
 pub fn number_at(bytes: &[u8]) -> Option<(u64, &[u8])>
     ensures found { IfSome result (λ x. Begins (λ b. VNum b x.0) bytes.now x.1.now) }
     ensures none { IfNone result ((n : ℕ) → NoFront (λ b. VNum b n) bytes.now) }
 {
+    // most have one byte
+    if let Some((first, rest)) = bytes.split_first() {
+        if *first >= 128 {
+            return Some((u64::from(*first % 128), rest));
+        }
+    }
     let (number, len) = VInt::from_slice(bytes)?;
     Some((number, &bytes[len..]))
 }
@@ -30,10 +37,11 @@ pub fn text_at(bytes: &[u8]) -> Option<(&str, &[u8])>
         return None;
     }
     let (content, rest) = behind_len.split_at(len as usize);
-    match str::from_utf8(content) {
-        Ok(text) => Some((text, rest)),
-        Err(_) => None,
+    if !simdutf8::is_utf8(content) {
+        return None;
     }
+    let text = unsafe { str::from_utf8_unchecked(content) };
+    Some((text, rest))
 }
 
 /// The token at the front of the bytes, and what follows it. None where no front spells a token.

@@ -1,4 +1,4 @@
-use Rattle.std.proofs.Common.{subst, sym}
+use Rattle.std.proofs.Common.{◌≡◌, true, false, subst, sym, ◌∙◌}
 use Rattle.tv_base.specs.Parts.{Begins, Text}
 use Rattle.tv_value.proofs.InPlace.{if_none, text_none, text_ends, text_wrong}
 use Rattle.tv_value.proofs.Fronts.{sized_found, text_found}
@@ -10,18 +10,18 @@ returns-in_err-len-clause-none c = if_none c.from_residual.result (text_none c.a
 pub returns-then-behind_len-len-clause-none : goal.returns-then-behind_len-len-clause-none
 returns-then-behind_len-len-clause-none c = text_ends c.args.bytes.now c.in_ok-len.behind_len.now c.in_ok-len.len c.in_ok-len.ensures.found c.if-behind_len-len.true
 
-pub returns-in-Ok-clause-found : goal.returns-in-Ok-clause-found
-returns-in-Ok-clause-found c =
+pub returns-then-not-is_utf8-clause-none : goal.returns-then-not-is_utf8-clause-none
+returns-then-not-is_utf8-clause-none c =
     let content = c.split_at.result.0.now in
     let rest = c.split_at.result.1.now in
     let sized =
     sized_found c.args.bytes.now c.in_ok-len.behind_len.now content rest c.in_ok-len.len c.in_ok-len.ensures.found c.if-behind_len-len.false c.split_at.ensures.front c.split_at.ensures.back in
-    subst (λ z. Begins (λ b. Text b z) c.args.bytes.now rest) (sym c.in-Ok.ensures.cases.0) (text_found c.args.bytes.now rest content sized c.in-Ok.ensures.cases.1)
+    text_wrong c.args.bytes.now rest content sized (λ u. let t : true ≡ false = sym (c.is_utf8.ensures.1 u) ∙ c.if-not-is_utf8.true in cc)
 
-pub returns-in-Err-clause-none : goal.returns-in-Err-clause-none
-returns-in-Err-clause-none c =
+pub returns-clause-found : goal.returns-clause-found
+returns-clause-found c =
     let content = c.split_at.result.0.now in
     let rest = c.split_at.result.1.now in
     let sized =
     sized_found c.args.bytes.now c.in_ok-len.behind_len.now content rest c.in_ok-len.len c.in_ok-len.ensures.found c.if-behind_len-len.false c.split_at.ensures.front c.split_at.ensures.back in
-    text_wrong c.args.bytes.now rest content sized c.in-Err.ensures.cases.0
+    subst (λ z. Begins (λ b. Text b z) c.args.bytes.now rest) (sym c.from_utf8_unchecked-text.ensures) (text_found c.args.bytes.now rest content sized (c.is_utf8.ensures.0 c.if-not-is_utf8.false))
