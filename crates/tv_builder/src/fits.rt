@@ -10,15 +10,20 @@ use tv_base::vint::VInt;
 const MAX_HEAP_LEN: u64 = 4294967295;
 
 // The length of the shortest spelling of a number.
+#[inline(always)]
 fn spelled_len(number: u64) -> u64
     ensures same { result ≡ length (vnum number) }
     ensures small { result ≤ 10 }
 {
+    if number < 128 {
+        return 1;
+    }
     let (_, len) = VInt(number).spelling();
     len as u64
 }
 
 /// Whether so many bytes behind their length fit behind a heap of this length.
+#[inline(always)]
 pub(crate) fn has_room(len: usize, content: u64) -> bool
     requires { len ≤ 4294967295 }
     ensures { IsTrue result ↔ (len + (length (vnum content) + content) ≤ 4294967295) }
@@ -27,6 +32,7 @@ pub(crate) fn has_room(len: usize, content: u64) -> bool
 }
 
 /// Whether a value of this room fits behind a heap of this length.
+#[inline(always)]
 pub(crate) fn has_value_room(len: usize, room: Option<u32>) -> bool
     requires { len ≤ 4294967295 }
     ensures { FitsRoom room len result }

@@ -16,6 +16,7 @@ use tv_value::leaf::ReferenceValueLeaf;
 use tv_value::nested::{Nested, NestedValue};
 
 /// Writes a value without children, and answers its place. After an error the old heap is still a front of the new.
+#[inline(always)]
 pub(crate) fn put_leaf(
     heap: &mut Vec<u8>,
     value: &ReferenceValueLeaf<'_>,

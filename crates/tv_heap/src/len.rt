@@ -15,15 +15,20 @@ use tv_value::leaf::ReferenceValueLeaf;
 use tv_value::pre_tokenized::{PreTokenizedStr, TokenIter, TokenRef};
 
 // The length of the shortest spelling of a number.
+#[inline(always)]
 fn number_len(number: u64) -> u32
     ensures len { result ≡ length (vnum number) }
     ensures small { result ≤ 10 }
 {
+    if number < 128 {
+        return 1;
+    }
     let (_, len) = VInt(number).spelling();
     len as u32
 }
 
 // The length of so many bytes behind their length, above what there is, where the sum fits.
+#[inline(always)]
 fn sized_above(len: usize, base: u32) -> Option<u32>
     ensures { let total = base + (length (vnum len) + len) in SomeIff result (total < 2 ^ 32) total }
 {
@@ -62,6 +67,7 @@ fn tokenized_len(content: PreTokenizedStr<'_>) -> Option<u32>
 }
 
 /// The length of what is written of a value without children, where it is at most 4294967295 bytes.
+#[inline(always)]
 #[tactic(auto, using(crate::proofs::Writes::length_eight, crate::proofs::Writes::length_sixteen))]
 pub fn leaf_len(value: &ReferenceValueLeaf<'_>) -> Option<u32>
     ensures { let len = length (leaf_bytes (leaf_of value.now)) in SomeIff result (len < 2 ^ 32) len }
