@@ -1,4 +1,5 @@
 mod announced;
+mod at_hand;
 mod fronts;
 mod legacy;
 mod many;

@@ -11,9 +11,15 @@ use tv_reader::{DeserializeError, DocStoreVersion};
 
 const TWO: DocStoreVersion = DocStoreVersion::V2;
 
-/// A pair of arrays of one value in each other, so many of them, and what is behind.
-fn nested(alloc: Global, levels: usize, end: &[u8]) -> Result<Vec<u8>, AllocError> {
-    let mut bytes = b"\x81\0\0\0\0".to_vec(alloc)?;
+/// So many pairs, the first of arrays of one value in each other, so many of them, and what is behind.
+pub fn nested(
+    alloc: Global,
+    pairs: &[u8; 1],
+    levels: usize,
+    end: &[u8],
+) -> Result<Vec<u8>, AllocError> {
+    let mut bytes = pairs.to_vec(alloc)?;
+    bytes.extend_from_slice(b"\0\0\0\0")?;
     for _ in 0..levels {
         bytes.extend_from_slice(b"\x0c\x81")?;
     }
@@ -34,21 +40,21 @@ fn is_deepest(outcome: &Outcome) -> bool {
 
 #[test]
 fn a_million_arrays_in_each_other(rt: HostRuntime) -> Result<(), Fail> {
-    let bytes = nested(rt.alloc(), 1000000, b"\x0b")?;
+    let bytes = nested(rt.alloc(), b"\x81", 1000000, b"\x0b")?;
     assert!(rt; is_deepest(&outcome_of(rt.alloc(), &mut SliceSource::new(&bytes), TWO)));
     Ok(())
 }
 
 #[test]
 fn a_million_arrays_byte_by_byte(rt: HostRuntime) -> Result<(), Fail> {
-    let bytes = nested(rt.alloc(), 1000000, b"\x0b")?;
+    let bytes = nested(rt.alloc(), b"\x81", 1000000, b"\x0b")?;
     assert!(rt; is_deepest(&outcome_of(rt.alloc(), &mut DripSource::new(&bytes), TWO)));
     Ok(())
 }
 
 #[test]
 fn a_million_arrays_at_once(rt: HostRuntime) -> Result<(), Fail> {
-    let bytes = nested(rt.alloc(), 1000000, b"\x0b")?;
+    let bytes = nested(rt.alloc(), b"\x81", 1000000, b"\x0b")?;
     let mut count = 0;
     let mut source = SliceSource::new(&bytes);
     let document = take_document(rt.alloc(), &mut source, &mut count, TWO)?;
@@ -59,7 +65,7 @@ fn a_million_arrays_at_once(rt: HostRuntime) -> Result<(), Fail> {
 
 #[test]
 fn arrays_without_an_end(rt: HostRuntime) -> Result<(), Fail> {
-    let bytes = nested(rt.alloc(), 100000, b"")?;
+    let bytes = nested(rt.alloc(), b"\x81", 100000, b"")?;
     for outcome in outcomes(rt.alloc(), &bytes, TWO) {
         let error = DeserializeError::CorruptedValue(Cause::UnexpectedEnd);
         assert!(rt; outcome.is_right);

@@ -1,6 +1,6 @@
 //! How steps end, what was counted on the way, and whether what holds after each step held.
 
-use crate::tests::sources::{DripSource, Remaining};
+use crate::tests::sources::{DripSource, Remaining, WindowSource};
 use std::alloc::Global;
 use tv_base::{ByteSource, SliceSource};
 use tv_decoder::direct_decoder::{DirectDecoder, Step};
@@ -162,8 +162,17 @@ fn is_taken_from<S: ByteSource + Remaining>(
     same && count == expected.counts.0 && source.remaining() == expected.left
 }
 
-/// Whether a document that is taken at once ends as its steps did: over a slice, and byte by byte.
+/// How many bytes the sources lend at once.
+const WINDOWS: [usize; 6] = [0, 1, 2, 5, 16, 64];
+
+/// Whether a document that is taken at once ends as its steps did: over a slice, where few bytes are lent, and byte by byte.
 pub fn is_taken(alloc: Global, bytes: &[u8], version: DocStoreVersion, expected: &Outcome) -> bool {
+    for window in WINDOWS {
+        let mut source = WindowSource::new(bytes, window);
+        if !is_taken_from(alloc, &mut source, version, expected) {
+            return false;
+        }
+    }
     is_taken_from(alloc, &mut SliceSource::new(bytes), version, expected)
         && is_taken_from(alloc, &mut DripSource::new(bytes), version, expected)
 }

@@ -1,6 +1,6 @@
-//! A source that gives one byte at a time.
+//! A source that gives one byte at a time, and one that lends few.
 
-ghost use Rattle.std.specs.Prelude.{Some};
+ghost use Rattle.std.specs.Prelude.{None, Some};
 ghost use Rattle.tv_base.specs.Source.{AllBytes};
 
 use std::io;
@@ -63,12 +63,64 @@ impl<'a> ByteSource for DripSource<'a> {
     ghost are_bytes = { λ s told. s.are_bytes };
 }
 
+/// Lends at most so many bytes at once. No read fails.
+#[derive(Drop)]
+pub struct WindowSource<'a> {
+    rest: &'a [u8],
+    window: usize,
+    ghost are_bytes: { AllBytes rest.now },
+}
+
+impl<'a> WindowSource<'a> {
+    pub fn new(bytes: &'a [u8], window: usize) -> WindowSource<'a> {
+        WindowSource {
+            rest: bytes,
+            window,
+        }
+    }
+}
+
+impl<'a> ByteSource for WindowSource<'a> {
+    ghost tells = { λ _. Unit {0} };
+
+    ghost left = { λ s. s.rest.now };
+
+    ghost faults = { λ _. record { number = 0; last = None } };
+
+    fn read(&mut self, buf: &mut [u8]) -> Result<usize, io::ErrorKind> {
+        let count = self.rest.len().min(buf.len());
+        buf[..count].copy_from_slice(&self.rest[..count]);
+        self.rest = &self.rest[count..];
+        Ok(count)
+    }
+
+    fn at_hand(&self) -> &[u8] {
+        &self.rest[..self.rest.len().min(self.window)]
+    }
+
+    fn pass(&mut self, len: usize) -> bool {
+        if len > self.rest.len().min(self.window) {
+            return false;
+        }
+        self.rest = &self.rest[len..];
+        true
+    }
+
+    ghost are_bytes = { λ s told. s.are_bytes };
+}
+
 /// What says how many bytes are left.
 pub trait Remaining {
     fn remaining(&self) -> usize;
 }
 
 impl<'a> Remaining for DripSource<'a> {
+    fn remaining(&self) -> usize {
+        self.rest.len()
+    }
+}
+
+impl<'a> Remaining for WindowSource<'a> {
     fn remaining(&self) -> usize {
         self.rest.len()
     }
