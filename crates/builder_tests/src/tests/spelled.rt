@@ -34,50 +34,52 @@ fn is_put(alloc: Global, row: Row) -> Result<bool, AllocError> {
     }
 }
 
+/// A value of each kind without children.
+const VALUES: [Row; 12] = [
+    (0, b"\0\x82ab", b"\x82xy\x82ab", (1, 3)),
+    // a text with a padded length
+    (0, b"\0\x02\x80ab", b"\x82xy\x82ab", (1, 3)),
+    (
+        0,
+        b"\x01\x14\0\0\0\0\0\0\0",
+        b"\x82xy\x14\0\0\0\0\0\0\0",
+        (2, 3),
+    ),
+    (
+        0,
+        b"\x02\xfb\xff\xff\xff\xff\xff\xff\xff",
+        b"\x82xy\xfb\xff\xff\xff\xff\xff\xff\xff",
+        (3, 3),
+    ),
+    (0, b"\x03\x83a\0b", b"\x82xy\x83a\0b", (6, 3)),
+    (0, b"\x04\x82\xff\x80", b"\x82xy\x82\xff\x80", (7, 3)),
+    (
+        0,
+        b"\x05\x07\0\0\0\0\0\0\0",
+        b"\x82xy\x07\0\0\0\0\0\0\0",
+        (5, 3),
+    ),
+    // a text with a token, with padded lengths
+    (
+        0,
+        b"\x07\0\x02\x80hi\x81\x80\x82\x83\x02\x80hi\x81",
+        b"\x82xy\x82hi\x81\x80\x82\x83\x82hi\x81",
+        (10, 3),
+    ),
+    (0, b"\x09\0", TEXT, (9, 0)),
+    (0, b"\x09\x01", TEXT, (9, 1)),
+    (
+        0,
+        b"\x0a\x01\x02\0\xc0\xff\xff\0\0\0\0\0\0\0\0\0\0",
+        b"\x82xy\x01\x02\0\xc0\xff\xff\0\0\0\0\0\0\0\0\0\0",
+        (8, 3),
+    ),
+    (0, b"\x0b", TEXT, (0, 0)),
+];
+
 #[test]
 fn values_without_children(rt: HostRuntime) -> Result<(), Fail> {
-    let rows: [Row; 12] = [
-        (0, b"\0\x82ab", b"\x82xy\x82ab", (1, 3)),
-        // a text with a padded length
-        (0, b"\0\x02\x80ab", b"\x82xy\x82ab", (1, 3)),
-        (
-            0,
-            b"\x01\x14\0\0\0\0\0\0\0",
-            b"\x82xy\x14\0\0\0\0\0\0\0",
-            (2, 3),
-        ),
-        (
-            0,
-            b"\x02\xfb\xff\xff\xff\xff\xff\xff\xff",
-            b"\x82xy\xfb\xff\xff\xff\xff\xff\xff\xff",
-            (3, 3),
-        ),
-        (0, b"\x03\x83a\0b", b"\x82xy\x83a\0b", (6, 3)),
-        (0, b"\x04\x82\xff\x80", b"\x82xy\x82\xff\x80", (7, 3)),
-        (
-            0,
-            b"\x05\x07\0\0\0\0\0\0\0",
-            b"\x82xy\x07\0\0\0\0\0\0\0",
-            (5, 3),
-        ),
-        // a text with a token, with padded lengths
-        (
-            0,
-            b"\x07\0\x02\x80hi\x81\x80\x82\x83\x02\x80hi\x81",
-            b"\x82xy\x82hi\x81\x80\x82\x83\x82hi\x81",
-            (10, 3),
-        ),
-        (0, b"\x09\0", TEXT, (9, 0)),
-        (0, b"\x09\x01", TEXT, (9, 1)),
-        (
-            0,
-            b"\x0a\x01\x02\0\xc0\xff\xff\0\0\0\0\0\0\0\0\0\0",
-            b"\x82xy\x01\x02\0\xc0\xff\xff\0\0\0\0\0\0\0\0\0\0",
-            (8, 3),
-        ),
-        (0, b"\x0b", TEXT, (0, 0)),
-    ];
-    for row in rows {
+    for row in VALUES {
         assert!(rt; is_put(rt.alloc(), row)?, "at {row:?}");
     }
     Ok(())
