@@ -2,4 +2,5 @@ mod lengths;
 mod long;
 mod memory;
 mod refusals;
+mod spelled;
 mod values;

@@ -134,11 +134,11 @@ fn an_object_of_older_stores_between_pairs(rt: HostRuntime) {
 fn a_date_behind_a_text_in_both_versions(rt: HostRuntime) {
     // 1500000 microseconds are 1500000000 nanoseconds
     let bytes = b"\x82\0\0\0\0\0\x82ab\x01\0\0\0\x05\x60\xe3\x16\0\0\0\0\0";
-    let micros = b"\x82ab\0\x2f\x68\x59\0\0\0\0";
-    let nanos = b"\x82ab\x60\xe3\x16\0\0\0\0\0";
+    let of_micros = b"\x82ab\0\x2f\x68\x59\0\0\0\0";
+    let of_nanos = b"\x82ab\x60\xe3\x16\0\0\0\0\0";
     let last = Some((5, 3));
-    assert!(rt; is_read(rt.alloc(), bytes, DocStoreVersion::V1, micros, last, 0));
-    assert!(rt; is_read(rt.alloc(), bytes, DocStoreVersion::V2, nanos, last, 0));
+    assert!(rt; is_read(rt.alloc(), bytes, DocStoreVersion::V1, of_micros, last, 0));
+    assert!(rt; is_read(rt.alloc(), bytes, DocStoreVersion::V2, of_nanos, last, 0));
 }
 
 #[test]
