@@ -1,5 +1,5 @@
 -- How values that stand spelled in bytes are written.
-use Rattle.std.proofs.Common.{◌≡◌, ℕ, suc, ◌+◌, ◌*◌, ◌<◌, ◌≤◌, List, [], ◌∷◌, ◌++◌, length, take, drop, get_or, refl, sym, ◌∙◌, ap, subst, append_assoc, length-append, arith, inl}
+use Rattle.std.proofs.Common.{◌≡◌, ℕ, ◌+◌, ◌*◌, ◌<◌, ◌≤◌, List, [], ◌∷◌, ◌++◌, length, take, drop, get_or, refl, sym, ◌∙◌, ap, subst, append_assoc, length-append, arith, inl}
 use Rattle.std.proofs.lemmas.List.{append-nil, length-take-le}
 use Rattle.std.specs.Int.{w64, w128, from_le_bytes, cast_signed}
 use Rattle.std.specs.Net.Addr.{IsIpv6OfBits, ipv6_bits}
@@ -22,7 +22,6 @@ use Rattle.tv_builder.specs.Given.{place_bytes}
 use Rattle.tv_builder.specs.SpelledPut.{SpelledPut}
 use Rattle.tv_builder.specs.TreeBytes.{tree_heap, tree_place, elements_heap, elements_places, entries_heap, entries_places}
 use Rattle.tv_builder.specs.Whole.{Put, ListPut}
-use Rattle.tv_builder.proofs.Giving.{front_then}
 use Rattle.tv_builder.proofs.Grammar.{elements_counted, entries_counted}
 use Rattle.tv_builder.proofs.Putting.{Children, no_children, children_push, put_grows, ArrayPut, array_put, ObjectPut, object_put, flat, flat_append}
 

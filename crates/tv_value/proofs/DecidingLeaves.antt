@@ -1,5 +1,5 @@
 -- Any bytes begin with a leaf of a code, a key or a field, or they are at fault there.
-use Rattle.std.proofs.Common.{◌≡◌, ◌≢◌, ℕ, zero, suc, ◌<◌, ◌≤◌, Bool, true, false, List, [], ◌∷◌, ◌++◌, length, refl, sym, ap, subst, ◌∙◌, arith, inl, inr}
+use Rattle.std.proofs.Common.{◌≡◌, ◌≢◌, ℕ, zero, suc, ◌≤◌, Bool, true, false, List, [], ◌∷◌, ◌++◌, length, refl, sym, subst, arith, inl, inr}
 use Rattle.std.specs.Prelude.{ℤ, pos, negsuc, ◌*ℤ◌, ◌≤ℤ◌, ◌<ℤ◌}
 use Rattle.std.specs.Int.Signed.{lt_z}
 use Rattle.std.proofs.lemmas.Bool.{cases_lt}
@@ -8,7 +8,7 @@ use Rattle.std.proofs.lemmas.Int.{ints}
 use Rattle.tv_base.specs.declared.cause.Cause.{Cause}
 use Rattle.tv_base.specs.declared.cause.Cause.TheVariants.{UnexpectedEnd, UnknownTypeCode, FloatCode, UnknownExtCode, DateRange, FieldNumber}
 use Rattle.tv_base.specs.Number.{VNum, Fixed, Signed}
-use Rattle.tv_base.specs.Parts.{Behind, Text, Counted}
+use Rattle.tv_base.specs.Parts.{Behind, Text}
 use Rattle.tv_base.specs.PartFault.{InThen, InEach, NumberFault, BytesFault, TextFault, TruthFault, truth_ends, truth_large}
 use Rattle.tv_base.specs.Source.{AllBytes}
 use Rattle.tv_base.proofs.AgreeNumbers.{vint_agrees}
@@ -17,7 +17,7 @@ use Rattle.tv_base.proofs.AgreeTruth.{truth_agrees}
 use Rattle.tv_base.proofs.AgreeWidths.{bytes_fault, u32_agrees, u64_agrees, u128_agrees, i64_agrees}
 use Rattle.tv_base.proofs.Deciding.{Decided, begins, faulty, Decides, Both, Items, decides_as, behind_code, decides_then, decides_each, decides_by}
 use Rattle.tv_base.proofs.SmallBytes.{bytes_after}
-use Rattle.tv_value.specs.Fault.{Refusal, corrupted, no_text_key, Corrupt, corrupt, TokenFault, TokenizedFault, DateFault, date_ends, date_range, LeafFault, in_text, in_unsigned, in_signed, in_facet, in_bytes, in_date, no_extension, other_extension, in_tokenized, no_truth, other_truth, in_ip_address, CodedKeyFault, key_ends, key_unknown, key_float, key_other, key_no_extension, key_tokenized, key_other_extension, in_key, KeyFault, FieldFault, field_ends, field_large, SmallField}
+use Rattle.tv_value.specs.Fault.{corrupted, no_text_key, Corrupt, corrupt, TokenFault, TokenizedFault, DateFault, date_ends, date_range, LeafFault, in_text, in_unsigned, in_signed, in_facet, in_bytes, in_date, no_extension, other_extension, in_tokenized, no_truth, other_truth, in_ip_address, CodedKeyFault, key_ends, key_unknown, key_float, key_other, key_no_extension, key_tokenized, key_other_extension, in_key, KeyFault, FieldFault, field_ends, field_large, SmallField}
 use Rattle.tv_value.specs.Spelling.{TokenSpelling, Tokenized, leaf_code, LeafBody, Key}
 use Rattle.tv_value.specs.Tree.{Token, Leaf, null, text, unsigned, signed, boolean, date, facet, bytes, ip_address, tokenized}
 use Rattle.tv_value.specs.Version.{Version, V1, V2, V3, Date}

@@ -1,19 +1,19 @@
 -- Any bytes begin with a value, or they are at fault; so of documents. The bytes behind a value's code are fewer, so their bound falls.
-use Rattle.std.proofs.Common.{◌≡◌, ◌≢◌, ◌⊎◌, ℕ, zero, suc, ◌*◌, ◌%◌, ◌/◌, ◌<◌, ◌≤◌, List, [], ◌∷◌, ◌++◌, length, refl, sym, ap, subst, ◌∙◌, arith, append_assoc, length-append, inl, inr}
+use Rattle.std.proofs.Common.{◌≡◌, ◌≢◌, ◌⊎◌, ℕ, zero, suc, ◌*◌, ◌%◌, ◌/◌, ◌≤◌, List, [], ◌∷◌, ◌++◌, length, refl, sym, ap, subst, ◌∙◌, arith, append_assoc, length-append, inl, inr}
 use Rattle.std.proofs.lemmas.Bool.Decides.{eqb_tells}
 use Rattle.tv_base.specs.declared.cause.Cause.{Cause}
 use Rattle.tv_base.specs.declared.cause.Cause.TheVariants.{UnexpectedEnd, UnknownTypeCode, FloatCode, OddObject}
-use Rattle.tv_base.specs.Number.{VNum, Fixed}
+use Rattle.tv_base.specs.Number.{VNum}
 use Rattle.tv_base.specs.Parts.{Then}
 use Rattle.tv_base.specs.PartFault.{InThen, InEach, NumberFault}
 use Rattle.tv_base.specs.Source.{AllBytes}
 use Rattle.tv_base.proofs.AgreeNumbers.{vint_agrees}
-use Rattle.tv_base.proofs.Deciding.{Decided, begins, faulty, Decides, Both, Items, decides_as, fewer, decides_then, decides_each, decides_by}
+use Rattle.tv_base.proofs.Deciding.{Decided, begins, faulty, Decides, Both, Items, decides_as, decides_then, decides_each, decides_by}
 use Rattle.tv_base.proofs.SmallBytes.{bytes_after}
-use Rattle.tv_value.specs.Fault.{Refusal, corrupted, Corrupt, corrupt, KeyFault, FieldFault, SmallField, LeafFault, ValueFault, value_ends, unknown_code, float_code, in_leaf, in_legacy, in_count, in_element, in_entry_count, odd_count, in_entry_key, in_entry, PairFault, DocumentFault}
+use Rattle.tv_value.specs.Fault.{Refusal, corrupted, Corrupt, corrupt, KeyFault, FieldFault, SmallField, ValueFault, value_ends, unknown_code, float_code, in_leaf, in_legacy, in_count, in_element, in_entry_count, odd_count, in_entry_key, in_entry, PairFault, DocumentFault}
 use Rattle.tv_value.specs.ListFault.{ElementsFault, EntriesFault, in_next_key, in_next_value}
-use Rattle.tv_value.specs.Spelling.{leaf_code, Key, Spells, SpellsElements, SpellsEntries, SpellsPair, SpellsDocument}
-use Rattle.tv_value.specs.Tree.{Leaf, Tree, leaf, array, object, Elements, no_elements, element, element_count, Entries, no_entries, entry, entry_count, Document}
+use Rattle.tv_value.specs.Spelling.{Key, Spells, SpellsElements, SpellsEntries, SpellsPair, SpellsDocument}
+use Rattle.tv_value.specs.Tree.{Tree, leaf, array, object, Elements, no_elements, element, element_count, Entries, no_entries, entry, entry_count}
 use Rattle.tv_value.specs.Version.{Version, V1, V2, V3, entry_total}
 use Rattle.tv_value.proofs.DecidingLeaves.{LeafAt, LeafWrong, decides_text, decides_unsigned, decides_signed, decides_facet, decides_bytes, decides_dated, decides_extended, decides_boolean, decides_ip_address, decides_null, decides_key, decides_field}
 

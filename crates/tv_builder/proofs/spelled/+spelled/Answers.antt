@@ -1,11 +1,11 @@
-use Rattle.std.proofs.Common.{◌≡◌, ℕ, ◌++◌, List, [], ◌∷◌, length, take, refl, sym, ap, ◌∙◌, subst, arith, length-append, append-nil}
+use Rattle.std.proofs.Common.{◌≡◌, ◌++◌, [], ◌∷◌, length, take, refl, sym, ap, ◌∙◌, subst, arith, length-append, append-nil}
 use Rattle.std.specs.Prelude.{IfSome}
 use Rattle.std.proofs.Math.Seq.{take-append_seam}
 use Rattle.tv_heap.proofs.Lists.{place_added}
 use Rattle.tv_builder.specs.Given.{place_bytes}
 use Rattle.tv_builder.specs.SpelledPut.{SpelledPut}
 use Rattle.tv_builder.proofs.Giving.{front_then}
-use Rattle.tv_builder.proofs.Putting.{own_places, put_grows}
+use Rattle.tv_builder.proofs.Putting.{own_places}
 use Rattle.tv_builder.proofs.Spelling.{spelled_grows, no_items, one_item, array_spelled, no_members, one_member, object_spelled}
 use Rattle.tv_builder.proofs.spelled.+spelled.Goals as goal
 

@@ -1,9 +1,9 @@
-use Rattle.std.proofs.Common.{[], refl, ◌∙◌}
+use Rattle.std.proofs.Common.{refl, ◌∙◌}
 use Rattle.std.specs.Int.{w64}
 use Rattle.std.proofs.lemmas.Int.{to_z-of_z}
 use Rattle.std.specs.Net.Addr.{ipv6_bits}
 use Rattle.tv_value.specs.PreTokenized.{tokenized_leaf}
-use Rattle.tv_value.specs.Tree.{null, text, unsigned, signed, boolean, date, facet, bytes, ip_address}
+use Rattle.tv_value.specs.Tree.{null, text, unsigned, boolean, date, facet, bytes, ip_address}
 use Rattle.tv_value.proofs.Fronts.{begins_nothing}
 use Rattle.tv_builder.proofs.Spelling.{leaf_spelled, same_signed, address_found}
 use Rattle.tv_builder.proofs.spelled.put_spelled_leaf.Goals as goal

@@ -1,4 +1,4 @@
-use Rattle.std.proofs.Common.{◌≡◌, ◌-◌, length, drop, take_all, length-drop, arith, ◌∷◌, ◌∙◌, ap, sym}
+use Rattle.std.proofs.Common.{◌≡◌, ◌-◌, length, drop, take_all, length-drop, arith, ◌∷◌, ◌∙◌, ap}
 use Rattle.tv_builder.proofs.Spelling.{tokenized_found}
 use Rattle.tv_builder.proofs.spelled.tokenized_at.Goals as goal
 

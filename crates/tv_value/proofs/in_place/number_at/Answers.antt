@@ -1,4 +1,4 @@
-use Rattle.std.proofs.Common.{◌≡◌, ◌%◌, ◌<◌, List, ℕ, get_or, sym, ap, subst, arith}
+use Rattle.std.proofs.Common.{◌%◌, ◌<◌, List, ℕ, get_or, sym, ap, subst, arith}
 use Rattle.tv_base.specs.Number.{VNum}
 use Rattle.tv_base.specs.Parts.{Begins}
 use Rattle.tv_value.proofs.Fronts.{begins_small}
