@@ -1,8 +1,8 @@
 -- What the calls of a builder leave where each is made in its place.
-use Rattle.std.proofs.Common.{◌≡◌, ℕ, ◌+◌, ◌<◌, ◌≤◌, true, false, Bool, List, [], ◌∷◌, ◌++◌, length, Result, Ok, Err, refl, sym, subst, arith}
+use Rattle.std.proofs.Common.{◌≡◌, ℕ, ◌≤◌, false, List, Result, Ok, Err, subst, arith}
 use Rattle.tv_builder.specs.declared.build_error.BuildError.{BuildError}
 use Rattle.tv_builder.specs.declared.build_error.BuildError.TheVariants.{AlreadyFailed, OutOfPlace, FieldNumber, NotUtf8, HeapFull, Memory}
-use Rattle.tv_builder.specs.State.{State, complete, and_end}
+use Rattle.tv_builder.specs.State.{State, and_end}
 use Rattle.tv_doc.specs.declared.builder.TreeBuilder.{TreeBuilder}
 use Rattle.tv_doc.specs.Builder.{state_of, Overfull, Goes, BuildsIf, Builds, HasAllBytes, HasContent, EndsIf, Ends, IsComplete, Finished, FinishesIf, Finishes}
 

@@ -1,5 +1,5 @@
 -- A call of the builder, as it leaves what is read.
-use Rattle.std.proofs.Common.{◌≡◌, ◌≢◌, ℕ, ◌+◌, ◌-◌, ◌<◌, ◌≤◌, true, false, Bool, cond, nat_eq, List, [], ◌∷◌, ◌++◌, length, Option, Some, None, Result, Ok, Err, OnErr, IsUtf8, refl, sym, ◌∙◌, ap, subst, append_assoc, length-append, arith, inl, inr}
+use Rattle.std.proofs.Common.{◌≡◌, ℕ, ◌+◌, ◌-◌, ◌<◌, nat_eq, List, [], ◌∷◌, ◌++◌, length, Option, Some, None, Result, Ok, Err, OnErr, sym, ◌∙◌, subst, length-append, arith, inl, inr}
 use Rattle.std.proofs.lemmas.Bool.{cond-true, cond-false}
 use Rattle.std.proofs.lemmas.Bool.Decides.{eqb_tells}
 use Rattle.tv_builder.specs.declared.awaits.Awaits.{Awaits}
@@ -12,23 +12,21 @@ use Rattle.tv_builder.specs.declared.frame.ListKind.{ListKind}
 use Rattle.tv_builder.specs.declared.frame.ListKind.TheVariants.{Array, Object}
 use Rattle.tv_builder.specs.Behind.{open_parts}
 use Rattle.tv_builder.specs.Parts.{Part, Trades}
-use Rattle.tv_builder.specs.State.{OpenList, State, complete, in_lists, in_bytes, with_child, list_tree, with_value, with_key, with_list, with_content, and_value, and_list, and_head, and_end, awaited, head_awaits, next_in, AreLists, OthersAwait, HeadNext, IsState, state_room, parts_of}
+use Rattle.tv_builder.specs.State.{OpenList, State, complete, in_lists, in_bytes, list_tree, with_content, and_value, and_list, and_head, and_end, awaited, head_awaits, next_in, AreLists, OthersAwait, HeadNext, IsState, state_room, parts_of}
 use Rattle.tv_builder.proofs.Children.{child_key, key_lacks}
 use Rattle.tv_builder.proofs.Giving.{value_is}
 use Rattle.tv_builder.proofs.Sound.{all_await, next_key}
 use Rattle.tv_doc.specs.declared.builder.TreeBuilder.{TreeBuilder}
-use Rattle.tv_doc.specs.Builder.{built, state_of, Overfull, Goes, Builds}
+use Rattle.tv_doc.specs.Builder.{built, state_of, Overfull, Builds}
 use Rattle.tv_heap.specs.Room.{document_room}
 use Rattle.tv_reader.specs.declared.error.DeserializeError.{DeserializeError}
-use Rattle.tv_reader.specs.declared.error.DeserializeError.TheVariants as errors
 use Rattle.tv_value.specs.Tree.{Tree, leaf, text, Document}
 use Rattle.tv_decoder.specs.Errors.{build_error}
 use Rattle.tv_decoder.specs.Front.{parts_at, parts_read, IsPlace, IsSound, HasField}
-use Rattle.tv_decoder.specs.Puts.{MayStand, IsOpen, Awaiting, Put, Fills, Puts, LetGo}
+use Rattle.tv_decoder.specs.Puts.{MayStand, IsOpen, Awaiting, Fills, Puts, LetGo}
 use Rattle.tv_decoder.specs.declared.reading.Reading.{Reading}
 use Rattle.tv_decoder.proofs.Building.{Called, called}
 use Rattle.tv_decoder.proofs.Putting.{with_builder, trades_at, opened, call_trades, puts_on}
-use Rattle.tv_decoder.proofs.States.{is_state}
 
 -- ---- the state that is left, or would be
 

@@ -1,5 +1,5 @@
 -- What is at fault behind what has come.
-use Rattle.std.proofs.Common.{◌≡◌, ℕ, ◌+◌, ◌-◌, ◌%◌, ◌<◌, ◌≤◌, nat_eq, List, [], ◌∷◌, ◌++◌, length, Option, Some, None, refl, sym, ◌∙◌, ap, subst, append_assoc, length-append, arith, inl, inr}
+use Rattle.std.proofs.Common.{◌≡◌, ℕ, ◌-◌, ◌<◌, ◌≤◌, List, [], ◌∷◌, ◌++◌, length, Option, Some, None, sym, subst, arith, inl}
 use Rattle.tv_base.specs.declared.cause.Cause.{Cause}
 use Rattle.tv_base.specs.declared.cause.Cause.TheVariants.{UnexpectedEnd, NotUtf8}
 use Rattle.tv_base.specs.PartFault.{NumberFault}
@@ -15,7 +15,7 @@ use Rattle.tv_legacy.specs.Legacy.{Legacy, LegacyFault}
 use Rattle.tv_value.specs.Fault.{Refusal, corrupted, Corrupt, corrupt, KeyFault, FieldFault, ValueFault, DocumentFault}
 use Rattle.tv_value.specs.Tree.{Document}
 use Rattle.tv_value.specs.Version.{Version}
-use Rattle.tv_decoder.specs.Front.{parts_at, parts_read, Lacks, IsPlace, IsSound, HasField, LacksPair, NoFront}
+use Rattle.tv_decoder.specs.Front.{parts_at, IsPlace, IsSound, HasField, LacksPair, NoFront}
 use Rattle.tv_decoder.specs.Puts.{Awaiting, EndNoText}
 use Rattle.tv_decoder.specs.declared.reading.Reading.{Reading}
 use Rattle.tv_decoder.proofs.States.{is_state, no_bytes_next}

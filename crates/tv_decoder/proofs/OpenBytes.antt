@@ -1,36 +1,32 @@
 -- What open bytes leave: their head, some of them, and their end.
-use Rattle.std.proofs.Common.{◌≡◌, ◌≢◌, ℕ, ◌+◌, ◌-◌, ◌<◌, ◌≤◌, true, false, List, [], ◌∷◌, ◌++◌, length, Option, Some, None, Result, Ok, Err, OnErr, IsUtf8, refl, sym, ◌∙◌, ap, subst, length-append, arith}
+use Rattle.std.proofs.Common.{◌≡◌, ◌≢◌, ℕ, ◌+◌, ◌-◌, ◌<◌, ◌≤◌, false, List, [], ◌∷◌, ◌++◌, length, Option, Some, None, Result, Ok, Err, IsUtf8, sym, ◌∙◌, ap, subst, length-append, arith}
 use Rattle.std.proofs.lemmas.List.{append-nil}
 use Rattle.std.proofs.lemmas.Str.{IsUtf8-nil}
 use Rattle.tv_base.specs.declared.cause.Cause.{Cause}
 use Rattle.tv_base.specs.declared.cause.Cause.TheVariants as causes
-use Rattle.tv_builder.specs.declared.awaits.Awaits.{Awaits}
 use Rattle.tv_builder.specs.declared.awaits.Awaits.TheVariants as awaits
 use Rattle.tv_builder.specs.declared.build_error.BuildError.{BuildError}
 use Rattle.tv_builder.specs.declared.build_error.BuildError.TheVariants.{AlreadyFailed, OutOfPlace, FieldNumber, NotUtf8, HeapFull, Memory}
 use Rattle.tv_builder.specs.declared.bytes_kind.BytesKind.{BytesKind}
 use Rattle.tv_builder.specs.declared.bytes_kind.BytesKind.TheVariants as kinds
-use Rattle.tv_builder.specs.declared.frame.ListKind.{ListKind}
-use Rattle.tv_builder.specs.declared.frame.ListKind.TheVariants.{Array, Object}
-use Rattle.tv_builder.specs.Behind.{open_parts}
 use Rattle.tv_builder.specs.Kinds.{IsTextKind}
-use Rattle.tv_builder.specs.Parts.{Part, bytes_head, some_bytes, IsContent, Trades, same}
-use Rattle.tv_builder.specs.State.{OpenList, State, complete, in_lists, in_bytes, and_head, and_bytes, and_end, awaited, head_awaits, IsState, state_room, lists_parts, parts_of}
+use Rattle.tv_builder.specs.Parts.{Part, bytes_head, some_bytes, IsContent, Trades}
+use Rattle.tv_builder.specs.State.{State, complete, in_lists, in_bytes, and_head, and_bytes, and_end, awaited, head_awaits, IsState, state_room, lists_parts, parts_of}
 use Rattle.tv_builder.proofs.CallsTrade.{heads_trade, bytes_trade, ends_trade}
-use Rattle.tv_builder.proofs.Trading.{trades_as, trades_from, trades_then}
+use Rattle.tv_builder.proofs.Trading.{trades_as, trades_from}
 use Rattle.tv_doc.specs.declared.builder.TreeBuilder.{TreeBuilder}
-use Rattle.tv_doc.specs.Builder.{built, state_of, Overfull, Goes, BuildsIf, Builds, TakesBytes, HasAllBytes, HasContent, Ends}
+use Rattle.tv_doc.specs.Builder.{built, state_of, Goes, BuildsIf, Builds, TakesBytes, HasAllBytes, HasContent, Ends}
 use Rattle.tv_heap.specs.Room.{document_room}
 use Rattle.tv_reader.specs.declared.error.DeserializeError.{DeserializeError}
 use Rattle.tv_reader.specs.declared.error.DeserializeError.TheVariants as errors
 use Rattle.tv_value.specs.Tree.{Document}
 use Rattle.tv_decoder.specs.Errors.{build_error}
 use Rattle.tv_decoder.specs.Front.{parts_at, parts_read, IsPlace, IsSound, HasField}
-use Rattle.tv_decoder.specs.Puts.{MayStand, IsWithin, IsOpen, IsEnding, AtEnd, Awaiting, Put, Fills, Puts, NoContent, PutsEnd, EndNoText, NoText, PutsBytes, LetGo}
+use Rattle.tv_decoder.specs.Puts.{MayStand, IsWithin, IsOpen, IsEnding, AtEnd, Puts, NoContent, PutsEnd, EndNoText, NoText, PutsBytes}
 use Rattle.tv_decoder.specs.declared.reading.Reading.{Reading}
-use Rattle.tv_decoder.proofs.Building.{Called, called, CalledEnd, ended}
-use Rattle.tv_decoder.proofs.Calls.{not_finish, not_bytes, fills_at, FillsAt, and_end_is}
-use Rattle.tv_decoder.proofs.Putting.{with_builder, stays, puts_on, and_end_stands}
+use Rattle.tv_decoder.proofs.Building.{CalledEnd, ended}
+use Rattle.tv_decoder.proofs.Calls.{not_finish, not_bytes, FillsAt, and_end_is}
+use Rattle.tv_decoder.proofs.Putting.{with_builder, puts_on, and_end_stands}
 use Rattle.tv_decoder.proofs.States.{is_state, no_bytes_next}
 use Rattle.tv_decoder.proofs.Trading.{open_trades}
 

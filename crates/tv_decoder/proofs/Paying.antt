@@ -1,8 +1,8 @@
 -- What is paid for by the bytes that were read.
-use Rattle.std.proofs.Common.{◌≡◌, ℕ, ◌+◌, ◌*◌, ◌≤◌, Bool, false, List, [], ◌++◌, length, Option, Some, None, Ok, sym, ◌∙◌, ap, subst, length-append, arith, inl, inr}
+use Rattle.std.proofs.Common.{◌≡◌, ℕ, ◌+◌, ◌*◌, ◌≤◌, Bool, false, List, ◌++◌, length, Option, Some, None, Ok, sym, ap, subst, length-append, arith, inl, inr}
 use Rattle.tv_base.specs.Source.{Faults}
 use Rattle.tv_builder.specs.Front.{Spelled}
-use Rattle.tv_builder.specs.State.{State, in_lists, lists_of, children_of}
+use Rattle.tv_builder.specs.State.{State, lists_of, children_of}
 use Rattle.tv_builder.specs.Weight.{document_weight, state_weight}
 use Rattle.tv_builder.proofs.Paid.{document_paid, open_paid, open_lists_paid}
 use Rattle.tv_builder.proofs.Weighing.{written_weighs}

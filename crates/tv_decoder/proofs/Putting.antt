@@ -1,27 +1,23 @@
 -- What a part that has come leaves.
-use Rattle.std.proofs.Common.{◌≡◌, ◌≢◌, ℕ, ◌+◌, ◌-◌, ◌%◌, ◌<◌, ◌≤◌, true, false, Bool, cond, nat_eq, List, [], ◌∷◌, ◌++◌, length, Option, Some, None, Result, Ok, Err, IsUtf8, refl, sym, ◌∙◌, ap, subst, append_assoc, length-append, arith, inl, inr}
+use Rattle.std.proofs.Common.{◌≡◌, ◌≢◌, ℕ, ◌+◌, ◌<◌, ◌≤◌, true, false, Bool, cond, nat_eq, List, [], ◌∷◌, ◌++◌, length, Option, Some, None, Result, Ok, Err, refl, sym, ◌∙◌, ap, subst, length-append, arith}
 use Rattle.std.proofs.lemmas.List.{append-nil}
-use Rattle.tv_base.specs.declared.cause.Cause.{Cause}
-use Rattle.tv_base.specs.declared.cause.Cause.TheVariants as causes
-use Rattle.tv_builder.specs.declared.awaits.Awaits.{Awaits}
 use Rattle.tv_builder.specs.declared.awaits.Awaits.TheVariants as awaits
 use Rattle.tv_builder.specs.declared.bytes_kind.BytesKind.{BytesKind}
 use Rattle.tv_builder.specs.declared.bytes_kind.BytesKind.TheVariants as kinds
 use Rattle.tv_builder.specs.declared.frame.ListKind.{ListKind}
-use Rattle.tv_builder.specs.Behind.{document_parts, open_parts}
-use Rattle.tv_builder.specs.Parts.{Part, value, bytes_head, some_bytes, IsContent, Trades, same}
-use Rattle.tv_builder.specs.State.{OpenList, State, complete, in_lists, in_bytes, next_at, awaited, head_awaits, lacks_more, with_child, list_tree, with_value, with_key, with_list, with_content, and_value, and_list, and_head, and_bytes, and_end, list_head, IsState, HeadNext, lists_parts, parts_of}
-use Rattle.tv_builder.proofs.CallsTrade.{values_trade, lists_trade, heads_trade, bytes_trade, ends_trade}
+use Rattle.tv_builder.specs.Behind.{open_parts}
+use Rattle.tv_builder.specs.Parts.{Part, Trades, same}
+use Rattle.tv_builder.specs.State.{OpenList, State, complete, in_lists, in_bytes, awaited, lacks_more, with_child, list_tree, with_value, with_key, with_content, and_value, and_list, and_end, parts_of}
 use Rattle.tv_builder.proofs.Trading.{trades_as, trades_from, trades_then}
 use Rattle.tv_doc.specs.declared.builder.TreeBuilder.{TreeBuilder}
-use Rattle.tv_doc.specs.Builder.{built, state_of, Goes, HasAllBytes, HasContent, IsComplete, Finished}
+use Rattle.tv_doc.specs.Builder.{built, state_of, Goes, HasAllBytes, IsComplete, Finished}
 use Rattle.tv_reader.specs.declared.error.DeserializeError.{DeserializeError}
 use Rattle.tv_reader.specs.declared.error.DeserializeError.TheVariants as errors
 use Rattle.tv_value.specs.Tree.{Tree, leaf, text, facet, bytes, Document}
 use Rattle.tv_decoder.specs.Front.{parts_at, parts_read, Lacks, IsPlace, IsSound, HasField}
-use Rattle.tv_decoder.specs.Puts.{MayStand, IsWithin, IsOpen, IsEnding, AtEnd, Awaiting, Put, Puts, NoContent, PutsEnd, EndNoText, NoText, PutsBytes}
+use Rattle.tv_decoder.specs.Puts.{MayStand, IsWithin, IsOpen, Put, Puts}
 use Rattle.tv_decoder.specs.declared.reading.Reading.{Reading}
-use Rattle.tv_decoder.proofs.States.{is_state, no_finish_next}
+use Rattle.tv_decoder.proofs.States.{no_finish_next}
 use Rattle.tv_decoder.proofs.Trading.{open_trades, pair_trades}
 
 -- the same with another builder

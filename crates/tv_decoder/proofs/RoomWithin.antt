@@ -1,10 +1,10 @@
 -- What has come of a document needs no more room than the document.
-use Rattle.std.proofs.Common.{◌≡◌, ℕ, zero, suc, ◌+◌, ◌*◌, ◌-◌, ◌%◌, ◌<◌, ◌≤◌, List, [], ◌∷◌, ◌++◌, length, map, refl, sym, ◌∙◌, ap, subst, append_assoc, length-append, arith, inl, inr}
+use Rattle.std.proofs.Common.{◌≡◌, ℕ, ◌+◌, ◌*◌, ◌%◌, ◌<◌, ◌≤◌, List, [], ◌∷◌, ◌++◌, length, map, refl, sym, ◌∙◌, ap, subst, append_assoc, arith, inl, inr}
 use Rattle.std.proofs.lemmas.Bool.Decides.{eqb_tells}
 use Rattle.std.proofs.lemmas.List.{append_cancel_left, append-nil}
 use Rattle.std.proofs.lemmas.List.Sums.{sum_by-append}
-use Rattle.tv_base.specs.Number.{VNum, Fixed}
-use Rattle.tv_base.specs.Parts.{OneReading, Then, Behind, Each, Text, Sized}
+use Rattle.tv_base.specs.Number.{VNum}
+use Rattle.tv_base.specs.Parts.{OneReading, Behind, Each, Text, Sized}
 use Rattle.tv_base.proofs.Numbers.{one_number, one_fixed}
 use Rattle.tv_value.specs.Spelling.{Key, Spells, SpellsElements, SpellsEntries, SpellsPair, SpellsDocument, leaf_code, LeafBody}
 use Rattle.tv_value.specs.Tree.{Tree, leaf, null, text, unsigned, signed, boolean, date, facet, bytes, ip_address, tokenized, Leaf, array, object, Elements, no_elements, element, element_count, Entries, no_entries, entry, entry_count, Document}
@@ -12,16 +12,15 @@ use Rattle.tv_value.specs.Version.{Version, V1, V2, V3, entry_total}
 use Rattle.tv_value.proofs.Leaves.{agree_key, total_same, leaf_code_small}
 use Rattle.tv_value.proofs.Trees.{one_tree, one_pair}
 use Rattle.tv_heap.specs.Room.{room, leaf_room, elements_room, entries_room, document_room}
-use Rattle.tv_builder.specs.declared.awaits.Awaits.TheVariants as awaits
 use Rattle.tv_builder.specs.declared.bytes_kind.BytesKind.{BytesKind}
 use Rattle.tv_builder.specs.declared.bytes_kind.BytesKind.TheVariants as kinds
 use Rattle.tv_builder.specs.declared.frame.ListKind.{ListKind}
 use Rattle.tv_builder.specs.declared.frame.ListKind.TheVariants.{Array, Object}
-use Rattle.tv_builder.specs.Behind.{pairs_parts, document_parts, open_parts}
+use Rattle.tv_builder.specs.Behind.{pairs_parts, open_parts}
 use Rattle.tv_builder.specs.Front.{KeyHead, SpellsPart}
 use Rattle.tv_builder.specs.Kinds.{total}
-use Rattle.tv_builder.specs.Parts.{Part, number, pair, field, value, key, bytes_head, some_bytes}
-use Rattle.tv_builder.specs.State.{OpenList, State, complete, in_lists, in_bytes, next_at, text_of, IsKey, AreEntries, AreChildren, IsList, AreLists, IsValueNext, IsKeyNext, AllAwait, OthersAwait, HeadNext, IsState, key_parts, list_head, children_parts, list_parts, lists_parts, parts_of, children_room, lists_room, state_room}
+use Rattle.tv_builder.specs.Parts.{Part, field, value, bytes_head, some_bytes}
+use Rattle.tv_builder.specs.State.{OpenList, State, complete, in_lists, in_bytes, text_of, IsKey, AreEntries, AreChildren, AreLists, IsValueNext, IsKeyNext, AllAwait, OthersAwait, HeadNext, IsState, key_parts, list_head, children_parts, list_parts, lists_parts, parts_of, children_room, lists_room, state_room}
 use Rattle.tv_builder.proofs.Grammar.{each_split}
 
 -- ---- lists of bytes

@@ -1,17 +1,15 @@
 -- What was taken of a source, and then what it does to what is read.
-use Rattle.std.proofs.Common.{◌≡◌, ◌≢◌, ℕ, ◌+◌, ◌<◌, ◌≤◌, ◌⊎◌, Bool, true, false, ℤ, List, [], ◌∷◌, ◌++◌, length, Option, Some, None, Result, Ok, Err, IsErrOf, refl, sym, ◌∙◌, ap, subst, append_assoc, length-append, arith, inl, inr}
+use Rattle.std.proofs.Common.{◌≡◌, ℕ, ◌<◌, ◌≤◌, ◌⊎◌, Bool, true, false, ℤ, List, [], ◌∷◌, ◌++◌, length, Option, Some, None, Result, Ok, Err, IsErrOf, refl, sym, ◌∙◌, ap, subst, append_assoc, arith, inl, inr}
 use Rattle.std.proofs.lemmas.List.{append-nil}
-use Rattle.tv_base.specs.declared.cause.Cause.{Cause}
-use Rattle.tv_base.specs.declared.cause.Cause.TheVariants.{UnexpectedEnd, NotUtf8}
 use Rattle.tv_base.specs.Number.{Groups, VNum, last, more, Truth}
 use Rattle.tv_base.specs.Parts.{Each}
 use Rattle.tv_base.specs.Source.{Faults}
 use Rattle.tv_base.proofs.Numbers.{length-fixed}
 use Rattle.tv_builder.specs.Behind.{document_parts, open_parts}
-use Rattle.tv_builder.specs.Front.{SpellsPart, Spelled}
+use Rattle.tv_builder.specs.Front.{SpellsPart}
 use Rattle.tv_builder.specs.declared.bytes_kind.BytesKind.TheVariants as kinds
 use Rattle.tv_builder.specs.Parts.{Part, number, field, value, array_head, object_head, bytes_head, Trades, same}
-use Rattle.tv_builder.specs.State.{State, in_lists, parts_of}
+use Rattle.tv_builder.specs.State.{parts_of}
 use Rattle.tv_builder.proofs.Grammar.{each_append, trades_sound}
 use Rattle.tv_builder.proofs.Trading.{trades_as, trades_from}
 use Rattle.tv_doc.specs.declared.builder.TreeBuilder.{TreeBuilder}
@@ -28,7 +26,7 @@ use Rattle.tv_reader.specs.declared.heads.Head.TheVariants as heads
 use Rattle.tv_reader.proofs.Finding.{finds_as, finds_short}
 use Rattle.tv_value.specs.Fault.{Refusal}
 use Rattle.tv_value.specs.Spelling.{Spells, NoLegacy}
-use Rattle.tv_value.specs.Tree.{Tree, leaf, array, object, Entries, Document}
+use Rattle.tv_value.specs.Tree.{Tree, leaf, array, object, Entries}
 use Rattle.tv_value.specs.Version.{Version, V1, V2, V3, Date}
 use Rattle.tv_decoder.specs.Front.{parts_at, parts_read, Lacks, IsPlace, IsSound, LacksPair, NoFront, NoRoomBehind, ValueNext}
 use Rattle.tv_decoder.specs.Puts.{Put, Fills, Puts, IsParts, head_parts}

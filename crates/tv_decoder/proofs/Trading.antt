@@ -1,12 +1,10 @@
 -- How the parts of what is read are traded.
-use Rattle.std.proofs.Common.{◌≡◌, ℕ, ◌<◌, ◌≤◌, List, [], ◌∷◌, ◌++◌, length, Option, Some, None, refl, sym, ◌∙◌, ap, subst, append_assoc}
-use Rattle.std.proofs.lemmas.List.{append-nil}
+use Rattle.std.proofs.Common.{◌≡◌, ℕ, ◌≤◌, List, [], ◌∷◌, ◌++◌, refl, sym, ◌∙◌, ap, append_assoc}
 use Rattle.tv_builder.specs.Behind.{pairs_parts, document_parts, open_parts}
 use Rattle.tv_builder.specs.Parts.{Part, number, pair, field, value, full_pair, Trades, same, by_rule}
 use Rattle.tv_builder.specs.State.{State, complete, parts_of}
 use Rattle.tv_builder.proofs.Trading.{trades_as, trades_from, trades_last}
 use Rattle.tv_value.specs.Tree.{Tree, Document}
-use Rattle.tv_decoder.specs.Front.{parts_at, HasField, IsPlace}
 
 -- behind other parts
 pub trades_behind : {ps qs : List Part} (front : List Part) → Trades ps qs → Trades (front ++ ps) (front ++ qs)

@@ -1,14 +1,11 @@
 -- Values that are taken whole, and bytes, from a source.
-use Rattle.std.proofs.Common.{◌≡◌, ◌≢◌, ℕ, ◌+◌, ◌-◌, ◌<◌, ◌≤◌, Option, Some, None, Bool, true, false, List, [], ◌∷◌, ◌++◌, length, Result, Ok, Err, OnOk, OnErr, IsErrOf, refl, sym, ◌∙◌, ap, subst, append_assoc, length-append, arith, inl, inr}
+use Rattle.std.proofs.Common.{◌≡◌, ◌≢◌, ℕ, ◌-◌, ◌<◌, ◌≤◌, Option, Some, None, Bool, false, List, [], ◌∷◌, ◌++◌, length, Result, Ok, Err, OnOk, OnErr, IsErrOf, refl, sym, ◌∙◌, ap, subst, length-append, arith, inl}
 use Rattle.std.proofs.lemmas.List.{append-nil}
 use Rattle.tv_base.specs.declared.cause.Cause.{Cause}
 use Rattle.tv_base.specs.declared.cause.Cause.TheVariants as causes
 use Rattle.tv_base.specs.PartFault.{BytesFault}
-use Rattle.tv_base.specs.Source.{AllBytes, Faults}
-use Rattle.tv_base.specs.Take as reads
-use Rattle.tv_base.specs.Reading.{more_at}
+use Rattle.tv_base.specs.Source.{Faults}
 use Rattle.tv_base.proofs.AgreeWidths.{AreBytes, bytes_fault}
-use Rattle.tv_builder.specs.declared.awaits.Awaits.{Awaits}
 use Rattle.tv_builder.specs.declared.awaits.Awaits.TheVariants as awaits
 use Rattle.tv_builder.specs.Parts.{Part, some_bytes}
 use Rattle.tv_builder.specs.State.{State, complete, in_lists, in_bytes, awaited}
@@ -28,18 +25,17 @@ use Rattle.tv_reader.specs.declared.heads.Head.TheVariants as heads
 use Rattle.tv_reader.proofs.BehindKinds.{kind_edge}
 use Rattle.tv_reader.proofs.Finding.{finds_then, finds_as, finds_fails, finds_short}
 use Rattle.tv_value.specs.Fault.{Refusal, corrupted, value_ends, in_leaf, no_extension}
-use Rattle.tv_value.specs.Owned.{owned_tree}
 use Rattle.tv_value.specs.Spelling.{NoLegacy}
 use Rattle.tv_value.specs.Tree.{Document}
 use Rattle.tv_value.specs.Version.{Version}
 use Rattle.tv_value.specs.declared.owned_value.OwnedValue.{OwnedValue}
-use Rattle.tv_decoder.specs.Front.{parts_read, IsPlace, IsSound, HasField, NoFront, NoRoomBehind}
-use Rattle.tv_decoder.specs.Puts.{Awaiting, Put, Fills, Puts, EndNoText, NoText, PutsBytes, IsParts, LetGo, KeepsPairs}
+use Rattle.tv_decoder.specs.Front.{IsPlace, IsSound, HasField, NoFront, NoRoomBehind}
+use Rattle.tv_decoder.specs.Puts.{Awaiting, Fills, Puts, EndNoText, NoText, PutsBytes, IsParts, LetGo, KeepsPairs}
 use Rattle.tv_decoder.specs.Steps.{Stepped}
 use Rattle.tv_decoder.specs.declared.reading.Reading.{Reading}
 use Rattle.tv_decoder.proofs.Faulting.{value_at_fault, end_at_fault, text_at_fault}
 use Rattle.tv_decoder.proofs.States.{no_bytes_next}
-use Rattle.tv_decoder.proofs.Stepping.{SpellsIn, one_part, IsPart, part_steps, none_seen, no_room}
+use Rattle.tv_decoder.proofs.Stepping.{one_part, IsPart, part_steps, none_seen, no_room}
 
 abbrev end : Refusal
 end = corrupted causes.UnexpectedEnd

@@ -1,5 +1,4 @@
 -- What the errors of a tree builder are called by a reader of the store.
-use Rattle.std.specs.Prelude.{ℕ}
 use Rattle.tv_base.specs.declared.cause.Cause.TheVariants as causes
 use Rattle.tv_builder.specs.declared.build_error.BuildError.{BuildError}
 use Rattle.tv_builder.specs.declared.build_error.BuildError.TheVariants as builds

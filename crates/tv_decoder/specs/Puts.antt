@@ -1,14 +1,12 @@
 -- What a part that has come does to what is read.
-use Rattle.std.specs.Prelude.{◌⊎◌, false, ◌≡◌, ℕ, ◌+◌, ◌<◌, ◌≤◌, List, [], ◌∷◌, ◌++◌, length, Option, Some, None, Result, Ok, Err, IsUtf8}
+use Rattle.std.specs.Prelude.{◌⊎◌, false, ◌≡◌, ℕ, ◌+◌, ◌<◌, ◌≤◌, List, [], ◌∷◌, ◌++◌, length, Option, Some, Result, Ok, Err, IsUtf8}
 use Rattle.tv_base.specs.declared.cause.Cause.{Cause}
 use Rattle.tv_base.specs.declared.cause.Cause.TheVariants as causes
 use Rattle.tv_builder.specs.Behind.{open_parts}
 use Rattle.tv_builder.specs.Kinds.{IsTextKind}
 use Rattle.tv_builder.specs.Parts.{Part, Trades, value, array_head, object_head, bytes_head}
-use Rattle.tv_builder.specs.State.{OpenList, State, complete, in_lists, in_bytes, IsState, awaited, state_room}
+use Rattle.tv_builder.specs.State.{State, complete, in_lists, in_bytes, IsState, awaited, state_room}
 use Rattle.tv_builder.specs.declared.awaits.Awaits.{Awaits}
-use Rattle.tv_builder.specs.declared.build_error.BuildError.{BuildError}
-use Rattle.tv_builder.specs.declared.bytes_kind.BytesKind.{BytesKind}
 use Rattle.tv_builder.specs.declared.bytes_kind.BytesKind.TheVariants as kinds
 use Rattle.tv_doc.specs.Builder.{built, state_of, HasAllBytes, HasContent}
 use Rattle.tv_heap.specs.Room.{document_room}
@@ -17,7 +15,6 @@ use Rattle.tv_reader.specs.Heads as heads
 use Rattle.tv_reader.specs.declared.error.DeserializeError.{DeserializeError}
 use Rattle.tv_reader.specs.declared.error.DeserializeError.TheVariants as errors
 use Rattle.tv_value.specs.Tree.{Document, leaf}
-use Rattle.tv_decoder.specs.Errors.{Comes, build_error}
 use Rattle.tv_decoder.specs.Front.{parts_read, IsSound, HasField}
 use Rattle.tv_decoder.specs.declared.reading.Reading.{Reading}
 

@@ -1,5 +1,5 @@
 -- Where a reader stands is a proposition.
-use Rattle.std.specs.Prelude.{◌≡◌, ℕ, ◌<◌, ◌≤◌, Bool, false, List, length, Option, Some, None, refl}
+use Rattle.std.specs.Prelude.{◌≡◌, ℕ, Bool, false, Option, Some, None, refl}
 use Rattle.std.specs.Coded.{coded_bool, Coded-set, le_prop}
 use Rattle.std.proofs.Math.Nat.{ℕ_set}
 use Rattle.tv_builder.specs.OneState.{coded_state}
