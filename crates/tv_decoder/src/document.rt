@@ -18,7 +18,7 @@ use tv_reader::{DeserializeError, DocStoreVersion};
 /// announced numbers, and no byte behind the document is taken.
 ///
 /// Errors: `CorruptedValue` and `TypeMismatch` with the first fault in the bytes; `HeapFull` where what has come needs more room than
-/// 4294967295 bytes; `Io` where the source failed; `Memory`.
+/// 4294967295 bytes; `Io` where the source failed; `Memory` where memory was refused, or the source doesn't let bytes pass that it lent.
 pub fn take_document<S: ByteSource>(
     alloc: Global,
     source: &mut S,

@@ -27,12 +27,12 @@ use tv_doc::document::CompactDoc;
 pub use tv_reader::version::DocStoreVersion;
 
 /// Reads a document, however the source cuts its bytes, and takes no byte behind it. Values of every type are read, to any
-/// depth and without recursion, straight into the document's heap, and objects as older stores hold them.
+/// depth, straight into the document's heap, by a recursion of 64 levels at most; and objects as older stores hold them.
 ///
 /// Errors, the first fault in reading order: `CorruptedValue` where the bytes spell no document, `TypeMismatch` where in a key's
 /// place stands a value that isn't a text, `HeapFull` where what has come so far needs more room than 4294967295 bytes, `Io` where
-/// the source failed, `Memory` where memory was refused. After `CorruptedValue` and `TypeMismatch` just the bytes that show the
-/// fault were taken.
+/// the source failed, `Memory` where memory was refused, or the source doesn't let bytes pass that it lent. After `CorruptedValue` and
+/// `TypeMismatch` just the bytes that show the fault were taken.
 pub fn read_document<S: ByteSource>(
     alloc: Global,
     source: &mut S,
