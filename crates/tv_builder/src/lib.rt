@@ -7,6 +7,7 @@ pub mod building;
 pub mod bytes_kind;
 mod fits;
 pub mod frame;
+pub mod json;
 pub mod laws;
 pub mod place;
 pub mod spelled;
