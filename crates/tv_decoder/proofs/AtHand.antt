@@ -1,6 +1,6 @@
 -- Whole pairs that a source has at hand.
 use Rattle.std.proofs.Common.{◌≡◌, ℕ, ◌+◌, ◌-◌, ◌≤◌, true, List, [], ◌∷◌, ◌++◌, length, take, Some, None, Ok, refl, sym, ◌∙◌, ap, subst, arith, length-append, take_at, inl, inr}
-use Rattle.std.proofs.lemmas.List.{take-append-le}
+use Rattle.std.proofs.lemmas.List.{append-nil, take-append-le}
 use Rattle.tv_base.specs.Lend.{Passes}
 use Rattle.tv_base.specs.Parts.{Each}
 use Rattle.tv_base.specs.Sink.{IsFront}
@@ -18,11 +18,14 @@ use Rattle.tv_reader.proofs.Finding.{finds_nothing}
 use Rattle.tv_value.specs.Fault.{corrupted}
 use Rattle.tv_value.specs.Spelling.{Spells, SpellsElements, SpellsEntries, SpellsPair, NoLegacy}
 use Rattle.tv_value.specs.Tree.{Tree, leaf, array, object, Elements, no_elements, element, Entries, no_entries, entry, Document}
-use Rattle.tv_value.specs.Version.{Version}
+use Rattle.tv_value.specs.Version.{Version, V2}
+use Rattle.tv_doc.specs.Document.{document_of}
+use Rattle.tv_doc.specs.Spelled.{AddsSpelled}
+use Rattle.tv_doc.specs.declared.document.CompactDoc.{CompactDoc}
+use Rattle.tv_decoder.specs.AtHand.{AddsPairs, Nothing}
 use Rattle.tv_decoder.specs.Front.{parts_at, parts_read}
 use Rattle.tv_decoder.specs.Steps.{Advances}
 use Rattle.tv_decoder.specs.declared.reading.Reading.{Reading}
-use Rattle.tv_decoder.proofs.WholeDocuments.{Nothing}
 
 -- ---- what is spelled without legacy objects is spelled
 
@@ -52,7 +55,7 @@ pair_with_legacy L v p b h =
     let s = h.parts in
     record { small = h.small; parts = record { front = s.front; rest = s.rest; joined = s.joined; first = s.first; second = with_legacy L v p.1 s.rest s.second } }
 
-pairs_as_parts : (L : List ℕ → Entries → Type 0) (v : Version) (d : Document) (b : List ℕ) → Each (SpellsPair NoLegacy v) b d → Each (SpellsPart L v) b (pairs_parts d)
+pub pairs_as_parts : (L : List ℕ → Entries → Type 0) (v : Version) (d : Document) (b : List ℕ) → Each (SpellsPair NoLegacy v) b d → Each (SpellsPart L v) b (pairs_parts d)
 pairs_as_parts L v [] b h = h
 pairs_as_parts L v (p ∷ d) b h = record { front = h.front; rest = h.rest; joined = h.joined; first = pair_with_legacy L v p h.front h.first; second = pairs_as_parts L v d h.rest h.second }
 
@@ -71,15 +74,38 @@ parts_of_pairs : (r : Reading) (n : ℕ) → r.announced ≡ Some n → r.field 
 parts_of_pairs r n a f = λ i. parts_at (a i) (built r.builder) (f i) (state_of r.builder)
 
 -- these bytes spell the pairs that were added
-pub extended_goes : (v : Version) (r : Reading) (n : ℕ) (d more : Document) (taken : List ℕ) → r.announced ≡ Some n → r.field ≡ None → d ≡ built r.builder ++ more → Each (SpellsPair NoLegacy v) taken more
+extended_goes : (v : Version) (r : Reading) (n : ℕ) (d more : Document) (taken : List ℕ) → r.announced ≡ Some n → r.field ≡ None → d ≡ built r.builder ++ more → Each (SpellsPair NoLegacy v) taken more
     → (bytes : List ℕ) → Spelled Legacy v bytes (parts_read r) → Spelled Legacy v (bytes ++ taken) (document_parts n d)
 extended_goes v r n d more taken announced none is each bytes p =
     subst (λ z. Spelled Legacy v (bytes ++ taken) (document_parts n z)) (sym is)
     (pairs_behind v n (built r.builder) more bytes taken each (subst (λ z. Spelled Legacy v bytes z) (parts_of_pairs r n announced none) p))
 
 -- the bytes in front of those that are left over
-pub taken_front : (whole front rest : List ℕ) → whole ≡ front ++ rest → take (length whole - length rest) whole ≡ front
+taken_front : (whole front rest : List ℕ) → whole ≡ front ++ rest → take (length whole - length rest) whole ≡ front
 taken_front whole front rest joined = ap (take (length whole - length rest)) joined ∙ take_at front rest (length whole - length rest) (omega (arith, ap length joined, length-append front rest))
+
+-- none at all
+pub no_pairs : (v : Version) (d : CompactDoc) → AddsPairs v d d [] 0
+no_pairs v d = record { pairs = []; counted = refl; spelled = refl; document = sym (append-nil (document_of d)) }
+
+-- as many as were added, of the bytes in front of those that are left over
+pub pairs_taken : (old new : CompactDoc) (whole rest : List ℕ) (n : ℕ) → AddsSpelled old new whole rest n → AddsPairs V2 old new (take (length whole - length rest) whole) n
+pairs_taken old new whole rest n h = record {
+  pairs = h.pairs;
+  counted = h.counted;
+  spelled = subst (λ z. Each (SpellsPair NoLegacy V2) z h.pairs) (sym (taken_front whole h.spelled.front rest h.spelled.joined)) h.spelled.spelled;
+  document = h.document;
+}
+
+pub pairs_counted : (old new : CompactDoc) (whole rest : List ℕ) (n : ℕ) → AddsSpelled old new whole rest n → length (document_of new) ≡ length (document_of old) + n
+pairs_counted old new whole rest n h = ap length h.document ∙ length-append (document_of old) h.pairs ∙ ap (λ z. length (document_of old) + z) h.counted
+
+-- the reading goes on with them
+pub reading_goes : (v : Version) (r new : Reading) (n m : ℕ) (document more : CompactDoc) (taken : List ℕ) → r.announced ≡ Some n → r.field ≡ None → document_of document ≡ built r.builder → AddsPairs v document more taken m
+    → parts_read new ≡ document_parts n (document_of more) → Advances Legacy v r new taken
+reading_goes v r new n m document more taken announced none is h parts = λ bytes p.
+    subst (λ z. Spelled Legacy v (bytes ++ taken) z) (sym parts)
+    (extended_goes v r n (document_of more) h.pairs taken announced none (h.document ∙ ap (λ z. z ++ h.pairs) is) h.spelled bytes p)
 
 -- ---- and the bytes are passed
 
@@ -87,11 +113,11 @@ taken_front whole front rest joined = ap (take (length whole - length rest)) joi
 front_lent : (old new lent : List ℕ) (n : ℕ) → IsFront lent old → n ≤ length lent → (p : (front : List ℕ) × (old ≡ front ++ new) × (length front ≡ n)) → take n lent ≡ p.0
 front_lent old new lent n lend within p = sym (take-append-le n lent lend.0 within) ∙ ap (take n) (sym lend.1 ∙ p.1) ∙ take_at p.0 new n p.2
 
-module _ {S : Type 0} {tells : S → Type 0} {left : S → List ℕ} {faults : S → Faults} (v : Version) (r new : Reading) where
-  pub passed_finds : {os ns : S} {i k : ℕ} (lent : List ℕ) (n : ℕ) → (tells os → IsFront lent (left os)) → n ≤ length lent → Advances Legacy v r new (take n lent) → (tells os → Passes (left os) (left ns) n true) → (tells os → tells ns) → faults ns ≡ faults os → k ≡ i + n
-      → Finds tells left faults os i ns k (Ok new) (λ b z. Advances Legacy v r z b) Nothing
-  passed_finds {os = os} {ns = ns} lent n lend within goes pass told same counted = record {
-    found = λ t. let p = pass t in record { front = p.0; joined = p.1; spelled = subst (λ z. Advances Legacy v r new z) (front_lent (left os) (left ns) lent n (lend t) within p) goes };
+module _ {S X : Type 0} {tells : S → Type 0} {left : S → List ℕ} {faults : S → Faults} (Spells : List ℕ → X → Type 0) (x : X) where
+  pub passed_finds : {os ns : S} {i k : ℕ} (lent : List ℕ) (n : ℕ) → (tells os → IsFront lent (left os)) → n ≤ length lent → Spells (take n lent) x → (tells os → Passes (left os) (left ns) n true) → (tells os → tells ns) → faults ns ≡ faults os → k ≡ i + n
+      → Finds tells left faults os i ns k (Ok x) Spells Nothing
+  passed_finds {os = os} {ns = ns} lent n lend within is pass told same counted = record {
+    found = λ t. let p = pass t in record { front = p.0; joined = p.1; spelled = subst (λ z. Spells z x) (front_lent (left os) (left ns) lent n (lend t) within p) is };
     taken = λ t. let p = pass t in record { front = p.0; joined = p.1; counted = omega (arith, counted, p.2) };
     still_tells = told;
     counts = same;
@@ -99,5 +125,5 @@ module _ {S : Type 0} {tells : S → Type 0} {left : S → List ℕ} {faults : S
   }
 
   -- or there were none
-  pub none_passed : {p : S} {i : ℕ} → Advances Legacy v r new [] → Finds tells left faults p i p i (Ok new) (λ b z. Advances Legacy v r z b) Nothing
-  none_passed {p = p} {i = i} goes = finds_nothing store_stop (corrupted UnexpectedEnd) tells left faults p i new (λ b z. Advances Legacy v r z b) Nothing goes
+  pub none_passed : {p : S} {i : ℕ} → Spells [] x → Finds tells left faults p i p i (Ok x) Spells Nothing
+  none_passed {p = p} {i = i} is = finds_nothing store_stop (corrupted UnexpectedEnd) tells left faults p i x Spells Nothing is

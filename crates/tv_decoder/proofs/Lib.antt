@@ -8,6 +8,6 @@ pub mod RoomWithin
 pub mod Calls
 pub mod OpenBytes
 pub mod Wholes
+pub mod AtHand
 pub mod WholeDocuments
 pub mod Paying
-pub mod AtHand

@@ -1,16 +1,17 @@
 -- Steps that make a document.
-use Rattle.std.proofs.Common.{◌≡◌, ◌≢◌, ℕ, ◌+◌, ◌-◌, ◌^◌, ◌%◌, ◌<◌, ◌≤◌, nat_eq, Bool, List, [], ◌∷◌, ◌++◌, length, Option, Some, None, Ok, Err, refl, sym, ◌∙◌, ap, subst, length-append, arith, inl, inr}
+use Rattle.std.proofs.Common.{◌≡◌, ◌≢◌, ℕ, ◌+◌, ◌-◌, ◌^◌, ◌%◌, ◌<◌, ◌≤◌, nat_eq, Bool, List, [], ◌∷◌, ◌++◌, length, Option, Some, None, Result, Ok, Err, refl, sym, ◌∙◌, ap, subst, append_assoc, length-append, arith, inl, inr}
+use Rattle.std.specs.Prelude.{IsErrOf}
 use Rattle.std.proofs.lemmas.Bool.Decides.{eqb_tells}
 use Rattle.std.proofs.lemmas.Bool.{cond-true, cond-false}
 use Rattle.tv_base.specs.declared.cause.Cause.TheVariants as causes
 use Rattle.tv_base.specs.Number.{VNum}
-use Rattle.tv_base.specs.PartFault.{number_ends, in_sized}
+use Rattle.tv_base.specs.PartFault.{NumberFault, number_ends, in_sized}
 use Rattle.tv_base.specs.Parts.{Each}
 use Rattle.tv_base.specs.Source.{Faults}
 use Rattle.tv_builder.specs.declared.awaits.Awaits.TheVariants as awaits
 use Rattle.tv_builder.specs.declared.frame.ListKind.{ListKind}
 use Rattle.tv_builder.specs.declared.frame.ListKind.TheVariants.{Array, Object}
-use Rattle.tv_builder.specs.Behind.{pairs_parts}
+use Rattle.tv_builder.specs.Behind.{pairs_parts, document_parts}
 use Rattle.tv_builder.specs.Front.{SpellsPart, Spelled}
 use Rattle.tv_builder.specs.State.{State, complete, in_lists, in_bytes, next_at, next_in, awaited}
 use Rattle.tv_doc.specs.declared.document.CompactDoc.{CompactDoc}
@@ -22,15 +23,17 @@ use Rattle.tv_reader.specs.Finds.{Finds}
 use Rattle.tv_reader.specs.declared.error.DeserializeError.{DeserializeError}
 use Rattle.tv_reader.specs.declared.error.DeserializeError.TheVariants as errors
 use Rattle.tv_reader.proofs.Finding.{finds_then, finds_as, finds_fails}
-use Rattle.tv_value.specs.Fault.{Refusal, corrupted, corrupt, KeyFault, key_ends, field_ends, value_ends}
+use Rattle.tv_value.specs.Fault.{Refusal, corrupted, Corrupt, corrupt, DocumentFault, KeyFault, key_ends, field_ends, value_ends}
 use Rattle.tv_value.specs.Spelling.{SpellsPair, SpellsDocument}
 use Rattle.tv_value.specs.Tree.{Document}
 use Rattle.tv_value.specs.Version.{Version, V1, V2, V3}
 use Rattle.tv_value.proofs.SingleTrees.{single_document}
-use Rattle.tv_decoder.specs.Documents.{SpellsRead, NoDocument}
-use Rattle.tv_decoder.specs.Front.{parts_at, parts_read, Lacks, IsPlace, IsSound, AllFinished, IsDone, LacksPair, HasField, NoFront}
+use Rattle.tv_decoder.specs.AtHand.{AddsPairs, Nothing}
+use Rattle.tv_decoder.specs.Documents.{SpellsRead, SpellsBehind, NoDocument}
+use Rattle.tv_decoder.specs.Front.{parts_at, parts_read, Lacks, IsPlace, IsSound, AllFinished, IsDone, LacksPair, HasField, NoFront, HasNoRoom, NoRoomBehind}
 use Rattle.tv_decoder.specs.Steps.{Advances, Stepped}
 use Rattle.tv_decoder.specs.declared.reading.Reading.{Reading}
+use Rattle.tv_decoder.proofs.AtHand.{pairs_as_parts}
 use Rattle.tv_decoder.proofs.Faulting.{number_at_fault, field_at_fault, value_at_fault, key_at_fault, end_at_fault}
 
 abbrev end : Refusal
@@ -98,22 +101,29 @@ ended v r b f sound more p h = (single_document Legacy LegacyFault v one_legacy 
 
 -- ---- steps, one after the other
 
-abbrev pub Spells : Version → List ℕ → Reading → Type 0
-Spells v b r = Spelled Legacy v b (parts_read r)
+abbrev pub Goes : Version → Reading → List ℕ → Reading → Type 0
+Goes v begun b r = Advances Legacy v begun r b
 
-abbrev pub Nothing : List ℕ → Refusal → Type 0
-Nothing w r = ⊥
+pub two_steps : (v : Version) (a b c : Reading) (x y : List ℕ) → Advances Legacy v a b x → Advances Legacy v b c y → Advances Legacy v a c (x ++ y)
+two_steps v a b c x y p q = λ bytes s. subst (λ z. Spelled Legacy v z (parts_read c)) (append_assoc bytes x y) (q (bytes ++ x) (p bytes s))
 
-module _ {S : Type 0} {tells : S → Type 0} {left : S → List ℕ} {faults : S → Faults} (v : Version) (r : Reading) where
-  pub step_more : {old mid new : S} {i j k : ℕ} (x : Unit {0}) (legacy : Bool) (after : Reading) → Finds tells left faults old i mid j (Ok r) (Spells v) Nothing → Finds tells left faults mid j new k (Ok x) (λ b _. Stepped v legacy r after b) (NoFront v r) → Finds tells left faults old i new k (Ok after) (Spells v) Nothing
+refused_behind : (v : Version) (a b : Reading) (x w : List ℕ) (f : Refusal) → Advances Legacy v a b x → NoFront v b w f → NoFront v a (x ++ w) f
+refused_behind v a b x w f p q = λ bytes s. subst (λ z. DocumentFault Legacy LegacyFault v z f) (append_assoc bytes x w) (q (bytes ++ x) (p bytes s))
+
+-- a refusal is the same, whatever was wanted
+pub same_refusal : {A B : Type 0} (e f : DeserializeError) → IsErrOf {T = A} (Err e) f → IsErrOf {T = B} (Err e) f
+same_refusal e f is = let same : e ≡ f = cc in ap (λ x. Err x) same
+
+module _ {S : Type 0} {tells : S → Type 0} {left : S → List ℕ} {faults : S → Faults} (v : Version) (begun r : Reading) where
+  pub step_more : {old mid new : S} {i j k : ℕ} (x : Unit {0}) (legacy : Bool) (after : Reading) → Finds tells left faults old i mid j (Ok r) (Goes v begun) Nothing → Finds tells left faults mid j new k (Ok x) (λ b _. Stepped v legacy r after b) (NoFront v r) → Finds tells left faults old i new k (Ok after) (Goes v begun) Nothing
   step_more x legacy after p h =
-      finds_as after (Spells v) Nothing (λ a s. s)
-      (finds_then (λ b z. Spells v b after) (λ w c. Unit {0}) (λ a b z q s. s.goes a q) (λ a w c q f. tt) (λ a f q _ _ start byte last. tt) p h)
+      finds_as after (Goes v begun) Nothing (λ a s. s)
+      (finds_then (λ b z. Goes v begun b after) (λ w c. Unit {0}) (λ a b z q s. two_steps v begun r after a b q s.goes) (λ a w c q f. tt) (λ a f q _ _ start byte last. tt) p h)
 
-  pub step_fails : {old mid new : S} {i j k : ℕ} (e : DeserializeError) (legacy : Bool) (after : Reading) → IsSound r → ¬ IsDone r → Finds tells left faults old i mid j (Ok r) (Spells v) Nothing → Finds {X = Unit {0}} tells left faults mid j new k (Err e) (λ b _. Stepped v legacy r after b) (NoFront v r)
-      → Finds tells left faults old i new k (Err e) (SpellsRead v) (NoDocument v)
+  pub step_fails : {old mid new : S} {i j k : ℕ} (e : DeserializeError) (legacy : Bool) (after : Reading) → IsSound r → ¬ IsDone r → Finds tells left faults old i mid j (Ok r) (Goes v begun) Nothing → Finds {X = Unit {0}} tells left faults mid j new k (Err e) (λ b _. Stepped v legacy r after b) (NoFront v r)
+      → Finds tells left faults old i new k (Err e) (SpellsBehind v begun) (NoFront v begun)
   step_fails e legacy after sound more p h =
-      finds_then (SpellsRead v) (NoDocument v) (λ a b z q s. absurd s) (λ a w c q f. f a q) (λ a f q other nothing start byte last. absurd (other (ended v r a f sound more q nothing)))
+      finds_then (SpellsBehind v begun) (NoFront v begun) (λ a b z q s. absurd s) (λ a w c q f. refused_behind v begun r a w c q f) (λ a f q other nothing start byte last. λ bytes s. absurd (other (ended v r (bytes ++ a) f sound more (q bytes s) nothing)))
       p (finds_fails (λ b z. ⊥) (NoFront v r) (λ w c f. f) h)
 
   -- and takes a byte
@@ -124,16 +134,28 @@ module _ {S : Type 0} {tells : S → Type 0} {left : S → List ℕ} {faults : S
       omega (arith, f.spelled.some, g.counted, ap length f.joined, ap length g.joined, length-append f.front (left new), length-append g.front (left new))
 
   -- pairs at hand behind them
-  pub pairs_more : {old mid new : S} {i j k : ℕ} (after : Reading) → Finds tells left faults old i mid j (Ok r) (Spells v) Nothing → Finds tells left faults mid j new k (Ok after) (λ b z. Advances Legacy v r z b) Nothing → Finds tells left faults old i new k (Ok after) (Spells v) Nothing
-  pairs_more after p h = finds_then (Spells v) Nothing (λ a b z q s. s a q) (λ a w c q f. f) (λ a f q _ none start byte last. none) p h
+  pub pairs_more : {old mid new : S} {i j k : ℕ} (after : Reading) → Finds tells left faults old i mid j (Ok r) (Goes v begun) Nothing → Finds tells left faults mid j new k (Ok after) (λ b z. Advances Legacy v r z b) Nothing → Finds tells left faults old i new k (Ok after) (Goes v begun) Nothing
+  pairs_more after p h = finds_then (Goes v begun) Nothing (λ a b z q s. two_steps v begun r z a b q s) (λ a w c q f. f) (λ a f q _ none start byte last. none) p h
 
-  pub pairs_fail : {old mid new : S} {i j k : ℕ} (e : DeserializeError) → Finds tells left faults old i mid j (Ok r) (Spells v) Nothing → Finds {X = Reading} tells left faults mid j new k (Err e) (λ b z. Advances Legacy v r z b) Nothing
-      → Finds tells left faults old i new k (Err e) (SpellsRead v) (NoDocument v)
-  pairs_fail e p h = finds_then (SpellsRead v) (NoDocument v) (λ a b z q s. absurd s) (λ a w c q f. absurd f) (λ a f q _ none start byte last. absurd none) p (finds_fails (λ b z. ⊥) Nothing (λ w c f. f) h)
+  pub pairs_fail : {old mid new : S} {i j k : ℕ} (e : DeserializeError) → Finds tells left faults old i mid j (Ok r) (Goes v begun) Nothing → Finds {X = Reading} tells left faults mid j new k (Err e) (λ b z. Advances Legacy v r z b) Nothing
+      → Finds tells left faults old i new k (Err e) (SpellsBehind v begun) (NoFront v begun)
+  pairs_fail e p h = finds_then (SpellsBehind v begun) (NoFront v begun) (λ a b z q s. absurd s) (λ a w c q f. absurd f) (λ a f q _ none start byte last. absurd none) p (finds_fails (λ b z. ⊥) Nothing (λ w c f. f) h)
+
+  -- all pairs are finished
+  pub all_finished : {old mid : S} {i j : ℕ} (document : CompactDoc) → IsSound r → IsDone r → document_of document ≡ built r.builder → Finds tells left faults old i mid j (Ok r) (Goes v begun) Nothing
+      → Finds tells left faults old i mid j (Ok document) (SpellsBehind v begun) (NoFront v begun)
+  all_finished document sound done is p = finds_as document (SpellsBehind v begun) (NoFront v begun) (λ a s. λ bytes q. done_spells v r document (bytes ++ a) sound done is (s bytes q)) p
+
+  -- what has come has no room
+  pub no_room : {old mid : S} {i j : ℕ} → Finds tells left faults old i mid j (Ok r) (Goes v begun) Nothing → tells old → NoRoomBehind v r (left mid) → NoRoomBehind v begun (left old)
+  no_room {old = old} {mid = mid} p t none = λ bytes q.
+      let f = p.found t in
+      let joined : (bytes ++ f.front) ++ left mid ≡ bytes ++ left old = append_assoc bytes f.front (left mid) ∙ ap (λ z. bytes ++ z) (sym f.joined) in
+      subst (HasNoRoom v) joined (none (bytes ++ f.front) (f.spelled bytes q))
 
   -- so many steps that no more can be counted
-  pub too_many : {old mid : S} {i j : ℕ} (counter : ℕ) → j < 2 ^ 64 → 2 ^ 64 - 1 ≤ counter → (tells old → counter + i ≤ j) → Finds tells left faults old i mid j (Ok r) (Spells v) Nothing
-      → Finds {X = CompactDoc} tells left faults old i mid 18446744073709551615 (Err (errors.CorruptedValue causes.TooLong)) (SpellsRead v) (NoDocument v)
+  pub too_many : {old mid : S} {i j : ℕ} (counter : ℕ) → j < 2 ^ 64 → 2 ^ 64 - 1 ≤ counter → (tells old → counter + i ≤ j) → Finds tells left faults old i mid j (Ok r) (Goes v begun) Nothing
+      → Finds {X = CompactDoc} tells left faults old i mid 18446744073709551615 (Err (errors.CorruptedValue causes.TooLong)) (SpellsBehind v begun) (NoFront v begun)
   too_many counter second many counts p = record {
     found = λ t. λ few. absurd (omega (arith, few));
     taken = λ t. let g = p.taken t in record { front = g.front; joined = g.joined; counted = omega (arith, g.counted, counts t, many, second) };
@@ -141,3 +163,39 @@ module _ {S : Type 0} {tells : S → Type 0} {left : S → List ℕ} {faults : S
     counts = p.counts;
     rises = omega (arith, p.rises, second);
   }
+
+-- ---- the number, and pairs at hand behind it
+
+-- behind the number these pairs are finished
+abbrev Begun : Version → ℕ → CompactDoc → List ℕ → ℕ → Type 0
+Begun v n document b finished = Spelled Legacy v b (document_parts n (document_of document)) × (length (document_of document) ≡ finished)
+
+begun_spells : (v : Version) (n m : ℕ) (empty document : CompactDoc) (a b : List ℕ) → document_of empty ≡ [] → VNum a n → AddsPairs v empty document b m → Begun v n document (a ++ b) m
+begun_spells v n m empty document a b none number h =
+    let is : document_of document ≡ h.pairs = h.document ∙ ap (λ z. z ++ h.pairs) none in
+    (record { front = a; rest = b; joined = refl; first = number; second = subst (λ z. Each (SpellsPart Legacy v) b (pairs_parts z)) (sym is) (pairs_as_parts Legacy v h.pairs b h.spelled) }, ap length is ∙ h.counted)
+
+module _ {S : Type 0} {tells : S → Type 0} {left : S → List ℕ} {faults : S → Faults} (v : Version) (n : ℕ) (empty document : CompactDoc) (none : document_of empty ≡ []) where
+  pub begun_finds : {old mid new : S} {i j k : ℕ} (m : ℕ) → Finds tells left faults old i mid j (Ok n) VNum (Corrupt NumberFault) → Finds tells left faults mid j new k (Ok m) (λ b z. AddsPairs v empty document b z) Nothing → Finds tells left faults old i new k (Ok m) (Begun v n document) Nothing
+  begun_finds m p h = finds_then (Begun v n document) Nothing (λ a b z q s. begun_spells v n z empty document a b none q s) (λ a w c q f. f) (λ a f q _ never start byte last. never) p h
+
+  pub begun_fails : {old mid new : S} {i j k : ℕ} (e : DeserializeError) → Finds tells left faults old i mid j (Ok n) VNum (Corrupt NumberFault) → Finds {X = ℕ} tells left faults mid j new k (Err e) (λ b z. AddsPairs v empty document b z) Nothing
+      → Finds tells left faults old i new k (Err e) (SpellsRead v) (NoDocument v)
+  begun_fails e p h = finds_then (SpellsRead v) (NoDocument v) (λ a b z q s. absurd s) (λ a w c q f. absurd f) (λ a f q _ never start byte last. absurd never) p (finds_fails (λ b z. ⊥) Nothing (λ w c f. f) h)
+
+  -- these are all
+  pub begun_ends : {old new : S} {i k : ℕ} (m : ℕ) → m ≡ n → Finds tells left faults old i new k (Ok m) (Begun v n document) Nothing → Finds tells left faults old i new k (Ok document) (SpellsRead v) (NoDocument v)
+  begun_ends m all p = finds_as document (SpellsRead v) (NoDocument v)
+      (λ a s. record { front = s.0.front; rest = s.0.rest; joined = s.0.joined; first = subst (λ z. VNum s.0.front z) (sym (s.1 ∙ all)) s.0.first; second = pairs_spell v (document_of document) s.0.rest s.0.second }) p
+
+  -- and the rest behind them
+  pub begun_then : {old mid new : S} {i j k : ℕ} (m : ℕ) (begun : Reading) (result : Result CompactDoc DeserializeError) → parts_read begun ≡ document_parts n (document_of document) → Finds tells left faults old i mid j (Ok m) (Begun v n document) Nothing
+      → Finds tells left faults mid j new k result (SpellsBehind v begun) (NoFront v begun) → IsSound begun → ¬ IsDone begun → Finds tells left faults old i new k result (SpellsRead v) (NoDocument v)
+  begun_then m begun result is p h sound more =
+      let spelled : (a : List ℕ) → Spelled Legacy v a (document_parts n (document_of document)) → Spelled Legacy v a (parts_read begun) = λ a q. subst (λ z. Spelled Legacy v a z) (sym is) q in
+      finds_then (SpellsRead v) (NoDocument v) (λ a b z q s. s a (spelled a q.0)) (λ a w c q f. f a (spelled a q.0)) (λ a f q other nothing start byte last. absurd (other (ended v begun a f sound more (spelled a q.0) nothing))) p h
+
+  pub begun_no_room : {old mid : S} {i j : ℕ} (m : ℕ) (begun : Reading) → parts_read begun ≡ document_parts n (document_of document) → Finds tells left faults old i mid j (Ok m) (Begun v n document) Nothing → tells old → NoRoomBehind v begun (left mid) → HasNoRoom v (left old)
+  begun_no_room m begun is p t full =
+      let f = p.found t in
+      subst (HasNoRoom v) (sym f.joined) (full f.front (subst (λ z. Spelled Legacy v f.front z) (sym is) f.spelled.0))

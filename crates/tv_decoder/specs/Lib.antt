@@ -6,3 +6,4 @@ pub mod Sound
 pub mod Paid
 pub mod Decoder
 pub mod Documents
+pub mod AtHand

@@ -2,17 +2,51 @@
 
 ghost use Rattle.std.specs.Prelude.{◌≡◌, ◌-◌, ◌^◌, IsErrOf};
 ghost use Rattle.tv_base.specs.declared.cause.Cause.TheVariants.{TooLong};
-ghost use Rattle.tv_decoder.specs.Documents.{SpellsRead, NoDocument};
-ghost use Rattle.tv_decoder.specs.Front.{HasNoRoom};
+ghost use Rattle.tv_decoder.specs.Documents.{SpellsRead, SpellsBehind, NoDocument};
+ghost use Rattle.tv_decoder.specs.Front.{IsSound, NoFront, HasNoRoom, NoRoomBehind};
 ghost use Rattle.tv_reader.specs.Finds.{Finds};
 ghost use Rattle.tv_reader.specs.Version.{version_of};
 ghost use Rattle.tv_reader.specs.declared.error.DeserializeError.TheVariants.{CorruptedValue, HeapFull};
 
+use crate::at_hand::take_pairs_at_hand;
 use crate::reading::Reading;
 use std::alloc::Global;
 use tv_base::{ByteSource, Cause};
 use tv_doc::document::CompactDoc;
+use tv_reader::heads::take_document_head;
 use tv_reader::{DeserializeError, DocStoreVersion};
+
+/// The heap of a document has this room at first, in bytes.
+const SHORT_HEAP: usize = 512;
+
+// Takes what is left of a document, part by part, and whole pairs where the source has them at hand.
+fn take_rest<S: ByteSource>(
+    alloc: Global,
+    source: &mut S,
+    count: &mut u64,
+    version: DocStoreVersion,
+    begun: Reading,
+) -> Result<CompactDoc, DeserializeError>
+    requires { IsSound begun }
+    ensures finds { Finds S.tells S.left S.faults source.old count.old source.new count.new result (SpellsBehind (version_of version) begun) (NoFront (version_of version) begun) }
+    ensures full { S.tells source.old → IsErrOf result HeapFull → NoRoomBehind (version_of version) begun (S.left source.old) }
+    ensures too_long { IsErrOf result (CorruptedValue TooLong) → count.new ≡ 2 ^ 64 - 1 }
+{
+    let mut reading = begun;
+    let mut legacy_seen = false;
+    let mut bytes = Vec::new(alloc);
+    // each part takes a byte at least
+    for _ in 0..u64::MAX {
+        if reading.is_done() {
+            return Ok(reading.into_doc());
+        }
+        reading.advance(alloc, source, count, version, &mut legacy_seen, &mut bytes)?;
+        reading = reading.with_pairs_at_hand(source, count, version)?;
+    }
+    let _taken = *count;
+    *count = u64::MAX;
+    Err(DeserializeError::CorruptedValue(Cause::TooLong))
+}
 
 /// Takes a document: the number of its pairs, and each pair, to any depth, by a recursion of 64 levels at most. Nothing is reserved from
 /// announced numbers, and no byte behind the document is taken.
@@ -29,18 +63,12 @@ pub fn take_document<S: ByteSource>(
     ensures full { S.tells source.old → IsErrOf result HeapFull → HasNoRoom (version_of version) (S.left source.old) }
     ensures too_long { IsErrOf result (CorruptedValue TooLong) → count.new ≡ 2 ^ 64 - 1 }
 {
-    let mut reading = Reading::with_room(alloc)?;
-    let mut legacy_seen = false;
-    let mut bytes = Vec::new(alloc);
-    // each part takes a byte at least
-    for _ in 0..u64::MAX {
-        if reading.is_done() {
-            return Ok(reading.into_doc());
-        }
-        reading.advance(alloc, source, count, version, &mut legacy_seen, &mut bytes)?;
-        reading = reading.with_pairs_at_hand(source, count, version)?;
+    let announced = take_document_head(source, count)?;
+    let mut document = CompactDoc::with_capacity(alloc, SHORT_HEAP)?;
+    let finished = take_pairs_at_hand(&mut document, source, count, version, announced)?;
+    if finished == announced {
+        return Ok(document);
     }
-    let _taken = *count;
-    *count = u64::MAX;
-    Err(DeserializeError::CorruptedValue(Cause::TooLong))
+    let begun = Reading::between_pairs(announced, finished, document);
+    take_rest(alloc, source, count, version, begun)
 }

@@ -2,10 +2,12 @@
 
 ghost use Rattle.std.specs.Prelude.{◌≡◌, ◌≢◌, ◌↔◌, ◌-◌, ◌^◌, ◌≤◌, ◌<◌, [], ◌∷◌, length, take, IsTrue, IsErrOf, IfOk, IfErr, OnOk, OnErr, Some, None, false};
 ghost use Rattle.tv_base.specs.declared.cause.Cause.TheVariants.{TooLong};
+ghost use Rattle.tv_builder.specs.Behind.{document_parts};
 ghost use Rattle.tv_builder.specs.Parts.{value as value_part, array_head, object_head, some_bytes, bytes_head};
 ghost use Rattle.tv_builder.specs.State.{awaited, head_awaits, lists_of, children_of};
 ghost use Rattle.tv_builder.specs.declared.awaits.Awaits.TheVariants.{Value as ValueAwaited, Key as KeyAwaited, Bytes as BytesAwaited};
 ghost use Rattle.tv_builder.specs.declared.bytes_kind.BytesKind.TheVariants.{Key as KeyKind};
+ghost use Rattle.tv_decoder.specs.AtHand.{Nothing};
 ghost use Rattle.tv_decoder.specs.Front.{parts_read, IsSound, IsDone, LacksPair, NoFront, NoRoomBehind};
 ghost use Rattle.tv_decoder.specs.Puts.{IsOpen, AtEnd, Awaiting, Puts, PutsEnd, PutsBytes, IsParts, head_parts, LetGo, KeepsPairs};
 ghost use Rattle.tv_decoder.specs.Steps.{Advances, Stepped, Sees};
@@ -21,8 +23,9 @@ ghost use Rattle.tv_value.specs.Owned.{owned_tree};
 ghost use Rattle.tv_value.specs.Tree.{leaf as leaf_tree};
 ghost use Rattle.tv_value.specs.Version.{Version, V2};
 
+use crate::at_hand::take_pairs_at_hand;
 use crate::errors::store_error;
-use std::alloc::{AllocError, Global};
+use std::alloc::Global;
 use tv_base::ByteSource;
 use tv_base::take::take_pieces;
 use tv_doc::builder::{Awaits, BuildError, BytesKind, TreeBuilder};
@@ -36,9 +39,6 @@ use tv_value::leaf::ReferenceValueLeaf;
 use tv_value::owned_value::OwnedValue;
 use tv_value::pre_tokenized::PreTokenizedStr;
 use tv_value::value::Value;
-
-/// The heap of a document that is read at once has this room at first, in bytes.
-const SHORT_HEAP: usize = 512;
 
 /// No more than this is read of open bytes at once.
 const PIECE: u32 = 4096;
@@ -71,20 +71,20 @@ impl Reading {
         }
     }
 
-    /// The same, with room for a short document, so that its heap doesn't grow from nothing. `Err` where memory is refused.
-    pub(crate) fn with_room(alloc: Global) -> Result<Reading, AllocError>
-        ensures parts { IfOk result (λ r. parts_read r ≡ []) }
-        ensures sound { IfOk result IsSound }
+    /// So many of the announced pairs are finished, and of the next one nothing has come.
+    pub(crate) fn between_pairs(announced: u64, finished: u64, document: CompactDoc) -> Reading
+        requires counted { finished ≡ length (document_of document) }
+        requires within { finished ≤ announced }
+        ensures parts { parts_read result ≡ document_parts announced (document_of document) }
+        ensures done { IsDone result → finished ≡ announced }
+        ensures sound { IsSound result }
     {
-        let document = CompactDoc::with_capacity(alloc, SHORT_HEAP)?;
-        let builder = TreeBuilder::new(document);
-        let (announced, field) = (None, None);
-        Ok(Reading {
-            announced,
-            finished: 0,
-            field,
-            builder,
-        })
+        Reading {
+            announced: Some(announced),
+            finished,
+            field: None,
+            builder: TreeBuilder::new(document),
+        }
     }
 
     /// Where a pair is awaited, the next pairs that the source has whole at hand, at once, as far as that can be. It may read none.
@@ -98,47 +98,20 @@ impl Reading {
     ) -> Result<Reading, DeserializeError>
         requires { IsSound self }
         ensures sound { IfOk result IsSound }
-        ensures finds { Finds S.tells S.left S.faults source.old count.old source.new count.new result (λ b r. Advances Legacy (version_of version) self r b) (λ w r. ⊥) }
+        ensures finds { Finds S.tells S.left S.faults source.old count.old source.new count.new result (λ b r. Advances Legacy (version_of version) self r b) Nothing }
         ensures memory { IfErr result (λ e. e ≡ NoMemory) }
     {
-        let (Some(announced), None, DocStoreVersion::V2) = (self.announced, self.field, version)
-        else {
+        let (Some(announced), None) = (self.announced, self.field) else {
             return Ok(self);
         };
-        let lent = source.at_hand();
-        if lent.is_empty() || u64::MAX - *count < lent.len() as u64 {
+        if source.at_hand().is_empty() {
             return Ok(self);
         }
-        let (reading, taken) = self.with_pairs_of(lent, announced);
-        if taken == 0 {
-            return Ok(reading);
-        }
-        if !source.pass(taken) {
-            return Err(DeserializeError::Memory);
-        }
-        *count += taken as u64;
-        Ok(reading)
-    }
-
-    // The same with the whole pairs that these bytes begin with, and how many bytes they take.
-    fn with_pairs_of(self, bytes: &[u8], announced: u64) -> (Reading, usize)
-        requires sound { IsSound self }
-        requires announced { self.announced ≡ Some announced }
-        requires none { self.field ≡ None }
-        ensures sound { IsSound result.0 }
-        ensures within { result.1 ≤ length bytes.now }
-        ensures advances { Advances Legacy V2 self result.0 (take result.1 bytes.now) }
-    {
         let finished = self.finished;
         let mut document = self.builder.into_doc();
-        let (rest, more) = document.add_spelled(bytes, announced - finished);
-        let reading = Reading {
-            announced: Some(announced),
-            finished: finished + more,
-            field: None,
-            builder: TreeBuilder::new(document),
-        };
-        (reading, bytes.len() - rest.len())
+        let most = announced - finished;
+        let more = take_pairs_at_hand(&mut document, source, count, version, most)?;
+        Ok(Reading::between_pairs(announced, finished + more, document))
     }
 
     /// The document of the finished pairs. Its heap ends behind the last of their values.

@@ -1,25 +1,35 @@
-use Rattle.std.proofs.Common.{sym, ap, subst, refl, take}
+use Rattle.std.proofs.Common.{[], ◌++◌, sym, ◌∙◌, ap, subst, append-nil, arith}
+use Rattle.std.proofs.lemmas.Result.{err_from_is_err_and}
+use Rattle.tv_builder.specs.Front.{Spelled}
 use Rattle.tv_legacy.specs.Legacy.{Legacy}
+use Rattle.tv_reader.proofs.Finding.{finds_as, finds_fails}
 use Rattle.tv_reader.specs.Version.{version_of}
+use Rattle.tv_decoder.specs.AtHand.{Nothing}
+use Rattle.tv_decoder.specs.Front.{parts_read}
 use Rattle.tv_decoder.specs.Steps.{Advances}
-use Rattle.tv_decoder.proofs.AtHand.{passed_finds, none_passed}
+use Rattle.tv_decoder.proofs.AtHand.{reading_goes, none_passed}
 use Rattle.tv_decoder.proofs.reading.Reading.with_pairs_at_hand.Goals as goal
 
-pub returns-then-taken-eq0-clause-finds : goal.returns-then-taken-eq0-clause-finds
-returns-then-taken-eq0-clause-finds g c =
+pub returns-in_default-clause-finds : goal.returns-in_default-clause-finds
+returns-in_default-clause-finds g c =
     let v = version_of c.args.version in
-    let r = c.args.self in
-    let new = c.with_pairs_of-reading.result.0 in
-    let goes = subst (λ z. Advances Legacy z r new (take c.with_pairs_of-reading.result.1 c.at_hand-lent.result.now)) (sym (ap version_of c.in-Some-None-V2.is-2)) c.with_pairs_of-reading.ensures.advances in
-    none_passed v r new (subst (λ n. Advances Legacy v r new (take n c.at_hand-lent.result.now)) c.if-taken-eq0.true goes)
+    none_passed (λ b r. Advances Legacy v c.args.self r b) c.args.self (λ bytes p. subst (λ z. Spelled Legacy v z (parts_read c.args.self)) (sym (append-nil bytes)) p)
+
+pub returns-then-is_empty-clause-finds : goal.returns-then-is_empty-clause-finds
+returns-then-is_empty-clause-finds g c =
+    let v = version_of c.args.version in
+    none_passed (λ b r. Advances Legacy v c.args.self r b) c.args.self (λ bytes p. subst (λ z. Spelled Legacy v z (parts_read c.args.self)) (sym (append-nil bytes)) p)
+
+pub returns-in_err-more-clause-finds : goal.returns-in_err-more-clause-finds
+returns-in_err-more-clause-finds g c =
+    let p = err_from_is_err_and c.from_residual.result c.from_residual.ensures.1 in
+    rw (p.1, p.2) (finds_fails _ Nothing (λ w e f. f) c.in_err-more.ensures.finds)
 
 pub returns-clause-finds : goal.returns-clause-finds
 returns-clause-finds g c =
     let v = version_of c.args.version in
     let r = c.args.self in
-    let new = c.with_pairs_of-reading.result.0 in
-    let taken = c.with_pairs_of-reading.result.1 in
-    let lent = c.at_hand-lent.result.now in
-    let goes = subst (λ z. Advances Legacy z r new (take taken lent)) (sym (ap version_of c.in-Some-None-V2.is-2)) c.with_pairs_of-reading.ensures.advances in
-    let pass = c.if-not-pass.ensures in
-    passed_finds v r new lent taken c.at_hand-lent.ensures c.with_pairs_of-reading.ensures.within goes pass.bytes pass.tells pass.faults refl
+    let new = c.between_pairs.result in
+    finds_as new (λ b z. Advances Legacy v r z b) Nothing
+    (λ a h. reading_goes v r new c.in-Some-None.announced _ c.into_doc-document.result c.take_pairs_at_hand.new.document a c.in-Some-None.is-0 c.in-Some-None.is-1 c.into_doc-document.ensures.document h c.between_pairs.ensures.parts)
+    c.in_ok-more.ensures.finds
