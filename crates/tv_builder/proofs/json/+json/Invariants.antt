@@ -12,8 +12,8 @@ invariant-put_array-loop-item l =
     × ArrayPut l.fn.heap.items l.heap.items list (map lent_json_tree (drop l.item-index l.item-items)) (map lent_json_tree l.item-items)
     × (items_have_float (items_view l.item-items) ≡ items_have_float (items_view (drop l.item-index l.item-items)))
 
-abbrev pub invariant-put_object-loop-member : goal.invariant-put_object-loop-member
-invariant-put_object-loop-member l =
+abbrev pub invariant-put_object-loop-key : goal.invariant-put_object-loop-key
+invariant-put_object-loop-key l =
     (list : List ℕ) × (l.places.items ≡ l.fn.places.items ++ list)
-    × ObjectPut l.fn.heap.items l.heap.items list (lent_json_entries l.member-iterator) (lent_json_entries l.members.entries)
-    × (members_have_float (members_view l.members.entries) ≡ members_have_float (members_view l.member-iterator))
+    × ObjectPut l.fn.heap.items l.heap.items list (lent_json_entries l.key-iterator) (lent_json_entries l.members.entries)
+    × (members_have_float (members_view l.members.entries) ≡ members_have_float (members_view l.key-iterator))
