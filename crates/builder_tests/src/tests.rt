@@ -1,3 +1,4 @@
+mod json;
 mod lengths;
 mod long;
 mod memory;
