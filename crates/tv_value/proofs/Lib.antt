@@ -17,3 +17,4 @@ pub mod TokenSteps
 pub mod Payloads
 pub mod LentJson
 pub mod MovedJson
+pub mod Utf8Fronts

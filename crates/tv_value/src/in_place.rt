@@ -9,6 +9,7 @@ ghost use Rattle.tv_value.specs.TokenRef.{ref_of};
 ghost use Rattle.tv_value.specs.Tree.{Token};
 
 use crate::pre_tokenized::TokenRef;
+use crate::utf8::is_utf8_front;
 use tv_base::vint::VInt;
 
 /// The number of variable length at the front of the bytes, and what follows it. None where no front spells a number. (Own.)
@@ -36,10 +37,11 @@ pub fn text_at(bytes: &[u8]) -> Option<(&str, &[u8])>
     if (behind_len.len() as u64) < len {
         return None;
     }
-    let (content, rest) = behind_len.split_at(len as usize);
-    if !simdutf8::is_utf8(content) {
+    let len = len as usize;
+    if !is_utf8_front(behind_len, len) {
         return None;
     }
+    let (content, rest) = behind_len.split_at(len);
     let text = unsafe { str::from_utf8_unchecked(content) };
     Some((text, rest))
 }

@@ -17,6 +17,7 @@ pub mod same;
 pub mod spell;
 pub mod tokenizer;
 pub mod type_codes;
+mod utf8;
 pub mod value;
 
 pub use tv_date::{date_error, date_time};

@@ -1,4 +1,5 @@
-use Rattle.std.proofs.Common.{◌≡◌, true, false, subst, sym, ◌∙◌}
+use Rattle.std.proofs.Common.{◌≡◌, true, false, take, drop, refl, subst, sym, ◌∙◌}
+use Rattle.std.specs.Str.{IsUtf8}
 use Rattle.tv_base.specs.Parts.{Begins, Text}
 use Rattle.tv_value.proofs.InPlace.{if_none, text_none, text_ends, text_wrong}
 use Rattle.tv_value.proofs.Fronts.{sized_found, text_found}
@@ -10,13 +11,12 @@ returns-in_err-len-clause-none c = if_none c.from_residual.result (text_none c.a
 pub returns-then-behind_len-len-clause-none : goal.returns-then-behind_len-len-clause-none
 returns-then-behind_len-len-clause-none c = text_ends c.args.bytes.now c.in_ok-len.behind_len.now c.in_ok-len.len c.in_ok-len.ensures.found c.if-behind_len-len.true
 
-pub returns-then-not-is_utf8-clause-none : goal.returns-then-not-is_utf8-clause-none
-returns-then-not-is_utf8-clause-none c =
-    let content = c.split_at.result.0.now in
-    let rest = c.split_at.result.1.now in
-    let sized =
-    sized_found c.args.bytes.now c.in_ok-len.behind_len.now content rest c.in_ok-len.len c.in_ok-len.ensures.found c.if-behind_len-len.false c.split_at.ensures.front c.split_at.ensures.back in
-    text_wrong c.args.bytes.now rest content sized (λ u. let t : true ≡ false = sym (c.is_utf8.ensures.1 u) ∙ c.if-not-is_utf8.true in cc)
+pub returns-then-not-is_utf8_front-clause-none : goal.returns-then-not-is_utf8_front-clause-none
+returns-then-not-is_utf8_front-clause-none c =
+    let behind = c.in_ok-len.behind_len.now in
+    let len = c.in_ok-len.len in
+    let sized = sized_found c.args.bytes.now behind (take len behind) (drop len behind) len c.in_ok-len.ensures.found c.if-behind_len-len.false refl refl in
+    text_wrong c.args.bytes.now (drop len behind) (take len behind) sized (λ u. let t : true ≡ false = sym (c.is_utf8_front.ensures.1 u) ∙ c.if-not-is_utf8_front.true in cc)
 
 pub returns-clause-found : goal.returns-clause-found
 returns-clause-found c =
@@ -24,4 +24,5 @@ returns-clause-found c =
     let rest = c.split_at.result.1.now in
     let sized =
     sized_found c.args.bytes.now c.in_ok-len.behind_len.now content rest c.in_ok-len.len c.in_ok-len.ensures.found c.if-behind_len-len.false c.split_at.ensures.front c.split_at.ensures.back in
-    subst (λ z. Begins (λ b. Text b z) c.args.bytes.now rest) (sym c.from_utf8_unchecked-text.ensures) (text_found c.args.bytes.now rest content sized (c.is_utf8.ensures.0 c.if-not-is_utf8.false))
+    let says : IsUtf8 content = subst IsUtf8 (sym c.split_at.ensures.front) (c.is_utf8_front.ensures.0 c.if-not-is_utf8_front.false) in
+    subst (λ z. Begins (λ b. Text b z) c.args.bytes.now rest) (sym c.from_utf8_unchecked-text.ensures) (text_found c.args.bytes.now rest content sized says)

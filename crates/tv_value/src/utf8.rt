@@ -1,0 +1,67 @@
+//! Whether bytes are UTF-8, where others stand behind them.
+
+ghost use Rattle.std.specs.Prelude.{◌≡◌, ℕ, ◌-◌, ◌<◌, ◌≤◌, ◌↔◌, ◌++◌, length, take, replicate, slice_index, IsTrue};
+ghost use Rattle.std.specs.Int.Bits.{bit_and};
+ghost use Rattle.std.specs.Str.{IsUtf8};
+
+use simdutf8::Checker;
+use std::simd::prelude::*;
+
+// From place 64 - n on, n bytes with every bit and then bytes with none.
+const FRONTS: [u8; 128] = [
+    255, 255, 255, 255, 255, 255, 255, 255, 255, 255, 255, 255, 255, 255, 255, 255, 255, 255, 255,
+    255, 255, 255, 255, 255, 255, 255, 255, 255, 255, 255, 255, 255, 255, 255, 255, 255, 255, 255,
+    255, 255, 255, 255, 255, 255, 255, 255, 255, 255, 255, 255, 255, 255, 255, 255, 255, 255, 255,
+    255, 255, 255, 255, 255, 255, 255, 0, 0, 0, 0, 0, 0, 0, 0, 0, 0, 0, 0, 0, 0, 0, 0, 0, 0, 0, 0,
+    0, 0, 0, 0, 0, 0, 0, 0, 0, 0, 0, 0, 0, 0, 0, 0, 0, 0, 0, 0, 0, 0, 0, 0, 0, 0, 0, 0, 0, 0, 0, 0,
+    0, 0, 0, 0, 0, 0, 0, 0, 0, 0, 0, 0,
+];
+
+// So many bytes with every bit, and the others with none.
+#[inline(always)]
+fn mask_of(len: usize) -> u8x64
+    requires { len ≤ 64 }
+    ensures { result ≡ replicate len 255 ++ replicate (64 - len) 0 }
+{
+    let fronts: &[u8] = &FRONTS;
+    u8x64::from_slice(&fronts[64 - len..])
+}
+
+// The bits that both have.
+#[inline(always)]
+fn common(a: u8x64, b: u8x64) -> u8x64
+    ensures len { length result ≡ 64 }
+    ensures lanes { (i : ℕ) → i < 64 → slice_index result i ≡ bit_and (slice_index a i) (slice_index b i) }
+{
+    a & b
+}
+
+// The first bytes of the block, and zeros behind them.
+#[inline(always)]
+fn front_of(block: u8x64, len: usize) -> u8x64
+    requires { len ≤ 64 }
+    ensures { result ≡ take len block ++ replicate (64 - len) 0 }
+{
+    common(block, mask_of(len))
+}
+
+/// Whether the first `len` bytes are UTF-8. (Own.) Its last block of 64 bytes is read where it stands, as far as there are bytes behind it:
+/// to copy a short block takes longer than to test it.
+#[inline]
+pub(crate) fn is_utf8_front(bytes: &[u8], len: usize) -> bool
+    requires { len ≤ length bytes.now }
+    ensures { IsTrue result ↔ IsUtf8 (take len bytes.now) }
+{
+    let whole = len / 64 * 64;
+    if bytes.len() - whole < 64 {
+        return simdutf8::is_utf8(&bytes[..len]);
+    }
+    let mut checker = Checker::new();
+    let mut at = 0;
+    while at < whole {
+        checker = checker.step(u8x64::from_slice(&bytes[at..]));
+        at += 64;
+    }
+    let last = front_of(u8x64::from_slice(&bytes[at..]), len - at);
+    checker.step(last).finish()
+}
