@@ -17,3 +17,4 @@ pub mod CallsTrade
 pub mod Paid
 pub mod Weighing
 pub mod Spelling
+pub mod JsonValues

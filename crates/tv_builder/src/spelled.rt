@@ -14,7 +14,7 @@ ghost use Rattle.tv_value.specs.Version.{V2};
 
 use crate::frame::ListKind;
 use crate::place::Place;
-use crate::whole::{put_leaf, put_list};
+use crate::whole::{put, put_list};
 use std::net::Ipv6Addr;
 use tv_heap::write::push_place;
 use tv_value::date_time::DateTime;
@@ -100,19 +100,6 @@ fn key_at(bytes: &[u8]) -> Option<(&str, &[u8])>
     }
     let (key, rest) = text_at(behind_code)?;
     Some((key, rest))
-}
-
-// Writes a value without children, and gives its place. None where it has no room or memory is refused.
-#[inline(always)]
-fn put(heap: &mut Vec<u8>, value: &ReferenceValueLeaf<'_>) -> Option<Place>
-    requires { length heap.old.items ≤ 4294967295 }
-    ensures found { IfSome result (λ place. Put heap.old.items (leaf_tree (leaf_of value.now)) heap.new.items place) }
-    ensures front { IsFront heap.old.items heap.new.items }
-{
-    match put_leaf(heap, value) {
-        Ok(place) => Some(place),
-        Err(_) => None,
-    }
 }
 
 // Writes the value without children that stands behind this code.

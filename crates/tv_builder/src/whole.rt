@@ -1,6 +1,7 @@
 //! Writing values behind a heap, as far as they fit.
 
-ghost use Rattle.std.specs.Prelude.{◌≡◌, ◌≤◌, ◌++◌, length, take, drop, OnOk, IfOk, IfErr};
+ghost use Rattle.std.specs.Prelude.{◌≡◌, ◌≤◌, ◌++◌, length, take, drop, OnOk, IfOk, IfErr, IfSome};
+ghost use Rattle.tv_base.specs.Sink.{IsFront};
 ghost use Rattle.tv_value.specs.Lent.{leaf_of, nested_tree};
 ghost use Rattle.tv_value.specs.Tree.{leaf as leaf_tree, array, object, elements, entries};
 ghost use Rattle.tv_builder.specs.Whole.{Put, PutNot, ListPut, ListPutNot};
@@ -33,6 +34,19 @@ pub(crate) fn put_leaf(
         value_type,
         address,
     })
+}
+
+/// The same, where the reason of a refusal isn't asked for. After `None` the old heap is still a front of the new.
+#[inline(always)]
+pub(crate) fn put(heap: &mut Vec<u8>, value: &ReferenceValueLeaf<'_>) -> Option<Place>
+    requires { length heap.old.items ≤ 4294967295 }
+    ensures found { IfSome result (λ place. Put heap.old.items (leaf_tree (leaf_of value.now)) heap.new.items place) }
+    ensures front { IsFront heap.old.items heap.new.items }
+{
+    match put_leaf(heap, value) {
+        Ok(place) => Some(place),
+        Err(_) => None,
+    }
 }
 
 /// Writes a list behind its children, whose places are those from `first` on, takes these off, and answers its own place. After an
