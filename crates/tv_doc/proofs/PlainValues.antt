@@ -35,8 +35,8 @@ whole_row d ms is whole =
     let w : has_float (object ms) ≡ false = subst (λ x. has_float x ≡ false) is whole in
     rw is (rw w refl)
 
-pub object_row : {o : _} {m : BTreeMap (String Global) Value} (f : FieldType) (v : Value) → f ≡ types.JsonObject o → v ≡ json.Object m → has_float (view v) ≡ false → Table f (view v) (Ok (lent_json_tree v))
-object_row {m = m} f v is says whole = rw is (whole_row (view v) _ (ap view says ∙ view-Object m) whole)
+pub object_row : {o : _} (f : FieldType) (v : Value) (m : BTreeMap (String Global) Value) → f ≡ types.JsonObject o → v ≡ json.Object m → has_float (view v) ≡ false → Table f (view v) (Ok (lent_json_tree v))
+object_row f v m is says whole = rw is (whole_row (view v) _ (ap view says ∙ view-Object m) whole)
 
 -- what an addition answers, without a word of the room
 pub adds_or_refuses : {T : Type 0} (old new : CompactDoc) (field : ℕ) (t : Tree) (r : Result T AddError) → Adds old new field t r → AddsOrRefuses old new field t r

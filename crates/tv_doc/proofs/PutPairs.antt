@@ -15,6 +15,7 @@ use Rattle.tv_builder.proofs.Putting.{tree_front}
 use Rattle.tv_doc.specs.declared.add_error.AddError.{AddError}
 use Rattle.tv_doc.specs.declared.document.CompactDoc.{CompactDoc}
 use Rattle.tv_doc.specs.declared.place.FieldValueAddr.{FieldValueAddr}
+use Rattle.tv_doc.specs.AddsRow.{AddsTree}
 use Rattle.tv_doc.specs.Document.{heap_of, Added, IsUnchanged}
 use Rattle.tv_doc.specs.Holds.{pair_at}
 use Rattle.tv_doc.proofs.Documents.{unchanged, added, restored}
@@ -94,3 +95,8 @@ pub put_added : (old new : CompactDoc) (mid : List ℕ) (len small : ℕ) (t : T
     → Keeping old mid (heap_of new) new.pairs.items len small (Ok (at.value_type, at.address)) (Ok x) → Added old new small t
 put_added old new mid len small t at x w k =
     added old new (pair_at small (at.value_type, at.address)) small t refl w.small_fits (wrote_at old mid (heap_of new) len small t at w k.same_heap) k.pair
+
+-- as an addition of the field with this number
+pub put_tree : (old new : CompactDoc) (mid : List ℕ) (len small field : ℕ) (t : Tree) (at : Place) (x : Unit {0}) → small ≡ field → PairPut old mid len small t at
+    → Keeping old mid (heap_of new) new.pairs.items len small (Ok (at.value_type, at.address)) (Ok x) → AddsTree old new field t
+put_tree old new mid len small field t at x is w k = subst (λ n. AddsTree old new n t) is (w.small_fits, put_added old new mid len small t at x w k)

@@ -28,7 +28,7 @@ returns-in_ok-as_i64-in-I64-Number-clause-added c =
       adds_or_refuses _ _ _ _ _ (subst (λ y. Adds c.args.document.now c.add_i64.new.self c.args.field.id (leaf (signed y)) c.add_i64.result) same c.add_i64.ensures),
     )
 
-pub returns-in_ok-add_whole_json-clause-added : goal.returns-in_ok-add_whole_json-clause-added
-returns-in_ok-add_whole_json-clause-added c =
-    let done = c.in_ok-add_whole_json.ensures.added in
-    (lent_json_tree c.args.json.now, object_row c.args.field_type.now c.args.json.now c.in-JsonObject-Object.is-0 c.in-JsonObject-Object.is-1 done.0, done.1)
+pub returns-in_ok-add_whole_json-in-JsonObject-Object-clause-added : goal.returns-in_ok-add_whole_json-in-JsonObject-Object-clause-added
+returns-in_ok-add_whole_json-in-JsonObject-Object-clause-added c =
+    let done = c.in_ok-add_whole_json-in-JsonObject-Object.ensures.added in
+    (lent_json_tree c.args.json.now, object_row c.args.field_type.now c.args.json.now _ c.in-JsonObject-Object.is-0 c.in-JsonObject-Object.is-1 done.0, done.1)

@@ -1,10 +1,9 @@
-use Rattle.std.proofs.Common.{◌≡◌, ◌∙◌, Ok, Err, length, subst, arith}
+use Rattle.std.proofs.Common.{◌≡◌, ◌∙◌, Ok, Err, length, arith}
 use Rattle.tv_value.specs.JsonTree.{lent_json_tree}
-use Rattle.tv_doc.specs.AddsRow.{AddsTree}
 use Rattle.tv_doc.specs.Document.{heap_of}
 use Rattle.tv_doc.proofs.Documents.{unchanged, restored}
 use Rattle.tv_doc.proofs.Kept.{Keeping, cut_fields}
-use Rattle.tv_doc.proofs.PutPairs.{PairPut, pair_fields, pair_refused, put_added}
+use Rattle.tv_doc.proofs.PutPairs.{PairPut, pair_fields, pair_refused, put_tree}
 use Rattle.tv_doc.proofs.document.CompactDoc.add_whole_json.Goals as goal
 
 pub invariant_of-self : goal.invariant_of-self
@@ -41,14 +40,14 @@ returns-in-Ok-keep_pair-clause-added c =
     let place = c.in-Some.place in
     let len : c.len-len.result ≡ length (heap_of old) = omega (arith, c.len-len.ensures, old.node_data.ok.0) in
     let k = c.in-Ok-keep_pair.ensures in
-    let small : c.in-Ok.small ≡ c.args.field.id = ? in
+    let small : c.in-Ok.small ≡ c.args.field.id = c.in-Ok.ensures.1 ∙ c.field_id.ensures in
     let put : PairPut old mid c.len-len.result c.in-Ok.small tree place = record { len_is = len; small_fits = omega arith; put = c.in-Some.ensures.found } in
     let keeping : Keeping old mid c.keep_pair.new.heap.items c.keep_pair.new.pairs.items c.len-len.result c.in-Ok.small (Ok (place.value_type, place.address)) (Ok c.in-Ok-keep_pair.field-0) =
     record { pair = k.pair; same_heap = k.heap; same_pairs = k.same_pairs; cut = k.cut; memory = k.memory } in
-    (c.in-Some.ensures.whole, subst (λ n. AddsTree old _ n tree) small (put.small_fits, put_added old _ _ _ _ _ _ _ put keeping))
+    (c.in-Some.ensures.whole, put_tree old _ _ _ _ _ _ _ _ small put keeping)
 
-pub returns-in-Err-clause-none : goal.returns-in-Err-clause-none
-returns-in-Err-clause-none c =
+pub returns-clause-none : goal.returns-clause-none
+returns-clause-none c =
     let old = c.args.self.now in
     let mid = c.put_json.new.heap.items in
     let tree = lent_json_tree c.args.json.now in
