@@ -1,5 +1,6 @@
 pub mod Documents
 pub mod Kept
+pub mod PutPairs
 pub mod SpelledPairs
 pub mod Grouping
 pub mod Valid

@@ -8,7 +8,7 @@ ghost use Rattle.tv_field.specs.JsonAnswer.{lent_tree};
 ghost use Rattle.tv_doc.specs.AddsRow.{AddsRow};
 ghost use Rattle.tv_doc.specs.JsonObject.{FieldJson, item_values, values_for, values_at, object_values, AddsValues, IsInvalidJson, IsValueError, MakesDocument, Parses};
 ghost use Rattle.std.specs.Fmt.{take_chars};
-ghost use Rattle.tv_doc.specs.Document.{Adds};
+ghost use Rattle.tv_doc.specs.Document.{Adds, IsUnchanged};
 
 use crate::add_error::AddError;
 use crate::doc_parsing_error::DocParsingError;
@@ -21,8 +21,8 @@ use tv_schema::Schema;
 use tv_value::field::Field;
 use tv_value::leaf::ReferenceValueLeaf;
 
-// Adds a text to a field of texts, or a number to a field of such numbers, as it is: the commonest values, which stand in no leaf
-// before. None of any other.
+// Adds a text to a field of texts, a number to a field of such numbers, or an object to a field of JSON objects, as it is: the
+// commonest values, which aren't lent before. None of any other, and of an object that isn't added; the document is then unchanged.
 #[inline(always)]
 fn add_plain(
     document: &mut CompactDoc,
@@ -31,7 +31,7 @@ fn add_plain(
     json: &Value,
 ) -> Option<Result<(), AddError>>
     ensures added { IfSome result (AddsRow document.old document.new field.id field_type.now (data_of json.now)) }
-    ensures none { IfNone result (document.new ≡ document.old) }
+    ensures none { IfNone result (IsUnchanged document.old document.new) }
 {
     match (field_type, json) {
         (FieldType::Str(_), Value::String(text)) => Some(document.add_text(field, text.as_str())),
@@ -40,6 +40,10 @@ fn add_plain(
         }
         (FieldType::I64(_), Value::Number(number)) => {
             Some(document.add_i64(field, number.as_i64()?))
+        }
+        (FieldType::JsonObject(_), Value::Object(_)) => {
+            document.add_whole_json(field, json)?;
+            Some(Ok(()))
         }
         _ => None,
     }

@@ -16,3 +16,4 @@ pub mod named;
 mod place;
 mod same;
 mod spelled;
+mod whole_json;

@@ -2,7 +2,8 @@ use Rattle.std.proofs.Common.{◌≡◌, ◌∙◌, Ok, Err, length, arith}
 use Rattle.tv_doc.specs.Document.{heap_of}
 use Rattle.tv_doc.proofs.Documents.{unchanged, restored}
 use Rattle.tv_doc.proofs.Kept.{Keeping, cut_fields}
-use Rattle.tv_doc.proofs.SpelledPairs.{PairPut, FieldFound, pair_fields, pair_added, pair_refused}
+use Rattle.tv_doc.proofs.PutPairs.{PairPut, pair_fields, pair_refused}
+use Rattle.tv_doc.proofs.SpelledPairs.{FieldFound, pair_added}
 use Rattle.tv_doc.proofs.document.CompactDoc.add_spelled_pair.Goals as goal
 
 pub invariant_of-self : goal.invariant_of-self

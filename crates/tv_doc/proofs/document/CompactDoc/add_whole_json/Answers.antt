@@ -1,0 +1,60 @@
+use Rattle.std.proofs.Common.{◌≡◌, ◌∙◌, Ok, Err, length, arith}
+use Rattle.tv_value.specs.JsonTree.{lent_json_tree}
+use Rattle.tv_doc.specs.Document.{heap_of}
+use Rattle.tv_doc.proofs.Documents.{unchanged, restored}
+use Rattle.tv_doc.proofs.Kept.{Keeping, cut_fields}
+use Rattle.tv_doc.proofs.PutPairs.{PairPut, pair_fields, pair_refused, put_tree}
+use Rattle.tv_doc.proofs.document.CompactDoc.add_whole_json.Goals as goal
+
+pub invariant_of-self : goal.invariant_of-self
+invariant_of-self c =
+    let old = c.args.self.now in
+    let len : c.len-len.result ≡ length (heap_of old) = omega (arith, c.len-len.ensures, old.node_data.ok.0) in
+    let fields = cut_fields old c.put_json.new.heap.items _ _ c.len-len.result c.put_json.ensures.front len c.truncate.ensures.items (λ i. old.pairs.items) in
+    record { document = fields.document; room = fields.room; weight = fields.weight; fits = fields.fits }
+
+pub returns-in_default-put_json-clause-none : goal.returns-in_default-put_json-clause-none
+returns-in_default-put_json-clause-none c =
+    let old = c.args.self.now in
+    let len : c.len-len.result ≡ length (heap_of old) = omega (arith, c.len-len.ensures, old.node_data.ok.0) in
+    unchanged old _ (c.truncate.ensures.items ∙ restored (heap_of old) c.put_json.new.heap.items c.len-len.result c.put_json.ensures.front len) (λ i. old.pairs.items)
+
+pub invariant_of-self-2 : goal.invariant_of-self-2
+invariant_of-self-2 c =
+    let old = c.args.self.now in
+    let mid = c.put_json.new.heap.items in
+    let tree = lent_json_tree c.args.json.now in
+    let place = c.in-Some.place in
+    let len : c.len-len.result ≡ length (heap_of old) = omega (arith, c.len-len.ensures, old.node_data.ok.0) in
+    let put : PairPut old mid c.len-len.result c.in-Ok.small tree place = record { len_is = len; small_fits = omega arith; put = c.in-Some.ensures.found } in
+    let keeping : Keeping old mid c.keep_pair.new.heap.items c.keep_pair.new.pairs.items c.len-len.result c.in-Ok.small (Ok (place.value_type, place.address)) c.keep_pair.result =
+    record { pair = c.keep_pair.ensures.pair; same_heap = c.keep_pair.ensures.heap; same_pairs = c.keep_pair.ensures.same_pairs; cut = c.keep_pair.ensures.cut; memory = c.keep_pair.ensures.memory } in
+    let fields = pair_fields old _ _ _ _ _ _ _ _ put keeping in
+    record { document = fields.document; room = fields.room; weight = fields.weight; fits = fields.fits }
+
+pub returns-in-Ok-keep_pair-clause-added : goal.returns-in-Ok-keep_pair-clause-added
+returns-in-Ok-keep_pair-clause-added c =
+    let old = c.args.self.now in
+    let mid = c.put_json.new.heap.items in
+    let tree = lent_json_tree c.args.json.now in
+    let place = c.in-Some.place in
+    let len : c.len-len.result ≡ length (heap_of old) = omega (arith, c.len-len.ensures, old.node_data.ok.0) in
+    let k = c.in-Ok-keep_pair.ensures in
+    let small : c.in-Ok.small ≡ c.args.field.id = c.in-Ok.ensures.1 ∙ c.field_id.ensures in
+    let put : PairPut old mid c.len-len.result c.in-Ok.small tree place = record { len_is = len; small_fits = omega arith; put = c.in-Some.ensures.found } in
+    let keeping : Keeping old mid c.keep_pair.new.heap.items c.keep_pair.new.pairs.items c.len-len.result c.in-Ok.small (Ok (place.value_type, place.address)) (Ok c.in-Ok-keep_pair.field-0) =
+    record { pair = k.pair; same_heap = k.heap; same_pairs = k.same_pairs; cut = k.cut; memory = k.memory } in
+    (c.in-Some.ensures.whole, put_tree old _ _ _ _ _ _ _ _ small put keeping)
+
+pub returns-clause-none : goal.returns-clause-none
+returns-clause-none c =
+    let old = c.args.self.now in
+    let mid = c.put_json.new.heap.items in
+    let tree = lent_json_tree c.args.json.now in
+    let place = c.in-Some.place in
+    let len : c.len-len.result ≡ length (heap_of old) = omega (arith, c.len-len.ensures, old.node_data.ok.0) in
+    let k = c.in-Err.ensures in
+    let put : PairPut old mid c.len-len.result c.in-Ok.small tree place = record { len_is = len; small_fits = omega arith; put = c.in-Some.ensures.found } in
+    let keeping : Keeping old mid c.keep_pair.new.heap.items c.keep_pair.new.pairs.items c.len-len.result c.in-Ok.small (Ok (place.value_type, place.address)) (Err c.in-Err.field-0) =
+    record { pair = k.pair; same_heap = k.heap; same_pairs = k.same_pairs; cut = k.cut; memory = k.memory } in
+    pair_refused old _ _ _ _ _ _ _ put keeping
