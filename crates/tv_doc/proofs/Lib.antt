@@ -16,3 +16,4 @@ pub mod Spans
 pub mod CallPlaces
 pub mod TreeBuilding
 pub mod Finishing
+pub mod LentRows

@@ -356,7 +356,11 @@ impl CompactDoc {
 
     // The same of a value that is lent: moving one costs as much as writing it.
     #[inline(always)]
-    fn add_leaf(&mut self, field: Field, value: &ReferenceValueLeaf<'_>) -> Result<(), AddError>
+    pub(crate) fn add_leaf(
+        &mut self,
+        field: Field,
+        value: &ReferenceValueLeaf<'_>,
+    ) -> Result<(), AddError>
         ensures { Adds self.old self.new field.id (leaf (leaf_of value.now)) result }
     {
         let len = self.node_data.len();

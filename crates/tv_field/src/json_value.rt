@@ -149,8 +149,10 @@ fn lend_i64(coerce: bool, json: &Value) -> Result<ReferenceValueLeaf<'static>, J
     }
 }
 
-// A value of a field of truth values.
-fn lend_bool(coerce: bool, json: &Value) -> Result<ReferenceValueLeaf<'static>, JsonRefusal>
+/// What a JSON value is to a field of truth values, lent; `coerce` says whether texts are read as such. (Own.) Errors: those of
+/// `lend_json`.
+#[inline(always)]
+pub fn lend_bool(coerce: bool, json: &Value) -> Result<ReferenceValueLeaf<'static>, JsonRefusal>
     ensures { LendsLeaf (data_of json.now) (λ o. o ≡ bool_row coerce (data_of json.now)) result }
 {
     match json {
@@ -164,8 +166,9 @@ fn lend_bool(coerce: bool, json: &Value) -> Result<ReferenceValueLeaf<'static>, 
     }
 }
 
-// A value of a field of dates.
-fn lend_date(json: &Value) -> Result<ReferenceValueLeaf<'static>, JsonRefusal>
+/// What a JSON value is to a field of dates, lent: a whole number is a signed number, and no date. (Own.) Errors: those of `lend_json`.
+#[inline(always)]
+pub fn lend_date(json: &Value) -> Result<ReferenceValueLeaf<'static>, JsonRefusal>
     ensures { LendsLeaf (data_of json.now) (λ o. o ≡ date_row (data_of json.now)) result }
 {
     match json {
@@ -181,34 +184,39 @@ fn lend_date(json: &Value) -> Result<ReferenceValueLeaf<'static>, JsonRefusal>
     }
 }
 
-// A value of a field of facets.
-fn lend_facet<'a>(json: &Value, text: &'a mut String) -> Result<ReferenceValueLeaf<'a>, JsonRefusal>
+/// What a JSON value is to a field of facets, lent from the scratch. (Own.) Errors: those of `lend_json`.
+#[inline(always)]
+pub fn lend_facet<'a>(
+    json: &Value,
+    scratch: &'a mut JsonScratch,
+) -> Result<ReferenceValueLeaf<'a>, JsonRefusal>
     ensures { LendsLeaf (data_of json.now) (λ o. o ≡ facet_row (data_of json.now)) result }
 {
     match json {
         Value::String(path) => {
-            if !Facet::encode_text(path.as_str(), text)? {
+            if !Facet::encode_text(path.as_str(), &mut scratch.text)? {
                 return Err(JsonRefusal::Parse(ParseCause::Facet));
             }
-            Ok(ReferenceValueLeaf::Facet(text.as_str()))
+            Ok(ReferenceValueLeaf::Facet(scratch.text.as_str()))
         }
         Value::Number(_) => Err(JsonRefusal::Mismatch("a string")),
         _ => Err(JsonRefusal::Mismatch(Type::Facet.name())),
     }
 }
 
-// A value of a field of bytes.
-fn lend_bytes<'a>(
+/// What a JSON value is to a field of bytes, lent from the scratch. (Own.) Errors: those of `lend_json`.
+#[inline(always)]
+pub fn lend_bytes<'a>(
     json: &Value,
-    bytes: &'a mut Vec<u8>,
+    scratch: &'a mut JsonScratch,
 ) -> Result<ReferenceValueLeaf<'a>, JsonRefusal>
     ensures { LendsLeaf (data_of json.now) (λ o. o ≡ bytes_row (data_of json.now)) result }
 {
     match json {
         Value::String(text) => {
-            bytes.clear();
-            match STANDARD.decode_vec(text.as_bytes(), bytes) {
-                Ok(()) => Ok(ReferenceValueLeaf::Bytes(bytes.as_slice())),
+            scratch.bytes.clear();
+            match STANDARD.decode_vec(text.as_bytes(), &mut scratch.bytes) {
+                Ok(()) => Ok(ReferenceValueLeaf::Bytes(scratch.bytes.as_slice())),
                 Err(DecodeAllocError::DecodeError(_)) => Err(JsonRefusal::InvalidBase64),
                 Err(DecodeAllocError::OutOfMemory) => Err(JsonRefusal::Memory),
             }
@@ -218,8 +226,9 @@ fn lend_bytes<'a>(
     }
 }
 
-// A value of a field of IP addresses.
-fn lend_ip_addr(json: &Value) -> Result<ReferenceValueLeaf<'static>, JsonRefusal>
+/// What a JSON value is to a field of IP addresses, lent. (Own.) Errors: those of `lend_json`.
+#[inline(always)]
+pub fn lend_ip_addr(json: &Value) -> Result<ReferenceValueLeaf<'static>, JsonRefusal>
     ensures { LendsLeaf (data_of json.now) (IpRow (data_of json.now)) result }
 {
     match json {
@@ -320,8 +329,8 @@ impl FieldType {
             FieldType::I64(options) => lend_i64(options.should_coerce(), json)?,
             FieldType::Bool(options) => lend_bool(options.should_coerce(), json)?,
             FieldType::Date(_) => lend_date(json)?,
-            FieldType::Facet(_) => lend_facet(json, &mut scratch.text)?,
-            FieldType::Bytes(_) => lend_bytes(json, &mut scratch.bytes)?,
+            FieldType::Facet(_) => lend_facet(json, scratch)?,
+            FieldType::Bytes(_) => lend_bytes(json, scratch)?,
             FieldType::JsonObject(_) => return lend_object(json),
             FieldType::IpAddr(_) => lend_ip_addr(json)?,
         };
