@@ -45,8 +45,8 @@ fn front_of(block: u8x64, len: usize) -> u8x64
     common(block, mask_of(len))
 }
 
-/// Whether the first `len` bytes are UTF-8. (Own.) Its last block of 64 bytes is read where it stands, as far as there are bytes behind it:
-/// to copy a short block takes longer than to test it.
+/// Whether the first `len` bytes are UTF-8. (Own.) Their last block is read where it stands, without a copy, if with what stands behind
+/// them it has 64 bytes.
 #[inline]
 pub(crate) fn is_utf8_front(bytes: &[u8], len: usize) -> bool
     requires { len ≤ length bytes.now }
