@@ -26,33 +26,38 @@ pub struct Workload {
 
 impl Workload {
     /// Reads a schema and documents from standard input. A line that is refused is left out.
+    ///
+    /// Each form is made of all documents before the next one, so that what a call goes over stands in memory one behind the
+    /// other, as in a block of a document store.
     pub fn read(rt: &(impl Input + AllocGlobal)) -> Result<Workload> {
         let alloc = rt.alloc();
-        let mut lines = BufReader::new(alloc, rt.reader())?.lines(alloc);
-        let first = lines.next().context("a schema on the first line")??;
+        let mut input = BufReader::new(alloc, rt.reader())?.lines(alloc);
+        let first = input.next().context("a schema on the first line")??;
         let json = serde_json::Value::from_str(alloc, first.as_str())?;
-        let mut workload = Workload {
-            schema: Schema::from_json_value(alloc, &json)?,
-            lines: Vec::new(alloc),
-            documents: Vec::new(alloc),
-            pairs: Vec::new(alloc),
-            stored: Vec::new(alloc),
-        };
-        for line in lines {
-            workload.keep(alloc, line?)?;
+        let schema = Schema::from_json_value(alloc, &json)?;
+        let mut lines = Vec::new(alloc);
+        for line in input {
+            let line = line?;
+            if CompactDoc::parse_json(alloc, &schema, line.as_str()).is_ok() {
+                lines.push(line)?;
+            }
         }
-        Ok(workload)
-    }
-
-    fn keep(&mut self, alloc: Global, line: String) -> Result<()> {
-        let Ok(document) = CompactDoc::parse_json(alloc, &self.schema, line.as_str()) else {
-            return Ok(());
-        };
-        self.pairs.push(pairs_of(alloc, &document)?)?;
-        self.stored.push(stored(alloc, &self.schema, &document)?)?;
-        self.documents.push(document)?;
-        self.lines.push(line)?;
-        Ok(())
+        let documents = documents_of(alloc, &schema, lines.as_slice())?;
+        let mut pairs = Vec::new(alloc);
+        for document in &documents {
+            pairs.push(pairs_of(alloc, document)?)?;
+        }
+        let mut stored = Vec::new(alloc);
+        for document in &documents {
+            stored.push(stored_bytes(alloc, &schema, document)?)?;
+        }
+        Ok(Workload {
+            schema,
+            lines,
+            documents,
+            pairs,
+            stored,
+        })
     }
 
     /// How many bytes of JSON the documents have.
@@ -74,6 +79,14 @@ impl Workload {
     }
 }
 
+fn documents_of(alloc: Global, schema: &Schema, lines: &[String]) -> Result<Vec<CompactDoc>> {
+    let mut documents = Vec::new(alloc);
+    for line in lines {
+        documents.push(CompactDoc::parse_json(alloc, schema, line.as_str())?)?;
+    }
+    Ok(documents)
+}
+
 fn pairs_of(alloc: Global, document: &CompactDoc) -> Result<Vec<Pair>> {
     let mut pairs = Vec::new(alloc);
     for (field, value) in document.field_values() {
@@ -83,7 +96,7 @@ fn pairs_of(alloc: Global, document: &CompactDoc) -> Result<Vec<Pair>> {
     Ok(pairs)
 }
 
-fn stored(alloc: Global, schema: &Schema, document: &CompactDoc) -> Result<Vec<u8>> {
+fn stored_bytes(alloc: Global, schema: &Schema, document: &CompactDoc) -> Result<Vec<u8>> {
     let mut sink = VecSink::new(alloc);
     write_stored(&mut sink, schema, document)?;
     Ok(sink.into_vec())
