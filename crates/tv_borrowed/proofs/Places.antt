@@ -5,8 +5,8 @@ use Rattle.std.specs.Cmp.Lexicographic.{slice_cmp}
 use Rattle.std.specs.FinMap.{nat_cmp-IsAntisymmetric, slice_cmp-IsAntisymmetric}
 use Rattle.std.specs.List.{insert}
 use Rattle.std.specs.Result.{result_ok}
-use Rattle.serde_json.specs.Data.{Data, Members, no_members, member, put}
-use Rattle.tv_borrowed.specs.BorrowedData.{data_of, members_data}
+use Rattle.serde_json.specs.Data.{Items, no_items, item, Members, member, put}
+use Rattle.tv_borrowed.specs.BorrowedData.{data_of, items_data, members_data}
 use Rattle.tv_borrowed.specs.declared.borrowed.BorrowedJson.{BorrowedJson}
 
 abbrev pub Entry : Type 0
@@ -36,16 +36,16 @@ module _ (ms : List Entry) (i : ℕ) (m : Entry) (within : i < length ms) (here 
   up_to_here = take_more ms i m within ∙ ap (λ e. take i ms ++ e ∷ []) here
 
   module _ (key : Bor (List ℕ)) (v : BorrowedJson) (passed : put key.now (data_of v) (members_data ms) ≡ put_before (take i ms) (put key.now (data_of v) (members_data (drop i ms)))) where
-    abbrev rest : Members
-    rest = members_data (drop (i + 1) ms)
+    abbrev later : Members
+    later = members_data (drop (i + 1) ms)
 
-    placed : put key.now (data_of v) (members_data ms) ≡ put_before (take i ms) (put key.now (data_of v) (member m.0.now (data_of m.1) rest))
+    placed : put key.now (data_of v) (members_data ms) ≡ put_before (take i ms) (put key.now (data_of v) (member m.0.now (data_of m.1) later))
     placed = passed ∙ ap (λ l. put_before (take i ms) (put key.now (data_of v) (members_data l))) from_here
 
-    pub put_above : slice_cmp nat_cmp key.now m.0.now ≡ Greater → put key.now (data_of v) (members_data ms) ≡ put_before (take (i + 1) ms) (put key.now (data_of v) rest)
+    pub put_above : slice_cmp nat_cmp key.now m.0.now ≡ Greater → put key.now (data_of v) (members_data ms) ≡ put_before (take (i + 1) ms) (put key.now (data_of v) later)
     put_above above =
-        let behind : put key.now (data_of v) (member m.0.now (data_of m.1) rest) ≡ member m.0.now (data_of m.1) (put key.now (data_of v) rest) = rw above in
-        placed ∙ ap (put_before (take i ms)) behind ∙ sym (put_before-last (take i ms) m (put key.now (data_of v) rest)) ∙ ap (λ l. put_before l (put key.now (data_of v) rest)) (sym up_to_here)
+        let behind : put key.now (data_of v) (member m.0.now (data_of m.1) later) ≡ member m.0.now (data_of m.1) (put key.now (data_of v) later) = rw above in
+        placed ∙ ap (put_before (take i ms)) behind ∙ sym (put_before-last (take i ms) m (put key.now (data_of v) later)) ∙ ap (λ l. put_before l (put key.now (data_of v) later)) (sym up_to_here)
 
     pub put_at : slice_cmp nat_cmp key.now m.0.now ≡ Equal → members_data (set ms i (key, v)) ≡ put key.now (data_of v) (members_data ms)
     put_at same =
@@ -54,12 +54,12 @@ module _ (ms : List Entry) (i : ℕ) (m : Entry) (within : i < length ms) (here 
         let there : drop i l ≡ e ∷ drop (i + 1) ms =
             at_drop_more (λ x. x) l i e (omega (arith, length-set ms i e)) ∙ ap₂ (λ x y. x ∷ y) (get_or-set_same ms i e e within) (drop-set-lt (i + 1) ms i e (omega arith)) in
         let one_key : key.now ≡ m.0.now = slice_cmp-IsAntisymmetric nat_cmp-IsAntisymmetric key.now m.0.now same in
-        let replaced : put key.now (data_of v) (member m.0.now (data_of m.1) rest) ≡ member key.now (data_of v) rest = rw same (ap (λ k. member k (data_of v) rest) (sym one_key)) in
+        let replaced : put key.now (data_of v) (member m.0.now (data_of m.1) later) ≡ member key.now (data_of v) later = rw same (ap (λ k. member k (data_of v) later) (sym one_key)) in
         split_at i l ∙ ap₂ (λ x y. put_before x (members_data y)) (take-set ms i e) there ∙ sym (placed ∙ ap (put_before (take i ms)) replaced)
 
     pub put_below : slice_cmp nat_cmp key.now m.0.now ≡ Less → members_data (insert ms i (key, v)) ≡ put key.now (data_of v) (members_data ms)
     put_below below =
-        let before : put key.now (data_of v) (member m.0.now (data_of m.1) rest) ≡ member key.now (data_of v) (member m.0.now (data_of m.1) rest) = rw below in
+        let before : put key.now (data_of v) (member m.0.now (data_of m.1) later) ≡ member key.now (data_of v) (member m.0.now (data_of m.1) later) = rw below in
         put_before-append (take i ms) ((key, v) ∷ drop i ms)
             ∙ ap (λ l. put_before (take i ms) (member key.now (data_of v) (members_data l))) from_here
             ∙ sym (placed ∙ ap (put_before (take i ms)) before)
@@ -75,3 +75,16 @@ pub where_added : {T E : Type 0} (P : List Entry → Type 0) (r : Result T E) (o
 where_added P r None old added new e is h = tt
 where_added P (Ok x) (Some y) old added new e is h = subst P (sym is) h
 where_added P (Err x) (Some y) old added new e is h = absurd (cc)
+
+-- these items, and then the others
+abbrev pub items_before : List BorrowedJson → Items → Items
+items_before [] rest = rest
+items_before (v ∷ vs) rest = item (data_of v) (items_before vs rest)
+
+pub items_before-none : (vs : List BorrowedJson) → items_before vs no_items ≡ items_data vs
+items_before-none [] = refl
+items_before-none (v ∷ vs) = ap (item (data_of v)) (items_before-none vs)
+
+pub items_before-last : (vs : List BorrowedJson) (v : BorrowedJson) (rest : Items) → items_before (vs ++ v ∷ []) rest ≡ items_before vs (item (data_of v) rest)
+items_before-last [] v rest = refl
+items_before-last (w ∷ vs) v rest = ap (item (data_of w)) (items_before-last vs v rest)
