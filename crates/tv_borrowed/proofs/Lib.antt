@@ -1,0 +1,4 @@
+mod Levels
+mod Places
+mod Turns
+mod WholeNumbers

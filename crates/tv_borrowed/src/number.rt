@@ -13,17 +13,15 @@ use fast_float::Numeral;
 pub(crate) fn whole_number<'a>(text: &str) -> Option<BorrowedJson<'a>>
     ensures { IfSome result (λ v. option_map number (number_of text.now) ≡ Some (data_of v)) }
 {
-    match text.as_bytes().split_first() {
-        Some((&b'-', digits)) => {
-            let below = Numeral::scan(digits).to_i64(true)?;
-            if below < 0 {
-                Some(BorrowedJson::Negative(below))
-            } else {
-                None
-            }
-        }
-        _ => Some(BorrowedJson::Unsigned(
-            Numeral::scan(text.as_bytes()).to_u64()?,
-        )),
+    let bytes = text.as_bytes();
+    let (first, digits) = bytes.split_first()?;
+    if *first != b'-' {
+        return Some(BorrowedJson::Unsigned(Numeral::scan(bytes).to_u64()?));
+    }
+    let below = Numeral::scan(digits).to_i64(true)?;
+    if below < 0 {
+        Some(BorrowedJson::Negative(below))
+    } else {
+        None
     }
 }

@@ -75,7 +75,7 @@ fn read_items<'a>(
     ensures shorter { OnSome result (length reader.new < length reader.old) }
 {
     let mut found = Vec::new(alloc);
-    while !reader.take_end_array() {
+    'items: while !reader.take_end_array() {
         let item = read(alloc, reader, depth)?;
         found.push(item).ok()?;
     }
@@ -94,7 +94,7 @@ fn read_members<'a>(
     ensures shorter { OnSome result (length reader.new < length reader.old) }
 {
     let mut found = Vec::new(alloc);
-    while let Some(key) = reader.next_key().ok()? {
+    'members: while let Some(key) = reader.next_key().ok()? {
         if found.len() == MAX_MEMBERS {
             return None;
         }
