@@ -1,4 +1,5 @@
-mod Levels
+pub mod Levels
 mod Places
 mod Turns
 mod WholeNumbers
+pub mod NoFloats

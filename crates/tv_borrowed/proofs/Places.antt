@@ -52,7 +52,7 @@ module _ (ms : List Entry) (i : ℕ) (m : Entry) (within : i < length ms) (here 
         let e : Entry = (key, v) in
         let l = set ms i e in
         let there : drop i l ≡ e ∷ drop (i + 1) ms =
-            at_drop_more (λ x. x) l i e (omega (arith, length-set ms i e)) ∙ ap₂ (λ x y. x ∷ y) (get_or-set_same ms i e e within) (drop-set-lt (i + 1) ms i e (omega arith)) in
+        at_drop_more (λ x. x) l i e (omega (arith, length-set ms i e)) ∙ ap₂ (λ x y. x ∷ y) (get_or-set_same ms i e e within) (drop-set-lt (i + 1) ms i e (omega arith)) in
         let one_key : key.now ≡ m.0.now = slice_cmp-IsAntisymmetric nat_cmp-IsAntisymmetric key.now m.0.now same in
         let replaced : put key.now (data_of v) (member m.0.now (data_of m.1) later) ≡ member key.now (data_of v) later = rw same (ap (λ k. member k (data_of v) later) (sym one_key)) in
         split_at i l ∙ ap₂ (λ x y. put_before x (members_data y)) (take-set ms i e) there ∙ sym (placed ∙ ap (put_before (take i ms)) replaced)
@@ -61,14 +61,14 @@ module _ (ms : List Entry) (i : ℕ) (m : Entry) (within : i < length ms) (here 
     put_below below =
         let before : put key.now (data_of v) (member m.0.now (data_of m.1) later) ≡ member key.now (data_of v) (member m.0.now (data_of m.1) later) = rw below in
         put_before-append (take i ms) ((key, v) ∷ drop i ms)
-            ∙ ap (λ l. put_before (take i ms) (member key.now (data_of v) (members_data l))) from_here
-            ∙ sym (placed ∙ ap (put_before (take i ms)) before)
+        ∙ ap (λ l. put_before (take i ms) (member key.now (data_of v) (members_data l))) from_here
+        ∙ sym (placed ∙ ap (put_before (take i ms)) before)
 
 pub put_last : (ms : List Entry) (i : ℕ) → length ms ≤ i → (key : Bor (List ℕ)) (v : BorrowedJson) → put key.now (data_of v) (members_data ms) ≡ put_before (take i ms) (put key.now (data_of v) (members_data (drop i ms)))
     → members_data (ms ++ (key, v) ∷ []) ≡ put key.now (data_of v) (members_data ms)
 put_last ms i all key v passed =
     put_before-append ms ((key, v) ∷ [])
-        ∙ sym (passed ∙ ap₂ (λ x y. put_before x (put key.now (data_of v) (members_data y))) (take_all i ms all) (at_drop_all (λ l. l) ms i all))
+    ∙ sym (passed ∙ ap₂ (λ x y. put_before x (put key.now (data_of v) (members_data y))) (take_all i ms all) (at_drop_all (λ l. l) ms i all))
 
 -- what is said of the entries after an addition, where it was made
 pub where_added : {T E : Type 0} (P : List Entry → Type 0) (r : Result T E) (o : Option T) (old added new : List Entry) → o ≡ result_ok r → new ≡ cond (is_ok r) added old → P added → OnSome o (P new)

@@ -13,7 +13,7 @@ rest_of {A} b r s (Some a) e =
     let both : ◌≡◌ {A = A × List Token} (a, s) (b, r) = cc in
     (ap (λ p. p.1) both, ap (λ p. Some p.0) both)
 
--- what was converted, and that it was what was read
+-- what a conversion made was made of what was read
 pub read_of : {A B : Type 0} (f : A → Option B) (o : Option (A × List Token)) (b : B) (r : List Token) → converted f o ≡ Some (b, r) → (a : A) × (o ≡ Some (a, r)) × (f a ≡ Some b)
 read_of f None b r e = absurd (cc)
 read_of f (Some p) b r e = let both = rest_of b r p.1 (f p.0) e in (p.0, ap (λ s. Some (p.0, s)) both.0, both.1)

@@ -85,11 +85,7 @@ fn read_items<'a>(
 // The members up to the end of an object.
 #[cycle(read)]
 #[inline(never)]
-fn read_members<'a>(
-    alloc: Global,
-    reader: &mut Reader<'a>,
-    depth: usize,
-) -> Option<Members<'a>>
+fn read_members<'a>(alloc: Global, reader: &mut Reader<'a>, depth: usize) -> Option<Members<'a>>
     ensures found { IfSome result (λ v. converted (λ ms. of_members ms no_members) (members (value depth) (length reader.old) reader.old) ≡ Some (members_data v.items, reader.new)) }
     ensures shorter { OnSome result (length reader.new < length reader.old) }
 {

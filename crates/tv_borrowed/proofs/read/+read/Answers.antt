@@ -1,10 +1,11 @@
-use Rattle.std.proofs.Common.{◌≡◌, ◌-◌, ◌<◌, ◌≤◌, ◌∷◌, ◌++◌, [], length, Option, Some, None, IfSome, sym, ap, ◌∙◌, arith}
-use Rattle.json.specs.Json.{after_end_array, read_key, items, members, value}
+use Rattle.std.proofs.Common.{◌≡◌, ◌-◌, ◌<◌, ◌∷◌, ◌++◌, [], length, Some, None, sym, ap, ◌∙◌, arith}
+use Rattle.std.proofs.lemmas.Option.{IfSome_then}
+use Rattle.json.specs.Json.{after_end_array, read_key, value}
 use Rattle.json.specs.Reads.{token_of}
 use Rattle.json.specs.Token.{Token}
 use Rattle.json.proofs.Grammar.{read_key-shorter}
 use Rattle.serde_json.specs.Data.{item, put}
-use Rattle.serde_json.specs.Read.{of_json, of_items, of_members, converted}
+use Rattle.serde_json.specs.Read.{of_json, converted}
 use Rattle.tv_borrowed.specs.BorrowedData.{data_of, members_data}
 use Rattle.tv_borrowed.proofs.Levels.{data_of-Null, data_of-Bool, data_of-String, data_of-Array, data_of-Object}
 use Rattle.tv_borrowed.proofs.Places.{items_before, items_before-none, items_before-last}
@@ -17,15 +18,11 @@ read-returns-in-String-clause-found t c =
     let first : c.args.reader.now ≡ Token.string s.now ∷ c.next.new.self = c.in_ok-text.ensures.value ∙ ap (λ k. token_of k ∷ c.next.new.self) c.in-String.is in
     string-read c.args.depth c.args.reader.now c.next.new.self s.now first ∙ ap (λ d. Some (d, c.next.new.self)) (sym (data_of-String s))
 
-numbered : {T : Type 0} (P Q : T → Type 0) (o : Option T) → ((x : T) → P x → Q x) → IfSome o P → IfSome o Q
-numbered P Q None then h = tt
-numbered P Q (Some x) then h = then x h
-
 pub read-returns-in-Number-clause-found : goal.read-returns-in-Number-clause-found
 read-returns-in-Number-clause-found t c =
     let s = c.in-Number.text in
     let first : c.args.reader.now ≡ Token.number s.now ∷ c.next.new.self = c.in_ok-text.ensures.value ∙ ap (λ k. token_of k ∷ c.next.new.self) c.in-Number.is in
-    numbered _ _ c.whole_number.result (λ v e. number-read c.args.depth c.args.reader.now c.next.new.self s.now (data_of v) first e) c.whole_number.ensures
+    IfSome_then c.whole_number.result c.whole_number.ensures (λ v e. number-read c.args.depth c.args.reader.now c.next.new.self s.now (data_of v) first e)
 
 pub read-returns-in-Bool-clause-found : goal.read-returns-in-Bool-clause-found
 read-returns-in-Bool-clause-found t c =
@@ -44,7 +41,7 @@ read-returns-in_ok-read_items-in-BeginArray-clause-found t c =
     let v = c.in_ok-read_items-in-BeginArray.field-0 in
     let found = c.in_ok-read_items-in-BeginArray.ensures.found in
     ap (λ ts. converted of_json (value c.args.depth ts)) first ∙ array-read c.args.depth c.next.new.self c.read_items.new.reader _ c.if-depth-gt0.true found
-        ∙ ap (λ d. Some (d, c.read_items.new.reader)) (sym (data_of-Array v))
+    ∙ ap (λ d. Some (d, c.read_items.new.reader)) (sym (data_of-Array v))
 
 pub read-returns-in_ok-read_members-in-BeginObject-clause-found : goal.read-returns-in_ok-read_members-in-BeginObject-clause-found
 read-returns-in_ok-read_members-in-BeginObject-clause-found t c =
@@ -52,7 +49,7 @@ read-returns-in_ok-read_members-in-BeginObject-clause-found t c =
     let v = c.in_ok-read_members-in-BeginObject.field-0 in
     let found = c.in_ok-read_members-in-BeginObject.ensures.found in
     ap (λ ts. converted of_json (value c.args.depth ts)) first ∙ object-read c.args.depth c.next.new.self c.read_members.new.reader _ c.if-depth-gt0-2.true found
-        ∙ ap (λ d. Some (d, c.read_members.new.reader)) (sym (data_of-Object v))
+    ∙ ap (λ d. Some (d, c.read_members.new.reader)) (sym (data_of-Object v))
 
 pub read_items-items-preserved : goal.read_items-items-preserved
 read_items-items-preserved t c =
@@ -71,7 +68,7 @@ read_items-items-preserved t c =
       turns = n - 1;
       enough = omega (arith, l.invariant.enough);
       rest = λ ds r more.
-        l.invariant.rest (item (data_of v) ds) r (item-read p n l.reader s r (data_of v) ds some going.0 first more)
+          l.invariant.rest (item (data_of v) ds) r (item-read p n l.reader s r (data_of v) ds some going.0 first more)
           ∙ ap (λ items. Some (items, r)) (sym (items_before-last l.found.items v ds) ∙ ap (λ vs. items_before vs ds) (sym grown));
       less = omega (arith, l.invariant.less);
     }
@@ -102,7 +99,7 @@ read_members-members-preserved t c =
       turns = n - 1;
       enough = omega (arith, l.invariant.enough);
       rest = λ ds r more.
-        l.invariant.rest ds r (member-read p n (members_data l.found.items) k l.reader v s r d ds some named done.found (rw grown at more));
+          l.invariant.rest ds r (member-read p n (members_data l.found.items) k l.reader v s r d ds some named done.found (rw grown at more));
       less = omega (arith, l.invariant.less);
     }
 
