@@ -12,8 +12,8 @@ ghost use Rattle.tv_value.specs.Lent.{leaf_of};
 ghost use Rattle.tv_value.specs.Tree.{leaf};
 
 use crate::document::CompactDoc;
-use json::Scratch;
 use std::alloc::Global;
+use tv_borrowed::Scratch;
 use tv_borrowed::borrowed::BorrowedJson;
 use tv_borrowed::read::read_borrowed;
 use tv_field::FieldType;

@@ -137,8 +137,8 @@ impl CompactDoc {
     ) -> Result<CompactDoc, DocParsingError>
         ensures { Parses schema.now text.now result }
     {
-        if let Some(document) = CompactDoc::parse_borrowed(alloc, schema, text) {
-            return Ok(document);
+        if let Some(made) = CompactDoc::parse_borrowed(alloc, schema, text) {
+            return Ok(made);
         }
         match Value::from_str(alloc, text) {
             Ok(json) => match json {
