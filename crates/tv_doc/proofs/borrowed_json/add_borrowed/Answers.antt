@@ -1,11 +1,11 @@
-use Rattle.std.proofs.Common.{◌≡◌, ℕ, ◌+◌, List, [], ◌∷◌, Some, refl, sym, ap, ◌∙◌, subst, drop, arith, rules}
+use Rattle.std.proofs.Common.{◌≡◌, ◌+◌, List, [], ◌∷◌, Some, sym, ap, ◌∙◌, subst, drop, arith, rules}
 use Rattle.std.proofs.lemmas.List.{drop_more, drop_all}
 use Rattle.tv_borrowed.proofs.Levels.{data_of-Array}
 use Rattle.tv_borrowed.specs.BorrowedData.{data_of, items_data}
 use Rattle.tv_borrowed.specs.declared.borrowed.BorrowedJson.{BorrowedJson}
 use Rattle.tv_schema.specs.Schema.{field_named}
 use Rattle.tv_doc.specs.Document.{document_of}
-use Rattle.tv_doc.specs.JsonObject.{FieldJson, AddsPairs, item_values, values_at}
+use Rattle.tv_doc.specs.JsonObject.{FieldJson, AddsPairs, item_values}
 use Rattle.tv_doc.proofs.PlainValues.{values_of_items}
 use Rattle.tv_doc.proofs.JsonDocuments.{more_so_far, all_so_far, one_pair}
 use Rattle.tv_doc.proofs.borrowed_json.add_borrowed.Goals as goal

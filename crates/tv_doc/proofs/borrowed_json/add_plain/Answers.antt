@@ -1,8 +1,8 @@
-use Rattle.std.proofs.Common.{◌≡◌, Option, Some, None}
+use Rattle.std.proofs.Common.{Option, Some, None}
 use Rattle.std.specs.Prelude.{OnSome}
 use Rattle.tv_borrowed.specs.BorrowedData.{data_of}
 use Rattle.tv_value.specs.JsonTree.{whole_tree}
-use Rattle.tv_doc.specs.AddsRow.{AddsTree, AddsRow}
+use Rattle.tv_doc.specs.AddsRow.{AddsTree}
 use Rattle.tv_doc.proofs.PlainValues.{object_row}
 use Rattle.tv_doc.proofs.borrowed_json.add_plain.Goals as goal
 

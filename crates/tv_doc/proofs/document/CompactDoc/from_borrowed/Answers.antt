@@ -1,4 +1,4 @@
-use Rattle.std.proofs.Common.{◌≡◌, ℕ, ◌+◌, List, [], ◌∷◌, sym, ap, ◌∙◌, drop, Bor, arith}
+use Rattle.std.proofs.Common.{ℕ, ◌+◌, List, [], ◌∷◌, sym, ap, ◌∙◌, drop, Bor, arith}
 use Rattle.std.proofs.lemmas.List.{drop_more}
 use Rattle.tv_borrowed.specs.BorrowedData.{data_of, members_data}
 use Rattle.tv_borrowed.specs.declared.borrowed.BorrowedJson.{BorrowedJson}
