@@ -1,37 +1,49 @@
 -- How JSON values are written.
-use Rattle.std.proofs.Common.{◌≡◌, ℕ, ◌+◌, ◌<◌, List, [], ◌∷◌, ◌||◌, false, length, drop, get_or, map, refl, sym, ap, ◌∙◌, subst, String, Global}
+use Rattle.std.proofs.Common.{◌≡◌, ℕ, ◌+◌, ◌<◌, List, [], ◌∷◌, length, drop, get_or, map, Bor, refl, sym, ap, ◌∙◌, subst}
 use Rattle.std.proofs.lemmas.List.{drop_more}
-use Rattle.serde_json.specs.View.{view, items_view, members_view}
-use Rattle.serde_json.specs.Written.{has_float, items_have_float, members_have_float}
-use Rattle.serde_json.specs.declared.value.Value.{Value}
-use Rattle.tv_value.specs.JsonTree.{whole_elements, whole_entries, lent_json_tree, lent_json_entries}
-use Rattle.tv_value.specs.Tree.{array, object}
-use Rattle.tv_value.proofs.LentJson.{lent_elements, lent_entries}
+use Rattle.tv_borrowed.specs.BorrowedData.{data_of, items_data, members_data}
+use Rattle.tv_borrowed.specs.declared.borrowed.BorrowedJson.{BorrowedJson}
+use Rattle.tv_value.specs.JsonTree.{whole_tree, whole_elements, whole_entries}
+use Rattle.tv_value.specs.Tree.{Tree, array, object, elements, element, entries, entry}
 use Rattle.tv_builder.specs.declared.frame.ListKind.TheVariants.{Array, Object}
 use Rattle.tv_builder.specs.declared.place.Place.{Place}
 use Rattle.tv_builder.specs.Whole.{Put, ListPut}
 use Rattle.tv_builder.proofs.Putting.{ArrayPut, array_put, ObjectPut, object_put}
 
-pub next_item : (items : List Value) (i : ℕ) (v : Value) → i < length items → v ≡ get_or items i v → drop i items ≡ v ∷ drop (i + 1) items
+-- an object's member: its key and its value
+abbrev pub Member : Type 0
+Member = Bor (List ℕ) × BorrowedJson
+
+-- the tree of a JSON value
+abbrev pub json_tree_of : BorrowedJson → Tree
+json_tree_of v = whole_tree (data_of v)
+
+-- the keys of an object, and the trees of their values
+abbrev pub json_entries : List Member → List (List ℕ × Tree)
+json_entries = map (λ m. (m.0.now, json_tree_of m.1))
+
+json_elements_are : (items : List BorrowedJson) → elements (map json_tree_of items) ≡ whole_elements (items_data items)
+json_elements_are [] = refl
+json_elements_are (v ∷ vs) = ap (element (json_tree_of v)) (json_elements_are vs)
+
+json_entries_are : (members : List Member) → entries (json_entries members) ≡ whole_entries (members_data members)
+json_entries_are [] = refl
+json_entries_are (m ∷ ms) = ap (entry m.0.now (json_tree_of m.1)) (json_entries_are ms)
+
+pub next_item : (items : List BorrowedJson) (i : ℕ) (v : BorrowedJson) → i < length items → v ≡ get_or items i v → drop i items ≡ v ∷ drop (i + 1) items
 next_item items i v h is = drop_more items i v h ∙ ap (λ z. z ∷ drop (i + 1) items) (sym is)
 
--- there is no float before what follows
-pub item_whole : (all items others : List Value) (v : Value) → items_have_float (items_view all) ≡ items_have_float (items_view items) → items ≡ v ∷ others → has_float (view v) ≡ false
-    → items_have_float (items_view all) ≡ items_have_float (items_view others)
-item_whole all items others v so_far step whole = so_far ∙ ap (λ z. items_have_float (items_view z)) step ∙ ap (λ b. b || items_have_float (items_view others)) whole
+pub next_member : (members : List Member) (i : ℕ) (m : Member) → i < length members → m ≡ get_or members i m → drop i members ≡ m ∷ drop (i + 1) members
+next_member members i m h is = drop_more members i m h ∙ ap (λ z. z ∷ drop (i + 1) members) (sym is)
 
-pub member_whole : (all members others : List (String Global × Value)) (m : String Global × Value) → members_have_float (members_view all) ≡ members_have_float (members_view members) → members ≡ m ∷ others → has_float (view m.1) ≡ false
-    → members_have_float (members_view all) ≡ members_have_float (members_view others)
-member_whole all members others m so_far step whole = so_far ∙ ap (λ z. members_have_float (members_view z)) step ∙ ap (λ b. b || members_have_float (members_view others)) whole
-
-pub array_json : (items : List Value) (old heap list new own : List ℕ) (p : Place) → ArrayPut old heap list [] (map lent_json_tree items) → own ≡ list → ListPut heap Array own new p
-    → Put old (array (whole_elements (items_view items))) new p
+pub array_json : (items : List BorrowedJson) (old heap list new own : List ℕ) (p : Place) → ArrayPut old heap list [] (map json_tree_of items) → own ≡ list → ListPut heap Array own new p
+    → Put old (array (whole_elements (items_data items))) new p
 array_json items old heap list new own p s is written =
     let w = subst (λ z. ListPut heap Array z new p) is written in
-    subst (λ z. Put old (array z) new p) (lent_elements items) (array_put old heap list new [] (map lent_json_tree items) p s refl w)
+    subst (λ z. Put old (array z) new p) (json_elements_are items) (array_put old heap list new [] (map json_tree_of items) p s refl w)
 
-pub object_json : (members : List (String Global × Value)) (old heap list new own : List ℕ) (p : Place) → ObjectPut old heap list [] (lent_json_entries members) → own ≡ list → ListPut heap Object own new p
-    → Put old (object (whole_entries (members_view members))) new p
+pub object_json : (members : List Member) (old heap list new own : List ℕ) (p : Place) → ObjectPut old heap list [] (json_entries members) → own ≡ list → ListPut heap Object own new p
+    → Put old (object (whole_entries (members_data members))) new p
 object_json members old heap list new own p s is written =
     let w = subst (λ z. ListPut heap Object z new p) is written in
-    subst (λ z. Put old (object z) new p) (lent_entries members) (object_put old heap list new [] (lent_json_entries members) p s refl w)
+    subst (λ z. Put old (object z) new p) (json_entries_are members) (object_put old heap list new [] (json_entries members) p s refl w)

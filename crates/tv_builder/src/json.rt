@@ -1,67 +1,62 @@
 //! JSON values, written behind a heap.
 
-ghost use Rattle.std.specs.Prelude.{◌≡◌, ◌≤◌, false, length, IfSome};
-ghost use Rattle.serde_json.specs.View.{view as data_of, number_view, items_view, members_view};
-ghost use Rattle.serde_json.specs.Find.{is_float};
-ghost use Rattle.serde_json.specs.Written.{has_float, items_have_float, members_have_float};
+ghost use Rattle.std.specs.Prelude.{◌≡◌, ◌≤◌, length, IfSome};
+ghost use Rattle.serde_json.specs.Data.{unsigned};
 ghost use Rattle.tv_base.specs.Sink.{IsFront};
+ghost use Rattle.tv_borrowed.specs.BorrowedData.{data_of, items_data, members_data};
 ghost use Rattle.tv_builder.specs.Whole.{Put};
-ghost use Rattle.tv_value.specs.JsonTree.{number_leaf, whole_elements, whole_entries, lent_json_tree};
+ghost use Rattle.tv_value.specs.JsonTree.{number_leaf, whole_tree, whole_elements, whole_entries};
 ghost use Rattle.tv_value.specs.Tree.{leaf, array, object};
 
 use crate::frame::ListKind;
 use crate::place::Place;
 use crate::whole::{put, put_list};
-use serde_json::{Map, Number, Value};
+use tv_borrowed::borrowed::BorrowedJson;
 use tv_heap::write::push_place;
 use tv_value::leaf::ReferenceValueLeaf;
 
-// Writes a number: a signed one where it fits 64 bits, else an unsigned one.
+// Writes a number from 0 on: a signed one where it fits 64 bits, else an unsigned one.
 #[inline(always)]
-fn put_number(number: &Number, heap: &mut Vec<u8>) -> Option<Place>
+fn put_number(number: u64, heap: &mut Vec<u8>) -> Option<Place>
     requires { length heap.old.items ≤ 4294967295 }
-    ensures whole { IfSome result (λ place. is_float (number_view number.now) ≡ false) }
-    ensures found { IfSome result (λ place. Put heap.old.items (leaf (number_leaf (number_view number.now))) heap.new.items place) }
+    ensures found { IfSome result (λ place. Put heap.old.items (leaf (number_leaf (unsigned number))) heap.new.items place) }
     ensures front { IsFront heap.old.items heap.new.items }
 {
-    if let Some(signed) = number.as_i64() {
-        return put(heap, &ReferenceValueLeaf::I64(signed));
+    match i64::try_from(number) {
+        Ok(signed) => put(heap, &ReferenceValueLeaf::I64(signed)),
+        Err(_) => put(heap, &ReferenceValueLeaf::U64(number)),
     }
-    let unsigned = number.as_u64()?;
-    put(heap, &ReferenceValueLeaf::U64(unsigned))
 }
 
-/// Writes a JSON value behind a heap, each kind as itself, and gives its place: what writing the value that is lent of it would write. (Own.)
+/// Writes a JSON value behind a heap, each kind as itself, and gives its place. (Own.)
 ///
-/// `None` where a number in it, at any depth, isn't whole or doesn't fit 64 bits, where a part would end above 4294967295, and where memory
-/// is refused. The old heap is then still a front of the new, and what `places` holds is open. Else `places`, at whose end the places of
-/// children stand until their list is written, is afterwards as it was.
+/// `None` where a part would end above 4294967295, and where memory is refused. The old heap is then still a front of the new, and what
+/// `places` holds is open. Else `places`, at whose end the places of children stand until their list is written, is afterwards as it was.
 #[inline(always)]
 #[cycle(json)]
-pub fn put_json(json: &Value, heap: &mut Vec<u8>, places: &mut Vec<u8>) -> Option<Place>
+pub fn put_json(json: &BorrowedJson<'_>, heap: &mut Vec<u8>, places: &mut Vec<u8>) -> Option<Place>
     requires { length heap.old.items ≤ 4294967295 }
-    ensures whole { IfSome result (λ place. has_float (data_of json.now) ≡ false) }
-    ensures found { IfSome result (λ place. Put heap.old.items (lent_json_tree json.now) heap.new.items place) }
+    ensures found { IfSome result (λ place. Put heap.old.items (whole_tree (data_of json.now)) heap.new.items place) }
     ensures places { IfSome result (λ place. places.new.items ≡ places.old.items) }
     ensures front { IsFront heap.old.items heap.new.items }
 {
     match json {
-        Value::Null => put(heap, &ReferenceValueLeaf::Null),
-        Value::Bool(truth) => put(heap, &ReferenceValueLeaf::Bool(*truth)),
-        Value::Number(number) => put_number(number, heap),
-        Value::String(text) => put(heap, &ReferenceValueLeaf::Str(text.as_str())),
-        Value::Array(items) => put_array(items, heap, places),
-        Value::Object(members) => put_object(members, heap, places),
+        BorrowedJson::Null => put(heap, &ReferenceValueLeaf::Null),
+        BorrowedJson::Bool(truth) => put(heap, &ReferenceValueLeaf::Bool(*truth)),
+        BorrowedJson::Unsigned(number) => put_number(*number, heap),
+        BorrowedJson::Negative(number) => put(heap, &ReferenceValueLeaf::I64(*number)),
+        BorrowedJson::String(text) => put(heap, &ReferenceValueLeaf::Str(text)),
+        BorrowedJson::Array(items) => put_array(items.as_slice(), heap, places),
+        BorrowedJson::Object(members) => put_object(members.as_slice(), heap, places),
     }
 }
 
 // Writes an array behind its values.
 #[inline(never)]
 #[cycle(json)]
-fn put_array(items: &Vec<Value>, heap: &mut Vec<u8>, places: &mut Vec<u8>) -> Option<Place>
+fn put_array(items: &[BorrowedJson<'_>], heap: &mut Vec<u8>, places: &mut Vec<u8>) -> Option<Place>
     requires { length heap.old.items ≤ 4294967295 }
-    ensures whole { IfSome result (λ place. items_have_float (items_view items.now.items) ≡ false) }
-    ensures found { IfSome result (λ place. Put heap.old.items (array (whole_elements (items_view items.now.items))) heap.new.items place) }
+    ensures found { IfSome result (λ place. Put heap.old.items (array (whole_elements (items_data items.now))) heap.new.items place) }
     ensures places { IfSome result (λ place. places.new.items ≡ places.old.items) }
     ensures front { IsFront heap.old.items heap.new.items }
 {
@@ -82,19 +77,18 @@ fn put_array(items: &Vec<Value>, heap: &mut Vec<u8>, places: &mut Vec<u8>) -> Op
 #[inline(never)]
 #[cycle(json)]
 fn put_object(
-    members: &Map<String, Value>,
+    members: &[(&str, BorrowedJson<'_>)],
     heap: &mut Vec<u8>,
     places: &mut Vec<u8>,
 ) -> Option<Place>
     requires { length heap.old.items ≤ 4294967295 }
-    ensures whole { IfSome result (λ place. members_have_float (members_view members.now.entries) ≡ false) }
-    ensures found { IfSome result (λ place. Put heap.old.items (object (whole_entries (members_view members.now.entries))) heap.new.items place) }
+    ensures found { IfSome result (λ place. Put heap.old.items (object (whole_entries (members_data members.now))) heap.new.items place) }
     ensures places { IfSome result (λ place. places.new.items ≡ places.old.items) }
     ensures front { IsFront heap.old.items heap.new.items }
 {
     let first = places.len();
-    for (key, member) in members.iter() {
-        let name = put(heap, &ReferenceValueLeaf::Str(key.as_str()))?;
+    for (key, member) in members {
+        let name = put(heap, &ReferenceValueLeaf::Str(key))?;
         let Ok(()) = push_place(places, name.value_type, name.address) else {
             return None;
         };

@@ -10,8 +10,9 @@ use Rattle.tv_field.specs.declared.json_value.JsonRefusal.{JsonRefusal}
 use Rattle.tv_field.specs.JsonTable.{Table}
 use Rattle.tv_value.specs.Tree.{Tree, Document}
 use Rattle.tv_doc.specs.AdditionError.{addition_error}
+use Rattle.tv_doc.specs.AddsRow.{AddsRow}
 use Rattle.tv_doc.specs.Document.{document_of, Refuses}
-use Rattle.tv_doc.specs.JsonObject.{FieldJson, Pairs, IsRefused, StopsAt, IsValueError, MakesDocument, Parses, object_values}
+use Rattle.tv_doc.specs.JsonObject.{FieldJson, Pairs, IsRefused, StopsAt, IsValueError, MakesDocument, Parses, AddsPairs, object_values}
 use Rattle.tv_heap.specs.Room.{room}
 use Rattle.tv_doc.specs.declared.add_error.AddError.{AddError}
 use Rattle.tv_doc.specs.declared.add_error.AddError.TheVariants.{FieldNumber, HeapFull, Memory}
@@ -47,6 +48,10 @@ stops_at_one v there e h = record {
   added = refl;
   refused = subst (λ pairs. IsRefused v pairs e) (sym (append-nil there)) h;
 }
+
+-- a value alone whose pair is added
+pub one_pair : (v : FieldJson) (old new : CompactDoc) → AddsRow old new v.field v.field_type v.value → AddsPairs (v ∷ []) old new
+one_pair v old new h = ((v.field, h.0) ∷ [], (h.0, [], h.1, h.2.0, refl, refl), h.2.1.document)
 
 pub Pairs-append : (vs ws : List FieldJson) (ps qs : Document) → Pairs vs ps → Pairs ws qs → Pairs (vs ++ ws) (ps ++ qs)
 Pairs-append [] ws ps qs none h = subst (λ front. Pairs ws (front ++ qs)) (sym none) h

@@ -16,4 +16,3 @@ pub mod Spans
 pub mod CallPlaces
 pub mod TreeBuilding
 pub mod Finishing
-pub mod LentRows

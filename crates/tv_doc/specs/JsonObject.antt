@@ -83,9 +83,13 @@ pub record StopsAt (values : List FieldJson) (there : Document) (e : DocParsingE
   pub added : Pairs before pairs
   pub refused : IsRefused at (there ++ pairs) e
 
--- the pairs of all these values are added behind those that were there, or the first refusal is answered
+-- the pairs of all these values are added behind those that were there
+abbrev pub AddsPairs : List FieldJson → CompactDoc → CompactDoc → Type 0
+AddsPairs values old new = (pairs : Document) × Pairs values pairs × (document_of new ≡ document_of old ++ pairs)
+
+-- or the first refusal is answered
 abbrev pub AddsValues : {T : Type 0} → List FieldJson → CompactDoc → CompactDoc → Result T DocParsingError → Type 0
-AddsValues values old new (Ok x) = (pairs : Document) × Pairs values pairs × (document_of new ≡ document_of old ++ pairs)
+AddsValues values old new (Ok x) = AddsPairs values old new
 AddsValues values old new (Err e) = StopsAt values (document_of old) e
 
 -- the document has just the pairs of these values, or the first refusal is answered

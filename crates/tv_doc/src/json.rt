@@ -1,15 +1,12 @@
 //! Documents from JSON objects.
 
-ghost use Rattle.std.specs.Prelude.{◌≡◌, ◌<◌, ◌∷◌, [], IfOk, IfSome, IfNone, IsOkAnd, length, string_bytes, slice_get, Some};
+ghost use Rattle.std.specs.Prelude.{◌≡◌, ◌<◌, ◌∷◌, [], IfOk, length, string_bytes, slice_get, Some};
 ghost use Rattle.serde_json.specs.View.{view as data_of, items_view, members_view};
-ghost use Rattle.tv_value.specs.Tree.{Tree, leaf};
-ghost use Rattle.tv_value.specs.Lent.{leaf_of};
 ghost use Rattle.tv_schema.specs.Schema.{field_named};
 ghost use Rattle.tv_field.specs.JsonAnswer.{lent_tree};
-ghost use Rattle.tv_doc.specs.AddsRow.{AddsRow};
 ghost use Rattle.tv_doc.specs.JsonObject.{FieldJson, item_values, values_for, values_at, object_values, AddsValues, IsInvalidJson, IsValueError, MakesDocument, Parses};
 ghost use Rattle.std.specs.Fmt.{take_chars};
-ghost use Rattle.tv_doc.specs.Document.{Adds, IsUnchanged};
+ghost use Rattle.tv_doc.specs.Document.{Adds};
 
 use crate::add_error::AddError;
 use crate::doc_parsing_error::DocParsingError;
@@ -17,66 +14,9 @@ use crate::document::CompactDoc;
 use serde_json::{Map, Value};
 use std::alloc::{AllocError, Global};
 use tv_field::FieldType;
-use tv_field::json_value::{
-    JsonRefusal, JsonScratch, LentFieldValue, lend_bool, lend_bytes, lend_date, lend_facet,
-    lend_ip_addr,
-};
+use tv_field::json_value::{JsonRefusal, JsonScratch, LentFieldValue};
 use tv_schema::Schema;
 use tv_value::field::Field;
-use tv_value::leaf::ReferenceValueLeaf;
-
-// Adds the value that is found, if one is.
-#[inline(always)]
-fn add_found(
-    document: &mut CompactDoc,
-    field: Field,
-    found: Result<ReferenceValueLeaf<'_>, JsonRefusal>,
-) -> Option<Result<(), AddError>>
-    ensures added { IfSome result (λ answer. IsOkAnd found.entry (λ single. Adds document.old document.new field.id (leaf (leaf_of single)) answer)) }
-    ensures none { IfNone result (IsUnchanged document.old document.new) }
-{
-    match found {
-        Ok(single) => Some(document.add_leaf(field, &single)),
-        Err(_) => None,
-    }
-}
-
-// Adds a value by a function for its field's type alone, so that no leaf stands in memory before: a text to a field of texts, a number
-// to a field of such numbers, an object to a field of JSON objects, and a value of a field of another type. None of any other value,
-// and of what isn't added for another reason than those of `add_text`; the document is then unchanged.
-#[inline(always)]
-fn add_plain(
-    document: &mut CompactDoc,
-    scratch: &mut JsonScratch,
-    field: Field,
-    field_type: &FieldType,
-    json: &Value,
-) -> Option<Result<(), AddError>>
-    ensures added { IfSome result (AddsRow document.old document.new field.id field_type.now (data_of json.now)) }
-    ensures none { IfNone result (IsUnchanged document.old document.new) }
-{
-    match (field_type, json) {
-        (FieldType::Str(_), Value::String(text)) => Some(document.add_text(field, text.as_str())),
-        (FieldType::U64(_), Value::Number(number)) => {
-            Some(document.add_u64(field, number.as_u64()?))
-        }
-        (FieldType::I64(_), Value::Number(number)) => {
-            Some(document.add_i64(field, number.as_i64()?))
-        }
-        (FieldType::JsonObject(_), Value::Object(_)) => {
-            document.add_whole_json(field, json)?;
-            Some(Ok(()))
-        }
-        (FieldType::Bool(options), _) => {
-            add_found(document, field, lend_bool(options.should_coerce(), json))
-        }
-        (FieldType::Date(_), _) => add_found(document, field, lend_date(json)),
-        (FieldType::Facet(_), _) => add_found(document, field, lend_facet(json, scratch)),
-        (FieldType::Bytes(_), _) => add_found(document, field, lend_bytes(json, scratch)),
-        (FieldType::IpAddr(_), _) => add_found(document, field, lend_ip_addr(json)),
-        _ => None,
-    }
-}
 
 // Adds what is lent.
 fn add_lent(
@@ -117,12 +57,6 @@ fn add_value(
 ) -> Result<(), DocParsingError>
     ensures { AddsValues (record { name = name.now; field = field.id; field_type = field_type.now; value = data_of json } ∷ []) document.old document.new result }
 {
-    if let Some(plain) = add_plain(document, scratch, field, field_type, &json) {
-        return match plain {
-            Ok(()) => Ok(()),
-            Err(refused) => Err(DocParsingError::from(refused)),
-        };
-    }
     match field_type.lend_json(&json, scratch) {
         Ok(lent) => match add_lent(document, field, lent) {
             Ok(()) => Ok(()),
@@ -203,6 +137,9 @@ impl CompactDoc {
     ) -> Result<CompactDoc, DocParsingError>
         ensures { Parses schema.now text.now result }
     {
+        if let Some(made) = CompactDoc::parse_borrowed(alloc, schema, text) {
+            return Ok(made);
+        }
         match Value::from_str(alloc, text) {
             Ok(json) => match json {
                 Value::Object(object) => CompactDoc::from_json_object(alloc, schema, object),

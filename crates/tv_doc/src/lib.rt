@@ -2,6 +2,7 @@
 #![tactic(auto)]
 
 pub mod add_error;
+mod borrowed_json;
 pub mod builder;
 mod convert;
 pub mod doc_parsing_error;

@@ -1,21 +1,22 @@
 //! JSON values, added to a document as they are.
 
 ghost use Rattle.std.specs.Prelude.{IfNone, OnSome};
-ghost use Rattle.tv_doc.specs.AddsRow.{AddsJson};
+ghost use Rattle.tv_borrowed.specs.BorrowedData.{data_of};
+ghost use Rattle.tv_doc.specs.AddsRow.{AddsTree};
+ghost use Rattle.tv_value.specs.JsonTree.{whole_tree};
 ghost use Rattle.tv_doc.specs.Document.{IsUnchanged};
 
 use crate::document::{CompactDoc, keep_pair};
-use serde_json::Value;
+use tv_borrowed::borrowed::BorrowedJson;
 use tv_builder::json::put_json;
 use tv_value::field::Field;
 
 impl CompactDoc {
-    // Adds a pair of a field and a JSON value, each kind in it as itself: what adding the value that is lent of it would add.
+    // Adds a pair of a field and a JSON value, each kind in it as itself.
     //
-    // `None` where the field's number is above 65535, where a number in the value isn't whole or doesn't fit 64 bits, where the heap
-    // has no room, and where memory is refused. The document is then unchanged.
-    pub(crate) fn add_whole_json(&mut self, field: Field, json: &Value) -> Option<()>
-        ensures added { OnSome result (AddsJson self.old self.new field.id json.now) }
+    // `None` where the field's number is above 65535, where the heap has no room, and where memory is refused. The document is then unchanged.
+    pub(crate) fn add_whole_json(&mut self, field: Field, json: &BorrowedJson<'_>) -> Option<()>
+        ensures added { OnSome result (AddsTree self.old self.new field.id (whole_tree (data_of json.now))) }
         ensures none { IfNone result (IsUnchanged self.old self.new) }
     {
         let Ok(small) = u16::try_from(field.field_id()) else {

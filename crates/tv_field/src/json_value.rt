@@ -149,10 +149,8 @@ fn lend_i64(coerce: bool, json: &Value) -> Result<ReferenceValueLeaf<'static>, J
     }
 }
 
-/// What a JSON value is to a field of truth values, lent; `coerce` says whether texts are read as such. (Own.) Errors: those of
-/// `lend_json`.
-#[inline(always)]
-pub fn lend_bool(coerce: bool, json: &Value) -> Result<ReferenceValueLeaf<'static>, JsonRefusal>
+// A value of a field of truth values.
+fn lend_bool(coerce: bool, json: &Value) -> Result<ReferenceValueLeaf<'static>, JsonRefusal>
     ensures { LendsLeaf (data_of json.now) (λ o. o ≡ bool_row coerce (data_of json.now)) result }
 {
     match json {
@@ -166,76 +164,104 @@ pub fn lend_bool(coerce: bool, json: &Value) -> Result<ReferenceValueLeaf<'stati
     }
 }
 
-/// What a JSON value is to a field of dates, lent: a whole number is a signed number, and no date. (Own.) Errors: those of `lend_json`.
+/// The date that a text of JSON is to a field of dates. (Own.) Errors: those of `lend_json`.
 #[inline(always)]
-pub fn lend_date(json: &Value) -> Result<ReferenceValueLeaf<'static>, JsonRefusal>
+pub fn lend_date_text(text: &str) -> Result<ReferenceValueLeaf<'static>, JsonRefusal>
+    ensures { LendsLeaf (string text.now) (λ o. o ≡ date_row (string text.now)) result }
+{
+    match DateTime::from_rfc3339(text) {
+        Ok(date) => Ok(ReferenceValueLeaf::Date(date)),
+        Err(DateError::Shape | DateError::Field) => Err(JsonRefusal::Mismatch("rfc3339 format")),
+        Err(DateError::OutOfRange) => Err(JsonRefusal::Parse(ParseCause::DateOutOfRange)),
+    }
+}
+
+// A value of a field of dates: a whole number is a signed number, and no date.
+fn lend_date(json: &Value) -> Result<ReferenceValueLeaf<'static>, JsonRefusal>
     ensures { LendsLeaf (data_of json.now) (λ o. o ≡ date_row (data_of json.now)) result }
 {
     match json {
-        Value::String(text) => match DateTime::from_rfc3339(text.as_str()) {
-            Ok(date) => Ok(ReferenceValueLeaf::Date(date)),
-            Err(DateError::Shape | DateError::Field) => {
-                Err(JsonRefusal::Mismatch("rfc3339 format"))
-            }
-            Err(DateError::OutOfRange) => Err(JsonRefusal::Parse(ParseCause::DateOutOfRange)),
-        },
+        Value::String(text) => lend_date_text(text.as_str()),
         Value::Number(number) => lend_signed(number),
         _ => Err(JsonRefusal::Mismatch(Type::Date.name())),
     }
 }
 
-/// What a JSON value is to a field of facets, lent from the scratch. (Own.) Errors: those of `lend_json`.
+/// The facet that a text of JSON is to a field of facets, lent from the scratch. (Own.) Errors: those of `lend_json`.
 #[inline(always)]
-pub fn lend_facet<'a>(
+pub fn lend_facet_text<'a>(
+    path: &str,
+    scratch: &'a mut JsonScratch,
+) -> Result<ReferenceValueLeaf<'a>, JsonRefusal>
+    ensures { LendsLeaf (string path.now) (λ o. o ≡ facet_row (string path.now)) result }
+{
+    if !Facet::encode_text(path, &mut scratch.text)? {
+        return Err(JsonRefusal::Parse(ParseCause::Facet));
+    }
+    Ok(ReferenceValueLeaf::Facet(scratch.text.as_str()))
+}
+
+// A value of a field of facets.
+fn lend_facet<'a>(
     json: &Value,
     scratch: &'a mut JsonScratch,
 ) -> Result<ReferenceValueLeaf<'a>, JsonRefusal>
     ensures { LendsLeaf (data_of json.now) (λ o. o ≡ facet_row (data_of json.now)) result }
 {
     match json {
-        Value::String(path) => {
-            if !Facet::encode_text(path.as_str(), &mut scratch.text)? {
-                return Err(JsonRefusal::Parse(ParseCause::Facet));
-            }
-            Ok(ReferenceValueLeaf::Facet(scratch.text.as_str()))
-        }
+        Value::String(path) => lend_facet_text(path.as_str(), scratch),
         Value::Number(_) => Err(JsonRefusal::Mismatch("a string")),
         _ => Err(JsonRefusal::Mismatch(Type::Facet.name())),
     }
 }
 
-/// What a JSON value is to a field of bytes, lent from the scratch. (Own.) Errors: those of `lend_json`.
+/// The bytes that a text of JSON is to a field of bytes, lent from the scratch. (Own.) Errors: those of `lend_json`.
 #[inline(always)]
-pub fn lend_bytes<'a>(
+pub fn lend_bytes_text<'a>(
+    text: &str,
+    scratch: &'a mut JsonScratch,
+) -> Result<ReferenceValueLeaf<'a>, JsonRefusal>
+    ensures { LendsLeaf (string text.now) (λ o. o ≡ bytes_row (string text.now)) result }
+{
+    scratch.bytes.clear();
+    match STANDARD.decode_vec(text.as_bytes(), &mut scratch.bytes) {
+        Ok(()) => Ok(ReferenceValueLeaf::Bytes(scratch.bytes.as_slice())),
+        Err(DecodeAllocError::DecodeError(_)) => Err(JsonRefusal::InvalidBase64),
+        Err(DecodeAllocError::OutOfMemory) => Err(JsonRefusal::Memory),
+    }
+}
+
+// A value of a field of bytes.
+fn lend_bytes<'a>(
     json: &Value,
     scratch: &'a mut JsonScratch,
 ) -> Result<ReferenceValueLeaf<'a>, JsonRefusal>
     ensures { LendsLeaf (data_of json.now) (λ o. o ≡ bytes_row (data_of json.now)) result }
 {
     match json {
-        Value::String(text) => {
-            scratch.bytes.clear();
-            match STANDARD.decode_vec(text.as_bytes(), &mut scratch.bytes) {
-                Ok(()) => Ok(ReferenceValueLeaf::Bytes(scratch.bytes.as_slice())),
-                Err(DecodeAllocError::DecodeError(_)) => Err(JsonRefusal::InvalidBase64),
-                Err(DecodeAllocError::OutOfMemory) => Err(JsonRefusal::Memory),
-            }
-        }
+        Value::String(text) => lend_bytes_text(text.as_str(), scratch),
         Value::Number(_) => Err(JsonRefusal::Mismatch("a string")),
         _ => Err(JsonRefusal::Mismatch(Type::Bytes.name())),
     }
 }
 
-/// What a JSON value is to a field of IP addresses, lent. (Own.) Errors: those of `lend_json`.
+/// The address that a text of JSON is to a field of IP addresses. (Own.) Errors: those of `lend_json`.
 #[inline(always)]
-pub fn lend_ip_addr(json: &Value) -> Result<ReferenceValueLeaf<'static>, JsonRefusal>
+pub fn lend_ip_addr_text(text: &str) -> Result<ReferenceValueLeaf<'static>, JsonRefusal>
+    ensures { LendsLeaf (string text.now) (IpRow (string text.now)) result }
+{
+    match text.parse::<IpAddr>() {
+        Ok(address) => Ok(ReferenceValueLeaf::IpAddr(address.into_ipv6_addr())),
+        Err(_) => Err(JsonRefusal::Parse(ParseCause::Ip)),
+    }
+}
+
+// A value of a field of IP addresses.
+fn lend_ip_addr(json: &Value) -> Result<ReferenceValueLeaf<'static>, JsonRefusal>
     ensures { LendsLeaf (data_of json.now) (IpRow (data_of json.now)) result }
 {
     match json {
-        Value::String(text) => match text.as_str().parse::<IpAddr>() {
-            Ok(address) => Ok(ReferenceValueLeaf::IpAddr(address.into_ipv6_addr())),
-            Err(_) => Err(JsonRefusal::Parse(ParseCause::Ip)),
-        },
+        Value::String(text) => lend_ip_addr_text(text.as_str()),
         Value::Number(_) => Err(JsonRefusal::Mismatch("a string with an ip addr")),
         _ => Err(JsonRefusal::Mismatch(Type::IpAddr.name())),
     }

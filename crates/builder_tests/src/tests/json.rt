@@ -1,9 +1,11 @@
 //! JSON values, written behind a text that is in the heap.
 
-use serde_json::Value;
 use std::alloc::Global;
 use std::test::Fail;
+use tv_borrowed::Scratch;
+use tv_borrowed::read::read_borrowed;
 use tv_builder::json::put_json;
+use tv_builder::place::Place;
 
 /// What the heap holds before.
 const TEXT: &[u8] = b"\x82xy";
@@ -14,13 +16,19 @@ const OPEN: &[u8] = b"\x09\x81";
 /// A JSON value, the heap with it, and its type and its address.
 type Row = (&'static str, &'static [u8], (u8, u32));
 
+/// Reads the JSON value and writes it behind the heap. `None` where a number in it isn't whole or doesn't fit 64 bits.
+fn put_text(alloc: Global, text: &str, heap: &mut Vec<u8>, places: &mut Vec<u8>) -> Option<Place> {
+    let mut scratch = Scratch::new(alloc);
+    let json = read_borrowed(alloc, text, &mut scratch)?;
+    put_json(&json, heap, places)
+}
+
 /// Whether the JSON value is written so.
 fn is_put(alloc: Global, row: Row) -> Result<bool, Fail> {
     let (text, with_value, place) = row;
-    let json = Value::from_str(alloc, text)?;
     let mut heap = TEXT.to_vec(alloc)?;
     let mut places = OPEN.to_vec(alloc)?;
-    Ok(match put_json(&json, &mut heap, &mut places) {
+    Ok(match put_text(alloc, text, &mut heap, &mut places) {
         Some(at) => {
             (at.value_type.to_code(), at.address) == place
                 && heap.as_slice() == with_value
@@ -85,10 +93,9 @@ const FLOATS: [&str; 6] = [
 #[test]
 fn numbers_that_are_not_whole_are_not_written(rt: HostRuntime) -> Result<(), Fail> {
     for text in FLOATS {
-        let json = Value::from_str(rt.alloc(), text)?;
         let mut heap = TEXT.to_vec(rt.alloc())?;
         let mut places = OPEN.to_vec(rt.alloc())?;
-        let put = put_json(&json, &mut heap, &mut places);
+        let put = put_text(rt.alloc(), text, &mut heap, &mut places);
         assert!(rt; put.is_none(), "at {text}");
         assert!(rt; heap.starts_with(TEXT), "at {text}");
     }

@@ -1,5 +1,6 @@
 use Rattle.std.proofs.Common.{◌≡◌, ◌∙◌, Ok, Err, length, arith}
-use Rattle.tv_value.specs.JsonTree.{lent_json_tree}
+use Rattle.tv_borrowed.specs.BorrowedData.{data_of}
+use Rattle.tv_value.specs.JsonTree.{whole_tree}
 use Rattle.tv_doc.specs.Document.{heap_of}
 use Rattle.tv_doc.proofs.Documents.{unchanged, restored}
 use Rattle.tv_doc.proofs.Kept.{Keeping, cut_fields}
@@ -23,7 +24,7 @@ pub invariant_of-self-2 : goal.invariant_of-self-2
 invariant_of-self-2 c =
     let old = c.args.self.now in
     let mid = c.put_json.new.heap.items in
-    let tree = lent_json_tree c.args.json.now in
+    let tree = whole_tree (data_of c.args.json.now) in
     let place = c.in-Some.place in
     let len : c.len-len.result ≡ length (heap_of old) = omega (arith, c.len-len.ensures, old.node_data.ok.0) in
     let put : PairPut old mid c.len-len.result c.in-Ok.small tree place = record { len_is = len; small_fits = omega arith; put = c.in-Some.ensures.found } in
@@ -36,7 +37,7 @@ pub returns-in-Ok-keep_pair-clause-added : goal.returns-in-Ok-keep_pair-clause-a
 returns-in-Ok-keep_pair-clause-added c =
     let old = c.args.self.now in
     let mid = c.put_json.new.heap.items in
-    let tree = lent_json_tree c.args.json.now in
+    let tree = whole_tree (data_of c.args.json.now) in
     let place = c.in-Some.place in
     let len : c.len-len.result ≡ length (heap_of old) = omega (arith, c.len-len.ensures, old.node_data.ok.0) in
     let k = c.in-Ok-keep_pair.ensures in
@@ -44,13 +45,13 @@ returns-in-Ok-keep_pair-clause-added c =
     let put : PairPut old mid c.len-len.result c.in-Ok.small tree place = record { len_is = len; small_fits = omega arith; put = c.in-Some.ensures.found } in
     let keeping : Keeping old mid c.keep_pair.new.heap.items c.keep_pair.new.pairs.items c.len-len.result c.in-Ok.small (Ok (place.value_type, place.address)) (Ok c.in-Ok-keep_pair.field-0) =
     record { pair = k.pair; same_heap = k.heap; same_pairs = k.same_pairs; cut = k.cut; memory = k.memory } in
-    (c.in-Some.ensures.whole, put_tree old _ _ _ _ _ _ _ _ small put keeping)
+    put_tree old _ _ _ _ _ _ _ _ small put keeping
 
 pub returns-clause-none : goal.returns-clause-none
 returns-clause-none c =
     let old = c.args.self.now in
     let mid = c.put_json.new.heap.items in
-    let tree = lent_json_tree c.args.json.now in
+    let tree = whole_tree (data_of c.args.json.now) in
     let place = c.in-Some.place in
     let len : c.len-len.result ≡ length (heap_of old) = omega (arith, c.len-len.ensures, old.node_data.ok.0) in
     let k = c.in-Err.ensures in

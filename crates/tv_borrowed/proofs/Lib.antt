@@ -1,0 +1,5 @@
+pub mod Levels
+mod Places
+mod Turns
+mod WholeNumbers
+pub mod NoFloats

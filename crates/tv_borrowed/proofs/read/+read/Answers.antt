@@ -1,0 +1,111 @@
+use Rattle.std.proofs.Common.{◌≡◌, ◌-◌, ◌<◌, ◌∷◌, ◌++◌, [], length, Some, None, sym, ap, ◌∙◌, arith}
+use Rattle.std.proofs.lemmas.Option.{IfSome_then}
+use Rattle.json.specs.Json.{after_end_array, read_key, value}
+use Rattle.json.specs.Reads.{token_of}
+use Rattle.json.specs.Token.{Token}
+use Rattle.json.proofs.Grammar.{read_key-shorter}
+use Rattle.serde_json.specs.Data.{item, put}
+use Rattle.serde_json.specs.Read.{of_json, converted}
+use Rattle.tv_borrowed.specs.BorrowedData.{data_of, members_data}
+use Rattle.tv_borrowed.proofs.Levels.{data_of-Null, data_of-Bool, data_of-String, data_of-Array, data_of-Object}
+use Rattle.tv_borrowed.proofs.Places.{items_before, items_before-none, items_before-last}
+use Rattle.tv_borrowed.proofs.Turns.{null-read, boolean-read, string-read, number-read, array-read, object-read, item-read, no_items-read, member-read, no_members-read}
+use Rattle.tv_borrowed.proofs.read.+read.Goals as goal
+
+pub read-returns-in-String-clause-found : goal.read-returns-in-String-clause-found
+read-returns-in-String-clause-found t c =
+    let s = c.in-String.text in
+    let first : c.args.reader.now ≡ Token.string s.now ∷ c.next.new.self = c.in_ok-text.ensures.value ∙ ap (λ k. token_of k ∷ c.next.new.self) c.in-String.is in
+    string-read c.args.depth c.args.reader.now c.next.new.self s.now first ∙ ap (λ d. Some (d, c.next.new.self)) (sym (data_of-String s))
+
+pub read-returns-in-Number-clause-found : goal.read-returns-in-Number-clause-found
+read-returns-in-Number-clause-found t c =
+    let s = c.in-Number.text in
+    let first : c.args.reader.now ≡ Token.number s.now ∷ c.next.new.self = c.in_ok-text.ensures.value ∙ ap (λ k. token_of k ∷ c.next.new.self) c.in-Number.is in
+    IfSome_then c.whole_number.result c.whole_number.ensures (λ v e. number-read c.args.depth c.args.reader.now c.next.new.self s.now (data_of v) first e)
+
+pub read-returns-in-Bool-clause-found : goal.read-returns-in-Bool-clause-found
+read-returns-in-Bool-clause-found t c =
+    let b = c.in-Bool.truth in
+    let first : c.args.reader.now ≡ Token.boolean b ∷ c.next.new.self = c.in_ok-text.ensures.value ∙ ap (λ k. token_of k ∷ c.next.new.self) c.in-Bool.is in
+    boolean-read c.args.depth c.args.reader.now c.next.new.self b first ∙ ap (λ d. Some (d, c.next.new.self)) (sym (data_of-Bool b))
+
+pub read-returns-in-Null-clause-found : goal.read-returns-in-Null-clause-found
+read-returns-in-Null-clause-found t c =
+    let first : c.args.reader.now ≡ Token.null ∷ c.next.new.self = c.in_ok-text.ensures.value ∙ ap (λ k. token_of k ∷ c.next.new.self) c.in-Null.is in
+    null-read c.args.depth c.args.reader.now c.next.new.self first ∙ ap (λ d. Some (d, c.next.new.self)) (sym data_of-Null)
+
+pub read-returns-in_ok-read_items-in-BeginArray-clause-found : goal.read-returns-in_ok-read_items-in-BeginArray-clause-found
+read-returns-in_ok-read_items-in-BeginArray-clause-found t c =
+    let first : c.args.reader.now ≡ Token.begin_array ∷ c.next.new.self = c.in_ok-text.ensures.value ∙ ap (λ k. token_of k ∷ c.next.new.self) c.in-BeginArray.is in
+    let v = c.in_ok-read_items-in-BeginArray.field-0 in
+    let found = c.in_ok-read_items-in-BeginArray.ensures.found in
+    ap (λ ts. converted of_json (value c.args.depth ts)) first ∙ array-read c.args.depth c.next.new.self c.read_items.new.reader _ c.if-depth-gt0.true found
+    ∙ ap (λ d. Some (d, c.read_items.new.reader)) (sym (data_of-Array v))
+
+pub read-returns-in_ok-read_members-in-BeginObject-clause-found : goal.read-returns-in_ok-read_members-in-BeginObject-clause-found
+read-returns-in_ok-read_members-in-BeginObject-clause-found t c =
+    let first : c.args.reader.now ≡ Token.begin_object ∷ c.next.new.self = c.in_ok-text.ensures.value ∙ ap (λ k. token_of k ∷ c.next.new.self) c.in-BeginObject.is in
+    let v = c.in_ok-read_members-in-BeginObject.field-0 in
+    let found = c.in_ok-read_members-in-BeginObject.ensures.found in
+    ap (λ ts. converted of_json (value c.args.depth ts)) first ∙ object-read c.args.depth c.next.new.self c.read_members.new.reader _ c.if-depth-gt0-2.true found
+    ∙ ap (λ d. Some (d, c.read_members.new.reader)) (sym (data_of-Object v))
+
+pub read_items-items-preserved : goal.read_items-items-preserved
+read_items-items-preserved t c =
+    let p = value c.args.depth in
+    let l = c.items in
+    let going : (after_end_array l.reader ≡ None) × (c.take_end_array.new.self ≡ l.reader) = grind arith in
+    let done = c.in_ok-item.ensures in
+    let v = c.in_ok-item.item in
+    let s = c.read.new.reader in
+    let n = l.invariant.turns in
+    let less : length s < length l.reader = rw (← going.1) done.shorter in
+    let some : 0 < n = omega (arith, l.invariant.enough) in
+    let first : converted of_json (p l.reader) ≡ Some (data_of v, s) = rw (← going.1) done.found in
+    let grown : c.push.new.self.items ≡ l.found.items ++ v ∷ [] = rw (← c.in_ok-ok.ensures.variant) at c.push.ensures.items in
+    record {
+      turns = n - 1;
+      enough = omega (arith, l.invariant.enough);
+      rest = λ ds r more.
+          l.invariant.rest (item (data_of v) ds) r (item-read p n l.reader s r (data_of v) ds some going.0 first more)
+          ∙ ap (λ items. Some (items, r)) (sym (items_before-last l.found.items v ds) ∙ ap (λ vs. items_before vs ds) (sym grown));
+      less = omega (arith, l.invariant.less);
+    }
+
+pub read_items-returns-clause-found : goal.read_items-returns-clause-found
+read_items-returns-clause-found t c =
+    let l = c.items in
+    let r = c.take_end_array.new.self in
+    let ended : after_end_array l.reader ≡ Some r = grind arith in
+    l.invariant.rest _ r (no_items-read (value c.args.depth) l.invariant.turns l.reader r l.invariant.enough ended) ∙ ap (λ ds. Some (ds, r)) (items_before-none l.found.items)
+
+pub read_members-members-preserved : goal.read_members-members-preserved
+read_members-members-preserved t c =
+    let p = value c.args.depth in
+    let l = c.members in
+    let n = l.invariant.turns in
+    let k = c.in-Some.key.now in
+    let v = c.next_key.new.self in
+    let named : read_key l.reader ≡ Some (Some k, v) = grind arith in
+    let done = c.in_ok-member.ensures in
+    let d = data_of c.in_ok-member.member in
+    let s = c.read.new.reader in
+    let shorter = read_key-shorter l.reader (Some k) v named in
+    let less : length s < length l.reader = omega (arith, shorter, done.shorter) in
+    let some : 0 < n = omega (arith, l.invariant.enough) in
+    let grown : members_data c.put_member.new.members.items ≡ put k d (members_data l.found.items) = c.in_ok-put_member.ensures in
+    record {
+      turns = n - 1;
+      enough = omega (arith, l.invariant.enough);
+      rest = λ ds r more.
+          l.invariant.rest ds r (member-read p n (members_data l.found.items) k l.reader v s r d ds some named done.found (rw grown at more));
+      less = omega (arith, l.invariant.less);
+    }
+
+pub read_members-returns-clause-found : goal.read_members-returns-clause-found
+read_members-returns-clause-found t c =
+    let l = c.members in
+    let r = c.next_key.new.self in
+    let ended : read_key l.reader ≡ Some (None, r) = grind arith in
+    l.invariant.rest _ r (no_members-read (value c.args.depth) l.invariant.turns (members_data l.found.items) l.reader r l.invariant.enough ended)

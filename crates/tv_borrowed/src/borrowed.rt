@@ -1,0 +1,21 @@
+//! JSON values that borrow their texts.
+
+/// A JSON value without floats whose texts and keys stand in the text that it was read from, or in the scratch memory of its reading
+/// where an escape had to be replaced. (Own.)
+#[derive(Drop)]
+pub enum BorrowedJson<'a> {
+    /// `null`.
+    Null,
+    /// A truth value.
+    Bool(bool),
+    /// A whole number from 0 to 2^64 - 1.
+    Unsigned(u64),
+    /// A whole number below 0, from -2^63 on.
+    Negative(i64),
+    /// A text.
+    String(&'a str),
+    /// An array's items.
+    Array(Vec<BorrowedJson<'a>>),
+    /// An object's members, in byte order of their keys, each key once.
+    Object(Vec<(&'a str, BorrowedJson<'a>)>),
+}

@@ -1,0 +1,101 @@
+//! Reading of JSON values that borrow their texts.
+
+ghost use Rattle.std.specs.Prelude.{◌≡◌, ◌<◌, length, Some, IfSome, OnSome};
+ghost use Rattle.json.specs.Json.{value, items, members};
+ghost use Rattle.serde_json.specs.Data.{no_members};
+ghost use Rattle.serde_json.specs.Read.{of_json, of_items, of_members, converted, read as read_text};
+ghost use Rattle.tv_borrowed.specs.BorrowedData.{data_of, items_data, members_data};
+
+use crate::borrowed::BorrowedJson;
+use crate::members::{Members, put_member};
+use crate::number::whole_number;
+use json::{Reader, Scratch, Token};
+use std::alloc::Global;
+
+// How deep arrays and objects nest at most, as in the JSON library's values.
+const MAX_DEPTH: usize = 127;
+
+// An object with more members isn't read: each is put in its place among those before it.
+const MAX_MEMBERS: usize = 128;
+
+/// Reads the JSON value that the text is, without copying its texts. (Own.) The scratch is used for texts with escapes.
+///
+/// `None` where the text is no JSON, and where a number in it isn't whole or doesn't fit 64 bits, an object has more than 128 members,
+/// arrays and objects nest deeper than 127, or memory is refused: what isn't read here may still be JSON.
+pub fn read_borrowed<'a>(
+    alloc: Global,
+    text: &'a str,
+    scratch: &'a mut Scratch,
+) -> Option<BorrowedJson<'a>>
+    ensures { IfSome result (λ json. read_text text.now ≡ Some (data_of json)) }
+{
+    let Ok(mut reader) = Reader::new(text, scratch) else {
+        return None;
+    };
+    let json = read(alloc, &mut reader, MAX_DEPTH)?;
+    match reader.next() {
+        Some(_) => None,
+        None => Some(json),
+    }
+}
+
+// The next value of the reader.
+#[cycle(read)]
+#[inline(always)]
+fn read<'a>(alloc: Global, reader: &mut Reader<'a>, depth: usize) -> Option<BorrowedJson<'a>>
+    ensures found { IfSome result (λ json. converted of_json (value depth reader.old) ≡ Some (data_of json, reader.new)) }
+    ensures shorter { OnSome result (length reader.new < length reader.old) }
+{
+    match reader.next()? {
+        Token::String(text) => Some(BorrowedJson::String(text)),
+        Token::Number(text) => whole_number(text),
+        Token::Bool(truth) => Some(BorrowedJson::Bool(truth)),
+        Token::Null => Some(BorrowedJson::Null),
+        Token::BeginArray if depth > 0 => {
+            Some(BorrowedJson::Array(read_items(alloc, reader, depth - 1)?))
+        }
+        Token::BeginObject if depth > 0 => Some(BorrowedJson::Object(read_members(
+            alloc,
+            reader,
+            depth - 1,
+        )?)),
+        _ => None,
+    }
+}
+
+// The items up to the end of an array.
+#[cycle(read)]
+#[inline(never)]
+fn read_items<'a>(
+    alloc: Global,
+    reader: &mut Reader<'a>,
+    depth: usize,
+) -> Option<Vec<BorrowedJson<'a>>>
+    ensures found { IfSome result (λ v. converted of_items (items (value depth) (length reader.old) reader.old) ≡ Some (items_data v.items, reader.new)) }
+    ensures shorter { OnSome result (length reader.new < length reader.old) }
+{
+    let mut found = Vec::new(alloc);
+    'items: while !reader.take_end_array() {
+        let item = read(alloc, reader, depth)?;
+        found.push(item).ok()?;
+    }
+    Some(found)
+}
+
+// The members up to the end of an object.
+#[cycle(read)]
+#[inline(never)]
+fn read_members<'a>(alloc: Global, reader: &mut Reader<'a>, depth: usize) -> Option<Members<'a>>
+    ensures found { IfSome result (λ v. converted (λ ms. of_members ms no_members) (members (value depth) (length reader.old) reader.old) ≡ Some (members_data v.items, reader.new)) }
+    ensures shorter { OnSome result (length reader.new < length reader.old) }
+{
+    let mut found = Vec::new(alloc);
+    'members: while let Some(key) = reader.next_key().ok()? {
+        if found.len() == MAX_MEMBERS {
+            return None;
+        }
+        let member = read(alloc, reader, depth)?;
+        put_member(&mut found, key, member)?;
+    }
+    Some(found)
+}

@@ -1,0 +1,39 @@
+use Rattle.std.proofs.Common.{◌≡◌, ◌+◌, List, [], ◌∷◌, Some, sym, ap, ◌∙◌, subst, drop, arith, rules}
+use Rattle.std.proofs.lemmas.List.{drop_more, drop_all}
+use Rattle.tv_borrowed.proofs.Levels.{data_of-Array}
+use Rattle.tv_borrowed.specs.BorrowedData.{data_of, items_data}
+use Rattle.tv_borrowed.specs.declared.borrowed.BorrowedJson.{BorrowedJson}
+use Rattle.tv_schema.specs.Schema.{field_named}
+use Rattle.tv_doc.specs.Document.{document_of}
+use Rattle.tv_doc.specs.JsonObject.{FieldJson, AddsPairs, item_values}
+use Rattle.tv_doc.proofs.PlainValues.{values_of_items}
+use Rattle.tv_doc.proofs.JsonDocuments.{more_so_far, all_so_far, one_pair}
+use Rattle.tv_doc.proofs.borrowed_json.add_borrowed.Goals as goal
+
+pub loop-item-preserved : goal.loop-item-preserved
+loop-item-preserved c =
+    let a = c.args in
+    let l = c.loop-item in
+    let field_type = c.field_type-field_type.result.now in
+    let items = c.deref-item-items.result.now in
+    let item = c.item-item.result in
+    let values : List BorrowedJson → List FieldJson = λ xs. item_values a.name.now c.in-Ok.field.id field_type (items_data xs) in
+    let v : FieldJson = record { name = a.name.now; field = c.in-Ok.field.id; field_type = field_type; value = data_of item } in
+    let added = one_pair v l.document c.add_plain-in-loop-item.new.document c.in_ok-add_plain.ensures in
+    let step = drop_more items l.item-index item (omega (arith, c.loop-item-test.true)) ∙ ap (λ z. z ∷ drop (l.item-index + 1) items) (sym c.item-item.is) in
+    more_so_far _ (values (drop l.item-index items)) (v ∷ []) (values (drop (l.item-index + 1) items)) (document_of a.document.now) (document_of l.document)
+    (document_of c.add_plain-in-loop-item.new.document) added.0 l.invariant (ap values step) added.1 added.2
+
+pub returns : goal.returns
+returns c =
+    let a = c.args in
+    let l = c.loop-item in
+    let items = c.deref-item-items.result.now in
+    let values : List BorrowedJson → List FieldJson = λ xs. item_values a.name.now c.in-Ok.field.id c.field_type-field_type.result.now (items_data xs) in
+    let done : drop l.item-index items ≡ [] = drop_all l.item-index items (omega (arith, c.loop-item-test.false)) in
+    let all = all_so_far (values items) (values (drop l.item-index items)) (document_of a.document.now) (document_of l.document) l.invariant (ap values done) in
+    let named : field_named a.schema.now a.name.now ≡ Some c.in-Ok.field.id = search rules in
+    let says = ap data_of c.in-Array.is ∙ data_of-Array c.in-Array.items in
+    let same = ap (item_values a.name.now c.in-Ok.field.id c.field_type-field_type.result.now) (ap items_data c.deref-item-items.ensures.value) in
+    let whole = same ∙ values_of_items a.schema.now a.name.now c.in-Ok.field.id c.get_field_entry.result.now c.field_type-field_type.result.now _ (data_of a.json.now) _ named c.get_field_entry.ensures c.field_type-field_type.ensures says in
+    subst (λ vs. AddsPairs vs a.document.now l.document) whole all

@@ -1,0 +1,136 @@
+//! Documents from JSON objects whose values are added straight from the text that spells them.
+
+ghost use Rattle.std.specs.Prelude.{Some, Ok, IfSome, OnSome, IsOkAnd};
+ghost use Rattle.serde_json.specs.Data.{object};
+ghost use Rattle.serde_json.specs.Read.{read as read_text};
+ghost use Rattle.tv_borrowed.specs.BorrowedData.{data_of, members_data};
+ghost use Rattle.tv_doc.specs.AddsRow.{AddsTree, AddsRow};
+ghost use Rattle.tv_doc.specs.Document.{document_of};
+ghost use Rattle.tv_doc.specs.JsonObject.{AddsPairs, Pairs, Parses, object_values, values_at};
+ghost use Rattle.tv_schema.specs.Schema.{field_named};
+ghost use Rattle.tv_value.specs.Lent.{leaf_of};
+ghost use Rattle.tv_value.specs.Tree.{leaf};
+
+use crate::document::CompactDoc;
+use std::alloc::Global;
+use tv_borrowed::Scratch;
+use tv_borrowed::borrowed::BorrowedJson;
+use tv_borrowed::read::read_borrowed;
+use tv_field::FieldType;
+use tv_field::json_value::{
+    JsonRefusal, JsonScratch, lend_bytes_text, lend_date_text, lend_facet_text, lend_ip_addr_text,
+};
+use tv_schema::Schema;
+use tv_value::field::Field;
+use tv_value::leaf::ReferenceValueLeaf;
+
+// Adds the value that is found, if one is.
+#[inline(always)]
+fn add_found(
+    document: &mut CompactDoc,
+    field: Field,
+    found: Result<ReferenceValueLeaf<'_>, JsonRefusal>,
+) -> Option<()>
+    ensures { OnSome result (IsOkAnd found.entry (λ single. AddsTree document.old document.new field.id (leaf (leaf_of single)))) }
+{
+    match found {
+        Ok(single) => document.add_leaf(field, &single).ok(),
+        Err(_) => None,
+    }
+}
+
+// Adds a value that is one of its field's type as it stands: a text to a field of texts, a number to a field of such numbers, an object to
+// a field of JSON objects, and the text of a date, a facet, bytes or an address. What the document holds after `None` is open.
+#[inline(always)]
+fn add_plain(
+    document: &mut CompactDoc,
+    scratch: &mut JsonScratch,
+    field: Field,
+    field_type: &FieldType,
+    json: &BorrowedJson<'_>,
+) -> Option<()>
+    ensures { OnSome result (AddsRow document.old document.new field.id field_type.now (data_of json.now)) }
+{
+    match (field_type, json) {
+        (FieldType::Str(_), BorrowedJson::String(text)) => document.add_text(field, text).ok(),
+        (FieldType::U64(_), BorrowedJson::Unsigned(number)) => {
+            document.add_u64(field, *number).ok()
+        }
+        (FieldType::I64(_), BorrowedJson::Unsigned(number)) => {
+            document.add_i64(field, i64::try_from(*number).ok()?).ok()
+        }
+        (FieldType::I64(_), BorrowedJson::Negative(number)) => {
+            document.add_i64(field, *number).ok()
+        }
+        (FieldType::Bool(_), BorrowedJson::Bool(truth)) => document.add_bool(field, *truth).ok(),
+        (FieldType::JsonObject(_), BorrowedJson::Object(_)) => document.add_whole_json(field, json),
+        (FieldType::Date(_), BorrowedJson::String(text)) => {
+            add_found(document, field, lend_date_text(text))
+        }
+        (FieldType::Facet(_), BorrowedJson::String(path)) => {
+            add_found(document, field, lend_facet_text(path, scratch))
+        }
+        (FieldType::Bytes(_), BorrowedJson::String(text)) => {
+            add_found(document, field, lend_bytes_text(text, scratch))
+        }
+        (FieldType::IpAddr(_), BorrowedJson::String(text)) => {
+            add_found(document, field, lend_ip_addr_text(text))
+        }
+        _ => None,
+    }
+}
+
+// Adds the values of a member, if its key names a field.
+fn add_borrowed(
+    document: &mut CompactDoc,
+    scratch: &mut JsonScratch,
+    schema: &Schema,
+    name: &str,
+    json: &BorrowedJson<'_>,
+) -> Option<()>
+    ensures { OnSome result (AddsPairs (values_at schema.now name.now (field_named schema.now name.now) (data_of json.now)) document.old document.new) }
+{
+    let Ok(field) = schema.get_field(name) else {
+        return Some(());
+    };
+    let field_type = schema.get_field_entry(field).field_type();
+    let BorrowedJson::Array(items) = json else {
+        return add_plain(document, scratch, field, field_type, json);
+    };
+    for item in items {
+        add_plain(document, scratch, field, field_type, item)?;
+    }
+    Some(())
+}
+
+impl CompactDoc {
+    // The document of a JSON object, each of whose values is one of its field's type as it stands.
+    fn from_borrowed(
+        alloc: Global,
+        schema: &Schema,
+        members: &[(&str, BorrowedJson<'_>)],
+    ) -> Option<CompactDoc>
+        ensures { IfSome result (λ made. Pairs (object_values schema.now (members_data members.now)) (document_of made)) }
+    {
+        let mut document = CompactDoc::new(alloc);
+        let mut scratch = JsonScratch::new(alloc);
+        for (key, json) in members {
+            add_borrowed(&mut document, &mut scratch, schema, key, json)?;
+        }
+        Some(document)
+    }
+
+    // The document of the JSON object that the text spells, whose texts aren't copied on the way to the heap. `None` where the text is no
+    // object, where a value isn't one of its field's type as it stands, and where memory is refused.
+    pub(crate) fn parse_borrowed(alloc: Global, schema: &Schema, text: &str) -> Option<CompactDoc>
+        ensures { IfSome result (λ made. Parses schema.now text.now (Ok made)) }
+    {
+        let mut scratch = Scratch::new(alloc);
+        match read_borrowed(alloc, text, &mut scratch)? {
+            BorrowedJson::Object(members) => {
+                CompactDoc::from_borrowed(alloc, schema, members.as_slice())
+            }
+            _ => None,
+        }
+    }
+}
