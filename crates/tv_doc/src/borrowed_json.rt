@@ -1,17 +1,18 @@
 //! Documents from JSON objects whose values are added straight from the text that spells them.
 
-ghost use Rattle.std.specs.Prelude.{Some, Ok, IfSome, OnSome, IsOkAnd};
+ghost use Rattle.std.specs.Prelude.{◌∷◌, [], Some, Ok, IfSome, IfNone, OnSome, IsOkAnd};
 ghost use Rattle.serde_json.specs.Data.{object};
 ghost use Rattle.serde_json.specs.Read.{read as read_text};
 ghost use Rattle.tv_borrowed.specs.BorrowedData.{data_of, members_data};
 ghost use Rattle.tv_doc.specs.AddsRow.{AddsTree, AddsRow};
-ghost use Rattle.tv_doc.specs.Document.{document_of};
+ghost use Rattle.tv_doc.specs.Document.{document_of, IsUnchanged};
 ghost use Rattle.tv_doc.specs.JsonObject.{AddsPairs, Pairs, Parses, object_values, values_at};
 ghost use Rattle.tv_schema.specs.Schema.{field_named};
 ghost use Rattle.tv_value.specs.Lent.{leaf_of};
 ghost use Rattle.tv_value.specs.Tree.{leaf};
 
 use crate::document::CompactDoc;
+use crate::json::add_value;
 use std::alloc::Global;
 use tv_borrowed::Scratch;
 use tv_borrowed::borrowed::BorrowedJson;
@@ -31,7 +32,8 @@ fn add_found(
     field: Field,
     found: Result<ReferenceValueLeaf<'_>, JsonRefusal>,
 ) -> Option<()>
-    ensures { OnSome result (IsOkAnd found.entry (λ single. AddsTree document.old document.new field.id (leaf (leaf_of single)))) }
+    ensures added { OnSome result (IsOkAnd found.entry (λ single. AddsTree document.old document.new field.id (leaf (leaf_of single)))) }
+    ensures none { IfNone result (IsUnchanged document.old document.new) }
 {
     match found {
         Ok(single) => document.add_leaf(field, &single).ok(),
@@ -40,7 +42,7 @@ fn add_found(
 }
 
 // Adds a value that is one of its field's type as it stands: a text to a field of texts, a number to a field of such numbers, an object to
-// a field of JSON objects, and the text of a date, a facet, bytes or an address. What the document holds after `None` is open.
+// a field of JSON objects, and the text of a date, a facet, bytes or an address. After `None` the document is unchanged.
 #[inline(always)]
 fn add_plain(
     document: &mut CompactDoc,
@@ -49,7 +51,8 @@ fn add_plain(
     field_type: &FieldType,
     json: &BorrowedJson<'_>,
 ) -> Option<()>
-    ensures { OnSome result (AddsRow document.old document.new field.id field_type.now (data_of json.now)) }
+    ensures added { OnSome result (AddsRow document.old document.new field.id field_type.now (data_of json.now)) }
+    ensures none { IfNone result (IsUnchanged document.old document.new) }
 {
     match (field_type, json) {
         (FieldType::Str(_), BorrowedJson::String(text)) => document.add_text(field, text).ok(),
@@ -80,8 +83,29 @@ fn add_plain(
     }
 }
 
+// Adds one value of the field.
+#[inline(always)]
+fn add_one(
+    alloc: Global,
+    document: &mut CompactDoc,
+    scratch: &mut JsonScratch,
+    name: &str,
+    field: Field,
+    field_type: &FieldType,
+    json: &BorrowedJson<'_>,
+) -> Option<()>
+    ensures { OnSome result (AddsPairs (record { name = name.now; field = field.id; field_type = field_type.now; value = data_of json.now } ∷ []) document.old document.new) }
+{
+    if let Some(()) = add_plain(document, scratch, field, field_type, json) {
+        return Some(());
+    }
+    let copy = json.to_value(alloc)?;
+    add_value(alloc, document, scratch, name, field, field_type, copy).ok()
+}
+
 // Adds the values of a member, if its key names a field.
 fn add_borrowed(
+    alloc: Global,
     document: &mut CompactDoc,
     scratch: &mut JsonScratch,
     schema: &Schema,
@@ -95,16 +119,16 @@ fn add_borrowed(
     };
     let field_type = schema.get_field_entry(field).field_type();
     let BorrowedJson::Array(items) = json else {
-        return add_plain(document, scratch, field, field_type, json);
+        return add_one(alloc, document, scratch, name, field, field_type, json);
     };
     for item in items {
-        add_plain(document, scratch, field, field_type, item)?;
+        add_one(alloc, document, scratch, name, field, field_type, item)?;
     }
     Some(())
 }
 
 impl CompactDoc {
-    // The document of a JSON object, each of whose values is one of its field's type as it stands.
+    // The document of a JSON object. `None` where a value is refused.
     fn from_borrowed(
         alloc: Global,
         schema: &Schema,
@@ -115,13 +139,13 @@ impl CompactDoc {
         let mut document = CompactDoc::new(alloc);
         let mut scratch = JsonScratch::new(alloc);
         for (key, json) in members {
-            add_borrowed(&mut document, &mut scratch, schema, key, json)?;
+            add_borrowed(alloc, &mut document, &mut scratch, schema, key, json)?;
         }
         Some(document)
     }
 
-    // The document of the JSON object that the text spells, whose texts aren't copied on the way to the heap. `None` where the text is no
-    // object, where a value isn't one of its field's type as it stands, and where memory is refused.
+    // The document of the JSON object that the text spells, whose texts aren't copied on the way to the heap. `None` where the text isn't
+    // read so (see `read_borrowed`) or is no object, where a value is refused, and where memory is.
     pub(crate) fn parse_borrowed(alloc: Global, schema: &Schema, text: &str) -> Option<CompactDoc>
         ensures { IfSome result (λ made. Parses schema.now text.now (Ok made)) }
     {

@@ -46,7 +46,7 @@ fn value_error(alloc: Global, name: &str, refusal: JsonRefusal, json: Value) -> 
 }
 
 // Adds one value of the field.
-fn add_value(
+pub(crate) fn add_value(
     alloc: Global,
     document: &mut CompactDoc,
     scratch: &mut JsonScratch,

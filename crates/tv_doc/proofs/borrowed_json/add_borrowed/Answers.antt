@@ -7,7 +7,7 @@ use Rattle.tv_schema.specs.Schema.{field_named}
 use Rattle.tv_doc.specs.Document.{document_of}
 use Rattle.tv_doc.specs.JsonObject.{FieldJson, AddsPairs, item_values}
 use Rattle.tv_doc.proofs.PlainValues.{values_of_items}
-use Rattle.tv_doc.proofs.JsonDocuments.{more_so_far, all_so_far, one_pair}
+use Rattle.tv_doc.proofs.JsonDocuments.{more_so_far, all_so_far}
 use Rattle.tv_doc.proofs.borrowed_json.add_borrowed.Goals as goal
 
 pub loop-item-preserved : goal.loop-item-preserved
@@ -19,10 +19,10 @@ loop-item-preserved c =
     let item = c.item-item.result in
     let values : List BorrowedJson → List FieldJson = λ xs. item_values a.name.now c.in-Ok.field.id field_type (items_data xs) in
     let v : FieldJson = record { name = a.name.now; field = c.in-Ok.field.id; field_type = field_type; value = data_of item } in
-    let added = one_pair v l.document c.add_plain-in-loop-item.new.document c.in_ok-add_plain.ensures in
+    let added = c.in_ok-add_one.ensures in
     let step = drop_more items l.item-index item (omega (arith, c.loop-item-test.true)) ∙ ap (λ z. z ∷ drop (l.item-index + 1) items) (sym c.item-item.is) in
     more_so_far _ (values (drop l.item-index items)) (v ∷ []) (values (drop (l.item-index + 1) items)) (document_of a.document.now) (document_of l.document)
-    (document_of c.add_plain-in-loop-item.new.document) added.0 l.invariant (ap values step) added.1 added.2
+    (document_of c.add_one-in-loop-item.new.document) added.0 l.invariant (ap values step) added.1 added.2
 
 pub returns : goal.returns
 returns c =

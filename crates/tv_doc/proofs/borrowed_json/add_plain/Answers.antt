@@ -10,8 +10,8 @@ with_row : {T P Q : Type 0} (o : Option T) → (P → Q) → OnSome o P → OnSo
 with_row None f h = tt
 with_row (Some x) f h = f h
 
-pub returns-in-JsonObject-Object : goal.returns-in-JsonObject-Object
-returns-in-JsonObject-Object c =
+pub returns-in-JsonObject-Object-clause-added : goal.returns-in-JsonObject-Object-clause-added
+returns-in-JsonObject-Object-clause-added c =
     let d = data_of c.args.json.now in
     with_row c.add_whole_json.result
     (λ (h : AddsTree c.args.document.now c.add_whole_json.new.self c.args.field.id (whole_tree d)). (whole_tree d, object_row c.args.field_type.now c.args.json.now _ c.in-JsonObject-Object.is-0 c.in-JsonObject-Object.is-1, h))
