@@ -5,6 +5,7 @@ pub mod borrowed;
 mod members;
 mod number;
 pub mod read;
+pub mod value;
 
 /// Where texts with escapes are written while a JSON value is read: one serves any number of readings, one after the other.
 pub use json::Scratch;
