@@ -20,6 +20,9 @@ type Row = (&'static str, &'static [u8], (u8, u32));
 fn put_text(alloc: Global, text: &str, heap: &mut Vec<u8>, places: &mut Vec<u8>) -> Option<Place> {
     let mut scratch = Scratch::new(alloc);
     let json = read_borrowed(alloc, text, &mut scratch)?;
+    if heap.len() > 4_294_967_295 {
+        return None;
+    }
     put_json(&json, heap, places)
 }
 
