@@ -78,7 +78,7 @@ fn a_float_beside_the_fields_changes_nothing(rt: HostRuntime) -> Result<(), Fail
 #[test]
 fn objects_may_have_many_members(rt: HostRuntime) -> Result<(), Fail> {
     let alloc = rt.alloc();
-    for count in [127, 128, 129, 300] {
+    for count in [127_u32, 128, 129, 300] {
         let mut members = String::new(alloc);
         for i in 0..count {
             let member = format!(in alloc; "\"k{}\":{i},", count - i)?;
