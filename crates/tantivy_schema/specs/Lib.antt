@@ -25,6 +25,8 @@ pub use Rattle.tv_date.specs.Rfc3339
 pub use Rattle.tv_date.specs.Shape as DateShape
 pub use Rattle.tv_date.specs.Printed as DatePrinted
 pub use Rattle.tv_value.specs.Cases
+pub use Rattle.tv_value.specs.Content
+pub use Rattle.tv_value.specs.Leaves
 pub use Rattle.tv_value.specs.IpAddress
 pub use Rattle.tv_value.specs.JsonTree
 pub use Rattle.tv_value.specs.Size

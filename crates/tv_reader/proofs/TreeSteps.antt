@@ -21,7 +21,8 @@ use Rattle.tv_legacy.specs.LegacyReading.{legacy_at}
 use Rattle.tv_legacy.proofs.Agrees.{LegacyTree, legacy_agrees}
 use Rattle.tv_value.specs.Fault.{Refusal, corrupted, no_text_key, CodedKeyFault, key_ends, key_no_extension, in_key, KeyFault, value_ends, in_leaf, no_extension, in_legacy, in_count, in_element, in_entry_count, odd_count, in_entry_key, in_entry}
 use Rattle.tv_value.specs.ListFault.{in_next_key, in_next_value}
-use Rattle.tv_value.specs.Owned.{owned_tree, owned_entries, key_and}
+use Rattle.tv_value.specs.Lent.{key_and}
+use Rattle.tv_value.specs.Owned.{owned_tree, owned_entries}
 use Rattle.tv_value.specs.Spelling.{Key, Spells, SpellsElements, SpellsEntries}
 use Rattle.tv_value.specs.Tree.{Tree, array, object, elements, element_count, entries, entry_count}
 use Rattle.tv_value.specs.Version.{Version, entry_total}

@@ -20,6 +20,7 @@ use tv_base::take::{
 };
 use tv_base::{ByteSource, Cause, ReadError};
 use tv_value::date_time::DateTime;
+use tv_value::ip_addr::address_of;
 use tv_value::owned_value::OwnedValue;
 use tv_value::tokenizer::{PreTokenizedString, Token};
 
@@ -63,13 +64,6 @@ pub fn take_date<S: ByteSource>(
         }
         DocStoreVersion::V2 => Ok(DateTime::from_timestamp_nanos(number)),
     }
-}
-
-// The address of these bits.
-fn address_of(bits: u128) -> Ipv6Addr
-    ensures { ipv6_bits result ≡ bits }
-{
-    Ipv6Addr::from_bits(bits)
 }
 
 /// Takes an IP address in sixteen bytes, the lowest first. Errors: those of `take_u128`.

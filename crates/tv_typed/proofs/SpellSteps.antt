@@ -3,7 +3,8 @@ use Rattle.std.proofs.Common.{◌≡◌, ℕ, ◌*◌, ◌^◌, ◌<◌, List, [
 use Rattle.std.specs.declared.alloc.Global.{Global}
 use Rattle.std.proofs.lemmas.List.{length-map}
 use Rattle.tv_base.specs.Number.{vnum}
-use Rattle.tv_value.specs.Owned.{owned_tree, owned_entries, key_and}
+use Rattle.tv_value.specs.Lent.{key_and}
+use Rattle.tv_value.specs.Owned.{owned_tree, owned_entries}
 use Rattle.tv_value.specs.Short.{short, short_elements, short_entries, IsValue, AreElements, AreEntries}
 use Rattle.tv_value.specs.Tree.{array, object, elements, entries, element_count, entry_count}
 use Rattle.tv_value.specs.Version.{V2}

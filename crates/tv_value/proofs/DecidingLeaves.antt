@@ -1,5 +1,5 @@
 -- Any bytes begin with a leaf of a code, a key or a field, or they are at fault there.
-use Rattle.std.proofs.Common.{◌≡◌, ◌≢◌, ℕ, zero, suc, ◌≤◌, Bool, true, false, List, [], ◌∷◌, ◌++◌, length, refl, sym, subst, arith, inl, inr}
+use Rattle.std.proofs.Common.{◌≡◌, ◌≢◌, ℕ, zero, suc, ◌≤◌, Bool, true, false, List, [], ◌∷◌, ◌++◌, length, refl, sym, ap, subst, arith, inl, inr}
 use Rattle.std.specs.Prelude.{ℤ, pos, negsuc, ◌*ℤ◌, ◌≤ℤ◌, ◌<ℤ◌}
 use Rattle.std.specs.Int.Signed.{lt_z}
 use Rattle.std.proofs.lemmas.Bool.{cases_lt}
@@ -17,10 +17,16 @@ use Rattle.tv_base.proofs.AgreeTruth.{truth_agrees}
 use Rattle.tv_base.proofs.AgreeWidths.{bytes_fault, u32_agrees, u64_agrees, u128_agrees, i64_agrees}
 use Rattle.tv_base.proofs.Deciding.{Decided, begins, faulty, Decides, Both, Items, decides_as, behind_code, decides_then, decides_each, decides_by}
 use Rattle.tv_base.proofs.SmallBytes.{bytes_after}
-use Rattle.tv_value.specs.Fault.{corrupted, no_text_key, Corrupt, corrupt, TokenFault, TokenizedFault, DateFault, date_ends, date_range, LeafFault, in_text, in_unsigned, in_signed, in_facet, in_bytes, in_date, no_extension, other_extension, in_tokenized, no_truth, other_truth, in_ip_address, CodedKeyFault, key_ends, key_unknown, key_float, key_other, key_no_extension, key_tokenized, key_other_extension, in_key, KeyFault, FieldFault, field_ends, field_large, SmallField}
-use Rattle.tv_value.specs.Spelling.{TokenSpelling, Tokenized, leaf_code, LeafBody, Key}
-use Rattle.tv_value.specs.Tree.{Token, Leaf, null, text, unsigned, signed, boolean, date, facet, bytes, ip_address, tokenized}
-use Rattle.tv_value.specs.Version.{Version, V1, V2, V3, Date}
+use Rattle.tv_value.specs.Fault.{corrupted, no_text_key, Corrupt, corrupt, TokenFault, TokenizedFault, MicrosecondsFault, date_ends, date_range, ScaledFault, ExtensionFault, no_extension, other_extension, in_tokenized, ContentFault, BodyFault, LeafFault, CodedKeyFault, key_ends, key_unknown, key_float, key_other, key_no_extension, key_tokenized, key_other_extension, in_key, KeyFault, FieldFault, field_ends, field_large, SmallField}
+use Rattle.tv_value.specs.Spelling.{TokenSpelling, Tokenized, leaf_code, ContentBody, LeafBody, Key}
+use Rattle.tv_value.specs.Content.{Content, no_content, truth_content, unsigned_content, signed_content, wide_content, text_content, bytes_content, tokens_content, form_of}
+use Rattle.tv_value.specs.Leaves.{content, form, store_code, scale}
+use Rattle.tv_value.specs.LeavesLaws.{making}
+use Rattle.tv_value.specs.Tree.{Token, Leaf}
+use Rattle.tv_value.specs.Version.{Version, V1, V2, V3, Scale, plain, thousands, Scaled, Microseconds}
+use Rattle.tv_value.specs.declared.content.Form.{Form}
+use Rattle.tv_value.specs.declared.content.Form.TheVariants as forms
+use Rattle.tv_value.specs.declared.leaf.LeafType.{LeafType}
 
 -- ---- dates
 
@@ -30,29 +36,22 @@ below a b e = omega (arith, ints)
 at_least : (a b : ℤ) → lt_z a b ≡ false → b ≤ℤ a
 at_least a b e = omega (arith, ints)
 
-abbrev DateOf : Version → List ℕ → Cause → Type 0
-DateOf v whole c = DateFault whole v c
-
-above : (z : ℤ) (whole front rest : List ℕ) (b : Bool) → lt_z (pos 9223372036854775) z ≡ b → whole ≡ front ++ rest → Signed front z → negsuc 9223372036854774 ≤ℤ z → Decided (Date V1) (DateOf V1) whole
+above : (z : ℤ) (whole front rest : List ℕ) (b : Bool) → lt_z (pos 9223372036854775) z ≡ b → whole ≡ front ++ rest → Signed front z → negsuc 9223372036854774 ≤ℤ z → Decided Microseconds MicrosecondsFault whole
 above z whole front rest true e joined s from = faulty DateRange (date_range z front rest joined s.spelled (record { fits = s.fits; outside = inr (below (pos 9223372036854775) z e) }))
 above z whole front rest false e joined s from =
     begins (z *ℤ pos 1000) front rest joined (record { microseconds = z; from = from; to = at_least (pos 9223372036854775) z e; same = refl; spelled = s.spelled })
 
-ranged : (z : ℤ) (whole front rest : List ℕ) (b : Bool) → lt_z z (negsuc 9223372036854774) ≡ b → whole ≡ front ++ rest → Signed front z → Decided (Date V1) (DateOf V1) whole
+ranged : (z : ℤ) (whole front rest : List ℕ) (b : Bool) → lt_z z (negsuc 9223372036854774) ≡ b → whole ≡ front ++ rest → Signed front z → Decided Microseconds MicrosecondsFault whole
 ranged z whole front rest true e joined s = faulty DateRange (date_range z front rest joined s.spelled (record { fits = s.fits; outside = inl (below z (negsuc 9223372036854774) e) }))
 ranged z whole front rest false e joined s = above z whole front rest (lt_z (pos 9223372036854775) z) refl joined s (at_least z (negsuc 9223372036854774) e)
 
-date_ended : (v : Version) (whole : List ℕ) (c : Cause) → BytesFault 8 whole c → DateFault whole v c
-date_ended v whole c h = let q = bytes_fault 8 whole c h in subst (DateFault whole v) (sym q.0) (date_ends q.1)
-
-microseconds : (whole : List ℕ) → Decided Signed (BytesFault 8) whole → Decided (Date V1) (DateOf V1) whole
+microseconds : (whole : List ℕ) → Decided Signed (BytesFault 8) whole → Decided Microseconds MicrosecondsFault whole
 microseconds whole (begins z front rest joined s) = ranged z whole front rest (lt_z z (negsuc 9223372036854774)) refl joined s
-microseconds whole (faulty c f) = faulty c (date_ended V1 whole c f)
+microseconds whole (faulty c f) = let q = bytes_fault 8 whole c f in faulty c (subst (MicrosecondsFault whole) (sym q.0) (date_ends q.1))
 
-decides_date : (most : ℕ) (v : Version) → Decides most (Date v) (DateOf v)
-decides_date most V1 = record { decides = λ whole small le. microseconds whole ((decides_by most i64_agrees).decides whole small le) }
-decides_date most V2 = decides_as (Date V2) (DateOf V2) (λ z. z) (λ c. c) (λ b z h. h) (date_ended V2) (decides_by most i64_agrees)
-decides_date most V3 = decides_as (Date V3) (DateOf V3) (λ z. z) (λ c. c) (λ b z h. h) (date_ended V3) (decides_by most i64_agrees)
+decides_scaled : (most : ℕ) (s : Scale) → Decides most (Scaled s) (ScaledFault s)
+decides_scaled most plain = decides_by most i64_agrees
+decides_scaled most thousands = record { decides = λ whole small le. microseconds whole ((decides_by most i64_agrees).decides whole small le) }
 
 -- ---- texts with their tokens
 
@@ -104,46 +103,36 @@ LeafAt v code whole l = (leaf_code l ≡ code) × LeafBody v whole l
 abbrev pub LeafWrong : Version → ℕ → List ℕ → Cause → Type 0
 LeafWrong v code whole c = LeafFault v whole code c
 
-pub decides_text : (most : ℕ) (v : Version) → Decides most (LeafAt v 0) (LeafWrong v 0)
-decides_text most v = decides_as (LeafAt v 0) (LeafWrong v 0) text (λ c. c) (λ b x h. (refl, h)) (λ b c f. in_text f) (decides_by most text_agrees)
+-- content of a form
+abbrev ContentOf : Scale → Form → List ℕ → Content → Type 0
+ContentOf s f whole h = (form_of h ≡ f) × ContentBody s whole h
 
-pub decides_unsigned : (most : ℕ) (v : Version) → Decides most (LeafAt v 1) (LeafWrong v 1)
-decides_unsigned most v = decides_as (LeafAt v 1) (LeafWrong v 1) unsigned (λ c. c) (λ b x h. (refl, h)) (λ b c f. in_unsigned f) (decides_by most u64_agrees)
-
-pub decides_signed : (most : ℕ) (v : Version) → Decides most (LeafAt v 2) (LeafWrong v 2)
-decides_signed most v = decides_as (LeafAt v 2) (LeafWrong v 2) signed (λ c. c) (λ b x h. (refl, h)) (λ b c f. in_signed f) (decides_by most i64_agrees)
-
-pub decides_facet : (most : ℕ) (v : Version) → Decides most (LeafAt v 3) (LeafWrong v 3)
-decides_facet most v = decides_as (LeafAt v 3) (LeafWrong v 3) facet (λ c. c) (λ b x h. (refl, h)) (λ b c f. in_facet f) (decides_by most text_agrees)
-
-pub decides_bytes : (most : ℕ) (v : Version) → Decides most (LeafAt v 4) (LeafWrong v 4)
-decides_bytes most v = decides_as (LeafAt v 4) (LeafWrong v 4) bytes (λ c. c) (λ b x h. (refl, h)) (λ b c f. in_bytes f) (decides_by most sized_agrees)
-
-pub decides_dated : (most : ℕ) (v : Version) → Decides most (LeafAt v 5) (LeafWrong v 5)
-decides_dated most v = decides_as (LeafAt v 5) (LeafWrong v 5) date (λ c. c) (λ b x h. (refl, h)) (λ b c f. in_date f) (decides_date most v)
-
-extended : (most : ℕ) (v : Version) (whole : List ℕ) → AllBytes whole → length whole ≤ suc most → Decided (LeafAt v 7) (LeafWrong v 7) whole
-extended most v [] small le = faulty UnexpectedEnd (no_extension refl)
-extended most v (zero ∷ rest) small le =
-    behind_code (LeafAt v 7) (LeafWrong v 7) (λ p. tokenized p.0 p.1) (λ c. c) 0 (λ b p h. (refl, record { body = b; joined = refl; spelled = h })) (λ b c f. in_tokenized b refl f)
+extended : (most : ℕ) (s : Scale) (whole : List ℕ) → AllBytes whole → length whole ≤ suc most → Decided (ContentOf s forms.Tokens) ExtensionFault whole
+extended most s [] small le = faulty UnexpectedEnd (no_extension refl)
+extended most s (zero ∷ rest) small le =
+    behind_code (ContentOf s forms.Tokens) ExtensionFault (λ p. tokens_content p.0 p.1) (λ c. c) 0 (λ b p h. (refl, record { body = b; joined = refl; spelled = h })) (λ b c f. in_tokenized b refl f)
     (decides_tokenized most) rest (bytes_after (zero ∷ rest) (zero ∷ []) rest refl small) (omega arith)
-extended most v (suc n ∷ rest) small le = faulty (UnknownExtCode (suc n)) (other_extension rest refl (λ e. omega (arith, e)))
+extended most s (suc n ∷ rest) small le = faulty (UnknownExtCode (suc n)) (other_extension rest refl (λ e. omega (arith, e)))
 
-pub decides_extended : (most : ℕ) (v : Version) → Decides most (LeafAt v 7) (LeafWrong v 7)
-decides_extended most v = record { decides = λ whole small le. extended most v whole small (omega arith) }
+decides_content : (most : ℕ) (s : Scale) (f : Form) → Decides most (ContentOf s f) (ContentFault s f)
+decides_content most s forms.Nothing = record { decides = λ whole small le. begins no_content [] whole refl (refl, refl) }
+decides_content most s forms.Truth = decides_as (ContentOf s forms.Truth) (ContentFault s forms.Truth) truth_content (λ c. c) (λ b x h. (refl, h)) (λ b c f. f) (decides_by most truth_agrees)
+decides_content most s forms.Unsigned = decides_as (ContentOf s forms.Unsigned) (ContentFault s forms.Unsigned) unsigned_content (λ c. c) (λ b x h. (refl, h)) (λ b c f. f) (decides_by most u64_agrees)
+decides_content most s forms.Signed = decides_as (ContentOf s forms.Signed) (ContentFault s forms.Signed) signed_content (λ c. c) (λ b x h. (refl, h)) (λ b c f. f) (decides_scaled most s)
+decides_content most s forms.Wide = decides_as (ContentOf s forms.Wide) (ContentFault s forms.Wide) wide_content (λ c. c) (λ b x h. (refl, h)) (λ b c f. f) (decides_by most u128_agrees)
+decides_content most s forms.Text = decides_as (ContentOf s forms.Text) (ContentFault s forms.Text) text_content (λ c. c) (λ b x h. (refl, h)) (λ b c f. f) (decides_by most text_agrees)
+decides_content most s forms.Bytes = decides_as (ContentOf s forms.Bytes) (ContentFault s forms.Bytes) bytes_content (λ c. c) (λ b x h. (refl, h)) (λ b c f. f) (decides_by most sized_agrees)
+decides_content most s forms.Tokens = record { decides = λ whole small le. extended most s whole small (omega arith) }
 
-truth_wrong : (v : Version) (whole : List ℕ) (c : Cause) → TruthFault whole c → LeafFault v whole 9 c
-truth_wrong v whole _ (truth_ends e) = no_truth e
-truth_wrong v whole _ (truth_large b rest e h) = other_truth b rest e h
+leaf_found : (v : Version) (t : LeafType) (whole : List ℕ) → Decided (ContentOf (scale v t) (form t)) (BodyFault v t) whole → Decided (LeafAt v (store_code t)) (LeafWrong v (store_code t)) whole
+leaf_found v t whole (begins h front rest joined p) =
+    let m = making t h p.0 in
+    begins m.made front rest joined (ap store_code m.typed, subst (λ s. ContentBody s front (content m.made)) (ap (scale v) (sym m.typed)) (subst (ContentBody (scale v t) front) (sym m.holds) p.1))
+leaf_found v t whole (faulty c f) = faulty c (record { of_type = t; coded = refl; fault = f })
 
-pub decides_boolean : (most : ℕ) (v : Version) → Decides most (LeafAt v 9) (LeafWrong v 9)
-decides_boolean most v = decides_as (LeafAt v 9) (LeafWrong v 9) boolean (λ c. c) (λ b x h. (refl, h)) (truth_wrong v) (decides_by most truth_agrees)
-
-pub decides_ip_address : (most : ℕ) (v : Version) → Decides most (LeafAt v 10) (LeafWrong v 10)
-decides_ip_address most v = decides_as (LeafAt v 10) (LeafWrong v 10) ip_address (λ c. c) (λ b x h. (refl, h)) (λ b c f. in_ip_address f) (decides_by most u128_agrees)
-
-pub decides_null : (most : ℕ) (v : Version) → Decides most (LeafAt v 11) (LeafWrong v 11)
-decides_null most v = record { decides = λ whole small le. begins null [] whole refl (refl, refl) }
+-- a leaf of each type
+pub decides_leaf : (most : ℕ) (v : Version) (t : LeafType) → Decides most (LeafAt v (store_code t)) (LeafWrong v (store_code t))
+decides_leaf most v t = record { decides = λ whole small le. leaf_found v t whole ((decides_content most (scale v t) (form t)).decides whole small le) }
 
 -- ---- keys
 

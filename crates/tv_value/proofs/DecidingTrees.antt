@@ -1,5 +1,6 @@
 -- Any bytes begin with a value, or they are at fault; so of documents. The bytes behind a value's code are fewer, so their bound falls.
 use Rattle.std.proofs.Common.{◌≡◌, ◌≢◌, ◌⊎◌, ℕ, zero, suc, ◌*◌, ◌%◌, ◌/◌, ◌≤◌, List, [], ◌∷◌, ◌++◌, length, refl, sym, ap, subst, ◌∙◌, arith, append_assoc, length-append, inl, inr}
+use Rattle.std.proofs.lemmas.Bool.{cases_lt}
 use Rattle.std.proofs.lemmas.Bool.Decides.{eqb_tells}
 use Rattle.tv_base.specs.declared.cause.Cause.{Cause}
 use Rattle.tv_base.specs.declared.cause.Cause.TheVariants.{UnexpectedEnd, UnknownTypeCode, FloatCode, OddObject}
@@ -15,7 +16,9 @@ use Rattle.tv_value.specs.ListFault.{ElementsFault, EntriesFault, in_next_key, i
 use Rattle.tv_value.specs.Spelling.{Key, Spells, SpellsElements, SpellsEntries, SpellsPair, SpellsDocument}
 use Rattle.tv_value.specs.Tree.{Tree, leaf, array, object, Elements, no_elements, element, element_count, Entries, no_entries, entry, entry_count}
 use Rattle.tv_value.specs.Version.{Version, V1, V2, V3, entry_total}
-use Rattle.tv_value.proofs.DecidingLeaves.{LeafAt, LeafWrong, decides_text, decides_unsigned, decides_signed, decides_facet, decides_bytes, decides_dated, decides_extended, decides_boolean, decides_ip_address, decides_null, decides_key, decides_field}
+use Rattle.tv_value.specs.Leaves.{store_code}
+use Rattle.tv_value.specs.LeavesLaws.{code_of_leaf}
+use Rattle.tv_value.proofs.DecidingLeaves.{LeafAt, LeafWrong, decides_leaf, decides_key, decides_field}
 
 -- what an object's number says of its entries
 data Entered (v : Version) (n : ℕ) : Type 0 where
@@ -183,23 +186,35 @@ module _ (Legacy : List ℕ → Entries → Type 0) (LegacyFault : List ℕ → 
       counted (begins n count after joined number) = halved n count after joined number (entries_of v n)
       counted (faulty c f) = faulty (corrupted c) (in_entry_count f)
 
+  above_leaves : (most : ℕ) → Decides most Value Fault → (code : ℕ) (rest : List ℕ) → AllBytes rest → length rest ≤ most → 12 ≤ code → Decided Value Fault (code ∷ rest)
+  above_leaves most value code rest small le above =
+      let Goal = λ (n : ℕ). Decided Value Fault (n ∷ rest) in
+      elim (eqb_tells code 12) as (λ _. Goal code) [
+        | inl p ↦ subst Goal (sym p.1) (of_array most value rest small le)
+        | inr p ↦ elim (eqb_tells code 13) as (λ _. Goal code) [
+          | inl q ↦ subst Goal (sym q.1) (of_object most value rest small le)
+          | inr q ↦ faulty (corrupted (UnknownTypeCode code)) (unknown_code (omega (arith, above, p.1, q.1)))
+        ]
+      ]
+
+  other_code : (most : ℕ) → Decides most Value Fault → (code : ℕ) (rest : List ℕ) → AllBytes rest → length rest ≤ most → code ≢ 6 → code ≢ 8 → Decided Value Fault (code ∷ rest)
+  other_code most value code rest small le not_float not_legacy = elim (cases_lt code 12) as (λ _. Decided Value Fault (code ∷ rest)) [
+    | inl less ↦
+        let k = code_of_leaf code less not_float not_legacy in
+        subst (λ (n : ℕ). Decided Value Fault (n ∷ rest)) k.1 (of_leaf most (store_code k.0) (decides_leaf most v k.0) rest small le)
+    | inr more ↦ above_leaves most value code rest small le (omega (arith, more))
+  ]
+
   of_code : (most : ℕ) → Decides most Value Fault → (code : ℕ) (rest : List ℕ) → AllBytes rest → length rest ≤ most → Decided Value Fault (code ∷ rest)
-  of_code most value zero rest small le = of_leaf most 0 (decides_text most v) rest small le
-  of_code most value (suc zero) rest small le = of_leaf most 1 (decides_unsigned most v) rest small le
-  of_code most value (suc (suc zero)) rest small le = of_leaf most 2 (decides_signed most v) rest small le
-  of_code most value (suc (suc (suc zero))) rest small le = of_leaf most 3 (decides_facet most v) rest small le
-  of_code most value (suc (suc (suc (suc zero)))) rest small le = of_leaf most 4 (decides_bytes most v) rest small le
-  of_code most value (suc (suc (suc (suc (suc zero))))) rest small le = of_leaf most 5 (decides_dated most v) rest small le
-  of_code most value (suc (suc (suc (suc (suc (suc zero)))))) rest small le = faulty (corrupted FloatCode) float_code
-  of_code most value (suc (suc (suc (suc (suc (suc (suc zero))))))) rest small le = of_leaf most 7 (decides_extended most v) rest small le
-  of_code most value (suc (suc (suc (suc (suc (suc (suc (suc zero)))))))) rest small le = of_legacy most rest small le
-  of_code most value (suc (suc (suc (suc (suc (suc (suc (suc (suc zero))))))))) rest small le = of_leaf most 9 (decides_boolean most v) rest small le
-  of_code most value (suc (suc (suc (suc (suc (suc (suc (suc (suc (suc zero)))))))))) rest small le = of_leaf most 10 (decides_ip_address most v) rest small le
-  of_code most value (suc (suc (suc (suc (suc (suc (suc (suc (suc (suc (suc zero))))))))))) rest small le = of_leaf most 11 (decides_null most v) rest small le
-  of_code most value (suc (suc (suc (suc (suc (suc (suc (suc (suc (suc (suc (suc zero)))))))))))) rest small le = of_array most value rest small le
-  of_code most value (suc (suc (suc (suc (suc (suc (suc (suc (suc (suc (suc (suc (suc zero))))))))))))) rest small le = of_object most value rest small le
-  of_code most value (suc (suc (suc (suc (suc (suc (suc (suc (suc (suc (suc (suc (suc (suc n)))))))))))))) rest small le =
-      faulty (corrupted (UnknownTypeCode (suc (suc (suc (suc (suc (suc (suc (suc (suc (suc (suc (suc (suc (suc n)))))))))))))))) (unknown_code (omega arith))
+  of_code most value code rest small le =
+      let Goal = λ (n : ℕ). Decided Value Fault (n ∷ rest) in
+      elim (eqb_tells code 6) as (λ _. Goal code) [
+        | inl p ↦ subst Goal (sym p.1) (faulty (corrupted FloatCode) float_code)
+        | inr p ↦ elim (eqb_tells code 8) as (λ _. Goal code) [
+          | inl q ↦ subst Goal (sym q.1) (of_legacy most rest small le)
+          | inr q ↦ other_code most value code rest small le p.1 q.1
+        ]
+      ]
 
   decided_value : (most : ℕ) (whole : List ℕ) → AllBytes whole → length whole ≤ most → Decided Value Fault whole
   decided_value most [] small le = faulty (corrupted UnexpectedEnd) value_ends

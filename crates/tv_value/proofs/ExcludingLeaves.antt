@@ -4,11 +4,14 @@ use Rattle.std.specs.Prelude.{ℤ, pos, negsuc, ◌≤ℤ◌}
 use Rattle.std.specs.Int.{w64, cast_unsigned}
 use Rattle.std.proofs.lemmas.Int.{ints}
 use Rattle.tv_base.specs.declared.cause.Cause.{Cause}
-use Rattle.tv_value.specs.Tree.{Token, Leaf, text, unsigned, signed, boolean, date, facet, bytes, ip_address, tokenized}
+use Rattle.tv_value.specs.Content.{Content, no_content, truth_content, unsigned_content, signed_content, wide_content, text_content, bytes_content, tokens_content, form_of}
+use Rattle.tv_value.specs.Leaves.{type_of, content, scale}
+use Rattle.tv_value.specs.LeavesLaws.{one_code, form_of_content, small_code}
+use Rattle.tv_value.specs.Tree.{Token, Leaf}
 use Rattle.tv_base.specs.Number.{VNum, Fixed, Truth}
-use Rattle.tv_value.specs.Version.{Version, V1, V2, V3, Date}
-use Rattle.tv_value.specs.Spelling.{TokenSpelling, Tokenized, leaf_code, LeafBody, Key}
-use Rattle.tv_value.specs.Fault.{TokenFault, TokenizedFault, IsOutside, DateFault, date_ends, date_range, LeafFault, in_text, in_unsigned, in_signed, in_facet, in_bytes, in_date, no_extension, other_extension, in_tokenized, no_truth, other_truth, in_ip_address, Refusal, Corrupt, corrupt, CodedKeyFault, KeyFault, key_ends, key_unknown, key_float, key_other, key_no_extension, key_tokenized, key_other_extension, in_key}
+use Rattle.tv_value.specs.Version.{Version, V1, V2, V3, Scale, plain, thousands, Scaled, Microseconds}
+use Rattle.tv_value.specs.Spelling.{TokenSpelling, Tokenized, leaf_code, ContentBody, LeafBody, Key}
+use Rattle.tv_value.specs.Fault.{TokenFault, TokenizedFault, IsOutside, MicrosecondsFault, date_ends, date_range, ScaledFault, ExtensionFault, no_extension, other_extension, in_tokenized, ContentFault, BodyFault, LeafFault, Refusal, Corrupt, corrupt, CodedKeyFault, KeyFault, key_ends, key_unknown, key_float, key_other, key_no_extension, key_tokenized, key_other_extension, in_key}
 use Rattle.tv_base.proofs.Numbers.{one_number, agree_fixed, length-fixed}
 use Rattle.tv_value.proofs.Leaves.{fits_microseconds}
 use Rattle.tv_value.specs.TokensLaws.{one_token}
@@ -17,7 +20,7 @@ use Rattle.tv_base.proofs.ExcludingParts.{excludes_bytes, excludes_sized, exclud
 use Rattle.tv_base.proofs.Excluding.{Excludes, excludes_then, excludes_each, excludes_number}
 use Rattle.tv_base.specs.Number.{Signed}
 use Rattle.tv_base.specs.Parts.{Behind, Text}
-use Rattle.tv_base.specs.PartFault.{InEach, NumberFault, TextFault}
+use Rattle.tv_base.specs.PartFault.{InEach, NumberFault, BytesFault, TextFault, TruthFault, truth_ends, truth_large}
 
 pub excludes_token : (t : Token) → Excludes TokenFault (λ b. TokenSpelling b t)
 excludes_token t =
@@ -36,14 +39,19 @@ excludes_tokenized t ts =
 outside : (z : ℤ) → IsOutside z → negsuc 9223372036854774 ≤ℤ z → z ≤ℤ pos 9223372036854775 → ⊥
 outside z o p q = elim o.outside [ inl h ↦ omega (arith, ints) | inr h ↦ omega (arith, ints) ]
 
-date_excludes : (v : Version) (z : ℤ) (whole a x : List ℕ) (c : Cause) → DateFault whole v c → Date v a z → whole ≡ a ++ x → ⊥
-date_excludes V1 z whole a x c (date_ends h) p e = omega (arith, ap length e, length-append a x, length-fixed p.spelled)
-date_excludes V2 z whole a x c (date_ends h) p e = omega (arith, ap length e, length-append a x, length-fixed p.spelled)
-date_excludes V3 z whole a x c (date_ends h) p e = omega (arith, ap length e, length-append a x, length-fixed p.spelled)
-date_excludes V1 z whole a x c (date_range y front rest joined q o) p e =
+micros_excludes : (z : ℤ) (whole a x : List ℕ) (c : Cause) → MicrosecondsFault whole c → Microseconds a z → whole ≡ a ++ x → ⊥
+micros_excludes z whole a x c (date_ends h) p e = omega (arith, ap length e, length-append a x, length-fixed p.spelled)
+micros_excludes z whole a x c (date_range y front rest joined q o) p e =
     let same = (agree_fixed 8 (cast_unsigned w64 y) (cast_unsigned w64 p.microseconds)).agree front a rest x q p.spelled (sym joined ∙ e) in
     let is : y ≡ p.microseconds = same_signed y p.microseconds o.fits (fits_microseconds p.microseconds p.from p.to) same.1 in
     outside p.microseconds (subst IsOutside is o) p.from p.to
+
+excludes_eight : (n : ℕ) → Excludes (BytesFault 8) (λ b. Fixed 8 b n)
+excludes_eight n = excludes_bytes 8 (λ b. Fixed 8 b n) (λ b q. length-fixed q)
+
+scaled_excludes : (s : Scale) (z : ℤ) (whole a x : List ℕ) (c : Cause) → ScaledFault s whole c → Scaled s a z → whole ≡ a ++ x → ⊥
+scaled_excludes plain z whole a x c f p e = (excludes_bytes 8 (λ b. Signed b z) (λ b q. length-fixed q.spelled)).excludes whole a x c f p e
+scaled_excludes thousands z whole a x c f p e = micros_excludes z whole a x c f p e
 
 truth_excludes : (b : Bool) (n : ℕ) (rest a x : List ℕ) → Truth a b → n ∷ rest ≡ a ++ x → 1 < n → ⊥
 truth_excludes true n rest a x p e l = let f : n ∷ rest ≡ (1 ∷ []) ++ x = e ∙ ap (λ z. z ++ x) p in let h : n ≡ 1 = cc in omega arith
@@ -53,26 +61,35 @@ truth_some : (b : Bool) (whole a x : List ℕ) → whole ≡ [] → Truth a b �
 truth_some true whole a x n p e = let f : [] ≡ (1 ∷ []) ++ x = sym n ∙ e ∙ ap (λ z. z ++ x) p in cc
 truth_some false whole a x n p e = let f : [] ≡ (0 ∷ []) ++ x = sym n ∙ e ∙ ap (λ z. z ++ x) p in cc
 
+truth_fault_excludes : (b : Bool) (whole a x : List ℕ) (c : Cause) → TruthFault whole c → Truth a b → whole ≡ a ++ x → ⊥
+truth_fault_excludes b whole a x c (truth_ends h) p e = truth_some b whole a x h p e
+truth_fault_excludes b whole a x c (truth_large n rest h l) p e = truth_excludes b n rest a x p (sym h ∙ e) l
+
+extension_excludes : (t : List ℕ) (ts : List Token) (whole a x : List ℕ) (c : Cause) → ExtensionFault whole c → Behind 0 (λ b. Tokenized b t ts) a → whole ≡ a ++ x → ⊥
+extension_excludes t ts whole a x c (no_extension h) p e = behind_some 0 whole a x h p e
+extension_excludes t ts whole a x c (other_extension {b = b} rest h ne) p e = ne (behind_head b 0 rest a x p (sym h ∙ e)).0
+extension_excludes t ts whole a x c (in_tokenized rest h f) p e = (excludes_tokenized t ts).excludes rest p.body x c f p.spelled (behind_head 0 0 rest a x p (sym h ∙ e)).1
+
+content_excludes : (s : Scale) (h : Content) (whole a x : List ℕ) (c : Cause) → ContentFault s (form_of h) whole c → ContentBody s a h → whole ≡ a ++ x → ⊥
+content_excludes s no_content whole a x c f p e = f
+content_excludes s (truth_content b) whole a x c f p e = truth_fault_excludes b whole a x c f p e
+content_excludes s (unsigned_content n) whole a x c f p e = (excludes_eight n).excludes whole a x c f p e
+content_excludes s (signed_content z) whole a x c f p e = scaled_excludes s z whole a x c f p e
+content_excludes s (wide_content n) whole a x c f p e = (excludes_bytes 16 (λ b. Fixed 16 b n) (λ b q. length-fixed q)).excludes whole a x c f p e
+content_excludes s (text_content t) whole a x c f p e = (excludes_text t).excludes whole a x c f p e
+content_excludes s (bytes_content bs) whole a x c f p e = (excludes_sized bs).excludes whole a x c f p e
+content_excludes s (tokens_content t ts) whole a x c f p e = extension_excludes t ts whole a x c f p e
+
 pub leaf_excludes : (v : Version) {whole : List ℕ} {code : ℕ} {c : Cause} → LeafFault v whole code c → (l : Leaf) → code ≡ leaf_code l
     → (a x : List ℕ) → LeafBody v a l → whole ≡ a ++ x → ⊥
-leaf_excludes v {whole} {c = c} (in_text h) (text t) k a x p e = (excludes_text t).excludes whole a x c h p e
-leaf_excludes v {whole} {c = c} (in_unsigned h) (unsigned n) k a x p e = (excludes_bytes 8 (λ b. Fixed 8 b n) (λ b q. length-fixed q)).excludes whole a x c h p e
-leaf_excludes v {whole} {c = c} (in_signed h) (signed z) k a x p e = (excludes_bytes 8 (λ b. Signed b z) (λ b q. length-fixed q.spelled)).excludes whole a x c h p e
-leaf_excludes v {whole} {c = c} (in_facet h) (facet t) k a x p e = (excludes_text t).excludes whole a x c h p e
-leaf_excludes v {whole} {c = c} (in_bytes h) (bytes bs) k a x p e = (excludes_sized bs).excludes whole a x c h p e
-leaf_excludes v {whole} {c = c} (in_date h) (date z) k a x p e = date_excludes v z whole a x c h p e
-leaf_excludes v {whole} (no_extension h) (tokenized t ts) k a x p e = behind_some 0 whole a x h p e
-leaf_excludes v (other_extension {b = b} rest h ne) (tokenized t ts) k a x p e = ne (behind_head b 0 rest a x p (sym h ∙ e)).0
-leaf_excludes v {c = c} (in_tokenized rest h f) (tokenized t ts) k a x p e = (excludes_tokenized t ts).excludes rest p.body x c f p.spelled (behind_head 0 0 rest a x p (sym h ∙ e)).1
-leaf_excludes v {whole} (no_truth h) (boolean b) k a x p e = truth_some b whole a x h p e
-leaf_excludes v (other_truth n rest h l) (boolean b) k a x p e = truth_excludes b n rest a x p (sym h ∙ e) l
-leaf_excludes v {whole} {c = c} (in_ip_address h) (ip_address n) k a x p e = (excludes_bytes 16 (λ b. Fixed 16 b n) (λ b q. length-fixed q)).excludes whole a x c h p e
-leaf_excludes v _ _ k a x p e = omega arith
+leaf_excludes v {whole} {c = c} f l k a x p e =
+    let same : f.of_type ≡ type_of l = one_code f.of_type (type_of l) (f.coded ∙ k) in
+    let fault : BodyFault v (type_of l) whole c = subst (λ t. BodyFault v t whole c) same f.fault in
+    content_excludes (scale v (type_of l)) (content l) whole a x c (subst (λ t. ContentFault (scale v (type_of l)) t whole c) (sym (form_of_content l)) fault) p e
 
--- no fault of a leaf stands behind the code of an array, an object or a legacy object
-pub leaf_fault_code : {v : Version} {whole : List ℕ} {code : ℕ} {c : Cause} → LeafFault v whole code c → (code < 12) × (code ≡ 8 → ⊥)
-leaf_fault_code (in_text h) = (omega arith, λ e. omega arith)
-leaf_fault_code _ = (omega arith, λ e. omega arith)
+-- no fault of a leaf stands behind the code of an array, an object or a legacy object, or that of floating-point numbers
+pub leaf_fault_code : {v : Version} {whole : List ℕ} {code : ℕ} {c : Cause} → LeafFault v whole code c → (code < 12) × (code ≡ 8 → ⊥) × (code ≡ 6 → ⊥)
+leaf_fault_code f = let small = small_code f.of_type in (omega (arith, f.coded, small.0), λ e. small.1 (f.coded ∙ e), λ e. small.2 (f.coded ∙ e))
 
 coded_key_excludes : {whole : List ℕ} {r : Refusal} → CodedKeyFault whole r → (k a x : List ℕ) → Behind 0 (λ b. Text b k) a → whole ≡ a ++ x → ⊥
 coded_key_excludes key_ends k a x p e = behind_some 0 [] a x refl p e

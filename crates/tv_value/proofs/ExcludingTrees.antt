@@ -8,6 +8,8 @@ use Rattle.tv_value.specs.Version.{Version, entry_total}
 use Rattle.tv_value.specs.Spelling.{leaf_code, Key, Spells, SpellsElements, SpellsEntries, SpellsPair, SpellsDocument, NoLegacy}
 use Rattle.tv_value.specs.Fault.{Refusal, Corrupt, LeafFault, FieldFault, field_ends, field_large, SmallField, ValueFault, value_ends, unknown_code, float_code, in_leaf, in_legacy, in_count, in_element, in_entry_count, odd_count, in_entry_key, in_entry, PairFault, DocumentFault, NoLegacyFault}
 use Rattle.tv_base.proofs.Numbers.{agree_number, agree_fixed, one_number, length-fixed}
+use Rattle.tv_value.specs.Leaves.{type_of}
+use Rattle.tv_value.specs.LeavesLaws.{small_code}
 use Rattle.tv_value.proofs.Leaves.{agree_key, leaf_code_small, total_same}
 use Rattle.tv_value.proofs.Trees.{agree_tree, one_pair}
 use Rattle.tv_base.proofs.Excluding.{Excludes, rests, excludes_then, excludes_each, excludes_number}
@@ -27,8 +29,7 @@ module _ (Legacy : List ℕ → Entries → Type 0) (LegacyFault : List ℕ → 
     known : code ≡ 6 → ⊥
 
   leaf_head : (l : Leaf) → (leaf_code l < 14) × (leaf_code l ≡ 6 → ⊥)
-  leaf_head Leaf.null = (omega arith, λ e. omega arith)
-  leaf_head _ = (omega arith, λ e. omega arith)
+  leaf_head l = let small = small_code (type_of l) in (omega (arith, small.0), small.2)
 
   head : (t : Tree) (a : List ℕ) → Spells Legacy v a t → Head a
   head (leaf l) a p = record { code = leaf_code l; body = p.body; joined = p.joined; small = (leaf_head l).0; known = (leaf_head l).1 }

@@ -1,12 +1,15 @@
 -- Leaves have one reading.
-use Rattle.std.proofs.Common.{◌≡◌, ℕ, ◌<◌, Bool, true, false, List, [], ◌∷◌, ◌++◌, refl, sym, ◌∙◌, ap, arith}
+use Rattle.std.proofs.Common.{◌≡◌, ℕ, ◌<◌, Bool, true, false, List, [], ◌∷◌, ◌++◌, refl, sym, ◌∙◌, ap, subst, arith}
 use Rattle.std.specs.Prelude.{ℤ, pos, negsuc, ◌*ℤ◌, ◌≤ℤ◌, FitsSigned}
 use Rattle.std.specs.Int.{w64, cast_unsigned}
 use Rattle.std.proofs.lemmas.Int.{ints}
-use Rattle.tv_value.specs.Tree.{Token, Leaf, null, text, unsigned, signed, boolean, date, facet, bytes, ip_address, tokenized}
-use Rattle.tv_value.specs.Version.{Version, V1, V2, V3, Date, Microseconds, entry_total}
+use Rattle.tv_value.specs.Content.{Content, no_content, truth_content, unsigned_content, signed_content, wide_content, text_content, bytes_content, tokens_content, form_of}
+use Rattle.tv_value.specs.Leaves.{type_of, content, form, scale}
+use Rattle.tv_value.specs.LeavesLaws.{one_leaf, form_of_content, one_code, small_code}
+use Rattle.tv_value.specs.Tree.{Token, Leaf, tokenized}
+use Rattle.tv_value.specs.Version.{Version, V1, V2, V3, Scale, plain, thousands, Scaled, Microseconds, entry_total}
 use Rattle.tv_base.specs.Number.{Truth}
-use Rattle.tv_value.specs.Spelling.{TokenSpelling, Tokenized, leaf_code, LeafBody, Key}
+use Rattle.tv_value.specs.Spelling.{TokenSpelling, Tokenized, leaf_code, ContentBody, LeafBody, Key}
 use Rattle.tv_value.specs.TokensLaws.{one_token}
 use Rattle.tv_base.proofs.Agreement.{Agree, agree_map, agree_empty, agree_then, agree_behind}
 use Rattle.tv_base.proofs.Numbers.{agree_counted, agree_fixed}
@@ -30,26 +33,31 @@ agree_microseconds s t = record {
       (r.0, p.same ∙ ap (λ m. m *ℤ pos 1000) same ∙ sym q.same);
 }
 
-agree_date : (v : Version) (s t : ℤ) → Agree (λ b. Date v b s) (λ b. Date v b t) (s ≡ t)
-agree_date V1 s t = agree_microseconds s t
-agree_date V2 s t = agree_signed s t
-agree_date V3 s t = agree_signed s t
+agree_scaled : (s : Scale) (y z : ℤ) → Agree (λ b. Scaled s b y) (λ b. Scaled s b z) (y ≡ z)
+agree_scaled plain y z = agree_signed y z
+agree_scaled thousands y z = agree_microseconds y z
 
 pub agree_tokenized : (s t : List ℕ) (ss ts : List Token) → Agree (λ b. Tokenized b s ss) (λ b. Tokenized b t ts) (tokenized s ss ≡ tokenized t ts)
 agree_tokenized s t ss ts = agree_map (λ e. λ i. tokenized (e.0 i) (e.1 i)) (agree_then (agree_text s t) (λ _. agree_counted {R = TokenSpelling} one_token ss ts))
 
+agree_content : (s : Scale) (h i : Content) → form_of h ≡ form_of i → Agree (λ b. ContentBody s b h) (λ b. ContentBody s b i) (h ≡ i)
+agree_content s no_content no_content e = agree_map (λ _. refl) agree_empty
+agree_content s (truth_content a) (truth_content b) e = agree_map (ap truth_content) (agree_truth a b)
+agree_content s (unsigned_content m) (unsigned_content n) e = agree_map (ap unsigned_content) (agree_fixed 8 m n)
+agree_content s (signed_content y) (signed_content z) e = agree_map (ap signed_content) (agree_scaled s y z)
+agree_content s (wide_content m) (wide_content n) e = agree_map (ap wide_content) (agree_fixed 16 m n)
+agree_content s (text_content a) (text_content b) e = agree_map (ap text_content) (agree_text a b)
+agree_content s (bytes_content a) (bytes_content b) e = agree_map (ap bytes_content) (agree_sized a b)
+agree_content s (tokens_content t ts) (tokens_content u us) e = agree_behind (λ _. agree_map (ap content) (agree_tokenized t u ts us))
+agree_content s _ _ e = absurd (cc)
+
 pub agree_leaf : (v : Version) (s t : Leaf) → leaf_code s ≡ leaf_code t → Agree (λ b. LeafBody v b s) (λ b. LeafBody v b t) (s ≡ t)
-agree_leaf v null null e = agree_map (λ _. refl) agree_empty
-agree_leaf v (text s) (text t) e = agree_map (ap text) (agree_text s t)
-agree_leaf v (unsigned m) (unsigned n) e = agree_map (ap unsigned) (agree_fixed 8 m n)
-agree_leaf v (signed m) (signed n) e = agree_map (ap signed) (agree_signed m n)
-agree_leaf v (boolean s) (boolean t) e = agree_map (ap boolean) (agree_truth s t)
-agree_leaf v (date s) (date t) e = agree_map (ap date) (agree_date v s t)
-agree_leaf v (facet s) (facet t) e = agree_map (ap facet) (agree_text s t)
-agree_leaf v (bytes s) (bytes t) e = agree_map (ap bytes) (agree_sized s t)
-agree_leaf v (ip_address m) (ip_address n) e = agree_map (ap ip_address) (agree_fixed 16 m n)
-agree_leaf v (tokenized s ss) (tokenized t ts) e = agree_behind (λ _. agree_tokenized s t ss ts)
-agree_leaf v _ _ e = absurd (omega arith)
+agree_leaf v s t e =
+    let same : type_of s ≡ type_of t = one_code (type_of s) (type_of t) e in
+    let forms : form_of (content s) ≡ form_of (content t) = form_of_content s ∙ ap form same ∙ sym (form_of_content t) in
+    agree_map (one_leaf s t same)
+    (subst (λ k. Agree (λ b. ContentBody (scale v (type_of s)) b (content s)) (λ b. ContentBody (scale v k) b (content t)) (content s ≡ content t)) same
+    (agree_content (scale v (type_of s)) (content s) (content t) forms))
 
 pub agree_key : (v : Version) (s t : List ℕ) → Agree (λ b. Key v b s) (λ b. Key v b t) (s ≡ t)
 agree_key V1 s t = agree_behind (λ _. agree_text s t)
@@ -64,5 +72,4 @@ total_same V3 m n e = e
 
 -- no leaf has the code of an array or an object
 pub leaf_code_small : (l : Leaf) → (leaf_code l ≡ 8 → ⊥) × (leaf_code l < 12)
-leaf_code_small null = ((λ e. absurd (omega arith)), omega arith)
-leaf_code_small _ = ((λ e. absurd (omega arith)), omega arith)
+leaf_code_small l = let small = small_code (type_of l) in (small.1, small.0)

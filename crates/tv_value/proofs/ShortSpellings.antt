@@ -1,13 +1,17 @@
 -- The shortest spelling is a spelling.
-use Rattle.std.proofs.Common.{ℕ, ◌^◌, ◌<◌, Bool, true, false, List, [], ◌∷◌, ◌++◌, length, refl, arith, inl}
+use Rattle.std.proofs.Common.{◌≡◌, ℕ, ◌^◌, ◌<◌, Bool, true, false, List, [], ◌∷◌, ◌++◌, length, refl, sym, subst, arith, inl}
 use Rattle.std.specs.Prelude.{ℤ, pos, negsuc, FitsSigned}
 use Rattle.std.specs.Int.{w64, cast_unsigned}
 use Rattle.std.specs.List.{AllByRecursion, flat_map}
 use Rattle.tv_base.specs.Number.{vnum, Fixed, Truth, four_bytes, eight_bytes, sixteen_bytes, truth_byte}
-use Rattle.tv_value.specs.Tree.{Token, Leaf, null, text, unsigned, signed, boolean, date, facet, bytes, ip_address, tokenized, Tree, leaf, array, object, Elements, no_elements, element, Entries, no_entries, entry, element_count, entry_count, Document}
-use Rattle.tv_value.specs.Version.{Version, V1, V2, V3, Date, IsWritten, entry_total}
-use Rattle.tv_value.specs.Spelling.{Key, TokenSpelling, Tokenized, LeafBody, leaf_code, Spells, SpellsElements, SpellsEntries, SpellsPair, SpellsDocument}
-use Rattle.tv_value.specs.Short.{short_token, short_tokenized, short_leaf, short_key, short, short_elements, short_entries, short_pair, short_document, IsText, IsToken, AreTokens, IsLeaf, IsValue, AreElements, AreEntries, IsPair, IsDocument}
+use Rattle.tv_value.specs.Content.{Content, no_content, truth_content, unsigned_content, signed_content, wide_content, text_content, bytes_content, tokens_content}
+use Rattle.tv_value.specs.Leaves.{type_of, content, scale}
+use Rattle.tv_value.specs.Tree.{Token, Leaf, Tree, leaf, array, object, Elements, no_elements, element, Entries, no_entries, entry, element_count, entry_count, Document}
+use Rattle.tv_value.specs.Version.{Version, V1, V2, V3, plain, IsWritten, entry_total}
+use Rattle.tv_value.specs.Spelling.{Key, TokenSpelling, Tokenized, ContentBody, LeafBody, leaf_code, Spells, SpellsElements, SpellsEntries, SpellsPair, SpellsDocument}
+use Rattle.tv_value.specs.Short.{short_token, short_tokenized, short_content, short_leaf, short_key, short, short_elements, short_entries, short_pair, short_document, IsText, IsToken, AreTokens, IsContent, IsLeaf, IsValue, AreElements, AreEntries, IsPair, IsDocument}
+use Rattle.tv_value.specs.declared.leaf.LeafType.{LeafType}
+use Rattle.tv_value.specs.declared.leaf.LeafType.TheVariants as types
 use Rattle.tv_base.proofs.Numbers.{vnum_spells, low_bytes_spell}
 use Rattle.tv_base.specs.Number.{Signed}
 use Rattle.tv_base.specs.Parts.{Then, Behind, Sized, Text, Each, short_sized}
@@ -62,10 +66,13 @@ each_of R P f h (x ∷ xs) p = then _ _ (h x p.0) (each_of R P f h xs p.1)
 pub tokenized_of : (t : List ℕ) (ts : List Token) → IsText t → AreTokens ts → Tokenized (short_tokenized t ts) t ts
 tokenized_of t ts p q = then _ _ (text_of t p) (then _ _ (vnum_spells (length ts) (omega (arith, q.count))) (each_of TokenSpelling IsToken short_token token ts q.each))
 
-date_of : (v : Version) → IsWritten v → (z : ℤ) → FitsSigned w64 z → Date v (eight_bytes (cast_unsigned w64 z)) z
-date_of V1 w z f = absurd w
-date_of V2 w z f = signed_of z f
-date_of V3 w z f = signed_of z f
+-- in the versions that are written each number stands for itself
+written_scale : (v : Version) → IsWritten v → (t : LeafType) → scale v t ≡ plain
+written_scale V1 w t = absurd w
+written_scale V2 w types.Date = refl
+written_scale V2 w _ = refl
+written_scale V3 w types.Date = refl
+written_scale V3 w _ = refl
 
 key_of : (v : Version) (k : List ℕ) → IsText k → Key v (short_key v k) k
 key_of V1 k h = behind _ (text_of k h)
@@ -77,17 +84,19 @@ total_fits V1 n h = omega arith
 total_fits V2 n h = omega arith
 total_fits V3 n h = omega arith
 
+content_spelled : (h : Content) → IsContent h → ContentBody plain (short_content h) h
+content_spelled no_content h = refl
+content_spelled (truth_content b) h = truth b
+content_spelled (unsigned_content n) h = eight n h
+content_spelled (signed_content z) h = signed_of z h
+content_spelled (wide_content n) h = sixteen n h
+content_spelled (text_content t) h = text_of t h
+content_spelled (bytes_content bs) h = sized bs h.size
+content_spelled (tokens_content t ts) h = behind _ (tokenized_of t ts h.0 h.1)
+
 leaf_of : (v : Version) → IsWritten v → (l : Leaf) → IsLeaf l → Behind (leaf_code l) (λ b. LeafBody v b l) (short_leaf l)
-leaf_of v w (text t) h = behind _ (text_of t h)
-leaf_of v w (unsigned n) h = behind _ (eight n h)
-leaf_of v w (signed z) h = behind _ (signed_of z h)
-leaf_of v w (facet t) h = behind _ (text_of t h)
-leaf_of v w (bytes bs) h = behind _ (sized bs h.size)
-leaf_of v w (date z) h = behind _ (date_of v w z h)
-leaf_of v w (tokenized t ts) h = behind _ (behind _ (tokenized_of t ts h.0 h.1))
-leaf_of v w (boolean b) h = behind _ (truth b)
-leaf_of v w (ip_address n) h = behind _ (sixteen n h)
-leaf_of v w null h = behind _ refl
+leaf_of v w l h =
+    behind _ (subst (λ s. ContentBody s (short_content (content l)) (content l)) (sym (written_scale v w (type_of l))) (content_spelled (content l) h))
 
 module _ (Legacy : List ℕ → Entries → Type 0) (v : Version) (written : IsWritten v) where
   mutual

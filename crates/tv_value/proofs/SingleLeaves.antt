@@ -4,15 +4,19 @@ use Rattle.tv_base.specs.declared.cause.Cause.{Cause}
 use Rattle.tv_base.specs.declared.cause.Cause.TheVariants.{UnknownTypeCode, UnknownExtCode, FieldNumber}
 use Rattle.tv_base.specs.Number.{VNum}
 use Rattle.tv_base.specs.Parts.{Text}
-use Rattle.tv_base.specs.PartFault.{InThen, InEach, NumberFault, BytesFault, SizedFault, TextFault}
+use Rattle.tv_base.specs.PartFault.{InThen, InEach, NumberFault, BytesFault, SizedFault, TextFault, TruthFault, truth_ends, truth_large}
 use Rattle.tv_base.proofs.Numbers.{one_number, agree_fixed, length-fixed}
 use Rattle.tv_base.proofs.Texts.{one_text}
 use Rattle.tv_base.proofs.Excluding.{excludes_number}
 use Rattle.tv_base.proofs.ExcludingParts.{excludes_text}
 use Rattle.tv_base.proofs.Single.{Single, single_then, single_each, single_number, single_bytes, single_sized, single_text}
 use Rattle.tv_value.specs.Spelling.{TokenSpelling}
-use Rattle.tv_value.specs.Version.{Version, V1, V2, V3}
-use Rattle.tv_value.specs.Fault.{TokenFault, TokenizedFault, DateFault, date_ends, date_range, LeafFault, in_text, in_unsigned, in_signed, in_facet, in_bytes, in_date, no_extension, other_extension, in_tokenized, no_truth, other_truth, in_ip_address, Refusal, corrupted, no_text_key, Corrupt, corrupt, CodedKeyFault, KeyFault, key_ends, key_unknown, key_float, key_other, key_no_extension, key_tokenized, key_other_extension, in_key, FieldFault, field_ends, field_large}
+use Rattle.tv_value.specs.Leaves.{form, scale}
+use Rattle.tv_value.specs.LeavesLaws.{one_code}
+use Rattle.tv_value.specs.Version.{Version, V1, V2, V3, Scale, plain, thousands}
+use Rattle.tv_value.specs.declared.content.Form.{Form}
+use Rattle.tv_value.specs.declared.content.Form.TheVariants as forms
+use Rattle.tv_value.specs.Fault.{TokenFault, TokenizedFault, MicrosecondsFault, date_ends, date_range, ScaledFault, ExtensionFault, no_extension, other_extension, in_tokenized, ContentFault, BodyFault, LeafFault, Refusal, corrupted, no_text_key, Corrupt, corrupt, CodedKeyFault, KeyFault, key_ends, key_unknown, key_float, key_other, key_no_extension, key_tokenized, key_other_extension, in_key, FieldFault, field_ends, field_large}
 use Rattle.tv_value.specs.TokensLaws.{one_token}
 use Rattle.tv_value.proofs.ExcludingLeaves.{excludes_token}
 
@@ -30,11 +34,11 @@ single_tokenized =
     (λ _. single_then {R = VNum} {G = λ n. InEach TokenFault TokenSpelling n} single_number excludes_number one_number
     (λ n. single_each {R = TokenSpelling} single_token excludes_token one_token n))
 
-date_single : (v : Version) (whole : List ℕ) (c d : Cause) → DateFault whole v c → DateFault whole v d → c ≡ d
-date_single v whole c d (date_ends h) (date_ends k) = refl
-date_single V1 whole c d (date_range y front rest joined q o) (date_range z f r e k p) = refl
-date_single V1 whole c d (date_ends h) (date_range y front rest joined q o) = absurd (omega (arith, ap length joined, length-append front rest, length-fixed q))
-date_single V1 whole c d (date_range y front rest joined q o) (date_ends h) = absurd (omega (arith, ap length joined, length-append front rest, length-fixed q))
+micros_single : (whole : List ℕ) (c d : Cause) → MicrosecondsFault whole c → MicrosecondsFault whole d → c ≡ d
+micros_single whole c d (date_ends h) (date_ends k) = refl
+micros_single whole c d (date_range y front rest joined q o) (date_range z f r e k p) = refl
+micros_single whole c d (date_ends h) (date_range y front rest joined q o) = absurd (omega (arith, ap length joined, length-append front rest, length-fixed q))
+micros_single whole c d (date_range y front rest joined q o) (date_ends h) = absurd (omega (arith, ap length joined, length-append front rest, length-fixed q))
 
 no_head : {b : ℕ} {rest whole : List ℕ} → whole ≡ [] → whole ≡ b ∷ rest → ⊥
 no_head e f = let g = sym e ∙ f in cc
@@ -45,31 +49,41 @@ heads e f = let g = sym e ∙ f in (cc, cc)
 leaf_same : (F : List ℕ → Cause → Type 0) → Single F → {whole other : List ℕ} {c d : Cause} → F whole c → F other d → whole ≡ other → c ≡ d
 leaf_same F f {whole} {other} {c} {d} h k e = f.single whole c d h (subst (λ l. F l d) (sym e) k)
 
-date_same : (v : Version) {whole other : List ℕ} {c d : Cause} → DateFault whole v c → DateFault other v d → whole ≡ other → c ≡ d
-date_same v {whole} {other} {c} {d} h k e = date_single v whole c d h (subst (λ l. DateFault l v d) (sym e) k)
+extension_single : (whole : List ℕ) (c d : Cause) → ExtensionFault whole c → ExtensionFault whole d → c ≡ d
+extension_single whole c d (no_extension h) (no_extension k) = refl
+extension_single whole c d (no_extension h) (other_extension rest k ne) = absurd (no_head h k)
+extension_single whole c d (no_extension h) (in_tokenized rest k f) = absurd (no_head h k)
+extension_single whole c d (other_extension rest h ne) (no_extension k) = absurd (no_head k h)
+extension_single whole c d (other_extension rest h ne) (other_extension r k n) = ap UnknownExtCode (heads h k).0
+extension_single whole c d (other_extension rest h ne) (in_tokenized r k f) = absurd (ne (heads h k).0)
+extension_single whole c d (in_tokenized rest h f) (no_extension k) = absurd (no_head k h)
+extension_single whole c d (in_tokenized rest h f) (other_extension r k ne) = absurd (ne (sym (heads h k).0))
+extension_single whole c d (in_tokenized rest h f) (in_tokenized r k g) = leaf_same TokenizedFault single_tokenized f g (heads h k).1
+
+truth_single : (whole : List ℕ) (c d : Cause) → TruthFault whole c → TruthFault whole d → c ≡ d
+truth_single whole c d (truth_ends h) (truth_ends k) = refl
+truth_single whole c d (truth_ends h) (truth_large b rest k l) = absurd (no_head h k)
+truth_single whole c d (truth_large b rest h l) (truth_ends k) = absurd (no_head k h)
+truth_single whole c d (truth_large b rest h l) (truth_large n r k m) = refl
+
+single_scaled : (s : Scale) → Single (ScaledFault s)
+single_scaled plain = single_bytes 8
+single_scaled thousands = record { single = micros_single }
+
+single_content : (s : Scale) (f : Form) → Single (ContentFault s f)
+single_content s forms.Nothing = record { single = λ whole c d h k. absurd h }
+single_content s forms.Truth = record { single = truth_single }
+single_content s forms.Unsigned = single_bytes 8
+single_content s forms.Signed = single_scaled s
+single_content s forms.Wide = single_bytes 16
+single_content s forms.Text = single_text
+single_content s forms.Bytes = single_sized
+single_content s forms.Tokens = record { single = extension_single }
 
 pub leaf_single : (v : Version) {whole other : List ℕ} {code same : ℕ} {c d : Cause} → LeafFault v whole code c → LeafFault v other same d → code ≡ same → whole ≡ other → c ≡ d
-leaf_single v (in_text h) (in_text k) s e = leaf_same TextFault single_text h k e
-leaf_single v (in_unsigned h) (in_unsigned k) s e = leaf_same (BytesFault 8) (single_bytes 8) h k e
-leaf_single v (in_signed h) (in_signed k) s e = leaf_same (BytesFault 8) (single_bytes 8) h k e
-leaf_single v (in_facet h) (in_facet k) s e = leaf_same TextFault single_text h k e
-leaf_single v (in_bytes h) (in_bytes k) s e = leaf_same SizedFault single_sized h k e
-leaf_single v (in_date h) (in_date k) s e = date_same v h k e
-leaf_single v (no_extension h) (no_extension k) s e = refl
-leaf_single v (no_extension h) (other_extension rest k ne) s e = absurd (no_head h (e ∙ k))
-leaf_single v (no_extension h) (in_tokenized rest k f) s e = absurd (no_head h (e ∙ k))
-leaf_single v (other_extension rest h ne) (no_extension k) s e = absurd (no_head k (sym e ∙ h))
-leaf_single v (other_extension rest h ne) (other_extension r k n) s e = ap UnknownExtCode (heads h (e ∙ k)).0
-leaf_single v (other_extension rest h ne) (in_tokenized r k f) s e = absurd (ne (heads h (e ∙ k)).0)
-leaf_single v (in_tokenized rest h f) (no_extension k) s e = absurd (no_head k (sym e ∙ h))
-leaf_single v (in_tokenized rest h f) (other_extension r k ne) s e = absurd (ne (sym (heads h (e ∙ k)).0))
-leaf_single v (in_tokenized rest h f) (in_tokenized r k g) s e = leaf_same TokenizedFault single_tokenized f g (heads h (e ∙ k)).1
-leaf_single v (no_truth h) (no_truth k) s e = refl
-leaf_single v (no_truth h) (other_truth b rest k l) s e = absurd (no_head h (e ∙ k))
-leaf_single v (other_truth b rest h l) (no_truth k) s e = absurd (no_head k (sym e ∙ h))
-leaf_single v (other_truth b rest h l) (other_truth n r k m) s e = refl
-leaf_single v (in_ip_address h) (in_ip_address k) s e = leaf_same (BytesFault 16) (single_bytes 16) h k e
-leaf_single v _ _ s e = absurd (omega (arith, s))
+leaf_single v {other = other} {d = d} f g s e =
+    let is : g.of_type ≡ f.of_type = one_code g.of_type f.of_type (g.coded ∙ sym s ∙ sym f.coded) in
+    leaf_same (BodyFault v f.of_type) (single_content (scale v f.of_type) (form f.of_type)) f.fault (subst (λ t. BodyFault v t other d) is g.fault) e
 
 -- ---- keys
 

@@ -101,8 +101,7 @@ module _ (Legacy : List ℕ → Entries → Type 0) (LegacyFault : List ℕ → 
   at_unknown b rest l (of_object r e f) = absurd (omega (arith, (heads e).0))
 
   no_float : {rest : List ℕ} {code : ℕ} {c : Cause} → LeafFault v rest code c → 6 ≡ code → ⊥
-  no_float (LeafFault.in_text f) e = absurd (omega arith)
-  no_float _ e = absurd (omega arith)
+  no_float f e = (leaf_fault_code f).2 (sym e)
 
   at_float : {rest : List ℕ} {s : Refusal} → Kind (6 ∷ rest) s → corrupted FloatCode ≡ s
   at_float (float r e is) = sym is

@@ -2,13 +2,17 @@
 use Rattle.std.specs.Prelude.{◌≡◌, ◌≢◌, ℕ, ◌<◌, ◌≤◌, ◌⊎◌, List, [], ◌∷◌, ◌++◌, length, ℤ, pos, negsuc, ◌<ℤ◌, FitsSigned}
 use Rattle.std.specs.Int.{w64, cast_unsigned}
 use Rattle.tv_base.specs.declared.cause.Cause.{Cause}
-use Rattle.tv_base.specs.declared.cause.Cause.TheVariants.{UnexpectedEnd, UnknownTypeCode, FloatCode, UnknownExtCode, BadBool, OddObject, FieldNumber, DateRange}
+use Rattle.tv_base.specs.declared.cause.Cause.TheVariants.{UnexpectedEnd, UnknownTypeCode, FloatCode, UnknownExtCode, OddObject, FieldNumber, DateRange}
 use Rattle.tv_base.specs.Number.{VNum, Fixed}
 use Rattle.tv_base.specs.Parts.{Text}
-use Rattle.tv_base.specs.PartFault.{InThen, InEach, NumberFault, BytesFault, SizedFault, TextFault}
+use Rattle.tv_base.specs.PartFault.{InThen, InEach, NumberFault, BytesFault, SizedFault, TextFault, TruthFault}
 use Rattle.tv_value.specs.Tree.{Elements, Entries, element_count, entry_count}
-use Rattle.tv_value.specs.Version.{Version, V1, V2, V3, entry_total}
+use Rattle.tv_value.specs.Leaves.{form, store_code, scale}
+use Rattle.tv_value.specs.Version.{Version, V1, V2, V3, Scale, plain, thousands, date_scale, entry_total}
 use Rattle.tv_value.specs.Spelling.{TokenSpelling, Key, SpellsElements, SpellsEntries, SpellsPair}
+use Rattle.tv_value.specs.declared.content.Form.{Form}
+use Rattle.tv_value.specs.declared.content.Form.TheVariants as forms
+use Rattle.tv_value.specs.declared.leaf.LeafType.{LeafType}
 
 -- Why bytes are refused: they are corrupt, or in a key's place stands a value of another type, here named by its code.
 pub data Refusal : Type 0 where
@@ -34,24 +38,42 @@ pub record IsOutside (z : ℤ) : Type 0 where
   pub fits : FitsSigned w64 z
   pub outside : (z <ℤ negsuc 9223372036854774) ⊎ (pos 9223372036854775 <ℤ z)
 
-pub data DateFault (whole : List ℕ) : Version → Cause → Type 0 where
-  date_ends : {v : Version} → length whole < 8 → DateFault whole v UnexpectedEnd
-  date_range : (z : ℤ) (front rest : List ℕ) → whole ≡ front ++ rest → Fixed 8 front (cast_unsigned w64 z) → IsOutside z → DateFault whole V1 DateRange
+pub data MicrosecondsFault (whole : List ℕ) : Cause → Type 0 where
+  date_ends : length whole < 8 → MicrosecondsFault whole UnexpectedEnd
+  date_range : (z : ℤ) (front rest : List ℕ) → whole ≡ front ++ rest → Fixed 8 front (cast_unsigned w64 z) → IsOutside z → MicrosecondsFault whole DateRange
+
+abbrev pub ScaledFault : Scale → List ℕ → Cause → Type 0
+ScaledFault plain = BytesFault 8
+ScaledFault thousands = MicrosecondsFault
+
+abbrev pub DateFault : List ℕ → Version → Cause → Type 0
+DateFault whole v c = ScaledFault (date_scale v) whole c
+
+-- behind the code of extensions: there is no other code, it is that of none, or the text with its tokens is at fault
+pub data ExtensionFault (whole : List ℕ) : Cause → Type 0 where
+  no_extension : whole ≡ [] → ExtensionFault whole UnexpectedEnd
+  other_extension : {b : ℕ} (rest : List ℕ) → whole ≡ b ∷ rest → b ≢ 0 → ExtensionFault whole (UnknownExtCode b)
+  in_tokenized : {c : Cause} (rest : List ℕ) → whole ≡ 0 ∷ rest → TokenizedFault rest c → ExtensionFault whole c
+
+abbrev pub ContentFault : Scale → Form → List ℕ → Cause → Type 0
+ContentFault s forms.Nothing = λ whole c. ⊥
+ContentFault s forms.Truth = TruthFault
+ContentFault s forms.Unsigned = BytesFault 8
+ContentFault s forms.Signed = ScaledFault s
+ContentFault s forms.Wide = BytesFault 16
+ContentFault s forms.Text = TextFault
+ContentFault s forms.Bytes = SizedFault
+ContentFault s forms.Tokens = ExtensionFault
+
+-- of what a leaf of a type holds
+abbrev pub BodyFault : Version → LeafType → List ℕ → Cause → Type 0
+BodyFault v t = ContentFault (scale v t) (form t)
 
 -- behind the code of a leaf
-pub data LeafFault (v : Version) (whole : List ℕ) : ℕ → Cause → Type 0 where
-  in_text : {c : Cause} → TextFault whole c → LeafFault v whole 0 c
-  in_unsigned : {c : Cause} → BytesFault 8 whole c → LeafFault v whole 1 c
-  in_signed : {c : Cause} → BytesFault 8 whole c → LeafFault v whole 2 c
-  in_facet : {c : Cause} → TextFault whole c → LeafFault v whole 3 c
-  in_bytes : {c : Cause} → SizedFault whole c → LeafFault v whole 4 c
-  in_date : {c : Cause} → DateFault whole v c → LeafFault v whole 5 c
-  no_extension : whole ≡ [] → LeafFault v whole 7 UnexpectedEnd
-  other_extension : {b : ℕ} (rest : List ℕ) → whole ≡ b ∷ rest → b ≢ 0 → LeafFault v whole 7 (UnknownExtCode b)
-  in_tokenized : {c : Cause} (rest : List ℕ) → whole ≡ 0 ∷ rest → TokenizedFault rest c → LeafFault v whole 7 c
-  no_truth : whole ≡ [] → LeafFault v whole 9 UnexpectedEnd
-  other_truth : (b : ℕ) (rest : List ℕ) → whole ≡ b ∷ rest → 1 < b → LeafFault v whole 9 BadBool
-  in_ip_address : {c : Cause} → BytesFault 16 whole c → LeafFault v whole 10 c
+pub record LeafFault (v : Version) (whole : List ℕ) (code : ℕ) (c : Cause) : Type 0 where
+  pub of_type : LeafType
+  pub coded : store_code of_type ≡ code
+  pub fault : BodyFault v of_type whole c
 
 -- in a key's place, of versions 1 and 2
 pub data CodedKeyFault : List ℕ → Refusal → Type 0 where

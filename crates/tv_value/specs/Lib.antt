@@ -1,4 +1,8 @@
 pub mod Tree
+pub mod Content
+pub mod Leaves
+pub mod LeavesLaws
+pub mod LeafParts
 pub mod TreeCode
 pub mod Version
 pub mod Spelling

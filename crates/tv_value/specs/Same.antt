@@ -3,25 +3,30 @@ use Rattle.std.specs.Prelude.{Bool, true, false, ◌&&◌, nat_eq}
 use Rattle.std.specs.Ordering.{int_eq}
 use Rattle.std.specs.Str.{bytes_eq}
 use Rattle.tv_value.specs.SameTokens.{tokenized_eq}
-use Rattle.tv_value.specs.Tree.{Leaf, null, text, unsigned, signed, boolean, date, facet, bytes, ip_address, tokenized, Tree, leaf, array, object, Elements, no_elements, element, Entries, no_entries, entry}
+use Rattle.tv_value.specs.Content.{Content, no_content, truth_content, unsigned_content, signed_content, wide_content, text_content, bytes_content, tokens_content}
+use Rattle.tv_value.specs.Leaves.{content}
+use Rattle.tv_value.specs.Spelling.{leaf_code}
+use Rattle.tv_value.specs.Tree.{Leaf, Tree, leaf, array, object, Elements, no_elements, element, Entries, no_entries, entry}
 
 abbrev pub bool_eq : Bool → Bool → Bool
 bool_eq true b = b
 bool_eq false true = false
 bool_eq false false = true
 
+abbrev pub content_eq : Content → Content → Bool
+content_eq no_content no_content = true
+content_eq (truth_content a) (truth_content b) = bool_eq a b
+content_eq (unsigned_content m) (unsigned_content n) = nat_eq m n
+content_eq (signed_content y) (signed_content z) = int_eq y z
+content_eq (wide_content m) (wide_content n) = nat_eq m n
+content_eq (text_content s) (text_content t) = bytes_eq s t
+content_eq (bytes_content s) (bytes_content t) = bytes_eq s t
+content_eq (tokens_content s ss) (tokens_content t ts) = tokenized_eq (s, ss) (t, ts)
+content_eq _ _ = false
+
+-- of one type, with the same content
 abbrev pub leaf_eq : Leaf → Leaf → Bool
-leaf_eq null null = true
-leaf_eq (text s) (text t) = bytes_eq s t
-leaf_eq (unsigned m) (unsigned n) = nat_eq m n
-leaf_eq (signed y) (signed z) = int_eq y z
-leaf_eq (boolean a) (boolean b) = bool_eq a b
-leaf_eq (date y) (date z) = int_eq y z
-leaf_eq (facet s) (facet t) = bytes_eq s t
-leaf_eq (bytes s) (bytes t) = bytes_eq s t
-leaf_eq (ip_address m) (ip_address n) = nat_eq m n
-leaf_eq (tokenized s ss) (tokenized t ts) = tokenized_eq (s, ss) (t, ts)
-leaf_eq _ _ = false
+leaf_eq l m = nat_eq (leaf_code l) (leaf_code m) && content_eq (content l) (content m)
 
 abbrev mutual
   pub tree_eq : Tree → Tree → Bool

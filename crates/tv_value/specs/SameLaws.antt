@@ -5,8 +5,12 @@ use Rattle.std.proofs.lemmas.Slice.Eq.{bytes_eq-Decides}
 use Rattle.std.specs.Prelude.{nat_eq}
 use Rattle.std.specs.Str.{bytes_eq}
 use Rattle.tv_value.specs.SameTokensLaws.{tokenized_eq-Decides}
-use Rattle.tv_value.specs.Tree.{Leaf, null, text, unsigned, signed, boolean, date, facet, bytes, ip_address, tokenized, Tree, leaf, array, object, Elements, no_elements, element, Entries, no_entries, entry}
-use Rattle.tv_value.specs.Same.{bool_eq, leaf_eq, tree_eq, elements_eq, entries_eq}
+use Rattle.tv_value.specs.Content.{Content, no_content, truth_content, unsigned_content, signed_content, wide_content, text_content, bytes_content, tokens_content}
+use Rattle.tv_value.specs.Leaves.{type_of, content}
+use Rattle.tv_value.specs.LeavesLaws.{one_leaf, one_code}
+use Rattle.tv_value.specs.Spelling.{leaf_code}
+use Rattle.tv_value.specs.Tree.{Leaf, Tree, leaf, array, object, Elements, no_elements, element, Entries, no_entries, entry}
+use Rattle.tv_value.specs.Same.{bool_eq, content_eq, leaf_eq, tree_eq, elements_eq, entries_eq}
 
 left_true : (a b : Bool) → (a && b) ≡ true → a ≡ true
 left_true true b h = refl
@@ -34,30 +38,34 @@ number_refl n = (Decides-eqb n n).1 refl
 bytes_refl : (s : List ℕ) → bytes_eq s s ≡ true
 bytes_refl s = (bytes_eq-Decides s s).1 refl
 
+content_same : (h i : Content) → content_eq h i ≡ true → h ≡ i
+content_same no_content no_content h = refl
+content_same (truth_content a) (truth_content b) h = ap truth_content (bool_same a b h)
+content_same (unsigned_content m) (unsigned_content n) h = ap unsigned_content ((Decides-eqb m n).0 h)
+content_same (signed_content y) (signed_content z) h = ap signed_content ((Decides-int_eq y z).0 h)
+content_same (wide_content m) (wide_content n) h = ap wide_content ((Decides-eqb m n).0 h)
+content_same (text_content s) (text_content t) h = ap text_content ((bytes_eq-Decides s t).0 h)
+content_same (bytes_content s) (bytes_content t) h = ap bytes_content ((bytes_eq-Decides s t).0 h)
+content_same (tokens_content s ss) (tokens_content t ts) h = ap (λ x. tokens_content x.0 x.1) ((tokenized_eq-Decides (s, ss) (t, ts)).0 h)
+content_same _ _ h = cc
+
+content_refl : (h : Content) → content_eq h h ≡ true
+content_refl no_content = refl
+content_refl (truth_content a) = bool_refl a
+content_refl (unsigned_content n) = number_refl n
+content_refl (signed_content z) = (Decides-int_eq z z).1 refl
+content_refl (wide_content n) = number_refl n
+content_refl (text_content s) = bytes_refl s
+content_refl (bytes_content s) = bytes_refl s
+content_refl (tokens_content s ss) = (tokenized_eq-Decides (s, ss) (s, ss)).1 refl
+
 leaf_same : (l m : Leaf) → leaf_eq l m ≡ true → l ≡ m
-leaf_same null null h = refl
-leaf_same (text s) (text t) h = ap text ((bytes_eq-Decides s t).0 h)
-leaf_same (unsigned m) (unsigned n) h = ap unsigned ((Decides-eqb m n).0 h)
-leaf_same (signed y) (signed z) h = ap signed ((Decides-int_eq y z).0 h)
-leaf_same (boolean a) (boolean b) h = ap boolean (bool_same a b h)
-leaf_same (date y) (date z) h = ap date ((Decides-int_eq y z).0 h)
-leaf_same (facet s) (facet t) h = ap facet ((bytes_eq-Decides s t).0 h)
-leaf_same (bytes s) (bytes t) h = ap bytes ((bytes_eq-Decides s t).0 h)
-leaf_same (ip_address m) (ip_address n) h = ap ip_address ((Decides-eqb m n).0 h)
-leaf_same (tokenized s ss) (tokenized t ts) h = ap (λ x. tokenized x.0 x.1) ((tokenized_eq-Decides (s, ss) (t, ts)).0 h)
-leaf_same _ _ h = cc
+leaf_same l m h =
+    let code : leaf_code l ≡ leaf_code m = (Decides-eqb (leaf_code l) (leaf_code m)).0 (left_true _ _ h) in
+    one_leaf l m (one_code (type_of l) (type_of m) code) (content_same (content l) (content m) (right_true _ _ h))
 
 leaf_refl : (l : Leaf) → leaf_eq l l ≡ true
-leaf_refl null = refl
-leaf_refl (text s) = bytes_refl s
-leaf_refl (unsigned n) = number_refl n
-leaf_refl (signed z) = (Decides-int_eq z z).1 refl
-leaf_refl (boolean a) = bool_refl a
-leaf_refl (date z) = (Decides-int_eq z z).1 refl
-leaf_refl (facet s) = bytes_refl s
-leaf_refl (bytes s) = bytes_refl s
-leaf_refl (ip_address n) = number_refl n
-leaf_refl (tokenized s ss) = (tokenized_eq-Decides (s, ss) (s, ss)).1 refl
+leaf_refl l = both _ _ (number_refl (leaf_code l)) (content_refl (content l))
 
 mutual
   tree_same : (t u : Tree) → tree_eq t u ≡ true → t ≡ u

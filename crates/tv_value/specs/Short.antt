@@ -1,11 +1,14 @@
 -- The spelling with the fewest bytes, and what has one.
 use Rattle.std.specs.Prelude.{ℕ, ◌^◌, ◌<◌, ◌≤◌, List, [], ◌∷◌, ◌++◌, length, IsUtf8, FitsSigned}
-use Rattle.std.specs.Int.{w64, cast_unsigned}
+use Rattle.std.specs.Int.{w64}
 use Rattle.std.specs.List.{AllByRecursion, flat_map}
 use Rattle.tv_base.specs.Parts.{short_sized}
-use Rattle.tv_base.specs.Number.{vnum, four_bytes, eight_bytes, sixteen_bytes, truth_byte}
+use Rattle.tv_base.specs.Number.{vnum, four_bytes, eight_bytes, sixteen_bytes, signed_bytes, truth_byte}
 use Rattle.tv_value.specs.Version.{Version, V1, V2, V3, entry_total}
-use Rattle.tv_value.specs.Tree.{Token, Leaf, null, text, unsigned, signed, boolean, date, facet, bytes, ip_address, tokenized, Tree, leaf, array, object, Elements, no_elements, element, Entries, no_entries, entry, element_count, entry_count, Document}
+use Rattle.tv_value.specs.Content.{Content, no_content, truth_content, unsigned_content, signed_content, wide_content, text_content, bytes_content, tokens_content}
+use Rattle.tv_value.specs.Leaves.{content}
+use Rattle.tv_value.specs.Spelling.{leaf_code}
+use Rattle.tv_value.specs.Tree.{Token, Leaf, Tree, leaf, array, object, Elements, no_elements, element, Entries, no_entries, entry, element_count, entry_count, Document}
 
 abbrev pub short_token : Token → List ℕ
 short_token token =
@@ -14,17 +17,18 @@ short_token token =
 abbrev pub short_tokenized : List ℕ → List Token → List ℕ
 short_tokenized content tokens = short_sized content ++ (vnum (length tokens) ++ flat_map short_token tokens)
 
+abbrev pub short_content : Content → List ℕ
+short_content no_content = []
+short_content (truth_content b) = truth_byte b
+short_content (unsigned_content n) = eight_bytes n
+short_content (signed_content z) = signed_bytes z
+short_content (wide_content n) = sixteen_bytes n
+short_content (text_content t) = short_sized t
+short_content (bytes_content bs) = short_sized bs
+short_content (tokens_content t ts) = 0 ∷ short_tokenized t ts
+
 abbrev pub short_leaf : Leaf → List ℕ
-short_leaf (text t) = 0 ∷ short_sized t
-short_leaf (unsigned n) = 1 ∷ eight_bytes n
-short_leaf (signed z) = 2 ∷ eight_bytes (cast_unsigned w64 z)
-short_leaf (facet t) = 3 ∷ short_sized t
-short_leaf (bytes bs) = 4 ∷ short_sized bs
-short_leaf (date z) = 5 ∷ eight_bytes (cast_unsigned w64 z)
-short_leaf (tokenized t ts) = 7 ∷ 0 ∷ short_tokenized t ts
-short_leaf (boolean b) = 9 ∷ truth_byte b
-short_leaf (ip_address n) = 10 ∷ sixteen_bytes n
-short_leaf null = 11 ∷ []
+short_leaf l = leaf_code l ∷ short_content (content l)
 
 -- a key
 abbrev pub short_key : Version → List ℕ → List ℕ
@@ -72,17 +76,18 @@ pub record AreTokens (tokens : List Token) : Type 0 where
   pub count : length tokens < 2 ^ 63
   pub each : AllByRecursion IsToken tokens
 
+abbrev pub IsContent : Content → Type 0
+IsContent no_content = Unit {0}
+IsContent (truth_content b) = Unit {0}
+IsContent (unsigned_content n) = n < 2 ^ 64
+IsContent (signed_content z) = FitsSigned w64 z
+IsContent (wide_content n) = n < 2 ^ 128
+IsContent (text_content t) = IsText t
+IsContent (bytes_content bs) = IsSized bs
+IsContent (tokens_content t ts) = IsText t × AreTokens ts
+
 abbrev pub IsLeaf : Leaf → Type 0
-IsLeaf (text t) = IsText t
-IsLeaf (unsigned n) = n < 2 ^ 64
-IsLeaf (signed z) = FitsSigned w64 z
-IsLeaf (facet t) = IsText t
-IsLeaf (bytes bs) = IsSized bs
-IsLeaf (date z) = FitsSigned w64 z
-IsLeaf (tokenized t ts) = IsText t × AreTokens ts
-IsLeaf (boolean b) = Unit {0}
-IsLeaf (ip_address n) = n < 2 ^ 128
-IsLeaf null = Unit {0}
+IsLeaf l = IsContent (content l)
 
 abbrev mutual
   pub IsValue : Tree → Type 0

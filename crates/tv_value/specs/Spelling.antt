@@ -1,9 +1,11 @@
 -- What bytes spell which values.
 use Rattle.std.specs.Prelude.{◌≡◌, ℕ, ◌≤◌, ◌⊎◌, List, [], ◌++◌}
-use Rattle.tv_value.specs.Tree.{Token, Leaf, null, text, unsigned, signed, boolean, date, facet, bytes, ip_address, tokenized, Tree, leaf, array, object, Elements, no_elements, element, Entries, no_entries, entry, element_count, entry_count, Document}
-use Rattle.tv_base.specs.Number.{VNum, Fixed, Signed, Truth}
+use Rattle.tv_value.specs.Content.{Content, no_content, truth_content, unsigned_content, signed_content, wide_content, text_content, bytes_content, tokens_content}
+use Rattle.tv_value.specs.Leaves.{type_of, content, store_code, scale}
+use Rattle.tv_value.specs.Tree.{Token, Leaf, Tree, leaf, array, object, Elements, no_elements, element, Entries, no_entries, entry, element_count, entry_count, Document}
+use Rattle.tv_base.specs.Number.{VNum, Fixed, Truth}
 use Rattle.tv_base.specs.Parts.{Then, Behind, Sized, Text, Counted}
-use Rattle.tv_value.specs.Version.{Version, V1, V2, V3, Date, entry_total}
+use Rattle.tv_value.specs.Version.{Version, V1, V2, V3, Scale, Scaled, entry_total}
 
 -- five parts, one after the other
 abbrev pub TokenSpelling : List ℕ → Token → Type 0
@@ -19,29 +21,22 @@ abbrev pub Tokenized : List ℕ → List ℕ → List Token → Type 0
 Tokenized whole content tokens = Then (λ b. Text b content) (λ b. Counted TokenSpelling b tokens) whole
 
 abbrev pub leaf_code : Leaf → ℕ
-leaf_code (text t) = 0
-leaf_code (unsigned n) = 1
-leaf_code (signed z) = 2
-leaf_code (facet t) = 3
-leaf_code (bytes bs) = 4
-leaf_code (date z) = 5
-leaf_code (tokenized t ts) = 7
-leaf_code (boolean b) = 9
-leaf_code (ip_address n) = 10
-leaf_code null = 11
+leaf_code l = store_code (type_of l)
 
--- what stands behind the code
+-- what is held, with its numbers on a scale; a text with its tokens stands behind a code of its own
+abbrev pub ContentBody : Scale → List ℕ → Content → Type 0
+ContentBody s whole no_content = whole ≡ []
+ContentBody s whole (truth_content b) = Truth whole b
+ContentBody s whole (unsigned_content n) = Fixed 8 whole n
+ContentBody s whole (signed_content z) = Scaled s whole z
+ContentBody s whole (wide_content n) = Fixed 16 whole n
+ContentBody s whole (text_content t) = Text whole t
+ContentBody s whole (bytes_content bs) = Sized whole bs
+ContentBody s whole (tokens_content t ts) = Behind 0 (λ b. Tokenized b t ts) whole
+
+-- what stands behind the code of a leaf
 abbrev pub LeafBody : Version → List ℕ → Leaf → Type 0
-LeafBody v whole (text t) = Text whole t
-LeafBody v whole (unsigned n) = Fixed 8 whole n
-LeafBody v whole (signed z) = Signed whole z
-LeafBody v whole (facet t) = Text whole t
-LeafBody v whole (bytes bs) = Sized whole bs
-LeafBody v whole (date z) = Date v whole z
-LeafBody v whole (tokenized t ts) = Behind 0 (λ b. Tokenized b t ts) whole
-LeafBody v whole (boolean b) = Truth whole b
-LeafBody v whole (ip_address n) = Fixed 16 whole n
-LeafBody v whole null = whole ≡ []
+LeafBody v whole l = ContentBody (scale v (type_of l)) whole (content l)
 
 -- a key: a text, with its code in versions 1 and 2
 abbrev pub Key : Version → List ℕ → List ℕ → Type 0

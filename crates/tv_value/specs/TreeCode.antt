@@ -3,7 +3,11 @@ use Rattle.std.specs.Prelude.{◌≡◌, ℕ, List, refl}
 use Rattle.std.proofs.Common.{ap}
 use Rattle.std.specs.Coded.{Coded, code_by, coded×, coded_list, coded_ℕ, coded_ℤ, coded_bool}
 use base.Stored.{Gv, gnil, gnum, gcons}
-use Rattle.tv_value.specs.Tree.{Token, Leaf, null, text, unsigned, signed, boolean, date, facet, bytes, ip_address, tokenized, Tree, leaf, array, object, Elements, no_elements, element, Entries, no_entries, entry}
+use Rattle.tv_value.specs.Content.{Content, no_content, truth_content, unsigned_content, signed_content, wide_content, text_content, bytes_content, tokens_content}
+use Rattle.tv_value.specs.Leaves.{type_of, content}
+use Rattle.tv_value.specs.LeavesLaws.{one_leaf, one_code}
+use Rattle.tv_value.specs.Spelling.{leaf_code}
+use Rattle.tv_value.specs.Tree.{Token, Leaf, Tree, leaf, array, object, Elements, no_elements, element, Entries, no_entries, entry}
 
 abbrev pub coded_text : Coded (List ℕ)
 coded_text = coded_list coded_ℕ
@@ -18,17 +22,18 @@ coded_token =
 abbrev pub coded_tokenized : Coded (List ℕ × List Token)
 coded_tokenized = coded× coded_text (coded_list coded_token)
 
+abbrev pub content_gv : Content → Gv
+content_gv no_content = gnil
+content_gv (truth_content b) = gcons (gnum 0) (coded_bool.code b)
+content_gv (unsigned_content n) = gcons (gnum 1) (coded_ℕ.code n)
+content_gv (signed_content z) = gcons (gnum 2) (coded_ℤ.code z)
+content_gv (wide_content n) = gcons (gnum 3) (coded_ℕ.code n)
+content_gv (text_content t) = gcons (gnum 4) (coded_text.code t)
+content_gv (bytes_content t) = gcons (gnum 5) (coded_text.code t)
+content_gv (tokens_content t ts) = gcons (gnum 6) (coded_tokenized.code (t, ts))
+
 abbrev pub leaf_gv : Leaf → Gv
-leaf_gv null = gnil
-leaf_gv (text t) = gcons (gnum 0) (coded_text.code t)
-leaf_gv (unsigned n) = gcons (gnum 1) (coded_ℕ.code n)
-leaf_gv (signed z) = gcons (gnum 2) (coded_ℤ.code z)
-leaf_gv (facet t) = gcons (gnum 3) (coded_text.code t)
-leaf_gv (bytes t) = gcons (gnum 4) (coded_text.code t)
-leaf_gv (date z) = gcons (gnum 5) (coded_ℤ.code z)
-leaf_gv (tokenized t ts) = gcons (gnum 6) (coded_tokenized.code (t, ts))
-leaf_gv (boolean b) = gcons (gnum 7) (coded_bool.code b)
-leaf_gv (ip_address n) = gcons (gnum 8) (coded_ℕ.code n)
+leaf_gv l = gcons (gnum (leaf_code l)) (content_gv (content l))
 
 abbrev tail : Gv → Gv
 tail gnil = gnil
@@ -40,18 +45,24 @@ head gnil = gnil
 head (gnum n) = gnil
 head (gcons a b) = a
 
+abbrev number : Gv → ℕ
+number gnil = 0
+number (gnum n) = n
+number (gcons a b) = 0
+
+content_same : (s t : Content) → content_gv s ≡ content_gv t → s ≡ t
+content_same no_content no_content e = refl
+content_same (truth_content s) (truth_content t) e = ap truth_content (coded_bool.inj s t (ap tail e))
+content_same (unsigned_content s) (unsigned_content t) e = ap unsigned_content (coded_ℕ.inj s t (ap tail e))
+content_same (signed_content s) (signed_content t) e = ap signed_content (coded_ℤ.inj s t (ap tail e))
+content_same (wide_content s) (wide_content t) e = ap wide_content (coded_ℕ.inj s t (ap tail e))
+content_same (text_content s) (text_content t) e = ap text_content (coded_text.inj s t (ap tail e))
+content_same (bytes_content s) (bytes_content t) e = ap bytes_content (coded_text.inj s t (ap tail e))
+content_same (tokens_content s ss) (tokens_content t ts) e = ap (λ (p : List ℕ × List Token). tokens_content p.0 p.1) (coded_tokenized.inj (s, ss) (t, ts) (ap tail e))
+content_same _ _ e = cc
+
 pub leaf_same : (s t : Leaf) → leaf_gv s ≡ leaf_gv t → s ≡ t
-leaf_same null null e = refl
-leaf_same (text s) (text t) e = ap text (coded_text.inj s t (ap tail e))
-leaf_same (unsigned s) (unsigned t) e = ap unsigned (coded_ℕ.inj s t (ap tail e))
-leaf_same (signed s) (signed t) e = ap signed (coded_ℤ.inj s t (ap tail e))
-leaf_same (facet s) (facet t) e = ap facet (coded_text.inj s t (ap tail e))
-leaf_same (bytes s) (bytes t) e = ap bytes (coded_text.inj s t (ap tail e))
-leaf_same (date s) (date t) e = ap date (coded_ℤ.inj s t (ap tail e))
-leaf_same (tokenized s ss) (tokenized t ts) e = ap (λ (p : List ℕ × List Token). tokenized p.0 p.1) (coded_tokenized.inj (s, ss) (t, ts) (ap tail e))
-leaf_same (boolean s) (boolean t) e = ap boolean (coded_bool.inj s t (ap tail e))
-leaf_same (ip_address s) (ip_address t) e = ap ip_address (coded_ℕ.inj s t (ap tail e))
-leaf_same _ _ e = cc
+leaf_same s t e = one_leaf s t (one_code (type_of s) (type_of t) (ap (λ g. number (head g)) e)) (content_same (content s) (content t) (ap tail e))
 
 abbrev mutual
   pub tree_gv : Tree → Gv

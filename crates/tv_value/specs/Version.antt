@@ -14,11 +14,23 @@ pub record Microseconds (bytes : List ℕ) (nanoseconds : ℤ) : Type 0 where
   pub same : nanoseconds ≡ microseconds *ℤ pos 1000
   pub spelled : Fixed 8 bytes (cast_unsigned w64 microseconds)
 
+-- what a signed number stands for: itself, or a thousand times as much
+pub data Scale : Type 0 where
+  plain thousands : Scale
+
+abbrev pub Scaled : Scale → List ℕ → ℤ → Type 0
+Scaled plain bytes z = Signed bytes z
+Scaled thousands bytes z = Microseconds bytes z
+
+-- dates are microseconds in version 1, and nanoseconds in the others
+abbrev pub date_scale : Version → Scale
+date_scale V1 = thousands
+date_scale V2 = plain
+date_scale V3 = plain
+
 -- a date, as nanoseconds since 1970
 abbrev pub Date : Version → List ℕ → ℤ → Type 0
-Date V1 bytes nanoseconds = Microseconds bytes nanoseconds
-Date V2 bytes nanoseconds = Signed bytes nanoseconds
-Date V3 bytes nanoseconds = Signed bytes nanoseconds
+Date v bytes nanoseconds = Scaled (date_scale v) bytes nanoseconds
 
 -- the number that an object of so many entries announces: versions 1 and 2 count keys and values
 abbrev pub entry_total : Version → ℕ → ℕ

@@ -5,6 +5,14 @@ ghost use Rattle.std.specs.Net.Addr.{ipv6_bits};
 
 use std::net::{IpAddr, Ipv6Addr};
 
+/// The address of version 6 whose number this is. (Own.)
+#[inline]
+pub fn address_of(bits: u128) -> Ipv6Addr
+    ensures { ipv6_bits result ≡ bits }
+{
+    Ipv6Addr::from_bits(bits)
+}
+
 /// What can be made an address of version 6.
 pub trait IntoIpv6Addr {
     ghost number: { Self → ℕ };

@@ -1,16 +1,112 @@
 //! Values without children, lent.
 
-ghost use Rattle.std.specs.Prelude.{◌≡◌, ◌↔◌, IsTrue, option_map};
+ghost use Rattle.std.specs.Prelude.{◌≡◌, ◌≢◌, ◌↔◌, IsTrue, IfSome, IfNone, option_map};
 ghost use Rattle.std.specs.Net.Addr.{ipv6_bits};
-ghost use Rattle.tv_value.specs.Cases.{is_null, text_in, unsigned_in, signed_in, boolean_in, date_in, facet_in, bytes_in, ip_address_in, tokenized_in};
+ghost use Rattle.tv_value.specs.LeafParts.{content_of};
+ghost use Rattle.tv_value.specs.Leaves.{type_of, content, leaf_with, is_null, text_in, unsigned_in, signed_in, boolean_in, date_in, facet_in, bytes_in, ip_address_in, tokenized_in};
 ghost use Rattle.tv_value.specs.Lent.{leaf_of};
 ghost use Rattle.tv_value.specs.PreTokenized.{text_of, tokens_of, tokenized_leaf};
 ghost use Rattle.tv_value.specs.Tree.{text, unsigned, signed, boolean, date, bytes, ip_address};
 
+use crate::content::{Form, LeafContent};
 use crate::date_time::DateTime;
+use crate::ip_addr::address_of;
 use crate::pre_tokenized::PreTokenizedStr;
 use crate::same::same_leaf;
+use crate::type_codes::{
+    BOOL_CODE, BYTES_CODE, DATE_CODE, EXT_CODE, HIERARCHICAL_FACET_CODE, I64_CODE, IP_CODE,
+    NULL_CODE, TEXT_CODE, U64_CODE,
+};
 use std::net::Ipv6Addr;
+
+/// The types of values without children. (Own.)
+#[derive(Clone, Copy, Debug, PartialEq, Eq)]
+pub enum LeafType {
+    /// No value.
+    Null,
+    /// A text.
+    Str,
+    /// A number from 0 to 2^64 - 1.
+    U64,
+    /// A number from -2^63 to 2^63 - 1.
+    I64,
+    /// A date.
+    Date,
+    /// A facet.
+    Facet,
+    /// Bytes.
+    Bytes,
+    /// An IPv6 address.
+    IpAddr,
+    /// A truth value.
+    Bool,
+    /// A text and its tokens.
+    PreTokStr,
+}
+
+impl LeafType {
+    ghost use Rattle.tv_value.specs.Leaves.{form, store_code};
+    ghost use Rattle.tv_value.specs.declared.leaf.LeafType.{LeafType};
+
+    /// The form of what its values hold.
+    #[inline(always)]
+    pub fn form(self) -> Form
+        ensures { result ≡ form self }
+    {
+        match self {
+            LeafType::Null => Form::Nothing,
+            LeafType::Str => Form::Text,
+            LeafType::U64 => Form::Unsigned,
+            LeafType::I64 => Form::Signed,
+            LeafType::Date => Form::Signed,
+            LeafType::Facet => Form::Text,
+            LeafType::Bytes => Form::Bytes,
+            LeafType::IpAddr => Form::Wide,
+            LeafType::Bool => Form::Truth,
+            LeafType::PreTokStr => Form::Tokens,
+        }
+    }
+
+    /// The code that stands before its values in the store.
+    #[inline(always)]
+    pub fn store_code(self) -> u8
+        ensures { result ≡ store_code self }
+    {
+        match self {
+            LeafType::Str => TEXT_CODE,
+            LeafType::U64 => U64_CODE,
+            LeafType::I64 => I64_CODE,
+            LeafType::Facet => HIERARCHICAL_FACET_CODE,
+            LeafType::Bytes => BYTES_CODE,
+            LeafType::Date => DATE_CODE,
+            LeafType::PreTokStr => EXT_CODE,
+            LeafType::Bool => BOOL_CODE,
+            LeafType::IpAddr => IP_CODE,
+            LeafType::Null => NULL_CODE,
+        }
+    }
+
+    /// The type before whose values this code stands in the store; `None` where there is none.
+    #[inline(always)]
+    pub fn from_store_code(code: u8) -> Option<LeafType>
+        ensures some { IfSome result (λ t. store_code t ≡ code) }
+        ensures none { IfNone result ((t : LeafType) → store_code t ≢ code) }
+    {
+        match code {
+            TEXT_CODE => Some(LeafType::Str),
+            U64_CODE => Some(LeafType::U64),
+            I64_CODE => Some(LeafType::I64),
+            HIERARCHICAL_FACET_CODE => Some(LeafType::Facet),
+            BYTES_CODE => Some(LeafType::Bytes),
+            DATE_CODE => Some(LeafType::Date),
+            EXT_CODE => Some(LeafType::PreTokStr),
+            BOOL_CODE => Some(LeafType::Bool),
+            IP_CODE => Some(LeafType::IpAddr),
+            NULL_CODE => Some(LeafType::Null),
+            _ => None,
+        }
+    }
+}
 
 /// A value without children. Texts and bytes are borrowed.
 #[derive(Clone, Copy, Debug)]
@@ -38,6 +134,76 @@ pub enum ReferenceValueLeaf<'a> {
 }
 
 impl<'a> ReferenceValueLeaf<'a> {
+    /// Its type. (Own.)
+    #[inline(always)]
+    pub fn leaf_type(&self) -> LeafType
+        ensures { result ≡ type_of (leaf_of self.now) }
+    {
+        match self {
+            ReferenceValueLeaf::Null => LeafType::Null,
+            ReferenceValueLeaf::Str(_) => LeafType::Str,
+            ReferenceValueLeaf::U64(_) => LeafType::U64,
+            ReferenceValueLeaf::I64(_) => LeafType::I64,
+            ReferenceValueLeaf::Date(_) => LeafType::Date,
+            ReferenceValueLeaf::Facet(_) => LeafType::Facet,
+            ReferenceValueLeaf::Bytes(_) => LeafType::Bytes,
+            ReferenceValueLeaf::IpAddr(_) => LeafType::IpAddr,
+            ReferenceValueLeaf::Bool(_) => LeafType::Bool,
+            ReferenceValueLeaf::PreTokStr(_) => LeafType::PreTokStr,
+        }
+    }
+
+    /// What it holds, of the form of its type. (Own.)
+    #[inline(always)]
+    pub fn content(&self) -> LeafContent<'a>
+        ensures { content_of result ≡ content (leaf_of self.now) }
+    {
+        match *self {
+            ReferenceValueLeaf::Null => LeafContent::Nothing,
+            ReferenceValueLeaf::Str(text) => LeafContent::Text(text),
+            ReferenceValueLeaf::U64(number) => LeafContent::Unsigned(number),
+            ReferenceValueLeaf::I64(number) => LeafContent::Signed(number),
+            ReferenceValueLeaf::Date(date) => LeafContent::Signed(date.into_timestamp_nanos()),
+            ReferenceValueLeaf::Facet(encoded) => LeafContent::Text(encoded),
+            ReferenceValueLeaf::Bytes(bytes) => LeafContent::Bytes(bytes),
+            ReferenceValueLeaf::IpAddr(address) => LeafContent::Wide(address.to_bits()),
+            ReferenceValueLeaf::Bool(truth) => LeafContent::Truth(truth),
+            ReferenceValueLeaf::PreTokStr(text) => LeafContent::Tokens(text),
+        }
+    }
+
+    /// The value of a type that holds this; `None` exactly where it is of another form than the type's. (Own.)
+    #[inline(always)]
+    pub fn with_content(
+        leaf_type: LeafType,
+        content: LeafContent<'a>,
+    ) -> Option<ReferenceValueLeaf<'a>>
+        ensures { option_map leaf_of result ≡ leaf_with leaf_type (content_of content.entry) }
+    {
+        match (leaf_type, content) {
+            (LeafType::Null, LeafContent::Nothing) => Some(ReferenceValueLeaf::Null),
+            (LeafType::Str, LeafContent::Text(text)) => Some(ReferenceValueLeaf::Str(text)),
+            (LeafType::U64, LeafContent::Unsigned(number)) => Some(ReferenceValueLeaf::U64(number)),
+            (LeafType::I64, LeafContent::Signed(number)) => Some(ReferenceValueLeaf::I64(number)),
+            (LeafType::Date, LeafContent::Signed(nanoseconds)) => {
+                let date = DateTime::from_timestamp_nanos(nanoseconds);
+                Some(ReferenceValueLeaf::Date(date))
+            }
+            (LeafType::Facet, LeafContent::Text(encoded)) => Some(ReferenceValueLeaf::Facet(
+                encoded,
+            )),
+            (LeafType::Bytes, LeafContent::Bytes(bytes)) => Some(ReferenceValueLeaf::Bytes(bytes)),
+            (LeafType::IpAddr, LeafContent::Wide(number)) => {
+                Some(ReferenceValueLeaf::IpAddr(address_of(number)))
+            }
+            (LeafType::Bool, LeafContent::Truth(truth)) => Some(ReferenceValueLeaf::Bool(truth)),
+            (LeafType::PreTokStr, LeafContent::Tokens(text)) => {
+                Some(ReferenceValueLeaf::PreTokStr(text))
+            }
+            _ => None,
+        }
+    }
+
     /// Whether there is no value.
     pub fn is_null(&self) -> bool
         ensures { result ≡ is_null (leaf_of self.now) }

@@ -1,6 +1,7 @@
 //! Values as finite trees, and the bytes that spell them in a store.
 #![tactic(auto)]
 
+pub mod content;
 mod copy;
 pub mod field;
 pub mod in_place;

@@ -3,7 +3,7 @@
 ghost use Rattle.std.specs.Prelude.{◌≡◌, ℕ, List, map, IfOk};
 ghost use Rattle.std.specs.Iterator.{YieldsFirstRef, YieldsFirstBy, item_count};
 
-use crate::copy::{owned_leaf, owned_of};
+use crate::copy::owned_of;
 use crate::date_time::DateTime;
 use crate::json::has_float;
 use crate::json_error::JsonError;
@@ -143,6 +143,16 @@ impl<'a> Value<'a> for &'a OwnedValue {
     }
 }
 
+// A copy of a facet.
+fn owned_facet(alloc: Global, encoded: &str) -> Result<Facet, AllocError>
+    ensures { IfOk result (λ made. made ≡ encoded.now) }
+{
+    match Facet::from_encoded(encoded.as_bytes().to_vec(alloc)?) {
+        Ok(facet) => Ok(facet),
+        Err(_) => unreachable!(),
+    }
+}
+
 impl OwnedValue {
     ghost use Rattle.serde_json.specs.View.{view as data_of};
     ghost use Rattle.tv_value.specs.JsonTree.{AnswersJson};
@@ -161,7 +171,22 @@ impl OwnedValue {
     pub fn from_leaf(alloc: Global, value: ReferenceValueLeaf<'_>) -> Result<OwnedValue, AllocError>
         ensures { IfOk result (λ made. owned_tree made ≡ leaf (leaf_of value.entry)) }
     {
-        owned_leaf(alloc, value)
+        match value {
+            ReferenceValueLeaf::Null => Ok(OwnedValue::Null),
+            ReferenceValueLeaf::Str(text) => Ok(OwnedValue::Str(String::from_str(alloc, text)?)),
+            ReferenceValueLeaf::U64(number) => Ok(OwnedValue::U64(number)),
+            ReferenceValueLeaf::I64(number) => Ok(OwnedValue::I64(number)),
+            ReferenceValueLeaf::Date(date) => Ok(OwnedValue::Date(date)),
+            ReferenceValueLeaf::Facet(encoded) => {
+                Ok(OwnedValue::Facet(owned_facet(alloc, encoded)?))
+            }
+            ReferenceValueLeaf::Bytes(bytes) => Ok(OwnedValue::Bytes(bytes.to_vec(alloc)?)),
+            ReferenceValueLeaf::IpAddr(address) => Ok(OwnedValue::IpAddr(address)),
+            ReferenceValueLeaf::Bool(truth) => Ok(OwnedValue::Bool(truth)),
+            ReferenceValueLeaf::PreTokStr(text) => {
+                Ok(OwnedValue::PreTokStr(text.to_owned_string(alloc)?))
+            }
+        }
     }
 
     /// The value that a JSON value is: each kind as itself, a number as `I64` where it fits, else as `U64`, and an object by byte

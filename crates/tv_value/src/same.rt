@@ -1,35 +1,39 @@
 //! Whether two values are one, in place and without memory.
 
 ghost use Rattle.std.specs.Prelude.{◌≡◌};
+ghost use Rattle.tv_value.specs.LeafParts.{content_of};
 ghost use Rattle.tv_value.specs.Lent.{leaf_of, nested_tree};
-ghost use Rattle.tv_value.specs.Same.{leaf_eq, tree_eq};
+ghost use Rattle.tv_value.specs.Same.{content_eq, leaf_eq, tree_eq};
 
+use crate::content::LeafContent;
 use crate::leaf::ReferenceValueLeaf;
 use crate::nested::{Nested, NestedValue, lend};
 use crate::value::Value;
 use std::convert::AsStr;
 
-/// Whether two leaves are one: of one kind, with the same content. It takes no memory.
+// Whether the same is held.
+fn same_content(one: LeafContent<'_>, other: LeafContent<'_>) -> bool
+    ensures { result ≡ content_eq (content_of one.entry) (content_of other.entry) }
+{
+    match (one, other) {
+        (LeafContent::Nothing, LeafContent::Nothing) => true,
+        (LeafContent::Truth(a), LeafContent::Truth(b)) => a == b,
+        (LeafContent::Unsigned(m), LeafContent::Unsigned(n)) => m == n,
+        (LeafContent::Signed(m), LeafContent::Signed(n)) => m == n,
+        (LeafContent::Wide(m), LeafContent::Wide(n)) => m == n,
+        (LeafContent::Text(s), LeafContent::Text(t)) => s == t,
+        (LeafContent::Bytes(s), LeafContent::Bytes(t)) => s == t,
+        (LeafContent::Tokens(s), LeafContent::Tokens(t)) => s == t,
+        _ => false,
+    }
+}
+
+/// Whether two leaves are one: of one type, with the same content. It takes no memory.
 pub(crate) fn same_leaf(one: ReferenceValueLeaf<'_>, other: ReferenceValueLeaf<'_>) -> bool
     ensures { result ≡ leaf_eq (leaf_of one.entry) (leaf_of other.entry) }
 {
-    match (one, other) {
-        (ReferenceValueLeaf::Null, ReferenceValueLeaf::Null) => true,
-        (ReferenceValueLeaf::Str(s), ReferenceValueLeaf::Str(t)) => s == t,
-        (ReferenceValueLeaf::U64(m), ReferenceValueLeaf::U64(n)) => m == n,
-        (ReferenceValueLeaf::I64(m), ReferenceValueLeaf::I64(n)) => m == n,
-        (ReferenceValueLeaf::Date(s), ReferenceValueLeaf::Date(t)) => {
-            s.into_timestamp_nanos() == t.into_timestamp_nanos()
-        }
-        (ReferenceValueLeaf::Facet(s), ReferenceValueLeaf::Facet(t)) => s == t,
-        (ReferenceValueLeaf::Bytes(s), ReferenceValueLeaf::Bytes(t)) => s == t,
-        (ReferenceValueLeaf::IpAddr(s), ReferenceValueLeaf::IpAddr(t)) => {
-            s.to_bits() == t.to_bits()
-        }
-        (ReferenceValueLeaf::Bool(a), ReferenceValueLeaf::Bool(b)) => a == b,
-        (ReferenceValueLeaf::PreTokStr(s), ReferenceValueLeaf::PreTokStr(t)) => s == t,
-        _ => false,
-    }
+    one.leaf_type().store_code() == other.leaf_type().store_code()
+        && same_content(one.content(), other.content())
 }
 
 fn same_nested<M: Nested, N: Nested>(one: NestedValue<'_, M>, other: NestedValue<'_, N>) -> bool

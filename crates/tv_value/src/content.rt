@@ -1,0 +1,45 @@
+//! What values without children hold, whatever their type is.
+
+use crate::pre_tokenized::PreTokenizedStr;
+
+/// The forms of what values without children hold. Several types may have one. (Own.)
+#[derive(Clone, Copy, Debug, PartialEq, Eq)]
+pub enum Form {
+    /// Nothing.
+    Nothing,
+    /// A truth value.
+    Truth,
+    /// A number from 0 to 2^64 - 1.
+    Unsigned,
+    /// A number from -2^63 to 2^63 - 1.
+    Signed,
+    /// A number from 0 to 2^128 - 1.
+    Wide,
+    /// A text.
+    Text,
+    /// Bytes.
+    Bytes,
+    /// A text and its tokens.
+    Tokens,
+}
+
+/// What a value without children holds. Texts and bytes are borrowed. (Own.)
+#[derive(Clone, Copy, Debug)]
+pub enum LeafContent<'a> {
+    /// Nothing.
+    Nothing,
+    /// A truth value.
+    Truth(bool),
+    /// A number from 0 to 2^64 - 1.
+    Unsigned(u64),
+    /// A number from -2^63 to 2^63 - 1.
+    Signed(i64),
+    /// A number from 0 to 2^128 - 1.
+    Wide(u128),
+    /// A text.
+    Text(&'a str),
+    /// Bytes.
+    Bytes(&'a [u8]),
+    /// A text and its tokens.
+    Tokens(PreTokenizedStr<'a>),
+}
