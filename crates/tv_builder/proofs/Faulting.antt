@@ -6,7 +6,7 @@ use Rattle.tv_base.specs.declared.cause.Cause.TheVariants.{NotUtf8, UnexpectedEn
 use Rattle.tv_base.specs.Number.{VNum}
 use Rattle.tv_base.specs.PartFault.{InEach, TextFault, SizedFault, bytes_end, in_sized, no_text}
 use Rattle.tv_base.specs.Parts.{Then, Each}
-use Rattle.tv_value.specs.Fault.{Refusal, corrupted, corrupt, KeyFault, in_key, FieldFault, ValueFault, in_leaf, in_text, in_facet, in_bytes, in_element, in_entry_key, in_entry, PairFault, DocumentFault}
+use Rattle.tv_value.specs.Fault.{Refusal, corrupted, corrupt, KeyFault, in_key, FieldFault, ValueFault, in_leaf, in_element, in_entry_key, in_entry, PairFault, DocumentFault}
 use Rattle.tv_value.specs.Spelling.{Key, SpellsElements, SpellsEntries, SpellsPair}
 use Rattle.tv_value.specs.Tree.{Tree, elements, element_count, entries, entry_count, Entries, Document}
 use Rattle.tv_value.specs.Version.{Version, V1, V2, V3}
@@ -14,6 +14,7 @@ use Rattle.tv_builder.specs.declared.bytes_kind.BytesKind.{BytesKind}
 use Rattle.tv_builder.specs.declared.bytes_kind.BytesKind.TheVariants as kinds
 use Rattle.tv_builder.specs.declared.frame.ListKind.{ListKind}
 use Rattle.tv_builder.specs.declared.frame.ListKind.TheVariants as lists
+use Rattle.tv_value.specs.declared.leaf.LeafType.TheVariants as leaves
 use Rattle.tv_builder.specs.Behind.{pairs_parts, document_parts, open_parts, FaultsBehind}
 use Rattle.tv_builder.specs.Front.{SpellsPart, KeyHead}
 use Rattle.tv_builder.specs.Kinds.{total, IsTextKind}
@@ -217,15 +218,15 @@ module _ (Legacy : List ℕ → Entries → Type 0) (L : List ℕ → Cause → 
   -- a text at fault behind the head
   in_head : (kind : BytesKind) (m : ℕ) (bs b rest : List ℕ) (c : Cause) → IsTextKind kind → (p : Each R b (bytes_head kind m ∷ some_bytes bs ∷ []))
       → ((body : List ℕ) → VNum body m → TextFault (body ++ (p.rest ++ rest)) c) → FaultsIn kind (b ++ rest) (corrupted c)
-  in_head kinds.Str m bs b rest c is p h = subst (λ z. VF z (corrupted c)) (coded_both 0 b p.front p.first.body p.rest rest p.joined p.first.joined) (in_leaf (in_text (h p.first.body p.first.spelled)))
-  in_head kinds.Facet m bs b rest c is p h = subst (λ z. VF z (corrupted c)) (coded_both 3 b p.front p.first.body p.rest rest p.joined p.first.joined) (in_leaf (in_facet (h p.first.body p.first.spelled)))
+  in_head kinds.Str m bs b rest c is p h = subst (λ z. VF z (corrupted c)) (coded_both 0 b p.front p.first.body p.rest rest p.joined p.first.joined) (in_leaf (record { of_type = leaves.Str; coded = refl; fault = h p.first.body p.first.spelled }))
+  in_head kinds.Facet m bs b rest c is p h = subst (λ z. VF z (corrupted c)) (coded_both 3 b p.front p.first.body p.rest rest p.joined p.first.joined) (in_leaf (record { of_type = leaves.Facet; coded = refl; fault = h p.first.body p.first.spelled }))
   in_head kinds.Bytes m bs b rest c is p h = absurd is
   in_head kinds.Key m bs b rest c is p h = key_fault v m b p.front p.rest rest c p.joined p.first h
 
   head_ends : (kind : BytesKind) (m : ℕ) (bs rest : List ℕ) → length bs + length rest < m → (b : List ℕ) → Each R b (bytes_head kind m ∷ some_bytes bs ∷ []) → FaultsIn kind (b ++ rest) (corrupted UnexpectedEnd)
   head_ends kinds.Bytes m bs rest less b p =
       subst (λ z. VF z (corrupted UnexpectedEnd)) (coded_both 4 b p.front p.first.body p.rest rest p.joined p.first.joined)
-      (in_leaf (in_bytes (sized_ends m p.first.body p.rest rest p.first.spelled (omega (arith, less, ap length (content_is kinds.Bytes m bs b p))))))
+      (in_leaf (record { of_type = leaves.Bytes; coded = refl; fault = sized_ends m p.first.body p.rest rest p.first.spelled (omega (arith, less, ap length (content_is kinds.Bytes m bs b p))) }))
   head_ends kinds.Str m bs rest less b p = in_head kinds.Str m bs b rest UnexpectedEnd _ p (λ body h. in_sized (sized_ends m body p.rest rest h (omega (arith, less, ap length (content_is kinds.Str m bs b p)))))
   head_ends kinds.Facet m bs rest less b p = in_head kinds.Facet m bs b rest UnexpectedEnd _ p (λ body h. in_sized (sized_ends m body p.rest rest h (omega (arith, less, ap length (content_is kinds.Facet m bs b p)))))
   head_ends kinds.Key m bs rest less b p = in_head kinds.Key m bs b rest UnexpectedEnd _ p (λ body h. in_sized (sized_ends m body p.rest rest h (omega (arith, less, ap length (content_is kinds.Key m bs b p)))))

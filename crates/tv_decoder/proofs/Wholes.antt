@@ -22,9 +22,10 @@ use Rattle.tv_reader.specs.declared.error.DeserializeError.TheVariants as errors
 use Rattle.tv_reader.specs.declared.error.ValueType.{ValueType}
 use Rattle.tv_reader.specs.declared.heads.Head.{Head}
 use Rattle.tv_reader.specs.declared.heads.Head.TheVariants as heads
-use Rattle.tv_reader.proofs.BehindKinds.{kind_edge}
+use Rattle.tv_reader.proofs.BehindKinds.{kind_edge, held_fault}
+use Rattle.tv_value.specs.declared.leaf.LeafType.TheVariants as leaves
 use Rattle.tv_reader.proofs.Finding.{finds_then, finds_as, finds_fails, finds_short}
-use Rattle.tv_value.specs.Fault.{Refusal, corrupted, value_ends, in_leaf, no_extension}
+use Rattle.tv_value.specs.Fault.{Refusal, corrupted, value_ends, no_extension}
 use Rattle.tv_value.specs.Spelling.{NoLegacy}
 use Rattle.tv_value.specs.Tree.{Document}
 use Rattle.tv_value.specs.Version.{Version}
@@ -90,7 +91,7 @@ pub record IsBehind (v : Version) (kind : ValueType) (a : List ℕ) (value : Own
   pub spelled : SpellsValue v a value
 
 value_edge : (v : Version) (old : Reading) (kind : ValueType) → Awaiting old awaits.Value → (a start : List ℕ) (byte : ℕ) → a ≡ coded kind → a ≡ start ++ byte ∷ [] → NoFront v old start end
-value_edge v old kind h a start byte is last = kind_edge end (NoFront v old) (value_at_fault v old [] end h value_ends) (value_at_fault v old (7 ∷ []) end h (in_leaf (no_extension refl))) kind start byte (sym is ∙ last)
+value_edge v old kind h a start byte is last = kind_edge end (NoFront v old) (value_at_fault v old [] end h value_ends) (value_at_fault v old (7 ∷ []) end h (held_fault leaves.PreTokStr (no_extension refl))) kind start byte (sym is ∙ last)
 
 pub whole_found : {S : Type 0} {tells : S → Type 0} {left : S → List ℕ} {faults : S → Faults} {os ms ns : S} {i j k : ℕ} {head : Head} {value : OwnedValue} {I : List ℕ → Refusal → Type 0} (v : Version) (old : Reading) (kind : ValueType) → Awaiting old awaits.Value
     → ((a : List ℕ) → SpellsHead v a (head_part head) → a ≡ coded kind) → Finds tells left faults os i ms j (Ok head) (λ b x. SpellsHead v b (head_part x)) I → Finds tells left faults ms j ns k (Ok value) (SpellsBehind v kind) (NoneBehind v kind)

@@ -18,7 +18,7 @@ use Rattle.tv_base.proofs.AgreeWidths.{bytes_fault, u64_agrees, u128_agrees, i64
 use Rattle.tv_base.proofs.AgreeNumbers.{vint_agrees}
 use Rattle.tv_base.proofs.AgreeParts.{sized_agrees, text_agrees, each_agrees}
 use Rattle.tv_base.proofs.AgreeTruth.{truth_agrees}
-use Rattle.tv_value.specs.Fault.{TokenFault, TokenizedFault, DateFault, date_ends, date_range}
+use Rattle.tv_value.specs.Fault.{TokenFault, TokenizedFault, DateFault, MicrosecondsFault, date_ends, date_range}
 use Rattle.tv_value.specs.Spelling.{TokenSpelling}
 use Rattle.tv_value.specs.Tree.{Token, leaf, null, text, unsigned, signed, boolean, date, facet, bytes, ip_address, tokenized}
 use Rattle.tv_value.specs.Version.{Version, V1, V2, V3, Date, Microseconds}
@@ -88,15 +88,15 @@ micros_from whole n h = (
   },
 )
 
-date_ended : (v : Version) (whole : List ℕ) (c : Cause) → BytesFault 8 whole c → DateFault whole v c
-date_ended v whole c h = let q = bytes_fault 8 whole c h in subst (DateFault whole v) (sym q.0) (date_ends q.1)
+date_ended : (whole : List ℕ) (c : Cause) → BytesFault 8 whole c → MicrosecondsFault whole c
+date_ended whole c h = let q = bytes_fault 8 whole c h in subst (MicrosecondsFault whole) (sym q.0) (date_ends q.1)
 
-outside : (whole : List ℕ) (c : Cause) (z : ℤ) (p : Then (λ b. Signed b z) (λ rest. RangeFault z rest c) whole) → c ≡ DateRange → (z <ℤ negsuc 9223372036854774) ⊎ (pos 9223372036854775 <ℤ z) → DateFault whole V1 c
-outside whole c z p is out = subst (DateFault whole V1) (sym is) (date_range z p.front p.rest p.joined p.first.spelled (record { fits = p.first.fits; outside = out }))
+outside : (whole : List ℕ) (c : Cause) (z : ℤ) (p : Then (λ b. Signed b z) (λ rest. RangeFault z rest c) whole) → c ≡ DateRange → (z <ℤ negsuc 9223372036854774) ⊎ (pos 9223372036854775 <ℤ z) → MicrosecondsFault whole c
+outside whole c z p is out = subst (MicrosecondsFault whole) (sym is) (date_range z p.front p.rest p.joined p.first.spelled (record { fits = p.first.fits; outside = out }))
 
-micros_faults : (whole : List ℕ) (c : Cause) → AllBytes whole → InThen (BytesFault 8) Signed RangeFault whole c → DateFault whole V1 c
+micros_faults : (whole : List ℕ) (c : Cause) → AllBytes whole → InThen (BytesFault 8) Signed RangeFault whole c → MicrosecondsFault whole c
 micros_faults whole c small p = elim p [
-  | inl h ↦ date_ended V1 whole c h
+  | inl h ↦ date_ended whole c h
   | inr q ↦ elim q.1.second [
     | inl r ↦ outside whole c q.0 q.1 r.1 (inl (below q.0 (negsuc 9223372036854774) r.0))
     | inr r ↦ elim r.1 [
@@ -118,8 +118,8 @@ same_read (Err e) = refl
 pub date_agrees : (v : Version) → Agrees UnexpectedEnd (date_at v) (Date v) (λ whole c. DateFault whole v c)
 unfolding date_at
 date_agrees V1 = agrees_too (λ whole. refl) micros_to micros_from micros_faults (in_turn {b = micros_of} i64_agrees range_agrees)
-date_agrees V2 = agrees_too (λ whole. same_read _) (λ whole z small h. h) (λ whole z h. h) (λ whole c small h. date_ended V2 whole c h) i64_agrees
-date_agrees V3 = agrees_too (λ whole. same_read _) (λ whole z small h. h) (λ whole z h. h) (λ whole c small h. date_ended V3 whole c h) i64_agrees
+date_agrees V2 = agrees_too (λ whole. same_read _) (λ whole z small h. h) (λ whole z h. h) (λ whole c small h. h) i64_agrees
+date_agrees V3 = agrees_too (λ whole. same_read _) (λ whole z small h. h) (λ whole z h. h) (λ whole c small h. h) i64_agrees
 
 -- ---- tokens
 

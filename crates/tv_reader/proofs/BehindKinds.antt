@@ -2,12 +2,12 @@
 use Rattle.std.proofs.Common.{◌≡◌, ◌≢◌, ℕ, true, false, List, [], ◌∷◌, ◌++◌, Result, Ok, refl, sym, subst, ◌∙◌, arith}
 use Rattle.tv_base.specs.declared.cause.Cause.{Cause}
 use Rattle.tv_base.specs.declared.cause.Cause.TheVariants.{UnexpectedEnd}
-use Rattle.tv_base.specs.PartFault.{TruthFault, truth_ends, truth_large}
 use Rattle.tv_base.specs.Source.{AllBytes, Faults}
 use Rattle.tv_base.specs.Take as reads
 use Rattle.tv_base.proofs.Agrees.{same_start}
 use Rattle.tv_legacy.specs.Legacy.{Legacy}
-use Rattle.tv_value.specs.Fault.{Refusal, corrupted, no_text_key, in_text, in_unsigned, in_signed, in_facet, in_bytes, in_date, no_extension, other_extension, in_tokenized, no_truth, other_truth, in_ip_address, CodedKeyFault, key_ends, key_unknown, key_float, key_other, key_no_extension, key_tokenized, key_other_extension, value_ends, unknown_code, float_code, in_leaf, in_legacy, in_count, in_element, in_entry_count, odd_count, in_entry_key, in_entry, in_key}
+use Rattle.tv_value.specs.Fault.{Refusal, corrupted, no_text_key, no_extension, other_extension, in_tokenized, BodyFault, CodedKeyFault, key_ends, key_unknown, key_float, key_other, key_no_extension, key_tokenized, key_other_extension, value_ends, unknown_code, float_code, in_leaf, in_legacy, in_count, in_element, in_entry_count, odd_count, in_entry_key, in_entry, in_key}
+use Rattle.tv_value.specs.Leaves.{store_code}
 use Rattle.tv_value.specs.Spelling.{Spells}
 use Rattle.tv_value.specs.Tree.{Tree}
 use Rattle.tv_value.specs.Version.{Version}
@@ -20,6 +20,8 @@ use Rattle.tv_reader.specs.ValueType.{type_code, coded, CodeFault, no_code, unkn
 use Rattle.tv_reader.specs.declared.error.DeserializeError.{DeserializeError}
 use Rattle.tv_reader.specs.declared.error.ValueType.{ValueType}
 use Rattle.tv_reader.specs.declared.error.ValueType.TheVariants as types
+use Rattle.tv_value.specs.declared.leaf.LeafType.{LeafType}
+use Rattle.tv_value.specs.declared.leaf.LeafType.TheVariants as leaves
 use Rattle.tv_reader.proofs.AgreeKinds.{kind_agrees}
 use Rattle.tv_reader.proofs.Finding.{finds_then, finds_part}
 
@@ -102,24 +104,24 @@ leaf_spelled v types.Null a t p = subst (Spells Legacy v (11 ∷ a)) (sym p.1) (
 leaf_spelled v types.Array a t p = absurd p
 leaf_spelled v types.Object a t p = absurd p
 
-truth_refused : (v : Version) (w : List ℕ) (c : Cause) → TruthFault w c → NoValue v (9 ∷ w) (corrupted c)
-truth_refused v w _ (truth_ends e) = in_leaf (no_truth e)
-truth_refused v w _ (truth_large b rest e h) = in_leaf (other_truth b rest e h)
+-- what a leaf of a type holds is at fault
+pub held_fault : {v : Version} {w : List ℕ} {c : Cause} (t : LeafType) → BodyFault v t w c → NoValue v (store_code t ∷ w) (corrupted c)
+held_fault t h = in_leaf (record { of_type = t; coded = refl; fault = h })
 
 impossible : false ≡ true → ⊥
 impossible e = absurd cc
 
 pub leaf_refused : (v : Version) (kind : ValueType) → is_leaf_type kind ≡ true → (w : List ℕ) (c : Cause) → LeafOfFault v kind w c → NoValue v (coded kind ++ w) (corrupted c)
-leaf_refused v types.String is w c h = in_leaf (in_text h)
-leaf_refused v types.U64 is w c h = in_leaf (in_unsigned h)
-leaf_refused v types.I64 is w c h = in_leaf (in_signed h)
-leaf_refused v types.Facet is w c h = in_leaf (in_facet h)
-leaf_refused v types.Bytes is w c h = in_leaf (in_bytes h)
-leaf_refused v types.DateTime is w c h = in_leaf (in_date h)
-leaf_refused v types.PreTokStr is w c h = in_leaf (in_tokenized w refl h)
+leaf_refused v types.String is w c h = held_fault leaves.Str h
+leaf_refused v types.U64 is w c h = held_fault leaves.U64 h
+leaf_refused v types.I64 is w c h = held_fault leaves.I64 h
+leaf_refused v types.Facet is w c h = held_fault leaves.Facet h
+leaf_refused v types.Bytes is w c h = held_fault leaves.Bytes h
+leaf_refused v types.DateTime is w c h = held_fault leaves.Date h
+leaf_refused v types.PreTokStr is w c h = held_fault leaves.PreTokStr (in_tokenized w refl h)
 leaf_refused v types.JSONObject is w c h = absurd (impossible is)
-leaf_refused v types.Bool is w c h = truth_refused v w c h
-leaf_refused v types.IpAddr is w c h = in_leaf (in_ip_address h)
+leaf_refused v types.Bool is w c h = held_fault leaves.Bool h
+leaf_refused v types.IpAddr is w c h = held_fault leaves.IpAddr h
 leaf_refused v types.Null is w c h = absurd h
 leaf_refused v types.Array is w c h = absurd (impossible is)
 leaf_refused v types.Object is w c h = absurd (impossible is)

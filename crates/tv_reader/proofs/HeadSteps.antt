@@ -4,7 +4,7 @@ use Rattle.tv_base.specs.declared.cause.Cause.{Cause}
 use Rattle.tv_base.specs.declared.cause.Cause.TheVariants.{UnexpectedEnd}
 use Rattle.tv_base.specs.declared.read_error.ReadError.{ReadError}
 use Rattle.tv_base.specs.Number.{VNum, Fixed, Signed, Truth}
-use Rattle.tv_base.specs.PartFault.{NumberFault, BytesFault, TruthFault, truth_ends, truth_large, in_sized}
+use Rattle.tv_base.specs.PartFault.{NumberFault, BytesFault, TruthFault, in_sized}
 use Rattle.tv_base.specs.Reading.{vint_at}
 use Rattle.tv_base.specs.Source.{AllBytes, Faults}
 use Rattle.tv_base.specs.Take as reads
@@ -12,7 +12,7 @@ use Rattle.tv_base.proofs.Agrees.{Agrees, made, nothing_read}
 use Rattle.tv_base.proofs.AgreeNumbers.{vint_agrees}
 use Rattle.tv_base.proofs.AgreeTruth.{truth_agrees}
 use Rattle.tv_base.proofs.AgreeWidths.{u64_agrees, u128_agrees, i64_agrees}
-use Rattle.tv_value.specs.Fault.{Refusal, corrupted, no_text_key, DateFault, in_text, in_unsigned, in_signed, in_facet, in_bytes, in_date, no_extension, no_truth, other_truth, in_ip_address, CodedKeyFault, key_ends, key_no_extension, in_key, value_ends, in_leaf, in_count}
+use Rattle.tv_value.specs.Fault.{Refusal, corrupted, no_text_key, DateFault, no_extension, CodedKeyFault, key_ends, key_no_extension, in_key, value_ends, in_count}
 use Rattle.tv_value.specs.Tree.{null, unsigned, signed, boolean, date, ip_address}
 use Rattle.tv_value.specs.Version.{Version, Date}
 use Rattle.tv_reader.specs.Error.{read_error, store_stop}
@@ -28,8 +28,9 @@ use Rattle.tv_reader.specs.declared.error.ValueType.{ValueType}
 use Rattle.tv_reader.specs.declared.error.ValueType.TheVariants as types
 use Rattle.tv_reader.specs.declared.heads.Head.{Head}
 use Rattle.tv_reader.specs.declared.version.DocStoreVersion.{DocStoreVersion}
+use Rattle.tv_value.specs.declared.leaf.LeafType.TheVariants as leaves
 use Rattle.tv_reader.proofs.AgreeLeaves.{date_agrees}
-use Rattle.tv_reader.proofs.BehindKinds.{finds_behind, other_key}
+use Rattle.tv_reader.proofs.BehindKinds.{finds_behind, other_key, held_fault}
 use Rattle.tv_reader.proofs.Finding.{finds_as, finds_part, finds_part_fails, finds_refused}
 use Rattle.tv_reader.proofs.TreeSteps.{half_agrees, twice_refused, total}
 
@@ -108,21 +109,17 @@ head_spelled version types.Array a h p = subst (SpellsHead (version_of version) 
 head_spelled version types.Object a h p =
     subst (SpellsHead (version_of version) (13 ∷ a)) (sym p.2) (record { body = a; joined = refl; spelled = subst (λ n. VNum a n) (sym (total version p.0)) p.1 })
 
-truth_refused : (v : Version) (w : List ℕ) (c : Cause) → TruthFault w c → NoValue v (9 ∷ w) (corrupted c)
-truth_refused v w _ (truth_ends e) = in_leaf (no_truth e)
-truth_refused v w _ (truth_large b rest e h) = in_leaf (other_truth b rest e h)
-
 head_refused : (version : DocStoreVersion) (kind : ValueType) (w : List ℕ) (c : Cause) → BodyFault (version_of version) kind w c → NoValue (version_of version) (coded kind ++ w) (corrupted c)
-head_refused version types.String w c h = in_leaf (in_text (in_sized (inl h)))
-head_refused version types.U64 w c h = in_leaf (in_unsigned h)
-head_refused version types.I64 w c h = in_leaf (in_signed h)
-head_refused version types.Facet w c h = in_leaf (in_facet (in_sized (inl h)))
-head_refused version types.Bytes w c h = in_leaf (in_bytes (inl h))
-head_refused version types.DateTime w c h = in_leaf (in_date h)
+head_refused version types.String w c h = held_fault leaves.Str (in_sized (inl h))
+head_refused version types.U64 w c h = held_fault leaves.U64 h
+head_refused version types.I64 w c h = held_fault leaves.I64 h
+head_refused version types.Facet w c h = held_fault leaves.Facet (in_sized (inl h))
+head_refused version types.Bytes w c h = held_fault leaves.Bytes (inl h)
+head_refused version types.DateTime w c h = held_fault leaves.Date h
 head_refused version types.PreTokStr w c h = absurd h
 head_refused version types.JSONObject w c h = absurd h
-head_refused version types.Bool w c h = truth_refused (version_of version) w c h
-head_refused version types.IpAddr w c h = in_leaf (in_ip_address h)
+head_refused version types.Bool w c h = held_fault leaves.Bool h
+head_refused version types.IpAddr w c h = held_fault leaves.IpAddr h
 head_refused version types.Null w c h = absurd h
 head_refused version types.Array w c h = in_count h
 head_refused version types.Object w c h = twice_refused version w c h
@@ -136,14 +133,14 @@ pub head_found : {S : Type 0} {tells : S → Type 0} {left : S → List ℕ} {fa
     → ((source : S) → tells source → AllBytes (left source)) → reads.TakesBy tells left faults old i mid j (λ x. x) (Ok kind) kind_at
     → reads.TakesBy tells left faults mid j new k head_part (Ok head) (head_at (version_of version) kind) → Finds tells left faults old i new k (Ok head) (HeadSpelled version) (NoValue (version_of version))
 head_found {kind = kind} {head = head} version are_bytes part h =
-    finds_behind (HeadSpelled version) (NoValue (version_of version)) are_bytes value_ends (in_leaf (no_extension refl)) part
+    finds_behind (HeadSpelled version) (NoValue (version_of version)) are_bytes value_ends (held_fault leaves.PreTokStr (no_extension refl)) part
     (finds_as head _ _ (λ a p. head_spelled version kind a (head_part head) p) (finds_part are_bytes (head_agrees (version_of version) kind) h))
 
 pub head_fails : {S : Type 0} {tells : S → Type 0} {left : S → List ℕ} {faults : S → Faults} {old mid new : S} {i j k : ℕ} {kind : ValueType} {e : ReadError} (version : DocStoreVersion)
     → ((source : S) → tells source → AllBytes (left source)) → reads.TakesBy tells left faults old i mid j (λ x. x) (Ok kind) kind_at
     → reads.TakesBy {X = Head} tells left faults mid j new k head_part (Err e) (head_at (version_of version) kind) → Finds {X = Head} tells left faults old i new k (Err (read_error e)) (HeadSpelled version) (NoValue (version_of version))
 head_fails {kind = kind} version are_bytes part h =
-    finds_behind (HeadSpelled version) (NoValue (version_of version)) are_bytes value_ends (in_leaf (no_extension refl)) part
+    finds_behind (HeadSpelled version) (NoValue (version_of version)) are_bytes value_ends (held_fault leaves.PreTokStr (no_extension refl)) part
     (finds_part_fails _ _ are_bytes (head_agrees (version_of version) kind) (head_refused version kind) h)
 
 -- ---- heads of keys

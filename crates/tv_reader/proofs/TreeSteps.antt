@@ -19,7 +19,7 @@ use Rattle.tv_base.proofs.EarlyNumbers.{number_early}
 use Rattle.tv_legacy.specs.Legacy.{Legacy}
 use Rattle.tv_legacy.specs.LegacyReading.{legacy_at}
 use Rattle.tv_legacy.proofs.Agrees.{LegacyTree, legacy_agrees}
-use Rattle.tv_value.specs.Fault.{Refusal, corrupted, no_text_key, CodedKeyFault, key_ends, key_no_extension, in_key, KeyFault, value_ends, in_leaf, no_extension, in_legacy, in_count, in_element, in_entry_count, odd_count, in_entry_key, in_entry}
+use Rattle.tv_value.specs.Fault.{Refusal, corrupted, no_text_key, CodedKeyFault, key_ends, key_no_extension, in_key, KeyFault, value_ends, no_extension, in_legacy, in_count, in_element, in_entry_count, odd_count, in_entry_key, in_entry}
 use Rattle.tv_value.specs.ListFault.{in_next_key, in_next_value}
 use Rattle.tv_value.specs.Lent.{key_and}
 use Rattle.tv_value.specs.Owned.{owned_tree, owned_entries}
@@ -43,7 +43,8 @@ use Rattle.tv_reader.specs.declared.error.ValueType.TheVariants as types
 use Rattle.tv_reader.specs.declared.version.DocStoreVersion.{DocStoreVersion}
 use Rattle.tv_reader.specs.declared.version.DocStoreVersion.TheVariants as stores
 use Rattle.tv_reader.proofs.AgreeLeaves.{leaf_agrees}
-use Rattle.tv_reader.proofs.BehindKinds.{finds_behind, other_key, leaf_spelled, leaf_refused, value_ended, key_ended}
+use Rattle.tv_reader.proofs.BehindKinds.{finds_behind, other_key, leaf_spelled, leaf_refused, value_ended, key_ended, held_fault}
+use Rattle.tv_value.specs.declared.leaf.LeafType.TheVariants as leaves
 use Rattle.tv_reader.proofs.Finding.{finds_then, finds_as, finds_fails, finds_part, finds_part_fails, finds_refused}
 
 abbrev end : Refusal
@@ -164,7 +165,7 @@ legacy_fails v are_bytes h = finds_part_fails _ _ are_bytes legacy_agrees (λ w 
 pub value_then : {S : Type 0} {tells : S → Type 0} {left : S → List ℕ} {faults : S → Faults} {old mid new : S} {i j k : ℕ} {kind : ValueType} {result : Result OwnedValue DeserializeError} (v : Version)
     → ((source : S) → tells source → AllBytes (left source)) → reads.TakesBy tells left faults old i mid j (λ x. x) (Ok kind) kind_at
     → Finds tells left faults mid j new k result (SpellsBehind v kind) (NoneBehind v kind) → Finds tells left faults old i new k result (SpellsValue v) (NoValue v)
-value_then v are_bytes part h = finds_behind (SpellsValue v) (NoValue v) are_bytes value_ends (in_leaf (no_extension refl)) part h
+value_then v are_bytes part h = finds_behind (SpellsValue v) (NoValue v) are_bytes value_ends (held_fault leaves.PreTokStr (no_extension refl)) part h
 
 -- ---- arrays
 
