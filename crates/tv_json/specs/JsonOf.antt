@@ -11,7 +11,9 @@ use Rattle.serde_json.specs.Data.{Data, Items, Members, put}
 use Rattle.serde_json.specs.Find.{of_integer}
 use Rattle.tv_base.specs.Facet.{printed}
 use Rattle.tv_date.specs.Printed.{moment_text}
-use Rattle.tv_value.specs.Tree.{Token, Leaf, null, text, unsigned, signed, boolean, date, facet, bytes, ip_address, tokenized, Tree, leaf, array, object, Elements, no_elements, element, Entries, no_entries, entry}
+use Rattle.tv_value.specs.Content.{Content, no_content, truth_content, unsigned_content, signed_content, wide_content, text_content, bytes_content, tokens_content}
+use Rattle.tv_value.specs.Leaves.{content}
+use Rattle.tv_value.specs.Tree.{Token, Leaf, date, facet, Tree, leaf, array, object, Elements, no_elements, element, Entries, no_entries, entry}
 
 -- the text of an address: `::ffff:a.b.c.d` as `a.b.c.d`, another as std prints it
 unfoldable pub segments_text : List ℕ → List ℕ
@@ -43,18 +45,23 @@ tokens_json (t ∷ ts) = json.item (token_json t) (tokens_json ts)
 abbrev pub tokenized_json : List ℕ → List Token → Data
 tokenized_json t ts = json.object (json.member (codes "text") (json.string t) (json.member (codes "tokens") (json.array (tokens_json ts)) json.no_members))
 
--- no value, texts, numbers and truth values as themselves, and what JSON has no kind for as a text or an object
+-- nothing, texts, numbers and truth values as themselves, and what JSON has no kind for as a text or an object; a number of sixteen
+-- bytes is that of an address
+abbrev pub content_json : Content → Data
+content_json no_content = json.null
+content_json (truth_content b) = json.boolean b
+content_json (unsigned_content n) = count_json n
+content_json (signed_content z) = json.number (of_integer z)
+content_json (wide_content n) = json.string (address_text n)
+content_json (text_content t) = json.string t
+content_json (bytes_content bs) = json.string (encode_of standard bs)
+content_json (tokens_content t ts) = tokenized_json t ts
+
+-- dates and facets as they are printed, others by what they hold
 abbrev pub leaf_json : Leaf → Data
-leaf_json null = json.null
-leaf_json (text t) = json.string t
-leaf_json (unsigned n) = count_json n
-leaf_json (signed z) = json.number (of_integer z)
-leaf_json (boolean b) = json.boolean b
 leaf_json (date z) = json.string (moment_text z)
 leaf_json (facet t) = json.string (printed t)
-leaf_json (bytes bs) = json.string (encode_of standard bs)
-leaf_json (ip_address n) = json.string (address_text n)
-leaf_json (tokenized t ts) = tokenized_json t ts
+leaf_json l = content_json (content l)
 
 -- Arrays and objects by their parts. The entries of an object go in one after the other, so the last of equal keys stands.
 abbrev mutual

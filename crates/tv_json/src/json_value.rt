@@ -3,7 +3,8 @@
 ghost use Rattle.std.specs.Prelude.{◌≡◌, IfOk, OnOk};
 ghost use Rattle.serde_json.specs.Data.{no_members, put};
 ghost use Rattle.serde_json.specs.View.{view as data_of, items_view, members_view};
-ghost use Rattle.tv_json.specs.JsonOf.{json_of, leaf_json, count_json, token_json, tokens_json, tokenized_json, elements_json, entries_json};
+ghost use Rattle.tv_json.specs.JsonOf.{json_of, content_json, leaf_json, count_json, token_json, tokens_json, tokenized_json, elements_json, entries_json};
+ghost use Rattle.tv_value.specs.LeafParts.{content_of};
 ghost use Rattle.tv_value.specs.Lent.{leaf_of, nested_tree};
 ghost use Rattle.tv_value.specs.PreTokenized.{text_of, tokens_of, tokens_left};
 ghost use Rattle.tv_value.specs.TokenRef.{ref_of};
@@ -14,6 +15,8 @@ use crate::leaf_text::{push_address, push_base64, push_date, push_facet};
 use serde_json::{Map, Value as JsonValue};
 use std::alloc::{AllocError, Global};
 use std::convert::AsStr;
+use tv_value::content::LeafContent;
+use tv_value::ip_addr::address_of;
 use tv_value::leaf::ReferenceValueLeaf;
 use tv_value::nested::{Lent, Nested, NestedValue};
 use tv_value::owned_value::OwnedValue;
@@ -89,21 +92,32 @@ fn tokenized_value(alloc: Global, content: PreTokenizedStr<'_>) -> Result<JsonVa
     Ok(JsonValue::Object(members))
 }
 
+// The JSON value of what a value without children holds.
+fn content_value(alloc: Global, content: LeafContent<'_>) -> Result<JsonValue, AllocError>
+    ensures { IfOk result (λ value. data_of value ≡ content_json (content_of content.entry)) }
+{
+    let mut text = String::new(alloc);
+    match content {
+        LeafContent::Nothing => return Ok(JsonValue::Null),
+        LeafContent::Truth(truth) => return Ok(JsonValue::Bool(truth)),
+        LeafContent::Unsigned(number) => return Ok(JsonValue::from(number)),
+        LeafContent::Signed(number) => return Ok(JsonValue::from(number)),
+        LeafContent::Tokens(content) => return tokenized_value(alloc, content),
+        LeafContent::Wide(number) => push_address(&mut text, address_of(number))?,
+        LeafContent::Text(content) => text.push_str(content)?,
+        LeafContent::Bytes(bytes) => push_base64(&mut text, bytes)?,
+    }
+    Ok(JsonValue::String(text))
+}
+
 fn leaf_value(alloc: Global, leaf: &ReferenceValueLeaf<'_>) -> Result<JsonValue, AllocError>
     ensures { IfOk result (λ value. data_of value ≡ leaf_json (leaf_of leaf.now)) }
 {
     let mut text = String::new(alloc);
     match *leaf {
-        ReferenceValueLeaf::Null => return Ok(JsonValue::Null),
-        ReferenceValueLeaf::U64(number) => return Ok(JsonValue::from(number)),
-        ReferenceValueLeaf::I64(number) => return Ok(JsonValue::from(number)),
-        ReferenceValueLeaf::Bool(truth) => return Ok(JsonValue::Bool(truth)),
-        ReferenceValueLeaf::PreTokStr(content) => return tokenized_value(alloc, content),
-        ReferenceValueLeaf::Str(content) => text.push_str(content)?,
         ReferenceValueLeaf::Date(date) => push_date(&mut text, date)?,
         ReferenceValueLeaf::Facet(path) => push_facet(&mut text, path)?,
-        ReferenceValueLeaf::Bytes(bytes) => push_base64(&mut text, bytes)?,
-        ReferenceValueLeaf::IpAddr(address) => push_address(&mut text, address)?,
+        _ => return content_value(alloc, leaf.content()),
     }
     Ok(JsonValue::String(text))
 }

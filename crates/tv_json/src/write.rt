@@ -4,8 +4,9 @@ ghost use Rattle.std.specs.Prelude.{◌≡◌, ◌++◌, ◌∷◌, [], OnOk, Is
 ghost use Rattle.json.specs.Print.{print};
 ghost use Rattle.json.specs.Token as Token;
 ghost use Rattle.serde_json.specs.Data.{no_members};
-ghost use Rattle.tv_json.specs.JsonOf.{json_of, leaf_json, token_json, tokens_json, tokenized_json, elements_json, entries_json};
+ghost use Rattle.tv_json.specs.JsonOf.{json_of, content_json, leaf_json, token_json, tokens_json, tokenized_json, elements_json, entries_json};
 ghost use Rattle.tv_json.specs.Rising.{KeysRise, counts_tokens, data_tokens, rest_of_array, rest_of_object, listed_json};
+ghost use Rattle.tv_value.specs.LeafParts.{content_of};
 ghost use Rattle.tv_value.specs.Lent.{leaf_of};
 ghost use Rattle.tv_value.specs.PreTokenized.{text_of, tokens_of, tokens_left};
 ghost use Rattle.tv_value.specs.TokenRef.{ref_of};
@@ -14,6 +15,8 @@ ghost use Rattle.tv_value.specs.Tree.{elements, entries};
 use crate::leaf_text::{push_address, push_base64, push_date, push_facet};
 use json::Writer;
 use std::alloc::{AllocError, Global};
+use tv_value::content::LeafContent;
+use tv_value::ip_addr::address_of;
 use tv_value::leaf::ReferenceValueLeaf;
 use tv_value::nested::{Nested, NestedValue};
 use tv_value::pre_tokenized::{PreTokenizedStr, TokenIter, TokenRef};
@@ -131,6 +134,26 @@ fn write_tokenized(out: &mut Writer, content: PreTokenizedStr<'_>) -> Result<(),
     out.end_object()
 }
 
+// Writes what a value without children holds.
+#[inline(always)]
+fn write_content(json: &mut JsonWriter, content: LeafContent<'_>) -> Result<(), AllocError>
+    ensures ok { OnOk result (json.new.out.tokens ≡ json.old.out.tokens ++ data_tokens (content_json (content_of content.entry))) }
+    ensures before { json.new.out.before ≡ json.old.out.before }
+{
+    json.scratch.clear();
+    match content {
+        LeafContent::Nothing => return json.out.null(),
+        LeafContent::Truth(truth) => return json.out.boolean(truth),
+        LeafContent::Unsigned(number) => return json.out.u64(number),
+        LeafContent::Signed(number) => return json.out.i64(number),
+        LeafContent::Text(text) => return json.out.string(text),
+        LeafContent::Tokens(text) => return write_tokenized(&mut json.out, text),
+        LeafContent::Wide(number) => push_address(&mut json.scratch, address_of(number))?,
+        LeafContent::Bytes(bytes) => push_base64(&mut json.scratch, bytes)?,
+    }
+    json.out.string(json.scratch.as_str())
+}
+
 /// Writes a value without children.
 pub(crate) fn write_leaf(
     json: &mut JsonWriter,
@@ -141,16 +164,9 @@ pub(crate) fn write_leaf(
 {
     json.scratch.clear();
     match *leaf {
-        ReferenceValueLeaf::Null => return json.out.null(),
-        ReferenceValueLeaf::Str(text) => return json.out.string(text),
-        ReferenceValueLeaf::U64(number) => return json.out.u64(number),
-        ReferenceValueLeaf::I64(number) => return json.out.i64(number),
-        ReferenceValueLeaf::Bool(truth) => return json.out.boolean(truth),
-        ReferenceValueLeaf::PreTokStr(text) => return write_tokenized(&mut json.out, text),
         ReferenceValueLeaf::Date(date) => push_date(&mut json.scratch, date)?,
         ReferenceValueLeaf::Facet(path) => push_facet(&mut json.scratch, path)?,
-        ReferenceValueLeaf::Bytes(bytes) => push_base64(&mut json.scratch, bytes)?,
-        ReferenceValueLeaf::IpAddr(address) => push_address(&mut json.scratch, address)?,
+        _ => return write_content(json, leaf.content()),
     }
     json.out.string(json.scratch.as_str())
 }
