@@ -5,10 +5,10 @@ use Rattle.tv_reader.specs.Leaves.{date_at}
 use Rattle.tv_reader.proofs.AgreeLeaves.{date_agrees}
 use Rattle.tv_value.specs.Tree.{date}
 use Rattle.tv_reader.specs.Version.{version_of}
-use Rattle.tv_reader.specs.declared.error.ValueType.TheVariants as types
+use Rattle.tv_reader.specs.declared.value_type.ValueType.TheVariants as types
 use Rattle.tv_typed.proofs.TypedSteps.{leaf_reads, leaf_mismatch}
 use Rattle.tv_typed.proofs.DeserializeSteps.{leaf_only}
-use Rattle.tv_typed.proofs.value_deserializer.BinaryValueDeserializer.deserialize_datetime.Goals as goal
+use Rattle.tv_typed.proofs.de.BinaryValueDeserializer.deserialize_datetime.Goals as goal
 
 pub returns-in_err-expect-clause-reads : goal.returns-in_err-expect-clause-reads
 returns-in_err-expect-clause-reads g c =

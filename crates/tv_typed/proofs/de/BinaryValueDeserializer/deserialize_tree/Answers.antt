@@ -4,7 +4,7 @@ use Rattle.tv_reader.specs.Trees.{SpellsBehind, NoneBehind}
 use Rattle.tv_reader.specs.Version.{version_of}
 use Rattle.tv_typed.proofs.TypedSteps.{reads_closed, told_reads}
 use Rattle.tv_typed.proofs.DeserializeSteps.{tree_only}
-use Rattle.tv_typed.proofs.value_deserializer.BinaryValueDeserializer.deserialize_tree.Goals as goal
+use Rattle.tv_typed.proofs.de.BinaryValueDeserializer.deserialize_tree.Goals as goal
 
 pub returns-in_err-go_on-clause-reads : goal.returns-in_err-go_on-clause-reads
 returns-in_err-go_on-clause-reads g c =

@@ -3,10 +3,10 @@ use Rattle.std.proofs.lemmas.Result.{err_from_is_err_and}
 use Rattle.tv_base.proofs.AgreeWidths.{u64_agrees}
 use Rattle.tv_value.specs.Tree.{unsigned}
 use Rattle.tv_reader.specs.Version.{version_of}
-use Rattle.tv_reader.specs.declared.error.ValueType.TheVariants as types
+use Rattle.tv_reader.specs.declared.value_type.ValueType.TheVariants as types
 use Rattle.tv_typed.proofs.TypedSteps.{leaf_reads, leaf_mismatch}
 use Rattle.tv_typed.proofs.DeserializeSteps.{leaf_only}
-use Rattle.tv_typed.proofs.value_deserializer.BinaryValueDeserializer.deserialize_u64.Goals as goal
+use Rattle.tv_typed.proofs.de.BinaryValueDeserializer.deserialize_u64.Goals as goal
 
 pub returns-in_err-expect-clause-reads : goal.returns-in_err-expect-clause-reads
 returns-in_err-expect-clause-reads g c =
