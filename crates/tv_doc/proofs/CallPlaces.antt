@@ -1,7 +1,6 @@
 -- Where calls belong, told from the state.
-use Rattle.std.proofs.Common.{◌≡◌, ℕ, ◌+◌, ◌-◌, ◌≤◌, List, ◌++◌, length, drop, Option, Some, None, Result, Ok, Err, refl, sym, ◌∙◌, ap, subst, length-append, append_assoc, arith}
-use Rattle.std.specs.Coded.{Coded, Coded-set}
-use base.Stored.{Gv, gnil, gcons}
+use Rattle.std.proofs.Common.{◌≡◌, ℕ, ◌+◌, ◌-◌, ◌≤◌, List, [], ◌++◌, length, drop, Option, Some, None, Result, Ok, Err, refl, sym, ◌∙◌, ap, subst, length-append, append_assoc, arith}
+use Rattle.std.specs.Coded.{Coded, Coded-set, code_by}
 use Rattle.std.proofs.Math.Logic.{∥∥₁_elim, ∥∥₁_map}
 use Rattle.std.proofs.Math.Nat.{ℕ_set}
 use Rattle.std.proofs.Math.Seq.{drop-append_seam}
@@ -15,6 +14,7 @@ use Rattle.tv_builder.specs.declared.building.OpenBytes.{OpenBytes}
 use Rattle.tv_builder.specs.declared.bytes_kind.BytesKind.{BytesKind}
 use Rattle.tv_builder.specs.declared.bytes_kind.BytesKind.TheVariants as kinds
 use Rattle.tv_builder.specs.Moves.{Does, AwaitsChunk, AwaitsEnd, EndsWell, last_bytes}
+use Rattle.tv_builder.specs.OneState.{coded_state}
 use Rattle.tv_builder.specs.Parts.{IsContent}
 use Rattle.tv_builder.specs.Shows.{Shows}
 use Rattle.tv_builder.specs.State.{State, OpenList, complete, in_lists, in_bytes}
@@ -30,22 +30,13 @@ does_as old mid P Q heaps full after (Err AlreadyFailed) f g d = absurd d
 does_as old mid P Q heaps full after (Err (FieldNumber n)) f g d = absurd d
 does_as old mid P Q heaps full after (Err NotUtf8) f g d = absurd d
 
--- a code for kinds, so that two are equal in one way at most
-abbrev kind_gv : BytesKind → Gv
-kind_gv kinds.Str = gnil
-kind_gv kinds.Facet = gcons gnil gnil
-kind_gv kinds.Bytes = gcons (gcons gnil gnil) gnil
-kind_gv kinds.Key = gcons gnil (gcons gnil gnil)
-
-kind_same : (j k : BytesKind) → kind_gv j ≡ kind_gv k → j ≡ k
-kind_same kinds.Str kinds.Str e = refl
-kind_same kinds.Facet kinds.Facet e = refl
-kind_same kinds.Bytes kinds.Bytes e = refl
-kind_same kinds.Key kinds.Key e = refl
-kind_same _ _ e = absurd (cc)
+-- kinds have a code, that of a state with open bytes, so that two are equal in one way at most
+abbrev kind_in : State → BytesKind
+kind_in (in_bytes ls kind n bs) = kind
+kind_in _ = kinds.Key
 
 coded_bytes_kind : Coded BytesKind
-coded_bytes_kind = record { code = kind_gv; inj = kind_same }
+coded_bytes_kind = code_by State coded_state (λ kind. in_bytes [] kind 0 []) kind_in (λ kind. refl)
 
 -- what a building's open bytes are, in a state with open bytes
 pub record Pieces (b : Building) (kind : BytesKind) (n : ℕ) (bs : List ℕ) : Type 0 where

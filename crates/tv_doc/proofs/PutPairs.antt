@@ -2,7 +2,7 @@
 use Rattle.std.proofs.Common.{◌≡◌, ◌≢◌, ℕ, ◌≤◌, List, ◌++◌, length, Result, Ok, Err, refl, sym, ◌∙◌, ap, subst, length-append, arith}
 use Rattle.tv_base.specs.Parts.{short_sized}
 use Rattle.tv_base.specs.Sink.{IsFront}
-use Rattle.tv_value.specs.Tree.{Leaf, null, text, unsigned, signed, boolean, date, facet, bytes, ip_address, tokenized, Tree, leaf, array, object, Elements, no_elements, element, Entries, no_entries, entry}
+use Rattle.tv_value.specs.Tree.{Leaf, null, boolean, Tree, leaf, array, object, Elements, no_elements, element, Entries, no_entries, entry}
 use Rattle.tv_heap.specs.TypeCode.{type_code}
 use Rattle.tv_heap.specs.Weight.{tree_weight}
 use Rattle.tv_heap.specs.Wrote.{Wrote}
@@ -36,14 +36,7 @@ entries_longer heap (entry k t es) =
 leaf_behind : (len : ℕ) (l : Leaf) → type_code (leaf_place len l).value_type ≢ 0 → type_code (leaf_place len l).value_type ≢ 9 → len ≤ (leaf_place len l).address
 leaf_behind len null some other = absurd (some refl)
 leaf_behind len (boolean b) some other = absurd (other refl)
-leaf_behind len (text t) some other = omega arith
-leaf_behind len (unsigned n) some other = omega arith
-leaf_behind len (signed z) some other = omega arith
-leaf_behind len (date z) some other = omega arith
-leaf_behind len (facet t) some other = omega arith
-leaf_behind len (bytes bs) some other = omega arith
-leaf_behind len (ip_address n) some other = omega arith
-leaf_behind len (tokenized t ts) some other = omega arith
+leaf_behind len _ some other = omega arith
 
 tree_behind : (heap : List ℕ) (t : Tree) → type_code (tree_place heap t).value_type ≢ 0 → type_code (tree_place heap t).value_type ≢ 9 → length heap ≤ (tree_place heap t).address
 tree_behind heap (leaf l) some other = leaf_behind (length heap) l some other

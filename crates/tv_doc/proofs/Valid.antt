@@ -6,13 +6,15 @@ use Rattle.std.proofs.Math.Logic.{∥∥₁_elim}
 use Rattle.std.proofs.lemmas.List.{length-append}
 use Rattle.tv_base.specs.Number.{vnum}
 use Rattle.tv_base.proofs.Numbers.{fixed_fits}
-use Rattle.tv_value.specs.Short.{IsSized, IsText, IsToken, AreTokens, IsLeaf, IsValue, AreElements, AreEntries, IsPair, IsDocument}
-use Rattle.tv_value.specs.Tree.{Token, Leaf, null, text, unsigned, signed, boolean, date, facet, bytes, ip_address, tokenized, Tree, leaf, array, object, Elements, no_elements, element, Entries, no_entries, entry, element_count, entry_count, Document}
+use Rattle.tv_value.specs.Content.{Content, no_content, truth_content, unsigned_content, signed_content, wide_content, text_content, bytes_content, tokens_content}
+use Rattle.tv_value.specs.Leaves.{content}
+use Rattle.tv_value.specs.Short.{IsSized, IsText, IsToken, AreTokens, IsContent, IsValue, AreElements, AreEntries, IsPair, IsDocument}
+use Rattle.tv_value.specs.Tree.{Token, Tree, leaf, array, object, Elements, no_elements, element, Entries, no_entries, entry, element_count, entry_count, Document}
 use Rattle.tv_doc.specs.declared.document.CompactDoc.{CompactDoc}
 use Rattle.tv_doc.specs.declared.place.FieldValueAddr.{FieldValueAddr}
 use Rattle.tv_doc.specs.Document.{document_of}
 use Rattle.tv_doc.specs.Holds.{ReadsPairs}
-use Rattle.tv_heap.specs.Reads.{ShortText, LeafStands, Reads, ReadsElements, ReadsEntries}
+use Rattle.tv_heap.specs.Reads.{ShortText, ContentStands, Reads, ReadsElements, ReadsEntries}
 use Rattle.tv_heap.specs.TypeCode.{type_code}
 use Rattle.tv_doc.proofs.Documents.{document_length}
 
@@ -36,21 +38,19 @@ AreTokens-prop ts p q =
     let count : IsProp (length ts < 2 ^ 63) = hlevel props in
     λ i. record { count = count p.count q.count i; each = all-prop IsToken IsToken-prop ts p.each q.each i }
 
-IsLeaf-prop : (l : Leaf) → IsProp (IsLeaf l)
-IsLeaf-prop null = hlevel props
-IsLeaf-prop (text t) = IsText-prop t
-IsLeaf-prop (unsigned n) = hlevel props
-IsLeaf-prop (signed z) = hlevel props
-IsLeaf-prop (boolean b) = hlevel props
-IsLeaf-prop (date z) = hlevel props
-IsLeaf-prop (facet t) = IsText-prop t
-IsLeaf-prop (bytes t) = IsSized-prop t
-IsLeaf-prop (ip_address n) = hlevel props
-IsLeaf-prop (tokenized t ts) = λ p q. λ i. (IsText-prop t p.0 q.0 i, AreTokens-prop ts p.1 q.1 i)
+IsContent-prop : (c : Content) → IsProp (IsContent c)
+IsContent-prop no_content = hlevel props
+IsContent-prop (truth_content b) = hlevel props
+IsContent-prop (unsigned_content n) = hlevel props
+IsContent-prop (signed_content z) = hlevel props
+IsContent-prop (wide_content n) = hlevel props
+IsContent-prop (text_content t) = IsText-prop t
+IsContent-prop (bytes_content bs) = IsSized-prop bs
+IsContent-prop (tokens_content t ts) = λ p q. λ i. (IsText-prop t p.0 q.0 i, AreTokens-prop ts p.1 q.1 i)
 
 mutual
   IsValue-prop : (t : Tree) → IsProp (IsValue t)
-  IsValue-prop (leaf l) = IsLeaf-prop l
+  IsValue-prop (leaf l) = IsContent-prop (content l)
   IsValue-prop (array ts) =
       let count : IsProp (element_count ts < 2 ^ 63) = hlevel props in
       λ p q. λ i. (count p.0 q.0 i, AreElements-prop ts p.1 q.1 i)
@@ -81,17 +81,15 @@ IsDocument-prop d p q =
 text_valid : (content whole : List ℕ) → ShortText content whole → IsText content
 text_valid content whole p = record { size = omega (arith, p.sized.fits); utf8 = p.utf8 }
 
-leaf_valid : (heap : List ℕ) (at : ℕ) (l : Leaf) → LeafStands heap at l → IsLeaf l
-leaf_valid heap at null p = tt
-leaf_valid heap at (text t) p = text_valid t p.whole p.stands
-leaf_valid heap at (unsigned n) p = omega (arith, fixed_fits p.stands)
-leaf_valid heap at (signed z) p = p.stands.fits
-leaf_valid heap at (boolean b) p = tt
-leaf_valid heap at (date z) p = p.stands.fits
-leaf_valid heap at (facet t) p = text_valid t p.whole p.stands
-leaf_valid heap at (bytes t) p = record { size = omega (arith, p.stands.fits) }
-leaf_valid heap at (ip_address n) p = omega (arith, fixed_fits p.stands)
-leaf_valid heap at (tokenized t ts) p = (p.stands.content_fits, p.stands.tokens_fit)
+content_valid : (heap : List ℕ) (at : ℕ) (c : Content) → ContentStands heap at c → IsContent c
+content_valid heap at no_content p = tt
+content_valid heap at (truth_content b) p = tt
+content_valid heap at (unsigned_content n) p = omega (arith, fixed_fits p.stands)
+content_valid heap at (signed_content z) p = p.stands.fits
+content_valid heap at (wide_content n) p = omega (arith, fixed_fits p.stands)
+content_valid heap at (text_content t) p = text_valid t p.whole p.stands
+content_valid heap at (bytes_content bs) p = record { size = omega (arith, p.stands.fits) }
+content_valid heap at (tokens_content t ts) p = (p.stands.content_fits, p.stands.tokens_fit)
 
 -- each child takes a byte at least
 elements_fewer : (heap : List ℕ) (parent : ℕ) (whole : List ℕ) (ts : Elements) → ReadsElements heap parent whole ts → element_count ts ≤ length whole
@@ -107,7 +105,7 @@ entries_fewer heap parent whole (entry k t es) p =
 
 mutual
   pub reads_valid : (heap : List ℕ) (code at : ℕ) (t : Tree) → Reads heap code at t → IsValue t
-  reads_valid heap code at (leaf l) p = leaf_valid heap at l p.1
+  reads_valid heap code at (leaf l) p = content_valid heap at (content l) p.1
   reads_valid heap code at (array ts) p =
       (omega (arith, p.1.stands.stands.fits, elements_fewer heap at p.1.list ts p.1.children), elements_valid heap at p.1.list ts p.1.children)
   reads_valid heap code at (object es) p =
