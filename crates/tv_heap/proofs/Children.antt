@@ -6,14 +6,15 @@ use Rattle.std.proofs.Math.Logic.{∥∥₁_elim, ∥∥₁_map}
 use mathlib.Core.HLevel.{⊥_prop}
 use base.Stored.{Coded-set}
 use Rattle.tv_base.specs.Number.{vnum}
-use Rattle.tv_value.specs.Tree.{Leaf, null, text, unsigned, signed, boolean, date, facet, bytes, ip_address, tokenized, Tree, leaf, array, object, elements, entry, entries}
+use Rattle.tv_value.specs.Leaves.{type_of}
+use Rattle.tv_value.specs.Tree.{text, Tree, leaf, array, object, elements, entry, entries}
 use Rattle.tv_value.specs.TreeCode.{coded_text}
 use Rattle.tv_heap.specs.declared.value_type.ValueType.{ValueType}
 use Rattle.tv_heap.specs.declared.value_type.ValueType.TheVariants as type
 use Rattle.tv_heap.specs.Held.{Held, same_held, AreElements, HeldElements, AreEntries, HeldEntries}
 use Rattle.tv_heap.specs.Lent.{GivesChild}
-use Rattle.tv_heap.specs.Reads.{Stands, ShortText, leaf_type, Reads, ReadsElements, ReadsEntries}
-use Rattle.tv_heap.specs.TypeCode.{type_code}
+use Rattle.tv_heap.specs.Reads.{Stands, ShortText, Reads, ReadsElements, ReadsEntries}
+use Rattle.tv_heap.specs.TypeCode.{type_code, heap_type}
 use Rattle.tv_heap.proofs.Shapes.{same_elements, same_entries}
 
 -- a child's type, its address, and what follows
@@ -28,20 +29,8 @@ Gives list r = (t : ValueType) (at : ℕ) (rest : List ℕ) → at < 2 ^ 32 → 
 abbrev Typed : ℕ → Type 0
 Typed code = (t : ValueType) × (code ≡ type_code t)
 
-leaf_typed : (l : Leaf) → Typed (leaf_type l)
-leaf_typed null = (type.Null, refl)
-leaf_typed (text s) = (type.Str, refl)
-leaf_typed (unsigned n) = (type.U64, refl)
-leaf_typed (signed z) = (type.I64, refl)
-leaf_typed (boolean b) = (type.Bool, refl)
-leaf_typed (date z) = (type.Date, refl)
-leaf_typed (facet s) = (type.Facet, refl)
-leaf_typed (bytes s) = (type.Bytes, refl)
-leaf_typed (ip_address n) = (type.IpAddr, refl)
-leaf_typed (tokenized s ts) = (type.PreTokStr, refl)
-
 tree_typed : (heap : List ℕ) (code at : ℕ) (t : Tree) → Reads heap code at t → Typed code
-tree_typed heap code at (leaf l) r = let t = leaf_typed l in (t.0, r.0 ∙ t.1)
+tree_typed heap code at (leaf l) r = (heap_type (type_of l), r.0)
 tree_typed heap code at (array ts) r = (type.Array, r.0)
 tree_typed heap code at (object es) r = (type.Object, r.0)
 

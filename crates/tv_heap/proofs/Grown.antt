@@ -1,7 +1,9 @@
 -- What reads in a heap still reads once the heap has grown at its end.
 use Rattle.std.proofs.Common.{◌≡◌, ℕ, ◌≤◌, List, ◌++◌, ◌∙◌, ap, append_assoc, arith}
-use Rattle.tv_value.specs.Tree.{Leaf, null, text, unsigned, signed, boolean, date, facet, bytes, ip_address, tokenized, Tree, leaf, array, object, Elements, no_elements, element, Entries, no_entries, entry}
-use Rattle.tv_heap.specs.Reads.{Stands, LeafStands, Reads, ReadsElements, ReadsEntries}
+use Rattle.tv_value.specs.Content.{Content, no_content, truth_content}
+use Rattle.tv_value.specs.Leaves.{content}
+use Rattle.tv_value.specs.Tree.{Tree, leaf, array, object, Elements, no_elements, element, Entries, no_entries, entry}
+use Rattle.tv_heap.specs.Reads.{Stands, ContentStands, Reads, ReadsElements, ReadsEntries}
 
 pub stands_grown : (old new more : List ℕ) (at : ℕ) (P : List ℕ → Type 0) → new ≡ old ++ more → Stands old at P → Stands new at P
 stands_grown old new more at P e p = record {
@@ -13,21 +15,14 @@ stands_grown old new more at P e p = record {
   stands = p.stands;
 }
 
-leaf_grown : (old new more : List ℕ) (at : ℕ) (l : Leaf) → new ≡ old ++ more → LeafStands old at l → LeafStands new at l
-leaf_grown old new more at null e p = p
-leaf_grown old new more at (text s) e p = stands_grown old new more at _ e p
-leaf_grown old new more at (unsigned n) e p = stands_grown old new more at _ e p
-leaf_grown old new more at (signed z) e p = stands_grown old new more at _ e p
-leaf_grown old new more at (bytes s) e p = stands_grown old new more at _ e p
-leaf_grown old new more at (boolean b) e p = p
-leaf_grown old new more at (date z) e p = stands_grown old new more at _ e p
-leaf_grown old new more at (facet s) e p = stands_grown old new more at _ e p
-leaf_grown old new more at (ip_address n) e p = stands_grown old new more at _ e p
-leaf_grown old new more at (tokenized s ts) e p = stands_grown old new more at _ e p
+content_grown : (old new more : List ℕ) (at : ℕ) (c : Content) → new ≡ old ++ more → ContentStands old at c → ContentStands new at c
+content_grown old new more at no_content e p = p
+content_grown old new more at (truth_content b) e p = p
+content_grown old new more at _ e p = stands_grown old new more at _ e p
 
 mutual
   pub grown : (old new more : List ℕ) (code at : ℕ) (t : Tree) → new ≡ old ++ more → Reads old code at t → Reads new code at t
-  grown old new more code at (leaf l) e p = (p.0, leaf_grown old new more at l e p.1)
+  grown old new more code at (leaf l) e p = (p.0, content_grown old new more at (content l) e p.1)
   grown old new more code at (array ts) e p =
       (p.0, record { list = p.1.list; stands = stands_grown old new more at _ e p.1.stands; children = grown_elements old new more at at p.1.list ts e (omega arith) p.1.children })
   grown old new more code at (object es) e p =

@@ -1,5 +1,5 @@
 -- What stands in a heap is what the store has behind a value's code.
-use Rattle.std.proofs.Common.{inl, inr, append_assoc, take-append-drop, ◌≡◌, ◌≢◌, ℕ, ◌+◌, ◌*◌, ◌-◌, ◌/◌, ◌%◌, ◌^◌, ◌<◌, ◌≤◌, suc, ℤ, not, nat_eq, List, [], ◌∷◌, ◌++◌, ◌↔◌, length, take, drop, refl, sym, ◌∙◌, ap, subst, arith}
+use Rattle.std.proofs.Common.{inl, inr, append_assoc, take-append-drop, ◌≡◌, ℕ, ◌+◌, ◌*◌, ◌-◌, ◌/◌, ◌%◌, ◌^◌, ◌<◌, ◌≤◌, suc, ℤ, not, List, [], ◌∷◌, ◌++◌, ◌↔◌, length, take, drop, refl, sym, ◌∙◌, ap, subst, arith}
 use Rattle.std.specs.Int.{w64, cast_unsigned}
 use Rattle.std.specs.List.{filter}
 use Rattle.std.proofs.lemmas.Bool.{cases_lt, cond-true, cond-false, lt-ltb, le-ltb}
@@ -9,21 +9,28 @@ use Rattle.std.proofs.Math.Logic.{∥∥₁_elim, ∥∥₁_map}
 use Rattle.std.proofs.Math.Seq.{take-append_seam}
 use mathlib.Core.HLevel.{⊥_prop}
 use base.Stored.{Coded-set}
-use Rattle.tv_base.specs.Number.{Groups, last, more, vnum, low_bytes, eight_bytes, sixteen_bytes, truth_byte, Fixed, no_bytes, low_byte, Signed}
+use Rattle.tv_base.specs.Number.{Groups, last, more, vnum, low_bytes, eight_bytes, sixteen_bytes, Fixed, no_bytes, low_byte, Signed}
 use Rattle.tv_base.specs.Parts.{short_sized}
 use Rattle.tv_base.proofs.Numbers.{vnum_spells, length-fixed}
-use Rattle.tv_value.specs.Short.{short, short_elements, short_entries, short_tokenized}
-use Rattle.tv_value.specs.Tree.{Token, null, text, unsigned, signed, boolean, date, facet, bytes, ip_address, tokenized, Tree, leaf, array, object, Elements, no_elements, element, elements, element_list, element_count, Entries, no_entries, entry, entry_count}
+use Rattle.tv_value.specs.Short.{short_content, short_leaf, short, short_elements, short_entries, short_tokenized}
+use Rattle.tv_value.specs.Content.{Content, signed_content, text_content, tokens_content, form_of}
+use Rattle.tv_value.specs.Leaves.{type_of, content, store_code}
+use Rattle.tv_value.specs.declared.content.Form.TheVariants as forms
+use Rattle.tv_value.specs.declared.leaf.LeafType.{LeafType}
+use Rattle.tv_value.specs.Tree.{Token, Leaf, text, Tree, leaf, array, object, Elements, no_elements, element, elements, element_list, element_count, Entries, no_entries, entry, entry_count}
 use Rattle.tv_value.specs.TreeCode.{coded_text}
 use Rattle.tv_value.specs.Version.{V2}
-use Rattle.tv_heap.specs.Encoded.{IsTokenized, is_last, last_bytes}
+use Rattle.tv_heap.specs.declared.encoded.Encoded.{Encoded}
+use Rattle.tv_heap.specs.declared.encoded.Encoded.TheVariants as held
+use Rattle.tv_heap.specs.Encoded.{AreTokens, IsTokenized, SaysTokenized, is_last, last_bytes}
 use Rattle.tv_heap.specs.Held.{Held, HeldElements}
-use Rattle.tv_heap.specs.Reads.{Stands, ShortSized, ShortTokenized, Reads, ReadsElements, ReadsEntries}
-use Rattle.tv_heap.specs.ReadsLaws.{leaf_type_small}
+use Rattle.tv_heap.specs.Reads.{Stands, ShortSized, ShortTokenized, ContentStands, LeafStands, Reads, ReadsElements, ReadsEntries}
+use Rattle.tv_heap.specs.ReadsLaws.{one_type, type_small, leaf_type_small}
+use Rattle.tv_heap.specs.TypeCode.{type_code, heap_type}
 use Rattle.tv_value.proofs.Leaves.{agree_tokenized}
 use Rattle.tv_value.specs.Spelling.{Tokenized}
 use Rattle.tv_heap.proofs.Lends.{text_sized, stands_behind, tokenized_stands}
-use Rattle.tv_heap.proofs.Shapes.{GivesSized, flag_is, elements_listed, same_elements, children_are}
+use Rattle.tv_heap.proofs.Shapes.{GivesSized, elements_listed, same_elements, children_are}
 
 -- ---- the last bytes of numbers
 
@@ -103,9 +110,6 @@ flat_short (entry k t es) = ap (λ z. (0 ∷ short_sized k) ++ (short V2 t ++ z)
 
 -- ---- values
 
-by_bytes : (heap : List ℕ) (code at : ℕ) (h : Held heap code at) (x : List ℕ) → (Reads heap code at h.0 → x ≡ short V2 h.0) → x ≡ short V2 h.0
-by_bytes heap code at h x f = ∥∥₁_elim h.1 (Coded-set coded_text x (short V2 h.0)) f
-
 -- what `spelled_at` promises
 abbrev GivesSpelled : List ℕ → ℕ → List ℕ → Type 0
 GivesSpelled heap at x = (s : List ℕ) → Stands heap at (λ w. ShortSized s w) → x ≡ short_sized s
@@ -114,83 +118,30 @@ GivesSpelled heap at x = (s : List ℕ) → Stands heap at (λ w. ShortSized s w
 abbrev GivesNumber : List ℕ → ℕ → ℕ → Type 0
 GivesNumber heap at x = (n : ℕ) → Stands heap at (λ w. Fixed 8 w n) → x ≡ n
 
-null_tree : (heap : List ℕ) (code at : ℕ) (t : Tree) → code ≡ 0 → Reads heap code at t → 11 ∷ [] ≡ short V2 t
-null_tree heap code at (leaf null) e r = refl
-null_tree heap code at _ e r = absurd (omega (arith, r.0))
-
-pub null_bytes : (heap : List ℕ) (code at : ℕ) (h : Held heap code at) → code ≡ 0 → 11 ∷ [] ≡ short V2 h.0
-null_bytes heap code at h e = by_bytes heap code at h _ (null_tree heap code at h.0 e)
-
-text_tree : (heap : List ℕ) (code at : ℕ) (t : Tree) (x : List ℕ) → code ≡ 1 → GivesSpelled heap at x → Reads heap code at t → 0 ∷ x ≡ short V2 t
-text_tree heap code at (leaf (text s)) x e is r = ap (λ z. 0 ∷ z) (is s (text_sized heap at s r.1))
-text_tree heap code at _ x e is r = absurd (omega (arith, r.0))
-
-pub text_bytes : (heap : List ℕ) (code at : ℕ) (h : Held heap code at) (x : List ℕ) → code ≡ 1 → GivesSpelled heap at x → 0 ∷ x ≡ short V2 h.0
-text_bytes heap code at h x e is = by_bytes heap code at h _ (text_tree heap code at h.0 x e is)
-
-unsigned_tree : (heap : List ℕ) (code at : ℕ) (t : Tree) (x : ℕ) → code ≡ 2 → GivesNumber heap at x → Reads heap code at t → 1 ∷ eight_bytes x ≡ short V2 t
-unsigned_tree heap code at (leaf (unsigned n)) x e is r = ap (λ z. 1 ∷ eight_bytes z) (is n r.1)
-unsigned_tree heap code at _ x e is r = absurd (omega (arith, r.0))
-
-pub unsigned_bytes : (heap : List ℕ) (code at : ℕ) (h : Held heap code at) (x : ℕ) → code ≡ 2 → GivesNumber heap at x → 1 ∷ eight_bytes x ≡ short V2 h.0
-unsigned_bytes heap code at h x e is = by_bytes heap code at h _ (unsigned_tree heap code at h.0 x e is)
-
 -- the eight bytes of a signed number are a number's
 pattern_is : (heap : List ℕ) (at x : ℕ) (z : ℤ) → GivesNumber heap at x → Stands heap at (λ w. Signed w z) → x ≡ cast_unsigned w64 z
 pattern_is heap at x z is p = is _ (record { before = p.before; whole = p.whole; behind = p.behind; joined = p.joined; place = p.place; stands = p.stands.spelled })
 
-signed_tree : (heap : List ℕ) (code at : ℕ) (t : Tree) (x : ℕ) → code ≡ 3 → GivesNumber heap at x → Reads heap code at t → 2 ∷ eight_bytes x ≡ short V2 t
-signed_tree heap code at (leaf (signed z)) x e is r = ap (λ n. 2 ∷ eight_bytes n) (pattern_is heap at x z is r.1)
-signed_tree heap code at _ x e is r = absurd (omega (arith, r.0))
+pub signed_bytes : (heap : List ℕ) (at x : ℕ) → GivesNumber heap at x → (c : Content) → form_of c ≡ forms.Signed → ContentStands heap at c → eight_bytes x ≡ short_content c
+signed_bytes heap at x is (signed_content z) e p = ap eight_bytes (pattern_is heap at x z is p)
+signed_bytes heap at x is _ e p = absurd (cc)
 
-pub signed_bytes : (heap : List ℕ) (code at : ℕ) (h : Held heap code at) (x : ℕ) → code ≡ 3 → GivesNumber heap at x → 2 ∷ eight_bytes x ≡ short V2 h.0
-signed_bytes heap code at h x e is = by_bytes heap code at h _ (signed_tree heap code at h.0 x e is)
+pub text_bytes : (heap : List ℕ) (at : ℕ) (x : List ℕ) → GivesSpelled heap at x → (c : Content) → form_of c ≡ forms.Text → ContentStands heap at c → x ≡ short_content c
+text_bytes heap at x is (text_content s) e p = is s (text_sized heap at s p)
+text_bytes heap at x is _ e p = absurd (cc)
 
-date_tree : (heap : List ℕ) (code at : ℕ) (t : Tree) (x : ℕ) → code ≡ 5 → GivesNumber heap at x → Reads heap code at t → 5 ∷ eight_bytes x ≡ short V2 t
-date_tree heap code at (leaf (date z)) x e is r = ap (λ n. 5 ∷ eight_bytes n) (pattern_is heap at x z is r.1)
-date_tree heap code at _ x e is r = absurd (omega (arith, r.0))
+-- ---- leaves
 
-pub date_bytes : (heap : List ℕ) (code at : ℕ) (h : Held heap code at) (x : ℕ) → code ≡ 5 → GivesNumber heap at x → 5 ∷ eight_bytes x ≡ short V2 h.0
-date_bytes heap code at h x e is = by_bytes heap code at h _ (date_tree heap code at h.0 x e is)
+-- the code of a type, and what stands behind it
+pub leaf_short : (t : LeafType) (l : Leaf) (code : ℕ) (behind : List ℕ) → type_of l ≡ t → code ≡ store_code t → behind ≡ short_content (content l) → code ∷ behind ≡ short_leaf l
+leaf_short t l code behind same is e = λ i. (is ∙ ap store_code (sym same)) i ∷ e i
 
-facet_tree : (heap : List ℕ) (code at : ℕ) (t : Tree) (x : List ℕ) → code ≡ 6 → GivesSpelled heap at x → Reads heap code at t → 3 ∷ x ≡ short V2 t
-facet_tree heap code at (leaf (facet s)) x e is r = ap (λ z. 3 ∷ z) (is s (text_sized heap at s r.1))
-facet_tree heap code at _ x e is r = absurd (omega (arith, r.0))
+leaf_tree_bytes : (heap : List ℕ) (code at : ℕ) (u : Tree) (t : LeafType) (x : List ℕ) → code ≡ type_code (heap_type t) → ((l : Leaf) → type_of l ≡ t → LeafStands heap at l → x ≡ short_leaf l) → Reads heap code at u → x ≡ short V2 u
+leaf_tree_bytes heap code at (leaf l) t x e is r = is l (one_type (type_of l) t (sym r.0 ∙ e)) r.1
+leaf_tree_bytes heap code at _ t x e is r = absurd (omega (arith, r.0, e, type_small t))
 
-pub facet_bytes : (heap : List ℕ) (code at : ℕ) (h : Held heap code at) (x : List ℕ) → code ≡ 6 → GivesSpelled heap at x → 3 ∷ x ≡ short V2 h.0
-facet_bytes heap code at h x e is = by_bytes heap code at h _ (facet_tree heap code at h.0 x e is)
-
-bytes_tree : (heap : List ℕ) (code at : ℕ) (t : Tree) (x : List ℕ) → code ≡ 7 → GivesSpelled heap at x → Reads heap code at t → 4 ∷ x ≡ short V2 t
-bytes_tree heap code at (leaf (bytes s)) x e is r = ap (λ z. 4 ∷ z) (is s r.1)
-bytes_tree heap code at _ x e is r = absurd (omega (arith, r.0))
-
-pub bytes_bytes : (heap : List ℕ) (code at : ℕ) (h : Held heap code at) (x : List ℕ) → code ≡ 7 → GivesSpelled heap at x → 4 ∷ x ≡ short V2 h.0
-bytes_bytes heap code at h x e is = by_bytes heap code at h _ (bytes_tree heap code at h.0 x e is)
-
-address_tree : (heap : List ℕ) (code at : ℕ) (t : Tree) (x : List ℕ) → code ≡ 8 → ((n : ℕ) → Stands heap at (λ w. Fixed 16 w n) → x ≡ sixteen_bytes n) → Reads heap code at t → 10 ∷ x ≡ short V2 t
-address_tree heap code at (leaf (ip_address n)) x e is r = ap (λ z. 10 ∷ z) (is n r.1)
-address_tree heap code at _ x e is r = absurd (omega (arith, r.0))
-
-pub address_bytes : (heap : List ℕ) (code at : ℕ) (h : Held heap code at) (x : List ℕ) → code ≡ 8 → ((n : ℕ) → Stands heap at (λ w. Fixed 16 w n) → x ≡ sixteen_bytes n) → 10 ∷ x ≡ short V2 h.0
-address_bytes heap code at h x e is = by_bytes heap code at h _ (address_tree heap code at h.0 x e is)
-
-boolean_tree : (heap : List ℕ) (code at : ℕ) (t : Tree) → code ≡ 9 → Reads heap code at t → 9 ∷ truth_byte (not (nat_eq at 0)) ≡ short V2 t
-boolean_tree heap code at (leaf (boolean b)) e r = ap (λ z. 9 ∷ truth_byte z) (flag_is b at r.1)
-boolean_tree heap code at _ e r = absurd (omega (arith, r.0))
-
-pub boolean_bytes : (heap : List ℕ) (code at : ℕ) (h : Held heap code at) → code ≡ 9 → 9 ∷ truth_byte (not (nat_eq at 0)) ≡ short V2 h.0
-boolean_bytes heap code at h e = by_bytes heap code at h _ (boolean_tree heap code at h.0 e)
-
--- what `spelled_tokens_at` promises
-abbrev GivesSpelledTokens : List ℕ → ℕ → List ℕ → Type 0
-GivesSpelledTokens heap at x = (s : List ℕ) (ts : List Token) → Stands heap at (λ w. ShortTokenized s ts w) → x ≡ short_tokenized s ts
-
-tokenized_tree : (heap : List ℕ) (code at : ℕ) (t : Tree) (x : List ℕ) → code ≡ 10 → GivesSpelledTokens heap at x → Reads heap code at t → 7 ∷ 0 ∷ x ≡ short V2 t
-tokenized_tree heap code at (leaf (tokenized s ts)) x e is r = ap (λ z. 7 ∷ 0 ∷ z) (is s ts r.1)
-tokenized_tree heap code at _ x e is r = absurd (omega (arith, r.0))
-
-pub tokenized_bytes : (heap : List ℕ) (code at : ℕ) (h : Held heap code at) (x : List ℕ) → code ≡ 10 → GivesSpelledTokens heap at x → 7 ∷ 0 ∷ x ≡ short V2 h.0
-tokenized_bytes heap code at h x e is = by_bytes heap code at h _ (tokenized_tree heap code at h.0 x e is)
+pub leaf_bytes : (heap : List ℕ) (code at : ℕ) (h : Held heap code at) (t : LeafType) (x : List ℕ) → code ≡ type_code (heap_type t) → ((l : Leaf) → type_of l ≡ t → LeafStands heap at l → x ≡ short_leaf l) → x ≡ short V2 h.0
+leaf_bytes heap code at h t x e is = ∥∥₁_elim h.1 (Coded-set coded_text x (short V2 h.0)) (leaf_tree_bytes heap code at h.0 t x e is)
 
 -- ---- lists
 
@@ -232,23 +183,35 @@ object_bytes heap code at (array ts) h e list is n counted x = absurd (∥∥₁
 
 -- ---- texts with their tokens
 
-has_tokens : (heap : List ℕ) (code at : ℕ) (t : Tree) → code ≡ 10 → Reads heap code at t → IsTokenized t
-has_tokens heap code at (leaf (tokenized s ts)) e r = tt
-has_tokens heap code at _ e r = absurd (omega (arith, r.0))
+are_tokens_prop : (c : Content) → IsProp (AreTokens c)
+are_tokens_prop (tokens_content t ts) x y = refl
+are_tokens_prop _ x y = absurd x
 
 tokenized_prop : (t : Tree) → IsProp (IsTokenized t)
-tokenized_prop (leaf (tokenized s ts)) x y = refl
-tokenized_prop _ x y = absurd x
+tokenized_prop (leaf l) = are_tokens_prop (content l)
+tokenized_prop _ = λ x y. absurd x
 
-pub with_tokens : (heap : List ℕ) (code at : ℕ) (h : Held heap code at) → code ≡ 10 → Unit {0} ↔ IsTokenized h.0
-with_tokens heap code at h e = (λ u. ∥∥₁_elim h.1 (tokenized_prop h.0) (has_tokens heap code at h.0 e), λ t. tt)
+leaf_tree_tokens : (heap : List ℕ) (code at : ℕ) (u : Tree) (t : LeafType) (S : Type 0) → code ≡ type_code (heap_type t) → ((l : Leaf) → type_of l ≡ t → S ↔ AreTokens (content l)) → Reads heap code at u → S ↔ IsTokenized u
+leaf_tree_tokens heap code at (leaf l) t S e is r = is l (one_type (type_of l) t (sym r.0 ∙ e))
+leaf_tree_tokens heap code at _ t S e is r = absurd (omega (arith, r.0, e, type_small t))
 
-not_tokens : (heap : List ℕ) (code at : ℕ) (t : Tree) → code ≢ 10 → Reads heap code at t → IsTokenized t → ⊥
-not_tokens heap code at (leaf (tokenized s ts)) e r is = e r.0
+says_prop : (x : Encoded) → IsProp (SaysTokenized x)
+says_prop (held.Tokenized content) x y = refl
+says_prop _ x y = absurd x
+
+pub leaf_tokens : (heap : List ℕ) (code at : ℕ) (h : Held heap code at) (t : LeafType) (x : Encoded) → code ≡ type_code (heap_type t) → ((l : Leaf) → type_of l ≡ t → SaysTokenized x ↔ AreTokens (content l)) → SaysTokenized x ↔ IsTokenized h.0
+leaf_tokens heap code at h t x e is = (
+  λ s. ∥∥₁_elim h.1 (tokenized_prop h.0) (λ r. (leaf_tree_tokens heap code at h.0 t (SaysTokenized x) e is r).0 s),
+  λ s. ∥∥₁_elim h.1 (says_prop x) (λ r. (leaf_tree_tokens heap code at h.0 t (SaysTokenized x) e is r).1 s),
+)
+
+-- lists are no texts with tokens
+not_tokens : (heap : List ℕ) (code at : ℕ) (t : Tree) → 10 < code → Reads heap code at t → IsTokenized t → ⊥
+not_tokens heap code at (leaf l) e r is = omega (arith, r.0, e, leaf_type_small l)
 not_tokens heap code at _ e r is = is
 
-pub without_tokens : (heap : List ℕ) (code at : ℕ) (h : Held heap code at) → code ≢ 10 → ⊥ ↔ IsTokenized h.0
-without_tokens heap code at h e = (λ x. absurd x, λ t. ∥∥₁_elim h.1 ⊥_prop (λ r. not_tokens heap code at h.0 e r t))
+pub no_list_tokens : (heap : List ℕ) (code at : ℕ) (h : Held heap code at) → 10 < code → ⊥ ↔ IsTokenized h.0
+no_list_tokens heap code at h e = (λ x. absurd x, λ t. ∥∥₁_elim h.1 ⊥_prop (λ r. not_tokens heap code at h.0 e r t))
 
 -- ---- bytes at an address
 

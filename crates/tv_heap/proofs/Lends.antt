@@ -1,8 +1,6 @@
 -- What is read in place is what stands there.
 use Rattle.std.proofs.Common.{IsUtf8, ◌-◌, inl, inr, ◌≡◌, ℕ, ◌+◌, ◌<◌, ◌≤◌, List, [], ◌++◌, length, get_or, take, drop, take-append-drop, to_z, of_z, ℤ, ◌^◌, ◌*◌, ◌/◌, ◌%◌, ◌∷◌, sym, ◌∙◌, ap, subst, arith}
 use Rattle.std.specs.Int.{w64, w128, from_le_bytes, cast_signed}
-use Rattle.std.specs.Net.Addr.{ipv6_bits, IsIpv6OfBits}
-use Rattle.std.specs.declared.net.ipv6_addr.Ipv6Addr.{Ipv6Addr}
 use Rattle.std.proofs.lemmas.Bool.{cases_lt}
 use Rattle.std.proofs.lemmas.Int.{to_z-of_z}
 use Rattle.std.proofs.lemmas.Str.{IsUtf8-had}
@@ -10,9 +8,8 @@ use Rattle.std.proofs.Math.Logic.{∥∥₁_map}
 use Rattle.std.proofs.lemmas.List.{length-append, take_all}
 use Rattle.std.proofs.Math.Seq.{drop-append_seam, take-append_seam}
 use Rattle.tv_base.specs.Number.{vnum, Fixed, Signed}
-use Rattle.tv_base.proofs.Numbers.{length-fixed, fixed_fits, vnum-small, vnum-large}
+use Rattle.tv_base.proofs.Numbers.{length-fixed, vnum-small, vnum-large}
 use Rattle.tv_base.proofs.Widths.{from_8, from_16}
-use Rattle.tv_value.proofs.Addresses.{address_bits}
 use Rattle.tv_value.proofs.Leaves.{agree_tokenized}
 use Rattle.tv_value.proofs.ShortSpellings.{tokenized_of}
 use Rattle.tv_value.specs.InPlace.{NoTokenized}
@@ -56,16 +53,11 @@ signed_is heap at x y z p is f =
     let back = to_z-of_z w64 z p.stands.fits in
     ap (λ v. to_z w64 (of_z w64 v)) (f ∙ ap (cast_signed w64) number ∙ back) ∙ back
 
--- ---- IP addresses
+pub wide_is : (heap behind front : List ℕ) (at n : ℕ) → Stands heap at (λ w. Fixed 16 w n) → behind ≡ drop at heap → front ≡ take 16 behind → from_le_bytes w128 front ≡ n
+wide_is heap behind front at n p e f = ap (from_le_bytes w128) (f ∙ fixed_front 16 heap behind at n p e) ∙ from_16 p.whole n p.stands
 
-pub address_is : (heap behind front : List ℕ) (at n : ℕ) (a : Ipv6Addr) (x : ℕ) → Stands heap at (λ w. Fixed 16 w n) → behind ≡ drop at heap → front ≡ take 16 behind → x ≡ from_le_bytes w128 front
-    → IsIpv6OfBits a x → ipv6_bits a ≡ n
-address_is heap behind front at n a x p e f r is =
-    let number : x ≡ n = r ∙ ap (from_le_bytes w128) (f ∙ fixed_front 16 heap behind at n p e) ∙ from_16 p.whole n p.stands in
-    address_bits a n (omega (arith, fixed_fits p.stands)) (subst (λ z. IsIpv6OfBits a z) number is)
-
-pub address_short : {A : Type 0} (heap behind : List ℕ) (at n : ℕ) → Stands heap at (λ w. Fixed 16 w n) → behind ≡ drop at heap → length behind < 16 → A
-address_short heap behind at n p e l = fixed_short 16 heap behind at n p e l
+pub wide_short : {A : Type 0} (heap behind : List ℕ) (at n : ℕ) → Stands heap at (λ w. Fixed 16 w n) → behind ≡ drop at heap → length behind < 16 → A
+wide_short heap behind at n p e l = fixed_short 16 heap behind at n p e l
 
 -- a number has bytes
 pub fixed_past : {A : Type 0} (k : ℕ) (heap : List ℕ) (at n : ℕ) → Stands heap at (λ w. Fixed k w n) → length heap < at → A

@@ -1,128 +1,46 @@
 -- What the type byte says of a value's tree.
-use Rattle.std.proofs.Common.{◌≡◌, ℕ, ℤ, List, Bool, true, false, not, nat_eq, Option, Some, None, option_map, to_z, of_z, refl, sym, ◌∙◌, ap, subst, arith}
-use Rattle.std.specs.Int.{w64}
-use Rattle.std.proofs.lemmas.Int.{to_z-of_z}
-use Rattle.std.proofs.lemmas.Option.{same_Some, none-some}
+use Rattle.std.proofs.Common.{◌≡◌, ℕ, List, refl, sym, ◌∙◌, ap, subst, arith}
 use Rattle.std.proofs.Math.Logic.{∥∥₁_elim, ∥∥₁_map}
 use mathlib.Core.HLevel.{⊥_prop}
 use base.Stored.{Coded-set}
-use Rattle.tv_base.specs.Number.{Fixed, Signed}
-use Rattle.tv_value.specs.declared.pre_tokenized.PreTokenizedStr.{PreTokenizedStr}
-use Rattle.tv_value.specs.PreTokenized.{tokenized_leaf}
-use Rattle.tv_value.specs.Tree.{Token, null, text, unsigned, signed, boolean, date, facet, bytes, ip_address, tokenized, Tree, leaf, array, object, Elements, no_elements, element, elements, element_list, Entries, no_entries, entry, entries, entry_list}
+use Rattle.tv_value.specs.Content.{Content, text_content, form_of}
+use Rattle.tv_value.specs.Leaves.{type_of, content, form}
+use Rattle.tv_value.specs.LeavesLaws.{form_of_content}
+use Rattle.tv_value.specs.declared.content.Form.TheVariants as forms
+use Rattle.tv_value.specs.declared.leaf.LeafType.{LeafType}
+use Rattle.tv_value.specs.Tree.{Leaf, Tree, leaf, array, object, Elements, no_elements, element, elements, element_list, Entries, no_entries, entry, entries, entry_list}
 use Rattle.tv_value.specs.TreeCode.{coded_tree}
 use Rattle.tv_heap.specs.Held.{Held, HeldElements, HeldElements-prop, HeldEntries, HeldEntries-prop}
 use Rattle.tv_heap.specs.Lent.{HasText}
-use Rattle.tv_heap.specs.Reads.{Stands, ShortSized, ShortText, ShortTokenized, flag, Reads, ReadsElements, ReadsEntries}
-use Rattle.tv_heap.specs.ReadsLaws.{leaf_type_small}
+use Rattle.tv_heap.specs.Reads.{Stands, ShortSized, ShortText, ContentStands, LeafStands, Reads, ReadsElements, ReadsEntries}
+use Rattle.tv_heap.specs.ReadsLaws.{one_type, type_small, leaf_type_small}
+use Rattle.tv_heap.specs.TypeCode.{type_code, heap_type}
 
-by_tree : (heap : List ℕ) (code at : ℕ) (h : Held heap code at) (t : Tree) → (Reads heap code at h.0 → t ≡ h.0) → t ≡ h.0
-by_tree heap code at h t f = ∥∥₁_elim h.1 (Coded-set coded_tree t h.0) f
+-- ---- leaves
 
-null_tree : (heap : List ℕ) (code at : ℕ) (t : Tree) → code ≡ 0 → Reads heap code at t → leaf null ≡ t
-null_tree heap code at (leaf null) e r = refl
-null_tree heap code at _ e r = absurd (omega (arith, r.0))
+-- what a leaf of a type holds is of the type's form
+of_form : (t : LeafType) (l : Leaf) → type_of l ≡ t → form_of (content l) ≡ form t
+of_form t l same = form_of_content l ∙ ap form same
 
-pub null_is : (heap : List ℕ) (code at : ℕ) (h : Held heap code at) → code ≡ 0 → leaf null ≡ h.0
-null_is heap code at h e = by_tree heap code at h (leaf null) (null_tree heap code at h.0 e)
+leaf_tree : (heap : List ℕ) (code at : ℕ) (u : Tree) (t : LeafType) (x : Leaf) → code ≡ type_code (heap_type t) → ((l : Leaf) → type_of l ≡ t → LeafStands heap at l → x ≡ l) → Reads heap code at u → leaf x ≡ u
+leaf_tree heap code at (leaf l) t x e is r = ap leaf (is l (one_type (type_of l) t (sym r.0 ∙ e)) r.1)
+leaf_tree heap code at _ t x e is r = absurd (omega (arith, r.0, e, type_small t))
 
-text_tree : (heap : List ℕ) (code at : ℕ) (t : Tree) (x : List ℕ) → code ≡ 1 → ((s : List ℕ) → Stands heap at (λ w. ShortText s w) → x ≡ s) → Reads heap code at t → leaf (text x) ≡ t
-text_tree heap code at (leaf (text s)) x e is r = ap (λ z. leaf (text z)) (is s r.1)
-text_tree heap code at _ x e is r = absurd (omega (arith, r.0))
+-- where the type byte is that of a type of leaves, a leaf of it stands there
+pub leaf_is : (heap : List ℕ) (code at : ℕ) (h : Held heap code at) (t : LeafType) (x : Leaf) → code ≡ type_code (heap_type t) → ((l : Leaf) → type_of l ≡ t → LeafStands heap at l → x ≡ l) → leaf x ≡ h.0
+leaf_is heap code at h t x e is = ∥∥₁_elim h.1 (Coded-set coded_tree (leaf x) h.0) (leaf_tree heap code at h.0 t x e is)
 
-pub text_is : (heap : List ℕ) (code at : ℕ) (h : Held heap code at) (x : List ℕ) → code ≡ 1 → ((s : List ℕ) → Stands heap at (λ w. ShortText s w) → x ≡ s) → leaf (text x) ≡ h.0
-text_is heap code at h x e is = by_tree heap code at h (leaf (text x)) (text_tree heap code at h.0 x e is)
+text_held : (heap : List ℕ) (at : ℕ) (c : Content) → form_of c ≡ forms.Text → ContentStands heap at c → (s : List ℕ) × Stands heap at (λ w. ShortText s w)
+text_held heap at (text_content s) e p = (s, p)
+text_held heap at _ e p = absurd (cc)
 
-text_stands : (heap : List ℕ) (code at : ℕ) (t : Tree) → code ≡ 1 → Reads heap code at t → (s : List ℕ) × Stands heap at (λ w. ShortText s w)
-text_stands heap code at (leaf (text s)) e r = (s, r.1)
-text_stands heap code at _ e r = absurd (omega (arith, r.0))
+text_stands : (heap : List ℕ) (code at : ℕ) (u : Tree) (t : LeafType) → code ≡ type_code (heap_type t) → form t ≡ forms.Text → Reads heap code at u → (s : List ℕ) × Stands heap at (λ w. ShortText s w)
+text_stands heap code at (leaf l) t e f r = text_held heap at (content l) (of_form t l (one_type (type_of l) t (sym r.0 ∙ e)) ∙ f) r.1
+text_stands heap code at _ t e f r = absurd (omega (arith, r.0, e, type_small t))
 
--- where the type byte is a text's, one stands there
-pub text_there : (heap : List ℕ) (code at : ℕ) → Held heap code at → code ≡ 1 → HasText heap at
-text_there heap code at h e = ∥∥₁_map h.1 (text_stands heap code at h.0 e)
-
-unsigned_tree : (heap : List ℕ) (code at : ℕ) (t : Tree) (x : ℕ) → code ≡ 2 → ((n : ℕ) → Stands heap at (λ w. Fixed 8 w n) → x ≡ n) → Reads heap code at t → leaf (unsigned x) ≡ t
-unsigned_tree heap code at (leaf (unsigned n)) x e is r = ap (λ z. leaf (unsigned z)) (is n r.1)
-unsigned_tree heap code at _ x e is r = absurd (omega (arith, r.0))
-
-pub unsigned_is : (heap : List ℕ) (code at : ℕ) (h : Held heap code at) (x : ℕ) → code ≡ 2 → ((n : ℕ) → Stands heap at (λ w. Fixed 8 w n) → x ≡ n) → leaf (unsigned x) ≡ h.0
-unsigned_is heap code at h x e is = by_tree heap code at h (leaf (unsigned x)) (unsigned_tree heap code at h.0 x e is)
-
--- through the pattern of 64 bits
-abbrev same_signed : ℤ → ℤ
-same_signed z = to_z w64 (of_z w64 z)
-
-signed_tree : (heap : List ℕ) (code at : ℕ) (t : Tree) (x : ℤ) → code ≡ 3 → ((z : ℤ) → Stands heap at (λ w. Signed w z) → x ≡ z) → Reads heap code at t → leaf (signed (same_signed x)) ≡ t
-signed_tree heap code at (leaf (signed z)) x e is r = ap (λ z. leaf (signed (same_signed z))) (is z r.1) ∙ ap (λ z. leaf (signed z)) (to_z-of_z w64 z r.1.stands.fits)
-signed_tree heap code at _ x e is r = absurd (omega (arith, r.0))
-
-pub signed_is : (heap : List ℕ) (code at : ℕ) (h : Held heap code at) (x : ℤ) → code ≡ 3 → ((z : ℤ) → Stands heap at (λ w. Signed w z) → x ≡ z) → leaf (signed (same_signed x)) ≡ h.0
-signed_is heap code at h x e is = by_tree heap code at h (leaf (signed (same_signed x))) (signed_tree heap code at h.0 x e is)
-
-date_tree : (heap : List ℕ) (code at : ℕ) (t : Tree) (x y : ℤ) → code ≡ 5 → ((z : ℤ) → Stands heap at (λ w. Signed w z) → x ≡ z) → y ≡ same_signed x → Reads heap code at t → leaf (date y) ≡ t
-date_tree heap code at (leaf (date z)) x y e is same r = ap (λ z. leaf (date z)) (same ∙ ap same_signed (is z r.1) ∙ to_z-of_z w64 z r.1.stands.fits)
-date_tree heap code at _ x y e is same r = absurd (omega (arith, r.0))
-
-pub date_is : (heap : List ℕ) (code at : ℕ) (h : Held heap code at) (x y : ℤ) → code ≡ 5 → ((z : ℤ) → Stands heap at (λ w. Signed w z) → x ≡ z) → y ≡ same_signed x → leaf (date y) ≡ h.0
-date_is heap code at h x y e is same = by_tree heap code at h (leaf (date y)) (date_tree heap code at h.0 x y e is same)
-
-facet_tree : (heap : List ℕ) (code at : ℕ) (t : Tree) (x : List ℕ) → code ≡ 6 → ((s : List ℕ) → Stands heap at (λ w. ShortText s w) → x ≡ s) → Reads heap code at t → leaf (facet x) ≡ t
-facet_tree heap code at (leaf (facet s)) x e is r = ap (λ z. leaf (facet z)) (is s r.1)
-facet_tree heap code at _ x e is r = absurd (omega (arith, r.0))
-
-pub facet_is : (heap : List ℕ) (code at : ℕ) (h : Held heap code at) (x : List ℕ) → code ≡ 6 → ((s : List ℕ) → Stands heap at (λ w. ShortText s w) → x ≡ s) → leaf (facet x) ≡ h.0
-facet_is heap code at h x e is = by_tree heap code at h (leaf (facet x)) (facet_tree heap code at h.0 x e is)
-
-facet_stands : (heap : List ℕ) (code at : ℕ) (t : Tree) → code ≡ 6 → Reads heap code at t → (s : List ℕ) × Stands heap at (λ w. ShortText s w)
-facet_stands heap code at (leaf (facet s)) e r = (s, r.1)
-facet_stands heap code at _ e r = absurd (omega (arith, r.0))
-
--- and where it is a facet's, the text of one
-pub facet_there : (heap : List ℕ) (code at : ℕ) → Held heap code at → code ≡ 6 → HasText heap at
-facet_there heap code at h e = ∥∥₁_map h.1 (facet_stands heap code at h.0 e)
-
-bytes_tree : (heap : List ℕ) (code at : ℕ) (t : Tree) (x : List ℕ) → code ≡ 7 → ((s : List ℕ) → Stands heap at (λ w. ShortSized s w) → x ≡ s) → Reads heap code at t → leaf (bytes x) ≡ t
-bytes_tree heap code at (leaf (bytes s)) x e is r = ap (λ z. leaf (bytes z)) (is s r.1)
-bytes_tree heap code at _ x e is r = absurd (omega (arith, r.0))
-
-pub bytes_is : (heap : List ℕ) (code at : ℕ) (h : Held heap code at) (x : List ℕ) → code ≡ 7 → ((s : List ℕ) → Stands heap at (λ w. ShortSized s w) → x ≡ s) → leaf (bytes x) ≡ h.0
-bytes_is heap code at h x e is = by_tree heap code at h (leaf (bytes x)) (bytes_tree heap code at h.0 x e is)
-
-address_tree : (heap : List ℕ) (code at : ℕ) (t : Tree) (x : ℕ) → code ≡ 8 → ((n : ℕ) → Stands heap at (λ w. Fixed 16 w n) → x ≡ n) → Reads heap code at t → leaf (ip_address x) ≡ t
-address_tree heap code at (leaf (ip_address n)) x e is r = ap (λ z. leaf (ip_address z)) (is n r.1)
-address_tree heap code at _ x e is r = absurd (omega (arith, r.0))
-
-pub address_is : (heap : List ℕ) (code at : ℕ) (h : Held heap code at) (x : ℕ) → code ≡ 8 → ((n : ℕ) → Stands heap at (λ w. Fixed 16 w n) → x ≡ n) → leaf (ip_address x) ≡ h.0
-address_is heap code at h x e is = by_tree heap code at h (leaf (ip_address x)) (address_tree heap code at h.0 x e is)
-
-pub flag_is : (b : Bool) (n : ℕ) → n ≡ flag b → not (nat_eq n 0) ≡ b
-flag_is false n e = ap (λ z. not (nat_eq z 0)) e
-flag_is true n e = ap (λ z. not (nat_eq z 0)) e
-
-boolean_tree : (heap : List ℕ) (code at : ℕ) (t : Tree) → code ≡ 9 → Reads heap code at t → leaf (boolean (not (nat_eq at 0))) ≡ t
-boolean_tree heap code at (leaf (boolean b)) e r = ap (λ z. leaf (boolean z)) (flag_is b at r.1)
-boolean_tree heap code at _ e r = absurd (omega (arith, r.0))
-
-pub boolean_is : (heap : List ℕ) (code at : ℕ) (h : Held heap code at) → code ≡ 9 → leaf (boolean (not (nat_eq at 0))) ≡ h.0
-boolean_is heap code at h e = by_tree heap code at h _ (boolean_tree heap code at h.0 e)
-
--- what `tokenized_at` promises
-abbrev pub GivesTokens : List ℕ → ℕ → Option PreTokenizedStr → Type 0
-GivesTokens heap at r = (s : List ℕ) (ts : List Token) → Stands heap at (λ w. ShortTokenized s ts w) → option_map tokenized_leaf r ≡ Some (tokenized s ts)
-
-tokenized_tree : (heap : List ℕ) (code at : ℕ) (t : Tree) (x : PreTokenizedStr) → code ≡ 10 → GivesTokens heap at (Some x) → Reads heap code at t → leaf (tokenized_leaf x) ≡ t
-tokenized_tree heap code at (leaf (tokenized s ts)) x e is r = ap leaf (same_Some _ _ (is s ts r.1))
-tokenized_tree heap code at _ x e is r = absurd (omega (arith, r.0))
-
-pub tokenized_is : (heap : List ℕ) (code at : ℕ) (h : Held heap code at) (x : PreTokenizedStr) → code ≡ 10 → GivesTokens heap at (Some x) → leaf (tokenized_leaf x) ≡ h.0
-tokenized_is heap code at h x e is = by_tree heap code at h _ (tokenized_tree heap code at h.0 x e is)
-
-not_tokenized : (heap : List ℕ) (code at : ℕ) (t u : Tree) → code ≡ 10 → GivesTokens heap at None → Reads heap code at t → u ≡ t
-not_tokenized heap code at (leaf (tokenized s ts)) u e is r = absurd (none-some _ (is s ts r.1))
-not_tokenized heap code at _ u e is r = absurd (omega (arith, r.0))
-
-pub no_tokens : (heap : List ℕ) (code at : ℕ) (h : Held heap code at) (u : Tree) → code ≡ 10 → GivesTokens heap at None → u ≡ h.0
-no_tokens heap code at h u e is = by_tree heap code at h u (not_tokenized heap code at h.0 u e is)
+-- and where its leaves hold texts, one stands there
+pub text_there : (heap : List ℕ) (code at : ℕ) → Held heap code at → (t : LeafType) → code ≡ type_code (heap_type t) → form t ≡ forms.Text → HasText heap at
+text_there heap code at h t e f = ∥∥₁_map h.1 (text_stands heap code at h.0 t e f)
 
 -- ---- lists
 

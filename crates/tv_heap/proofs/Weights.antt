@@ -1,6 +1,5 @@
 -- The weight of what stands in a heap is within its room.
 use Rattle.std.proofs.Common.{◌≡◌, ℕ, ◌+◌, ◌^◌, ◌<◌, ◌≤◌, List, ◌++◌, length, ap, arith, inl, inr}
-use Rattle.std.specs.Int.{w64, cast_unsigned}
 use Rattle.std.specs.List.{flat_map}
 use Rattle.std.proofs.lemmas.Bool.{cases_lt}
 use Rattle.std.proofs.lemmas.List.{length-append}
@@ -8,35 +7,31 @@ use Rattle.tv_base.specs.Number.{vnum}
 use Rattle.tv_base.specs.Parts.{short_sized}
 use Rattle.tv_value.specs.Lent.{leaf_of}
 use Rattle.tv_value.specs.Short.{short_token, short_tokenized}
-use Rattle.tv_value.specs.Tree.{Leaf, null, text, unsigned, signed, boolean, date, facet, bytes, ip_address, tokenized, Tree, leaf, array, object, Elements, no_elements, element, Entries, no_entries, entry}
+use Rattle.tv_value.specs.Content.{Content, text_content, bytes_content, tokens_content}
+use Rattle.tv_value.specs.Leaves.{content}
+use Rattle.tv_value.specs.Tree.{Leaf, Tree, leaf, array, object, Elements, no_elements, element, Entries, no_entries, entry}
 use Rattle.tv_value.specs.declared.leaf.ReferenceValueLeaf.{ReferenceValueLeaf}
 use Rattle.tv_heap.specs.LeafBytes.{leaf_bytes}
-use Rattle.tv_heap.specs.Reads.{Stands, LeafStands, Reads, ReadsElements, ReadsEntries}
+use Rattle.tv_heap.specs.Reads.{Stands, ContentStands, LeafStands, Reads, ReadsElements, ReadsEntries}
 use Rattle.tv_heap.specs.Room.{leaf_room, room, elements_room, entries_room}
 use Rattle.tv_heap.specs.Weight.{tree_weight, elements_weight, entries_weight}
-use Rattle.tv_heap.proofs.Writes.{vnum_five, sized_length, vnum_ten, tokens_length, length_eight, length_sixteen, leaf_within}
+use Rattle.tv_heap.proofs.Writes.{vnum_five, sized_length, FitsHeap, content_within, leaf_within}
 
 -- what stands in a heap isn't longer
 stands_length : (heap : List ℕ) (at : ℕ) (P : List ℕ → Type 0) (s : Stands heap at P) → length s.whole ≤ length heap
 stands_length heap at P s = omega (arith, ap length s.joined, length-append s.before (s.whole ++ s.behind), length-append s.whole s.behind)
 
-leaf_weighs : (heap : List ℕ) (at : ℕ) (l : Leaf) → length heap < 2 ^ 32 → LeafStands heap at l → length (leaf_bytes l) ≤ leaf_room l
-leaf_weighs heap at null small h = omega arith
-leaf_weighs heap at (text t) small h = let s = h.stands in sized_length t s.sized.fits
-leaf_weighs heap at (unsigned n) small h = omega (arith, length_eight n)
-leaf_weighs heap at (signed z) small h = omega (arith, length_eight (cast_unsigned w64 z))
-leaf_weighs heap at (boolean b) small h = omega arith
-leaf_weighs heap at (date z) small h = omega (arith, length_eight (cast_unsigned w64 z))
-leaf_weighs heap at (facet t) small h = let s = h.stands in sized_length t s.sized.fits
-leaf_weighs heap at (bytes bs) small h = let s = h.stands in sized_length bs s.fits
-leaf_weighs heap at (ip_address n) small h = omega (arith, length_sixteen n)
-leaf_weighs heap at (tokenized t ts) small h =
+stands_fits : (heap : List ℕ) (at : ℕ) (c : Content) → length heap < 2 ^ 32 → ContentStands heap at c → FitsHeap c
+stands_fits heap at (text_content t) small h = h.stands.sized.fits
+stands_fits heap at (bytes_content bs) small h = h.stands.fits
+stands_fits heap at (tokens_content t ts) small h =
     let s = h.stands in
-    let body = flat_map short_token ts in
-    let whole : length (short_tokenized t ts) ≡ length (short_sized t) + length (vnum (length ts) ++ body) = length-append (short_sized t) (vnum (length ts) ++ body) in
-    let fits : length t < 2 ^ 32 = omega (arith, small, stands_length heap at _ h, ap length s.is, whole, length-append (vnum (length t)) t) in
-    let many : length ts < 2 ^ 64 = let c = s.tokens_fit.count in omega arith in
-    omega (arith, whole, length-append (vnum (length ts)) body, sized_length t fits, vnum_ten (length ts) many, tokens_length ts s.tokens_fit.each)
+    let whole : length (short_tokenized t ts) ≡ length (short_sized t) + length (vnum (length ts) ++ flat_map short_token ts) = length-append (short_sized t) (vnum (length ts) ++ flat_map short_token ts) in
+    (omega (arith, small, stands_length heap at _ h, ap length s.is, whole, length-append (vnum (length t)) t), s.tokens_fit)
+stands_fits heap at _ small h = tt
+
+leaf_weighs : (heap : List ℕ) (at : ℕ) (l : Leaf) → length heap < 2 ^ 32 → LeafStands heap at l → length (leaf_bytes l) ≤ leaf_room l
+leaf_weighs heap at l small h = content_within (content l) (stands_fits heap at (content l) small h)
 
 mutual
   pub reads_weigh : (heap : List ℕ) (code at : ℕ) (t : Tree) → length heap < 2 ^ 32 → Reads heap code at t → tree_weight t ≤ room t

@@ -1,5 +1,6 @@
 -- What is written at the end of a heap stands there.
-use Rattle.std.proofs.Common.{◌≡◌, ℕ, ℤ, zero, suc, ◌+◌, ◌/◌, ◌^◌, ◌<◌, ◌≤◌, Bool, true, false, List, [], ◌∷◌, ◌++◌, length, IsUtf8, FitsSigned, refl, sym, ◌∙◌, ap, subst, arith, inl, inr}
+use Rattle.std.proofs.Common.{◌≡◌, ◌≢◌, ℕ, ℤ, zero, suc, ◌+◌, ◌/◌, ◌^◌, ◌<◌, ◌≤◌, Bool, true, false, List, [], ◌∷◌, ◌++◌, length, FitsSigned, refl, sym, ◌∙◌, ap, subst, arith, inl, inr}
+use Rattle.std.specs.Prelude.{pos, negsuc}
 use Rattle.std.specs.Int.{w64, cast_unsigned}
 use Rattle.std.specs.List.{AllByRecursion, flat_map, sum_by}
 use Rattle.std.proofs.lemmas.Bool.{cases_lt}
@@ -8,21 +9,25 @@ use Rattle.std.proofs.lemmas.List.{length-append, append-nil}
 use Rattle.std.proofs.lemmas.List.Sums.{sum_by-cons}
 use Rattle.std.proofs.Math.Nat.{pow-suc}
 use Rattle.std.proofs.Math.Logic.{∥∥₁_elim}
-use Rattle.std.specs.Net.Addr.{ipv6_bits}
-use Rattle.tv_base.specs.Number.{vnum, Fixed, low_bytes, eight_bytes, sixteen_bytes}
+use Rattle.tv_base.specs.Number.{vnum, low_bytes, eight_bytes, sixteen_bytes}
 use Rattle.tv_base.specs.Parts.{short_sized}
-use Rattle.tv_base.proofs.Numbers.{vnum-small, vnum-large, length-fixed}
+use Rattle.tv_base.proofs.Numbers.{vnum-small, vnum-large}
 use Rattle.tv_base.proofs.Shortest.{eight_bytes_spell, sixteen_bytes_spell}
-use Rattle.tv_value.specs.Short.{short_token, short_tokenized, IsText, IsToken, AreTokens}
+use Rattle.tv_value.specs.Short.{short_token, short_tokenized, IsToken, AreTokens, IsContent, IsLeaf}
 use Rattle.tv_value.specs.ShortLaws.{AreTokens-prop}
-use Rattle.tv_value.specs.PreTokenized.{text_of, tokens_of}
+use Rattle.tv_value.specs.PreTokenized.{tokens_of}
 use Rattle.tv_value.specs.Lent.{leaf_of}
 use Rattle.tv_value.specs.declared.leaf.ReferenceValueLeaf.{ReferenceValueLeaf}
 use Rattle.tv_value.specs.declared.leaf.ReferenceValueLeaf.TheVariants as lent
-use Rattle.tv_value.specs.Tree.{Token, Leaf, null, text, unsigned, signed, boolean, date, facet, bytes, ip_address, tokenized, Tree, leaf}
-use Rattle.tv_heap.specs.Reads.{Stands, ShortText, flag, Reads}
-use Rattle.tv_heap.specs.LeafBytes.{leaf_bytes}
-use Rattle.tv_heap.specs.Room.{leaf_room, token_room}
+use Rattle.tv_value.specs.Content.{Content, no_content, truth_content, unsigned_content, signed_content, wide_content, text_content, bytes_content, tokens_content}
+use Rattle.tv_value.specs.Leaves.{type_of, content}
+use Rattle.tv_value.specs.declared.leaf.LeafType.{LeafType}
+use Rattle.tv_heap.specs.declared.value_type.ValueType.{ValueType}
+use Rattle.tv_heap.specs.TypeCode.{type_code, heap_type}
+use Rattle.tv_value.specs.Tree.{Token, Leaf, null, boolean, Tree, leaf}
+use Rattle.tv_heap.specs.Reads.{Stands, leaf_type, flag, ContentStands}
+use Rattle.tv_heap.specs.LeafBytes.{content_bytes, content_address, leaf_bytes, leaf_address}
+use Rattle.tv_heap.specs.Room.{content_room, leaf_room, token_room}
 use Rattle.tv_heap.specs.Wrote.{Wrote}
 
 -- a number below a power of 128 takes so many groups at most
@@ -64,102 +69,6 @@ sized_fits content h = omega (arith, length-append (vnum (length content)) conte
 pub wrote_at : {old new : List ℕ} {code at to : ℕ} {t : Tree} → Wrote old new code at t → at ≡ to → Wrote old new code to t
 wrote_at {old} {new} {code} {at} {to} {t} w e = subst (λ m. Wrote old new code m t) e w
 
--- a leaf whose bytes were added
-wrote_leaf : (old new added : List ℕ) (code at : ℕ) (l : Leaf) → new ≡ old ++ added → 0 < length added → length added ≤ leaf_room l → length added ≤ length (leaf_bytes l) → length old + length added < 2 ^ 32 → length old ≡ at
-    → Reads new code (length old) (leaf l) → Wrote old new code at (leaf l)
-wrote_leaf old new added code at l e some within weighed small is reads =
-    wrote_at (record {
-      added = added;
-      grows = e;
-      within = within;
-      weighed = weighed;
-      reads = reads;
-      behind = λ x y. omega arith;
-      below = λ x y. omega (arith, longer old new added e);
-      fits = omega arith;
-    }) is
-
--- nothing was added
-pub wrote_null : (old new : List ℕ) → new ≡ old → Wrote old new 0 0 (leaf null)
-wrote_null old new e = record {
-  added = [];
-  grows = e ∙ sym (append-nil old);
-  within = omega arith;
-  weighed = omega arith;
-  reads = (refl, refl);
-  behind = λ x y. absurd (x refl);
-  below = λ x y. absurd (x refl);
-  fits = omega arith;
-}
-
-flag_small : (b : Bool) → flag b < 2 ^ 32
-flag_small false = omega arith
-flag_small true = omega arith
-
-pub wrote_flag : (old new : List ℕ) (b : Bool) (n : ℕ) → new ≡ old → n ≡ flag b → Wrote old new 9 n (leaf (boolean b))
-wrote_flag old new b n e is = record {
-  added = [];
-  grows = e ∙ sym (append-nil old);
-  within = omega arith;
-  weighed = omega arith;
-  reads = (refl, is);
-  behind = λ x y. absurd (y refl);
-  below = λ x y. absurd (y refl);
-  fits = omega (arith, is, flag_small b);
-}
-
-text_at_end : (old new content : List ℕ) → new ≡ old ++ short_sized content → IsUtf8 content → length content < 2 ^ 32 → Stands new (length old) (λ w. ShortText content w)
-text_at_end old new content e utf8 fits = at_end old new _ _ e (record { sized = record { is = refl; fits = fits }; utf8 = utf8 })
-
-pub wrote_text : (old new content : List ℕ) (at : ℕ) → new ≡ old ++ short_sized content → IsUtf8 content → length old + length (short_sized content) < 2 ^ 32 → length old ≡ at
-    → Wrote old new 1 at (leaf (text content))
-wrote_text old new content at e utf8 h is =
-    let fits : length content < 2 ^ 32 = sized_fits content (omega arith) in
-    wrote_leaf old new (short_sized content) 1 at (text content) e (sized_some content fits) (sized_length content fits) (omega arith) h is (refl, text_at_end old new content e utf8 fits)
-
-pub wrote_facet : (old new content : List ℕ) (at : ℕ) → new ≡ old ++ short_sized content → IsUtf8 content → length old + length (short_sized content) < 2 ^ 32 → length old ≡ at
-    → Wrote old new 6 at (leaf (facet content))
-wrote_facet old new content at e utf8 h is =
-    let fits : length content < 2 ^ 32 = sized_fits content (omega arith) in
-    wrote_leaf old new (short_sized content) 6 at (facet content) e (sized_some content fits) (sized_length content fits) (omega arith) h is (refl, text_at_end old new content e utf8 fits)
-
-pub wrote_bytes : (old new content : List ℕ) (at : ℕ) → new ≡ old ++ short_sized content → length old + length (short_sized content) < 2 ^ 32 → length old ≡ at
-    → Wrote old new 7 at (leaf (bytes content))
-wrote_bytes old new content at e h is =
-    let fits : length content < 2 ^ 32 = sized_fits content (omega arith) in
-    wrote_leaf old new (short_sized content) 7 at (bytes content) e (sized_some content fits) (sized_length content fits) (omega arith) h is
-    (refl, at_end old new _ _ e (record { is = refl; fits = fits }))
-
-pub wrote_unsigned : (old new : List ℕ) (n at : ℕ) → new ≡ old ++ eight_bytes n → n < 2 ^ 64 → length old + length (eight_bytes n) < 2 ^ 32 → length old ≡ at
-    → Wrote old new 2 at (leaf (unsigned n))
-wrote_unsigned old new n at e h small is =
-    let spelled = eight_bytes_spell n h in
-    let l = length-fixed spelled in
-    wrote_leaf old new (eight_bytes n) 2 at (unsigned n) e (omega arith) (omega arith) (omega arith) small is (refl, at_end old new _ _ e spelled)
-
-pub wrote_signed : (old new : List ℕ) (n : ℕ) (z : ℤ) (at : ℕ) → new ≡ old ++ eight_bytes n → n < 2 ^ 64 → n ≡ cast_unsigned w64 z → FitsSigned w64 z → length old + length (eight_bytes (cast_unsigned w64 z)) < 2 ^ 32
-    → length old ≡ at → Wrote old new 3 at (leaf (signed z))
-wrote_signed old new n z at e h same fits small is =
-    let spelled = eight_bytes_spell n h in
-    let l = length-fixed spelled in
-    wrote_leaf old new (eight_bytes n) 3 at (signed z) e (omega arith) (omega arith) (omega (arith, ap (λ k. length (eight_bytes k)) same)) (subst (λ k. length old + length (eight_bytes k) < 2 ^ 32) (sym same) small) is
-    (refl, at_end old new _ _ e (record { fits = fits; spelled = subst (λ c. Fixed 8 (eight_bytes n) c) same spelled }))
-
-pub wrote_date : (old new : List ℕ) (n : ℕ) (z : ℤ) (at : ℕ) → new ≡ old ++ eight_bytes n → n < 2 ^ 64 → n ≡ cast_unsigned w64 z → FitsSigned w64 z → length old + length (eight_bytes (cast_unsigned w64 z)) < 2 ^ 32
-    → length old ≡ at → Wrote old new 5 at (leaf (date z))
-wrote_date old new n z at e h same fits small is =
-    let spelled = eight_bytes_spell n h in
-    let l = length-fixed spelled in
-    wrote_leaf old new (eight_bytes n) 5 at (date z) e (omega arith) (omega arith) (omega (arith, ap (λ k. length (eight_bytes k)) same)) (subst (λ k. length old + length (eight_bytes k) < 2 ^ 32) (sym same) small) is
-    (refl, at_end old new _ _ e (record { fits = fits; spelled = subst (λ c. Fixed 8 (eight_bytes n) c) same spelled }))
-
-pub wrote_ip_address : (old new : List ℕ) (n at : ℕ) → new ≡ old ++ sixteen_bytes n → n < 2 ^ 128 → length old + length (sixteen_bytes n) < 2 ^ 32 → length old ≡ at
-    → Wrote old new 8 at (leaf (ip_address n))
-wrote_ip_address old new n at e h small is =
-    let spelled = sixteen_bytes_spell n h in
-    let l = length-fixed spelled in
-    wrote_leaf old new (sixteen_bytes n) 8 at (ip_address n) e (omega arith) (omega arith) (omega arith) small is (refl, at_end old new _ _ e spelled)
-
 -- ---- texts with their tokens
 
 pub vnum_ten : (n : ℕ) → n < 2 ^ 64 → length (vnum n) ≤ 10
@@ -186,21 +95,6 @@ pub tokens_length : (tokens : List Token) → AllByRecursion IsToken tokens → 
 tokens_length [] p = omega arith
 tokens_length (t ∷ ts) p = omega (arith, token_length t p.0, tokens_length ts p.1, sum_by-cons token_room t ts, length-append (short_token t) (flat_map short_token ts))
 
-pub wrote_tokenized : (old new content : List ℕ) (tokens : List Token) (at : ℕ) → new ≡ old ++ short_tokenized content tokens → IsText content → AreTokens tokens
-    → length old + length (short_tokenized content tokens) < 2 ^ 32 → length old ≡ at → Wrote old new 10 at (leaf (tokenized content tokens))
-wrote_tokenized old new content tokens at e valid each h is =
-    let body = flat_map short_token tokens in
-    let count = vnum (length tokens) in
-    let fits : length content < 2 ^ 32 = sized_fits content (omega (arith, length-append (short_sized content) (count ++ body))) in
-    let many : length tokens < 2 ^ 64 = let c = each.count in omega arith in
-    let whole = length-append (short_sized content) (count ++ body) in
-    let inner = length-append count body in
-    wrote_leaf old new (short_tokenized content tokens) 10 at (tokenized content tokens) e
-    (omega (arith, whole, sized_some content fits))
-    (omega (arith, whole, inner, sized_length content fits, vnum_ten (length tokens) many, tokens_length tokens each.each))
-    (omega arith)
-    h is (refl, at_end old new _ _ e (record { is = refl; content_fits = valid; tokens_fit = each }))
-
 -- ---- what is written of a leaf takes its room at most
 
 length-low : (k n : ℕ) → length (low_bytes k n) ≡ k
@@ -215,31 +109,127 @@ pub length_sixteen : (n : ℕ) → length (sixteen_bytes n) ≡ 16
 unfolding sixteen_bytes
 length_sixteen n = length-low 16 n
 
+-- lengths below 2 ^ 32, and tokens with a spelling
+abbrev pub FitsHeap : Content → Type 0
+FitsHeap (text_content t) = length t < 2 ^ 32
+FitsHeap (bytes_content bs) = length bs < 2 ^ 32
+FitsHeap (tokens_content t ts) = (length t < 2 ^ 32) × AreTokens ts
+FitsHeap _ = Unit {0}
+
+tokenized_parts : (t : List ℕ) (ts : List Token) → length (short_tokenized t ts) ≡ length (short_sized t) + (length (vnum (length ts)) + length (flat_map short_token ts))
+tokenized_parts t ts = omega (arith, length-append (short_sized t) (vnum (length ts) ++ flat_map short_token ts), length-append (vnum (length ts)) (flat_map short_token ts))
+
+pub content_within : (c : Content) → FitsHeap c → length (content_bytes c) ≤ content_room c
+content_within no_content h = omega arith
+content_within (truth_content b) h = omega arith
+content_within (unsigned_content n) h = omega (arith, length_eight n)
+content_within (signed_content z) h = omega (arith, length_eight (cast_unsigned w64 z))
+content_within (wide_content n) h = omega (arith, length_sixteen n)
+content_within (text_content t) h = sized_length t h
+content_within (bytes_content bs) h = sized_length bs h
+content_within (tokens_content t ts) h =
+    let many : length ts < 2 ^ 64 = let c = h.1.count in omega arith in
+    omega (arith, tokenized_parts t ts, sized_length t h.0, vnum_ten (length ts) many, tokens_length ts h.1.each)
+
+-- tokens that are lent have a spelling
+abbrev TokensSpell : Content → Type 0
+TokensSpell (tokens_content t ts) = AreTokens ts
+TokensSpell _ = Unit {0}
+
+tokens_spell : (l : ReferenceValueLeaf) → TokensSpell (content (leaf_of l))
+tokens_spell (lent.PreTokStr s) = ∥∥₁_elim s.tokens.held.1 (AreTokens-prop (tokens_of s)) (λ p. p.valid)
+tokens_spell _ = tt
+
+room_fits : (c : Content) → TokensSpell c → content_room c < 2 ^ 32 → FitsHeap c
+room_fits (text_content t) h small = omega arith
+room_fits (bytes_content bs) h small = omega arith
+room_fits (tokens_content t ts) h small = (omega arith, h)
+room_fits _ h small = tt
+
 pub leaf_within : (l : ReferenceValueLeaf) → leaf_room (leaf_of l) < 2 ^ 32 → length (leaf_bytes (leaf_of l)) ≤ leaf_room (leaf_of l)
-leaf_within lent.Null h = omega arith
-leaf_within (lent.Bool b) h = omega arith
-leaf_within (lent.Str t) h = sized_length t.now (omega arith)
-leaf_within (lent.Facet t) h = sized_length t.now (omega arith)
-leaf_within (lent.Bytes bs) h = sized_length bs.now (omega arith)
-leaf_within (lent.U64 n) h = omega (arith, length_eight n)
-leaf_within (lent.I64 z) h = omega (arith, length_eight (cast_unsigned w64 z))
-leaf_within (lent.Date d) h = omega (arith, length_eight (cast_unsigned w64 d.nanoseconds))
-leaf_within (lent.IpAddr a) h = omega (arith, length_sixteen (ipv6_bits a))
-leaf_within (lent.PreTokStr s) h =
-    let content = text_of s in
-    let tokens = tokens_of s in
-    let body = flat_map short_token tokens in
-    let each : AreTokens tokens = ∥∥₁_elim s.tokens.held.1 (AreTokens-prop tokens) (λ p. p.valid) in
-    let many : length tokens < 2 ^ 64 = let c = each.count in omega arith in
-    omega (
-      arith,
-      length-append (short_sized content) (vnum (length tokens) ++ body),
-      length-append (vnum (length tokens)) body,
-      sized_length content (omega arith),
-      vnum_ten (length tokens) many,
-      tokens_length tokens each.each,
-    )
+leaf_within l h = let c = content (leaf_of l) in content_within c (room_fits c (tokens_spell l) h)
 
 -- so where there is room for it, it fits
 pub leaf_fits : (len : ℕ) (l : ReferenceValueLeaf) → len + leaf_room (leaf_of l) < 2 ^ 32 → len + length (leaf_bytes (leaf_of l)) < 2 ^ 32
 leaf_fits len l h = omega (arith, leaf_within l (omega arith))
+
+-- ---- what is written of a leaf stands there
+
+flag_small : (b : Bool) → flag b < 2 ^ 32
+flag_small false = omega arith
+flag_small true = omega arith
+
+unsigned_fits : (z : ℤ) → FitsSigned w64 z → cast_unsigned w64 z < 2 ^ 64
+unsigned_fits (pos n) f = omega (arith, f.sfits)
+unsigned_fits (negsuc n) f = omega arith
+
+bytes_fit : (c : Content) → IsContent c → length (content_bytes c) < 2 ^ 32 → FitsHeap c
+bytes_fit (text_content t) h small = sized_fits t small
+bytes_fit (bytes_content bs) h small = sized_fits bs small
+bytes_fit (tokens_content t ts) h small = (sized_fits t (omega (arith, tokenized_parts t ts)), h.1)
+bytes_fit _ h small = tt
+
+content_stands : (old new : List ℕ) (c : Content) → new ≡ old ++ content_bytes c → IsContent c → FitsHeap c → ContentStands new (content_address (length old) c) c
+content_stands old new no_content e h fits = refl
+content_stands old new (truth_content b) e h fits = refl
+content_stands old new (unsigned_content n) e h fits = at_end old new _ _ e (eight_bytes_spell n h)
+content_stands old new (signed_content z) e h fits = at_end old new _ _ e (record { fits = h; spelled = eight_bytes_spell (cast_unsigned w64 z) (unsigned_fits z h) })
+content_stands old new (wide_content n) e h fits = at_end old new _ _ e (sixteen_bytes_spell n h)
+content_stands old new (text_content t) e h fits = at_end old new _ _ e (record { sized = record { is = refl; fits = fits }; utf8 = h.utf8 })
+content_stands old new (bytes_content bs) e h fits = at_end old new _ _ e (record { is = refl; fits = fits })
+content_stands old new (tokens_content t ts) e h fits = at_end old new _ _ e (record { is = refl; content_fits = h.0; tokens_fit = h.1 })
+
+-- nothing and a truth value have no bytes
+abbrev HasBytes : Content → Type 0
+HasBytes no_content = ⊥
+HasBytes (truth_content b) = ⊥
+HasBytes _ = Unit {0}
+
+has_bytes : (l : Leaf) → leaf_type l ≢ 0 → leaf_type l ≢ 9 → HasBytes (content l)
+has_bytes null x y = x refl
+has_bytes (boolean b) x y = y refl
+has_bytes _ x y = tt
+
+address_is : (len : ℕ) (c : Content) → HasBytes c → content_address len c ≡ len
+address_is len no_content h = absurd h
+address_is len (truth_content b) h = absurd h
+address_is len _ h = refl
+
+address_small : (len : ℕ) (c : Content) → len < 2 ^ 32 → content_address len c < 2 ^ 32
+address_small len no_content h = omega arith
+address_small len (truth_content b) h = flag_small b
+address_small len _ h = h
+
+some_bytes : (c : Content) → HasBytes c → FitsHeap c → 0 < length (content_bytes c)
+some_bytes no_content h fits = absurd h
+some_bytes (truth_content b) h fits = absurd h
+some_bytes (unsigned_content n) h fits = omega (arith, length_eight n)
+some_bytes (signed_content z) h fits = omega (arith, length_eight (cast_unsigned w64 z))
+some_bytes (wide_content n) h fits = omega (arith, length_sixteen n)
+some_bytes (text_content t) h fits = sized_some t fits
+some_bytes (bytes_content bs) h fits = sized_some bs fits
+some_bytes (tokens_content t ts) h fits = omega (arith, tokenized_parts t ts, sized_some t fits.0)
+
+-- a leaf whose bytes were added
+pub wrote_leaf : (old new : List ℕ) (l : Leaf) (at : ℕ) → new ≡ old ++ leaf_bytes l → IsLeaf l → length old + length (leaf_bytes l) < 2 ^ 32 → at ≡ leaf_address (length old) l → Wrote old new (leaf_type l) at (leaf l)
+wrote_leaf old new l at e valid small is =
+    let c = content l in
+    let fits : FitsHeap c = bytes_fit c valid (omega arith) in
+    wrote_at (record {
+      added = leaf_bytes l;
+      grows = e;
+      within = content_within c fits;
+      weighed = omega arith;
+      reads = (refl, content_stands old new c e valid fits);
+      behind = λ x y. omega (arith, address_is (length old) c (has_bytes l x y));
+      below = λ x y. omega (arith, longer old new (leaf_bytes l) e, address_is (length old) c (has_bytes l x y), some_bytes c (has_bytes l x y) fits);
+      fits = address_small (length old) c (omega arith);
+    }) (sym is)
+
+-- after room was made, by the type and by what is held
+pub wrote_parts : (old mid new : List ℕ) (l : Leaf) (held : Content) (of_type : LeafType) (t : ValueType) (at : ℕ) → mid ≡ old → held ≡ content l → of_type ≡ type_of l → t ≡ heap_type of_type → new ≡ mid ++ content_bytes held → IsContent held
+    → length old + length (leaf_bytes l) < 2 ^ 32 → at ≡ content_address (length mid) held → Wrote old new (type_code t) at (leaf l)
+wrote_parts old mid new l held of_type t at same holds typed is_type e valid small is =
+    let code : heap_type (type_of l) ≡ t = ap heap_type (sym typed) ∙ sym is_type in
+    subst (λ k. Wrote old new (type_code k) at (leaf l)) code
+    (wrote_leaf old new l at (e ∙ (λ i. same i ++ content_bytes (holds i))) (subst IsContent holds valid) small (is ∙ (λ i. content_address (length (same i)) (holds i))))

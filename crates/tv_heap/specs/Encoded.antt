@@ -2,7 +2,9 @@
 use Rattle.std.specs.Prelude.{ℕ, Bool, not, nat_lt, List, [], ◌∷◌, ◌++◌, length, filter}
 use Rattle.tv_base.specs.Number.{vnum, eight_bytes, truth_byte}
 use Rattle.tv_value.specs.Short.{short_elements}
-use Rattle.tv_value.specs.Tree.{Tree, leaf, tokenized, elements}
+use Rattle.tv_value.specs.Content.{Content, tokens_content}
+use Rattle.tv_value.specs.Leaves.{content}
+use Rattle.tv_value.specs.Tree.{Tree, leaf, elements}
 use Rattle.tv_value.specs.Version.{V2}
 use Rattle.tv_heap.specs.declared.encoded.Encoded.{Encoded}
 use Rattle.tv_heap.specs.declared.encoded.Encoded.TheVariants as held
@@ -17,8 +19,12 @@ encoded_bytes (held.Tokenized content) = 7 ∷ 0 ∷ content.now
 encoded_bytes (held.List code n items) = code ∷ (vnum n ++ short_elements V2 (elements items.held.0))
 
 -- a text with its tokens
+abbrev pub AreTokens : Content → Type 0
+AreTokens (tokens_content t ts) = Unit {0}
+AreTokens _ = ⊥
+
 abbrev pub IsTokenized : Tree → Type 0
-IsTokenized (leaf (tokenized t ts)) = Unit {0}
+IsTokenized (leaf l) = AreTokens (content l)
 IsTokenized _ = ⊥
 
 abbrev pub SaysTokenized : Encoded → Type 0

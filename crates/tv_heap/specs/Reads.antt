@@ -3,7 +3,10 @@ use Rattle.std.specs.Prelude.{◌≡◌, ◌≢◌, ℕ, ◌<◌, ◌^◌, Bool,
 use Rattle.tv_base.specs.Number.{vnum, Fixed, Signed}
 use Rattle.tv_base.specs.Parts.{short_sized}
 use Rattle.tv_value.specs.Short.{short_tokenized, IsText, AreTokens}
-use Rattle.tv_value.specs.Tree.{Token, Leaf, null, text, unsigned, signed, boolean, date, facet, bytes, ip_address, tokenized, Tree, leaf, array, object, Elements, no_elements, element, Entries, no_entries, entry}
+use Rattle.tv_value.specs.Content.{Content, no_content, truth_content, unsigned_content, signed_content, wide_content, text_content, bytes_content, tokens_content}
+use Rattle.tv_value.specs.Leaves.{type_of, content}
+use Rattle.tv_heap.specs.TypeCode.{type_code, heap_type}
+use Rattle.tv_value.specs.Tree.{Token, Leaf, Tree, leaf, array, object, Elements, no_elements, element, Entries, no_entries, entry}
 
 -- bytes of some kind stand at a place of the heap
 pub record Stands (heap : List ℕ) (at : ℕ) (P : List ℕ → Type 0) : Type 0 where
@@ -29,18 +32,9 @@ pub record ShortTokenized (content : List ℕ) (tokens : List Token) (whole : Li
   pub content_fits : IsText content
   pub tokens_fit : AreTokens tokens
 
--- the type bytes; 4 is unused
+-- the type bytes
 abbrev pub leaf_type : Leaf → ℕ
-leaf_type null = 0
-leaf_type (text t) = 1
-leaf_type (unsigned n) = 2
-leaf_type (signed z) = 3
-leaf_type (date z) = 5
-leaf_type (facet t) = 6
-leaf_type (bytes bs) = 7
-leaf_type (ip_address n) = 8
-leaf_type (boolean b) = 9
-leaf_type (tokenized t ts) = 10
+leaf_type l = type_code (heap_type (type_of l))
 
 abbrev pub tree_type : Tree → ℕ
 tree_type (leaf l) = leaf_type l
@@ -51,18 +45,19 @@ abbrev pub flag : Bool → ℕ
 flag false = 0
 flag true = 1
 
--- what stands at the address of a leaf; null and a truth value have no bytes
+-- what stands at the address of what a leaf holds; nothing and a truth value have no bytes
+abbrev pub ContentStands : List ℕ → ℕ → Content → Type 0
+ContentStands heap at no_content = at ≡ 0
+ContentStands heap at (truth_content b) = at ≡ flag b
+ContentStands heap at (unsigned_content n) = Stands heap at (λ w. Fixed 8 w n)
+ContentStands heap at (signed_content z) = Stands heap at (λ w. Signed w z)
+ContentStands heap at (wide_content n) = Stands heap at (λ w. Fixed 16 w n)
+ContentStands heap at (text_content t) = Stands heap at (λ w. ShortText t w)
+ContentStands heap at (bytes_content bs) = Stands heap at (λ w. ShortSized bs w)
+ContentStands heap at (tokens_content t ts) = Stands heap at (λ w. ShortTokenized t ts w)
+
 abbrev pub LeafStands : List ℕ → ℕ → Leaf → Type 0
-LeafStands heap at null = at ≡ 0
-LeafStands heap at (text t) = Stands heap at (λ w. ShortText t w)
-LeafStands heap at (unsigned n) = Stands heap at (λ w. Fixed 8 w n)
-LeafStands heap at (signed z) = Stands heap at (λ w. Signed w z)
-LeafStands heap at (boolean b) = at ≡ flag b
-LeafStands heap at (date z) = Stands heap at (λ w. Signed w z)
-LeafStands heap at (facet t) = Stands heap at (λ w. ShortText t w)
-LeafStands heap at (bytes bs) = Stands heap at (λ w. ShortSized bs w)
-LeafStands heap at (ip_address n) = Stands heap at (λ w. Fixed 16 w n)
-LeafStands heap at (tokenized t ts) = Stands heap at (λ w. ShortTokenized t ts w)
+LeafStands heap at l = ContentStands heap at (content l)
 
 -- the type byte and the address of a child, and then the others; a child that has bytes lies below its parent
 pub record Child (parent : ℕ) (R : ℕ → ℕ → Type 0) (Q : List ℕ → Type 0) (whole : List ℕ) : Type 0 where

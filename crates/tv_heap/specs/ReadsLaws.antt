@@ -7,11 +7,17 @@ use Rattle.tv_base.specs.Parts.{Sized}
 use Rattle.tv_base.proofs.Agreement.{Agree}
 use Rattle.tv_base.proofs.Numbers.{one_number, vnum_spells, agree_fixed}
 use Rattle.tv_base.proofs.Texts.{same_front, agree_sized, agree_signed}
-use Rattle.tv_value.specs.Tree.{Token, Leaf, null, text, unsigned, signed, boolean, date, facet, bytes, ip_address, tokenized, Tree, leaf, array, object, Elements, no_elements, element, Entries, no_entries, entry}
+use Rattle.tv_value.specs.Content.{Content, no_content, truth_content, unsigned_content, signed_content, wide_content, text_content, bytes_content, tokens_content, form_of}
+use Rattle.tv_value.specs.Leaves.{type_of, content, form, store_code}
+use Rattle.tv_value.specs.LeavesLaws.{form_of_content, one_code, one_leaf as leaf_of_parts}
+use Rattle.tv_value.specs.Tree.{Token, Leaf, tokenized, Tree, leaf, array, object, Elements, no_elements, element, Entries, no_entries, entry}
 use Rattle.tv_value.specs.Spelling.{Tokenized}
 use Rattle.tv_value.proofs.Leaves.{agree_tokenized}
 use Rattle.tv_value.proofs.ShortSpellings.{tokenized_of}
-use Rattle.tv_heap.specs.Reads.{Stands, ShortSized, ShortText, ShortTokenized, leaf_type, flag, LeafStands, Child, Reads, ReadsElements, ReadsEntries}
+use Rattle.tv_value.specs.declared.leaf.LeafType.{LeafType}
+use Rattle.tv_value.specs.declared.leaf.LeafType.TheVariants as leaves
+use Rattle.tv_heap.specs.TypeCode.{type_code, heap_type}
+use Rattle.tv_heap.specs.Reads.{Stands, ShortSized, ShortText, ShortTokenized, leaf_type, flag, ContentStands, LeafStands, Child, Reads, ReadsElements, ReadsEntries}
 
 -- two cuts of one list at one place
 one_place : (b c x y : List ℕ) → length b ≡ length c → b ++ x ≡ c ++ y → x ≡ y
@@ -41,22 +47,37 @@ one_flag false false e = refl
 one_flag true true e = refl
 one_flag _ _ e = absurd (omega arith)
 
+one_content : (heap : List ℕ) (at : ℕ) (c d : Content) → form_of c ≡ form_of d → ContentStands heap at c → ContentStands heap at d → c ≡ d
+one_content heap at no_content no_content e p q = refl
+one_content heap at (truth_content b) (truth_content c) e p q = ap truth_content (one_flag b c (sym p ∙ q))
+one_content heap at (unsigned_content m) (unsigned_content n) e p q = ap unsigned_content (stands_agree (agree_fixed 8 m n) p q)
+one_content heap at (signed_content y) (signed_content z) e p q = ap signed_content (stands_agree (agree_signed y z) p q)
+one_content heap at (wide_content m) (wide_content n) e p q = ap wide_content (stands_agree (agree_fixed 16 m n) p q)
+one_content heap at (text_content s) (text_content t) e p q = ap text_content (stands_agree (agree_short_text s t) p q)
+one_content heap at (bytes_content s) (bytes_content t) e p q = ap bytes_content (stands_agree (agree_short s t) p q)
+one_content heap at (tokens_content s ss) (tokens_content t ts) e p q = ap content (stands_agree (agree_short_tokenized s t ss ts) p q)
+one_content heap at _ _ e p q = absurd (cc)
+
+-- a type byte is that of one type
+same_code : (s t : LeafType) → type_code (heap_type s) ≡ type_code (heap_type t) → store_code s ≡ store_code t
+same_code leaves.Null leaves.Null e = refl
+same_code _ leaves.Null e = omega arith
+same_code _ _ e = omega arith
+
+pub one_type : (s t : LeafType) → type_code (heap_type s) ≡ type_code (heap_type t) → s ≡ t
+one_type s t e = one_code s t (same_code s t e)
+
 pub one_leaf : (heap : List ℕ) (at : ℕ) (l m : Leaf) → leaf_type l ≡ leaf_type m → LeafStands heap at l → LeafStands heap at m → l ≡ m
-one_leaf heap at null null e p q = refl
-one_leaf heap at (text s) (text t) e p q = ap text (stands_agree (agree_short_text s t) p q)
-one_leaf heap at (unsigned m) (unsigned n) e p q = ap unsigned (stands_agree (agree_fixed 8 m n) p q)
-one_leaf heap at (signed y) (signed z) e p q = ap signed (stands_agree (agree_signed y z) p q)
-one_leaf heap at (boolean b) (boolean c) e p q = ap boolean (one_flag b c (sym p ∙ q))
-one_leaf heap at (date y) (date z) e p q = ap date (stands_agree (agree_signed y z) p q)
-one_leaf heap at (facet s) (facet t) e p q = ap facet (stands_agree (agree_short_text s t) p q)
-one_leaf heap at (bytes s) (bytes t) e p q = ap bytes (stands_agree (agree_short s t) p q)
-one_leaf heap at (ip_address m) (ip_address n) e p q = ap ip_address (stands_agree (agree_fixed 16 m n) p q)
-one_leaf heap at (tokenized s ss) (tokenized t ts) e p q = stands_agree (agree_short_tokenized s t ss ts) p q
-one_leaf heap at _ _ e p q = absurd (omega arith)
+one_leaf heap at l m e p q =
+    let same = one_type (type_of l) (type_of m) e in
+    leaf_of_parts l m same (one_content heap at (content l) (content m) (form_of_content l ∙ ap form same ∙ sym (form_of_content m)) p q)
+
+pub type_small : (t : LeafType) → type_code (heap_type t) < 11
+type_small leaves.Null = omega arith
+type_small _ = omega arith
 
 pub leaf_type_small : (l : Leaf) → leaf_type l < 11
-leaf_type_small null = omega arith
-leaf_type_small _ = omega arith
+leaf_type_small l = type_small (type_of l)
 
 -- two children that stand first in one list
 pub one_child : (c d m n : ℕ) (x y whole : List ℕ) → m < 2 ^ 32 → n < 2 ^ 32 → whole ≡ c ∷ (vnum m ++ x) → whole ≡ d ∷ (vnum n ++ y) → (c ≡ d) × (m ≡ n) × (x ≡ y)

@@ -1,23 +1,26 @@
 -- How many bytes of heap a value may take: an upper count.
 use Rattle.std.specs.Prelude.{ℕ, ◌+◌, length}
 use Rattle.std.specs.List.{sum_by}
-use Rattle.tv_value.specs.Tree.{Token, Leaf, null, text, unsigned, signed, boolean, date, facet, bytes, ip_address, tokenized, Tree, leaf, array, object, Elements, no_elements, element, Entries, no_entries, entry, Document}
+use Rattle.tv_value.specs.Content.{Content, no_content, truth_content, unsigned_content, signed_content, wide_content, text_content, bytes_content, tokens_content}
+use Rattle.tv_value.specs.Leaves.{content}
+use Rattle.tv_value.specs.Tree.{Token, Leaf, Tree, leaf, array, object, Elements, no_elements, element, Entries, no_entries, entry, Document}
 
 -- a length or an address takes 5 bytes at most, the five parts of a token 50 beside its text
 abbrev pub token_room : Token → ℕ
 token_room token = 50 + length token.text
 
+abbrev pub content_room : Content → ℕ
+content_room no_content = 0
+content_room (truth_content b) = 0
+content_room (unsigned_content n) = 8
+content_room (signed_content z) = 8
+content_room (wide_content n) = 16
+content_room (text_content t) = 5 + length t
+content_room (bytes_content bs) = 5 + length bs
+content_room (tokens_content t ts) = 15 + length t + sum_by token_room ts
+
 abbrev pub leaf_room : Leaf → ℕ
-leaf_room null = 0
-leaf_room (text t) = 5 + length t
-leaf_room (unsigned n) = 8
-leaf_room (signed z) = 8
-leaf_room (boolean b) = 0
-leaf_room (date z) = 8
-leaf_room (facet t) = 5 + length t
-leaf_room (bytes bs) = 5 + length bs
-leaf_room (ip_address n) = 16
-leaf_room (tokenized t ts) = 15 + length t + sum_by token_room ts
+leaf_room l = content_room (content l)
 
 -- a child takes 6 bytes more in its parent's list, and a key 6 and its text
 abbrev mutual

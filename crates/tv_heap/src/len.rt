@@ -11,6 +11,7 @@ ghost use Rattle.tv_value.specs.Short.{short_token, short_tokenized};
 ghost use Rattle.tv_value.specs.TokenRef.{ref_of};
 
 use tv_base::vint::VInt;
+use tv_value::content::LeafContent;
 use tv_value::leaf::ReferenceValueLeaf;
 use tv_value::pre_tokenized::{PreTokenizedStr, TokenIter, TokenRef};
 
@@ -72,15 +73,12 @@ fn tokenized_len(content: PreTokenizedStr<'_>) -> Option<u32>
 pub fn leaf_len(value: &ReferenceValueLeaf<'_>) -> Option<u32>
     ensures { let len = length (leaf_bytes (leaf_of value.now)) in SomeIff result (len < 2 ^ 32) len }
 {
-    match value {
-        ReferenceValueLeaf::Null | ReferenceValueLeaf::Bool(_) => Some(0),
-        ReferenceValueLeaf::U64(_) | ReferenceValueLeaf::I64(_) | ReferenceValueLeaf::Date(_) => {
-            Some(8)
-        }
-        ReferenceValueLeaf::IpAddr(_) => Some(16),
-        ReferenceValueLeaf::Str(content) => sized_above(content.len(), 0),
-        ReferenceValueLeaf::Facet(content) => sized_above(content.len(), 0),
-        ReferenceValueLeaf::Bytes(content) => sized_above(content.len(), 0),
-        ReferenceValueLeaf::PreTokStr(content) => tokenized_len(*content),
+    match value.content() {
+        LeafContent::Nothing | LeafContent::Truth(_) => Some(0),
+        LeafContent::Unsigned(_) | LeafContent::Signed(_) => Some(8),
+        LeafContent::Wide(_) => Some(16),
+        LeafContent::Text(text) => sized_above(text.len(), 0),
+        LeafContent::Bytes(bytes) => sized_above(bytes.len(), 0),
+        LeafContent::Tokens(text) => tokenized_len(text),
     }
 }

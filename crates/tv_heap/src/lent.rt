@@ -1,22 +1,28 @@
 //! Decoding in place. Each call gives what stands at an address, whatever stands elsewhere; where nothing of the kind
 //! stands there it gives some bytes or some number.
 
-ghost use Rattle.std.specs.Prelude.{◌≡◌, [], ◌∷◌, ◌++◌, ◌<◌, ◌≤◌, ◌^◌, ℕ, ℤ, List, None, Some, length, option_map};
-ghost use Rattle.std.specs.Net.Addr.{ipv6_bits};
+ghost use Rattle.std.specs.Prelude.{◌≡◌, ◌↔◌, [], ◌∷◌, ◌++◌, ◌<◌, ◌≤◌, ◌^◌, ℕ, ℤ, List, None, Some, length, option_map};
 ghost use Rattle.tv_base.specs.Number.{vnum, sixteen_bytes, Fixed, Signed};
 ghost use Rattle.tv_base.specs.Parts.{short_sized};
+ghost use Rattle.tv_value.specs.Content.{Content, form_of};
+ghost use Rattle.tv_value.specs.LeafParts.{content_of};
+ghost use Rattle.tv_value.specs.Leaves.{type_of, content, form};
+ghost use Rattle.tv_value.specs.Lent.{leaf_of};
 ghost use Rattle.tv_value.specs.PreTokenized.{tokenized_leaf};
-ghost use Rattle.tv_value.specs.Short.{short_tokenized};
-ghost use Rattle.tv_value.specs.Tree.{Token, tokenized};
+ghost use Rattle.tv_value.specs.Short.{short_leaf, short_tokenized};
+ghost use Rattle.tv_value.specs.Tree.{Token, Leaf, tokenized};
+ghost use Rattle.tv_value.specs.declared.content.Form.TheVariants as forms;
 ghost use Rattle.tv_heap.specs.declared.value_type.ValueType.{ValueType};
-ghost use Rattle.tv_heap.specs.Encoded.{last_bytes};
+ghost use Rattle.tv_heap.specs.Encoded.{encoded_bytes, last_bytes, AreTokens, SaysTokenized};
 ghost use Rattle.tv_heap.specs.Lent.{GivesChild, HasText};
-ghost use Rattle.tv_heap.specs.Reads.{Stands, ShortSized, ShortText, ShortTokenized};
+ghost use Rattle.tv_heap.specs.Reads.{Stands, ShortSized, ShortText, ShortTokenized, ContentStands, LeafStands};
 ghost use Rattle.tv_heap.specs.TypeCode.{type_code};
 
+use crate::encoded::Encoded;
 use crate::value_type::ValueType;
-use std::net::Ipv6Addr;
 use tv_base::vint::VInt;
+use tv_value::content::{Form, LeafContent};
+use tv_value::leaf::{LeafType, ReferenceValueLeaf};
 use tv_value::pre_tokenized::PreTokenizedStr;
 
 // The number whose shortest spelling stands at the front, and what follows it. Most are lengths and addresses of one or two
@@ -116,18 +122,18 @@ pub fn signed_at(heap: &[u8], address: u32) -> i64
     eight_at(heap, address).cast_signed()
 }
 
-/// The IP address whose number is in the sixteen bytes that stand at an address.
-pub fn ip_addr_at(heap: &[u8], address: u32) -> Ipv6Addr
-    ensures { (n : ℕ) → Stands heap.now address (λ w. Fixed 16 w n) → ipv6_bits result ≡ n }
+/// The number in the sixteen bytes that stand at an address.
+pub fn wide_at(heap: &[u8], address: u32) -> u128
+    ensures { (n : ℕ) → Stands heap.now address (λ w. Fixed 16 w n) → result ≡ n }
 {
     let at = address as usize;
     if at > heap.len() {
-        return Ipv6Addr::from_bits(0);
+        return 0;
     }
     let (_, behind) = heap.split_at(at);
     match behind.first_chunk::<16>() {
-        Some(front) => Ipv6Addr::from_bits(u128::from_le_bytes(*front)),
-        None => Ipv6Addr::from_bits(0),
+        Some(front) => u128::from_le_bytes(*front),
+        None => 0,
     }
 }
 
@@ -175,6 +181,59 @@ pub fn spelled_tokens_at(heap: &[u8], address: u32) -> &[u8]
     };
     let (spelled, _) = behind.split_at(len);
     spelled
+}
+
+/// What a value without children of this form holds that stands at an address.
+#[inline(always)]
+pub fn content_at(heap: &[u8], form: Form, address: u32) -> LeafContent<'_>
+    requires { form ≡ forms.Text → HasText heap.now address }
+    ensures { (c : Content) → form_of c ≡ form → ContentStands heap.now address c → content_of result ≡ c }
+{
+    match form {
+        Form::Nothing => LeafContent::Nothing,
+        Form::Truth => LeafContent::Truth(address != 0),
+        Form::Unsigned => LeafContent::Unsigned(eight_at(heap, address)),
+        Form::Signed => LeafContent::Signed(signed_at(heap, address)),
+        Form::Wide => LeafContent::Wide(wide_at(heap, address)),
+        Form::Text => LeafContent::Text(text_at(heap, address)),
+        Form::Bytes => LeafContent::Bytes(sized_at(heap, address)),
+        Form::Tokens => match tokenized_at(heap, address) {
+            Some(text) => LeafContent::Tokens(text),
+            None => LeafContent::Nothing,
+        },
+    }
+}
+
+/// The value without children of this type that stands at an address.
+#[inline(always)]
+pub fn leaf_at(heap: &[u8], leaf_type: LeafType, address: u32) -> ReferenceValueLeaf<'_>
+    requires { form leaf_type ≡ forms.Text → HasText heap.now address }
+    ensures { (l : Leaf) → type_of l ≡ leaf_type → LeafStands heap.now address l → leaf_of result ≡ l }
+{
+    let content = content_at(heap, leaf_type.form(), address);
+    match ReferenceValueLeaf::with_content(leaf_type, content) {
+        Some(value) => value,
+        None => ReferenceValueLeaf::Null,
+    }
+}
+
+/// What the store's version 2 has for the value without children of this type that stands at an address.
+#[inline(always)]
+pub fn encoded_at(heap: &[u8], leaf_type: LeafType, address: u32) -> Encoded<'_>
+    ensures bytes { (l : Leaf) → type_of l ≡ leaf_type → LeafStands heap.now address l → encoded_bytes result ≡ short_leaf l }
+    ensures tokens { (l : Leaf) → type_of l ≡ leaf_type → SaysTokenized result ↔ AreTokens (content l) }
+{
+    let code = leaf_type.store_code();
+    match leaf_type.form() {
+        Form::Nothing => Encoded::Null,
+        Form::Truth => Encoded::Bool(address != 0),
+        Form::Unsigned => Encoded::Number(code, eight_at(heap, address)),
+        Form::Signed => Encoded::Number(code, eight_at(heap, address)),
+        Form::Wide => Encoded::Bytes(code, sixteen_at(heap, address)),
+        Form::Text => Encoded::Bytes(code, spelled_at(heap, address)),
+        Form::Bytes => Encoded::Bytes(code, spelled_at(heap, address)),
+        Form::Tokens => Encoded::Tokenized(spelled_tokens_at(heap, address)),
+    }
 }
 
 /// How many children a list has: each one's address ends with a byte of 128 or more, and no other byte is one.

@@ -8,6 +8,7 @@ ghost use Rattle.tv_value.specs.PreTokenized.{tokens_left};
 ghost use Rattle.tv_value.specs.Tree.{elements, entries};
 
 use std::convert::AsStr;
+use tv_value::content::LeafContent;
 use tv_value::leaf::ReferenceValueLeaf;
 use tv_value::nested::{Nested, NestedValue, lend};
 use tv_value::pre_tokenized::TokenIter;
@@ -39,18 +40,15 @@ fn tokens_above(tokens: TokenIter<'_>, base: u32) -> Option<u32>
 pub fn leaf_room(value: &ReferenceValueLeaf<'_>) -> Option<u32>
     ensures { SomeIff result (leaf_room (leaf_of value.now) < 2 ^ 32) (leaf_room (leaf_of value.now)) }
 {
-    match value {
-        ReferenceValueLeaf::Null | ReferenceValueLeaf::Bool(_) => Some(0),
-        ReferenceValueLeaf::U64(_) | ReferenceValueLeaf::I64(_) | ReferenceValueLeaf::Date(_) => {
-            Some(8)
-        }
-        ReferenceValueLeaf::IpAddr(_) => Some(16),
-        ReferenceValueLeaf::Str(content) => sized_room(content.len()),
-        ReferenceValueLeaf::Facet(content) => sized_room(content.len()),
-        ReferenceValueLeaf::Bytes(content) => sized_room(content.len()),
-        ReferenceValueLeaf::PreTokStr(content) => {
-            let base = sized_room(content.text().len())?.checked_add(10)?;
-            tokens_above(content.tokens(), base)
+    match value.content() {
+        LeafContent::Nothing | LeafContent::Truth(_) => Some(0),
+        LeafContent::Unsigned(_) | LeafContent::Signed(_) => Some(8),
+        LeafContent::Wide(_) => Some(16),
+        LeafContent::Text(text) => sized_room(text.len()),
+        LeafContent::Bytes(bytes) => sized_room(bytes.len()),
+        LeafContent::Tokens(text) => {
+            let base = sized_room(text.text().len())?.checked_add(10)?;
+            tokens_above(text.tokens(), base)
         }
     }
 }

@@ -6,18 +6,10 @@ ghost use Rattle.tv_heap.specs.Held.{Held, Held-prop, HeldElements, HeldElements
 ghost use Rattle.tv_heap.specs.TypeCode.{type_code};
 
 use crate::encoded::Encoded;
-use crate::lent::{
-    child_at, children, eight_at, ip_addr_at, signed_at, sixteen_at, sized_at, spelled_at,
-    spelled_tokens_at, text_at, tokenized_at,
-};
-use crate::value_type::ValueType;
-use tv_value::date_time::DateTime;
-use tv_value::leaf::ReferenceValueLeaf;
+use crate::lent::{child_at, children, encoded_at, leaf_at, sized_at, text_at};
+use crate::value_type::{ValueKind, ValueType};
 use tv_value::same::is_same;
-use tv_value::type_codes::{
-    ARRAY_CODE, BYTES_CODE, DATE_CODE, HIERARCHICAL_FACET_CODE, I64_CODE, IP_CODE, OBJECT_CODE,
-    TEXT_CODE, U64_CODE,
-};
+use tv_value::type_codes::{ARRAY_CODE, OBJECT_CODE};
 use tv_value::value::{ReferenceValue, Value};
 
 /// A value of a document, which stands in the heap that it is lent from.
@@ -71,18 +63,9 @@ impl<'a> CompactDocValue<'a> {
     {
         let heap = self.heap;
         let address = self.address;
-        match self.value_type {
-            ValueType::Null => Encoded::Null,
-            ValueType::Str => Encoded::Bytes(TEXT_CODE, spelled_at(heap, address)),
-            ValueType::U64 => Encoded::Number(U64_CODE, eight_at(heap, address)),
-            ValueType::I64 => Encoded::Number(I64_CODE, eight_at(heap, address)),
-            ValueType::Date => Encoded::Number(DATE_CODE, eight_at(heap, address)),
-            ValueType::Facet => Encoded::Bytes(HIERARCHICAL_FACET_CODE, spelled_at(heap, address)),
-            ValueType::Bytes => Encoded::Bytes(BYTES_CODE, spelled_at(heap, address)),
-            ValueType::IpAddr => Encoded::Bytes(IP_CODE, sixteen_at(heap, address)),
-            ValueType::Bool => Encoded::Bool(address != 0),
-            ValueType::PreTokStr => Encoded::Tokenized(spelled_tokens_at(heap, address)),
-            ValueType::Array => {
+        match self.value_type.kind() {
+            ValueKind::Leaf(leaf_type) => encoded_at(heap, leaf_type, address),
+            ValueKind::Array => {
                 let list = sized_at(heap, address);
                 Encoded::List(
                     ARRAY_CODE,
@@ -90,7 +73,7 @@ impl<'a> CompactDocValue<'a> {
                     CompactDocArrayIter { heap, list },
                 )
             }
-            ValueType::Object => {
+            ValueKind::Object => {
                 let list = sized_at(heap, address);
                 Encoded::List(
                     OBJECT_CODE,
@@ -172,40 +155,13 @@ impl<'a> Value<'a> for CompactDocValue<'a> {
     fn as_value(&self) -> ReferenceValue<'a, CompactDocValue<'a>> {
         let heap = self.heap;
         let address = self.address;
-        match self.value_type {
-            ValueType::Null => ReferenceValue::Leaf(ReferenceValueLeaf::Null),
-            ValueType::Str => {
-                ReferenceValue::Leaf(ReferenceValueLeaf::Str(text_at(heap, address)))
-            }
-            ValueType::U64 => {
-                ReferenceValue::Leaf(ReferenceValueLeaf::U64(eight_at(heap, address)))
-            }
-            ValueType::I64 => {
-                ReferenceValue::Leaf(ReferenceValueLeaf::I64(signed_at(heap, address)))
-            }
-            ValueType::Date => {
-                let moment = DateTime::from_timestamp_nanos(signed_at(heap, address));
-                ReferenceValue::Leaf(ReferenceValueLeaf::Date(moment))
-            }
-            ValueType::Facet => {
-                ReferenceValue::Leaf(ReferenceValueLeaf::Facet(text_at(heap, address)))
-            }
-            ValueType::Bytes => {
-                ReferenceValue::Leaf(ReferenceValueLeaf::Bytes(sized_at(heap, address)))
-            }
-            ValueType::IpAddr => {
-                ReferenceValue::Leaf(ReferenceValueLeaf::IpAddr(ip_addr_at(heap, address)))
-            }
-            ValueType::Bool => ReferenceValue::Leaf(ReferenceValueLeaf::Bool(address != 0)),
-            ValueType::PreTokStr => match tokenized_at(heap, address) {
-                Some(content) => ReferenceValue::Leaf(ReferenceValueLeaf::PreTokStr(content)),
-                None => ReferenceValue::Leaf(ReferenceValueLeaf::Null),
-            },
-            ValueType::Array => {
+        match self.value_type.kind() {
+            ValueKind::Leaf(leaf_type) => ReferenceValue::Leaf(leaf_at(heap, leaf_type, address)),
+            ValueKind::Array => {
                 let list = sized_at(heap, address);
                 ReferenceValue::Array(CompactDocArrayIter { heap, list })
             }
-            ValueType::Object => {
+            ValueKind::Object => {
                 let list = sized_at(heap, address);
                 ReferenceValue::Object(CompactDocObjectIter { heap, list })
             }

@@ -11,7 +11,7 @@ use std::alloc::Global;
 use std::io;
 use tv_base::write::write_u8;
 use tv_base::{BinarySerializable, ByteSink, ByteSource, Cause, ReadError};
-use tv_value::leaf::ReferenceValueLeaf;
+use tv_value::leaf::{LeafType, ReferenceValueLeaf};
 use tv_value::value::{ReferenceValue, Value};
 
 /// The type of a value that stands in a document's heap.
@@ -44,9 +44,60 @@ pub enum ValueType {
     Array = 12,
 }
 
+/// The types of values without children, arrays and objects. (Own.)
+#[derive(Clone, Copy, Debug, PartialEq, Eq)]
+pub enum ValueKind {
+    /// A value without children, of this type.
+    Leaf(LeafType),
+    /// Values, in order.
+    Array,
+    /// Keys and their values, in order.
+    Object,
+}
+
 impl ValueType {
     ghost use Rattle.tv_heap.specs.declared.value_type.ValueType.{ValueType};
-    ghost use Rattle.tv_heap.specs.TypeCode.{type_code};
+    ghost use Rattle.tv_heap.specs.TypeCode.{type_code, heap_type, kind_type};
+
+    /// The type of the values without children of a type. (Own.)
+    #[inline(always)]
+    pub fn of_leaf(leaf_type: LeafType) -> ValueType
+        ensures { result ≡ heap_type leaf_type }
+    {
+        match leaf_type {
+            LeafType::Null => ValueType::Null,
+            LeafType::Str => ValueType::Str,
+            LeafType::U64 => ValueType::U64,
+            LeafType::I64 => ValueType::I64,
+            LeafType::Date => ValueType::Date,
+            LeafType::Facet => ValueType::Facet,
+            LeafType::Bytes => ValueType::Bytes,
+            LeafType::IpAddr => ValueType::IpAddr,
+            LeafType::Bool => ValueType::Bool,
+            LeafType::PreTokStr => ValueType::PreTokStr,
+        }
+    }
+
+    /// Whether its values are arrays, objects, or without children, and of which type then. (Own.)
+    #[inline(always)]
+    pub fn kind(self) -> ValueKind
+        ensures { kind_type result ≡ self }
+    {
+        match self {
+            ValueType::Null => ValueKind::Leaf(LeafType::Null),
+            ValueType::Str => ValueKind::Leaf(LeafType::Str),
+            ValueType::U64 => ValueKind::Leaf(LeafType::U64),
+            ValueType::I64 => ValueKind::Leaf(LeafType::I64),
+            ValueType::Date => ValueKind::Leaf(LeafType::Date),
+            ValueType::Facet => ValueKind::Leaf(LeafType::Facet),
+            ValueType::Bytes => ValueKind::Leaf(LeafType::Bytes),
+            ValueType::IpAddr => ValueKind::Leaf(LeafType::IpAddr),
+            ValueType::Bool => ValueKind::Leaf(LeafType::Bool),
+            ValueType::PreTokStr => ValueKind::Leaf(LeafType::PreTokStr),
+            ValueType::Array => ValueKind::Array,
+            ValueType::Object => ValueKind::Object,
+        }
+    }
 
     /// The type byte that stands for it in a heap: 0 to 12 in the order of the variants, without 4.
     pub fn to_code(self) -> u8
@@ -117,18 +168,7 @@ impl From<&ReferenceValueLeaf<'_>> for ValueType {
     ghost from_gives = { λ value made. type_code made ≡ leaf_type (leaf_of value.now) };
 
     fn from(value: &ReferenceValueLeaf<'_>) -> ValueType {
-        match value {
-            ReferenceValueLeaf::Null => ValueType::Null,
-            ReferenceValueLeaf::Str(_) => ValueType::Str,
-            ReferenceValueLeaf::U64(_) => ValueType::U64,
-            ReferenceValueLeaf::I64(_) => ValueType::I64,
-            ReferenceValueLeaf::Date(_) => ValueType::Date,
-            ReferenceValueLeaf::Facet(_) => ValueType::Facet,
-            ReferenceValueLeaf::Bytes(_) => ValueType::Bytes,
-            ReferenceValueLeaf::IpAddr(_) => ValueType::IpAddr,
-            ReferenceValueLeaf::Bool(_) => ValueType::Bool,
-            ReferenceValueLeaf::PreTokStr(_) => ValueType::PreTokStr,
-        }
+        ValueType::of_leaf(value.leaf_type())
     }
 }
 

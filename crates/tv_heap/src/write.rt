@@ -1,17 +1,17 @@
 //! Writing values at the end of a heap.
 
 ghost use Rattle.std.specs.Prelude.{◌≡◌, ◌+◌, ◌<◌, ◌≤◌, ◌^◌, ◌∷◌, ◌++◌, OnOk, OnErr, IfOk, length, take, drop};
-ghost use Rattle.std.specs.Net.Addr.{ipv6_bits};
 ghost use Rattle.tv_base.specs.Number.{vnum, eight_bytes, sixteen_bytes};
 ghost use Rattle.tv_base.specs.Parts.{short_sized};
 ghost use Rattle.tv_base.specs.Sink.{IsFront};
 ghost use Rattle.tv_value.specs.Lent.{leaf_of, nested_tree};
-ghost use Rattle.tv_value.specs.PreTokenized.{tokenized_leaf, text_of, tokens_of};
+ghost use Rattle.tv_value.specs.PreTokenized.{text_of, tokens_of};
 ghost use Rattle.std.specs.Int.{w64, cast_unsigned};
-ghost use Rattle.tv_value.specs.Short.{short_token, short_tokenized};
+ghost use Rattle.tv_value.specs.LeafParts.{content_of};
+ghost use Rattle.tv_value.specs.Short.{short_token, short_tokenized, IsContent};
 ghost use Rattle.tv_value.specs.TokenRef.{ref_of};
-ghost use Rattle.tv_value.specs.Tree.{leaf, text, facet, bytes, unsigned, signed, date, ip_address, array, object, elements, entries};
-ghost use Rattle.tv_heap.specs.LeafBytes.{leaf_bytes, leaf_value_type, leaf_address};
+ghost use Rattle.tv_value.specs.Tree.{leaf, array, object, elements, entries};
+ghost use Rattle.tv_heap.specs.LeafBytes.{content_bytes, content_address, leaf_bytes, leaf_value_type, leaf_address};
 ghost use Rattle.tv_heap.specs.Room.{room};
 ghost use Rattle.tv_heap.specs.TypeCode.{type_code};
 ghost use Rattle.tv_heap.specs.Wrote.{Wrote};
@@ -19,7 +19,7 @@ ghost use Rattle.tv_heap.specs.Wrote.{Wrote};
 use crate::value_type::ValueType;
 use std::alloc::AllocError;
 use std::convert::AsStr;
-use std::net::Ipv6Addr;
+use tv_value::content::LeafContent;
 use tv_value::laws::pre_tokenized_texts_spell;
 use tv_value::leaf::ReferenceValueLeaf;
 use tv_value::nested::{Nested, NestedValue};
@@ -102,14 +102,11 @@ fn write_key(heap: &mut Vec<u8>, places: &mut Vec<u8>, key: &str) -> Result<(), 
     push_place(places, ValueType::Str, at)
 }
 
-// A text, or the encoded text of a facet.
 #[inline(always)]
 fn write_text(heap: &mut Vec<u8>, content: &str) -> Result<u32, AllocError>
     requires { length heap.old.items + length (short_sized content.now) < 2 ^ 32 }
     ensures heap { OnOk result (heap.new.items ≡ heap.old.items ++ short_sized content.now) }
     ensures at { IfOk result (λ at. at ≡ length heap.old.items) }
-    ensures text { IfOk result (λ at. Wrote heap.old.items heap.new.items 1 at (leaf (text content.now))) }
-    ensures facet { IfOk result (λ at. Wrote heap.old.items heap.new.items 6 at (leaf (facet content.now))) }
     ensures err { OnErr result (IsFront heap.old.items heap.new.items) }
 {
     let at = heap.len() as u32;
@@ -121,7 +118,6 @@ fn write_bytes(heap: &mut Vec<u8>, content: &[u8]) -> Result<u32, AllocError>
     requires { length heap.old.items + length (short_sized content.now) < 2 ^ 32 }
     ensures heap { OnOk result (heap.new.items ≡ heap.old.items ++ short_sized content.now) }
     ensures at { IfOk result (λ at. at ≡ length heap.old.items) }
-    ensures ok { IfOk result (λ at. Wrote heap.old.items heap.new.items 7 at (leaf (bytes content.now))) }
     ensures err { OnErr result (IsFront heap.old.items heap.new.items) }
 {
     let at = heap.len() as u32;
@@ -134,7 +130,6 @@ fn write_u64(heap: &mut Vec<u8>, number: u64) -> Result<u32, AllocError>
     requires { length heap.old.items + length (eight_bytes number) < 2 ^ 32 }
     ensures heap { OnOk result (heap.new.items ≡ heap.old.items ++ eight_bytes number) }
     ensures at { IfOk result (λ at. at ≡ length heap.old.items) }
-    ensures ok { IfOk result (λ at. Wrote heap.old.items heap.new.items 2 at (leaf (unsigned number))) }
     ensures err { OnErr result (IsFront heap.old.items heap.new.items) }
 {
     let at = heap.len() as u32;
@@ -142,14 +137,11 @@ fn write_u64(heap: &mut Vec<u8>, number: u64) -> Result<u32, AllocError>
     Ok(at)
 }
 
-// A signed number, or the nanoseconds of a date.
 #[inline(always)]
 fn write_i64(heap: &mut Vec<u8>, number: i64) -> Result<u32, AllocError>
     requires { length heap.old.items + length (eight_bytes (cast_unsigned w64 number)) < 2 ^ 32 }
     ensures heap { OnOk result (heap.new.items ≡ heap.old.items ++ eight_bytes (cast_unsigned w64 number)) }
     ensures at { IfOk result (λ at. at ≡ length heap.old.items) }
-    ensures signed { IfOk result (λ at. Wrote heap.old.items heap.new.items 3 at (leaf (signed number))) }
-    ensures date { IfOk result (λ at. Wrote heap.old.items heap.new.items 5 at (leaf (date number))) }
     ensures err { OnErr result (IsFront heap.old.items heap.new.items) }
 {
     let at = heap.len() as u32;
@@ -157,15 +149,14 @@ fn write_i64(heap: &mut Vec<u8>, number: i64) -> Result<u32, AllocError>
     Ok(at)
 }
 
-fn write_ip_addr(heap: &mut Vec<u8>, address: Ipv6Addr) -> Result<u32, AllocError>
-    requires { length heap.old.items + length (sixteen_bytes (ipv6_bits address)) < 2 ^ 32 }
-    ensures heap { OnOk result (heap.new.items ≡ heap.old.items ++ sixteen_bytes (ipv6_bits address)) }
+fn write_u128(heap: &mut Vec<u8>, number: u128) -> Result<u32, AllocError>
+    requires { length heap.old.items + length (sixteen_bytes number) < 2 ^ 32 }
+    ensures heap { OnOk result (heap.new.items ≡ heap.old.items ++ sixteen_bytes number) }
     ensures at { IfOk result (λ at. at ≡ length heap.old.items) }
-    ensures ok { IfOk result (λ at. Wrote heap.old.items heap.new.items 8 at (leaf (ip_address (ipv6_bits address)))) }
     ensures err { OnErr result (IsFront heap.old.items heap.new.items) }
 {
     let at = heap.len() as u32;
-    push_sixteen(heap, address.to_bits())?;
+    push_sixteen(heap, number)?;
     Ok(at)
 }
 
@@ -174,10 +165,8 @@ fn write_tokenized(heap: &mut Vec<u8>, content: PreTokenizedStr<'_>) -> Result<u
     requires { length heap.old.items + length (short_tokenized (text_of content) (tokens_of content)) < 2 ^ 32 }
     ensures heap { OnOk result (heap.new.items ≡ heap.old.items ++ short_tokenized (text_of content.entry) (tokens_of content.entry)) }
     ensures at { IfOk result (λ at. at ≡ length heap.old.items) }
-    ensures ok { IfOk result (λ at. Wrote heap.old.items heap.new.items 10 at (leaf (tokenized_leaf content.entry))) }
     ensures err { OnErr result (IsFront heap.old.items heap.new.items) }
 {
-    pre_tokenized_texts_spell();
     let at = heap.len() as u32;
     push_sized(heap, content.text().as_bytes())?;
     push_number(heap, content.len() as u64)?;
@@ -185,6 +174,28 @@ fn write_tokenized(heap: &mut Vec<u8>, content: PreTokenizedStr<'_>) -> Result<u
         push_token(heap, token)?;
     }
     Ok(at)
+}
+
+// Writes what a value without children holds, and answers its address.
+#[inline(always)]
+fn write_content(heap: &mut Vec<u8>, content: LeafContent<'_>) -> Result<u32, AllocError>
+    requires { length heap.old.items + length (content_bytes (content_of content)) < 2 ^ 32 }
+    ensures heap { OnOk result (heap.new.items ≡ heap.old.items ++ content_bytes (content_of content.entry)) }
+    ensures at { IfOk result (λ at. at ≡ content_address (length heap.old.items) (content_of content.entry)) }
+    ensures spells { IsContent (content_of content.entry) }
+    ensures err { OnErr result (IsFront heap.old.items heap.new.items) }
+{
+    pre_tokenized_texts_spell();
+    match content {
+        LeafContent::Nothing => Ok(0),
+        LeafContent::Truth(truth) => Ok(u32::from(truth)),
+        LeafContent::Unsigned(number) => write_u64(heap, number),
+        LeafContent::Signed(number) => write_i64(heap, number),
+        LeafContent::Wide(number) => write_u128(heap, number),
+        LeafContent::Text(text) => write_text(heap, text),
+        LeafContent::Bytes(bytes) => write_bytes(heap, bytes),
+        LeafContent::Tokens(text) => write_tokenized(heap, text),
+    }
 }
 
 /// Writes a value without children, and answers its type and its address. After an error the old heap is still a front of the
@@ -201,25 +212,8 @@ pub fn write_leaf(
     ensures err { OnErr result (IsFront heap.old.items heap.new.items) }
 {
     make_room(heap, FIRST_ROOM)?;
-    match value {
-        ReferenceValueLeaf::Null => Ok((ValueType::Null, 0)),
-        ReferenceValueLeaf::Bool(truth) => Ok((ValueType::Bool, u32::from(*truth))),
-        ReferenceValueLeaf::Str(content) => Ok((ValueType::Str, write_text(heap, content)?)),
-        ReferenceValueLeaf::Facet(content) => Ok((ValueType::Facet, write_text(heap, content)?)),
-        ReferenceValueLeaf::Bytes(content) => Ok((ValueType::Bytes, write_bytes(heap, content)?)),
-        ReferenceValueLeaf::U64(number) => Ok((ValueType::U64, write_u64(heap, *number)?)),
-        ReferenceValueLeaf::I64(number) => Ok((ValueType::I64, write_i64(heap, *number)?)),
-        ReferenceValueLeaf::Date(moment) => {
-            let nanoseconds = moment.into_timestamp_nanos();
-            Ok((ValueType::Date, write_i64(heap, nanoseconds)?))
-        }
-        ReferenceValueLeaf::IpAddr(address) => {
-            Ok((ValueType::IpAddr, write_ip_addr(heap, *address)?))
-        }
-        ReferenceValueLeaf::PreTokStr(content) => {
-            Ok((ValueType::PreTokStr, write_tokenized(heap, *content)?))
-        }
-    }
+    let address = write_content(heap, value.content())?;
+    Ok((ValueType::of_leaf(value.leaf_type()), address))
 }
 
 /// Writes a value behind its children, and answers its type and its address. The places of children whose list is not yet
