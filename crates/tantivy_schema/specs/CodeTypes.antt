@@ -21,7 +21,7 @@ pub use Rattle.tv_reader.specs.declared.error.DeserializeError
 pub use Rattle.tv_field.specs.declared.value_parsing_error.ParseCause
 pub use Rattle.tv_field.specs.declared.value_parsing_error.ValueParsingError
 pub use Rattle.tv_store.specs.declared.error.SerializeError
-pub use Rattle.tv_reader.specs.declared.error.ValueType
+pub use Rattle.tv_reader.specs.declared.value_type.ValueType
 pub use Rattle.tv_term.specs.declared.term_error.TermError
 pub use Rattle.tv_value.specs.declared.json_error.JsonError
 -- what schemas are made of
@@ -53,7 +53,7 @@ pub use Rattle.tv_value.specs.declared.tokenizer.PreTokenizedString
 pub use Rattle.tv_value.specs.declared.tokenizer.Token
 pub use Rattle.tv_value.specs.declared.value.ReferenceValue
 pub use Rattle.tv_typed.specs.declared.store_reader.StoreReader
-pub use Rattle.tv_typed.specs.declared.value_deserializer.BinaryValueDeserializer
+pub use Rattle.tv_typed.specs.declared.de.BinaryValueDeserializer
 pub use Rattle.tv_typed.specs.declared.array.BinaryArrayDeserializer
 pub use Rattle.tv_typed.specs.declared.object.BinaryObjectDeserializer
 pub use Rattle.tv_typed.specs.declared.document.BinaryDocumentDeserializer

@@ -10,7 +10,7 @@ use Rattle.tv_reader.specs.Error.IsRefusal.{is_corrupted, is_no_text}
 use Rattle.tv_reader.specs.ValueType.{type_code}
 use Rattle.tv_reader.specs.declared.error.DeserializeError.{DeserializeError}
 use Rattle.tv_reader.specs.declared.error.DeserializeError.TheVariants as errors
-use Rattle.tv_reader.specs.declared.error.ValueType.{ValueType}
+use Rattle.tv_reader.specs.declared.value_type.ValueType.{ValueType}
 use Rattle.tv_store.specs.Documents.{Answers, IsReadingError}
 use Rattle.tv_value.specs.Fault.{Refusal, corrupted, no_text_key}
 use Rattle.tv_value.specs.Tree.{Document}

@@ -1,58 +1,34 @@
 -- Reading the type of a value agrees with its codes.
-use Rattle.std.proofs.Common.{◌≡◌, ◌≢◌, ◌<◌, ℕ, zero, suc, false, eqb, List, [], ◌∷◌, ◌++◌, Ok, Err, refl, sym, ap, subst, ◌∙◌, arith, inl, inr}
-use Rattle.std.proofs.lemmas.Bool.Decides.{eqb_tells}
+use Rattle.std.proofs.Common.{◌≡◌, ◌≢◌, ◌<◌, if◌then◌else◌, ℕ, zero, suc, Bool, true, false, eqb, List, [], ◌∷◌, ◌++◌, Option, Some, None, Result, Ok, Err, refl, sym, ap, subst, ◌∙◌, arith, inl, inr}
 use Rattle.tv_base.specs.declared.cause.Cause.{Cause}
 use Rattle.tv_base.specs.declared.cause.Cause.TheVariants.{UnexpectedEnd, UnknownTypeCode, FloatCode, UnknownExtCode}
 use Rattle.tv_base.specs.Reading.{u8_at}
 use Rattle.tv_base.proofs.Agrees.{Agrees, Shown, ok_is, err_is, no_ok, same_start}
 use Rattle.tv_base.proofs.AgreeWidths.{ended_shown}
-use Rattle.tv_reader.specs.declared.error.ValueType.{ValueType}
-use Rattle.tv_reader.specs.declared.error.ValueType.TheVariants as types
-use Rattle.tv_reader.specs.Kinds.{extension_of, extension_at, kind_of, kind_at}
-use Rattle.tv_reader.specs.ValueType.{coded, IsCoded, CodeFault, no_code, unknown_type, float_type, no_extension_code, unknown_extension}
+use Rattle.tv_reader.specs.declared.value_type.ValueType.{ValueType}
+use Rattle.tv_reader.specs.declared.value_type.ValueType.TheVariants as types
+use Rattle.tv_reader.specs.Kinds.{extension_of, extension_at, known_kind, kind_of, kind_at}
+use Rattle.tv_reader.specs.ValueType.{type_code, type_with, coded, IsCoded, CodeFault, no_code, unknown_type, float_type, no_extension_code, unknown_extension}
+use Rattle.tv_reader.proofs.Codes.{differs, above, no_type}
 
-differs : (m n : ℕ) → n < m → eqb m n ≡ false
-differs m n h = elim (eqb_tells m n) [ inl p ↦ absurd (omega (arith, h, p.1)) | inr p ↦ p.0 ]
+passes : {A : Type 0} (test : Bool) (x y : A) → test ≡ false → (if test then x else y) ≡ y
+passes true x y e = absurd (let f : true ≡ false = e in cc)
+passes false x y e = refl
 
 -- a code above the largest
 far : (code : ℕ) (bytes : List ℕ) → 13 < code → kind_of code bytes ≡ Err (UnknownTypeCode code, bytes)
 far code bytes h =
-    rw (
-      differs code 0 (omega (arith, h)),
-      differs code 1 (omega (arith, h)),
-      differs code 2 (omega (arith, h)),
-      differs code 3 (omega (arith, h)),
-      differs code 4 (omega (arith, h)),
-      differs code 5 (omega (arith, h)),
-      differs code 6 (omega (arith, h)),
-      differs code 7 (omega (arith, h)),
-      differs code 8 (omega (arith, h)),
-      differs code 9 (omega (arith, h)),
-      differs code 10 (omega (arith, h)),
-      differs code 11 (omega (arith, h)),
-      differs code 12 (omega (arith, h)),
-      differs code 13 (omega (arith, h)),
-    )
-    refl
+    let known = known_kind code bytes (type_with code) in
+    let no_float : Result (ValueType × List ℕ) (Cause × List ℕ) = if eqb code 6 then Err (FloatCode, bytes) else known in
+    passes (eqb code 7) (extension_at bytes) no_float (above code 7 (omega (arith, h))) ∙ passes (eqb code 6) (Err (FloatCode, bytes)) known (above code 6 (omega (arith, h))) ∙ ap (known_kind code bytes) (no_type code h)
 
 extension_far : (code : ℕ) (bytes : List ℕ) → code ≢ 0 → extension_of code bytes ≡ Err (UnknownExtCode code, bytes)
-extension_far code bytes h = rw (differs code 0 (omega (arith, h))) refl
+extension_far code bytes h = rw (differs code 0 h) refl
 
 pub known_read : (k : ValueType) (rest : List ℕ) → kind_at (coded k ++ rest) ≡ Ok (k, rest)
 unfolding kind_at extension_at u8_at
-known_read types.String rest = refl
-known_read types.U64 rest = refl
-known_read types.I64 rest = refl
-known_read types.Facet rest = refl
-known_read types.Bytes rest = refl
-known_read types.DateTime rest = refl
 known_read types.PreTokStr rest = refl
-known_read types.JSONObject rest = refl
-known_read types.Bool rest = refl
-known_read types.IpAddr rest = refl
-known_read types.Null rest = refl
-known_read types.Array rest = refl
-known_read types.Object rest = refl
+known_read _ rest = refl
 
 -- a code tells the type, and where what is behind it begins
 pub same_coded : (k l : ValueType) (a b : List ℕ) → coded k ++ a ≡ coded l ++ b → (k ≡ l) × (a ≡ b)
@@ -73,19 +49,8 @@ extension_early code start byte last = ap kind_at (same_start start (7 ∷ []) b
 
 -- without its last byte a code is at its end
 coded_early : (k : ValueType) (start : List ℕ) (byte : ℕ) → coded k ≡ start ++ byte ∷ [] → kind_at start ≡ Err (UnexpectedEnd, [])
-coded_early types.String start byte last = one_early 0 start byte last
-coded_early types.U64 start byte last = one_early 1 start byte last
-coded_early types.I64 start byte last = one_early 2 start byte last
-coded_early types.Facet start byte last = one_early 3 start byte last
-coded_early types.Bytes start byte last = one_early 4 start byte last
-coded_early types.DateTime start byte last = one_early 5 start byte last
 coded_early types.PreTokStr start byte last = extension_early 0 start byte last
-coded_early types.JSONObject start byte last = one_early 8 start byte last
-coded_early types.Bool start byte last = one_early 9 start byte last
-coded_early types.IpAddr start byte last = one_early 10 start byte last
-coded_early types.Null start byte last = one_early 11 start byte last
-coded_early types.Array start byte last = one_early 12 start byte last
-coded_early types.Object start byte last = one_early 13 start byte last
+coded_early kind start byte last = one_early (type_code kind) start byte last
 
 -- bytes begin with the code of a type, or are at fault there
 data Coding (bytes : List ℕ) : Type 0 where
@@ -127,22 +92,15 @@ float_coding : (rest : List ℕ) → Coding (6 ∷ rest)
 unfolding kind_at u8_at
 float_coding rest = faulty_byte 6 rest FloatCode (λ e. cc) refl refl float_type
 
+abbrev kind_or_string : Option ValueType → ValueType
+kind_or_string (Some kind) = kind
+kind_or_string None = types.String
+
 code_coding : (code : ℕ) (rest : List ℕ) → Coding (code ∷ rest)
-code_coding zero rest = known types.String rest refl
-code_coding (suc zero) rest = known types.U64 rest refl
-code_coding (suc (suc zero)) rest = known types.I64 rest refl
-code_coding (suc (suc (suc zero))) rest = known types.Facet rest refl
-code_coding (suc (suc (suc (suc zero)))) rest = known types.Bytes rest refl
-code_coding (suc (suc (suc (suc (suc zero))))) rest = known types.DateTime rest refl
 code_coding (suc (suc (suc (suc (suc (suc zero)))))) rest = float_coding rest
 code_coding (suc (suc (suc (suc (suc (suc (suc zero))))))) rest = extension_coding rest
-code_coding (suc (suc (suc (suc (suc (suc (suc (suc zero)))))))) rest = known types.JSONObject rest refl
-code_coding (suc (suc (suc (suc (suc (suc (suc (suc (suc zero))))))))) rest = known types.Bool rest refl
-code_coding (suc (suc (suc (suc (suc (suc (suc (suc (suc (suc zero)))))))))) rest = known types.IpAddr rest refl
-code_coding (suc (suc (suc (suc (suc (suc (suc (suc (suc (suc (suc zero))))))))))) rest = known types.Null rest refl
-code_coding (suc (suc (suc (suc (suc (suc (suc (suc (suc (suc (suc (suc zero)))))))))))) rest = known types.Array rest refl
-code_coding (suc (suc (suc (suc (suc (suc (suc (suc (suc (suc (suc (suc (suc zero))))))))))))) rest = known types.Object rest refl
 code_coding (suc (suc (suc (suc (suc (suc (suc (suc (suc (suc (suc (suc (suc (suc n)))))))))))))) rest = far_coding (suc (suc (suc (suc (suc (suc (suc (suc (suc (suc (suc (suc (suc (suc n)))))))))))))) rest (omega arith)
+code_coding code rest = known (kind_or_string (type_with code)) rest refl
 
 coding : (bytes : List ℕ) → Coding bytes
 coding [] = faulty UnexpectedEnd [] nothing_read no_code (ended_shown kind_at [] [] UnexpectedEnd nothing_read nothing_read)

@@ -1,5 +1,5 @@
 -- Readings of values that hold no others agree with their grammar.
-use Rattle.std.proofs.Common.{◌≡◌, ◌⊎◌, ℕ, Bool, true, false, List, [], ◌++◌, length, Result, Ok, Err, refl, sym, ap, subst, ◌∙◌, arith, append_assoc, inl, inr}
+use Rattle.std.proofs.Common.{◌≡◌, ◌⊎◌, ℕ, Bool, true, false, List, [], ◌++◌, length, Option, Some, None, Result, Ok, Err, refl, sym, ap, subst, ◌∙◌, arith, append_assoc, inl, inr}
 use Rattle.std.specs.Prelude.{ℤ, pos, negsuc, ◌*ℤ◌, ◌≤ℤ◌, ◌<ℤ◌, FitsSigned}
 use Rattle.std.specs.Int.{w64}
 use Rattle.std.specs.Int.Signed.{lt_z}
@@ -18,14 +18,20 @@ use Rattle.tv_base.proofs.AgreeWidths.{bytes_fault, u64_agrees, u128_agrees, i64
 use Rattle.tv_base.proofs.AgreeNumbers.{vint_agrees}
 use Rattle.tv_base.proofs.AgreeParts.{sized_agrees, text_agrees, each_agrees}
 use Rattle.tv_base.proofs.AgreeTruth.{truth_agrees}
-use Rattle.tv_value.specs.Fault.{TokenFault, TokenizedFault, DateFault, MicrosecondsFault, date_ends, date_range}
+use Rattle.tv_value.specs.Content.{no_content, truth_content, unsigned_content, signed_content, wide_content, text_content, bytes_content, tokens_content}
+use Rattle.tv_value.specs.Fault.{TokenFault, TokenizedFault, ScaledFault, DateFault, MicrosecondsFault, date_ends, date_range}
+use Rattle.tv_value.specs.Leaves.{form, scale}
 use Rattle.tv_value.specs.Spelling.{TokenSpelling}
-use Rattle.tv_value.specs.Tree.{Token, leaf, null, text, unsigned, signed, boolean, date, facet, bytes, ip_address, tokenized}
-use Rattle.tv_value.specs.Version.{Version, V1, V2, V3, Date, Microseconds}
-use Rattle.tv_reader.specs.LeafBodies.{TokenizedPair, LeafOf, LeafOfFault}
-use Rattle.tv_reader.specs.Leaves.{micros_of, date_at, offsets_at, named_at, placed_at, token_at, tokens_at, counted_tokens_at, tokenized_at, leaf_at}
-use Rattle.tv_reader.specs.declared.error.ValueType.{ValueType}
-use Rattle.tv_reader.specs.declared.error.ValueType.TheVariants as types
+use Rattle.tv_value.specs.Tree.{Token, leaf}
+use Rattle.tv_value.specs.Version.{Version, V1, V2, V3, Date, Microseconds, Scaled}
+use Rattle.tv_value.specs.declared.content.Form.{Form}
+use Rattle.tv_value.specs.declared.content.Form.TheVariants as forms
+use Rattle.tv_value.specs.declared.leaf.LeafType.{LeafType}
+use Rattle.tv_value.specs.declared.leaf.LeafType.TheVariants as leaves
+use Rattle.tv_reader.specs.LeafBodies.{TokenizedPair, Held, HeldFault, LeafOfType, LeafOfTypeFault, LeafOf, LeafOfFault}
+use Rattle.tv_reader.specs.Leaves.{micros_of, date_at, offsets_at, named_at, placed_at, token_at, tokens_at, counted_tokens_at, tokenized_at, leaf_holding, number_at, content_at, leaf_of_type, leaf_at}
+use Rattle.tv_reader.specs.ValueType.{leaf_type}
+use Rattle.tv_reader.specs.declared.value_type.ValueType.{ValueType}
 
 -- ---- dates
 
@@ -282,18 +288,24 @@ tokenized_agrees = agrees_too (λ whole. refl) tokenized_to tokenized_from (λ w
 
 -- ---- leaves
 
+pub number_agrees : (v : Version) (t : LeafType) → Agrees UnexpectedEnd (number_at v t) (Scaled (scale v t)) (λ whole c. ScaledFault (scale v t) whole c)
+number_agrees v leaves.Date = date_agrees v
+number_agrees v _ = i64_agrees
+
+held_agrees : (v : Version) (t : LeafType) (f : Form) → Agrees UnexpectedEnd (content_at v t f) (Held v t f) (HeldFault v t f)
+held_agrees v t forms.Nothing = nothing_read UnexpectedEnd (leaf (leaf_holding t no_content))
+held_agrees v t forms.Truth = made (λ x. leaf (leaf_holding t (truth_content x))) truth_agrees
+held_agrees v t forms.Unsigned = made (λ x. leaf (leaf_holding t (unsigned_content x))) u64_agrees
+held_agrees v t forms.Signed = made (λ x. leaf (leaf_holding t (signed_content x))) (number_agrees v t)
+held_agrees v t forms.Wide = made (λ x. leaf (leaf_holding t (wide_content x))) u128_agrees
+held_agrees v t forms.Text = made (λ x. leaf (leaf_holding t (text_content x))) text_agrees
+held_agrees v t forms.Bytes = made (λ x. leaf (leaf_holding t (bytes_content x))) sized_agrees
+held_agrees v t forms.Tokens = made (λ x. leaf (leaf_holding t (tokens_content x.0 x.1))) tokenized_agrees
+
+type_agrees : (v : Version) (o : Option LeafType) → Agrees UnexpectedEnd (leaf_of_type v o) (LeafOfType v o) (LeafOfTypeFault v o)
+type_agrees v (Some t) = held_agrees v t (form t)
+type_agrees v None = nothing_stands LegacyJson (λ e. cc)
+
 pub leaf_agrees : (v : Version) (kind : ValueType) → Agrees UnexpectedEnd (leaf_at v kind) (LeafOf v kind) (LeafOfFault v kind)
 unfolding leaf_at
-leaf_agrees v types.String = made (λ x. leaf (text x)) text_agrees
-leaf_agrees v types.U64 = made (λ x. leaf (unsigned x)) u64_agrees
-leaf_agrees v types.I64 = made (λ x. leaf (signed x)) i64_agrees
-leaf_agrees v types.Facet = made (λ x. leaf (facet x)) text_agrees
-leaf_agrees v types.Bytes = made (λ x. leaf (bytes x)) sized_agrees
-leaf_agrees v types.DateTime = made (λ x. leaf (date x)) (date_agrees v)
-leaf_agrees v types.PreTokStr = made (λ x. leaf (tokenized x.0 x.1)) tokenized_agrees
-leaf_agrees v types.Bool = made (λ x. leaf (boolean x)) truth_agrees
-leaf_agrees v types.IpAddr = made (λ x. leaf (ip_address x)) u128_agrees
-leaf_agrees v types.Null = nothing_read UnexpectedEnd (leaf null)
-leaf_agrees v types.JSONObject = nothing_stands LegacyJson (λ e. cc)
-leaf_agrees v types.Array = nothing_stands LegacyJson (λ e. cc)
-leaf_agrees v types.Object = nothing_stands LegacyJson (λ e. cc)
+leaf_agrees v kind = type_agrees v (leaf_type kind)

@@ -1,5 +1,5 @@
 -- How the type of a value and what stands behind it make the value.
-use Rattle.std.proofs.Common.{◌≡◌, ◌≢◌, ℕ, true, false, List, [], ◌∷◌, ◌++◌, Result, Ok, refl, sym, subst, ◌∙◌, arith}
+use Rattle.std.proofs.Common.{◌≡◌, ◌≢◌, ℕ, true, false, List, [], ◌∷◌, ◌++◌, Option, Some, None, Result, Ok, refl, sym, subst, ◌∙◌, arith}
 use Rattle.tv_base.specs.declared.cause.Cause.{Cause}
 use Rattle.tv_base.specs.declared.cause.Cause.TheVariants.{UnexpectedEnd}
 use Rattle.tv_base.specs.Source.{AllBytes, Faults}
@@ -16,10 +16,10 @@ use Rattle.tv_reader.specs.Kinds.{kind_at}
 use Rattle.tv_reader.specs.LeafBodies.{LeafOf, LeafOfFault}
 use Rattle.tv_reader.specs.Leaves.{is_leaf_type}
 use Rattle.tv_reader.specs.Trees.{NoValue}
-use Rattle.tv_reader.specs.ValueType.{type_code, coded, CodeFault, no_code, unknown_type, float_type, no_extension_code, unknown_extension}
+use Rattle.tv_reader.specs.ValueType.{leaf_type, type_code, coded, CodeFault, no_code, unknown_type, float_type, no_extension_code, unknown_extension}
 use Rattle.tv_reader.specs.declared.error.DeserializeError.{DeserializeError}
-use Rattle.tv_reader.specs.declared.error.ValueType.{ValueType}
-use Rattle.tv_reader.specs.declared.error.ValueType.TheVariants as types
+use Rattle.tv_reader.specs.declared.value_type.ValueType.{ValueType}
+use Rattle.tv_reader.specs.declared.value_type.ValueType.TheVariants as types
 use Rattle.tv_value.specs.declared.leaf.LeafType.{LeafType}
 use Rattle.tv_value.specs.declared.leaf.LeafType.TheVariants as leaves
 use Rattle.tv_reader.proofs.AgreeKinds.{kind_agrees}
@@ -32,19 +32,8 @@ end = corrupted UnexpectedEnd
 
 -- without its last byte a code is at its end
 pub kind_edge : {F : Type 0} (end : F) (Q : List ℕ → F → Type 0) → Q [] end → Q (7 ∷ []) end → (kind : ValueType) (start : List ℕ) (byte : ℕ) → coded kind ≡ start ++ byte ∷ [] → Q start end
-kind_edge end Q none seven types.String start byte last = subst (λ l. Q l end) (sym (same_start start [] byte 0 (sym last))) none
-kind_edge end Q none seven types.U64 start byte last = subst (λ l. Q l end) (sym (same_start start [] byte 1 (sym last))) none
-kind_edge end Q none seven types.I64 start byte last = subst (λ l. Q l end) (sym (same_start start [] byte 2 (sym last))) none
-kind_edge end Q none seven types.Facet start byte last = subst (λ l. Q l end) (sym (same_start start [] byte 3 (sym last))) none
-kind_edge end Q none seven types.Bytes start byte last = subst (λ l. Q l end) (sym (same_start start [] byte 4 (sym last))) none
-kind_edge end Q none seven types.DateTime start byte last = subst (λ l. Q l end) (sym (same_start start [] byte 5 (sym last))) none
 kind_edge end Q none seven types.PreTokStr start byte last = subst (λ l. Q l end) (sym (same_start start (7 ∷ []) byte 0 (sym last))) seven
-kind_edge end Q none seven types.JSONObject start byte last = subst (λ l. Q l end) (sym (same_start start [] byte 8 (sym last))) none
-kind_edge end Q none seven types.Bool start byte last = subst (λ l. Q l end) (sym (same_start start [] byte 9 (sym last))) none
-kind_edge end Q none seven types.IpAddr start byte last = subst (λ l. Q l end) (sym (same_start start [] byte 10 (sym last))) none
-kind_edge end Q none seven types.Null start byte last = subst (λ l. Q l end) (sym (same_start start [] byte 11 (sym last))) none
-kind_edge end Q none seven types.Array start byte last = subst (λ l. Q l end) (sym (same_start start [] byte 12 (sym last))) none
-kind_edge end Q none seven types.Object start byte last = subst (λ l. Q l end) (sym (same_start start [] byte 13 (sym last))) none
+kind_edge end Q none seven kind start byte last = subst (λ l. Q l end) (sym (same_start start [] byte (type_code kind) (sym last))) none
 
 -- the type was taken, and then what stands behind it
 pub finds_behind : {S Y : Type 0} {tells : S → Type 0} {left : S → List ℕ} {faults : S → Faults} {old mid new : S} {i j k : ℕ} {kind : ValueType} {result : Result Y DeserializeError} (B : List ℕ → Y → Type 0) (Q : List ℕ → Refusal → Type 0)
@@ -57,12 +46,16 @@ finds_behind {kind = kind} B Q are_bytes none seven part h =
     (λ a f is _ _ start byte last. kind_edge end Q none seven kind start byte (sym is ∙ last))
     (finds_part are_bytes kind_agrees part) h
 
+-- what a leaf of a type holds is at fault
+pub held_fault : {v : Version} {w : List ℕ} {c : Cause} (t : LeafType) → BodyFault v t w c → NoValue v (store_code t ∷ w) (corrupted c)
+held_fault t h = in_leaf (record { of_type = t; coded = refl; fault = h })
+
 pub code_value : (v : Version) (w : List ℕ) (c : Cause) → CodeFault w c → NoValue v w (corrupted c)
 code_value v _ _ no_code = value_ends
 code_value v _ _ (unknown_type h) = unknown_code h
 code_value v _ _ float_type = float_code
-code_value v _ _ no_extension_code = in_leaf (no_extension refl)
-code_value v _ _ (unknown_extension {rest = rest} h) = in_leaf (other_extension rest refl h)
+code_value v _ _ no_extension_code = held_fault leaves.PreTokStr (no_extension refl)
+code_value v _ _ (unknown_extension {rest = rest} h) = held_fault leaves.PreTokStr (other_extension rest refl h)
 
 pub code_key : (w : List ℕ) (c : Cause) → CodeFault w c → CodedKeyFault w (corrupted c)
 code_key _ _ no_code = key_ends
@@ -74,73 +67,39 @@ code_key _ _ (unknown_extension h) = key_other_extension h
 -- a value of another type in a key's place
 pub other_key : (kind : ValueType) (rest : List ℕ) → kind ≢ types.String → CodedKeyFault (coded kind ++ rest) (no_text_key (type_code kind))
 other_key types.String rest ne = absurd (ne refl)
-other_key types.U64 rest ne = key_other (omega arith) (omega arith) (λ e. omega (arith, e)) (λ e. omega (arith, e))
-other_key types.I64 rest ne = key_other (omega arith) (omega arith) (λ e. omega (arith, e)) (λ e. omega (arith, e))
-other_key types.Facet rest ne = key_other (omega arith) (omega arith) (λ e. omega (arith, e)) (λ e. omega (arith, e))
-other_key types.Bytes rest ne = key_other (omega arith) (omega arith) (λ e. omega (arith, e)) (λ e. omega (arith, e))
-other_key types.DateTime rest ne = key_other (omega arith) (omega arith) (λ e. omega (arith, e)) (λ e. omega (arith, e))
 other_key types.PreTokStr rest ne = key_tokenized
-other_key types.JSONObject rest ne = key_other (omega arith) (omega arith) (λ e. omega (arith, e)) (λ e. omega (arith, e))
-other_key types.Bool rest ne = key_other (omega arith) (omega arith) (λ e. omega (arith, e)) (λ e. omega (arith, e))
-other_key types.IpAddr rest ne = key_other (omega arith) (omega arith) (λ e. omega (arith, e)) (λ e. omega (arith, e))
-other_key types.Null rest ne = key_other (omega arith) (omega arith) (λ e. omega (arith, e)) (λ e. omega (arith, e))
-other_key types.Array rest ne = key_other (omega arith) (omega arith) (λ e. omega (arith, e)) (λ e. omega (arith, e))
-other_key types.Object rest ne = key_other (omega arith) (omega arith) (λ e. omega (arith, e)) (λ e. omega (arith, e))
+other_key _ rest ne = key_other (omega arith) (omega arith) (λ e. omega (arith, e)) (λ e. omega (arith, e))
 
 -- ---- leaves
 
 pub leaf_spelled : (v : Version) (kind : ValueType) (a : List ℕ) (t : Tree) → LeafOf v kind a t → Spells Legacy v (coded kind ++ a) t
-leaf_spelled v types.String a t p = subst (Spells Legacy v (0 ∷ a)) (sym p.2) (record { body = a; joined = refl; spelled = p.1 })
-leaf_spelled v types.U64 a t p = subst (Spells Legacy v (1 ∷ a)) (sym p.2) (record { body = a; joined = refl; spelled = p.1 })
-leaf_spelled v types.I64 a t p = subst (Spells Legacy v (2 ∷ a)) (sym p.2) (record { body = a; joined = refl; spelled = p.1 })
-leaf_spelled v types.Facet a t p = subst (Spells Legacy v (3 ∷ a)) (sym p.2) (record { body = a; joined = refl; spelled = p.1 })
-leaf_spelled v types.Bytes a t p = subst (Spells Legacy v (4 ∷ a)) (sym p.2) (record { body = a; joined = refl; spelled = p.1 })
-leaf_spelled v types.DateTime a t p = subst (Spells Legacy v (5 ∷ a)) (sym p.2) (record { body = a; joined = refl; spelled = p.1 })
 leaf_spelled v types.PreTokStr a t p = subst (Spells Legacy v (7 ∷ 0 ∷ a)) (sym p.2) (record { body = 0 ∷ a; joined = refl; spelled = record { body = a; joined = refl; spelled = p.1 } })
 leaf_spelled v types.JSONObject a t p = absurd p
-leaf_spelled v types.Bool a t p = subst (Spells Legacy v (9 ∷ a)) (sym p.2) (record { body = a; joined = refl; spelled = p.1 })
-leaf_spelled v types.IpAddr a t p = subst (Spells Legacy v (10 ∷ a)) (sym p.2) (record { body = a; joined = refl; spelled = p.1 })
 leaf_spelled v types.Null a t p = subst (Spells Legacy v (11 ∷ a)) (sym p.1) (record { body = a; joined = refl; spelled = p.0 })
 leaf_spelled v types.Array a t p = absurd p
 leaf_spelled v types.Object a t p = absurd p
-
--- what a leaf of a type holds is at fault
-pub held_fault : {v : Version} {w : List ℕ} {c : Cause} (t : LeafType) → BodyFault v t w c → NoValue v (store_code t ∷ w) (corrupted c)
-held_fault t h = in_leaf (record { of_type = t; coded = refl; fault = h })
+leaf_spelled v kind a t p = subst (Spells Legacy v (coded kind ++ a)) (sym p.2) (record { body = a; joined = refl; spelled = p.1 })
 
 impossible : false ≡ true → ⊥
 impossible e = absurd cc
 
+abbrev pub type_or_text : Option LeafType → LeafType
+type_or_text (Some t) = t
+type_or_text None = leaves.Str
+
 pub leaf_refused : (v : Version) (kind : ValueType) → is_leaf_type kind ≡ true → (w : List ℕ) (c : Cause) → LeafOfFault v kind w c → NoValue v (coded kind ++ w) (corrupted c)
-leaf_refused v types.String is w c h = held_fault leaves.Str h
-leaf_refused v types.U64 is w c h = held_fault leaves.U64 h
-leaf_refused v types.I64 is w c h = held_fault leaves.I64 h
-leaf_refused v types.Facet is w c h = held_fault leaves.Facet h
-leaf_refused v types.Bytes is w c h = held_fault leaves.Bytes h
-leaf_refused v types.DateTime is w c h = held_fault leaves.Date h
 leaf_refused v types.PreTokStr is w c h = held_fault leaves.PreTokStr (in_tokenized w refl h)
 leaf_refused v types.JSONObject is w c h = absurd (impossible is)
-leaf_refused v types.Bool is w c h = held_fault leaves.Bool h
-leaf_refused v types.IpAddr is w c h = held_fault leaves.IpAddr h
-leaf_refused v types.Null is w c h = absurd h
 leaf_refused v types.Array is w c h = absurd (impossible is)
 leaf_refused v types.Object is w c h = absurd (impossible is)
+leaf_refused v kind is w c h = held_fault (type_or_text (leaf_type kind)) h
 
 -- all types but those of three
-pub leaf_type : (kind : ValueType) → kind ≢ types.Array → kind ≢ types.Object → kind ≢ types.JSONObject → is_leaf_type kind ≡ true
-leaf_type types.String a b c = refl
-leaf_type types.U64 a b c = refl
-leaf_type types.I64 a b c = refl
-leaf_type types.Facet a b c = refl
-leaf_type types.Bytes a b c = refl
-leaf_type types.DateTime a b c = refl
-leaf_type types.PreTokStr a b c = refl
-leaf_type types.JSONObject a b c = absurd (c refl)
-leaf_type types.Bool a b c = refl
-leaf_type types.IpAddr a b c = refl
-leaf_type types.Null a b c = refl
-leaf_type types.Array a b c = absurd (a refl)
-leaf_type types.Object a b c = absurd (b refl)
+pub is_leaf : (kind : ValueType) → kind ≢ types.Array → kind ≢ types.Object → kind ≢ types.JSONObject → is_leaf_type kind ≡ true
+is_leaf types.JSONObject a b c = absurd (c refl)
+is_leaf types.Array a b c = absurd (a refl)
+is_leaf types.Object a b c = absurd (b refl)
+is_leaf _ a b c = refl
 
 -- ---- no bytes
 

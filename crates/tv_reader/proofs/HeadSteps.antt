@@ -1,36 +1,41 @@
 -- How the type of a value and what is taken behind it make its head.
-use Rattle.std.proofs.Common.{◌≡◌, ◌≢◌, ℕ, List, [], ◌∷◌, ◌++◌, Ok, Err, refl, sym, ap, subst, inl}
+use Rattle.std.proofs.Common.{◌≡◌, ◌≢◌, ℕ, List, [], ◌∷◌, ◌++◌, Option, Some, None, Ok, Err, refl, sym, ap, subst, inl}
 use Rattle.tv_base.specs.declared.cause.Cause.{Cause}
 use Rattle.tv_base.specs.declared.cause.Cause.TheVariants.{UnexpectedEnd}
 use Rattle.tv_base.specs.declared.read_error.ReadError.{ReadError}
-use Rattle.tv_base.specs.Number.{VNum, Fixed, Signed, Truth}
-use Rattle.tv_base.specs.PartFault.{NumberFault, BytesFault, TruthFault, in_sized}
+use Rattle.tv_base.specs.Number.{VNum, Fixed, Truth}
+use Rattle.tv_base.specs.PartFault.{NumberFault, in_sized}
 use Rattle.tv_base.specs.Reading.{vint_at}
 use Rattle.tv_base.specs.Source.{AllBytes, Faults}
 use Rattle.tv_base.specs.Take as reads
 use Rattle.tv_base.proofs.Agrees.{Agrees, made, nothing_read}
 use Rattle.tv_base.proofs.AgreeNumbers.{vint_agrees}
 use Rattle.tv_base.proofs.AgreeTruth.{truth_agrees}
-use Rattle.tv_base.proofs.AgreeWidths.{u64_agrees, u128_agrees, i64_agrees}
-use Rattle.tv_value.specs.Fault.{Refusal, corrupted, no_text_key, DateFault, no_extension, CodedKeyFault, key_ends, key_no_extension, in_key, value_ends, in_count}
-use Rattle.tv_value.specs.Tree.{null, unsigned, signed, boolean, date, ip_address}
-use Rattle.tv_value.specs.Version.{Version, Date}
+use Rattle.tv_base.proofs.AgreeWidths.{u64_agrees, u128_agrees}
+use Rattle.tv_value.specs.Content.{no_content, truth_content, unsigned_content, signed_content, wide_content}
+use Rattle.tv_value.specs.Fault.{Refusal, corrupted, no_text_key, ContentFault, no_extension, CodedKeyFault, key_ends, key_no_extension, in_key, value_ends, in_count}
+use Rattle.tv_value.specs.Leaves.{form, scale}
+use Rattle.tv_value.specs.Version.{Version, Scaled}
 use Rattle.tv_reader.specs.Error.{read_error, store_stop}
 use Rattle.tv_reader.specs.Finds.{Finds}
-use Rattle.tv_reader.specs.HeadReading.{head_part, head_at}
-use Rattle.tv_reader.specs.Heads.{HeadPart, leaf_head, text_head, facet_head, bytes_head, array_head, object_head, tokenized_head, legacy_head, SpellsHead, CodedLength}
+use Rattle.tv_reader.specs.HeadReading.{head_part, form_head_at, type_head_at, head_at}
+use Rattle.tv_reader.specs.Heads.{HeadPart, leaf_head, length_head, array_head, object_head, tokenized_head, legacy_head, SpellsHead, CodedLength}
 use Rattle.tv_reader.specs.Kinds.{kind_at}
+use Rattle.tv_reader.specs.Leaves.{leaf_holding}
 use Rattle.tv_reader.specs.Trees.{NoValue, SpellsTwice, TwiceFault}
-use Rattle.tv_reader.specs.ValueType.{type_code, coded}
+use Rattle.tv_reader.specs.ValueType.{leaf_type, type_code, coded}
 use Rattle.tv_reader.specs.Version.{version_of}
 use Rattle.tv_reader.specs.declared.error.DeserializeError.TheVariants as errors
-use Rattle.tv_reader.specs.declared.error.ValueType.{ValueType}
-use Rattle.tv_reader.specs.declared.error.ValueType.TheVariants as types
+use Rattle.tv_reader.specs.declared.value_type.ValueType.{ValueType}
+use Rattle.tv_reader.specs.declared.value_type.ValueType.TheVariants as types
 use Rattle.tv_reader.specs.declared.heads.Head.{Head}
 use Rattle.tv_reader.specs.declared.version.DocStoreVersion.{DocStoreVersion}
+use Rattle.tv_value.specs.declared.content.Form.{Form}
+use Rattle.tv_value.specs.declared.content.Form.TheVariants as forms
+use Rattle.tv_value.specs.declared.leaf.LeafType.{LeafType}
 use Rattle.tv_value.specs.declared.leaf.LeafType.TheVariants as leaves
-use Rattle.tv_reader.proofs.AgreeLeaves.{date_agrees}
-use Rattle.tv_reader.proofs.BehindKinds.{finds_behind, other_key, held_fault}
+use Rattle.tv_reader.proofs.AgreeLeaves.{number_agrees}
+use Rattle.tv_reader.proofs.BehindKinds.{finds_behind, other_key, held_fault, type_or_text}
 use Rattle.tv_reader.proofs.Finding.{finds_as, finds_part, finds_part_fails, finds_refused}
 use Rattle.tv_reader.proofs.TreeSteps.{half_agrees, twice_refused, total}
 
@@ -45,84 +50,85 @@ HeadOf {A} R make whole h = (x : A) × R whole x × (h ≡ make x)
 abbrev Alone : HeadPart → List ℕ → HeadPart → Type 0
 Alone part whole h = (whole ≡ []) × (h ≡ part)
 
+-- of a leaf, by the form of what it holds
+abbrev FormHead : Version → LeafType → Form → List ℕ → HeadPart → Type 0
+FormHead v t forms.Nothing = Alone (leaf_head (leaf_holding t no_content))
+FormHead v t forms.Truth = HeadOf Truth (λ x. leaf_head (leaf_holding t (truth_content x)))
+FormHead v t forms.Unsigned = HeadOf (Fixed 8) (λ x. leaf_head (leaf_holding t (unsigned_content x)))
+FormHead v t forms.Signed = HeadOf (Scaled (scale v t)) (λ x. leaf_head (leaf_holding t (signed_content x)))
+FormHead v t forms.Wide = HeadOf (Fixed 16) (λ x. leaf_head (leaf_holding t (wide_content x)))
+FormHead v t forms.Text = HeadOf VNum (length_head t)
+FormHead v t forms.Bytes = HeadOf VNum (length_head t)
+FormHead v t forms.Tokens = Alone tokenized_head
+
+abbrev FormHeadFault : Version → LeafType → Form → List ℕ → Cause → Type 0
+FormHeadFault v t forms.Text = NumberFault
+FormHeadFault v t forms.Bytes = NumberFault
+FormHeadFault v t forms.Tokens = λ whole c. ⊥
+FormHeadFault v t f = ContentFault (scale v t) f
+
+form_head_agrees : (v : Version) (t : LeafType) (f : Form) → Agrees UnexpectedEnd (form_head_at v t f) (FormHead v t f) (FormHeadFault v t f)
+form_head_agrees v t forms.Nothing = nothing_read UnexpectedEnd (leaf_head (leaf_holding t no_content))
+form_head_agrees v t forms.Truth = made (λ x. leaf_head (leaf_holding t (truth_content x))) truth_agrees
+form_head_agrees v t forms.Unsigned = made (λ x. leaf_head (leaf_holding t (unsigned_content x))) u64_agrees
+form_head_agrees v t forms.Signed = made (λ x. leaf_head (leaf_holding t (signed_content x))) (number_agrees v t)
+form_head_agrees v t forms.Wide = made (λ x. leaf_head (leaf_holding t (wide_content x))) u128_agrees
+form_head_agrees v t forms.Text = made (length_head t) vint_agrees
+form_head_agrees v t forms.Bytes = made (length_head t) vint_agrees
+form_head_agrees v t forms.Tokens = nothing_read UnexpectedEnd tokenized_head
+
+abbrev TypeHead : Version → Option LeafType → List ℕ → HeadPart → Type 0
+TypeHead v (Some t) = FormHead v t (form t)
+TypeHead v None = Alone legacy_head
+
+abbrev TypeHeadFault : Version → Option LeafType → List ℕ → Cause → Type 0
+TypeHeadFault v (Some t) = FormHeadFault v t (form t)
+TypeHeadFault v None = λ whole c. ⊥
+
+type_head_agrees : (v : Version) (o : Option LeafType) → Agrees UnexpectedEnd (type_head_at v o) (TypeHead v o) (TypeHeadFault v o)
+type_head_agrees v (Some t) = form_head_agrees v t (form t)
+type_head_agrees v None = nothing_read UnexpectedEnd legacy_head
+
 abbrev Body : Version → ValueType → List ℕ → HeadPart → Type 0
-Body v types.String = HeadOf VNum text_head
-Body v types.U64 = HeadOf (Fixed 8) (λ x. leaf_head (unsigned x))
-Body v types.I64 = HeadOf Signed (λ x. leaf_head (signed x))
-Body v types.Facet = HeadOf VNum facet_head
-Body v types.Bytes = HeadOf VNum bytes_head
-Body v types.DateTime = HeadOf (Date v) (λ x. leaf_head (date x))
-Body v types.PreTokStr = Alone tokenized_head
-Body v types.JSONObject = Alone legacy_head
-Body v types.Bool = HeadOf Truth (λ x. leaf_head (boolean x))
-Body v types.IpAddr = HeadOf (Fixed 16) (λ x. leaf_head (ip_address x))
-Body v types.Null = Alone (leaf_head null)
 Body v types.Array = HeadOf VNum array_head
 Body v types.Object = HeadOf SpellsTwice object_head
+Body v kind = TypeHead v (leaf_type kind)
 
 abbrev BodyFault : Version → ValueType → List ℕ → Cause → Type 0
-BodyFault v types.String = NumberFault
-BodyFault v types.U64 = BytesFault 8
-BodyFault v types.I64 = BytesFault 8
-BodyFault v types.Facet = NumberFault
-BodyFault v types.Bytes = NumberFault
-BodyFault v types.DateTime = λ whole c. DateFault whole v c
-BodyFault v types.PreTokStr = λ whole c. ⊥
-BodyFault v types.JSONObject = λ whole c. ⊥
-BodyFault v types.Bool = TruthFault
-BodyFault v types.IpAddr = BytesFault 16
-BodyFault v types.Null = λ whole c. ⊥
 BodyFault v types.Array = NumberFault
 BodyFault v types.Object = TwiceFault
+BodyFault v kind = TypeHeadFault v (leaf_type kind)
 
 pub head_agrees : (v : Version) (kind : ValueType) → Agrees UnexpectedEnd (head_at v kind) (Body v kind) (BodyFault v kind)
 unfolding head_at
-head_agrees v types.String = made text_head vint_agrees
-head_agrees v types.U64 = made (λ x. leaf_head (unsigned x)) u64_agrees
-head_agrees v types.I64 = made (λ x. leaf_head (signed x)) i64_agrees
-head_agrees v types.Facet = made facet_head vint_agrees
-head_agrees v types.Bytes = made bytes_head vint_agrees
-head_agrees v types.DateTime = made (λ x. leaf_head (date x)) (date_agrees v)
-head_agrees v types.PreTokStr = nothing_read UnexpectedEnd tokenized_head
-head_agrees v types.JSONObject = nothing_read UnexpectedEnd legacy_head
-head_agrees v types.Bool = made (λ x. leaf_head (boolean x)) truth_agrees
-head_agrees v types.IpAddr = made (λ x. leaf_head (ip_address x)) u128_agrees
-head_agrees v types.Null = nothing_read UnexpectedEnd (leaf_head null)
 head_agrees v types.Array = made array_head vint_agrees
 head_agrees v types.Object = made object_head half_agrees
+head_agrees v kind = type_head_agrees v (leaf_type kind)
 
 -- ---- with the code
 
 head_spelled : (version : DocStoreVersion) (kind : ValueType) (a : List ℕ) (h : HeadPart) → Body (version_of version) kind a h → SpellsHead (version_of version) (coded kind ++ a) h
-head_spelled version types.String a h p = subst (SpellsHead (version_of version) (0 ∷ a)) (sym p.2) (record { body = a; joined = refl; spelled = p.1 })
-head_spelled version types.U64 a h p = subst (SpellsHead (version_of version) (1 ∷ a)) (sym p.2) (record { body = a; joined = refl; spelled = p.1 })
-head_spelled version types.I64 a h p = subst (SpellsHead (version_of version) (2 ∷ a)) (sym p.2) (record { body = a; joined = refl; spelled = p.1 })
-head_spelled version types.Facet a h p = subst (SpellsHead (version_of version) (3 ∷ a)) (sym p.2) (record { body = a; joined = refl; spelled = p.1 })
-head_spelled version types.Bytes a h p = subst (SpellsHead (version_of version) (4 ∷ a)) (sym p.2) (record { body = a; joined = refl; spelled = p.1 })
-head_spelled version types.DateTime a h p = subst (SpellsHead (version_of version) (5 ∷ a)) (sym p.2) (record { body = a; joined = refl; spelled = p.1 })
 head_spelled version types.PreTokStr a h p = subst (SpellsHead (version_of version) (7 ∷ 0 ∷ a)) (sym p.1) (ap (λ (l : List ℕ). 7 ∷ 0 ∷ l) p.0)
 head_spelled version types.JSONObject a h p = subst (SpellsHead (version_of version) (8 ∷ a)) (sym p.1) (ap (λ (l : List ℕ). 8 ∷ l) p.0)
-head_spelled version types.Bool a h p = subst (SpellsHead (version_of version) (9 ∷ a)) (sym p.2) (record { body = a; joined = refl; spelled = p.1 })
-head_spelled version types.IpAddr a h p = subst (SpellsHead (version_of version) (10 ∷ a)) (sym p.2) (record { body = a; joined = refl; spelled = p.1 })
-head_spelled version types.Null a h p = subst (SpellsHead (version_of version) (11 ∷ a)) (sym p.1) (record { body = a; joined = refl; spelled = p.0 })
+head_spelled version types.Null a h p = subst (SpellsHead (version_of version) (11 ∷ a)) (sym p.1) (tt, record { body = a; joined = refl; spelled = p.0 })
 head_spelled version types.Array a h p = subst (SpellsHead (version_of version) (12 ∷ a)) (sym p.2) (record { body = a; joined = refl; spelled = p.1 })
 head_spelled version types.Object a h p =
     subst (SpellsHead (version_of version) (13 ∷ a)) (sym p.2) (record { body = a; joined = refl; spelled = subst (λ n. VNum a n) (sym (total version p.0)) p.1 })
+head_spelled version kind a h p = subst (SpellsHead (version_of version) (coded kind ++ a)) (sym p.2) (tt, record { body = a; joined = refl; spelled = p.1 })
+
+-- a fault in the head of a leaf is one in what it holds
+in_content : (v : Version) (t : LeafType) (f : Form) (w : List ℕ) (c : Cause) → FormHeadFault v t f w c → ContentFault (scale v t) f w c
+in_content v t forms.Text w c h = in_sized (inl h)
+in_content v t forms.Bytes w c h = inl h
+in_content v t forms.Tokens w c h = absurd h
+in_content v t _ w c h = h
 
 head_refused : (version : DocStoreVersion) (kind : ValueType) (w : List ℕ) (c : Cause) → BodyFault (version_of version) kind w c → NoValue (version_of version) (coded kind ++ w) (corrupted c)
-head_refused version types.String w c h = held_fault leaves.Str (in_sized (inl h))
-head_refused version types.U64 w c h = held_fault leaves.U64 h
-head_refused version types.I64 w c h = held_fault leaves.I64 h
-head_refused version types.Facet w c h = held_fault leaves.Facet (in_sized (inl h))
-head_refused version types.Bytes w c h = held_fault leaves.Bytes (inl h)
-head_refused version types.DateTime w c h = held_fault leaves.Date h
 head_refused version types.PreTokStr w c h = absurd h
 head_refused version types.JSONObject w c h = absurd h
-head_refused version types.Bool w c h = held_fault leaves.Bool h
-head_refused version types.IpAddr w c h = held_fault leaves.IpAddr h
-head_refused version types.Null w c h = absurd h
 head_refused version types.Array w c h = in_count h
 head_refused version types.Object w c h = twice_refused version w c h
+head_refused version kind w c h = let t = type_or_text (leaf_type kind) in held_fault t (in_content (version_of version) t (form t) w c h)
 
 -- ---- heads
 

@@ -11,8 +11,8 @@ use Rattle.tv_value.specs.Fault.{Refusal, corrupted, no_text_key}
 use Rattle.tv_reader.specs.ValueType.{type_code}
 use Rattle.tv_reader.specs.declared.error.DeserializeError.{DeserializeError}
 use Rattle.tv_reader.specs.declared.error.DeserializeError.TheVariants as errors
-use Rattle.tv_reader.specs.declared.error.ValueType.{ValueType}
-use Rattle.tv_reader.specs.declared.error.ValueType.TheVariants as types
+use Rattle.tv_reader.specs.declared.value_type.ValueType.{ValueType}
+use Rattle.tv_reader.specs.declared.value_type.ValueType.TheVariants as types
 
 abbrev pub read_error : ReadError → DeserializeError
 read_error (reads.Corrupted c) = errors.CorruptedValue c
@@ -22,18 +22,7 @@ read_error reads.Memory = errors.Memory
 -- a value of this type stands where one of that type was expected, which is told of a key alone
 abbrev pub key_stop : ValueType → ValueType → Stop Refusal
 key_stop types.String actual = Fault (no_text_key (type_code actual))
-key_stop types.U64 actual = Never
-key_stop types.I64 actual = Never
-key_stop types.Facet actual = Never
-key_stop types.Bytes actual = Never
-key_stop types.DateTime actual = Never
-key_stop types.PreTokStr actual = Never
-key_stop types.JSONObject actual = Never
-key_stop types.Bool actual = Never
-key_stop types.IpAddr actual = Never
-key_stop types.Null actual = Never
-key_stop types.Array actual = Never
-key_stop types.Object actual = Never
+key_stop _ actual = Never
 
 -- Why a reader of documents stopped: its bytes are refused, the source failed, or there is no room.
 abbrev pub store_stop : DeserializeError → Stop Refusal

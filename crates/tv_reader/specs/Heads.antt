@@ -2,27 +2,41 @@
 use Rattle.std.specs.Prelude.{◌≡◌, ℕ, List, [], ◌∷◌}
 use Rattle.tv_base.specs.Number.{VNum}
 use Rattle.tv_base.specs.Parts.{Behind}
+use Rattle.tv_value.specs.Content.{form_of}
+use Rattle.tv_value.specs.Leaves.{content, form, store_code}
 use Rattle.tv_value.specs.Spelling.{leaf_code, LeafBody}
 use Rattle.tv_value.specs.Tree.{Leaf}
 use Rattle.tv_value.specs.Version.{Version, V1, V2, V3, entry_total}
+use Rattle.tv_value.specs.declared.content.Form.{Form}
+use Rattle.tv_value.specs.declared.content.Form.TheVariants as forms
+use Rattle.tv_value.specs.declared.leaf.LeafType.{LeafType}
 
--- a whole leaf, a length in bytes, a number of elements or of entries, or codes alone
+-- a whole leaf, the length in bytes of one, a number of elements or of entries, or codes alone
 pub data HeadPart : Type 0 where
   leaf_head : Leaf → HeadPart
-  text_head : ℕ → HeadPart
-  facet_head : ℕ → HeadPart
-  bytes_head : ℕ → HeadPart
+  length_head : LeafType → ℕ → HeadPart
   array_head : ℕ → HeadPart
   object_head : ℕ → HeadPart
   tokenized_head : HeadPart
   legacy_head : HeadPart
 
+-- what has a known width is taken whole
+abbrev pub HasWidth : Form → Type 0
+HasWidth forms.Text = ⊥
+HasWidth forms.Bytes = ⊥
+HasWidth forms.Tokens = ⊥
+HasWidth _ = Unit {0}
+
+-- of these the length is taken
+abbrev pub HasLength : Form → Type 0
+HasLength forms.Text = Unit {0}
+HasLength forms.Bytes = Unit {0}
+HasLength _ = ⊥
+
 -- the code, and what is taken behind it
 abbrev pub SpellsHead : Version → List ℕ → HeadPart → Type 0
-SpellsHead v whole (leaf_head l) = Behind (leaf_code l) (λ b. LeafBody v b l) whole
-SpellsHead v whole (text_head n) = Behind 0 (λ b. VNum b n) whole
-SpellsHead v whole (facet_head n) = Behind 3 (λ b. VNum b n) whole
-SpellsHead v whole (bytes_head n) = Behind 4 (λ b. VNum b n) whole
+SpellsHead v whole (leaf_head l) = HasWidth (form_of (content l)) × Behind (leaf_code l) (λ b. LeafBody v b l) whole
+SpellsHead v whole (length_head t n) = HasLength (form t) × Behind (store_code t) (λ b. VNum b n) whole
 SpellsHead v whole (array_head n) = Behind 12 (λ b. VNum b n) whole
 SpellsHead v whole (object_head n) = Behind 13 (λ b. VNum b (entry_total v n)) whole
 SpellsHead v whole tokenized_head = whole ≡ 7 ∷ 0 ∷ []

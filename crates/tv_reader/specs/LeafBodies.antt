@@ -1,16 +1,21 @@
 -- What stands behind the code of a value that holds no others, and what is wrong with bytes that are none.
-use Rattle.std.specs.Prelude.{◌≡◌, ℕ, List, []}
+use Rattle.std.specs.Prelude.{◌≡◌, ℕ, List, [], Option, Some, None}
 use Rattle.tv_base.specs.declared.cause.Cause.{Cause}
 use Rattle.tv_base.specs.declared.cause.Cause.TheVariants.{LegacyJson}
-use Rattle.tv_base.specs.Number.{Fixed, Signed, Truth}
+use Rattle.tv_base.specs.Number.{Fixed, Truth}
 use Rattle.tv_base.specs.Parts.{Sized, Text}
-use Rattle.tv_base.specs.PartFault.{BytesFault, SizedFault, TextFault, TruthFault}
-use Rattle.tv_value.specs.Fault.{DateFault, TokenizedFault}
+use Rattle.tv_value.specs.Content.{no_content, truth_content, unsigned_content, signed_content, wide_content, text_content, bytes_content, tokens_content}
+use Rattle.tv_value.specs.Fault.{ContentFault, TokenizedFault}
+use Rattle.tv_value.specs.Leaves.{form, scale}
 use Rattle.tv_value.specs.Spelling.{Tokenized}
-use Rattle.tv_value.specs.Tree.{Token, Tree, leaf, null, text, unsigned, signed, boolean, date, facet, bytes, ip_address, tokenized}
-use Rattle.tv_value.specs.Version.{Version, Date}
-use Rattle.tv_reader.specs.declared.error.ValueType.{ValueType}
-use Rattle.tv_reader.specs.declared.error.ValueType.TheVariants as types
+use Rattle.tv_value.specs.Tree.{Token, Tree, leaf}
+use Rattle.tv_value.specs.Version.{Version, Scaled}
+use Rattle.tv_value.specs.declared.content.Form.{Form}
+use Rattle.tv_value.specs.declared.content.Form.TheVariants as forms
+use Rattle.tv_value.specs.declared.leaf.LeafType.{LeafType}
+use Rattle.tv_reader.specs.Leaves.{leaf_holding}
+use Rattle.tv_reader.specs.ValueType.{leaf_type}
+use Rattle.tv_reader.specs.declared.value_type.ValueType.{ValueType}
 
 -- the bytes spell something of which the tree is made
 abbrev pub MadeOf : {A : Type 0} → (List ℕ → A → Type 0) → (A → Tree) → List ℕ → Tree → Type 0
@@ -20,32 +25,32 @@ MadeOf {A} R make whole t = (x : A) × R whole x × (t ≡ make x)
 abbrev pub TokenizedPair : List ℕ → List ℕ × List Token → Type 0
 TokenizedPair whole pair = Tokenized whole pair.0 pair.1
 
+-- what a leaf of a type holds, by its form
+abbrev pub Held : Version → LeafType → Form → List ℕ → Tree → Type 0
+Held v t forms.Nothing = λ whole tree. (whole ≡ []) × (tree ≡ leaf (leaf_holding t no_content))
+Held v t forms.Truth = MadeOf Truth (λ x. leaf (leaf_holding t (truth_content x)))
+Held v t forms.Unsigned = MadeOf (Fixed 8) (λ x. leaf (leaf_holding t (unsigned_content x)))
+Held v t forms.Signed = MadeOf (Scaled (scale v t)) (λ x. leaf (leaf_holding t (signed_content x)))
+Held v t forms.Wide = MadeOf (Fixed 16) (λ x. leaf (leaf_holding t (wide_content x)))
+Held v t forms.Text = MadeOf Text (λ x. leaf (leaf_holding t (text_content x)))
+Held v t forms.Bytes = MadeOf Sized (λ x. leaf (leaf_holding t (bytes_content x)))
+Held v t forms.Tokens = MadeOf TokenizedPair (λ x. leaf (leaf_holding t (tokens_content x.0 x.1)))
+
+abbrev pub LeafOfType : Version → Option LeafType → List ℕ → Tree → Type 0
+LeafOfType v (Some t) = Held v t (form t)
+LeafOfType v None = λ whole t. ⊥
+
 abbrev pub LeafOf : Version → ValueType → List ℕ → Tree → Type 0
-LeafOf v types.String = MadeOf Text (λ x. leaf (text x))
-LeafOf v types.U64 = MadeOf (Fixed 8) (λ x. leaf (unsigned x))
-LeafOf v types.I64 = MadeOf Signed (λ x. leaf (signed x))
-LeafOf v types.Facet = MadeOf Text (λ x. leaf (facet x))
-LeafOf v types.Bytes = MadeOf Sized (λ x. leaf (bytes x))
-LeafOf v types.DateTime = MadeOf (Date v) (λ x. leaf (date x))
-LeafOf v types.PreTokStr = MadeOf TokenizedPair (λ x. leaf (tokenized x.0 x.1))
-LeafOf v types.Bool = MadeOf Truth (λ x. leaf (boolean x))
-LeafOf v types.IpAddr = MadeOf (Fixed 16) (λ x. leaf (ip_address x))
-LeafOf v types.Null = λ whole t. (whole ≡ []) × (t ≡ leaf null)
-LeafOf v types.JSONObject = λ whole t. ⊥
-LeafOf v types.Array = λ whole t. ⊥
-LeafOf v types.Object = λ whole t. ⊥
+LeafOf v kind = LeafOfType v (leaf_type kind)
+
+-- the same of what is none; both codes of a text with its tokens were read
+abbrev pub HeldFault : Version → LeafType → Form → List ℕ → Cause → Type 0
+HeldFault v t forms.Tokens = TokenizedFault
+HeldFault v t f = ContentFault (scale v t) f
+
+abbrev pub LeafOfTypeFault : Version → Option LeafType → List ℕ → Cause → Type 0
+LeafOfTypeFault v (Some t) = HeldFault v t (form t)
+LeafOfTypeFault v None = λ whole c. c ≡ LegacyJson
 
 abbrev pub LeafOfFault : Version → ValueType → List ℕ → Cause → Type 0
-LeafOfFault v types.String = TextFault
-LeafOfFault v types.U64 = BytesFault 8
-LeafOfFault v types.I64 = BytesFault 8
-LeafOfFault v types.Facet = TextFault
-LeafOfFault v types.Bytes = SizedFault
-LeafOfFault v types.DateTime = λ whole c. DateFault whole v c
-LeafOfFault v types.PreTokStr = TokenizedFault
-LeafOfFault v types.Bool = TruthFault
-LeafOfFault v types.IpAddr = BytesFault 16
-LeafOfFault v types.Null = λ whole c. ⊥
-LeafOfFault v types.JSONObject = λ whole c. c ≡ LegacyJson
-LeafOfFault v types.Array = λ whole c. c ≡ LegacyJson
-LeafOfFault v types.Object = λ whole c. c ≡ LegacyJson
+LeafOfFault v kind = LeafOfTypeFault v (leaf_type kind)

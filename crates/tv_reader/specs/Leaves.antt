@@ -1,14 +1,20 @@
 -- Reading a value that holds no others from left to right, behind its code.
-use Rattle.std.specs.Prelude.{ℕ, ℤ, pos, negsuc, ◌*ℤ◌, Bool, true, false, List, Result, Ok, Err, if◌then◌else◌}
+use Rattle.std.specs.Prelude.{ℕ, ℤ, pos, negsuc, ◌*ℤ◌, Bool, List, Option, Some, None, is_some, Result, Ok, Err, if◌then◌else◌}
 use Rattle.std.specs.Int.Signed.{lt_z}
 use Rattle.tv_base.specs.declared.cause.Cause.{Cause}
 use Rattle.tv_base.specs.declared.cause.Cause.TheVariants.{DateRange, LegacyJson}
 use Rattle.tv_base.specs.Reading.{u64_at, u128_at, i64_at, truth_at, vint_at, sized_at, text_at, each_at}
 use Rattle.tv_base.specs.Stop.{◌>>=◌}
-use Rattle.tv_value.specs.Tree.{Token, Tree, leaf, null, text, unsigned, signed, boolean, date, facet, bytes, ip_address, tokenized}
+use Rattle.tv_value.specs.Content.{Content, no_content, truth_content, unsigned_content, signed_content, wide_content, text_content, bytes_content, tokens_content}
+use Rattle.tv_value.specs.Leaves.{leaf_with, form}
+use Rattle.tv_value.specs.Tree.{Token, Leaf, null, Tree, leaf}
 use Rattle.tv_value.specs.Version.{Version, V1, V2, V3}
-use Rattle.tv_reader.specs.declared.error.ValueType.{ValueType}
-use Rattle.tv_reader.specs.declared.error.ValueType.TheVariants as types
+use Rattle.tv_value.specs.declared.content.Form.{Form}
+use Rattle.tv_value.specs.declared.content.Form.TheVariants as forms
+use Rattle.tv_value.specs.declared.leaf.LeafType.{LeafType}
+use Rattle.tv_value.specs.declared.leaf.LeafType.TheVariants as leaves
+use Rattle.tv_reader.specs.ValueType.{leaf_type}
+use Rattle.tv_reader.specs.declared.value_type.ValueType.{ValueType}
 
 -- ---- dates
 
@@ -75,32 +81,37 @@ tokenized_at whole = do
 
 -- whether values of a type hold no others, and are read
 abbrev pub is_leaf_type : ValueType → Bool
-is_leaf_type types.String = true
-is_leaf_type types.U64 = true
-is_leaf_type types.I64 = true
-is_leaf_type types.Facet = true
-is_leaf_type types.Bytes = true
-is_leaf_type types.DateTime = true
-is_leaf_type types.PreTokStr = true
-is_leaf_type types.JSONObject = false
-is_leaf_type types.Bool = true
-is_leaf_type types.IpAddr = true
-is_leaf_type types.Null = true
-is_leaf_type types.Array = false
-is_leaf_type types.Object = false
+is_leaf_type kind = is_some (leaf_type kind)
 
--- The value whose type was read. What doesn't hold for a leaf is never asked of it.
+abbrev pub or_null : Option Leaf → Leaf
+or_null (Some l) = l
+or_null None = null
+
+-- the leaf of a type that holds this; a content of another form than the type's makes none
+abbrev pub leaf_holding : LeafType → Content → Leaf
+leaf_holding t c = or_null (leaf_with t c)
+
+-- a signed number: a date's counts microseconds in version 1
+abbrev pub number_at : Version → LeafType → List ℕ → Result (ℤ × List ℕ) (Cause × List ℕ)
+number_at v leaves.Date whole = date_at v whole
+number_at v _ whole = i64_at whole
+
+-- what a leaf holds, behind its codes
+abbrev pub content_at : Version → LeafType → Form → List ℕ → Result (Tree × List ℕ) (Cause × List ℕ)
+content_at v t forms.Nothing whole = Ok (leaf (leaf_holding t no_content), whole)
+content_at v t forms.Truth whole = truth_at whole >>= λ x. Ok (leaf (leaf_holding t (truth_content x.0)), x.1)
+content_at v t forms.Unsigned whole = u64_at whole >>= λ x. Ok (leaf (leaf_holding t (unsigned_content x.0)), x.1)
+content_at v t forms.Signed whole = number_at v t whole >>= λ x. Ok (leaf (leaf_holding t (signed_content x.0)), x.1)
+content_at v t forms.Wide whole = u128_at whole >>= λ x. Ok (leaf (leaf_holding t (wide_content x.0)), x.1)
+content_at v t forms.Text whole = text_at whole >>= λ x. Ok (leaf (leaf_holding t (text_content x.0)), x.1)
+content_at v t forms.Bytes whole = sized_at whole >>= λ x. Ok (leaf (leaf_holding t (bytes_content x.0)), x.1)
+content_at v t forms.Tokens whole = tokenized_at whole >>= λ x. Ok (leaf (leaf_holding t (tokens_content x.0.0 x.0.1)), x.1)
+
+-- What doesn't hold for a leaf is never asked of it.
+abbrev pub leaf_of_type : Version → Option LeafType → List ℕ → Result (Tree × List ℕ) (Cause × List ℕ)
+leaf_of_type v (Some t) whole = content_at v t (form t) whole
+leaf_of_type v None whole = Err (LegacyJson, whole)
+
+-- the value whose type was read
 unfoldable pub leaf_at : Version → ValueType → List ℕ → Result (Tree × List ℕ) (Cause × List ℕ)
-leaf_at v types.String whole = text_at whole >>= λ x. Ok (leaf (text x.0), x.1)
-leaf_at v types.U64 whole = u64_at whole >>= λ x. Ok (leaf (unsigned x.0), x.1)
-leaf_at v types.I64 whole = i64_at whole >>= λ x. Ok (leaf (signed x.0), x.1)
-leaf_at v types.Facet whole = text_at whole >>= λ x. Ok (leaf (facet x.0), x.1)
-leaf_at v types.Bytes whole = sized_at whole >>= λ x. Ok (leaf (bytes x.0), x.1)
-leaf_at v types.DateTime whole = date_at v whole >>= λ x. Ok (leaf (date x.0), x.1)
-leaf_at v types.PreTokStr whole = tokenized_at whole >>= λ x. Ok (leaf (tokenized x.0.0 x.0.1), x.1)
-leaf_at v types.Bool whole = truth_at whole >>= λ x. Ok (leaf (boolean x.0), x.1)
-leaf_at v types.IpAddr whole = u128_at whole >>= λ x. Ok (leaf (ip_address x.0), x.1)
-leaf_at v types.Null whole = Ok (leaf null, whole)
-leaf_at v types.JSONObject whole = Err (LegacyJson, whole)
-leaf_at v types.Array whole = Err (LegacyJson, whole)
-leaf_at v types.Object whole = Err (LegacyJson, whole)
+leaf_at v kind whole = leaf_of_type v (leaf_type kind) whole

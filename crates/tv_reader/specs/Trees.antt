@@ -15,7 +15,7 @@ use Rattle.tv_value.specs.Tree.{elements, entries}
 use Rattle.tv_value.specs.Version.{Version}
 use Rattle.tv_value.specs.declared.owned_value.OwnedValue.{OwnedValue}
 use Rattle.tv_reader.specs.ValueType.{coded}
-use Rattle.tv_reader.specs.declared.error.ValueType.{ValueType}
+use Rattle.tv_reader.specs.declared.value_type.ValueType.{ValueType}
 
 -- the value, and why there is none
 abbrev pub SpellsValue : Version → List ℕ → OwnedValue → Type 0

@@ -1,41 +1,61 @@
 -- The types of values in the store: their codes, and what is wrong with bytes that begin with none.
-use Rattle.std.specs.Prelude.{◌≡◌, ◌≢◌, ◌<◌, ℕ, List, [], ◌∷◌}
+use Rattle.std.specs.Prelude.{◌==◌, ◌≡◌, ◌≢◌, ◌<◌, ℕ, List, [], ◌∷◌, Option, Some, None, option_map, if◌then◌else◌}
 use Rattle.tv_base.specs.declared.cause.Cause.{Cause}
 use Rattle.tv_base.specs.declared.cause.Cause.TheVariants.{UnexpectedEnd, UnknownTypeCode, FloatCode, UnknownExtCode}
-use Rattle.tv_reader.specs.declared.error.ValueType.{ValueType}
-use Rattle.tv_reader.specs.declared.error.ValueType.TheVariants as types
+use Rattle.tv_value.specs.Leaves as coded_leaves
+use Rattle.tv_value.specs.Leaves.{store_code}
+use Rattle.tv_value.specs.declared.leaf.LeafType.{LeafType}
+use Rattle.tv_value.specs.declared.leaf.LeafType.TheVariants as leaves
+use Rattle.tv_reader.specs.declared.value_type.ValueType.{ValueType}
+use Rattle.tv_reader.specs.declared.value_type.ValueType.TheVariants as types
 
--- the code of a type
+-- the type of a leaf's type, and back
+abbrev pub of_leaf : LeafType → ValueType
+of_leaf leaves.Null = types.Null
+of_leaf leaves.Str = types.String
+of_leaf leaves.U64 = types.U64
+of_leaf leaves.I64 = types.I64
+of_leaf leaves.Date = types.DateTime
+of_leaf leaves.Facet = types.Facet
+of_leaf leaves.Bytes = types.Bytes
+of_leaf leaves.IpAddr = types.IpAddr
+of_leaf leaves.Bool = types.Bool
+of_leaf leaves.PreTokStr = types.PreTokStr
+
+abbrev pub leaf_type : ValueType → Option LeafType
+leaf_type types.Null = Some leaves.Null
+leaf_type types.String = Some leaves.Str
+leaf_type types.U64 = Some leaves.U64
+leaf_type types.I64 = Some leaves.I64
+leaf_type types.DateTime = Some leaves.Date
+leaf_type types.Facet = Some leaves.Facet
+leaf_type types.Bytes = Some leaves.Bytes
+leaf_type types.IpAddr = Some leaves.IpAddr
+leaf_type types.Bool = Some leaves.Bool
+leaf_type types.PreTokStr = Some leaves.PreTokStr
+leaf_type _ = None
+
+abbrev pub leaf_code : Option LeafType → ℕ
+leaf_code (Some t) = store_code t
+leaf_code None = 0
+
+-- the code of a type, and the type of a code
 abbrev pub type_code : ValueType → ℕ
-type_code types.String = 0
-type_code types.U64 = 1
-type_code types.I64 = 2
-type_code types.Facet = 3
-type_code types.Bytes = 4
-type_code types.DateTime = 5
-type_code types.PreTokStr = 7
 type_code types.JSONObject = 8
-type_code types.Bool = 9
-type_code types.IpAddr = 10
-type_code types.Null = 11
 type_code types.Array = 12
 type_code types.Object = 13
+type_code kind = leaf_code (leaf_type kind)
+
+abbrev pub type_with : ℕ → Option ValueType
+type_with code =
+    if code == 8 then Some types.JSONObject else (
+    if code == 12 then Some types.Array else (
+    if code == 13 then Some types.Object else option_map of_leaf (coded_leaves.type_with code)))
 
 -- all that stands before a value of this type: of a pre-tokenised text, the code of an extension and its own
 abbrev pub coded : ValueType → List ℕ
-coded types.String = 0 ∷ []
-coded types.U64 = 1 ∷ []
-coded types.I64 = 2 ∷ []
-coded types.Facet = 3 ∷ []
-coded types.Bytes = 4 ∷ []
-coded types.DateTime = 5 ∷ []
 coded types.PreTokStr = 7 ∷ 0 ∷ []
-coded types.JSONObject = 8 ∷ []
-coded types.Bool = 9 ∷ []
-coded types.IpAddr = 10 ∷ []
-coded types.Null = 11 ∷ []
-coded types.Array = 12 ∷ []
-coded types.Object = 13 ∷ []
+coded kind = type_code kind ∷ []
 
 -- the bytes are all that stands before a value of this type
 abbrev pub IsCoded : List ℕ → ValueType → Type 0

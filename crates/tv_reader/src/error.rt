@@ -4,41 +4,11 @@ ghost use Rattle.std.specs.Prelude.{◌≡◌};
 ghost use Rattle.tv_reader.specs.declared.error.DeserializeError.{DeserializeError};
 ghost use Rattle.tv_reader.specs.Error.{read_error};
 
+pub use crate::value_type::ValueType;
 use std::alloc::{AllocError, AllocFailed};
 use std::io;
 use thiserror::Error;
 use tv_base::{Cause, ReadError};
-
-/// The type of a value in the store.
-#[derive(Clone, Copy, Debug, PartialEq, Eq)]
-pub enum ValueType {
-    /// Code 0.
-    String,
-    /// Code 1.
-    U64,
-    /// Code 2.
-    I64,
-    /// Code 3.
-    Facet,
-    /// Code 4.
-    Bytes,
-    /// Code 5.
-    DateTime,
-    /// Code 7, and then 0.
-    PreTokStr,
-    /// Code 8.
-    JSONObject,
-    /// Code 9.
-    Bool,
-    /// Code 10.
-    IpAddr,
-    /// Code 11.
-    Null,
-    /// Code 12.
-    Array,
-    /// Code 13.
-    Object,
-}
 
 /// Why bytes of a store couldn't be read. The first fault in reading order is answered.
 #[derive(Debug, PartialEq, Drop, Error)]

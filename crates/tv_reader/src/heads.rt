@@ -3,48 +3,30 @@
 ghost use Rattle.std.specs.Prelude.{◌≡◌, ◌-◌, ◌^◌, IsErrOf};
 ghost use Rattle.tv_base.specs.Number.{VNum};
 ghost use Rattle.tv_base.specs.PartFault.{NumberFault};
-ghost use Rattle.tv_base.specs.Take as reads;
 ghost use Rattle.tv_base.specs.declared.cause.Cause.TheVariants.{TooLong};
-ghost use Rattle.tv_base.specs.declared.read_error.ReadError.TheVariants.{Corrupted, Memory as NoMemory};
 ghost use Rattle.tv_reader.specs.Finds.{Finds};
 ghost use Rattle.tv_reader.specs.Heads.{SpellsHead, SpellsKeyHead, CodedLength};
-ghost use Rattle.tv_reader.specs.HeadReading.{head_part, head_at};
+ghost use Rattle.tv_reader.specs.HeadReading.{head_part};
 ghost use Rattle.tv_reader.specs.Trees.{NoValue};
 ghost use Rattle.tv_reader.specs.Version.{version_of};
 ghost use Rattle.tv_reader.specs.declared.error.DeserializeError.TheVariants.{CorruptedValue, HeapFull, Memory};
 ghost use Rattle.tv_value.specs.Fault.{Corrupt, CodedKeyFault, KeyFault};
 
-use crate::error::{DeserializeError, ValueType};
+use crate::error::DeserializeError;
 use crate::kinds::take_kind;
-use crate::leaves::{take_date, take_ip_address};
-use crate::trees::take_half;
+use crate::value_type::{ValueType, take_head_behind};
 use crate::version::DocStoreVersion;
-use std::net::Ipv6Addr;
-use tv_base::take::{take_bool, take_i64, take_u64, take_vint};
-use tv_base::{ByteSource, ReadError};
-use tv_value::date_time::DateTime;
+use tv_base::ByteSource;
+use tv_base::take::take_vint;
+use tv_value::leaf::{LeafType, ReferenceValueLeaf};
 
 /// What is taken of a value at once: a whole value of a known width, or what stands before the parts of another.
 #[derive(Clone, Copy, Debug, PartialEq)]
 pub enum Head {
-    /// No value.
-    Null,
-    /// A number from 0 to 2^64 - 1.
-    U64(u64),
-    /// A number from -2^63 to 2^63 - 1.
-    I64(i64),
-    /// A date.
-    Date(DateTime),
-    /// A truth value.
-    Bool(bool),
-    /// An IPv6 address.
-    IpAddr(Ipv6Addr),
-    /// The length of a text, in bytes. None of its bytes was taken.
-    Text(u64),
-    /// The length of a facet's encoded text, in bytes. None of its bytes was taken.
-    Facet(u64),
-    /// The number of bytes. None of them was taken.
-    Bytes(u64),
+    /// A whole value of a known width.
+    Leaf(ReferenceValueLeaf<'static>),
+    /// The length in bytes of a text, of a facet's encoded text or of bytes, with its type. None of these bytes was taken.
+    Length(LeafType, u64),
     /// The number of an array's elements. None of them was taken.
     Array(u64),
     /// The number of an object's entries. None of them was taken.
@@ -72,35 +54,6 @@ pub fn take_head<S: ByteSource>(
     let kind = take_kind(source, count)?;
     let head = take_head_behind(source, count, version, kind)?;
     Ok(head)
-}
-
-// The head of a value whose type was taken.
-#[tactic(auto, using(tv_base::proofs::TakeSteps::Taken_then), unfolding(crate::specs::HeadReading::head_at))]
-fn take_head_behind<S: ByteSource>(
-    source: &mut S,
-    count: &mut u64,
-    version: DocStoreVersion,
-    kind: ValueType,
-) -> Result<Head, ReadError>
-    ensures takes { reads.TakesBy S.tells S.left S.faults source.old count.old source.new count.new head_part result (head_at (version_of version) kind) }
-    ensures too_long { IsErrOf result (Corrupted TooLong) → count.new ≡ 2 ^ 64 - 1 }
-    ensures spares { ¬ IsErrOf result NoMemory }
-{
-    match kind {
-        ValueType::String => Ok(Head::Text(take_vint(source, count)?)),
-        ValueType::Facet => Ok(Head::Facet(take_vint(source, count)?)),
-        ValueType::Bytes => Ok(Head::Bytes(take_vint(source, count)?)),
-        ValueType::Array => Ok(Head::Array(take_vint(source, count)?)),
-        ValueType::Object => Ok(Head::Object(take_half(source, count)?)),
-        ValueType::PreTokStr => Ok(Head::Tokenized),
-        ValueType::JSONObject => Ok(Head::Legacy),
-        ValueType::Null => Ok(Head::Null),
-        ValueType::U64 => Ok(Head::U64(take_u64(source, count)?)),
-        ValueType::I64 => Ok(Head::I64(take_i64(source, count)?)),
-        ValueType::DateTime => Ok(Head::Date(take_date(source, count, version)?)),
-        ValueType::Bool => Ok(Head::Bool(take_bool(source, count)?)),
-        ValueType::IpAddr => Ok(Head::IpAddr(take_ip_address(source, count)?)),
-    }
 }
 
 /// Takes the head of a key: its code, and its length in bytes. None of these bytes is taken.

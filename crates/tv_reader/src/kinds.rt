@@ -6,12 +6,8 @@ ghost use Rattle.tv_base.specs.declared.cause.Cause.TheVariants.{TooLong};
 ghost use Rattle.tv_base.specs.declared.read_error.ReadError.TheVariants.{Corrupted, Memory};
 ghost use Rattle.tv_reader.specs.Kinds.{extension_at, kind_at};
 
-use crate::error::ValueType;
-use crate::type_codes::{
-    ARRAY_CODE, BOOL_CODE, BYTES_CODE, DATE_CODE, EXT_CODE, F64_CODE, HIERARCHICAL_FACET_CODE,
-    I64_CODE, IP_CODE, JSON_OBJ_CODE, NULL_CODE, OBJECT_CODE, TEXT_CODE, TOK_STR_EXT_CODE,
-    U64_CODE,
-};
+use crate::type_codes::{EXT_CODE, F64_CODE, TOK_STR_EXT_CODE};
+use crate::value_type::ValueType;
 use tv_base::take::take_u8;
 use tv_base::{ByteSource, Cause, ReadError};
 
@@ -40,20 +36,11 @@ pub fn take_kind<S: ByteSource>(source: &mut S, count: &mut u64) -> Result<Value
     ensures spares { ¬ IsErrOf result Memory }
 {
     match take_u8(source, count)? {
-        TEXT_CODE => Ok(ValueType::String),
-        U64_CODE => Ok(ValueType::U64),
-        I64_CODE => Ok(ValueType::I64),
-        HIERARCHICAL_FACET_CODE => Ok(ValueType::Facet),
-        BYTES_CODE => Ok(ValueType::Bytes),
-        DATE_CODE => Ok(ValueType::DateTime),
         EXT_CODE => take_extension(source, count),
-        JSON_OBJ_CODE => Ok(ValueType::JSONObject),
-        BOOL_CODE => Ok(ValueType::Bool),
-        IP_CODE => Ok(ValueType::IpAddr),
-        NULL_CODE => Ok(ValueType::Null),
-        ARRAY_CODE => Ok(ValueType::Array),
-        OBJECT_CODE => Ok(ValueType::Object),
         F64_CODE => Err(ReadError::Corrupted(Cause::FloatCode)),
-        code => Err(ReadError::Corrupted(Cause::UnknownTypeCode(code))),
+        code => match ValueType::from_code(code) {
+            Some(kind) => Ok(kind),
+            None => Err(ReadError::Corrupted(Cause::UnknownTypeCode(code))),
+        },
     }
 }

@@ -1,27 +1,22 @@
 //! Taking values that hold no others, behind their code.
 
-ghost use Rattle.std.specs.Prelude.{◌≡◌, ◌*ℤ◌, ◌≤ℤ◌, pos, negsuc, ◌-◌, ◌^◌, IsTrue, IsErrOf, string_bytes, map};
+ghost use Rattle.std.specs.Prelude.{◌≡◌, ◌*ℤ◌, ◌≤ℤ◌, pos, negsuc, ◌-◌, ◌^◌, IsErrOf, string_bytes, map};
 ghost use Rattle.std.specs.Net.Addr.{ipv6_bits};
 ghost use Rattle.tv_base.specs.Reading.{u128_at};
 ghost use Rattle.tv_base.specs.Take.{TakesBy};
 ghost use Rattle.tv_base.specs.declared.cause.Cause.TheVariants.{TooLong};
 ghost use Rattle.tv_base.specs.declared.read_error.ReadError.TheVariants.{Corrupted, Memory};
-ghost use Rattle.tv_reader.specs.Leaves.{date_at, offsets_at, named_at, placed_at, token_at, tokens_at, counted_tokens_at, tokenized_at, leaf_at, is_leaf_type};
+ghost use Rattle.tv_reader.specs.Leaves.{date_at, offsets_at, named_at, placed_at, token_at, tokens_at, counted_tokens_at, tokenized_at};
 ghost use Rattle.tv_reader.specs.Version.{version_of};
 ghost use Rattle.tv_value.specs.HeldTokens.{token_of};
-ghost use Rattle.tv_value.specs.Owned.{owned_tree};
 
-use crate::error::ValueType;
 use crate::version::DocStoreVersion;
 use std::alloc::Global;
 use std::net::Ipv6Addr;
-use tv_base::take::{
-    take_bool, take_bytes, take_facet, take_i64, take_string, take_u64, take_u128, take_vint,
-};
+use tv_base::take::{take_i64, take_string, take_u128, take_vint};
 use tv_base::{ByteSource, Cause, ReadError};
 use tv_value::date_time::DateTime;
 use tv_value::ip_addr::address_of;
-use tv_value::owned_value::OwnedValue;
 use tv_value::tokenizer::{PreTokenizedString, Token};
 
 /// The least and the largest number of microseconds whose nanoseconds fit 64 bits.
@@ -188,34 +183,4 @@ pub fn take_tokenized<S: ByteSource>(
     let text = take_string(alloc, source, count)?;
     let tokens = take_counted_tokens(alloc, source, count)?;
     Ok(PreTokenizedString { text, tokens })
-}
-
-/// Takes a value of a type whose values hold no others, behind its code.
-///
-/// Errors: those of the parts that it has.
-#[tactic(auto, using(tv_base::proofs::TakeSteps::Taken_then), unfolding(crate::specs::Leaves::leaf_at))]
-pub(crate) fn take_leaf<S: ByteSource>(
-    alloc: Global,
-    source: &mut S,
-    count: &mut u64,
-    version: DocStoreVersion,
-    kind: ValueType,
-) -> Result<OwnedValue, ReadError>
-    requires { IsTrue (is_leaf_type kind) }
-    ensures takes { TakesBy S.tells S.left S.faults source.old count.old source.new count.new owned_tree result (leaf_at (version_of version) kind) }
-    ensures too_long { IsErrOf result (Corrupted TooLong) → count.new ≡ 2 ^ 64 - 1 }
-{
-    match kind {
-        ValueType::String => Ok(OwnedValue::Str(take_string(alloc, source, count)?)),
-        ValueType::U64 => Ok(OwnedValue::U64(take_u64(source, count)?)),
-        ValueType::I64 => Ok(OwnedValue::I64(take_i64(source, count)?)),
-        ValueType::Facet => Ok(OwnedValue::Facet(take_facet(alloc, source, count)?)),
-        ValueType::Bytes => Ok(OwnedValue::Bytes(take_bytes(alloc, source, count)?)),
-        ValueType::DateTime => Ok(OwnedValue::Date(take_date(source, count, version)?)),
-        ValueType::PreTokStr => Ok(OwnedValue::PreTokStr(take_tokenized(alloc, source, count)?)),
-        ValueType::Bool => Ok(OwnedValue::Bool(take_bool(source, count)?)),
-        ValueType::IpAddr => Ok(OwnedValue::IpAddr(take_ip_address(source, count)?)),
-        ValueType::Null => Ok(OwnedValue::Null),
-        ValueType::JSONObject | ValueType::Array | ValueType::Object => unreachable!(),
-    }
 }

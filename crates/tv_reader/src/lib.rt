@@ -7,6 +7,7 @@ pub mod heads;
 pub mod kinds;
 pub mod leaves;
 pub mod trees;
+pub mod value_type;
 pub mod version;
 
 pub use error::{DeserializeError, ValueType};

@@ -13,7 +13,7 @@ ghost use Rattle.tv_value.specs.Fault.{CodedKeyFault};
 
 use crate::error::{DeserializeError, ValueType};
 use crate::kinds::take_kind;
-use crate::leaves::take_leaf;
+use crate::value_type::take_leaf;
 use crate::version::DocStoreVersion;
 use std::alloc::Global;
 use tv_base::take::{take_string, take_vint};

@@ -11,7 +11,7 @@ use Rattle.tv_value.specs.Tree.{Tree, Document}
 use Rattle.tv_value.specs.Version.{Version}
 use Rattle.tv_reader.specs.declared.error.DeserializeError.{DeserializeError}
 use Rattle.tv_reader.specs.declared.error.DeserializeError.TheVariants as errors
-use Rattle.tv_reader.specs.declared.error.ValueType.{ValueType}
+use Rattle.tv_reader.specs.declared.value_type.ValueType.{ValueType}
 use Rattle.tv_store.specs.Error.{add_error}
 use Rattle.tv_store.specs.PairsGiven.{PairsRefused, large_field, no_room, no_memory}
 use Rattle.tv_value.specs.declared.field.Field.{Field}

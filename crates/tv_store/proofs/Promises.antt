@@ -18,8 +18,8 @@ use Rattle.tv_reader.specs.Error.{IsRefusal, is_corrupted, is_no_text}
 use Rattle.tv_reader.specs.Finds.{Refuses, TellsStop, Found}
 use Rattle.tv_reader.specs.declared.error.DeserializeError.{DeserializeError}
 use Rattle.tv_reader.specs.declared.error.DeserializeError.TheVariants as errors
-use Rattle.tv_reader.specs.declared.error.ValueType.{ValueType}
-use Rattle.tv_reader.specs.declared.error.ValueType.TheVariants as types
+use Rattle.tv_reader.specs.declared.value_type.ValueType.{ValueType}
+use Rattle.tv_reader.specs.declared.value_type.ValueType.TheVariants as types
 use Rattle.tv_value.specs.Fault.{Refusal, corrupted, no_text_key}
 use Rattle.tv_value.specs.Spelling.{SpellsPair, SpellsDocument}
 use Rattle.tv_value.specs.Tree.{Tree, Document}

@@ -11,8 +11,8 @@ use Rattle.tv_legacy.specs.Legacy.{Legacy, LegacyFault}
 use Rattle.tv_reader.specs.ValueType.{type_code}
 use Rattle.tv_reader.specs.declared.error.DeserializeError.{DeserializeError}
 use Rattle.tv_reader.specs.declared.error.DeserializeError.TheVariants as errors
-use Rattle.tv_reader.specs.declared.error.ValueType.{ValueType}
-use Rattle.tv_reader.specs.declared.error.ValueType.TheVariants.{String}
+use Rattle.tv_reader.specs.declared.value_type.ValueType.{ValueType}
+use Rattle.tv_reader.specs.declared.value_type.ValueType.TheVariants.{String}
 use Rattle.tv_value.specs.Fault.{Refusal, corrupted, no_text_key, DocumentFault}
 use Rattle.tv_value.specs.Spelling.{SpellsDocument}
 use Rattle.tv_value.specs.Tree.{Document}

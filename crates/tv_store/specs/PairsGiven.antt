@@ -6,7 +6,7 @@ use Rattle.tv_value.specs.Tree.{Tree, Document}
 use Rattle.tv_value.specs.Version.{Version}
 use Rattle.tv_reader.specs.declared.error.DeserializeError.{DeserializeError}
 use Rattle.tv_reader.specs.declared.error.DeserializeError.TheVariants as errors
-use Rattle.tv_reader.specs.declared.error.ValueType.{ValueType}
+use Rattle.tv_reader.specs.declared.value_type.ValueType.{ValueType}
 use Rattle.tv_typed.specs.Documents.{GivesAll}
 use Rattle.tv_typed.specs.Values.{TreeRefused}
 

@@ -12,7 +12,7 @@ use Rattle.tv_reader.specs.Finds.{Finds}
 use Rattle.tv_reader.specs.Version.{version_of}
 use Rattle.tv_reader.specs.declared.error.DeserializeError.{DeserializeError}
 use Rattle.tv_reader.specs.declared.error.DeserializeError.TheVariants as errors
-use Rattle.tv_reader.specs.declared.error.ValueType.{ValueType}
+use Rattle.tv_reader.specs.declared.value_type.ValueType.{ValueType}
 use Rattle.tv_reader.proofs.AgreeField.{field_agrees}
 use Rattle.tv_reader.proofs.Finding.{finds_as, finds_read, finds_read_fails}
 use Rattle.tv_typed.specs.Documents.{SpellsField, FieldNumberRefused, FieldRefused, GivesPair, RefusesPair}

@@ -18,8 +18,8 @@ use Rattle.tv_reader.specs.ValueType.{coded}
 use Rattle.tv_reader.specs.Version.{version_of}
 use Rattle.tv_reader.specs.declared.error.DeserializeError.{DeserializeError}
 use Rattle.tv_reader.specs.declared.error.DeserializeError.TheVariants as errors
-use Rattle.tv_reader.specs.declared.error.ValueType.{ValueType}
-use Rattle.tv_reader.specs.declared.error.ValueType.TheVariants as types
+use Rattle.tv_reader.specs.declared.value_type.ValueType.{ValueType}
+use Rattle.tv_reader.specs.declared.value_type.ValueType.TheVariants as types
 use Rattle.tv_typed.specs.Typed.{Reads, Deserializes}
 use Rattle.tv_typed.specs.Values.{SpellsAs, SpelledAs, NextRefused}
 use Rattle.tv_typed.specs.Lists.{ArrayOf, IsEntry, ObjectOf, last_value, GivesLast, MapOf, Length, element_total, SpellsInto, SpellsEntry, LengthRefused, in_length, ItemsRefused, ArrayRefused, EntryRefused, ObjectRefused, NextItem, NextItemRefused}

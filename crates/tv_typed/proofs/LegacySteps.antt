@@ -11,10 +11,12 @@ use Rattle.tv_base.proofs.TakeSteps.{Taken_none}
 use Rattle.tv_legacy.specs.Legacy.{IsBlank, IsClosed, Legacy, LegacyFault, only_blanks, not_closed}
 use Rattle.tv_legacy.proofs.Unique.{one_legacy}
 use Rattle.tv_value.specs.Fault.{corrupted, in_legacy}
+use Rattle.tv_value.specs.Leaves.{type_of, store_code}
+use Rattle.tv_value.specs.LeavesLaws.{small_code}
 use Rattle.tv_value.specs.Owned.{owned_tree}
 use Rattle.tv_value.specs.Short.{short, IsValue}
 use Rattle.tv_value.specs.Spelling.{Spells}
-use Rattle.tv_value.specs.Tree.{null, text, unsigned, signed, boolean, date, facet, bytes, ip_address, tokenized, Tree, leaf, array, object}
+use Rattle.tv_value.specs.Tree.{Tree, leaf, array, object}
 use Rattle.tv_value.specs.Version.{Version, V2}
 use Rattle.tv_value.specs.declared.owned_value.OwnedValue.{OwnedValue}
 use Rattle.tv_value.proofs.ShortSpellings.{short_spells}
@@ -25,8 +27,8 @@ use Rattle.tv_reader.specs.Trees.{SpellsBehind}
 use Rattle.tv_reader.specs.Version.{version_of}
 use Rattle.tv_reader.specs.declared.error.DeserializeError.{DeserializeError}
 use Rattle.tv_reader.specs.declared.error.DeserializeError.TheVariants as errors
-use Rattle.tv_reader.specs.declared.error.ValueType.{ValueType}
-use Rattle.tv_reader.specs.declared.error.ValueType.TheVariants as types
+use Rattle.tv_reader.specs.declared.value_type.ValueType.{ValueType}
+use Rattle.tv_reader.specs.declared.value_type.ValueType.TheVariants as types
 use Rattle.tv_reader.specs.declared.version.DocStoreVersion.{DocStoreVersion}
 use Rattle.tv_reader.specs.declared.version.DocStoreVersion.TheVariants as stores
 use Rattle.tv_reader.proofs.Finding.{stop_map}
@@ -66,16 +68,7 @@ cut_legacy (b ∷ blanks) slice (d ∷ start) byte all h joined =
     blank_first d start (subst IsBlank same all.0) (cut_legacy blanks slice start byte all.1 h rest)
 
 cut_object : (v : Version) (a : List ℕ) (t : Tree) → Spells Legacy v (8 ∷ a) t → (start : List ℕ) (byte : ℕ) → a ≡ start ++ byte ∷ [] → LegacyFault start UnexpectedEnd
-cut_object v a (leaf (text t)) p start byte last = absurd (let e = p.joined in cc)
-cut_object v a (leaf (unsigned n)) p start byte last = absurd (let e = p.joined in cc)
-cut_object v a (leaf (signed z)) p start byte last = absurd (let e = p.joined in cc)
-cut_object v a (leaf (facet t)) p start byte last = absurd (let e = p.joined in cc)
-cut_object v a (leaf (bytes bs)) p start byte last = absurd (let e = p.joined in cc)
-cut_object v a (leaf (date z)) p start byte last = absurd (let e = p.joined in cc)
-cut_object v a (leaf (tokenized t ts)) p start byte last = absurd (let e = p.joined in cc)
-cut_object v a (leaf (boolean b)) p start byte last = absurd (let e = p.joined in cc)
-cut_object v a (leaf (ip_address n)) p start byte last = absurd (let e = p.joined in cc)
-cut_object v a (leaf null) p start byte last = absurd (let e = p.joined in cc)
+cut_object v a (leaf l) p start byte last = let e = p.joined in let same : store_code (type_of l) ≡ 8 = cc in absurd ((small_code (type_of l)).1 same)
 cut_object v a (array ts) p start byte last = absurd (let e = p.joined in cc)
 cut_object v a (object es) (inl p) start byte last = absurd (let e = p.joined in cc)
 cut_object v a (object es) (inr p) start byte last =

@@ -27,8 +27,8 @@ use Rattle.tv_typed.specs.Typed.{typed_stop, Reads, raised, IsMismatch, failed_b
 use Rattle.tv_typed.specs.Values.{SpellsLeaf, LeafRefused, other_type, in_body, TellsFault}
 use Rattle.tv_reader.specs.declared.error.DeserializeError.{DeserializeError}
 use Rattle.tv_reader.specs.declared.error.DeserializeError.TheVariants as errors
-use Rattle.tv_reader.specs.declared.error.ValueType.{ValueType}
-use Rattle.tv_reader.specs.declared.error.ValueType.TheVariants as types
+use Rattle.tv_reader.specs.declared.value_type.ValueType.{ValueType}
+use Rattle.tv_reader.specs.declared.value_type.ValueType.TheVariants as types
 use Rattle.tv_typed.specs.declared.store_reader.StoreReader.{StoreReader}
 use Rattle.tv_reader.proofs.BehindKinds.{leaf_spelled, leaf_refused}
 use Rattle.tv_reader.proofs.Finding.{shows_map, finds_refused, finds_nothing}
@@ -183,33 +183,11 @@ told_refuses e r old new told h = record { stands = record { refusal = r; told =
 mismatch_found : {F : List ℕ → Refusal → Type 0} (expected actual : ValueType) (old new : List ℕ) (count : ℕ) → TellsStop (corrupted UnexpectedEnd) F old new count (key_stop expected actual)
     → count < 2 ^ 64 - 1 → Refuses end (TellsFault F) old new (errors.TypeMismatch expected actual)
 mismatch_found types.String actual old new count h = λ few. told_refuses _ _ old new is_no_text (h few)
-mismatch_found types.U64 actual old new count h = absurd h
-mismatch_found types.I64 actual old new count h = absurd h
-mismatch_found types.Facet actual old new count h = absurd h
-mismatch_found types.Bytes actual old new count h = absurd h
-mismatch_found types.DateTime actual old new count h = absurd h
-mismatch_found types.PreTokStr actual old new count h = absurd h
-mismatch_found types.JSONObject actual old new count h = absurd h
-mismatch_found types.Bool actual old new count h = absurd h
-mismatch_found types.IpAddr actual old new count h = absurd h
-mismatch_found types.Null actual old new count h = absurd h
-mismatch_found types.Array actual old new count h = absurd h
-mismatch_found types.Object actual old new count h = absurd h
+mismatch_found _ actual old new count h = absurd h
 
 mismatch_counts : (expected actual : ValueType) (old new : Faults) → CountsStop (key_stop expected actual) old new → new ≡ old
 mismatch_counts types.String actual old new h = h
-mismatch_counts types.U64 actual old new h = absurd h
-mismatch_counts types.I64 actual old new h = absurd h
-mismatch_counts types.Facet actual old new h = absurd h
-mismatch_counts types.Bytes actual old new h = absurd h
-mismatch_counts types.DateTime actual old new h = absurd h
-mismatch_counts types.PreTokStr actual old new h = absurd h
-mismatch_counts types.JSONObject actual old new h = absurd h
-mismatch_counts types.Bool actual old new h = absurd h
-mismatch_counts types.IpAddr actual old new h = absurd h
-mismatch_counts types.Null actual old new h = absurd h
-mismatch_counts types.Array actual old new h = absurd h
-mismatch_counts types.Object actual old new h = absurd h
+mismatch_counts _ actual old new h = absurd h
 
 told_found : {X : Type 0} (B : List ℕ → X → Type 0) (F : List ℕ → Refusal → Type 0) (result : Result X DeserializeError) (old new : List ℕ) (count : ℕ) → (IsErrOf result errors.HeapFull → ⊥) → Found store_stop (corrupted UnexpectedEnd) B F old new count result
     → Found typed_stop end B (TellsFault F) old new count result

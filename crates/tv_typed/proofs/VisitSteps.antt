@@ -14,8 +14,8 @@ use Rattle.tv_reader.specs.ValueType.{coded}
 use Rattle.tv_reader.specs.Version.{version_of}
 use Rattle.tv_reader.specs.declared.error.DeserializeError.{DeserializeError}
 use Rattle.tv_reader.specs.declared.error.DeserializeError.TheVariants as errors
-use Rattle.tv_reader.specs.declared.error.ValueType.{ValueType}
-use Rattle.tv_reader.specs.declared.error.ValueType.TheVariants as types
+use Rattle.tv_reader.specs.declared.value_type.ValueType.{ValueType}
+use Rattle.tv_reader.specs.declared.value_type.ValueType.TheVariants as types
 use Rattle.tv_typed.specs.Excluding.{faulty_behind}
 use Rattle.tv_typed.specs.Typed.{typed_stop, Reads}
 use Rattle.tv_typed.specs.Values.{IsLeaf, SpellsLeaf, LeafRefused, other_type, in_body, TreeRefused}

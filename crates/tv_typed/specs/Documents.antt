@@ -12,7 +12,7 @@ use Rattle.tv_value.specs.declared.field.Field.{Field}
 use Rattle.tv_reader.specs.Version.{version_of}
 use Rattle.tv_reader.specs.declared.error.DeserializeError.{DeserializeError}
 use Rattle.tv_reader.specs.declared.error.DeserializeError.TheVariants as errors
-use Rattle.tv_reader.specs.declared.error.ValueType.{ValueType}
+use Rattle.tv_reader.specs.declared.value_type.ValueType.{ValueType}
 use Rattle.tv_typed.specs.Lists.{NextItemRefused}
 use Rattle.tv_typed.specs.Typed.{Deserializes}
 use Rattle.tv_typed.specs.Values.{SpellsAs, TellsFault, NextRefused}

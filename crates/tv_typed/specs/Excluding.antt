@@ -5,15 +5,16 @@ use Rattle.tv_base.specs.declared.cause.Cause.{Cause}
 use Rattle.tv_legacy.specs.Legacy.{Legacy, LegacyFault}
 use Rattle.tv_legacy.proofs.Unique.{one_legacy, legacy_excludes}
 use Rattle.tv_value.specs.Fault.{Refusal}
+use Rattle.tv_value.specs.Leaves.{type_of}
 use Rattle.tv_value.specs.Spelling.{Spells, SpellsElements, SpellsEntries, NoLegacy}
-use Rattle.tv_value.specs.Tree.{Leaf, null, text, unsigned, signed, boolean, date, facet, bytes, ip_address, tokenized, Tree, leaf, array, object, Elements, no_elements, element, Entries, no_entries, entry}
+use Rattle.tv_value.specs.Tree.{Leaf, tokenized, Tree, leaf, array, object, Elements, no_elements, element, Entries, no_entries, entry}
 use Rattle.tv_value.specs.Version.{Version}
 use Rattle.tv_value.proofs.ExcludingTrees.{value_excludes}
 use Rattle.tv_reader.specs.Trees.{NoValue}
-use Rattle.tv_reader.specs.ValueType.{coded}
+use Rattle.tv_reader.specs.ValueType.{of_leaf, coded}
 use Rattle.tv_reader.specs.declared.error.DeserializeError.{DeserializeError}
-use Rattle.tv_reader.specs.declared.error.ValueType.{ValueType}
-use Rattle.tv_reader.specs.declared.error.ValueType.TheVariants as types
+use Rattle.tv_reader.specs.declared.value_type.ValueType.{ValueType}
+use Rattle.tv_reader.specs.declared.value_type.ValueType.TheVariants as types
 use Rattle.tv_reader.proofs.AgreeKinds.{same_coded}
 use Rattle.tv_reader.proofs.BehindKinds.{code_value}
 use Rattle.tv_typed.specs.Values.{CodeRefused, in_code, LeafRefused, other_type, in_body, TreeRefused, NextRefused, RefusalsExclude}
@@ -53,29 +54,12 @@ tree_excludes is v kind front rest e t x r p same = faulty_behind v kind front r
 
 -- the type of a leaf
 abbrev pub leaf_type : Leaf → ValueType
-leaf_type (text t) = types.String
-leaf_type (unsigned n) = types.U64
-leaf_type (signed z) = types.I64
-leaf_type (facet t) = types.Facet
-leaf_type (bytes bs) = types.Bytes
-leaf_type (date z) = types.DateTime
-leaf_type (tokenized t ts) = types.PreTokStr
-leaf_type (boolean b) = types.Bool
-leaf_type (ip_address n) = types.IpAddr
-leaf_type null = types.Null
+leaf_type l = of_leaf (type_of l)
 
 -- its code stands first
 leaf_coded : (v : Version) (whole : List ℕ) (l : Leaf) → Spells NoLegacy v whole (leaf l) → (body : List ℕ) × (whole ≡ coded (leaf_type l) ++ body)
-leaf_coded v whole (text t) p = (p.body, p.joined)
-leaf_coded v whole (unsigned n) p = (p.body, p.joined)
-leaf_coded v whole (signed z) p = (p.body, p.joined)
-leaf_coded v whole (facet t) p = (p.body, p.joined)
-leaf_coded v whole (bytes bs) p = (p.body, p.joined)
-leaf_coded v whole (date z) p = (p.body, p.joined)
 leaf_coded v whole (tokenized t ts) p = (p.spelled.body, p.joined ∙ ap (λ (l : List ℕ). 7 ∷ l) p.spelled.joined)
-leaf_coded v whole (boolean b) p = (p.body, p.joined)
-leaf_coded v whole (ip_address n) p = (p.body, p.joined)
-leaf_coded v whole null p = (p.body, p.joined)
+leaf_coded v whole _ p = (p.body, p.joined)
 
 leaf_excluded : (expected : ValueType) (l : Leaf) → leaf_type l ≡ expected → (v : Version) (kind : ValueType) (front rest : List ℕ) (e : DeserializeError) → LeafRefused expected v kind (front ++ rest) e → Spells NoLegacy v (coded kind ++ front) (leaf l) → ⊥
 leaf_excluded expected l is v kind front rest e (other_type other) p =

@@ -20,8 +20,8 @@ use Rattle.tv_value.proofs.Lists.{elements-length, entries-length}
 use Rattle.tv_value.proofs.Trees.{one_tree, agree_tree}
 use Rattle.tv_reader.specs.ValueType.{coded}
 use Rattle.tv_reader.specs.declared.error.DeserializeError.{DeserializeError}
-use Rattle.tv_reader.specs.declared.error.ValueType.{ValueType}
-use Rattle.tv_reader.specs.declared.error.ValueType.TheVariants as types
+use Rattle.tv_reader.specs.declared.value_type.ValueType.{ValueType}
+use Rattle.tv_reader.specs.declared.value_type.ValueType.TheVariants as types
 use Rattle.tv_reader.proofs.AgreeKinds.{same_coded}
 use Rattle.tv_typed.specs.Excluding.{next_excludes, with_legacy}
 use Rattle.tv_typed.specs.Lists.{ArrayOf, IsEntry, ObjectOf, Length, element_total, SpellsEntry, LengthRefused, other_collection, in_length, no_total, ItemsRefused, ArrayRefused, EntryRefused, ObjectRefused}

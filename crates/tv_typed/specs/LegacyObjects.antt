@@ -13,8 +13,8 @@ use Rattle.tv_value.specs.Version.{Version, V2}
 use Rattle.tv_reader.specs.ValueType.{coded}
 use Rattle.tv_reader.specs.declared.error.DeserializeError.{DeserializeError}
 use Rattle.tv_reader.specs.declared.error.DeserializeError.TheVariants as errors
-use Rattle.tv_reader.specs.declared.error.ValueType.{ValueType}
-use Rattle.tv_reader.specs.declared.error.ValueType.TheVariants as types
+use Rattle.tv_reader.specs.declared.value_type.ValueType.{ValueType}
+use Rattle.tv_reader.specs.declared.value_type.ValueType.TheVariants as types
 use Rattle.tv_typed.specs.Typed.{typed_stop}
 use Rattle.tv_typed.specs.Values.{SpellsAs, TreeRefused, NextRefused}
 

@@ -13,8 +13,8 @@ use Rattle.tv_value.specs.Tree.{Tree, array, object, elements, entries}
 use Rattle.tv_value.specs.Version.{Version, entry_total}
 use Rattle.tv_reader.specs.declared.error.DeserializeError.{DeserializeError}
 use Rattle.tv_reader.specs.declared.error.DeserializeError.TheVariants as errors
-use Rattle.tv_reader.specs.declared.error.ValueType.{ValueType}
-use Rattle.tv_reader.specs.declared.error.ValueType.TheVariants as types
+use Rattle.tv_reader.specs.declared.value_type.ValueType.{ValueType}
+use Rattle.tv_reader.specs.declared.value_type.ValueType.TheVariants as types
 use Rattle.tv_typed.specs.Values.{SpellsAs, TellsFault, NextRefused}
 
 -- ---- what is read of trees

@@ -16,7 +16,7 @@ use Rattle.tv_reader.specs.Trees.{NoneBehind}
 use Rattle.tv_reader.specs.ValueType.{coded, IsCoded, CodeFault}
 use Rattle.tv_reader.specs.declared.error.DeserializeError.{DeserializeError}
 use Rattle.tv_reader.specs.declared.error.DeserializeError.TheVariants as errors
-use Rattle.tv_reader.specs.declared.error.ValueType.{ValueType}
+use Rattle.tv_reader.specs.declared.value_type.ValueType.{ValueType}
 use Rattle.tv_typed.specs.Typed.{typed_stop}
 use Rattle.tv_typed.specs.declared.store_reader.StoreReader.{StoreReader}
 

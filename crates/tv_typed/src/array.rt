@@ -7,7 +7,7 @@ ghost use Rattle.tv_typed.specs.Lists.{SpellsInto, NextItem, NextItemRefused, gi
 ghost use Rattle.tv_typed.specs.Typed.{Deserializes};
 ghost use Rattle.tv_typed.specs.Values.{SpellsAs, NextRefused};
 
-use crate::deserialize::ValueDeserialize;
+use crate::de::ValueDeserialize;
 use crate::store_reader::StoreReader;
 use std::alloc::Global;
 use tv_base::ByteSource;

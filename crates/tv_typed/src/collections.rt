@@ -20,11 +20,10 @@ ghost use Rattle.tv_typed.specs.Typed.{Deserializes};
 ghost use Rattle.tv_typed.specs.Values.{SpelledAs};
 
 use crate::array::read_elements;
-use crate::deserialize::ValueDeserialize;
+use crate::de::{BinaryValueDeserializer, ValueDeserialize};
 use crate::legacy_object::{CodedObject, read_object};
 use crate::object::{read_entries, read_hashed, read_map};
 use crate::store_reader::StoreReader;
-use crate::value_deserializer::BinaryValueDeserializer;
 use std::alloc::Global;
 use std::collections::{BTreeMap, HashMap};
 use tv_base::ByteSource;

@@ -5,7 +5,7 @@ ghost use Rattle.std.specs.Borrow.{sem, RestsIfErr};
 ghost use Rattle.tv_base.specs.Number.{VNum};
 ghost use Rattle.tv_reader.specs.Version.{version_of};
 ghost use Rattle.tv_reader.specs.declared.error.DeserializeError.{DeserializeError};
-ghost use Rattle.tv_reader.specs.declared.error.ValueType.{ValueType};
+ghost use Rattle.tv_reader.specs.declared.value_type.ValueType.{ValueType};
 ghost use Rattle.tv_value.specs.Fault.{SmallField};
 ghost use Rattle.tv_value.specs.Tree.{Tree};
 ghost use Rattle.tv_value.specs.Version.{Version};
@@ -14,7 +14,7 @@ ghost use Rattle.tv_typed.specs.Lists.{NextItem, NextItemRefused, gives_some};
 ghost use Rattle.tv_typed.specs.Typed.{Reads, Deserializes};
 ghost use Rattle.tv_typed.specs.contracts.store_reader.StoreReader.{the_row};
 
-use crate::deserialize::ValueDeserialize;
+use crate::de::ValueDeserialize;
 use crate::store_reader::StoreReader;
 use std::alloc::Global;
 use tv_base::ByteSource;

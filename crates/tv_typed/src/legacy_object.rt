@@ -3,17 +3,17 @@
 ghost use Rattle.std.specs.Prelude.{◌≡◌, List, ℕ};
 ghost use Rattle.tv_reader.specs.Version.{version_of};
 ghost use Rattle.tv_reader.specs.declared.error.DeserializeError.{DeserializeError};
-ghost use Rattle.tv_reader.specs.declared.error.ValueType.{ValueType};
-ghost use Rattle.tv_reader.specs.declared.error.ValueType.TheVariants as types;
+ghost use Rattle.tv_reader.specs.declared.value_type.ValueType.{ValueType};
+ghost use Rattle.tv_reader.specs.declared.value_type.ValueType.TheVariants as types;
 ghost use Rattle.tv_typed.specs.LegacyObjects.{Retold, OfSpelling, LegacyRefused, MembersRefused};
 ghost use Rattle.tv_typed.specs.Typed.{Deserializes};
 ghost use Rattle.tv_typed.specs.Values.{SpellsAs, SpelledAs, NextRefused};
 ghost use Rattle.tv_value.specs.Tree.{Tree};
 ghost use Rattle.tv_value.specs.Version.{Version, V2};
 
+use crate::de::BinaryValueDeserializer;
 use crate::spell::spelled;
 use crate::store_reader::StoreReader;
-use crate::value_deserializer::BinaryValueDeserializer;
 use std::alloc::Global;
 use tv_base::{ByteSource, Cause, SliceSource};
 use tv_reader::{DeserializeError, DocStoreVersion, ValueType};

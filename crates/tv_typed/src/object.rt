@@ -9,7 +9,7 @@ ghost use Rattle.tv_reader.specs.declared.error.DeserializeError.TheVariants as 
 ghost use Rattle.tv_typed.specs.Lists.{SpellsInto, SpellsEntry, EntryRefused, GivesLast, NextItem, NextItemRefused, gives_some};
 ghost use Rattle.tv_typed.specs.Typed.{Deserializes};
 
-use crate::deserialize::ValueDeserialize;
+use crate::de::ValueDeserialize;
 use crate::store_reader::StoreReader;
 use std::alloc::Global;
 use std::collections::{BTreeMap, HashMap};

@@ -3,7 +3,7 @@
 ghost use Rattle.std.specs.Prelude.{◌≡◌, true, false, is_err, IfErr, OnOk, OnErr, string_bytes};
 ghost use Rattle.tv_reader.specs.ValueType.{IsCoded};
 ghost use Rattle.tv_reader.specs.Version.{version_of};
-ghost use Rattle.tv_reader.specs.declared.error.ValueType.TheVariants as types;
+ghost use Rattle.tv_reader.specs.declared.value_type.ValueType.TheVariants as types;
 ghost use Rattle.tv_value.specs.Spelling.{Key};
 ghost use Rattle.tv_value.specs.Version.{entry_total};
 ghost use Rattle.tv_typed.specs.Lists.{Length, LengthRefused, KeyRefused, element_total};

@@ -5,6 +5,7 @@ use tv_base::{Cause, SliceSource};
 use tv_date::DateTime;
 use tv_reader::heads::{Head, take_document_head, take_head, take_key_head};
 use tv_reader::{DeserializeError, DocStoreVersion, ValueType};
+use tv_value::leaf::{LeafType, ReferenceValueLeaf};
 
 /// The head at the front of these bytes, and how many of them were taken.
 fn head_of(version: DocStoreVersion, bytes: &[u8]) -> (Result<Head, DeserializeError>, u64) {
@@ -33,9 +34,9 @@ fn pairs_of(bytes: &[u8]) -> (Result<u64, DeserializeError>, u64) {
 #[test]
 fn heads_behind_a_length_or_a_number(rt: HostRuntime) {
     let cases: [(&[u8], Head, u64); 8] = [
-        (&[0, 0x83, 0x61], Head::Text(3), 2),
-        (&[3, 0x81, 0x61], Head::Facet(1), 2),
-        (&[4, 0x10, 0x82, 0], Head::Bytes(272), 3),
+        (&[0, 0x83, 0x61], Head::Length(LeafType::Str, 3), 2),
+        (&[3, 0x81, 0x61], Head::Length(LeafType::Facet, 1), 2),
+        (&[4, 0x10, 0x82, 0], Head::Length(LeafType::Bytes, 272), 3),
         (&[12, 0x82, 0x0b, 0x0b], Head::Array(2), 2),
         (&[12, 0, 0, 0x80, 0x0b], Head::Array(0), 4),
         (&[13, 0x84, 0], Head::Object(2), 2),
@@ -51,17 +52,17 @@ fn heads_behind_a_length_or_a_number(rt: HostRuntime) {
 fn heads_that_are_whole_values(rt: HostRuntime) {
     let address = Ipv6Addr::from_bits(0x2_0000_0000_0000_0001);
     let cases: [(&[u8], Head, u64); 5] = [
-        (&[11, 5], Head::Null, 1),
-        (&[1, 20, 0, 0, 0, 0, 0, 0, 0, 5], Head::U64(20), 9),
+        (&[11, 5], Head::Leaf(ReferenceValueLeaf::Null), 1),
+        (&[1, 20, 0, 0, 0, 0, 0, 0, 0, 5], Head::Leaf(ReferenceValueLeaf::U64(20)), 9),
         (
             &[2, 0xfe, 255, 255, 255, 255, 255, 255, 255],
-            Head::I64(-2),
+            Head::Leaf(ReferenceValueLeaf::I64(-2)),
             9,
         ),
-        (&[9, 1, 0], Head::Bool(true), 2),
+        (&[9, 1, 0], Head::Leaf(ReferenceValueLeaf::Bool(true)), 2),
         (
             &[10, 1, 0, 0, 0, 0, 0, 0, 0, 2, 0, 0, 0, 0, 0, 0, 0],
-            Head::IpAddr(address),
+            Head::Leaf(ReferenceValueLeaf::IpAddr(address)),
             17,
         ),
     ];
@@ -69,10 +70,10 @@ fn heads_that_are_whole_values(rt: HostRuntime) {
         assert_eq!(rt; head_of(DocStoreVersion::V2, bytes), (Ok(head), taken));
     }
     let date = [5, 3, 0, 0, 0, 0, 0, 0, 0];
-    let micros = Head::Date(DateTime::from_timestamp_nanos(3000));
-    let nanos = Head::Date(DateTime::from_timestamp_nanos(3));
-    assert_eq!(rt; head_of(DocStoreVersion::V1, &date), (Ok(micros), 9));
-    assert_eq!(rt; head_of(DocStoreVersion::V2, &date), (Ok(nanos), 9));
+    let micros = ReferenceValueLeaf::Date(DateTime::from_timestamp_nanos(3000));
+    let nanos = ReferenceValueLeaf::Date(DateTime::from_timestamp_nanos(3));
+    assert_eq!(rt; head_of(DocStoreVersion::V1, &date), (Ok(Head::Leaf(micros)), 9));
+    assert_eq!(rt; head_of(DocStoreVersion::V2, &date), (Ok(Head::Leaf(nanos)), 9));
 }
 
 #[test]

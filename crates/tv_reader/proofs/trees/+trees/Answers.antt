@@ -4,7 +4,7 @@ use Rattle.tv_reader.specs.Trees.{SpellsValue, NoValue, SpellsItems, NoItems, Sp
 use Rattle.tv_reader.specs.declared.error.DeserializeError.TheVariants as errors
 use Rattle.tv_reader.specs.Version.{version_of}
 use Rattle.tv_reader.proofs.AgreeKinds.{kind_agrees}
-use Rattle.tv_reader.proofs.BehindKinds.{code_value, leaf_type}
+use Rattle.tv_reader.proofs.BehindKinds.{code_value, is_leaf}
 use Rattle.tv_reader.proofs.Finding.{finds_part_fails, finds_short_then}
 use Rattle.tv_reader.proofs.TreeSteps.{value_then, leaf_found, leaf_fails, legacy_found, legacy_fails, array_found, array_fails, array_count_fails, items_more, items_fail, object_found, object_fails, object_count_fails, member_found, member_key_fails, member_value_fails, members_more, members_fail}
 use Rattle.tv_reader.proofs.trees.+trees.Goals as goal
@@ -62,7 +62,7 @@ take_behind-returns-in_ok-value-in-JSONObject-clause-finds g t c =
 pub take_behind-returns-in_err-value-in_default-clause-finds : goal.take_behind-returns-in_err-value-in_default-clause-finds
 take_behind-returns-in_err-value-in_default-clause-finds g t c =
     let p = err_from_is_err_and c.from_residual-in_err-value-in_default.result c.from_residual-in_err-value-in_default.ensures.1 in
-    let is = leaf_type c.args.kind c.in_default.not-Array c.in_default.not-Object c.in_default.not-JSONObject in
+    let is = is_leaf c.args.kind c.in_default.not-Array c.in_default.not-Object c.in_default.not-JSONObject in
     rw (p.1, p.2) (leaf_fails (version_of c.args.version) c.args.kind g.met.S.ByteSource.are_bytes is c.in_err-value-in_default.ensures.takes)
 
 pub take_behind-returns-in_ok-value-in_default-clause-finds : goal.take_behind-returns-in_ok-value-in_default-clause-finds

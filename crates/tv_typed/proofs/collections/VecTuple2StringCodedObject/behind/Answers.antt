@@ -5,7 +5,7 @@ use Rattle.tv_typed.specs.Values.{SpelledAs}
 use Rattle.tv_typed.proofs.ItemSteps.{object_then, collection_fails}
 use Rattle.std.proofs.lemmas.Result.{err_from_is_err_and}
 use Rattle.tv_reader.specs.Version.{version_of}
-use Rattle.tv_reader.specs.declared.error.ValueType.TheVariants as types
+use Rattle.tv_reader.specs.declared.value_type.ValueType.TheVariants as types
 use Rattle.tv_typed.proofs.DeserializeSteps.{goes_told}
 use Rattle.tv_typed.proofs.collections.VecTuple2StringCodedObject.behind.Goals as goal
 

@@ -1,5 +1,5 @@
 use Rattle.std.proofs.lemmas.Result.{err_from_is_err_and}
-use Rattle.tv_reader.specs.declared.error.ValueType.TheVariants as types
+use Rattle.tv_reader.specs.declared.value_type.ValueType.TheVariants as types
 use Rattle.tv_typed.specs.Lists.{element_total}
 use Rattle.tv_typed.proofs.ListSteps.{length_mismatch, elements_read}
 use Rattle.tv_typed.proofs.store_reader.StoreReader.array_length.Goals as goal

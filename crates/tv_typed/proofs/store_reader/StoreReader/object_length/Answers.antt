@@ -1,7 +1,7 @@
 use Rattle.std.proofs.lemmas.Result.{err_from_is_err_and}
 use Rattle.tv_value.specs.Version.{entry_total}
 use Rattle.tv_reader.specs.Version.{version_of}
-use Rattle.tv_reader.specs.declared.error.ValueType.TheVariants as types
+use Rattle.tv_reader.specs.declared.value_type.ValueType.TheVariants as types
 use Rattle.tv_typed.proofs.ListSteps.{length_mismatch, entries_read}
 use Rattle.tv_typed.proofs.store_reader.StoreReader.object_length.Goals as goal
 

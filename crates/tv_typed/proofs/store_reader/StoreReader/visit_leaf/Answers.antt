@@ -6,7 +6,7 @@ use Rattle.std.specs.Net.Addr.{ipv6_bits}
 use Rattle.tv_value.specs.HeldTokens.{token_of}
 use Rattle.tv_value.specs.Tree.{null, text, unsigned, signed, boolean, date, ip_address, facet, bytes, tokenized}
 use Rattle.tv_reader.specs.Version.{version_of}
-use Rattle.tv_reader.specs.declared.error.ValueType.TheVariants as types
+use Rattle.tv_reader.specs.declared.value_type.ValueType.TheVariants as types
 use Rattle.tv_typed.proofs.VisitSteps.{signed_same, leaf_answered, leaf_refused}
 use Rattle.tv_typed.proofs.store_reader.StoreReader.visit_leaf.Goals as goal
 

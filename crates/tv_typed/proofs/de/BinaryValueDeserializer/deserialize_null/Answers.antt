@@ -1,0 +1,25 @@
+use Rattle.std.proofs.Common.{refl}
+use Rattle.std.proofs.lemmas.Result.{err_from_is_err_and}
+use Rattle.tv_value.specs.Tree.{null}
+use Rattle.tv_reader.specs.Version.{version_of}
+use Rattle.tv_reader.specs.declared.value_type.ValueType.TheVariants as types
+use Rattle.tv_typed.proofs.TypedSteps.{null_reads, leaf_mismatch}
+use Rattle.tv_typed.proofs.DeserializeSteps.{leaf_only}
+use Rattle.tv_typed.proofs.de.BinaryValueDeserializer.deserialize_null.Goals as goal
+
+pub returns-in_err-expect-clause-reads : goal.returns-in_err-expect-clause-reads
+returns-in_err-expect-clause-reads g c =
+    let p = err_from_is_err_and c.from_residual.result c.from_residual.ensures.1 in
+    let e = c.in_err-expect.ensures in
+    rw (p.1, p.2) (leaf_mismatch _ _ _ _ _ c.args.self.kind types.Null (version_of c.args.self.reader.now.version) _ _ e.err e.source e.count e.version e.marks)
+
+pub returns-clause-reads : goal.returns-clause-reads
+returns-clause-reads g c =
+    let e = c.in_ok-expect.ensures in
+    null_reads _ _ _ _ _ (version_of c.args.self.reader.now.version) c.args.self.kind _ e.ok.2 e.ok.0 e.ok.1 e.source e.count e.version
+
+pub returns-in_err-expect-clause-only : goal.returns-in_err-expect-clause-only
+returns-in_err-expect-clause-only g c = leaf_only types.Null (λ _. null) (λ _. refl) (version_of c.args.self.reader.now.version) c.args.self.kind (returns-in_err-expect-clause-reads g c)
+
+pub returns-clause-only : goal.returns-clause-only
+returns-clause-only g c = leaf_only types.Null (λ _. null) (λ _. refl) (version_of c.args.self.reader.now.version) c.args.self.kind (returns-clause-reads g c)

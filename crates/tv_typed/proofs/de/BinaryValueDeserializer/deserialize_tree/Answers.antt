@@ -1,0 +1,24 @@
+use Rattle.std.proofs.Common.{refl}
+use Rattle.std.proofs.lemmas.Result.{err_from_is_err_and}
+use Rattle.tv_reader.specs.Trees.{SpellsBehind, NoneBehind}
+use Rattle.tv_reader.specs.Version.{version_of}
+use Rattle.tv_typed.proofs.TypedSteps.{reads_closed, told_reads}
+use Rattle.tv_typed.proofs.DeserializeSteps.{tree_only}
+use Rattle.tv_typed.proofs.de.BinaryValueDeserializer.deserialize_tree.Goals as goal
+
+pub returns-in_err-go_on-clause-reads : goal.returns-in_err-go_on-clause-reads
+returns-in_err-go_on-clause-reads g c =
+    let p = err_from_is_err_and c.from_residual.result c.from_residual.ensures.1 in
+    let e = c.in_err-go_on.ensures.err in
+    rw (p.1, p.2) (reads_closed _ _ _ _ _ _ _ _ e.0 e.1 refl refl refl e.1)
+
+pub returns-clause-reads : goal.returns-clause-reads
+returns-clause-reads g c =
+    let t = c.take_behind-answer.ensures in
+    told_reads c.args.self.reader.now _ c.take_behind-answer.result (SpellsBehind (version_of c.args.self.reader.now.version) c.args.self.kind) (NoneBehind (version_of c.args.self.reader.now.version) c.args.self.kind) c.in_ok-go_on.ensures.ok t.finds t.roomy refl refl refl c.is_err-reader.ensures.value
+
+pub returns-in_err-go_on-clause-only : goal.returns-in_err-go_on-clause-only
+returns-in_err-go_on-clause-only g c = tree_only (version_of c.args.self.reader.now.version) c.args.self.kind (returns-in_err-go_on-clause-reads g c)
+
+pub returns-clause-only : goal.returns-clause-only
+returns-clause-only g c = tree_only (version_of c.args.self.reader.now.version) c.args.self.kind (returns-clause-reads g c)

@@ -1,0 +1,685 @@
+//! Reading values out of a store: of one type, of the type that a type of this program reads, and for a visitor.
+
+ghost use Rattle.std.specs.Prelude.{◌≡◌, Ok, Err, IfOk, IfErr, string_bytes, map, true, List, [], ℕ, OnErr, refl, false, Result};
+ghost use Rattle.std.specs.Borrow.{sem, RestsIfErr};
+ghost use Rattle.std.specs.Net.Addr.{ipv6_bits};
+ghost use Rattle.tv_reader.specs.ValueType.{coded, IsCoded};
+ghost use Rattle.tv_typed.specs.Typed.{Reads, Deserializes};
+ghost use Rattle.tv_typed.specs.Values.{CodeRefused, IsLeaf, IsTree, SpellsLeaf, LeafRefused, TreeRefused, Only, SpellsAs, SpelledAs, NextRefused, RefusalsExclude};
+ghost use Rattle.tv_reader.specs.Trees.{SpellsBehind};
+ghost use Rattle.tv_reader.specs.Version.{version_of};
+ghost use Rattle.tv_reader.specs.declared.value_type.ValueType.{ValueType};
+ghost use Rattle.tv_reader.specs.declared.value_type.ValueType.TheVariants as types;
+ghost use Rattle.tv_value.specs.HeldTokens.{token_of};
+ghost use Rattle.tv_value.specs.Tree.{null, text, unsigned, signed, boolean, date, facet, bytes, ip_address, tokenized, Tree, Leaf};
+ghost use Rattle.tv_typed.specs.Excluding.{leaf_excludes, tree_excludes};
+ghost use Rattle.tv_typed.specs.Lists.{SpellsEntry, EntryRefused, element_total};
+ghost use Rattle.tv_reader.specs.declared.error.DeserializeError.{DeserializeError};
+ghost use Rattle.tv_value.specs.Version.{Version, entry_total};
+ghost use Rattle.tv_reader.specs.Leaves.{is_leaf_type};
+ghost use Rattle.tv_typed.specs.Visits.{Visits, TakesSome, VisitsItems, VisitsLegacy};
+
+use crate::array::BinaryArrayDeserializer;
+use crate::object::BinaryObjectDeserializer;
+use crate::spell::spelled;
+use crate::store_reader::StoreReader;
+use std::alloc::Global;
+use std::net::Ipv6Addr;
+use tv_base::take::{take_bool, take_bytes, take_facet, take_i64, take_string, take_u64};
+use tv_base::{ByteSource, Facet, SliceSource};
+use tv_reader::leaves::{take_date, take_ip_address, take_tokenized};
+use tv_reader::trees::take_behind;
+use tv_reader::{DeserializeError, DocStoreVersion, ValueType};
+use tv_value::date_time::DateTime;
+use tv_value::owned_value::OwnedValue;
+use tv_value::tokenizer::PreTokenizedString;
+
+/// A value whose code was read. Each call reads the value behind it.
+///
+/// A call for one type answers `TypeMismatch` where the value is of another type, and nothing more is taken then;
+/// `CorruptedValue` where its bytes spell none, and just the bytes that show the cause are taken then; `Io` where the source
+/// failed; `Memory`; and `AlreadyFailed` where an earlier read was refused. A refusal is marked in the reader.
+#[derive(Drop)]
+pub struct BinaryValueDeserializer<'de, S: ByteSource> {
+    pub(crate) kind: ValueType,
+    pub(crate) reader: &'de mut StoreReader<S>,
+}
+
+impl<'de, S: ByteSource> BinaryValueDeserializer<'de, S> {
+    ghost use Rattle.tv_typed.specs.contracts.store_reader.StoreReader.{the_row};
+
+    /// Reads the code of the next value, which tells its type. Errors: `CorruptedValue` where no type has that code, and just the
+    /// bytes that show it were taken then; `Io`; and `AlreadyFailed` where an earlier read was refused. A refusal is marked in the
+    /// reader.
+    pub fn from_reader(
+        reader: &'de mut StoreReader<S>,
+    ) -> Result<BinaryValueDeserializer<'de, S>, DeserializeError>
+        ensures* rests { sem 𝓛 (RestsIfErr (the_row S.row) reader.entry (λ d. d.reader.ghost_name) result (λ now. IfErr result (λ e. Reads {X = ValueType} S.tells S.left S.faults reader.entry.now now (Err e) IsCoded CodeRefused))) }
+        ensures same_reader { IfOk result (λ d. d.reader.ghost_name ≡ reader.entry.ghost_name) }
+        ensures reads { IfOk result (λ d. Reads S.tells S.left S.faults reader.entry.now d.reader.now (Ok d.kind) IsCoded CodeRefused) }
+    {
+        let kind = reader.code()?;
+        Ok(BinaryValueDeserializer { kind, reader })
+    }
+
+    /// Reads a value of any type, to any depth, legacy objects too. Nothing is reserved from announced numbers.
+    ///
+    /// Errors, the first fault in reading order: `CorruptedValue`;
+    /// `TypeMismatch` where in a key's place stands a value that isn't a text; `Io`; `Memory`; `AlreadyFailed`.
+    pub fn deserialize_tree(self, alloc: Global) -> Result<OwnedValue, DeserializeError>
+        ensures reads { Reads S.tells S.left S.faults self.entry.reader.now self.exit.1.0.now result (SpellsBehind (version_of self.entry.reader.now.version) self.entry.kind) (TreeRefused (version_of self.entry.reader.now.version) self.entry.kind) }
+        ensures only { Only S.tells S.left self.entry.reader.now self.exit.1.0.now result IsTree (version_of self.entry.reader.now.version) (coded self.entry.kind) }
+    {
+        let BinaryValueDeserializer { kind, reader } = self;
+        reader.go_on()?;
+        let version = reader.version;
+        let answer = take_behind(alloc, &mut reader.source, &mut reader.count, version, kind);
+        reader.has_failed = answer.is_err();
+        answer
+    }
+
+    /// Reads null.
+    pub fn deserialize_null(self) -> Result<(), DeserializeError>
+        ensures reads { Reads S.tells S.left S.faults self.entry.reader.now self.exit.1.0.now result (SpellsLeaf (version_of self.entry.reader.now.version) self.entry.kind (λ _. null)) (LeafRefused types.Null (version_of self.entry.reader.now.version) self.entry.kind) }
+        ensures only { Only S.tells S.left self.entry.reader.now self.exit.1.0.now result (IsLeaf (λ _. null)) (version_of self.entry.reader.now.version) (coded self.entry.kind) }
+    {
+        let BinaryValueDeserializer { kind, reader } = self;
+        reader.expect(kind, ValueType::Null)?;
+        Ok(())
+    }
+
+    /// Reads a number from 0 to 2^64 - 1.
+    pub fn deserialize_u64(self) -> Result<u64, DeserializeError>
+        ensures reads { Reads S.tells S.left S.faults self.entry.reader.now self.exit.1.0.now result (SpellsLeaf (version_of self.entry.reader.now.version) self.entry.kind (λ n. unsigned n)) (LeafRefused types.U64 (version_of self.entry.reader.now.version) self.entry.kind) }
+        ensures only { Only S.tells S.left self.entry.reader.now self.exit.1.0.now result (IsLeaf (λ n. unsigned n)) (version_of self.entry.reader.now.version) (coded self.entry.kind) }
+    {
+        let BinaryValueDeserializer { kind, reader } = self;
+        reader.expect(kind, ValueType::U64)?;
+        let answer = take_u64(&mut reader.source, &mut reader.count);
+        reader.marked(answer)
+    }
+
+    /// Reads a number from -2^63 to 2^63 - 1.
+    pub fn deserialize_i64(self) -> Result<i64, DeserializeError>
+        ensures reads { Reads S.tells S.left S.faults self.entry.reader.now self.exit.1.0.now result (SpellsLeaf (version_of self.entry.reader.now.version) self.entry.kind (λ z. signed z)) (LeafRefused types.I64 (version_of self.entry.reader.now.version) self.entry.kind) }
+        ensures only { Only S.tells S.left self.entry.reader.now self.exit.1.0.now result (IsLeaf (λ z. signed z)) (version_of self.entry.reader.now.version) (coded self.entry.kind) }
+    {
+        let BinaryValueDeserializer { kind, reader } = self;
+        reader.expect(kind, ValueType::I64)?;
+        let answer = take_i64(&mut reader.source, &mut reader.count);
+        reader.marked(answer)
+    }
+
+    /// Reads a truth value.
+    pub fn deserialize_bool(self) -> Result<bool, DeserializeError>
+        ensures reads { Reads S.tells S.left S.faults self.entry.reader.now self.exit.1.0.now result (SpellsLeaf (version_of self.entry.reader.now.version) self.entry.kind (λ b. boolean b)) (LeafRefused types.Bool (version_of self.entry.reader.now.version) self.entry.kind) }
+        ensures only { Only S.tells S.left self.entry.reader.now self.exit.1.0.now result (IsLeaf (λ b. boolean b)) (version_of self.entry.reader.now.version) (coded self.entry.kind) }
+    {
+        let BinaryValueDeserializer { kind, reader } = self;
+        reader.expect(kind, ValueType::Bool)?;
+        let answer = take_bool(&mut reader.source, &mut reader.count);
+        reader.marked(answer)
+    }
+
+    /// Reads a text.
+    pub fn deserialize_string(self, alloc: Global) -> Result<String, DeserializeError>
+        ensures reads { Reads S.tells S.left S.faults self.entry.reader.now self.exit.1.0.now result (SpellsLeaf (version_of self.entry.reader.now.version) self.entry.kind (λ s. text (string_bytes s))) (LeafRefused types.String (version_of self.entry.reader.now.version) self.entry.kind) }
+        ensures only { Only S.tells S.left self.entry.reader.now self.exit.1.0.now result (IsLeaf (λ s. text (string_bytes s))) (version_of self.entry.reader.now.version) (coded self.entry.kind) }
+    {
+        let BinaryValueDeserializer { kind, reader } = self;
+        reader.expect(kind, ValueType::String)?;
+        let answer = take_string(alloc, &mut reader.source, &mut reader.count);
+        reader.marked(answer)
+    }
+
+    /// Reads a facet.
+    pub fn deserialize_facet(self, alloc: Global) -> Result<Facet, DeserializeError>
+        ensures reads { Reads S.tells S.left S.faults self.entry.reader.now self.exit.1.0.now result (SpellsLeaf (version_of self.entry.reader.now.version) self.entry.kind (λ f. facet f)) (LeafRefused types.Facet (version_of self.entry.reader.now.version) self.entry.kind) }
+        ensures only { Only S.tells S.left self.entry.reader.now self.exit.1.0.now result (IsLeaf (λ f. facet f)) (version_of self.entry.reader.now.version) (coded self.entry.kind) }
+    {
+        let BinaryValueDeserializer { kind, reader } = self;
+        reader.expect(kind, ValueType::Facet)?;
+        let answer = take_facet(alloc, &mut reader.source, &mut reader.count);
+        reader.marked(answer)
+    }
+
+    /// Reads bytes.
+    pub fn deserialize_bytes(self, alloc: Global) -> Result<Vec<u8>, DeserializeError>
+        ensures reads { Reads S.tells S.left S.faults self.entry.reader.now self.exit.1.0.now result (SpellsLeaf (version_of self.entry.reader.now.version) self.entry.kind (λ v. bytes v.items)) (LeafRefused types.Bytes (version_of self.entry.reader.now.version) self.entry.kind) }
+        ensures only { Only S.tells S.left self.entry.reader.now self.exit.1.0.now result (IsLeaf (λ v. bytes v.items)) (version_of self.entry.reader.now.version) (coded self.entry.kind) }
+    {
+        let BinaryValueDeserializer { kind, reader } = self;
+        reader.expect(kind, ValueType::Bytes)?;
+        let answer = take_bytes(alloc, &mut reader.source, &mut reader.count);
+        reader.marked(answer)
+    }
+
+    /// Reads a date: microseconds in version 1, and nanoseconds in version 2.
+    pub fn deserialize_datetime(self) -> Result<DateTime, DeserializeError>
+        ensures reads { Reads S.tells S.left S.faults self.entry.reader.now self.exit.1.0.now result (SpellsLeaf (version_of self.entry.reader.now.version) self.entry.kind (λ d. date d.nanoseconds)) (LeafRefused types.DateTime (version_of self.entry.reader.now.version) self.entry.kind) }
+        ensures only { Only S.tells S.left self.entry.reader.now self.exit.1.0.now result (IsLeaf (λ d. date d.nanoseconds)) (version_of self.entry.reader.now.version) (coded self.entry.kind) }
+    {
+        let BinaryValueDeserializer { kind, reader } = self;
+        reader.expect(kind, ValueType::DateTime)?;
+        let answer = take_date(&mut reader.source, &mut reader.count, reader.version);
+        reader.marked(answer)
+    }
+
+    /// Reads an IP address.
+    pub fn deserialize_ip_address(self) -> Result<Ipv6Addr, DeserializeError>
+        ensures reads { Reads S.tells S.left S.faults self.entry.reader.now self.exit.1.0.now result (SpellsLeaf (version_of self.entry.reader.now.version) self.entry.kind (λ a. ip_address (ipv6_bits a))) (LeafRefused types.IpAddr (version_of self.entry.reader.now.version) self.entry.kind) }
+        ensures only { Only S.tells S.left self.entry.reader.now self.exit.1.0.now result (IsLeaf (λ a. ip_address (ipv6_bits a))) (version_of self.entry.reader.now.version) (coded self.entry.kind) }
+    {
+        let BinaryValueDeserializer { kind, reader } = self;
+        reader.expect(kind, ValueType::IpAddr)?;
+        let answer = take_ip_address(&mut reader.source, &mut reader.count);
+        reader.marked(answer)
+    }
+
+    /// Reads a text and its tokens.
+    pub fn deserialize_pre_tokenized_string(
+        self,
+        alloc: Global,
+    ) -> Result<PreTokenizedString, DeserializeError>
+        ensures reads { Reads S.tells S.left S.faults self.entry.reader.now self.exit.1.0.now result (SpellsLeaf (version_of self.entry.reader.now.version) self.entry.kind (λ s. tokenized (string_bytes s.text) (map token_of s.tokens.items))) (LeafRefused types.PreTokStr (version_of self.entry.reader.now.version) self.entry.kind) }
+        ensures only { Only S.tells S.left self.entry.reader.now self.exit.1.0.now result (IsLeaf (λ s. tokenized (string_bytes s.text) (map token_of s.tokens.items))) (version_of self.entry.reader.now.version) (coded self.entry.kind) }
+    {
+        let BinaryValueDeserializer { kind, reader } = self;
+        reader.expect(kind, ValueType::PreTokStr)?;
+        let answer = take_tokenized(alloc, &mut reader.source, &mut reader.count);
+        reader.marked(answer)
+    }
+}
+
+/// A type of which values are read out of a store.
+pub trait ValueDeserialize: Sized + Drop {
+    /// Which values are read of which trees.
+    ghost is: { Tree → Self → Type 0 };
+
+    /// Which refusal bytes behind the code of a type have: the first fault in reading order.
+    ghost refused: { Version → ValueType → List ℕ → DeserializeError → Type 0 };
+
+    /// Reads the value whose code was read. The errors are those of `BinaryValueDeserializer`, and `Custom`.
+    fn deserialize<S: ByteSource>(
+        alloc: Global,
+        deserializer: BinaryValueDeserializer<'_, S>,
+    ) -> Result<Self, DeserializeError>
+        ensures deserializes { Deserializes S.tells S.left deserializer.entry.reader.now deserializer.exit.1.0.now result (SpelledAs is (version_of deserializer.entry.reader.now.version) deserializer.entry.kind) (refused (version_of deserializer.entry.reader.now.version) deserializer.entry.kind) };
+
+    /// Where bytes behind the code of a type are refused, no front of them spells a tree of which a value is read.
+    ghost excludes: { RefusalsExclude is refused };
+}
+
+impl<S: ByteSource> StoreReader<S> {
+    /// Reads the next value: its code, and what stands behind it. Errors: those of `BinaryValueDeserializer::from_reader` and of
+    /// the type's own `deserialize`. Each is marked, whoever it is of, so that every later read answers `AlreadyFailed`.
+    pub fn read<V: ValueDeserialize>(&mut self, alloc: Global) -> Result<V, DeserializeError>
+        ensures deserializes { Deserializes S.tells S.left self.old self.new result (SpellsAs V.is (version_of self.old.version)) (NextRefused V.refused (version_of self.old.version)) }
+        ensures only { Only S.tells S.left self.old self.new result V.is (version_of self.old.version) [] }
+        ensures marks { OnErr result (self.new.has_failed ≡ true) }
+    {
+        let kind = self.code()?;
+        match V::deserialize(alloc, BinaryValueDeserializer { kind, reader: self }) {
+            Ok(value) => Ok(value),
+            Err(refusal) => {
+                self.has_failed = true;
+                Err(refusal)
+            }
+        }
+    }
+
+    // Reads the next key, and the value behind it.
+    pub(crate) fn entry<V: ValueDeserialize>(
+        &mut self,
+        alloc: Global,
+    ) -> Result<(String, V), DeserializeError>
+        ensures deserializes { Deserializes S.tells S.left self.old self.new result (SpellsEntry V.is (version_of self.old.version)) (EntryRefused V.refused (version_of self.old.version)) }
+        ensures marks { OnErr result (self.new.has_failed ≡ true) }
+    {
+        let key = self.key(alloc)?;
+        let value = self.read::<V>(alloc)?;
+        Ok((key, value))
+    }
+}
+
+impl ValueDeserialize for u64 {
+    ghost is = { IsLeaf (λ n. unsigned n) };
+
+    ghost refused = { LeafRefused types.U64 };
+
+    fn deserialize<S: ByteSource>(
+        _alloc: Global,
+        deserializer: BinaryValueDeserializer<'_, S>,
+    ) -> Result<u64, DeserializeError>
+        ensures deserializes { Deserializes S.tells S.left deserializer.entry.reader.now deserializer.exit.1.0.now result (SpelledAs (IsLeaf (λ n. unsigned n)) (version_of deserializer.entry.reader.now.version) deserializer.entry.kind) (LeafRefused types.U64 (version_of deserializer.entry.reader.now.version) deserializer.entry.kind) }
+        ensures reads { Reads S.tells S.left S.faults deserializer.entry.reader.now deserializer.exit.1.0.now result (SpellsLeaf (version_of deserializer.entry.reader.now.version) deserializer.entry.kind (λ n. unsigned n)) (LeafRefused types.U64 (version_of deserializer.entry.reader.now.version) deserializer.entry.kind) }
+    {
+        deserializer.deserialize_u64()
+    }
+
+    ghost excludes = { λ v kind front rest e t n refused spelled is. leaf_excludes types.U64 (unsigned n) refl v kind front rest e t refused spelled is };
+}
+
+impl ValueDeserialize for i64 {
+    ghost is = { IsLeaf (λ z. signed z) };
+
+    ghost refused = { LeafRefused types.I64 };
+
+    fn deserialize<S: ByteSource>(
+        _alloc: Global,
+        deserializer: BinaryValueDeserializer<'_, S>,
+    ) -> Result<i64, DeserializeError>
+        ensures deserializes { Deserializes S.tells S.left deserializer.entry.reader.now deserializer.exit.1.0.now result (SpelledAs (IsLeaf (λ z. signed z)) (version_of deserializer.entry.reader.now.version) deserializer.entry.kind) (LeafRefused types.I64 (version_of deserializer.entry.reader.now.version) deserializer.entry.kind) }
+        ensures reads { Reads S.tells S.left S.faults deserializer.entry.reader.now deserializer.exit.1.0.now result (SpellsLeaf (version_of deserializer.entry.reader.now.version) deserializer.entry.kind (λ z. signed z)) (LeafRefused types.I64 (version_of deserializer.entry.reader.now.version) deserializer.entry.kind) }
+    {
+        deserializer.deserialize_i64()
+    }
+
+    ghost excludes = { λ v kind front rest e t z refused spelled is. leaf_excludes types.I64 (signed z) refl v kind front rest e t refused spelled is };
+}
+
+impl ValueDeserialize for bool {
+    ghost is = { IsLeaf (λ b. boolean b) };
+
+    ghost refused = { LeafRefused types.Bool };
+
+    fn deserialize<S: ByteSource>(
+        _alloc: Global,
+        deserializer: BinaryValueDeserializer<'_, S>,
+    ) -> Result<bool, DeserializeError>
+        ensures deserializes { Deserializes S.tells S.left deserializer.entry.reader.now deserializer.exit.1.0.now result (SpelledAs (IsLeaf (λ b. boolean b)) (version_of deserializer.entry.reader.now.version) deserializer.entry.kind) (LeafRefused types.Bool (version_of deserializer.entry.reader.now.version) deserializer.entry.kind) }
+        ensures reads { Reads S.tells S.left S.faults deserializer.entry.reader.now deserializer.exit.1.0.now result (SpellsLeaf (version_of deserializer.entry.reader.now.version) deserializer.entry.kind (λ b. boolean b)) (LeafRefused types.Bool (version_of deserializer.entry.reader.now.version) deserializer.entry.kind) }
+    {
+        deserializer.deserialize_bool()
+    }
+
+    ghost excludes = { λ v kind front rest e t b refused spelled is. leaf_excludes types.Bool (boolean b) refl v kind front rest e t refused spelled is };
+}
+
+impl ValueDeserialize for String {
+    ghost is = { IsLeaf (λ s. text (string_bytes s)) };
+
+    ghost refused = { LeafRefused types.String };
+
+    fn deserialize<S: ByteSource>(
+        alloc: Global,
+        deserializer: BinaryValueDeserializer<'_, S>,
+    ) -> Result<String, DeserializeError>
+        ensures deserializes { Deserializes S.tells S.left deserializer.entry.reader.now deserializer.exit.1.0.now result (SpelledAs (IsLeaf (λ s. text (string_bytes s))) (version_of deserializer.entry.reader.now.version) deserializer.entry.kind) (LeafRefused types.String (version_of deserializer.entry.reader.now.version) deserializer.entry.kind) }
+        ensures reads { Reads S.tells S.left S.faults deserializer.entry.reader.now deserializer.exit.1.0.now result (SpellsLeaf (version_of deserializer.entry.reader.now.version) deserializer.entry.kind (λ s. text (string_bytes s))) (LeafRefused types.String (version_of deserializer.entry.reader.now.version) deserializer.entry.kind) }
+    {
+        deserializer.deserialize_string(alloc)
+    }
+
+    ghost excludes = { λ v kind front rest e t s refused spelled is. leaf_excludes types.String (text (string_bytes s)) refl v kind front rest e t refused spelled is };
+}
+
+impl ValueDeserialize for Facet {
+    ghost is = { IsLeaf (λ f. facet f) };
+
+    ghost refused = { LeafRefused types.Facet };
+
+    fn deserialize<S: ByteSource>(
+        alloc: Global,
+        deserializer: BinaryValueDeserializer<'_, S>,
+    ) -> Result<Facet, DeserializeError>
+        ensures deserializes { Deserializes S.tells S.left deserializer.entry.reader.now deserializer.exit.1.0.now result (SpelledAs (IsLeaf (λ f. facet f)) (version_of deserializer.entry.reader.now.version) deserializer.entry.kind) (LeafRefused types.Facet (version_of deserializer.entry.reader.now.version) deserializer.entry.kind) }
+        ensures reads { Reads S.tells S.left S.faults deserializer.entry.reader.now deserializer.exit.1.0.now result (SpellsLeaf (version_of deserializer.entry.reader.now.version) deserializer.entry.kind (λ f. facet f)) (LeafRefused types.Facet (version_of deserializer.entry.reader.now.version) deserializer.entry.kind) }
+    {
+        deserializer.deserialize_facet(alloc)
+    }
+
+    ghost excludes = { λ v kind front rest e t f refused spelled is. leaf_excludes types.Facet (facet f) refl v kind front rest e t refused spelled is };
+}
+
+impl ValueDeserialize for Vec<u8> {
+    ghost is = { IsLeaf (λ v. bytes v.items) };
+
+    ghost refused = { LeafRefused types.Bytes };
+
+    fn deserialize<S: ByteSource>(
+        alloc: Global,
+        deserializer: BinaryValueDeserializer<'_, S>,
+    ) -> Result<Vec<u8>, DeserializeError>
+        ensures deserializes { Deserializes S.tells S.left deserializer.entry.reader.now deserializer.exit.1.0.now result (SpelledAs (IsLeaf (λ v. bytes v.items)) (version_of deserializer.entry.reader.now.version) deserializer.entry.kind) (LeafRefused types.Bytes (version_of deserializer.entry.reader.now.version) deserializer.entry.kind) }
+        ensures reads { Reads S.tells S.left S.faults deserializer.entry.reader.now deserializer.exit.1.0.now result (SpellsLeaf (version_of deserializer.entry.reader.now.version) deserializer.entry.kind (λ v. bytes v.items)) (LeafRefused types.Bytes (version_of deserializer.entry.reader.now.version) deserializer.entry.kind) }
+    {
+        deserializer.deserialize_bytes(alloc)
+    }
+
+    ghost excludes = { λ v kind front rest e t list refused spelled is. leaf_excludes types.Bytes (bytes list.items) refl v kind front rest e t refused spelled is };
+}
+
+impl ValueDeserialize for DateTime {
+    ghost is = { IsLeaf (λ d. date d.nanoseconds) };
+
+    ghost refused = { LeafRefused types.DateTime };
+
+    fn deserialize<S: ByteSource>(
+        _alloc: Global,
+        deserializer: BinaryValueDeserializer<'_, S>,
+    ) -> Result<DateTime, DeserializeError>
+        ensures deserializes { Deserializes S.tells S.left deserializer.entry.reader.now deserializer.exit.1.0.now result (SpelledAs (IsLeaf (λ d. date d.nanoseconds)) (version_of deserializer.entry.reader.now.version) deserializer.entry.kind) (LeafRefused types.DateTime (version_of deserializer.entry.reader.now.version) deserializer.entry.kind) }
+        ensures reads { Reads S.tells S.left S.faults deserializer.entry.reader.now deserializer.exit.1.0.now result (SpellsLeaf (version_of deserializer.entry.reader.now.version) deserializer.entry.kind (λ d. date d.nanoseconds)) (LeafRefused types.DateTime (version_of deserializer.entry.reader.now.version) deserializer.entry.kind) }
+    {
+        deserializer.deserialize_datetime()
+    }
+
+    ghost excludes = { λ v kind front rest e t d refused spelled is. leaf_excludes types.DateTime (date d.nanoseconds) refl v kind front rest e t refused spelled is };
+}
+
+impl ValueDeserialize for Ipv6Addr {
+    ghost is = { IsLeaf (λ a. ip_address (ipv6_bits a)) };
+
+    ghost refused = { LeafRefused types.IpAddr };
+
+    fn deserialize<S: ByteSource>(
+        _alloc: Global,
+        deserializer: BinaryValueDeserializer<'_, S>,
+    ) -> Result<Ipv6Addr, DeserializeError>
+        ensures deserializes { Deserializes S.tells S.left deserializer.entry.reader.now deserializer.exit.1.0.now result (SpelledAs (IsLeaf (λ a. ip_address (ipv6_bits a))) (version_of deserializer.entry.reader.now.version) deserializer.entry.kind) (LeafRefused types.IpAddr (version_of deserializer.entry.reader.now.version) deserializer.entry.kind) }
+        ensures reads { Reads S.tells S.left S.faults deserializer.entry.reader.now deserializer.exit.1.0.now result (SpellsLeaf (version_of deserializer.entry.reader.now.version) deserializer.entry.kind (λ a. ip_address (ipv6_bits a))) (LeafRefused types.IpAddr (version_of deserializer.entry.reader.now.version) deserializer.entry.kind) }
+    {
+        deserializer.deserialize_ip_address()
+    }
+
+    ghost excludes = { λ v kind front rest e t a refused spelled is. leaf_excludes types.IpAddr (ip_address (ipv6_bits a)) refl v kind front rest e t refused spelled is };
+}
+
+impl ValueDeserialize for PreTokenizedString {
+    ghost is = { IsLeaf (λ s. tokenized (string_bytes s.text) (map token_of s.tokens.items)) };
+
+    ghost refused = { LeafRefused types.PreTokStr };
+
+    fn deserialize<S: ByteSource>(
+        alloc: Global,
+        deserializer: BinaryValueDeserializer<'_, S>,
+    ) -> Result<PreTokenizedString, DeserializeError>
+        ensures deserializes { Deserializes S.tells S.left deserializer.entry.reader.now deserializer.exit.1.0.now result (SpelledAs (IsLeaf (λ s. tokenized (string_bytes s.text) (map token_of s.tokens.items))) (version_of deserializer.entry.reader.now.version) deserializer.entry.kind) (LeafRefused types.PreTokStr (version_of deserializer.entry.reader.now.version) deserializer.entry.kind) }
+        ensures reads { Reads S.tells S.left S.faults deserializer.entry.reader.now deserializer.exit.1.0.now result (SpellsLeaf (version_of deserializer.entry.reader.now.version) deserializer.entry.kind (λ s. tokenized (string_bytes s.text) (map token_of s.tokens.items))) (LeafRefused types.PreTokStr (version_of deserializer.entry.reader.now.version) deserializer.entry.kind) }
+    {
+        deserializer.deserialize_pre_tokenized_string(alloc)
+    }
+
+    ghost excludes = { λ v kind front rest e t s refused spelled is. leaf_excludes types.PreTokStr (tokenized (string_bytes s.text) (map token_of s.tokens.items)) refl v kind front rest e t refused spelled is };
+}
+
+impl ValueDeserialize for OwnedValue {
+    ghost is = { IsTree };
+
+    ghost refused = { TreeRefused };
+
+    fn deserialize<S: ByteSource>(
+        alloc: Global,
+        deserializer: BinaryValueDeserializer<'_, S>,
+    ) -> Result<OwnedValue, DeserializeError>
+        ensures deserializes { Deserializes S.tells S.left deserializer.entry.reader.now deserializer.exit.1.0.now result (SpelledAs IsTree (version_of deserializer.entry.reader.now.version) deserializer.entry.kind) (TreeRefused (version_of deserializer.entry.reader.now.version) deserializer.entry.kind) }
+        ensures reads { Reads S.tells S.left S.faults deserializer.entry.reader.now deserializer.exit.1.0.now result (SpellsBehind (version_of deserializer.entry.reader.now.version) deserializer.entry.kind) (TreeRefused (version_of deserializer.entry.reader.now.version) deserializer.entry.kind) }
+    {
+        deserializer.deserialize_tree(alloc)
+    }
+
+    ghost excludes = { tree_excludes IsTree };
+}
+
+/// What makes a value of whatever stands in a store, by a call for each type.
+///
+/// A visitor gives each call for a value that isn't an array or an object, and says by `answers` what it answers. Where it takes no
+/// value of a type, it answers `UnsupportedType` of that type. The calls for arrays and objects do so where they aren't given.
+pub trait ValueVisitor {
+    /// What is made.
+    type Value;
+
+    /// What may be answered for a value that isn't an array or an object.
+    ghost answers: { Self → Leaf → Result Self.Value DeserializeError → Type 0 };
+
+    /// Null stands there.
+    fn visit_null(&self, value: ()) -> Result<Self::Value, DeserializeError>
+        ensures { answers self.now null result };
+
+    /// A text stands there.
+    fn visit_string(&self, value: String) -> Result<Self::Value, DeserializeError>
+        ensures { answers self.now (text (string_bytes value)) result };
+
+    /// A number from 0 to 2^64 - 1 stands there.
+    fn visit_u64(&self, value: u64) -> Result<Self::Value, DeserializeError>
+        ensures { answers self.now (unsigned value) result };
+
+    /// A number from -2^63 to 2^63 - 1 stands there.
+    fn visit_i64(&self, value: i64) -> Result<Self::Value, DeserializeError>
+        ensures { answers self.now (signed value) result };
+
+    /// A truth value stands there.
+    fn visit_bool(&self, value: bool) -> Result<Self::Value, DeserializeError>
+        ensures { answers self.now (boolean value) result };
+
+    /// A date stands there.
+    fn visit_datetime(&self, value: DateTime) -> Result<Self::Value, DeserializeError>
+        ensures { answers self.now (date value.nanoseconds) result };
+
+    /// An IP address stands there.
+    fn visit_ip_address(&self, value: Ipv6Addr) -> Result<Self::Value, DeserializeError>
+        ensures { answers self.now (ip_address (ipv6_bits value)) result };
+
+    /// A facet stands there.
+    fn visit_facet(&self, value: Facet) -> Result<Self::Value, DeserializeError>
+        ensures { answers self.now (facet value) result };
+
+    /// Bytes stand there.
+    fn visit_bytes(&self, value: Vec<u8>) -> Result<Self::Value, DeserializeError>
+        ensures { answers self.now (bytes value.items) result };
+
+    /// A text with its tokens stands there.
+    fn visit_pre_tokenized_string(
+        &self,
+        value: PreTokenizedString,
+    ) -> Result<Self::Value, DeserializeError>
+        ensures { answers self.now (tokenized (string_bytes value.text) (map token_of value.tokens.items)) result };
+
+    /// An array stands there, whose number of values was read. Where a visitor takes none, it answers `UnsupportedType`.
+    fn visit_array<S: ByteSource>(
+        &self,
+        alloc: Global,
+        access: BinaryArrayDeserializer<'_, S>,
+    ) -> Result<Self::Value, DeserializeError>
+        requires first { access.position ≡ 0 }
+        requires open { access.reader.now.has_failed ≡ false }
+        ensures { TakesSome S.tells S.left access.entry.reader.now access.exit.1.1.0.now }
+    {
+        let _ = alloc;
+        let _ = access;
+        Err(DeserializeError::UnsupportedType(ValueType::Array))
+    }
+
+    /// An object stands there, whose number of entries was read. Where a visitor takes none, it answers `UnsupportedType`.
+    fn visit_object<S: ByteSource>(
+        &self,
+        alloc: Global,
+        access: BinaryObjectDeserializer<'_, S>,
+    ) -> Result<Self::Value, DeserializeError>
+        requires first { access.position ≡ 0 }
+        requires open { access.reader.now.has_failed ≡ false }
+        ensures { TakesSome S.tells S.left access.entry.reader.now access.exit.1.1.0.now }
+    {
+        let _ = alloc;
+        let _ = access;
+        Err(DeserializeError::UnsupportedType(ValueType::Object))
+    }
+}
+
+impl<S: ByteSource> StoreReader<S> {
+    // Hands the visitor what stands behind the code of a type that isn't one of arrays or objects. What it refuses isn't marked yet.
+    fn visit_leaf<V: ValueVisitor>(
+        &mut self,
+        alloc: Global,
+        kind: ValueType,
+        visitor: &V,
+    ) -> Result<V::Value, DeserializeError>
+        ensures { is_leaf_type kind ≡ true → Visits S.tells S.left S.faults self.old self.new kind (V.answers visitor.now) result }
+    {
+        let leaf = BinaryValueDeserializer { kind, reader: self };
+        match kind {
+            ValueType::Null => {
+                let value = leaf.deserialize_null()?;
+                visitor.visit_null(value)
+            }
+            ValueType::String => {
+                let value = leaf.deserialize_string(alloc)?;
+                visitor.visit_string(value)
+            }
+            ValueType::U64 => {
+                let value = leaf.deserialize_u64()?;
+                visitor.visit_u64(value)
+            }
+            ValueType::I64 => {
+                let value = leaf.deserialize_i64()?;
+                visitor.visit_i64(value)
+            }
+            ValueType::Bool => {
+                let value = leaf.deserialize_bool()?;
+                visitor.visit_bool(value)
+            }
+            ValueType::DateTime => {
+                let value = leaf.deserialize_datetime()?;
+                visitor.visit_datetime(value)
+            }
+            ValueType::IpAddr => {
+                let value = leaf.deserialize_ip_address()?;
+                visitor.visit_ip_address(value)
+            }
+            ValueType::Facet => {
+                let value = leaf.deserialize_facet(alloc)?;
+                visitor.visit_facet(value)
+            }
+            ValueType::Bytes => {
+                let value = leaf.deserialize_bytes(alloc)?;
+                visitor.visit_bytes(value)
+            }
+            ValueType::PreTokStr => {
+                let value = leaf.deserialize_pre_tokenized_string(alloc)?;
+                visitor.visit_pre_tokenized_string(value)
+            }
+            ValueType::JSONObject | ValueType::Array | ValueType::Object => {
+                Err(DeserializeError::UnsupportedType(kind))
+            }
+        }
+    }
+
+    // Hands the visitor the values of an array, once their number is read. What it refuses isn't marked yet.
+    fn visit_elements<V: ValueVisitor>(
+        &mut self,
+        alloc: Global,
+        kind: ValueType,
+        visitor: &V,
+    ) -> Result<V::Value, DeserializeError>
+        ensures { VisitsItems S.tells S.left S.faults self.old self.new types.Array element_total kind result }
+    {
+        let announced = self.array_length(kind)?;
+        let access = BinaryArrayDeserializer {
+            announced,
+            position: 0,
+            reader: self,
+        };
+        visitor.visit_array(alloc, access)
+    }
+
+    // Hands the visitor the entries of an object, once their number is read. What it refuses isn't marked yet.
+    fn visit_entries<V: ValueVisitor>(
+        &mut self,
+        alloc: Global,
+        kind: ValueType,
+        visitor: &V,
+    ) -> Result<V::Value, DeserializeError>
+        ensures { VisitsItems S.tells S.left S.faults self.old self.new types.Object (entry_total (version_of self.old.version)) kind result }
+    {
+        let announced = self.object_length(kind)?;
+        let access = BinaryObjectDeserializer {
+            announced,
+            position: 0,
+            reader: self,
+        };
+        visitor.visit_object(alloc, access)
+    }
+
+    // Hands the visitor the entries of a legacy object, out of the spelling of its tree. What it refuses isn't marked yet.
+    fn visit_legacy<V: ValueVisitor>(
+        &mut self,
+        alloc: Global,
+        visitor: &V,
+    ) -> Result<V::Value, DeserializeError>
+        ensures { VisitsLegacy S.tells S.left S.faults self.old self.new result }
+    {
+        let kind = ValueType::JSONObject;
+        let tree = BinaryValueDeserializer { kind, reader: self }.deserialize_tree(alloc)?;
+        let bytes = spelled(alloc, &tree)?;
+        let mut spelling = StoreReader::new(SliceSource::new(&bytes), DocStoreVersion::V2);
+        let kind = spelling.code()?;
+        spelling.visit_entries(alloc, kind, visitor)
+    }
+
+    // Hands the visitor what stands behind the code of a type. What it refuses isn't marked yet.
+    fn visit_kind<V: ValueVisitor>(
+        &mut self,
+        alloc: Global,
+        kind: ValueType,
+        visitor: &V,
+    ) -> Result<V::Value, DeserializeError>
+        ensures leaf { is_leaf_type kind ≡ true → Visits S.tells S.left S.faults self.old self.new kind (V.answers visitor.now) result }
+        ensures array { kind ≡ types.Array → VisitsItems S.tells S.left S.faults self.old self.new types.Array element_total kind result }
+        ensures object { kind ≡ types.Object → VisitsItems S.tells S.left S.faults self.old self.new types.Object (entry_total (version_of self.old.version)) kind result }
+        ensures legacy { kind ≡ types.JSONObject → VisitsLegacy S.tells S.left S.faults self.old self.new result }
+    {
+        match kind {
+            ValueType::Array => self.visit_elements(alloc, kind, visitor),
+            ValueType::Object => self.visit_entries(alloc, kind, visitor),
+            ValueType::JSONObject => self.visit_legacy(alloc, visitor),
+            _ => self.visit_leaf(alloc, kind, visitor),
+        }
+    }
+
+    // The same, and what the visitor refuses is marked.
+    fn visit<V: ValueVisitor>(
+        &mut self,
+        alloc: Global,
+        kind: ValueType,
+        visitor: &V,
+    ) -> Result<V::Value, DeserializeError>
+        ensures leaf { is_leaf_type kind ≡ true → Visits S.tells S.left S.faults self.old self.new kind (V.answers visitor.now) result }
+        ensures array { kind ≡ types.Array → VisitsItems S.tells S.left S.faults self.old self.new types.Array element_total kind result }
+        ensures object { kind ≡ types.Object → VisitsItems S.tells S.left S.faults self.old self.new types.Object (entry_total (version_of self.old.version)) kind result }
+        ensures legacy { kind ≡ types.JSONObject → VisitsLegacy S.tells S.left S.faults self.old self.new result }
+        ensures marks { OnErr result (self.new.has_failed ≡ true) }
+    {
+        match self.visit_kind(alloc, kind, visitor) {
+            Ok(value) => Ok(value),
+            Err(error) => {
+                self.has_failed = true;
+                Err(error)
+            }
+        }
+    }
+}
+
+impl<'de, S: ByteSource> BinaryValueDeserializer<'de, S> {
+    /// Hands the value to the visitor's call for its type, and gives what that answers.
+    ///
+    /// Errors: those of the call for a value of this type; for an array or an object `CorruptedValue` where the number of its values
+    /// is at fault, with `OddObject` where no object announces it; for a legacy object those of `deserialize_tree`, and then the
+    /// visitor's call for objects is handed the entries of a spelling of its tree, which is made in memory; `Io`; `Memory`;
+    /// `AlreadyFailed` where an earlier read was refused; and what the visitor refuses. The visitor isn't called after another refusal.
+    /// Each is marked in the reader.
+    pub fn deserialize_any<V: ValueVisitor>(
+        self,
+        alloc: Global,
+        visitor: &V,
+    ) -> Result<V::Value, DeserializeError>
+        ensures leaf { is_leaf_type self.entry.kind ≡ true → Visits S.tells S.left S.faults self.entry.reader.now self.exit.1.0.now self.entry.kind (V.answers visitor.now) result }
+        ensures array { self.entry.kind ≡ types.Array → VisitsItems S.tells S.left S.faults self.entry.reader.now self.exit.1.0.now types.Array element_total self.entry.kind result }
+        ensures object { self.entry.kind ≡ types.Object → VisitsItems S.tells S.left S.faults self.entry.reader.now self.exit.1.0.now types.Object (entry_total (version_of self.entry.reader.now.version)) self.entry.kind result }
+        ensures legacy { self.entry.kind ≡ types.JSONObject → VisitsLegacy S.tells S.left S.faults self.entry.reader.now self.exit.1.0.now result }
+        ensures marks { OnErr result (self.exit.1.0.now.has_failed ≡ true) }
+    {
+        let BinaryValueDeserializer { kind, reader } = self;
+        reader.visit(alloc, kind, visitor)
+    }
+}
