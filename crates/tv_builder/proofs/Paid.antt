@@ -1,5 +1,6 @@
 -- What is written of a document is paid for by the bytes that spell it.
 use Rattle.std.proofs.Common.{◌≡◌, ℕ, ◌+◌, ◌*◌, ◌<◌, ◌≤◌, List, [], ◌∷◌, ◌++◌, length, map, ap, arith, length-append, inl, inr}
+use Rattle.std.specs.Prelude.{ℤ}
 use Rattle.std.specs.Int.{w64, cast_unsigned}
 use Rattle.std.specs.List.{flat_map}
 use Rattle.std.proofs.lemmas.List.Sums.{sum_by-cons}
@@ -7,11 +8,13 @@ use Rattle.tv_base.specs.Number.{vnum, VNum, Groups, last, more}
 use Rattle.tv_base.specs.Parts.{Text, Each, short_sized}
 use Rattle.tv_base.proofs.Numbers.{vnum_shortest, length-fixed}
 use Rattle.tv_base.proofs.Shortest.{sized_shortest, text_shortest}
+use Rattle.tv_value.specs.Content.{Content, no_content, truth_content, unsigned_content, signed_content, wide_content, text_content, bytes_content, tokens_content}
+use Rattle.tv_value.specs.Leaves.{type_of, content, scale}
 use Rattle.tv_value.specs.Short.{short_token, short_tokenized}
-use Rattle.tv_value.specs.Spelling.{NoLegacy, TokenSpelling, Tokenized, LeafBody, Key, Spells, SpellsElements, SpellsEntries}
-use Rattle.tv_value.specs.Tree.{Token, Leaf, null, text, unsigned, signed, boolean, date, facet, bytes, ip_address, tokenized, Tree, leaf, array, object, Elements, no_elements, element, Entries, no_entries, entry, elements, Document}
-use Rattle.tv_value.specs.Version.{Version, V1, V2, V3, Date}
-use Rattle.tv_heap.specs.LeafBytes.{leaf_bytes}
+use Rattle.tv_value.specs.Spelling.{NoLegacy, TokenSpelling, Tokenized, ContentBody, LeafBody, Key, Spells, SpellsElements, SpellsEntries}
+use Rattle.tv_value.specs.Tree.{Token, Leaf, Tree, leaf, array, object, Elements, no_elements, element, Entries, no_entries, entry, elements, Document}
+use Rattle.tv_value.specs.Version.{Version, V1, V2, V3, Scale, plain, thousands, Scaled}
+use Rattle.tv_heap.specs.LeafBytes.{content_bytes, leaf_bytes}
 use Rattle.tv_heap.specs.Weight.{tree_weight, elements_weight, entries_weight, document_weight}
 use Rattle.tv_heap.proofs.Writes.{length_eight, length_sixteen}
 use Rattle.tv_builder.specs.declared.bytes_kind.BytesKind.{BytesKind}
@@ -34,10 +37,9 @@ number_takes b n h = groups_take h.groups
 
 -- ---- leaves
 
-date_length : (v : Version) (b : List ℕ) (z : _) → Date v b z → length b ≡ 8
-date_length V1 b z h = length-fixed h.spelled
-date_length V2 b z h = length-fixed h.spelled
-date_length V3 b z h = length-fixed h.spelled
+scaled_length : (s : Scale) (b : List ℕ) (z : ℤ) → Scaled s b z → length b ≡ 8
+scaled_length plain b z h = length-fixed h.spelled
+scaled_length thousands b z h = length-fixed h.spelled
 
 token_paid : (token : Token) (b : List ℕ) → TokenSpelling b token → length (short_token token) ≤ length b
 token_paid token b h =
@@ -86,17 +88,18 @@ tokenized_paid t ts b h =
       length-append (vnum (length ts)) body,
     )
 
+content_paid : (s : Scale) (c : Content) (b : List ℕ) → ContentBody s b c → length (content_bytes c) ≤ length b
+content_paid s no_content b h = omega arith
+content_paid s (truth_content t) b h = omega arith
+content_paid s (unsigned_content n) b h = omega (arith, length_eight n, length-fixed h)
+content_paid s (signed_content z) b h = omega (arith, length_eight (cast_unsigned w64 z), scaled_length s b z h)
+content_paid s (wide_content n) b h = omega (arith, length_sixteen n, length-fixed h)
+content_paid s (text_content t) b h = text_shortest t b h
+content_paid s (bytes_content bs) b h = sized_shortest bs b h
+content_paid s (tokens_content t ts) b h = omega (arith, tokenized_paid t ts h.body h.spelled, ap length h.joined)
+
 leaf_paid : (v : Version) (l : Leaf) (b : List ℕ) → LeafBody v b l → length (leaf_bytes l) ≤ length b
-leaf_paid v (text t) b h = text_shortest t b h
-leaf_paid v (unsigned n) b h = omega (arith, length_eight n, length-fixed h)
-leaf_paid v (signed z) b h = omega (arith, length_eight (cast_unsigned w64 z), length-fixed h.spelled)
-leaf_paid v (facet t) b h = text_shortest t b h
-leaf_paid v (bytes bs) b h = sized_shortest bs b h
-leaf_paid v (date z) b h = omega (arith, length_eight (cast_unsigned w64 z), date_length v b z h)
-leaf_paid v (tokenized t ts) b h = omega (arith, tokenized_paid t ts h.body h.spelled, ap length h.joined)
-leaf_paid v (boolean x) b h = omega arith
-leaf_paid v (ip_address n) b h = omega (arith, length_sixteen n, length-fixed h)
-leaf_paid v null b h = omega arith
+leaf_paid v l b h = content_paid (scale v (type_of l)) (content l) b h
 
 text_takes : (b content : List ℕ) → Text b content → 0 < length b
 text_takes b content h = omega (arith, ap length h.sized.joined, length-append h.sized.size content, number_takes h.sized.size (length content) h.sized.number)

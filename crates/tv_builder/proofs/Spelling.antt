@@ -2,19 +2,21 @@
 use Rattle.std.proofs.Common.{◌≡◌, ℕ, ◌+◌, ◌*◌, ◌<◌, ◌≤◌, List, [], ◌∷◌, ◌++◌, length, take, drop, get_or, refl, sym, ◌∙◌, ap, subst, append_assoc, length-append, arith, inl}
 use Rattle.std.proofs.lemmas.List.{append-nil, length-take-le}
 use Rattle.std.specs.Int.{w64, w128, from_le_bytes, cast_signed}
-use Rattle.std.specs.Net.Addr.{IsIpv6OfBits, ipv6_bits}
-use Rattle.std.specs.Prelude.{ℤ}
-use Rattle.std.specs.declared.net.ipv6_addr.Ipv6Addr.{Ipv6Addr}
+use Rattle.std.specs.Prelude.{ℤ, Some}
+use Rattle.std.proofs.lemmas.Option.{same_Some}
 use Rattle.tv_base.proofs.AgreeWidths.{signed_to}
-use Rattle.tv_base.proofs.Numbers.{fixed_fits}
 use Rattle.tv_base.proofs.Widths.{fixed_8, fixed_16}
 use Rattle.tv_base.specs.Number.{VNum, vnum, Fixed, Signed}
 use Rattle.tv_base.specs.Parts.{Begins, Then, Behind, Each, Text, short_sized}
 use Rattle.tv_base.specs.Sink.{IsFront}
-use Rattle.tv_value.specs.Spelling.{NoLegacy, Key, LeafBody, Tokenized, leaf_code, Spells, SpellsElements, SpellsEntries}
+use Rattle.tv_value.specs.Content.{Content, form_of}
+use Rattle.tv_value.specs.Leaves.{type_of, content, leaf_with, form, store_code, scale}
+use Rattle.tv_value.specs.LeavesLaws.{making}
+use Rattle.tv_value.specs.declared.leaf.LeafType.{LeafType}
+use Rattle.tv_value.specs.declared.leaf.LeafType.TheVariants as types
+use Rattle.tv_value.specs.Spelling.{NoLegacy, Key, ContentBody, LeafBody, Tokenized, leaf_code, Spells, SpellsElements, SpellsEntries}
 use Rattle.tv_value.specs.Tree.{Leaf, Token, text, Tree, leaf, array, object, elements, entries, element_count, entry_count}
-use Rattle.tv_value.specs.Version.{V2}
-use Rattle.tv_value.proofs.Addresses.{address_bits}
+use Rattle.tv_value.specs.Version.{V2, plain}
 use Rattle.tv_value.proofs.Fronts.{begins_behind, begins_then, begins_nothing, begins_cut, begins_item, small_take}
 use Rattle.tv_builder.specs.declared.frame.ListKind.TheVariants.{Array, Object}
 use Rattle.tv_builder.specs.declared.place.Place.{Place}
@@ -43,9 +45,6 @@ signed_found bytes rest n z h e = record { front = h.front; joined = h.joined; s
 pub same_signed : (bytes rest : List ℕ) (z n : ℤ) → Begins (λ b. Signed b z) bytes rest → n ≡ z → Begins (λ b. Signed b n) bytes rest
 same_signed bytes rest z n h e = subst (λ m. Begins (λ b. Signed b m) bytes rest) (sym e) h
 
-pub address_found : (bytes rest : List ℕ) (n : ℕ) (a : Ipv6Addr) → Begins (λ b. Fixed 16 b n) bytes rest → IsIpv6OfBits a n → Begins (λ b. Fixed 16 b (ipv6_bits a)) bytes rest
-address_found bytes rest n a h is = subst (λ m. Begins (λ b. Fixed 16 b m) bytes rest) (sym (address_bits a n (omega (arith, fixed_fits h.spelled)) is)) h
-
 pub tokenized_found : (bytes payload rest : List ℕ) (n : ℕ) (t : List ℕ) (ts : List Token) → bytes ≡ 0 ∷ payload → rest ≡ drop n payload → Tokenized (take n payload) t ts → Begins (Behind 0 (λ b. Tokenized b t ts)) bytes rest
 tokenized_found bytes payload rest n t ts e after h =
     subst (λ z. Begins (Behind 0 (λ b. Tokenized b t ts)) z rest) (sym e) (begins_behind 0 payload rest (begins_cut (λ b. Tokenized b t ts) n payload (take n payload) rest refl after h))
@@ -55,12 +54,28 @@ key_found bytes behind rest k e h = subst (λ z. Begins (λ b. Key V2 b k) z res
 
 -- ---- a leaf
 
-pub leaf_spelled : (l : Leaf) (code : ℕ) (bytes rest old new : List ℕ) (p : Place) → code ≡ leaf_code l → Begins (λ b. LeafBody V2 b l) bytes rest → Put old (leaf l) new p → SpelledPut (code ∷ bytes) rest old new p
-leaf_spelled l code bytes rest old new p is begins w = record {
-  tree = leaf l;
-  spelled = subst (λ z. Begins (λ b. Spells NoLegacy V2 b (leaf l)) (z ∷ bytes) rest) (sym is) (begins_behind (leaf_code l) bytes rest begins);
-  put = w;
-}
+-- version 2 has no scale
+no_scale : (t : LeafType) → scale V2 t ≡ plain
+no_scale types.Date = refl
+no_scale _ = refl
+
+-- the leaf of a type that holds this was written
+abbrev PutWith : LeafType → Content → List ℕ → List ℕ → Place → Type 0
+PutWith t c old new p = (l : Leaf) × (leaf_with t c ≡ Some l) × Put old (leaf l) new p
+
+pub leaf_spelled : (t : LeafType) (c : Content) (code : ℕ) (bytes rest old new : List ℕ) (p : Place) → store_code t ≡ code → form_of c ≡ form t → Begins (λ b. ContentBody plain b c) bytes rest → PutWith t c old new p → SpelledPut (code ∷ bytes) rest old new p
+leaf_spelled t c code bytes rest old new p is formed begins w =
+    let l = w.0 in
+    let m = making t c formed in
+    let same : l ≡ m.made = same_Some l m.made (sym w.1 ∙ m.is) in
+    let typed : type_of l ≡ t = ap type_of same ∙ m.typed in
+    let holds : content l ≡ c = ap content same ∙ m.holds in
+    let body : Begins (λ b. LeafBody V2 b l) bytes rest = subst (λ s. Begins (λ b. ContentBody s b (content l)) bytes rest) (sym (no_scale (type_of l))) (subst (λ k. Begins (λ b. ContentBody plain b k) bytes rest) (sym holds) begins) in
+    record {
+      tree = leaf l;
+      spelled = subst (λ z. Begins (λ b. Spells NoLegacy V2 b (leaf l)) (z ∷ bytes) rest) (ap store_code typed ∙ is) (begins_behind (leaf_code l) bytes rest body);
+      put = w.2;
+    }
 
 pub spelled_grows : (whole rest old new : List ℕ) (p : Place) → SpelledPut whole rest old new p → IsFront old new
 spelled_grows whole rest old new p s = put_grows old s.tree new p s.put

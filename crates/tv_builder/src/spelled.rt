@@ -1,30 +1,27 @@
 //! Values that stand spelled in bytes, written behind a heap.
 
-ghost use Rattle.std.specs.Prelude.{◌≡◌, ◌≤◌, ◌∷◌, length, IfSome};
+ghost use Rattle.std.specs.Prelude.{◌≡◌, ◌≤◌, ◌∷◌, length, IfSome, Some};
 ghost use Rattle.tv_base.specs.Number.{Fixed, Signed, Truth};
 ghost use Rattle.tv_base.specs.Parts.{Begins, Behind, Sized};
 ghost use Rattle.tv_base.specs.Sink.{IsFront};
 ghost use Rattle.tv_builder.specs.SpelledPut.{SpelledPut};
 ghost use Rattle.tv_builder.specs.Whole.{Put};
-ghost use Rattle.tv_value.specs.Lent.{leaf_of};
+ghost use Rattle.tv_value.specs.LeafParts.{content_of};
+ghost use Rattle.tv_value.specs.Leaves.{leaf_with};
 ghost use Rattle.tv_value.specs.PreTokenized.{text_of, tokens_of};
 ghost use Rattle.tv_value.specs.Spelling.{Key, Tokenized};
-ghost use Rattle.tv_value.specs.Tree.{leaf as leaf_tree};
+ghost use Rattle.tv_value.specs.Tree.{Leaf, leaf as leaf_tree};
 ghost use Rattle.tv_value.specs.Version.{V2};
 
 use crate::frame::ListKind;
 use crate::place::Place;
 use crate::whole::{put, put_list};
-use std::net::Ipv6Addr;
 use tv_heap::write::push_place;
-use tv_value::date_time::DateTime;
+use tv_value::content::{Form, LeafContent};
 use tv_value::in_place::{number_at, text_at};
-use tv_value::leaf::ReferenceValueLeaf;
+use tv_value::leaf::{LeafType, ReferenceValueLeaf};
 use tv_value::pre_tokenized::PreTokenizedStr;
-use tv_value::type_codes::{
-    ARRAY_CODE, BOOL_CODE, BYTES_CODE, DATE_CODE, EXT_CODE, HIERARCHICAL_FACET_CODE, I64_CODE,
-    IP_CODE, NULL_CODE, OBJECT_CODE, TEXT_CODE, TOK_STR_EXT_CODE, U64_CODE,
-};
+use tv_value::type_codes::{ARRAY_CODE, OBJECT_CODE, TEXT_CODE, TOK_STR_EXT_CODE};
 
 // The bytes behind their length at the front.
 fn sized_at(bytes: &[u8]) -> Option<(&[u8], &[u8])>
@@ -102,6 +99,17 @@ fn key_at(bytes: &[u8]) -> Option<(&str, &[u8])>
     Some((key, rest))
 }
 
+// Writes the value of this type that holds this.
+#[inline(always)]
+fn put_content(heap: &mut Vec<u8>, leaf_type: LeafType, content: LeafContent<'_>) -> Option<Place>
+    requires { length heap.old.items ≤ 4294967295 }
+    ensures found { IfSome result (λ place. (l : Leaf) × (leaf_with leaf_type (content_of content.entry) ≡ Some l) × Put heap.old.items (leaf_tree l) heap.new.items place) }
+    ensures front { IsFront heap.old.items heap.new.items }
+{
+    let value = ReferenceValueLeaf::with_content(leaf_type, content)?;
+    put(heap, &value)
+}
+
 // Writes the value without children that stands behind this code.
 #[inline(always)]
 fn put_spelled_leaf<'a>(code: u8, bytes: &'a [u8], heap: &mut Vec<u8>) -> Option<(&'a [u8], Place)>
@@ -109,59 +117,47 @@ fn put_spelled_leaf<'a>(code: u8, bytes: &'a [u8], heap: &mut Vec<u8>) -> Option
     ensures found { IfSome result (λ x. SpelledPut (code ∷ bytes.now) x.0.now heap.old.items heap.new.items x.1) }
     ensures front { IsFront heap.old.items heap.new.items }
 {
-    match code {
-        TEXT_CODE => {
-            let (content, rest) = text_at(bytes)?;
-            let place = put(heap, &ReferenceValueLeaf::Str(content))?;
-            Some((rest, place))
-        }
-        HIERARCHICAL_FACET_CODE => {
-            let (content, rest) = text_at(bytes)?;
-            let place = put(heap, &ReferenceValueLeaf::Facet(content))?;
-            Some((rest, place))
-        }
-        BYTES_CODE => {
-            let (content, rest) = sized_at(bytes)?;
-            let place = put(heap, &ReferenceValueLeaf::Bytes(content))?;
-            Some((rest, place))
-        }
-        U64_CODE => {
-            let (number, rest) = eight_at(bytes)?;
-            let place = put(heap, &ReferenceValueLeaf::U64(number))?;
-            Some((rest, place))
-        }
-        I64_CODE => {
-            let (number, rest) = signed_at(bytes)?;
-            let place = put(heap, &ReferenceValueLeaf::I64(number))?;
-            Some((rest, place))
-        }
-        DATE_CODE => {
-            let (nanoseconds, rest) = signed_at(bytes)?;
-            let date = DateTime::from_timestamp_nanos(nanoseconds);
-            let place = put(heap, &ReferenceValueLeaf::Date(date))?;
-            Some((rest, place))
-        }
-        BOOL_CODE => {
-            let (truth, rest) = truth_at(bytes)?;
-            let place = put(heap, &ReferenceValueLeaf::Bool(truth))?;
-            Some((rest, place))
-        }
-        IP_CODE => {
-            let (number, rest) = sixteen_at(bytes)?;
-            let address = Ipv6Addr::from_bits(number);
-            let place = put(heap, &ReferenceValueLeaf::IpAddr(address))?;
-            Some((rest, place))
-        }
-        NULL_CODE => {
-            let place = put(heap, &ReferenceValueLeaf::Null)?;
+    let leaf_type = LeafType::from_store_code(code)?;
+    match leaf_type.form() {
+        Form::Nothing => {
+            let place = put_content(heap, leaf_type, LeafContent::Nothing)?;
             Some((bytes, place))
         }
-        EXT_CODE => {
-            let (content, rest) = tokenized_at(bytes)?;
-            let place = put(heap, &ReferenceValueLeaf::PreTokStr(content))?;
+        Form::Truth => {
+            let (truth, rest) = truth_at(bytes)?;
+            let place = put_content(heap, leaf_type, LeafContent::Truth(truth))?;
             Some((rest, place))
         }
-        _ => None,
+        Form::Unsigned => {
+            let (number, rest) = eight_at(bytes)?;
+            let place = put_content(heap, leaf_type, LeafContent::Unsigned(number))?;
+            Some((rest, place))
+        }
+        Form::Signed => {
+            let (number, rest) = signed_at(bytes)?;
+            let place = put_content(heap, leaf_type, LeafContent::Signed(number))?;
+            Some((rest, place))
+        }
+        Form::Wide => {
+            let (number, rest) = sixteen_at(bytes)?;
+            let place = put_content(heap, leaf_type, LeafContent::Wide(number))?;
+            Some((rest, place))
+        }
+        Form::Text => {
+            let (text, rest) = text_at(bytes)?;
+            let place = put_content(heap, leaf_type, LeafContent::Text(text))?;
+            Some((rest, place))
+        }
+        Form::Bytes => {
+            let (content, rest) = sized_at(bytes)?;
+            let place = put_content(heap, leaf_type, LeafContent::Bytes(content))?;
+            Some((rest, place))
+        }
+        Form::Tokens => {
+            let (text, rest) = tokenized_at(bytes)?;
+            let place = put_content(heap, leaf_type, LeafContent::Tokens(text))?;
+            Some((rest, place))
+        }
     }
 }
 

@@ -1,5 +1,7 @@
 //! Reading values out of a store: of one type, of the type that a type of this program reads, and for a visitor.
 
+#![tactic(auto, using(tv_base::proofs::TakeSteps::Taken_then), unfolding(tv_reader::specs::Leaves::leaf_at))]
+
 ghost use Rattle.std.specs.Prelude.{◌≡◌, Ok, Err, IfOk, IfErr, string_bytes, map, true, List, [], ℕ, OnErr, refl, false, Result};
 ghost use Rattle.std.specs.Borrow.{sem, RestsIfErr};
 ghost use Rattle.std.specs.Net.Addr.{ipv6_bits};
@@ -12,21 +14,21 @@ ghost use Rattle.tv_reader.specs.declared.value_type.ValueType.{ValueType};
 ghost use Rattle.tv_reader.specs.declared.value_type.ValueType.TheVariants as types;
 ghost use Rattle.tv_value.specs.HeldTokens.{token_of};
 ghost use Rattle.tv_value.specs.Tree.{null, text, unsigned, signed, boolean, date, facet, bytes, ip_address, tokenized, Tree, Leaf};
-ghost use Rattle.tv_typed.specs.Excluding.{leaf_excludes, tree_excludes};
-ghost use Rattle.tv_typed.specs.Lists.{SpellsEntry, EntryRefused, element_total};
-ghost use Rattle.tv_reader.specs.declared.error.DeserializeError.{DeserializeError};
-ghost use Rattle.tv_value.specs.Version.{Version, entry_total};
 ghost use Rattle.tv_reader.specs.Leaves.{is_leaf_type};
-ghost use Rattle.tv_typed.specs.Visits.{Visits, TakesSome, VisitsItems, VisitsLegacy};
+ghost use Rattle.tv_typed.specs.Excluding.{leaf_excludes, tree_excludes};
+ghost use Rattle.tv_typed.specs.Lists.{SpellsEntry, EntryRefused};
+ghost use Rattle.tv_reader.specs.declared.error.DeserializeError.{DeserializeError};
+ghost use Rattle.tv_value.specs.Version.{Version};
+ghost use Rattle.tv_typed.specs.Visits.{Visits, TakesSome};
 
 use crate::array::BinaryArrayDeserializer;
+use crate::leaf_value::LeafValue;
 use crate::object::BinaryObjectDeserializer;
-use crate::spell::spelled;
 use crate::store_reader::StoreReader;
 use std::alloc::Global;
 use std::net::Ipv6Addr;
 use tv_base::take::{take_bool, take_bytes, take_facet, take_i64, take_string, take_u64};
-use tv_base::{ByteSource, Facet, SliceSource};
+use tv_base::{ByteSource, Facet, ReadError};
 use tv_reader::leaves::{take_date, take_ip_address, take_tokenized};
 use tv_reader::trees::take_behind;
 use tv_reader::{DeserializeError, DocStoreVersion, ValueType};
@@ -84,8 +86,7 @@ impl<'de, S: ByteSource> BinaryValueDeserializer<'de, S> {
         ensures only { Only S.tells S.left self.entry.reader.now self.exit.1.0.now result (IsLeaf (λ _. null)) (version_of self.entry.reader.now.version) (coded self.entry.kind) }
     {
         let BinaryValueDeserializer { kind, reader } = self;
-        reader.expect(kind, ValueType::Null)?;
-        Ok(())
+        reader.leaf::<()>((), kind)
     }
 
     /// Reads a number from 0 to 2^64 - 1.
@@ -94,9 +95,7 @@ impl<'de, S: ByteSource> BinaryValueDeserializer<'de, S> {
         ensures only { Only S.tells S.left self.entry.reader.now self.exit.1.0.now result (IsLeaf (λ n. unsigned n)) (version_of self.entry.reader.now.version) (coded self.entry.kind) }
     {
         let BinaryValueDeserializer { kind, reader } = self;
-        reader.expect(kind, ValueType::U64)?;
-        let answer = take_u64(&mut reader.source, &mut reader.count);
-        reader.marked(answer)
+        reader.leaf::<u64>((), kind)
     }
 
     /// Reads a number from -2^63 to 2^63 - 1.
@@ -105,9 +104,7 @@ impl<'de, S: ByteSource> BinaryValueDeserializer<'de, S> {
         ensures only { Only S.tells S.left self.entry.reader.now self.exit.1.0.now result (IsLeaf (λ z. signed z)) (version_of self.entry.reader.now.version) (coded self.entry.kind) }
     {
         let BinaryValueDeserializer { kind, reader } = self;
-        reader.expect(kind, ValueType::I64)?;
-        let answer = take_i64(&mut reader.source, &mut reader.count);
-        reader.marked(answer)
+        reader.leaf::<i64>((), kind)
     }
 
     /// Reads a truth value.
@@ -116,9 +113,7 @@ impl<'de, S: ByteSource> BinaryValueDeserializer<'de, S> {
         ensures only { Only S.tells S.left self.entry.reader.now self.exit.1.0.now result (IsLeaf (λ b. boolean b)) (version_of self.entry.reader.now.version) (coded self.entry.kind) }
     {
         let BinaryValueDeserializer { kind, reader } = self;
-        reader.expect(kind, ValueType::Bool)?;
-        let answer = take_bool(&mut reader.source, &mut reader.count);
-        reader.marked(answer)
+        reader.leaf::<bool>((), kind)
     }
 
     /// Reads a text.
@@ -127,9 +122,7 @@ impl<'de, S: ByteSource> BinaryValueDeserializer<'de, S> {
         ensures only { Only S.tells S.left self.entry.reader.now self.exit.1.0.now result (IsLeaf (λ s. text (string_bytes s))) (version_of self.entry.reader.now.version) (coded self.entry.kind) }
     {
         let BinaryValueDeserializer { kind, reader } = self;
-        reader.expect(kind, ValueType::String)?;
-        let answer = take_string(alloc, &mut reader.source, &mut reader.count);
-        reader.marked(answer)
+        reader.leaf::<String>(alloc, kind)
     }
 
     /// Reads a facet.
@@ -138,9 +131,7 @@ impl<'de, S: ByteSource> BinaryValueDeserializer<'de, S> {
         ensures only { Only S.tells S.left self.entry.reader.now self.exit.1.0.now result (IsLeaf (λ f. facet f)) (version_of self.entry.reader.now.version) (coded self.entry.kind) }
     {
         let BinaryValueDeserializer { kind, reader } = self;
-        reader.expect(kind, ValueType::Facet)?;
-        let answer = take_facet(alloc, &mut reader.source, &mut reader.count);
-        reader.marked(answer)
+        reader.leaf::<Facet>(alloc, kind)
     }
 
     /// Reads bytes.
@@ -149,9 +140,7 @@ impl<'de, S: ByteSource> BinaryValueDeserializer<'de, S> {
         ensures only { Only S.tells S.left self.entry.reader.now self.exit.1.0.now result (IsLeaf (λ v. bytes v.items)) (version_of self.entry.reader.now.version) (coded self.entry.kind) }
     {
         let BinaryValueDeserializer { kind, reader } = self;
-        reader.expect(kind, ValueType::Bytes)?;
-        let answer = take_bytes(alloc, &mut reader.source, &mut reader.count);
-        reader.marked(answer)
+        reader.leaf::<Vec<u8>>(alloc, kind)
     }
 
     /// Reads a date: microseconds in version 1, and nanoseconds in version 2.
@@ -160,9 +149,7 @@ impl<'de, S: ByteSource> BinaryValueDeserializer<'de, S> {
         ensures only { Only S.tells S.left self.entry.reader.now self.exit.1.0.now result (IsLeaf (λ d. date d.nanoseconds)) (version_of self.entry.reader.now.version) (coded self.entry.kind) }
     {
         let BinaryValueDeserializer { kind, reader } = self;
-        reader.expect(kind, ValueType::DateTime)?;
-        let answer = take_date(&mut reader.source, &mut reader.count, reader.version);
-        reader.marked(answer)
+        reader.leaf::<DateTime>((), kind)
     }
 
     /// Reads an IP address.
@@ -171,9 +158,7 @@ impl<'de, S: ByteSource> BinaryValueDeserializer<'de, S> {
         ensures only { Only S.tells S.left self.entry.reader.now self.exit.1.0.now result (IsLeaf (λ a. ip_address (ipv6_bits a))) (version_of self.entry.reader.now.version) (coded self.entry.kind) }
     {
         let BinaryValueDeserializer { kind, reader } = self;
-        reader.expect(kind, ValueType::IpAddr)?;
-        let answer = take_ip_address(&mut reader.source, &mut reader.count);
-        reader.marked(answer)
+        reader.leaf::<Ipv6Addr>((), kind)
     }
 
     /// Reads a text and its tokens.
@@ -185,9 +170,7 @@ impl<'de, S: ByteSource> BinaryValueDeserializer<'de, S> {
         ensures only { Only S.tells S.left self.entry.reader.now self.exit.1.0.now result (IsLeaf (λ s. tokenized (string_bytes s.text) (map token_of s.tokens.items))) (version_of self.entry.reader.now.version) (coded self.entry.kind) }
     {
         let BinaryValueDeserializer { kind, reader } = self;
-        reader.expect(kind, ValueType::PreTokStr)?;
-        let answer = take_tokenized(alloc, &mut reader.source, &mut reader.count);
-        reader.marked(answer)
+        reader.leaf::<PreTokenizedString>(alloc, kind)
     }
 }
 
@@ -221,9 +204,9 @@ impl<S: ByteSource> StoreReader<S> {
         let kind = self.code()?;
         match V::deserialize(alloc, BinaryValueDeserializer { kind, reader: self }) {
             Ok(value) => Ok(value),
-            Err(refusal) => {
+            Err(error) => {
                 self.has_failed = true;
-                Err(refusal)
+                Err(error)
             }
         }
     }
@@ -254,7 +237,8 @@ impl ValueDeserialize for u64 {
         ensures deserializes { Deserializes S.tells S.left deserializer.entry.reader.now deserializer.exit.1.0.now result (SpelledAs (IsLeaf (λ n. unsigned n)) (version_of deserializer.entry.reader.now.version) deserializer.entry.kind) (LeafRefused types.U64 (version_of deserializer.entry.reader.now.version) deserializer.entry.kind) }
         ensures reads { Reads S.tells S.left S.faults deserializer.entry.reader.now deserializer.exit.1.0.now result (SpellsLeaf (version_of deserializer.entry.reader.now.version) deserializer.entry.kind (λ n. unsigned n)) (LeafRefused types.U64 (version_of deserializer.entry.reader.now.version) deserializer.entry.kind) }
     {
-        deserializer.deserialize_u64()
+        let BinaryValueDeserializer { kind, reader } = deserializer;
+        reader.leaf::<u64>((), kind)
     }
 
     ghost excludes = { λ v kind front rest e t n refused spelled is. leaf_excludes types.U64 (unsigned n) refl v kind front rest e t refused spelled is };
@@ -272,7 +256,8 @@ impl ValueDeserialize for i64 {
         ensures deserializes { Deserializes S.tells S.left deserializer.entry.reader.now deserializer.exit.1.0.now result (SpelledAs (IsLeaf (λ z. signed z)) (version_of deserializer.entry.reader.now.version) deserializer.entry.kind) (LeafRefused types.I64 (version_of deserializer.entry.reader.now.version) deserializer.entry.kind) }
         ensures reads { Reads S.tells S.left S.faults deserializer.entry.reader.now deserializer.exit.1.0.now result (SpellsLeaf (version_of deserializer.entry.reader.now.version) deserializer.entry.kind (λ z. signed z)) (LeafRefused types.I64 (version_of deserializer.entry.reader.now.version) deserializer.entry.kind) }
     {
-        deserializer.deserialize_i64()
+        let BinaryValueDeserializer { kind, reader } = deserializer;
+        reader.leaf::<i64>((), kind)
     }
 
     ghost excludes = { λ v kind front rest e t z refused spelled is. leaf_excludes types.I64 (signed z) refl v kind front rest e t refused spelled is };
@@ -290,7 +275,8 @@ impl ValueDeserialize for bool {
         ensures deserializes { Deserializes S.tells S.left deserializer.entry.reader.now deserializer.exit.1.0.now result (SpelledAs (IsLeaf (λ b. boolean b)) (version_of deserializer.entry.reader.now.version) deserializer.entry.kind) (LeafRefused types.Bool (version_of deserializer.entry.reader.now.version) deserializer.entry.kind) }
         ensures reads { Reads S.tells S.left S.faults deserializer.entry.reader.now deserializer.exit.1.0.now result (SpellsLeaf (version_of deserializer.entry.reader.now.version) deserializer.entry.kind (λ b. boolean b)) (LeafRefused types.Bool (version_of deserializer.entry.reader.now.version) deserializer.entry.kind) }
     {
-        deserializer.deserialize_bool()
+        let BinaryValueDeserializer { kind, reader } = deserializer;
+        reader.leaf::<bool>((), kind)
     }
 
     ghost excludes = { λ v kind front rest e t b refused spelled is. leaf_excludes types.Bool (boolean b) refl v kind front rest e t refused spelled is };
@@ -308,7 +294,8 @@ impl ValueDeserialize for String {
         ensures deserializes { Deserializes S.tells S.left deserializer.entry.reader.now deserializer.exit.1.0.now result (SpelledAs (IsLeaf (λ s. text (string_bytes s))) (version_of deserializer.entry.reader.now.version) deserializer.entry.kind) (LeafRefused types.String (version_of deserializer.entry.reader.now.version) deserializer.entry.kind) }
         ensures reads { Reads S.tells S.left S.faults deserializer.entry.reader.now deserializer.exit.1.0.now result (SpellsLeaf (version_of deserializer.entry.reader.now.version) deserializer.entry.kind (λ s. text (string_bytes s))) (LeafRefused types.String (version_of deserializer.entry.reader.now.version) deserializer.entry.kind) }
     {
-        deserializer.deserialize_string(alloc)
+        let BinaryValueDeserializer { kind, reader } = deserializer;
+        reader.leaf::<String>(alloc, kind)
     }
 
     ghost excludes = { λ v kind front rest e t s refused spelled is. leaf_excludes types.String (text (string_bytes s)) refl v kind front rest e t refused spelled is };
@@ -326,7 +313,8 @@ impl ValueDeserialize for Facet {
         ensures deserializes { Deserializes S.tells S.left deserializer.entry.reader.now deserializer.exit.1.0.now result (SpelledAs (IsLeaf (λ f. facet f)) (version_of deserializer.entry.reader.now.version) deserializer.entry.kind) (LeafRefused types.Facet (version_of deserializer.entry.reader.now.version) deserializer.entry.kind) }
         ensures reads { Reads S.tells S.left S.faults deserializer.entry.reader.now deserializer.exit.1.0.now result (SpellsLeaf (version_of deserializer.entry.reader.now.version) deserializer.entry.kind (λ f. facet f)) (LeafRefused types.Facet (version_of deserializer.entry.reader.now.version) deserializer.entry.kind) }
     {
-        deserializer.deserialize_facet(alloc)
+        let BinaryValueDeserializer { kind, reader } = deserializer;
+        reader.leaf::<Facet>(alloc, kind)
     }
 
     ghost excludes = { λ v kind front rest e t f refused spelled is. leaf_excludes types.Facet (facet f) refl v kind front rest e t refused spelled is };
@@ -344,7 +332,8 @@ impl ValueDeserialize for Vec<u8> {
         ensures deserializes { Deserializes S.tells S.left deserializer.entry.reader.now deserializer.exit.1.0.now result (SpelledAs (IsLeaf (λ v. bytes v.items)) (version_of deserializer.entry.reader.now.version) deserializer.entry.kind) (LeafRefused types.Bytes (version_of deserializer.entry.reader.now.version) deserializer.entry.kind) }
         ensures reads { Reads S.tells S.left S.faults deserializer.entry.reader.now deserializer.exit.1.0.now result (SpellsLeaf (version_of deserializer.entry.reader.now.version) deserializer.entry.kind (λ v. bytes v.items)) (LeafRefused types.Bytes (version_of deserializer.entry.reader.now.version) deserializer.entry.kind) }
     {
-        deserializer.deserialize_bytes(alloc)
+        let BinaryValueDeserializer { kind, reader } = deserializer;
+        reader.leaf::<Vec<u8>>(alloc, kind)
     }
 
     ghost excludes = { λ v kind front rest e t list refused spelled is. leaf_excludes types.Bytes (bytes list.items) refl v kind front rest e t refused spelled is };
@@ -362,7 +351,8 @@ impl ValueDeserialize for DateTime {
         ensures deserializes { Deserializes S.tells S.left deserializer.entry.reader.now deserializer.exit.1.0.now result (SpelledAs (IsLeaf (λ d. date d.nanoseconds)) (version_of deserializer.entry.reader.now.version) deserializer.entry.kind) (LeafRefused types.DateTime (version_of deserializer.entry.reader.now.version) deserializer.entry.kind) }
         ensures reads { Reads S.tells S.left S.faults deserializer.entry.reader.now deserializer.exit.1.0.now result (SpellsLeaf (version_of deserializer.entry.reader.now.version) deserializer.entry.kind (λ d. date d.nanoseconds)) (LeafRefused types.DateTime (version_of deserializer.entry.reader.now.version) deserializer.entry.kind) }
     {
-        deserializer.deserialize_datetime()
+        let BinaryValueDeserializer { kind, reader } = deserializer;
+        reader.leaf::<DateTime>((), kind)
     }
 
     ghost excludes = { λ v kind front rest e t d refused spelled is. leaf_excludes types.DateTime (date d.nanoseconds) refl v kind front rest e t refused spelled is };
@@ -380,7 +370,8 @@ impl ValueDeserialize for Ipv6Addr {
         ensures deserializes { Deserializes S.tells S.left deserializer.entry.reader.now deserializer.exit.1.0.now result (SpelledAs (IsLeaf (λ a. ip_address (ipv6_bits a))) (version_of deserializer.entry.reader.now.version) deserializer.entry.kind) (LeafRefused types.IpAddr (version_of deserializer.entry.reader.now.version) deserializer.entry.kind) }
         ensures reads { Reads S.tells S.left S.faults deserializer.entry.reader.now deserializer.exit.1.0.now result (SpellsLeaf (version_of deserializer.entry.reader.now.version) deserializer.entry.kind (λ a. ip_address (ipv6_bits a))) (LeafRefused types.IpAddr (version_of deserializer.entry.reader.now.version) deserializer.entry.kind) }
     {
-        deserializer.deserialize_ip_address()
+        let BinaryValueDeserializer { kind, reader } = deserializer;
+        reader.leaf::<Ipv6Addr>((), kind)
     }
 
     ghost excludes = { λ v kind front rest e t a refused spelled is. leaf_excludes types.IpAddr (ip_address (ipv6_bits a)) refl v kind front rest e t refused spelled is };
@@ -398,7 +389,8 @@ impl ValueDeserialize for PreTokenizedString {
         ensures deserializes { Deserializes S.tells S.left deserializer.entry.reader.now deserializer.exit.1.0.now result (SpelledAs (IsLeaf (λ s. tokenized (string_bytes s.text) (map token_of s.tokens.items))) (version_of deserializer.entry.reader.now.version) deserializer.entry.kind) (LeafRefused types.PreTokStr (version_of deserializer.entry.reader.now.version) deserializer.entry.kind) }
         ensures reads { Reads S.tells S.left S.faults deserializer.entry.reader.now deserializer.exit.1.0.now result (SpellsLeaf (version_of deserializer.entry.reader.now.version) deserializer.entry.kind (λ s. tokenized (string_bytes s.text) (map token_of s.tokens.items))) (LeafRefused types.PreTokStr (version_of deserializer.entry.reader.now.version) deserializer.entry.kind) }
     {
-        deserializer.deserialize_pre_tokenized_string(alloc)
+        let BinaryValueDeserializer { kind, reader } = deserializer;
+        reader.leaf::<PreTokenizedString>(alloc, kind)
     }
 
     ghost excludes = { λ v kind front rest e t s refused spelled is. leaf_excludes types.PreTokStr (tokenized (string_bytes s.text) (map token_of s.tokens.items)) refl v kind front rest e t refused spelled is };
@@ -507,9 +499,279 @@ pub trait ValueVisitor {
     }
 }
 
+impl LeafValue for () {
+    type Alloc = ();
+
+    ghost expected = { types.Null };
+
+    ghost make = { λ _. null };
+
+    ghost typed = { (refl, λ _. refl) };
+
+    fn value_type() -> ValueType {
+        ValueType::Null
+    }
+
+    fn take<S: ByteSource>(
+        _alloc: (),
+        _source: &mut S,
+        _count: &mut u64,
+        _version: DocStoreVersion,
+    ) -> Result<(), ReadError> {
+        Ok(())
+    }
+
+    fn visit<V: ValueVisitor>(self, visitor: &V) -> Result<V::Value, DeserializeError> {
+        visitor.visit_null(self)
+    }
+}
+
+impl LeafValue for u64 {
+    type Alloc = ();
+
+    ghost expected = { types.U64 };
+
+    ghost make = { λ n. unsigned n };
+
+    ghost typed = { (refl, λ _. refl) };
+
+    fn value_type() -> ValueType {
+        ValueType::U64
+    }
+
+    fn take<S: ByteSource>(
+        _alloc: (),
+        source: &mut S,
+        count: &mut u64,
+        _version: DocStoreVersion,
+    ) -> Result<u64, ReadError> {
+        Ok(take_u64(source, count)?)
+    }
+
+    fn visit<V: ValueVisitor>(self, visitor: &V) -> Result<V::Value, DeserializeError> {
+        visitor.visit_u64(self)
+    }
+}
+
+impl LeafValue for i64 {
+    type Alloc = ();
+
+    ghost expected = { types.I64 };
+
+    ghost make = { λ z. signed z };
+
+    ghost typed = { (refl, λ _. refl) };
+
+    fn value_type() -> ValueType {
+        ValueType::I64
+    }
+
+    fn take<S: ByteSource>(
+        _alloc: (),
+        source: &mut S,
+        count: &mut u64,
+        _version: DocStoreVersion,
+    ) -> Result<i64, ReadError> {
+        Ok(take_i64(source, count)?)
+    }
+
+    fn visit<V: ValueVisitor>(self, visitor: &V) -> Result<V::Value, DeserializeError> {
+        visitor.visit_i64(self)
+    }
+}
+
+impl LeafValue for bool {
+    type Alloc = ();
+
+    ghost expected = { types.Bool };
+
+    ghost make = { λ b. boolean b };
+
+    ghost typed = { (refl, λ _. refl) };
+
+    fn value_type() -> ValueType {
+        ValueType::Bool
+    }
+
+    fn take<S: ByteSource>(
+        _alloc: (),
+        source: &mut S,
+        count: &mut u64,
+        _version: DocStoreVersion,
+    ) -> Result<bool, ReadError> {
+        Ok(take_bool(source, count)?)
+    }
+
+    fn visit<V: ValueVisitor>(self, visitor: &V) -> Result<V::Value, DeserializeError> {
+        visitor.visit_bool(self)
+    }
+}
+
+impl LeafValue for String {
+    type Alloc = Global;
+
+    ghost expected = { types.String };
+
+    ghost make = { λ s. text (string_bytes s) };
+
+    ghost typed = { (refl, λ _. refl) };
+
+    fn value_type() -> ValueType {
+        ValueType::String
+    }
+
+    fn take<S: ByteSource>(
+        alloc: Global,
+        source: &mut S,
+        count: &mut u64,
+        _version: DocStoreVersion,
+    ) -> Result<String, ReadError> {
+        Ok(take_string(alloc, source, count)?)
+    }
+
+    fn visit<V: ValueVisitor>(self, visitor: &V) -> Result<V::Value, DeserializeError> {
+        visitor.visit_string(self)
+    }
+}
+
+impl LeafValue for Facet {
+    type Alloc = Global;
+
+    ghost expected = { types.Facet };
+
+    ghost make = { λ f. facet f };
+
+    ghost typed = { (refl, λ _. refl) };
+
+    fn value_type() -> ValueType {
+        ValueType::Facet
+    }
+
+    fn take<S: ByteSource>(
+        alloc: Global,
+        source: &mut S,
+        count: &mut u64,
+        _version: DocStoreVersion,
+    ) -> Result<Facet, ReadError> {
+        Ok(take_facet(alloc, source, count)?)
+    }
+
+    fn visit<V: ValueVisitor>(self, visitor: &V) -> Result<V::Value, DeserializeError> {
+        visitor.visit_facet(self)
+    }
+}
+
+impl LeafValue for Vec<u8> {
+    type Alloc = Global;
+
+    ghost expected = { types.Bytes };
+
+    ghost make = { λ v. bytes v.items };
+
+    ghost typed = { (refl, λ _. refl) };
+
+    fn value_type() -> ValueType {
+        ValueType::Bytes
+    }
+
+    fn take<S: ByteSource>(
+        alloc: Global,
+        source: &mut S,
+        count: &mut u64,
+        _version: DocStoreVersion,
+    ) -> Result<Vec<u8>, ReadError> {
+        Ok(take_bytes(alloc, source, count)?)
+    }
+
+    fn visit<V: ValueVisitor>(self, visitor: &V) -> Result<V::Value, DeserializeError> {
+        visitor.visit_bytes(self)
+    }
+}
+
+impl LeafValue for DateTime {
+    type Alloc = ();
+
+    ghost expected = { types.DateTime };
+
+    ghost make = { λ d. date d.nanoseconds };
+
+    ghost typed = { (refl, λ _. refl) };
+
+    fn value_type() -> ValueType {
+        ValueType::DateTime
+    }
+
+    fn take<S: ByteSource>(
+        _alloc: (),
+        source: &mut S,
+        count: &mut u64,
+        version: DocStoreVersion,
+    ) -> Result<DateTime, ReadError> {
+        Ok(take_date(source, count, version)?)
+    }
+
+    fn visit<V: ValueVisitor>(self, visitor: &V) -> Result<V::Value, DeserializeError> {
+        visitor.visit_datetime(self)
+    }
+}
+
+impl LeafValue for Ipv6Addr {
+    type Alloc = ();
+
+    ghost expected = { types.IpAddr };
+
+    ghost make = { λ a. ip_address (ipv6_bits a) };
+
+    ghost typed = { (refl, λ _. refl) };
+
+    fn value_type() -> ValueType {
+        ValueType::IpAddr
+    }
+
+    fn take<S: ByteSource>(
+        _alloc: (),
+        source: &mut S,
+        count: &mut u64,
+        _version: DocStoreVersion,
+    ) -> Result<Ipv6Addr, ReadError> {
+        Ok(take_ip_address(source, count)?)
+    }
+
+    fn visit<V: ValueVisitor>(self, visitor: &V) -> Result<V::Value, DeserializeError> {
+        visitor.visit_ip_address(self)
+    }
+}
+
+impl LeafValue for PreTokenizedString {
+    type Alloc = Global;
+
+    ghost expected = { types.PreTokStr };
+
+    ghost make = { λ s. tokenized (string_bytes s.text) (map token_of s.tokens.items) };
+
+    ghost typed = { (refl, λ _. refl) };
+
+    fn value_type() -> ValueType {
+        ValueType::PreTokStr
+    }
+
+    fn take<S: ByteSource>(
+        alloc: Global,
+        source: &mut S,
+        count: &mut u64,
+        _version: DocStoreVersion,
+    ) -> Result<PreTokenizedString, ReadError> {
+        Ok(take_tokenized(alloc, source, count)?)
+    }
+
+    fn visit<V: ValueVisitor>(self, visitor: &V) -> Result<V::Value, DeserializeError> {
+        visitor.visit_pre_tokenized_string(self)
+    }
+}
+
 impl<S: ByteSource> StoreReader<S> {
     // Hands the visitor what stands behind the code of a type that isn't one of arrays or objects. What it refuses isn't marked yet.
-    fn visit_leaf<V: ValueVisitor>(
+    pub(crate) fn visit_leaf<V: ValueVisitor>(
         &mut self,
         alloc: Global,
         kind: ValueType,
@@ -517,169 +779,20 @@ impl<S: ByteSource> StoreReader<S> {
     ) -> Result<V::Value, DeserializeError>
         ensures { is_leaf_type kind ≡ true → Visits S.tells S.left S.faults self.old self.new kind (V.answers visitor.now) result }
     {
-        let leaf = BinaryValueDeserializer { kind, reader: self };
         match kind {
-            ValueType::Null => {
-                let value = leaf.deserialize_null()?;
-                visitor.visit_null(value)
-            }
-            ValueType::String => {
-                let value = leaf.deserialize_string(alloc)?;
-                visitor.visit_string(value)
-            }
-            ValueType::U64 => {
-                let value = leaf.deserialize_u64()?;
-                visitor.visit_u64(value)
-            }
-            ValueType::I64 => {
-                let value = leaf.deserialize_i64()?;
-                visitor.visit_i64(value)
-            }
-            ValueType::Bool => {
-                let value = leaf.deserialize_bool()?;
-                visitor.visit_bool(value)
-            }
-            ValueType::DateTime => {
-                let value = leaf.deserialize_datetime()?;
-                visitor.visit_datetime(value)
-            }
-            ValueType::IpAddr => {
-                let value = leaf.deserialize_ip_address()?;
-                visitor.visit_ip_address(value)
-            }
-            ValueType::Facet => {
-                let value = leaf.deserialize_facet(alloc)?;
-                visitor.visit_facet(value)
-            }
-            ValueType::Bytes => {
-                let value = leaf.deserialize_bytes(alloc)?;
-                visitor.visit_bytes(value)
-            }
-            ValueType::PreTokStr => {
-                let value = leaf.deserialize_pre_tokenized_string(alloc)?;
-                visitor.visit_pre_tokenized_string(value)
-            }
+            ValueType::Null => self.visit_one::<(), V>((), kind, visitor),
+            ValueType::U64 => self.visit_one::<u64, V>((), kind, visitor),
+            ValueType::I64 => self.visit_one::<i64, V>((), kind, visitor),
+            ValueType::Bool => self.visit_one::<bool, V>((), kind, visitor),
+            ValueType::String => self.visit_one::<String, V>(alloc, kind, visitor),
+            ValueType::Facet => self.visit_one::<Facet, V>(alloc, kind, visitor),
+            ValueType::Bytes => self.visit_one::<Vec<u8>, V>(alloc, kind, visitor),
+            ValueType::DateTime => self.visit_one::<DateTime, V>((), kind, visitor),
+            ValueType::IpAddr => self.visit_one::<Ipv6Addr, V>((), kind, visitor),
+            ValueType::PreTokStr => self.visit_one::<PreTokenizedString, V>(alloc, kind, visitor),
             ValueType::JSONObject | ValueType::Array | ValueType::Object => {
                 Err(DeserializeError::UnsupportedType(kind))
             }
         }
-    }
-
-    // Hands the visitor the values of an array, once their number is read. What it refuses isn't marked yet.
-    fn visit_elements<V: ValueVisitor>(
-        &mut self,
-        alloc: Global,
-        kind: ValueType,
-        visitor: &V,
-    ) -> Result<V::Value, DeserializeError>
-        ensures { VisitsItems S.tells S.left S.faults self.old self.new types.Array element_total kind result }
-    {
-        let announced = self.array_length(kind)?;
-        let access = BinaryArrayDeserializer {
-            announced,
-            position: 0,
-            reader: self,
-        };
-        visitor.visit_array(alloc, access)
-    }
-
-    // Hands the visitor the entries of an object, once their number is read. What it refuses isn't marked yet.
-    fn visit_entries<V: ValueVisitor>(
-        &mut self,
-        alloc: Global,
-        kind: ValueType,
-        visitor: &V,
-    ) -> Result<V::Value, DeserializeError>
-        ensures { VisitsItems S.tells S.left S.faults self.old self.new types.Object (entry_total (version_of self.old.version)) kind result }
-    {
-        let announced = self.object_length(kind)?;
-        let access = BinaryObjectDeserializer {
-            announced,
-            position: 0,
-            reader: self,
-        };
-        visitor.visit_object(alloc, access)
-    }
-
-    // Hands the visitor the entries of a legacy object, out of the spelling of its tree. What it refuses isn't marked yet.
-    fn visit_legacy<V: ValueVisitor>(
-        &mut self,
-        alloc: Global,
-        visitor: &V,
-    ) -> Result<V::Value, DeserializeError>
-        ensures { VisitsLegacy S.tells S.left S.faults self.old self.new result }
-    {
-        let kind = ValueType::JSONObject;
-        let tree = BinaryValueDeserializer { kind, reader: self }.deserialize_tree(alloc)?;
-        let bytes = spelled(alloc, &tree)?;
-        let mut spelling = StoreReader::new(SliceSource::new(&bytes), DocStoreVersion::V2);
-        let kind = spelling.code()?;
-        spelling.visit_entries(alloc, kind, visitor)
-    }
-
-    // Hands the visitor what stands behind the code of a type. What it refuses isn't marked yet.
-    fn visit_kind<V: ValueVisitor>(
-        &mut self,
-        alloc: Global,
-        kind: ValueType,
-        visitor: &V,
-    ) -> Result<V::Value, DeserializeError>
-        ensures leaf { is_leaf_type kind ≡ true → Visits S.tells S.left S.faults self.old self.new kind (V.answers visitor.now) result }
-        ensures array { kind ≡ types.Array → VisitsItems S.tells S.left S.faults self.old self.new types.Array element_total kind result }
-        ensures object { kind ≡ types.Object → VisitsItems S.tells S.left S.faults self.old self.new types.Object (entry_total (version_of self.old.version)) kind result }
-        ensures legacy { kind ≡ types.JSONObject → VisitsLegacy S.tells S.left S.faults self.old self.new result }
-    {
-        match kind {
-            ValueType::Array => self.visit_elements(alloc, kind, visitor),
-            ValueType::Object => self.visit_entries(alloc, kind, visitor),
-            ValueType::JSONObject => self.visit_legacy(alloc, visitor),
-            _ => self.visit_leaf(alloc, kind, visitor),
-        }
-    }
-
-    // The same, and what the visitor refuses is marked.
-    fn visit<V: ValueVisitor>(
-        &mut self,
-        alloc: Global,
-        kind: ValueType,
-        visitor: &V,
-    ) -> Result<V::Value, DeserializeError>
-        ensures leaf { is_leaf_type kind ≡ true → Visits S.tells S.left S.faults self.old self.new kind (V.answers visitor.now) result }
-        ensures array { kind ≡ types.Array → VisitsItems S.tells S.left S.faults self.old self.new types.Array element_total kind result }
-        ensures object { kind ≡ types.Object → VisitsItems S.tells S.left S.faults self.old self.new types.Object (entry_total (version_of self.old.version)) kind result }
-        ensures legacy { kind ≡ types.JSONObject → VisitsLegacy S.tells S.left S.faults self.old self.new result }
-        ensures marks { OnErr result (self.new.has_failed ≡ true) }
-    {
-        match self.visit_kind(alloc, kind, visitor) {
-            Ok(value) => Ok(value),
-            Err(error) => {
-                self.has_failed = true;
-                Err(error)
-            }
-        }
-    }
-}
-
-impl<'de, S: ByteSource> BinaryValueDeserializer<'de, S> {
-    /// Hands the value to the visitor's call for its type, and gives what that answers.
-    ///
-    /// Errors: those of the call for a value of this type; for an array or an object `CorruptedValue` where the number of its values
-    /// is at fault, with `OddObject` where no object announces it; for a legacy object those of `deserialize_tree`, and then the
-    /// visitor's call for objects is handed the entries of a spelling of its tree, which is made in memory; `Io`; `Memory`;
-    /// `AlreadyFailed` where an earlier read was refused; and what the visitor refuses. The visitor isn't called after another refusal.
-    /// Each is marked in the reader.
-    pub fn deserialize_any<V: ValueVisitor>(
-        self,
-        alloc: Global,
-        visitor: &V,
-    ) -> Result<V::Value, DeserializeError>
-        ensures leaf { is_leaf_type self.entry.kind ≡ true → Visits S.tells S.left S.faults self.entry.reader.now self.exit.1.0.now self.entry.kind (V.answers visitor.now) result }
-        ensures array { self.entry.kind ≡ types.Array → VisitsItems S.tells S.left S.faults self.entry.reader.now self.exit.1.0.now types.Array element_total self.entry.kind result }
-        ensures object { self.entry.kind ≡ types.Object → VisitsItems S.tells S.left S.faults self.entry.reader.now self.exit.1.0.now types.Object (entry_total (version_of self.entry.reader.now.version)) self.entry.kind result }
-        ensures legacy { self.entry.kind ≡ types.JSONObject → VisitsLegacy S.tells S.left S.faults self.entry.reader.now self.exit.1.0.now result }
-        ensures marks { OnErr result (self.exit.1.0.now.has_failed ≡ true) }
-    {
-        let BinaryValueDeserializer { kind, reader } = self;
-        reader.visit(alloc, kind, visitor)
     }
 }

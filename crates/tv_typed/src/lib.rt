@@ -5,10 +5,12 @@ pub mod array;
 pub mod collections;
 pub mod de;
 pub mod document;
+mod leaf_value;
 mod legacy_object;
 pub mod object;
 mod spell;
 pub mod store_reader;
+mod visits;
 
 pub use array::BinaryArrayDeserializer;
 pub use de::{BinaryValueDeserializer, ValueDeserialize, ValueVisitor};

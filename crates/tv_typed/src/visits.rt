@@ -1,0 +1,138 @@
+//! Handing what stands in a store to a visitor.
+
+ghost use Rattle.std.specs.Prelude.{◌≡◌, true, OnErr};
+ghost use Rattle.tv_reader.specs.Leaves.{is_leaf_type};
+ghost use Rattle.tv_reader.specs.Version.{version_of};
+ghost use Rattle.tv_reader.specs.declared.value_type.ValueType.TheVariants as types;
+ghost use Rattle.tv_typed.specs.Lists.{element_total};
+ghost use Rattle.tv_typed.specs.Visits.{Visits, VisitsItems, VisitsLegacy};
+ghost use Rattle.tv_value.specs.Version.{entry_total};
+
+use crate::array::BinaryArrayDeserializer;
+use crate::de::{BinaryValueDeserializer, ValueVisitor};
+use crate::object::BinaryObjectDeserializer;
+use crate::spell::spelled;
+use crate::store_reader::StoreReader;
+use std::alloc::Global;
+use tv_base::{ByteSource, SliceSource};
+use tv_reader::{DeserializeError, DocStoreVersion, ValueType};
+
+impl<S: ByteSource> StoreReader<S> {
+    // Hands the visitor the values of an array, once their number is read. What it refuses isn't marked yet.
+    fn visit_elements<V: ValueVisitor>(
+        &mut self,
+        alloc: Global,
+        kind: ValueType,
+        visitor: &V,
+    ) -> Result<V::Value, DeserializeError>
+        ensures { VisitsItems S.tells S.left S.faults self.old self.new types.Array element_total kind result }
+    {
+        let announced = self.array_length(kind)?;
+        let access = BinaryArrayDeserializer {
+            announced,
+            position: 0,
+            reader: self,
+        };
+        visitor.visit_array(alloc, access)
+    }
+
+    // Hands the visitor the entries of an object, once their number is read. What it refuses isn't marked yet.
+    fn visit_entries<V: ValueVisitor>(
+        &mut self,
+        alloc: Global,
+        kind: ValueType,
+        visitor: &V,
+    ) -> Result<V::Value, DeserializeError>
+        ensures { VisitsItems S.tells S.left S.faults self.old self.new types.Object (entry_total (version_of self.old.version)) kind result }
+    {
+        let announced = self.object_length(kind)?;
+        let access = BinaryObjectDeserializer {
+            announced,
+            position: 0,
+            reader: self,
+        };
+        visitor.visit_object(alloc, access)
+    }
+
+    // Hands the visitor the entries of a legacy object, out of the spelling of its tree. What it refuses isn't marked yet.
+    fn visit_legacy<V: ValueVisitor>(
+        &mut self,
+        alloc: Global,
+        visitor: &V,
+    ) -> Result<V::Value, DeserializeError>
+        ensures { VisitsLegacy S.tells S.left S.faults self.old self.new result }
+    {
+        let kind = ValueType::JSONObject;
+        let tree = BinaryValueDeserializer { kind, reader: self }.deserialize_tree(alloc)?;
+        let bytes = spelled(alloc, &tree)?;
+        let mut spelling = StoreReader::new(SliceSource::new(&bytes), DocStoreVersion::V2);
+        let kind = spelling.code()?;
+        spelling.visit_entries(alloc, kind, visitor)
+    }
+
+    // Hands the visitor what stands behind the code of a type. What it refuses isn't marked yet.
+    fn visit_kind<V: ValueVisitor>(
+        &mut self,
+        alloc: Global,
+        kind: ValueType,
+        visitor: &V,
+    ) -> Result<V::Value, DeserializeError>
+        ensures leaf { is_leaf_type kind ≡ true → Visits S.tells S.left S.faults self.old self.new kind (V.answers visitor.now) result }
+        ensures array { kind ≡ types.Array → VisitsItems S.tells S.left S.faults self.old self.new types.Array element_total kind result }
+        ensures object { kind ≡ types.Object → VisitsItems S.tells S.left S.faults self.old self.new types.Object (entry_total (version_of self.old.version)) kind result }
+        ensures legacy { kind ≡ types.JSONObject → VisitsLegacy S.tells S.left S.faults self.old self.new result }
+    {
+        match kind {
+            ValueType::Array => self.visit_elements(alloc, kind, visitor),
+            ValueType::Object => self.visit_entries(alloc, kind, visitor),
+            ValueType::JSONObject => self.visit_legacy(alloc, visitor),
+            _ => self.visit_leaf(alloc, kind, visitor),
+        }
+    }
+
+    // The same, and what the visitor refuses is marked.
+    fn visit<V: ValueVisitor>(
+        &mut self,
+        alloc: Global,
+        kind: ValueType,
+        visitor: &V,
+    ) -> Result<V::Value, DeserializeError>
+        ensures leaf { is_leaf_type kind ≡ true → Visits S.tells S.left S.faults self.old self.new kind (V.answers visitor.now) result }
+        ensures array { kind ≡ types.Array → VisitsItems S.tells S.left S.faults self.old self.new types.Array element_total kind result }
+        ensures object { kind ≡ types.Object → VisitsItems S.tells S.left S.faults self.old self.new types.Object (entry_total (version_of self.old.version)) kind result }
+        ensures legacy { kind ≡ types.JSONObject → VisitsLegacy S.tells S.left S.faults self.old self.new result }
+        ensures marks { OnErr result (self.new.has_failed ≡ true) }
+    {
+        match self.visit_kind(alloc, kind, visitor) {
+            Ok(value) => Ok(value),
+            Err(error) => {
+                self.has_failed = true;
+                Err(error)
+            }
+        }
+    }
+}
+
+impl<'de, S: ByteSource> BinaryValueDeserializer<'de, S> {
+    /// Hands the value to the visitor's call for its type, and gives what that answers.
+    ///
+    /// Errors: those of the call for a value of this type; for an array or an object `CorruptedValue` where the number of its values
+    /// is at fault, with `OddObject` where no object announces it; for a legacy object those of `deserialize_tree`, and then the
+    /// visitor's call for objects is handed the entries of a spelling of its tree, which is made in memory; `Io`; `Memory`;
+    /// `AlreadyFailed` where an earlier read was refused; and what the visitor refuses. The visitor isn't called after another refusal.
+    /// Each is marked in the reader.
+    pub fn deserialize_any<V: ValueVisitor>(
+        self,
+        alloc: Global,
+        visitor: &V,
+    ) -> Result<V::Value, DeserializeError>
+        ensures leaf { is_leaf_type self.entry.kind ≡ true → Visits S.tells S.left S.faults self.entry.reader.now self.exit.1.0.now self.entry.kind (V.answers visitor.now) result }
+        ensures array { self.entry.kind ≡ types.Array → VisitsItems S.tells S.left S.faults self.entry.reader.now self.exit.1.0.now types.Array element_total self.entry.kind result }
+        ensures object { self.entry.kind ≡ types.Object → VisitsItems S.tells S.left S.faults self.entry.reader.now self.exit.1.0.now types.Object (entry_total (version_of self.entry.reader.now.version)) self.entry.kind result }
+        ensures legacy { self.entry.kind ≡ types.JSONObject → VisitsLegacy S.tells S.left S.faults self.entry.reader.now self.exit.1.0.now result }
+        ensures marks { OnErr result (self.exit.1.0.now.has_failed ≡ true) }
+    {
+        let BinaryValueDeserializer { kind, reader } = self;
+        reader.visit(alloc, kind, visitor)
+    }
+}
