@@ -48,38 +48,33 @@ and_list_is (complete u) kind n is e = tt
 and_list_is (in_bytes ls k m bs) kind n is e = absurd cc
 
 head_next : (kind : BytesKind) (ls : List OpenList) → OthersAwait ls → next_in ls ≡ head_awaits kind → HeadNext kind ls
-head_next kinds.Str ls others e = all_await ls e others
-head_next kinds.Facet ls others e = all_await ls e others
-head_next kinds.Bytes ls others e = all_await ls e others
 head_next kinds.Key [] others e = absurd cc
 head_next kinds.Key (l ∷ ls) others e = next_key l.kind (length l.children) e
+head_next _ ls others e = all_await ls e others
 
 pub not_finish : (kind : BytesKind) → awaits.Finish ≡ head_awaits kind → ⊥
-not_finish kinds.Str e = cc
-not_finish kinds.Facet e = cc
-not_finish kinds.Bytes e = cc
 not_finish kinds.Key e = cc
+not_finish _ e = cc
 
 pub not_bytes : (kind : BytesKind) (n : ℕ) → awaits.Bytes n ≡ head_awaits kind → ⊥
-not_bytes kinds.Str n e = cc
-not_bytes kinds.Facet n e = cc
-not_bytes kinds.Bytes n e = cc
 not_bytes kinds.Key n e = cc
+not_bytes _ n e = cc
 
 pub and_head_is : (s : State) (kind : BytesKind) (n : ℕ) → IsState s → awaited s ≡ head_awaits kind → IsState (and_head s kind n)
 and_head_is (in_lists ls) kind n is e = (is.0, is.1, head_next kind ls is.1 e, omega arith)
 and_head_is (complete u) kind n is e = tt
 and_head_is (in_bytes ls k m bs) kind n is e = absurd (not_bytes kind (m - length bs) e)
 
-content_is : (ls : List OpenList) (kind : BytesKind) (content : List ℕ) → AreLists ls → OthersAwait ls → HeadNext kind ls → IsState (with_content ls kind content)
-content_is ls kinds.Str content are others next = value_is ls _ are next
-content_is ls kinds.Facet content are others next = value_is ls _ are next
-content_is ls kinds.Bytes content are others next = value_is ls _ are next
-content_is [] kinds.Key content are others next = absurd next
-content_is (l ∷ ls) kinds.Key content are others next =
+key_is : (ls : List OpenList) (content : List ℕ) → AreLists ls → OthersAwait ls → HeadNext kinds.Key ls → IsState (with_content ls kinds.Key content)
+key_is [] content are others next = absurd next
+key_is (l ∷ ls) content are others next =
     let child = child_key l.kind l.children (leaf (text content)) next tt are.0.children in
     let lacks = key_lacks l.kind l.announced (length l.children) next are.0.lacks in
     ((record { lacks = omega (arith, lacks.0, length-append l.children (leaf (text content) ∷ [])); children = child.0 }, are.1), others)
+
+content_is : (ls : List OpenList) (kind : BytesKind) (content : List ℕ) → AreLists ls → OthersAwait ls → HeadNext kind ls → IsState (with_content ls kind content)
+content_is ls kinds.Key content are others next = key_is ls content are others next
+content_is ls _ content are others next = value_is ls _ are next
 
 pub and_end_is : (s : State) → IsState s → IsState (and_end s)
 and_end_is (in_bytes ls kind n bs) is = content_is ls kind bs is.0 is.1 is.2

@@ -53,10 +53,8 @@ head_all (complete t) kind n e none = absurd (not_finish kind e)
 head_all (in_bytes ls k m bs) kind n e none = absurd (not_bytes kind (m - length bs) e)
 
 no_content : (kind : BytesKind) → IsContent kind []
-no_content kinds.Str = IsUtf8-nil
-no_content kinds.Facet = IsUtf8-nil
 no_content kinds.Bytes = tt
-no_content kinds.Key = IsUtf8-nil
+no_content _ = IsUtf8-nil
 
 pub head_content : (s : State) (kind : BytesKind) (n : ℕ) → awaited s ≡ head_awaits kind → HasContent (and_head s kind n)
 head_content (in_lists ls) kind n e = no_content kind
@@ -92,10 +90,8 @@ bytes_all (complete t) more m is e h all = absurd h
 bytes_all (in_lists ls) more m is e h all = absurd h
 
 no_text : (kind : BytesKind) (content : List ℕ) → ¬ IsContent kind content → IsTextKind kind × ¬ IsUtf8 content
-no_text kinds.Str content h = (tt, h)
-no_text kinds.Facet content h = (tt, h)
 no_text kinds.Bytes content h = absurd (h tt)
-no_text kinds.Key content h = (tt, h)
+no_text _ content h = (tt, h)
 
 pub end_no_text : (s after : State) (more : List ℕ) → TakesBytes s (length more) → HasAllBytes after → after ≡ and_bytes s more → ¬ HasContent after → EndNoText s more
 end_no_text (in_bytes ls kind n bs) after more h all is none =

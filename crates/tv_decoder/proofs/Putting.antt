@@ -13,7 +13,7 @@ use Rattle.tv_doc.specs.declared.builder.TreeBuilder.{TreeBuilder}
 use Rattle.tv_doc.specs.Builder.{built, state_of, Goes, HasAllBytes, IsComplete, Finished}
 use Rattle.tv_reader.specs.declared.error.DeserializeError.{DeserializeError}
 use Rattle.tv_reader.specs.declared.error.DeserializeError.TheVariants as errors
-use Rattle.tv_value.specs.Tree.{Tree, leaf, text, facet, bytes, Document}
+use Rattle.tv_value.specs.Tree.{Tree, Document}
 use Rattle.tv_decoder.specs.Front.{parts_at, parts_read, Lacks, IsPlace, IsSound, HasField}
 use Rattle.tv_decoder.specs.Puts.{MayStand, IsWithin, IsOpen, Put, Puts}
 use Rattle.tv_decoder.specs.declared.reading.Reading.{Reading}
@@ -173,10 +173,8 @@ and_list_stands (complete u) kind n e = tt
 and_list_stands (in_bytes ls k m bs) kind n e = absurd cc
 
 content_stands : (ls : List OpenList) (kind : BytesKind) (content : List ℕ) → MayStand (with_content ls kind content)
-content_stands ls kinds.Str content = value_stands ls (leaf (text content))
-content_stands ls kinds.Facet content = value_stands ls (leaf (facet content))
-content_stands ls kinds.Bytes content = value_stands ls (leaf (bytes content))
 content_stands ls kinds.Key content = key_stands ls content
+content_stands ls _ content = value_stands ls _
 
 pub and_end_stands : (s : State) → HasAllBytes s → MayStand (and_end s)
 and_end_stands (in_bytes ls kind n bs) h = content_stands ls kind bs

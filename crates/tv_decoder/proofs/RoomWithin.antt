@@ -6,12 +6,17 @@ use Rattle.std.proofs.lemmas.List.Sums.{sum_by-append}
 use Rattle.tv_base.specs.Number.{VNum}
 use Rattle.tv_base.specs.Parts.{OneReading, Behind, Each, Text, Sized}
 use Rattle.tv_base.proofs.Numbers.{one_number, one_fixed}
-use Rattle.tv_value.specs.Spelling.{Key, Spells, SpellsElements, SpellsEntries, SpellsPair, SpellsDocument, leaf_code, LeafBody}
-use Rattle.tv_value.specs.Tree.{Tree, leaf, null, text, unsigned, signed, boolean, date, facet, bytes, ip_address, tokenized, Leaf, array, object, Elements, no_elements, element, element_count, Entries, no_entries, entry, entry_count, Document}
-use Rattle.tv_value.specs.Version.{Version, V1, V2, V3, entry_total}
+use Rattle.tv_value.specs.Content.{Content, text_content, bytes_content, form_of}
+use Rattle.tv_value.specs.Leaves.{type_of, content, form, store_code, scale}
+use Rattle.tv_value.specs.LeavesLaws.{form_of_content, one_code, small_code}
+use Rattle.tv_value.specs.Spelling.{Key, Spells, SpellsElements, SpellsEntries, SpellsPair, SpellsDocument, leaf_code, ContentBody}
+use Rattle.tv_value.specs.Tree.{Tree, leaf, text, array, object, Elements, no_elements, element, element_count, Entries, no_entries, entry, entry_count, Document}
+use Rattle.tv_value.specs.Version.{Version, V1, V2, V3, Scale, entry_total}
+use Rattle.tv_value.specs.declared.leaf.LeafType.{LeafType}
+use Rattle.tv_value.specs.declared.leaf.LeafType.TheVariants as types
 use Rattle.tv_value.proofs.Leaves.{agree_key, total_same, leaf_code_small}
 use Rattle.tv_value.proofs.Trees.{one_tree, one_pair}
-use Rattle.tv_heap.specs.Room.{room, leaf_room, elements_room, entries_room, document_room}
+use Rattle.tv_heap.specs.Room.{room, content_room, elements_room, entries_room, document_room}
 use Rattle.tv_builder.specs.declared.bytes_kind.BytesKind.{BytesKind}
 use Rattle.tv_builder.specs.declared.bytes_kind.BytesKind.TheVariants as kinds
 use Rattle.tv_builder.specs.declared.frame.ListKind.{ListKind}
@@ -22,6 +27,7 @@ use Rattle.tv_builder.specs.Kinds.{total}
 use Rattle.tv_builder.specs.Parts.{Part, field, value, bytes_head, some_bytes}
 use Rattle.tv_builder.specs.State.{OpenList, State, complete, in_lists, in_bytes, text_of, IsKey, AreEntries, AreChildren, AreLists, IsValueNext, IsKeyNext, AllAwait, OthersAwait, HeadNext, IsState, key_parts, list_head, children_parts, list_parts, lists_parts, parts_of, children_room, lists_room, state_room}
 use Rattle.tv_builder.proofs.Grammar.{each_split}
+use Rattle.tv_reader.specs.Heads.{HasLength}
 
 -- ---- lists of bytes
 
@@ -44,30 +50,7 @@ behind_codes m n c d p q a b x y f g h e =
 -- a key's room is that of its text
 key_room : (k : Tree) → IsKey k → room k ≡ 5 + length (text_of k)
 key_room (leaf (text content)) h = refl
-key_room (leaf null) h = absurd h
-key_room (leaf (unsigned n)) h = absurd h
-key_room (leaf (signed z)) h = absurd h
-key_room (leaf (boolean b)) h = absurd h
-key_room (leaf (date z)) h = absurd h
-key_room (leaf (facet f)) h = absurd h
-key_room (leaf (bytes bs)) h = absurd h
-key_room (leaf (ip_address n)) h = absurd h
-key_room (leaf (tokenized t ts)) h = absurd h
-key_room (array ts) h = absurd h
-key_room (object es) h = absurd h
-
--- the leaves that are bytes
-is_text : (l : Leaf) → leaf_code l ≡ 0 → (content : List ℕ) × (l ≡ text content)
-is_text (text content) e = (content, refl)
-is_text _ e = absurd (omega arith)
-
-is_facet : (l : Leaf) → leaf_code l ≡ 3 → (content : List ℕ) × (l ≡ facet content)
-is_facet (facet content) e = (content, refl)
-is_facet _ e = absurd (omega arith)
-
-is_bytes : (l : Leaf) → leaf_code l ≡ 4 → (content : List ℕ) × (l ≡ bytes content)
-is_bytes (bytes content) e = (content, refl)
-is_bytes _ e = absurd (omega arith)
+key_room _ h = absurd h
 
 -- two codes at the same place
 coded : (m n : ℕ) (h b body rest x y : List ℕ) → h ≡ m ∷ body → b ≡ n ∷ rest → h ++ x ≡ b ++ y → (m ≡ n) × (body ++ x ≡ rest ++ y)
@@ -270,37 +253,21 @@ module _ (L : List ℕ → Entries → Type 0) (v : Version) (one_l : OneReading
   sized_length : (n : ℕ) (a x b y content : List ℕ) → VNum a n → Sized b content → a ++ x ≡ b ++ y → n ≡ length content
   sized_length n a x b y content p s e = (one_number a s.size x (content ++ y) n (length content) p s.number (e ∙ ap (λ (z : List ℕ). z ++ y) s.joined ∙ append_assoc s.size content y)).1
 
-  str_room : (n : ℕ) (h x b y : List ℕ) (t : Tree) → Behind 0 (λ z. VNum z n) h → h ++ x ≡ b ++ y → Spells L v b t → room t ≡ 5 + n
-  str_room n h x b y (leaf l) p e s =
-      let k = coded 0 (leaf_code l) h b p.body s.body x y p.joined s.joined e in
-      let i = is_text l (sym k.0) in
-      omega (arith, text_length n p.body x s.body y i.0 p.spelled (subst (λ z. LeafBody v s.body z) i.1 s.spelled) k.1, ap leaf_room i.1)
-  str_room n h x b y (array us) p e s = absurd (let k = coded 0 12 h b p.body s.body x y p.joined s.joined e in omega (arith, k.0))
-  str_room n h x b y (object es) p e s = elim s [
-    | inl o ↦ absurd (let k = coded 0 13 h b p.body o.body x y p.joined o.joined e in omega (arith, k.0))
-    | inr o ↦ absurd (let k = coded 0 8 h b p.body o.body x y p.joined o.joined e in omega (arith, k.0))
-  ]
+  content_length : (k : Scale) (held : Content) (n : ℕ) (a x b y : List ℕ) → HasLength (form_of held) → VNum a n → ContentBody k b held → a ++ x ≡ b ++ y → content_room held ≡ 5 + n
+  content_length k (text_content t) n a x b y has p s e = omega (arith, text_length n a x b y t p s e)
+  content_length k (bytes_content bs) n a x b y has p s e = omega (arith, sized_length n a x b y bs p s e)
+  content_length k _ n a x b y has p s e = absurd has
 
-  facet_room : (n : ℕ) (h x b y : List ℕ) (t : Tree) → Behind 3 (λ z. VNum z n) h → h ++ x ≡ b ++ y → Spells L v b t → room t ≡ 5 + n
-  facet_room n h x b y (leaf l) p e s =
-      let k = coded 3 (leaf_code l) h b p.body s.body x y p.joined s.joined e in
-      let i = is_facet l (sym k.0) in
-      omega (arith, text_length n p.body x s.body y i.0 p.spelled (subst (λ z. LeafBody v s.body z) i.1 s.spelled) k.1, ap leaf_room i.1)
-  facet_room n h x b y (array us) p e s = absurd (let k = coded 3 12 h b p.body s.body x y p.joined s.joined e in omega (arith, k.0))
-  facet_room n h x b y (object es) p e s = elim s [
-    | inl o ↦ absurd (let k = coded 3 13 h b p.body o.body x y p.joined o.joined e in omega (arith, k.0))
-    | inr o ↦ absurd (let k = coded 3 8 h b p.body o.body x y p.joined o.joined e in omega (arith, k.0))
-  ]
-
-  bytes_room : (n : ℕ) (h x b y : List ℕ) (t : Tree) → Behind 4 (λ z. VNum z n) h → h ++ x ≡ b ++ y → Spells L v b t → room t ≡ 5 + n
-  bytes_room n h x b y (leaf l) p e s =
-      let k = coded 4 (leaf_code l) h b p.body s.body x y p.joined s.joined e in
-      let i = is_bytes l (sym k.0) in
-      omega (arith, sized_length n p.body x s.body y i.0 p.spelled (subst (λ z. LeafBody v s.body z) i.1 s.spelled) k.1, ap leaf_room i.1)
-  bytes_room n h x b y (array us) p e s = absurd (let k = coded 4 12 h b p.body s.body x y p.joined s.joined e in omega (arith, k.0))
-  bytes_room n h x b y (object es) p e s = elim s [
-    | inl o ↦ absurd (let k = coded 4 13 h b p.body o.body x y p.joined o.joined e in omega (arith, k.0))
-    | inr o ↦ absurd (let k = coded 4 8 h b p.body o.body x y p.joined o.joined e in omega (arith, k.0))
+  -- a value of which the code and the length have come
+  coded_room : (ty : LeafType) (n : ℕ) (h x b y : List ℕ) (t : Tree) → HasLength (form ty) → Behind (store_code ty) (λ z. VNum z n) h → h ++ x ≡ b ++ y → Spells L v b t → room t ≡ 5 + n
+  coded_room ty n h x b y (leaf l) has p e s =
+      let k = coded (store_code ty) (leaf_code l) h b p.body s.body x y p.joined s.joined e in
+      let form_is : form ty ≡ form_of (content l) = ap form (one_code ty (type_of l) k.0) ∙ sym (form_of_content l) in
+      content_length (scale v (type_of l)) (content l) n p.body x s.body y (subst HasLength form_is has) p.spelled s.spelled k.1
+  coded_room ty n h x b y (array us) has p e s = absurd (let k = coded (store_code ty) 12 h b p.body s.body x y p.joined s.joined e in omega (arith, k.0, (small_code ty).0))
+  coded_room ty n h x b y (object es) has p e s = elim s [
+    | inl o ↦ absurd (let k = coded (store_code ty) 13 h b p.body o.body x y p.joined o.joined e in omega (arith, k.0, (small_code ty).0))
+    | inr o ↦ absurd ((small_code ty).1 (coded (store_code ty) 8 h b p.body o.body x y p.joined o.joined e).0)
   ]
 
   key_length : (w : Version) (n : ℕ) (h x b y k : List ℕ) → KeyHead w h n → Key w b k → h ++ x ≡ b ++ y → n ≡ length k
@@ -313,20 +280,18 @@ module _ (L : List ℕ → Entries → Type 0) (v : Version) (one_l : OneReading
   abbrev HeadParts : BytesKind → ℕ → List ℕ → List ℕ → Type 0
   HeadParts kind n bs b = Each R b (bytes_head kind n ∷ some_bytes bs ∷ [])
 
+  in_leaf : (ty : LeafType) (ls : List OpenList) (n : ℕ) (h head rest r x b y : List ℕ) (t : Tree) → HasLength (form ty) → AreLists ls → AllAwait ls → Each R h (lists_parts ls) → Behind (store_code ty) (λ z. VNum z n) head → r ≡ head ++ rest
+      → h ++ (r ++ x) ≡ b ++ y → Spells L v b t → lists_room ls + (5 + n) ≤ room t
+  in_leaf ty ls n h head rest r x b y t has are await p first joined e s =
+      let k = next_value ls h (r ++ x) b y t are await p e s in
+      let whole : head ++ (rest ++ x) ≡ k.starts.front ++ k.starts.rest = sym (append_assoc head rest x) ∙ ap (λ (z : List ℕ). z ++ x) (sym joined) ∙ k.starts.joined in
+      omega (arith, k.room_is, coded_room ty n head (rest ++ x) k.starts.front k.starts.rest k.next has first whole k.starts.spelled)
+
   in_value : (kind : BytesKind) (ls : List OpenList) (n : ℕ) (bs h r x b y : List ℕ) (t : Tree) → AreLists ls → HeadNext kind ls → OthersAwait ls → Each R h (lists_parts ls) → HeadParts kind n bs r → h ++ (r ++ x) ≡ b ++ y → Spells L v b t
       → lists_room ls + (5 + n) ≤ room t
-  in_value kinds.Str ls n bs h r x b y t are next others p g e s =
-      let k = next_value ls h (r ++ x) b y t are next p e s in
-      let head = str_room n g.front (g.rest ++ x) k.starts.front k.starts.rest k.next g.first (sym (append_assoc g.front g.rest x) ∙ ap (λ (z : List ℕ). z ++ x) (sym g.joined) ∙ k.starts.joined) k.starts.spelled in
-      omega (arith, k.room_is, head)
-  in_value kinds.Facet ls n bs h r x b y t are next others p g e s =
-      let k = next_value ls h (r ++ x) b y t are next p e s in
-      let head = facet_room n g.front (g.rest ++ x) k.starts.front k.starts.rest k.next g.first (sym (append_assoc g.front g.rest x) ∙ ap (λ (z : List ℕ). z ++ x) (sym g.joined) ∙ k.starts.joined) k.starts.spelled in
-      omega (arith, k.room_is, head)
-  in_value kinds.Bytes ls n bs h r x b y t are next others p g e s =
-      let k = next_value ls h (r ++ x) b y t are next p e s in
-      let head = bytes_room n g.front (g.rest ++ x) k.starts.front k.starts.rest k.next g.first (sym (append_assoc g.front g.rest x) ∙ ap (λ (z : List ℕ). z ++ x) (sym g.joined) ∙ k.starts.joined) k.starts.spelled in
-      omega (arith, k.room_is, head)
+  in_value kinds.Str ls n bs h r x b y t are next others p g e s = in_leaf types.Str ls n h g.front g.rest r x b y t tt are next p g.first g.joined e s
+  in_value kinds.Facet ls n bs h r x b y t are next others p g e s = in_leaf types.Facet ls n h g.front g.rest r x b y t tt are next p g.first g.joined e s
+  in_value kinds.Bytes ls n bs h r x b y t are next others p g e s = in_leaf types.Bytes ls n h g.front g.rest r x b y t tt are next p g.first g.joined e s
   in_value kinds.Key [] n bs h r x b y t are next others p g e s = absurd next
   in_value kinds.Key (l ∷ ls) n bs h r x b y t are next others p g e s =
       let k = next_key_in l ls h (r ++ x) b y t are others next p e s in

@@ -13,21 +13,11 @@ use Rattle.tv_builder.specs.declared.frame.ListKind.TheVariants.{Array, Object}
 use Rattle.tv_builder.specs.State.{OpenList, State, complete, in_lists, in_bytes, next_at, IsKey, AreEntries, AreValues, AreChildren, IsList, AreLists, IsValueNext, IsKeyNext, AllAwait, OthersAwait, HeadNext, IsState}
 use Rattle.tv_doc.specs.declared.builder.TreeBuilder.{TreeBuilder}
 use Rattle.tv_doc.specs.Builder.{state_of}
-use Rattle.tv_value.specs.Tree.{Tree, leaf, array, object, null, text, unsigned, signed, boolean, date, facet, bytes, ip_address, tokenized}
+use Rattle.tv_value.specs.Tree.{Tree, leaf, text}
 
 key_prop : (t : Tree) → IsProp (IsKey t)
 key_prop (leaf (text content)) x y = refl
-key_prop (leaf null) x y = absurd x
-key_prop (leaf (unsigned n)) x y = absurd x
-key_prop (leaf (signed z)) x y = absurd x
-key_prop (leaf (boolean b)) x y = absurd x
-key_prop (leaf (date z)) x y = absurd x
-key_prop (leaf (facet f)) x y = absurd x
-key_prop (leaf (bytes bs)) x y = absurd x
-key_prop (leaf (ip_address n)) x y = absurd x
-key_prop (leaf (tokenized t ts)) x y = absurd x
-key_prop (array ts) x y = absurd x
-key_prop (object es) x y = absurd x
+key_prop _ x y = absurd x
 
 mutual
   entries_prop : (ts : List Tree) → IsProp (AreEntries ts)
@@ -66,11 +56,9 @@ others_prop [] x y = refl
 others_prop (l ∷ ls) x y = all_prop ls x y
 
 head_prop : (kind : BytesKind) (ls : List OpenList) → IsProp (HeadNext kind ls)
-head_prop kinds.Str ls x y = all_prop ls x y
-head_prop kinds.Facet ls x y = all_prop ls x y
-head_prop kinds.Bytes ls x y = all_prop ls x y
 head_prop kinds.Key [] x y = absurd x
 head_prop kinds.Key (l ∷ ls) x y = key_next_prop l.kind (length l.children) x y
+head_prop _ ls x y = all_prop ls x y
 
 state_prop : (s : State) → IsProp (IsState s)
 state_prop (complete t) x y = refl
