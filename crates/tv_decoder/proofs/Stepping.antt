@@ -17,17 +17,19 @@ use Rattle.tv_doc.specs.Builder.{built, state_of}
 use Rattle.tv_legacy.specs.Legacy.{Legacy}
 use Rattle.tv_reader.specs.Finds.{Finds}
 use Rattle.tv_reader.specs.HeadReading.{head_part}
-use Rattle.tv_reader.specs.Heads as heads_of
-use Rattle.tv_reader.specs.Heads.{HeadPart, leaf_head, text_head, facet_head, array_head as array_number, object_head as object_number, tokenized_head, legacy_head, SpellsHead, SpellsKeyHead}
+use Rattle.tv_reader.specs.Heads.{HeadPart, leaf_head, length_head, HasWidth, array_head as array_number, object_head as object_number, tokenized_head, legacy_head, SpellsHead, SpellsKeyHead}
 use Rattle.tv_reader.specs.declared.error.DeserializeError.{DeserializeError}
 use Rattle.tv_reader.specs.declared.error.DeserializeError.TheVariants as errors
 use Rattle.tv_reader.specs.declared.heads.Head.{Head}
-use Rattle.tv_reader.specs.declared.heads.Head.TheVariants as heads
 use Rattle.tv_reader.proofs.Finding.{finds_as, finds_short}
 use Rattle.tv_value.specs.Fault.{Refusal}
-use Rattle.tv_value.specs.Spelling.{Spells, NoLegacy}
+use Rattle.tv_value.specs.Content.{Content, no_content, truth_content, unsigned_content, signed_content, wide_content, text_content, bytes_content, tokens_content, form_of}
+use Rattle.tv_value.specs.Leaves.{type_of, content, scale}
+use Rattle.tv_value.specs.Spelling.{ContentBody, Spells, NoLegacy}
 use Rattle.tv_value.specs.Tree.{Tree, leaf, array, object, Entries}
-use Rattle.tv_value.specs.Version.{Version, V1, V2, V3, Date}
+use Rattle.tv_value.specs.Version.{Version, V1, V2, V3, Scale, Scaled}
+use Rattle.tv_value.specs.Version as scales
+use Rattle.tv_value.specs.declared.leaf.LeafType.TheVariants as leaves
 use Rattle.tv_decoder.specs.Front.{parts_at, parts_read, Lacks, IsPlace, IsSound, LacksPair, NoFront, NoRoomBehind, ValueNext}
 use Rattle.tv_decoder.specs.Puts.{Put, Fills, Puts, IsParts, head_parts}
 use Rattle.tv_decoder.specs.Steps.{Advances, BeginsWith, IsTakenWhole, Stepped}
@@ -170,36 +172,38 @@ key_part V3 old n a h = record { some = some_number h; few = inl (omega (arith, 
 
 -- ---- the head of a value
 
-date_length : (v : Version) (b : List ℕ) (z : ℤ) → Date v b z → length b ≡ 8
-date_length V1 b z h = length-fixed h.spelled
-date_length V2 b z h = length-fixed h.spelled
-date_length V3 b z h = length-fixed h.spelled
-
 truth_length : (t : Bool) (b : List ℕ) → Truth b t → length b ≡ 1
 truth_length true b h = ap length h
 truth_length false b h = ap length h
 
+scaled_length : (s : Scale) (b : List ℕ) (z : ℤ) → Scaled s b z → length b ≡ 8
+scaled_length scales.plain b z h = length-fixed h.spelled
+scaled_length scales.thousands b z h = length-fixed h.spelled
+
+small_content : (s : Scale) (b : List ℕ) (c : Content) → HasWidth (form_of c) → ContentBody s b c → length b ≤ 16
+small_content s b no_content w h = omega (arith, ap length h)
+small_content s b (truth_content t) w h = omega (arith, truth_length t b h)
+small_content s b (unsigned_content n) w h = omega (arith, length-fixed h)
+small_content s b (signed_content z) w h = omega (arith, scaled_length s b z h)
+small_content s b (wide_content n) w h = omega (arith, length-fixed h)
+small_content s b (text_content t) w h = absurd w
+small_content s b (bytes_content bs) w h = absurd w
+small_content s b (tokens_content t ts) w h = absurd w
+
 -- what is taken of a head is short
-small_body : (v : Version) (head : Head) (a : List ℕ) → IsParts (head_part head) → SpellsHead v a (head_part head) → (0 < length a) × (length a ≤ 4096)
-small_body v heads.Null a is h = (omega (arith, ap length h.joined), omega (arith, ap length h.joined, ap length h.spelled))
-small_body v (heads.U64 n) a is h = (omega (arith, ap length h.joined), omega (arith, ap length h.joined, length-fixed h.spelled))
-small_body v (heads.I64 z) a is h = (omega (arith, ap length h.joined), omega (arith, ap length h.joined, length-fixed h.spelled.spelled))
-small_body v (heads.Date d) a is h = (omega (arith, ap length h.joined), omega (arith, ap length h.joined, date_length v h.body d.nanoseconds h.spelled))
-small_body v (heads.Bool b) a is h = (omega (arith, ap length h.joined), omega (arith, ap length h.joined, truth_length b h.body h.spelled))
-small_body v (heads.IpAddr n) a is h = (omega (arith, ap length h.joined), omega (arith, ap length h.joined, length-fixed h.spelled))
-small_body v (heads.Text n) a is h = (omega (arith, ap length h.joined), omega (arith, ap length h.joined, h.spelled.at_most_ten))
-small_body v (heads.Facet n) a is h = (omega (arith, ap length h.joined), omega (arith, ap length h.joined, h.spelled.at_most_ten))
-small_body v (heads.Bytes n) a is h = (omega (arith, ap length h.joined), omega (arith, ap length h.joined, h.spelled.at_most_ten))
-small_body v (heads.Array n) a is h = (omega (arith, ap length h.joined), omega (arith, ap length h.joined, h.spelled.at_most_ten))
-small_body v (heads.Object n) a is h = (omega (arith, ap length h.joined), omega (arith, ap length h.joined, h.spelled.at_most_ten))
-small_body v heads.Tokenized a is h = absurd is
-small_body v heads.Legacy a is h = absurd is
+small_part : (v : Version) (h : HeadPart) (a : List ℕ) → IsParts h → SpellsHead v a h → (0 < length a) × (length a ≤ 4096)
+small_part v (leaf_head l) a is h = let p = h.1 in (omega (arith, ap length p.joined), omega (arith, ap length p.joined, small_content (scale v (type_of l)) p.body (content l) h.0 p.spelled))
+small_part v (length_head t n) a is h = let p = h.1 in (omega (arith, ap length p.joined), omega (arith, ap length p.joined, p.spelled.at_most_ten))
+small_part v tokenized_head a is h = absurd is
+small_part v legacy_head a is h = absurd is
+small_part v _ a is h = (omega (arith, ap length h.joined), omega (arith, ap length h.joined, h.spelled.at_most_ten))
 
 head_spells : (L : List ℕ → Entries → Type 0) (v : Version) (h : HeadPart) (a : List ℕ) → IsParts h → SpellsHead v a h → SpellsIn L v a (head_parts h)
-head_spells L v (leaf_head l) a is h = one_part L v a (value (leaf l)) h
-head_spells L v (text_head n) a is h = one_part L v a (bytes_head kinds.Str n) h
-head_spells L v (facet_head n) a is h = one_part L v a (bytes_head kinds.Facet n) h
-head_spells L v (heads_of.bytes_head n) a is h = one_part L v a (bytes_head kinds.Bytes n) h
+head_spells L v (leaf_head l) a is h = one_part L v a (value (leaf l)) h.1
+head_spells L v (length_head leaves.Str n) a is h = one_part L v a (bytes_head kinds.Str n) h.1
+head_spells L v (length_head leaves.Facet n) a is h = one_part L v a (bytes_head kinds.Facet n) h.1
+head_spells L v (length_head leaves.Bytes n) a is h = one_part L v a (bytes_head kinds.Bytes n) h.1
+head_spells L v (length_head _ n) a is h = absurd h.0
 head_spells L v (array_number n) a is h = one_part L v a (array_head n) h
 head_spells L v (object_number n) a is h = one_part L v a (object_head n) h
 head_spells L v tokenized_head a is h = absurd is
@@ -207,7 +211,7 @@ head_spells L v legacy_head a is h = absurd is
 
 pub head_is_part : (v : Version) (legacy : Bool) (old : Reading) (head : Head) (a : List ℕ) → IsParts (head_part head) → SpellsHead v a (head_part head) → IsPart v legacy old a (head_parts (head_part head))
 head_is_part v legacy old head a is h =
-    let small = small_body v head a is h in
+    let small = small_part v (head_part head) a is h in
     record { some = small.0; few = inl small.1; spelled = head_spells Legacy v (head_part head) a is h; plain = λ _. head_spells NoLegacy v (head_part head) a is h }
 
 -- ---- a value that is taken whole

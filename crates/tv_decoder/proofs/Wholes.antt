@@ -19,7 +19,7 @@ use Rattle.tv_reader.specs.Error.{store_stop}
 use Rattle.tv_reader.specs.ValueType.{coded}
 use Rattle.tv_reader.specs.declared.error.DeserializeError.{DeserializeError}
 use Rattle.tv_reader.specs.declared.error.DeserializeError.TheVariants as errors
-use Rattle.tv_reader.specs.declared.error.ValueType.{ValueType}
+use Rattle.tv_reader.specs.declared.value_type.ValueType.{ValueType}
 use Rattle.tv_reader.specs.declared.heads.Head.{Head}
 use Rattle.tv_reader.specs.declared.heads.Head.TheVariants as heads
 use Rattle.tv_reader.proofs.BehindKinds.{kind_edge, held_fault}
@@ -59,19 +59,9 @@ pub no_cause : {C : Type 0} (c : Cause) (old new : Reading) (ps : List Part) (re
 no_cause c old new ps result h is = absurd (subst (λ z. Puts old new ps z) is h)
 
 pub head_parts_are : (head : Head) → head ≢ heads.Tokenized → head ≢ heads.Legacy → IsParts (head_part head)
-head_parts_are heads.Null t l = tt
-head_parts_are (heads.U64 n) t l = tt
-head_parts_are (heads.I64 n) t l = tt
-head_parts_are (heads.Date d) t l = tt
-head_parts_are (heads.Bool b) t l = tt
-head_parts_are (heads.IpAddr a) t l = tt
-head_parts_are (heads.Text n) t l = tt
-head_parts_are (heads.Facet n) t l = tt
-head_parts_are (heads.Bytes n) t l = tt
-head_parts_are (heads.Array n) t l = tt
-head_parts_are (heads.Object n) t l = tt
 head_parts_are heads.Tokenized t l = absurd (t refl)
 head_parts_are heads.Legacy t l = absurd (l refl)
+head_parts_are _ t l = tt
 
 seen_as : (v : Version) (legacy : Bool) (old new : Reading) (result : Result (Unit {0}) DeserializeError) (Q : List ℕ → Refusal → Type 0) (a b : List ℕ) (k : ℕ) → Found store_stop end (λ b _. Stepped v false old new b) Q a b k result → Found store_stop end (λ b _. Stepped v legacy old new b) Q a b k result
 seen_as v legacy old new (Ok x) Q a b k h = record { front = h.front; joined = h.joined; spelled = none_seen v legacy old new h.front h.spelled }

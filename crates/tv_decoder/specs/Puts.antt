@@ -7,14 +7,16 @@ use Rattle.tv_builder.specs.Kinds.{IsTextKind}
 use Rattle.tv_builder.specs.Parts.{Part, Trades, value, array_head, object_head, bytes_head}
 use Rattle.tv_builder.specs.State.{State, complete, in_lists, in_bytes, IsState, awaited, state_room}
 use Rattle.tv_builder.specs.declared.awaits.Awaits.{Awaits}
+use Rattle.tv_builder.specs.declared.bytes_kind.BytesKind.{BytesKind}
 use Rattle.tv_builder.specs.declared.bytes_kind.BytesKind.TheVariants as kinds
 use Rattle.tv_doc.specs.Builder.{built, state_of, HasAllBytes, HasContent}
 use Rattle.tv_heap.specs.Room.{document_room}
-use Rattle.tv_reader.specs.Heads.{HeadPart, leaf_head, text_head, facet_head, array_head as array_number, object_head as object_number, tokenized_head, legacy_head}
-use Rattle.tv_reader.specs.Heads as heads
+use Rattle.tv_reader.specs.Heads.{HeadPart, leaf_head, length_head, array_head as array_number, object_head as object_number, tokenized_head, legacy_head}
 use Rattle.tv_reader.specs.declared.error.DeserializeError.{DeserializeError}
 use Rattle.tv_reader.specs.declared.error.DeserializeError.TheVariants as errors
 use Rattle.tv_value.specs.Tree.{Document, leaf}
+use Rattle.tv_value.specs.declared.leaf.LeafType.{LeafType}
+use Rattle.tv_value.specs.declared.leaf.LeafType.TheVariants as leaves
 use Rattle.tv_decoder.specs.Front.{parts_read, IsSound, HasField}
 use Rattle.tv_decoder.specs.declared.reading.Reading.{Reading}
 
@@ -111,12 +113,16 @@ IsParts tokenized_head = ⊥
 IsParts legacy_head = ⊥
 IsParts _ = Unit {0}
 
+-- what a text, a facet or bytes are while they are read
+abbrev pub bytes_kind : LeafType → BytesKind
+bytes_kind leaves.Facet = kinds.Facet
+bytes_kind leaves.Bytes = kinds.Bytes
+bytes_kind _ = kinds.Str
+
 -- what is taken of a value at once, as parts
 abbrev pub head_parts : HeadPart → List Part
 head_parts (leaf_head l) = value (leaf l) ∷ []
-head_parts (text_head n) = bytes_head kinds.Str n ∷ []
-head_parts (facet_head n) = bytes_head kinds.Facet n ∷ []
-head_parts (heads.bytes_head n) = bytes_head kinds.Bytes n ∷ []
+head_parts (length_head t n) = bytes_head (bytes_kind t) n ∷ []
 head_parts (array_number n) = array_head n ∷ []
 head_parts (object_number n) = object_head n ∷ []
 head_parts tokenized_head = []

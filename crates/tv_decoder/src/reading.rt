@@ -9,7 +9,7 @@ ghost use Rattle.tv_builder.specs.declared.awaits.Awaits.TheVariants.{Value as V
 ghost use Rattle.tv_builder.specs.declared.bytes_kind.BytesKind.TheVariants.{Key as KeyKind};
 ghost use Rattle.tv_decoder.specs.AtHand.{Nothing};
 ghost use Rattle.tv_decoder.specs.Front.{parts_read, IsSound, IsDone, LacksPair, NoFront, NoRoomBehind};
-ghost use Rattle.tv_decoder.specs.Puts.{IsOpen, AtEnd, Awaiting, Puts, PutsEnd, PutsBytes, IsParts, head_parts, LetGo, KeepsPairs};
+ghost use Rattle.tv_decoder.specs.Puts.{IsOpen, AtEnd, Awaiting, Puts, PutsEnd, PutsBytes, IsParts, bytes_kind, head_parts, LetGo, KeepsPairs};
 ghost use Rattle.tv_decoder.specs.Steps.{Advances, Stepped, Sees};
 ghost use Rattle.tv_doc.specs.Builder.{built, state_of, heap_so_far};
 ghost use Rattle.tv_doc.specs.Document.{document_of};
@@ -35,13 +35,24 @@ use tv_reader::heads::{Head, take_document_head, take_head, take_key_head};
 use tv_reader::trees::take_behind;
 use tv_reader::{DeserializeError, DocStoreVersion, ValueType};
 use tv_value::field::Field;
-use tv_value::leaf::ReferenceValueLeaf;
+use tv_value::leaf::{LeafType, ReferenceValueLeaf};
 use tv_value::owned_value::OwnedValue;
 use tv_value::pre_tokenized::PreTokenizedStr;
 use tv_value::value::Value;
 
 /// No more than this is read of open bytes at once.
 const PIECE: u32 = 4096;
+
+// What a text, a facet or bytes are while they are read.
+fn bytes_kind(leaf_type: LeafType) -> BytesKind
+    ensures { result ≡ bytes_kind leaf_type }
+{
+    match leaf_type {
+        LeafType::Facet => BytesKind::Facet,
+        LeafType::Bytes => BytesKind::Bytes,
+        _ => BytesKind::Str,
+    }
+}
 
 /// What has been read of a document.
 #[derive(Debug, Drop)]
@@ -274,15 +285,8 @@ impl Reading {
         ensures left { OnErr result (LetGo self.old self.new) }
     {
         match head {
-            Head::Null => self.put_leaf(ReferenceValueLeaf::Null),
-            Head::U64(number) => self.put_leaf(ReferenceValueLeaf::U64(number)),
-            Head::I64(number) => self.put_leaf(ReferenceValueLeaf::I64(number)),
-            Head::Date(date) => self.put_leaf(ReferenceValueLeaf::Date(date)),
-            Head::Bool(truth) => self.put_leaf(ReferenceValueLeaf::Bool(truth)),
-            Head::IpAddr(address) => self.put_leaf(ReferenceValueLeaf::IpAddr(address)),
-            Head::Text(len) => self.put_bytes_head(BytesKind::Str, len),
-            Head::Facet(len) => self.put_bytes_head(BytesKind::Facet, len),
-            Head::Bytes(len) => self.put_bytes_head(BytesKind::Bytes, len),
+            Head::Leaf(value) => self.put_leaf(value),
+            Head::Length(leaf_type, len) => self.put_bytes_head(bytes_kind(leaf_type), len),
             Head::Array(announced) => self.put_array(announced),
             Head::Object(announced) => self.put_object(announced),
             Head::Tokenized | Head::Legacy => unreachable!(),

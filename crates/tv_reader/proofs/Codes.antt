@@ -1,6 +1,6 @@
 -- The types of codes.
-use Rattle.std.proofs.Common.{◌≡◌, ◌≢◌, ◌<◌, ℕ, zero, suc, false, eqb, Option, Some, None, refl, sym, ap, subst, ◌∙◌, arith, inl, inr}
-use Rattle.std.specs.Prelude.{IfSome, IfNone, option_map}
+use Rattle.std.proofs.Common.{◌≡◌, ◌≢◌, ◌<◌, ℕ, zero, suc, false, eqb, Some, None, refl, sym, ap, subst, ◌∙◌, arith, inl, inr}
+use Rattle.std.specs.Prelude.{option_map}
 use Rattle.std.proofs.lemmas.Bool.Decides.{eqb_tells}
 use Rattle.tv_value.specs.Leaves as leaf_codes
 use Rattle.tv_value.specs.Leaves.{store_code}
@@ -8,7 +8,6 @@ use Rattle.tv_value.specs.LeavesLaws.{code_of_leaf}
 use Rattle.tv_value.specs.declared.leaf.LeafType.{LeafType}
 use Rattle.tv_value.specs.declared.leaf.LeafType.TheVariants as leaves
 use Rattle.tv_reader.specs.ValueType.{of_leaf, type_with}
-use Rattle.tv_reader.specs.declared.value_type.ValueType.{ValueType}
 
 pub differs : (m n : ℕ) → m ≢ n → eqb m n ≡ false
 differs m n h = elim (eqb_tells m n) [ inl p ↦ absurd (h p.1) | inr p ↦ p.0 ]

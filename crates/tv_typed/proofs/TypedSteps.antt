@@ -1,6 +1,6 @@
 -- Typed reads by the parts that they take.
-use Rattle.std.proofs.Common.{◌≡◌, ◌≢◌, ℕ, ◌-◌, ◌^◌, ◌<◌, Bool, true, false, List, [], ◌++◌, Result, Ok, Err, refl, sym, ap, subst, ◌∙◌, inl, inr}
-use Rattle.std.specs.Prelude.{is_err, OnOk, IsErrOf}
+use Rattle.std.proofs.Common.{◌≡◌, ◌≢◌, ℕ, ◌-◌, ◌^◌, ◌<◌, Bool, true, false, List, ◌++◌, Result, Ok, Err, refl, sym, ap, subst, ◌∙◌}
+use Rattle.std.specs.Prelude.{is_err, IsErrOf}
 use Rattle.tv_base.specs.declared.cause.Cause.{Cause}
 use Rattle.tv_base.specs.declared.cause.Cause.TheVariants.{UnexpectedEnd}
 use Rattle.tv_base.specs.declared.read_error.ReadError.{ReadError}
@@ -15,7 +15,7 @@ use Rattle.tv_base.proofs.ByGrammar.{shows_by}
 use Rattle.tv_legacy.specs.Legacy.{Legacy}
 use Rattle.tv_value.specs.Fault.{Refusal, corrupted}
 use Rattle.tv_value.specs.Spelling.{Spells}
-use Rattle.tv_value.specs.Tree.{Leaf, null, leaf}
+use Rattle.tv_value.specs.Tree.{Leaf, leaf}
 use Rattle.tv_value.specs.Version.{Version}
 use Rattle.tv_reader.specs.Error.{key_stop, store_stop, IsRefusal, is_corrupted, is_no_text}
 use Rattle.tv_reader.specs.Finds.{Refuses, TellsStop, Found, FindsBy, Finds}
@@ -31,7 +31,7 @@ use Rattle.tv_reader.specs.declared.value_type.ValueType.{ValueType}
 use Rattle.tv_reader.specs.declared.value_type.ValueType.TheVariants as types
 use Rattle.tv_typed.specs.declared.store_reader.StoreReader.{StoreReader}
 use Rattle.tv_reader.proofs.BehindKinds.{leaf_spelled, leaf_refused}
-use Rattle.tv_reader.proofs.Finding.{shows_map, finds_refused, finds_nothing}
+use Rattle.tv_reader.proofs.Finding.{shows_map, finds_refused}
 
 abbrev end : DeserializeError
 end = errors.CorruptedValue UnexpectedEnd
@@ -145,18 +145,6 @@ leaf_reads {tells = tells} {left = left} {faults = faults} {s = s} {k = k} {view
     (λ a x p. subst (λ z. Spells Legacy v (coded z ++ a) (leaf (make x))) (sym is) (leaf_spelled v expected a (leaf (make x)) (join a x p)))
     (λ w c f. in_body is (subst (λ z. NoneBehind v z w (corrupted c)) (sym is) (leaf_refused v expected is_leaf w c (map w c f))))
     is_open source count version part source_new count_new version_new marks told
-
-pub null_reads : {S X : Type 0} (tells : S → Type 0) (left : S → List ℕ) (faults : S → Faults) (old new : StoreReader S) (v : Version) (kind : ValueType) (x : X)
-    → kind ≡ types.Null → old.has_failed ≡ false → new.has_failed ≡ false → new.source ≡ old.source → new.count ≡ old.count → new.version ≡ old.version → Reads tells left faults old new (Ok x) (SpellsLeaf v kind (λ _. null)) (LeafRefused types.Null v kind)
-null_reads tells left faults old new v kind x is is_open marks source count version = record {
-  closed = λ failed. absurd (both old.has_failed is_open failed);
-  finds = λ _. subst (λ z. FindsBy typed_stop end tells left faults old.source old.count z new.count (Ok x) (SpellsLeaf v kind (λ _. null)) (LeafRefused types.Null v kind)) (sym source)
-      (subst (λ n. FindsBy typed_stop end tells left faults old.source old.count old.source n (Ok x) (SpellsLeaf v kind (λ _. null)) (LeafRefused types.Null v kind)) (sym count)
-      (finds_nothing typed_stop end tells left faults old.source old.count x (SpellsLeaf v kind (λ _. null)) (LeafRefused types.Null v kind)
-      (subst (λ z. Spells Legacy v (coded z ++ []) (leaf null)) (sym is) (record { body = []; joined = refl; spelled = refl }))));
-  marks = marks;
-  same_version = version;
-}
 
 -- ---- what is refused in the words of lower layers
 

@@ -1,12 +1,9 @@
 -- Values that are handed to visitors.
-use Rattle.std.proofs.Common.{◌≡◌, ℕ, ℤ, to_z, of_z, true, List, ◌++◌, Result, Ok, Err, refl, sym, ap, subst, ◌∙◌}
+use Rattle.std.proofs.Common.{◌≡◌, ℕ, true, List, ◌++◌, Result, Ok, Err, refl, sym, ap, subst, ◌∙◌}
 use Rattle.std.specs.Prelude.{is_err, IsErrOf}
-use Rattle.std.specs.Int.{w64}
-use Rattle.std.proofs.lemmas.Int.{to_z-of_z}
 use Rattle.tv_base.specs.Source.{Faults}
-use Rattle.tv_legacy.specs.Legacy.{Legacy}
 use Rattle.tv_value.specs.Spelling.{Spells, NoLegacy}
-use Rattle.tv_value.specs.Tree.{Leaf, signed, Tree, leaf}
+use Rattle.tv_value.specs.Tree.{Leaf, Tree, leaf}
 use Rattle.tv_value.specs.Version.{Version}
 use Rattle.tv_value.specs.declared.owned_value.OwnedValue.{OwnedValue}
 use Rattle.tv_reader.specs.Trees.{SpellsBehind}
@@ -47,10 +44,6 @@ not_ok x e = absurd cc
 
 err_for : {A B : Type 0} (e d : DeserializeError) → IsErrOf {T = A} (Err e) d → IsErrOf {T = B} (Err e) d
 err_for e d is = let same : e ≡ d = cc in ap (λ (z : DeserializeError). Err z) same
-
--- numbers that are spelled fit their width
-pub signed_same : (v : Version) (kind : ValueType) (z : ℤ) (b : List ℕ) → Spells Legacy v (coded kind ++ b) (leaf (signed z)) → Spells Legacy v (coded kind ++ b) (leaf (signed (to_z w64 (of_z w64 z))))
-signed_same v kind z b s = subst (λ (y : ℤ). Spells Legacy v (coded kind ++ b) (leaf (signed y))) (sym (to_z-of_z w64 z s.spelled.fits)) s
 
 -- a leaf was read, and this is the answer to it
 pub leaf_answered : {S A X : Type 0} {tells : S → Type 0} {left : S → List ℕ} {faults : S → Faults} (old new : StoreReader S) (kind expected : ValueType) (make : A → Leaf) (a : A) (l : Leaf) (answers : Leaf → Result X DeserializeError → Type 0) (result : Result X DeserializeError)

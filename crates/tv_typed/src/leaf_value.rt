@@ -1,6 +1,6 @@
 //! What is read and handed on of one type of values, in the same way for each.
 
-ghost use Rattle.std.specs.Prelude.{◌≡◌, true, Result};
+ghost use Rattle.std.specs.Prelude.{◌≡◌, true};
 ghost use Rattle.tv_base.specs.Take.{TakesBy};
 ghost use Rattle.tv_reader.specs.Leaves.{is_leaf_type, leaf_at};
 ghost use Rattle.tv_reader.specs.ValueType.{coded};

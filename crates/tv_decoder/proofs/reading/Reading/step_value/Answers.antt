@@ -6,7 +6,7 @@ use Rattle.tv_reader.proofs.Finding.{finds_fails}
 use Rattle.tv_reader.specs.HeadReading.{head_part}
 use Rattle.tv_reader.specs.Heads.{SpellsHead}
 use Rattle.tv_reader.specs.Version.{version_of}
-use Rattle.tv_reader.specs.declared.error.ValueType.TheVariants.{PreTokStr, JSONObject}
+use Rattle.tv_reader.specs.declared.value_type.ValueType.TheVariants.{PreTokStr, JSONObject}
 use Rattle.tv_value.specs.Owned.{owned_tree}
 use Rattle.tv_decoder.specs.Front.{NoFront}
 use Rattle.tv_decoder.specs.Puts.{head_parts}
