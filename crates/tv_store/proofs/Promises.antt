@@ -53,18 +53,7 @@ refused_by v result old new count few h e r is refusal = told v e r old new coun
 
 mismatched : (expected actual : ValueType) (old new : Faults) → CountsStop (key_stop expected actual) old new → expected ≡ types.String
 mismatched types.String actual old new h = refl
-mismatched types.U64 actual old new h = absurd h
-mismatched types.I64 actual old new h = absurd h
-mismatched types.Facet actual old new h = absurd h
-mismatched types.Bytes actual old new h = absurd h
-mismatched types.DateTime actual old new h = absurd h
-mismatched types.PreTokStr actual old new h = absurd h
-mismatched types.JSONObject actual old new h = absurd h
-mismatched types.Bool actual old new h = absurd h
-mismatched types.IpAddr actual old new h = absurd h
-mismatched types.Null actual old new h = absurd h
-mismatched types.Array actual old new h = absurd h
-mismatched types.Object actual old new h = absurd h
+mismatched _ actual old new h = absurd h
 
 pub errors_by : (result : Result CompactDoc DeserializeError) (old new : Faults) → Counts store_stop result old new → IfErr result IsReadingError
 errors_by (Ok d) old new h = tt

@@ -5,21 +5,13 @@ use Rattle.std.proofs.lemmas.List.Sums.{sum_by-cons}
 use Rattle.tv_heap.specs.Room.{room, document_room}
 use Rattle.tv_field.specs.Entry.{Entry}
 use Rattle.tv_value.specs.Short.{IsLeaf, IsValue, IsPair, IsDocument}
-use Rattle.tv_value.specs.Tree.{Leaf, null, text, unsigned, signed, boolean, date, facet, bytes, ip_address, tokenized, Tree, leaf, array, object, Document}
+use Rattle.tv_value.specs.Tree.{Leaf, tokenized, Tree, leaf, array, object, Document}
 use Rattle.tv_store.specs.Stored.{stored, leaf_written, tree_written, is_stored_field}
 use Rattle.tv_store.proofs.Stores.{stored-cons, stored_fewer}
 
 leaf_valid : (l : Leaf) → IsLeaf l → IsLeaf (leaf_written l)
 leaf_valid (tokenized t ts) h = h.0
-leaf_valid null h = h
-leaf_valid (text t) h = h
-leaf_valid (unsigned n) h = h
-leaf_valid (signed z) h = h
-leaf_valid (boolean b) h = h
-leaf_valid (date z) h = h
-leaf_valid (facet t) h = h
-leaf_valid (bytes bs) h = h
-leaf_valid (ip_address n) h = h
+leaf_valid _ h = h
 
 tree_valid : (t : Tree) → IsValue t → IsValue (tree_written t)
 tree_valid (leaf l) h = leaf_valid l h
@@ -41,15 +33,7 @@ stored_valid schema d h = record { count = omega (arith, h.count, stored_fewer s
 
 leaf_room_written : (l : Leaf) → room (leaf (leaf_written l)) ≤ room (leaf l)
 leaf_room_written (tokenized t ts) = omega arith
-leaf_room_written null = omega arith
-leaf_room_written (text t) = omega arith
-leaf_room_written (unsigned n) = omega arith
-leaf_room_written (signed z) = omega arith
-leaf_room_written (boolean b) = omega arith
-leaf_room_written (date z) = omega arith
-leaf_room_written (facet t) = omega arith
-leaf_room_written (bytes bs) = omega arith
-leaf_room_written (ip_address n) = omega arith
+leaf_room_written _ = omega arith
 
 tree_room_written : (t : Tree) → room (tree_written t) ≤ room t
 tree_room_written (leaf l) = leaf_room_written l

@@ -5,7 +5,7 @@ use Rattle.tv_base.specs.Number.{vnum}
 use Rattle.tv_base.specs.Parts.{short_sized}
 use Rattle.tv_value.specs.Short.{short, short_elements, short_entries, IsValue, AreElements, AreEntries}
 use Rattle.tv_value.specs.Size.{size, elements_size, entries_size}
-use Rattle.tv_value.specs.Tree.{null, text, unsigned, signed, boolean, date, facet, bytes, ip_address, tokenized, Tree, leaf, array, object, Elements, elements, Entries, entries}
+use Rattle.tv_value.specs.Tree.{tokenized, Tree, leaf, array, object, Elements, elements, Entries, entries}
 use Rattle.tv_value.specs.Version.{V2, entry_total}
 use Rattle.tv_heap.specs.Encoded.{IsTokenized}
 use Rattle.tv_store.specs.Children.{child_count}
@@ -56,18 +56,8 @@ others_fewer {others = others} {first = first} cut most = omega (arith, most, ap
 
 -- a value without tokens is written as it is
 pub plainly_written : (t : Tree) → (IsTokenized t → ⊥) → tree_written t ≡ t
-plainly_written (leaf null) none = refl
-plainly_written (leaf (text t)) none = refl
-plainly_written (leaf (unsigned n)) none = refl
-plainly_written (leaf (signed z)) none = refl
-plainly_written (leaf (boolean b)) none = refl
-plainly_written (leaf (date z)) none = refl
-plainly_written (leaf (facet t)) none = refl
-plainly_written (leaf (bytes t)) none = refl
-plainly_written (leaf (ip_address n)) none = refl
 plainly_written (leaf (tokenized t ts)) none = absurd (none tt)
-plainly_written (array ts) none = refl
-plainly_written (object es) none = refl
+plainly_written _ none = refl
 
 pub written_array : {t : Tree} {es : Elements} → t ≡ array es → tree_written t ≡ t
 written_array e = ap tree_written e ∙ sym e

@@ -4,7 +4,7 @@ use Rattle.std.specs.List.{flat_map}
 use Rattle.tv_value.specs.Version.{V2}
 use Rattle.tv_value.specs.Short.{short_pair}
 use Rattle.tv_field.specs.Entry.{Entry, is_stored_type}
-use Rattle.tv_value.specs.Tree.{Tree, leaf, array, object, Leaf, text, null, unsigned, signed, boolean, date, facet, bytes, ip_address, tokenized, Document}
+use Rattle.tv_value.specs.Tree.{Tree, leaf, array, object, Leaf, text, tokenized, Document}
 
 abbrev pub is_stored_entry : Option Entry → Bool
 is_stored_entry None = false
@@ -17,15 +17,7 @@ is_stored_field schema field = is_stored_entry (slice_get schema field)
 -- a pre-tokenised text is written as its text where it is a pair's value
 abbrev pub leaf_written : Leaf → Leaf
 leaf_written (tokenized t ts) = text t
-leaf_written null = null
-leaf_written (text t) = text t
-leaf_written (unsigned n) = unsigned n
-leaf_written (signed z) = signed z
-leaf_written (boolean b) = boolean b
-leaf_written (date z) = date z
-leaf_written (facet t) = facet t
-leaf_written (bytes b) = bytes b
-leaf_written (ip_address n) = ip_address n
+leaf_written l = l
 
 abbrev pub tree_written : Tree → Tree
 tree_written (leaf l) = leaf (leaf_written l)

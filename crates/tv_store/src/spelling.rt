@@ -2,15 +2,15 @@
 
 ghost use Rattle.std.specs.Prelude.{◌+◌, ◌<◌, ◌^◌};
 ghost use Rattle.std.specs.Bool.{MatchBool};
+ghost use Rattle.tv_value.specs.LeafParts.{content_of};
 ghost use Rattle.tv_value.specs.Lent.{leaf_of, nested_tree};
 ghost use Rattle.tv_value.specs.PreTokenized.{text_of, tokens_of};
-ghost use Rattle.tv_value.specs.Short.{AreTokens, IsLeaf, IsText, IsSized, IsValue};
-ghost use Rattle.std.specs.Net.Addr.{ipv6_bits};
+ghost use Rattle.tv_value.specs.Short.{AreTokens, IsContent, IsLeaf, IsText, IsSized, IsValue};
 ghost use Rattle.std.specs.Int.{w64};
 ghost use Rattle.std.specs.Prelude.{FitsSigned};
 
 use std::convert::AsStr;
-use std::net::Ipv6Addr;
+use tv_value::content::LeafContent;
 use tv_value::laws::pre_tokenized_texts_spell;
 use tv_value::leaf::ReferenceValueLeaf;
 use tv_value::nested::{Nested, NestedValue, lend};
@@ -48,11 +48,11 @@ fn is_signed(number: i64) -> bool
     number <= i64::MAX
 }
 
-// Each IP address has a spelling.
-fn is_address(address: Ipv6Addr) -> bool
-    ensures { MatchBool result (ipv6_bits address < 2 ^ 128) (¬ (ipv6_bits address < 2 ^ 128)) }
+// Each 128-bit number has a spelling.
+fn is_wide(number: u128) -> bool
+    ensures { MatchBool result (number < 2 ^ 128) (¬ (number < 2 ^ 128)) }
 {
-    address.to_bits() <= u128::MAX
+    number <= u128::MAX
 }
 
 // Each text with its tokens has a spelling.
@@ -64,21 +64,26 @@ fn is_tokenized(content: PreTokenizedStr<'_>) -> bool
     true
 }
 
+// Whether what a value without children holds has a spelling.
+fn is_content(content: LeafContent<'_>) -> bool
+    ensures { MatchBool result (IsContent (content_of content.entry)) (¬ IsContent (content_of content.entry)) }
+{
+    match content {
+        LeafContent::Nothing | LeafContent::Truth(_) => true,
+        LeafContent::Unsigned(number) => is_unsigned(number),
+        LeafContent::Signed(number) => is_signed(number),
+        LeafContent::Wide(number) => is_wide(number),
+        LeafContent::Text(text) => is_text(text),
+        LeafContent::Bytes(bytes) => is_sized(bytes),
+        LeafContent::Tokens(text) => is_tokenized(text),
+    }
+}
+
 // Whether a value without children has a spelling.
 fn is_leaf(value: ReferenceValueLeaf<'_>) -> bool
     ensures { MatchBool result (IsLeaf (leaf_of value.entry)) (¬ IsLeaf (leaf_of value.entry)) }
 {
-    match value {
-        ReferenceValueLeaf::Null | ReferenceValueLeaf::Bool(_) => true,
-        ReferenceValueLeaf::Str(content) => is_text(content),
-        ReferenceValueLeaf::Facet(content) => is_text(content),
-        ReferenceValueLeaf::Bytes(content) => is_sized(content),
-        ReferenceValueLeaf::U64(number) => is_unsigned(number),
-        ReferenceValueLeaf::I64(number) => is_signed(number),
-        ReferenceValueLeaf::Date(moment) => is_signed(moment.into_timestamp_nanos()),
-        ReferenceValueLeaf::IpAddr(address) => is_address(address),
-        ReferenceValueLeaf::PreTokStr(content) => is_tokenized(content),
-    }
+    is_content(value.content())
 }
 
 // Whether a value and all its children have one.

@@ -11,16 +11,16 @@ ghost use Rattle.tv_base.specs.Sink.{Writes};
 ghost use Rattle.tv_heap.specs.Value.{tree_of};
 ghost use Rattle.tv_store.specs.Children.{child_count};
 ghost use Rattle.tv_store.specs.Stored.{leaf_written, tree_written};
+ghost use Rattle.tv_value.specs.LeafParts.{content_of};
 ghost use Rattle.tv_value.specs.Lent.{leaf_of, nested_tree};
 ghost use Rattle.tv_value.specs.PreTokenized.{text_of, tokens_left, tokens_of};
-ghost use Rattle.tv_value.specs.Short.{short_token, short_tokenized, short_leaf, short, short_elements, short_entries, IsValue, AreElements, AreEntries};
+ghost use Rattle.tv_value.specs.Short.{short_token, short_tokenized, short_content, short_leaf, short, short_elements, short_entries, IsValue, AreElements, AreEntries};
 ghost use Rattle.tv_value.specs.TokenRef.{ref_of};
 ghost use Rattle.tv_value.specs.Tree.{elements, entries, element_count, entry_count};
 ghost use Rattle.tv_value.specs.Version.{V2};
 
 use crate::type_codes::{
-    ARRAY_CODE, BOOL_CODE, BYTES_CODE, DATE_CODE, EXT_CODE, HIERARCHICAL_FACET_CODE, I64_CODE,
-    IP_CODE, NULL_CODE, OBJECT_CODE, TEXT_CODE, TOK_STR_EXT_CODE, U64_CODE,
+    ARRAY_CODE, BOOL_CODE, EXT_CODE, NULL_CODE, OBJECT_CODE, TEXT_CODE, TOK_STR_EXT_CODE,
 };
 use std::convert::AsStr;
 use std::io;
@@ -30,6 +30,7 @@ use tv_base::write::{
 };
 use tv_heap::encoded::Encoded;
 use tv_heap::value::{CompactDocArrayIter, CompactDocValue};
+use tv_value::content::LeafContent;
 use tv_value::leaf::ReferenceValueLeaf;
 use tv_value::nested::{Lent, Nested, NestedValue, lend};
 use tv_value::pre_tokenized::{PreTokenizedStr, TokenIter, TokenRef};
@@ -159,38 +160,51 @@ fn write_tokenized<K: ByteSink>(
     write_tokens(sink, text.tokens())
 }
 
-// The two codes of a text with tokens, and the text with its tokens.
+// A code, and a text with its tokens behind a code of its own.
 #[tactic(auto, using(crate::proofs::Coded::Coded_then))]
 fn write_extension<K: ByteSink>(
     sink: &mut K,
+    code: u8,
     text: PreTokenizedStr<'_>,
 ) -> Result<(), io::ErrorKind>
-    ensures { Writes K.tells K.held K.faults sink.old sink.new result (7 ∷ 0 ∷ short_tokenized (text_of text.entry) (tokens_of text.entry)) }
+    ensures { Writes K.tells K.held K.faults sink.old sink.new result (code ∷ 0 ∷ short_tokenized (text_of text.entry) (tokens_of text.entry)) }
 {
-    write_code(sink, EXT_CODE)?;
+    write_code(sink, code)?;
     write_code(sink, TOK_STR_EXT_CODE)?;
     write_tokenized(sink, text)
 }
 
-// A value without children.
+// A code, and what a value without children holds.
+fn write_content<K: ByteSink>(
+    sink: &mut K,
+    code: u8,
+    content: LeafContent<'_>,
+) -> Result<(), io::ErrorKind>
+    ensures { Writes K.tells K.held K.faults sink.old sink.new result (code ∷ short_content (content_of content.entry)) }
+{
+    match content {
+        LeafContent::Nothing => write_code(sink, code),
+        LeafContent::Truth(truth) => write_coded_bool(sink, code, truth),
+        LeafContent::Unsigned(number) => write_coded_u64(sink, code, number),
+        LeafContent::Signed(number) => write_coded_i64(sink, code, number),
+        LeafContent::Wide(number) => write_coded_u128(sink, code, number),
+        LeafContent::Text(text) => write_coded_text(sink, code, text),
+        LeafContent::Bytes(bytes) => write_coded_bytes(sink, code, bytes),
+        LeafContent::Tokens(text) => write_extension(sink, code, text),
+    }
+}
+
+// A value without children. What is commonest is written as it is lent, without standing in memory before.
+#[inline(always)]
 fn write_leaf<K: ByteSink>(sink: &mut K, leaf: &ReferenceValueLeaf<'_>) -> Result<(), io::ErrorKind>
     ensures { Writes K.tells K.held K.faults sink.old sink.new result (short_leaf (leaf_of leaf.now)) }
 {
-    match leaf {
-        ReferenceValueLeaf::Null => write_code(sink, NULL_CODE),
-        ReferenceValueLeaf::Str(text) => write_coded_text(sink, TEXT_CODE, text),
-        ReferenceValueLeaf::U64(number) => write_coded_u64(sink, U64_CODE, *number),
-        ReferenceValueLeaf::I64(number) => write_coded_i64(sink, I64_CODE, *number),
-        ReferenceValueLeaf::Date(date) => {
-            write_coded_i64(sink, DATE_CODE, date.into_timestamp_nanos())
-        }
-        ReferenceValueLeaf::Facet(encoded) => {
-            write_coded_text(sink, HIERARCHICAL_FACET_CODE, encoded)
-        }
-        ReferenceValueLeaf::Bytes(content) => write_coded_bytes(sink, BYTES_CODE, content),
-        ReferenceValueLeaf::IpAddr(address) => write_coded_u128(sink, IP_CODE, address.to_bits()),
-        ReferenceValueLeaf::Bool(truth) => write_coded_bool(sink, BOOL_CODE, *truth),
-        ReferenceValueLeaf::PreTokStr(text) => write_extension(sink, *text),
+    let code = leaf.leaf_type().store_code();
+    match leaf.content() {
+        LeafContent::Text(text) => write_coded_text(sink, code, text),
+        LeafContent::Unsigned(number) => write_coded_u64(sink, code, number),
+        LeafContent::Signed(number) => write_coded_i64(sink, code, number),
+        content => write_content(sink, code, content),
     }
 }
 
@@ -231,21 +245,13 @@ fn children<N: Nested>(value: NestedValue<'_, N>) -> u64
     }
 }
 
-// A value: its code, and what it holds. Of an array or an object the children are counted first, on a walk of their own. The
-// commonest leaves are written as they are lent, without standing in memory before.
+// A value: its code, and what it holds. Of an array or an object the children are counted first, on a walk of their own.
 #[cycle(values)]
 fn write_tree<K: ByteSink, N: Nested>(sink: &mut K, value: &N) -> Result<(), io::ErrorKind>
     requires { IsValue (N.tree value.now) }
     ensures { Writes K.tells K.held K.faults sink.old sink.new result (short V2 (N.tree value.now)) }
 {
     match value.as_nested() {
-        NestedValue::Leaf(ReferenceValueLeaf::Str(text)) => write_coded_text(sink, TEXT_CODE, text),
-        NestedValue::Leaf(ReferenceValueLeaf::U64(number)) => {
-            write_coded_u64(sink, U64_CODE, number)
-        }
-        NestedValue::Leaf(ReferenceValueLeaf::I64(number)) => {
-            write_coded_i64(sink, I64_CODE, number)
-        }
         NestedValue::Leaf(leaf) => write_leaf(sink, &leaf),
         NestedValue::Array(items) => {
             write_coded_count(sink, ARRAY_CODE, children(value.as_nested()))?;
