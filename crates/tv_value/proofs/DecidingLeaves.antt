@@ -9,7 +9,7 @@ use Rattle.tv_base.specs.declared.cause.Cause.{Cause}
 use Rattle.tv_base.specs.declared.cause.Cause.TheVariants.{UnexpectedEnd, UnknownTypeCode, FloatCode, UnknownExtCode, DateRange, FieldNumber}
 use Rattle.tv_base.specs.Number.{VNum, Fixed, Signed}
 use Rattle.tv_base.specs.Parts.{Behind, Text}
-use Rattle.tv_base.specs.PartFault.{InThen, InEach, NumberFault, BytesFault, TextFault, TruthFault, truth_ends, truth_large}
+use Rattle.tv_base.specs.PartFault.{InThen, InEach, NumberFault, BytesFault, TextFault}
 use Rattle.tv_base.specs.Source.{AllBytes}
 use Rattle.tv_base.proofs.AgreeNumbers.{vint_agrees}
 use Rattle.tv_base.proofs.AgreeParts.{sized_agrees, text_agrees}

@@ -4,7 +4,7 @@ use Rattle.tv_base.specs.declared.cause.Cause.{Cause}
 use Rattle.tv_base.specs.declared.cause.Cause.TheVariants.{UnknownTypeCode, UnknownExtCode, FieldNumber}
 use Rattle.tv_base.specs.Number.{VNum}
 use Rattle.tv_base.specs.Parts.{Text}
-use Rattle.tv_base.specs.PartFault.{InThen, InEach, NumberFault, BytesFault, SizedFault, TextFault, TruthFault, truth_ends, truth_large}
+use Rattle.tv_base.specs.PartFault.{InThen, InEach, NumberFault, TextFault, TruthFault, truth_ends, truth_large}
 use Rattle.tv_base.proofs.Numbers.{one_number, agree_fixed, length-fixed}
 use Rattle.tv_base.proofs.Texts.{one_text}
 use Rattle.tv_base.proofs.Excluding.{excludes_number}
