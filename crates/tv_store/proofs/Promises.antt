@@ -1,16 +1,13 @@
 -- From the bytes that were taken for a document to what is promised of it.
-use Rattle.std.proofs.Common.{◌≡◌, ℕ, ◌-◌, ◌^◌, ◌<◌, ◌≤◌, subst, List, [], ◌∷◌, ◌++◌, length, Result, Ok, Err, refl, sym, ap, ◌∙◌, arith, append_assoc}
+use Rattle.std.proofs.Common.{◌≡◌, ℕ, ◌-◌, ◌^◌, ◌<◌, ◌≤◌, subst, List, ◌++◌, Result, Ok, Err, refl, sym, ap, ◌∙◌, arith}
 use Rattle.std.specs.Prelude.{IfOk, IfErr, IsErrOf}
 use Rattle.std.proofs.lemmas.List.{append_cancel_left}
-use Rattle.std.proofs.lemmas.List.Sums.{sum_by-append}
 use Rattle.tv_base.specs.declared.cause.Cause.TheVariants.{UnexpectedEnd}
-use Rattle.tv_base.specs.Parts.{Each}
 use Rattle.tv_base.specs.Source.{Faults}
 use Rattle.tv_base.specs.Stop.{CountsStop, Counts}
-use Rattle.tv_base.proofs.Numbers.{one_number}
 use Rattle.tv_doc.specs.declared.document.CompactDoc.{CompactDoc}
 use Rattle.tv_doc.specs.Document.{document_of}
-use Rattle.tv_heap.specs.Room.{room, document_room}
+use Rattle.tv_heap.specs.Room.{document_room}
 use Rattle.tv_legacy.specs.Legacy.{Legacy, LegacyFault}
 use Rattle.tv_legacy.proofs.Unique.{one_legacy, legacy_excludes}
 use Rattle.tv_reader.specs.Error.{key_stop, store_stop}
@@ -21,11 +18,11 @@ use Rattle.tv_reader.specs.declared.error.DeserializeError.TheVariants as errors
 use Rattle.tv_reader.specs.declared.value_type.ValueType.{ValueType}
 use Rattle.tv_reader.specs.declared.value_type.ValueType.TheVariants as types
 use Rattle.tv_value.specs.Fault.{Refusal, corrupted, no_text_key}
-use Rattle.tv_value.specs.Spelling.{SpellsPair, SpellsDocument}
-use Rattle.tv_value.specs.Tree.{Tree, Document}
+use Rattle.tv_value.specs.Spelling.{SpellsDocument}
+use Rattle.tv_value.specs.Tree.{Document}
 use Rattle.tv_value.specs.Version.{Version}
 use Rattle.tv_value.proofs.ExcludingTrees.{document_excludes}
-use Rattle.tv_value.proofs.Trees.{one_pair, one_document}
+use Rattle.tv_value.proofs.Trees.{one_document}
 use Rattle.tv_store.specs.Documents.{BeginsWith, Answers, NoDocument, IsReadingError}
 use Rattle.tv_decoder.specs.Documents.{SpellsRead}
 use Rattle.tv_decoder.specs.Front.{HasNoRoom}

@@ -3,8 +3,8 @@ use Rattle.std.proofs.Common.{◌≡◌, ℕ, ◌<◌, ◌≤◌, List, ◌∷�
 use Rattle.std.proofs.lemmas.List.{length-append}
 use Rattle.tv_base.specs.Number.{vnum}
 use Rattle.tv_base.specs.Parts.{short_sized}
-use Rattle.tv_value.specs.Short.{short, short_elements, short_entries, IsValue, AreElements, AreEntries}
-use Rattle.tv_value.specs.Size.{size, elements_size, entries_size}
+use Rattle.tv_value.specs.Short.{short, short_elements, short_entries, AreElements, AreEntries}
+use Rattle.tv_value.specs.Size.{elements_size, entries_size}
 use Rattle.tv_value.specs.Tree.{tokenized, Tree, leaf, array, object, Elements, elements, Entries, entries}
 use Rattle.tv_value.specs.Version.{V2, entry_total}
 use Rattle.tv_heap.specs.Encoded.{IsTokenized}

@@ -1,19 +1,15 @@
 -- What reading a document returns.
-use Rattle.std.specs.Prelude.{◌≡◌, ◌<◌, ℕ, List, Result, Ok, Err}
-use Rattle.tv_base.specs.declared.cause.Cause.{Cause}
+use Rattle.std.specs.Prelude.{◌≡◌, ℕ, List, Result, Ok, Err}
 use Rattle.tv_base.specs.declared.cause.Cause.TheVariants.{UnexpectedEnd}
 use Rattle.tv_base.specs.Parts.{Begins}
 use Rattle.tv_base.specs.ReadsAs.{Shows}
 use Rattle.tv_doc.specs.declared.document.CompactDoc.{CompactDoc}
 use Rattle.tv_doc.specs.Document.{document_of}
-use Rattle.tv_heap.specs.Room.{document_room}
-use Rattle.tv_legacy.specs.Legacy.{Legacy, LegacyFault}
-use Rattle.tv_reader.specs.ValueType.{type_code}
+use Rattle.tv_legacy.specs.Legacy.{Legacy}
 use Rattle.tv_reader.specs.declared.error.DeserializeError.{DeserializeError}
 use Rattle.tv_reader.specs.declared.error.DeserializeError.TheVariants as errors
-use Rattle.tv_reader.specs.declared.value_type.ValueType.{ValueType}
 use Rattle.tv_reader.specs.declared.value_type.ValueType.TheVariants.{String}
-use Rattle.tv_value.specs.Fault.{Refusal, corrupted, no_text_key, DocumentFault}
+use Rattle.tv_value.specs.Fault.{Refusal, corrupted}
 use Rattle.tv_value.specs.Spelling.{SpellsDocument}
 use Rattle.tv_value.specs.Tree.{Document}
 use Rattle.tv_value.specs.Version.{Version}

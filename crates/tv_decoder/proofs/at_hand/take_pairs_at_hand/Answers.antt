@@ -1,7 +1,7 @@
 use Rattle.std.proofs.Common.{◌-◌, length, sym, ap, subst, refl, take, arith}
 use Rattle.tv_reader.specs.Version.{version_of}
 use Rattle.tv_decoder.specs.AtHand.{AddsPairs}
-use Rattle.tv_decoder.proofs.AtHand.{no_pairs, pairs_taken, pairs_counted, passed_finds, none_passed}
+use Rattle.tv_decoder.proofs.AtHand.{no_pairs, pairs_taken, passed_finds, none_passed}
 use Rattle.tv_decoder.proofs.at_hand.take_pairs_at_hand.Goals as goal
 
 pub returns-in_default-clause-finds : goal.returns-in_default-clause-finds

@@ -1,4 +1,4 @@
-use Rattle.std.proofs.Common.{rules, suc, ◌+◌, ◌≡◌, ◌∷◌, ◌<◌, ◌≤◌, ap, sym, ◌∙◌, arith, string_bytes, subst}
+use Rattle.std.proofs.Common.{rules, suc, ◌+◌, ◌≡◌, ◌∷◌, ◌<◌, ap, sym, ◌∙◌, arith, string_bytes, subst}
 use Rattle.std.specs.List.{AllByRecursion}
 use Rattle.serde_json.specs.Data.{put}
 use Rattle.tv_value.specs.Size.{size, entries_size}

@@ -1,4 +1,3 @@
-use Rattle.std.proofs.Common.{ℕ}
 use Rattle.tv_json.specs.Rising.{KeysRise, RiseFrom}
 use Rattle.tv_value.specs.Tree.{entries}
 use Rattle.tv_json.proofs.compact.keys_rise.Given as goal

@@ -1,8 +1,8 @@
-use Rattle.std.proofs.Common.{◌≡◌, ◌≤◌, ◌+◌, suc, ◌∷◌, [], sym, ap, ◌∙◌, rules, arith}
-use Rattle.serde_json.specs.Data.{item, no_items}
+use Rattle.std.proofs.Common.{◌≡◌, ◌+◌, suc, ◌∷◌, [], sym, ap, ◌∙◌, rules, arith}
+use Rattle.serde_json.specs.Data.{item}
 use Rattle.tv_value.specs.Size.{size, elements_size}
-use Rattle.tv_value.specs.Tree.{elements, element}
-use Rattle.tv_json.specs.JsonOf.{json_of, elements_json}
+use Rattle.tv_value.specs.Tree.{elements}
+use Rattle.tv_json.specs.JsonOf.{elements_json}
 use Rattle.tv_json.proofs.ItemsBefore.{items_before, items_before-no_items, items_push}
 use Rattle.tv_json.proofs.json_value.+nested_value.Goals as goal
 

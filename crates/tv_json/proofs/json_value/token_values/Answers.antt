@@ -1,8 +1,8 @@
 use Rattle.std.proofs.Common.{◌≡◌, ◌∷◌, [], sym, ap, ◌∙◌, rules}
-use Rattle.serde_json.specs.Data.{item, no_items}
+use Rattle.serde_json.specs.Data.{item}
 use Rattle.tv_value.specs.PreTokenized.{tokens_left}
 use Rattle.tv_value.specs.TokenRef.{ref_of}
-use Rattle.tv_json.specs.JsonOf.{token_json, tokens_json}
+use Rattle.tv_json.specs.JsonOf.{tokens_json}
 use Rattle.tv_json.proofs.ItemsBefore.{items_before, items_before-no_items, items_push}
 use Rattle.tv_json.proofs.json_value.token_values.Goals as goal
 

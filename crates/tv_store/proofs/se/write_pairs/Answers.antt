@@ -1,11 +1,9 @@
-use Rattle.std.proofs.Common.{◌≡◌, ◌∷◌, subst, rules}
-use Rattle.std.specs.List.{AllByRecursion}
+use Rattle.std.proofs.Common.{◌≡◌, ◌∷◌, rules}
 use Rattle.std.proofs.lemmas.Result.{err_from_is_err_and}
 use Rattle.tv_base.proofs.Written.{Written-start, Written-step, Written-fails}
 use Rattle.tv_doc.specs.Document.{document_of}
 use Rattle.tv_heap.specs.Value.{tree_of}
 use Rattle.tv_doc.specs.FieldValues.{pairs_left}
-use Rattle.tv_value.specs.Short.{IsPair}
 use Rattle.tv_store.proofs.Stores.{written_next}
 use Rattle.tv_store.proofs.se.write_pairs.Goals as goal
 

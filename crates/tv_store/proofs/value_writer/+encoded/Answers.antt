@@ -7,7 +7,7 @@ use Rattle.tv_heap.specs.Value.{tree_of}
 use Rattle.tv_value.specs.Short.{short, short_elements}
 use Rattle.tv_value.specs.Tree.{elements}
 use Rattle.tv_value.specs.Version.{V2}
-use Rattle.tv_store.proofs.WriterSteps.{elements_parts, first_fewer, others_fewer, list_fewer}
+use Rattle.tv_store.proofs.WriterSteps.{elements_parts, others_fewer}
 use Rattle.tv_store.proofs.value_writer.+encoded.Goals as goal
 
 pub write_encoded-returns-in_err-write_coded_count-in-List : goal.write_encoded-returns-in_err-write_coded_count-in-List

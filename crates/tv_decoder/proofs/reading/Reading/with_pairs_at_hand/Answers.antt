@@ -1,4 +1,4 @@
-use Rattle.std.proofs.Common.{[], ◌++◌, sym, ◌∙◌, ap, subst, append-nil, arith}
+use Rattle.std.proofs.Common.{sym, subst, append-nil}
 use Rattle.std.proofs.lemmas.Result.{err_from_is_err_and}
 use Rattle.tv_builder.specs.Front.{Spelled}
 use Rattle.tv_legacy.specs.Legacy.{Legacy}
