@@ -4,7 +4,6 @@
 ghost use Rattle.std.specs.Prelude.{◌≡◌, ◌↔◌, [], ◌∷◌, ◌++◌, ◌<◌, ◌≤◌, ◌^◌, ℕ, ℤ, List, None, Some, length, option_map};
 ghost use Rattle.tv_base.specs.Number.{vnum, sixteen_bytes, Fixed, Signed};
 ghost use Rattle.tv_base.specs.Parts.{short_sized};
-ghost use Rattle.tv_value.specs.Content.{Content, form_of};
 ghost use Rattle.tv_value.specs.LeafParts.{content_of};
 ghost use Rattle.tv_value.specs.Leaves.{type_of, content, form};
 ghost use Rattle.tv_value.specs.Lent.{leaf_of};
@@ -183,24 +182,14 @@ pub fn spelled_tokens_at(heap: &[u8], address: u32) -> &[u8]
     spelled
 }
 
-/// What a value without children of this form holds that stands at an address.
+// The value of this type that holds this.
 #[inline(always)]
-pub fn content_at(heap: &[u8], form: Form, address: u32) -> LeafContent<'_>
-    requires { form ≡ forms.Text → HasText heap.now address }
-    ensures { (c : Content) → form_of c ≡ form → ContentStands heap.now address c → content_of result ≡ c }
+fn made<'a>(leaf_type: LeafType, held: LeafContent<'a>) -> ReferenceValueLeaf<'a>
+    ensures { (l : Leaf) → type_of l ≡ leaf_type → content_of held.entry ≡ content l → leaf_of result ≡ l }
 {
-    match form {
-        Form::Nothing => LeafContent::Nothing,
-        Form::Truth => LeafContent::Truth(address != 0),
-        Form::Unsigned => LeafContent::Unsigned(eight_at(heap, address)),
-        Form::Signed => LeafContent::Signed(signed_at(heap, address)),
-        Form::Wide => LeafContent::Wide(wide_at(heap, address)),
-        Form::Text => LeafContent::Text(text_at(heap, address)),
-        Form::Bytes => LeafContent::Bytes(sized_at(heap, address)),
-        Form::Tokens => match tokenized_at(heap, address) {
-            Some(text) => LeafContent::Tokens(text),
-            None => LeafContent::Nothing,
-        },
+    match ReferenceValueLeaf::with_content(leaf_type, held) {
+        Some(value) => value,
+        None => ReferenceValueLeaf::Null,
     }
 }
 
@@ -210,10 +199,18 @@ pub fn leaf_at(heap: &[u8], leaf_type: LeafType, address: u32) -> ReferenceValue
     requires { form leaf_type ≡ forms.Text → HasText heap.now address }
     ensures { (l : Leaf) → type_of l ≡ leaf_type → LeafStands heap.now address l → leaf_of result ≡ l }
 {
-    let content = content_at(heap, leaf_type.form(), address);
-    match ReferenceValueLeaf::with_content(leaf_type, content) {
-        Some(value) => value,
-        None => ReferenceValueLeaf::Null,
+    match leaf_type.form() {
+        Form::Nothing => made(leaf_type, LeafContent::Nothing),
+        Form::Truth => made(leaf_type, LeafContent::Truth(address != 0)),
+        Form::Unsigned => made(leaf_type, LeafContent::Unsigned(eight_at(heap, address))),
+        Form::Signed => made(leaf_type, LeafContent::Signed(signed_at(heap, address))),
+        Form::Wide => made(leaf_type, LeafContent::Wide(wide_at(heap, address))),
+        Form::Text => made(leaf_type, LeafContent::Text(text_at(heap, address))),
+        Form::Bytes => made(leaf_type, LeafContent::Bytes(sized_at(heap, address))),
+        Form::Tokens => match tokenized_at(heap, address) {
+            Some(text) => made(leaf_type, LeafContent::Tokens(text)),
+            None => ReferenceValueLeaf::Null,
+        },
     }
 }
 
