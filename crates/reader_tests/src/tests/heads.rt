@@ -53,7 +53,11 @@ fn heads_that_are_whole_values(rt: HostRuntime) {
     let address = Ipv6Addr::from_bits(0x2_0000_0000_0000_0001);
     let cases: [(&[u8], Head, u64); 5] = [
         (&[11, 5], Head::Leaf(ReferenceValueLeaf::Null), 1),
-        (&[1, 20, 0, 0, 0, 0, 0, 0, 0, 5], Head::Leaf(ReferenceValueLeaf::U64(20)), 9),
+        (
+            &[1, 20, 0, 0, 0, 0, 0, 0, 0, 5],
+            Head::Leaf(ReferenceValueLeaf::U64(20)),
+            9,
+        ),
         (
             &[2, 0xfe, 255, 255, 255, 255, 255, 255, 255],
             Head::Leaf(ReferenceValueLeaf::I64(-2)),
@@ -72,8 +76,14 @@ fn heads_that_are_whole_values(rt: HostRuntime) {
     let date = [5, 3, 0, 0, 0, 0, 0, 0, 0];
     let micros = ReferenceValueLeaf::Date(DateTime::from_timestamp_nanos(3000));
     let nanos = ReferenceValueLeaf::Date(DateTime::from_timestamp_nanos(3));
-    assert_eq!(rt; head_of(DocStoreVersion::V1, &date), (Ok(Head::Leaf(micros)), 9));
-    assert_eq!(rt; head_of(DocStoreVersion::V2, &date), (Ok(Head::Leaf(nanos)), 9));
+    assert_eq!(rt;
+        head_of(DocStoreVersion::V1, &date),
+        (Ok(Head::Leaf(micros)), 9)
+    );
+    assert_eq!(rt;
+        head_of(DocStoreVersion::V2, &date),
+        (Ok(Head::Leaf(nanos)), 9)
+    );
 }
 
 #[test]
