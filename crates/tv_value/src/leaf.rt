@@ -13,35 +13,31 @@ use crate::date_time::DateTime;
 use crate::ip_addr::address_of;
 use crate::pre_tokenized::PreTokenizedStr;
 use crate::same::same_leaf;
-use crate::type_codes::{
-    BOOL_CODE, BYTES_CODE, DATE_CODE, EXT_CODE, HIERARCHICAL_FACET_CODE, I64_CODE, IP_CODE,
-    NULL_CODE, TEXT_CODE, U64_CODE,
-};
 use std::net::Ipv6Addr;
 
-/// The types of values without children. (Own.)
+/// The types of values without children, each with the code that stands before its values in the store. (Own.)
 #[derive(Clone, Copy, Debug, PartialEq, Eq)]
 pub enum LeafType {
-    /// No value.
-    Null,
     /// A text.
-    Str,
+    Str = 0,
     /// A number from 0 to 2^64 - 1.
-    U64,
+    U64 = 1,
     /// A number from -2^63 to 2^63 - 1.
-    I64,
-    /// A date.
-    Date,
+    I64 = 2,
     /// A facet.
-    Facet,
+    Facet = 3,
     /// Bytes.
-    Bytes,
-    /// An IPv6 address.
-    IpAddr,
+    Bytes = 4,
+    /// A date.
+    Date = 5,
+    /// A text and its tokens. Behind its code stands one of its own, 0.
+    PreTokStr = 7,
     /// A truth value.
-    Bool,
-    /// A text and its tokens.
-    PreTokStr,
+    Bool = 9,
+    /// An IPv6 address.
+    IpAddr = 10,
+    /// No value.
+    Null = 11,
 }
 
 impl LeafType {
@@ -72,18 +68,7 @@ impl LeafType {
     pub fn store_code(self) -> u8
         ensures { result ≡ store_code self }
     {
-        match self {
-            LeafType::Str => TEXT_CODE,
-            LeafType::U64 => U64_CODE,
-            LeafType::I64 => I64_CODE,
-            LeafType::Facet => HIERARCHICAL_FACET_CODE,
-            LeafType::Bytes => BYTES_CODE,
-            LeafType::Date => DATE_CODE,
-            LeafType::PreTokStr => EXT_CODE,
-            LeafType::Bool => BOOL_CODE,
-            LeafType::IpAddr => IP_CODE,
-            LeafType::Null => NULL_CODE,
-        }
+        self as u8
     }
 
     /// The type before whose values this code stands in the store; `None` where there is none.
@@ -93,16 +78,16 @@ impl LeafType {
         ensures none { IfNone result ((t : LeafType) → store_code t ≢ code) }
     {
         match code {
-            TEXT_CODE => Some(LeafType::Str),
-            U64_CODE => Some(LeafType::U64),
-            I64_CODE => Some(LeafType::I64),
-            HIERARCHICAL_FACET_CODE => Some(LeafType::Facet),
-            BYTES_CODE => Some(LeafType::Bytes),
-            DATE_CODE => Some(LeafType::Date),
-            EXT_CODE => Some(LeafType::PreTokStr),
-            BOOL_CODE => Some(LeafType::Bool),
-            IP_CODE => Some(LeafType::IpAddr),
-            NULL_CODE => Some(LeafType::Null),
+            0 => Some(LeafType::Str),
+            1 => Some(LeafType::U64),
+            2 => Some(LeafType::I64),
+            3 => Some(LeafType::Facet),
+            4 => Some(LeafType::Bytes),
+            5 => Some(LeafType::Date),
+            7 => Some(LeafType::PreTokStr),
+            9 => Some(LeafType::Bool),
+            10 => Some(LeafType::IpAddr),
+            11 => Some(LeafType::Null),
             _ => None,
         }
     }
