@@ -162,7 +162,7 @@ impl<'a, V: Value<'a>> ReferenceValue<'a, V> {
         ensures { option_map (λ l. leaf_of l.now) result ≡ leaf_in (tree_of V.array_rest V.object_rest self.now) }
     {
         match self {
-            ReferenceValue::Leaf(leaf) => Some(leaf),
+            ReferenceValue::Leaf(lent) => Some(lent),
             _ => None,
         }
     }
@@ -172,7 +172,7 @@ impl<'a, V: Value<'a>> ReferenceValue<'a, V> {
         ensures { option_map leaf_of result ≡ leaf_in (tree_of V.array_rest V.object_rest self.entry) }
     {
         match self {
-            ReferenceValue::Leaf(leaf) => Some(leaf),
+            ReferenceValue::Leaf(single) => Some(single),
             _ => None,
         }
     }
