@@ -1,5 +1,6 @@
 -- What a document is seen as, and what an addition leaves.
 use Rattle.std.specs.Prelude.{◌≡◌, ◌≢◌, ℕ, ◌+◌, ◌<◌, ◌≤◌, List, [], ◌∷◌, ◌++◌, length, map, slice_get, Option, Some, None, Result, Ok, Err}
+use Rattle.std.specs.Vec.{vec_capacity}
 use Rattle.tv_value.specs.Tree.{Tree, Document}
 use Rattle.tv_doc.specs.declared.add_error.AddError.{AddError}
 use Rattle.tv_doc.specs.declared.add_error.AddError.TheVariants.{FieldNumber, HeapFull, Memory}
@@ -15,6 +16,13 @@ document_of d = d.document.0
 -- the bytes in which the trees stand
 abbrev pub heap_of : CompactDoc → List ℕ
 heap_of d = d.node_data.items
+
+-- for how many bytes of the heap, and for how many pairs, it has memory
+abbrev pub heap_capacity : CompactDoc → ℕ
+heap_capacity d = vec_capacity d.node_data
+
+abbrev pub pairs_capacity : CompactDoc → ℕ
+pairs_capacity d = vec_capacity d.pairs
 
 -- each pair's type byte and address
 abbrev pub places_of : CompactDoc → List (ℕ × ℕ)

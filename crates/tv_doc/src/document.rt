@@ -120,7 +120,7 @@ pub struct CompactDoc {
 
 impl CompactDoc {
     ghost use Rattle.tv_doc.specs.Belongs.{Belongs};
-    ghost use Rattle.tv_doc.specs.Document.{document_of, heap_of, places_of, Adds, IsUnchanged, ReadsAt};
+    ghost use Rattle.tv_doc.specs.Document.{document_of, heap_of, heap_capacity, pairs_capacity, places_of, Adds, IsUnchanged, ReadsAt};
     ghost use Rattle.tv_doc.specs.MapValue.{map_tree};
     ghost use Rattle.tv_heap.specs.Value.{tree_of};
     ghost use Rattle.tv_doc.specs.FieldValues.{pairs_left, values_left, values_of};
@@ -129,6 +129,8 @@ impl CompactDoc {
     pub fn new(alloc: Global) -> CompactDoc
         ensures document { document_of result ≡ [] }
         ensures heap { heap_of result ≡ [] }
+        ensures no_bytes { heap_capacity result ≡ 0 }
+        ensures no_places { pairs_capacity result ≡ 0 }
     {
         CompactDoc {
             alloc,
@@ -141,6 +143,8 @@ impl CompactDoc {
     pub fn with_capacity(alloc: Global, bytes: usize) -> Result<CompactDoc, AllocError>
         ensures document { IfOk result (λ made. document_of made ≡ []) }
         ensures heap { IfOk result (λ made. heap_of made ≡ []) }
+        ensures capacity { IfOk result (λ made. heap_capacity made ≡ bytes) }
+        ensures no_places { IfOk result (λ made. pairs_capacity made ≡ 0) }
     {
         let node_data = Vec::with_capacity(alloc, bytes)?;
         Ok(CompactDoc {
@@ -164,9 +168,14 @@ impl CompactDoc {
         })
     }
 
-    /// Gives memory back that neither the values nor the pairs need. The document stays the same.
+    /// Gives memory back that neither the values nor the pairs need, as far as the allocator takes it; where there is no value or no pair,
+    /// all of what was for them. The document stays the same.
     pub fn shrink_to_fit(&mut self)
-        ensures { IsUnchanged self.old self.new }
+        ensures same { IsUnchanged self.old self.new }
+        ensures bytes { heap_capacity self.new ≤ heap_capacity self.old }
+        ensures places { pairs_capacity self.new ≤ pairs_capacity self.old }
+        ensures frees_bytes { heap_of self.old ≡ [] → heap_capacity self.new ≡ 0 }
+        ensures frees_places { document_of self.old ≡ [] → pairs_capacity self.new ≡ 0 }
     {
         self.node_data.shrink_to_fit();
         self.pairs.shrink_to_fit();
