@@ -148,3 +148,8 @@ pub fn hash(value: &impl Hash) -> u64 {
     value.hash(&mut state);
     state.finish()
 }
+
+/// The first word of a word, and what stands behind the blank that parts them.
+pub fn parted(word: &str) -> (&str, &str) {
+    word.split_once(' ').unwrap_or((word, ""))
+}

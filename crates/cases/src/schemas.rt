@@ -1,0 +1,258 @@
+//! Schemas: their JSON, their fields, and the fields that paths name.
+
+use crate::words;
+use anyhow::{Context, Result, anyhow, ensure};
+use serde_json::Value;
+use std::alloc::Global;
+use std::fmt::Write;
+use tantivy_schema::laws::{printed_schema_is_read_back, record_options_agree};
+use tantivy_schema::schema::{
+    Field, FieldEntry, FieldType, Schema, SchemaBuilder, SchemaError, TEXT, is_valid_field_name,
+};
+
+/// The schema that the word `types` stands for: a field of each type, and some that coerce.
+const TYPES: &str =
+    r#"[{"name":"s","type":"text","options":{"stored":true}},{"name":"sc","type":"text","options":{"stored":true,"coerce":true}},{"name":"u","type":"u64","options":{"indexed":false,"stored":true}},{"name":"uc","type":"u64","options":{"indexed":false,"stored":true,"coerce":true}},{"name":"i","type":"i64","options":{"indexed":false,"stored":true}},{"name":"ic","type":"i64","options":{"indexed":false,"stored":true,"coerce":true}},{"name":"b","type":"bool","options":{"indexed":false,"stored":true}},{"name":"bc","type":"bool","options":{"indexed":false,"stored":true,"coerce":true}},{"name":"d","type":"date","options":{"indexed":false,"fieldnorms":false,"stored":true}},{"name":"f","type":"facet","options":{"stored":true}},{"name":"y","type":"bytes","options":{"indexed":false,"fast":false,"stored":true}},{"name":"j","type":"json_object","options":{"stored":true,"fast":false}},{"name":"p","type":"ip_addr","options":{"indexed":false,"fieldnorms":false,"fast":false,"stored":true}},{"name":"n","type":"u64","options":{"indexed":true,"stored":false}}]"#;
+
+/// What a call about schemas returns.
+pub fn answer(alloc: Global, call: &[&str]) -> Result<String> {
+    match call {
+        ["json", description] => described(alloc, description),
+        ["fields", description] => fields(alloc, &schema(alloc, description)?),
+        ["field", description, name] => field(alloc, &schema(alloc, description)?, name),
+        ["find", description, path] => find(alloc, &schema(alloc, description)?, path),
+        ["find", description, path, default] => {
+            find_with_default(alloc, &schema(alloc, description)?, path, default)
+        }
+        ["add", names @ ..] => add(alloc, names),
+        ["name", name] => name_answer(alloc, name),
+        ["equal", one, other] => equal(alloc, &schema(alloc, one)?, &schema(alloc, other)?),
+        _ => Err(anyhow!("an unknown call about schemas")),
+    }
+}
+
+/// The schema of a JSON description. A list of names stands for fields of texts with these names, and the word `types` for a field of
+/// each type.
+pub fn schema(alloc: Global, word: &str) -> Result<Schema> {
+    let description = if word == "types" { TYPES } else { word };
+    let json = Value::from_str(alloc, description)?;
+    if description.starts_with("[\"") {
+        return schema_of_texts(alloc, &json);
+    }
+    Ok(Schema::from_json_value(alloc, &json)?)
+}
+
+/// The schema of fields of texts with these names.
+fn schema_of_texts(alloc: Global, names: &Value) -> Result<Schema> {
+    let mut builder = Schema::builder(alloc);
+    for name in names.as_array().context("a list of names")? {
+        builder.add_text_field(name.as_str().context("a name")?, TEXT)?;
+    }
+    Ok(builder.build()?)
+}
+
+/// The JSON of the schema that a description describes, or the refusal. The schema that is read from this JSON has to be the same, and so
+/// has the one whose fields are added by the calls of their types.
+fn described(alloc: Global, word: &str) -> Result<String> {
+    let description = if word == "types" { TYPES } else { word };
+    let schema = match Schema::from_json_value(alloc, &Value::from_str(alloc, description)?) {
+        Ok(schema) => schema,
+        Err(error) => return words::error(alloc, &error),
+    };
+    ensure!(
+        printed_schema_is_read_back(alloc, &schema)? == schema,
+        "another schema is read back"
+    );
+    ensure!(
+        added_again(alloc, &schema)? == schema,
+        "another schema is added field by field"
+    );
+    printed(alloc, &schema)
+}
+
+/// The JSON of a schema.
+fn printed(alloc: Global, schema: &Schema) -> Result<String> {
+    Ok(schema.to_json_value(alloc)?.to_string(alloc)?)
+}
+
+/// The schema whose fields are added by the calls of their types.
+fn added_again(alloc: Global, schema: &Schema) -> Result<Schema> {
+    let mut builder = Schema::builder(alloc);
+    for (_, entry) in schema.fields() {
+        let copy = entry.try_clone(alloc)?;
+        add_field(
+            &mut builder,
+            entry.name(),
+            entry.field_type().try_clone(alloc)?,
+        )?;
+        let name = String::from_str(alloc, entry.name())?;
+        let made = new_entry(name, entry.field_type().try_clone(alloc)?)?;
+        ensure!(copy == *entry && made == *entry, "another entry is made");
+    }
+    Ok(builder.build()?)
+}
+
+/// Adds a field by the call of its type.
+fn add_field(
+    builder: &mut SchemaBuilder,
+    name: &str,
+    field_type: FieldType,
+) -> Result<Field, SchemaError> {
+    match field_type {
+        FieldType::Str(options) => builder.add_text_field(name, options),
+        FieldType::U64(options) => builder.add_u64_field(name, options),
+        FieldType::I64(options) => builder.add_i64_field(name, options),
+        FieldType::Bool(options) => builder.add_bool_field(name, options),
+        FieldType::Date(options) => builder.add_date_field(name, options),
+        FieldType::Facet(options) => builder.add_facet_field(name, options),
+        FieldType::Bytes(options) => builder.add_bytes_field(name, options),
+        FieldType::JsonObject(options) => builder.add_json_field(name, options),
+        FieldType::IpAddr(options) => builder.add_ip_addr_field(name, options),
+    }
+}
+
+/// An entry, made by the call of its type.
+fn new_entry(name: String, field_type: FieldType) -> Result<FieldEntry, SchemaError> {
+    match field_type {
+        FieldType::Str(options) => FieldEntry::new_text(name, options),
+        FieldType::U64(options) => FieldEntry::new_u64(name, options),
+        FieldType::I64(options) => FieldEntry::new_i64(name, options),
+        FieldType::Bool(options) => FieldEntry::new_bool(name, options),
+        FieldType::Date(options) => FieldEntry::new_date(name, options),
+        FieldType::Facet(options) => FieldEntry::new_facet(name, options),
+        FieldType::Bytes(options) => FieldEntry::new_bytes(name, options),
+        FieldType::JsonObject(options) => FieldEntry::new_json(name, options),
+        FieldType::IpAddr(options) => FieldEntry::new_ip_addr(name, options),
+    }
+}
+
+/// How many fields there are, and the number, the name, the type and the queries of each.
+fn fields(alloc: Global, schema: &Schema) -> Result<String> {
+    let mut answer = format!(in alloc; "{}", schema.num_fields())?;
+    for (field, entry) in schema.fields() {
+        ensure!(
+            is_found(schema, field, entry),
+            "calls about a field disagree"
+        );
+        let number = field.field_id();
+        let value_type = entry.field_type().value_type();
+        let name = words::quoted(alloc, entry.name())?;
+        write!(answer, "\t{number} {name} {value_type:?}")?;
+        push_kinds(&mut answer, entry.field_type())?;
+        push_queries(&mut answer, entry)?;
+    }
+    Ok(answer)
+}
+
+/// Appends the queries about a type that hold.
+fn push_kinds(answer: &mut String, field_type: &FieldType) -> Result<()> {
+    words::push_flag(answer, "is_str", field_type.is_str())?;
+    words::push_flag(answer, "is_json", field_type.is_json())?;
+    words::push_flag(answer, "is_date", field_type.is_date())?;
+    words::push_flag(answer, "is_bytes", field_type.is_bytes())?;
+    words::push_flag(answer, "is_ip_addr", field_type.is_ip_addr())
+}
+
+/// Appends the queries about an entry that hold, and what an index keeps of each term.
+fn push_queries(answer: &mut String, entry: &FieldEntry) -> Result<()> {
+    words::push_flag(answer, "stored", entry.is_stored())?;
+    words::push_flag(answer, "indexed", entry.is_indexed())?;
+    words::push_flag(answer, "fieldnorms", entry.has_fieldnorms())?;
+    words::push_flag(answer, "fast", entry.is_fast())?;
+    words::push_flag(answer, "expand_dots", entry.is_expand_dots_enabled())?;
+    let (record, same_record) = record_options_agree(entry.field_type());
+    ensure!(
+        record == same_record,
+        "calls about a record option disagree"
+    );
+    if let Some(kept) = record {
+        write!(answer, " record {kept:?}")?;
+    }
+    Ok(())
+}
+
+/// Whether the schema has the field by its number, and by its name.
+fn is_found(schema: &Schema, field: Field, entry: &FieldEntry) -> bool {
+    schema.has_field(field)
+        && schema.get_field(entry.name()) == Ok(field)
+        && schema.get_field_name(field) == entry.name()
+        && *schema.get_field_entry(field) == *entry
+}
+
+/// The number of the field with a name, or the name of the field with a number.
+fn field(alloc: Global, schema: &Schema, word: &str) -> Result<String> {
+    if word.starts_with('"') {
+        let name = words::text(alloc, word)?;
+        return Ok(match schema.get_field(name.as_str()) {
+            Ok(field) => format!(in alloc; "{}", field.field_id())?,
+            Err(error) => words::error(alloc, &error)?,
+        });
+    }
+    let field = words::field(word)?;
+    if !schema.has_field(field) {
+        return Ok(String::from_str(alloc, "none")?);
+    }
+    words::quoted(alloc, schema.get_field_name(field))
+}
+
+/// The field that a path names, and the rest of the path.
+fn find(alloc: Global, schema: &Schema, path: &str) -> Result<String> {
+    let path = words::text(alloc, path)?;
+    found(alloc, schema.find_field(path.as_str()))
+}
+
+/// The field that a path names, and the rest of the path, where there is a default field.
+fn find_with_default(alloc: Global, schema: &Schema, path: &str, default: &str) -> Result<String> {
+    let path = words::text(alloc, path)?;
+    let default = words::field(default)?;
+    ensure!(schema.has_field(default), "an unknown default field");
+    found(
+        alloc,
+        schema.find_field_with_default(path.as_str(), Some(default)),
+    )
+}
+
+/// The number of a field and the rest of a path, or `none`.
+fn found(alloc: Global, field_and_rest: Option<(Field, &str)>) -> Result<String> {
+    match field_and_rest {
+        Some((field, rest)) => {
+            let rest = words::quoted(alloc, rest)?;
+            Ok(format!(in alloc; "{} {rest}", field.field_id())?)
+        }
+        None => Ok(String::from_str(alloc, "none")?),
+    }
+}
+
+/// The numbers or the refusals of fields of texts that are added, and the JSON of the schema that they make.
+fn add(alloc: Global, names: &[&str]) -> Result<String> {
+    let mut builder = Schema::builder(alloc);
+    let mut text = String::new(alloc);
+    for name in names {
+        let name = words::text(alloc, name)?;
+        let answer = match builder.add_text_field(name.as_str(), TEXT) {
+            Ok(field) => format!(in alloc; "{}\t", field.field_id())?,
+            Err(error) => format!(in alloc; "error {error:?}\t")?,
+        };
+        text.push_str(answer.as_str())?;
+    }
+    let debug = format!(in alloc; "{builder:?}")?;
+    ensure!(!debug.is_empty(), "nothing is printed of a builder");
+    text.push_str(printed(alloc, &builder.build()?)?.as_str())?;
+    Ok(text)
+}
+
+/// Whether a name is valid, and the refusal of an entry of this name.
+fn name_answer(alloc: Global, word: &str) -> Result<String> {
+    let name = words::text(alloc, word)?;
+    let is_valid = is_valid_field_name(name.as_str());
+    Ok(match FieldEntry::new_text(name, TEXT) {
+        Ok(_) => format!(in alloc; "{is_valid}")?,
+        Err(error) => format!(in alloc; "{is_valid}\terror {error:?}")?,
+    })
+}
+
+/// Whether two schemas are equal. A copy has to be equal.
+fn equal(alloc: Global, one: &Schema, other: &Schema) -> Result<String> {
+    ensure!(one.clone()? == *one, "a copy is not equal");
+    Ok(format!(in alloc; "{}", *one == *other)?)
+}
