@@ -1,8 +1,8 @@
 //! Values at the end of a heap.
 
 ghost use Rattle.std.specs.Prelude.{◌≡◌, ◌+◌, ◌<◌, ◌^◌, ◌++◌, OnOk, IfOk, length};
-ghost use Rattle.tv_heap.specs.Reads.{Wrote};
-ghost use Rattle.tv_heap.specs.Room.{leaf_bytes};
+ghost use Rattle.tv_heap.specs.Wrote.{Wrote};
+ghost use Rattle.tv_heap.specs.LeafBytes.{leaf_bytes};
 ghost use Rattle.tv_heap.specs.TypeCode.{type_code};
 ghost use Rattle.tv_value.specs.Lent.{leaf_of};
 ghost use Rattle.tv_value.specs.Tree.{leaf};
