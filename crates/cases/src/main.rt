@@ -2,7 +2,14 @@
 //! says what the call returns. The answers are compared with those that the format, the standards and the original give.
 #![tactic(auto)]
 
+mod builder;
+mod documents;
+mod heap;
+mod lines;
+mod parts;
+mod schemas;
 mod terms;
+mod values;
 mod words;
 
 use anyhow::{Result, anyhow};
@@ -27,7 +34,13 @@ fn main(rt: HostRuntime) -> Result<()> {
 fn answer(alloc: Global, line: &str) -> Result<String> {
     let words: Vec<&str> = line.split('\t').collect(alloc)?;
     match words.as_slice() {
+        ["builder", call @ ..] => builder::answer(alloc, call),
+        ["document", call @ ..] => documents::answer(alloc, call),
+        ["heap", call @ ..] => heap::answer(alloc, call),
+        ["lines", call @ ..] => lines::answer(alloc, call),
+        ["schema", call @ ..] => schemas::answer(alloc, call),
         ["term", call @ ..] => terms::answer(alloc, call),
+        ["value", call @ ..] => values::answer(alloc, call),
         _ => Err(anyhow!("an unknown line: {line}")),
     }
 }

@@ -29,3 +29,14 @@ where
 pub fn field(word: &str) -> Result<Field> {
     Ok(Field::from_field_id(number(word)?))
 }
+
+/// The JSON string of a text, with its quotes.
+pub fn quoted(alloc: Global, text: &str) -> Result<String> {
+    let json = serde_json::Value::String(String::from_str(alloc, text)?);
+    Ok(json.to_string(alloc)?)
+}
+
+/// The first word of a word, and what stands behind the blank that parts them.
+pub fn parted(word: &str) -> (&str, &str) {
+    word.split_once(' ').unwrap_or((word, ""))
+}

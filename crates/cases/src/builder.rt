@@ -1,0 +1,157 @@
+//! Documents that calls build: those of a tree builder, and additions.
+
+use crate::{documents, values, words};
+use anyhow::{Context, Result, anyhow};
+use serde_json::Value as JsonValue;
+use std::alloc::Global;
+use std::collections::BTreeMap;
+use std::fmt::Debug;
+use tantivy_schema::schema::document::{
+    AddError, BuildError, BytesKind, ReferenceValueLeaf, TreeBuilder,
+};
+use tantivy_schema::schema::{CompactDoc, Field, OwnedValue, Value};
+use tv_value::json::LentJson;
+
+/// What calls answer, and the document that they make.
+pub fn answer(alloc: Global, calls: &[&str]) -> Result<String> {
+    let mut answers = String::new(alloc);
+    let document = made(alloc, calls, &mut answers)?;
+    answers.push_str(documents::shown(alloc, &document)?.as_str())?;
+    Ok(answers)
+}
+
+/// The document that calls make, of which none is refused.
+pub fn document(alloc: Global, calls: &[&str]) -> Result<CompactDoc> {
+    let mut answers = String::new(alloc);
+    let document = made(alloc, calls, &mut answers)?;
+    if !answers.is_empty() {
+        return Err(anyhow!("a call was refused: {answers}"));
+    }
+    Ok(document)
+}
+
+/// The document that calls make. Puts refusals and states behind the answers.
+fn made(alloc: Global, calls: &[&str], answers: &mut String) -> Result<CompactDoc> {
+    let mut builder = TreeBuilder::new(CompactDoc::new(alloc));
+    for word in calls {
+        let (call, content) = words::parted(word);
+        match call {
+            "state" => answers.push_str(state(alloc, &builder)?.as_str())?,
+            "add" => {
+                let mut document = builder.into_doc();
+                let outcome = add(alloc, &mut document, content)?;
+                builder = TreeBuilder::new(document);
+                note(alloc, answers, outcome)?;
+            }
+            _ => {
+                let outcome = build(alloc, &mut builder, call, content)?;
+                note(alloc, answers, outcome)?;
+            }
+        }
+    }
+    Ok(builder.into_doc())
+}
+
+/// Puts the refusal of a call behind the answers.
+fn note<E: Debug + Drop>(
+    alloc: Global,
+    answers: &mut String,
+    outcome: Result<(), E>,
+) -> Result<()> {
+    if let Err(error) = outcome {
+        answers.push_str(format!(in alloc; "error {error:?}\t")?.as_str())?;
+    }
+    Ok(())
+}
+
+/// The length of the heap, how many children and lists are open, and what is awaited.
+fn state(alloc: Global, builder: &TreeBuilder) -> Result<String> {
+    let length = builder.heap_len();
+    let pending = builder.pending();
+    let frames = builder.frames();
+    let awaits = builder.awaits();
+    Ok(format!(in alloc; "heap {length} pending {pending} frames {frames} awaits {awaits:?}\t")?)
+}
+
+/// Makes a call on a tree builder.
+fn build(
+    alloc: Global,
+    builder: &mut TreeBuilder,
+    call: &str,
+    content: &str,
+) -> Result<Result<(), BuildError>> {
+    Ok(match call {
+        "array" => builder.open_array(words::number(content)?),
+        "object" => builder.open_object(words::number(content)?),
+        "key" => builder.key(words::text(alloc, content)?.as_str()),
+        "begin" => begin(builder, content)?,
+        "chunk" => builder.chunk(words::bytes(alloc, content)?.as_slice()),
+        "end" => builder.end_bytes(),
+        "finish" => builder.finish(words::field(content)?),
+        "tree" => builder.tree(&&values::typed(alloc, content)?),
+        "leaf" => {
+            let value = values::typed(alloc, content)?;
+            builder.leaf((&value).as_leaf().context("a value without children")?)
+        }
+        _ => return Err(anyhow!("an unknown call: {call}")),
+    })
+}
+
+/// Begins bytes of a kind and a length.
+fn begin(builder: &mut TreeBuilder, content: &str) -> Result<Result<(), BuildError>> {
+    let (kind, length) = words::parted(content);
+    let kind = match kind {
+        "text" => BytesKind::Str,
+        "facet" => BytesKind::Facet,
+        "bytes" => BytesKind::Bytes,
+        "key" => BytesKind::Key,
+        _ => return Err(anyhow!("an unknown kind of bytes: {kind}")),
+    };
+    Ok(builder.begin_bytes(kind, words::number(length)?))
+}
+
+/// Adds a value to a field by the call of its type.
+fn add(alloc: Global, document: &mut CompactDoc, content: &str) -> Result<Result<(), AddError>> {
+    let (number, content) = words::parted(content);
+    let field = words::field(number)?;
+    let (kind, json) = words::parted(content);
+    if kind == "members" {
+        let members = members(alloc, json)?;
+        return Ok(document.add_object(field, &members));
+    }
+    if kind == "lent" {
+        let json = JsonValue::from_str(alloc, json)?;
+        return Ok(document.add_field_value(field, &LentJson::new(&json)));
+    }
+    Ok(add_typed(document, field, values::typed(alloc, content)?))
+}
+
+/// Adds a value by the call of its type.
+fn add_typed(document: &mut CompactDoc, field: Field, value: OwnedValue) -> Result<(), AddError> {
+    match value {
+        OwnedValue::Null => document.add_leaf_field_value(field, ReferenceValueLeaf::Null),
+        OwnedValue::Str(text) => document.add_text(field, text.as_str()),
+        OwnedValue::U64(number) => document.add_u64(field, number),
+        OwnedValue::I64(number) => document.add_i64(field, number),
+        OwnedValue::Bool(truth) => document.add_bool(field, truth),
+        OwnedValue::Date(date) => document.add_date(field, date),
+        OwnedValue::IpAddr(address) => document.add_ip_addr(field, address),
+        OwnedValue::Facet(facet) => document.add_facet(field, &facet),
+        OwnedValue::Bytes(bytes) => document.add_bytes(field, bytes.as_slice()),
+        OwnedValue::PreTokStr(text) => document.add_pre_tokenized_text(field, &text),
+        list => document.add_field_value(field, &&list),
+    }
+}
+
+/// The members of a JSON object.
+fn members(alloc: Global, json: &str) -> Result<BTreeMap<String, OwnedValue>> {
+    let json = JsonValue::from_str(alloc, json)?;
+    let OwnedValue::Object(entries) = OwnedValue::from_json(alloc, json)? else {
+        return Err(anyhow!("a JSON object"));
+    };
+    let mut members = BTreeMap::new(alloc);
+    for (key, value) in entries {
+        members.insert(key, value)?;
+    }
+    Ok(members)
+}

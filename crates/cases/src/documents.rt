@@ -1,0 +1,184 @@
+//! Documents: from JSON, as JSON, by names, and compared.
+
+use crate::{builder, parts, schemas, values, words};
+use anyhow::{Context, Result, anyhow};
+use std::alloc::Global;
+use tantivy_schema::laws::named_documents_are_converted_back;
+use tantivy_schema::schema::document::{
+    DocParsingError, Document, ToJsonValue, Value, is_same, push_json, to_json_value,
+};
+use tantivy_schema::schema::{CompactDoc, Field, OwnedValue, Schema};
+
+/// What a call about documents returns.
+pub fn answer(alloc: Global, call: &[&str]) -> Result<String> {
+    match call {
+        ["parse", description, json] => parse(alloc, &schemas::schema(alloc, description)?, json),
+        ["print", description, words @ ..] => {
+            let schema = schemas::schema(alloc, description)?;
+            Ok(document_of(alloc, &schema, words)?.to_json(alloc, &schema)?)
+        }
+        ["named", from, to, calls @ ..] => {
+            let (from, to) = (schemas::schema(alloc, from)?, schemas::schema(alloc, to)?);
+            named(alloc, &from, &to, &builder::document(alloc, calls)?)
+        }
+        ["same", calls @ ..] => same(alloc, calls),
+        ["copy", calls @ ..] => copy(alloc, builder::document(alloc, calls)?),
+        ["get", field, calls @ ..] => {
+            get(
+                alloc,
+                words::field(field)?,
+                &builder::document(alloc, calls)?,
+            )
+        }
+        ["sorted", calls @ ..] => sorted(alloc, &builder::document(alloc, calls)?),
+        ["values", calls @ ..] => values(alloc, &builder::document(alloc, calls)?),
+        _ => Err(anyhow!("an unknown call about documents")),
+    }
+}
+
+/// The heap of a document, and the field, the type's code and the address of each of its pairs.
+pub fn shown(alloc: Global, document: &CompactDoc) -> Result<String> {
+    if document.is_empty() {
+        return Ok(String::from_str(alloc, "-")?);
+    }
+    let mut text = match document.node_data() {
+        [] => String::from_str(alloc, "-")?,
+        heap => hex::encode(alloc, heap)?,
+    };
+    for (place, (field, _)) in document.field_values().enumerate() {
+        let number = field.field_id();
+        let (code, address) = document.addr_of(place).context("a pair")?;
+        text.push_str(format!(in alloc; " {number}:{code}:{address}")?.as_str())?;
+    }
+    Ok(text)
+}
+
+/// The document of a JSON object, or of calls.
+fn document_of(alloc: Global, schema: &Schema, words: &[&str]) -> Result<CompactDoc> {
+    match words {
+        [json] if json.starts_with('{') => Ok(CompactDoc::parse_json(alloc, schema, json)?),
+        calls => builder::document(alloc, calls),
+    }
+}
+
+/// The document of a JSON object, or its refusal. The document has to be the same where its values come part by part.
+fn parse(alloc: Global, schema: &Schema, json: &str) -> Result<String> {
+    let document = match CompactDoc::parse_json(alloc, schema, json) {
+        Ok(document) => document,
+        Err(error) => return refusal(alloc, &error),
+    };
+    let text = shown(alloc, &document)?;
+    for cut in 0..parts::MOST_BYTES {
+        if shown(alloc, &parts::rebuilt(alloc, &document, cut)?)? != text {
+            return Err(anyhow!("another document comes part by part: {json}"));
+        }
+    }
+    Ok(text)
+}
+
+/// Why there is no document of a JSON object.
+fn refusal(alloc: Global, error: &DocParsingError) -> Result<String> {
+    Ok(match error {
+        DocParsingError::InvalidJson(start) => {
+            let start = words::quoted(alloc, start.as_str())?;
+            format!(in alloc; "error InvalidJson {start}")?
+        }
+        DocParsingError::ValueError(name, error) => {
+            let name = words::quoted(alloc, name.as_str())?;
+            let reason = values::refusal(alloc, error)?;
+            format!(in alloc; "error ValueError {name} {reason}")?
+        }
+        DocParsingError::Add(error) => format!(in alloc; "error Add {error:?}")?,
+        DocParsingError::Memory => String::from_str(alloc, "error Memory")?,
+    })
+}
+
+/// The values of a document by the names of one schema, and the document that these names make with another.
+fn named(alloc: Global, from: &Schema, to: &Schema, document: &CompactDoc) -> Result<String> {
+    let names = document.to_named_doc(alloc, from)?;
+    let made = if from == to {
+        named_documents_are_converted_back(alloc, from, document)?
+    } else {
+        CompactDoc::convert_named_doc(alloc, to, &names)?
+    };
+    let made = shown(alloc, &made)?;
+    Ok(format!(in alloc; "{:?}\t{made}", names.0)?)
+}
+
+/// Whether two documents are the same by the JSON of their values. The word `and` stands between their calls.
+fn same(alloc: Global, calls: &[&str]) -> Result<String> {
+    let place = calls
+        .iter()
+        .position(|word| *word == "and")
+        .context("two documents")?;
+    let one = builder::document(alloc, calls.get(..place).context("a document")?)?;
+    let other = builder::document(alloc, calls.get(place + 1..).context("a document")?)?;
+    let is_same = one.same_as(alloc, &other)?;
+    if other.same_as(alloc, &one)? != is_same {
+        return Err(anyhow!("the other way round the answer differs"));
+    }
+    Ok(format!(in alloc; "{is_same}")?)
+}
+
+/// A copy of a document. Its values have to be equal to those of the document, whose memory is shrunk.
+fn copy(alloc: Global, mut document: CompactDoc) -> Result<String> {
+    let copy = document.try_clone(alloc)?;
+    document.shrink_to_fit();
+    for ((_, one), (_, other)) in copy.field_values().zip(document.field_values()) {
+        let owned = OwnedValue::from_value(alloc, &one)?;
+        let other_owned = OwnedValue::from_value(alloc, &other)?;
+        if one != other || !is_same(&&owned, &&other_owned) {
+            return Err(anyhow!("a value of the copy differs"));
+        }
+    }
+    shown(alloc, &copy)
+}
+
+/// A value with its type.
+fn typed<'a, V: Value<'a>>(alloc: Global, value: &V) -> Result<String> {
+    Ok(format!(in alloc; "{:?}", OwnedValue::from_value(alloc, value)?)?)
+}
+
+/// The first value of a field, and all of its values.
+fn get(alloc: Global, field: Field, document: &CompactDoc) -> Result<String> {
+    let mut text = match document.get_first(field) {
+        Some(value) => typed(alloc, &value)?,
+        None => String::from_str(alloc, "none")?,
+    };
+    for value in document.get_all(field) {
+        text.push_str("\t")?;
+        text.push_str(typed(alloc, &value)?.as_str())?;
+    }
+    Ok(text)
+}
+
+/// The values of a document by their fields, which rise.
+fn sorted(alloc: Global, document: &CompactDoc) -> Result<String> {
+    let groups = document.get_sorted_field_values(alloc)?;
+    let mut text = format!(in alloc; "{}", groups.len())?;
+    for (field, values) in groups {
+        text.push_str(format!(in alloc; "\tfield {}", field.field_id())?.as_str())?;
+        for value in values {
+            text.push_str("\t")?;
+            text.push_str(typed(alloc, &value)?.as_str())?;
+        }
+    }
+    Ok(text)
+}
+
+/// The field of each pair, and its value with its type and as JSON.
+fn values(alloc: Global, document: &CompactDoc) -> Result<String> {
+    let mut text = format!(in alloc; "{}", document.len())?;
+    for (field, value) in document.field_values() {
+        let number = field.field_id();
+        let typed = typed(alloc, &value)?;
+        text.push_str(format!(in alloc; "\t{number} {typed}\t")?.as_str())?;
+        push_json(alloc, &mut text, value)?;
+        let json = OwnedValue::from_value(alloc, &value)?.to_json_value(alloc)?;
+        let printed = format!(in alloc; "\t{}", json.to_string(alloc)?)?;
+        if to_json_value(alloc, value)? != json || !text.as_str().ends_with(printed.as_str()) {
+            return Err(anyhow!("the JSON values of a value differ"));
+        }
+    }
+    Ok(text)
+}

@@ -1,0 +1,107 @@
+//! Values in a heap of bytes.
+
+use crate::{values, words};
+use anyhow::{Context, Result, anyhow};
+use std::alloc::Global;
+use tantivy_schema::common::{BinarySerializable, SliceSource, VecSink};
+use tantivy_schema::schema::Value;
+use tv_borrowed::Scratch;
+use tv_borrowed::read::read_borrowed;
+use tv_builder::json::put_json;
+use tv_builder::place::Place;
+use tv_builder::spelled::put_spelled;
+use tv_heap::len::leaf_len;
+use tv_heap::value_type::ValueType;
+
+/// What stands at the places of lists that are open.
+const OPEN: &[u8] = b"\x09\x81";
+
+/// What a call about heaps returns.
+pub fn answer(alloc: Global, call: &[&str]) -> Result<String> {
+    match call {
+        ["spelled", heap, levels, bytes] => {
+            let bytes = words::bytes(alloc, bytes)?;
+            spelled(alloc, heap, words::number(levels)?, bytes.as_slice())
+        }
+        ["json", heap, json] => json_value(alloc, heap, json),
+        ["leaf", value] => leaf(alloc, value),
+        ["type", "default"] => value_type(alloc, ValueType::default()),
+        ["type", digits] => {
+            let bytes = words::bytes(alloc, digits)?;
+            match ValueType::deserialize(alloc, &mut SliceSource::new(bytes.as_slice())) {
+                Ok(read) => value_type(alloc, read),
+                Err(error) => Ok(format!(in alloc; "error {error:?}")?),
+            }
+        }
+        _ => Err(anyhow!("an unknown call about heaps")),
+    }
+}
+
+/// The heap behind which the value that bytes spell is written, its type's code and its address, and the bytes behind it.
+fn spelled(alloc: Global, before: &str, levels: u32, bytes: &[u8]) -> Result<String> {
+    let before = words::bytes(alloc, before)?;
+    let mut heap = before.as_slice().to_vec(alloc)?;
+    let mut places = OPEN.to_vec(alloc)?;
+    if heap.len() > 4_294_967_295 {
+        return Err(anyhow!("a heap is too long"));
+    }
+    let put = put_spelled(bytes, levels, &mut heap, &mut places);
+    if !heap.as_slice().starts_with(before.as_slice()) {
+        return Err(anyhow!("the heap has changed"));
+    }
+    let Some((rest, place)) = put else {
+        return Ok(String::from_str(alloc, "none")?);
+    };
+    let placed = placed(alloc, heap.as_slice(), place, places.as_slice())?;
+    let rest = hex::encode(alloc, rest)?;
+    Ok(format!(in alloc; "{placed}\t{rest}")?)
+}
+
+/// The heap behind which a JSON value is written, its type's code and its address.
+fn json_value(alloc: Global, before: &str, json: &str) -> Result<String> {
+    let mut heap = words::bytes(alloc, before)?;
+    let mut places = OPEN.to_vec(alloc)?;
+    let mut scratch = Scratch::new(alloc);
+    let Some(json) = read_borrowed(alloc, json, &mut scratch) else {
+        return Ok(String::from_str(alloc, "none")?);
+    };
+    if heap.len() > 4_294_967_295 {
+        return Err(anyhow!("a heap is too long"));
+    }
+    match put_json(&json, &mut heap, &mut places) {
+        Some(place) => placed(alloc, heap.as_slice(), place, places.as_slice()),
+        None => Err(anyhow!("the value was not written")),
+    }
+}
+
+/// A heap, and the place of a value in it. The places of open lists have to be as they were.
+fn placed(alloc: Global, heap: &[u8], place: Place, places: &[u8]) -> Result<String> {
+    if places != OPEN {
+        return Err(anyhow!("the places of open lists have changed"));
+    }
+    let heap = hex::encode(alloc, heap)?;
+    let code = place.value_type.to_code();
+    let address = place.address;
+    Ok(format!(in alloc; "{heap}\t{code}:{address}")?)
+}
+
+/// The type of a value without children in a heap, and how many bytes it takes there.
+fn leaf(alloc: Global, word: &str) -> Result<String> {
+    let value = values::typed(alloc, word)?;
+    let leaf = (&value).as_leaf().context("a value without children")?;
+    let value_type = ValueType::from(&leaf);
+    let length = leaf_len(&leaf).context("a length")?;
+    Ok(format!(in alloc; "{value_type:?} {length}")?)
+}
+
+/// A type, its code, and the byte that is written of it.
+fn value_type(alloc: Global, value_type: ValueType) -> Result<String> {
+    let code = value_type.to_code();
+    if ValueType::from_code(code) != Some(value_type) {
+        return Err(anyhow!("the code {code} has another type"));
+    }
+    let mut sink = VecSink::new(alloc);
+    value_type.serialize(&mut sink).ok().context("a write")?;
+    let byte = hex::encode(alloc, sink.as_slice())?;
+    Ok(format!(in alloc; "{value_type:?} {code} {byte}")?)
+}

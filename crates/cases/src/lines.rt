@@ -1,0 +1,142 @@
+//! Lines of JSON that are answered, and sources and sinks that fail.
+
+ghost use Rattle.std.specs.Prelude.{Some};
+ghost use Rattle.std.specs.declared.io.ErrorKind.TheVariants.{Interrupted};
+ghost use Rattle.tantivy_schema.specs.Source.{AllBytes};
+
+use crate::words;
+use anyhow::{Context, Result, anyhow};
+use std::alloc::Global;
+use std::io;
+use tantivy_schema::common::{ByteSink, ByteSource, SliceSource, VecSink};
+use tantivy_schema::{RunEnd, run};
+
+/// How a run over an input ends, and what it has written.
+pub fn answer(alloc: Global, call: &[&str]) -> Result<String> {
+    let [source, room, input] = call else {
+        return Err(anyhow!("an unknown call about lines"));
+    };
+    let input = bytes(alloc, input)?;
+    let (source, place) = words::parted(source);
+    if source == "whole" {
+        return ran(alloc, &mut SliceSource::new(input.as_slice()), room);
+    }
+    let place: usize = words::number(place.strip_suffix(" Interrupted").context("a failure")?)?;
+    let mut source = FailingSource {
+        rest: input.as_slice(),
+        left: input
+            .len()
+            .checked_sub(place)
+            .context("a place in the input")?,
+        faults: 0,
+    };
+    let text = ran(alloc, &mut source, room)?;
+    if source.faults != 1 {
+        return Err(anyhow!("{} reads failed", source.faults));
+    }
+    Ok(text)
+}
+
+/// The bytes of a JSON string, or of hexadecimal digits.
+fn bytes(alloc: Global, word: &str) -> Result<Vec<u8>> {
+    if word.starts_with('"') {
+        return Ok(words::text(alloc, word)?.as_bytes().to_vec(alloc)?);
+    }
+    words::bytes(alloc, word)
+}
+
+/// The run over a source, into a sink that has room for all bytes or for so many.
+fn ran<S: ByteSource>(alloc: Global, source: &mut S, room: &str) -> Result<String> {
+    let mut held = VecSink::new(alloc);
+    if room == "all" {
+        let end = run(alloc, source, &mut held);
+        return ended(alloc, end, held.as_slice());
+    }
+    let mut sink = SmallSink {
+        held,
+        room: words::number(room)?,
+        faults: 0,
+        last: None,
+    };
+    let end = run(alloc, source, &mut sink);
+    if sink.faults != 1 {
+        return Err(anyhow!("{} writes failed", sink.faults));
+    }
+    ended(alloc, end, sink.held.as_slice())
+}
+
+/// How a run has ended, and what it has written.
+fn ended(alloc: Global, end: RunEnd, output: &[u8]) -> Result<String> {
+    let output = str::from_utf8(output).ok().context("a text")?;
+    let output = words::quoted(alloc, output)?;
+    Ok(format!(in alloc; "{end:?} {output}")?)
+}
+
+/// A source that gives one byte at a time, and fails where so many bytes are left.
+#[derive(Drop)]
+struct FailingSource<'a> {
+    rest: &'a [u8],
+    left: usize,
+    faults: u64,
+    ghost are_bytes: { AllBytes rest.now },
+}
+
+impl<'a> ByteSource for FailingSource<'a> {
+    ghost tells = { λ _. Unit {0} };
+
+    ghost left = { λ s. s.rest.now };
+
+    ghost faults = { λ s. record { number = s.faults; last = Some Interrupted } };
+
+    fn read(&mut self, buf: &mut [u8]) -> Result<usize, io::ErrorKind> {
+        if self.rest.len() == self.left {
+            self.faults = self.faults.saturating_add(1);
+            return Err(io::ErrorKind::Interrupted);
+        }
+        let count = self.rest.len().min(buf.len()).min(1);
+        buf[..count].copy_from_slice(&self.rest[..count]);
+        self.rest = &self.rest[count..];
+        Ok(count)
+    }
+
+    ghost are_bytes = { λ s told. s.are_bytes };
+}
+
+/// A sink that takes one byte at a time, and fails where it has no room left.
+#[derive(Drop)]
+struct SmallSink {
+    held: VecSink,
+    room: usize,
+    faults: u64,
+    last: Option<io::ErrorKind>,
+}
+
+impl ByteSink for SmallSink {
+    ghost tells = { λ _. Unit {0} };
+
+    ghost held = { λ s. ⟦<VecSink as ByteSink>⟧.held s.held };
+
+    ghost faults = { λ s. record { number = s.faults; last = s.last } };
+
+    fn write(&mut self, buf: &[u8]) -> Result<usize, io::ErrorKind> {
+        if buf.is_empty() {
+            return Ok(0);
+        }
+        if self.room == 0 {
+            self.faults = self.faults.saturating_add(1);
+            self.last = Some(io::ErrorKind::StorageFull);
+            return Err(io::ErrorKind::StorageFull);
+        }
+        match self.held.write(&buf[..1]) {
+            Ok(count) => {
+                self.room -= 1;
+                Ok(count)
+            }
+            Err(kind) => {
+                self.faults = self.faults.saturating_add(1);
+                self.last = Some(kind);
+                Err(kind)
+            }
+        }
+    }
+}

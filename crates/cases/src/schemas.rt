@@ -1,0 +1,246 @@
+//! Schemas: their JSON, their fields, and the fields that paths name.
+
+use crate::words;
+use anyhow::{Context, Result, anyhow};
+use serde_json::Value;
+use std::alloc::Global;
+use tantivy_schema::laws::{printed_schema_is_read_back, record_options_agree};
+use tantivy_schema::schema::{
+    Field, FieldEntry, FieldType, Schema, SchemaBuilder, SchemaError, TEXT, is_valid_field_name,
+};
+
+/// The schema that the word `types` stands for: a field of each type, and some that coerce.
+const TYPES: &str =
+    r#"[{"name":"s","type":"text","options":{"stored":true}},{"name":"sc","type":"text","options":{"stored":true,"coerce":true}},{"name":"u","type":"u64","options":{"indexed":false,"stored":true}},{"name":"uc","type":"u64","options":{"indexed":false,"stored":true,"coerce":true}},{"name":"i","type":"i64","options":{"indexed":false,"stored":true}},{"name":"ic","type":"i64","options":{"indexed":false,"stored":true,"coerce":true}},{"name":"b","type":"bool","options":{"indexed":false,"stored":true}},{"name":"bc","type":"bool","options":{"indexed":false,"stored":true,"coerce":true}},{"name":"d","type":"date","options":{"indexed":false,"fieldnorms":false,"stored":true}},{"name":"f","type":"facet","options":{"stored":true}},{"name":"y","type":"bytes","options":{"indexed":false,"fast":false,"stored":true}},{"name":"j","type":"json_object","options":{"stored":true,"fast":false}},{"name":"p","type":"ip_addr","options":{"indexed":false,"fieldnorms":false,"fast":false,"stored":true}},{"name":"n","type":"u64","options":{"indexed":true,"stored":false}}]"#;
+
+/// What a call about schemas returns.
+pub fn answer(alloc: Global, call: &[&str]) -> Result<String> {
+    match call {
+        ["json", description] => described(alloc, description),
+        ["fields", description] => fields(alloc, &schema(alloc, description)?),
+        ["field", description, name] => field(alloc, &schema(alloc, description)?, name),
+        ["find", description, path] => find(alloc, &schema(alloc, description)?, path, None),
+        ["find", description, path, default] => {
+            let default = words::field(default)?;
+            find(alloc, &schema(alloc, description)?, path, Some(default))
+        }
+        ["add", names @ ..] => add(alloc, names),
+        ["name", name] => name_answer(alloc, name),
+        ["equal", one, other] => equal(alloc, &schema(alloc, one)?, &schema(alloc, other)?),
+        _ => Err(anyhow!("an unknown call about schemas")),
+    }
+}
+
+/// The schema of a JSON description. A list of names stands for fields of texts with these names, and the word `types` for a field of
+/// each type.
+pub fn schema(alloc: Global, word: &str) -> Result<Schema> {
+    let description = if word == "types" { TYPES } else { word };
+    let json = Value::from_str(alloc, description)?;
+    if description.starts_with("[\"") {
+        return schema_of_texts(alloc, &json);
+    }
+    Ok(Schema::from_json_value(alloc, &json)?)
+}
+
+/// The schema of fields of texts with these names.
+fn schema_of_texts(alloc: Global, names: &Value) -> Result<Schema> {
+    let mut builder = Schema::builder(alloc);
+    for name in names.as_array().context("a list of names")? {
+        builder.add_text_field(name.as_str().context("a name")?, TEXT)?;
+    }
+    Ok(builder.build()?)
+}
+
+/// The JSON of the schema that a description describes, or the refusal. The schema that is read from this JSON has to be the same, and so
+/// has the one whose fields are added by the calls of their types.
+fn described(alloc: Global, word: &str) -> Result<String> {
+    let description = if word == "types" { TYPES } else { word };
+    let schema = match Schema::from_json_value(alloc, &Value::from_str(alloc, description)?) {
+        Ok(schema) => schema,
+        Err(error) => return Ok(format!(in alloc; "error {error:?}")?),
+    };
+    if printed_schema_is_read_back(alloc, &schema)? != schema {
+        return Err(anyhow!("another schema is read back"));
+    }
+    if added_again(alloc, &schema)? != schema {
+        return Err(anyhow!("another schema is added field by field"));
+    }
+    printed(alloc, &schema)
+}
+
+/// The JSON of a schema.
+fn printed(alloc: Global, schema: &Schema) -> Result<String> {
+    Ok(schema.to_json_value(alloc)?.to_string(alloc)?)
+}
+
+/// The schema whose fields are added by the calls of their types.
+fn added_again(alloc: Global, schema: &Schema) -> Result<Schema> {
+    let mut builder = Schema::builder(alloc);
+    for (_, entry) in schema.fields() {
+        let copy = entry.try_clone(alloc)?;
+        add_field(
+            &mut builder,
+            entry.name(),
+            entry.field_type().try_clone(alloc)?,
+        )?;
+        let name = String::from_str(alloc, entry.name())?;
+        if copy != *entry || new_entry(name, entry.field_type().try_clone(alloc)?)? != *entry {
+            return Err(anyhow!("another entry is made"));
+        }
+    }
+    Ok(builder.build()?)
+}
+
+/// Adds a field by the call of its type.
+fn add_field(
+    builder: &mut SchemaBuilder,
+    name: &str,
+    field_type: FieldType,
+) -> Result<Field, SchemaError> {
+    match field_type {
+        FieldType::Str(options) => builder.add_text_field(name, options),
+        FieldType::U64(options) => builder.add_u64_field(name, options),
+        FieldType::I64(options) => builder.add_i64_field(name, options),
+        FieldType::Bool(options) => builder.add_bool_field(name, options),
+        FieldType::Date(options) => builder.add_date_field(name, options),
+        FieldType::Facet(options) => builder.add_facet_field(name, options),
+        FieldType::Bytes(options) => builder.add_bytes_field(name, options),
+        FieldType::JsonObject(options) => builder.add_json_field(name, options),
+        FieldType::IpAddr(options) => builder.add_ip_addr_field(name, options),
+    }
+}
+
+/// An entry, made by the call of its type.
+fn new_entry(name: String, field_type: FieldType) -> Result<FieldEntry, SchemaError> {
+    match field_type {
+        FieldType::Str(options) => FieldEntry::new_text(name, options),
+        FieldType::U64(options) => FieldEntry::new_u64(name, options),
+        FieldType::I64(options) => FieldEntry::new_i64(name, options),
+        FieldType::Bool(options) => FieldEntry::new_bool(name, options),
+        FieldType::Date(options) => FieldEntry::new_date(name, options),
+        FieldType::Facet(options) => FieldEntry::new_facet(name, options),
+        FieldType::Bytes(options) => FieldEntry::new_bytes(name, options),
+        FieldType::JsonObject(options) => FieldEntry::new_json(name, options),
+        FieldType::IpAddr(options) => FieldEntry::new_ip_addr(name, options),
+    }
+}
+
+/// The number, the name and the type of each field, and which of the queries hold of it.
+fn fields(alloc: Global, schema: &Schema) -> Result<String> {
+    let mut text = format!(in alloc; "{}", schema.num_fields())?;
+    for (field, entry) in schema.fields() {
+        let number = field.field_id();
+        let value_type = entry.field_type().value_type();
+        let name = words::quoted(alloc, entry.name())?;
+        text.push_str(format!(in alloc; "\t{number} {name} {value_type:?}")?.as_str())?;
+        for (holds, query) in queries(entry) {
+            if holds {
+                text.push_str(query)?;
+            }
+        }
+        let (record, same_record) = record_options_agree(entry.field_type());
+        if let Some(kept) = record {
+            text.push_str(format!(in alloc; " record {kept:?}")?.as_str())?;
+        }
+        if record != same_record || !is_found(schema, field, entry) {
+            return Err(anyhow!("calls about the field {number} disagree"));
+        }
+    }
+    Ok(text)
+}
+
+/// Which queries hold of an entry.
+fn queries(entry: &FieldEntry) -> [(bool, &'static str); 10] {
+    let field_type = entry.field_type();
+    [
+        (field_type.is_str(), " is_str"),
+        (field_type.is_json(), " is_json"),
+        (field_type.is_date(), " is_date"),
+        (field_type.is_bytes(), " is_bytes"),
+        (field_type.is_ip_addr(), " is_ip_addr"),
+        (entry.is_stored(), " stored"),
+        (entry.is_indexed(), " indexed"),
+        (entry.has_fieldnorms(), " fieldnorms"),
+        (entry.is_fast(), " fast"),
+        (entry.is_expand_dots_enabled(), " expand_dots"),
+    ]
+}
+
+/// Whether the schema has the field by its number, and by its name.
+fn is_found(schema: &Schema, field: Field, entry: &FieldEntry) -> bool {
+    schema.has_field(field)
+        && schema.get_field(entry.name()) == Ok(field)
+        && schema.get_field_name(field) == entry.name()
+        && *schema.get_field_entry(field) == *entry
+}
+
+/// The number of the field with a name, or the name of the field with a number.
+fn field(alloc: Global, schema: &Schema, word: &str) -> Result<String> {
+    if word.starts_with('"') {
+        let name = words::text(alloc, word)?;
+        return Ok(match schema.get_field(name.as_str()) {
+            Ok(field) => format!(in alloc; "{}", field.field_id())?,
+            Err(error) => format!(in alloc; "error {error:?}")?,
+        });
+    }
+    let field = words::field(word)?;
+    if !schema.has_field(field) {
+        return Ok(String::from_str(alloc, "none")?);
+    }
+    words::quoted(alloc, schema.get_field_name(field))
+}
+
+/// The number of the field that a path names, and the rest of the path.
+fn find(alloc: Global, schema: &Schema, path: &str, default: Option<Field>) -> Result<String> {
+    let path = words::text(alloc, path)?;
+    let found = match default {
+        None => schema.find_field(path.as_str()),
+        Some(field) if schema.has_field(field) => {
+            schema.find_field_with_default(path.as_str(), Some(field))
+        }
+        Some(_) => return Err(anyhow!("an unknown default field")),
+    };
+    let Some((field, rest)) = found else {
+        return Ok(String::from_str(alloc, "none")?);
+    };
+    let number = field.field_id();
+    let rest = words::quoted(alloc, rest)?;
+    Ok(format!(in alloc; "{number} {rest}")?)
+}
+
+/// The numbers or the refusals of fields of texts that are added, and the JSON of the schema that they make.
+fn add(alloc: Global, names: &[&str]) -> Result<String> {
+    let mut builder = Schema::builder(alloc);
+    let mut text = String::new(alloc);
+    for name in names {
+        let name = words::text(alloc, name)?;
+        let answer = match builder.add_text_field(name.as_str(), TEXT) {
+            Ok(field) => format!(in alloc; "{}\t", field.field_id())?,
+            Err(error) => format!(in alloc; "error {error:?}\t")?,
+        };
+        text.push_str(answer.as_str())?;
+    }
+    if format!(in alloc; "{builder:?}")?.is_empty() {
+        return Err(anyhow!("nothing is printed of a builder"));
+    }
+    text.push_str(printed(alloc, &builder.build()?)?.as_str())?;
+    Ok(text)
+}
+
+/// Whether a name is valid, and the refusal of an entry of this name.
+fn name_answer(alloc: Global, word: &str) -> Result<String> {
+    let name = words::text(alloc, word)?;
+    let is_valid = is_valid_field_name(name.as_str());
+    Ok(match FieldEntry::new_text(name, TEXT) {
+        Ok(_) => format!(in alloc; "{is_valid}")?,
+        Err(error) => format!(in alloc; "{is_valid}\terror {error:?}")?,
+    })
+}
+
+/// Whether two schemas are equal. A copy has to be equal.
+fn equal(alloc: Global, one: &Schema, other: &Schema) -> Result<String> {
+    if one.clone()? != *one {
+        return Err(anyhow!("a copy is not equal"));
+    }
+    Ok(format!(in alloc; "{}", *one == *other)?)
+}
