@@ -2,7 +2,14 @@
 //! says what the call returns. The answers are compared with those that the format, the standards and the original give.
 #![tactic(auto)]
 
+mod dates;
+mod facets;
+mod numbers;
+mod options;
+mod paths;
 mod terms;
+mod tokens;
+mod values;
 mod words;
 
 use anyhow::{Result, anyhow};
@@ -27,6 +34,14 @@ fn main(rt: HostRuntime) -> Result<()> {
 fn answer(alloc: Global, line: &str) -> Result<String> {
     let words: Vec<&str> = line.split('\t').collect(alloc)?;
     match words.as_slice() {
+        ["number", call @ ..] => numbers::answer(alloc, call),
+        ["facet", call @ ..] => facets::answer(alloc, call),
+        ["path", call @ ..] => paths::answer(alloc, call),
+        ["date", call @ ..] => dates::answer(alloc, call),
+        ["option", call @ ..] => options::answer(alloc, call),
+        ["type", call @ ..] => options::answer_types(alloc, call),
+        ["tokens", call @ ..] => tokens::answer(alloc, call),
+        ["value", call @ ..] => values::answer(alloc, call),
         ["term", call @ ..] => terms::answer(alloc, call),
         _ => Err(anyhow!("an unknown line: {line}")),
     }
