@@ -48,7 +48,10 @@ fn printed(alloc: Global, date: DateTime) -> Result<String> {
     let text = date.write_rfc3339(alloc)?;
     let mut behind = String::from_str(alloc, "on ")?;
     date.push_rfc3339(&mut behind)?;
-    ensure!(behind.as_str().strip_prefix("on ") == Some(text.as_str()), "two texts: {behind}");
+    ensure!(
+        behind.as_str().strip_prefix("on ") == Some(text.as_str()),
+        "two texts: {behind}"
+    );
     words::quoted(alloc, text.as_str())
 }
 

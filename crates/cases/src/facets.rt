@@ -49,8 +49,14 @@ fn of_steps(alloc: Global, word: &str) -> Result<Facet> {
 /// The encoded text of a facet, the printed text, the steps, and whether it is the root.
 fn shown(alloc: Global, facet: &Facet) -> Result<String> {
     let printed = facet.to_path_string(alloc)?;
-    ensure!(is_printed(alloc, facet, printed.as_str())?, "printed otherwise: {printed}");
-    ensure!(is_kept(alloc, facet, printed.as_str())?, "read back otherwise: {printed}");
+    ensure!(
+        is_printed(alloc, facet, printed.as_str())?,
+        "printed otherwise: {printed}"
+    );
+    ensure!(
+        is_kept(alloc, facet, printed.as_str())?,
+        "read back otherwise: {printed}"
+    );
     let mut answer = words::quoted(alloc, facet.encoded_str())?;
     answer.push_str(" ")?;
     answer.push_str(words::quoted(alloc, printed.as_str())?.as_str())?;
@@ -67,9 +73,11 @@ fn is_printed(alloc: Global, facet: &Facet, printed: &str) -> Result<bool> {
     let mut encoded = String::new(alloc);
     Facet::print_encoded(facet.encoded_str(), &mut encoded)?;
     let debugged = format!(in alloc; "{facet:?}")?;
-    Ok(encoded.as_str() == printed
-        && format!(in alloc; "{facet}")?.as_str() == printed
-        && debugged.as_str() == format!(in alloc; "Facet({printed})")?.as_str())
+    Ok(
+        encoded.as_str() == printed
+            && format!(in alloc; "{facet}")?.as_str() == printed
+            && debugged.as_str() == format!(in alloc; "Facet({printed})")?.as_str(),
+    )
 }
 
 /// Whether the facet is read again from what is printed and from what is written, and a copy is equal and has the same hash.
@@ -80,8 +88,10 @@ fn is_kept(alloc: Global, facet: &Facet, printed: &str) -> Result<bool> {
     }
     let read = Facet::deserialize(alloc, &mut SliceSource::new(sink.as_slice()))?;
     let copy = facet.try_clone(alloc)?;
-    Ok(Facet::from_text(alloc, printed)? == *facet
-        && read == *facet
-        && copy == *facet
-        && words::hash(&copy) == words::hash(facet))
+    Ok(
+        Facet::from_text(alloc, printed)? == *facet
+            && read == *facet
+            && copy == *facet
+            && words::hash(&copy) == words::hash(facet),
+    )
 }

@@ -101,7 +101,10 @@ fn read_all<S: ByteSource>(alloc: Global, source: &mut S, kinds: &str) -> Result
 /// What is read as a value of this kind.
 fn read_one<S: ByteSource>(alloc: Global, source: &mut S, kind: &str) -> Result<String> {
     match kind {
-        "vint" => shown(alloc, VInt::deserialize(alloc, source).map(|number| number.0)),
+        "vint" => shown(
+            alloc,
+            VInt::deserialize(alloc, source).map(|number| number.0),
+        ),
         "u8" => shown(alloc, u8::deserialize(alloc, source)),
         "u32" => shown(alloc, u32::deserialize(alloc, source)),
         "u64" => shown(alloc, u64::deserialize(alloc, source)),

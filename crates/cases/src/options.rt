@@ -173,7 +173,11 @@ fn changed_text(alloc: Global, options: TextOptions, step: &str) -> Result<TextO
 }
 
 /// The options of JSON objects, changed by one step. A name stands behind `=`.
-fn changed_json(alloc: Global, options: JsonObjectOptions, step: &str) -> Result<JsonObjectOptions> {
+fn changed_json(
+    alloc: Global,
+    options: JsonObjectOptions,
+    step: &str,
+) -> Result<JsonObjectOptions> {
     let (step, name) = step.split_once('=').unwrap_or((step, ""));
     match step {
         "dots" => Ok(options.set_expand_dots_enabled()),
@@ -198,14 +202,19 @@ fn named(name: &str) -> Option<&str> {
 /// Indexing by the tokenizer of this name, of documents and frequencies, without field norms.
 fn frequencies(alloc: Global, tokenizer_name: &str) -> Result<TextFieldIndexing> {
     let indexing = TextFieldIndexing::default().set_tokenizer(alloc, tokenizer_name)?;
-    Ok(indexing
-        .set_index_option(IndexRecordOption::WithFreqs)
-        .set_fieldnorms(false))
+    Ok(
+        indexing
+            .set_index_option(IndexRecordOption::WithFreqs)
+            .set_fieldnorms(false),
+    )
 }
 
 /// The options as JSON, and which queries of the field's type hold.
 fn shown(alloc: Global, field_type: FieldType) -> Result<String> {
-    ensure!(field_type.try_clone(alloc)? == field_type, "a copy is not equal");
+    ensure!(
+        field_type.try_clone(alloc)? == field_type,
+        "a copy is not equal"
+    );
     let mut queries = String::new(alloc);
     for (name, holds) in [
         ("stored", field_type.is_stored()),
@@ -218,7 +227,10 @@ fn shown(alloc: Global, field_type: FieldType) -> Result<String> {
     let mut builder = Schema::builder(alloc);
     builder.add_field(FieldEntry::new(String::from_str(alloc, "f")?, field_type)?)?;
     let schema = builder.build()?.to_json_value(alloc)?;
-    let mut answer = schema.pointer("/0/options").context("options")?.to_string(alloc)?;
+    let mut answer = schema
+        .pointer("/0/options")
+        .context("options")?
+        .to_string(alloc)?;
     write!(answer, "{queries}")?;
     Ok(answer)
 }

@@ -19,7 +19,10 @@ pub fn answer(alloc: Global, call: &[&str]) -> Result<String> {
         }
         ["searched date", field, value] => {
             let (field, date) = (words::field(field)?, dates::date(value)?);
-            shown(alloc, &Term::from_field_date_for_search(alloc, field, date)?)
+            shown(
+                alloc,
+                &Term::from_field_date_for_search(alloc, field, date)?,
+            )
         }
         ["json", field, path, dots, kind, value] => {
             let mut term = json_term(alloc, field, path, dots)?;
@@ -92,7 +95,10 @@ fn append(alloc: Global, term: &mut Term, kind: &str, value: &str) -> Result<()>
 /// The bytes of a term, its field, and the value that is read back from a copy.
 fn shown(alloc: Global, term: &Term) -> Result<String> {
     let copy = term.try_clone(alloc)?;
-    ensure!(copy == *term && words::hash(&copy) == words::hash(term), "a copy is not equal");
+    ensure!(
+        copy == *term && words::hash(&copy) == words::hash(term),
+        "a copy is not equal"
+    );
     let mut answer = hex::encode(alloc, term.serialized_term())?;
     let field = term.field().field_id();
     let owned = term.value().to_owned(alloc)?;
@@ -103,7 +109,10 @@ fn shown(alloc: Global, term: &Term) -> Result<String> {
         write!(answer, " path {path}")?;
     }
     let value_bytes = words::digits(alloc, term.serialized_value_bytes())?;
-    ensure!(term.is_empty() == (value_bytes.as_str() == "nothing"), "value bytes {value_bytes}");
+    ensure!(
+        term.is_empty() == (value_bytes.as_str() == "nothing"),
+        "value bytes {value_bytes}"
+    );
     Ok(answer)
 }
 
@@ -189,8 +198,16 @@ fn edit(alloc: Global, term: &mut Term, step: &[&str]) -> Result<()> {
 /// The type of two fast values, their numbers, and how the values and the numbers compare.
 fn fast_values(alloc: Global, kind: &str, one: &str, other: &str) -> Result<String> {
     match kind {
-        "i64" => compared(alloc, words::number::<i64>(one)?, words::number::<i64>(other)?),
-        "u64" => compared(alloc, words::number::<u64>(one)?, words::number::<u64>(other)?),
+        "i64" => compared(
+            alloc,
+            words::number::<i64>(one)?,
+            words::number::<i64>(other)?,
+        ),
+        "u64" => compared(
+            alloc,
+            words::number::<u64>(one)?,
+            words::number::<u64>(other)?,
+        ),
         "bool" => compared(alloc, one == "true", other == "true"),
         "date" => compared(alloc, dates::date(one)?, dates::date(other)?),
         _ => Err(anyhow!("an unknown kind of fast value: {kind}")),
@@ -202,7 +219,10 @@ fn compared<T: FastValue>(alloc: Global, one: T, other: T) -> Result<String> {
     let value_type = fast_types_are_of_eight_bytes::<T>().name();
     let (number, same) = fast_values_are_read_back(one);
     let (other_number, other_same) = fast_values_are_read_back(other);
-    ensure!(same == one && other_same == other, "other values are read back");
+    ensure!(
+        same == one && other_same == other,
+        "other values are read back"
+    );
     let (values, numbers) = fast_values_are_ordered_as_numbers(one, other);
     Ok(format!(in alloc; "{value_type} {number} {other_number} {values:?} {numbers:?}")?)
 }

@@ -39,9 +39,15 @@ pub fn tokenized(alloc: Global, digits: &str) -> Result<PreTokenizedString> {
 /// How many bytes spell a text, how many tokens it has, whether it has none, and the text with its tokens.
 fn shown(alloc: Global, text: PreTokenizedStr<'_>, length: usize) -> Result<String> {
     let kept = text.to_owned_string(alloc)?;
-    ensure!(kept.try_clone(alloc)? == kept, "a copy of a text is not equal");
+    ensure!(
+        kept.try_clone(alloc)? == kept,
+        "a copy of a text is not equal"
+    );
     for token in kept.tokens.iter() {
-        ensure!(token.try_clone(alloc)? == *token, "a copy of a token is not equal");
+        ensure!(
+            token.try_clone(alloc)? == *token,
+            "a copy of a token is not equal"
+        );
     }
     let (count, is_empty) = (text.len(), text.is_empty());
     let mut answer = format!(in alloc; "{length} {count} {is_empty} ")?;
