@@ -17,9 +17,9 @@ pub fn answer(alloc: Global, call: &[&str]) -> Result<String> {
         ["truncate", precision, nanoseconds] => {
             let date = date(nanoseconds)?;
             let cut = date.truncate(precision_named(precision)?);
-            let order = date.cmp(&cut);
+            let order = words::compared(alloc, &date, &cut)?;
             let cut = cut.into_timestamp_nanos();
-            Ok(format!(in alloc; "{cut} {order:?}")?)
+            Ok(format!(in alloc; "{cut} {order}")?)
         }
         ["micros", microseconds] => {
             match DateTime::from_timestamp_micros(words::number(microseconds)?) {

@@ -27,8 +27,7 @@ pub fn answer(alloc: Global, call: &[&str]) -> Result<String> {
             Ok(format!(in alloc; "{is_prefix}")?)
         }
         ["compare", one, other] => {
-            let order = facet(alloc, one)?.cmp(&facet(alloc, other)?);
-            Ok(format!(in alloc; "{order:?}")?)
+            words::compared(alloc, &facet(alloc, one)?, &facet(alloc, other)?)
         }
         _ => Err(anyhow!("an unknown call about facets")),
     }

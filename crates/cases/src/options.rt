@@ -22,8 +22,8 @@ pub fn answer(alloc: Global, call: &[&str]) -> Result<String> {
         }
         ["record", one, other] => {
             let (one, other) = (record_named(one)?, record_named(other)?);
-            let (order, least) = (one.cmp(&other), one.downgrade(other));
-            Ok(format!(in alloc; "{order:?} {least:?}")?)
+            let (order, least) = (words::compared(alloc, &one, &other)?, one.downgrade(other));
+            Ok(format!(in alloc; "{order} {least:?}")?)
         }
         ["record"] => {
             let record = IndexRecordOption::default();
@@ -58,8 +58,7 @@ pub fn answer_types(alloc: Global, call: &[&str]) -> Result<String> {
             Ok(String::from_str(alloc, name)?)
         }
         ["compare", one, other] => {
-            let order = words::type_of(one)?.cmp(&words::type_of(other)?);
-            Ok(format!(in alloc; "{order:?}")?)
+            words::compared(alloc, &words::type_of(one)?, &words::type_of(other)?)
         }
         _ => Err(anyhow!("an unknown call about types")),
     }

@@ -40,9 +40,7 @@ pub fn answer(alloc: Global, call: &[&str]) -> Result<String> {
         },
         ["full path", schema, digits] => full_path(alloc, schema, &wrapped(alloc, digits)?),
         ["compare", one, other] => {
-            let (one, other) = (wrapped(alloc, one)?, wrapped(alloc, other)?);
-            let order = one.cmp(&other);
-            Ok(format!(in alloc; "{order:?}")?)
+            words::compared(alloc, &wrapped(alloc, one)?, &wrapped(alloc, other)?)
         }
         ["edit", start, steps @ ..] => edited(alloc, start, steps),
         ["fast", kind, one, other] => fast_values(alloc, kind, one, other),
@@ -94,10 +92,9 @@ fn append(alloc: Global, term: &mut Term, kind: &str, value: &str) -> Result<()>
 
 /// The bytes of a term, its field, and the value that is read back from a copy.
 fn shown(alloc: Global, term: &Term) -> Result<String> {
-    let copy = term.try_clone(alloc)?;
     ensure!(
-        copy == *term && words::hash(&copy) == words::hash(term),
-        "a copy is not equal"
+        is_consistent(alloc, term)?,
+        "a part or a copy of a term differs"
     );
     let mut answer = hex::encode(alloc, term.serialized_term())?;
     let field = term.field().field_id();
@@ -108,12 +105,22 @@ fn shown(alloc: Global, term: &Term) -> Result<String> {
         let path = words::quoted(alloc, path.as_str())?;
         write!(answer, " path {path}")?;
     }
-    let value_bytes = words::digits(alloc, term.serialized_value_bytes())?;
-    ensure!(
-        term.is_empty() == (value_bytes.as_str() == "nothing"),
-        "value bytes {value_bytes}"
-    );
     Ok(answer)
+}
+
+/// Whether the parts of a term are those of its bytes, and a copy is equal and has the same hash.
+fn is_consistent(alloc: Global, term: &Term) -> Result<bool> {
+    let (bytes, value_bytes) = (term.serialized_term(), term.serialized_value_bytes());
+    let copy = term.try_clone(alloc)?;
+    Ok(
+        bytes.get(4..) == Some(term.value().as_serialized())
+            && bytes.get(5..) == Some(value_bytes)
+            && value_bytes.len() == term.len_bytes()
+            && value_bytes.is_empty() == term.is_empty()
+            && term.typ() == term.value().typ()
+            && copy == *term
+            && words::hash(&copy) == words::hash(term),
+    )
 }
 
 /// The type of a value, and the name and the answer of each reader that has one.

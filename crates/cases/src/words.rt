@@ -1,7 +1,8 @@
 //! The words of a line. A text is a JSON string with its quotes, bytes are hexadecimal digits, and a number is decimal.
 
-use anyhow::{Context, Result};
+use anyhow::{Context, Result, ensure};
 use std::alloc::Global;
+use std::cmp::Ordering;
 use std::convert::AsStr;
 use std::fmt::{Debug, Display, Write};
 use std::hash::{DefaultHasher, Hash, Hasher};
@@ -97,6 +98,17 @@ pub fn push_flag(answer: &mut String, name: &str, holds: bool) -> Result<()> {
 pub fn type_of(code: &str) -> Result<Type> {
     let code = code.bytes().next().context("a code")?;
     Type::from_code(code).context("a type")
+}
+
+/// How two values compare. All comparisons of them agree.
+pub fn compared<T: Ord>(alloc: Global, one: &T, other: &T) -> Result<String> {
+    let order = one.cmp(other);
+    let (is_equal, is_less) = (order == Ordering::Equal, order == Ordering::Less);
+    ensure!(
+        (one == other) == is_equal && (one < other) == is_less,
+        "compared otherwise"
+    );
+    Ok(format!(in alloc; "{order:?}")?)
 }
 
 /// The hash of a value.
