@@ -89,9 +89,14 @@ fn unset(kind: &str) -> Result<FieldType> {
 }
 
 /// The type of fields with its options changed by one step: by a setter, or by `|` with what stands behind it or in front of it.
+/// The name of a tokenizer stands behind `=`.
 fn changed(alloc: Global, field_type: FieldType, step: &str) -> Result<FieldType> {
+    let (step, name) = match step.split_once('=') {
+        Some((step, name)) => (step, Some(name)),
+        None => (step, None),
+    };
     Ok(match field_type {
-        FieldType::Str(options) => FieldType::Str(changed_text(alloc, options, step)?),
+        FieldType::Str(options) => FieldType::Str(changed_text(alloc, options, step, name)?),
         FieldType::U64(options) => FieldType::U64(changed_number(options, step)?),
         FieldType::Date(options) => FieldType::Date(match step {
             "fieldnorm" => options.set_fieldnorm(),
@@ -112,7 +117,7 @@ fn changed(alloc: Global, field_type: FieldType, step: &str) -> Result<FieldType
             _ => return Err(anyhow!("an unknown step: {step}")),
         }),
         FieldType::JsonObject(options) => {
-            FieldType::JsonObject(changed_json(alloc, options, step)?)
+            FieldType::JsonObject(changed_json(alloc, options, step, name)?)
         }
         _ => return Err(anyhow!("a type whose options are those of u64")),
     })
@@ -152,36 +157,40 @@ fn changed_bytes(options: BytesOptions, step: &str) -> Result<BytesOptions> {
     }
 }
 
-/// The options of texts, changed by one step. A name stands behind `=`.
-fn changed_text(alloc: Global, options: TextOptions, step: &str) -> Result<TextOptions> {
-    let (step, name) = step.split_once('=').unwrap_or((step, ""));
+/// The options of texts, changed by one step, which may name a tokenizer.
+fn changed_text(
+    alloc: Global,
+    options: TextOptions,
+    step: &str,
+    tokenizer_name: Option<&str>,
+) -> Result<TextOptions> {
     match step {
         "default" => Ok(options),
         "stored" => Ok(options.set_stored()),
         "coerce" => Ok(options.set_coerce()),
-        "fast" => Ok(options.set_fast(alloc, named(name))?),
-        "frequencies" => Ok(options.set_indexing_options(frequencies(alloc, name)?)),
+        "fast" => Ok(options.set_fast(alloc, tokenizer_name)?),
+        "frequencies" => Ok(options.set_indexing_options(frequencies(alloc, tokenizer_name)?)),
         "|text" => Ok(options | TEXT),
         "|string" => Ok(options | STRING),
         "stored|" => Ok(STORED | options),
-        "|fast" => Ok(options | TextOptions::default().set_fast(alloc, named(name))?),
+        "|fast" => Ok(options | TextOptions::default().set_fast(alloc, tokenizer_name)?),
         "|stored+coerce" => Ok(options | (STORED | COERCE)),
         "|stored+coerce+fast" => Ok(options | (STORED | COERCE | FAST)),
         _ => Err(anyhow!("an unknown step: {step}")),
     }
 }
 
-/// The options of JSON objects, changed by one step. A name stands behind `=`.
+/// The options of JSON objects, changed by one step, which may name a tokenizer.
 fn changed_json(
     alloc: Global,
     options: JsonObjectOptions,
     step: &str,
+    tokenizer_name: Option<&str>,
 ) -> Result<JsonObjectOptions> {
-    let (step, name) = step.split_once('=').unwrap_or((step, ""));
     match step {
         "dots" => Ok(options.set_expand_dots_enabled()),
-        "fast" => Ok(options.set_fast(alloc, named(name))?),
-        "frequencies" => Ok(options.set_indexing_options(frequencies(alloc, name)?)),
+        "fast" => Ok(options.set_fast(alloc, tokenizer_name)?),
+        "frequencies" => Ok(options.set_indexing_options(frequencies(alloc, tokenizer_name)?)),
         "|text" => Ok(options | TEXT),
         "|string" => Ok(options | STRING),
         "|stored|text" => Ok(options | (STORED | TEXT)),
@@ -193,14 +202,10 @@ fn changed_json(
     }
 }
 
-/// The name, if it isn't empty.
-fn named(name: &str) -> Option<&str> {
-    if name.is_empty() { None } else { Some(name) }
-}
-
 /// Indexing by the tokenizer of this name, of documents and frequencies, without field norms.
-fn frequencies(alloc: Global, tokenizer_name: &str) -> Result<TextFieldIndexing> {
-    let indexing = TextFieldIndexing::default().set_tokenizer(alloc, tokenizer_name)?;
+fn frequencies(alloc: Global, tokenizer_name: Option<&str>) -> Result<TextFieldIndexing> {
+    let name = tokenizer_name.context("the name of a tokenizer")?;
+    let indexing = TextFieldIndexing::default().set_tokenizer(alloc, name)?;
     Ok(
         indexing
             .set_index_option(IndexRecordOption::WithFreqs)
