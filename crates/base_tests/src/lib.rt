@@ -1,4 +1,4 @@
-//! Tests of `tv_base` and `tv_io`, in a crate of their own, so that these are proved once.
+//! Tests of the lower crates that a row of the program of cases can't say, in a crate of their own, so that these are proved once.
 #![tactic(auto)]
 
 #[cfg(test)]

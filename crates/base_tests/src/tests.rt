@@ -1,5 +1,3 @@
 mod bytes;
-mod facets;
-mod json_paths;
-mod lending;
-mod streams;
+mod laws;
+mod owned_values;

@@ -1,11 +1,11 @@
 //! Documents that calls build: those of a tree builder, and additions.
 
 use crate::{documents, values, words};
-use anyhow::{Context, Result, anyhow};
+use anyhow::{Context, Result, anyhow, ensure};
 use serde_json::Value as JsonValue;
 use std::alloc::Global;
 use std::collections::BTreeMap;
-use std::fmt::Debug;
+use std::fmt::{Debug, Write};
 use tantivy_schema::schema::document::{
     AddError, BuildError, BytesKind, ReferenceValueLeaf, TreeBuilder,
 };
@@ -24,9 +24,7 @@ pub fn answer(alloc: Global, calls: &[&str]) -> Result<String> {
 pub fn document(alloc: Global, calls: &[&str]) -> Result<CompactDoc> {
     let mut answers = String::new(alloc);
     let document = made(alloc, calls, &mut answers)?;
-    if !answers.is_empty() {
-        return Err(anyhow!("a call was refused: {answers}"));
-    }
+    ensure!(answers.is_empty(), "a call was refused: {answers}");
     Ok(document)
 }
 
@@ -36,16 +34,16 @@ fn made(alloc: Global, calls: &[&str], answers: &mut String) -> Result<CompactDo
     for word in calls {
         let (call, content) = words::parted(word);
         match call {
-            "state" => answers.push_str(state(alloc, &builder)?.as_str())?,
+            "state" => push_state(answers, &builder)?,
             "add" => {
                 let mut document = builder.into_doc();
                 let outcome = add(alloc, &mut document, content)?;
                 builder = TreeBuilder::new(document);
-                note(alloc, answers, outcome)?;
+                note(answers, outcome)?;
             }
             _ => {
                 let outcome = build(alloc, &mut builder, call, content)?;
-                note(alloc, answers, outcome)?;
+                note(answers, outcome)?;
             }
         }
     }
@@ -53,24 +51,24 @@ fn made(alloc: Global, calls: &[&str], answers: &mut String) -> Result<CompactDo
 }
 
 /// Puts the refusal of a call behind the answers.
-fn note<E: Debug + Drop>(
-    alloc: Global,
-    answers: &mut String,
-    outcome: Result<(), E>,
-) -> Result<()> {
+fn note<E: Debug + Drop>(answers: &mut String, outcome: Result<(), E>) -> Result<()> {
     if let Err(error) = outcome {
-        answers.push_str(format!(in alloc; "error {error:?}\t")?.as_str())?;
+        write!(answers, "error {error:?}\t")?;
     }
     Ok(())
 }
 
-/// The length of the heap, how many children and lists are open, and what is awaited.
-fn state(alloc: Global, builder: &TreeBuilder) -> Result<String> {
+/// Puts the length of the heap, how many children and lists are open, and what is awaited behind the answers.
+fn push_state(answers: &mut String, builder: &TreeBuilder) -> Result<()> {
     let length = builder.heap_len();
     let pending = builder.pending();
     let frames = builder.frames();
     let awaits = builder.awaits();
-    Ok(format!(in alloc; "heap {length} pending {pending} frames {frames} awaits {awaits:?}\t")?)
+    write!(
+        answers,
+        "heap {length} pending {pending} frames {frames} awaits {awaits:?}\t"
+    )?;
+    Ok(())
 }
 
 /// Makes a call on a tree builder.
@@ -88,20 +86,30 @@ fn build(
         "chunk" => builder.chunk(words::bytes(alloc, content)?.as_slice()),
         "end" => builder.end_bytes(),
         "finish" => builder.finish(words::field(content)?),
-        "tree" => builder.tree(&&values::typed(alloc, content)?),
+        "tree" => builder.tree(&&value(alloc, content)?),
         "leaf" => {
-            let value = values::typed(alloc, content)?;
+            let value = value(alloc, content)?;
             builder.leaf((&value).as_leaf().context("a value without children")?)
         }
         _ => return Err(anyhow!("an unknown call: {call}")),
     })
 }
 
+/// The value of a kind and what it holds, as `u64 1`, or of plain JSON.
+pub fn value(alloc: Global, word: &str) -> Result<OwnedValue> {
+    let (kind, content) = words::parted(word);
+    match kind {
+        "json" => Ok(OwnedValue::from_json(alloc, JsonValue::from_str(alloc, content)?)?),
+        "zeros" => Ok(OwnedValue::Bytes(vec![in alloc; 0; words::number(content)?]?)),
+        _ => values::leaf(alloc, kind, content),
+    }
+}
+
 /// Begins bytes of a kind and a length.
 fn begin(builder: &mut TreeBuilder, content: &str) -> Result<Result<(), BuildError>> {
     let (kind, length) = words::parted(content);
     let kind = match kind {
-        "text" => BytesKind::Str,
+        "str" => BytesKind::Str,
         "facet" => BytesKind::Facet,
         "bytes" => BytesKind::Bytes,
         "key" => BytesKind::Key,
@@ -123,7 +131,7 @@ fn add(alloc: Global, document: &mut CompactDoc, content: &str) -> Result<Result
         let json = JsonValue::from_str(alloc, json)?;
         return Ok(document.add_field_value(field, &LentJson::new(&json)));
     }
-    Ok(add_typed(document, field, values::typed(alloc, content)?))
+    Ok(add_typed(document, field, value(alloc, content)?))
 }
 
 /// Adds a value by the call of its type.

@@ -1,8 +1,9 @@
 //! Documents: from JSON, as JSON, by names, and compared.
 
-use crate::{builder, parts, schemas, values, words};
-use anyhow::{Context, Result, anyhow};
+use crate::{builder, json_values, parts, schemas, words};
+use anyhow::{Context, Result, anyhow, ensure};
 use std::alloc::Global;
+use std::fmt::Write;
 use tantivy_schema::laws::named_documents_are_converted_back;
 use tantivy_schema::schema::document::{
     DocParsingError, Document, ToJsonValue, Value, is_same, push_json, to_json_value,
@@ -48,7 +49,7 @@ pub fn shown(alloc: Global, document: &CompactDoc) -> Result<String> {
     for (place, (field, _)) in document.field_values().enumerate() {
         let number = field.field_id();
         let (code, address) = document.addr_of(place).context("a pair")?;
-        text.push_str(format!(in alloc; " {number}:{code}:{address}")?.as_str())?;
+        write!(text, " {number}:{code}:{address}")?;
     }
     Ok(text)
 }
@@ -69,9 +70,11 @@ fn parse(alloc: Global, schema: &Schema, json: &str) -> Result<String> {
     };
     let text = shown(alloc, &document)?;
     for cut in 0..parts::MOST_BYTES {
-        if shown(alloc, &parts::rebuilt(alloc, &document, cut)?)? != text {
-            return Err(anyhow!("another document comes part by part: {json}"));
-        }
+        let rebuilt = parts::rebuilt(alloc, &document, cut)?;
+        ensure!(
+            shown(alloc, &rebuilt)? == text,
+            "another document comes part by part: {json}"
+        );
     }
     Ok(text)
 }
@@ -85,7 +88,7 @@ fn refusal(alloc: Global, error: &DocParsingError) -> Result<String> {
         }
         DocParsingError::ValueError(name, error) => {
             let name = words::quoted(alloc, name.as_str())?;
-            let reason = values::refusal(alloc, error)?;
+            let reason = json_values::refusal(alloc, error)?;
             format!(in alloc; "error ValueError {name} {reason}")?
         }
         DocParsingError::Add(error) => format!(in alloc; "error Add {error:?}")?,
@@ -114,9 +117,10 @@ fn same(alloc: Global, calls: &[&str]) -> Result<String> {
     let one = builder::document(alloc, calls.get(..place).context("a document")?)?;
     let other = builder::document(alloc, calls.get(place + 1..).context("a document")?)?;
     let is_same = one.same_as(alloc, &other)?;
-    if other.same_as(alloc, &one)? != is_same {
-        return Err(anyhow!("the other way round the answer differs"));
-    }
+    ensure!(
+        other.same_as(alloc, &one)? == is_same,
+        "the other way round the answer differs"
+    );
     Ok(format!(in alloc; "{is_same}")?)
 }
 
@@ -127,9 +131,8 @@ fn copy(alloc: Global, mut document: CompactDoc) -> Result<String> {
     for ((_, one), (_, other)) in copy.field_values().zip(document.field_values()) {
         let owned = OwnedValue::from_value(alloc, &one)?;
         let other_owned = OwnedValue::from_value(alloc, &other)?;
-        if one != other || !is_same(&&owned, &&other_owned) {
-            return Err(anyhow!("a value of the copy differs"));
-        }
+        let is_equal = one == other && is_same(&&owned, &&other_owned);
+        ensure!(is_equal, "a value of the copy differs");
     }
     shown(alloc, &copy)
 }
@@ -157,7 +160,7 @@ fn sorted(alloc: Global, document: &CompactDoc) -> Result<String> {
     let groups = document.get_sorted_field_values(alloc)?;
     let mut text = format!(in alloc; "{}", groups.len())?;
     for (field, values) in groups {
-        text.push_str(format!(in alloc; "\tfield {}", field.field_id())?.as_str())?;
+        write!(text, "\tfield {}", field.field_id())?;
         for value in values {
             text.push_str("\t")?;
             text.push_str(typed(alloc, &value)?.as_str())?;
@@ -172,13 +175,14 @@ fn values(alloc: Global, document: &CompactDoc) -> Result<String> {
     for (field, value) in document.field_values() {
         let number = field.field_id();
         let typed = typed(alloc, &value)?;
-        text.push_str(format!(in alloc; "\t{number} {typed}\t")?.as_str())?;
+        write!(text, "\t{number} {typed}\t")?;
         push_json(alloc, &mut text, value)?;
         let json = OwnedValue::from_value(alloc, &value)?.to_json_value(alloc)?;
         let printed = format!(in alloc; "\t{}", json.to_string(alloc)?)?;
-        if to_json_value(alloc, value)? != json || !text.as_str().ends_with(printed.as_str()) {
-            return Err(anyhow!("the JSON values of a value differ"));
-        }
+        ensure!(
+            to_json_value(alloc, value)? == json && text.as_str().ends_with(printed.as_str()),
+            "the JSON values of a value differ"
+        );
     }
     Ok(text)
 }

@@ -1,7 +1,7 @@
 //! Values in a heap of bytes.
 
-use crate::{values, words};
-use anyhow::{Context, Result, anyhow};
+use crate::{builder, words};
+use anyhow::{Context, Result, anyhow, ensure};
 use std::alloc::Global;
 use tantivy_schema::common::{BinarySerializable, SliceSource, VecSink};
 use tantivy_schema::schema::Value;
@@ -30,7 +30,7 @@ pub fn answer(alloc: Global, call: &[&str]) -> Result<String> {
             let bytes = words::bytes(alloc, digits)?;
             match ValueType::deserialize(alloc, &mut SliceSource::new(bytes.as_slice())) {
                 Ok(read) => value_type(alloc, read),
-                Err(error) => Ok(format!(in alloc; "error {error:?}")?),
+                Err(error) => words::error(alloc, &error),
             }
         }
         _ => Err(anyhow!("an unknown call about heaps")),
@@ -46,9 +46,8 @@ fn spelled(alloc: Global, before: &str, levels: u32, bytes: &[u8]) -> Result<Str
         return Err(anyhow!("a heap is too long"));
     }
     let put = put_spelled(bytes, levels, &mut heap, &mut places);
-    if !heap.as_slice().starts_with(before.as_slice()) {
-        return Err(anyhow!("the heap has changed"));
-    }
+    let is_kept = heap.as_slice().starts_with(before.as_slice());
+    ensure!(is_kept, "the heap has changed");
     let Some((rest, place)) = put else {
         return Ok(String::from_str(alloc, "none")?);
     };
@@ -76,9 +75,7 @@ fn json_value(alloc: Global, before: &str, json: &str) -> Result<String> {
 
 /// A heap, and the place of a value in it. The places of open lists have to be as they were.
 fn placed(alloc: Global, heap: &[u8], place: Place, places: &[u8]) -> Result<String> {
-    if places != OPEN {
-        return Err(anyhow!("the places of open lists have changed"));
-    }
+    ensure!(places == OPEN, "the places of open lists have changed");
     let heap = hex::encode(alloc, heap)?;
     let code = place.value_type.to_code();
     let address = place.address;
@@ -87,7 +84,7 @@ fn placed(alloc: Global, heap: &[u8], place: Place, places: &[u8]) -> Result<Str
 
 /// The type of a value without children in a heap, and how many bytes it takes there.
 fn leaf(alloc: Global, word: &str) -> Result<String> {
-    let value = values::typed(alloc, word)?;
+    let value = builder::value(alloc, word)?;
     let leaf = (&value).as_leaf().context("a value without children")?;
     let value_type = ValueType::from(&leaf);
     let length = leaf_len(&leaf).context("a length")?;
@@ -97,9 +94,11 @@ fn leaf(alloc: Global, word: &str) -> Result<String> {
 /// A type, its code, and the byte that is written of it.
 fn value_type(alloc: Global, value_type: ValueType) -> Result<String> {
     let code = value_type.to_code();
-    if ValueType::from_code(code) != Some(value_type) {
-        return Err(anyhow!("the code {code} has another type"));
-    }
+    let of_code = ValueType::from_code(code);
+    ensure!(
+        of_code == Some(value_type),
+        "the code {code} has another type"
+    );
     let mut sink = VecSink::new(alloc);
     value_type.serialize(&mut sink).ok().context("a write")?;
     let byte = hex::encode(alloc, sink.as_slice())?;

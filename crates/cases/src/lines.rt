@@ -5,7 +5,7 @@ ghost use Rattle.std.specs.declared.io.ErrorKind.TheVariants.{Interrupted};
 ghost use Rattle.tantivy_schema.specs.Source.{AllBytes};
 
 use crate::words;
-use anyhow::{Context, Result, anyhow};
+use anyhow::{Context, Result, anyhow, ensure};
 use std::alloc::Global;
 use std::io;
 use tantivy_schema::common::{ByteSink, ByteSource, SliceSource, VecSink};
@@ -31,9 +31,7 @@ pub fn answer(alloc: Global, call: &[&str]) -> Result<String> {
         faults: 0,
     };
     let text = ran(alloc, &mut source, room)?;
-    if source.faults != 1 {
-        return Err(anyhow!("{} reads failed", source.faults));
-    }
+    ensure!(source.faults == 1, "one read fails");
     Ok(text)
 }
 
@@ -59,9 +57,7 @@ fn ran<S: ByteSource>(alloc: Global, source: &mut S, room: &str) -> Result<Strin
         last: None,
     };
     let end = run(alloc, source, &mut sink);
-    if sink.faults != 1 {
-        return Err(anyhow!("{} writes failed", sink.faults));
-    }
+    ensure!(sink.faults == 1, "one write fails");
     ended(alloc, end, sink.held.as_slice())
 }
 

@@ -3,12 +3,19 @@
 #![tactic(auto)]
 
 mod builder;
+mod dates;
 mod documents;
+mod facets;
 mod heap;
+mod json_values;
 mod lines;
+mod numbers;
+mod options;
 mod parts;
+mod paths;
 mod schemas;
 mod terms;
+mod tokens;
 mod values;
 mod words;
 
@@ -34,13 +41,21 @@ fn main(rt: HostRuntime) -> Result<()> {
 fn answer(alloc: Global, line: &str) -> Result<String> {
     let words: Vec<&str> = line.split('\t').collect(alloc)?;
     match words.as_slice() {
-        ["builder", call @ ..] => builder::answer(alloc, call),
+        ["number", call @ ..] => numbers::answer(alloc, call),
+        ["facet", call @ ..] => facets::answer(alloc, call),
+        ["path", call @ ..] => paths::answer(alloc, call),
+        ["date", call @ ..] => dates::answer(alloc, call),
+        ["option", call @ ..] => options::answer(alloc, call),
+        ["type", call @ ..] => options::answer_types(alloc, call),
+        ["tokens", call @ ..] => tokens::answer(alloc, call),
+        ["value", call @ ..] => values::answer(alloc, call),
+        ["term", call @ ..] => terms::answer(alloc, call),
+        ["schema", call @ ..] => schemas::answer(alloc, call),
+        ["json", call @ ..] => json_values::answer(alloc, call),
         ["document", call @ ..] => documents::answer(alloc, call),
+        ["builder", call @ ..] => builder::answer(alloc, call),
         ["heap", call @ ..] => heap::answer(alloc, call),
         ["lines", call @ ..] => lines::answer(alloc, call),
-        ["schema", call @ ..] => schemas::answer(alloc, call),
-        ["term", call @ ..] => terms::answer(alloc, call),
-        ["value", call @ ..] => values::answer(alloc, call),
         _ => Err(anyhow!("an unknown line: {line}")),
     }
 }

@@ -1,9 +1,10 @@
 //! Schemas: their JSON, their fields, and the fields that paths name.
 
 use crate::words;
-use anyhow::{Context, Result, anyhow};
+use anyhow::{Context, Result, anyhow, ensure};
 use serde_json::Value;
 use std::alloc::Global;
+use std::fmt::Write;
 use tantivy_schema::laws::{printed_schema_is_read_back, record_options_agree};
 use tantivy_schema::schema::{
     Field, FieldEntry, FieldType, Schema, SchemaBuilder, SchemaError, TEXT, is_valid_field_name,
@@ -57,14 +58,16 @@ fn described(alloc: Global, word: &str) -> Result<String> {
     let description = if word == "types" { TYPES } else { word };
     let schema = match Schema::from_json_value(alloc, &Value::from_str(alloc, description)?) {
         Ok(schema) => schema,
-        Err(error) => return Ok(format!(in alloc; "error {error:?}")?),
+        Err(error) => return words::error(alloc, &error),
     };
-    if printed_schema_is_read_back(alloc, &schema)? != schema {
-        return Err(anyhow!("another schema is read back"));
-    }
-    if added_again(alloc, &schema)? != schema {
-        return Err(anyhow!("another schema is added field by field"));
-    }
+    ensure!(
+        printed_schema_is_read_back(alloc, &schema)? == schema,
+        "another schema is read back"
+    );
+    ensure!(
+        added_again(alloc, &schema)? == schema,
+        "another schema is added field by field"
+    );
     printed(alloc, &schema)
 }
 
@@ -84,9 +87,8 @@ fn added_again(alloc: Global, schema: &Schema) -> Result<Schema> {
             entry.field_type().try_clone(alloc)?,
         )?;
         let name = String::from_str(alloc, entry.name())?;
-        if copy != *entry || new_entry(name, entry.field_type().try_clone(alloc)?)? != *entry {
-            return Err(anyhow!("another entry is made"));
-        }
+        let made = new_entry(name, entry.field_type().try_clone(alloc)?)?;
+        ensure!(copy == *entry && made == *entry, "another entry is made");
     }
     Ok(builder.build()?)
 }
@@ -125,45 +127,49 @@ fn new_entry(name: String, field_type: FieldType) -> Result<FieldEntry, SchemaEr
     }
 }
 
-/// The number, the name and the type of each field, and which of the queries hold of it.
+/// How many fields there are, and the number, the name, the type and the queries of each.
 fn fields(alloc: Global, schema: &Schema) -> Result<String> {
-    let mut text = format!(in alloc; "{}", schema.num_fields())?;
+    let mut answer = format!(in alloc; "{}", schema.num_fields())?;
     for (field, entry) in schema.fields() {
+        ensure!(
+            is_found(schema, field, entry),
+            "calls about a field disagree"
+        );
         let number = field.field_id();
         let value_type = entry.field_type().value_type();
         let name = words::quoted(alloc, entry.name())?;
-        text.push_str(format!(in alloc; "\t{number} {name} {value_type:?}")?.as_str())?;
-        for (holds, query) in queries(entry) {
-            if holds {
-                text.push_str(query)?;
-            }
-        }
-        let (record, same_record) = record_options_agree(entry.field_type());
-        if let Some(kept) = record {
-            text.push_str(format!(in alloc; " record {kept:?}")?.as_str())?;
-        }
-        if record != same_record || !is_found(schema, field, entry) {
-            return Err(anyhow!("calls about the field {number} disagree"));
-        }
+        write!(answer, "\t{number} {name} {value_type:?}")?;
+        push_kinds(&mut answer, entry.field_type())?;
+        push_queries(&mut answer, entry)?;
     }
-    Ok(text)
+    Ok(answer)
 }
 
-/// Which queries hold of an entry.
-fn queries(entry: &FieldEntry) -> [(bool, &'static str); 10] {
-    let field_type = entry.field_type();
-    [
-        (field_type.is_str(), " is_str"),
-        (field_type.is_json(), " is_json"),
-        (field_type.is_date(), " is_date"),
-        (field_type.is_bytes(), " is_bytes"),
-        (field_type.is_ip_addr(), " is_ip_addr"),
-        (entry.is_stored(), " stored"),
-        (entry.is_indexed(), " indexed"),
-        (entry.has_fieldnorms(), " fieldnorms"),
-        (entry.is_fast(), " fast"),
-        (entry.is_expand_dots_enabled(), " expand_dots"),
-    ]
+/// Appends the queries about a type that hold.
+fn push_kinds(answer: &mut String, field_type: &FieldType) -> Result<()> {
+    words::push_flag(answer, "is_str", field_type.is_str())?;
+    words::push_flag(answer, "is_json", field_type.is_json())?;
+    words::push_flag(answer, "is_date", field_type.is_date())?;
+    words::push_flag(answer, "is_bytes", field_type.is_bytes())?;
+    words::push_flag(answer, "is_ip_addr", field_type.is_ip_addr())
+}
+
+/// Appends the queries about an entry that hold, and what an index keeps of each term.
+fn push_queries(answer: &mut String, entry: &FieldEntry) -> Result<()> {
+    words::push_flag(answer, "stored", entry.is_stored())?;
+    words::push_flag(answer, "indexed", entry.is_indexed())?;
+    words::push_flag(answer, "fieldnorms", entry.has_fieldnorms())?;
+    words::push_flag(answer, "fast", entry.is_fast())?;
+    words::push_flag(answer, "expand_dots", entry.is_expand_dots_enabled())?;
+    let (record, same_record) = record_options_agree(entry.field_type());
+    ensure!(
+        record == same_record,
+        "calls about a record option disagree"
+    );
+    if let Some(kept) = record {
+        write!(answer, " record {kept:?}")?;
+    }
+    Ok(())
 }
 
 /// Whether the schema has the field by its number, and by its name.
@@ -180,7 +186,7 @@ fn field(alloc: Global, schema: &Schema, word: &str) -> Result<String> {
         let name = words::text(alloc, word)?;
         return Ok(match schema.get_field(name.as_str()) {
             Ok(field) => format!(in alloc; "{}", field.field_id())?,
-            Err(error) => format!(in alloc; "error {error:?}")?,
+            Err(error) => words::error(alloc, &error)?,
         });
     }
     let field = words::field(word)?;
@@ -220,9 +226,8 @@ fn add(alloc: Global, names: &[&str]) -> Result<String> {
         };
         text.push_str(answer.as_str())?;
     }
-    if format!(in alloc; "{builder:?}")?.is_empty() {
-        return Err(anyhow!("nothing is printed of a builder"));
-    }
+    let debug = format!(in alloc; "{builder:?}")?;
+    ensure!(!debug.is_empty(), "nothing is printed of a builder");
     text.push_str(printed(alloc, &builder.build()?)?.as_str())?;
     Ok(text)
 }
@@ -239,8 +244,6 @@ fn name_answer(alloc: Global, word: &str) -> Result<String> {
 
 /// Whether two schemas are equal. A copy has to be equal.
 fn equal(alloc: Global, one: &Schema, other: &Schema) -> Result<String> {
-    if one.clone()? != *one {
-        return Err(anyhow!("a copy is not equal"));
-    }
+    ensure!(one.clone()? == *one, "a copy is not equal");
     Ok(format!(in alloc; "{}", *one == *other)?)
 }

@@ -1,22 +1,235 @@
 //! Terms, and the values that are read back from them.
 
-use crate::words;
-use anyhow::{Result, anyhow};
+use crate::{dates, values, words};
+use anyhow::{Context, Result, anyhow, ensure};
 use std::alloc::Global;
-use tantivy_schema::schema::Term;
+use std::fmt::Write;
+use tantivy_schema::fastfield::FastValue;
+use tantivy_schema::laws::{
+    fast_types_are_of_eight_bytes, fast_values_are_ordered_as_numbers, fast_values_are_read_back,
+};
+use tantivy_schema::schema::{Field, OwnedValue, Schema, Term, ValueBytes};
 
 /// What a call about terms returns.
 pub fn answer(alloc: Global, call: &[&str]) -> Result<String> {
     match call {
-        ["u64", field, value] => {
-            let term = Term::from_field_u64(alloc, words::field(field)?, words::number(value)?)?;
-            Ok(hex::encode(alloc, term.serialized_term())?)
+        ["of", field, kind, value] => {
+            let value = values::leaf(alloc, kind, value)?;
+            shown(alloc, &term_of(alloc, words::field(field)?, &value)?)
         }
-        ["text", field, value] => {
-            let content = words::text(alloc, value)?;
-            let term = Term::from_field_text(alloc, words::field(field)?, content.as_str())?;
-            Ok(hex::encode(alloc, term.serialized_term())?)
+        ["searched date", field, value] => {
+            let (field, date) = (words::field(field)?, dates::date(value)?);
+            shown(
+                alloc,
+                &Term::from_field_date_for_search(alloc, field, date)?,
+            )
         }
+        ["json", field, path, dots, kind, value] => {
+            let mut term = json_term(alloc, field, path, dots)?;
+            append(alloc, &mut term, kind, value)?;
+            shown(alloc, &term)
+        }
+        ["json", field, path, dots] => shown(alloc, &json_term(alloc, field, path, dots)?),
+        ["wrap", digits] => match Term::wrap(alloc, &words::bytes(alloc, digits)?) {
+            Ok(term) => shown(alloc, &term),
+            Err(error) => words::error(alloc, &error),
+        },
+        ["value", digits] => match ValueBytes::wrap(&words::bytes(alloc, digits)?) {
+            Ok(value) => shown_value(alloc, &value),
+            Err(error) => words::error(alloc, &error),
+        },
+        ["full path", schema, digits] => full_path(alloc, schema, &wrapped(alloc, digits)?),
+        ["compare", one, other] => {
+            words::compared(alloc, &wrapped(alloc, one)?, &wrapped(alloc, other)?)
+        }
+        ["edit", start, steps @ ..] => edited(alloc, start, steps),
+        ["fast", kind, one, other] => fast_values(alloc, kind, one, other),
         _ => Err(anyhow!("an unknown call about terms")),
     }
+}
+
+/// The term of these bytes, and the fresh term where there is none.
+fn wrapped(alloc: Global, digits: &str) -> Result<Term> {
+    match digits {
+        "new" => Ok(Term::with_capacity(alloc, 8)?),
+        _ => Ok(Term::wrap(alloc, &words::bytes(alloc, digits)?)?),
+    }
+}
+
+/// The term of a field and a value.
+fn term_of(alloc: Global, field: Field, value: &OwnedValue) -> Result<Term> {
+    Ok(match value {
+        OwnedValue::Str(text) => Term::from_field_text(alloc, field, text.as_str())?,
+        OwnedValue::U64(number) => Term::from_field_u64(alloc, field, *number)?,
+        OwnedValue::I64(number) => Term::from_field_i64(alloc, field, *number)?,
+        OwnedValue::Bool(truth) => Term::from_field_bool(alloc, field, *truth)?,
+        OwnedValue::Date(date) => Term::from_field_date(alloc, field, *date)?,
+        OwnedValue::Facet(facet) => Term::from_facet(alloc, field, facet)?,
+        OwnedValue::Bytes(bytes) => Term::from_field_bytes(alloc, field, bytes)?,
+        OwnedValue::IpAddr(address) => Term::from_field_ip_addr(alloc, field, *address)?,
+        _ => return Err(anyhow!("a value that has no term")),
+    })
+}
+
+/// The term of a field and a path.
+fn json_term(alloc: Global, field: &str, path: &str, dots: &str) -> Result<Term> {
+    let (field, path) = (words::field(field)?, words::text(alloc, path)?);
+    Ok(Term::from_field_json_path(alloc, field, path.as_str(), dots == "expanded")?)
+}
+
+/// Appends a value of this kind to a term.
+fn append(alloc: Global, term: &mut Term, kind: &str, value: &str) -> Result<()> {
+    match kind {
+        "str" => term.append_type_and_str(words::text(alloc, value)?.as_str())?,
+        "u64" => term.append_type_and_fast_value(words::number::<u64>(value)?)?,
+        "i64" => term.append_type_and_fast_value(words::number::<i64>(value)?)?,
+        "bool" => term.append_type_and_fast_value(value == "true")?,
+        "date" => term.append_type_and_fast_value(dates::date(value)?)?,
+        _ => return Err(anyhow!("an unknown kind of value: {kind}")),
+    }
+    Ok(())
+}
+
+/// The bytes of a term, its field, and the value that is read back from a copy.
+fn shown(alloc: Global, term: &Term) -> Result<String> {
+    ensure!(
+        is_consistent(alloc, term)?,
+        "a part or a copy of a term differs"
+    );
+    let mut answer = hex::encode(alloc, term.serialized_term())?;
+    let field = term.field().field_id();
+    let owned = term.value().to_owned(alloc)?;
+    let value = shown_value(alloc, &owned.as_value_bytes())?;
+    write!(answer, " {field} {value}")?;
+    if let Some(path) = term.get_json_path(alloc)? {
+        let path = words::quoted(alloc, path.as_str())?;
+        write!(answer, " path {path}")?;
+    }
+    Ok(answer)
+}
+
+/// Whether the parts of a term are those of its bytes, and a copy is equal and has the same hash.
+fn is_consistent(alloc: Global, term: &Term) -> Result<bool> {
+    let (bytes, value_bytes) = (term.serialized_term(), term.serialized_value_bytes());
+    let copy = term.try_clone(alloc)?;
+    Ok(
+        bytes.get(4..) == Some(term.value().as_serialized())
+            && bytes.get(5..) == Some(value_bytes)
+            && value_bytes.len() == term.len_bytes()
+            && value_bytes.is_empty() == term.is_empty()
+            && term.typ() == term.value().typ()
+            && copy == *term
+            && words::hash(&copy) == words::hash(term),
+    )
+}
+
+/// The type of a value, and the name and the answer of each reader that has one.
+fn shown_value(alloc: Global, value: &ValueBytes<'_>) -> Result<String> {
+    let name = value.typ().map_or("none", |value_type| value_type.name());
+    let mut answer = String::from_str(alloc, name)?;
+    words::push_named(&mut answer, "u64", value.as_u64())?;
+    words::push_named(&mut answer, "i64", value.as_i64())?;
+    words::push_named(&mut answer, "bool", value.as_bool())?;
+    let date = value.as_date().map(|date| date.into_timestamp_nanos());
+    words::push_named(&mut answer, "date", date)?;
+    if let Some(text) = value.as_str() {
+        words::push_named(&mut answer, "str", Some(words::quoted(alloc, text)?))?;
+    }
+    push_others(alloc, &mut answer, value)?;
+    Ok(answer)
+}
+
+/// Appends the answers of the other readers.
+fn push_others(alloc: Global, answer: &mut String, value: &ValueBytes<'_>) -> Result<()> {
+    if let Some(bytes) = value.as_bytes() {
+        words::push_named(answer, "bytes", Some(words::digits(alloc, bytes)?))?;
+    }
+    if let Some(address) = value.as_ip_addr() {
+        let bits = address.to_bits();
+        words::push_named(answer, "ip", Some(format!(in alloc; "{bits:032x}")?))?;
+    }
+    if let Some(facet) = value.as_facet(alloc)? {
+        let encoded = words::quoted(alloc, facet.encoded_str())?;
+        words::push_named(answer, "facet", Some(encoded))?;
+    }
+    if let Some((path, rest)) = value.as_json() {
+        let (path, rest) = (words::digits(alloc, path)?, words::digits(alloc, rest)?);
+        words::push_named(answer, "json", Some(format!(in alloc; "{path} {rest}")?))?;
+    }
+    let path_type = value.json_path_type().map(|value_type| value_type.name());
+    words::push_named(answer, "of", path_type)
+}
+
+/// The name of a term's field in a schema, and the term's path.
+fn full_path(alloc: Global, schema: &str, term: &Term) -> Result<String> {
+    let json = serde_json::Value::from_str(alloc, schema)?;
+    let schema = Schema::from_json_value(alloc, &json)?;
+    ensure!(schema.has_field(term.field()), "a field of the schema");
+    words::quoted(alloc, term.get_full_path(alloc, &schema)?.as_str())
+}
+
+/// What is left of a term after these steps.
+fn edited(alloc: Global, start: &str, steps: &[&str]) -> Result<String> {
+    let mut term = wrapped(alloc, start)?;
+    for step in steps {
+        let step: Vec<&str> = step.split(' ').collect(alloc)?;
+        edit(alloc, &mut term, &step)?;
+    }
+    shown(alloc, &term)
+}
+
+/// Changes a term by one step.
+fn edit(alloc: Global, term: &mut Term, step: &[&str]) -> Result<()> {
+    match step {
+        ["field", field, code] => {
+            ensure!(term.is_empty(), "a term without value bytes");
+            term.set_field_and_type(words::field(field)?, words::type_of(code)?);
+        }
+        ["set", digits] => term.set_bytes(&words::bytes(alloc, digits)?)?,
+        ["append", digits] => term.append_bytes(&words::bytes(alloc, digits)?)?,
+        ["fill", start, byte] => {
+            let (start, byte) = (words::number(start)?, words::number(byte)?);
+            ensure!(start <= term.len_bytes(), "fewer value bytes");
+            for slot in term.value_bytes_mut(start) {
+                *slot = byte;
+            }
+        }
+        ["truncate", length] => term.truncate_value_bytes(words::number(length)?),
+        ["clear", code] => term.clear_with_type(words::type_of(code)?),
+        [kind, value] => append(alloc, term, kind, value)?,
+        _ => return Err(anyhow!("an unknown step")),
+    }
+    Ok(())
+}
+
+/// The type of two fast values, their numbers, and how the values and the numbers compare.
+fn fast_values(alloc: Global, kind: &str, one: &str, other: &str) -> Result<String> {
+    match kind {
+        "i64" => compared(
+            alloc,
+            words::number::<i64>(one)?,
+            words::number::<i64>(other)?,
+        ),
+        "u64" => compared(
+            alloc,
+            words::number::<u64>(one)?,
+            words::number::<u64>(other)?,
+        ),
+        "bool" => compared(alloc, one == "true", other == "true"),
+        "date" => compared(alloc, dates::date(one)?, dates::date(other)?),
+        _ => Err(anyhow!("an unknown kind of fast value: {kind}")),
+    }
+}
+
+/// The type of two fast values, their numbers, and how the values and the numbers compare.
+fn compared<T: FastValue>(alloc: Global, one: T, other: T) -> Result<String> {
+    let value_type = fast_types_are_of_eight_bytes::<T>().name();
+    let (number, same) = fast_values_are_read_back(one);
+    let (other_number, other_same) = fast_values_are_read_back(other);
+    ensure!(
+        same == one && other_same == other,
+        "other values are read back"
+    );
+    let (values, numbers) = fast_values_are_ordered_as_numbers(one, other);
+    Ok(format!(in alloc; "{value_type} {number} {other_number} {values:?} {numbers:?}")?)
 }

@@ -1,73 +1,82 @@
-//! Values of each type, and what a JSON value is to a field.
+//! Values of one kind: what each accessor returns, copies, and which values are equal.
 
-use crate::{schemas, words};
-use anyhow::{Context, Result, anyhow};
-use serde_json::Value as JsonValue;
+use crate::{dates, facets, tokens, words};
+use anyhow::{Context, Result, anyhow, ensure};
 use std::alloc::Global;
-use tantivy_schema::DateTime;
-use tantivy_schema::schema::{Facet, FieldType, OwnedValue, TextOptions, ValueParsingError};
+use std::net::Ipv6Addr;
+use tantivy_schema::schema::document::is_same;
+use tantivy_schema::schema::{OwnedValue, Value};
 
-/// What a JSON value is to the first field of a schema: the value with its type, or the refusal.
+/// What a call about values returns.
 pub fn answer(alloc: Global, call: &[&str]) -> Result<String> {
-    let [description, json] = call else {
-        return Err(anyhow!("an unknown call about values"));
-    };
-    let schema = schemas::schema(alloc, description)?;
-    let (_, entry) = schema.fields().next().context("a field")?;
-    let json = JsonValue::from_str(alloc, json)?;
-    match entry.field_type().value_from_json(alloc, json) {
-        Ok(value) => Ok(format!(in alloc; "{value:?}")?),
-        Err(error) => Ok(format!(in alloc; "error {}", refusal(alloc, &error)?.as_str())?),
+    match call {
+        ["read", kind, value] => shown(alloc, &leaf(alloc, kind, value)?),
+        ["same", kind, value, other_kind, other_value] => {
+            let one = leaf(alloc, kind, value)?;
+            let other = leaf(alloc, other_kind, other_value)?;
+            let (equal, same) = (one == other, is_same(&&one, &&other));
+            Ok(format!(in alloc; "{equal} {same}")?)
+        }
+        _ => Err(anyhow!("an unknown call about values")),
     }
 }
 
-/// The name of a refusal, and what it says.
-pub fn refusal(alloc: Global, error: &ValueParsingError) -> Result<String> {
-    Ok(match error {
-        ValueParsingError::OverflowError { expected, .. } => {
-            format!(in alloc; "OverflowError {expected:?}")?
-        }
-        ValueParsingError::TypeError { expected, .. } => {
-            format!(in alloc; "TypeError {expected:?}")?
-        }
-        ValueParsingError::ParseError { cause, .. } => format!(in alloc; "ParseError {cause:?}")?,
-        ValueParsingError::InvalidBase64 { base64 } => {
-            format!(in alloc; "InvalidBase64 {base64:?}")?
-        }
-        ValueParsingError::FloatNumber => String::from_str(alloc, "FloatNumber")?,
-        ValueParsingError::Memory => String::from_str(alloc, "Memory")?,
-    })
-}
-
-/// The value of a type and what it holds, as `u64 1` or `text "a"`.
-pub fn typed(alloc: Global, word: &str) -> Result<OwnedValue> {
-    let (kind, content) = words::parted(word);
+/// The value of this kind.
+pub fn leaf(alloc: Global, kind: &str, value: &str) -> Result<OwnedValue> {
     Ok(match kind {
         "null" => OwnedValue::Null,
-        "bool" => OwnedValue::Bool(content == "true"),
-        "u64" => OwnedValue::U64(words::number(content)?),
-        "i64" => OwnedValue::I64(words::number(content)?),
-        "date" => OwnedValue::Date(DateTime::from_timestamp_nanos(words::number(content)?)),
-        "ip" => OwnedValue::IpAddr(content.parse().ok().context("an address")?),
-        _ => return typed_text(alloc, kind, content),
+        "str" => OwnedValue::Str(words::text(alloc, value)?),
+        "tokens" => OwnedValue::PreTokStr(tokens::tokenized(alloc, value)?),
+        "u64" => OwnedValue::U64(words::number(value)?),
+        "i64" => OwnedValue::I64(words::number(value)?),
+        "bool" => OwnedValue::Bool(value == "true"),
+        "date" => OwnedValue::Date(dates::date(value)?),
+        "facet" => OwnedValue::Facet(facets::facet(alloc, value)?),
+        "bytes" => OwnedValue::Bytes(words::bytes(alloc, value)?),
+        "ip" => OwnedValue::IpAddr(address(value)?),
+        _ => return Err(anyhow!("an unknown kind of value: {kind}")),
     })
 }
 
-/// The value of a text, a facet, bytes, a text with its tokens, or plain JSON.
-fn typed_text(alloc: Global, kind: &str, content: &str) -> Result<OwnedValue> {
-    Ok(match kind {
-        "text" => OwnedValue::Str(words::text(alloc, content)?),
-        "facet" => {
-            let path = words::text(alloc, content)?;
-            OwnedValue::Facet(Facet::from_text(alloc, path.as_str())?)
-        }
-        "bytes" => OwnedValue::Bytes(words::bytes(alloc, content)?),
-        "zeros" => OwnedValue::Bytes(vec![in alloc; 0; words::number(content)?]?),
-        "tokens" => {
-            let json = JsonValue::from_str(alloc, content)?;
-            FieldType::Str(TextOptions::default()).value_from_json(alloc, json)?
-        }
-        "json" => OwnedValue::from_json(alloc, JsonValue::from_str(alloc, content)?)?,
-        _ => return Err(anyhow!("an unknown type of values: {kind}")),
-    })
+/// The address of 32 hexadecimal digits.
+fn address(digits: &str) -> Result<Ipv6Addr> {
+    let bits = u128::from_str_radix(digits, 16);
+    Ok(Ipv6Addr::from_bits(bits.ok().context("an address")?))
+}
+
+/// The name and the answer of each accessor that has one.
+fn shown(alloc: Global, value: &OwnedValue) -> Result<String> {
+    ensure!(is_copied(alloc, value)?, "a copy is not equal: {value:?}");
+    let mut answer = String::from_str(alloc, "is")?;
+    words::push_flag(&mut answer, "null", value.as_value().is_null())?;
+    words::push_named(&mut answer, "str", value.as_str())?;
+    words::push_named(&mut answer, "u64", value.as_u64())?;
+    words::push_named(&mut answer, "i64", value.as_i64())?;
+    words::push_named(&mut answer, "bool", value.as_bool())?;
+    let date = value.as_datetime().map(|date| date.into_timestamp_nanos());
+    words::push_named(&mut answer, "date", date)?;
+    words::push_named(&mut answer, "facet", value.as_facet())?;
+    push_others(alloc, &mut answer, value)?;
+    Ok(answer)
+}
+
+/// Appends the answers of the other accessors.
+fn push_others(alloc: Global, answer: &mut String, value: &OwnedValue) -> Result<()> {
+    if let Some(bytes) = value.as_bytes() {
+        words::push_named(answer, "bytes", Some(hex::encode(alloc, bytes)?))?;
+    }
+    if let Some(address) = value.as_ip_addr() {
+        let bits = address.to_bits();
+        words::push_named(answer, "ip", Some(format!(in alloc; "{bits:032x}")?))?;
+    }
+    let tokens = value.as_pre_tokenized_text().map(|text| text.text());
+    words::push_named(answer, "tokens", tokens)?;
+    words::push_flag(answer, "array", value.as_array().is_some())?;
+    words::push_flag(answer, "object", value.as_object().is_some())
+}
+
+/// Whether copies are equal to the value that they copy.
+fn is_copied(alloc: Global, value: &OwnedValue) -> Result<bool> {
+    let copy = OwnedValue::from_value(alloc, &value)?;
+    Ok(copy == *value && is_same(&&copy, &value) && value.try_clone(alloc)? == *value)
 }

@@ -1,9 +1,13 @@
 //! The words of a line. A text is a JSON string with its quotes, bytes are hexadecimal digits, and a number is decimal.
 
-use anyhow::{Context, Result};
+use anyhow::{Context, Result, ensure};
 use std::alloc::Global;
+use std::cmp::Ordering;
+use std::convert::AsStr;
+use std::fmt::{Debug, Display, Write};
+use std::hash::{DefaultHasher, Hash, Hasher};
 use std::str::FromStr;
-use tantivy_schema::schema::Field;
+use tantivy_schema::schema::{Field, Type};
 
 /// The text of a JSON string.
 pub fn text(alloc: Global, word: &str) -> Result<String> {
@@ -30,10 +34,88 @@ pub fn field(word: &str) -> Result<Field> {
     Ok(Field::from_field_id(number(word)?))
 }
 
-/// The JSON string of a text, with its quotes.
-pub fn quoted(alloc: Global, text: &str) -> Result<String> {
-    let json = serde_json::Value::String(String::from_str(alloc, text)?);
+/// The texts of a JSON array.
+pub fn texts(alloc: Global, word: &str) -> Result<Vec<String>> {
+    let json = serde_json::Value::from_str(alloc, word)?;
+    let mut texts = Vec::new(alloc);
+    for item in json.as_array().context("an array of texts")? {
+        let content = item.as_str().context("a text in quotes")?;
+        texts.push(String::from_str(alloc, content)?)?;
+    }
+    Ok(texts)
+}
+
+/// A text as a JSON string.
+pub fn quoted(alloc: Global, content: &str) -> Result<String> {
+    let json = serde_json::Value::String(String::from_str(alloc, content)?);
     Ok(json.to_string(alloc)?)
+}
+
+/// Texts as a JSON array.
+pub fn quoted_all<T: AsStr>(alloc: Global, texts: &[T]) -> Result<String> {
+    let mut items = Vec::new(alloc);
+    for content in texts {
+        let text = String::from_str(alloc, content.as_str())?;
+        items.push(serde_json::Value::String(text))?;
+    }
+    Ok(serde_json::Value::Array(items).to_string(alloc)?)
+}
+
+/// The hexadecimal digits of bytes, or `nothing` where there is no byte.
+pub fn digits(alloc: Global, bytes: &[u8]) -> Result<String> {
+    if bytes.is_empty() {
+        return Ok(String::from_str(alloc, "nothing")?);
+    }
+    Ok(hex::encode(alloc, bytes)?)
+}
+
+/// The answer of a call that failed.
+pub fn error(alloc: Global, error: &impl Debug) -> Result<String> {
+    Ok(format!(in alloc; "error {error:?}")?)
+}
+
+/// Appends a name and a value, if there is one.
+pub fn push_named<T: Display + Drop>(
+    answer: &mut String,
+    name: &str,
+    value: Option<T>,
+) -> Result<()> {
+    if let Some(value) = value {
+        write!(answer, " {name} {value}")?;
+    }
+    Ok(())
+}
+
+/// Appends a name, if it holds.
+pub fn push_flag(answer: &mut String, name: &str, holds: bool) -> Result<()> {
+    if holds {
+        write!(answer, " {name}")?;
+    }
+    Ok(())
+}
+
+/// The type of a code, which is a letter.
+pub fn type_of(code: &str) -> Result<Type> {
+    let code = code.bytes().next().context("a code")?;
+    Type::from_code(code).context("a type")
+}
+
+/// How two values compare. All comparisons of them agree.
+pub fn compared<T: Ord>(alloc: Global, one: &T, other: &T) -> Result<String> {
+    let order = one.cmp(other);
+    let (is_equal, is_less) = (order == Ordering::Equal, order == Ordering::Less);
+    ensure!(
+        (one == other) == is_equal && (one < other) == is_less,
+        "compared otherwise"
+    );
+    Ok(format!(in alloc; "{order:?}")?)
+}
+
+/// The hash of a value.
+pub fn hash(value: &impl Hash) -> u64 {
+    let mut state = DefaultHasher::new();
+    value.hash(&mut state);
+    state.finish()
 }
 
 /// The first word of a word, and what stands behind the blank that parts them.

@@ -1,0 +1,67 @@
+//! Dates, by their nanoseconds since 1970 and by their texts.
+
+use crate::words;
+use anyhow::{Result, anyhow, ensure};
+use std::alloc::Global;
+use tantivy_schema::DateTime;
+use tantivy_schema::schema::{DATE_TIME_PRECISION_INDEXED, DateTimePrecision};
+
+/// What a call about dates returns.
+pub fn answer(alloc: Global, call: &[&str]) -> Result<String> {
+    match call {
+        ["read", text] => match DateTime::from_rfc3339(words::text(alloc, text)?.as_str()) {
+            Ok(date) => shown(alloc, date),
+            Err(error) => words::error(alloc, &error),
+        },
+        ["print", nanoseconds] => printed(alloc, date(nanoseconds)?),
+        ["truncate", precision, nanoseconds] => {
+            let date = date(nanoseconds)?;
+            let cut = date.truncate(precision_named(precision)?);
+            let order = words::compared(alloc, &date, &cut)?;
+            let cut = cut.into_timestamp_nanos();
+            Ok(format!(in alloc; "{cut} {order}")?)
+        }
+        ["micros", microseconds] => {
+            match DateTime::from_timestamp_micros(words::number(microseconds)?) {
+                Some(date) => shown(alloc, date),
+                None => Ok(String::from_str(alloc, "none")?),
+            }
+        }
+        ["indexed precision"] => Ok(format!(in alloc; "{DATE_TIME_PRECISION_INDEXED:?}")?),
+        _ => Err(anyhow!("an unknown call about dates")),
+    }
+}
+
+/// The date so many nanoseconds after 1970.
+pub fn date(nanoseconds: &str) -> Result<DateTime> {
+    Ok(DateTime::from_timestamp_nanos(words::number(nanoseconds)?))
+}
+
+/// How many nanoseconds after 1970 a date is.
+fn shown(alloc: Global, date: DateTime) -> Result<String> {
+    let nanoseconds = date.into_timestamp_nanos();
+    Ok(format!(in alloc; "{nanoseconds}")?)
+}
+
+/// The text of a date. It is the same behind another text.
+fn printed(alloc: Global, date: DateTime) -> Result<String> {
+    let text = date.write_rfc3339(alloc)?;
+    let mut behind = String::from_str(alloc, "on ")?;
+    date.push_rfc3339(&mut behind)?;
+    ensure!(
+        behind.as_str().strip_prefix("on ") == Some(text.as_str()),
+        "two texts: {behind}"
+    );
+    words::quoted(alloc, text.as_str())
+}
+
+/// The precision of a name.
+fn precision_named(name: &str) -> Result<DateTimePrecision> {
+    match name {
+        "seconds" => Ok(DateTimePrecision::Seconds),
+        "milliseconds" => Ok(DateTimePrecision::Milliseconds),
+        "microseconds" => Ok(DateTimePrecision::Microseconds),
+        "nanoseconds" => Ok(DateTimePrecision::Nanoseconds),
+        _ => Err(anyhow!("an unknown precision: {name}")),
+    }
+}

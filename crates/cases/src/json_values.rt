@@ -1,0 +1,39 @@
+//! What a JSON value is to a field.
+
+use crate::schemas;
+use anyhow::{Context, Result, anyhow};
+use serde_json::Value as JsonValue;
+use std::alloc::Global;
+use tantivy_schema::schema::ValueParsingError;
+
+/// What a JSON value is to the first field of a schema: the value with its type, or the refusal.
+pub fn answer(alloc: Global, call: &[&str]) -> Result<String> {
+    let [description, json] = call else {
+        return Err(anyhow!("an unknown call about JSON values"));
+    };
+    let schema = schemas::schema(alloc, description)?;
+    let (_, entry) = schema.fields().next().context("a field")?;
+    let json = JsonValue::from_str(alloc, json)?;
+    match entry.field_type().value_from_json(alloc, json) {
+        Ok(value) => Ok(format!(in alloc; "{value:?}")?),
+        Err(error) => Ok(format!(in alloc; "error {}", refusal(alloc, &error)?.as_str())?),
+    }
+}
+
+/// The name of a refusal, and what it says.
+pub fn refusal(alloc: Global, error: &ValueParsingError) -> Result<String> {
+    Ok(match error {
+        ValueParsingError::OverflowError { expected, .. } => {
+            format!(in alloc; "OverflowError {expected:?}")?
+        }
+        ValueParsingError::TypeError { expected, .. } => {
+            format!(in alloc; "TypeError {expected:?}")?
+        }
+        ValueParsingError::ParseError { cause, .. } => format!(in alloc; "ParseError {cause:?}")?,
+        ValueParsingError::InvalidBase64 { base64 } => {
+            format!(in alloc; "InvalidBase64 {base64:?}")?
+        }
+        ValueParsingError::FloatNumber => String::from_str(alloc, "FloatNumber")?,
+        ValueParsingError::Memory => String::from_str(alloc, "Memory")?,
+    })
+}

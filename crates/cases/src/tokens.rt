@@ -1,0 +1,56 @@
+//! Texts with their tokens, as the store has them.
+
+use crate::words;
+use anyhow::{Context, Result, anyhow, ensure};
+use std::alloc::Global;
+use tantivy_schema::schema::OwnedValue;
+use tantivy_schema::schema::document::push_json;
+use tantivy_schema::tokenizer::{PreTokenizedStr, PreTokenizedString};
+
+/// What a call about texts with tokens returns.
+pub fn answer(alloc: Global, call: &[&str]) -> Result<String> {
+    match call {
+        ["read", digits] => {
+            let bytes = words::bytes(alloc, digits)?;
+            match PreTokenizedStr::from_payload(&bytes) {
+                Some((text, length)) => shown(alloc, text, length),
+                None => Ok(String::from_str(alloc, "none")?),
+            }
+        }
+        ["same", kept, spelled] => {
+            let kept = tokenized(alloc, kept)?;
+            let kept = PreTokenizedStr::from_string(&kept);
+            let bytes = words::bytes(alloc, spelled)?;
+            let (spelled, _) = PreTokenizedStr::from_payload(&bytes).context("a payload")?;
+            let (one_way, other_way) = (kept == spelled, spelled == kept);
+            Ok(format!(in alloc; "{one_way} {other_way}")?)
+        }
+        _ => Err(anyhow!("an unknown call about texts with tokens")),
+    }
+}
+
+/// The text and the tokens that the bytes spell.
+pub fn tokenized(alloc: Global, digits: &str) -> Result<PreTokenizedString> {
+    let bytes = words::bytes(alloc, digits)?;
+    let (text, _) = PreTokenizedStr::from_payload(&bytes).context("a payload")?;
+    Ok(text.to_owned_string(alloc)?)
+}
+
+/// How many bytes spell a text, how many tokens it has, whether it has none, and the text with its tokens.
+fn shown(alloc: Global, text: PreTokenizedStr<'_>, length: usize) -> Result<String> {
+    let kept = text.to_owned_string(alloc)?;
+    ensure!(
+        kept.try_clone(alloc)? == kept,
+        "a copy of a text is not equal"
+    );
+    for token in kept.tokens.iter() {
+        ensure!(
+            token.try_clone(alloc)? == *token,
+            "a copy of a token is not equal"
+        );
+    }
+    let (count, is_empty) = (text.len(), text.is_empty());
+    let mut answer = format!(in alloc; "{length} {count} {is_empty} ")?;
+    push_json(alloc, &mut answer, &OwnedValue::PreTokStr(kept))?;
+    Ok(answer)
+}

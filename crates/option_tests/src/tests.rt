@@ -1,4 +1,0 @@
-mod dates;
-mod options;
-mod owned_values;
-mod pre_tokenized;

@@ -1,2 +1,0 @@
-mod term_vectors;
-mod terms;
