@@ -51,6 +51,10 @@ pub fn shown(alloc: Global, document: &CompactDoc) -> Result<String> {
         let (code, address) = document.addr_of(place).context("a pair")?;
         write!(text, " {number}:{code}:{address}")?;
     }
+    ensure!(
+        document.addr_of(document.len()).is_none(),
+        "a pair behind the last"
+    );
     Ok(text)
 }
 

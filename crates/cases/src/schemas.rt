@@ -20,10 +20,9 @@ pub fn answer(alloc: Global, call: &[&str]) -> Result<String> {
         ["json", description] => described(alloc, description),
         ["fields", description] => fields(alloc, &schema(alloc, description)?),
         ["field", description, name] => field(alloc, &schema(alloc, description)?, name),
-        ["find", description, path] => find(alloc, &schema(alloc, description)?, path, None),
+        ["find", description, path] => find(alloc, &schema(alloc, description)?, path),
         ["find", description, path, default] => {
-            let default = words::field(default)?;
-            find(alloc, &schema(alloc, description)?, path, Some(default))
+            find_with_default(alloc, &schema(alloc, description)?, path, default)
         }
         ["add", names @ ..] => add(alloc, names),
         ["name", name] => name_answer(alloc, name),
@@ -196,22 +195,32 @@ fn field(alloc: Global, schema: &Schema, word: &str) -> Result<String> {
     words::quoted(alloc, schema.get_field_name(field))
 }
 
-/// The number of the field that a path names, and the rest of the path.
-fn find(alloc: Global, schema: &Schema, path: &str, default: Option<Field>) -> Result<String> {
+/// The field that a path names, and the rest of the path.
+fn find(alloc: Global, schema: &Schema, path: &str) -> Result<String> {
     let path = words::text(alloc, path)?;
-    let found = match default {
-        None => schema.find_field(path.as_str()),
-        Some(field) if schema.has_field(field) => {
-            schema.find_field_with_default(path.as_str(), Some(field))
+    found(alloc, schema.find_field(path.as_str()))
+}
+
+/// The field that a path names, and the rest of the path, where there is a default field.
+fn find_with_default(alloc: Global, schema: &Schema, path: &str, default: &str) -> Result<String> {
+    let path = words::text(alloc, path)?;
+    let default = words::field(default)?;
+    ensure!(schema.has_field(default), "an unknown default field");
+    found(
+        alloc,
+        schema.find_field_with_default(path.as_str(), Some(default)),
+    )
+}
+
+/// The number of a field and the rest of a path, or `none`.
+fn found(alloc: Global, field_and_rest: Option<(Field, &str)>) -> Result<String> {
+    match field_and_rest {
+        Some((field, rest)) => {
+            let rest = words::quoted(alloc, rest)?;
+            Ok(format!(in alloc; "{} {rest}", field.field_id())?)
         }
-        Some(_) => return Err(anyhow!("an unknown default field")),
-    };
-    let Some((field, rest)) = found else {
-        return Ok(String::from_str(alloc, "none")?);
-    };
-    let number = field.field_id();
-    let rest = words::quoted(alloc, rest)?;
-    Ok(format!(in alloc; "{number} {rest}")?)
+        None => Ok(String::from_str(alloc, "none")?),
+    }
 }
 
 /// The numbers or the refusals of fields of texts that are added, and the JSON of the schema that they make.

@@ -1,4 +1,4 @@
-//! Tests of `tv_doc`, in a crate of their own, so that it is proved once.
+//! Tests of documents that no line of text can say: values of a type of the test's own, very many lists, and memory that is refused.
 #![tactic(auto)]
 
 #[cfg(test)]

@@ -1,7 +1,0 @@
-mod json;
-mod lengths;
-mod long;
-mod memory;
-mod refusals;
-mod spelled;
-mod values;

@@ -1,5 +1,0 @@
-//! Tests of JSON texts and values.
-#![tactic(auto)]
-
-#[cfg(test)]
-mod tests;

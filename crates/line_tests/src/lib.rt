@@ -1,5 +1,0 @@
-//! Tests of runs over lines.
-#![tactic(auto)]
-
-#[cfg(test)]
-mod tests;
