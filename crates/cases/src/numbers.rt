@@ -148,7 +148,7 @@ fn write(alloc: Global, sink: &str, values: &[&str]) -> Result<String> {
         "memory" => {
             let mut sink = VecSink::new(alloc);
             let failure = write_all(alloc, &mut sink, values)?;
-            written(alloc, sink.as_slice(), failure)
+            written(alloc, &sink.into_vec(), failure)
         }
         "writer" => {
             let mut sink = WriteSink::new(Vec::new(alloc));

@@ -74,13 +74,10 @@ fn build_part<'a>(
             builder.open_object(children.len() as u64 / 2)?;
         }
     }
-    for _ in 0..MOST_PARTS {
-        let Some(child) = children.pop() else {
-            return Ok(());
-        };
-        parts.push(child)?;
+    for child in children.iter().rev() {
+        parts.push(*child)?;
     }
-    Err(anyhow!("a list has too many children"))
+    Ok(())
 }
 
 /// Makes the calls for a leaf.

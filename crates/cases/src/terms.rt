@@ -102,8 +102,7 @@ fn shown(alloc: Global, term: &Term) -> Result<String> {
     let value = shown_value(alloc, &owned.as_value_bytes())?;
     write!(answer, " {field} {value}")?;
     if let Some(path) = term.get_json_path(alloc)? {
-        let path = words::quoted(alloc, path.as_str())?;
-        write!(answer, " path {path}")?;
+        words::push_text(alloc, &mut answer, "path", Some(path.as_str()))?;
     }
     Ok(answer)
 }
@@ -132,29 +131,21 @@ fn shown_value(alloc: Global, value: &ValueBytes<'_>) -> Result<String> {
     words::push_named(&mut answer, "bool", value.as_bool())?;
     let date = value.as_date().map(|date| date.into_timestamp_nanos());
     words::push_named(&mut answer, "date", date)?;
-    if let Some(text) = value.as_str() {
-        words::push_named(&mut answer, "str", Some(words::quoted(alloc, text)?))?;
+    words::push_text(alloc, &mut answer, "str", value.as_str())?;
+    words::push_bytes(alloc, &mut answer, "bytes", value.as_bytes())?;
+    words::push_address(&mut answer, value.as_ip_addr())?;
+    if let Some(facet) = value.as_facet(alloc)? {
+        words::push_text(alloc, &mut answer, "facet", Some(facet.encoded_str()))?;
     }
-    push_others(alloc, &mut answer, value)?;
+    push_path(alloc, &mut answer, value)?;
     Ok(answer)
 }
 
-/// Appends the answers of the other readers.
-fn push_others(alloc: Global, answer: &mut String, value: &ValueBytes<'_>) -> Result<()> {
-    if let Some(bytes) = value.as_bytes() {
-        words::push_named(answer, "bytes", Some(words::digits(alloc, bytes)?))?;
-    }
-    if let Some(address) = value.as_ip_addr() {
-        let bits = address.to_bits();
-        words::push_named(answer, "ip", Some(format!(in alloc; "{bits:032x}")?))?;
-    }
-    if let Some(facet) = value.as_facet(alloc)? {
-        let encoded = words::quoted(alloc, facet.encoded_str())?;
-        words::push_named(answer, "facet", Some(encoded))?;
-    }
+/// Appends the path of a value of a JSON field, what stands behind it, and the type of that.
+fn push_path(alloc: Global, answer: &mut String, value: &ValueBytes<'_>) -> Result<()> {
     if let Some((path, rest)) = value.as_json() {
         let (path, rest) = (words::digits(alloc, path)?, words::digits(alloc, rest)?);
-        words::push_named(answer, "json", Some(format!(in alloc; "{path} {rest}")?))?;
+        write!(answer, " json {path} {rest}")?;
     }
     let path_type = value.json_path_type().map(|value_type| value_type.name());
     words::push_named(answer, "of", path_type)

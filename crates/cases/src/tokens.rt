@@ -17,14 +17,7 @@ pub fn answer(alloc: Global, call: &[&str]) -> Result<String> {
                 None => Ok(String::from_str(alloc, "none")?),
             }
         }
-        ["same", kept, spelled] => {
-            let kept = tokenized(alloc, kept)?;
-            let kept = PreTokenizedStr::from_string(&kept);
-            let bytes = words::bytes(alloc, spelled)?;
-            let (spelled, _) = PreTokenizedStr::from_payload(&bytes).context("a payload")?;
-            let (one_way, other_way) = (kept == spelled, spelled == kept);
-            Ok(format!(in alloc; "{one_way} {other_way}")?)
-        }
+        ["same", kept, spelled] => same(alloc, &tokenized(alloc, kept)?, spelled),
         _ => Err(anyhow!("an unknown call about texts with tokens")),
     }
 }
@@ -34,6 +27,21 @@ pub fn tokenized(alloc: Global, digits: &str) -> Result<PreTokenizedString> {
     let bytes = words::bytes(alloc, digits)?;
     let (text, _) = PreTokenizedStr::from_payload(&bytes).context("a payload")?;
     Ok(text.to_owned_string(alloc)?)
+}
+
+/// Whether a text is equal to the one that the bytes spell, and that one to it. Copies of both are equal just then.
+fn same(alloc: Global, kept: &PreTokenizedString, digits: &str) -> Result<String> {
+    let bytes = words::bytes(alloc, digits)?;
+    let (spelled, _) = PreTokenizedStr::from_payload(&bytes).context("a payload")?;
+    let copy = spelled.to_owned_string(alloc)?;
+    let lent = PreTokenizedStr::from_string(kept);
+    let (one_way, other_way) = (lent == spelled, spelled == lent);
+    ensure!((*kept == copy) == one_way, "copies compare otherwise");
+    ensure!(
+        (lent == PreTokenizedStr::from_string(&copy)) == one_way,
+        "copies compare otherwise"
+    );
+    Ok(format!(in alloc; "{one_way} {other_way}")?)
 }
 
 /// How many bytes spell a text, how many tokens it has, whether it has none, and the text with its tokens.

@@ -49,30 +49,20 @@ fn shown(alloc: Global, value: &OwnedValue) -> Result<String> {
     ensure!(is_copied(alloc, value)?, "a copy is not equal: {value:?}");
     let mut answer = String::from_str(alloc, "is")?;
     words::push_flag(&mut answer, "null", value.as_value().is_null())?;
-    words::push_named(&mut answer, "str", value.as_str())?;
+    words::push_text(alloc, &mut answer, "str", value.as_str())?;
     words::push_named(&mut answer, "u64", value.as_u64())?;
     words::push_named(&mut answer, "i64", value.as_i64())?;
     words::push_named(&mut answer, "bool", value.as_bool())?;
     let date = value.as_datetime().map(|date| date.into_timestamp_nanos());
     words::push_named(&mut answer, "date", date)?;
-    words::push_named(&mut answer, "facet", value.as_facet())?;
-    push_others(alloc, &mut answer, value)?;
+    words::push_text(alloc, &mut answer, "facet", value.as_facet())?;
+    words::push_bytes(alloc, &mut answer, "bytes", value.as_bytes())?;
+    words::push_address(&mut answer, value.as_ip_addr())?;
+    let tokenized = value.as_pre_tokenized_text().map(|text| text.text());
+    words::push_text(alloc, &mut answer, "tokens", tokenized)?;
+    words::push_flag(&mut answer, "array", value.as_array().is_some())?;
+    words::push_flag(&mut answer, "object", value.as_object().is_some())?;
     Ok(answer)
-}
-
-/// Appends the answers of the other accessors.
-fn push_others(alloc: Global, answer: &mut String, value: &OwnedValue) -> Result<()> {
-    if let Some(bytes) = value.as_bytes() {
-        words::push_named(answer, "bytes", Some(hex::encode(alloc, bytes)?))?;
-    }
-    if let Some(address) = value.as_ip_addr() {
-        let bits = address.to_bits();
-        words::push_named(answer, "ip", Some(format!(in alloc; "{bits:032x}")?))?;
-    }
-    let tokens = value.as_pre_tokenized_text().map(|text| text.text());
-    words::push_named(answer, "tokens", tokens)?;
-    words::push_flag(answer, "array", value.as_array().is_some())?;
-    words::push_flag(answer, "object", value.as_object().is_some())
 }
 
 /// Whether copies are equal to the value that they copy.

@@ -6,6 +6,7 @@ use std::cmp::Ordering;
 use std::convert::AsStr;
 use std::fmt::{Debug, Display, Write};
 use std::hash::{DefaultHasher, Hash, Hasher};
+use std::net::Ipv6Addr;
 use std::str::FromStr;
 use tantivy_schema::schema::{Field, Type};
 
@@ -82,6 +83,36 @@ pub fn push_named<T: Display + Drop>(
 ) -> Result<()> {
     if let Some(value) = value {
         write!(answer, " {name} {value}")?;
+    }
+    Ok(())
+}
+
+/// Appends a name and a text in quotes, if there is one.
+pub fn push_text(alloc: Global, answer: &mut String, name: &str, text: Option<&str>) -> Result<()> {
+    match text {
+        Some(text) => push_named(answer, name, Some(quoted(alloc, text)?)),
+        None => Ok(()),
+    }
+}
+
+/// Appends a name and the digits of a byte string, if there is one.
+pub fn push_bytes(
+    alloc: Global,
+    answer: &mut String,
+    name: &str,
+    bytes: Option<&[u8]>,
+) -> Result<()> {
+    match bytes {
+        Some(bytes) => push_named(answer, name, Some(digits(alloc, bytes)?)),
+        None => Ok(()),
+    }
+}
+
+/// Appends the digits of an address, if there is one.
+pub fn push_address(answer: &mut String, address: Option<Ipv6Addr>) -> Result<()> {
+    if let Some(address) = address {
+        let bits = address.to_bits();
+        write!(answer, " ip {bits:032x}")?;
     }
     Ok(())
 }

@@ -122,3 +122,4 @@ pub mod CodeTypes
 pub use Rattle.tv_lines.specs.Lines
 pub use Rattle.tv_lines.specs.Answers
 pub use Rattle.tv_lines.specs.Run
+pub use Rattle.tv_lines.specs.Status as RunStatus

@@ -43,6 +43,19 @@ impl Model for Facet {
     ghost view = { λ facet. string_bytes facet.encoded };
 }
 
+// Writes steps behind an encoded text, each behind U+0000.
+fn push_steps(encoded: &mut String, steps: &[&str]) -> Result<(), AllocError>
+    ensures { OnOk result
+        (string_bytes encoded.new ≡
+        join_with_byte 0 (string_bytes encoded.old ∷ map (λ step. step.now) steps.now)) }
+{
+    for step in steps {
+        encoded.push(FACET_SEP_CHAR)?;
+        encoded.push_str(step)?;
+    }
+    Ok(())
+}
+
 impl Facet {
     /// The top of the hierarchy, which has no step. It takes no memory.
     pub fn root(alloc: Global) -> Facet
@@ -136,10 +149,7 @@ impl Facet {
             return Ok(Facet { encoded });
         };
         encoded.push_str(first)?;
-        for step in others {
-            encoded.push(FACET_SEP_CHAR)?;
-            encoded.push_str(step)?;
-        }
+        push_steps(&mut encoded, others)?;
         Ok(Facet { encoded })
     }
 

@@ -3,3 +3,4 @@ pub mod Answers
 pub mod Run
 pub mod Reader
 pub mod Unwritten
+pub mod Status

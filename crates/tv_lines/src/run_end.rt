@@ -1,5 +1,8 @@
 //! How a run over lines ended.
 
+ghost use Rattle.std.specs.Prelude.{◌≡◌};
+ghost use Rattle.tv_lines.specs.Status.{status_of};
+
 /// How a run over lines ended.
 #[derive(Clone, Copy, Debug, PartialEq, Eq, Drop)]
 pub enum RunEnd {
@@ -9,4 +12,17 @@ pub enum RunEnd {
     BadSchema,
     /// A read or a write failed, memory for a line was refused, or the source gave more bytes than are counted.
     Broken,
+}
+
+impl RunEnd {
+    /// The exit status of a program that ends so: 0 for `Done`, 1 for `BadSchema` and 2 for `Broken`. (Own.)
+    pub fn status(self) -> u8
+        ensures { result ≡ status_of self }
+    {
+        match self {
+            RunEnd::Done => 0,
+            RunEnd::BadSchema => 1,
+            RunEnd::Broken => 2,
+        }
+    }
 }

@@ -1,25 +1,56 @@
-//! Where a text is read to, how much is counted, what sources lend, and what is written before a sink fails.
+//! How much is counted, where a text is read to, what sources lend, and what is written before a sink fails.
 
 ghost use Rattle.std.specs.Prelude.{List, length};
 
 use std::io;
 use std::test::Fail;
-use tv_base::take::{take, take_text, take_u32};
+use tv_base::take::{take, take_text, take_u8, take_u32, take_u64, take_vint};
 use tv_base::write::{
     write_all, write_sized, write_text, write_u8, write_u32, write_u64, write_vint,
 };
 use tv_base::{ByteSink, ByteSource, Cause, ReadError, SliceSource, VecSink};
 use tv_io::ReadSource;
 
+// The largest number.
+const LARGEST: [u8; 10] = *b"\x7f\x7f\x7f\x7f\x7f\x7f\x7f\x7f\x7f\x81";
+
+// Bytes, the number at their front or its fault, and how many bytes are taken.
+const NUMBERS: [(&[u8], Result<u64, ReadError>, u64); 4] = [
+    (b"\x85\x01", Ok(5), 1),
+    (b"\x05\x80\x01", Ok(5), 2),
+    (b"\x05", Err(ReadError::Corrupted(Cause::UnexpectedEnd)), 1),
+    (&LARGEST, Ok(u64::MAX), 10),
+];
+
 #[test]
-fn a_text_takes_the_place_of_another(rt: HostRuntime) -> Result<(), Fail> {
-    let mut source = SliceSource::new(b"\x8aChillFish8\xee");
+fn the_bytes_of_numbers_are_counted(rt: HostRuntime) {
+    for (bytes, number, taken) in NUMBERS {
+        let mut count = 0;
+        assert!(rt; take_vint(&mut SliceSource::new(bytes), &mut count) == number);
+        assert!(rt; count == taken);
+    }
     let mut count = 0;
+    let mut reader = ReadSource::new(LARGEST.as_slice());
+    assert!(rt; take_vint(&mut reader, &mut count) == Ok(u64::MAX));
+    assert!(rt; count == 10);
+}
+
+const VALUES: &[u8] = b"\x80\x55\xff\xff\0\0\x14\0\0\0\0\0\0\0\x8aChillFish8\x07";
+
+#[test]
+fn the_bytes_of_values_are_counted(rt: HostRuntime) -> Result<(), Fail> {
+    let mut source = SliceSource::new(VALUES);
+    let mut count = 0;
+    assert!(rt; take_vint(&mut source, &mut count) == Ok(0));
+    assert!(rt; take_u8(&mut source, &mut count) == Ok(0x55));
+    assert!(rt; take_u32(&mut source, &mut count) == Ok(65535));
+    assert!(rt; take_u64(&mut source, &mut count) == Ok(20));
+    assert!(rt; count == 14);
     let mut text = String::from_str(rt.alloc(), "before")?;
     assert!(rt; take_text(rt.alloc(), &mut source, &mut count, &mut text) == Ok(()));
     assert!(rt; text.as_str() == "ChillFish8");
-    assert!(rt; source.rest() == [0xee].as_slice());
-    assert!(rt; count == 11);
+    assert!(rt; count == 25);
+    assert!(rt; source.rest() == [7].as_slice());
     Ok(())
 }
 

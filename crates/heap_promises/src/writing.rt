@@ -1,0 +1,43 @@
+//! Values at the end of a heap.
+
+ghost use Rattle.std.specs.Prelude.{◌≡◌, ◌+◌, ◌<◌, ◌^◌, ◌++◌, OnOk, IfOk, length};
+ghost use Rattle.tv_heap.specs.Reads.{Wrote};
+ghost use Rattle.tv_heap.specs.Room.{leaf_bytes};
+ghost use Rattle.tv_heap.specs.TypeCode.{type_code};
+ghost use Rattle.tv_value.specs.Lent.{leaf_of};
+ghost use Rattle.tv_value.specs.Tree.{leaf};
+
+use std::alloc::AllocError;
+use tv_heap::value_type::ValueType;
+use tv_heap::write::write_leaf;
+use tv_value::leaf::ReferenceValueLeaf;
+
+/// Each text is written at the heap's end, also where the heap ends with the same text.
+pub fn equal_texts_are_written_anew(
+    heap: &mut Vec<u8>,
+    value: &ReferenceValueLeaf<'_>,
+) -> Result<(ValueType, u32), AllocError>
+    requires { length heap.old.items + length (leaf_bytes (leaf_of value.now)) < 2 ^ 32 }
+    ensures { OnOk result (heap.new.items ≡ heap.old.items ++ leaf_bytes (leaf_of value.now)) }
+{
+    match value.as_str() {
+        Some(text) if heap.ends_with(text.as_bytes()) => write_leaf(heap, value),
+        _ => write_leaf(heap, value),
+    }
+}
+
+/// A value stands in the heap itself, and not in memory beside it.
+pub fn values_stand_in_the_heap(
+    heap: &mut Vec<u8>,
+    beside: &mut Vec<u8>,
+    value: &ReferenceValueLeaf<'_>,
+) -> Result<(ValueType, u32), AllocError>
+    requires heap { length heap.old.items + length (leaf_bytes (leaf_of value.now)) < 2 ^ 32 }
+    requires beside { length beside.old.items + length (leaf_bytes (leaf_of value.now)) < 2 ^ 32 }
+    ensures { IfOk result
+        (λ r. Wrote heap.old.items heap.new.items (type_code r.0) r.1 (leaf (leaf_of value.now))) }
+{
+    let place = write_leaf(heap, value)?;
+    beside.clear();
+    Ok(place)
+}

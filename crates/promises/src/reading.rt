@@ -1,0 +1,115 @@
+//! Documents read.
+
+ghost use Rattle.std.specs.Prelude.{◌≡◌, ◌≤◌, ◌++◌, IfOk, IfErr, IsErrOf, List, ℕ};
+ghost use Rattle.tantivy_schema.specs.CodeTypes.DeserializeError.{DeserializeError};
+ghost use Rattle.tantivy_schema.specs.CodeTypes.DeserializeError.TheVariants.{HeapFull};
+ghost use Rattle.tantivy_schema.specs.Document.{document_of};
+ghost use Rattle.tantivy_schema.specs.Documents.{Answers, BeginsWith, NoDocument, HasNoRoom};
+ghost use Rattle.tantivy_schema.specs.Documents.{IsReadingError};
+ghost use Rattle.tantivy_schema.specs.Fault.{Refusal};
+ghost use Rattle.tantivy_schema.specs.Legacy.{Legacy};
+ghost use Rattle.tantivy_schema.specs.ReadsAs.{Known};
+ghost use Rattle.tantivy_schema.specs.ReaderError.{IsRefusal, store_stop};
+ghost use Rattle.tantivy_schema.specs.Room.{document_room};
+ghost use Rattle.tantivy_schema.specs.Spelling.{SpellsDocument};
+ghost use Rattle.tantivy_schema.specs.Stop.{Counts};
+ghost use Rattle.tantivy_schema.specs.StoreVersion.{version_of};
+ghost use Rattle.tantivy_schema.specs.Tree.{Document};
+
+use std::alloc::Global;
+use tantivy_schema::common::ByteSource;
+use tantivy_schema::schema::document::DeserializeError;
+use tantivy_schema::schema::{TantivyDocument, Value};
+use tantivy_schema::store::{DocStoreVersion, read_document};
+
+/// A prefix of the bytes encodes what is returned, in this version, and just that prefix was taken.
+pub fn returned_documents_are_encoded<S: ByteSource>(
+    alloc: Global,
+    source: &mut S,
+    version: DocStoreVersion,
+) -> Result<TantivyDocument, DeserializeError>
+    ensures { S.tells source.old → IfOk result
+        (λ d. BeginsWith (version_of version) (S.left source.old) (S.left source.new)
+        (document_of d)) }
+{
+    let format = match version {
+        DocStoreVersion::V1 => DocStoreVersion::V1,
+        other => other,
+    };
+    match read_document(alloc, source, format) {
+        Ok(document) => Ok(document),
+        Err(error) => Err(error),
+    }
+}
+
+/// Whatever a prefix of the bytes encodes, and has room, is returned, unless the source failed or memory was refused. Nothing is
+/// taken behind it.
+pub fn encoded_documents_are_returned<S: ByteSource>(
+    alloc: Global,
+    source: &mut S,
+    version: DocStoreVersion,
+) -> Result<TantivyDocument, DeserializeError>
+    ensures { Known S.tells S.left source.old → (d : Document) (prefix rest : List ℕ) →
+        S.left source.old ≡ prefix ++ rest → SpellsDocument Legacy (version_of version) prefix d →
+        document_room d ≤ 4294967295 → Answers result d rest (S.left source.new) }
+{
+    let read = read_document(alloc, source, version);
+    let _ = source.at_hand();
+    match read {
+        Ok(nested) if begins_with_an_array(&nested) => Ok(nested),
+        Ok(other) if begins_with_an_object(&other) => Ok(other),
+        answer => answer,
+    }
+}
+
+/// Whether the first value of a document is an array.
+fn begins_with_an_array(document: &TantivyDocument) -> bool {
+    match document.field_values().next() {
+        Some((_, value)) => value.as_array().is_some(),
+        None => false,
+    }
+}
+
+/// Whether the first value of a document is an object.
+fn begins_with_an_object(document: &TantivyDocument) -> bool {
+    match document.field_values().next() {
+        Some((_, value)) => value.as_object().is_some(),
+        None => false,
+    }
+}
+
+/// A refusal of bytes is true of them.
+pub fn refusals_are_true<S: ByteSource>(
+    alloc: Global,
+    source: &mut S,
+    version: DocStoreVersion,
+) -> Result<TantivyDocument, DeserializeError>
+    ensures fault { Known S.tells S.left source.old → (e : DeserializeError) (r : Refusal) →
+        IsErrOf result e → IsRefusal e r → NoDocument (version_of version) (S.left source.old) r }
+    ensures full { S.tells source.old → IsErrOf result HeapFull →
+        HasNoRoom (version_of version) (S.left source.old) }
+    ensures errors { IfErr result IsReadingError }
+{
+    match read_document(alloc, source, version) {
+        Err(DeserializeError::CorruptedValue(cause)) => Err(DeserializeError::CorruptedValue(
+            cause,
+        )),
+        refused => refused,
+    }
+}
+
+/// That a source failed is told exactly where it did, with its kind.
+pub fn failures_are_told<S: ByteSource>(
+    alloc: Global,
+    source: &mut S,
+    version: DocStoreVersion,
+) -> Result<TantivyDocument, DeserializeError>
+    ensures { Counts store_stop result (S.faults source.old) (S.faults source.new) }
+{
+    match read_document(alloc, source, version) {
+        Err(DeserializeError::CorruptedValue(shown)) => Err(DeserializeError::CorruptedValue(
+            shown,
+        )),
+        told => told,
+    }
+}

@@ -1,0 +1,18 @@
+//! Terms.
+
+ghost use Rattle.std.specs.Prelude.{IfOk};
+ghost use Rattle.tantivy_schema.specs.Key.{IsTerm, Signed};
+
+use std::alloc::Global;
+use tantivy_schema::schema::{Field, Term, TermError};
+
+/// The term of a signed number has the bytes whose order is the order of the numbers.
+pub fn signed_numbers_make_terms(
+    alloc: Global,
+    field: Field,
+    number: i64,
+) -> Result<Term, TermError>
+    ensures { IfOk result (λ made. IsTerm made field.id (Signed number)) }
+{
+    Term::from_field_i64(alloc, field, number.wrapping_add(0))
+}

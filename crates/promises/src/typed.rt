@@ -1,0 +1,34 @@
+//! Values read into types.
+
+ghost use Rattle.std.specs.Prelude.{[]};
+ghost use Rattle.tantivy_schema.specs.StoreVersion.{version_of};
+ghost use Rattle.tantivy_schema.specs.Typed.{Deserializes};
+ghost use Rattle.tantivy_schema.specs.Values.{SpellsAs, NextRefused};
+
+use std::alloc::Global;
+use tantivy_schema::common::ByteSource;
+use tantivy_schema::schema::document::{DeserializeError, StoreReader, ValueDeserialize};
+
+/// A list of keys and values has each entry of the object in order, those of equal keys too.
+pub fn entries_of_equal_keys_are_kept<S: ByteSource>(
+    alloc: Global,
+    reader: &mut StoreReader<S>,
+) -> Result<Vec<(String, u64)>, DeserializeError>
+    ensures { Deserializes S.tells S.left reader.old reader.new result
+        (SpellsAs ⟦<Vec<(String, u64)> as ValueDeserialize>⟧.is (version_of reader.old.version))
+        (NextRefused ⟦<Vec<(String, u64)> as ValueDeserialize>⟧.refused
+        (version_of reader.old.version)) }
+{
+    match reader.read::<Vec<(String, u64)>>(alloc) {
+        Ok(entries) if are_two_of_one_key(&entries) => Ok(entries),
+        answer => answer,
+    }
+}
+
+/// Whether these are two entries that have one key.
+fn are_two_of_one_key(entries: &Vec<(String, u64)>) -> bool {
+    match entries.as_slice() {
+        [(first, _), (second, _)] => first.as_str() == second.as_str(),
+        _ => false,
+    }
+}

@@ -1,6 +1,0 @@
-use Rattle.std.proofs.Common.{◌≡◌, string_bytes}
-use Rattle.tv_base.proofs.Steps.{joined}
-use Rattle.tv_base.proofs.facet.Facet.from_path.Given as goal
-
-abbrev pub invariant-loop-step : goal.invariant-loop-step
-invariant-loop-step l = string_bytes l.encoded ≡ joined (string_bytes l.initial.encoded) l.others l.step-index
