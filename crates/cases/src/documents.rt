@@ -46,15 +46,14 @@ pub fn shown(alloc: Global, document: &CompactDoc) -> Result<String> {
         [] => String::from_str(alloc, "-")?,
         heap => hex::encode(alloc, heap)?,
     };
-    for (place, (field, _)) in document.field_values().enumerate() {
+    let mut place = 0;
+    for (field, _) in document.field_values() {
         let number = field.field_id();
         let (code, address) = document.addr_of(place).context("a pair")?;
         write!(text, " {number}:{code}:{address}")?;
+        place = usize::saturating_add(place, 1);
     }
-    ensure!(
-        document.addr_of(document.len()).is_none(),
-        "a pair behind the last"
-    );
+    ensure!(document.addr_of(place).is_none(), "a pair behind the last");
     Ok(text)
 }
 
@@ -114,12 +113,10 @@ fn named(alloc: Global, from: &Schema, to: &Schema, document: &CompactDoc) -> Re
 
 /// Whether two documents are the same by the JSON of their values. The word `and` stands between their calls.
 fn same(alloc: Global, calls: &[&str]) -> Result<String> {
-    let place = calls
-        .iter()
-        .position(|word| *word == "and")
-        .context("two documents")?;
-    let one = builder::document(alloc, calls.get(..place).context("a document")?)?;
-    let other = builder::document(alloc, calls.get(place + 1..).context("a document")?)?;
+    let place = calls.iter().position(|word| *word == "and");
+    let (one, other) = calls.split_at(place.context("two documents")?);
+    let one = builder::document(alloc, one)?;
+    let other = builder::document(alloc, other.get(1..).context("a document")?)?;
     let is_same = one.same_as(alloc, &other)?;
     ensure!(
         other.same_as(alloc, &one)? == is_same,

@@ -74,10 +74,13 @@ fn build_part<'a>(
             builder.open_object(children.len() as u64 / 2)?;
         }
     }
-    for child in children.iter().rev() {
-        parts.push(*child)?;
+    for _ in 0..MOST_PARTS {
+        let Some(child) = children.pop() else {
+            return Ok(());
+        };
+        parts.push(child)?;
     }
-    Ok(())
+    Err(anyhow!("a list has too many children"))
 }
 
 /// Makes the calls for a leaf.
