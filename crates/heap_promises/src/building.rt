@@ -14,7 +14,7 @@ use tv_builder::frame::ListKind;
 use tv_heap::value_type::ValueType;
 use tv_heap::write::push_place;
 
-/// Bytes stand in the heap as soon as they have come, and are not kept until the value is finished.
+/// Bytes stand in the heap as soon as they have come, whether or not they are also kept for later.
 pub fn bytes_stand_in_the_heap_at_once(
     building: &mut Building,
     later: &mut Vec<u8>,
@@ -25,9 +25,9 @@ pub fn bytes_stand_in_the_heap_at_once(
         (λ heap. heap ≡ building.old.heap.items ++ bytes.now) ⊥ (λ s. and_bytes s bytes.now)
         result }
 {
-    later.clear();
+    let is_kept = later.extend_from_slice(bytes).is_ok();
     match building.awaits() {
-        Awaits::Bytes { missing: _ } => building.chunk(bytes),
+        Awaits::Bytes { missing: _ } if is_kept => building.chunk(bytes),
         _ => building.chunk(bytes),
     }
 }
