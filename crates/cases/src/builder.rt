@@ -1,7 +1,8 @@
 //! Documents that calls build: those of a tree builder, and additions.
 
-use crate::{documents, values, words};
+use crate::{documents, values};
 use anyhow::{Context, Result, anyhow, ensure};
+use case_words as words;
 use serde_json::Value as JsonValue;
 use std::alloc::Global;
 use std::collections::BTreeMap;

@@ -1,7 +1,7 @@
 //! Dates, by their nanoseconds since 1970 and by their texts.
 
-use crate::words;
 use anyhow::{Result, anyhow, ensure};
+use case_words as words;
 use std::alloc::Global;
 use tantivy_schema::DateTime;
 use tantivy_schema::schema::{DATE_TIME_PRECISION_INDEXED, DateTimePrecision};

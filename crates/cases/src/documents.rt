@@ -1,7 +1,8 @@
 //! Documents: from JSON, as JSON, by names, and compared.
 
-use crate::{builder, json_values, parts, schemas, words};
+use crate::{builder, json_values, parts, schemas};
 use anyhow::{Context, Result, anyhow, ensure};
+use case_words as words;
 use std::alloc::Global;
 use std::fmt::Write;
 use tantivy_schema::laws::named_documents_are_converted_back;

@@ -1,7 +1,7 @@
 //! Facets: of texts, of steps and of encoded bytes, compared and printed.
 
-use crate::words;
 use anyhow::{Result, anyhow, ensure};
+use case_words as words;
 use std::alloc::Global;
 use tantivy_schema::common::{BinarySerializable, SliceSource, VecSink};
 use tantivy_schema::schema::Facet;

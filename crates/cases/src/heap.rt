@@ -1,7 +1,8 @@
 //! Values in a heap of bytes.
 
-use crate::{builder, words};
+use crate::builder;
 use anyhow::{Context, Result, anyhow, ensure};
+use case_words as words;
 use std::alloc::Global;
 use tantivy_schema::common::{BinarySerializable, SliceSource, VecSink};
 use tantivy_schema::schema::Value;

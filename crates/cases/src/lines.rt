@@ -4,8 +4,8 @@ ghost use Rattle.std.specs.Prelude.{Some};
 ghost use Rattle.std.specs.declared.io.ErrorKind.TheVariants.{Interrupted};
 ghost use Rattle.tantivy_schema.specs.Source.{AllBytes};
 
-use crate::words;
 use anyhow::{Context, Result, anyhow, ensure};
+use case_words as words;
 use std::alloc::Global;
 use std::io;
 use tantivy_schema::common::{ByteSink, ByteSource, SliceSource, VecSink};

@@ -17,7 +17,6 @@ mod schemas;
 mod terms;
 mod tokens;
 mod values;
-mod words;
 
 use anyhow::{Result, anyhow};
 use std::alloc::Global;

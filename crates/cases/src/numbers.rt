@@ -1,7 +1,7 @@
 //! Numbers, truth values, texts and byte strings as the store has them: read from sources of several kinds, and written to sinks.
 
-use crate::words;
 use anyhow::{Context, Result, anyhow};
+use case_words as words;
 use std::alloc::Global;
 use std::fmt::Display;
 use std::io;

@@ -1,7 +1,7 @@
 //! Options of fields, made of flags and by setters, and the types of values.
 
-use crate::words;
 use anyhow::{Context, Result, anyhow, ensure};
+use case_words as words;
 use std::alloc::Global;
 use std::fmt::Write;
 use tantivy_schema::schema::{

@@ -1,7 +1,7 @@
 //! Paths into JSON objects, split into segments and joined.
 
-use crate::words;
 use anyhow::{Result, anyhow};
+use case_words as words;
 use std::alloc::Global;
 use tantivy_schema::common::{join_json_path, joined_json_path, split_json_path};
 

@@ -1,7 +1,7 @@
 //! Schemas: their JSON, their fields, and the fields that paths name.
 
-use crate::words;
 use anyhow::{Context, Result, anyhow, ensure};
+use case_words as words;
 use serde_json::Value;
 use std::alloc::Global;
 use std::fmt::Write;

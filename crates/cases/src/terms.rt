@@ -1,7 +1,8 @@
 //! Terms, and the values that are read back from them.
 
-use crate::{dates, values, words};
+use crate::{dates, values};
 use anyhow::{Context, Result, anyhow, ensure};
+use case_words as words;
 use std::alloc::Global;
 use std::fmt::Write;
 use tantivy_schema::fastfield::FastValue;

@@ -1,7 +1,7 @@
 //! Texts with their tokens, as the store has them.
 
-use crate::words;
 use anyhow::{Context, Result, anyhow, ensure};
+use case_words as words;
 use std::alloc::Global;
 use tantivy_schema::schema::OwnedValue;
 use tantivy_schema::schema::document::push_json;

@@ -1,7 +1,8 @@
 //! Values of one kind: what each accessor returns, copies, and which values are equal.
 
-use crate::{dates, facets, tokens, words};
+use crate::{dates, facets, tokens};
 use anyhow::{Context, Result, anyhow, ensure};
+use case_words as words;
 use std::alloc::Global;
 use std::net::Ipv6Addr;
 use tantivy_schema::schema::document::is_same;

@@ -1,4 +1,4 @@
-//! Tests of `tv_reader`, in a crate of their own, so that it is proved once.
+//! Tests of reads that a row of the program of cases can't say: visitors of one's own, and what readers and counts hold afterwards.
 #![tactic(auto)]
 
 #[cfg(test)]

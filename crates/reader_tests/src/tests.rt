@@ -1,2 +1,4 @@
-mod heads;
-mod values;
+mod counts;
+mod failing;
+mod plain_visitors;
+mod visitors;

@@ -1,0 +1,168 @@
+//! The words of a line of a conformance suite, and how answers are written. A text is a JSON string with its quotes, bytes are
+//! hexadecimal digits, and a number is decimal.
+#![tactic(auto)]
+
+use anyhow::{Context, Result, ensure};
+use std::alloc::Global;
+use std::cmp::Ordering;
+use std::convert::AsStr;
+use std::fmt::{Debug, Display, Write};
+use std::hash::{DefaultHasher, Hash, Hasher};
+use std::net::Ipv6Addr;
+use std::str::FromStr;
+use tantivy_schema::schema::{Field, Type};
+
+/// The text of a JSON string.
+pub fn text(alloc: Global, word: &str) -> Result<String> {
+    let json = serde_json::Value::from_str(alloc, word)?;
+    let content = json.as_str().context("a text in quotes")?;
+    Ok(String::from_str(alloc, content)?)
+}
+
+/// The bytes of hexadecimal digits.
+pub fn bytes(alloc: Global, word: &str) -> Result<Vec<u8>> {
+    Ok(hex::decode(alloc, word)?)
+}
+
+/// The number of decimal digits, with a sign where it is negative.
+pub fn number<T: FromStr + Drop>(word: &str) -> Result<T>
+where
+    T::Err: Drop,
+{
+    word.parse().ok().context("a number")
+}
+
+/// The field of a number.
+pub fn field(word: &str) -> Result<Field> {
+    Ok(Field::from_field_id(number(word)?))
+}
+
+/// The texts of a JSON array.
+pub fn texts(alloc: Global, word: &str) -> Result<Vec<String>> {
+    let json = serde_json::Value::from_str(alloc, word)?;
+    let mut texts = Vec::new(alloc);
+    for item in json.as_array().context("an array of texts")? {
+        let content = item.as_str().context("a text in quotes")?;
+        texts.push(String::from_str(alloc, content)?)?;
+    }
+    Ok(texts)
+}
+
+/// A text as a JSON string.
+pub fn quoted(alloc: Global, content: &str) -> Result<String> {
+    let json = serde_json::Value::String(String::from_str(alloc, content)?);
+    Ok(json.to_string(alloc)?)
+}
+
+/// Texts as a JSON array.
+pub fn quoted_all<T: AsStr>(alloc: Global, texts: &[T]) -> Result<String> {
+    let mut items = Vec::new(alloc);
+    for content in texts {
+        let text = String::from_str(alloc, content.as_str())?;
+        items.push(serde_json::Value::String(text))?;
+    }
+    Ok(serde_json::Value::Array(items).to_string(alloc)?)
+}
+
+/// The hexadecimal digits of bytes, or `nothing` where there is no byte.
+pub fn digits(alloc: Global, bytes: &[u8]) -> Result<String> {
+    if bytes.is_empty() {
+        return Ok(String::from_str(alloc, "nothing")?);
+    }
+    Ok(hex::encode(alloc, bytes)?)
+}
+
+/// The answer of a call that failed.
+pub fn error(alloc: Global, error: &impl Debug) -> Result<String> {
+    Ok(format!(in alloc; "error {error:?}")?)
+}
+
+/// Appends a name and a value, if there is one.
+pub fn push_named<T: Display + Drop>(
+    answer: &mut String,
+    name: &str,
+    value: Option<T>,
+) -> Result<()> {
+    if let Some(value) = value {
+        write!(answer, " {name} {value}")?;
+    }
+    Ok(())
+}
+
+/// Appends a name and a text in quotes, if there is one.
+pub fn push_text(alloc: Global, answer: &mut String, name: &str, text: Option<&str>) -> Result<()> {
+    match text {
+        Some(text) => push_named(answer, name, Some(quoted(alloc, text)?)),
+        None => Ok(()),
+    }
+}
+
+/// Appends a name and the digits of a byte string, if there is one.
+pub fn push_bytes(
+    alloc: Global,
+    answer: &mut String,
+    name: &str,
+    bytes: Option<&[u8]>,
+) -> Result<()> {
+    match bytes {
+        Some(bytes) => push_named(answer, name, Some(digits(alloc, bytes)?)),
+        None => Ok(()),
+    }
+}
+
+/// Appends the digits of an address, if there is one.
+pub fn push_address(answer: &mut String, address: Option<Ipv6Addr>) -> Result<()> {
+    if let Some(address) = address {
+        let bits = address.to_bits();
+        write!(answer, " ip {bits:032x}")?;
+    }
+    Ok(())
+}
+
+/// Appends a name, if it holds.
+pub fn push_flag(answer: &mut String, name: &str, holds: bool) -> Result<()> {
+    if holds {
+        write!(answer, " {name}")?;
+    }
+    Ok(())
+}
+
+/// The type of a code, which is a letter.
+pub fn type_of(code: &str) -> Result<Type> {
+    let code = code.bytes().next().context("a code")?;
+    Type::from_code(code).context("a type")
+}
+
+/// How two values compare. All comparisons of them agree.
+pub fn compared<T: Ord>(alloc: Global, one: &T, other: &T) -> Result<String> {
+    let order = one.cmp(other);
+    let (is_equal, is_less) = (order == Ordering::Equal, order == Ordering::Less);
+    ensure!(
+        (one == other) == is_equal && (one < other) == is_less,
+        "compared otherwise"
+    );
+    Ok(format!(in alloc; "{order:?}")?)
+}
+
+/// The hash of a value.
+pub fn hash(value: &impl Hash) -> u64 {
+    let mut state = DefaultHasher::new();
+    value.hash(&mut state);
+    state.finish()
+}
+
+/// The first word of a word, and what stands behind the blank that parts them.
+pub fn parted(word: &str) -> (&str, &str) {
+    word.split_once(' ').unwrap_or((word, ""))
+}
+
+/// The value of a result, as Rust prints it, or its error behind the word `error`.
+pub fn shown<T: Debug + Drop, E: Debug + Drop>(
+    alloc: Global,
+    answer: Result<T, E>,
+) -> Result<String> {
+    match answer {
+        Ok(value) => Ok(format!(in alloc; "{value:?}")?),
+        Err(error) => Ok(format!(in alloc; "error {error:?}")?),
+    }
+}

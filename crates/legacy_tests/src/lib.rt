@@ -1,5 +1,0 @@
-//! Tests of `tv_legacy`, in a crate of their own, so that it is proved once.
-#![tactic(auto)]
-
-#[cfg(test)]
-mod tests;

@@ -1,2 +1,0 @@
-mod objects;
-mod sources;

@@ -1,0 +1,196 @@
+//! Documents that are read, by one call and step by step.
+
+use crate::over_each::{Ending, Reading, once, over_each, where_it_fails};
+use crate::{steps, stored};
+use anyhow::{Context, Result, anyhow};
+use case_words as words;
+use std::alloc::Global;
+use std::io;
+use tantivy_schema::common::ByteSource;
+use tantivy_schema::schema::document::DeserializeError;
+use tantivy_schema::schema::{OwnedValue, Schema, TantivyDocument};
+use tantivy_schema::store::{DocStoreVersion, read_document};
+
+/// What is told of a document.
+#[derive(Clone, Copy)]
+pub enum Form<'a> {
+    /// Its pairs of a field and a value.
+    Pairs,
+    /// Its heap, and the field, the type and the address in it of each value.
+    Heap,
+    /// The number of its pairs, and the length of its heap.
+    Size,
+    /// Its JSON, and the bytes that are written of it, by this schema.
+    Written(&'a Schema),
+}
+
+/// Reads a document, by one call or step by step.
+#[derive(Drop)]
+struct DocumentReading<'a> {
+    version: DocStoreVersion,
+    by_steps: bool,
+    form: Form<'a>,
+}
+
+impl Reading for DocumentReading<'_> {
+    fn read<S: ByteSource + Drop>(&self, alloc: Global, source: S) -> Result<Ending<S>> {
+        let mut source = source;
+        let (document, counted) = if self.by_steps {
+            steps::document(alloc, &mut source, self.version)?
+        } else {
+            (read_document(alloc, &mut source, self.version), None)
+        };
+        let answer = shown(alloc, document, self.form)?;
+        Ok(Ending {
+            answer,
+            counted,
+            source,
+        })
+    }
+}
+
+/// A document as it is told, or why there is none.
+pub fn shown(
+    alloc: Global,
+    answer: Result<TantivyDocument, DeserializeError>,
+    form: Form<'_>,
+) -> Result<String> {
+    match (answer, form) {
+        (Err(error), _) => Ok(format!(in alloc; "error {error:?}")?),
+        (Ok(document), Form::Pairs) => pairs(alloc, &document),
+        (Ok(document), Form::Heap) => heap(alloc, &document),
+        (Ok(document), Form::Size) => {
+            let (pairs, heap) = (document.len(), document.node_data().len());
+            Ok(format!(in alloc; "pairs {pairs}, heap {heap}")?)
+        }
+        (Ok(document), Form::Written(schema)) => stored::written_again(alloc, &document, schema),
+    }
+}
+
+/// The pairs of a document, with the types of their values.
+fn pairs(alloc: Global, document: &TantivyDocument) -> Result<String> {
+    let mut pairs = Vec::new(alloc);
+    for (field, value) in document.field_values() {
+        pairs.push((field.field_id(), OwnedValue::from_value(alloc, &value)?))?;
+    }
+    Ok(format!(in alloc; "{pairs:?}")?)
+}
+
+/// The heap of a document, and the field, the type and the address of each of its values.
+fn heap(alloc: Global, document: &TantivyDocument) -> Result<String> {
+    let mut places = Vec::new(alloc);
+    for (index, (field, _)) in document.field_values().enumerate() {
+        if let Some((code, address)) = document.addr_of(index) {
+            places.push((field.field_id(), code, address))?;
+        }
+    }
+    let heap = hex::encode(alloc, document.node_data())?;
+    Ok(format!(in alloc; "heap {heap}, values {places:?}")?)
+}
+
+/// What reading the bytes as a document gives, by one call and by steps.
+pub fn document(
+    alloc: Global,
+    version: DocStoreVersion,
+    form: Form<'_>,
+    bytes: &[u8],
+) -> Result<String> {
+    let mut answers = Vec::new(alloc);
+    for by_steps in [false, true] {
+        let reading = DocumentReading {
+            version,
+            by_steps,
+            form,
+        };
+        answers.push(over_each(alloc, bytes, &reading)?)?;
+    }
+    once(alloc, answers.as_slice())
+}
+
+/// What reading each strict prefix of the bytes gives.
+fn prefixes(alloc: Global, version: DocStoreVersion, bytes: &[u8]) -> Result<String> {
+    let mut answers = Vec::new(alloc);
+    for length in 0..bytes.len() {
+        answers.push(document(alloc, version, Form::Pairs, &bytes[..length])?)?;
+    }
+    once(alloc, answers.as_slice())
+}
+
+/// What reading a document gives where a read fails.
+fn failing(
+    alloc: Global,
+    kind: io::ErrorKind,
+    version: DocStoreVersion,
+    bytes: &[u8],
+) -> Result<String> {
+    let mut answers = Vec::new(alloc);
+    for by_steps in [false, true] {
+        let reading = DocumentReading {
+            version,
+            by_steps,
+            form: Form::Pairs,
+        };
+        answers.push(where_it_fails(alloc, kind, bytes, &reading)?)?;
+    }
+    once(alloc, answers.as_slice())
+}
+
+/// The version of the store with this number.
+pub fn version(number: &str) -> Result<DocStoreVersion> {
+    Ok(DocStoreVersion::from_u32(words::number(number)?)?)
+}
+
+/// The kind of error of a source, by its name.
+pub fn kind(name: &str) -> Result<io::ErrorKind> {
+    match name {
+        "TimedOut" => Ok(io::ErrorKind::TimedOut),
+        "ConnectionReset" => Ok(io::ErrorKind::ConnectionReset),
+        "PermissionDenied" => Ok(io::ErrorKind::PermissionDenied),
+        "Interrupted" => Ok(io::ErrorKind::Interrupted),
+        "UnexpectedEof" => Ok(io::ErrorKind::UnexpectedEof),
+        "OutOfMemory" => Ok(io::ErrorKind::OutOfMemory),
+        "Other" => Ok(io::ErrorKind::Other),
+        _ => Err(anyhow!("an unknown kind")),
+    }
+}
+
+/// The bytes of a word: hexadecimal digits, where `unit*times` repeats its digits and `+` joins two parts.
+pub fn bytes(alloc: Global, word: &str) -> Result<Vec<u8>> {
+    let mut digits = String::new(alloc);
+    for part in word.split('+') {
+        match part.split_once('*') {
+            Some((unit, times)) => {
+                let repeated = unit.repeat(alloc, words::number(times)?)?;
+                digits.push_str(repeated.as_str())?;
+            }
+            None => digits.push_str(part)?,
+        }
+    }
+    Ok(hex::decode(alloc, digits.as_str())?)
+}
+
+/// What a call that reads documents returns.
+pub fn answer(alloc: Global, call: &[&str]) -> Result<String> {
+    match call {
+        ["version", number] => {
+            words::shown(alloc, DocStoreVersion::from_u32(words::number(number)?))
+        }
+        ["document", number, word] => {
+            let bytes = bytes(alloc, word)?;
+            document(alloc, version(number)?, Form::Pairs, &bytes)
+        }
+        ["heap", number, word] => {
+            let bytes = bytes(alloc, word)?;
+            document(alloc, version(number)?, Form::Heap, &bytes)
+        }
+        ["size", number, word] => {
+            let bytes = bytes(alloc, word)?;
+            document(alloc, version(number)?, Form::Size, &bytes)
+        }
+        ["prefixes", number, word] => prefixes(alloc, version(number)?, &bytes(alloc, word)?),
+        ["failing", name, number, word] => {
+            failing(alloc, kind(name)?, version(number)?, &bytes(alloc, word)?)
+        }
+        _ => Err(anyhow!("an unknown call that reads documents")),
+    }
+}

@@ -1,0 +1,117 @@
+//! Documents and values that are written as bytes of the store.
+
+use crate::reads::{self, Form};
+use anyhow::{Result, anyhow};
+use case_words as words;
+use std::alloc::Global;
+use std::collections::BTreeMap;
+use std::str::FromStr;
+use tantivy_schema::common::{SliceSource, VecSink};
+use tantivy_schema::schema::document::{
+    BinaryArraySerializer, BinaryDocumentSerializer, BinaryObjectSerializer, BinaryValueSerializer,
+    Document, StoreReader, ValueDeserialize,
+};
+use tantivy_schema::schema::{
+    Field, JsonObjectOptions, OwnedValue, STORED, Schema, TantivyDocument,
+};
+use tantivy_schema::store::DocStoreVersion;
+
+/// The bytes that are written of a document.
+fn written(alloc: Global, document: &TantivyDocument, schema: &Schema) -> Result<String> {
+    if !document.fits(schema) {
+        return Err(anyhow!("a field is not the schema's"));
+    }
+    let mut sink = VecSink::new(alloc);
+    BinaryDocumentSerializer::new(&mut sink, schema).serialize_doc(document)?;
+    Ok(hex::encode(alloc, sink.as_slice())?)
+}
+
+/// The JSON of a document, and the bytes that are written of it.
+pub fn written_again(alloc: Global, document: &TantivyDocument, schema: &Schema) -> Result<String> {
+    let json = document.to_json(alloc, schema)?;
+    let bytes = written(alloc, document, schema)?;
+    Ok(format!(in alloc; "{json}, {bytes}")?)
+}
+
+/// The schema of its JSON.
+fn schema(alloc: Global, word: &str) -> Result<Schema> {
+    let json = serde_json::Value::from_str(alloc, word)?;
+    Ok(Schema::from_json_value(alloc, &json)?)
+}
+
+/// The value that the bytes spell, read into a type.
+fn value<V: ValueDeserialize>(alloc: Global, word: &str) -> Result<V> {
+    let bytes = reads::bytes(alloc, word)?;
+    let mut reader = StoreReader::new(SliceSource::new(&bytes), DocStoreVersion::V2);
+    Ok(reader.read::<V>(alloc)?)
+}
+
+/// What is written of a document with one value, in a stored field of JSON objects: the value itself, or the map of its entries.
+fn kept(alloc: Global, is_map: bool, word: &str) -> Result<String> {
+    let mut builder = Schema::builder(alloc);
+    let field = builder.add_json_field("j", JsonObjectOptions::from(STORED))?;
+    let schema = builder.build()?;
+    let mut document = TantivyDocument::new(alloc);
+    if is_map {
+        document.add_object(field, &value::<BTreeMap<String, OwnedValue>>(alloc, word)?)?;
+    } else {
+        document.add_field_value(field, &&value::<OwnedValue>(alloc, word)?)?;
+    }
+    written(alloc, &document, &schema)
+}
+
+/// What is written of a value alone.
+fn alone(alloc: Global, word: &str) -> Result<String> {
+    let mut sink = VecSink::new(alloc);
+    BinaryValueSerializer::new(&mut sink).serialize_value(&&value::<OwnedValue>(alloc, word)?)?;
+    Ok(hex::encode(alloc, sink.as_slice())?)
+}
+
+/// What the calls that write an array answer, and what is written then.
+fn array(alloc: Global, announced: u64, words: &[&str]) -> Result<String> {
+    let mut sink = VecSink::new(alloc);
+    let mut answers = Vec::new(alloc);
+    let mut array = BinaryArraySerializer::begin(announced, &mut sink)?;
+    for word in words {
+        answers.push(array.serialize_value(&&value::<OwnedValue>(alloc, word)?))?;
+    }
+    answers.push(array.end())?;
+    let bytes = hex::encode(alloc, sink.as_slice())?;
+    Ok(format!(in alloc; "{answers:?}, {bytes:?}")?)
+}
+
+/// What the calls that write an object answer, and what is written then.
+fn object(alloc: Global, announced: u64, words: &[&str]) -> Result<String> {
+    let mut sink = VecSink::new(alloc);
+    let mut answers = Vec::new(alloc);
+    match BinaryObjectSerializer::begin(announced, &mut sink) {
+        Ok(mut object) => {
+            if let [key, word] = words {
+                let key = words::text(alloc, key)?;
+                let value = value::<OwnedValue>(alloc, word)?;
+                answers.push(object.serialize_entry(key.as_str(), &&value))?;
+            }
+            answers.push(object.end())?;
+        }
+        Err(error) => answers.push(Err(error))?,
+    }
+    let bytes = hex::encode(alloc, sink.as_slice())?;
+    Ok(format!(in alloc; "{answers:?}, {bytes:?}")?)
+}
+
+/// What a call that writes returns.
+pub fn answer(alloc: Global, call: &[&str]) -> Result<String> {
+    match call {
+        ["again", word, bytes] => {
+            let schema = schema(alloc, word)?;
+            let bytes = reads::bytes(alloc, bytes)?;
+            reads::document(alloc, DocStoreVersion::V2, Form::Written(&schema), &bytes)
+        }
+        ["value", word] => alone(alloc, word),
+        ["kept", word] => kept(alloc, false, word),
+        ["map", word] => kept(alloc, true, word),
+        ["array", announced, words @ ..] => array(alloc, words::number(announced)?, words),
+        ["object", announced, words @ ..] => object(alloc, words::number(announced)?, words),
+        _ => Err(anyhow!("an unknown call that writes")),
+    }
+}

@@ -1,2 +1,0 @@
-mod plain_visitors;
-mod visitors;
