@@ -1,5 +1,6 @@
-//! The conformance suite of the store, in plain text, as that of the program `cases`: each line of the input names a call and has its arguments, and is answered by one line that
-//! says what the call returns. The answers are compared with those that the format, the standards and the original give.
+//! The conformance suite of the store in plain text, in the form of the program `cases`: each line of the input names a call and has
+//! its arguments, and is answered by one line that says what the call returns. The answers are compared with those that the format, the
+//! standards and the original give.
 #![tactic(auto)]
 
 mod over_each;
