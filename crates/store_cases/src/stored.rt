@@ -46,17 +46,26 @@ fn value<V: ValueDeserialize>(alloc: Global, word: &str) -> Result<V> {
     Ok(reader.read::<V>(alloc)?)
 }
 
-/// What is written of a document with one value, in a stored field of JSON objects: the value itself, or the map of its entries.
-fn kept(alloc: Global, is_map: bool, word: &str) -> Result<String> {
+/// A schema of one stored field of JSON objects, and its field.
+fn one_field(alloc: Global) -> Result<(Schema, Field)> {
     let mut builder = Schema::builder(alloc);
     let field = builder.add_json_field("j", JsonObjectOptions::from(STORED))?;
-    let schema = builder.build()?;
+    Ok((builder.build()?, field))
+}
+
+/// What is written of a document with this value.
+fn kept(alloc: Global, word: &str) -> Result<String> {
+    let (schema, field) = one_field(alloc)?;
     let mut document = TantivyDocument::new(alloc);
-    if is_map {
-        document.add_object(field, &value::<BTreeMap<String, OwnedValue>>(alloc, word)?)?;
-    } else {
-        document.add_field_value(field, &&value::<OwnedValue>(alloc, word)?)?;
-    }
+    document.add_field_value(field, &&value::<OwnedValue>(alloc, word)?)?;
+    written(alloc, &document, &schema)
+}
+
+/// What is written of a document with the map of an object's entries.
+fn map(alloc: Global, word: &str) -> Result<String> {
+    let (schema, field) = one_field(alloc)?;
+    let mut document = TantivyDocument::new(alloc);
+    document.add_object(field, &value::<BTreeMap<String, OwnedValue>>(alloc, word)?)?;
     written(alloc, &document, &schema)
 }
 
@@ -108,8 +117,8 @@ pub fn answer(alloc: Global, call: &[&str]) -> Result<String> {
             reads::document(alloc, DocStoreVersion::V2, Form::Written(&schema), &bytes)
         }
         ["value", word] => alone(alloc, word),
-        ["kept", word] => kept(alloc, false, word),
-        ["map", word] => kept(alloc, true, word),
+        ["kept", word] => kept(alloc, word),
+        ["map", word] => map(alloc, word),
         ["array", announced, words @ ..] => array(alloc, words::number(announced)?, words),
         ["object", announced, words @ ..] => object(alloc, words::number(announced)?, words),
         _ => Err(anyhow!("an unknown call that writes")),

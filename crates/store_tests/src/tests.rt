@@ -1,0 +1,3 @@
+//! Values of great depth.
+
+mod deep;
