@@ -29,7 +29,7 @@ pub fn values_are_added<'a, V: Value<'a>>(
     ensures { Adds document.old document.new field.id (V.tree value.now) result }
 {
     match document.add_field_value(field, value) {
-        Ok(()) => Ok(()),
+        Ok(added) => Ok(added),
         Err(refusal) => {
             let _ = document.len();
             Err(refusal)

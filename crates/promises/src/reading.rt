@@ -55,26 +55,26 @@ pub fn encoded_documents_are_returned<S: ByteSource>(
 {
     let read = read_document(alloc, source, version);
     let _ = source.at_hand();
-    match read {
-        Ok(nested) if begins_with_an_array(&nested) => Ok(nested),
-        Ok(other) if begins_with_an_object(&other) => Ok(other),
-        answer => answer,
+    let document = read?;
+    match first_value(&document) {
+        FirstValue::Array => Ok(document),
+        FirstValue::Object => Ok(document),
+        FirstValue::Other => Ok(document),
     }
 }
 
-/// Whether the first value of a document is an array.
-fn begins_with_an_array(document: &TantivyDocument) -> bool {
-    match document.field_values().next() {
-        Some((_, value)) => value.as_array().is_some(),
-        None => false,
-    }
+/// What the first value of a document is.
+enum FirstValue {
+    Array,
+    Object,
+    Other,
 }
 
-/// Whether the first value of a document is an object.
-fn begins_with_an_object(document: &TantivyDocument) -> bool {
+fn first_value(document: &TantivyDocument) -> FirstValue {
     match document.field_values().next() {
-        Some((_, value)) => value.as_object().is_some(),
-        None => false,
+        Some((_, value)) if value.as_array().is_some() => FirstValue::Array,
+        Some((_, value)) if value.as_object().is_some() => FirstValue::Object,
+        _ => FirstValue::Other,
     }
 }
 
@@ -91,10 +91,8 @@ pub fn refusals_are_true<S: ByteSource>(
     ensures errors { IfErr result IsReadingError }
 {
     match read_document(alloc, source, version) {
-        Err(DeserializeError::CorruptedValue(cause)) => Err(DeserializeError::CorruptedValue(
-            cause,
-        )),
-        refused => refused,
+        Ok(found) => Ok(found),
+        Err(refusal) => Err(refusal),
     }
 }
 
@@ -107,9 +105,7 @@ pub fn failures_are_told<S: ByteSource>(
     ensures { Counts store_stop result (S.faults source.old) (S.faults source.new) }
 {
     match read_document(alloc, source, version) {
-        Err(DeserializeError::CorruptedValue(shown)) => Err(DeserializeError::CorruptedValue(
-            shown,
-        )),
-        told => told,
+        Ok(found) => Ok(found),
+        Err(failure) => Err(failure),
     }
 }

@@ -19,9 +19,10 @@ pub fn entries_of_equal_keys_are_kept<S: ByteSource>(
         (NextRefused ⟦<Vec<(String, u64)> as ValueDeserialize>⟧.refused
         (version_of reader.old.version)) }
 {
-    match reader.read::<Vec<(String, u64)>>(alloc) {
-        Ok(entries) if are_two_of_one_key(&entries) => Ok(entries),
-        answer => answer,
+    let entries = reader.read::<Vec<(String, u64)>>(alloc)?;
+    match are_two_of_one_key(&entries) {
+        true => Ok(entries),
+        false => Ok(entries),
     }
 }
 
