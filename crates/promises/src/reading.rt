@@ -55,22 +55,24 @@ pub fn encoded_documents_are_returned<S: ByteSource>(
 {
     let read = read_document(alloc, source, version);
     let _ = source.at_hand();
-    let document = read?;
-    match first_value(&document) {
-        FirstValue::Array => Ok(document),
-        FirstValue::Object => Ok(document),
-        FirstValue::Other => Ok(document),
+    match first_value(&read) {
+        FirstValue::Array => read,
+        FirstValue::Object => read,
+        FirstValue::Other => read,
     }
 }
 
-/// What the first value of a document is.
+/// What the first value of a document is, if there is one.
 enum FirstValue {
     Array,
     Object,
     Other,
 }
 
-fn first_value(document: &TantivyDocument) -> FirstValue {
+fn first_value(read: &Result<TantivyDocument, DeserializeError>) -> FirstValue {
+    let Ok(document) = read else {
+        return FirstValue::Other;
+    };
     match document.field_values().next() {
         Some((_, value)) if value.as_array().is_some() => FirstValue::Array,
         Some((_, value)) if value.as_object().is_some() => FirstValue::Object,
