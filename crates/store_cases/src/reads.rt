@@ -2,7 +2,7 @@
 
 use crate::over_each::{Ending, Reading, once, over_each, where_it_fails};
 use crate::{steps, stored};
-use anyhow::{Context, Result, anyhow};
+use anyhow::{Result, anyhow};
 use case_words as words;
 use std::alloc::Global;
 use std::io;
@@ -79,10 +79,12 @@ fn pairs(alloc: Global, document: &TantivyDocument) -> Result<String> {
 /// The heap of a document, and the field, the type and the address of each of its values.
 fn heap(alloc: Global, document: &TantivyDocument) -> Result<String> {
     let mut places = Vec::new(alloc);
-    for (index, (field, _)) in document.field_values().enumerate() {
-        if let Some((code, address)) = document.addr_of(index) {
+    let mut place: usize = 0;
+    for (field, _) in document.field_values() {
+        if let Some((code, address)) = document.addr_of(place) {
             places.push((field.field_id(), code, address))?;
         }
+        place = place.saturating_add(1);
     }
     let heap = hex::encode(alloc, document.node_data())?;
     Ok(format!(in alloc; "heap {heap}, values {places:?}")?)

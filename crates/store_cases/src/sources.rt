@@ -1,6 +1,6 @@
 //! A source that lends few bytes, and may fail.
 
-ghost use Rattle.std.specs.Prelude.{Some};
+ghost use Rattle.std.specs.Prelude.{◌<◌, Some};
 ghost use Rattle.tv_base.specs.Source.{AllBytes};
 
 use std::io;
@@ -16,6 +16,7 @@ pub struct LimitedSource<'a> {
     pub kind: io::ErrorKind,
     pub faults: u64,
     ghost are_bytes: { AllBytes rest.now },
+    ghost some: { 0 < packet },
 }
 
 impl<'a> LimitedSource<'a> {

@@ -102,15 +102,22 @@ pub fn document<S: ByteSource>(
     source: &mut S,
     version: DocStoreVersion,
 ) -> Result<(Result<TantivyDocument, DeserializeError>, Option<u64>)> {
-    let outcome = read_steps(alloc, source, version);
-    if !outcome.is_right {
+    let Outcome {
+        refusal,
+        counts,
+        largest: _,
+        deepest: _,
+        is_right,
+        document,
+    } = read_steps(alloc, source, version);
+    if !is_right {
         return Err(anyhow!("a step breaks a rule"));
     }
-    let document = match outcome.refusal {
-        None => Ok(outcome.document),
+    let answer = match refusal {
+        None => Ok(document),
         Some(error) => Err(error),
     };
-    Ok((document, Some(outcome.counts.0)))
+    Ok((answer, Some(counts.0)))
 }
 
 /// Tells what was counted.

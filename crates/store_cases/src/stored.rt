@@ -5,7 +5,6 @@ use anyhow::{Result, anyhow};
 use case_words as words;
 use std::alloc::Global;
 use std::collections::BTreeMap;
-use std::str::FromStr;
 use tantivy_schema::common::{SliceSource, VecSink};
 use tantivy_schema::schema::document::{
     BinaryArraySerializer, BinaryDocumentSerializer, BinaryObjectSerializer, BinaryValueSerializer,
