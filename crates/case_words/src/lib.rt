@@ -2,6 +2,8 @@
 //! hexadecimal digits, and a number is decimal.
 #![tactic(auto)]
 
+pub mod leaves;
+
 use anyhow::{Context, Result, ensure};
 use std::alloc::Global;
 use std::cmp::Ordering;

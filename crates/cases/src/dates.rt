@@ -2,6 +2,7 @@
 
 use anyhow::{Result, anyhow, ensure};
 use case_words as words;
+use case_words::leaves;
 use std::alloc::Global;
 use tantivy_schema::DateTime;
 use tantivy_schema::schema::{DATE_TIME_PRECISION_INDEXED, DateTimePrecision};
@@ -13,9 +14,9 @@ pub fn answer(alloc: Global, call: &[&str]) -> Result<String> {
             Ok(date) => shown(alloc, date),
             Err(error) => words::error(alloc, &error),
         },
-        ["print", nanoseconds] => printed(alloc, date(nanoseconds)?),
+        ["print", nanoseconds] => printed(alloc, leaves::date(nanoseconds)?),
         ["truncate", precision, nanoseconds] => {
-            let date = date(nanoseconds)?;
+            let date = leaves::date(nanoseconds)?;
             let cut = date.truncate(precision_named(precision)?);
             let order = words::compared(alloc, &date, &cut)?;
             let cut = cut.into_timestamp_nanos();
@@ -30,11 +31,6 @@ pub fn answer(alloc: Global, call: &[&str]) -> Result<String> {
         ["indexed precision"] => Ok(format!(in alloc; "{DATE_TIME_PRECISION_INDEXED:?}")?),
         _ => Err(anyhow!("an unknown call about dates")),
     }
-}
-
-/// The date so many nanoseconds after 1970.
-pub fn date(nanoseconds: &str) -> Result<DateTime> {
-    Ok(DateTime::from_timestamp_nanos(words::number(nanoseconds)?))
 }
 
 /// How many nanoseconds after 1970 a date is.

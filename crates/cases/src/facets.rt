@@ -2,6 +2,7 @@
 
 use anyhow::{Result, anyhow, ensure};
 use case_words as words;
+use case_words::leaves::facet;
 use std::alloc::Global;
 use tantivy_schema::common::{BinarySerializable, SliceSource, VecSink};
 use tantivy_schema::schema::Facet;
@@ -31,11 +32,6 @@ pub fn answer(alloc: Global, call: &[&str]) -> Result<String> {
         }
         _ => Err(anyhow!("an unknown call about facets")),
     }
-}
-
-/// The facet of a text in quotes.
-pub fn facet(alloc: Global, word: &str) -> Result<Facet> {
-    Ok(Facet::from_text(alloc, words::text(alloc, word)?.as_str())?)
 }
 
 /// The facet of a JSON array of steps.

@@ -1,8 +1,8 @@
 //! Terms, and the values that are read back from them.
 
-use crate::{dates, values};
 use anyhow::{Context, Result, anyhow, ensure};
 use case_words as words;
+use case_words::leaves;
 use std::alloc::Global;
 use std::fmt::Write;
 use tantivy_schema::fastfield::FastValue;
@@ -15,11 +15,11 @@ use tantivy_schema::schema::{Field, OwnedValue, Schema, Term, ValueBytes};
 pub fn answer(alloc: Global, call: &[&str]) -> Result<String> {
     match call {
         ["of", field, kind, value] => {
-            let value = values::leaf(alloc, kind, value)?;
+            let value = leaves::leaf(alloc, kind, value)?;
             shown(alloc, &term_of(alloc, words::field(field)?, &value)?)
         }
         ["searched date", field, value] => {
-            let (field, date) = (words::field(field)?, dates::date(value)?);
+            let (field, date) = (words::field(field)?, leaves::date(value)?);
             shown(
                 alloc,
                 &Term::from_field_date_for_search(alloc, field, date)?,
@@ -85,7 +85,7 @@ fn append(alloc: Global, term: &mut Term, kind: &str, value: &str) -> Result<()>
         "u64" => term.append_type_and_fast_value(words::number::<u64>(value)?)?,
         "i64" => term.append_type_and_fast_value(words::number::<i64>(value)?)?,
         "bool" => term.append_type_and_fast_value(value == "true")?,
-        "date" => term.append_type_and_fast_value(dates::date(value)?)?,
+        "date" => term.append_type_and_fast_value(leaves::date(value)?)?,
         _ => return Err(anyhow!("an unknown kind of value: {kind}")),
     }
     Ok(())
@@ -208,7 +208,7 @@ fn fast_values(alloc: Global, kind: &str, one: &str, other: &str) -> Result<Stri
             words::number::<u64>(other)?,
         ),
         "bool" => compared(alloc, one == "true", other == "true"),
-        "date" => compared(alloc, dates::date(one)?, dates::date(other)?),
+        "date" => compared(alloc, leaves::date(one)?, leaves::date(other)?),
         _ => Err(anyhow!("an unknown kind of fast value: {kind}")),
     }
 }

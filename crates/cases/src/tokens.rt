@@ -2,6 +2,7 @@
 
 use anyhow::{Context, Result, anyhow, ensure};
 use case_words as words;
+use case_words::leaves::tokenized;
 use std::alloc::Global;
 use tantivy_schema::schema::OwnedValue;
 use tantivy_schema::schema::document::push_json;
@@ -20,13 +21,6 @@ pub fn answer(alloc: Global, call: &[&str]) -> Result<String> {
         ["same", kept, spelled] => same(alloc, &tokenized(alloc, kept)?, spelled),
         _ => Err(anyhow!("an unknown call about texts with tokens")),
     }
-}
-
-/// The text and the tokens that the bytes spell.
-pub fn tokenized(alloc: Global, digits: &str) -> Result<PreTokenizedString> {
-    let bytes = words::bytes(alloc, digits)?;
-    let (text, _) = PreTokenizedStr::from_payload(&bytes).context("a payload")?;
-    Ok(text.to_owned_string(alloc)?)
 }
 
 /// Whether a text is equal to the one that the bytes spell, and that one to it. Copies of both are equal just then.

@@ -1,10 +1,9 @@
 //! Values of one kind: what each accessor returns, copies, and which values are equal.
 
-use crate::{dates, facets, tokens};
-use anyhow::{Context, Result, anyhow, ensure};
+use anyhow::{Result, anyhow, ensure};
 use case_words as words;
+use case_words::leaves::leaf;
 use std::alloc::Global;
-use std::net::Ipv6Addr;
 use tantivy_schema::schema::document::is_same;
 use tantivy_schema::schema::{OwnedValue, Value};
 
@@ -20,29 +19,6 @@ pub fn answer(alloc: Global, call: &[&str]) -> Result<String> {
         }
         _ => Err(anyhow!("an unknown call about values")),
     }
-}
-
-/// The value of this kind.
-pub fn leaf(alloc: Global, kind: &str, value: &str) -> Result<OwnedValue> {
-    Ok(match kind {
-        "null" => OwnedValue::Null,
-        "str" => OwnedValue::Str(words::text(alloc, value)?),
-        "tokens" => OwnedValue::PreTokStr(tokens::tokenized(alloc, value)?),
-        "u64" => OwnedValue::U64(words::number(value)?),
-        "i64" => OwnedValue::I64(words::number(value)?),
-        "bool" => OwnedValue::Bool(value == "true"),
-        "date" => OwnedValue::Date(dates::date(value)?),
-        "facet" => OwnedValue::Facet(facets::facet(alloc, value)?),
-        "bytes" => OwnedValue::Bytes(words::bytes(alloc, value)?),
-        "ip" => OwnedValue::IpAddr(address(value)?),
-        _ => return Err(anyhow!("an unknown kind of value: {kind}")),
-    })
-}
-
-/// The address of 32 hexadecimal digits.
-fn address(digits: &str) -> Result<Ipv6Addr> {
-    let bits = u128::from_str_radix(digits, 16);
-    Ok(Ipv6Addr::from_bits(bits.ok().context("an address")?))
 }
 
 /// The name and the answer of each accessor that has one.

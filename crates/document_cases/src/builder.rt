@@ -1,8 +1,9 @@
 //! Documents that calls build: those of a tree builder, and additions.
 
-use crate::{documents, values};
+use crate::documents;
 use anyhow::{Context, Result, anyhow, ensure};
 use case_words as words;
+use case_words::leaves;
 use serde_json::Value as JsonValue;
 use std::alloc::Global;
 use std::collections::BTreeMap;
@@ -102,7 +103,7 @@ pub fn value(alloc: Global, word: &str) -> Result<OwnedValue> {
     match kind {
         "json" => Ok(OwnedValue::from_json(alloc, JsonValue::from_str(alloc, content)?)?),
         "zeros" => Ok(OwnedValue::Bytes(vec![in alloc; 0; words::number(content)?]?)),
-        _ => values::leaf(alloc, kind, content),
+        _ => leaves::leaf(alloc, kind, content),
     }
 }
 
