@@ -22,14 +22,11 @@ pub fn answer(alloc: Global, call: &[&str]) -> Result<String> {
         return ran(alloc, &mut SliceSource::new(input.as_slice()), room);
     }
     let place: usize = words::number(place.strip_suffix(" Interrupted").context("a failure")?)?;
-    let mut source = FailingSource {
-        rest: input.as_slice(),
-        left: input
-            .len()
-            .checked_sub(place)
-            .context("a place in the input")?,
-        faults: 0,
-    };
+    let left = input
+        .len()
+        .checked_sub(place)
+        .context("a place in the input")?;
+    let mut source = FailingSource::new(input.as_slice(), left);
     let text = ran(alloc, &mut source, room)?;
     ensure!(source.faults == 1, "one read fails");
     Ok(text)
@@ -75,6 +72,17 @@ struct FailingSource<'a> {
     left: usize,
     faults: u64,
     ghost are_bytes: { AllBytes rest.now },
+}
+
+impl<'a> FailingSource<'a> {
+    /// A source of these bytes that fails where so many of them are left.
+    fn new(bytes: &'a [u8], left: usize) -> FailingSource<'a> {
+        FailingSource {
+            rest: bytes,
+            left,
+            faults: 0,
+        }
+    }
 }
 
 impl<'a> ByteSource for FailingSource<'a> {

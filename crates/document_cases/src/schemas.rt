@@ -51,11 +51,16 @@ fn schema_of_texts(alloc: Global, names: &Value) -> Result<Schema> {
     Ok(builder.build()?)
 }
 
+/// The description that a word stands for: that of a field of each type for `types`, and else the word itself.
+fn description_of(word: &str) -> &str {
+    if word == "types" { TYPES } else { word }
+}
+
 /// The JSON of the schema that a description describes, or the refusal. The schema that is read from this JSON has to be the same, and so
 /// has the one whose fields are added by the calls of their types.
 fn described(alloc: Global, word: &str) -> Result<String> {
-    let description = if word == "types" { TYPES } else { word };
-    let schema = match Schema::from_json_value(alloc, &Value::from_str(alloc, description)?) {
+    let description = Value::from_str(alloc, description_of(word))?;
+    let schema = match Schema::from_json_value(alloc, &description) {
         Ok(schema) => schema,
         Err(error) => return words::error(alloc, &error),
     };
