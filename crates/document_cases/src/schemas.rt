@@ -34,7 +34,7 @@ pub fn answer(alloc: Global, call: &[&str]) -> Result<String> {
 /// The schema of a JSON description. A list of names stands for fields of texts with these names, and the word `types` for a field of
 /// each type.
 pub fn schema(alloc: Global, word: &str) -> Result<Schema> {
-    let description = if word == "types" { TYPES } else { word };
+    let description = description_of(word);
     let json = Value::from_str(alloc, description)?;
     if description.starts_with("[\"") {
         return schema_of_texts(alloc, &json);
