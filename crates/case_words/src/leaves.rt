@@ -3,9 +3,11 @@
 use anyhow::{Context, Result, anyhow};
 use std::alloc::Global;
 use std::net::Ipv6Addr;
-use tantivy_schema::DateTime;
-use tantivy_schema::schema::{Facet, OwnedValue};
-use tantivy_schema::tokenizer::{PreTokenizedStr, PreTokenizedString};
+use tv_base::Facet;
+use tv_date::DateTime;
+use tv_value::owned_value::OwnedValue;
+use tv_value::pre_tokenized::PreTokenizedStr;
+use tv_value::tokenizer::PreTokenizedString;
 
 /// The value of this kind.
 pub fn leaf(alloc: Global, kind: &str, value: &str) -> Result<OwnedValue> {

@@ -12,7 +12,8 @@ use std::fmt::{Debug, Display, Write};
 use std::hash::{DefaultHasher, Hash, Hasher};
 use std::net::Ipv6Addr;
 use std::str::FromStr;
-use tantivy_schema::schema::{Field, Type};
+use tv_options::Type;
+use tv_value::field::Field;
 
 /// The text of a JSON string.
 pub fn text(alloc: Global, word: &str) -> Result<String> {

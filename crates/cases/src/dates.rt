@@ -4,8 +4,7 @@ use anyhow::{Result, anyhow, ensure};
 use case_words as words;
 use case_words::leaves;
 use std::alloc::Global;
-use tantivy_schema::DateTime;
-use tantivy_schema::schema::{DATE_TIME_PRECISION_INDEXED, DateTimePrecision};
+use tv_date::{DATE_TIME_PRECISION_INDEXED, DateTime, DateTimePrecision};
 
 /// What a call about dates returns.
 pub fn answer(alloc: Global, call: &[&str]) -> Result<String> {

@@ -4,8 +4,7 @@ use anyhow::{Result, anyhow, ensure};
 use case_words as words;
 use case_words::leaves::facet;
 use std::alloc::Global;
-use tantivy_schema::common::{BinarySerializable, SliceSource, VecSink};
-use tantivy_schema::schema::Facet;
+use tv_base::{BinarySerializable, Facet, SliceSource, VecSink};
 
 /// What a call about facets returns.
 pub fn answer(alloc: Global, call: &[&str]) -> Result<String> {

@@ -6,11 +6,10 @@ use std::alloc::Global;
 use std::fmt::Display;
 use std::io;
 use std::io::Read;
-use tantivy_schema::common::{
-    BinarySerializable, ByteSink, ByteSource, ReadError, ReadSource, SliceSource, VInt, VecSink,
-    WriteSink,
+use tv_base::{
+    BinarySerializable, ByteSink, ByteSource, Facet, ReadError, SliceSource, VInt, VecSink,
 };
-use tantivy_schema::schema::Facet;
+use tv_io::{ReadSource, WriteSink};
 
 /// What a call about numbers returns.
 pub fn answer(alloc: Global, call: &[&str]) -> Result<String> {

@@ -4,11 +4,14 @@ use anyhow::{Context, Result, anyhow, ensure};
 use case_words as words;
 use std::alloc::Global;
 use std::fmt::Write;
-use tantivy_schema::schema::{
-    BytesOptions, COERCE, DateOptions, DateTimePrecision, FAST, FacetOptions, FieldEntry,
-    FieldType, INDEXED, IndexRecordOption, IpAddrOptions, JsonObjectOptions, NumericOptions,
-    STORED, STRING, Schema, TEXT, TextFieldIndexing, TextOptions, TokenizerName, Type,
+use tv_date::DateTimePrecision;
+use tv_field::{FieldEntry, FieldType};
+use tv_options::{
+    BytesOptions, COERCE, DateOptions, FAST, FacetOptions, INDEXED, IndexRecordOption,
+    IpAddrOptions, JsonObjectOptions, NumericOptions, STORED, STRING, TEXT, TextFieldIndexing,
+    TextOptions, TokenizerName, Type,
 };
+use tv_schema::Schema;
 
 /// What a call about options returns.
 pub fn answer(alloc: Global, call: &[&str]) -> Result<String> {

@@ -3,7 +3,7 @@
 use anyhow::{Result, anyhow};
 use case_words as words;
 use std::alloc::Global;
-use tantivy_schema::common::{join_json_path, joined_json_path, split_json_path};
+use tv_base::{join_json_path, joined_json_path, split_json_path};
 
 /// What a call about paths returns.
 pub fn answer(alloc: Global, call: &[&str]) -> Result<String> {

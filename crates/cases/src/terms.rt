@@ -5,11 +5,13 @@ use case_words as words;
 use case_words::leaves;
 use std::alloc::Global;
 use std::fmt::Write;
-use tantivy_schema::fastfield::FastValue;
-use tantivy_schema::laws::{
+use tv_schema::Schema;
+use tv_term::laws::{
     fast_types_are_of_eight_bytes, fast_values_are_ordered_as_numbers, fast_values_are_read_back,
 };
-use tantivy_schema::schema::{Field, OwnedValue, Schema, Term, ValueBytes};
+use tv_term::{FastValue, Term, ValueBytes};
+use tv_value::field::Field;
+use tv_value::owned_value::OwnedValue;
 
 /// What a call about terms returns.
 pub fn answer(alloc: Global, call: &[&str]) -> Result<String> {

@@ -4,9 +4,10 @@ use anyhow::{Context, Result, anyhow, ensure};
 use case_words as words;
 use case_words::leaves::tokenized;
 use std::alloc::Global;
-use tantivy_schema::schema::OwnedValue;
-use tantivy_schema::schema::document::push_json;
-use tantivy_schema::tokenizer::{PreTokenizedStr, PreTokenizedString};
+use tv_json::compact::push_json;
+use tv_value::owned_value::OwnedValue;
+use tv_value::pre_tokenized::PreTokenizedStr;
+use tv_value::tokenizer::PreTokenizedString;
 
 /// What a call about texts with tokens returns.
 pub fn answer(alloc: Global, call: &[&str]) -> Result<String> {

@@ -4,8 +4,9 @@ use anyhow::{Result, anyhow, ensure};
 use case_words as words;
 use case_words::leaves::leaf;
 use std::alloc::Global;
-use tantivy_schema::schema::document::is_same;
-use tantivy_schema::schema::{OwnedValue, Value};
+use tv_value::owned_value::OwnedValue;
+use tv_value::same::is_same;
+use tv_value::value::Value;
 
 /// What a call about values returns.
 pub fn answer(alloc: Global, call: &[&str]) -> Result<String> {

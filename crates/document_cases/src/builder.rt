@@ -8,11 +8,14 @@ use serde_json::Value as JsonValue;
 use std::alloc::Global;
 use std::collections::BTreeMap;
 use std::fmt::{Debug, Write};
-use tantivy_schema::schema::document::{
-    AddError, BuildError, BytesKind, ReferenceValueLeaf, TreeBuilder,
-};
-use tantivy_schema::schema::{CompactDoc, Field, OwnedValue, Value};
+use tv_doc::add_error::AddError;
+use tv_doc::builder::{BuildError, BytesKind, TreeBuilder};
+use tv_doc::document::CompactDoc;
+use tv_value::field::Field;
 use tv_value::json::LentJson;
+use tv_value::leaf::ReferenceValueLeaf;
+use tv_value::owned_value::OwnedValue;
+use tv_value::value::Value;
 
 /// What calls answer, and the document that they make.
 pub fn answer(alloc: Global, calls: &[&str]) -> Result<String> {

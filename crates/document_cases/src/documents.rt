@@ -5,11 +5,17 @@ use anyhow::{Context, Result, anyhow, ensure};
 use case_words as words;
 use std::alloc::Global;
 use std::fmt::Write;
-use tantivy_schema::laws::named_documents_are_converted_back;
-use tantivy_schema::schema::document::{
-    DocParsingError, Document, ToJsonValue, Value, is_same, push_json, to_json_value,
-};
-use tantivy_schema::schema::{CompactDoc, Field, OwnedValue, Schema};
+use tv_doc::doc_parsing_error::DocParsingError;
+use tv_doc::document::CompactDoc;
+use tv_doc::document_trait::Document;
+use tv_doc::laws::named_documents_are_converted_back;
+use tv_json::compact::push_json;
+use tv_json::json_value::{ToJsonValue, to_json_value};
+use tv_schema::Schema;
+use tv_value::field::Field;
+use tv_value::owned_value::OwnedValue;
+use tv_value::same::is_same;
+use tv_value::value::Value;
 
 /// What a call about documents returns.
 pub fn answer(alloc: Global, call: &[&str]) -> Result<String> {

@@ -4,8 +4,7 @@ use crate::builder;
 use anyhow::{Context, Result, anyhow, ensure};
 use case_words as words;
 use std::alloc::Global;
-use tantivy_schema::common::{BinarySerializable, SliceSource, VecSink};
-use tantivy_schema::schema::Value;
+use tv_base::{BinarySerializable, SliceSource, VecSink};
 use tv_borrowed::Scratch;
 use tv_borrowed::read::read_borrowed;
 use tv_builder::json::put_json;
@@ -13,6 +12,7 @@ use tv_builder::place::Place;
 use tv_builder::spelled::put_spelled;
 use tv_heap::len::leaf_len;
 use tv_heap::value_type::ValueType;
+use tv_value::value::Value;
 
 /// What stands at the places of lists that are open.
 const OPEN: &[u8] = b"\x09\x81";

@@ -4,7 +4,7 @@ use crate::schemas;
 use anyhow::{Context, Result, anyhow};
 use serde_json::Value as JsonValue;
 use std::alloc::Global;
-use tantivy_schema::schema::ValueParsingError;
+use tv_field::ValueParsingError;
 
 /// What a JSON value is to the first field of a schema: the value with its type, or the refusal.
 pub fn answer(alloc: Global, call: &[&str]) -> Result<String> {

@@ -7,7 +7,6 @@ mod builder;
 mod documents;
 mod heap;
 mod json_values;
-mod lines;
 mod parts;
 mod schemas;
 
@@ -38,7 +37,6 @@ fn answer(alloc: Global, line: &str) -> Result<String> {
         ["document", call @ ..] => documents::answer(alloc, call),
         ["builder", call @ ..] => builder::answer(alloc, call),
         ["heap", call @ ..] => heap::answer(alloc, call),
-        ["lines", call @ ..] => lines::answer(alloc, call),
         _ => Err(anyhow!("an unknown line: {line}")),
     }
 }

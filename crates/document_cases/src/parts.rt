@@ -2,10 +2,11 @@
 
 use anyhow::{Result, anyhow};
 use std::alloc::Global;
-use tantivy_schema::schema::CompactDoc;
-use tantivy_schema::schema::document::{
-    BuildError, BytesKind, CompactDocValue, ReferenceValue, ReferenceValueLeaf, TreeBuilder, Value,
-};
+use tv_doc::builder::{BuildError, BytesKind, TreeBuilder};
+use tv_doc::document::CompactDoc;
+use tv_heap::value::CompactDocValue;
+use tv_value::leaf::ReferenceValueLeaf;
+use tv_value::value::{ReferenceValue, Value};
 
 /// A part of a value that is still to come.
 #[derive(Clone, Copy)]

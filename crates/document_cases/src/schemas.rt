@@ -5,10 +5,12 @@ use case_words as words;
 use serde_json::Value;
 use std::alloc::Global;
 use std::fmt::Write;
-use tantivy_schema::laws::{printed_schema_is_read_back, record_options_agree};
-use tantivy_schema::schema::{
-    Field, FieldEntry, FieldType, Schema, SchemaBuilder, SchemaError, TEXT, is_valid_field_name,
-};
+use tv_field::{FieldEntry, FieldType, SchemaError, is_valid_field_name};
+use tv_options::TEXT;
+use tv_schema::json::laws::printed_schema_is_read_back;
+use tv_schema::laws::record_options_agree;
+use tv_schema::{Schema, SchemaBuilder};
+use tv_value::field::Field;
 
 /// The schema that the word `types` stands for: a field of each type, and some that coerce.
 const TYPES: &str =

@@ -2,14 +2,14 @@
 
 ghost use Rattle.std.specs.Prelude.{Some};
 ghost use Rattle.std.specs.declared.io.ErrorKind.TheVariants.{Interrupted};
-ghost use Rattle.tantivy_schema.specs.Source.{AllBytes};
+ghost use Rattle.tv_base.specs.Source.{AllBytes};
 
 use anyhow::{Context, Result, anyhow, ensure};
 use case_words as words;
 use std::alloc::Global;
 use std::io;
-use tantivy_schema::common::{ByteSink, ByteSource, SliceSource, VecSink};
-use tantivy_schema::{RunEnd, run};
+use tv_base::{ByteSink, ByteSource, SliceSource, VecSink};
+use tv_lines::{RunEnd, run};
 
 /// How a run over an input ends, and what it has written.
 pub fn answer(alloc: Global, call: &[&str]) -> Result<String> {
