@@ -22,7 +22,7 @@ pub fn leaf(alloc: Global, kind: &str, value: &str) -> Result<OwnedValue> {
         "facet" => OwnedValue::Facet(facet(alloc, value)?),
         "bytes" => OwnedValue::Bytes(crate::bytes(alloc, value)?),
         "ip" => OwnedValue::IpAddr(address(value)?),
-        _ => return Err(anyhow!("an unknown kind of value: {kind}")),
+        _ => return Err(anyhow!("an unknown kind of value")),
     })
 }
 

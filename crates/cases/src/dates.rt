@@ -45,7 +45,7 @@ fn printed(alloc: Global, date: DateTime) -> Result<String> {
     date.push_rfc3339(&mut behind)?;
     ensure!(
         behind.as_str().strip_prefix("on ") == Some(text.as_str()),
-        "two texts: {behind}"
+        "two texts"
     );
     words::quoted(alloc, text.as_str())
 }
@@ -57,6 +57,6 @@ fn precision_named(name: &str) -> Result<DateTimePrecision> {
         "milliseconds" => Ok(DateTimePrecision::Milliseconds),
         "microseconds" => Ok(DateTimePrecision::Microseconds),
         "nanoseconds" => Ok(DateTimePrecision::Nanoseconds),
-        _ => Err(anyhow!("an unknown precision: {name}")),
+        _ => Err(anyhow!("an unknown precision")),
     }
 }

@@ -57,7 +57,7 @@ fn error_kind(word: &str) -> Result<io::ErrorKind> {
     match word {
         "Interrupted" => Ok(io::ErrorKind::Interrupted),
         "TimedOut" => Ok(io::ErrorKind::TimedOut),
-        _ => Err(anyhow!("an unknown kind of failure: {word}")),
+        _ => Err(anyhow!("an unknown kind of failure")),
     }
 }
 
@@ -137,7 +137,7 @@ fn read_bytes<S: ByteSource>(alloc: Global, source: &mut S, kind: &str) -> Resul
             Ok(facet) => words::quoted(alloc, facet.encoded_str()),
             Err(error) => words::error(alloc, &error),
         },
-        _ => Err(anyhow!("an unknown kind of value: {kind}")),
+        _ => Err(anyhow!("an unknown kind of value")),
     }
 }
 
@@ -208,6 +208,6 @@ fn write_one<K: ByteSink>(
         "text" => words::text(alloc, value)?.serialize(sink),
         "bytes" => words::bytes(alloc, value)?.serialize(sink),
         "facet" => Facet::from_text(alloc, words::text(alloc, value)?.as_str())?.serialize(sink),
-        _ => return Err(anyhow!("an unknown kind of value: {kind}")),
+        _ => return Err(anyhow!("an unknown kind of value")),
     })
 }

@@ -73,7 +73,7 @@ fn record_named(name: &str) -> Result<IndexRecordOption> {
         "Basic" => Ok(IndexRecordOption::Basic),
         "WithFreqs" => Ok(IndexRecordOption::WithFreqs),
         "WithFreqsAndPositions" => Ok(IndexRecordOption::WithFreqsAndPositions),
-        _ => Err(anyhow!("an unknown record option: {name}")),
+        _ => Err(anyhow!("an unknown record option")),
     }
 }
 
@@ -87,7 +87,7 @@ fn unset(kind: &str) -> Result<FieldType> {
         "bytes" => Ok(FieldType::Bytes(BytesOptions::default())),
         "json_object" => Ok(FieldType::JsonObject(JsonObjectOptions::default())),
         "ip_addr" => Ok(FieldType::IpAddr(IpAddrOptions::default())),
-        _ => Err(anyhow!("an unknown type of fields: {kind}")),
+        _ => Err(anyhow!("an unknown type of fields")),
     }
 }
 
@@ -106,7 +106,7 @@ fn changed(alloc: Global, field_type: FieldType, step: &str) -> Result<FieldType
             "milliseconds" => options.set_precision(DateTimePrecision::Milliseconds),
             "|stored" => options | STORED,
             "stored|" => STORED | options,
-            _ => return Err(anyhow!("an unknown step: {step}")),
+            _ => return Err(anyhow!("an unknown step")),
         }),
         FieldType::Facet(options) => FieldType::Facet(match step {
             "|indexed" => options | INDEXED,
@@ -117,7 +117,7 @@ fn changed(alloc: Global, field_type: FieldType, step: &str) -> Result<FieldType
         FieldType::IpAddr(options) => FieldType::IpAddr(match step {
             "fieldnorms" => options.set_fieldnorms(),
             "|stored+indexed+fast" => options | (STORED | INDEXED | FAST),
-            _ => return Err(anyhow!("an unknown step: {step}")),
+            _ => return Err(anyhow!("an unknown step")),
         }),
         FieldType::JsonObject(options) => {
             FieldType::JsonObject(changed_json(alloc, options, step, name)?)
@@ -137,7 +137,7 @@ fn changed_number(options: NumericOptions, step: &str) -> Result<NumericOptions>
         "indexed|" => Ok(INDEXED | options),
         "|fast" => Ok(options | FAST),
         "|itself" => Ok(options | options),
-        _ => Err(anyhow!("an unknown step: {step}")),
+        _ => Err(anyhow!("an unknown step")),
     }
 }
 
@@ -156,7 +156,7 @@ fn changed_bytes(options: BytesOptions, step: &str) -> Result<BytesOptions> {
         "|fast+stored" => Ok(options | (FAST | STORED)),
         "|indexed+fast" => Ok(options | (INDEXED | FAST)),
         "|stored+indexed" => Ok(options | (STORED | INDEXED)),
-        _ => Err(anyhow!("an unknown step: {step}")),
+        _ => Err(anyhow!("an unknown step")),
     }
 }
 
@@ -179,7 +179,7 @@ fn changed_text(
         "|fast" => Ok(options | TextOptions::default().set_fast(alloc, tokenizer_name)?),
         "|stored+coerce" => Ok(options | (STORED | COERCE)),
         "|stored+coerce+fast" => Ok(options | (STORED | COERCE | FAST)),
-        _ => Err(anyhow!("an unknown step: {step}")),
+        _ => Err(anyhow!("an unknown step")),
     }
 }
 
@@ -201,7 +201,7 @@ fn changed_json(
         "|stored" => Ok(options | STORED),
         "|fast" => Ok(options | FAST),
         "|fast+stored" => Ok(options | (FAST | STORED)),
-        _ => Err(anyhow!("an unknown step: {step}")),
+        _ => Err(anyhow!("an unknown step")),
     }
 }
 

@@ -88,7 +88,7 @@ fn append(alloc: Global, term: &mut Term, kind: &str, value: &str) -> Result<()>
         "i64" => term.append_type_and_fast_value(words::number::<i64>(value)?)?,
         "bool" => term.append_type_and_fast_value(value == "true")?,
         "date" => term.append_type_and_fast_value(leaves::date(value)?)?,
-        _ => return Err(anyhow!("an unknown kind of value: {kind}")),
+        _ => return Err(anyhow!("an unknown kind of value")),
     }
     Ok(())
 }
@@ -211,7 +211,7 @@ fn fast_values(alloc: Global, kind: &str, one: &str, other: &str) -> Result<Stri
         ),
         "bool" => compared(alloc, one == "true", other == "true"),
         "date" => compared(alloc, leaves::date(one)?, leaves::date(other)?),
-        _ => Err(anyhow!("an unknown kind of fast value: {kind}")),
+        _ => Err(anyhow!("an unknown kind of fast value")),
     }
 }
 

@@ -24,7 +24,7 @@ pub fn answer(alloc: Global, call: &[&str]) -> Result<String> {
 
 /// The name and the answer of each accessor that has one.
 fn shown(alloc: Global, value: &OwnedValue) -> Result<String> {
-    ensure!(is_copied(alloc, value)?, "a copy is not equal: {value:?}");
+    ensure!(is_copied(alloc, value)?, "a copy is not equal");
     let mut answer = String::from_str(alloc, "is")?;
     words::push_flag(&mut answer, "null", value.as_value().is_null())?;
     words::push_text(alloc, &mut answer, "str", value.as_str())?;

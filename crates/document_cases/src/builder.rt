@@ -29,7 +29,7 @@ pub fn answer(alloc: Global, calls: &[&str]) -> Result<String> {
 pub fn document(alloc: Global, calls: &[&str]) -> Result<CompactDoc> {
     let mut answers = String::new(alloc);
     let document = made(alloc, calls, &mut answers)?;
-    ensure!(answers.is_empty(), "a call was refused: {answers}");
+    ensure!(answers.is_empty(), "a call was refused");
     Ok(document)
 }
 
@@ -96,7 +96,7 @@ fn build(
             let value = value(alloc, content)?;
             builder.leaf((&value).as_leaf().context("a value without children")?)
         }
-        _ => return Err(anyhow!("an unknown call: {call}")),
+        _ => return Err(anyhow!("an unknown call")),
     })
 }
 
@@ -118,7 +118,7 @@ fn begin(builder: &mut TreeBuilder, content: &str) -> Result<Result<(), BuildErr
         "facet" => BytesKind::Facet,
         "bytes" => BytesKind::Bytes,
         "key" => BytesKind::Key,
-        _ => return Err(anyhow!("an unknown kind of bytes: {kind}")),
+        _ => return Err(anyhow!("an unknown kind of bytes")),
     };
     Ok(builder.begin_bytes(kind, words::number(length)?))
 }
