@@ -18,3 +18,4 @@ pub mod Payloads
 pub mod LentJson
 pub mod MovedJson
 pub mod Utf8Fronts
+mod SameChildren

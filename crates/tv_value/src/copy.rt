@@ -3,6 +3,7 @@
 ghost use Rattle.std.specs.Prelude.{◌≡◌, IfOk};
 ghost use Rattle.tv_value.specs.Lent.{nested_tree};
 ghost use Rattle.tv_value.specs.Owned.{owned_tree};
+ghost use Rattle.tv_value.specs.Tree.{array, object, elements, entries};
 
 use crate::nested::{Nested, NestedValue};
 use crate::owned_value::OwnedValue;
@@ -10,6 +11,7 @@ use std::alloc::{AllocError, Global};
 use std::convert::AsStr;
 
 /// A copy of a value and of all below it.
+#[cycle(copies)]
 pub(crate) fn owned_of<N: Nested>(
     alloc: Global,
     value: NestedValue<'_, N>,
@@ -18,22 +20,32 @@ pub(crate) fn owned_of<N: Nested>(
 {
     match value {
         NestedValue::Leaf(leaf) => OwnedValue::from_leaf(alloc, leaf),
-        NestedValue::Array(items) => {
-            let mut owned = Vec::new(alloc);
-            for item in items {
-                let child = owned_of(alloc, item.as_nested())?;
-                owned.push(child)?;
-            }
-            Ok(OwnedValue::Array(owned))
-        }
-        NestedValue::Object(members) => {
-            let mut owned = Vec::new(alloc);
-            for (key, item) in members {
-                let name = String::from_str(alloc, key.as_str())?;
-                let child = owned_of(alloc, item.as_nested())?;
-                owned.push((name, child))?;
-            }
-            Ok(OwnedValue::Object(owned))
-        }
+        NestedValue::Array(items) => owned_array::<N>(alloc, items),
+        NestedValue::Object(members) => owned_object::<N>(alloc, members),
     }
+}
+
+// A copy of an array.
+#[cycle(copies)]
+fn owned_array<N: Nested>(alloc: Global, items: N::ArrayIter) -> Result<OwnedValue, AllocError>
+    ensures { IfOk result (λ made. owned_tree made ≡ array (elements (N.array_rest items))) }
+{
+    let mut owned = Vec::new(alloc);
+    for item in items {
+        owned.push(owned_of(alloc, item.as_nested())?)?;
+    }
+    Ok(OwnedValue::Array(owned))
+}
+
+// A copy of an object.
+#[cycle(copies)]
+fn owned_object<N: Nested>(alloc: Global, members: N::ObjectIter) -> Result<OwnedValue, AllocError>
+    ensures { IfOk result (λ made. owned_tree made ≡ object (entries (N.object_rest members))) }
+{
+    let mut owned = Vec::new(alloc);
+    for (key, item) in members {
+        let name = String::from_str(alloc, key.as_str())?;
+        owned.push((name, owned_of(alloc, item.as_nested())?))?;
+    }
+    Ok(OwnedValue::Object(owned))
 }

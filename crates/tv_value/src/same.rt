@@ -3,7 +3,8 @@
 ghost use Rattle.std.specs.Prelude.{◌≡◌};
 ghost use Rattle.tv_value.specs.LeafParts.{content_of};
 ghost use Rattle.tv_value.specs.Lent.{leaf_of, nested_tree};
-ghost use Rattle.tv_value.specs.Same.{content_eq, leaf_eq, tree_eq};
+ghost use Rattle.tv_value.specs.Same.{content_eq, leaf_eq, tree_eq, elements_eq, entries_eq};
+ghost use Rattle.tv_value.specs.Tree.{elements, entries};
 
 use crate::content::LeafContent;
 use crate::leaf::ReferenceValueLeaf;
@@ -36,37 +37,57 @@ pub(crate) fn same_leaf(one: ReferenceValueLeaf<'_>, other: ReferenceValueLeaf<'
         && same_content(one.content(), other.content())
 }
 
+// Whether two values that are lent are one.
+#[cycle(same)]
 fn same_nested<M: Nested, N: Nested>(one: NestedValue<'_, M>, other: NestedValue<'_, N>) -> bool
     ensures { result ≡ tree_eq (nested_tree M.array_rest M.object_rest one.entry) (nested_tree N.array_rest N.object_rest other.entry) }
 {
     match (one, other) {
         (NestedValue::Leaf(s), NestedValue::Leaf(t)) => same_leaf(s, t),
-        (NestedValue::Array(items), NestedValue::Array(mut others)) => {
-            for item in items {
-                let Some(other) = others.next() else {
-                    return false;
-                };
-                if !same_nested(item.as_nested(), other.as_nested()) {
-                    return false;
-                }
-            }
-            others.next().is_none()
+        (NestedValue::Array(items), NestedValue::Array(others)) => {
+            same_items::<M, N>(items, others)
         }
-        (NestedValue::Object(members), NestedValue::Object(mut others)) => {
-            for (key, value) in members {
-                let Some((other_key, other)) = others.next() else {
-                    return false;
-                };
-                if key.as_str() != other_key.as_str()
-                    || !same_nested(value.as_nested(), other.as_nested())
-                {
-                    return false;
-                }
-            }
-            others.next().is_none()
+        (NestedValue::Object(members), NestedValue::Object(others)) => {
+            same_members::<M, N>(members, others)
         }
         _ => false,
     }
+}
+
+// Whether two arrays are one.
+#[cycle(same)]
+fn same_items<M: Nested, N: Nested>(items: M::ArrayIter, others: N::ArrayIter) -> bool
+    ensures { result ≡ elements_eq (elements (M.array_rest items)) (elements (N.array_rest others)) }
+{
+    let mut others = others;
+    for item in items {
+        let Some(other) = others.next() else {
+            return false;
+        };
+        if !same_nested(item.as_nested(), other.as_nested()) {
+            return false;
+        }
+    }
+    others.next().is_none()
+}
+
+// Whether two objects are one.
+#[cycle(same)]
+fn same_members<M: Nested, N: Nested>(members: M::ObjectIter, others: N::ObjectIter) -> bool
+    ensures { result ≡ entries_eq (entries (M.object_rest members)) (entries (N.object_rest others)) }
+{
+    let mut others = others;
+    for (key, value) in members {
+        let Some((other_key, other)) = others.next() else {
+            return false;
+        };
+        if key.as_str() != other_key.as_str()
+            || !same_nested(value.as_nested(), other.as_nested())
+        {
+            return false;
+        }
+    }
+    others.next().is_none()
 }
 
 /// Whether two values are one: of one kind, with the same content, children in the same order and keys among them. It takes no
