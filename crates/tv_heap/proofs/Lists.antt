@@ -1,5 +1,5 @@
 -- How children that are written make an array or an object that reads.
-use Rattle.std.proofs.Common.{Result, Ok, Err, OnOk, IfOk, take, drop, ◌≡◌, ◌≢◌, ℕ, suc, ◌+◌, ◌^◌, ◌<◌, ◌≤◌, List, [], ◌∷◌, ◌++◌, length, IsUtf8, refl, sym, ◌∙◌, ap, subst, append_assoc, arith}
+use Rattle.std.proofs.Common.{Result, Ok, Err, OnOk, OnErr, IfOk, take, drop, ◌≡◌, ◌≢◌, ℕ, suc, ◌+◌, ◌^◌, ◌<◌, ◌≤◌, List, [], ◌∷◌, ◌++◌, length, IsUtf8, refl, sym, ◌∙◌, ap, subst, append_assoc, arith}
 use Rattle.std.proofs.lemmas.List.{length-append, append-nil}
 use Rattle.std.specs.declared.alloc.AllocError.{AllocError}
 use Rattle.std.proofs.Math.Seq.{drop-append_seam, take-append_seam}
@@ -33,6 +33,20 @@ places_before (Err x) start places list new n e is h = tt
 -- what has grown keeps its front
 pub front_more : (old heap new added : List ℕ) → heap ≡ old ++ added → IsFront heap new → IsFront old new
 front_more old heap new added e more = (added ++ more.0, more.1 ∙ ap (λ z. z ++ more.0) e ∙ append_assoc old added more.0)
+
+-- what holds anyway holds after a refusal
+pub refused : {T P : Type 0} (r : Result T AllocError) → P → OnErr r P
+refused (Ok x) p = tt
+refused (Err x) p = p
+
+-- also where a call may have been refused
+pub front_after : {T : Type 0} (r : Result T AllocError) (old heap new added : List ℕ) → heap ≡ old ++ added → OnErr r (IsFront heap new) → OnErr r (IsFront old new)
+front_after (Ok x) old heap new added e more = tt
+front_after (Err x) old heap new added e more = front_more old heap new added e more
+
+-- the places of others are no more than all
+pub places_within : (start places list : List ℕ) (n : ℕ) → places ≡ start ++ list → n ≡ length start → n ≤ length places
+places_within start places list n e is = omega (arith, is, longer start places list e)
 
 -- ---- lists
 
@@ -118,6 +132,19 @@ wrote_array old heap list new ts tree s none e small at is =
       below = λ x y. omega (arith, longer heap new body e, sized_some list fits);
       fits = omega (arith, high, s.within);
     }) is
+
+-- before a child is written: it is smaller, and there is room for it
+pub array_next : (old heap list : List ℕ) (ts us : List Tree) (tree t : Tree) → ArraySoFar old heap list ts tree → ts ≡ t ∷ us → length old + room tree < 2 ^ 32
+    → (size t + 1 < size tree) × (length heap + room t < 2 ^ 32)
+array_next old heap list ts us tree t s e small =
+    let rooms : elements_room (elements ts) ≡ 6 + room t + elements_room (elements us) = ap (λ z. elements_room (elements z)) e in
+    let sizes : elements_size (elements ts) ≡ suc (size t + elements_size (elements us)) = ap (λ z. elements_size (elements z)) e in
+    let high : length heap ≡ length old + length s.added = longer old heap s.added s.grows in
+    (omega (arith, s.smaller, sizes), omega (arith, s.within, rooms, high))
+
+-- before the list is written
+pub array_fits : (old heap list : List ℕ) (ts : List Tree) (tree : Tree) → ArraySoFar old heap list ts tree → length old + room tree < 2 ^ 32 → length heap < 2 ^ 32
+array_fits old heap list ts tree s small = omega (arith, s.within, longer old heap s.added s.grows)
 
 -- ---- objects
 
@@ -270,6 +297,16 @@ object_next old heap list mid es fs tree key t s e small is_mid =
     let wide : length mid ≡ length heap + length body = longer heap mid body is_mid in
     let key_fits : length key < 2 ^ 32 = omega (arith, s.within, rooms) in
     (omega (arith, s.smaller, sizes), omega (arith, s.within, rooms, sized_length key key_fits))
+
+-- before a key is written there is room for it, and before the list is written there is room for that
+pub key_fits : (old heap list : List ℕ) (es fs : List (List ℕ × Tree)) (tree : Tree) (key : List ℕ) (t : Tree) → ObjectSoFar old heap list es tree → es ≡ (key, t) ∷ fs → length old + room tree < 2 ^ 32
+    → length heap + (5 + length key) < 2 ^ 32
+key_fits old heap list es fs tree key t s e small =
+    let rooms : entries_room (entries es) ≡ 17 + length key + room t + entries_room (entries fs) = ap (λ z. entries_room (entries z)) e in
+    omega (arith, s.within, rooms, longer old heap s.added s.grows)
+
+pub object_fits : (old heap list : List ℕ) (es : List (List ℕ × Tree)) (tree : Tree) → ObjectSoFar old heap list es tree → length old + room tree < 2 ^ 32 → length heap < 2 ^ 32
+object_fits old heap list es tree s small = omega (arith, s.within, longer old heap s.added s.grows)
 
 -- ---- what is written of a list
 

@@ -3,13 +3,39 @@ use Rattle.tv_base.specs.Number.{vnum}
 use Rattle.tv_value.specs.Tree.{array, object, elements, entries}
 use Rattle.tv_heap.specs.TypeCode.{type_code}
 use Rattle.tv_heap.proofs.Writes.{leaf_fits}
-use Rattle.tv_heap.proofs.Lists.{array_start, array_step, array_written, object_start, object_step, object_next, object_written, place_added, places_before}
+use Rattle.tv_heap.proofs.Lists.{array_start, array_step, array_next, array_fits, array_written, object_start, object_step, key_fits, object_next, object_fits, object_written, place_added, places_before, places_within, refused, front_more, front_after}
 use Rattle.tv_heap.proofs.write.+values.Goals as goal
 
 pub write_array-loop-item-init : goal.write_array-loop-item-init
 write_array-loop-item-init g t c =
     let whole = ap (λ s. array (elements (g.N.Nested.array_rest s))) c.into_iter-item-iterator.ensures.into_iter_gives in
     ([], sym (append-nil c.args.places.now.items), array_start _ _ _ _ refl whole)
+
+pub write_array-write_tree-requires : goal.write_array-write_tree-requires
+write_array-write_tree-requires g t c κs within =
+    let step = g.met.N.Nested.array_steps _ _ _ c.in-Some.ensures.steps in
+    let next = array_next c.args.heap.now.items c.loop-item.heap.items c.loop-item.invariant.0 _ _ _ _ c.loop-item.invariant.2 (step ∙ ap (λ z. z ∷ g.N.Nested.array_rest c.next.new.self) (sym c.as_nested.ensures)) c.requires in
+    let smaller = next.0 in
+    let fits = next.1 in
+    search (rules, smaller, fits)
+
+pub write_array-returns-in_err-code-clause-err : goal.write_array-returns-in_err-code-clause-err
+write_array-returns-in_err-code-clause-err g t c = refused c.from_residual.result (front_more _ _ _ _ c.loop-item.invariant.2.grows c.in_err-code.ensures.err)
+
+pub write_array-returns-in_err-push_place-clause-err : goal.write_array-returns-in_err-push_place-clause-err
+write_array-returns-in_err-push_place-clause-err g t c =
+    let wrote = c.in_ok-code.ensures.ok in
+    refused c.from_residual-in_err-push_place.result (front_more _ _ _ _ c.loop-item.invariant.2.grows (wrote.added, wrote.grows))
+
+pub write_array-write_list-requires-clause-first : goal.write_array-write_list-requires-clause-first
+write_array-write_list-requires-clause-first g t c =
+    places_within c.args.places.now.items c.loop-item.places.items c.loop-item.invariant.0 c.len-first.result c.loop-item.invariant.1 (omega (arith, c.args.places.now.ok.0, c.len-first.ensures))
+
+pub write_array-write_list-requires-clause-fits : goal.write_array-write_list-requires-clause-fits
+write_array-write_list-requires-clause-fits g t c = array_fits _ _ _ _ _ c.loop-item.invariant.2 c.requires
+
+pub write_array-returns-clause-err : goal.write_array-returns-clause-err
+write_array-returns-clause-err g t c = front_after c.write_list.result _ _ _ _ c.loop-item.invariant.2.grows c.write_list.ensures.err
 
 pub write_array-loop-item-preserved : goal.write_array-loop-item-preserved
 write_array-loop-item-preserved g t c =
@@ -39,6 +65,34 @@ pub write_object-loop-key-init : goal.write_object-loop-key-init
 write_object-loop-key-init g t c =
     let whole = ap (λ s. object (entries (g.N.Nested.object_rest s))) c.into_iter-key-iterator.ensures.into_iter_gives in
     ([], sym (append-nil c.args.places.now.items), object_start _ _ _ _ refl whole)
+
+pub write_object-write_key-requires : goal.write_object-write_key-requires
+write_object-write_key-requires g t c =
+    let step = g.met.N.Nested.object_steps _ _ _ c.in-Some.ensures.steps in
+    let first = ap (λ k. (k, g.N.Nested.tree c.in-Some.item) ∷ g.N.Nested.object_rest c.next.new.self) (sym c.as_str.ensures) in
+    key_fits c.args.heap.now.items c.loop-key.heap.items c.loop-key.invariant.0 _ _ _ _ _ c.loop-key.invariant.2 (step ∙ first) c.requires
+
+pub write_object-returns-in_err-write_key-clause-err : goal.write_object-returns-in_err-write_key-clause-err
+write_object-returns-in_err-write_key-clause-err g t c = refused c.from_residual.result (front_more _ _ _ _ c.loop-key.invariant.2.grows c.in_err-write_key.ensures.err)
+
+pub write_object-returns-in_err-code-clause-err : goal.write_object-returns-in_err-code-clause-err
+write_object-returns-in_err-code-clause-err g t c =
+    refused c.from_residual-in_err-code.result (front_more _ _ _ _ c.loop-key.invariant.2.grows (front_more _ _ _ _ c.in_ok-write_key.ensures.heap c.in_err-code.ensures.err))
+
+pub write_object-returns-in_err-push_place-clause-err : goal.write_object-returns-in_err-push_place-clause-err
+write_object-returns-in_err-push_place-clause-err g t c =
+    let wrote = c.in_ok-code.ensures.ok in
+    refused c.from_residual-in_err-push_place.result (front_more _ _ _ _ c.loop-key.invariant.2.grows (front_more _ _ _ _ c.in_ok-write_key.ensures.heap (wrote.added, wrote.grows)))
+
+pub write_object-write_list-requires-clause-first : goal.write_object-write_list-requires-clause-first
+write_object-write_list-requires-clause-first g t c =
+    places_within c.args.places.now.items c.loop-key.places.items c.loop-key.invariant.0 c.len-first.result c.loop-key.invariant.1 (omega (arith, c.args.places.now.ok.0, c.len-first.ensures))
+
+pub write_object-write_list-requires-clause-fits : goal.write_object-write_list-requires-clause-fits
+write_object-write_list-requires-clause-fits g t c = object_fits _ _ _ _ _ c.loop-key.invariant.2 c.requires
+
+pub write_object-returns-clause-err : goal.write_object-returns-clause-err
+write_object-returns-clause-err g t c = front_after c.write_list.result _ _ _ _ c.loop-key.invariant.2.grows c.write_list.ensures.err
 
 pub write_object-write_tree-requires : goal.write_object-write_tree-requires
 write_object-write_tree-requires g t c κs within =
