@@ -1,7 +1,5 @@
 -- Copies of members whose keys rise.
-use Rattle.std.proofs.Common.{◌≡◌, ℕ, ◌+◌, ◌-◌, ◌<◌, ◌≤◌, List, [], ◌∷◌, ◌++◌, length, take, get_or, nat_cmp, Greater, Less, refl, sym, ap, ◌∙◌, subst, arith}
-use Rattle.std.specs.Bool.{⊤}
-use Rattle.std.proofs.lemmas.List.{take_more}
+use Rattle.std.proofs.Common.{◌≡◌, ℕ, List, [], ◌∷◌, ◌++◌, nat_cmp, Greater, Less, Bor, Option, Some, IfSome, refl, sym, ap, ◌∙◌}
 use Rattle.std.proofs.lemmas.Cmp.{nat_list_cmp_total}
 use Rattle.std.specs.Cmp.Lexicographic.{slice_cmp}
 use Rattle.std.specs.List.{AllByRecursion}
@@ -14,35 +12,9 @@ use Rattle.tv_borrowed.proofs.Places.{Entry, put_before, put_before-append}
 abbrev pub AllBelow : List ℕ → List Entry → Type 0
 AllBelow k = AllByRecursion (λ m. slice_cmp nat_cmp k m.0.now ≡ Greater)
 
--- the last key, if there is one, is below this one
-abbrev pub LastBelow : List ℕ → List Entry → Type 0
-LastBelow k [] = ⊤
-LastBelow k (m ∷ []) = slice_cmp nat_cmp m.0.now k ≡ Less
-LastBelow k (m ∷ n ∷ ms) = LastBelow k (n ∷ ms)
-
--- the keys rise: what is above the last is above all
-abbrev pub Rises : List Entry → Type 0
-Rises front = (k : List ℕ) → LastBelow k front → AllBelow k front
-
-last_below : (k : List ℕ) (front : List Entry) (m : Entry) → slice_cmp nat_cmp m.0.now k ≡ Less → LastBelow k (front ++ m ∷ [])
-last_below k [] m h = h
-last_below k (e ∷ []) m h = h
-last_below k (e ∷ n ∷ es) m h = last_below k (n ∷ es) m h
-
--- of members up to a place
-pub below_next : (k : List ℕ) (ms : List Entry) (i : ℕ) (m : Entry) → 0 < i → i ≤ length ms → m ≡ get_or ms (i - 1) m → slice_cmp nat_cmp m.0.now k ≡ Less → LastBelow k (take i ms)
-below_next k ms i m some within is below =
-    let back : i - 1 + 1 ≡ i = omega arith in
-    let up : take i ms ≡ take (i - 1) ms ++ m ∷ [] = ap (λ n. take n ms) (sym back) ∙ take_more ms (i - 1) m (omega arith) ∙ ap (λ e. take (i - 1) ms ++ e ∷ []) (sym is) in
-    subst (LastBelow k) (sym up) (last_below k (take (i - 1) ms) m below)
-
-pub below_first : (k : List ℕ) (ms : List Entry) (i : ℕ) → i ≡ 0 → LastBelow k (take i ms)
-below_first k ms i none = subst (λ n. LastBelow k (take n ms)) (sym none) tt
-
-below_last : (k : List ℕ) (front : List Entry) (m : Entry) → LastBelow k (front ++ m ∷ []) → slice_cmp nat_cmp m.0.now k ≡ Less
-below_last k [] m h = h
-below_last k (e ∷ []) m h = h
-below_last k (e ∷ n ∷ es) m h = below_last k (n ∷ es) m h
+-- every key above the last one is above all
+abbrev pub RisesTo : Option (Bor (List ℕ)) → List Entry → Type 0
+RisesTo last front = (k : List ℕ) → IfSome last (λ l. slice_cmp nat_cmp l.now k ≡ Less) → AllBelow k front
 
 turned : (k l : List ℕ) → slice_cmp nat_cmp k l ≡ Less → slice_cmp nat_cmp l k ≡ Greater
 turned k l h = nat_list_cmp_total.antisymm l k ∙ ap ordering_reverse h
@@ -59,8 +31,8 @@ with_last : (k : List ℕ) (front : List Entry) (m : Entry) → AllBelow k front
 with_last k [] m h below = (turned m.0.now k below, tt)
 with_last k (e ∷ es) m h below = (h.0, with_last k es m h.1 below)
 
-pub rises_on : (front : List Entry) (m : Entry) → AllBelow m.0.now front → Rises (front ++ m ∷ [])
-rises_on front m h k last = let below = below_last k front m last in with_last k front m (all_below_higher m.0.now k front below h) below
+pub rises_on : (front : List Entry) (m : Entry) → AllBelow m.0.now front → RisesTo (Some m.0) (front ++ m ∷ [])
+rises_on front m h k below = with_last k front m (all_below_higher m.0.now k front below h) below
 
 put_behind : (k : List ℕ) (d : Data) (front : List Entry) → AllBelow k front → put k d (members_data front) ≡ put_before front (member k d no_members)
 put_behind k d [] h = refl

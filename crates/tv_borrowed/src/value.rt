@@ -1,7 +1,11 @@
 //! Copies of borrowed values.
 
-ghost use Rattle.std.specs.Prelude.{◌≡◌, IfSome};
-ghost use Rattle.serde_json.specs.View.{view, items_view, members_view};
+ghost use Rattle.std.specs.Prelude.{◌≡◌, ◌↔◌, IsTrue, IfSome, OnSome};
+ghost use Rattle.std.specs.Cmp.Lexicographic.{slice_cmp};
+ghost use Rattle.std.specs.Ordering.{nat_cmp};
+ghost use Rattle.std.specs.declared.cmp.Ordering.TheVariants.{Less};
+ghost use Rattle.serde_json.specs.Data.{array, object, put, string};
+ghost use Rattle.serde_json.specs.View.{view, members_view};
 ghost use Rattle.tv_borrowed.specs.BorrowedData.{data_of, items_data, members_data};
 
 use crate::borrowed::BorrowedJson;
@@ -27,46 +31,70 @@ impl BorrowedJson<'_> {
                     None
                 }
             }
-            BorrowedJson::String(text) => Some(Value::String(String::from_str(alloc, text).ok()?)),
-            BorrowedJson::Array(items) => Some(Value::Array(copied_items(
-                items.as_slice(),
-                alloc,
-            )?)),
-            BorrowedJson::Object(members) => {
-                Some(Value::Object(copied_members(members.as_slice(), alloc)?))
-            }
+            BorrowedJson::String(text) => copied_text(text, alloc),
+            BorrowedJson::Array(items) => copied_items(items.as_slice(), alloc),
+            BorrowedJson::Object(members) => copied_members(members.as_slice(), alloc),
         }
     }
 }
 
-// Copies of an array's items.
+// A copy of a text.
+#[inline(always)]
+fn copied_text(text: &str, alloc: Global) -> Option<Value>
+    ensures { IfSome result (λ made. view made ≡ string text.now) }
+{
+    Some(Value::String(String::from_str(alloc, text).ok()?))
+}
+
+// An array of copies of the items.
 #[inline(never)]
 #[cycle(copies)]
-fn copied_items(items: &[BorrowedJson<'_>], alloc: Global) -> Option<Vec<Value>>
-    ensures { IfSome result (λ made. items_view made.items ≡ items_data items.now) }
+fn copied_items(items: &[BorrowedJson<'_>], alloc: Global) -> Option<Value>
+    ensures { IfSome result (λ made. view made ≡ array (items_data items.now)) }
 {
     let mut made = Vec::new(alloc);
     for item in items {
         made.push(item.to_value(alloc)?).ok()?;
     }
-    Some(made)
+    Some(Value::Array(made))
 }
 
-// Copies of an object's members, whose keys rise.
+// An object with copies of the members, if their keys rise.
 #[inline(never)]
 #[cycle(copies)]
-fn copied_members(members: &[(&str, BorrowedJson<'_>)], alloc: Global) -> Option<Map<String, Value>>
-    ensures { IfSome result (λ made. members_view made.entries ≡ members_data members.now) }
+fn copied_members(members: &[(&str, BorrowedJson<'_>)], alloc: Global) -> Option<Value>
+    ensures { IfSome result (λ made. view made ≡ object (members_data members.now)) }
 {
     let mut made = Map::new(alloc);
-    for i in 0..members.len() {
-        let (key, member) = &members[i];
-        if i > 0 && members[i - 1].0.cmp(key) != Ordering::Less {
+    let mut last = None;
+    for (key, member) in members {
+        if !is_above(key, last) {
             return None;
         }
-        let name = String::from_str(alloc, key).ok()?;
         let value = member.to_value(alloc)?;
-        drop(made.insert(name, value).ok()?);
+        insert_copy(&mut made, key, value, alloc)?;
+        last = Some(*key);
     }
-    Some(made)
+    Some(Value::Object(made))
+}
+
+// Whether the key is above the last one, if there is one.
+#[inline(always)]
+fn is_above(key: &str, last: Option<&str>) -> bool
+    ensures { IsTrue result ↔ IfSome last.entry (λ before. slice_cmp nat_cmp before.now key.now ≡ Less) }
+{
+    match last {
+        Some(before) => before.cmp(key) == Ordering::Less,
+        None => true,
+    }
+}
+
+// Puts a value under a copy of its key.
+#[inline(always)]
+fn insert_copy(made: &mut Map<String, Value>, key: &str, value: Value, alloc: Global) -> Option<()>
+    ensures { OnSome result (members_view made.new.entries ≡ put key.now (view value) (members_view made.old.entries)) }
+{
+    let name = String::from_str(alloc, key).ok()?;
+    drop(made.insert(name, value).ok()?);
+    Some(())
 }

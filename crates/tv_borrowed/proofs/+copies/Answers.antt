@@ -1,37 +1,43 @@
-use Rattle.std.proofs.Common.{◌≡◌, ◌+◌, ◌++◌, [], ◌∷◌, take, nat_cmp, Less, string_bytes, sym, ap, ◌∙◌, subst, arith, rules}
+use Rattle.std.proofs.Common.{◌≡◌, ◌+◌, ◌++◌, [], ◌∷◌, take, take_all, map, Some, sym, ap, ◌∙◌, subst, arith}
+use Rattle.std.proofs.lemmas.Grind.{common_steps}
 use Rattle.std.proofs.lemmas.List.{take_more}
-use Rattle.std.specs.Cmp.Lexicographic.{slice_cmp}
-use Rattle.serde_json.proofs.Views.{view-Object, members_view-insert_entry}
-use Rattle.serde_json.specs.Data.{object, put}
-use Rattle.serde_json.specs.View.{view, members_view}
-use Rattle.tv_borrowed.specs.BorrowedData.{data_of, members_data}
-use Rattle.tv_borrowed.proofs.Copies.{AllBelow, LastBelow, Rises, below_next, below_first, rises_on, put_last}
-use Rattle.tv_borrowed.proofs.Levels.{data_of-Object}
+use Rattle.std.proofs.lemmas.Option.{IfSome_then}
+use Rattle.serde_json.proofs.Views.{view-Array, view-Object}
+use Rattle.serde_json.specs.Data.{array, object, put}
+use Rattle.serde_json.specs.View.{items_of, members_view}
+use Rattle.tv_borrowed.specs.BorrowedData.{data_of, items_data, members_data}
+use Rattle.tv_borrowed.proofs.Copies.{AllBelow, RisesTo, rises_on, put_last}
+use Rattle.tv_borrowed.proofs.Levels.{data_of-Array, data_of-Object}
 use Rattle.tv_borrowed.proofs.+copies.Goals as goal
-use Rattle.tv_borrowed.proofs.+copies.Goals.{value::copied_members-else-i-gt0-via-then-i-gt0+else-ne, value::copied_members-else-i-gt0-via-else-i-gt0}
 
-pub borrowed::BorrowedJson::to_value-returns-in_ok-copied_members-in-Object : goal.borrowed::BorrowedJson::to_value-returns-in_ok-copied_members-in-Object
-borrowed::BorrowedJson::to_value-returns-in_ok-copied_members-in-Object t c =
-    let made = c.in_ok-copied_members-in-Object.field-0 in
-    let same = c.in_ok-copied_members-in-Object.ensures ∙ ap members_data c.as_slice-in-Object.ensures.value in
-    view-Object made ∙ ap object same ∙ sym (data_of-Object c.in-Object.members) ∙ ap data_of (sym c.in-Object.is)
+pub borrowed::BorrowedJson::to_value-returns-in-Array : goal.borrowed::BorrowedJson::to_value-returns-in-Array
+borrowed::BorrowedJson::to_value-returns-in-Array t c =
+    IfSome_then c.copied_items.result c.copied_items.ensures (λ made e. e ∙ ap (λ vs. array (items_data vs)) c.as_slice.ensures.value ∙ sym (data_of-Array c.in-Array.items) ∙ ap data_of (sym c.in-Array.is))
 
-pub value::copied_members-loop-i-preserved : goal.value::copied_members-loop-i-preserved
-value::copied_members-loop-i-preserved t c =
+pub borrowed::BorrowedJson::to_value-returns-in-Object : goal.borrowed::BorrowedJson::to_value-returns-in-Object
+borrowed::BorrowedJson::to_value-returns-in-Object t c =
+    IfSome_then c.copied_members.result c.copied_members.ensures (λ made e. e ∙ ap (λ ms. object (members_data ms)) c.as_slice-in-Object.ensures.value ∙ sym (data_of-Object c.in-Object.members) ∙ ap data_of (sym c.in-Object.is))
+
+pub value::copied_items-loop-item-preserved : goal.value::copied_items-loop-item-preserved
+value::copied_items-loop-item-preserved t c = grind (arith, common_steps)
+
+pub value::copied_items-returns : goal.value::copied_items-returns
+value::copied_items-returns t c =
+    let l = c.loop-item in
+    view-Array l.made ∙ ap (λ ds. array (items_of ds)) (l.invariant ∙ ap (map data_of) (take_all l.item-index c.args.items.now c.loop-item-test.false))
+
+pub value::copied_members-loop-key-preserved : goal.value::copied_members-loop-key-preserved
+value::copied_members-loop-key-preserved t c =
     let ms = c.args.members.now in
-    let i = c.loop-i.i in
-    let m = c.index-members-i.result in
-    let front = take i ms in
-    let up : take (i + 1) ms ≡ front ++ m ∷ [] = take_more ms i m (omega (arith, c.loop-i-test.true)) ∙ ap (λ e. front ++ e ∷ []) (sym c.index-members-i.is) in
-    let last : LastBelow m.0.now front = elim c.else-i-gt0.branch [
-      | value::copied_members-else-i-gt0-via-then-i-gt0+else-ne w ↦
-          let e = w.index-members-i-then-i-gt0 in
-          let less : slice_cmp nat_cmp e.result.0.now m.0.now ≡ Less = search rules in
-          below_next m.0.now ms i e.result (omega (arith, w.if-i-gt0.true)) (omega (arith, c.loop-i-test.true)) e.is less
-      | value::copied_members-else-i-gt0-via-else-i-gt0 w ↦ below_first m.0.now ms i (omega (arith, w.if-i-gt0.false))
-    ] in
-    let below : AllBelow m.0.now front = c.loop-i.invariant.1 m.0.now last in
-    let copied : string_bytes c.in_ok-name.name ≡ m.0.now = search rules in
-    let inserted : members_view c.insert.new.self.entries ≡ put (string_bytes c.in_ok-name.name) (view c.in_ok-value.value) (members_view c.loop-i.made.entries) = search (rules, members_view-insert_entry) in
-    let placed = inserted ∙ ap (λ k. put k (view c.in_ok-value.value) (members_view c.loop-i.made.entries)) copied ∙ ap (λ d. put m.0.now d (members_view c.loop-i.made.entries)) c.in_ok-value.ensures ∙ ap (put m.0.now (data_of m.1)) c.loop-i.invariant.0 in
-    (placed ∙ put_last m front below ∙ ap members_data (sym up), subst Rises (sym up) (rises_on front m below))
+    let l = c.loop-key in
+    let m = c.loop-key-item.result in
+    let front = take l.key-index ms in
+    let up : take (l.key-index + 1) ms ≡ front ++ m ∷ [] = take_more ms l.key-index m c.loop-key-test.true ∙ ap (λ e. front ++ e ∷ []) (sym c.loop-key-item.is) in
+    let below : AllBelow m.0.now front = l.invariant.1 m.0.now (c.is_above.ensures.0 c.if-not-is_above.false) in
+    let placed = c.in_ok-insert_copy.ensures ∙ ap (λ d. put m.0.now d (members_view l.made.entries)) c.in_ok-value.ensures ∙ ap (put m.0.now (data_of m.1)) l.invariant.0 in
+    (placed ∙ put_last m front below ∙ ap members_data (sym up), subst (RisesTo (Some m.0)) (sym up) (rises_on front m below))
+
+pub value::copied_members-returns : goal.value::copied_members-returns
+value::copied_members-returns t c =
+    let l = c.loop-key in
+    view-Object l.made ∙ ap object (l.invariant.0 ∙ ap members_data (take_all l.key-index c.args.members.now c.loop-key-test.false))
