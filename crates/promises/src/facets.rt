@@ -16,7 +16,8 @@ pub fn prefixes_go_by_steps(facet: &Facet, other: &Facet) -> bool
     facet.is_prefix_of(other)
 }
 
-/// A facet prints as a text that is read back as this facet: a backslash prints as two.
+/// A facet prints as the text that names it: a slash before each step, and a backslash before each slash and each backslash of
+/// a step. The law `printed_facets_are_read` says that this text is read as the facet.
 pub fn facets_are_printed(facet: &Facet, alloc: Global) -> Result<String, AllocError>
     ensures { IfOk result (λ text. string_bytes text ≡ printed facet.now) }
 {

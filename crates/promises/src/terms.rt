@@ -6,7 +6,8 @@ ghost use Rattle.tantivy_schema.specs.Key.{IsTerm, Signed};
 use std::alloc::Global;
 use tantivy_schema::schema::{Field, Term, TermError};
 
-/// The term of a signed number has the bytes whose order is the order of the numbers.
+/// The term of a signed number is its field and the number as a key. The law `signed_terms_compare_as_numbers` says that such
+/// terms are ordered as their numbers.
 pub fn signed_numbers_make_terms(
     alloc: Global,
     field: Field,
