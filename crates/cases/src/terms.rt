@@ -61,17 +61,18 @@ fn wrapped(alloc: Global, digits: &str) -> Result<Term> {
 
 /// The term of a field and a value.
 fn term_of(alloc: Global, field: Field, value: &OwnedValue) -> Result<Term> {
-    Ok(match value {
-        OwnedValue::Str(text) => Term::from_field_text(alloc, field, text.as_str())?,
-        OwnedValue::U64(number) => Term::from_field_u64(alloc, field, *number)?,
-        OwnedValue::I64(number) => Term::from_field_i64(alloc, field, *number)?,
-        OwnedValue::Bool(truth) => Term::from_field_bool(alloc, field, *truth)?,
-        OwnedValue::Date(date) => Term::from_field_date(alloc, field, *date)?,
-        OwnedValue::Facet(facet) => Term::from_facet(alloc, field, facet)?,
-        OwnedValue::Bytes(bytes) => Term::from_field_bytes(alloc, field, bytes)?,
-        OwnedValue::IpAddr(address) => Term::from_field_ip_addr(alloc, field, *address)?,
+    let made = match value {
+        OwnedValue::Str(text) => Term::from_field_text(alloc, field, text.as_str()),
+        OwnedValue::U64(number) => Term::from_field_u64(alloc, field, *number),
+        OwnedValue::I64(number) => Term::from_field_i64(alloc, field, *number),
+        OwnedValue::Bool(truth) => Term::from_field_bool(alloc, field, *truth),
+        OwnedValue::Date(date) => Term::from_field_date(alloc, field, *date),
+        OwnedValue::Facet(facet) => Term::from_facet(alloc, field, facet),
+        OwnedValue::Bytes(bytes) => Term::from_field_bytes(alloc, field, bytes),
+        OwnedValue::IpAddr(address) => Term::from_field_ip_addr(alloc, field, *address),
         _ => return Err(anyhow!("a value that has no term")),
-    })
+    };
+    Ok(made?)
 }
 
 /// The term of a field and a path.
@@ -82,15 +83,15 @@ fn json_term(alloc: Global, field: &str, path: &str, dots: &str) -> Result<Term>
 
 /// Appends a value of this kind to a term.
 fn append(alloc: Global, term: &mut Term, kind: &str, value: &str) -> Result<()> {
-    match kind {
-        "str" => term.append_type_and_str(words::text(alloc, value)?.as_str())?,
-        "u64" => term.append_type_and_fast_value(words::number::<u64>(value)?)?,
-        "i64" => term.append_type_and_fast_value(words::number::<i64>(value)?)?,
-        "bool" => term.append_type_and_fast_value(value == "true")?,
-        "date" => term.append_type_and_fast_value(leaves::date(value)?)?,
-        _ => return Err(anyhow!("an unknown kind of value")),
-    }
-    Ok(())
+    let appended = match leaves::leaf(alloc, kind, value)? {
+        OwnedValue::Str(text) => term.append_type_and_str(text.as_str()),
+        OwnedValue::U64(number) => term.append_type_and_fast_value(number),
+        OwnedValue::I64(number) => term.append_type_and_fast_value(number),
+        OwnedValue::Bool(truth) => term.append_type_and_fast_value(truth),
+        OwnedValue::Date(date) => term.append_type_and_fast_value(date),
+        _ => return Err(anyhow!("a value that isn't appended")),
+    };
+    Ok(appended?)
 }
 
 /// The bytes of a term, its field, and the value that is read back from a copy.
@@ -198,20 +199,16 @@ fn edit(alloc: Global, term: &mut Term, step: &[&str]) -> Result<()> {
 
 /// The type of two fast values, their numbers, and how the values and the numbers compare.
 fn fast_values(alloc: Global, kind: &str, one: &str, other: &str) -> Result<String> {
-    match kind {
-        "i64" => compared(
-            alloc,
-            words::number::<i64>(one)?,
-            words::number::<i64>(other)?,
-        ),
-        "u64" => compared(
-            alloc,
-            words::number::<u64>(one)?,
-            words::number::<u64>(other)?,
-        ),
-        "bool" => compared(alloc, one == "true", other == "true"),
-        "date" => compared(alloc, leaves::date(one)?, leaves::date(other)?),
-        _ => Err(anyhow!("an unknown kind of fast value")),
+    let (one, other) = (
+        leaves::leaf(alloc, kind, one)?,
+        leaves::leaf(alloc, kind, other)?,
+    );
+    match (&one, &other) {
+        (OwnedValue::I64(one), OwnedValue::I64(other)) => compared(alloc, *one, *other),
+        (OwnedValue::U64(one), OwnedValue::U64(other)) => compared(alloc, *one, *other),
+        (OwnedValue::Bool(one), OwnedValue::Bool(other)) => compared(alloc, *one, *other),
+        (OwnedValue::Date(one), OwnedValue::Date(other)) => compared(alloc, *one, *other),
+        _ => Err(anyhow!("values that aren't fast")),
     }
 }
 
