@@ -9,10 +9,10 @@ use tv_doc::doc_parsing_error::DocParsingError;
 use tv_doc::document::CompactDoc;
 use tv_doc::document_trait::Document;
 use tv_doc::laws::named_documents_are_converted_back;
+use tv_field::ValueParsingError;
 use tv_json::compact::push_json;
 use tv_json::json_value::{ToJsonValue, to_json_value};
 use tv_schema::Schema;
-use tv_value::field::Field;
 use tv_value::owned_value::OwnedValue;
 use tv_value::same::is_same;
 use tv_value::value::Value;
@@ -20,26 +20,14 @@ use tv_value::value::Value;
 /// What a call about documents returns.
 pub fn answer(alloc: Global, call: &[&str]) -> Result<String> {
     match call {
-        ["parse", description, json] => parse(alloc, &schemas::schema(alloc, description)?, json),
-        ["print", description, words @ ..] => {
-            let schema = schemas::schema(alloc, description)?;
-            Ok(document_of(alloc, &schema, words)?.to_json(alloc, &schema)?)
-        }
-        ["named", from, to, calls @ ..] => {
-            let (from, to) = (schemas::schema(alloc, from)?, schemas::schema(alloc, to)?);
-            named(alloc, &from, &to, &builder::document(alloc, calls)?)
-        }
+        ["parse", description, json] => parse(alloc, description, json),
+        ["print", description, words @ ..] => print(alloc, description, words),
+        ["named", from, to, calls @ ..] => named(alloc, from, to, calls),
         ["same", calls @ ..] => same(alloc, calls),
-        ["copy", calls @ ..] => copy(alloc, builder::document(alloc, calls)?),
-        ["get", field, calls @ ..] => {
-            get(
-                alloc,
-                words::field(field)?,
-                &builder::document(alloc, calls)?,
-            )
-        }
-        ["sorted", calls @ ..] => sorted(alloc, &builder::document(alloc, calls)?),
-        ["values", calls @ ..] => values(alloc, &builder::document(alloc, calls)?),
+        ["copy", calls @ ..] => copy(alloc, calls),
+        ["get", field, calls @ ..] => get(alloc, field, calls),
+        ["sorted", calls @ ..] => sorted(alloc, calls),
+        ["values", calls @ ..] => values(alloc, calls),
         _ => Err(anyhow!("an unknown call about documents")),
     }
 }
@@ -72,15 +60,25 @@ fn document_of(alloc: Global, schema: &Schema, words: &[&str]) -> Result<Compact
     }
 }
 
-/// The document of a JSON object, or its refusal. The document has to be the same where its values come part by part.
-fn parse(alloc: Global, schema: &Schema, json: &str) -> Result<String> {
-    let document = match CompactDoc::parse_json(alloc, schema, json) {
-        Ok(document) => document,
-        Err(error) => return refusal(alloc, &error),
-    };
-    let text = shown(alloc, &document)?;
+/// The JSON of the document of a JSON object, or of calls.
+fn print(alloc: Global, description: &str, words: &[&str]) -> Result<String> {
+    let schema = schemas::schema(alloc, description)?;
+    Ok(document_of(alloc, &schema, words)?.to_json(alloc, &schema)?)
+}
+
+/// The document of a JSON object, or its refusal.
+fn parse(alloc: Global, description: &str, json: &str) -> Result<String> {
+    match CompactDoc::parse_json(alloc, &schemas::schema(alloc, description)?, json) {
+        Ok(document) => parsed(alloc, &document),
+        Err(error) => refusal(alloc, &error),
+    }
+}
+
+/// The document, which has to be the same where its values come part by part.
+fn parsed(alloc: Global, document: &CompactDoc) -> Result<String> {
+    let text = shown(alloc, document)?;
     for cut in 0..parts::MOST_BYTES {
-        let rebuilt = parts::rebuilt(alloc, &document, cut)?;
+        let rebuilt = parts::rebuilt(alloc, document, cut)?;
         ensure!(
             shown(alloc, &rebuilt)? == text,
             "another document comes part by part"
@@ -91,28 +89,33 @@ fn parse(alloc: Global, schema: &Schema, json: &str) -> Result<String> {
 
 /// Why there is no document of a JSON object.
 fn refusal(alloc: Global, error: &DocParsingError) -> Result<String> {
-    Ok(match error {
+    match error {
         DocParsingError::InvalidJson(start) => {
             let start = words::quoted(alloc, start.as_str())?;
-            format!(in alloc; "error InvalidJson {start}")?
+            Ok(format!(in alloc; "error InvalidJson {start}")?)
         }
-        DocParsingError::ValueError(name, error) => {
-            let name = words::quoted(alloc, name.as_str())?;
-            let reason = json_values::refusal(alloc, error)?;
-            format!(in alloc; "error ValueError {name} {reason}")?
-        }
-        DocParsingError::Add(error) => format!(in alloc; "error Add {error:?}")?,
-        DocParsingError::Memory => String::from_str(alloc, "error Memory")?,
-    })
+        DocParsingError::ValueError(name, error) => refused_value(alloc, name.as_str(), error),
+        DocParsingError::Add(error) => Ok(format!(in alloc; "error Add {error:?}")?),
+        DocParsingError::Memory => Ok(String::from_str(alloc, "error Memory")?),
+    }
+}
+
+/// The name of a field, and why its value is refused.
+fn refused_value(alloc: Global, name: &str, error: &ValueParsingError) -> Result<String> {
+    let name = words::quoted(alloc, name)?;
+    let reason = json_values::refusal(alloc, error)?;
+    Ok(format!(in alloc; "error ValueError {name} {reason}")?)
 }
 
 /// The values of a document by the names of one schema, and the document that these names make with another.
-fn named(alloc: Global, from: &Schema, to: &Schema, document: &CompactDoc) -> Result<String> {
-    let names = document.to_named_doc(alloc, from)?;
+fn named(alloc: Global, from: &str, to: &str, calls: &[&str]) -> Result<String> {
+    let (from, to) = (schemas::schema(alloc, from)?, schemas::schema(alloc, to)?);
+    let document = builder::document(alloc, calls)?;
+    let names = document.to_named_doc(alloc, &from)?;
     let made = if from == to {
-        named_documents_are_converted_back(alloc, from, document)?
+        named_documents_are_converted_back(alloc, &from, &document)?
     } else {
-        CompactDoc::convert_named_doc(alloc, to, &names)?
+        CompactDoc::convert_named_doc(alloc, &to, &names)?
     };
     let made = shown(alloc, &made)?;
     Ok(format!(in alloc; "{:?}\t{made}", names.0)?)
@@ -133,7 +136,8 @@ fn same(alloc: Global, calls: &[&str]) -> Result<String> {
 }
 
 /// A copy of a document. Its values have to be equal to those of the document, whose memory is shrunk.
-fn copy(alloc: Global, mut document: CompactDoc) -> Result<String> {
+fn copy(alloc: Global, calls: &[&str]) -> Result<String> {
+    let mut document = builder::document(alloc, calls)?;
     let copy = document.try_clone(alloc)?;
     document.shrink_to_fit();
     for ((_, one), (_, other)) in copy.field_values().zip(document.field_values()) {
@@ -151,7 +155,9 @@ fn typed<'a, V: Value<'a>>(alloc: Global, value: &V) -> Result<String> {
 }
 
 /// The first value of a field, and all of its values.
-fn get(alloc: Global, field: Field, document: &CompactDoc) -> Result<String> {
+fn get(alloc: Global, field: &str, calls: &[&str]) -> Result<String> {
+    let field = words::field(field)?;
+    let document = builder::document(alloc, calls)?;
     let mut text = match document.get_first(field) {
         Some(value) => typed(alloc, &value)?,
         None => String::from_str(alloc, "none")?,
@@ -164,7 +170,8 @@ fn get(alloc: Global, field: Field, document: &CompactDoc) -> Result<String> {
 }
 
 /// The values of a document by their fields, which rise.
-fn sorted(alloc: Global, document: &CompactDoc) -> Result<String> {
+fn sorted(alloc: Global, calls: &[&str]) -> Result<String> {
+    let document = builder::document(alloc, calls)?;
     let groups = document.get_sorted_field_values(alloc)?;
     let mut text = format!(in alloc; "{}", groups.len())?;
     for (field, values) in groups {
@@ -178,7 +185,8 @@ fn sorted(alloc: Global, document: &CompactDoc) -> Result<String> {
 }
 
 /// The field of each pair, and its value with its type and as JSON.
-fn values(alloc: Global, document: &CompactDoc) -> Result<String> {
+fn values(alloc: Global, calls: &[&str]) -> Result<String> {
+    let document = builder::document(alloc, calls)?;
     let mut text = format!(in alloc; "{}", document.len())?;
     for (field, value) in document.field_values() {
         let number = field.field_id();

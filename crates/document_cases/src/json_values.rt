@@ -22,18 +22,19 @@ pub fn answer(alloc: Global, call: &[&str]) -> Result<String> {
 
 /// The name of a refusal, and what it says.
 pub fn refusal(alloc: Global, error: &ValueParsingError) -> Result<String> {
-    Ok(match error {
+    let text = match error {
         ValueParsingError::OverflowError { expected, .. } => {
-            format!(in alloc; "OverflowError {expected:?}")?
+            format!(in alloc; "OverflowError {expected:?}")
         }
         ValueParsingError::TypeError { expected, .. } => {
-            format!(in alloc; "TypeError {expected:?}")?
+            format!(in alloc; "TypeError {expected:?}")
         }
-        ValueParsingError::ParseError { cause, .. } => format!(in alloc; "ParseError {cause:?}")?,
+        ValueParsingError::ParseError { cause, .. } => format!(in alloc; "ParseError {cause:?}"),
         ValueParsingError::InvalidBase64 { base64 } => {
-            format!(in alloc; "InvalidBase64 {base64:?}")?
+            format!(in alloc; "InvalidBase64 {base64:?}")
         }
-        ValueParsingError::FloatNumber => String::from_str(alloc, "FloatNumber")?,
-        ValueParsingError::Memory => String::from_str(alloc, "Memory")?,
-    })
+        ValueParsingError::FloatNumber => String::from_str(alloc, "FloatNumber"),
+        ValueParsingError::Memory => String::from_str(alloc, "Memory"),
+    };
+    Ok(text?)
 }

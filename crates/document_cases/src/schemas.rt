@@ -20,15 +20,15 @@ const TYPES: &str =
 pub fn answer(alloc: Global, call: &[&str]) -> Result<String> {
     match call {
         ["json", description] => described(alloc, description),
-        ["fields", description] => fields(alloc, &schema(alloc, description)?),
-        ["field", description, name] => field(alloc, &schema(alloc, description)?, name),
-        ["find", description, path] => find(alloc, &schema(alloc, description)?, path),
+        ["fields", description] => fields(alloc, description),
+        ["field", description, name] => field(alloc, description, name),
+        ["find", description, path] => find(alloc, description, path),
         ["find", description, path, default] => {
-            find_with_default(alloc, &schema(alloc, description)?, path, default)
+            find_with_default(alloc, description, path, default)
         }
         ["add", names @ ..] => add(alloc, names),
         ["name", name] => name_answer(alloc, name),
-        ["equal", one, other] => equal(alloc, &schema(alloc, one)?, &schema(alloc, other)?),
+        ["equal", one, other] => equal(alloc, one, other),
         _ => Err(anyhow!("an unknown call about schemas")),
     }
 }
@@ -134,21 +134,27 @@ fn new_entry(name: String, field_type: FieldType) -> Result<FieldEntry, SchemaEr
 }
 
 /// How many fields there are, and the number, the name, the type and the queries of each.
-fn fields(alloc: Global, schema: &Schema) -> Result<String> {
+fn fields(alloc: Global, description: &str) -> Result<String> {
+    let schema = schema(alloc, description)?;
     let mut answer = format!(in alloc; "{}", schema.num_fields())?;
     for (field, entry) in schema.fields() {
         ensure!(
-            is_found(schema, field, entry),
+            is_found(&schema, field, entry),
             "calls about a field disagree"
         );
-        let number = field.field_id();
-        let value_type = entry.field_type().value_type();
-        let name = words::quoted(alloc, entry.name())?;
-        write!(answer, "\t{number} {name} {value_type:?}")?;
-        push_kinds(&mut answer, entry.field_type())?;
-        push_queries(&mut answer, entry)?;
+        push_entry(alloc, &mut answer, field, entry)?;
     }
     Ok(answer)
+}
+
+/// Appends the number, the name, the type and the queries of a field.
+fn push_entry(alloc: Global, answer: &mut String, field: Field, entry: &FieldEntry) -> Result<()> {
+    let number = field.field_id();
+    let value_type = entry.field_type().value_type();
+    let name = words::quoted(alloc, entry.name())?;
+    write!(answer, "\t{number} {name} {value_type:?}")?;
+    push_kinds(answer, entry.field_type())?;
+    push_queries(answer, entry)
 }
 
 /// Appends the queries about a type that hold.
@@ -187,13 +193,10 @@ fn is_found(schema: &Schema, field: Field, entry: &FieldEntry) -> bool {
 }
 
 /// The number of the field with a name, or the name of the field with a number.
-fn field(alloc: Global, schema: &Schema, word: &str) -> Result<String> {
+fn field(alloc: Global, description: &str, word: &str) -> Result<String> {
+    let schema = schema(alloc, description)?;
     if word.starts_with('"') {
-        let name = words::text(alloc, word)?;
-        return Ok(match schema.get_field(name.as_str()) {
-            Ok(field) => format!(in alloc; "{}", field.field_id())?,
-            Err(error) => words::error(alloc, &error)?,
-        });
+        return field_named(alloc, &schema, words::text(alloc, word)?.as_str());
     }
     let field = words::field(word)?;
     if !schema.has_field(field) {
@@ -202,14 +205,29 @@ fn field(alloc: Global, schema: &Schema, word: &str) -> Result<String> {
     words::quoted(alloc, schema.get_field_name(field))
 }
 
+/// The number of the field with a name, or the refusal.
+fn field_named(alloc: Global, schema: &Schema, name: &str) -> Result<String> {
+    match schema.get_field(name) {
+        Ok(field) => Ok(format!(in alloc; "{}", field.field_id())?),
+        Err(error) => words::error(alloc, &error),
+    }
+}
+
 /// The field that a path names, and the rest of the path.
-fn find(alloc: Global, schema: &Schema, path: &str) -> Result<String> {
+fn find(alloc: Global, description: &str, path: &str) -> Result<String> {
+    let schema = schema(alloc, description)?;
     let path = words::text(alloc, path)?;
     found(alloc, schema.find_field(path.as_str()))
 }
 
 /// The field that a path names, and the rest of the path, where there is a default field.
-fn find_with_default(alloc: Global, schema: &Schema, path: &str, default: &str) -> Result<String> {
+fn find_with_default(
+    alloc: Global,
+    description: &str,
+    path: &str,
+    default: &str,
+) -> Result<String> {
+    let schema = schema(alloc, description)?;
     let path = words::text(alloc, path)?;
     let default = words::field(default)?;
     ensure!(schema.has_field(default), "an unknown default field");
@@ -236,11 +254,10 @@ fn add(alloc: Global, names: &[&str]) -> Result<String> {
     let mut text = String::new(alloc);
     for name in names {
         let name = words::text(alloc, name)?;
-        let answer = match builder.add_text_field(name.as_str(), TEXT) {
-            Ok(field) => format!(in alloc; "{}\t", field.field_id())?,
-            Err(error) => format!(in alloc; "error {error:?}\t")?,
-        };
-        text.push_str(answer.as_str())?;
+        match builder.add_text_field(name.as_str(), TEXT) {
+            Ok(field) => write!(text, "{}\t", field.field_id())?,
+            Err(error) => write!(text, "error {error:?}\t")?,
+        }
     }
     let debug = format!(in alloc; "{builder:?}")?;
     ensure!(!debug.is_empty(), "nothing is printed of a builder");
@@ -252,14 +269,16 @@ fn add(alloc: Global, names: &[&str]) -> Result<String> {
 fn name_answer(alloc: Global, word: &str) -> Result<String> {
     let name = words::text(alloc, word)?;
     let is_valid = is_valid_field_name(name.as_str());
-    Ok(match FieldEntry::new_text(name, TEXT) {
-        Ok(_) => format!(in alloc; "{is_valid}")?,
-        Err(error) => format!(in alloc; "{is_valid}\terror {error:?}")?,
-    })
+    let answer = match FieldEntry::new_text(name, TEXT) {
+        Ok(_) => format!(in alloc; "{is_valid}"),
+        Err(error) => format!(in alloc; "{is_valid}\terror {error:?}"),
+    };
+    Ok(answer?)
 }
 
 /// Whether two schemas are equal. A copy has to be equal.
-fn equal(alloc: Global, one: &Schema, other: &Schema) -> Result<String> {
-    ensure!(one.clone()? == *one, "a copy is not equal");
-    Ok(format!(in alloc; "{}", *one == *other)?)
+fn equal(alloc: Global, one: &str, other: &str) -> Result<String> {
+    let (one, other) = (schema(alloc, one)?, schema(alloc, other)?);
+    ensure!(one.clone()? == one, "a copy is not equal");
+    Ok(format!(in alloc; "{}", one == other)?)
 }
