@@ -2,7 +2,7 @@
 
 use crate::over_each::{Ending, Reading, once, over_each, where_it_fails};
 use crate::{steps, stored};
-use anyhow::{Result, anyhow};
+use anyhow::{Context, Result, anyhow};
 use case_words as words;
 use std::alloc::Global;
 use std::io;
@@ -171,28 +171,19 @@ pub fn bytes(alloc: Global, word: &str) -> Result<Vec<u8>> {
     Ok(hex::decode(alloc, digits.as_str())?)
 }
 
-/// What a call that reads documents returns.
+/// What a call that reads documents returns. But for a version, the last word has the bytes.
 pub fn answer(alloc: Global, call: &[&str]) -> Result<String> {
+    if let ["version", number] = call {
+        return words::shown(alloc, DocStoreVersion::from_u32(words::number(number)?));
+    }
+    let (word, call) = call.split_last().context("bytes")?;
+    let bytes = bytes(alloc, word)?;
     match call {
-        ["version", number] => {
-            words::shown(alloc, DocStoreVersion::from_u32(words::number(number)?))
-        }
-        ["document", number, word] => {
-            let bytes = bytes(alloc, word)?;
-            document(alloc, version(number)?, Form::Pairs, &bytes)
-        }
-        ["heap", number, word] => {
-            let bytes = bytes(alloc, word)?;
-            document(alloc, version(number)?, Form::Heap, &bytes)
-        }
-        ["size", number, word] => {
-            let bytes = bytes(alloc, word)?;
-            document(alloc, version(number)?, Form::Size, &bytes)
-        }
-        ["prefixes", number, word] => prefixes(alloc, version(number)?, &bytes(alloc, word)?),
-        ["failing", name, number, word] => {
-            failing(alloc, kind(name)?, version(number)?, &bytes(alloc, word)?)
-        }
+        ["document", number] => document(alloc, version(number)?, Form::Pairs, &bytes),
+        ["heap", number] => document(alloc, version(number)?, Form::Heap, &bytes),
+        ["size", number] => document(alloc, version(number)?, Form::Size, &bytes),
+        ["prefixes", number] => prefixes(alloc, version(number)?, &bytes),
+        ["failing", name, number] => failing(alloc, kind(name)?, version(number)?, &bytes),
         _ => Err(anyhow!("an unknown call that reads documents")),
     }
 }

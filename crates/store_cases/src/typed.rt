@@ -2,7 +2,7 @@
 
 use crate::over_each::{Ending, Reading, over_each, where_it_fails};
 use crate::reads::{self, Form};
-use anyhow::{Result, anyhow};
+use anyhow::{Context, Result, anyhow};
 use case_words as words;
 use std::alloc::Global;
 use std::collections::{BTreeMap, HashMap};
@@ -195,31 +195,20 @@ fn head(alloc: Global, name: &str, version: DocStoreVersion, bytes: &[u8]) -> Re
     over_each(alloc, bytes, &HeadReading { part, version })
 }
 
-/// What a call that reads into types returns.
+/// What a call that reads into types returns. The last word has the bytes.
 pub fn answer(alloc: Global, call: &[&str]) -> Result<String> {
+    let (word, call) = call.split_last().context("bytes")?;
+    let bytes = reads::bytes(alloc, word)?;
     match call {
-        ["read", name, number, word] => {
-            let bytes = reads::bytes(alloc, word)?;
-            typed_by_name(alloc, name, reads::version(number)?, &bytes)
-        }
-        ["tree", number, word] => {
-            let bytes = reads::bytes(alloc, word)?;
-            over_each(alloc, &bytes, &TreeReading(reads::version(number)?))
-        }
-        ["failing", kind, number, word] => {
-            let bytes = reads::bytes(alloc, word)?;
+        ["read", name, number] => typed_by_name(alloc, name, reads::version(number)?, &bytes),
+        ["tree", number] => over_each(alloc, &bytes, &TreeReading(reads::version(number)?)),
+        ["failing", kind, number] => {
             let tree = TreeReading(reads::version(number)?);
             where_it_fails(alloc, reads::kind(kind)?, &bytes, &tree)
         }
-        ["head", part, number, word] => {
-            let bytes = reads::bytes(alloc, word)?;
-            head(alloc, part, reads::version(number)?, &bytes)
-        }
-        ["pairs", number, word] => {
-            let bytes = reads::bytes(alloc, word)?;
-            over_each(alloc, &bytes, &PairsReading(reads::version(number)?))
-        }
-        ["plain", name, word] => plain(alloc, name, &reads::bytes(alloc, word)?),
+        ["head", part, number] => head(alloc, part, reads::version(number)?, &bytes),
+        ["pairs", number] => over_each(alloc, &bytes, &PairsReading(reads::version(number)?)),
+        ["plain", name] => plain(alloc, name, &bytes),
         _ => Err(anyhow!("an unknown call that reads into types")),
     }
 }
