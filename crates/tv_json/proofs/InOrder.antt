@@ -1,13 +1,14 @@
 -- Entries whose keys rise are the members of their object, one after the other.
-use Rattle.std.proofs.Common.{◌≡◌, ℕ, List, [], ◌∷◌, String, Global, string_bytes, string_cmp, Ordering, Less, Equal, Greater, refl, sym, ap, ◌∙◌}
+use Rattle.std.proofs.Common.{◌≡◌, ℕ, List, [], ◌∷◌, String, Global, string_bytes, string_cmp, Ordering, Less, Equal, Greater, refl, sym, ap, subst, ◌∙◌}
 use Rattle.std.proofs.lemmas.Cmp.{nat_list_cmp_total}
 use Rattle.std.specs.BTreeMap.{insert_entry}
 use Rattle.std.specs.List.{AllByRecursion}
 use Rattle.std.specs.Ordering.{match_ordering, ordering_reverse}
 use Rattle.std.specs.Cmp.Lexicographic.{slice_cmp}
 use Rattle.std.specs.Ordering.{nat_cmp}
+use Rattle.serde_json.specs.Data as json
 use Rattle.serde_json.specs.Data.{Data, Members, no_members, member, put}
-use Rattle.tv_value.specs.Tree.{Tree, Entries, no_entries, entry}
+use Rattle.tv_value.specs.Tree.{Tree, leaf, array, object, Entries, no_entries, entry}
 use Rattle.tv_json.specs.JsonOf.{json_of, entries_json}
 use Rattle.tv_json.specs.Rising.{Below, RiseFrom, KeysRise, listed_json, pairs_json}
 
@@ -66,6 +67,16 @@ above_nothing (entry k t es) = tt
 
 pub in_order : (es : Entries) → KeysRise es → listed_json es ≡ entries_json es no_members
 in_order es r = sym (in_order_behind no_members es (above_nothing es) r)
+
+abbrev entries_of : Tree → Entries
+entries_of (leaf l) = no_entries
+entries_of (array ts) = no_entries
+entries_of (object es) = es
+
+-- what was found of an object's entries is so of the same entries when they are read again
+pub in_order_again : (t : Tree) (es again : Entries) → object es ≡ t → object again ≡ t → KeysRise es → json.object (listed_json again) ≡ json_of t
+in_order_again t es again p q r =
+    ap json.object (in_order again (subst KeysRise (ap entries_of (p ∙ sym q)) r)) ∙ ap json_of q
 
 -- ---- pairs that are put into a map
 

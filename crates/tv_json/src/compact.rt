@@ -2,12 +2,13 @@
 
 ghost use Rattle.std.specs.Prelude.{◌≡◌, ◌++◌, ◌∷◌, [], OnOk, OnErr, IsTrue, string_bytes, IfOk, ◌<◌};
 ghost use Rattle.std.specs.List.{AllByRecursion};
+ghost use Rattle.serde_json.specs.Data as Data;
 ghost use Rattle.serde_json.specs.Data.{no_members};
 ghost use Rattle.serde_json.specs.Written.{compact_text};
-ghost use Rattle.tv_json.specs.JsonOf.{json_of, elements_json, entries_json};
-ghost use Rattle.tv_json.specs.Rising.{KeysRise, data_tokens, rest_of_array, rest_of_object, listed_json, pairs_json};
+ghost use Rattle.tv_json.specs.JsonOf.{json_of, entries_json};
+ghost use Rattle.tv_json.specs.Rising.{KeysRise, data_tokens, listed_json, pairs_json};
 ghost use Rattle.tv_value.specs.Size.{size, entries_size};
-ghost use Rattle.tv_value.specs.Tree.{elements, entries};
+ghost use Rattle.tv_value.specs.Tree.{array, object, elements, entries};
 
 use crate::write::{JsonWriter, write_leaf};
 use std::alloc::{AllocError, Global};
@@ -59,12 +60,8 @@ pub(crate) fn write_value<N: Nested>(json: &mut JsonWriter, value: &N) -> Result
 {
     match value.as_nested() {
         NestedValue::Leaf(leaf) => write_leaf(json, &leaf),
-        NestedValue::Array(items) => {
-            json.out.begin_array()?;
-            write_items::<N>(json, items)
-        }
+        NestedValue::Array(items) => write_array::<N>(json, items),
         NestedValue::Object(members) => {
-            json.out.begin_object()?;
             let in_order = keys_rise::<N>(members);
             let NestedValue::Object(members) = value.as_nested() else {
                 unreachable!();
@@ -78,24 +75,26 @@ pub(crate) fn write_value<N: Nested>(json: &mut JsonWriter, value: &N) -> Result
     }
 }
 
-// Writes values, and the end of the array in which they stand.
+// Writes values as an array.
 #[cycle(write_value)]
-fn write_items<N: Nested>(json: &mut JsonWriter, items: N::ArrayIter) -> Result<(), AllocError>
-    ensures ok { OnOk result (json.new.out.tokens ≡ json.old.out.tokens ++ rest_of_array (elements_json (elements (N.array_rest items)))) }
+fn write_array<N: Nested>(json: &mut JsonWriter, items: N::ArrayIter) -> Result<(), AllocError>
+    ensures ok { OnOk result (json.new.out.tokens ≡ json.old.out.tokens ++ data_tokens (json_of (array (elements (N.array_rest items))))) }
     ensures before { json.new.out.before ≡ json.old.out.before }
 {
+    json.out.begin_array()?;
     for item in items {
         write_value(json, &item)?;
     }
     json.out.end_array()
 }
 
-// Writes keys and values as they come, and the end of the object in which they stand.
+// Writes keys and values as an object, as they come.
 #[cycle(write_value)]
 fn write_members<N: Nested>(json: &mut JsonWriter, members: N::ObjectIter) -> Result<(), AllocError>
-    ensures ok { OnOk result (json.new.out.tokens ≡ json.old.out.tokens ++ rest_of_object (listed_json (entries (N.object_rest members)))) }
+    ensures ok { OnOk result (json.new.out.tokens ≡ json.old.out.tokens ++ data_tokens (Data.object (listed_json (entries (N.object_rest members))))) }
     ensures before { json.new.out.before ≡ json.old.out.before }
 {
+    json.out.begin_object()?;
     for (key, value) in members {
         json.out.key(key.as_str())?;
         write_value(json, &value)?;
@@ -103,12 +102,13 @@ fn write_members<N: Nested>(json: &mut JsonWriter, members: N::ObjectIter) -> Re
     json.out.end_object()
 }
 
-// Writes keys and values by byte order of the keys, of equal keys the last, and the end of the object in which they stand.
+// Writes keys and values as an object, by byte order of the keys, of equal keys the last.
 #[cycle(write_value)]
 fn write_by_key<N: Nested>(json: &mut JsonWriter, members: N::ObjectIter) -> Result<(), AllocError>
-    ensures ok { OnOk result (json.new.out.tokens ≡ json.old.out.tokens ++ rest_of_object (entries_json (entries (N.object_rest members)) no_members)) }
+    ensures ok { OnOk result (json.new.out.tokens ≡ json.old.out.tokens ++ data_tokens (json_of (object (entries (N.object_rest members))))) }
     ensures before { json.new.out.before ≡ json.old.out.before }
 {
+    json.out.begin_object()?;
     for (key, value) in by_key::<N>(json.alloc, members)? {
         json.out.key(key.as_str())?;
         write_value(json, &value)?;
@@ -126,12 +126,8 @@ pub(crate) fn write_lent<'a, V: Value<'a>>(
 {
     match lend(value) {
         NestedValue::Leaf(leaf) => write_leaf(json, &leaf),
-        NestedValue::Array(items) => {
-            json.out.begin_array()?;
-            write_items::<Lent<'a, V>>(json, items)
-        }
+        NestedValue::Array(items) => write_array::<Lent<'a, V>>(json, items),
         NestedValue::Object(members) => {
-            json.out.begin_object()?;
             let in_order = keys_rise::<Lent<'a, V>>(members);
             let NestedValue::Object(members) = lend(value) else {
                 unreachable!();

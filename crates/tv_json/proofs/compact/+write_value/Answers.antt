@@ -1,24 +1,155 @@
-use Rattle.std.proofs.Common.{◌≡◌, ◌++◌, ◌∷◌, [], ◌<◌, append_assoc, refl, sym, ap, subst, ◌∙◌, rules}
+use Rattle.std.proofs.Common.{◌≡◌, ◌++◌, ◌∷◌, [], ◌<◌, append_assoc, refl, sym, ap, subst, ◌∙◌, arith, rules, string_bytes}
 use Rattle.std.specs.List.{AllByRecursion}
 use Rattle.std.proofs.lemmas.Result.{on_ok_weaker}
 use Rattle.json.specs.Token as Token
 use Rattle.serde_json.specs.Data.{no_members}
-use Rattle.tv_value.specs.Size.{size, entries_size}
-use Rattle.tv_value.specs.Tree.{Tree, leaf, array, object, Entries, no_entries, entries}
-use Rattle.tv_json.specs.JsonOf.{json_of, entries_json}
-use Rattle.tv_json.specs.Rising.{KeysRise, data_tokens, rest_of_object, listed_json}
-use Rattle.tv_json.proofs.InOrder.{in_order}
+use Rattle.tv_value.specs.Size.{size, elements_size, entries_size}
+use Rattle.tv_value.specs.Tree.{array, object, elements, entries}
+use Rattle.tv_json.specs.JsonOf.{json_of, elements_json, entries_json}
+use Rattle.tv_json.specs.Rising.{KeysRise, data_tokens, rest_of_array, rest_of_object, listed_json, pairs_json}
+use Rattle.tv_json.proofs.InOrder.{in_order_again}
 use Rattle.tv_json.proofs.compact.+write_value.Goals as goal
+
+-- ---- arrays
+
+pub write_array-write_value-requires : goal.write_array-write_value-requires
+write_array-write_value-requires g t c κs within =
+    let whole = ap (λ l. elements_size (elements l)) (g.met.N.Nested.array_steps _ _ _ c.in-Some.ensures.steps) in
+    let smaller : size (g.N.Nested.tree c.in-Some.item) < elements_size (elements (g.N.Nested.array_rest c.args.items)) = omega (arith, whole, c.loop-item.invariant.left) in
+    search (rules, smaller)
+
+pub write_array-loop-item-preserved : goal.write_array-loop-item-preserved
+write_array-loop-item-preserved g t c =
+    let first = g.met.N.Nested.array_steps _ _ _ c.in-Some.ensures.steps in
+    let whole = ap (λ l. elements_size (elements l)) first in
+    let before = c.loop-item.json.out.tokens in
+    let item = data_tokens (json_of (g.N.Nested.tree c.in-Some.item)) in
+    let rest = rest_of_array (elements_json (elements (g.N.Nested.array_rest c.next.new.self))) in
+    let written : c.write_value.new.json.out.tokens ≡ before ++ item = search rules in
+    record {
+      tokens = ap (λ z. z ++ rest) written ∙ append_assoc before item rest ∙ ap (λ ts. before ++ rest_of_array (elements_json (elements ts))) (sym first) ∙ c.loop-item.invariant.tokens;
+      before = c.write_value.ensures.before ∙ c.loop-item.invariant.before;
+      left = omega (arith, whole, c.loop-item.invariant.left);
+    }
+
+pub write_array-returns-clause-ok : goal.write_array-returns-clause-ok
+write_array-returns-clause-ok g t c =
+    let old = c.args.json.now.out.tokens in
+    let rest = rest_of_array (elements_json (elements (g.N.Nested.array_rest c.args.items))) in
+    let none : g.N.Nested.array_rest c.loop-item.item-iterator ≡ [] = search rules in
+    let begun : c.begin_array.new.self.tokens ≡ old ++ Token.begin_array ∷ [] = search rules in
+    on_ok_weaker c.end_array.result
+    (λ last. last ∙ ap (λ ts. c.loop-item.json.out.tokens ++ rest_of_array (elements_json (elements ts))) (sym none) ∙ c.loop-item.invariant.tokens
+    ∙ ap (λ z. z ++ rest) begun ∙ append_assoc old (Token.begin_array ∷ []) rest)
+    c.end_array.ensures.ok
+
+-- ---- objects
+
+pub write_members-write_value-requires : goal.write_members-write_value-requires
+write_members-write_value-requires g t c κs within =
+    let whole = ap (λ l. entries_size (entries l)) (g.met.N.Nested.object_steps _ _ _ c.in-Some.ensures.steps) in
+    let smaller : size (g.N.Nested.tree c.in-Some.value) < entries_size (entries (g.N.Nested.object_rest c.args.members)) = omega (arith, whole, c.loop-key.invariant.left) in
+    search (rules, smaller)
+
+pub write_members-loop-key-preserved : goal.write_members-loop-key-preserved
+write_members-loop-key-preserved g t c =
+    let first = g.met.N.Nested.object_steps _ _ _ c.in-Some.ensures.steps in
+    let whole = ap (λ l. entries_size (entries l)) first in
+    let before = c.loop-key.json.out.tokens in
+    let name = Token.key (g.N.Key.AsStr.text c.in-Some.key) ∷ [] in
+    let item = data_tokens (json_of (g.N.Nested.tree c.in-Some.value)) in
+    let rest = rest_of_object (listed_json (entries (g.N.Nested.object_rest c.next.new.self))) in
+    let named : c.key.new.self.tokens ≡ before ++ name = search rules in
+    let written : c.write_value.new.json.out.tokens ≡ c.key.new.self.tokens ++ item = search rules in
+    let kept : c.key.new.self.before ≡ c.loop-key.json.out.before = search rules in
+    record {
+      tokens = ap (λ z. z ++ rest) written ∙ append_assoc c.key.new.self.tokens item rest ∙ ap (λ z. z ++ (item ++ rest)) named ∙ append_assoc before name (item ++ rest)
+          ∙ ap (λ ts. before ++ rest_of_object (listed_json (entries ts))) (sym first) ∙ c.loop-key.invariant.tokens;
+      before = c.write_value.ensures.before ∙ kept ∙ c.loop-key.invariant.before;
+      left = omega (arith, whole, c.loop-key.invariant.left);
+    }
+
+pub write_members-returns-clause-ok : goal.write_members-returns-clause-ok
+write_members-returns-clause-ok g t c =
+    let old = c.args.json.now.out.tokens in
+    let rest = rest_of_object (listed_json (entries (g.N.Nested.object_rest c.args.members))) in
+    let none : g.N.Nested.object_rest c.loop-key.key-iterator ≡ [] = search rules in
+    let begun : c.begin_object.new.self.tokens ≡ old ++ Token.begin_object ∷ [] = search rules in
+    on_ok_weaker c.end_object.result
+    (λ last. last ∙ ap (λ ts. c.loop-key.json.out.tokens ++ rest_of_object (listed_json (entries ts))) (sym none) ∙ c.loop-key.invariant.tokens
+    ∙ ap (λ z. z ++ rest) begun ∙ append_assoc old (Token.begin_object ∷ []) rest)
+    c.end_object.ensures.ok
 
 pub write_by_key-loop-key-init : goal.write_by_key-loop-key-init
 write_by_key-loop-key-init g t c =
     let within = AllByRecursion (λ pair. size (g.N.Nested.tree pair.1) < entries_size (entries (g.N.Nested.object_rest c.args.members))) in
     record { tokens = refl; before = refl; smaller = subst within (sym c.into_iter-key-iterator.ensures.into_iter_gives.0) c.in_ok-items.ensures.smaller }
 
-abbrev entries_of : Tree → Entries
-entries_of (leaf l) = no_entries
-entries_of (array ts) = no_entries
-entries_of (object es) = es
+pub write_by_key-write_value-requires : goal.write_by_key-write_value-requires
+write_by_key-write_value-requires g t c κs within =
+    let fits = AllByRecursion (λ pair. size (g.N.Nested.tree pair.1) < entries_size (entries (g.N.Nested.object_rest c.args.members))) in
+    let first : c.loop-key.key-iterator ≡ (c.in-Some.key, c.in-Some.value) ∷ c.next.new.self = search rules in
+    let smaller = (subst fits first c.loop-key.invariant.smaller).0 in
+    search (rules, smaller)
+
+pub write_by_key-loop-key-preserved : goal.write_by_key-loop-key-preserved
+write_by_key-loop-key-preserved g t c =
+    let fits = AllByRecursion (λ pair. size (g.N.Nested.tree pair.1) < entries_size (entries (g.N.Nested.object_rest c.args.members))) in
+    let first : c.loop-key.key-iterator ≡ (c.in-Some.key, c.in-Some.value) ∷ c.next.new.self = search rules in
+    let before = c.loop-key.json.out.tokens in
+    let name = Token.key (string_bytes c.in-Some.key) ∷ [] in
+    let item = data_tokens (json_of (g.N.Nested.tree c.in-Some.value)) in
+    let rest = rest_of_object (pairs_json g.N.Nested.tree c.next.new.self) in
+    let named : c.key.new.self.tokens ≡ before ++ name = search rules in
+    let written : c.write_value.new.json.out.tokens ≡ c.key.new.self.tokens ++ item = search rules in
+    let kept : c.key.new.self.before ≡ c.loop-key.json.out.before = search rules in
+    record {
+      tokens = ap (λ z. z ++ rest) written ∙ append_assoc c.key.new.self.tokens item rest ∙ ap (λ z. z ++ (item ++ rest)) named ∙ append_assoc before name (item ++ rest)
+          ∙ ap (λ ps. before ++ rest_of_object (pairs_json g.N.Nested.tree ps)) (sym first) ∙ c.loop-key.invariant.tokens;
+      before = c.write_value.ensures.before ∙ kept ∙ c.loop-key.invariant.before;
+      smaller = (subst fits first c.loop-key.invariant.smaller).1;
+    }
+
+pub write_by_key-returns-clause-ok : goal.write_by_key-returns-clause-ok
+write_by_key-returns-clause-ok g t c =
+    let old = c.args.json.now.out.tokens in
+    let members = entries_json (entries (g.N.Nested.object_rest c.args.members)) no_members in
+    let rest = rest_of_object members in
+    let none : c.loop-key.key-iterator ≡ [] = search rules in
+    let begun : c.begin_object.new.self.tokens ≡ old ++ Token.begin_object ∷ [] = search rules in
+    let whole : pairs_json g.N.Nested.tree c.into_iter-key-iterator.result ≡ members = ap (pairs_json g.N.Nested.tree) c.into_iter-key-iterator.ensures.into_iter_gives.0 ∙ c.in_ok-items.ensures.members in
+    on_ok_weaker c.end_object.result
+    (λ last. last ∙ ap (λ ps. c.loop-key.json.out.tokens ++ rest_of_object (pairs_json g.N.Nested.tree ps)) (sym none) ∙ c.loop-key.invariant.tokens
+    ∙ ap (λ z. c.begin_object.new.self.tokens ++ rest_of_object z) whole ∙ ap (λ z. z ++ rest) begun ∙ append_assoc old (Token.begin_object ∷ []) rest)
+    c.end_object.ensures.ok
+
+-- ---- values
+
+pub write_value-write_array-requires : goal.write_value-write_array-requires
+write_value-write_array-requires g t c κs within =
+    let whole : array (elements (g.N.Nested.array_rest c.in-Array.items)) ≡ g.N.Nested.tree c.args.value.now = search rules in
+    let sizes = ap size whole in
+    let smaller : elements_size (elements (g.N.Nested.array_rest c.in-Array.items)) < size (g.N.Nested.tree c.args.value.now) = omega (arith, sizes) in
+    search (rules, smaller)
+
+pub write_value-write_members-requires : goal.write_value-write_members-requires
+write_value-write_members-requires g t c κs within =
+    let whole : object (entries (g.N.Nested.object_rest c.in-Object-as_nested.members)) ≡ g.N.Nested.tree c.args.value.now = search rules in
+    let sizes = ap size whole in
+    let smaller : entries_size (entries (g.N.Nested.object_rest c.in-Object-as_nested.members)) < size (g.N.Nested.tree c.args.value.now) = omega (arith, sizes) in
+    search (rules, smaller)
+
+pub write_value-write_by_key-requires : goal.write_value-write_by_key-requires
+write_value-write_by_key-requires g t c κs within =
+    let whole : object (entries (g.N.Nested.object_rest c.in-Object-as_nested.members)) ≡ g.N.Nested.tree c.args.value.now = search rules in
+    let sizes = ap size whole in
+    let smaller : entries_size (entries (g.N.Nested.object_rest c.in-Object-as_nested.members)) < size (g.N.Nested.tree c.args.value.now) = omega (arith, sizes) in
+    search (rules, smaller)
+
+pub write_value-returns-in-Array-clause-ok : goal.write_value-returns-in-Array-clause-ok
+write_value-returns-in-Array-clause-ok g t c =
+    let whole : array (elements (g.N.Nested.array_rest c.in-Array.items)) ≡ g.N.Nested.tree c.args.value.now = search rules in
+    on_ok_weaker c.write_array.result (λ last. last ∙ ap (λ z. c.args.json.now.out.tokens ++ data_tokens (json_of z)) whole) c.write_array.ensures.ok
 
 pub write_value-returns-then-in_order-clause-ok : goal.write_value-returns-then-in_order-clause-ok
 write_value-returns-then-in_order-clause-ok g t c =
@@ -28,11 +159,11 @@ write_value-returns-then-in_order-clause-ok g t c =
     let first : object tested ≡ tree = search rules in
     let second : object written ≡ tree = search rules in
     let rises : KeysRise tested = search rules in
-    let same : tested ≡ written = ap entries_of (first ∙ sym second) in
-    let order : listed_json written ≡ entries_json written no_members = in_order written (subst KeysRise same rises) in
-    let old = c.args.json.now.out.tokens in
-    let rest = rest_of_object (entries_json written no_members) in
     on_ok_weaker c.write_members.result
-    (λ last. last ∙ ap (λ z. c.begin_object.new.self.tokens ++ rest_of_object z) order ∙ ap (λ z. z ++ rest) (search rules)
-    ∙ append_assoc old (Token.begin_object ∷ []) rest ∙ ap (λ z. old ++ data_tokens (json_of z)) second)
+    (λ last. last ∙ ap (λ z. c.args.json.now.out.tokens ++ data_tokens z) (in_order_again tree tested written first second rises))
     c.write_members.ensures.ok
+
+pub write_value-returns-else-in_order-clause-ok : goal.write_value-returns-else-in_order-clause-ok
+write_value-returns-else-in_order-clause-ok g t c =
+    let whole : object (entries (g.N.Nested.object_rest c.in-Object-as_nested.members)) ≡ g.N.Nested.tree c.args.value.now = search rules in
+    on_ok_weaker c.write_by_key.result (λ last. last ∙ ap (λ z. c.args.json.now.out.tokens ++ data_tokens (json_of z)) whole) c.write_by_key.ensures.ok

@@ -9,8 +9,8 @@ use Rattle.tv_json.proofs.compact.+write_value.Given as goal
 abbrev pub decreases-write_by_key : goal.decreases-write_by_key
 decreases-write_by_key g l = entries_size (entries (g.N.Nested.object_rest l.members))
 
-abbrev pub decreases-write_items : goal.decreases-write_items
-decreases-write_items g l = elements_size (elements (g.N.Nested.array_rest l.items))
+abbrev pub decreases-write_array : goal.decreases-write_array
+decreases-write_array g l = elements_size (elements (g.N.Nested.array_rest l.items))
 
 abbrev pub decreases-write_members : goal.decreases-write_members
 decreases-write_members g l = entries_size (entries (g.N.Nested.object_rest l.members))
@@ -25,8 +25,8 @@ invariant-write_by_key-loop-key g l = record {
   smaller : AllByRecursion (λ pair. size (g.N.Nested.tree pair.1) < entries_size (entries (g.N.Nested.object_rest l.fn.members))) l.key-iterator;
 }
 
-abbrev pub invariant-write_items-loop-item : goal.invariant-write_items-loop-item
-invariant-write_items-loop-item g l =
+abbrev pub invariant-write_array-loop-item : goal.invariant-write_array-loop-item
+invariant-write_array-loop-item g l =
     let rest = elements (g.N.Nested.array_rest l.item-iterator) in
     let all = elements (g.N.Nested.array_rest l.fn.items) in
     record {
