@@ -1,11 +1,15 @@
-use Rattle.std.proofs.Common.{refl, sym, ◌∙◌}
+use Rattle.std.proofs.Common.{◌≡◌, Option, None, IfSome, refl, sym, ◌∙◌, subst}
 use Rattle.std.specs.Int.{w64}
 use Rattle.std.proofs.lemmas.Int.{to_z-of_z}
 use Rattle.tv_value.specs.Content.{no_content, truth_content, unsigned_content, wide_content, text_content, bytes_content, tokens_content}
 use Rattle.tv_value.specs.PreTokenized.{text_of, tokens_of}
 use Rattle.tv_value.proofs.Fronts.{begins_nothing}
+use Rattle.tv_builder.proofs.Giving.{front_same}
 use Rattle.tv_builder.proofs.Spelling.{leaf_spelled, same_signed}
 use Rattle.tv_builder.proofs.spelled.put_spelled_leaf.Goals as goal
+
+nothing_found : {T : Type 0} (r : Option T) (P : T → Type 0) → r ≡ None → IfSome r P
+nothing_found r P is = subst (λ z. IfSome z P) (sym is) tt
 
 pub returns-in_ok-place-in-Nothing-clause-found : goal.returns-in_ok-place-in-Nothing-clause-found
 returns-in_ok-place-in-Nothing-clause-found c =
@@ -38,3 +42,147 @@ returns-in_ok-place-in-Bytes-clause-found c =
 pub returns-in_ok-place-in-Tokens-clause-found : goal.returns-in_ok-place-in-Tokens-clause-found
 returns-in_ok-place-in-Tokens-clause-found c =
     leaf_spelled c.in_ok-leaf_type.leaf_type (tokens_content (text_of c.in_ok-text-in-Tokens.text) (tokens_of c.in_ok-text-in-Tokens.text)) _ _ _ _ _ _ c.in_ok-leaf_type.ensures.some (sym c.in-Tokens.is ∙ c.form.ensures) c.in_ok-text-in-Tokens.ensures c.in_ok-place-in-Tokens.ensures.found
+
+pub returns-in_err-leaf_type-clause-found : goal.returns-in_err-leaf_type-clause-found
+returns-in_err-leaf_type-clause-found c = nothing_found _ _ c.from_residual.ensures
+
+pub returns-in_err-leaf_type-clause-front : goal.returns-in_err-leaf_type-clause-front
+returns-in_err-leaf_type-clause-front c = front_same _ _ refl
+
+pub put_content-requires : goal.put_content-requires
+put_content-requires c = c.requires
+
+pub returns-in_err-place-in-Nothing-clause-found : goal.returns-in_err-place-in-Nothing-clause-found
+returns-in_err-place-in-Nothing-clause-found c = nothing_found _ _ c.from_residual-in_err-place-in-Nothing.ensures
+
+pub returns-in_err-place-in-Nothing-clause-front : goal.returns-in_err-place-in-Nothing-clause-front
+returns-in_err-place-in-Nothing-clause-front c = c.in_err-place-in-Nothing.ensures.front
+
+pub returns-in_err-truth-in-Truth-clause-found : goal.returns-in_err-truth-in-Truth-clause-found
+returns-in_err-truth-in-Truth-clause-found c = nothing_found _ _ c.from_residual-in_err-truth-in-Truth.ensures
+
+pub returns-in_err-truth-in-Truth-clause-front : goal.returns-in_err-truth-in-Truth-clause-front
+returns-in_err-truth-in-Truth-clause-front c = front_same _ _ refl
+
+pub put_content-requires-in-Truth : goal.put_content-requires-in-Truth
+put_content-requires-in-Truth c = c.requires
+
+pub returns-in_err-place-in-Truth-clause-found : goal.returns-in_err-place-in-Truth-clause-found
+returns-in_err-place-in-Truth-clause-found c = nothing_found _ _ c.from_residual-in_err-place-in-Truth.ensures
+
+pub returns-in_err-place-in-Truth-clause-front : goal.returns-in_err-place-in-Truth-clause-front
+returns-in_err-place-in-Truth-clause-front c = c.in_err-place-in-Truth.ensures.front
+
+pub returns-in_err-number-in-Unsigned-clause-found : goal.returns-in_err-number-in-Unsigned-clause-found
+returns-in_err-number-in-Unsigned-clause-found c = nothing_found _ _ c.from_residual-in_err-number-in-Unsigned.ensures
+
+pub returns-in_err-number-in-Unsigned-clause-front : goal.returns-in_err-number-in-Unsigned-clause-front
+returns-in_err-number-in-Unsigned-clause-front c = front_same _ _ refl
+
+pub put_content-requires-in-Unsigned : goal.put_content-requires-in-Unsigned
+put_content-requires-in-Unsigned c = c.requires
+
+pub returns-in_err-place-in-Unsigned-clause-found : goal.returns-in_err-place-in-Unsigned-clause-found
+returns-in_err-place-in-Unsigned-clause-found c = nothing_found _ _ c.from_residual-in_err-place-in-Unsigned.ensures
+
+pub returns-in_err-place-in-Unsigned-clause-front : goal.returns-in_err-place-in-Unsigned-clause-front
+returns-in_err-place-in-Unsigned-clause-front c = c.in_err-place-in-Unsigned.ensures.front
+
+pub returns-in_err-number-in-Signed-clause-found : goal.returns-in_err-number-in-Signed-clause-found
+returns-in_err-number-in-Signed-clause-found c = nothing_found _ _ c.from_residual-in_err-number-in-Signed.ensures
+
+pub returns-in_err-number-in-Signed-clause-front : goal.returns-in_err-number-in-Signed-clause-front
+returns-in_err-number-in-Signed-clause-front c = front_same _ _ refl
+
+pub put_content-requires-in-Signed : goal.put_content-requires-in-Signed
+put_content-requires-in-Signed c = c.requires
+
+pub returns-in_err-place-in-Signed-clause-found : goal.returns-in_err-place-in-Signed-clause-found
+returns-in_err-place-in-Signed-clause-found c = nothing_found _ _ c.from_residual-in_err-place-in-Signed.ensures
+
+pub returns-in_err-place-in-Signed-clause-front : goal.returns-in_err-place-in-Signed-clause-front
+returns-in_err-place-in-Signed-clause-front c = c.in_err-place-in-Signed.ensures.front
+
+pub returns-in_err-number-in-Wide-clause-found : goal.returns-in_err-number-in-Wide-clause-found
+returns-in_err-number-in-Wide-clause-found c = nothing_found _ _ c.from_residual-in_err-number-in-Wide.ensures
+
+pub returns-in_err-number-in-Wide-clause-front : goal.returns-in_err-number-in-Wide-clause-front
+returns-in_err-number-in-Wide-clause-front c = front_same _ _ refl
+
+pub put_content-requires-in-Wide : goal.put_content-requires-in-Wide
+put_content-requires-in-Wide c = c.requires
+
+pub returns-in_err-place-in-Wide-clause-found : goal.returns-in_err-place-in-Wide-clause-found
+returns-in_err-place-in-Wide-clause-found c = nothing_found _ _ c.from_residual-in_err-place-in-Wide.ensures
+
+pub returns-in_err-place-in-Wide-clause-front : goal.returns-in_err-place-in-Wide-clause-front
+returns-in_err-place-in-Wide-clause-front c = c.in_err-place-in-Wide.ensures.front
+
+pub returns-in_err-text-in-Text-clause-found : goal.returns-in_err-text-in-Text-clause-found
+returns-in_err-text-in-Text-clause-found c = nothing_found _ _ c.from_residual-in_err-text-in-Text.ensures
+
+pub returns-in_err-text-in-Text-clause-front : goal.returns-in_err-text-in-Text-clause-front
+returns-in_err-text-in-Text-clause-front c = front_same _ _ refl
+
+pub put_content-requires-in-Text : goal.put_content-requires-in-Text
+put_content-requires-in-Text c = c.requires
+
+pub returns-in_err-place-in-Text-clause-found : goal.returns-in_err-place-in-Text-clause-found
+returns-in_err-place-in-Text-clause-found c = nothing_found _ _ c.from_residual-in_err-place-in-Text.ensures
+
+pub returns-in_err-place-in-Text-clause-front : goal.returns-in_err-place-in-Text-clause-front
+returns-in_err-place-in-Text-clause-front c = c.in_err-place-in-Text.ensures.front
+
+pub returns-in_err-content-in-Bytes-clause-found : goal.returns-in_err-content-in-Bytes-clause-found
+returns-in_err-content-in-Bytes-clause-found c = nothing_found _ _ c.from_residual-in_err-content-in-Bytes.ensures
+
+pub returns-in_err-content-in-Bytes-clause-front : goal.returns-in_err-content-in-Bytes-clause-front
+returns-in_err-content-in-Bytes-clause-front c = front_same _ _ refl
+
+pub put_content-requires-in-Bytes : goal.put_content-requires-in-Bytes
+put_content-requires-in-Bytes c = c.requires
+
+pub returns-in_err-place-in-Bytes-clause-found : goal.returns-in_err-place-in-Bytes-clause-found
+returns-in_err-place-in-Bytes-clause-found c = nothing_found _ _ c.from_residual-in_err-place-in-Bytes.ensures
+
+pub returns-in_err-place-in-Bytes-clause-front : goal.returns-in_err-place-in-Bytes-clause-front
+returns-in_err-place-in-Bytes-clause-front c = c.in_err-place-in-Bytes.ensures.front
+
+pub returns-in_err-text-in-Tokens-clause-found : goal.returns-in_err-text-in-Tokens-clause-found
+returns-in_err-text-in-Tokens-clause-found c = nothing_found _ _ c.from_residual-in_err-text-in-Tokens.ensures
+
+pub returns-in_err-text-in-Tokens-clause-front : goal.returns-in_err-text-in-Tokens-clause-front
+returns-in_err-text-in-Tokens-clause-front c = front_same _ _ refl
+
+pub put_content-requires-in-Tokens : goal.put_content-requires-in-Tokens
+put_content-requires-in-Tokens c = c.requires
+
+pub returns-in_err-place-in-Tokens-clause-found : goal.returns-in_err-place-in-Tokens-clause-found
+returns-in_err-place-in-Tokens-clause-found c = nothing_found _ _ c.from_residual-in_err-place-in-Tokens.ensures
+
+pub returns-in_err-place-in-Tokens-clause-front : goal.returns-in_err-place-in-Tokens-clause-front
+returns-in_err-place-in-Tokens-clause-front c = c.in_err-place-in-Tokens.ensures.front
+
+pub returns-in_ok-place-in-Nothing-clause-front : goal.returns-in_ok-place-in-Nothing-clause-front
+returns-in_ok-place-in-Nothing-clause-front c = c.in_ok-place-in-Nothing.ensures.front
+
+pub returns-in_ok-place-in-Truth-clause-front : goal.returns-in_ok-place-in-Truth-clause-front
+returns-in_ok-place-in-Truth-clause-front c = c.in_ok-place-in-Truth.ensures.front
+
+pub returns-in_ok-place-in-Unsigned-clause-front : goal.returns-in_ok-place-in-Unsigned-clause-front
+returns-in_ok-place-in-Unsigned-clause-front c = c.in_ok-place-in-Unsigned.ensures.front
+
+pub returns-in_ok-place-in-Signed-clause-front : goal.returns-in_ok-place-in-Signed-clause-front
+returns-in_ok-place-in-Signed-clause-front c = c.in_ok-place-in-Signed.ensures.front
+
+pub returns-in_ok-place-in-Wide-clause-front : goal.returns-in_ok-place-in-Wide-clause-front
+returns-in_ok-place-in-Wide-clause-front c = c.in_ok-place-in-Wide.ensures.front
+
+pub returns-in_ok-place-in-Text-clause-front : goal.returns-in_ok-place-in-Text-clause-front
+returns-in_ok-place-in-Text-clause-front c = c.in_ok-place-in-Text.ensures.front
+
+pub returns-in_ok-place-in-Bytes-clause-front : goal.returns-in_ok-place-in-Bytes-clause-front
+returns-in_ok-place-in-Bytes-clause-front c = c.in_ok-place-in-Bytes.ensures.front
+
+pub returns-in_ok-place-in-Tokens-clause-front : goal.returns-in_ok-place-in-Tokens-clause-front
+returns-in_ok-place-in-Tokens-clause-front c = c.in_ok-place-in-Tokens.ensures.front
