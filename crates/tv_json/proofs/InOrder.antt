@@ -8,9 +8,9 @@ use Rattle.std.specs.Cmp.Lexicographic.{slice_cmp}
 use Rattle.std.specs.Ordering.{nat_cmp}
 use Rattle.serde_json.specs.Data as json
 use Rattle.serde_json.specs.Data.{Data, Members, no_members, member, put}
-use Rattle.tv_value.specs.Tree.{Tree, leaf, array, object, Entries, no_entries, entry}
+use Rattle.tv_value.specs.Tree.{Tree, object, Entries, no_entries, entry}
 use Rattle.tv_json.specs.JsonOf.{json_of, entries_json}
-use Rattle.tv_json.specs.Rising.{Below, RiseFrom, KeysRise, listed_json, pairs_json}
+use Rattle.tv_json.specs.Rising.{Below, RiseFrom, KeysRise, entries_of, listed_json, pairs_json}
 
 -- ---- members behind others
 
@@ -68,15 +68,9 @@ above_nothing (entry k t es) = tt
 pub in_order : (es : Entries) → KeysRise es → listed_json es ≡ entries_json es no_members
 in_order es r = sym (in_order_behind no_members es (above_nothing es) r)
 
-abbrev entries_of : Tree → Entries
-entries_of (leaf l) = no_entries
-entries_of (array ts) = no_entries
-entries_of (object es) = es
-
--- what was found of an object's entries is so of the same entries when they are read again
-pub in_order_again : (t : Tree) (es again : Entries) → object es ≡ t → object again ≡ t → KeysRise es → json.object (listed_json again) ≡ json_of t
-in_order_again t es again p q r =
-    ap json.object (in_order again (subst KeysRise (ap entries_of (p ∙ sym q)) r)) ∙ ap json_of q
+-- the entries of an object that rise are its members, one after the other
+pub object_in_order : (t : Tree) (es : Entries) → object es ≡ t → KeysRise (entries_of t) → json.object (listed_json es) ≡ json_of t
+object_in_order t es whole r = ap json.object (in_order es (subst KeysRise (ap entries_of (sym whole)) r)) ∙ ap json_of whole
 
 -- ---- pairs that are put into a map
 

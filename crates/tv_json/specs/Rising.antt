@@ -10,7 +10,7 @@ use Rattle.json.specs.Tree.{json_tokens, items_tokens, members_tokens}
 use Rattle.serde_json.specs.Data as json
 use Rattle.serde_json.specs.Data.{Data, Items, Members}
 use Rattle.serde_json.specs.Written.{outline, items_outline, members_outline}
-use Rattle.tv_value.specs.Tree.{Token, Tree, Entries, no_entries, entry}
+use Rattle.tv_value.specs.Tree.{Token, Tree, leaf, array, object, Entries, no_entries, entry}
 use Rattle.tv_json.specs.JsonOf.{json_of}
 
 -- the first text comes before the second
@@ -27,6 +27,12 @@ KeysRise no_entries = Unit {0}
 KeysRise (entry k t es) = RiseFrom k es
 
 -- ---- for private clauses
+
+-- the entries of an object, none of another value
+abbrev pub entries_of : Tree → Entries
+entries_of (leaf l) = no_entries
+entries_of (array ts) = no_entries
+entries_of (object es) = es
 
 -- the members as the entries stand
 abbrev pub listed_json : Entries → Members

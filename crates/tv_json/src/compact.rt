@@ -6,7 +6,7 @@ ghost use Rattle.serde_json.specs.Data as Data;
 ghost use Rattle.serde_json.specs.Data.{no_members};
 ghost use Rattle.serde_json.specs.Written.{compact_text};
 ghost use Rattle.tv_json.specs.JsonOf.{json_of, entries_json};
-ghost use Rattle.tv_json.specs.Rising.{KeysRise, data_tokens, listed_json, pairs_json};
+ghost use Rattle.tv_json.specs.Rising.{KeysRise, entries_of, data_tokens, listed_json, pairs_json};
 ghost use Rattle.tv_value.specs.Size.{size, entries_size};
 ghost use Rattle.tv_value.specs.Tree.{array, object, elements, entries};
 
@@ -36,6 +36,26 @@ fn keys_rise<N: Nested>(mut members: N::ObjectIter) -> bool
     true
 }
 
+// Whether a value is an object whose keys are each below the next.
+fn is_in_order<N: Nested>(value: &N) -> bool
+    ensures { IsTrue result → KeysRise (entries_of (N.tree value.now)) }
+{
+    match value.as_nested() {
+        NestedValue::Object(members) => keys_rise::<N>(members),
+        _ => false,
+    }
+}
+
+// Whether a value that is lent is such an object.
+fn is_lent_in_order<'a, V: Value<'a>>(value: &V) -> bool
+    ensures { IsTrue result → KeysRise (entries_of (V.tree value.now)) }
+{
+    match lend(value) {
+        NestedValue::Object(members) => keys_rise::<Lent<'a, V>>(members),
+        _ => false,
+    }
+}
+
 // The members by byte order of their keys, of equal keys the last.
 fn by_key<N: Nested>(
     alloc: Global,
@@ -62,11 +82,7 @@ pub(crate) fn write_value<N: Nested>(json: &mut JsonWriter, value: &N) -> Result
         NestedValue::Leaf(leaf) => write_leaf(json, &leaf),
         NestedValue::Array(items) => write_array::<N>(json, items),
         NestedValue::Object(members) => {
-            let in_order = keys_rise::<N>(members);
-            let NestedValue::Object(members) = value.as_nested() else {
-                unreachable!();
-            };
-            if in_order {
+            if is_in_order(value) {
                 write_members::<N>(json, members)
             } else {
                 write_by_key::<N>(json, members)
@@ -128,11 +144,7 @@ pub(crate) fn write_lent<'a, V: Value<'a>>(
         NestedValue::Leaf(leaf) => write_leaf(json, &leaf),
         NestedValue::Array(items) => write_array::<Lent<'a, V>>(json, items),
         NestedValue::Object(members) => {
-            let in_order = keys_rise::<Lent<'a, V>>(members);
-            let NestedValue::Object(members) = lend(value) else {
-                unreachable!();
-            };
-            if in_order {
+            if is_lent_in_order(value) {
                 write_members::<Lent<'a, V>>(json, members)
             } else {
                 write_by_key::<Lent<'a, V>>(json, members)

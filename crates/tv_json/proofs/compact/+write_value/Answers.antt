@@ -6,8 +6,8 @@ use Rattle.serde_json.specs.Data.{no_members}
 use Rattle.tv_value.specs.Size.{size, elements_size, entries_size}
 use Rattle.tv_value.specs.Tree.{array, object, elements, entries}
 use Rattle.tv_json.specs.JsonOf.{json_of, elements_json, entries_json}
-use Rattle.tv_json.specs.Rising.{KeysRise, data_tokens, rest_of_array, rest_of_object, listed_json, pairs_json}
-use Rattle.tv_json.proofs.InOrder.{in_order_again}
+use Rattle.tv_json.specs.Rising.{KeysRise, entries_of, data_tokens, rest_of_array, rest_of_object, listed_json, pairs_json}
+use Rattle.tv_json.proofs.InOrder.{object_in_order}
 use Rattle.tv_json.proofs.compact.+write_value.Goals as goal
 
 -- ---- arrays
@@ -134,16 +134,16 @@ write_value-write_array-requires g t c κs within =
 
 pub write_value-write_members-requires : goal.write_value-write_members-requires
 write_value-write_members-requires g t c κs within =
-    let whole : object (entries (g.N.Nested.object_rest c.in-Object-as_nested.members)) ≡ g.N.Nested.tree c.args.value.now = search rules in
+    let whole : object (entries (g.N.Nested.object_rest c.in-Object.members)) ≡ g.N.Nested.tree c.args.value.now = search rules in
     let sizes = ap size whole in
-    let smaller : entries_size (entries (g.N.Nested.object_rest c.in-Object-as_nested.members)) < size (g.N.Nested.tree c.args.value.now) = omega (arith, sizes) in
+    let smaller : entries_size (entries (g.N.Nested.object_rest c.in-Object.members)) < size (g.N.Nested.tree c.args.value.now) = omega (arith, sizes) in
     search (rules, smaller)
 
 pub write_value-write_by_key-requires : goal.write_value-write_by_key-requires
 write_value-write_by_key-requires g t c κs within =
-    let whole : object (entries (g.N.Nested.object_rest c.in-Object-as_nested.members)) ≡ g.N.Nested.tree c.args.value.now = search rules in
+    let whole : object (entries (g.N.Nested.object_rest c.in-Object.members)) ≡ g.N.Nested.tree c.args.value.now = search rules in
     let sizes = ap size whole in
-    let smaller : entries_size (entries (g.N.Nested.object_rest c.in-Object-as_nested.members)) < size (g.N.Nested.tree c.args.value.now) = omega (arith, sizes) in
+    let smaller : entries_size (entries (g.N.Nested.object_rest c.in-Object.members)) < size (g.N.Nested.tree c.args.value.now) = omega (arith, sizes) in
     search (rules, smaller)
 
 pub write_value-returns-in-Array-clause-ok : goal.write_value-returns-in-Array-clause-ok
@@ -151,19 +151,16 @@ write_value-returns-in-Array-clause-ok g t c =
     let whole : array (elements (g.N.Nested.array_rest c.in-Array.items)) ≡ g.N.Nested.tree c.args.value.now = search rules in
     on_ok_weaker c.write_array.result (λ last. last ∙ ap (λ z. c.args.json.now.out.tokens ++ data_tokens (json_of z)) whole) c.write_array.ensures.ok
 
-pub write_value-returns-then-in_order-clause-ok : goal.write_value-returns-then-in_order-clause-ok
-write_value-returns-then-in_order-clause-ok g t c =
+pub write_value-returns-then-is_in_order-clause-ok : goal.write_value-returns-then-is_in_order-clause-ok
+write_value-returns-then-is_in_order-clause-ok g t c =
     let tree = g.N.Nested.tree c.args.value.now in
-    let tested = entries (g.N.Nested.object_rest c.in-Object.members) in
-    let written = entries (g.N.Nested.object_rest c.in-Object-as_nested.members) in
-    let first : object tested ≡ tree = search rules in
-    let second : object written ≡ tree = search rules in
-    let rises : KeysRise tested = search rules in
-    on_ok_weaker c.write_members.result
-    (λ last. last ∙ ap (λ z. c.args.json.now.out.tokens ++ data_tokens z) (in_order_again tree tested written first second rises))
+    let es = entries (g.N.Nested.object_rest c.in-Object.members) in
+    let whole : object es ≡ tree = search rules in
+    let rises : KeysRise (entries_of tree) = search rules in
+    on_ok_weaker c.write_members.result (λ last. last ∙ ap (λ z. c.args.json.now.out.tokens ++ data_tokens z) (object_in_order tree es whole rises))
     c.write_members.ensures.ok
 
-pub write_value-returns-else-in_order-clause-ok : goal.write_value-returns-else-in_order-clause-ok
-write_value-returns-else-in_order-clause-ok g t c =
-    let whole : object (entries (g.N.Nested.object_rest c.in-Object-as_nested.members)) ≡ g.N.Nested.tree c.args.value.now = search rules in
+pub write_value-returns-else-is_in_order-clause-ok : goal.write_value-returns-else-is_in_order-clause-ok
+write_value-returns-else-is_in_order-clause-ok g t c =
+    let whole : object (entries (g.N.Nested.object_rest c.in-Object.members)) ≡ g.N.Nested.tree c.args.value.now = search rules in
     on_ok_weaker c.write_by_key.result (λ last. last ∙ ap (λ z. c.args.json.now.out.tokens ++ data_tokens (json_of z)) whole) c.write_by_key.ensures.ok
