@@ -1,13 +1,14 @@
 -- The steps of taking a legacy object byte by byte.
-use Rattle.std.proofs.Common.{◌≡◌, ℕ, ◌+◌, ◌<◌, ◌≤◌, cond, true, false, List, [], ◌∷◌, ◌++◌, length, Result, Ok, refl, sym, ap, subst, ◌∙◌, arith, length-append}
+use Rattle.std.proofs.Common.{◌≡◌, ℕ, ◌+◌, ◌<◌, ◌≤◌, cond, true, false, List, [], ◌∷◌, ◌++◌, length, Result, Ok, Err, refl, sym, ap, subst, ◌∙◌, arith, length-append}
 use Rattle.std.proofs.lemmas.Bool.{eq-eqb, ne_eqb}
 use Rattle.std.specs.Prelude.{◌==◌}
 use Rattle.std.proofs.lemmas.List.Sums.{count_by-le-length}
 use Rattle.tv_base.specs.declared.cause.Cause.{Cause}
+use Rattle.tv_base.specs.declared.cause.Cause.TheVariants.{LegacyJson}
 use Rattle.tv_base.specs.Stop.{◌>>=◌}
 use Rattle.tv_base.specs.Reading.{u8_at}
 use Rattle.tv_legacy.specs.Legacy.{Place, outside, inside, escaped, next, opened, closed, behind}
-use Rattle.tv_legacy.specs.LegacyReading.{is_blank, nonblank_at, is_even, rest_at}
+use Rattle.tv_legacy.specs.LegacyReading.{is_blank, nonblank_at, is_even, rest_at, braced_at, slice_at}
 use Rattle.tv_legacy.specs.LegacyScan.{brace_count}
 use Rattle.tv_legacy.proofs.Braces.{opened-push, closed-push, behind-push}
 
@@ -72,3 +73,27 @@ one_brace brace escaped b = omega arith
 
 pub next_bound : (front : List ℕ) (b old new : ℕ) (place : Place) → old ≤ length front → new + brace_count 125 place b ≡ old + brace_count 123 place b → new ≤ length (front ++ b ∷ [])
 next_bound front b old new place h step = omega (arith, h, step, one_brace 123 place b, length-append front (b ∷ []))
+
+-- ---- blanks, and then the slice
+
+pub slice_parts : (bytes : List ℕ) → slice_at bytes ≡ (nonblank_at bytes >>= λ x. braced_at x.0 x.1)
+unfolding slice_at
+slice_parts bytes = refl
+
+-- another byte than a brace
+pub is_other : (b : ℕ) → ¬ (b ≡ 123) → (bytes : List ℕ) → braced_at b bytes ≡ Err (LegacyJson, bytes)
+is_other b other bytes =
+    let e : (b == 123) ≡ false = ne_eqb b 123 other in
+    rw e refl
+
+-- a brace, of which a front was made
+pub is_brace : (b : ℕ) (front : List ℕ) → b ≡ 123 → front ≡ 123 ∷ [] → (bytes : List ℕ) → braced_at b bytes ≡ rest_at front bytes
+is_brace b front e made bytes = ap (λ n. braced_at n bytes) e ∙ ap (λ l. rest_at l bytes) (sym made)
+
+same_and_nothing : (r : Result (List ℕ × List ℕ) (Cause × List ℕ)) → r ≡ (r >>= λ x. Ok x)
+same_and_nothing (Ok x) = refl
+same_and_nothing (Err e) = refl
+
+-- a reading is itself and then nothing
+pub and_nothing : (front bytes : List ℕ) → rest_at front bytes ≡ (rest_at front bytes >>= λ x. Ok x)
+and_nothing front bytes = same_and_nothing (rest_at front bytes)

@@ -63,7 +63,6 @@ fn take_rest<S: ByteSource>(
 }
 
 // Blanks, and then the slice.
-#[tactic(auto, using(tv_base::proofs::TakeSteps::Taken_then), unfolding(crate::specs::LegacyReading::slice_at))]
 fn take_slice<S: ByteSource>(
     alloc: Global,
     source: &mut S,
