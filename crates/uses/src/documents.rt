@@ -1,0 +1,50 @@
+//! Documents.
+
+use anyhow::Result;
+use std::alloc::Global;
+use tantivy_schema::schema::document::{Document, ReferenceValueLeaf, TreeBuilder};
+use tantivy_schema::schema::{Facet, Field, Schema, TantivyDocument, Value};
+
+/// A document, value by value.
+pub fn added(alloc: Global, schema: &Schema) -> Result<TantivyDocument> {
+    let mut document = TantivyDocument::new(alloc);
+    document.add_text(schema.get_field("name")?, "Ada")?;
+    document.add_u64(schema.get_field("age")?, 36)?;
+    let group = Facet::from_text(alloc, "/staff/research")?;
+    document.add_facet(schema.get_field("group")?, &group)?;
+    Ok(document)
+}
+
+/// The document of a JSON object. A key that names no field is left out.
+pub fn parsed(alloc: Global, schema: &Schema, json: &str) -> Result<TantivyDocument> {
+    Ok(TantivyDocument::parse_json(alloc, schema, json)?)
+}
+
+/// A document with a nested value, which is written part by part.
+pub fn built(alloc: Global, field: Field) -> Result<TantivyDocument> {
+    let mut builder = TreeBuilder::new(TantivyDocument::new(alloc));
+    builder.open_object(2)?;
+    builder.key("tags")?;
+    builder.open_array(1)?;
+    builder.leaf(ReferenceValueLeaf::Str("new"))?;
+    builder.key("size")?;
+    builder.leaf(ReferenceValueLeaf::U64(3))?;
+    builder.finish(field)?;
+    Ok(builder.into_doc())
+}
+
+/// The texts that a document has in a field.
+pub fn texts(alloc: Global, document: &TantivyDocument, field: Field) -> Result<Vec<String>> {
+    let mut texts = Vec::new(alloc);
+    for value in document.get_all(field) {
+        if let Some(text) = value.as_str() {
+            texts.push(String::from_str(alloc, text)?)?;
+        }
+    }
+    Ok(texts)
+}
+
+/// The document as JSON, by the names of its fields.
+pub fn printed(alloc: Global, schema: &Schema, document: &TantivyDocument) -> Result<String> {
+    Ok(document.to_json(alloc, schema)?)
+}

@@ -1,0 +1,8 @@
+//! The calls of the guide (`docs/GUIDE.md`), each in a function of its own.
+#![tactic(auto)]
+
+pub mod documents;
+pub mod schemas;
+pub mod store;
+pub mod terms;
+pub mod values;

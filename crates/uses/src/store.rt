@@ -1,0 +1,55 @@
+//! The store.
+
+use anyhow::{Result, anyhow};
+use std::alloc::Global;
+use std::collections::BTreeMap;
+use tantivy_schema::common::{SliceSource, VecSink};
+use tantivy_schema::schema::document::{BinaryDocumentSerializer, StoreReader};
+use tantivy_schema::schema::{Schema, TantivyDocument};
+use tantivy_schema::store::{DirectDecoder, DocStoreVersion, Step, read_document};
+
+/// The bytes of documents, one after the other.
+pub fn block(alloc: Global, schema: &Schema, documents: &[TantivyDocument]) -> Result<Vec<u8>> {
+    let mut sink = VecSink::new(alloc);
+    for document in documents {
+        append(&mut sink, schema, document)?;
+    }
+    Ok(sink.into_vec())
+}
+
+/// Appends the stored pairs of a document, whose fields have to be the schema's.
+fn append(sink: &mut VecSink, schema: &Schema, document: &TantivyDocument) -> Result<()> {
+    if !document.fits(schema) {
+        return Err(anyhow!("a field is not the schema's"));
+    }
+    BinaryDocumentSerializer::new(sink, schema).serialize_doc(document)?;
+    Ok(())
+}
+
+/// The documents of such bytes.
+pub fn documents_of(alloc: Global, bytes: &[u8], count: usize) -> Result<Vec<TantivyDocument>> {
+    let mut source = SliceSource::new(bytes);
+    let mut documents = Vec::new(alloc);
+    for _ in 0..count {
+        documents.push(read_document(alloc, &mut source, DocStoreVersion::V2)?)?;
+    }
+    Ok(documents)
+}
+
+/// The first document of such bytes, read in short steps: between two of them the caller may do something else.
+pub fn stepwise(alloc: Global, bytes: &[u8]) -> Result<TantivyDocument> {
+    let mut source = SliceSource::new(bytes);
+    let mut decoder = DirectDecoder::new(alloc, DocStoreVersion::V2);
+    for _ in 0..u64::MAX {
+        if decoder.step(&mut source)? == Step::Done {
+            break;
+        }
+    }
+    Ok(decoder.into_doc())
+}
+
+/// An object of numbers, read into a map, without a document.
+pub fn scores(alloc: Global, bytes: &[u8]) -> Result<BTreeMap<String, u64>> {
+    let mut reader = StoreReader::new(SliceSource::new(bytes), DocStoreVersion::V2);
+    Ok(reader.read::<BTreeMap<String, u64>>(alloc)?)
+}

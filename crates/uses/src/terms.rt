@@ -1,0 +1,32 @@
+//! Terms and facets.
+
+use anyhow::{Result, anyhow};
+use std::alloc::Global;
+use std::fmt::Write;
+use tantivy_schema::schema::{Facet, Field, Schema, Term};
+
+/// The term of a text at a path into the objects of a JSON field.
+pub fn of_path(alloc: Global, field: Field, path: &str, text: &str) -> Result<Term> {
+    let mut term = Term::from_field_json_path(alloc, field, path, false)?;
+    term.append_type_and_str(text)?;
+    Ok(term)
+}
+
+/// The path of a term with the name of its field, and its value, where that is a text.
+pub fn shown(alloc: Global, schema: &Schema, term: &Term) -> Result<String> {
+    if !schema.has_field(term.field()) {
+        return Err(anyhow!("a field is not the schema's"));
+    }
+    let mut shown = term.get_full_path(alloc, schema)?;
+    write!(shown, " {:?}", term.typ())?;
+    Ok(shown)
+}
+
+/// Whether a facet is below another: facets are ordered so that those below one are a range of the order.
+pub fn is_within(alloc: Global, upper: &str, lower: &str) -> Result<bool> {
+    let (upper, lower) = (
+        Facet::from_text(alloc, upper)?,
+        Facet::from_text(alloc, lower)?,
+    );
+    Ok(upper.is_prefix_of(&lower))
+}
