@@ -42,7 +42,7 @@ pub fn facet(alloc: Global, word: &str) -> Result<Facet> {
     Ok(Facet::from_text(alloc, crate::text(alloc, word)?.as_str())?)
 }
 
-/// The text and the tokens that the bytes spell.
+/// The text and the tokens that the bytes encode.
 pub fn tokenized(alloc: Global, digits: &str) -> Result<PreTokenizedString> {
     let bytes = crate::bytes(alloc, digits)?;
     let (text, _) = PreTokenizedStr::from_payload(&bytes).context("a payload")?;

@@ -22,8 +22,8 @@ pub fn answer(alloc: Global, call: &[&str]) -> Result<String> {
             Some((number, length)) => Ok(format!(in alloc; "{number} {length}")?),
             None => Ok(String::from_str(alloc, "none")?),
         },
-        ["spell", number] => {
-            let (bytes, length) = VInt(words::number(number)?).spelling();
+        ["encode", number] => {
+            let (bytes, length) = VInt(words::number(number)?).encoding();
             words::digits(alloc, bytes.get(..length).context("ten bytes at most")?)
         }
         ["write", sink, values @ ..] => write(alloc, sink, values),

@@ -91,7 +91,7 @@ fn unset(kind: &str) -> Result<FieldType> {
     }
 }
 
-/// The type of fields with its options changed by one step: by a setter, or by `|` with what stands behind it or in front of it.
+/// The type of fields with its options changed by one step: by a setter, or by `|` with what stands behind it or before it.
 /// The name of a tokenizer stands behind `=`.
 fn changed(alloc: Global, field_type: FieldType, step: &str) -> Result<FieldType> {
     let (step, name) = match step.split_once('=') {

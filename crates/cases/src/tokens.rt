@@ -19,18 +19,18 @@ pub fn answer(alloc: Global, call: &[&str]) -> Result<String> {
                 None => Ok(String::from_str(alloc, "none")?),
             }
         }
-        ["same", kept, spelled] => same(alloc, &tokenized(alloc, kept)?, spelled),
+        ["same", kept, encoded] => same(alloc, &tokenized(alloc, kept)?, encoded),
         _ => Err(anyhow!("an unknown call about texts with tokens")),
     }
 }
 
-/// Whether a text is equal to the one that the bytes spell, and that one to it. Copies of both are equal just then.
+/// Whether a text is equal to the one that the bytes encode, and that one to it. Copies of both are equal just then.
 fn same(alloc: Global, kept: &PreTokenizedString, digits: &str) -> Result<String> {
     let bytes = words::bytes(alloc, digits)?;
-    let (spelled, _) = PreTokenizedStr::from_payload(&bytes).context("a payload")?;
-    let copy = spelled.to_owned_string(alloc)?;
+    let (encoded, _) = PreTokenizedStr::from_payload(&bytes).context("a payload")?;
+    let copy = encoded.to_owned_string(alloc)?;
     let lent = PreTokenizedStr::from_string(kept);
-    let (one_way, other_way) = (lent == spelled, spelled == lent);
+    let (one_way, other_way) = (lent == encoded, encoded == lent);
     ensure!((*kept == copy) == one_way, "copies compare otherwise");
     ensure!(
         (lent == PreTokenizedStr::from_string(&copy)) == one_way,
@@ -39,7 +39,7 @@ fn same(alloc: Global, kept: &PreTokenizedString, digits: &str) -> Result<String
     Ok(format!(in alloc; "{one_way} {other_way}")?)
 }
 
-/// How many bytes spell a text, how many tokens it has, whether it has none, and the text with its tokens.
+/// How many bytes encode a text, how many tokens it has, whether it has none, and the text with its tokens.
 fn shown(alloc: Global, text: PreTokenizedStr<'_>, length: usize) -> Result<String> {
     let kept = text.to_owned_string(alloc)?;
     ensure!(

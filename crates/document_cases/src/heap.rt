@@ -9,7 +9,7 @@ use tv_borrowed::Scratch;
 use tv_borrowed::read::read_borrowed;
 use tv_builder::json::put_json;
 use tv_builder::place::Place;
-use tv_builder::spelled::put_spelled;
+use tv_builder::encoded::put_encoded;
 use tv_heap::len::leaf_len;
 use tv_heap::value_type::ValueType;
 use tv_value::value::Value;
@@ -20,9 +20,9 @@ const OPEN: &[u8] = b"\x09\x81";
 /// What a call about heaps returns.
 pub fn answer(alloc: Global, call: &[&str]) -> Result<String> {
     match call {
-        ["spelled", heap, levels, bytes] => {
+        ["encoded", heap, levels, bytes] => {
             let bytes = words::bytes(alloc, bytes)?;
-            spelled(alloc, heap, words::number(levels)?, bytes.as_slice())
+            encoded(alloc, heap, words::number(levels)?, bytes.as_slice())
         }
         ["json", heap, json] => json_value(alloc, heap, json),
         ["leaf", value] => leaf(alloc, value),
@@ -38,15 +38,15 @@ pub fn answer(alloc: Global, call: &[&str]) -> Result<String> {
     }
 }
 
-/// The heap behind which the value that bytes spell is written, its type's code and its address, and the bytes behind it.
-fn spelled(alloc: Global, before: &str, levels: u32, bytes: &[u8]) -> Result<String> {
+/// The heap behind which the value that bytes encode is written, its type's code and its address, and the bytes behind it.
+fn encoded(alloc: Global, before: &str, levels: u32, bytes: &[u8]) -> Result<String> {
     let before = words::bytes(alloc, before)?;
     let mut heap = before.as_slice().to_vec(alloc)?;
     let mut places = OPEN.to_vec(alloc)?;
     if heap.len() > 4_294_967_295 {
         return Err(anyhow!("a heap is too long"));
     }
-    let put = put_spelled(bytes, levels, &mut heap, &mut places);
+    let put = put_encoded(bytes, levels, &mut heap, &mut places);
     let is_kept = heap.as_slice().starts_with(before.as_slice());
     ensure!(is_kept, "the heap has changed");
     let Some((rest, place)) = put else {

@@ -3,19 +3,19 @@
 ghost use Rattle.std.specs.Prelude.{◌≡◌, ◌≤◌, ◌-◌, ◌⊎◌, [], length, min, IfErr, IfOk, None};
 ghost use Rattle.std.specs.declared.io.ErrorKind.TheVariants.{OutOfMemory, StorageFull};
 ghost use Rattle.tantivy_schema.specs.Sink.{AppendsSome};
-ghost use Rattle.tantivy_schema.specs.Source.{CountsFault};
+ghost use Rattle.tantivy_schema.specs.Source.{CountsFailure};
 
 use std::alloc::Global;
 use std::io;
 use tantivy_schema::common::ByteSink;
 
-/// Keeps bytes in memory, up to a limit. A write past it is a fault of kind `StorageFull`, a refused growth one of kind
+/// Keeps bytes in memory, up to a limit. A write past it is a failure of kind `StorageFull`, a refused growth one of kind
 /// `OutOfMemory`.
 #[derive(Drop)]
 pub struct BoundedSink {
     bytes: Vec<u8>,
     most: usize,
-    faults: u64,
+    failures: u64,
     last: Option<io::ErrorKind>,
     ghost within: { length bytes.items ≤ most },
 }
@@ -24,13 +24,13 @@ impl BoundedSink {
     /// A sink that holds no byte, and will hold at most so many. It takes no memory yet.
     pub fn new(alloc: Global, most: usize) -> BoundedSink
         ensures bytes { ⟦<BoundedSink as ByteSink>⟧.held result ≡ [] }
-        ensures faults { ⟦<BoundedSink as ByteSink>⟧.faults result ≡ record { number = 0; last = None } }
+        ensures failures { ⟦<BoundedSink as ByteSink>⟧.failures result ≡ record { number = 0; last = None } }
         ensures limit { result.most ≡ most }
     {
         BoundedSink {
             bytes: Vec::new(alloc),
             most,
-            faults: 0,
+            failures: 0,
             last: None,
         }
     }
@@ -44,11 +44,11 @@ impl BoundedSink {
 }
 
 impl ByteSink for BoundedSink {
-    ghost tells = { λ _. Unit {0} };
+    ghost is_known = { λ _. Unit {0} };
 
     ghost held = { λ s. s.bytes.items };
 
-    ghost faults = { λ s. record { number = s.faults; last = s.last } };
+    ghost failures = { λ s. record { number = s.failures; last = s.last } };
 
     /// Appends as much of `buf` as has room. Errors: `StorageFull` where the sink is full, `OutOfMemory` where memory is
     /// refused.
@@ -57,7 +57,7 @@ impl ByteSink for BoundedSink {
         ensures room { IfOk result (λ n. n ≡ min (length buf.now) (self.old.most - length self.old.bytes.items)) }
         ensures some { IfOk result (λ n. n ≡ 0 → length buf.now ≡ 0) }
         ensures kind { IfErr result (λ kind. (kind ≡ OutOfMemory) ⊎ ((kind ≡ StorageFull) × (length self.old.bytes.items ≡ self.old.most))) }
-        ensures faults { CountsFault result (⟦<BoundedSink as ByteSink>⟧.faults self.old) (⟦<BoundedSink as ByteSink>⟧.faults self.new) }
+        ensures failures { CountsFailure result (⟦<BoundedSink as ByteSink>⟧.failures self.old) (⟦<BoundedSink as ByteSink>⟧.failures self.new) }
         ensures limit { self.new.most ≡ self.old.most }
     {
         let count = buf.len().min(self.most - self.bytes.len());
@@ -68,7 +68,7 @@ impl ByteSink for BoundedSink {
         } else {
             return Ok(count);
         };
-        self.faults = self.faults.saturating_add(1);
+        self.failures = self.failures.saturating_add(1);
         self.last = Some(kind);
         Err(kind)
     }

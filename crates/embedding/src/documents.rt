@@ -6,12 +6,12 @@ ghost use Rattle.tantivy_schema.specs.CodeTypes.DeserializeError.{DeserializeErr
 ghost use Rattle.tantivy_schema.specs.CodeTypes.DeserializeError.TheVariants.{HeapFull};
 ghost use Rattle.tantivy_schema.specs.Document.{document_of};
 ghost use Rattle.tantivy_schema.specs.Documents.{Answers, NoDocument, HasNoRoom, ShowsRefusal, IsReadingError};
-ghost use Rattle.tantivy_schema.specs.Fault.{Refusal};
+ghost use Rattle.tantivy_schema.specs.InputError.{Refusal};
 ghost use Rattle.tantivy_schema.specs.Legacy.{Legacy};
 ghost use Rattle.tantivy_schema.specs.ReadsAs.{Known};
 ghost use Rattle.tantivy_schema.specs.Room.{document_room};
 ghost use Rattle.tantivy_schema.specs.Short.{short_document};
-ghost use Rattle.tantivy_schema.specs.Spelling.{SpellsDocument};
+ghost use Rattle.tantivy_schema.specs.Encoding.{EncodesDocument};
 ghost use Rattle.tantivy_schema.specs.Stop.{Counts};
 ghost use Rattle.tantivy_schema.specs.Stored.{stored};
 ghost use Rattle.tantivy_schema.specs.StoreError.{IsIo, Writes};
@@ -37,7 +37,7 @@ pub fn store_document<K: ByteSink>(
     document: &TantivyDocument,
 ) -> Result<(), SerializeError>
     requires { Belongs schema.now (document_of document.now) }
-    ensures writes { Writes K.tells K.held K.faults sink.old sink.new result (Ok (short_document V2 (stored schema.now (document_of document.now)))) }
+    ensures writes { Writes K.is_known K.held K.failures sink.old sink.new result (Ok (short_document V2 (stored schema.now (document_of document.now)))) }
     ensures io { IfErr result IsIo }
 {
     BinaryDocumentSerializer::new(sink, schema).serialize_doc(document)
@@ -45,18 +45,18 @@ pub fn store_document<K: ByteSink>(
 
 /// Reads a document from a source.
 ///
-/// Where a front of the bytes spells a document that has room, it is the answer, and what follows it is left. Errors:
+/// Where a prefix of the bytes encodes a document that has room, it is the answer, and what follows it is left. Errors:
 /// `CorruptedValue`, `TypeMismatch` and `HeapFull` where they are true of the bytes, `Io` where the source failed, `Memory`.
 pub fn fetch_document<S: ByteSource>(
     alloc: Global,
     source: &mut S,
 ) -> Result<TantivyDocument, DeserializeError>
-    ensures only { Known S.tells S.left source.old → (d : Document) (front rest : List ℕ) → S.left source.old ≡ front ++ rest → SpellsDocument Legacy V2 front d → document_room d ≤ 4294967295 → Answers result d rest (S.left source.new) }
-    ensures fault { Known S.tells S.left source.old → (e : DeserializeError) (r : Refusal) → IsErrOf result e → IsRefusal e r → NoDocument V2 (S.left source.old) r }
-    ensures full { S.tells source.old → IsErrOf result HeapFull → HasNoRoom V2 (S.left source.old) }
+    ensures only { Known S.is_known S.left source.old → (d : Document) (prefix rest : List ℕ) → S.left source.old ≡ prefix ++ rest → EncodesDocument Legacy V2 prefix d → document_room d ≤ 4294967295 → Answers result d rest (S.left source.new) }
+    ensures error { Known S.is_known S.left source.old → (e : DeserializeError) (r : Refusal) → IsErrOf result e → IsRefusal e r → NoDocument V2 (S.left source.old) r }
+    ensures full { S.is_known source.old → IsErrOf result HeapFull → HasNoRoom V2 (S.left source.old) }
     ensures errors { IfErr result IsReadingError }
-    ensures shows { Known S.tells S.left source.old → (e : DeserializeError) (r : Refusal) → IsErrOf result e → IsRefusal e r → ShowsRefusal V2 (S.left source.old) (S.left source.new) r }
-    ensures faults { Counts store_stop result (S.faults source.old) (S.faults source.new) }
+    ensures shows { Known S.is_known S.left source.old → (e : DeserializeError) (r : Refusal) → IsErrOf result e → IsRefusal e r → ShowsRefusal V2 (S.left source.old) (S.left source.new) r }
+    ensures failures { Counts store_stop result (S.failures source.old) (S.failures source.new) }
 {
     read_document(alloc, source, DocStoreVersion::V2)
 }

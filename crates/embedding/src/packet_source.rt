@@ -37,11 +37,11 @@ impl<'a> PacketSource<'a> {
 }
 
 impl<'a> ByteSource for PacketSource<'a> {
-    ghost tells = { λ _. Unit {0} };
+    ghost is_known = { λ _. Unit {0} };
 
     ghost left = { λ s. s.rest.now };
 
-    ghost faults = { λ _. record { number = 0; last = None } };
+    ghost failures = { λ _. record { number = 0; last = None } };
 
     fn read(&mut self, buf: &mut [u8]) -> Result<usize, io::ErrorKind> {
         let count = self.rest.len().min(buf.len()).min(self.packet);

@@ -28,7 +28,7 @@ pub fn answer(alloc: Global, call: &[&str]) -> Result<String> {
         .context("a place in the input")?;
     let mut source = FailingSource::new(input.as_slice(), left);
     let text = ran(alloc, &mut source, room)?;
-    ensure!(source.faults == 1, "one read fails");
+    ensure!(source.failures == 1, "one read fails");
     Ok(text)
 }
 
@@ -50,11 +50,11 @@ fn ran<S: ByteSource>(alloc: Global, source: &mut S, room: &str) -> Result<Strin
     let mut sink = SmallSink {
         held,
         room: words::number(room)?,
-        faults: 0,
+        failures: 0,
         last: None,
     };
     let end = run(alloc, source, &mut sink);
-    ensure!(sink.faults == 1, "one write fails");
+    ensure!(sink.failures == 1, "one write fails");
     ended(alloc, end, sink.held.as_slice())
 }
 
@@ -70,7 +70,7 @@ fn ended(alloc: Global, end: RunEnd, output: &[u8]) -> Result<String> {
 struct FailingSource<'a> {
     rest: &'a [u8],
     left: usize,
-    faults: u64,
+    failures: u64,
     ghost are_bytes: { AllBytes rest.now },
 }
 
@@ -80,21 +80,21 @@ impl<'a> FailingSource<'a> {
         FailingSource {
             rest: bytes,
             left,
-            faults: 0,
+            failures: 0,
         }
     }
 }
 
 impl<'a> ByteSource for FailingSource<'a> {
-    ghost tells = { λ _. Unit {0} };
+    ghost is_known = { λ _. Unit {0} };
 
     ghost left = { λ s. s.rest.now };
 
-    ghost faults = { λ s. record { number = s.faults; last = Some Interrupted } };
+    ghost failures = { λ s. record { number = s.failures; last = Some Interrupted } };
 
     fn read(&mut self, buf: &mut [u8]) -> Result<usize, io::ErrorKind> {
         if self.rest.len() == self.left {
-            self.faults = self.faults.saturating_add(1);
+            self.failures = self.failures.saturating_add(1);
             return Err(io::ErrorKind::Interrupted);
         }
         let count = self.rest.len().min(buf.len()).min(1);
@@ -111,23 +111,23 @@ impl<'a> ByteSource for FailingSource<'a> {
 struct SmallSink {
     held: VecSink,
     room: usize,
-    faults: u64,
+    failures: u64,
     last: Option<io::ErrorKind>,
 }
 
 impl ByteSink for SmallSink {
-    ghost tells = { λ _. Unit {0} };
+    ghost is_known = { λ _. Unit {0} };
 
     ghost held = { λ s. ⟦<VecSink as ByteSink>⟧.held s.held };
 
-    ghost faults = { λ s. record { number = s.faults; last = s.last } };
+    ghost failures = { λ s. record { number = s.failures; last = s.last } };
 
     fn write(&mut self, buf: &[u8]) -> Result<usize, io::ErrorKind> {
         if buf.is_empty() {
             return Ok(0);
         }
         if self.room == 0 {
-            self.faults = self.faults.saturating_add(1);
+            self.failures = self.failures.saturating_add(1);
             self.last = Some(io::ErrorKind::StorageFull);
             return Err(io::ErrorKind::StorageFull);
         }
@@ -137,7 +137,7 @@ impl ByteSink for SmallSink {
                 Ok(count)
             }
             Err(kind) => {
-                self.faults = self.faults.saturating_add(1);
+                self.failures = self.failures.saturating_add(1);
                 self.last = Some(kind);
                 Err(kind)
             }

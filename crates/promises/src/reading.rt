@@ -6,12 +6,12 @@ ghost use Rattle.tantivy_schema.specs.CodeTypes.DeserializeError.TheVariants.{He
 ghost use Rattle.tantivy_schema.specs.Document.{document_of};
 ghost use Rattle.tantivy_schema.specs.Documents.{Answers, BeginsWith, NoDocument, HasNoRoom};
 ghost use Rattle.tantivy_schema.specs.Documents.{IsReadingError};
-ghost use Rattle.tantivy_schema.specs.Fault.{Refusal};
+ghost use Rattle.tantivy_schema.specs.InputError.{Refusal};
 ghost use Rattle.tantivy_schema.specs.Legacy.{Legacy};
 ghost use Rattle.tantivy_schema.specs.ReadsAs.{Known};
 ghost use Rattle.tantivy_schema.specs.ReaderError.{IsRefusal, store_stop};
 ghost use Rattle.tantivy_schema.specs.Room.{document_room};
-ghost use Rattle.tantivy_schema.specs.Spelling.{SpellsDocument};
+ghost use Rattle.tantivy_schema.specs.Encoding.{EncodesDocument};
 ghost use Rattle.tantivy_schema.specs.Stop.{Counts};
 ghost use Rattle.tantivy_schema.specs.StoreVersion.{version_of};
 ghost use Rattle.tantivy_schema.specs.Tree.{Document};
@@ -28,7 +28,7 @@ pub fn returned_documents_are_encoded<S: ByteSource>(
     source: &mut S,
     version: DocStoreVersion,
 ) -> Result<TantivyDocument, DeserializeError>
-    ensures { S.tells source.old → IfOk result
+    ensures { S.is_known source.old → IfOk result
         (λ d. BeginsWith (version_of version) (S.left source.old) (S.left source.new)
         (document_of d)) }
 {
@@ -49,12 +49,12 @@ pub fn encoded_documents_are_returned<S: ByteSource>(
     source: &mut S,
     version: DocStoreVersion,
 ) -> Result<TantivyDocument, DeserializeError>
-    ensures { Known S.tells S.left source.old → (d : Document) (prefix rest : List ℕ) →
-        S.left source.old ≡ prefix ++ rest → SpellsDocument Legacy (version_of version) prefix d →
+    ensures { Known S.is_known S.left source.old → (d : Document) (prefix rest : List ℕ) →
+        S.left source.old ≡ prefix ++ rest → EncodesDocument Legacy (version_of version) prefix d →
         document_room d ≤ 4294967295 → Answers result d rest (S.left source.new) }
 {
     let read = read_document(alloc, source, version);
-    let _ = source.at_hand();
+    let _ = source.buffered();
     match first_value(&read) {
         FirstValue::Array => read,
         FirstValue::Object => read,
@@ -86,9 +86,9 @@ pub fn refusals_are_true<S: ByteSource>(
     source: &mut S,
     version: DocStoreVersion,
 ) -> Result<TantivyDocument, DeserializeError>
-    ensures fault { Known S.tells S.left source.old → (e : DeserializeError) (r : Refusal) →
+    ensures error { Known S.is_known S.left source.old → (e : DeserializeError) (r : Refusal) →
         IsErrOf result e → IsRefusal e r → NoDocument (version_of version) (S.left source.old) r }
-    ensures full { S.tells source.old → IsErrOf result HeapFull →
+    ensures full { S.is_known source.old → IsErrOf result HeapFull →
         HasNoRoom (version_of version) (S.left source.old) }
     ensures errors { IfErr result IsReadingError }
 {
@@ -104,7 +104,7 @@ pub fn failures_are_told<S: ByteSource>(
     source: &mut S,
     version: DocStoreVersion,
 ) -> Result<TantivyDocument, DeserializeError>
-    ensures { Counts store_stop result (S.faults source.old) (S.faults source.new) }
+    ensures { Counts store_stop result (S.failures source.old) (S.failures source.new) }
 {
     match read_document(alloc, source, version) {
         Ok(found) => Ok(found),

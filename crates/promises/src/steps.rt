@@ -3,7 +3,7 @@
 ghost use Rattle.std.specs.Prelude.{◌≡◌, ◌↔◌, Err, IfOk, Ok, true, false};
 ghost use Rattle.tantivy_schema.specs.CodeTypes.DeserializeError.TheVariants.{AlreadyFailed};
 ghost use Rattle.tantivy_schema.specs.Decoder.{SaysDone, Rests};
-ghost use Rattle.tantivy_schema.specs.DecoderFront.{IsDone, NoFront};
+ghost use Rattle.tantivy_schema.specs.DecoderPrefix.{IsDone, NoPrefix};
 ghost use Rattle.tantivy_schema.specs.Finds.{Finds};
 ghost use Rattle.tantivy_schema.specs.Steps.{Stepped};
 ghost use Rattle.tantivy_schema.specs.StoreVersion.{version_of};
@@ -31,11 +31,11 @@ pub fn steps_take_few_bytes<S: ByteSource>(
     source: &mut S,
 ) -> Result<Step, DeserializeError>
     ensures { decoder.old.failed ≡ false → ¬ IsDone decoder.old.reading →
-        Finds S.tells S.left S.faults source.old decoder.old.count source.new decoder.new.count
+        Finds S.is_known S.left S.failures source.old decoder.old.count source.new decoder.new.count
         result
         (λ b _. Stepped (version_of decoder.old.version) decoder.new.legacy_seen
         decoder.old.reading decoder.new.reading b)
-        (NoFront (version_of decoder.old.version) decoder.old.reading) }
+        (NoPrefix (version_of decoder.old.version) decoder.old.reading) }
 {
     match decoder.step(source) {
         Ok(Step::More) => Ok(Step::More),

@@ -3,7 +3,7 @@
 ghost use Rattle.std.specs.Prelude.{[]};
 ghost use Rattle.tantivy_schema.specs.StoreVersion.{version_of};
 ghost use Rattle.tantivy_schema.specs.Typed.{Deserializes};
-ghost use Rattle.tantivy_schema.specs.Values.{SpellsAs, NextRefused};
+ghost use Rattle.tantivy_schema.specs.Values.{EncodesAs, NextRefused};
 
 use std::alloc::Global;
 use tantivy_schema::common::ByteSource;
@@ -14,8 +14,8 @@ pub fn entries_of_equal_keys_are_kept<S: ByteSource>(
     alloc: Global,
     reader: &mut StoreReader<S>,
 ) -> Result<Vec<(String, u64)>, DeserializeError>
-    ensures { Deserializes S.tells S.left reader.old reader.new result
-        (SpellsAs ⟦<Vec<(String, u64)> as ValueDeserialize>⟧.is (version_of reader.old.version))
+    ensures { Deserializes S.is_known S.left reader.old reader.new result
+        (EncodesAs ⟦<Vec<(String, u64)> as ValueDeserialize>⟧.is (version_of reader.old.version))
         (NextRefused ⟦<Vec<(String, u64)> as ValueDeserialize>⟧.refused
         (version_of reader.old.version)) }
 {

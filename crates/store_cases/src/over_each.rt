@@ -108,8 +108,8 @@ pub fn where_it_fails<R: Reading>(
         let ending = reading.read(alloc, LimitedSource::failing(bytes, behind, kind))?;
         let left = ending.source.rest.len().saturating_sub(behind);
         let told = ending.told(alloc, place, left)?;
-        let faults = ending.source.faults;
-        answers.push(format!(in alloc; "{told}, {faults} failed")?)?;
+        let failures = ending.source.failures;
+        answers.push(format!(in alloc; "{told}, {failures} failed")?)?;
     }
     once(alloc, answers.as_slice())
 }

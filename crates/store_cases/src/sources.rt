@@ -14,7 +14,7 @@ pub struct LimitedSource<'a> {
     pub packet: usize,
     pub fails_at: Option<usize>,
     pub kind: io::ErrorKind,
-    pub faults: u64,
+    pub failures: u64,
     ghost are_bytes: { AllBytes rest.now },
     ghost some: { 0 < packet },
 }
@@ -28,7 +28,7 @@ impl<'a> LimitedSource<'a> {
             packet: usize::MAX,
             fails_at: None,
             kind: io::ErrorKind::Other,
-            faults: 0,
+            failures: 0,
         }
     }
 
@@ -40,21 +40,21 @@ impl<'a> LimitedSource<'a> {
             packet: 1,
             fails_at: Some(left),
             kind,
-            faults: 0,
+            failures: 0,
         }
     }
 }
 
 impl<'a> ByteSource for LimitedSource<'a> {
-    ghost tells = { λ _. Unit {0} };
+    ghost is_known = { λ _. Unit {0} };
 
     ghost left = { λ s. s.rest.now };
 
-    ghost faults = { λ s. record { number = s.faults; last = Some s.kind } };
+    ghost failures = { λ s. record { number = s.failures; last = Some s.kind } };
 
     fn read(&mut self, buf: &mut [u8]) -> Result<usize, io::ErrorKind> {
         if self.fails_at == Some(self.rest.len()) {
-            self.faults = self.faults.saturating_add(1);
+            self.failures = self.failures.saturating_add(1);
             return Err(self.kind);
         }
         let count = self.rest.len().min(buf.len()).min(self.packet);
@@ -63,7 +63,7 @@ impl<'a> ByteSource for LimitedSource<'a> {
         Ok(count)
     }
 
-    fn at_hand(&self) -> &[u8] {
+    fn buffered(&self) -> &[u8] {
         &self.rest[..self.rest.len().min(self.window)]
     }
 

@@ -38,7 +38,7 @@ fn schema(alloc: Global, word: &str) -> Result<Schema> {
     Ok(Schema::from_json_value(alloc, &json)?)
 }
 
-/// The value that the bytes spell, read into a type.
+/// The value that the bytes encode, read into a type.
 fn value<V: ValueDeserialize>(alloc: Global, word: &str) -> Result<V> {
     let bytes = reads::bytes(alloc, word)?;
     let mut reader = StoreReader::new(SliceSource::new(&bytes), DocStoreVersion::V2);

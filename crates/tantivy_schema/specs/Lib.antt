@@ -10,16 +10,16 @@ pub use Rattle.tv_base.specs.ReadsAs
 -- numbers, texts and paths
 pub use Rattle.tv_base.specs.Number
 pub use Rattle.tv_base.specs.Parts
-pub use Rattle.tv_base.specs.PartFault
+pub use Rattle.tv_base.specs.ErrorInPart
 pub use Rattle.tv_base.specs.Escapes
 pub use Rattle.tv_base.specs.Facet
 pub use Rattle.tv_base.specs.JsonPath
 -- values, and the store format's grammar
 pub use Rattle.tv_value.specs.Tree
 pub use Rattle.tv_value.specs.Version
-pub use Rattle.tv_value.specs.Spelling
+pub use Rattle.tv_value.specs.Encoding
 pub use Rattle.tv_value.specs.Short
-pub use Rattle.tv_value.specs.Fault
+pub use Rattle.tv_value.specs.InputError
 pub use Rattle.tv_date.specs.DateTime
 pub use Rattle.tv_date.specs.Rfc3339
 pub use Rattle.tv_date.specs.Shape as DateShape
@@ -86,7 +86,7 @@ pub use Rattle.tv_heap.specs.Value
 pub use Rattle.tv_heap.specs.Weight
 -- values that come part by part
 pub use Rattle.tv_builder.specs.Called
-pub use Rattle.tv_builder.specs.Front
+pub use Rattle.tv_builder.specs.Prefix
 pub use Rattle.tv_builder.specs.Given
 pub use Rattle.tv_builder.specs.Kinds as BuilderKinds
 pub use Rattle.tv_builder.specs.Moves
@@ -100,7 +100,7 @@ pub use Rattle.tv_store.specs.Documents
 pub use Rattle.tv_store.specs.Error as StoreError
 pub use Rattle.tv_decoder.specs.Decoder
 pub use Rattle.tv_decoder.specs.Documents as DecodedDocuments
-pub use Rattle.tv_decoder.specs.Front as DecoderFront
+pub use Rattle.tv_decoder.specs.Prefix as DecoderPrefix
 pub use Rattle.tv_decoder.specs.Paid
 pub use Rattle.tv_decoder.specs.Steps
 pub use Rattle.tv_store.specs.PairsGiven

@@ -1,4 +1,4 @@
-//! Bytes: where they come from and go to, and the numbers and texts that they spell. Paths into JSON objects.
+//! Bytes: where they come from and go to, and the numbers and texts that they encode. Paths into JSON objects.
 
 pub use tv_base::{
     BinarySerializable, ByteSink, ByteSource, Cause, ReadError, SliceSource, VInt, VecSink,

@@ -14,7 +14,7 @@ ghost use Rattle.tv_value.specs.Version.{V2};
 use std::alloc::Global;
 pub use tv_base::laws::{
     all_facets_descend_from_the_root, descendants_are_a_range, numbers_have_one_reading,
-    printed_facets_are_read, short_numbers_are_shortest, short_numbers_spell,
+    printed_facets_are_read, short_numbers_are_shortest, short_numbers_encode,
 };
 use tv_base::{ByteSource, VecSink};
 pub use tv_builder::laws::{
@@ -62,12 +62,12 @@ pub use tv_term::laws::{
     terms_are_ordered, terms_compare_as_fields_and_values, written_values_are_read,
 };
 pub use tv_value::laws::{
-    documents_have_one_reading, faults_of_documents_are_unique, faults_of_values_are_unique,
-    faulty_documents_derive_none, faulty_values_spell_none, short_documents_spell,
-    short_values_spell, values_have_one_reading,
+    documents_have_one_reading, errors_of_documents_are_unique, errors_of_values_are_unique,
+    malformed_documents_derive_none, malformed_values_encode_none, short_documents_encode,
+    short_values_encode, values_have_one_reading,
 };
 
-/// What `serialize_doc` writes of a document is its stored pairs in the shortest spelling: here, in memory.
+/// What `serialize_doc` writes of a document is its stored pairs in the shortest encoding: here, in memory.
 ///
 /// The fields are those of the schema, as `fits` tests. The only error is `Io`, where memory was refused.
 pub fn written_documents_are_shortest(
@@ -92,13 +92,13 @@ pub fn stored_pairs_are_read_back<S: ByteSource>(
     schema: &Schema,
     document: &CompactDoc,
 ) -> Result<CompactDoc, DeserializeError>
-    ensures { Known S.tells S.left source.old → document_room (document_of document.now) ≤ 4294967295 → (rest : List ℕ) → S.left source.old ≡ short_document V2 (stored schema.now (document_of document.now)) ++ rest → Answers result (stored schema.now (document_of document.now)) rest (S.left source.new) }
+    ensures { Known S.is_known S.left source.old → document_room (document_of document.now) ≤ 4294967295 → (rest : List ℕ) → S.left source.old ≡ short_document V2 (stored schema.now (document_of document.now)) ++ rest → Answers result (stored schema.now (document_of document.now)) rest (S.left source.new) }
 {
     let _ = schema;
     let _ = document;
     documents_are_valid();
     stored_pairs_are_valid();
     stored_pairs_need_no_more_room();
-    legacy::short_documents_spell();
+    legacy::short_documents_encode();
     read_document(alloc, source, DocStoreVersion::V2)
 }

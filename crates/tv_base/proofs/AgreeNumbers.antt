@@ -9,11 +9,11 @@ use Rattle.tv_base.specs.Stop.{◌>>=◌}
 use Rattle.tv_base.specs.Reading.{last_group, groups_at}
 use Rattle.tv_base.specs.Number.{Groups, last, more, VNum}
 use Rattle.tv_base.specs.Parts.{Then}
-use Rattle.tv_base.specs.PartFault.{InThen, NumberFault, number_ends, number_large, BytesFault}
+use Rattle.tv_base.specs.ErrorInPart.{InThen, ErrorInNumber, number_ends, number_large, ErrorInBytes}
 use Rattle.tv_base.proofs.Excluding.{groups_some}
 use Rattle.tv_base.proofs.SmallBytes.{first_byte}
 use Rattle.tv_base.proofs.Agrees.{Agrees, InTurn, agrees_too, in_turn, make, made, chosen, nothing_read, nothing_stands}
-use Rattle.tv_base.proofs.AgreeWidths.{IsCode, code_agrees, bytes_fault}
+use Rattle.tv_base.proofs.AgreeWidths.{IsCode, code_agrees, bytes_error}
 
 -- numbers of at most n + 1 groups are below this
 unfoldable limit : ℕ → ℕ
@@ -35,17 +35,17 @@ record UpTo (n : ℕ) (bytes : List ℕ) (number : ℕ) : Type 0 where
 
 -- n bytes below 128, and then one that is neither 128 nor 129
 record IsLarge (n : ℕ) (bytes : List ℕ) : Type 0 where
-  front : List ℕ
+  prefix : List ℕ
   byte : ℕ
   rest : List ℕ
-  joined : bytes ≡ front ++ (byte ∷ rest)
-  count : length front ≡ n
-  low : AllLow front
+  joined : bytes ≡ prefix ++ (byte ∷ rest)
+  count : length prefix ≡ n
+  low : AllLow prefix
   not_128 : byte ≢ 128
   not_129 : byte ≢ 129
 
-abbrev UpToFault : ℕ → List ℕ → Cause → Type 0
-UpToFault n bytes c = ((c ≡ UnexpectedEnd) × (length bytes ≤ n) × AllLow bytes) ⊎ ((c ≡ BadNumber) × IsLarge n bytes)
+abbrev ErrorUpTo : ℕ → List ℕ → Cause → Type 0
+ErrorUpTo n bytes c = ((c ≡ UnexpectedEnd) × (length bytes ≤ n) × AllLow bytes) ⊎ ((c ≡ BadNumber) × IsLarge n bytes)
 
 -- a byte and what follows it
 byte_first : {P : List ℕ → Type 0} (byte : ℕ) (bytes : List ℕ) (p : Then (λ b. IsCode b byte) P bytes) → bytes ≡ byte ∷ p.rest
@@ -56,10 +56,10 @@ byte_first byte bytes p = p.joined ∙ ap (λ (l : List ℕ). l ++ p.rest) p.fir
 abbrev Last : ℕ → List ℕ → ℕ → Type 0
 Last byte bytes number = ((ltb byte 128 ≡ true) × ⊥) ⊎ ((ltb byte 128 ≡ false) × (((ltb 1 (byte % 128) ≡ true) × ⊥) ⊎ ((ltb 1 (byte % 128) ≡ false) × ((bytes ≡ []) × (number ≡ byte % 128)))))
 
-abbrev LastFault : ℕ → List ℕ → Cause → Type 0
-LastFault byte bytes c = ((ltb byte 128 ≡ true) × (c ≡ BadNumber)) ⊎ ((ltb byte 128 ≡ false) × (((ltb 1 (byte % 128) ≡ true) × (c ≡ BadNumber)) ⊎ ((ltb 1 (byte % 128) ≡ false) × ⊥)))
+abbrev ErrorInLast : ℕ → List ℕ → Cause → Type 0
+ErrorInLast byte bytes c = ((ltb byte 128 ≡ true) × (c ≡ BadNumber)) ⊎ ((ltb byte 128 ≡ false) × (((ltb 1 (byte % 128) ≡ true) × (c ≡ BadNumber)) ⊎ ((ltb 1 (byte % 128) ≡ false) × ⊥)))
 
-last_agrees : (byte : ℕ) → Agrees UnexpectedEnd (last_group byte) (Last byte) (LastFault byte)
+last_agrees : (byte : ℕ) → Agrees UnexpectedEnd (last_group byte) (Last byte) (ErrorInLast byte)
 unfolding last_group
 last_agrees byte = chosen (ltb byte 128) (nothing_stands BadNumber (λ e. cc)) (chosen (ltb 1 (byte % 128)) (nothing_stands BadNumber (λ e. cc)) (nothing_read UnexpectedEnd (byte % 128)))
 
@@ -84,7 +84,7 @@ last_to bytes number small p = elim p.1.second [
 
 last_parts : (bytes : List ℕ) (number : ℕ) → Groups bytes number → length bytes ≤ 1 → number < 2 → InTurn IsCode Last bytes number
 last_parts _ _ (last {n = n} small) short fits =
-    (n + 128, record { front = (n + 128) ∷ []; rest = []; joined = refl; first = refl; second = inr (le-ltb _ _ (omega arith), inr (le-ltb _ _ (omega arith), (refl, omega arith))) })
+    (n + 128, record { prefix = (n + 128) ∷ []; rest = []; joined = refl; first = refl; second = inr (le-ltb _ _ (omega arith), inr (le-ltb _ _ (omega arith), (refl, omega arith))) })
 last_parts _ _ (more low g) short fits = absurd (omega (arith, groups_some g))
 
 last_from : (bytes : List ℕ) (number : ℕ) → UpTo zero bytes number → InTurn IsCode Last bytes number
@@ -100,17 +100,17 @@ not_last byte h = elim h [
 large_here : (byte : ℕ) (bytes rest : List ℕ) → bytes ≡ byte ∷ rest → (byte < 128) ⊎ (1 < byte % 128) → IsLarge zero bytes
 large_here byte bytes rest e h =
     let n = not_last byte h in
-    record { front = []; byte = byte; rest = rest; joined = e; count = refl; low = tt; not_128 = n.0; not_129 = n.1 }
+    record { prefix = []; byte = byte; rest = rest; joined = e; count = refl; low = tt; not_128 = n.0; not_129 = n.1 }
 
 none_low : (bytes : List ℕ) → length bytes < 1 → AllLow bytes
 none_low [] h = tt
 none_low (byte ∷ bytes) h = absurd (omega arith)
 
-ends_here : (n : ℕ) (bytes : List ℕ) (c : Cause) → BytesFault 1 bytes c → UpToFault n bytes c
-ends_here n bytes c h = let q = bytes_fault 1 bytes c h in inl (q.0, omega (arith, q.1), none_low bytes q.1)
+ends_here : (n : ℕ) (bytes : List ℕ) (c : Cause) → ErrorInBytes 1 bytes c → ErrorUpTo n bytes c
+ends_here n bytes c h = let q = bytes_error 1 bytes c h in inl (q.0, omega (arith, q.1), none_low bytes q.1)
 
-last_faults : (bytes : List ℕ) (c : Cause) → AllBytes bytes → InThen (BytesFault 1) IsCode LastFault bytes c → UpToFault zero bytes c
-last_faults bytes c small p = elim p [
+last_errors : (bytes : List ℕ) (c : Cause) → AllBytes bytes → InThen (ErrorInBytes 1) IsCode ErrorInLast bytes c → ErrorUpTo zero bytes c
+last_errors bytes c small p = elim p [
   | inl q ↦ ends_here zero bytes c q
   | inr q ↦
       let e : bytes ≡ q.0 ∷ q.1.rest = byte_first q.0 bytes q.1 in
@@ -125,8 +125,8 @@ last_faults bytes c small p = elim p [
 abbrev More : ℕ → ℕ → List ℕ → ℕ → Type 0
 More n byte bytes number = ((ltb byte 128 ≡ true) × ((high : ℕ) × UpTo n bytes high × (number ≡ byte % 128 + 128 * high))) ⊎ ((ltb byte 128 ≡ false) × ((bytes ≡ []) × (number ≡ byte % 128)))
 
-abbrev MoreFault : ℕ → ℕ → List ℕ → Cause → Type 0
-MoreFault n byte bytes c = ((ltb byte 128 ≡ true) × UpToFault n bytes c) ⊎ ((ltb byte 128 ≡ false) × ⊥)
+abbrev ErrorInMore : ℕ → ℕ → List ℕ → Cause → Type 0
+ErrorInMore n byte bytes c = ((ltb byte 128 ≡ true) × ErrorUpTo n bytes c) ⊎ ((ltb byte 128 ≡ false) × ⊥)
 
 more_to : (n : ℕ) (bytes : List ℕ) (number : ℕ) → AllBytes bytes → InTurn IsCode (More n) bytes number → UpTo (suc n) bytes number
 unfolding limit
@@ -149,17 +149,17 @@ more_to n bytes number small p =
 
 more_parts : (n : ℕ) (bytes : List ℕ) (number : ℕ) → Groups bytes number → length bytes ≤ n + 2 → number < 128 * limit n → InTurn IsCode (More n) bytes number
 more_parts n _ _ (last {n = m} small) short fits =
-    (m + 128, record { front = (m + 128) ∷ []; rest = []; joined = refl; first = refl; second = inr (le-ltb _ _ (omega arith), (refl, omega arith)) })
+    (m + 128, record { prefix = (m + 128) ∷ []; rest = []; joined = refl; first = refl; second = inr (le-ltb _ _ (omega arith), (refl, omega arith)) })
 more_parts n _ _ (more {b = b} {high = high} {bytes = bytes} low g) short fits =
     let rest : UpTo n bytes high = record { groups = g; short = omega arith; fits = omega arith } in
-    (b, record { front = b ∷ []; rest = bytes; joined = refl; first = refl; second = inl (lt-ltb _ _ low, (high, rest, omega arith)) })
+    (b, record { prefix = b ∷ []; rest = bytes; joined = refl; first = refl; second = inl (lt-ltb _ _ low, (high, rest, omega arith)) })
 
 more_from : (n : ℕ) (bytes : List ℕ) (number : ℕ) → UpTo (suc n) bytes number → InTurn IsCode (More n) bytes number
 unfolding limit
 more_from n bytes number h = more_parts n bytes number h.groups (omega (arith, h.short)) h.fits
 
-more_faults : (n : ℕ) (bytes : List ℕ) (c : Cause) → AllBytes bytes → InThen (BytesFault 1) IsCode (MoreFault n) bytes c → UpToFault (suc n) bytes c
-more_faults n bytes c small p = elim p [
+more_errors : (n : ℕ) (bytes : List ℕ) (c : Cause) → AllBytes bytes → InThen (ErrorInBytes 1) IsCode (ErrorInMore n) bytes c → ErrorUpTo (suc n) bytes c
+more_errors n bytes c small p = elim p [
   | inl q ↦ ends_here (suc n) bytes c q
   | inr q ↦
       let e : bytes ≡ q.0 ∷ q.1.rest = byte_first q.0 bytes q.1 in
@@ -168,7 +168,7 @@ more_faults n bytes c small p = elim p [
             let low : q.0 < 128 = ltb-true _ _ r.0 in
             elim r.1 [
               | inl s ↦ inl (s.0, omega (arith, ap length e, s.1), subst AllLow (sym e) (low, s.2))
-              | inr s ↦ inr (s.0, record { front = q.0 ∷ s.1.front; byte = s.1.byte; rest = s.1.rest; joined = e ∙ ap (λ (l : List ℕ). q.0 ∷ l) s.1.joined; count = ap suc s.1.count; low = (low, s.1.low); not_128 = s.1.not_128; not_129 = s.1.not_129 })
+              | inr s ↦ inr (s.0, record { prefix = q.0 ∷ s.1.prefix; byte = s.1.byte; rest = s.1.rest; joined = e ∙ ap (λ (l : List ℕ). q.0 ∷ l) s.1.joined; count = ap suc s.1.count; low = (low, s.1.low); not_128 = s.1.not_128; not_129 = s.1.not_129 })
             ]
         | inr r ↦ absurd r.1
       ]
@@ -177,22 +177,22 @@ more_faults n bytes c small p = elim p [
 after : ℕ → ℕ → List ℕ → Result (ℕ × List ℕ) (Cause × List ℕ)
 after n byte bytes = cond (ltb byte 128) (groups_at n bytes >>= make (λ high. byte % 128 + 128 * high)) (Ok (byte % 128, bytes))
 
-groups_agree : (n : ℕ) → Agrees UnexpectedEnd (groups_at n) (UpTo n) (UpToFault n)
+groups_agree : (n : ℕ) → Agrees UnexpectedEnd (groups_at n) (UpTo n) (ErrorUpTo n)
 unfolding groups_at after
-groups_agree zero = agrees_too (λ bytes. refl) last_to last_from last_faults (in_turn code_agrees last_agrees)
-groups_agree (suc n) = agrees_too (λ bytes. refl) (more_to n) (more_from n) (more_faults n)
+groups_agree zero = agrees_too (λ bytes. refl) last_to last_from last_errors (in_turn code_agrees last_agrees)
+groups_agree (suc n) = agrees_too (λ bytes. refl) (more_to n) (more_from n) (more_errors n)
     (in_turn {b = after n} code_agrees (λ byte. chosen (ltb byte 128) (made (λ high. byte % 128 + 128 * high) (groups_agree n)) (nothing_read UnexpectedEnd (byte % 128))))
 
-number_faults : (bytes : List ℕ) (c : Cause) → AllBytes bytes → UpToFault 9 bytes c → NumberFault bytes c
-number_faults bytes c small h = elim h [
-  | inl p ↦ subst (NumberFault bytes) (sym p.0) (number_ends (omega (arith, p.1)) p.2)
-  | inr p ↦ subst (NumberFault bytes) (sym p.0) (number_large p.1.front p.1.rest p.1.byte p.1.joined p.1.count p.1.low p.1.not_128 p.1.not_129)
+number_errors : (bytes : List ℕ) (c : Cause) → AllBytes bytes → ErrorUpTo 9 bytes c → ErrorInNumber bytes c
+number_errors bytes c small h = elim h [
+  | inl p ↦ subst (ErrorInNumber bytes) (sym p.0) (number_ends (omega (arith, p.1)) p.2)
+  | inr p ↦ subst (ErrorInNumber bytes) (sym p.0) (number_large p.1.prefix p.1.rest p.1.byte p.1.joined p.1.count p.1.low p.1.not_128 p.1.not_129)
 ]
 
-pub vint_agrees : Agrees UnexpectedEnd (groups_at 9) VNum NumberFault
+pub vint_agrees : Agrees UnexpectedEnd (groups_at 9) VNum ErrorInNumber
 unfolding limit
 vint_agrees = agrees_too (λ bytes. refl)
     (λ bytes n small h. record { groups = h.groups; at_most_ten = h.short; fits = h.fits })
     (λ bytes n h. record { groups = h.groups; short = h.at_most_ten; fits = h.fits })
-    number_faults
+    number_errors
     (groups_agree 9)

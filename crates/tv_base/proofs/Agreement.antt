@@ -23,12 +23,12 @@ agree_empty = record { agree = λ a b x y p q e. (p ∙ sym q, tt) }
 pub agree_then : {P Q P' Q' : List ℕ → Type 0} {C D : Type 0} → Agree P P' C → (C → Agree Q Q' D) → Agree (Then P Q) (Then P' Q') (C × D)
 agree_then r s = record {
   agree = λ a b x y p q e.
-      let whole : p.front ++ (p.rest ++ x) ≡ q.front ++ (q.rest ++ y) =
-      sym (append_assoc p.front p.rest x) ∙ ap (λ z. z ++ x) (sym p.joined) ∙ e ∙ ap (λ z. z ++ y) q.joined ∙ append_assoc q.front q.rest y in
-      let front = r.agree p.front q.front (p.rest ++ x) (q.rest ++ y) p.first q.first whole in
-      let left : q.front ++ (p.rest ++ x) ≡ q.front ++ (q.rest ++ y) = ap (λ z. z ++ (p.rest ++ x)) (sym front.0) ∙ whole in
-      let rest = (s front.1).agree p.rest q.rest x y p.second q.second (append_cancel_left q.front _ _ left) in
-      (p.joined ∙ (λ i. front.0 i ++ rest.0 i) ∙ sym q.joined, (front.1, rest.1));
+      let whole : p.prefix ++ (p.rest ++ x) ≡ q.prefix ++ (q.rest ++ y) =
+      sym (append_assoc p.prefix p.rest x) ∙ ap (λ z. z ++ x) (sym p.joined) ∙ e ∙ ap (λ z. z ++ y) q.joined ∙ append_assoc q.prefix q.rest y in
+      let prefix = r.agree p.prefix q.prefix (p.rest ++ x) (q.rest ++ y) p.first q.first whole in
+      let left : q.prefix ++ (p.rest ++ x) ≡ q.prefix ++ (q.rest ++ y) = ap (λ z. z ++ (p.rest ++ x)) (sym prefix.0) ∙ whole in
+      let rest = (s prefix.1).agree p.rest q.rest x y p.second q.second (append_cancel_left q.prefix _ _ left) in
+      (p.joined ∙ (λ i. prefix.0 i ++ rest.0 i) ∙ sym q.joined, (prefix.1, rest.1));
 }
 
 pub agree_behind : {c d : ℕ} {P Q : List ℕ → Type 0} {C : Type 0} → (c ≡ d → Agree P Q C) → Agree (Behind c P) (Behind d Q) C
@@ -37,7 +37,7 @@ agree_behind {c} {d} r = record {
       let whole : (c ∷ p.body) ++ x ≡ (d ∷ q.body) ++ y = ap (λ z. z ++ x) (sym p.joined) ∙ e ∙ ap (λ z. z ++ y) q.joined in
       let code : c ≡ d = cc in
       let left : p.body ++ x ≡ q.body ++ y = cc in
-      let body = (r code).agree p.body q.body x y p.spelled q.spelled left in
+      let body = (r code).agree p.body q.body x y p.encoded q.encoded left in
       (p.joined ∙ (λ i. code i ∷ body.0 i) ∙ sym q.joined, body.1);
 }
 

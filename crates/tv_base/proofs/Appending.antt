@@ -4,7 +4,7 @@ use Rattle.tv_base.specs.declared.cause.Cause.{Cause}
 use Rattle.tv_base.specs.declared.cause.Cause.TheVariants.{UnexpectedEnd}
 use Rattle.tv_base.specs.declared.read_error.ReadError.TheVariants.{Corrupted}
 use Rattle.tv_base.specs.Append.{Moves}
-use Rattle.tv_base.specs.Source.{Faults}
+use Rattle.tv_base.specs.Source.{Failures}
 use Rattle.tv_base.specs.Stop.{◌>>=◌, Taken, Takes}
 use Rattle.tv_base.specs.Take.{read_stop}
 use Rattle.tv_base.specs.Reading.{more_at}
@@ -20,32 +20,32 @@ none_left : (before bytes : List ℕ) (missing : ℕ) → 0 < missing → bytes 
 none_left before bytes missing some none = ap (more_at before missing) none ∙ ap (λ r. r >>= λ x. Ok (before ++ x.0, x.1)) (short missing [] some)
 
 moved_taken : {old new before after : List ℕ} {most n count now : ℕ} → now ≡ count + n → Moves old new before after most n → Taken old new count now
-moved_taken counted m = record { front = m.moved; joined = m.joined; counted = omega (arith, counted, m.count) }
+moved_taken counted m = record { prefix = m.moved; joined = m.joined; counted = omega (arith, counted, m.count) }
 
-module _ {P : Type 0} {tells : P → Type 0} {left : P → List ℕ} {count : P → ℕ} {faults : P → Faults} {old mid new : P} {whole : List ℕ → Result (List ℕ × List ℕ) (Cause × List ℕ)} where
+module _ {P : Type 0} {is_known : P → Type 0} {left : P → List ℕ} {count : P → ℕ} {failures : P → Failures} {old mid new : P} {whole : List ℕ → Result (List ℕ × List ℕ) (Cause × List ℕ)} where
   -- a piece was appended
-  pub piece_taken : (before after : List ℕ) (missing most n : ℕ) → n ≤ missing → SoFar tells left count faults old mid whole (more_at before missing)
-      → (tells mid → Moves (left mid) (left new) before after most n) → (tells mid → tells new) → faults new ≡ faults mid → count new ≡ count mid + n → SoFar tells left count faults old new whole (more_at after (missing - n))
+  pub piece_taken : (before after : List ℕ) (missing most n : ℕ) → n ≤ missing → SoFar is_known left count failures old mid whole (more_at before missing)
+      → (is_known mid → Moves (left mid) (left new) before after most n) → (is_known mid → is_known new) → failures new ≡ failures mid → count new ≡ count mid + n → SoFar is_known left count failures old new whole (more_at after (missing - n))
   piece_taken before after missing most n le h moves still same counted = record {
     goes = λ told.
-        let m = moves (h.still_tells told) in
+        let m = moves (h.stays_known told) in
         h.goes told ∙ ap (more_at before missing) m.joined ∙ moved_read before m.moved (left new) missing n le m.count ∙ ap (λ (l : List ℕ). more_at l (missing - n) (left new)) (sym m.behind);
-    taken = λ told. Taken_then (h.taken told) (moved_taken counted (moves (h.still_tells told)));
-    still_tells = λ told. still (h.still_tells told);
+    taken = λ told. Taken_then (h.taken told) (moved_taken counted (moves (h.stays_known told)));
+    stays_known = λ told. still (h.stays_known told);
     counts = same ∙ h.counts;
     rises = omega (arith, h.rises, counted);
   }
 
   -- no byte is left
-  pub piece_ends : {X : Type 0} (view : X → List ℕ) (before after : List ℕ) (missing most n : ℕ) → n ≡ 0 → 0 < missing → 0 < most → SoFar tells left count faults old mid whole (more_at before missing)
-      → (tells mid → Moves (left mid) (left new) before after most n) → (tells mid → tells new) → faults new ≡ faults mid → count new ≡ count mid → Takes read_stop tells left count faults old new view (Err (Corrupted UnexpectedEnd)) whole
+  pub piece_ends : {X : Type 0} (view : X → List ℕ) (before after : List ℕ) (missing most n : ℕ) → n ≡ 0 → 0 < missing → 0 < most → SoFar is_known left count failures old mid whole (more_at before missing)
+      → (is_known mid → Moves (left mid) (left new) before after most n) → (is_known mid → is_known new) → failures new ≡ failures mid → count new ≡ count mid → Takes read_stop is_known left count failures old new view (Err (Corrupted UnexpectedEnd)) whole
   piece_ends view before after missing most n zero some wanted h moves still same counted = record {
     gives = λ told few.
-        let m = moves (h.still_tells told) in
+        let m = moves (h.stays_known told) in
         let none : left mid ≡ [] = m.end zero wanted in
         h.goes told ∙ none_left before (left mid) missing some none ∙ ap (λ (l : List ℕ). Err (UnexpectedEnd, l)) (sym (nothing_new (m.moved) (left new) (sym none ∙ m.joined)));
-    taken = λ told. Taken_then (h.taken told) (moved_taken (omega (arith, counted, zero)) (moves (h.still_tells told)));
-    still_tells = λ told. still (h.still_tells told);
+    taken = λ told. Taken_then (h.taken told) (moved_taken (omega (arith, counted, zero)) (moves (h.stays_known told)));
+    stays_known = λ told. still (h.stays_known told);
     counts = same ∙ h.counts;
     rises = omega (arith, h.rises, counted);
   }

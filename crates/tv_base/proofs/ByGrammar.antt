@@ -5,34 +5,34 @@ use Rattle.tv_base.specs.declared.cause.Cause.{Cause}
 use Rattle.tv_base.specs.declared.cause.Cause.TheVariants.{UnexpectedEnd, TooLong}
 use Rattle.tv_base.specs.declared.read_error.ReadError.{ReadError}
 use Rattle.tv_base.specs.declared.read_error.ReadError.TheVariants.{Corrupted, Io, Memory}
-use Rattle.tv_base.specs.Source.{AllBytes, Faults}
+use Rattle.tv_base.specs.Source.{AllBytes, Failures}
 use Rattle.tv_base.specs.Stop.{Gives, Taken}
 use Rattle.tv_base.specs.Take.{TakesBy, read_stop}
 use Rattle.tv_base.specs.ReadsAs.{Known, IsRead, Shows, ReadsAs}
 use Rattle.tv_base.proofs.SmallBytes.{bytes_before}
 use Rattle.tv_base.proofs.Agrees.{Agrees, ok_is, no_ok}
 
-found_by : {X Y : Type 0} {reading : List ℕ → Result (Y × List ℕ) (Cause × List ℕ)} {Spells : List ℕ → Y → Type 0} {IsFault : List ℕ → Cause → Type 0} (view : X → Y)
-    → Agrees UnexpectedEnd reading Spells IsFault → (bytes rest : List ℕ) (count : ℕ) (result : Result X ReadError) → AllBytes bytes → Gives read_stop view result (reading bytes) rest count → IfOk result (λ x. (front : List ℕ) × Spells front (view x) × (bytes ≡ front ++ rest))
+found_by : {X Y : Type 0} {reading : List ℕ → Result (Y × List ℕ) (Cause × List ℕ)} {Encodes : List ℕ → Y → Type 0} {HasError : List ℕ → Cause → Type 0} (view : X → Y)
+    → Agrees UnexpectedEnd reading Encodes HasError → (bytes rest : List ℕ) (count : ℕ) (result : Result X ReadError) → AllBytes bytes → Gives read_stop view result (reading bytes) rest count → IfOk result (λ x. (prefix : List ℕ) × Encodes prefix (view x) × (bytes ≡ prefix ++ rest))
 found_by view agrees bytes rest count (Ok x) small h = agrees.sound bytes (view x, rest) small h
 found_by view agrees bytes rest count (Err e) small h = tt
 
--- the fault that is read
+-- the error that is read
 refused_by : {X Y : Type 0} (view : X → Y) (read : Result (Y × List ℕ) (Cause × List ℕ)) (rest : List ℕ) (count : ℕ) (result : Result X ReadError) → count < 2 ^ 64 - 1 → Gives read_stop view result read rest count → (c : Cause) → IsErrOf result (Corrupted c) → read ≡ Err (c, rest)
 refused_by view read rest count result few h c e = (subst (λ r. Gives read_stop view r read rest count) e h) few
 
--- bytes that show a fault show it by the grammar
-pub shows_by : {F Y : Type 0} {end : F} {reading : List ℕ → Result (Y × List ℕ) (F × List ℕ)} {Spells : List ℕ → Y → Type 0} {IsFault : List ℕ → F → Type 0}
-    → Agrees end reading Spells IsFault → (bytes rest : List ℕ) (c : F) → AllBytes bytes → reading bytes ≡ Err (c, rest) → Shows end IsFault bytes rest c
+-- bytes that show an error show it by the grammar
+pub shows_by : {F Y : Type 0} {end : F} {reading : List ℕ → Result (Y × List ℕ) (F × List ℕ)} {Encodes : List ℕ → Y → Type 0} {HasError : List ℕ → F → Type 0}
+    → Agrees end reading Encodes HasError → (bytes rest : List ℕ) (c : F) → AllBytes bytes → reading bytes ≡ Err (c, rest) → Shows end HasError bytes rest c
 shows_by {end = end} agrees bytes rest c small e =
     let s = agrees.shown bytes c rest small e in
-    let taken = bytes_before bytes s.front rest s.joined small in
+    let taken = bytes_before bytes s.prefix rest s.joined small in
     record {
-      taken = s.front;
+      taken = s.prefix;
       joined = s.joined;
-      shown = agrees.refused s.front c _ taken s.alone;
+      shown = agrees.refused s.prefix c _ taken s.alone;
       all = s.all;
-      early = λ other front byte last. agrees.refused front end _ (bytes_before s.front front _ last taken) (s.early other front byte last);
+      early = λ other prefix byte last. agrees.refused prefix end _ (bytes_before s.prefix prefix _ last taken) (s.early other prefix byte last);
     }
 
 is_read : {X Y : Type 0} (view : X → Y) (result : Result X ReadError) (read : Result (Y × List ℕ) (Cause × List ℕ)) (y : Y) (rest now : List ℕ) (count : ℕ) → count < 2 ^ 64 - 1 → read ≡ Ok (y, rest) → Gives read_stop view result read now count → IsRead view result y rest now
@@ -43,20 +43,20 @@ is_read view (Err Memory) read y rest now count few e h = tt
 
 -- what is counted of few bytes is few
 pub few_taken : {old new : List ℕ} {now : ℕ} → length old < 2 ^ 64 - 1 → Taken old new 0 now → now < 2 ^ 64 - 1
-few_taken {new = new} few t = omega (arith, t.counted, ap length t.joined, length-append t.front new)
+few_taken {new = new} few t = omega (arith, t.counted, ap length t.joined, length-append t.prefix new)
 
-pub by_grammar : {S X Y : Type 0} (tells : S → Type 0) (left : S → List ℕ) (faults : S → Faults) (are_bytes : (source : S) → tells source → AllBytes (left source)) (old new : S) (new_count : ℕ) (view : X → Y) (result : Result X ReadError)
-    {reading : List ℕ → Result (Y × List ℕ) (Cause × List ℕ)} {Spells : List ℕ → Y → Type 0} {IsFault : List ℕ → Cause → Type 0}
-    → Agrees UnexpectedEnd reading Spells IsFault → TakesBy tells left faults old 0 new new_count view result reading → (IsErrOf result (Corrupted TooLong) → new_count ≡ 2 ^ 64 - 1) → ReadsAs tells left faults old new view result Spells IsFault
-by_grammar tells left faults are_bytes old new new_count view result {reading = reading} agrees h most =
-    let fault = λ (known : Known tells left old) (c : Cause) (e : IsErrOf result (Corrupted c)). refused_by view (reading (left old)) (left new) new_count result (few_taken known.1 (h.taken known.0)) (h.gives known.0) c e in
+pub by_grammar : {S X Y : Type 0} (is_known : S → Type 0) (left : S → List ℕ) (failures : S → Failures) (are_bytes : (source : S) → is_known source → AllBytes (left source)) (old new : S) (new_count : ℕ) (view : X → Y) (result : Result X ReadError)
+    {reading : List ℕ → Result (Y × List ℕ) (Cause × List ℕ)} {Encodes : List ℕ → Y → Type 0} {HasError : List ℕ → Cause → Type 0}
+    → Agrees UnexpectedEnd reading Encodes HasError → TakesBy is_known left failures old 0 new new_count view result reading → (IsErrOf result (Corrupted TooLong) → new_count ≡ 2 ^ 64 - 1) → ReadsAs is_known left failures old new view result Encodes HasError
+by_grammar is_known left failures are_bytes old new new_count view result {reading = reading} agrees h most =
+    let error = λ (known : Known is_known left old) (c : Cause) (e : IsErrOf result (Corrupted c)). refused_by view (reading (left old)) (left new) new_count result (few_taken known.1 (h.taken known.0)) (h.gives known.0) c e in
     record {
       found = λ told. found_by view agrees (left old) (left new) new_count result (are_bytes old told) (h.gives told);
-      only = λ known front y rest spells e. is_read view result (reading (left old)) y rest (left new) new_count (few_taken known.1 (h.taken known.0)) (ap reading e ∙ agrees.complete front y rest spells) (h.gives known.0);
-      cause = λ known c e. agrees.refused (left old) c (left new) (are_bytes old known.0) (fault known c e);
-      shows = λ known c e. shows_by agrees (left old) (left new) c (are_bytes old known.0) (fault known c e);
-      taken = λ told. let t = h.taken told in (t.front, t.joined);
-      too_long = λ told e. let t = h.taken told in (t.front, t.joined, omega (arith, t.counted, most e));
-      still_tells = h.still_tells;
+      only = λ known prefix y rest encodes e. is_read view result (reading (left old)) y rest (left new) new_count (few_taken known.1 (h.taken known.0)) (ap reading e ∙ agrees.complete prefix y rest encodes) (h.gives known.0);
+      cause = λ known c e. agrees.refused (left old) c (left new) (are_bytes old known.0) (error known c e);
+      shows = λ known c e. shows_by agrees (left old) (left new) c (are_bytes old known.0) (error known c e);
+      taken = λ told. let t = h.taken told in (t.prefix, t.joined);
+      too_long = λ told e. let t = h.taken told in (t.prefix, t.joined, omega (arith, t.counted, most e));
+      stays_known = h.stays_known;
       counts = h.counts;
     }

@@ -21,12 +21,12 @@ long n bytes le =
     rw test refl
 
 -- n bytes and m more
-pub split : (front : List ℕ) (n m : ℕ) (bytes : List ℕ) → more_at front (n + m) bytes ≡ (more_at front n bytes >>= λ x. more_at x.0 m x.1)
-split front n m bytes = elim (cases_lt (length bytes) n) [
+pub split : (prefix : List ℕ) (n m : ℕ) (bytes : List ℕ) → more_at prefix (n + m) bytes ≡ (more_at prefix n bytes >>= λ x. more_at x.0 m x.1)
+split prefix n m bytes = elim (cases_lt (length bytes) n) [
   | inl lt ↦ rw (short (n + m) bytes (omega arith), short n bytes lt) refl
   | inr le ↦ elim (cases_lt (length (drop n bytes)) m) [
     | inl lt ↦ rw (short (n + m) bytes (omega (arith, length-drop n bytes)), long n bytes le, short m (drop n bytes) lt) refl
-    | inr more ↦ rw (long (n + m) bytes (omega (arith, length-drop n bytes)), long n bytes le, long m (drop n bytes) more) (cc (take-add n m bytes, drop-drop m n bytes, append_assoc front (take n bytes) (take m (drop n bytes))))
+    | inr more ↦ rw (long (n + m) bytes (omega (arith, length-drop n bytes)), long n bytes le, long m (drop n bytes) more) (cc (take-add n m bytes, drop-drop m n bytes, append_assoc prefix (take n bytes) (take m (drop n bytes))))
   ]
 ]
 
@@ -35,14 +35,14 @@ begins (Ok x) = refl
 begins (Err c) = refl
 
 -- nothing is missing
-pub none : (front : List ℕ) (n : ℕ) → n ≡ 0 → (bytes : List ℕ) → more_at front n bytes ≡ Ok (front, bytes)
-none front n zero bytes = rw (zero, long 0 bytes (omega arith)) (ap (λ l. Ok (l, bytes)) (append-nil front))
+pub none : (prefix : List ℕ) (n : ℕ) → n ≡ 0 → (bytes : List ℕ) → more_at prefix n bytes ≡ Ok (prefix, bytes)
+none prefix n zero bytes = rw (zero, long 0 bytes (omega arith)) (ap (λ l. Ok (l, bytes)) (append-nil prefix))
 
 -- a chunk of n of the bytes that are missing
-pub chunk : (front : List ℕ) (missing n : ℕ) → n ≤ missing → (bytes : List ℕ) → more_at front missing bytes ≡ (more_at front n bytes >>= λ x. more_at x.0 (missing - n) x.1)
-chunk front missing n le bytes =
+pub chunk : (prefix : List ℕ) (missing n : ℕ) → n ≤ missing → (bytes : List ℕ) → more_at prefix missing bytes ≡ (more_at prefix n bytes >>= λ x. more_at x.0 (missing - n) x.1)
+chunk prefix missing n le bytes =
     let k : missing ≡ n + (missing - n) = omega arith in
-    ap (λ (m : ℕ). more_at front m bytes) k ∙ split front n (missing - n) bytes
+    ap (λ (m : ℕ). more_at prefix m bytes) k ∙ split prefix n (missing - n) bytes
 
 -- before the first chunk
 pub start : (n : ℕ) (bytes : List ℕ) → bytes_at n bytes ≡ more_at [] n bytes

@@ -3,7 +3,7 @@ use Rattle.std.proofs.Common.{◌≡◌, ℕ, ◌<◌, List, [], ◌∷◌, ◌+
 use Rattle.std.specs.List.{AllByRecursion}
 use Rattle.tv_base.specs.declared.cause.Cause.TheVariants.{UnexpectedEnd}
 use Rattle.tv_base.specs.Number.{Groups, last, more, VNum}
-use Rattle.tv_base.specs.PartFault.{NumberFault, number_ends}
+use Rattle.tv_base.specs.ErrorInPart.{ErrorInNumber, number_ends}
 use Rattle.tv_base.proofs.Agrees.{same_start}
 
 no_groups : {a : List ℕ} {n : ℕ} → Groups a n → a ≡ [] → ⊥
@@ -18,5 +18,5 @@ groups_early (more {b = b} {bytes = bytes} h g) (s ∷ start) byte e =
     let rest : bytes ≡ start ++ byte ∷ [] = cc in
     (omega (arith, first, h), groups_early g start byte rest)
 
-pub number_early : (a : List ℕ) (n : ℕ) → VNum a n → (start : List ℕ) (byte : ℕ) → a ≡ start ++ byte ∷ [] → NumberFault start UnexpectedEnd
+pub number_early : (a : List ℕ) (n : ℕ) → VNum a n → (start : List ℕ) (byte : ℕ) → a ≡ start ++ byte ∷ [] → ErrorInNumber start UnexpectedEnd
 number_early a n h start byte e = number_ends (omega (arith, h.at_most_ten, ap length e, length-append start (byte ∷ []))) (groups_early h.groups start byte e)

@@ -1,32 +1,32 @@
--- Where bytes of a known number, bytes behind their length or a text are at fault, no front spells one.
+-- Where bytes of a known number, bytes behind their length or a text are malformed, no prefix encodes one.
 use Rattle.std.proofs.Common.{◌≡◌, ℕ, List, [], ◌∷◌, ◌++◌, length, refl, sym, ◌∙◌, ap, subst, arith, length-append, IsUtf8}
 use Rattle.tv_base.specs.declared.cause.Cause.{Cause}
 use Rattle.tv_base.specs.Number.{VNum}
 use Rattle.tv_base.specs.Parts.{Behind, Sized, Text}
-use Rattle.tv_base.specs.PartFault.{NumberFault, BytesFault, bytes_end, SizedFault, TextFault, in_sized, no_text}
+use Rattle.tv_base.specs.ErrorInPart.{ErrorInNumber, ErrorInBytes, bytes_end, ErrorInSized, ErrorInText, in_sized, no_text}
 use Rattle.tv_base.proofs.Numbers.{one_number}
 use Rattle.tv_base.proofs.Texts.{agree_sized}
 use Rattle.tv_base.proofs.Excluding.{Excludes, excludes_map, excludes_then, excludes_number}
 
-pub excludes_bytes : (k : ℕ) (P : List ℕ → Type 0) → ((b : List ℕ) → P b → length b ≡ k) → Excludes (BytesFault k) P
-excludes_bytes k P len = record { excludes = λ whole a x c fault p e. bytes_excludes whole a x c fault (len a p) e }
+pub excludes_bytes : (k : ℕ) (P : List ℕ → Type 0) → ((b : List ℕ) → P b → length b ≡ k) → Excludes (ErrorInBytes k) P
+excludes_bytes k P len = record { excludes = λ whole a x c error p e. bytes_excludes whole a x c error (len a p) e }
   where
-    bytes_excludes : (whole a x : List ℕ) (c : Cause) → BytesFault k whole c → length a ≡ k → whole ≡ a ++ x → ⊥
+    bytes_excludes : (whole a x : List ℕ) (c : Cause) → ErrorInBytes k whole c → length a ≡ k → whole ≡ a ++ x → ⊥
     bytes_excludes whole a x c (bytes_end h) l e = omega (arith, ap length e, length-append a x)
 
-pub excludes_sized : (content : List ℕ) → Excludes SizedFault (λ b. Sized b content)
+pub excludes_sized : (content : List ℕ) → Excludes ErrorInSized (λ b. Sized b content)
 excludes_sized content =
-    excludes_map (λ b q. record { front = q.size; rest = content; joined = q.joined; first = q.number; second = refl })
-    (excludes_then NumberFault VNum BytesFault {Q = λ b. b ≡ content} (length content) (excludes_number (length content)) one_number
+    excludes_map (λ b q. record { prefix = q.size; rest = content; joined = q.joined; first = q.number; second = refl })
+    (excludes_then ErrorInNumber VNum ErrorInBytes {Q = λ b. b ≡ content} (length content) (excludes_number (length content)) one_number
     (excludes_bytes (length content) (λ b. b ≡ content) (λ b p. ap length p)))
 
-pub excludes_text : (content : List ℕ) → Excludes TextFault (λ b. Text b content)
+pub excludes_text : (content : List ℕ) → Excludes ErrorInText (λ b. Text b content)
 excludes_text content = record { excludes = text_excludes }
   where
-    text_excludes : (whole a x : List ℕ) (c : Cause) → TextFault whole c → Text a content → whole ≡ a ++ x → ⊥
+    text_excludes : (whole a x : List ℕ) (c : Cause) → ErrorInText whole c → Text a content → whole ≡ a ++ x → ⊥
     text_excludes whole a x c (in_sized h) p e = (excludes_sized content).excludes whole a x c h p.sized e
-    text_excludes whole a x c (no_text other front rest joined q none) p e =
-        let same = (agree_sized other content).agree front a rest x q p.sized (sym joined ∙ e) in
+    text_excludes whole a x c (no_text other prefix rest joined q none) p e =
+        let same = (agree_sized other content).agree prefix a rest x q p.sized (sym joined ∙ e) in
         none (subst IsUtf8 (sym same.1) p.utf8)
 
 -- what a code and a rest say of bytes behind a code

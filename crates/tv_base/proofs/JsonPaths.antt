@@ -36,8 +36,8 @@ marked-from text = marked-split text (length text) 0 (omega arith)
 
 -- bytes before those of the first segment
 abbrev pub onto : List ℕ → List (List ℕ) → List (List ℕ)
-onto front [] = front ∷ []
-onto front (segment ∷ segments) = (front ++ segment) ∷ segments
+onto prefix [] = prefix ∷ []
+onto prefix (segment ∷ segments) = (prefix ++ segment) ∷ segments
 
 -- the segments of what is left
 abbrev pub split_from : Bool → List ℕ → List (List ℕ)
@@ -66,13 +66,13 @@ pub onto-onto : (a b : List ℕ) (segments : List (List ℕ)) → onto a (onto b
 onto-onto a b [] = refl
 onto-onto a b (segment ∷ segments) = ap (λ s. s ∷ segments) (sym (append_assoc a b segment))
 
-onto-not_nil : (front : List ℕ) (segments : List (List ℕ)) → onto front segments ≢ []
-onto-not_nil front [] e = cc
-onto-not_nil front (segment ∷ segments) e = cc
+onto-not_nil : (prefix : List ℕ) (segments : List (List ℕ)) → onto prefix segments ≢ []
+onto-not_nil prefix [] e = cc
+onto-not_nil prefix (segment ∷ segments) e = cc
 
-split_from_case-not_nil : (c : Bool) (front : List ℕ) (segments : List (List ℕ)) → cond c ([] ∷ segments) (onto front segments) ≢ []
-split_from_case-not_nil true front segments e = cc
-split_from_case-not_nil false front segments e = onto-not_nil front segments e
+split_from_case-not_nil : (c : Bool) (prefix : List ℕ) (segments : List (List ℕ)) → cond c ([] ∷ segments) (onto prefix segments) ≢ []
+split_from_case-not_nil true prefix segments e = cc
+split_from_case-not_nil false prefix segments e = onto-not_nil prefix segments e
 
 pub split_from-not_nil : (unescaped : Bool) (text : List ℕ) → split_from unescaped text ≢ []
 split_from-not_nil unescaped [] e = cc
@@ -94,37 +94,37 @@ at_place : (unescaped : Bool) (text : List ℕ) (i : ℕ) → i < length text �
 at_place unescaped text i h = ap (split_from unescaped) (drop-cons text i 0 h ∙ ap (λ n. get_or text i 0 ∷ drop n text) (sym (add-one i)))
 
 -- a byte that stands for itself waits with those before it
-pub segment-kept : (done all : List (List ℕ)) (text front : List ℕ) (start i : ℕ) (unescaped : Bool) → start ≤ i → i < length text
+pub segment-kept : (done all : List (List ℕ)) (text prefix : List ℕ) (start i : ℕ) (unescaped : Bool) → start ≤ i → i < length text
     → (unescaped && eqb (get_or text i 0) 46) ≡ false → (eqb (get_or text i 0) 92 && unescaped) ≡ false
-    → done ++ onto (front ++ slice_range text start i) (split_from unescaped (drop i text)) ≡ all
-    → done ++ onto (front ++ slice_range text start (i + 1)) (split_from true (drop (i + 1) text)) ≡ all
-segment-kept done all text front start i unescaped h j dot back told =
+    → done ++ onto (prefix ++ slice_range text start i) (split_from unescaped (drop i text)) ≡ all
+    → done ++ onto (prefix ++ slice_range text start (i + 1)) (split_from true (drop (i + 1) text)) ≡ all
+segment-kept done all text prefix start i unescaped h j dot back told =
     let rest = split_from true (drop (i + 1) text) in
     let b = get_or text i 0 in
-    ap (λ l. done ++ onto l rest) (ap (λ l. front ++ l) (slice_range-more text start i h j) ∙ sym (append_assoc front (slice_range text start i) (b ∷ [])))
-    ∙ ap (λ l. done ++ l) (sym (onto-onto (front ++ slice_range text start i) (b ∷ []) rest) ∙ ap (onto (front ++ slice_range text start i)) (sym (at_place unescaped text i j ∙ split_from-kept unescaped b (drop (i + 1) text) dot back)))
+    ap (λ l. done ++ onto l rest) (ap (λ l. prefix ++ l) (slice_range-more text start i h j) ∙ sym (append_assoc prefix (slice_range text start i) (b ∷ [])))
+    ∙ ap (λ l. done ++ l) (sym (onto-onto (prefix ++ slice_range text start i) (b ∷ []) rest) ∙ ap (onto (prefix ++ slice_range text start i)) (sym (at_place unescaped text i j ∙ split_from-kept unescaped b (drop (i + 1) text) dot back)))
     ∙ told
 
 -- a backslash goes, and what waited is written
-pub segment-escape : (done all : List (List ℕ)) (text front written : List ℕ) (start i : ℕ) → i < length text → get_or text i 0 ≡ 92
-    → written ≡ front ++ slice_range text start i
-    → done ++ onto (front ++ slice_range text start i) (split_from true (drop i text)) ≡ all
+pub segment-escape : (done all : List (List ℕ)) (text prefix written : List ℕ) (start i : ℕ) → i < length text → get_or text i 0 ≡ 92
+    → written ≡ prefix ++ slice_range text start i
+    → done ++ onto (prefix ++ slice_range text start i) (split_from true (drop i text)) ≡ all
     → done ++ onto (written ++ slice_range text (i + 1) (i + 1)) (split_from false (drop (i + 1) text)) ≡ all
-segment-escape done all text front written start i j back is told =
+segment-escape done all text prefix written start i j back is told =
     let rest = split_from false (drop (i + 1) text) in
     ap (λ l. done ++ onto l rest) (ap (λ l. written ++ l) (slice_range-none text (i + 1)) ∙ append-nil written ∙ is)
-    ∙ ap (λ l. done ++ onto (front ++ slice_range text start i) l)
+    ∙ ap (λ l. done ++ onto (prefix ++ slice_range text start i) l)
     (sym (at_place true text i j ∙ ap (λ b. split_from true (b ∷ drop (i + 1) text)) back ∙ onto-nothing rest (split_from-not_nil false (drop (i + 1) text))))
     ∙ told
 
 -- a dot ends a segment
-pub segment-dot : (done all : List (List ℕ)) (text front written : List ℕ) (start i : ℕ) → i < length text → get_or text i 0 ≡ 46
-    → written ≡ front ++ slice_range text start i
-    → done ++ onto (front ++ slice_range text start i) (split_from true (drop i text)) ≡ all
+pub segment-dot : (done all : List (List ℕ)) (text prefix written : List ℕ) (start i : ℕ) → i < length text → get_or text i 0 ≡ 46
+    → written ≡ prefix ++ slice_range text start i
+    → done ++ onto (prefix ++ slice_range text start i) (split_from true (drop i text)) ≡ all
     → (done ++ written ∷ []) ++ onto ([] ++ slice_range text (i + 1) (i + 1)) (split_from true (drop (i + 1) text)) ≡ all
-segment-dot done all text front written start i j dot is told =
+segment-dot done all text prefix written start i j dot is told =
     let rest = split_from true (drop (i + 1) text) in
-    let waited = front ++ slice_range text start i in
+    let waited = prefix ++ slice_range text start i in
     append_assoc done (written ∷ []) (onto ([] ++ slice_range text (i + 1) (i + 1)) rest)
     ∙ ap (λ l. done ++ written ∷ l) (ap (λ l. onto l rest) (slice_range-none text (i + 1)) ∙ onto-nothing rest (split_from-not_nil true (drop (i + 1) text)))
     ∙ ap (λ l. done ++ l ∷ rest) (is ∙ sym (append-nil waited))
@@ -138,12 +138,12 @@ join-separated : (expand_dots : Bool) (segments : List (List ℕ)) → segments 
 join-separated expand_dots [] h = absurd (h refl)
 join-separated expand_dots (segment ∷ segments) h = refl
 
-join-onto : (expand_dots : Bool) (front : List ℕ) (segments : List (List ℕ)) → segments ≢ [] → joined_bytes expand_dots (onto front segments) ≡ map (expanded expand_dots) front ++ joined_bytes expand_dots segments
-join-onto expand_dots front [] h = absurd (h refl)
-join-onto expand_dots front (segment ∷ []) h = map-append (expanded expand_dots) front segment
-join-onto expand_dots front (segment ∷ other ∷ segments) h =
-    ap (λ l. l ++ 1 ∷ joined_bytes expand_dots (other ∷ segments)) (map-append (expanded expand_dots) front segment)
-    ∙ append_assoc (map (expanded expand_dots) front) (map (expanded expand_dots) segment) (1 ∷ joined_bytes expand_dots (other ∷ segments))
+join-onto : (expand_dots : Bool) (prefix : List ℕ) (segments : List (List ℕ)) → segments ≢ [] → joined_bytes expand_dots (onto prefix segments) ≡ map (expanded expand_dots) prefix ++ joined_bytes expand_dots segments
+join-onto expand_dots prefix [] h = absurd (h refl)
+join-onto expand_dots prefix (segment ∷ []) h = map-append (expanded expand_dots) prefix segment
+join-onto expand_dots prefix (segment ∷ other ∷ segments) h =
+    ap (λ l. l ++ 1 ∷ joined_bytes expand_dots (other ∷ segments)) (map-append (expanded expand_dots) prefix segment)
+    ∙ append_assoc (map (expanded expand_dots) prefix) (map (expanded expand_dots) segment) (1 ∷ joined_bytes expand_dots (other ∷ segments))
 
 -- no byte is a dot and a backslash
 not_both : (b : ℕ) → eqb b 46 ≡ true → eqb b 92 ≡ false

@@ -1,4 +1,4 @@
--- What a source lends is a front of the bytes that it has left.
+-- What a source lends is a prefix of the bytes that it has left.
 use Rattle.std.proofs.Common.{◌≡◌, ℕ, ◌+◌, ◌-◌, ◌%◌, ◌<◌, ◌≤◌, Bool, true, false, ltb, List, [], ◌∷◌, ◌++◌, length, take, drop, get_or, Some, Ok, refl, sym, ap, subst, ◌∙◌, arith, take_at, take_all, length-append, length-drop, length-take-le}
 use Rattle.std.proofs.lemmas.Bool.{le-ltb}
 use Rattle.std.proofs.lemmas.List.{drop_more, take-append-drop}
@@ -6,7 +6,7 @@ use lib.Seq.{take-append-le}
 use Rattle.tv_base.specs.Lend.{Passes, Fills, PassesNumber}
 use Rattle.tv_base.specs.Number.{VNum}
 use Rattle.tv_base.specs.Reading.{bytes_at, u8_at, vint_at, groups_at}
-use Rattle.tv_base.specs.Sink.{IsFront}
+use Rattle.tv_base.specs.Sink.{IsPrefix}
 use Rattle.tv_base.specs.Source.{AllBytes}
 use Rattle.tv_base.specs.Stop.{◌>>=◌, Taken}
 use Rattle.tv_base.proofs.AgreeNumbers.{vint_agrees}
@@ -15,12 +15,12 @@ use Rattle.tv_base.proofs.SmallBytes.{bytes_before}
 use Rattle.tv_base.proofs.TakenGroups.{with_low, after_group, first_group}
 
 -- the bytes that were lent, as many as were passed
-front_lent : (old new lent : List ℕ) (n : ℕ) → IsFront lent old → n ≤ length lent → (p : (front : List ℕ) × (old ≡ front ++ new) × (length front ≡ n)) → p.0 ≡ take n lent
-front_lent old new lent n lend within p =
+prefix_lent : (old new lent : List ℕ) (n : ℕ) → IsPrefix lent old → n ≤ length lent → (p : (prefix : List ℕ) × (old ≡ prefix ++ new) × (length prefix ≡ n)) → p.0 ≡ take n lent
+prefix_lent old new lent n lend within p =
     sym (take_at p.0 new n p.2) ∙ ap (take n) (sym p.1 ∙ lend.1) ∙ take-append-le n lent lend.0 within
 
-pub filled : (old new lent buf : List ℕ) (n : ℕ) (taken : Bool) → IsFront lent old → n ≤ length lent → buf ≡ take n lent → Passes old new n taken → Fills old new buf taken
-filled old new lent buf n true lend within is p = p.1 ∙ ap (λ (l : List ℕ). l ++ new) (front_lent old new lent n lend within p ∙ sym is)
+pub filled : (old new lent buf : List ℕ) (n : ℕ) (taken : Bool) → IsPrefix lent old → n ≤ length lent → buf ≡ take n lent → Passes old new n taken → Fills old new buf taken
+filled old new lent buf n true lend within is p = p.1 ∙ ap (λ (l : List ℕ). l ++ new) (prefix_lent old new lent n lend within p ∙ sym is)
 filled old new lent buf n false lend within is p = p
 
 -- a buffer that is full is what reading gives
@@ -29,7 +29,7 @@ full old new buf n len e =
     ap (bytes_at n) e ∙ (bytes_agree n).complete buf buf new (sym len, refl)
 
 pub full_taken : {old new : List ℕ} (buf : List ℕ) {n i k : ℕ} → n ≡ length buf → k ≡ i + n → Fills old new buf true → Taken old new i k
-full_taken buf len counted e = record { front = buf; joined = e; counted = omega (arith, len, counted) }
+full_taken buf len counted e = record { prefix = buf; joined = e; counted = omega (arith, len, counted) }
 
 -- ---- a number at hand
 
@@ -40,16 +40,16 @@ unfolding u8_at
 group_at value weight i bytes lt within =
     first_group value weight i lt (drop i bytes) ∙ ap (λ (l : List ℕ). u8_at l >>= λ first. with_low value weight (after_group (9 - (i + 1)) first)) (drop_more bytes i 0 within)
 
--- a spelling that is lent was passed
-pub number_passed : (old new lent : List ℕ) (n len : ℕ) → AllBytes old → IsFront lent old → len ≤ length lent → vint_at lent ≡ Ok (n, drop len lent) → Passes old new len true → PassesNumber old new (Some (n, len))
+-- an encoding that is lent was passed
+pub number_passed : (old new lent : List ℕ) (n len : ℕ) → AllBytes old → IsPrefix lent old → len ≤ length lent → vint_at lent ≡ Ok (n, drop len lent) → Passes old new len true → PassesNumber old new (Some (n, len))
 number_passed old new lent n len small lend within read p =
     let s = vint_agrees.sound lent (n, drop len lent) (bytes_before old lent lend.0 lend.1 small) read in
     let long : length s.0 ≡ len = omega (arith, ap length s.2, length-append s.0 (drop len lent), length-drop len lent) in
-    let same : s.0 ≡ p.0 = sym (take_at s.0 (drop len lent) len long) ∙ ap (take len) (sym s.2) ∙ sym (front_lent old new lent len lend within p) in
+    let same : s.0 ≡ p.0 = sym (take_at s.0 (drop len lent) len long) ∙ ap (take len) (sym s.2) ∙ sym (prefix_lent old new lent len lend within p) in
     (p.0, subst (λ l. VNum l n) same s.1, p.1, p.2)
 
 -- a slice without its first bytes
-pub passed : (bytes : List ℕ) (n : ℕ) → n ≤ length bytes → (front : List ℕ) × (bytes ≡ front ++ take (length bytes - n) (drop n bytes)) × (length front ≡ n)
+pub passed : (bytes : List ℕ) (n : ℕ) → n ≤ length bytes → (prefix : List ℕ) × (bytes ≡ prefix ++ take (length bytes - n) (drop n bytes)) × (length prefix ≡ n)
 passed bytes n within = (
   take n bytes,
   sym (take-append-drop n bytes) ∙ ap (λ (l : List ℕ). take n bytes ++ l) (sym (take_all (length bytes - n) (drop n bytes) (omega (arith, length-drop n bytes)))),
@@ -61,7 +61,7 @@ pub number_read : (old new : List ℕ) (n len : ℕ) → PassesNumber old new (S
 number_read old new n len p = ap vint_at p.2 ∙ vint_agrees.complete p.0 n new p.1
 
 pub number_taken : {old new : List ℕ} {n len i k : ℕ} → k ≡ i + len → PassesNumber old new (Some (n, len)) → Taken old new i k
-number_taken counted p = record { front = p.0; joined = p.2; counted = omega (arith, counted, p.3) }
+number_taken counted p = record { prefix = p.0; joined = p.2; counted = omega (arith, counted, p.3) }
 
 -- a number of one byte
 pub number_of_one : (bytes : List ℕ) (first : ℕ) → 0 < length bytes → first ≡ get_or bytes 0 0 → 128 ≤ first → vint_at bytes ≡ Ok (first % 128, drop 1 bytes)

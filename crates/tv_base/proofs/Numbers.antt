@@ -36,16 +36,16 @@ pub groups_large : (k n : ℕ) → 128 ≤ n → groups_of (suc k) n ≡ n % 128
 groups_large k n h = cond-false (ltb n 128) _ _ (le-ltb n 128 h)
 
 -- so many groups hold each number below that power of 128
-groups_spell : (k n : ℕ) → n < 128 ^ suc k → Groups (groups_of (suc k) n) n
-groups_spell zero n h = rw (groups_small 0 n h) (last h)
-groups_spell (suc k) n h =
+groups_encode : (k n : ℕ) → n < 128 ^ suc k → Groups (groups_of (suc k) n) n
+groups_encode zero n h = rw (groups_small 0 n h) (last h)
+groups_encode (suc k) n h =
     elim (cases_lt n 128) [
       | inl p ↦ rw (groups_small (suc k) n p) (last p)
       | inr p ↦
           let below : n / 128 < 128 ^ suc k = div_below n 128 (128 ^ suc k) (omega arith) (rw pow-suc at h) in
           let whole : n % 128 + 128 * (n / 128) ≡ n = omega arith in
           let low : n % 128 < 128 = omega arith in
-          rw (groups_large (suc k) n p) (subst (λ z. Groups (n % 128 ∷ groups_of (suc k) (n / 128)) z) whole (more low (groups_spell k (n / 128) below)))
+          rw (groups_large (suc k) n p) (subst (λ z. Groups (n % 128 ∷ groups_of (suc k) (n / 128)) z) whole (more low (groups_encode k (n / 128) below)))
     ]
 
 length_groups : (k n : ℕ) → length (groups_of k n) ≤ k
@@ -68,10 +68,10 @@ groups_shortest (suc k) (more {b = b} {high = high} {bytes = bytes} p g) =
           rw (groups_large k (b + 128 * high) q, rest) (omega (arith, groups_shortest k g))
     ]
 
-pub vnum_spells : (n : ℕ) → n < 2 ^ 64 → VNum (vnum n) n
+pub vnum_encodes : (n : ℕ) → n < 2 ^ 64 → VNum (vnum n) n
 unfolding vnum
-vnum_spells n h = record {
-  groups = groups_spell 9 n (omega arith);
+vnum_encodes n h = record {
+  groups = groups_encode 9 n (omega arith);
   at_most_ten = length_groups 10 n;
   fits = h;
 }
@@ -104,14 +104,14 @@ agree_fixed k m n = record { agree = λ a b x y p q e. fixed_reads x y p q e }
 pub one_fixed : (k : ℕ) → OneReading (Fixed k)
 one_fixed k a b x y m n f g e = fixed_reads x y f g e
 
-pub low_bytes_spell : (k n : ℕ) → n < 256 ^ k → Fixed k (low_bytes k n) n
-low_bytes_spell zero n h =
+pub low_bytes_encode : (k n : ℕ) → n < 256 ^ k → Fixed k (low_bytes k n) n
+low_bytes_encode zero n h =
     let none : 0 ≡ n = omega arith in subst (λ z. Fixed 0 [] z) none no_bytes
-low_bytes_spell (suc k) n h =
+low_bytes_encode (suc k) n h =
     let below : n / 256 < 256 ^ k = div_below n 256 (256 ^ k) (omega arith) (rw pow-suc at h) in
     let whole : n % 256 + 256 * (n / 256) ≡ n = omega arith in
     let low : n % 256 < 256 = omega arith in
-    subst (λ z. Fixed (suc k) (low_bytes (suc k) n) z) whole (low_byte low (low_bytes_spell k (n / 256) below))
+    subst (λ z. Fixed (suc k) (low_bytes (suc k) n) z) whole (low_byte low (low_bytes_encode k (n / 256) below))
 
 pub length-fixed : {k : ℕ} {bytes : List ℕ} {n : ℕ} → Fixed k bytes n → length bytes ≡ k
 length-fixed no_bytes = refl
@@ -132,7 +132,7 @@ groups_more (suc k) n h =
           groups_large (suc k) n p ∙ ap (λ z. n % 128 ∷ z) (groups_more k (n / 128) below) ∙ sym (groups_large (suc (suc k)) n p)
     ]
 
--- the shortest spelling, group by group
+-- the shortest encoding, group by group
 pub vnum-small : (n : ℕ) → n < 128 → vnum n ≡ (n + 128) ∷ []
 unfolding vnum
 vnum-small n h = groups_small 9 n h

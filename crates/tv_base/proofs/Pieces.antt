@@ -42,12 +42,12 @@ pub none_read : (n : ℕ) (buf old new : List ℕ) → n ≡ 0 → old ≡ take 
 none_read n buf old new none e = e ∙ ap (λ (k : ℕ). take k buf ++ new) none
 
 -- the same is left
-pub given_still : (all front old new : List ℕ) → all ≡ front ++ old → old ≡ new → all ≡ front ++ new
-given_still all front old new e same = e ∙ ap (λ (l : List ℕ). front ++ l) same
+pub given_still : (all prefix old new : List ℕ) → all ≡ prefix ++ old → old ≡ new → all ≡ prefix ++ new
+given_still all prefix old new e same = e ∙ ap (λ (l : List ℕ). prefix ++ l) same
 
 -- what was filled was taken
 pub taken_so_far : (filled : ℕ) (buf rest : List ℕ) {all : List ℕ} {count now : ℕ} → filled ≤ length buf → now ≡ count + filled → all ≡ take filled buf ++ rest → Taken all rest count now
-taken_so_far filled buf rest within counted e = record { front = take filled buf; joined = e; counted = omega (arith, counted, length-take filled buf) }
+taken_so_far filled buf rest within counted e = record { prefix = take filled buf; joined = e; counted = omega (arith, counted, length-take filled buf) }
 
 -- what stands behind the bytes that were there, once the room behind them was filled and cut
 pub appended : (f n most len : ℕ) (old buf post rest zeros now : List ℕ) → f ≡ length old → now ≡ take (f + most) old ++ zeros → n ≤ length buf → f + n ≤ len

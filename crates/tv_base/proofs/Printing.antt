@@ -5,7 +5,7 @@ use Rattle.std.proofs.lemmas.Bool.{eqb-true}
 use Rattle.std.proofs.lemmas.Grind.{flat_map-append}
 use Rattle.std.proofs.lemmas.List.{take_more, take-append-drop, flat_map_more}
 use Rattle.tv_base.specs.Facet.{decoded_byte, decoded, parse, path, printed_byte, printed, printed_or_slash}
-use Rattle.tv_base.specs.Sink.{IsFront}
+use Rattle.tv_base.specs.Sink.{IsPrefix}
 use Rattle.tv_base.proofs.Rewriting.{rewritten_from, rewritten-from}
 
 abbrev printed_step : List ℕ → List ℕ
@@ -24,7 +24,7 @@ printed_case : (c : Bool) (b : ℕ) (parts : List (List ℕ)) (rest : List ℕ) 
 printed_case true b parts rest e = ap (λ l. 47 ∷ l) e
 printed_case false b parts rest e = onto_first-printed b parts rest e
 
--- the slashes of the steps are those of the zeros and one in front
+-- the slashes of the steps are those of the zeros and one before it
 pub printed-is : (encoded : List ℕ) → printed encoded ≡ 47 ∷ flat_map printed_or_slash encoded
 printed-is [] = refl
 printed-is (b ∷ bs) = printed_case (eqb b 0) b (path bs) (flat_map printed_or_slash bs) (printed-is bs)
@@ -65,9 +65,9 @@ parse-None [] h = refl
 parse-None (b ∷ bs) h = parse_case (eqb b 47) b bs refl h
 
 -- what is printed of the bytes before a place begins the text
-pub printed-front : (encoded front more : List ℕ) (i : ℕ) → front ++ more ≡ 47 ∷ flat_map printed_or_slash (take i encoded) → IsFront front (printed encoded)
-printed-front encoded front more i e = (
+pub printed-prefix : (encoded prefix more : List ℕ) (i : ℕ) → prefix ++ more ≡ 47 ∷ flat_map printed_or_slash (take i encoded) → IsPrefix prefix (printed encoded)
+printed-prefix encoded prefix more i e = (
   more ++ flat_map printed_or_slash (drop i encoded),
   printed-is encoded ∙ ap (λ l. 47 ∷ flat_map printed_or_slash l) (sym (take-append-drop i encoded)) ∙ ap (λ l. 47 ∷ l) (flat_map-append printed_or_slash (take i encoded) (drop i encoded))
-      ∙ ap (λ l. l ++ flat_map printed_or_slash (drop i encoded)) (sym e) ∙ append_assoc front more (flat_map printed_or_slash (drop i encoded)),
+      ∙ ap (λ l. l ++ flat_map printed_or_slash (drop i encoded)) (sym e) ∙ append_assoc prefix more (flat_map printed_or_slash (drop i encoded)),
 )

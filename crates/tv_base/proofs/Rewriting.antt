@@ -63,13 +63,13 @@ pub rewritten_below-more : (rule : Bool → ℕ → List ℕ) (text : List ℕ) 
 rewritten_below-more rule text i = rw add-one refl
 
 -- a byte that stands for itself waits with those before it
-pub step-kept : (front text below more : List ℕ) (start i : ℕ) → start ≤ i → i < length text → front ++ slice_range text start i ≡ below → more ≡ below ++ get_or text i 0 ∷ [] → front ++ slice_range text start (i + 1) ≡ more
-step-kept front text below more start i h j e next =
-    ap (λ l. front ++ l) (slice_range-more text start i h j) ∙ sym (append_assoc front (slice_range text start i) (get_or text i 0 ∷ [])) ∙ ap (λ l. l ++ get_or text i 0 ∷ []) e ∙ sym next
+pub step-kept : (prefix text below more : List ℕ) (start i : ℕ) → start ≤ i → i < length text → prefix ++ slice_range text start i ≡ below → more ≡ below ++ get_or text i 0 ∷ [] → prefix ++ slice_range text start (i + 1) ≡ more
+step-kept prefix text below more start i h j e next =
+    ap (λ l. prefix ++ l) (slice_range-more text start i h j) ∙ sym (append_assoc prefix (slice_range text start i) (get_or text i 0 ∷ [])) ∙ ap (λ l. l ++ get_or text i 0 ∷ []) e ∙ sym next
 
 -- what waited is written, and then what stands for the byte
-pub step-written : (front text below more other written : List ℕ) (start i : ℕ) → front ++ slice_range text start i ≡ below → more ≡ below ++ other → written ≡ (front ++ slice_range text start i) ++ other → written ++ slice_range text (i + 1) (i + 1) ≡ more
-step-written front text below more other written start i e next is =
+pub step-written : (prefix text below more other written : List ℕ) (start i : ℕ) → prefix ++ slice_range text start i ≡ below → more ≡ below ++ other → written ≡ (prefix ++ slice_range text start i) ++ other → written ++ slice_range text (i + 1) (i + 1) ≡ more
+step-written prefix text below more other written start i e next is =
     rw (slice_range-none text (i + 1), append-nil written) (is ∙ ap (λ l. l ++ other) e ∙ sym next)
 
 pub slice_range-all : (text : List ℕ) (start i : ℕ) → length text ≤ i → slice_range text start i ≡ drop start text

@@ -5,13 +5,13 @@ use Rattle.std.proofs.lemmas.List.{get_or_past}
 use Rattle.std.proofs.lemmas.List.Elements.{All-head, All-take, All-drop, All-get_or}
 use Rattle.tv_base.specs.Source.{AllBytes}
 
--- the front of bytes
-pub bytes_before : (whole front rest : List ℕ) → whole ≡ front ++ rest → AllBytes whole → AllBytes front
-bytes_before whole front rest e h = subst AllBytes (ap (take (length front)) e ∙ take_at front rest (length front) refl) (All-take (λ b. b < 256) (length front) whole h)
+-- the prefix of bytes
+pub bytes_before : (whole prefix rest : List ℕ) → whole ≡ prefix ++ rest → AllBytes whole → AllBytes prefix
+bytes_before whole prefix rest e h = subst AllBytes (ap (take (length prefix)) e ∙ take_at prefix rest (length prefix) refl) (All-take (λ b. b < 256) (length prefix) whole h)
 
 -- and what follows it
-pub bytes_after : (whole front rest : List ℕ) → whole ≡ front ++ rest → AllBytes whole → AllBytes rest
-bytes_after whole front rest e h = subst AllBytes (ap (drop (length front)) e ∙ drop_at front rest (length front) refl) (All-drop (λ b. b < 256) (length front) whole h)
+pub bytes_after : (whole prefix rest : List ℕ) → whole ≡ prefix ++ rest → AllBytes whole → AllBytes rest
+bytes_after whole prefix rest e h = subst AllBytes (ap (drop (length prefix)) e ∙ drop_at prefix rest (length prefix) refl) (All-drop (λ b. b < 256) (length prefix) whole h)
 
 pub first_byte : (b : ℕ) (rest : List ℕ) → AllBytes (b ∷ rest) → b < 256
 first_byte b rest h = All-head (λ b. b < 256) b rest h

@@ -132,7 +132,7 @@ no_more (x ∷ l) more some e = no_more l more some (let tails : l ≡ l ++ more
 pub Descends-itself : (f g : List ℕ) → g ≡ f → Descends f g → ⊥
 Descends-itself f g same d = no_more (steps f) d.0 d.1 (ap steps (sym same) ∙ d.2)
 
--- what goes on with a byte descends exactly if that is a zero or the front is the root
+-- what goes on with a byte descends exactly if that is a zero or the prefix is the root
 pub Descends-first : (f g : List ℕ) (first : ℕ) (others : List ℕ) → g ≡ f ++ first ∷ others → f ≢ [] → Descends f g → first ≡ 0
 Descends-first f g first others e h d =
     let rest = Descends-rest f g h d in

@@ -8,4 +8,4 @@ unfolding u8_at
 byte_read e = ap u8_at e
 
 pub byte_taken : {bytes rest : List ℕ} {byte count : ℕ} → bytes ≡ byte ∷ rest → Taken bytes rest count (count + 1)
-byte_taken {byte = byte} e = record { front = byte ∷ []; joined = e; counted = refl }
+byte_taken {byte = byte} e = record { prefix = byte ∷ []; joined = e; counted = refl }

@@ -5,7 +5,7 @@ use Rattle.tv_base.specs.declared.read_error.ReadError.TheVariants.{Corrupted, I
 use Rattle.tv_base.specs.Stop.{Stop}
 use Rattle.tv_base.specs.Stop.Stop.{Failed, Short, Never}
 
--- n bytes went from the front of what was left to behind what was there; none only at the end or where none were wanted
+-- n bytes went from the prefix of what was left to behind what was there; none only at the end or where none were wanted
 pub record Moves (old new before after : List ℕ) (most n : ℕ) : Type 0 where
   pub moved : List ℕ
   pub joined : old ≡ moved ++ new
@@ -17,7 +17,7 @@ abbrev pub AppendsNext : List ℕ → List ℕ → List ℕ → List ℕ → ℕ
 AppendsNext old new before after most (Ok n) = Moves old new before after most n
 AppendsNext old new before after most (Err e) = new ≡ old
 
--- an append has no fault of bytes
+-- an append has no error in the input
 abbrev pub append_stop : ReadError → Stop ⊥
 append_stop (Corrupted c) = Never
 append_stop (Io kind) = Failed kind

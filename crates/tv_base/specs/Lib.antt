@@ -1,6 +1,6 @@
 pub mod Number
 pub mod Parts
-pub mod PartFault
+pub mod ErrorInPart
 pub mod Source
 pub mod Sink
 pub mod Stop

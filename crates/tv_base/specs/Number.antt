@@ -7,7 +7,7 @@ pub data Groups : List ℕ → ℕ → Type 0 where
   last : {n : ℕ} → n < 128 → Groups ((n + 128) ∷ []) n
   more : {b high : ℕ} {bytes : List ℕ} → b < 128 → Groups bytes high → Groups (b ∷ bytes) (b + 128 * high)
 
--- One to ten bytes, which spell a number below 2 ^ 64. They need not be the fewest.
+-- One to ten bytes, which encode a number below 2 ^ 64. They need not be the fewest.
 pub record VNum (bytes : List ℕ) (n : ℕ) : Type 0 where
   pub groups : Groups bytes n
   pub at_most_ten : length bytes ≤ 10
@@ -18,7 +18,7 @@ abbrev pub groups_of : ℕ → ℕ → List ℕ
 groups_of zero n = []
 groups_of (suc k) n = if nat_lt n 128 then (n + 128) ∷ [] else n % 128 ∷ groups_of k (n / 128)
 
--- the spelling with the fewest bytes
+-- the encoding with the fewest bytes
 unfoldable pub vnum : ℕ → List ℕ
 vnum n = groups_of 10 n
 
@@ -48,7 +48,7 @@ sixteen_bytes n = low_bytes 16 n
 -- a signed number in 8 bytes: two's complement
 pub record Signed (bytes : List ℕ) (z : ℤ) : Type 0 where
   pub fits : FitsSigned w64 z
-  pub spelled : Fixed 8 bytes (cast_unsigned w64 z)
+  pub encoded : Fixed 8 bytes (cast_unsigned w64 z)
 
 -- and as it is written
 abbrev pub signed_bytes : ℤ → List ℕ

@@ -2,29 +2,29 @@
 use Rattle.std.specs.Prelude.{◌≡◌, ℕ, List, [], ◌∷◌, ◌++◌, length, IsUtf8}
 use Rattle.tv_base.specs.Number.{VNum, vnum}
 
--- Each list of bytes spells one value at most, and none that spells one begins another that does.
+-- Each list of bytes encodes one value at most, and none that encodes one begins another that does.
 abbrev pub OneReading : {A : Type 0} → (List ℕ → A → Type 0) → Type 0
 OneReading {A} R = (a b x y : List ℕ) (m n : A) → R a m → R b n → a ++ x ≡ b ++ y → (a ≡ b) × (m ≡ n)
 
--- a front is of some kind, and this is what follows it
+-- a prefix is of some kind, and this is what follows it
 pub record Begins (P : List ℕ → Type 0) (whole rest : List ℕ) : Type 0 where
-  pub front : List ℕ
-  pub joined : whole ≡ front ++ rest
-  pub spelled : P front
+  pub prefix : List ℕ
+  pub joined : whole ≡ prefix ++ rest
+  pub encoded : P prefix
 
 -- bytes of one kind, and then bytes of another
 pub record Then (P Q : List ℕ → Type 0) (whole : List ℕ) : Type 0 where
-  pub front : List ℕ
+  pub prefix : List ℕ
   pub rest : List ℕ
-  pub joined : whole ≡ front ++ rest
-  pub first : P front
+  pub joined : whole ≡ prefix ++ rest
+  pub first : P prefix
   pub second : Q rest
 
 -- a code, and then bytes of some kind
 pub record Behind (code : ℕ) (P : List ℕ → Type 0) (whole : List ℕ) : Type 0 where
   pub body : List ℕ
   pub joined : whole ≡ code ∷ body
-  pub spelled : P body
+  pub encoded : P body
 
 -- a length, and then so many bytes
 pub record Sized (whole content : List ℕ) : Type 0 where
@@ -37,7 +37,7 @@ pub record Text (whole content : List ℕ) : Type 0 where
   pub sized : Sized whole content
   pub utf8 : IsUtf8 content
 
--- the shortest spelling of bytes behind their length, a text or not
+-- the shortest encoding of bytes behind their length, a text or not
 abbrev pub short_sized : List ℕ → List ℕ
 short_sized content = vnum (length content) ++ content
 

@@ -1,4 +1,4 @@
--- Reading from left to right: a value and the bytes after it, or the first fault that is met and the bytes after those that show it.
+-- Reading from left to right: a value and the bytes after it, or the first error that is met and the bytes after those that show it.
 use Rattle.std.specs.Prelude.{ℕ, ℤ, ◌+◌, ◌*◌, ◌%◌, ◌==◌, Bool, zero, suc, List, [], ◌∷◌, ◌++◌, length, take, drop, Result, Ok, Err, nat_lt, if◌then◌else◌}
 use Rattle.std.specs.Int.{Width, w32, w64, w128, byte_len, from_le_bytes, cast_signed}
 use Rattle.std.specs.Str.{is_utf8}
@@ -12,7 +12,7 @@ bytes_at n bytes = if nat_lt (length bytes) n then Err (UnexpectedEnd, []) else 
 
 -- the next n bytes, behind those that are there
 abbrev pub more_at : List ℕ → ℕ → List ℕ → Result (List ℕ × List ℕ) (Cause × List ℕ)
-more_at front n bytes = bytes_at n bytes >>= λ x. Ok (front ++ x.0, x.1)
+more_at prefix n bytes = bytes_at n bytes >>= λ x. Ok (prefix ++ x.0, x.1)
 
 -- ---- numbers of a fixed width
 

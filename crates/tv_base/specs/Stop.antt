@@ -1,11 +1,11 @@
 -- Why a reader or a writer stopped, whatever its error type is: one set of definitions for each layer.
 use Rattle.std.specs.Prelude.{◌≡◌, ℕ, ◌+◌, ◌-◌, ◌^◌, ◌<◌, ◌≤◌, List, ◌++◌, length, Result, Ok, Err}
 use Rattle.std.specs.declared.io.ErrorKind.{ErrorKind}
-use Rattle.tv_base.specs.Source.{Faults, HasFailed}
+use Rattle.tv_base.specs.Source.{Failures, HasFailed}
 
--- what was read or given is at fault, a read or a write failed with this kind, memory ran out, or this layer never says it
+-- what was read or given is malformed, a read or a write failed with this kind, memory ran out, or this layer never says it
 pub data Stop (F : Type 0) : Type 0 where
-  Fault : (fault : F) → Stop F
+  InputError : (error : F) → Stop F
   Failed : (kind : ErrorKind) → Stop F
   Short : Stop F
   Never : Stop F
@@ -20,9 +20,9 @@ abbrev pub lifted : {F G A : Type 0} → (F → G) → Result A (F × List ℕ) 
 lifted to (Ok x) = Ok x
 lifted to (Err f) = Err (to f.0, f.1)
 
--- A fault is what reading meets first, and what it leaves then is left, as long as less than 2 ^ 64 - 1 bytes were taken.
+-- An error is what reading meets first, and what it leaves then is left, as long as less than 2 ^ 64 - 1 bytes were taken.
 abbrev pub Stops : {F Y : Type 0} → Stop F → Result (Y × List ℕ) (F × List ℕ) → List ℕ → ℕ → Type 0
-Stops (Fault f) read rest count = count < 2 ^ 64 - 1 → read ≡ Err (f, rest)
+Stops (InputError f) read rest count = count < 2 ^ 64 - 1 → read ≡ Err (f, rest)
 Stops (Failed kind) read rest count = Unit {0}
 Stops Short read rest count = Unit {0}
 Stops Never read rest count = ⊥
@@ -31,26 +31,26 @@ abbrev pub Gives : {E F X Y : Type 0} → (E → Stop F) → (X → Y) → Resul
 Gives stop view (Ok x) read rest count = read ≡ Ok (view x, rest)
 Gives stop view (Err e) read rest count = Stops (stop e) read rest count
 
-abbrev pub CountsStop : {F : Type 0} → Stop F → Faults → Faults → Type 0
-CountsStop (Fault f) old new = new ≡ old
+abbrev pub CountsStop : {F : Type 0} → Stop F → Failures → Failures → Type 0
+CountsStop (InputError f) old new = new ≡ old
 CountsStop (Failed kind) old new = HasFailed kind old new
 CountsStop Short old new = new ≡ old
 CountsStop Never old new = ⊥
 
 -- an error of a read or a write is told with its kind, and only where there was one
-abbrev pub Counts : {E F T : Type 0} → (E → Stop F) → Result T E → Faults → Faults → Type 0
+abbrev pub Counts : {E F T : Type 0} → (E → Stop F) → Result T E → Failures → Failures → Type 0
 Counts stop (Ok x) old new = new ≡ old
 Counts stop (Err e) old new = CountsStop (stop e) old new
 
 -- a slice of the bytes was taken, and counted
 pub record Taken (old new : List ℕ) (count now : ℕ) : Type 0 where
-  pub front : List ℕ
-  pub joined : old ≡ front ++ new
-  pub counted : now ≡ count + length front
+  pub prefix : List ℕ
+  pub joined : old ≡ prefix ++ new
+  pub counted : now ≡ count + length prefix
 
-pub record Takes {P E F X Y : Type 0} (stop : E → Stop F) (tells : P → Type 0) (left : P → List ℕ) (count : P → ℕ) (faults : P → Faults) (old new : P) (view : X → Y) (result : Result X E) (reading : List ℕ → Result (Y × List ℕ) (F × List ℕ)) : Type 0 where
-  pub gives : tells old → Gives stop view result (reading (left old)) (left new) (count new)
-  pub taken : tells old → Taken (left old) (left new) (count old) (count new)
-  pub still_tells : tells old → tells new
-  pub counts : Counts stop result (faults old) (faults new)
+pub record Takes {P E F X Y : Type 0} (stop : E → Stop F) (is_known : P → Type 0) (left : P → List ℕ) (count : P → ℕ) (failures : P → Failures) (old new : P) (view : X → Y) (result : Result X E) (reading : List ℕ → Result (Y × List ℕ) (F × List ℕ)) : Type 0 where
+  pub gives : is_known old → Gives stop view result (reading (left old)) (left new) (count new)
+  pub taken : is_known old → Taken (left old) (left new) (count old) (count new)
+  pub stays_known : is_known old → is_known new
+  pub counts : Counts stop result (failures old) (failures new)
   pub rises : count old ≤ count new

@@ -3,9 +3,9 @@ use Rattle.std.specs.Prelude.{ℕ, List, Result}
 use Rattle.tv_base.specs.declared.cause.Cause.{Cause}
 use Rattle.tv_base.specs.declared.read_error.ReadError.{ReadError}
 use Rattle.tv_base.specs.declared.read_error.ReadError.TheVariants.{Corrupted, Io, Memory}
-use Rattle.tv_base.specs.Source.{Faults}
+use Rattle.tv_base.specs.Source.{Failures}
 use Rattle.tv_base.specs.Stop.{Stop, Takes}
-use Rattle.tv_base.specs.Stop.Stop.{Fault, Failed, Short}
+use Rattle.tv_base.specs.Stop.Stop.{InputError, Failed, Short}
 
 -- a source, and how many bytes were taken of it
 pub record Place (S : Type 0) : Type 0 where
@@ -14,14 +14,14 @@ pub record Place (S : Type 0) : Type 0 where
 
 -- the bytes left are known
 abbrev pub told : {S : Type 0} → (S → Type 0) → Place S → Type 0
-told tells p = tells p.source
+told is_known p = is_known p.source
 
 abbrev pub read_stop : ReadError → Stop Cause
-read_stop (Corrupted c) = Fault c
+read_stop (Corrupted c) = InputError c
 read_stop (Io kind) = Failed kind
 read_stop Memory = Short
 
 -- The result, seen by view, is what the reading gives of the bytes that were left, and what follows them is left now.
-abbrev pub TakesBy : {S X Y : Type 0} (tells : S → Type 0) (left : S → List ℕ) (faults : S → Faults) (old : S) (old_count : ℕ) (new : S) (new_count : ℕ) (view : X → Y) (result : Result X ReadError) (reading : List ℕ → Result (Y × List ℕ) (Cause × List ℕ)) → Type 0
-TakesBy tells left faults old old_count new new_count view result reading =
-    Takes read_stop (told tells) (λ p. left p.source) (λ p. p.count) (λ p. faults p.source) (record { source = old; count = old_count }) (record { source = new; count = new_count }) view result reading
+abbrev pub TakesBy : {S X Y : Type 0} (is_known : S → Type 0) (left : S → List ℕ) (failures : S → Failures) (old : S) (old_count : ℕ) (new : S) (new_count : ℕ) (view : X → Y) (result : Result X ReadError) (reading : List ℕ → Result (Y × List ℕ) (Cause × List ℕ)) → Type 0
+TakesBy is_known left failures old old_count new new_count view result reading =
+    Takes read_stop (told is_known) (λ p. left p.source) (λ p. p.count) (λ p. failures p.source) (record { source = old; count = old_count }) (record { source = new; count = new_count }) view result reading

@@ -4,7 +4,7 @@ use std::error::Error;
 use std::fmt;
 use std::fmt::{Display, Formatter, Write};
 
-/// What is wrong with bytes that spell no value: the first fault, from left to right.
+/// What is wrong with bytes that encode no value: the first error, from left to right.
 #[derive(Clone, Copy, Debug, PartialEq, Eq)]
 pub enum Cause {
     /// The input ends inside a part.

@@ -17,14 +17,14 @@ pub fn is_unescaped_at(bytes: &[u8], place: usize) -> bool
     (place - start) % 2 == 0
 }
 
-/// Whether the front without its escapes is the name. An escape is a backslash that no backslash before it takes. It takes no
+/// Whether the prefix without its escapes is the name. An escape is a backslash that no backslash before it takes. It takes no
 /// memory and stops at the first byte that differs.
-pub fn unescapes_to(front: &str, name: &str) -> bool
-    ensures { result ≡ bytes_eq name.now (without_escapes front.now) }
+pub fn unescapes_to(prefix: &str, name: &str) -> bool
+    ensures { result ≡ bytes_eq name.now (without_escapes prefix.now) }
 {
     let mut rest = name.as_bytes();
     let mut is_escape = false;
-    for byte in front.as_bytes() {
+    for byte in prefix.as_bytes() {
         is_escape = *byte == b'\\' && !is_escape;
         if !is_escape {
             match rest.split_first() {

@@ -116,7 +116,7 @@ impl Facet {
         Err(FacetParseError::FacetParseError(copy))
     }
 
-    /// Writes the encoded text of the facet that a text names, in place of what is there (own). Answers whether the text names one:
+    /// Writes the encoded text of the facet that a text names, in place of what is there (not in tantivy). Answers whether the text names one:
     /// whether it begins with `/`. Errors: memory was refused.
     pub fn encode_text(text: &str, encoded: &mut String) -> Result<bool, AllocError>
         ensures { IsEncoded text.now (string_bytes encoded.new) result }
@@ -131,7 +131,7 @@ impl Facet {
         }
     }
 
-    /// Adds the text that names the facet with an encoded text to a text (own). The only error is that memory was refused, and then a
+    /// Adds the text that names the facet with an encoded text to a text (not in tantivy). The only error is that memory was refused, and then a
     /// beginning of it may be added.
     pub fn print_encoded(encoded: &str, text: &mut String) -> Result<(), AllocError>
         ensures ok { OnOk result (string_bytes text.new ≡ string_bytes text.old ++ printed encoded.now) }
@@ -191,11 +191,11 @@ impl Facet {
     }
 }
 
-// What the list has behind the front, where it begins with that.
-fn rest_behind<'a>(whole: &'a [u8], front: &[u8]) -> Option<&'a [u8]>
-    ensures { MatchOption result ((rest : List ℕ) → whole.now ≢ front.now ++ rest) (λ rest. whole.now ≡ front.now ++ rest.now) }
+// What the list has behind the prefix, where it begins with that.
+fn rest_behind<'a>(whole: &'a [u8], prefix: &[u8]) -> Option<&'a [u8]>
+    ensures { MatchOption result ((rest : List ℕ) → whole.now ≢ prefix.now ++ rest) (λ rest. whole.now ≡ prefix.now ++ rest.now) }
 {
-    whole.strip_prefix(front)
+    whole.strip_prefix(prefix)
 }
 
 /// Facets are equal where their encoded texts are.

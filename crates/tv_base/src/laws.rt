@@ -1,4 +1,4 @@
-//! Laws of the spellings of numbers and texts, of escapes, and of facets, each the contract of a function that does nothing.
+//! Laws of the encodings of numbers and texts, of escapes, and of facets, each the contract of a function that does nothing.
 
 ghost use Rattle.std.specs.Prelude.{◌≡◌, ◌≢◌, ◌↔◌, ℕ, ℤ, FitsSigned, ◌<◌, ◌≤◌, ◌^◌, List, [], ◌∷◌, ◌++◌, ◌==◌, false, length, Some, IsTrue, IsUtf8};
 ghost use Rattle.std.specs.Int.{w64};
@@ -10,75 +10,75 @@ ghost use Rattle.tv_base.specs.Parts.{OneReading, Sized, Text, short_sized};
 ghost use Rattle.tv_base.specs.Escapes.{without_escapes};
 ghost use Rattle.tv_base.specs.Facet.{parse, path, printed, IsStep, Descends};
 
-/// No spelling of a number begins another, and each spells one number.
+/// No encoding of a number begins another, and each encodes one number.
 pub fn numbers_have_one_reading()
     ensures { OneReading VNum }
 {}
 
-/// Each number below 2^64 has a shortest spelling.
-pub fn short_numbers_spell()
+/// Each number below 2^64 has a shortest encoding.
+pub fn short_numbers_encode()
     ensures { (n : ℕ) → n < 2 ^ 64 → VNum (vnum n) n }
 {}
 
-/// No spelling of a number is shorter.
+/// No encoding of a number is shorter.
 pub fn short_numbers_are_shortest()
     ensures { (n : ℕ) (bytes : List ℕ) → VNum bytes n → length (vnum n) ≤ length bytes }
 {}
 
-/// No spelling of a number in so many bytes begins another, and each spells one number.
+/// No encoding of a number in so many bytes begins another, and each encodes one number.
 pub fn fixed_numbers_have_one_reading()
     ensures { (k : ℕ) → OneReading (Fixed k) }
 {}
 
-/// Each number that fits has a spelling in one, four, eight and sixteen bytes.
-pub fn fixed_numbers_spell()
+/// Each number that fits has an encoding in one, four, eight and sixteen bytes.
+pub fn fixed_numbers_encode()
     ensures one { (n : ℕ) → n < 2 ^ 8 → Fixed 1 (one_byte n) n }
     ensures four { (n : ℕ) → n < 2 ^ 32 → Fixed 4 (four_bytes n) n }
     ensures eight { (n : ℕ) → n < 2 ^ 64 → Fixed 8 (eight_bytes n) n }
     ensures sixteen { (n : ℕ) → n < 2 ^ 128 → Fixed 16 (sixteen_bytes n) n }
 {}
 
-/// No spelling of a signed number begins another, and each spells one number.
+/// No encoding of a signed number begins another, and each encodes one number.
 pub fn signed_numbers_have_one_reading()
     ensures { OneReading Signed }
 {}
 
-/// Each signed number that fits eight bytes has a spelling.
-pub fn signed_numbers_spell()
+/// Each signed number that fits eight bytes has an encoding.
+pub fn signed_numbers_encode()
     ensures { (z : ℤ) → FitsSigned w64 z → Signed (signed_bytes z) z }
 {}
 
-/// No spelling of a truth value begins another, and each spells one truth value.
+/// No encoding of a truth value begins another, and each encodes one truth value.
 pub fn truth_values_have_one_reading()
     ensures { OneReading Truth }
 {}
 
-/// No spelling of bytes behind their length begins another, and each spells one list of bytes.
+/// No encoding of bytes behind their length begins another, and each encodes one list of bytes.
 pub fn sized_bytes_have_one_reading()
     ensures { OneReading Sized }
 {}
 
-/// Each list of less than 2^64 bytes has a shortest spelling.
-pub fn short_sized_bytes_spell()
+/// Each list of less than 2^64 bytes has a shortest encoding.
+pub fn short_sized_bytes_encode()
     ensures { (content : List ℕ) → length content < 2 ^ 64 → Sized (short_sized content) content }
 {}
 
-/// No spelling of bytes behind their length is shorter.
+/// No encoding of bytes behind their length is shorter.
 pub fn short_sized_bytes_are_shortest()
     ensures { (content bytes : List ℕ) → Sized bytes content → length (short_sized content) ≤ length bytes }
 {}
 
-/// No spelling of a text begins another, and each spells one text.
+/// No encoding of a text begins another, and each encodes one text.
 pub fn texts_have_one_reading()
     ensures { OneReading Text }
 {}
 
-/// Each text of less than 2^64 bytes has a shortest spelling.
-pub fn short_texts_spell()
+/// Each text of less than 2^64 bytes has a shortest encoding.
+pub fn short_texts_encode()
     ensures { (text : List ℕ) → IsUtf8 text → length text < 2 ^ 64 → Text (short_sized text) text }
 {}
 
-/// No spelling of a text is shorter.
+/// No encoding of a text is shorter.
 pub fn short_texts_are_shortest()
     ensures { (text bytes : List ℕ) → Text bytes text → length (short_sized text) ≤ length bytes }
 {}

@@ -1,7 +1,7 @@
-//! Bytes: where they come from and go to, and the numbers and texts that they spell.
+//! Bytes: where they come from and go to, and the numbers and texts that they encode.
 #![tactic(auto)]
 
-mod at_hand;
+mod buffered;
 pub mod cause;
 pub mod escapes;
 pub mod facet;

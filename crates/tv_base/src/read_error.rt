@@ -11,7 +11,7 @@ use thiserror::Error;
 /// Why a value could not be read from a source.
 #[derive(Debug, PartialEq, Drop, Error)]
 pub enum ReadError {
-    /// The bytes of the source spell no value. The cause is the first fault in them, from left to right.
+    /// The bytes of the source encode no value. The cause is the first error in them, from left to right.
     #[error("{0}")]
     Corrupted(Cause),
     /// A read of the source failed, with this kind of error.

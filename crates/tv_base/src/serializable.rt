@@ -6,7 +6,7 @@ ghost use Rattle.tv_base.specs.declared.cause.Cause.TheVariants.{TooLong};
 ghost use Rattle.tv_base.specs.declared.read_error.ReadError.TheVariants.{Corrupted, Memory};
 ghost use Rattle.tv_base.specs.Number.{VNum, vnum, Fixed, one_byte, four_bytes, eight_bytes, sixteen_bytes, Signed, signed_bytes, Truth, truth_byte};
 ghost use Rattle.tv_base.specs.Parts.{Sized, Text, short_sized};
-ghost use Rattle.tv_base.specs.PartFault.{NumberFault, BytesFault, TruthFault, SizedFault, TextFault};
+ghost use Rattle.tv_base.specs.ErrorInPart.{ErrorInNumber, ErrorInBytes, ErrorInTruth, ErrorInSized, ErrorInText};
 ghost use Rattle.tv_base.specs.ReadsAs.{ReadsAs};
 ghost use Rattle.tv_base.specs.Reading.{vint_at};
 ghost use Rattle.tv_base.specs.Sink.{Writes};
@@ -28,7 +28,7 @@ use crate::write::{
 use std::alloc::Global;
 use std::io;
 
-/// A value that has a spelling in bytes: the shortest is written, and each is read.
+/// A value that has an encoding in bytes: the shortest is written, and each is read.
 pub trait BinarySerializable: Sized {
     /// What a value is, apart from where it lies in memory.
     ghost Seen: { Type 0 };
@@ -36,27 +36,27 @@ pub trait BinarySerializable: Sized {
     /// A value, seen so.
     ghost view: { Self → Seen };
 
-    /// The shortest spelling.
+    /// The shortest encoding.
     ghost shortest: { Seen → List ℕ };
 
-    /// Which bytes spell which value.
-    ghost spells: { List ℕ → Seen → Type 0 };
+    /// Which bytes encode which value.
+    ghost encodes: { List ℕ → Seen → Type 0 };
 
-    /// What is at fault in bytes of which no front spells a value.
-    ghost is_fault: { List ℕ → Cause → Type 0 };
+    /// What is malformed in bytes of which no prefix encodes a value.
+    ghost has_error: { List ℕ → Cause → Type 0 };
 
-    /// Writes the shortest spelling. Errors: that of a write that failed. The sink then holds a beginning of the spelling
+    /// Writes the shortest encoding. Errors: that of a write that failed. The sink then holds a beginning of the encoding
     /// behind what it held before.
     fn serialize<K: ByteSink>(&self, sink: &mut K) -> Result<(), io::ErrorKind>
-        ensures { Writes K.tells K.held K.faults sink.old sink.new result (shortest (view self.now)) };
+        ensures { Writes K.is_known K.held K.failures sink.old sink.new result (shortest (view self.now)) };
 
-    /// Reads a value, and takes the bytes that spell it and no more.
+    /// Reads a value, and takes the bytes that encode it and no more.
     ///
-    /// Errors: `Corrupted` with the first fault in the bytes, from left to right, `Io` with the kind of the read that failed, and
-    /// `Memory`. At `Corrupted` just the bytes that show the fault were taken: without the last of them only an end was to be seen,
-    /// and at `UnexpectedEnd` all were taken. `TooLong` comes behind 2^64 - 1 bytes. After each other error some front was taken.
+    /// Errors: `Corrupted` with the first error in the bytes, from left to right, `Io` with the kind of the read that failed, and
+    /// `Memory`. At `Corrupted` just the bytes that show the error were taken: without the last of them only an end was to be seen,
+    /// and at `UnexpectedEnd` all were taken. `TooLong` comes behind 2^64 - 1 bytes. After each other error some prefix was taken.
     fn deserialize<S: ByteSource>(alloc: Global, source: &mut S) -> Result<Self, ReadError>
-        ensures { ReadsAs S.tells S.left S.faults source.old source.new view result spells is_fault };
+        ensures { ReadsAs S.is_known S.left S.failures source.old source.new view result encodes has_error };
 }
 
 impl BinarySerializable for VInt {
@@ -66,16 +66,16 @@ impl BinarySerializable for VInt {
 
     ghost shortest = { vnum };
 
-    ghost spells = { VNum };
+    ghost encodes = { VNum };
 
-    ghost is_fault = { NumberFault };
+    ghost has_error = { ErrorInNumber };
 
     fn serialize<K: ByteSink>(&self, sink: &mut K) -> Result<(), io::ErrorKind> {
         write_vint(sink, self.0)
     }
 
     fn deserialize<S: ByteSource>(alloc: Global, source: &mut S) -> Result<VInt, ReadError>
-        ensures reads { ReadsAs S.tells S.left S.faults source.old source.new (λ x. x.0) result VNum NumberFault }
+        ensures reads { ReadsAs S.is_known S.left S.failures source.old source.new (λ x. x.0) result VNum ErrorInNumber }
         ensures spares { ¬ IsErrOf result Memory }
     {
         let mut count = 0;
@@ -84,7 +84,7 @@ impl BinarySerializable for VInt {
 }
 
 fn take_wrapped<S: ByteSource>(source: &mut S, count: &mut u64) -> Result<VInt, ReadError>
-    ensures takes { TakesBy S.tells S.left S.faults source.old count.old source.new count.new (λ x. x.0) result vint_at }
+    ensures takes { TakesBy S.is_known S.left S.failures source.old count.old source.new count.new (λ x. x.0) result vint_at }
     ensures too_long { IsErrOf result (Corrupted TooLong) → count.new ≡ 2 ^ 64 - 1 }
     ensures spares { ¬ IsErrOf result Memory }
 {
@@ -98,16 +98,16 @@ impl BinarySerializable for u8 {
 
     ghost shortest = { one_byte };
 
-    ghost spells = { Fixed 1 };
+    ghost encodes = { Fixed 1 };
 
-    ghost is_fault = { BytesFault 1 };
+    ghost has_error = { ErrorInBytes 1 };
 
     fn serialize<K: ByteSink>(&self, sink: &mut K) -> Result<(), io::ErrorKind> {
         write_u8(sink, *self)
     }
 
     fn deserialize<S: ByteSource>(alloc: Global, source: &mut S) -> Result<u8, ReadError>
-        ensures reads { ReadsAs S.tells S.left S.faults source.old source.new (λ n. n) result (Fixed 1) (BytesFault 1) }
+        ensures reads { ReadsAs S.is_known S.left S.failures source.old source.new (λ n. n) result (Fixed 1) (ErrorInBytes 1) }
         ensures spares { ¬ IsErrOf result Memory }
     {
         let mut count = 0;
@@ -122,16 +122,16 @@ impl BinarySerializable for u32 {
 
     ghost shortest = { four_bytes };
 
-    ghost spells = { Fixed 4 };
+    ghost encodes = { Fixed 4 };
 
-    ghost is_fault = { BytesFault 4 };
+    ghost has_error = { ErrorInBytes 4 };
 
     fn serialize<K: ByteSink>(&self, sink: &mut K) -> Result<(), io::ErrorKind> {
         write_u32(sink, *self)
     }
 
     fn deserialize<S: ByteSource>(alloc: Global, source: &mut S) -> Result<u32, ReadError>
-        ensures reads { ReadsAs S.tells S.left S.faults source.old source.new (λ n. n) result (Fixed 4) (BytesFault 4) }
+        ensures reads { ReadsAs S.is_known S.left S.failures source.old source.new (λ n. n) result (Fixed 4) (ErrorInBytes 4) }
         ensures spares { ¬ IsErrOf result Memory }
     {
         let mut count = 0;
@@ -146,16 +146,16 @@ impl BinarySerializable for u64 {
 
     ghost shortest = { eight_bytes };
 
-    ghost spells = { Fixed 8 };
+    ghost encodes = { Fixed 8 };
 
-    ghost is_fault = { BytesFault 8 };
+    ghost has_error = { ErrorInBytes 8 };
 
     fn serialize<K: ByteSink>(&self, sink: &mut K) -> Result<(), io::ErrorKind> {
         write_u64(sink, *self)
     }
 
     fn deserialize<S: ByteSource>(alloc: Global, source: &mut S) -> Result<u64, ReadError>
-        ensures reads { ReadsAs S.tells S.left S.faults source.old source.new (λ n. n) result (Fixed 8) (BytesFault 8) }
+        ensures reads { ReadsAs S.is_known S.left S.failures source.old source.new (λ n. n) result (Fixed 8) (ErrorInBytes 8) }
         ensures spares { ¬ IsErrOf result Memory }
     {
         let mut count = 0;
@@ -170,9 +170,9 @@ impl BinarySerializable for String {
 
     ghost shortest = { short_sized };
 
-    ghost spells = { Text };
+    ghost encodes = { Text };
 
-    ghost is_fault = { TextFault };
+    ghost has_error = { ErrorInText };
 
     fn serialize<K: ByteSink>(&self, sink: &mut K) -> Result<(), io::ErrorKind> {
         write_text(sink, self.as_str())
@@ -191,16 +191,16 @@ impl BinarySerializable for u128 {
 
     ghost shortest = { sixteen_bytes };
 
-    ghost spells = { Fixed 16 };
+    ghost encodes = { Fixed 16 };
 
-    ghost is_fault = { BytesFault 16 };
+    ghost has_error = { ErrorInBytes 16 };
 
     fn serialize<K: ByteSink>(&self, sink: &mut K) -> Result<(), io::ErrorKind> {
         write_u128(sink, *self)
     }
 
     fn deserialize<S: ByteSource>(alloc: Global, source: &mut S) -> Result<u128, ReadError>
-        ensures reads { ReadsAs S.tells S.left S.faults source.old source.new (λ n. n) result (Fixed 16) (BytesFault 16) }
+        ensures reads { ReadsAs S.is_known S.left S.failures source.old source.new (λ n. n) result (Fixed 16) (ErrorInBytes 16) }
         ensures spares { ¬ IsErrOf result Memory }
     {
         let mut count = 0;
@@ -215,16 +215,16 @@ impl BinarySerializable for i64 {
 
     ghost shortest = { signed_bytes };
 
-    ghost spells = { Signed };
+    ghost encodes = { Signed };
 
-    ghost is_fault = { BytesFault 8 };
+    ghost has_error = { ErrorInBytes 8 };
 
     fn serialize<K: ByteSink>(&self, sink: &mut K) -> Result<(), io::ErrorKind> {
         write_i64(sink, *self)
     }
 
     fn deserialize<S: ByteSource>(alloc: Global, source: &mut S) -> Result<i64, ReadError>
-        ensures reads { ReadsAs S.tells S.left S.faults source.old source.new (λ n. n) result Signed (BytesFault 8) }
+        ensures reads { ReadsAs S.is_known S.left S.failures source.old source.new (λ n. n) result Signed (ErrorInBytes 8) }
         ensures spares { ¬ IsErrOf result Memory }
     {
         let mut count = 0;
@@ -239,16 +239,16 @@ impl BinarySerializable for bool {
 
     ghost shortest = { truth_byte };
 
-    ghost spells = { Truth };
+    ghost encodes = { Truth };
 
-    ghost is_fault = { TruthFault };
+    ghost has_error = { ErrorInTruth };
 
     fn serialize<K: ByteSink>(&self, sink: &mut K) -> Result<(), io::ErrorKind> {
         write_bool(sink, *self)
     }
 
     fn deserialize<S: ByteSource>(alloc: Global, source: &mut S) -> Result<bool, ReadError>
-        ensures reads { ReadsAs S.tells S.left S.faults source.old source.new (λ truth. truth) result Truth TruthFault }
+        ensures reads { ReadsAs S.is_known S.left S.failures source.old source.new (λ truth. truth) result Truth ErrorInTruth }
         ensures spares { ¬ IsErrOf result Memory }
     {
         let mut count = 0;
@@ -263,9 +263,9 @@ impl BinarySerializable for Vec<u8> {
 
     ghost shortest = { short_sized };
 
-    ghost spells = { Sized };
+    ghost encodes = { Sized };
 
-    ghost is_fault = { SizedFault };
+    ghost has_error = { ErrorInSized };
 
     fn serialize<K: ByteSink>(&self, sink: &mut K) -> Result<(), io::ErrorKind> {
         write_sized(sink, self.as_slice())
@@ -284,9 +284,9 @@ impl BinarySerializable for Facet {
 
     ghost shortest = { short_sized };
 
-    ghost spells = { Text };
+    ghost encodes = { Text };
 
-    ghost is_fault = { TextFault };
+    ghost has_error = { ErrorInText };
 
     fn serialize<K: ByteSink>(&self, sink: &mut K) -> Result<(), io::ErrorKind> {
         write_text(sink, self.encoded_str())

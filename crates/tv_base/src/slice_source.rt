@@ -31,11 +31,11 @@ impl<'a> SliceSource<'a> {
 }
 
 impl<'a> ByteSource for SliceSource<'a> {
-    ghost tells = { λ _. Unit {0} };
+    ghost is_known = { λ _. Unit {0} };
 
     ghost left = { λ s. s.rest.now };
 
-    ghost faults = { λ _. record { number = 0; last = None } };
+    ghost failures = { λ _. record { number = 0; last = None } };
 
     fn read(&mut self, buf: &mut [u8]) -> Result<usize, io::ErrorKind> {
         let count = self.rest.len().min(buf.len());
@@ -61,7 +61,7 @@ impl<'a> ByteSource for SliceSource<'a> {
         Ok(moved)
     }
 
-    fn at_hand(&self) -> &[u8] {
+    fn buffered(&self) -> &[u8] {
         self.rest
     }
 

@@ -2,7 +2,7 @@
 
 ghost use Rattle.std.specs.Prelude.{◌≡◌, [], ◌++◌, length, IfOk, IfErr, OnOk, OnErr, None};
 ghost use Rattle.std.specs.declared.io.ErrorKind.TheVariants.{OutOfMemory};
-ghost use Rattle.tv_base.specs.Source.{CountsFault};
+ghost use Rattle.tv_base.specs.Source.{CountsFailure};
 ghost use Rattle.tv_base.specs.Sink.{AppendsSome};
 
 use crate::sink::ByteSink;
@@ -23,11 +23,11 @@ fn append(bytes: &mut Vec<u8>, buf: &[u8]) -> Result<(), AllocError>
     bytes.extend_from_slice(buf)
 }
 
-/// Keeps the bytes that are written, in memory. A refused growth is a fault of kind `OutOfMemory`.
+/// Keeps the bytes that are written, in memory. A refused growth is a failure of kind `OutOfMemory`.
 #[derive(Drop)]
 pub struct VecSink {
     bytes: Vec<u8>,
-    faults: u64,
+    failures: u64,
     last: Option<io::ErrorKind>,
 }
 
@@ -35,11 +35,11 @@ impl VecSink {
     /// A sink that holds no byte. It takes no memory yet.
     pub fn new(alloc: Global) -> VecSink
         ensures bytes { ⟦<VecSink as ByteSink>⟧.held result ≡ [] }
-        ensures faults { ⟦<VecSink as ByteSink>⟧.faults result ≡ record { number = 0; last = None } }
+        ensures failures { ⟦<VecSink as ByteSink>⟧.failures result ≡ record { number = 0; last = None } }
     {
         VecSink {
             bytes: Vec::new(alloc),
-            faults: 0,
+            failures: 0,
             last: None,
         }
     }
@@ -51,10 +51,10 @@ impl VecSink {
         self.bytes.as_slice()
     }
 
-    /// Forgets the bytes that the sink holds, and keeps their memory for those to come. The faults that were counted stay.
+    /// Forgets the bytes that the sink holds, and keeps their memory for those to come. The failures that were counted stay.
     pub fn clear(&mut self)
         ensures bytes { ⟦<VecSink as ByteSink>⟧.held self.new ≡ [] }
-        ensures faults { ⟦<VecSink as ByteSink>⟧.faults self.new ≡ ⟦<VecSink as ByteSink>⟧.faults self.old }
+        ensures failures { ⟦<VecSink as ByteSink>⟧.failures self.new ≡ ⟦<VecSink as ByteSink>⟧.failures self.old }
     {
         self.bytes.clear();
     }
@@ -65,7 +65,7 @@ impl VecSink {
     {
         let VecSink {
             bytes,
-            faults: _,
+            failures: _,
             last: _,
         } = self;
         bytes
@@ -73,23 +73,23 @@ impl VecSink {
 }
 
 impl ByteSink for VecSink {
-    ghost tells = { λ _. Unit {0} };
+    ghost is_known = { λ _. Unit {0} };
 
     ghost held = { λ s. s.bytes.items };
 
-    ghost faults = { λ s. record { number = s.faults; last = s.last } };
+    ghost failures = { λ s. record { number = s.failures; last = s.last } };
 
     /// Appends all of `buf`. Errors: `OutOfMemory` where memory is refused, and then none of it is appended.
     fn write(&mut self, buf: &[u8]) -> Result<usize, io::ErrorKind>
         ensures bytes { AppendsSome (⟦<VecSink as ByteSink>⟧.held self.old) (⟦<VecSink as ByteSink>⟧.held self.new) result buf.now }
         ensures all { IfOk result (λ n. n ≡ length buf.now) }
-        ensures faults { CountsFault result (⟦<VecSink as ByteSink>⟧.faults self.old) (⟦<VecSink as ByteSink>⟧.faults self.new) }
+        ensures failures { CountsFailure result (⟦<VecSink as ByteSink>⟧.failures self.old) (⟦<VecSink as ByteSink>⟧.failures self.new) }
         ensures kind { IfErr result (λ kind. kind ≡ OutOfMemory) }
     {
         match append(&mut self.bytes, buf) {
             Ok(()) => Ok(buf.len()),
             Err(_) => {
-                self.faults = self.faults.saturating_add(1);
+                self.failures = self.failures.saturating_add(1);
                 self.last = Some(io::ErrorKind::OutOfMemory);
                 Err(io::ErrorKind::OutOfMemory)
             }

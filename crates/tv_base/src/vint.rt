@@ -3,19 +3,19 @@
 ghost use Rattle.std.specs.Prelude.{◌≡◌, ℕ, ◌≤◌, List, ◌++◌, length, take, Some, IfSome, IfNone};
 ghost use Rattle.tv_base.specs.declared.cause.Cause.{Cause};
 ghost use Rattle.tv_base.specs.Number.{VNum, vnum};
-ghost use Rattle.tv_base.specs.PartFault.{NumberFault};
+ghost use Rattle.tv_base.specs.ErrorInPart.{ErrorInNumber};
 
 use crate::slice_source::SliceSource;
 use crate::take::take_vint;
 
-/// A number that is spelled in base 128, in one to ten bytes: the lowest seven bits first, the high bit of the last byte set.
+/// A number that is encoded in base 128, in one to ten bytes: the lowest seven bits first, the high bit of the last byte set.
 #[derive(Clone, Copy, Debug, PartialEq, Eq)]
 pub struct VInt(pub u64);
 
 impl VInt {
-    /// The shortest spelling: so many bytes at the front of the array. What stands behind them is open.
+    /// The shortest encoding: so many bytes at the start of the array. What stands behind them is open.
     #[inline]
-    pub fn spelling(self) -> ([u8; 10], usize)
+    pub fn encoding(self) -> ([u8; 10], usize)
         ensures len { result.1 ≤ 10 }
         ensures bytes { take result.1 result.0 ≡ vnum self.0 }
     {
@@ -24,11 +24,11 @@ impl VInt {
             bytes[0] = self.0 as u8 + 128;
             return (bytes, 1);
         }
-        self.long_spelling()
+        self.long_encoding()
     }
 
     // The same, group by group.
-    fn long_spelling(self) -> ([u8; 10], usize)
+    fn long_encoding(self) -> ([u8; 10], usize)
         ensures len { result.1 ≤ 10 }
         ensures bytes { take result.1 result.0 ≡ vnum self.0 }
     {
@@ -46,12 +46,12 @@ impl VInt {
         (bytes, 10)
     }
 
-    /// The number that is spelled at the front of the bytes, padded or not, and the length of its spelling in bytes. `None`
+    /// The number that is encoded at the start of the bytes, padded or not, and the length of its encoding in bytes. `None`
     /// where the bytes end inside a number, or where the number is 2^64 or more or has more than ten bytes.
     pub fn from_slice(bytes: &[u8]) -> Option<(u64, usize)>
         ensures found { IfSome result (λ x. (x.1 ≤ length bytes.now) × VNum (take x.1 bytes.now) x.0) }
-        ensures only { (n : ℕ) (front rest : List ℕ) → bytes.now ≡ front ++ rest → VNum front n → result ≡ Some (n, length front) }
-        ensures none { IfNone result ((cause : Cause) × NumberFault bytes.now cause) }
+        ensures only { (n : ℕ) (prefix rest : List ℕ) → bytes.now ≡ prefix ++ rest → VNum prefix n → result ≡ Some (n, length prefix) }
+        ensures none { IfNone result ((cause : Cause) × ErrorInNumber bytes.now cause) }
     {
         let mut source = SliceSource::new(bytes);
         let mut count = 0;

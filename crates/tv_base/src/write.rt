@@ -15,7 +15,7 @@ use std::io;
 /// Writes all of the bytes, in as many writes as it takes.
 #[inline]
 pub fn write_all<K: ByteSink>(sink: &mut K, bytes: &[u8]) -> Result<(), io::ErrorKind>
-    ensures { Writes K.tells K.held K.faults sink.old sink.new result bytes.now }
+    ensures { Writes K.is_known K.held K.failures sink.old sink.new result bytes.now }
 {
     let mut rest = bytes;
     while !rest.is_empty() {
@@ -29,7 +29,7 @@ pub fn write_all<K: ByteSink>(sink: &mut K, bytes: &[u8]) -> Result<(), io::Erro
 #[inline]
 #[tactic(auto, unfolding(crate::specs::Number::one_byte))]
 pub fn write_u8<K: ByteSink>(sink: &mut K, number: u8) -> Result<(), io::ErrorKind>
-    ensures { Writes K.tells K.held K.faults sink.old sink.new result (one_byte number) }
+    ensures { Writes K.is_known K.held K.failures sink.old sink.new result (one_byte number) }
 {
     write_all(sink, &[number])
 }
@@ -38,7 +38,7 @@ pub fn write_u8<K: ByteSink>(sink: &mut K, number: u8) -> Result<(), io::ErrorKi
 #[inline]
 #[tactic(auto, using(crate::proofs::Widths::four_bytes_is))]
 pub fn write_u32<K: ByteSink>(sink: &mut K, number: u32) -> Result<(), io::ErrorKind>
-    ensures { Writes K.tells K.held K.faults sink.old sink.new result (four_bytes number) }
+    ensures { Writes K.is_known K.held K.failures sink.old sink.new result (four_bytes number) }
 {
     let four = number.to_le_bytes();
     write_all(sink, &four)
@@ -48,7 +48,7 @@ pub fn write_u32<K: ByteSink>(sink: &mut K, number: u32) -> Result<(), io::Error
 #[inline]
 #[tactic(auto, using(crate::proofs::Widths::eight_bytes_is))]
 pub fn write_u64<K: ByteSink>(sink: &mut K, number: u64) -> Result<(), io::ErrorKind>
-    ensures { Writes K.tells K.held K.faults sink.old sink.new result (eight_bytes number) }
+    ensures { Writes K.is_known K.held K.failures sink.old sink.new result (eight_bytes number) }
 {
     let eight = number.to_le_bytes();
     write_all(sink, &eight)
@@ -58,7 +58,7 @@ pub fn write_u64<K: ByteSink>(sink: &mut K, number: u64) -> Result<(), io::Error
 #[inline]
 #[tactic(auto, using(crate::proofs::Widths::sixteen_bytes_is))]
 pub fn write_u128<K: ByteSink>(sink: &mut K, number: u128) -> Result<(), io::ErrorKind>
-    ensures { Writes K.tells K.held K.faults sink.old sink.new result (sixteen_bytes number) }
+    ensures { Writes K.is_known K.held K.failures sink.old sink.new result (sixteen_bytes number) }
 {
     let sixteen = number.to_le_bytes();
     write_all(sink, &sixteen)
@@ -67,7 +67,7 @@ pub fn write_u128<K: ByteSink>(sink: &mut K, number: u128) -> Result<(), io::Err
 /// Writes a signed number in eight bytes, the lowest first, in two's complement.
 #[inline]
 pub fn write_i64<K: ByteSink>(sink: &mut K, number: i64) -> Result<(), io::ErrorKind>
-    ensures { Writes K.tells K.held K.faults sink.old sink.new result (signed_bytes number) }
+    ensures { Writes K.is_known K.held K.failures sink.old sink.new result (signed_bytes number) }
 {
     write_u64(sink, number.cast_unsigned())
 }
@@ -76,7 +76,7 @@ pub fn write_i64<K: ByteSink>(sink: &mut K, number: i64) -> Result<(), io::Error
 #[inline]
 #[tactic(auto, unfolding(crate::specs::Number::one_byte))]
 pub fn write_bool<K: ByteSink>(sink: &mut K, truth: bool) -> Result<(), io::ErrorKind>
-    ensures { Writes K.tells K.held K.faults sink.old sink.new result (truth_byte truth) }
+    ensures { Writes K.is_known K.held K.failures sink.old sink.new result (truth_byte truth) }
 {
     if truth {
         write_u8(sink, 1)
@@ -85,20 +85,20 @@ pub fn write_bool<K: ByteSink>(sink: &mut K, truth: bool) -> Result<(), io::Erro
     }
 }
 
-/// Writes the shortest spelling of a number.
+/// Writes the shortest encoding of a number.
 #[inline]
 pub fn write_vint<K: ByteSink>(sink: &mut K, number: u64) -> Result<(), io::ErrorKind>
-    ensures { Writes K.tells K.held K.faults sink.old sink.new result (vnum number) }
+    ensures { Writes K.is_known K.held K.failures sink.old sink.new result (vnum number) }
 {
-    let (bytes, len) = VInt(number).spelling();
+    let (bytes, len) = VInt(number).encoding();
     write_all(sink, &bytes[..len])
 }
 
 /// Writes bytes behind their length.
 #[inline]
-#[tactic(auto, using(crate::proofs::Written::Writes_then, crate::proofs::Written::Writes_front))]
+#[tactic(auto, using(crate::proofs::Written::Writes_then, crate::proofs::Written::Writes_prefix))]
 pub fn write_sized<K: ByteSink>(sink: &mut K, content: &[u8]) -> Result<(), io::ErrorKind>
-    ensures { Writes K.tells K.held K.faults sink.old sink.new result (short_sized content.now) }
+    ensures { Writes K.is_known K.held K.failures sink.old sink.new result (short_sized content.now) }
 {
     write_vint(sink, content.len() as u64)?;
     write_all(sink, content)
@@ -107,7 +107,7 @@ pub fn write_sized<K: ByteSink>(sink: &mut K, content: &[u8]) -> Result<(), io::
 /// Writes a text behind its length in bytes.
 #[inline]
 pub fn write_text<K: ByteSink>(sink: &mut K, text: &str) -> Result<(), io::ErrorKind>
-    ensures { Writes K.tells K.held K.faults sink.old sink.new result (short_sized text.now) }
+    ensures { Writes K.is_known K.held K.failures sink.old sink.new result (short_sized text.now) }
 {
     write_sized(sink, text.as_bytes())
 }

@@ -17,13 +17,13 @@ abbrev pub put_before : List Entry → Members → Members
 put_before [] rest = rest
 put_before (m ∷ ms) rest = member m.0.now (data_of m.1) (put_before ms rest)
 
-pub put_before-append : (front back : List Entry) → members_data (front ++ back) ≡ put_before front (members_data back)
+pub put_before-append : (prefix back : List Entry) → members_data (prefix ++ back) ≡ put_before prefix (members_data back)
 put_before-append [] back = refl
-put_before-append (m ∷ front) back = ap (member m.0.now (data_of m.1)) (put_before-append front back)
+put_before-append (m ∷ prefix) back = ap (member m.0.now (data_of m.1)) (put_before-append prefix back)
 
-put_before-last : (front : List Entry) (m : Entry) (rest : Members) → put_before (front ++ m ∷ []) rest ≡ put_before front (member m.0.now (data_of m.1) rest)
+put_before-last : (prefix : List Entry) (m : Entry) (rest : Members) → put_before (prefix ++ m ∷ []) rest ≡ put_before prefix (member m.0.now (data_of m.1) rest)
 put_before-last [] m rest = refl
-put_before-last (e ∷ front) m rest = ap (member e.0.now (data_of e.1)) (put_before-last front m rest)
+put_before-last (e ∷ prefix) m rest = ap (member e.0.now (data_of e.1)) (put_before-last prefix m rest)
 
 split_at : (i : ℕ) (ms : List Entry) → members_data ms ≡ put_before (take i ms) (members_data (drop i ms))
 split_at i ms = ap members_data (sym (take-append-drop i ms)) ∙ put_before-append (take i ms) (drop i ms)

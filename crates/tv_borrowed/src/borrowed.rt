@@ -1,7 +1,7 @@
 //! JSON values that borrow their texts.
 
 /// A JSON value without floats whose texts and keys stand in the text that it was read from, or in the scratch memory of its reading
-/// where an escape had to be replaced. (Own.)
+/// where an escape had to be replaced. (Not in tantivy.)
 #[derive(Drop)]
 pub enum BorrowedJson<'a> {
     /// `null`.

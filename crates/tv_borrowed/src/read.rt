@@ -18,7 +18,7 @@ const MAX_DEPTH: usize = 127;
 // An object with more members isn't read: each is put in its place among those before it.
 const MAX_MEMBERS: usize = 128;
 
-/// Reads the JSON value that the text is, without copying its texts. (Own.) The scratch is used for texts with escapes.
+/// Reads the JSON value that the text is, without copying its texts. (Not in tantivy.) The scratch is used for texts with escapes.
 ///
 /// `None` where the text is no JSON, and where a number in it isn't whole or doesn't fit 64 bits, an object has more than 128 members,
 /// arrays and objects nest deeper than 127, or memory is refused: what isn't read here may still be JSON.

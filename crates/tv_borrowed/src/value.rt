@@ -14,7 +14,7 @@ use std::alloc::Global;
 use std::cmp::Ordering;
 
 impl BorrowedJson<'_> {
-    /// The JSON library's value that is the same, with copies of its texts. (Own.) `None` where memory is refused; and of what wasn't read from a
+    /// The JSON library's value that is the same, with copies of its texts. (Not in tantivy.) `None` where memory is refused; and of what wasn't read from a
     /// text, where the keys of an object don't rise or a negative number isn't negative.
     #[cycle(copies)]
     pub fn to_value(&self, alloc: Global) -> Option<Value>

@@ -1,7 +1,7 @@
 -- What the calls leave.
 use Rattle.std.proofs.Common.{◌≡◌, ℕ, ◌+◌, ◌-◌, ◌^◌, ◌<◌, ◌≤◌, Bool, true, false, List, ◌++◌, length, Option, Some, None, Result, Ok, Err, OnOk, IfErr, SomeIff, sym, ◌∙◌, ap, subst, length-append, arith, inl, inr}
 use Rattle.std.proofs.lemmas.Bool.{cases_lt}
-use Rattle.tv_base.specs.Sink.{IsFront}
+use Rattle.tv_base.specs.Sink.{IsPrefix}
 use Rattle.tv_value.specs.Tree.{Tree}
 use Rattle.tv_heap.specs.Weight.{tree_weight}
 use Rattle.tv_heap.specs.TypeCode.{type_code}
@@ -17,11 +17,11 @@ use Rattle.tv_builder.specs.Given.{given}
 use Rattle.tv_builder.specs.Moves.{given_to, Gives, GivesNot, Moves, HasNoRoom, Does, FitsRoom, value_heap, ValueHeap, ValueFull}
 use Rattle.tv_builder.specs.TreeBytes.{tree_heap, tree_place}
 use Rattle.tv_builder.specs.Whole.{Put, PutNot, WhyNoTree}
-use Rattle.tv_builder.proofs.Putting.{tree_front}
+use Rattle.tv_builder.proofs.Putting.{tree_prefix}
 use Rattle.tv_heap.proofs.Writes.{longer}
 use Rattle.tv_builder.specs.Shows.{Placed, ShowsLists, ShowsAt, Shows, frames_of, awaited_by}
 use Rattle.tv_builder.specs.State.{OpenList, State, complete, in_lists, in_bytes, with_value, and_value, AreLists, AllAwait, lists_written, written}
-use Rattle.tv_builder.proofs.Giving.{front_then, front_length, given_front, lists_grown, given_shows, value_is}
+use Rattle.tv_builder.proofs.Giving.{prefix_then, prefix_length, given_prefix, lists_grown, given_shows, value_is}
 use Rattle.tv_builder.proofs.NoRoom.{lists_as, value_no_room, value_over}
 use Rattle.tv_builder.proofs.Sound.{awaited_same, value_none, all_await}
 
@@ -49,14 +49,14 @@ handed mid new p t ls are await h placed closed g =
       omega (arith, k.within, ap length g.heap),
     )
 
-pub given_grows : (mid new : Building) (p : Place) → Gives mid p new → IsFront mid.heap.items new.heap.items
-given_grows mid new p g = let f = given_front (frames_of mid) mid.heap.items mid.places.items p in (f.0, g.heap ∙ f.1)
+pub given_grows : (mid new : Building) (p : Place) → Gives mid p new → IsPrefix mid.heap.items new.heap.items
+given_grows mid new p g = let f = given_prefix (frames_of mid) mid.heap.items mid.places.items p in (f.0, g.heap ∙ f.1)
 
 -- what stood before stands for lists, which await a value
 pub value_moves : (old mid new : Building) (p : Place) (t : Tree) (more : List ℕ) → awaited_by old ≡ awaits.Value → mid.heap.items ≡ old.heap.items ++ more → length more ≤ tree_weight t → frames_of mid ≡ frames_of old
     → mid.places.items ≡ old.places.items → mid.open ≡ old.open → Placed mid.heap.items p t → Gives mid p new → Moves old new (λ s. and_value s t)
 value_moves old mid new p t more await grows small frames places bytes placed g = record {
-  grows = front_then old.heap.items mid.heap.items new.heap.items (more, grows) (given_grows mid new p g);
+  grows = prefix_then old.heap.items mid.heap.items new.heap.items (more, grows) (given_grows mid new p g);
   shows = λ s h. (next s h).0;
   within = λ s h. (next s h).1;
 }
@@ -73,15 +73,15 @@ value_moves old mid new p t more await grows small frames places bytes placed g 
 
 -- what handing it over answers
 pub does_give : (old mid new : Building) (p : Place) (in_place full : Type 0) (heaps : List ℕ → Type 0) (after : State → State) (r : Result (Unit {0}) BuildError) → in_place
-    → (Gives mid p new → heaps new.heap.items) → (4294967295 < length (given_to mid p).heap → full) → (4294967295 < length (given_to mid p).heap → HasNoRoom old after) → IsFront old.heap.items mid.heap.items → (Gives mid p new → Moves old new after)
+    → (Gives mid p new → heaps new.heap.items) → (4294967295 < length (given_to mid p).heap → full) → (4294967295 < length (given_to mid p).heap → HasNoRoom old after) → IsPrefix old.heap.items mid.heap.items → (Gives mid p new → Moves old new after)
     → OnOk r (Gives mid p new) → IfErr r (λ e. GivesNot mid p new e) → Does old new in_place heaps full after r
-does_give old mid new p in_place full heaps after (Ok x) here is over no_room front moves ok err = (here, is ok, moves ok)
-does_give old mid new p in_place full heaps after (Err HeapFull) here is over no_room front moves ok err = (here, over err.why, front_then old.heap.items mid.heap.items new.heap.items front err.front, no_room err.why)
-does_give old mid new p in_place full heaps after (Err Memory) here is over no_room front moves ok err = (here, front_then old.heap.items mid.heap.items new.heap.items front err.front)
-does_give old mid new p in_place full heaps after (Err AlreadyFailed) here is over no_room front moves ok err = absurd err.why
-does_give old mid new p in_place full heaps after (Err OutOfPlace) here is over no_room front moves ok err = absurd err.why
-does_give old mid new p in_place full heaps after (Err (FieldNumber n)) here is over no_room front moves ok err = absurd err.why
-does_give old mid new p in_place full heaps after (Err NotUtf8) here is over no_room front moves ok err = absurd err.why
+does_give old mid new p in_place full heaps after (Ok x) here is over no_room prefix moves ok err = (here, is ok, moves ok)
+does_give old mid new p in_place full heaps after (Err HeapFull) here is over no_room prefix moves ok err = (here, over err.why, prefix_then old.heap.items mid.heap.items new.heap.items prefix err.prefix, no_room err.why)
+does_give old mid new p in_place full heaps after (Err Memory) here is over no_room prefix moves ok err = (here, prefix_then old.heap.items mid.heap.items new.heap.items prefix err.prefix)
+does_give old mid new p in_place full heaps after (Err AlreadyFailed) here is over no_room prefix moves ok err = absurd err.why
+does_give old mid new p in_place full heaps after (Err OutOfPlace) here is over no_room prefix moves ok err = absurd err.why
+does_give old mid new p in_place full heaps after (Err (FieldNumber n)) here is over no_room prefix moves ok err = absurd err.why
+does_give old mid new p in_place full heaps after (Err NotUtf8) here is over no_room prefix moves ok err = absurd err.why
 
 -- ---- a whole value
 
@@ -92,7 +92,7 @@ pub does_value : (old mid new : Building) (p : Place) (t : Tree) (r : Result (Un
     → mid.open ≡ old.open → OnOk r (Gives mid p new) → IfErr r (λ e. GivesNot mid p new e) → Does old new (awaited_by old ≡ awaits.Value) (ValueHeap old t) (ValueFull old t) (λ s. and_value s t) r
 does_value old mid new p t r await w frames places bytes ok err =
     let as_given : (given_to mid p).heap ≡ value_heap old t = λ i. (given (w.heap i) (places i) (frames i) (w.place i)).heap in
-    let f = tree_front old.heap.items t in
+    let f = tree_prefix old.heap.items t in
     let grows : mid.heap.items ≡ old.heap.items ++ f.0 = w.heap ∙ f.1 in
     let small : length f.0 ≤ tree_weight t = omega (arith, w.weighed, longer old.heap.items mid.heap.items f.0 grows) in
     does_give old mid new p (awaited_by old ≡ awaits.Value) (ValueFull old t) (ValueHeap old t) (λ s. and_value s t) r await (λ g. g.heap ∙ as_given) (λ h. subst (λ z. 4294967295 < length z) as_given h)
@@ -103,11 +103,11 @@ pub value_not : (old new : Building) (t : Tree) (e : BuildError) → awaited_by 
 value_not old new t e await w = answer e w.why
   where
     more : length (tree_heap old.heap.items t) ≤ length (value_heap old t)
-    more = front_length _ _ (given_front (frames_of old) (tree_heap old.heap.items t) old.places.items (tree_place old.heap.items t))
+    more = prefix_length _ _ (given_prefix (frames_of old) (tree_heap old.heap.items t) old.places.items (tree_place old.heap.items t))
 
     answer : (x : BuildError) → WhyNoTree old.heap.items t x → Does old new (awaited_by old ≡ awaits.Value) (ValueHeap old t) (ValueFull old t) (λ s. and_value s t) (Err x)
-    answer HeapFull h = (await, omega (arith, h.0, more), w.front, value_over old t await h.1)
-    answer Memory h = (await, w.front)
+    answer HeapFull h = (await, omega (arith, h.0, more), w.prefix, value_over old t await h.1)
+    answer Memory h = (await, w.prefix)
     answer AlreadyFailed h = absurd h
     answer OutOfPlace h = absurd h
     answer (FieldNumber n) h = absurd h

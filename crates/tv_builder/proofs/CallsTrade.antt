@@ -60,10 +60,10 @@ heads_trade ls kind n =
 
 pub bytes_trade : (ls : List OpenList) (kind : BytesKind) (n : ℕ) (bs more : List ℕ) → Trades ((lists_parts ls ++ (bytes_head kind n ∷ some_bytes bs ∷ [])) ++ some_bytes more ∷ []) (lists_parts ls ++ (bytes_head kind n ∷ some_bytes (bs ++ more) ∷ []))
 bytes_trade ls kind n bs more =
-    let front = lists_parts ls ++ bytes_head kind n ∷ [] in
-    let before : (lists_parts ls ++ (bytes_head kind n ∷ some_bytes bs ∷ [])) ++ some_bytes more ∷ [] ≡ front ++ (some_bytes bs ∷ some_bytes more ∷ []) =
+    let prefix = lists_parts ls ++ bytes_head kind n ∷ [] in
+    let before : (lists_parts ls ++ (bytes_head kind n ∷ some_bytes bs ∷ [])) ++ some_bytes more ∷ [] ≡ prefix ++ (some_bytes bs ∷ some_bytes more ∷ []) =
     append_assoc (lists_parts ls) (bytes_head kind n ∷ some_bytes bs ∷ []) (some_bytes more ∷ []) ∙ sym (append_assoc (lists_parts ls) (bytes_head kind n ∷ []) (some_bytes bs ∷ some_bytes more ∷ [])) in
-    trades_from _ before (trades_as _ (append_assoc (lists_parts ls) (bytes_head kind n ∷ []) (some_bytes (bs ++ more) ∷ [])) (trades_last front _ _ (more_bytes bs more)))
+    trades_from _ before (trades_as _ (append_assoc (lists_parts ls) (bytes_head kind n ∷ []) (some_bytes (bs ++ more) ∷ [])) (trades_last prefix _ _ (more_bytes bs more)))
 
 pub content_trades : (ls : List OpenList) (kind : BytesKind) (content : List ℕ) → AreLists ls → OthersAwait ls → HeadNext kind ls → Trades (lists_parts ls ++ bytes_part kind content ∷ []) (parts_of (with_content ls kind content))
 content_trades ls kinds.Str content is others next = value_trades ls _ is next

@@ -7,7 +7,7 @@ use Rattle.std.proofs.lemmas.Bool.{cond-true, eq-eqb}
 use mathlib.Core.HLevel.{⊥_prop}
 use Rattle.tv_base.specs.Number.{vnum}
 use Rattle.tv_base.specs.Parts.{short_sized}
-use Rattle.tv_base.specs.Sink.{IsFront}
+use Rattle.tv_base.specs.Sink.{IsPrefix}
 use Rattle.tv_heap.specs.Weight.{tree_weight}
 use Rattle.tv_heap.specs.declared.value_type.ValueType.{ValueType}
 use Rattle.tv_heap.specs.declared.value_type.ValueType.TheVariants as types
@@ -30,7 +30,7 @@ use Rattle.tv_builder.specs.Shows.{Placed, ShowsLists, Shows, Stands, frames_of}
 use Rattle.tv_builder.specs.State.{OpenList, State, complete, in_lists, in_bytes, next_in, next_at, with_value, with_content, and_end, HeadNext, IsKeyNext, AllAwait, state_room, lists_written, written}
 use Rattle.tv_builder.proofs.Calls.{handed, given_grows}
 use Rattle.tv_builder.proofs.NoRoom.{lists_as, given_over}
-use Rattle.tv_builder.proofs.Giving.{front_same}
+use Rattle.tv_builder.proofs.Giving.{prefix_same}
 use Rattle.tv_builder.proofs.Keys.{content_tree, content_placed, key_handed}
 use Rattle.tv_builder.proofs.Sound.{cut_of, fits_of, counted_of}
 
@@ -77,10 +77,10 @@ announced_small b o h e none = ∥∥₁_elim h.1 le_prop (λ s.
 -- the last bytes are those that have come
 last_are : (b : Building) (o : OpenBytes) (s : State) (i : InBytes b o s) → o.missing ≡ 0 → last_bytes o.announced b.heap.items ≡ i.so_far
 last_are b o s i none =
-    let front = i.before ++ vnum o.announced in
-    let whole : b.heap.items ≡ front ++ i.so_far = i.joined ∙ sym (append_assoc i.before (vnum o.announced) i.so_far) in
-    let n : length b.heap.items - o.announced ≡ length front = omega (arith, ap length whole, length-append front i.so_far, i.counted, none) in
-    (λ j. drop (n j) (whole j)) ∙ drop-append_seam front i.so_far
+    let prefix = i.before ++ vnum o.announced in
+    let whole : b.heap.items ≡ prefix ++ i.so_far = i.joined ∙ sym (append_assoc i.before (vnum o.announced) i.so_far) in
+    let n : length b.heap.items - o.announced ≡ length prefix = omega (arith, ap length whole, length-append prefix i.so_far, i.counted, none) in
+    (λ j. drop (n j) (whole j)) ∙ drop-append_seam prefix i.so_far
 
 -- and they stand behind their shortest length
 content_at : (b : Building) (o : OpenBytes) (s : State) (i : InBytes b o s) → o.missing ≡ 0 → IsContent o.kind (last_bytes o.announced b.heap.items)
@@ -144,7 +144,7 @@ lists_let_go old mid ls l h = lists_as mid.heap.items (frames_of old) (frames_of
 value_ends : (old mid new : Building) (o : OpenBytes) → old.open ≡ Some o → o.missing ≡ 0 → IsContent o.kind (last_bytes o.announced old.heap.items) → IsValueKind o.kind → LetGo old mid
     → Gives mid (record { value_type = bytes_type o.kind; address = o.address }) new → Moves old new and_end
 value_ends old mid new o e none is kind l g = record {
-  grows = subst (λ z. IsFront z new.heap.items) l.heap (given_grows mid new _ g);
+  grows = subst (λ z. IsPrefix z new.heap.items) l.heap (given_grows mid new _ g);
   shows = λ s h. (next s h).0;
   within = λ s h. (next s h).1;
 }
@@ -189,13 +189,13 @@ does_end old mid new o r e none is not_key l ok err = answer r ok err
     heap_is : (given_to mid p).heap ≡ end_heap old old.open
     heap_is = (λ i. (given (l.heap i) (l.places i) (l.frames i) p).heap) ∙ sym (content_heap_is o.kind old o.address kind) ∙ ap (λ z. end_heap old z) (sym e)
 
-    front : (x : BuildError) → GivesNot mid p new x → IsFront old.heap.items new.heap.items
-    front x g = subst (λ z. IsFront z new.heap.items) l.heap g.front
+    prefix : (x : BuildError) → GivesNot mid p new x → IsPrefix old.heap.items new.heap.items
+    prefix x g = subst (λ z. IsPrefix z new.heap.items) l.heap g.prefix
 
     answer : (r : Result (Unit {0}) BuildError) → OnOk r (Gives mid p new) → IfErr r (λ x. GivesNot mid p new x) → EndsBytes old new r
     answer (Ok x) ok err = (here, well, ok.heap ∙ heap_is, value_ends old mid new o e none is kind l ok)
-    answer (Err HeapFull) ok err = (here, well, omega (arith, err.why, ap length heap_is), front HeapFull err, value_end_over old mid o e none is kind l err.why)
-    answer (Err Memory) ok err = (here, well, front Memory err)
+    answer (Err HeapFull) ok err = (here, well, omega (arith, err.why, ap length heap_is), prefix HeapFull err, value_end_over old mid o e none is kind l err.why)
+    answer (Err Memory) ok err = (here, well, prefix Memory err)
     answer (Err AlreadyFailed) ok err = absurd err.why
     answer (Err OutOfPlace) ok err = absurd err.why
     answer (Err (FieldNumber n)) ok err = absurd err.why
@@ -220,7 +220,7 @@ key_next (l ∷ ls) h = at_key l.kind (length l.children) h
 key_ends : (old mid new : Building) (o : OpenBytes) → old.open ≡ Some o → o.missing ≡ 0 → IsContent o.kind (last_bytes o.announced old.heap.items) → o.kind ≡ kinds.Key → LetGo old mid
     → GivesKey mid o.address new → Moves old new and_end
 key_ends old mid new o e none is kind l g = record {
-  grows = front_same old.heap.items new.heap.items (g.heap ∙ l.heap);
+  grows = prefix_same old.heap.items new.heap.items (g.heap ∙ l.heap);
   shows = λ s h. (next s h).0;
   within = λ s h. (next s h).1;
 }
@@ -252,7 +252,7 @@ does_end_key old mid new o r e none is kind l ok err = answer r ok err
 
     answer : (r : Result (Unit {0}) BuildError) → OnOk r (GivesKey mid o.address new) → IfErr r (λ x. (x ≡ Memory) × (new.heap.items ≡ mid.heap.items)) → EndsBytes old new r
     answer (Ok x) ok err = (here, well, ok.heap ∙ l.heap ∙ heap_is, key_ends old mid new o e none is kind l ok)
-    answer (Err Memory) ok err = (here, well, front_same old.heap.items new.heap.items (err.1 ∙ l.heap))
+    answer (Err Memory) ok err = (here, well, prefix_same old.heap.items new.heap.items (err.1 ∙ l.heap))
     answer (Err AlreadyFailed) ok err = absurd (let f = err.0 in cc)
     answer (Err OutOfPlace) ok err = absurd (let f = err.0 in cc)
     answer (Err (FieldNumber n)) ok err = absurd (let f = err.0 in cc)

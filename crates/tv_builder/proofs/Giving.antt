@@ -3,7 +3,7 @@ use Rattle.std.proofs.Common.{◌≡◌, ℕ, suc, ◌+◌, ◌<◌, ◌≤◌, 
 use Rattle.std.proofs.lemmas.Bool.{cond-true, cond-false, cases_lt, lt-ltb, le-ltb}
 use Rattle.std.proofs.lemmas.List.{append-nil, take-append-le, drop-append-le}
 use Rattle.tv_base.specs.Parts.{short_sized}
-use Rattle.tv_base.specs.Sink.{IsFront}
+use Rattle.tv_base.specs.Sink.{IsPrefix}
 use Rattle.tv_value.specs.Tree.{Tree, elements}
 use Rattle.tv_heap.specs.Reads.{ReadsElements}
 use Rattle.tv_heap.specs.Weight.{tree_weight}
@@ -21,16 +21,16 @@ use Rattle.tv_builder.specs.State.{OpenList, State, in_lists, with_child, lacks_
 use Rattle.tv_builder.proofs.Children.{child_value, full_list, list_placed, list_within, trees_weight_push}
 use Rattle.tv_builder.proofs.Trading.{trades_as, trades_from, trades_then, trades_last}
 
--- ---- fronts
+-- ---- prefixes
 
-pub front_same : (old new : List ℕ) → new ≡ old → IsFront old new
-front_same old new e = ([], e ∙ sym (append-nil old))
+pub prefix_same : (old new : List ℕ) → new ≡ old → IsPrefix old new
+prefix_same old new e = ([], e ∙ sym (append-nil old))
 
-pub front_then : (old mid new : List ℕ) → IsFront old mid → IsFront mid new → IsFront old new
-front_then old mid new p q = (p.0 ++ q.0, q.1 ∙ ap (λ z. z ++ q.0) p.1 ∙ append_assoc old p.0 q.0)
+pub prefix_then : (old mid new : List ℕ) → IsPrefix old mid → IsPrefix mid new → IsPrefix old new
+prefix_then old mid new p q = (p.0 ++ q.0, q.1 ∙ ap (λ z. z ++ q.0) p.1 ∙ append_assoc old p.0 q.0)
 
-pub front_length : (old new : List ℕ) → IsFront old new → length old ≤ length new
-front_length old new p = omega (arith, ap length p.1, length-append old p.0)
+pub prefix_length : (old new : List ℕ) → IsPrefix old new → length old ≤ length new
+prefix_length old new p = omega (arith, ap length p.1, length-append old p.0)
 
 -- ---- the two cases
 
@@ -58,14 +58,14 @@ tested n m = elim (cases_lt n m) [ inl h ↦ below h (lt-ltb n m h) | inr h ↦ 
 
 -- ---- the heap only grows
 
-pub given_front : (fs : List Frame) (heap places : List ℕ) (p : Place) → IsFront heap (given heap places fs p).heap
-given_front [] heap places p = front_same heap heap refl
-given_front (f ∷ fs) heap places p = elim (tested (suc f.finished) (total f.kind f.announced)) [
-  | below h e ↦ subst (λ (g : Given). IsFront heap g.heap) (sym (given_waits heap places f fs p e)) (front_same heap heap refl)
+pub given_prefix : (fs : List Frame) (heap places : List ℕ) (p : Place) → IsPrefix heap (given heap places fs p).heap
+given_prefix [] heap places p = prefix_same heap heap refl
+given_prefix (f ∷ fs) heap places p = elim (tested (suc f.finished) (total f.kind f.announced)) [
+  | below h e ↦ subst (λ (g : Given). IsPrefix heap g.heap) (sym (given_waits heap places f fs p e)) (prefix_same heap heap refl)
   | not_below h e ↦
       let own = short_sized (drop f.first (places ++ place_bytes p)) in
-      subst (λ (g : Given). IsFront heap g.heap) (sym (given_closes heap places f fs p e))
-      (front_then heap (heap ++ own) _ (own, refl) (given_front fs (heap ++ own) (take f.first places) (record { value_type = list_type f.kind; address = length heap })))
+      subst (λ (g : Given). IsPrefix heap g.heap) (sym (given_closes heap places f fs p e))
+      (prefix_then heap (heap ++ own) _ (own, refl) (given_prefix fs (heap ++ own) (take f.first places) (record { value_type = list_type f.kind; address = length heap })))
 ]
 
 -- ---- the state
@@ -141,7 +141,7 @@ given_shows (f ∷ fs) (l ∷ ls) heap places p t are await h g fits = elim (tes
       let q : Place = record { value_type = list_type f.kind; address = length heap } in
       let ts = l.children ++ t ∷ [] in
       let fits_next : length (given new (take f.first places) fs q).heap ≤ 4294967295 = subst (λ (x : Given). length x.heap ≤ 4294967295) (given_closes heap places f fs p e) fits in
-      let fits_new : length new ≤ 4294967295 = omega (arith, front_length new _ (given_front fs new (take f.first places) q), fits_next) in
+      let fits_new : length new ≤ 4294967295 = omega (arith, prefix_length new _ (given_prefix fs new (take f.first places) q), fits_next) in
       let same_total : total l.kind l.announced ≡ total f.kind f.announced = λ i. total (h.0.same_kind i) (h.0.same_announced i) in
       let all : length ts ≡ total l.kind l.announced = omega (arith, length-append l.children (t ∷ []), are.0.lacks, same_total, le, h.0.counted) in
       let child = child_value l.kind l.children t await.0 are.0.children in

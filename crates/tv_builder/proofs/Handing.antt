@@ -2,7 +2,7 @@
 use Rattle.std.proofs.Common.{◌≡◌, ℕ, suc, ◌+◌, ◌≤◌, true, false, nat_lt, List, [], ◌∷◌, ◌++◌, length, reverse, take, drop, Option, Some, None, refl, sym, ◌∙◌, ap, subst, arith}
 use Rattle.std.proofs.lemmas.List.{reverse-append, take-append-le}
 use Rattle.tv_base.specs.Parts.{short_sized}
-use Rattle.tv_base.specs.Sink.{IsFront}
+use Rattle.tv_base.specs.Sink.{IsPrefix}
 use Rattle.tv_builder.specs.declared.build_error.BuildError.{BuildError}
 use Rattle.tv_builder.specs.declared.build_error.BuildError.TheVariants.{AlreadyFailed, OutOfPlace, FieldNumber, NotUtf8, HeapFull, Memory}
 use Rattle.tv_builder.specs.declared.building.Building.{Building}
@@ -13,7 +13,7 @@ use Rattle.tv_builder.specs.Given.{Given, given, place_bytes, lacks, still_lacks
 use Rattle.tv_builder.specs.Kinds.{list_type, total}
 use Rattle.tv_builder.specs.Moves.{CanGive, given_to, Gives, GivesNot, WhyNot, Closed, ClosedNot}
 use Rattle.tv_builder.specs.Shows.{frames_of}
-use Rattle.tv_builder.proofs.Giving.{front_same, front_then, front_length, given_front, given_waits, given_closes}
+use Rattle.tv_builder.proofs.Giving.{prefix_same, prefix_then, prefix_length, given_prefix, given_waits, given_closes}
 use Rattle.tv_builder.proofs.Sound.{pending_small}
 
 -- some lists are closed, and the last of them comes to the next
@@ -23,11 +23,11 @@ pub record GivesSoFar (old : Building) (p : Place) (heap places : List ℕ) (fra
   pub counted : pending ≡ pending_in (reverse frames)
   pub cut : AreCut (reverse frames) places
   pub none : whole ≡ None
-  pub grows : IsFront old.heap.items heap
+  pub grows : IsPrefix old.heap.items heap
   pub same_bytes : bytes ≡ old.open
 
 pub so_far_start : (old : Building) (p : Place) → CanGive old → GivesSoFar old p old.heap.items old.places.items old.frames.items old.pending old.complete old.open p
-so_far_start old p h = record { same = refl; fits = h.fits; counted = h.counted; cut = h.cut; none = h.none; grows = front_same old.heap.items old.heap.items refl; same_bytes = refl }
+so_far_start old p h = record { same = refl; fits = h.fits; counted = h.counted; cut = h.cut; none = h.none; grows = prefix_same old.heap.items old.heap.items refl; same_bytes = refl }
 
 reverse_last : (rest : List Frame) (f : Frame) → reverse (rest ++ f ∷ []) ≡ f ∷ reverse rest
 reverse_last rest f = reverse-append rest (f ∷ [])
@@ -95,7 +95,7 @@ gives_closes old mid new p heap places frames rest f pending whole bytes q r s i
       counted = let n = i.counted in let m = c.pending in let k : new.pending ≡ pending_in (reverse rest) = omega arith in k ∙ ap pending_in (sym new_frames);
       cut = subst (λ z. AreCut z new.places.items) (sym new_frames) (subst (λ z. AreCut (reverse rest) z) (sym new_places) i.cut);
       none = c.complete ∙ whole_is ∙ s.none;
-      grows = front_then old.heap.items heap new.heap.items s.grows (_, new_heap);
+      grows = prefix_then old.heap.items heap new.heap.items s.grows (_, new_heap);
       same_bytes = c.same_bytes ∙ bytes_is ∙ s.same_bytes;
     }
 
@@ -122,7 +122,7 @@ pub gives_not : (old mid new : Building) (p : Place) (heap places : List ℕ) (f
     → GivesSoFar old p heap places frames pending whole bytes q → frames ≡ rest ++ f ∷ [] → lacks (one_more f) ≡ false → mid.heap.items ≡ heap → mid.places.items ≡ places ++ place_bytes q
     → ClosedNot mid (one_more f) new e → GivesNot old p new e
 gives_not old mid new p heap places frames rest f pending whole bytes q e s is test heap_is places_is c = record {
-  front = front_then old.heap.items heap new.heap.items s.grows (c.front.0, c.front.1 ∙ ap (λ z. z ++ c.front.0) heap_is);
+  prefix = prefix_then old.heap.items heap new.heap.items s.grows (c.prefix.0, c.prefix.1 ∙ ap (λ z. z ++ c.prefix.0) heap_is);
   why = why_not e c.why;
 }
   where
@@ -136,7 +136,7 @@ gives_not old mid new p heap places frames rest f pending whole bytes q e s is t
     longer_is =
         let g = i.same ∙ given_closes heap places f (reverse rest) q (sym (test_same f) ∙ test) in
         subst (λ (z : Given). length written ≤ length z.heap) (sym g)
-        (front_length written _ (given_front (reverse rest) written (take f.first places) (record { value_type = list_type f.kind; address = length heap })))
+        (prefix_length written _ (given_prefix (reverse rest) written (take f.first places) (record { value_type = list_type f.kind; address = length heap })))
 
     written_is : mid.heap.items ++ short_sized (drop f.first mid.places.items) ≡ written
     written_is = λ j. heap_is j ++ short_sized (drop f.first (places_is j))
@@ -152,4 +152,4 @@ gives_not old mid new p heap places frames rest f pending whole bytes q e s is t
 -- memory was refused
 pub gives_none : (old new : Building) (p : Place) (heap places : List ℕ) (frames : List Frame) (pending : ℕ) (whole : Option Place) (bytes : Option OpenBytes) (q : Place)
     → GivesSoFar old p heap places frames pending whole bytes q → new.heap.items ≡ heap → GivesNot old p new Memory
-gives_none old new p heap places frames pending whole bytes q s is = record { front = (s.grows.0, is ∙ s.grows.1); why = tt }
+gives_none old new p heap places frames pending whole bytes q s is = record { prefix = (s.grows.0, is ∙ s.grows.1); why = tt }

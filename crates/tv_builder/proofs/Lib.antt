@@ -10,11 +10,11 @@ pub mod Calling
 pub mod Keys
 pub mod Opening
 pub mod Ending
-pub mod Faulting
+pub mod WithErrors
 pub mod Counts
 pub mod Grammar
 pub mod CallsTrade
 pub mod Paid
 pub mod Weighing
-pub mod Spelling
+pub mod Encoding
 pub mod JsonValues

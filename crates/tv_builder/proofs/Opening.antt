@@ -26,7 +26,7 @@ use Rattle.tv_builder.specs.State.{OpenList, State, complete, in_lists, in_bytes
 use Rattle.tv_builder.proofs.Calls.{does_give, value_moves}
 use Rattle.tv_builder.proofs.NoRoom.{lists_as, value_no_room, value_over, no_room_as, head_over}
 use Rattle.tv_builder.proofs.Children.{list_placed, list_within}
-use Rattle.tv_builder.proofs.Giving.{front_same, front_length, given_front, lists_grown}
+use Rattle.tv_builder.proofs.Giving.{prefix_same, prefix_length, given_prefix, lists_grown}
 use Rattle.tv_builder.proofs.Sound.{awaited_same, all_await, next_key}
 
 moves_as : (old new : Building) (after others : State → State) → ((s : State) → after s ≡ others s) → Moves old new after → Moves old new others
@@ -108,11 +108,11 @@ empty_not old new f n e none first await c =
     same_heap = ap (λ z. old.heap.items ++ short_sized z) (drop_all f.first old.places.items (omega (arith, first)))
 
     more : length (old.heap.items ++ short_sized []) ≤ length (list_heap old f.kind 0)
-    more = front_length _ _ (given_front (frames_of old) (old.heap.items ++ short_sized []) old.places.items (record { value_type = list_type f.kind; address = length old.heap.items }))
+    more = prefix_length _ _ (given_prefix (frames_of old) (old.heap.items ++ short_sized []) old.places.items (record { value_type = list_type f.kind; address = length old.heap.items }))
 
     answer : (x : BuildError) → WhyNot (old.heap.items ++ short_sized (drop f.first old.places.items)) x → Does old new (awaited_by old ≡ awaits.Value) (ListHeap old f.kind 0) (ListFull old f.kind 0) (λ s. and_list s f.kind 0) (Err x)
-    answer HeapFull h = (await, omega (arith, h, ap length same_heap, more), c.front, no_room_as old _ _ (and_empty f.kind) (value_over old (list_tree f.kind []) await (empty_over f.kind (length old.heap.items) (omega (arith, h, ap length same_heap, length-append old.heap.items (short_sized []))))))
-    answer Memory h = (await, c.front)
+    answer HeapFull h = (await, omega (arith, h, ap length same_heap, more), c.prefix, no_room_as old _ _ (and_empty f.kind) (value_over old (list_tree f.kind []) await (empty_over f.kind (length old.heap.items) (omega (arith, h, ap length same_heap, length-append old.heap.items (short_sized []))))))
+    answer Memory h = (await, c.prefix)
     answer AlreadyFailed h = absurd h
     answer OutOfPlace h = absurd h
     answer (FieldNumber m) h = absurd h
@@ -131,7 +131,7 @@ opens_list old new kind n f some is await heap places pending frames whole close
   await,
   heap ∙ sym (cond-false (nat_eq n 0) _ _ test),
   record {
-    grows = front_same old.heap.items new.heap.items heap;
+    grows = prefix_same old.heap.items new.heap.items heap;
     shows = λ s h. (next s h).0;
     within = λ s h. (next s h).1;
   },

@@ -3,7 +3,7 @@ use Rattle.std.proofs.Common.{◌≡◌, ℕ, suc, ◌+◌, ◌*◌, ◌<◌, �
 use Rattle.std.proofs.lemmas.List.{append-nil}
 use Rattle.std.proofs.Math.Seq.{drop-append_seam}
 use Rattle.tv_base.specs.Parts.{short_sized}
-use Rattle.tv_base.specs.Sink.{IsFront}
+use Rattle.tv_base.specs.Sink.{IsPrefix}
 use Rattle.tv_value.specs.Size.{size, elements_size, entries_size}
 use Rattle.tv_value.specs.Tree.{Leaf, text, Tree, leaf, array, object, Elements, no_elements, element, Entries, no_entries, entry, elements, entries}
 use Rattle.tv_heap.specs.LeafBytes.{leaf_bytes}
@@ -27,29 +27,29 @@ use Rattle.tv_builder.specs.State.{pairs_of, list_tree, AreEntries, children_roo
 use Rattle.tv_builder.specs.TreeBytes.{leaf_place, tree_heap, tree_place, elements_heap, elements_places, entries_heap, entries_places}
 use Rattle.tv_builder.specs.Whole.{Put, PutNot, WhyNoTree, ListPut, ListPutNot}
 use Rattle.tv_builder.proofs.Children.{list_placed, list_within, list_room, elements_bytes, elements_room_is, trees_weight_push}
-use Rattle.tv_builder.proofs.Giving.{front_same, front_then, front_length}
+use Rattle.tv_builder.proofs.Giving.{prefix_same, prefix_then, prefix_length}
 use Rattle.tv_builder.proofs.NoRoom.{children_fit, list_over}
 
 -- ---- the heap only grows
 
 mutual
-  pub tree_front : (heap : List ℕ) (t : Tree) → IsFront heap (tree_heap heap t)
-  tree_front heap (leaf l) = (leaf_bytes l, refl)
-  tree_front heap (array ts) = front_then heap (elements_heap heap ts) _ (elements_front heap ts) (short_sized (elements_places heap ts), refl)
-  tree_front heap (object es) = front_then heap (entries_heap heap es) _ (entries_front heap es) (short_sized (entries_places heap es), refl)
+  pub tree_prefix : (heap : List ℕ) (t : Tree) → IsPrefix heap (tree_heap heap t)
+  tree_prefix heap (leaf l) = (leaf_bytes l, refl)
+  tree_prefix heap (array ts) = prefix_then heap (elements_heap heap ts) _ (elements_prefix heap ts) (short_sized (elements_places heap ts), refl)
+  tree_prefix heap (object es) = prefix_then heap (entries_heap heap es) _ (entries_prefix heap es) (short_sized (entries_places heap es), refl)
 
-  elements_front : (heap : List ℕ) (ts : Elements) → IsFront heap (elements_heap heap ts)
-  elements_front heap no_elements = front_same heap heap refl
-  elements_front heap (element t ts) = front_then heap (tree_heap heap t) _ (tree_front heap t) (elements_front (tree_heap heap t) ts)
+  elements_prefix : (heap : List ℕ) (ts : Elements) → IsPrefix heap (elements_heap heap ts)
+  elements_prefix heap no_elements = prefix_same heap heap refl
+  elements_prefix heap (element t ts) = prefix_then heap (tree_heap heap t) _ (tree_prefix heap t) (elements_prefix (tree_heap heap t) ts)
 
-  entries_front : (heap : List ℕ) (es : Entries) → IsFront heap (entries_heap heap es)
-  entries_front heap no_entries = front_same heap heap refl
-  entries_front heap (entry k t es) =
+  entries_prefix : (heap : List ℕ) (es : Entries) → IsPrefix heap (entries_heap heap es)
+  entries_prefix heap no_entries = prefix_same heap heap refl
+  entries_prefix heap (entry k t es) =
       let mid = heap ++ short_sized k in
-      front_then heap mid _ (short_sized k, refl) (front_then mid (tree_heap mid t) _ (tree_front mid t) (entries_front (tree_heap mid t) es))
+      prefix_then heap mid _ (short_sized k, refl) (prefix_then mid (tree_heap mid t) _ (tree_prefix mid t) (entries_prefix (tree_heap mid t) es))
 
-pub put_grows : (old : List ℕ) (t : Tree) (new : List ℕ) (p : Place) → Put old t new p → IsFront old new
-put_grows old t new p w = let f = tree_front old t in (f.0, w.heap ∙ f.1)
+pub put_grows : (old : List ℕ) (t : Tree) (new : List ℕ) (p : Place) → Put old t new p → IsPrefix old new
+put_grows old t new p w = let f = tree_prefix old t in (f.0, w.heap ∙ f.1)
 
 -- ---- a leaf
 
@@ -67,20 +67,20 @@ leaf_put old new l p grows place fits w = record {
 -- the children of a list that are written so far
 pub record Children (old heap list : List ℕ) (done : List Tree) : Type 0 where
   pub fits : length heap ≤ 4294967295
-  pub front : IsFront old heap
+  pub prefix : IsPrefix old heap
   pub weighed : length heap ≤ length old + trees_weight done
   pub reads : ReadsElements heap (length heap) list (elements done)
 
 pub no_children : (heap : List ℕ) → length heap ≤ 4294967295 → Children heap heap [] []
-no_children heap fits = record { fits = fits; front = front_same heap heap refl; weighed = omega arith; reads = refl }
+no_children heap fits = record { fits = fits; prefix = prefix_same heap heap refl; weighed = omega arith; reads = refl }
 
 pub children_push : (old heap list new : List ℕ) (done : List Tree) (t : Tree) (p : Place) → Children old heap list done → Put heap t new p → Children old new (list ++ place_bytes p) (done ++ t ∷ [])
 children_push old heap list new done t p c w =
     let grows = put_grows heap t new p w in
-    let le : length heap ≤ length new = front_length heap new grows in
+    let le : length heap ≤ length new = prefix_length heap new grows in
     record {
       fits = w.fits;
-      front = front_then old heap new c.front grows;
+      prefix = prefix_then old heap new c.prefix grows;
       weighed = omega (arith, c.weighed, w.weighed, trees_weight_push done t);
       reads = elements_push new (length new) list done (type_code p.value_type) p.address t (grown_elements heap new grows.0 (length heap) (length new) list (elements done) grows.1 le c.reads) w.placed.reads w.placed.fits w.placed.below;
     }
@@ -160,12 +160,12 @@ array_room : (all : List Tree) → room (array (elements all)) ≡ 5 + children_
 array_room all = omega (arith, elements_room_is all)
 
 pub array_child_not : (old heap list new : List ℕ) (ts us all : List Tree) (t : Tree) (e : BuildError) → ArrayPut old heap list ts all → ts ≡ t ∷ us → PutNot heap t new e → PutNot old (array (elements all)) new e
-array_child_not old heap list new ts us all t e s is w = record { front = front_then old heap new s.children.front w.front; why = why e w.why }
+array_child_not old heap list new ts us all t e s is w = record { prefix = prefix_then old heap new s.children.prefix w.prefix; why = why e w.why }
   where
     longer_is : length (tree_heap heap t) ≤ length (tree_heap old (array (elements all)))
     longer_is =
         let same : elements_heap old (elements all) ≡ elements_heap (tree_heap heap t) (elements us) = s.heap_is ∙ ap (λ z. elements_heap heap (elements z)) is in
-        omega (arith, front_length (tree_heap heap t) _ (elements_front (tree_heap heap t) (elements us)), ap length same, length-append (elements_heap old (elements all)) (short_sized (elements_places old (elements all))))
+        omega (arith, prefix_length (tree_heap heap t) _ (elements_prefix (tree_heap heap t) (elements us)), ap length same, length-append (elements_heap old (elements all)) (short_sized (elements_places old (elements all))))
 
     all_is : all ≡ s.done ++ t ∷ us
     all_is = sym s.whole ∙ ap (λ z. s.done ++ z) is
@@ -179,7 +179,7 @@ array_child_not old heap list new ts us all t e s is w = record { front = front_
     why NotUtf8 h = absurd h
 
 array_own_not : (old heap list new : List ℕ) (ts all : List Tree) (e : BuildError) → ArrayPut old heap list ts all → ts ≡ [] → ListPutNot heap list new e → PutNot old (array (elements all)) new e
-array_own_not old heap list new ts all e s none w = record { front = front_then old heap new s.children.front w.front; why = why e w.why }
+array_own_not old heap list new ts all e s none w = record { prefix = prefix_then old heap new s.children.prefix w.prefix; why = why e w.why }
   where
     same : tree_heap old (array (elements all)) ≡ heap ++ short_sized list
     same = let a = array_all old heap list ts all s none in λ i. a.1 i ++ short_sized (a.2 i)
@@ -291,12 +291,12 @@ object_put old heap list new es all p s none w =
     }
 
 -- a refusal at a key or at its value
-object_not : (old heap list new : List ℕ) (trees us : List Tree) (all : List (List ℕ × Tree)) (t : Tree) (e : BuildError) → Children old heap list trees → flat all ≡ trees ++ t ∷ us → IsFront (tree_heap heap t) (entries_heap old (entries all))
+object_not : (old heap list new : List ℕ) (trees us : List Tree) (all : List (List ℕ × Tree)) (t : Tree) (e : BuildError) → Children old heap list trees → flat all ≡ trees ++ t ∷ us → IsPrefix (tree_heap heap t) (entries_heap old (entries all))
     → PutNot heap t new e → PutNot old (object (entries all)) new e
-object_not old heap list new trees us all t e c is front w = record { front = front_then old heap new c.front w.front; why = why e w.why }
+object_not old heap list new trees us all t e c is prefix w = record { prefix = prefix_then old heap new c.prefix w.prefix; why = why e w.why }
   where
     longer_is : length (tree_heap heap t) ≤ length (tree_heap old (object (entries all)))
-    longer_is = omega (arith, front_length _ _ front, length-append (entries_heap old (entries all)) (short_sized (entries_places old (entries all))))
+    longer_is = omega (arith, prefix_length _ _ prefix, length-append (entries_heap old (entries all)) (short_sized (entries_places old (entries all))))
 
     why : (x : BuildError) → WhyNoTree heap t x → WhyNoTree old (object (entries all)) x
     why HeapFull h = (omega (arith, h.0, longer_is), omega (arith, child_over old heap list trees us t c h.1, object_room all, ap children_room is))
@@ -313,7 +313,7 @@ pub object_key_not : (old heap list new : List ℕ) (es fs all : List (List ℕ 
     → PutNot old (object (entries all)) new e
 object_key_not old heap list new es fs all k t e s is w =
     let mid = heap ++ short_sized k in
-    let f = front_then mid (tree_heap mid t) _ (tree_front mid t) (entries_front (tree_heap mid t) (entries fs)) in
+    let f = prefix_then mid (tree_heap mid t) _ (tree_prefix mid t) (entries_prefix (tree_heap mid t) (entries fs)) in
     let same : entries_heap old (entries all) ≡ entries_heap (tree_heap mid t) (entries fs) = s.heap_is ∙ ap (λ z. entries_heap heap (entries z)) is in
     object_not old heap list new (flat s.done) (t ∷ flat fs) all (leaf (text k)) e s.children (flat_all old heap list es fs all k t s is) (f.0, same ∙ f.1) w
 
@@ -325,13 +325,13 @@ object_keyed old heap list mid es all k q s v = children_push old heap list mid 
 pub object_value_not : (old heap list mid new : List ℕ) (es fs all : List (List ℕ × Tree)) (k : List ℕ) (t : Tree) (q : Place) (e : BuildError) → ObjectPut old heap list es all → es ≡ (k, t) ∷ fs → Put heap (leaf (text k)) mid q
     → PutNot mid t new e → PutNot old (object (entries all)) new e
 object_value_not old heap list mid new es fs all k t q e s is v w =
-    let f = entries_front (tree_heap mid t) (entries fs) in
+    let f = entries_prefix (tree_heap mid t) (entries fs) in
     let same : entries_heap old (entries all) ≡ entries_heap (tree_heap mid t) (entries fs) = s.heap_is ∙ ap (λ z. entries_heap heap (entries z)) is ∙ ap (λ z. entries_heap (tree_heap z t) (entries fs)) (sym v.heap) in
     object_not old mid (list ++ place_bytes q) new (flat s.done ++ leaf (text k) ∷ []) (flat fs) all t e (object_keyed old heap list mid es all k q s v)
     (flat_all old heap list es fs all k t s is ∙ sym (append_assoc (flat s.done) (leaf (text k) ∷ []) (t ∷ flat fs))) (f.0, same ∙ f.1) w
 
 object_own_not : (old heap list new : List ℕ) (es all : List (List ℕ × Tree)) (e : BuildError) → ObjectPut old heap list es all → es ≡ [] → ListPutNot heap list new e → PutNot old (object (entries all)) new e
-object_own_not old heap list new es all e s none w = record { front = front_then old heap new s.children.front w.front; why = why e w.why }
+object_own_not old heap list new es all e s none w = record { prefix = prefix_then old heap new s.children.prefix w.prefix; why = why e w.why }
   where
     same : tree_heap old (object (entries all)) ≡ heap ++ short_sized list
     same = let a = object_all old heap list es all s none in λ i. a.1 i ++ short_sized (a.2 i)
@@ -357,8 +357,8 @@ object_not_written (Err x) old heap list new own es all s none e h = object_own_
 -- ---- for the walk
 
 -- memory was refused
-pub memory_not : (old new : List ℕ) (t : Tree) → IsFront old new → PutNot old t new Memory
-memory_not old new t f = record { front = f; why = tt }
+pub memory_not : (old new : List ℕ) (t : Tree) → IsPrefix old new → PutNot old t new Memory
+memory_not old new t f = record { prefix = f; why = tt }
 
 -- the places behind those of others
 pub own_places : (start places list : List ℕ) (n : ℕ) → places ≡ start ++ list → n ≡ length start → drop n places ≡ list

@@ -12,9 +12,9 @@ trades_from qs e h = subst (λ z. Trades z qs) (sym e) h
 
 pub trades_then : {ps qs rs : List Part} → Trades ps qs → Trades qs rs → Trades ps rs
 trades_then same q = q
-trades_then (by_rule front old new back rule is h) q = by_rule front old new back rule is (trades_then h q)
+trades_then (by_rule prefix old new back rule is h) q = by_rule prefix old new back rule is (trades_then h q)
 
 -- by one rule, behind other parts
-pub trades_last : (front old new : List Part) → Rule old new → Trades (front ++ old) (front ++ new)
-trades_last front old new rule =
-    by_rule front old new [] rule (ap (λ z. front ++ z) (sym (append-nil old))) (subst (λ z. Trades (front ++ z) (front ++ new)) (sym (append-nil new)) same)
+pub trades_last : (prefix old new : List Part) → Rule old new → Trades (prefix ++ old) (prefix ++ new)
+trades_last prefix old new rule =
+    by_rule prefix old new [] rule (ap (λ z. prefix ++ z) (sym (append-nil old))) (subst (λ z. Trades (prefix ++ z) (prefix ++ new)) (sym (append-nil new)) same)

@@ -1,10 +1,10 @@
--- What has come of a document, and what is at fault behind that.
+-- What has come of a document, and what is malformed behind that.
 use Rattle.std.specs.Prelude.{ℕ, List, [], ◌∷◌, ◌++◌}
 use Rattle.tv_base.specs.declared.cause.Cause.{Cause}
-use Rattle.tv_value.specs.Fault.{Refusal, DocumentFault}
+use Rattle.tv_value.specs.InputError.{Refusal, ErrorInDocument}
 use Rattle.tv_value.specs.Tree.{Entries, Document}
 use Rattle.tv_value.specs.Version.{Version}
-use Rattle.tv_builder.specs.Front.{Spelled}
+use Rattle.tv_builder.specs.Prefix.{Encoded}
 use Rattle.tv_builder.specs.Parts.{Part, number, pair, field}
 use Rattle.tv_builder.specs.State.{State, parts_of}
 
@@ -20,7 +20,7 @@ document_parts n d = number n ∷ pairs_parts d
 abbrev pub open_parts : ℕ → Document → ℕ → State → List Part
 open_parts n d f s = document_parts n d ++ (field f ∷ parts_of s)
 
--- Whatever bytes spell these parts, where the rest follows them no front spells a document, for this reason. `Legacy` and `L` say what
--- spells a legacy object, and what is wrong with bytes that spell none.
-abbrev pub FaultsBehind : (Legacy : List ℕ → Entries → Type 0) (L : List ℕ → Cause → Type 0) → Version → List Part → List ℕ → Refusal → Type 0
-FaultsBehind Legacy L v ps rest r = (bytes : List ℕ) → Spelled Legacy v bytes ps → DocumentFault Legacy L v (bytes ++ rest) r
+-- Whatever bytes encode these parts, where the rest follows them no prefix encodes a document, for this reason. `Legacy` and `L` say what
+-- encodes a legacy object, and what is wrong with bytes that encode none.
+abbrev pub ErrorsBehind : (Legacy : List ℕ → Entries → Type 0) (L : List ℕ → Cause → Type 0) → Version → List Part → List ℕ → Refusal → Type 0
+ErrorsBehind Legacy L v ps rest r = (bytes : List ℕ) → Encoded Legacy v bytes ps → ErrorInDocument Legacy L v (bytes ++ rest) r

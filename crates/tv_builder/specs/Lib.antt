@@ -1,6 +1,6 @@
 pub mod Kinds
 pub mod Parts
-pub mod Front
+pub mod Prefix
 pub mod State
 pub mod Weight
 pub mod Given
@@ -11,4 +11,4 @@ pub mod Whole
 pub mod Behind
 pub mod OneState
 pub mod Called
-pub mod SpelledPut
+pub mod EncodedPut

@@ -2,7 +2,7 @@
 use Rattle.std.specs.Prelude.{◌≡◌, ◌↔◌, IsTrue, Bool, false, cond, nat_eq, ℕ, ◌+◌, ◌-◌, ◌<◌, ◌≤◌, List, [], ◌∷◌, ◌++◌, length, drop, take, Option, Some, None, Result, Ok, Err}
 use Rattle.tv_base.specs.Number.{vnum}
 use Rattle.tv_base.specs.Parts.{short_sized}
-use Rattle.tv_base.specs.Sink.{IsFront}
+use Rattle.tv_base.specs.Sink.{IsPrefix}
 use Rattle.tv_value.specs.Tree.{Leaf, Tree}
 use Rattle.tv_heap.specs.LeafBytes.{leaf_bytes}
 use Rattle.tv_builder.specs.declared.build_error.BuildError.{BuildError}
@@ -69,7 +69,7 @@ WhyNot heap Memory = Unit {0}
 WhyNot heap _ = ⊥
 
 pub record GivesNot (old : Building) (p : Place) (new : Building) (e : BuildError) : Type 0 where
-  pub front : IsFront old.heap.items new.heap.items
+  pub prefix : IsPrefix old.heap.items new.heap.items
   pub why : WhyNot (given_to old p).heap e
 
 -- a list of which the places are the last is written at the heap's end
@@ -84,7 +84,7 @@ pub record Closed (old : Building) (f : Frame) (p : Place) (new : Building) : Ty
   pub place : p ≡ record { value_type = list_type f.kind; address = length old.heap.items }
 
 pub record ClosedNot (old : Building) (f : Frame) (new : Building) (e : BuildError) : Type 0 where
-  pub front : IsFront old.heap.items new.heap.items
+  pub prefix : IsPrefix old.heap.items new.heap.items
   pub why : WhyNot (old.heap.items ++ short_sized (drop f.first old.places.items)) e
 
 -- ---- the calls
@@ -96,21 +96,21 @@ FitsRoom (Some n) len b = IsTrue b ↔ (len + n ≤ 4294967295)
 
 -- Each state that was held becomes another, and the heap grows by no more than what is written of it weighs.
 pub record Moves (old new : Building) (after : State → State) : Type 0 where
-  pub grows : IsFront old.heap.items new.heap.items
+  pub grows : IsPrefix old.heap.items new.heap.items
   pub shows : (s : State) → Shows old s → Shows new (after s)
   pub within : (s : State) → Shows old s → length new.heap.items + written s ≤ length old.heap.items + written (after s)
 
--- Behind what stood in front of the state there is no room for the state that the call would leave.
+-- Behind what stood before the state there is no room for the state that the call would leave.
 abbrev pub HasNoRoom : Building → (State → State) → Type 0
 HasNoRoom old after = (s : State) → Shows old s → 4294967295 + written s < length old.heap.items + state_room (after s)
 
 -- A call that belongs `in_place`, and for which the heap that it leaves is `heaps`, whatever its length, and is too long where it is
--- `full`. After a refusal what stood in the heap still stands in front.
+-- `full`. After a refusal what stood in the heap still stands before it.
 abbrev pub Does : Building → Building → Type 0 → (List ℕ → Type 0) → Type 0 → (State → State) → Result (Unit {0}) BuildError → Type 0
 Does old new in_place heaps full after (Ok x) = in_place × heaps new.heap.items × Moves old new after
-Does old new in_place heaps full after (Err OutOfPlace) = ¬ in_place × IsFront old.heap.items new.heap.items
-Does old new in_place heaps full after (Err HeapFull) = in_place × full × IsFront old.heap.items new.heap.items × HasNoRoom old after
-Does old new in_place heaps full after (Err Memory) = in_place × IsFront old.heap.items new.heap.items
+Does old new in_place heaps full after (Err OutOfPlace) = ¬ in_place × IsPrefix old.heap.items new.heap.items
+Does old new in_place heaps full after (Err HeapFull) = in_place × full × IsPrefix old.heap.items new.heap.items × HasNoRoom old after
+Does old new in_place heaps full after (Err Memory) = in_place × IsPrefix old.heap.items new.heap.items
 Does old new in_place heaps full after (Err _) = ⊥
 
 -- a leaf is written, and then the lists that it closes
@@ -190,8 +190,8 @@ end_heap old (Some o) = content_heap o.kind old o.address
 -- The end of open bytes: which refusal comes when, in this order, and what the call leaves.
 abbrev pub EndsBytes : Building → Building → Result (Unit {0}) BuildError → Type 0
 EndsBytes old new (Ok x) = AwaitsEnd old.open × EndsWell old.open old.heap.items × (new.heap.items ≡ end_heap old old.open) × Moves old new and_end
-EndsBytes old new (Err OutOfPlace) = ¬ AwaitsEnd old.open × IsFront old.heap.items new.heap.items
-EndsBytes old new (Err NotUtf8) = AwaitsEnd old.open × ¬ EndsWell old.open old.heap.items × IsFront old.heap.items new.heap.items
-EndsBytes old new (Err HeapFull) = AwaitsEnd old.open × EndsWell old.open old.heap.items × (4294967295 < length (end_heap old old.open)) × IsFront old.heap.items new.heap.items × HasNoRoom old and_end
-EndsBytes old new (Err Memory) = AwaitsEnd old.open × EndsWell old.open old.heap.items × IsFront old.heap.items new.heap.items
+EndsBytes old new (Err OutOfPlace) = ¬ AwaitsEnd old.open × IsPrefix old.heap.items new.heap.items
+EndsBytes old new (Err NotUtf8) = AwaitsEnd old.open × ¬ EndsWell old.open old.heap.items × IsPrefix old.heap.items new.heap.items
+EndsBytes old new (Err HeapFull) = AwaitsEnd old.open × EndsWell old.open old.heap.items × (4294967295 < length (end_heap old old.open)) × IsPrefix old.heap.items new.heap.items × HasNoRoom old and_end
+EndsBytes old new (Err Memory) = AwaitsEnd old.open × EndsWell old.open old.heap.items × IsPrefix old.heap.items new.heap.items
 EndsBytes old new (Err _) = ⊥

@@ -7,7 +7,7 @@ use Rattle.std.proofs.lemmas.List.{append_cancel_left}
 use mathlib.Core.HLevel.{Σ_prop_path}
 use base.Stored.{Gv, gnil, gnum, gcons}
 use Rattle.tv_base.specs.Number.{vnum}
-use Rattle.tv_base.proofs.Texts.{same_front}
+use Rattle.tv_base.proofs.Texts.{same_prefix}
 use Rattle.tv_value.specs.Tree.{Tree, elements}
 use Rattle.tv_value.specs.TreeCode.{coded_text, coded_tree}
 use Rattle.tv_heap.specs.Held.{same_list}
@@ -128,8 +128,8 @@ one_state heap fs places whole bytes (in_bytes ls k n bs) (in_bytes ms j m cs) h
     let announced : n ≡ m = sym h.same_announced ∙ ap (λ (o : OpenBytes). o.announced) same_piece ∙ g.same_announced in
     let at : length h.stand.before ≡ length g.stand.before = h.stand.place ∙ ap (λ (o : OpenBytes). o.address) same_piece ∙ sym g.stand.place in
     let joined : h.stand.before ++ (vnum n ++ bs) ≡ g.stand.before ++ (vnum m ++ cs) = sym h.stand.joined ∙ g.stand.joined in
-    let front = same_front h.stand.before g.stand.before (vnum n ++ bs) (vnum m ++ cs) at joined in
-    let behind : vnum n ++ bs ≡ vnum m ++ cs = append_cancel_left g.stand.before (vnum n ++ bs) (vnum m ++ cs) (ap (λ z. z ++ (vnum n ++ bs)) (sym front) ∙ joined) in
+    let prefix = same_prefix h.stand.before g.stand.before (vnum n ++ bs) (vnum m ++ cs) at joined in
+    let behind : vnum n ++ bs ≡ vnum m ++ cs = append_cancel_left g.stand.before (vnum n ++ bs) (vnum m ++ cs) (ap (λ z. z ++ (vnum n ++ bs)) (sym prefix) ∙ joined) in
     let so_far : bs ≡ cs = append_cancel_left (vnum m) bs cs (ap (λ z. vnum z ++ bs) (sym announced) ∙ behind) in
     let lists = one_lists heap fs places ls ms h.lists g.lists in
     λ i. in_bytes (lists i) (kind i) (announced i) (so_far i)

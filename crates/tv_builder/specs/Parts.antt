@@ -47,4 +47,4 @@ pub data Rule : List Part → List Part → Type 0 where
 -- by one rule after the other, each between other parts
 pub data Trades : List Part → List Part → Type 0 where
   same : {ps : List Part} → Trades ps ps
-  by_rule : {ps rs : List Part} (front old new back : List Part) → Rule old new → ps ≡ front ++ (old ++ back) → Trades (front ++ (new ++ back)) rs → Trades ps rs
+  by_rule : {ps rs : List Part} (prefix old new back : List Part) → Rule old new → ps ≡ prefix ++ (old ++ back) → Trades (prefix ++ (new ++ back)) rs → Trades ps rs

@@ -28,7 +28,7 @@ abbrev pub lists_weight : List OpenList → ℕ
 lists_weight [] = 0
 lists_weight (l ∷ ls) = 5 + children_weight l.kind l.children + lists_weight ls
 
--- of open bytes the length that is announced, as it is spelled, and those that have come
+-- of open bytes the length that is announced, as it is encoded, and those that have come
 abbrev pub state_weight : State → ℕ
 state_weight (complete t) = tree_weight t
 state_weight (in_lists ls) = lists_weight ls

@@ -1,7 +1,7 @@
 -- What writing a whole value leaves.
 use Rattle.std.specs.Prelude.{◌≡◌, ℕ, ◌+◌, ◌<◌, ◌≤◌, List, ◌++◌, length}
 use Rattle.tv_base.specs.Parts.{short_sized}
-use Rattle.tv_base.specs.Sink.{IsFront}
+use Rattle.tv_base.specs.Sink.{IsPrefix}
 use Rattle.tv_value.specs.Tree.{Tree}
 use Rattle.tv_heap.specs.Room.{room}
 use Rattle.tv_heap.specs.Weight.{tree_weight}
@@ -29,7 +29,7 @@ WhyNoTree old t Memory = Unit {0}
 WhyNoTree old t _ = ⊥
 
 pub record PutNot (old : List ℕ) (t : Tree) (new : List ℕ) (e : BuildError) : Type 0 where
-  pub front : IsFront old new
+  pub prefix : IsPrefix old new
   pub why : WhyNoTree old t e
 
 -- the same of a list's own bytes
@@ -39,5 +39,5 @@ pub record ListPut (old : List ℕ) (kind : ListKind) (own new : List ℕ) (p : 
   pub fits : length new ≤ 4294967295
 
 pub record ListPutNot (old own new : List ℕ) (e : BuildError) : Type 0 where
-  pub front : IsFront old new
+  pub prefix : IsPrefix old new
   pub why : WhyNot (old ++ short_sized own) e

@@ -1,6 +1,6 @@
 //! What comes next.
 
-/// What the next call on a builder must be. (Own.)
+/// What the next call on a builder must be. (Not in tantivy.)
 #[derive(Clone, Copy, Debug, PartialEq, Eq)]
 pub enum Awaits {
     /// A value, or the head of a list or of bytes.

@@ -5,7 +5,7 @@ ghost use Rattle.std.specs.Prelude.{◌≡◌};
 use std::alloc::{AllocError, AllocFailed};
 use thiserror::Error;
 
-/// Why a tree builder refuses a call. (Own.) After any refusal it refuses every later call as `AlreadyFailed`.
+/// Why a tree builder refuses a call. (Not in tantivy.) After any refusal it refuses every later call as `AlreadyFailed`.
 #[derive(Clone, Copy, Debug, PartialEq, Eq, Error)]
 pub enum BuildError {
     /// An earlier call was refused.

@@ -3,7 +3,7 @@
 ghost use Rattle.std.specs.Prelude.{◌≡◌, ℕ, ◌+◌, ◌-◌, ◌<◌, ◌≤◌, ◌^◌, ◌++◌, [], ◌∷◌, ◌↔◌, length, drop, take, OnOk, OnErr, IfOk, IfErr, IsTrue, IsUtf8};
 ghost use Rattle.tv_base.specs.Number.{vnum};
 ghost use Rattle.tv_base.specs.Parts.{short_sized};
-ghost use Rattle.tv_base.specs.Sink.{IsFront};
+ghost use Rattle.tv_base.specs.Sink.{IsPrefix};
 ghost use Rattle.tv_value.specs.Lent.{leaf_of};
 ghost use Rattle.tv_value.specs.Tree.{leaf as leaf_tree};
 
@@ -20,10 +20,10 @@ use tv_heap::value_type::ValueType;
 use tv_heap::write::push_place;
 use tv_value::leaf::ReferenceValueLeaf;
 use tv_value::nested::lend;
-use tv_value::spell::{push_number, push_sized};
+use tv_value::encode::{push_number, push_sized};
 use tv_value::value::Value;
 
-/// The bytes of an open value. (Own.)
+/// The bytes of an open value. (Not in tantivy.)
 #[derive(Clone, Copy, Debug)]
 pub struct OpenBytes {
     /// What they are.
@@ -36,7 +36,7 @@ pub struct OpenBytes {
     pub missing: u32,
 }
 
-/// A heap, and where what is finished stands in it. (Own.)
+/// A heap, and where what is finished stands in it. (Not in tantivy.)
 #[derive(Debug, Drop)]
 pub struct Building {
     /// The bytes in which finished values stand, and behind them open bytes so far.

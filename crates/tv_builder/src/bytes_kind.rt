@@ -4,7 +4,7 @@ ghost use Rattle.std.specs.Prelude.{◌≡◌, ◌↔◌, IsTrue};
 
 use tv_heap::value_type::ValueType;
 
-/// A value, or a key of an object, that is bytes behind their length. (Own.)
+/// A value, or a key of an object, that is bytes behind their length. (Not in tantivy.)
 #[derive(Clone, Copy, Debug, PartialEq, Eq)]
 pub enum BytesKind {
     /// A text.

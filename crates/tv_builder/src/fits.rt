@@ -9,16 +9,16 @@ use tv_base::vint::VInt;
 // The largest length of a heap, so that 32 bits hold each address.
 const MAX_HEAP_LEN: u64 = 4294967295;
 
-// The length of the shortest spelling of a number.
+// The length of the shortest encoding of a number.
 #[inline(always)]
-fn spelled_len(number: u64) -> u64
+fn encoded_len(number: u64) -> u64
     ensures same { result ≡ length (vnum number) }
     ensures small { result ≤ 10 }
 {
     if number < 128 {
         return 1;
     }
-    let (_, len) = VInt(number).spelling();
+    let (_, len) = VInt(number).encoding();
     len as u64
 }
 
@@ -28,7 +28,7 @@ pub(crate) fn has_room(len: usize, content: u64) -> bool
     requires { len ≤ 4294967295 }
     ensures { IsTrue result ↔ (len + (length (vnum content) + content) ≤ 4294967295) }
 {
-    content <= MAX_HEAP_LEN && len as u64 + (spelled_len(content) + content) <= MAX_HEAP_LEN
+    content <= MAX_HEAP_LEN && len as u64 + (encoded_len(content) + content) <= MAX_HEAP_LEN
 }
 
 /// Whether a value of this room fits behind a heap of this length.

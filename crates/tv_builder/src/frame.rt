@@ -5,7 +5,7 @@ ghost use Rattle.std.specs.Prelude.{◌≡◌, suc};
 use crate::awaits::Awaits;
 use tv_heap::value_type::ValueType;
 
-/// What a list holds. (Own.)
+/// What a list holds. (Not in tantivy.)
 #[derive(Clone, Copy, Debug, PartialEq, Eq)]
 pub enum ListKind {
     /// Values.
@@ -14,7 +14,7 @@ pub enum ListKind {
     Object,
 }
 
-/// A list of which children are still awaited. (Own.)
+/// A list of which children are still awaited. (Not in tantivy.)
 #[derive(Clone, Copy, Debug)]
 pub struct Frame {
     /// What it holds.

@@ -2,7 +2,7 @@
 
 ghost use Rattle.std.specs.Prelude.{◌≡◌, ◌≤◌, length, IfSome};
 ghost use Rattle.serde_json.specs.Data.{unsigned};
-ghost use Rattle.tv_base.specs.Sink.{IsFront};
+ghost use Rattle.tv_base.specs.Sink.{IsPrefix};
 ghost use Rattle.tv_borrowed.specs.BorrowedData.{data_of, items_data, members_data};
 ghost use Rattle.tv_builder.specs.Whole.{Put};
 ghost use Rattle.tv_value.specs.JsonTree.{number_leaf, whole_tree, whole_elements, whole_entries};
@@ -20,7 +20,7 @@ use tv_value::leaf::ReferenceValueLeaf;
 fn put_number(number: u64, heap: &mut Vec<u8>) -> Option<Place>
     requires { length heap.old.items ≤ 4294967295 }
     ensures found { IfSome result (λ place. Put heap.old.items (leaf (number_leaf (unsigned number))) heap.new.items place) }
-    ensures front { IsFront heap.old.items heap.new.items }
+    ensures prefix { IsPrefix heap.old.items heap.new.items }
 {
     match i64::try_from(number) {
         Ok(signed) => put(heap, &ReferenceValueLeaf::I64(signed)),
@@ -28,9 +28,9 @@ fn put_number(number: u64, heap: &mut Vec<u8>) -> Option<Place>
     }
 }
 
-/// Writes a JSON value behind a heap, each kind as itself, and gives its place. (Own.)
+/// Writes a JSON value behind a heap, each kind as itself, and gives its place. (Not in tantivy.)
 ///
-/// `None` where a part would end above 4294967295, and where memory is refused. The old heap is then still a front of the new, and what
+/// `None` where a part would end above 4294967295, and where memory is refused. The old heap is then still a prefix of the new, and what
 /// `places` holds is open. Else `places`, at whose end the places of children stand until their list is written, is afterwards as it was.
 #[inline(always)]
 #[cycle(json)]
@@ -38,7 +38,7 @@ pub fn put_json(json: &BorrowedJson<'_>, heap: &mut Vec<u8>, places: &mut Vec<u8
     requires { length heap.old.items ≤ 4294967295 }
     ensures found { IfSome result (λ place. Put heap.old.items (whole_tree (data_of json.now)) heap.new.items place) }
     ensures places { IfSome result (λ place. places.new.items ≡ places.old.items) }
-    ensures front { IsFront heap.old.items heap.new.items }
+    ensures prefix { IsPrefix heap.old.items heap.new.items }
 {
     match json {
         BorrowedJson::Null => put(heap, &ReferenceValueLeaf::Null),
@@ -58,7 +58,7 @@ fn put_array(items: &[BorrowedJson<'_>], heap: &mut Vec<u8>, places: &mut Vec<u8
     requires { length heap.old.items ≤ 4294967295 }
     ensures found { IfSome result (λ place. Put heap.old.items (array (whole_elements (items_data items.now))) heap.new.items place) }
     ensures places { IfSome result (λ place. places.new.items ≡ places.old.items) }
-    ensures front { IsFront heap.old.items heap.new.items }
+    ensures prefix { IsPrefix heap.old.items heap.new.items }
 {
     let first = places.len();
     for item in items {
@@ -84,7 +84,7 @@ fn put_object(
     requires { length heap.old.items ≤ 4294967295 }
     ensures found { IfSome result (λ place. Put heap.old.items (object (whole_entries (members_data members.now))) heap.new.items place) }
     ensures places { IfSome result (λ place. places.new.items ≡ places.old.items) }
-    ensures front { IsFront heap.old.items heap.new.items }
+    ensures prefix { IsPrefix heap.old.items heap.new.items }
 {
     let first = places.len();
     for (key, member) in members {

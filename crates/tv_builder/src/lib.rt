@@ -10,5 +10,5 @@ pub mod frame;
 pub mod json;
 pub mod laws;
 pub mod place;
-pub mod spelled;
+pub mod encoded;
 mod whole;

@@ -1,7 +1,7 @@
 //! Writing values behind a heap, as far as they fit.
 
 ghost use Rattle.std.specs.Prelude.{◌≡◌, ◌≤◌, ◌++◌, length, take, drop, OnOk, IfOk, IfErr, IfSome};
-ghost use Rattle.tv_base.specs.Sink.{IsFront};
+ghost use Rattle.tv_base.specs.Sink.{IsPrefix};
 ghost use Rattle.tv_value.specs.Lent.{leaf_of, nested_tree};
 ghost use Rattle.tv_value.specs.Tree.{leaf as leaf_tree, array, object, elements, entries};
 ghost use Rattle.tv_builder.specs.Whole.{Put, PutNot, ListPut, ListPutNot};
@@ -16,7 +16,7 @@ use tv_heap::write::{push_place, write_leaf, write_list};
 use tv_value::leaf::ReferenceValueLeaf;
 use tv_value::nested::{Nested, NestedValue};
 
-/// Writes a value without children, and answers its place. After an error the old heap is still a front of the new.
+/// Writes a value without children, and answers its place. After an error the old heap is still a prefix of the new.
 #[inline(always)]
 pub(crate) fn put_leaf(
     heap: &mut Vec<u8>,
@@ -36,12 +36,12 @@ pub(crate) fn put_leaf(
     })
 }
 
-/// The same, where the reason of a refusal isn't asked for. After `None` the old heap is still a front of the new.
+/// The same, where the reason of a refusal isn't asked for. After `None` the old heap is still a prefix of the new.
 #[inline(always)]
 pub(crate) fn put(heap: &mut Vec<u8>, value: &ReferenceValueLeaf<'_>) -> Option<Place>
     requires { length heap.old.items ≤ 4294967295 }
     ensures found { IfSome result (λ place. Put heap.old.items (leaf_tree (leaf_of value.now)) heap.new.items place) }
-    ensures front { IsFront heap.old.items heap.new.items }
+    ensures prefix { IsPrefix heap.old.items heap.new.items }
 {
     match put_leaf(heap, value) {
         Ok(place) => Some(place),
@@ -50,7 +50,7 @@ pub(crate) fn put(heap: &mut Vec<u8>, value: &ReferenceValueLeaf<'_>) -> Option<
 }
 
 /// Writes a list behind its children, whose places are those from `first` on, takes these off, and answers its own place. After an
-/// error the old heap is still a front of the new, and what `places` holds is open.
+/// error the old heap is still a prefix of the new, and what `places` holds is open.
 pub(crate) fn put_list(
     heap: &mut Vec<u8>,
     places: &mut Vec<u8>,
@@ -75,7 +75,7 @@ pub(crate) fn put_list(
 }
 
 /// Writes a value behind its children, and answers its place. The places of children whose list is not yet written stand at the
-/// end of `places`, which is afterwards as it was. After an error the old heap is still a front of the new, and what `places` holds
+/// end of `places`, which is afterwards as it was. After an error the old heap is still a prefix of the new, and what `places` holds
 /// is open.
 #[inline(always)]
 #[cycle(parts)]

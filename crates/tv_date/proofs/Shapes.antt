@@ -23,8 +23,8 @@ bind_some f (Some x) y e = (x, refl, e)
 unsome : {A : Type 0} (a b : A) → Some a ≡ Some b → a ≡ b
 unsome a b e = cc
 
-spelled_two : (high low n : ℕ) (rest r : List ℕ) → (48 ≤ high) × (high ≤ 57) → (48 ≤ low) × (low ≤ 57) → (high - 48) * 10 + (low - 48) ≡ n → rest ≡ r → (n < 100) × (high ∷ low ∷ rest ≡ pad2 n ++ r)
-spelled_two high low n rest r h l is same =
+encoded_two : (high low n : ℕ) (rest r : List ℕ) → (48 ≤ high) × (high ≤ 57) → (48 ≤ low) × (low ≤ 57) → (high - 48) * 10 + (low - 48) ≡ n → rest ≡ r → (n < 100) × (high ∷ low ∷ rest ≡ pad2 n ++ r)
+encoded_two high low n rest r h l is same =
     let tens : high ≡ 48 + n / 10 = omega arith in
     let ones : low ≡ 48 + n % 10 = omega arith in
     (omega arith, ap (λ x. x ∷ low ∷ rest) tens ∙ ap (λ x. (48 + n / 10) ∷ x ∷ rest) ones ∙ ap (λ xs. (48 + n / 10) ∷ (48 + n % 10) ∷ xs) same)
@@ -34,7 +34,7 @@ two_at : (b : Bool) (high low : ℕ) (rest : List ℕ) (n : ℕ) (r : List ℕ) 
 two_at true high low rest n r h e =
     let both = and_parts (is_ascii_digit high) (is_ascii_digit low) h in
     let same = unsome {A = ℕ × List ℕ} _ _ e in
-    spelled_two high low n rest r (digit_range high both.0) (digit_range low both.1) (ap (λ (p : ℕ × List ℕ). p.0) same) (ap (λ (p : ℕ × List ℕ). p.1) same)
+    encoded_two high low n rest r (digit_range high both.0) (digit_range low both.1) (ap (λ (p : ℕ × List ℕ). p.0) same) (ap (λ (p : ℕ × List ℕ). p.1) same)
 two_at false high low rest n r h e = absurd (cc)
 
 two_takes : (t : List ℕ) (n : ℕ) (r : List ℕ) → two_digits t ≡ Some (n, r) → (n < 100) × (t ≡ pad2 n ++ r)
@@ -51,8 +51,8 @@ after_takes : (byte : ℕ) (t r : List ℕ) → after byte t ≡ Some r → t �
 after_takes byte [] r e = absurd (cc)
 after_takes byte (c ∷ rest) r e = after_at _ c byte rest r refl e
 
-four_spelled : (a b : ℕ) → a < 100 → b < 100 → (a * 100 + b < 10000) × (pad2 a ++ pad2 b ≡ pad4 (a * 100 + b))
-four_spelled a b h k =
+four_encoded : (a b : ℕ) → a < 100 → b < 100 → (a * 100 + b < 10000) × (pad2 a ++ pad2 b ≡ pad4 (a * 100 + b))
+four_encoded a b h k =
     let high : a ≡ (a * 100 + b) / 100 = omega arith in
     let low : b ≡ (a * 100 + b) % 100 = omega arith in
     (omega arith, ap (λ x. pad2 x ++ pad2 b) high ∙ ap (λ x. pad2 ((a * 100 + b) / 100) ++ pad2 x) low)
@@ -65,7 +65,7 @@ four_takes t n r e =
     let a = two_takes t high.0.0 high.0.1 high.1 in
     let b = two_takes high.0.1 low.0.0 low.0.1 low.1 in
     let same = unsome {A = ℕ × List ℕ} _ _ low.2 in
-    let four = four_spelled high.0.0 low.0.0 a.0 b.0 in
+    let four = four_encoded high.0.0 low.0.0 a.0 b.0 in
     subst (λ (p : ℕ × List ℕ). (p.0 < 10000) × (t ≡ pad4 p.0 ++ p.1)) same (four.0, a.1 ∙ ap (λ xs. pad2 high.0.0 ++ xs) b.1 ∙ ap (λ xs. xs ++ low.0.1) four.1)
 
 pub date_takes : (t : List ℕ) (y m d : ℕ) (r : List ℕ) → date t ≡ Some ((y, m, d), r) → IsDateText t (y, m, d) r

@@ -13,7 +13,7 @@ infixl 10 ◌>>=◌
 abbrev pub ◌>>=◌ : {A B : Type 0} → Option A → (A → Option B) → Option B
 o >>= f = option_and_then f o
 
--- two digits at the front, and what follows them
+-- two digits at the start, and what follows them
 unfoldable pub two_digits : List ℕ → Option (ℕ × List ℕ)
 two_digits (high ∷ low ∷ rest) = if is_ascii_digit high && is_ascii_digit low then Some ((high - 48) * 10 + (low - 48), rest) else None
 two_digits _ = None
@@ -24,7 +24,7 @@ four_digits text = do
   low ← two_digits high.1
   Some (high.0 * 100 + low.0, low.1)
 
--- what follows this byte at the front
+-- what follows this byte at the start
 abbrev pub after : ℕ → List ℕ → Option (List ℕ)
 after byte [] = None
 after byte (c ∷ rest) = if c == byte then Some rest else None

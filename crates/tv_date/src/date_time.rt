@@ -119,7 +119,7 @@ impl DateTime {
         Ok(text)
     }
 
-    /// Adds the text of `write_rfc3339` to a text (own). The only error is that memory was refused, and then the text is as it was.
+    /// Adds the text of `write_rfc3339` to a text (not in tantivy). The only error is that memory was refused, and then the text is as it was.
     pub fn push_rfc3339(self, text: &mut String) -> Result<(), AllocError>
         ensures shown { IsPrinted self.nanoseconds (moment_text self.nanoseconds) }
         ensures ok { OnOk result (string_bytes text.new ≡ string_bytes text.old ++ moment_text self.nanoseconds) }

@@ -26,7 +26,7 @@ pub struct DateFields {
     offset_minute: u8,
 }
 
-// Two digits at the front, and what follows them.
+// Two digits at the start, and what follows them.
 #[tactic(auto, unfolding(crate::specs::Rfc3339::two_digits))]
 fn two_digits(text: &[u8]) -> Option<(u8, &[u8])>
     ensures value { option_map (λ p. (p.0, p.1.now)) result ≡ two_digits_of text.now }
@@ -41,7 +41,7 @@ fn two_digits(text: &[u8]) -> Option<(u8, &[u8])>
     }
 }
 
-// Four digits at the front, and what follows them.
+// Four digits at the start, and what follows them.
 #[tactic(auto, unfolding(crate::specs::Rfc3339::four_digits))]
 fn four_digits(text: &[u8]) -> Option<(u16, &[u8])>
     ensures value { option_map (λ p. (p.0, p.1.now)) result ≡ four_digits_of text.now }
@@ -52,7 +52,7 @@ fn four_digits(text: &[u8]) -> Option<(u16, &[u8])>
     Some((high as u16 * 100 + low as u16, rest))
 }
 
-// What follows the byte at the front.
+// What follows the byte at the start.
 fn after(byte: u8, text: &[u8]) -> Option<&[u8]>
     ensures { option_copied result ≡ after_byte byte text.now }
 {
@@ -62,7 +62,7 @@ fn after(byte: u8, text: &[u8]) -> Option<&[u8]>
     }
 }
 
-// What follows a `T` or a `t` at the front.
+// What follows a `T` or a `t` at the start.
 fn after_t(text: &[u8]) -> Option<&[u8]>
     ensures { option_copied result ≡ after_t_of text.now }
 {
@@ -237,7 +237,7 @@ fn nanoseconds_at(second: i64, fraction: u32) -> i128
     second as i128 * 1_000_000_000 + fraction as i128
 }
 
-// How many digits stand at the front.
+// How many digits stand at the start.
 fn digits_len(text: &[u8]) -> usize
     ensures len { result ≡ prefix_len is_ascii_digit text.now }
     ensures within { result ≤ length text.now }
@@ -246,7 +246,7 @@ fn digits_len(text: &[u8]) -> usize
     text.iter().take_while(|b| b.is_ascii_digit()).count()
 }
 
-// One digit or more at the front, as the nanoseconds that they write behind a dot, and what follows them.
+// One digit or more at the start, as the nanoseconds that they write behind a dot, and what follows them.
 fn nanoseconds(text: &[u8]) -> Option<(u32, &[u8])>
     ensures value { option_map (λ p. (p.0, p.1.now)) result ≡ nanoseconds_of text.now }
     ensures small { IfSome result (λ p. p.0 < 1_000_000_000) }

@@ -2,12 +2,12 @@ pub mod States
 pub mod Trading
 pub mod Building
 pub mod Putting
-pub mod Faulting
+pub mod WithErrors
 pub mod Stepping
 pub mod RoomWithin
 pub mod Calls
 pub mod OpenBytes
 pub mod Wholes
-pub mod AtHand
+pub mod Buffered
 pub mod WholeDocuments
 pub mod Paying

@@ -21,7 +21,7 @@ use Rattle.tv_reader.specs.declared.error.DeserializeError.{DeserializeError}
 use Rattle.tv_reader.specs.declared.error.DeserializeError.TheVariants as errors
 use Rattle.tv_value.specs.Tree.{Document}
 use Rattle.tv_decoder.specs.Errors.{build_error}
-use Rattle.tv_decoder.specs.Front.{parts_at, parts_read, IsPlace, IsSound, HasField}
+use Rattle.tv_decoder.specs.Prefix.{parts_at, parts_read, IsPlace, IsSound, HasField}
 use Rattle.tv_decoder.specs.Puts.{MayStand, IsWithin, IsOpen, IsEnding, AtEnd, Puts, NoContent, PutsEnd, EndNoText, NoText, PutsBytes}
 use Rattle.tv_decoder.specs.declared.reading.Reading.{Reading}
 use Rattle.tv_decoder.proofs.Building.{CalledEnd, ended}

@@ -1,7 +1,7 @@
 -- What is paid for by the bytes that were read.
 use Rattle.std.proofs.Common.{◌≡◌, ℕ, ◌+◌, ◌*◌, ◌≤◌, Bool, false, List, ◌++◌, length, Option, Some, None, Ok, sym, ap, subst, length-append, arith, inl, inr}
-use Rattle.tv_base.specs.Source.{Faults}
-use Rattle.tv_builder.specs.Front.{Spelled}
+use Rattle.tv_base.specs.Source.{Failures}
+use Rattle.tv_builder.specs.Prefix.{Encoded}
 use Rattle.tv_builder.specs.State.{State, lists_of, children_of}
 use Rattle.tv_builder.specs.Weight.{document_weight, state_weight}
 use Rattle.tv_builder.proofs.Paid.{document_paid, open_paid, open_lists_paid}
@@ -9,10 +9,10 @@ use Rattle.tv_builder.proofs.Weighing.{written_weighs}
 use Rattle.tv_doc.specs.declared.builder.TreeBuilder.{TreeBuilder}
 use Rattle.tv_doc.specs.Builder.{built, state_of, heap_so_far}
 use Rattle.tv_reader.specs.Finds.{Finds}
-use Rattle.tv_value.specs.Spelling.{NoLegacy}
+use Rattle.tv_value.specs.Encoding.{NoLegacy}
 use Rattle.tv_value.specs.Tree.{Document}
 use Rattle.tv_value.specs.Version.{Version}
-use Rattle.tv_decoder.specs.Front.{parts_at, parts_read, IsPlace, IsSound, NoFront}
+use Rattle.tv_decoder.specs.Prefix.{parts_at, parts_read, IsPlace, IsSound, NoPrefix}
 use Rattle.tv_decoder.specs.Paid.{PaidBy}
 use Rattle.tv_decoder.specs.Puts.{KeepsPairs}
 use Rattle.tv_decoder.specs.Steps.{Stepped}
@@ -26,7 +26,7 @@ record Paid (d : Document) (s : State) (n : ℕ) : Type 0 where
   lists : 2 * length (lists_of s) ≤ n
   children : children_of (lists_of s) ≤ n
 
-paid_at : (v : Version) (a f : Option ℕ) (d : Document) (s : State) (b : List ℕ) → IsPlace a d f s → Spelled NoLegacy v b (parts_at a d f s) → Paid d s (length b)
+paid_at : (v : Version) (a f : Option ℕ) (d : Document) (s : State) (b : List ℕ) → IsPlace a d f s → Encoded NoLegacy v b (parts_at a d f s) → Paid d s (length b)
 paid_at v None None d s b h p = record {
   weight = omega (arith, ap document_weight h.0, ap state_weight h.1);
   lists = omega (arith, ap (λ z. length (lists_of z)) h.1);
@@ -40,16 +40,16 @@ paid_at v (Some n) None d s b h p = record {
 }
 paid_at v (Some n) (Some f) d s b h p = let k = open_lists_paid v n d f s b p in record { weight = open_paid v n d f s b p; lists = k.0; children = k.1 }
 
-paid : (v : Version) (r : Reading) (b : List ℕ) → IsSound r → Spelled NoLegacy v b (parts_read r) → Paid (built r.builder) (state_of r.builder) (length b)
+paid : (v : Version) (r : Reading) (b : List ℕ) → IsSound r → Encoded NoLegacy v b (parts_read r) → Paid (built r.builder) (state_of r.builder) (length b)
 paid v r b sound p = paid_at v r.announced r.field (built r.builder) (state_of r.builder) b sound.place p
 
-pub paid_now : (v : Version) (r : Reading) (b : List ℕ) (count : ℕ) → IsSound r → Spelled NoLegacy v b (parts_read r) → length b ≤ count → PaidBy r.builder count
+pub paid_now : (v : Version) (r : Reading) (b : List ℕ) (count : ℕ) → IsSound r → Encoded NoLegacy v b (parts_read r) → length b ≤ count → PaidBy r.builder count
 paid_now v r b count sound p less =
     let k = paid v r b sound p in
     record { heap = omega (arith, heap_weighs r.builder, k.weight, less); lists = omega (arith, k.lists, less); children = omega (arith, k.children, less) }
 
 -- after a refusal nothing more is open than before
-pub paid_left : (v : Version) (old new : Reading) (b : List ℕ) (count : ℕ) → IsSound old → Spelled NoLegacy v b (parts_read old) → length b ≤ count → KeepsPairs old new → PaidBy new.builder count
+pub paid_left : (v : Version) (old new : Reading) (b : List ℕ) (count : ℕ) → IsSound old → Encoded NoLegacy v b (parts_read old) → length b ≤ count → KeepsPairs old new → PaidBy new.builder count
 paid_left v old new b count sound p less (inl h) =
     let k = paid v old b sound p in
     record {
@@ -60,9 +60,9 @@ paid_left v old new b count sound p less (inl h) =
 paid_left v old new b count sound p less (inr e) = subst (λ (z : Reading). PaidBy z.builder count) (sym e) (paid_now v old b count sound p less)
 
 -- a step that took these bytes
-pub paid_next : {S : Type 0} {tells : S → Type 0} {left : S → List ℕ} {faults : S → Faults} {os ns : S} {i k : ℕ} (x : Unit {0}) (v : Version) (legacy : Bool) (old new : Reading) (b : List ℕ) → IsSound new → Spelled NoLegacy v b (parts_read old) → i ≡ length b → legacy ≡ false
-    → Finds tells left faults os i ns k (Ok x) (λ b _. Stepped v legacy old new b) (NoFront v old) → tells os → PaidBy new.builder k
+pub paid_next : {S : Type 0} {is_known : S → Type 0} {left : S → List ℕ} {failures : S → Failures} {os ns : S} {i k : ℕ} (x : Unit {0}) (v : Version) (legacy : Bool) (old new : Reading) (b : List ℕ) → IsSound new → Encoded NoLegacy v b (parts_read old) → i ≡ length b → legacy ≡ false
+    → Finds is_known left failures os i ns k (Ok x) (λ b _. Stepped v legacy old new b) (NoPrefix v old) → is_known os → PaidBy new.builder k
 paid_next {left = left} {ns = ns} x v legacy old new b sound p counted none h t =
     let f = h.found t in
     let g = h.taken t in
-    paid_now v new (b ++ f.front) _ sound (f.spelled.plain none b p) (omega (arith, g.counted, counted, ap length f.joined, ap length g.joined, length-append b f.front, length-append f.front (left ns), length-append g.front (left ns)))
+    paid_now v new (b ++ f.prefix) _ sound (f.encoded.plain none b p) (omega (arith, g.counted, counted, ap length f.joined, ap length g.joined, length-append b f.prefix, length-append f.prefix (left ns), length-append g.prefix (left ns)))

@@ -3,10 +3,10 @@ use Rattle.std.proofs.Common.{◌≡◌, ℕ, ◌<◌, ◌≤◌, ◌⊎◌, Boo
 use Rattle.std.proofs.lemmas.List.{append-nil}
 use Rattle.tv_base.specs.Number.{Groups, VNum, last, more, Truth}
 use Rattle.tv_base.specs.Parts.{Each}
-use Rattle.tv_base.specs.Source.{Faults}
+use Rattle.tv_base.specs.Source.{Failures}
 use Rattle.tv_base.proofs.Numbers.{length-fixed}
 use Rattle.tv_builder.specs.Behind.{document_parts, open_parts}
-use Rattle.tv_builder.specs.Front.{SpellsPart}
+use Rattle.tv_builder.specs.Prefix.{EncodesPart}
 use Rattle.tv_builder.specs.declared.bytes_kind.BytesKind.TheVariants as kinds
 use Rattle.tv_builder.specs.Parts.{Part, number, field, value, array_head, object_head, bytes_head, Trades, same}
 use Rattle.tv_builder.specs.State.{parts_of}
@@ -17,35 +17,35 @@ use Rattle.tv_doc.specs.Builder.{built, state_of}
 use Rattle.tv_legacy.specs.Legacy.{Legacy}
 use Rattle.tv_reader.specs.Finds.{Finds}
 use Rattle.tv_reader.specs.HeadReading.{head_part}
-use Rattle.tv_reader.specs.Heads.{HeadPart, leaf_head, length_head, HasWidth, array_head as array_number, object_head as object_number, tokenized_head, legacy_head, SpellsHead, SpellsKeyHead}
+use Rattle.tv_reader.specs.Heads.{HeadPart, leaf_head, length_head, HasWidth, array_head as array_number, object_head as object_number, tokenized_head, legacy_head, EncodesHead, EncodesKeyHead}
 use Rattle.tv_reader.specs.declared.error.DeserializeError.{DeserializeError}
 use Rattle.tv_reader.specs.declared.error.DeserializeError.TheVariants as errors
 use Rattle.tv_reader.specs.declared.heads.Head.{Head}
 use Rattle.tv_reader.proofs.Finding.{finds_as, finds_short}
-use Rattle.tv_value.specs.Fault.{Refusal}
+use Rattle.tv_value.specs.InputError.{Refusal}
 use Rattle.tv_value.specs.Content.{Content, no_content, truth_content, unsigned_content, signed_content, wide_content, text_content, bytes_content, tokens_content, form_of}
 use Rattle.tv_value.specs.Leaves.{type_of, content, scale}
-use Rattle.tv_value.specs.Spelling.{ContentBody, Spells, NoLegacy}
+use Rattle.tv_value.specs.Encoding.{ContentBody, Encodes, NoLegacy}
 use Rattle.tv_value.specs.Tree.{Tree, leaf, array, object, Entries}
 use Rattle.tv_value.specs.Version.{Version, V1, V2, V3, Scale, Scaled}
 use Rattle.tv_value.specs.Version as scales
 use Rattle.tv_value.specs.declared.leaf.LeafType.TheVariants as leaves
-use Rattle.tv_decoder.specs.Front.{parts_at, parts_read, Lacks, IsPlace, IsSound, LacksPair, NoFront, NoRoomBehind, ValueNext}
+use Rattle.tv_decoder.specs.Prefix.{parts_at, parts_read, Lacks, IsPlace, IsSound, LacksPair, NoPrefix, NoRoomBehind, ValueNext}
 use Rattle.tv_decoder.specs.Puts.{Put, Fills, Puts, IsParts, head_parts}
 use Rattle.tv_decoder.specs.Steps.{Advances, BeginsWith, IsTakenWhole, Stepped}
 use Rattle.tv_decoder.specs.declared.reading.Reading.{Reading}
 
-abbrev pub SpellsIn : (List ℕ → Entries → Type 0) → Version → List ℕ → List Part → Type 0
-SpellsIn L v b ps = Each (SpellsPart L v) b ps
+abbrev pub EncodesIn : (List ℕ → Entries → Type 0) → Version → List ℕ → List Part → Type 0
+EncodesIn L v b ps = Each (EncodesPart L v) b ps
 
-pub one_part : (L : List ℕ → Entries → Type 0) (v : Version) (b : List ℕ) (p : Part) → SpellsPart L v b p → SpellsIn L v b (p ∷ [])
-one_part L v b p h = record { front = b; rest = []; joined = sym (append-nil b); first = h; second = refl }
+pub one_part : (L : List ℕ → Entries → Type 0) (v : Version) (b : List ℕ) (p : Part) → EncodesPart L v b p → EncodesIn L v b (p ∷ [])
+one_part L v b p h = record { prefix = b; rest = []; joined = sym (append-nil b); first = h; second = refl }
 
-pub advances : (L : List ℕ → Entries → Type 0) (v : Version) (old new : Reading) (ps : List Part) (taken : List ℕ) → Trades (parts_read old ++ ps) (parts_read new) → SpellsIn L v taken ps → Advances L v old new taken
-advances L v old new ps taken t h = λ bytes p. trades_sound L v (parts_read old ++ ps) (parts_read new) (bytes ++ taken) t (each_append (SpellsPart L v) (parts_read old) ps bytes taken p h)
+pub advances : (L : List ℕ → Entries → Type 0) (v : Version) (old new : Reading) (ps : List Part) (taken : List ℕ) → Trades (parts_read old ++ ps) (parts_read new) → EncodesIn L v taken ps → Advances L v old new taken
+advances L v old new ps taken t h = λ bytes p. trades_sound L v (parts_read old ++ ps) (parts_read new) (bytes ++ taken) t (each_append (EncodesPart L v) (parts_read old) ps bytes taken p h)
 
-pub stepped : (v : Version) (legacy : Bool) (old new : Reading) (ps : List Part) (taken : List ℕ) → Put old new ps → 0 < length taken → (length taken ≤ 4096) ⊎ IsTakenWhole old taken → SpellsIn Legacy v taken ps → (legacy ≡ false → SpellsIn NoLegacy v taken ps) → Stepped v legacy old new taken
-stepped v legacy old new ps taken p some few spelled plain = record { some = some; few = few; goes = advances Legacy v old new ps taken p.trades spelled; plain = λ e. advances NoLegacy v old new ps taken p.trades (plain e) }
+pub stepped : (v : Version) (legacy : Bool) (old new : Reading) (ps : List Part) (taken : List ℕ) → Put old new ps → 0 < length taken → (length taken ≤ 4096) ⊎ IsTakenWhole old taken → EncodesIn Legacy v taken ps → (legacy ≡ false → EncodesIn NoLegacy v taken ps) → Stepped v legacy old new taken
+stepped v legacy old new ps taken p some few encoded plain = record { some = some; few = few; goes = advances Legacy v old new ps taken p.trades encoded; plain = λ e. advances NoLegacy v old new ps taken p.trades (plain e) }
 
 pub none_seen : (v : Version) (legacy : Bool) (old new : Reading) (taken : List ℕ) → Stepped v false old new taken → Stepped v legacy old new taken
 none_seen v legacy old new taken h = record { some = h.some; few = h.few; goes = h.goes; plain = λ _. h.plain refl }
@@ -119,17 +119,17 @@ field_put r new f sound none lacks small announced finished field_is builder =
 pub record IsPart (v : Version) (legacy : Bool) (old : Reading) (taken : List ℕ) (ps : List Part) : Type 0 where
   pub some : 0 < length taken
   pub few : (length taken ≤ 4096) ⊎ IsTakenWhole old taken
-  pub spelled : SpellsIn Legacy v taken ps
-  pub plain : legacy ≡ false → SpellsIn NoLegacy v taken ps
+  pub encoded : EncodesIn Legacy v taken ps
+  pub plain : legacy ≡ false → EncodesIn NoLegacy v taken ps
 
 pub part_steps : (v : Version) (legacy : Bool) (old new : Reading) (ps : List Part) (taken : List ℕ) → IsPart v legacy old taken ps → Put old new ps → Stepped v legacy old new taken
-part_steps v legacy old new ps taken h p = stepped v legacy old new ps taken p h.some h.few h.spelled h.plain
+part_steps v legacy old new ps taken h p = stepped v legacy old new ps taken p h.some h.few h.encoded h.plain
 
-pub puts_found : {S X : Type 0} {tells : S → Type 0} {left : S → List ℕ} {faults : S → Faults} {os ns : S} {i k : ℕ} {x : X} {A : List ℕ → X → Type 0} {I : List ℕ → Refusal → Type 0} (v : Version) (legacy : Bool) (old new : Reading) (ps : List Part) (result : Result (Unit {0}) DeserializeError)
-    → ((a : List ℕ) → A a x → IsPart v legacy old a ps) → Finds tells left faults os i ns k (Ok x) A I → Puts old new ps result → Finds tells left faults os i ns k result (λ b _. Stepped v legacy old new b) (NoFront v old)
-puts_found v legacy old new ps (Ok y) part h p = finds_as y (λ b _. Stepped v legacy old new b) (NoFront v old) (λ a s. part_steps v legacy old new ps a (part a s) p) h
-puts_found v legacy old new ps (Err errors.HeapFull) part h p = finds_short errors.HeapFull (λ b _. Stepped v legacy old new b) (NoFront v old) refl h
-puts_found v legacy old new ps (Err errors.Memory) part h p = finds_short errors.Memory (λ b _. Stepped v legacy old new b) (NoFront v old) refl h
+pub puts_found : {S X : Type 0} {is_known : S → Type 0} {left : S → List ℕ} {failures : S → Failures} {os ns : S} {i k : ℕ} {x : X} {A : List ℕ → X → Type 0} {I : List ℕ → Refusal → Type 0} (v : Version) (legacy : Bool) (old new : Reading) (ps : List Part) (result : Result (Unit {0}) DeserializeError)
+    → ((a : List ℕ) → A a x → IsPart v legacy old a ps) → Finds is_known left failures os i ns k (Ok x) A I → Puts old new ps result → Finds is_known left failures os i ns k result (λ b _. Stepped v legacy old new b) (NoPrefix v old)
+puts_found v legacy old new ps (Ok y) part h p = finds_as y (λ b _. Stepped v legacy old new b) (NoPrefix v old) (λ a s. part_steps v legacy old new ps a (part a s) p) h
+puts_found v legacy old new ps (Err errors.HeapFull) part h p = finds_short errors.HeapFull (λ b _. Stepped v legacy old new b) (NoPrefix v old) refl h
+puts_found v legacy old new ps (Err errors.Memory) part h p = finds_short errors.Memory (λ b _. Stepped v legacy old new b) (NoPrefix v old) refl h
 puts_found v legacy old new ps (Err (errors.CorruptedValue c)) part h p = absurd p
 puts_found v legacy old new ps (Err (errors.UnsupportedType t)) part h p = absurd p
 puts_found v legacy old new ps (Err (errors.TypeMismatch t u)) part h p = absurd p
@@ -139,36 +139,36 @@ puts_found v legacy old new ps (Err (errors.Io e)) part h p = absurd p
 puts_found v legacy old new ps (Err errors.AlreadyFailed) part h p = absurd p
 
 -- and where there is no room for it
-pub no_room : (v : Version) (old : Reading) (ps : List Part) (whole rest taken : List ℕ) → whole ≡ taken ++ rest → SpellsIn Legacy v taken ps → Fills old ps → NoRoomBehind v old whole
-no_room v old ps whole rest taken joined spelled f = λ bytes p. record {
+pub no_room : (v : Version) (old : Reading) (ps : List Part) (whole rest taken : List ℕ) → whole ≡ taken ++ rest → EncodesIn Legacy v taken ps → Fills old ps → NoRoomBehind v old whole
+no_room v old ps whole rest taken joined encoded f = λ bytes p. record {
   announced = f.announced;
   finished = f.finished;
   field = f.field;
   state = f.state;
-  front = bytes ++ taken;
+  prefix = bytes ++ taken;
   rest = rest;
   joined = ap (λ (z : List ℕ). bytes ++ z) joined ∙ sym (append_assoc bytes taken rest);
   less = f.less;
   is = f.is;
-  spelled = trades_sound Legacy v (parts_read old ++ ps) (open_parts f.announced f.finished f.field f.state) (bytes ++ taken) f.trades (each_append (SpellsPart Legacy v) (parts_read old) ps bytes taken p spelled);
+  encoded = trades_sound Legacy v (parts_read old ++ ps) (open_parts f.announced f.finished f.field f.state) (bytes ++ taken) f.trades (each_append (EncodesPart Legacy v) (parts_read old) ps bytes taken p encoded);
   full = f.full;
 }
 
 full_by : (v : Version) (old new : Reading) (ps : List Part) (result : Result (Unit {0}) DeserializeError) → IsErrOf result errors.HeapFull → Puts old new ps result → Fills old ps
 full_by v old new ps result is p = subst (λ z. Puts old new ps z) is p
 
-pub puts_full : {S X : Type 0} {tells : S → Type 0} {left : S → List ℕ} {faults : S → Faults} {os ns : S} {i k : ℕ} {x : X} {A : List ℕ → X → Type 0} {I : List ℕ → Refusal → Type 0} (v : Version) (legacy : Bool) (old new : Reading) (ps : List Part) (result : Result (Unit {0}) DeserializeError)
-    → ((a : List ℕ) → A a x → IsPart v legacy old a ps) → Finds tells left faults os i ns k (Ok x) A I → Puts old new ps result → tells os → IsErrOf result errors.HeapFull → NoRoomBehind v old (left os)
+pub puts_full : {S X : Type 0} {is_known : S → Type 0} {left : S → List ℕ} {failures : S → Failures} {os ns : S} {i k : ℕ} {x : X} {A : List ℕ → X → Type 0} {I : List ℕ → Refusal → Type 0} (v : Version) (legacy : Bool) (old new : Reading) (ps : List Part) (result : Result (Unit {0}) DeserializeError)
+    → ((a : List ℕ) → A a x → IsPart v legacy old a ps) → Finds is_known left failures os i ns k (Ok x) A I → Puts old new ps result → is_known os → IsErrOf result errors.HeapFull → NoRoomBehind v old (left os)
 puts_full {left = left} {os = os} {ns = ns} v legacy old new ps result part h p t is =
     let f = h.found t in
-    no_room v old ps (left os) (left ns) f.front f.joined (part f.front f.spelled).spelled (full_by v old new ps result is p)
+    no_room v old ps (left os) (left ns) f.prefix f.joined (part f.prefix f.encoded).encoded (full_by v old new ps result is p)
 
 -- ---- the head of a key
 
-pub key_part : (v : Version) (old : Reading) (n : ℕ) (a : List ℕ) → SpellsKeyHead v a n → IsPart v false old a (bytes_head kinds.Key n ∷ [])
-key_part V1 old n a h = record { some = omega (arith, ap length h.joined); few = inl (omega (arith, ap length h.joined, h.spelled.at_most_ten)); spelled = one_part Legacy V1 a (bytes_head kinds.Key n) h; plain = λ _. one_part NoLegacy V1 a (bytes_head kinds.Key n) h }
-key_part V2 old n a h = record { some = omega (arith, ap length h.joined); few = inl (omega (arith, ap length h.joined, h.spelled.at_most_ten)); spelled = one_part Legacy V2 a (bytes_head kinds.Key n) h; plain = λ _. one_part NoLegacy V2 a (bytes_head kinds.Key n) h }
-key_part V3 old n a h = record { some = some_number h; few = inl (omega (arith, h.at_most_ten)); spelled = one_part Legacy V3 a (bytes_head kinds.Key n) h; plain = λ _. one_part NoLegacy V3 a (bytes_head kinds.Key n) h }
+pub key_part : (v : Version) (old : Reading) (n : ℕ) (a : List ℕ) → EncodesKeyHead v a n → IsPart v false old a (bytes_head kinds.Key n ∷ [])
+key_part V1 old n a h = record { some = omega (arith, ap length h.joined); few = inl (omega (arith, ap length h.joined, h.encoded.at_most_ten)); encoded = one_part Legacy V1 a (bytes_head kinds.Key n) h; plain = λ _. one_part NoLegacy V1 a (bytes_head kinds.Key n) h }
+key_part V2 old n a h = record { some = omega (arith, ap length h.joined); few = inl (omega (arith, ap length h.joined, h.encoded.at_most_ten)); encoded = one_part Legacy V2 a (bytes_head kinds.Key n) h; plain = λ _. one_part NoLegacy V2 a (bytes_head kinds.Key n) h }
+key_part V3 old n a h = record { some = some_number h; few = inl (omega (arith, h.at_most_ten)); encoded = one_part Legacy V3 a (bytes_head kinds.Key n) h; plain = λ _. one_part NoLegacy V3 a (bytes_head kinds.Key n) h }
 
 -- ---- the head of a value
 
@@ -177,8 +177,8 @@ truth_length true b h = ap length h
 truth_length false b h = ap length h
 
 scaled_length : (s : Scale) (b : List ℕ) (z : ℤ) → Scaled s b z → length b ≡ 8
-scaled_length scales.plain b z h = length-fixed h.spelled
-scaled_length scales.thousands b z h = length-fixed h.spelled
+scaled_length scales.plain b z h = length-fixed h.encoded
+scaled_length scales.thousands b z h = length-fixed h.encoded
 
 small_content : (s : Scale) (b : List ℕ) (c : Content) → HasWidth (form_of c) → ContentBody s b c → length b ≤ 16
 small_content s b no_content w h = omega (arith, ap length h)
@@ -191,33 +191,33 @@ small_content s b (bytes_content bs) w h = absurd w
 small_content s b (tokens_content t ts) w h = absurd w
 
 -- what is taken of a head is short
-small_part : (v : Version) (h : HeadPart) (a : List ℕ) → IsParts h → SpellsHead v a h → (0 < length a) × (length a ≤ 4096)
-small_part v (leaf_head l) a is h = let p = h.1 in (omega (arith, ap length p.joined), omega (arith, ap length p.joined, small_content (scale v (type_of l)) p.body (content l) h.0 p.spelled))
-small_part v (length_head t n) a is h = let p = h.1 in (omega (arith, ap length p.joined), omega (arith, ap length p.joined, p.spelled.at_most_ten))
+small_part : (v : Version) (h : HeadPart) (a : List ℕ) → IsParts h → EncodesHead v a h → (0 < length a) × (length a ≤ 4096)
+small_part v (leaf_head l) a is h = let p = h.1 in (omega (arith, ap length p.joined), omega (arith, ap length p.joined, small_content (scale v (type_of l)) p.body (content l) h.0 p.encoded))
+small_part v (length_head t n) a is h = let p = h.1 in (omega (arith, ap length p.joined), omega (arith, ap length p.joined, p.encoded.at_most_ten))
 small_part v tokenized_head a is h = absurd is
 small_part v legacy_head a is h = absurd is
-small_part v _ a is h = (omega (arith, ap length h.joined), omega (arith, ap length h.joined, h.spelled.at_most_ten))
+small_part v _ a is h = (omega (arith, ap length h.joined), omega (arith, ap length h.joined, h.encoded.at_most_ten))
 
-head_spells : (L : List ℕ → Entries → Type 0) (v : Version) (h : HeadPart) (a : List ℕ) → IsParts h → SpellsHead v a h → SpellsIn L v a (head_parts h)
-head_spells L v (leaf_head l) a is h = one_part L v a (value (leaf l)) h.1
-head_spells L v (length_head leaves.Str n) a is h = one_part L v a (bytes_head kinds.Str n) h.1
-head_spells L v (length_head leaves.Facet n) a is h = one_part L v a (bytes_head kinds.Facet n) h.1
-head_spells L v (length_head leaves.Bytes n) a is h = one_part L v a (bytes_head kinds.Bytes n) h.1
-head_spells L v (length_head _ n) a is h = absurd h.0
-head_spells L v (array_number n) a is h = one_part L v a (array_head n) h
-head_spells L v (object_number n) a is h = one_part L v a (object_head n) h
-head_spells L v tokenized_head a is h = absurd is
-head_spells L v legacy_head a is h = absurd is
+head_encodes : (L : List ℕ → Entries → Type 0) (v : Version) (h : HeadPart) (a : List ℕ) → IsParts h → EncodesHead v a h → EncodesIn L v a (head_parts h)
+head_encodes L v (leaf_head l) a is h = one_part L v a (value (leaf l)) h.1
+head_encodes L v (length_head leaves.Str n) a is h = one_part L v a (bytes_head kinds.Str n) h.1
+head_encodes L v (length_head leaves.Facet n) a is h = one_part L v a (bytes_head kinds.Facet n) h.1
+head_encodes L v (length_head leaves.Bytes n) a is h = one_part L v a (bytes_head kinds.Bytes n) h.1
+head_encodes L v (length_head _ n) a is h = absurd h.0
+head_encodes L v (array_number n) a is h = one_part L v a (array_head n) h
+head_encodes L v (object_number n) a is h = one_part L v a (object_head n) h
+head_encodes L v tokenized_head a is h = absurd is
+head_encodes L v legacy_head a is h = absurd is
 
-pub head_is_part : (v : Version) (legacy : Bool) (old : Reading) (head : Head) (a : List ℕ) → IsParts (head_part head) → SpellsHead v a (head_part head) → IsPart v legacy old a (head_parts (head_part head))
+pub head_is_part : (v : Version) (legacy : Bool) (old : Reading) (head : Head) (a : List ℕ) → IsParts (head_part head) → EncodesHead v a (head_part head) → IsPart v legacy old a (head_parts (head_part head))
 head_is_part v legacy old head a is h =
     let small = small_part v (head_part head) a is h in
-    record { some = small.0; few = inl small.1; spelled = head_spells Legacy v (head_part head) a is h; plain = λ _. head_spells NoLegacy v (head_part head) a is h }
+    record { some = small.0; few = inl small.1; encoded = head_encodes Legacy v (head_part head) a is h; plain = λ _. head_encodes NoLegacy v (head_part head) a is h }
 
 -- ---- a value that is taken whole
 
 -- behind the codes of a pre-tokenized text there is a leaf
-plain_leaf : (v : Version) (a : List ℕ) (t : Tree) → Spells Legacy v (7 ∷ a) t → Spells NoLegacy v (7 ∷ a) t
+plain_leaf : (v : Version) (a : List ℕ) (t : Tree) → Encodes Legacy v (7 ∷ a) t → Encodes NoLegacy v (7 ∷ a) t
 plain_leaf v a (leaf l) h = h
 plain_leaf v a (array ts) h = absurd (let e : 7 ∷ a ≡ 12 ∷ h.body = h.joined in let k : ◌≡◌ {A = ℕ} 7 12 = cc in omega (arith, k))
 plain_leaf v a (object es) h = elim h [
@@ -225,18 +225,18 @@ plain_leaf v a (object es) h = elim h [
   | inr p ↦ absurd (let e : 7 ∷ a ≡ 8 ∷ p.body = p.joined in let k : ◌≡◌ {A = ℕ} 7 8 = cc in omega (arith, k))
 ]
 
-pub tokenized_part : (v : Version) (legacy : Bool) (old : Reading) (t : Tree) (a : List ℕ) → ValueNext old → (b : List ℕ) → a ≡ 7 ∷ 0 ∷ b → Spells Legacy v a t → IsPart v legacy old a (value t ∷ [])
+pub tokenized_part : (v : Version) (legacy : Bool) (old : Reading) (t : Tree) (a : List ℕ) → ValueNext old → (b : List ℕ) → a ≡ 7 ∷ 0 ∷ b → Encodes Legacy v a t → IsPart v legacy old a (value t ∷ [])
 tokenized_part v legacy old t a next b is h = record {
   some = omega (arith, ap length is);
   few = inr (next, inl (subst (BeginsWith 7) (sym is) refl));
-  spelled = one_part Legacy v a (value t) h;
-  plain = λ _. one_part NoLegacy v a (value t) (subst (λ z. Spells NoLegacy v z t) (sym is) (plain_leaf v (0 ∷ b) t (subst (λ z. Spells Legacy v z t) is h)));
+  encoded = one_part Legacy v a (value t) h;
+  plain = λ _. one_part NoLegacy v a (value t) (subst (λ z. Encodes NoLegacy v z t) (sym is) (plain_leaf v (0 ∷ b) t (subst (λ z. Encodes Legacy v z t) is h)));
 }
 
-pub legacy_part : (v : Version) (old : Reading) (t : Tree) (a : List ℕ) → ValueNext old → (b : List ℕ) → a ≡ 8 ∷ b → Spells Legacy v a t → IsPart v true old a (value t ∷ [])
+pub legacy_part : (v : Version) (old : Reading) (t : Tree) (a : List ℕ) → ValueNext old → (b : List ℕ) → a ≡ 8 ∷ b → Encodes Legacy v a t → IsPart v true old a (value t ∷ [])
 legacy_part v old t a next b is h = record {
   some = omega (arith, ap length is);
   few = inr (next, inr (subst (BeginsWith 8) (sym is) refl));
-  spelled = one_part Legacy v a (value t) h;
+  encoded = one_part Legacy v a (value t) h;
   plain = λ e. absurd (let f : true ≡ false = e in cc);
 }

@@ -7,11 +7,11 @@ use Rattle.tv_builder.proofs.Trading.{trades_as, trades_from, trades_last}
 use Rattle.tv_value.specs.Tree.{Tree, Document}
 
 -- behind other parts
-pub trades_behind : {ps qs : List Part} (front : List Part) → Trades ps qs → Trades (front ++ ps) (front ++ qs)
-trades_behind front same = same
-trades_behind {qs = qs} front (by_rule before old new back rule is next) =
-    by_rule (front ++ before) old new back rule (ap (λ z. front ++ z) is ∙ sym (append_assoc front before (old ++ back)))
-    (trades_from _ (append_assoc front before (new ++ back)) (trades_behind front next))
+pub trades_behind : {ps qs : List Part} (prefix : List Part) → Trades ps qs → Trades (prefix ++ ps) (prefix ++ qs)
+trades_behind prefix same = same
+trades_behind {qs = qs} prefix (by_rule before old new back rule is next) =
+    by_rule (prefix ++ before) old new back rule (ap (λ z. prefix ++ z) is ∙ sym (append_assoc prefix before (old ++ back)))
+    (trades_from _ (append_assoc prefix before (new ++ back)) (trades_behind prefix next))
 
 -- of a value whose field was read
 pub open_trades : (n : ℕ) (d : Document) (f : ℕ) (old new : State) (ps : List Part) → Trades (parts_of old ++ ps) (parts_of new) → Trades (open_parts n d f old ++ ps) (open_parts n d f new)

@@ -3,9 +3,9 @@ use Rattle.std.proofs.Common.{◌≡◌, ◌≢◌, ℕ, ◌-◌, ◌<◌, ◌�
 use Rattle.std.proofs.lemmas.List.{append-nil}
 use Rattle.tv_base.specs.declared.cause.Cause.{Cause}
 use Rattle.tv_base.specs.declared.cause.Cause.TheVariants as causes
-use Rattle.tv_base.specs.PartFault.{BytesFault}
-use Rattle.tv_base.specs.Source.{Faults}
-use Rattle.tv_base.proofs.AgreeWidths.{AreBytes, bytes_fault}
+use Rattle.tv_base.specs.ErrorInPart.{ErrorInBytes}
+use Rattle.tv_base.specs.Source.{Failures}
+use Rattle.tv_base.proofs.AgreeWidths.{AreBytes, bytes_error}
 use Rattle.tv_builder.specs.declared.awaits.Awaits.TheVariants as awaits
 use Rattle.tv_builder.specs.Parts.{Part, some_bytes}
 use Rattle.tv_builder.specs.State.{State, complete, in_lists, in_bytes, awaited}
@@ -13,8 +13,8 @@ use Rattle.tv_doc.specs.Builder.{built, state_of}
 use Rattle.tv_legacy.specs.Legacy.{Legacy}
 use Rattle.tv_reader.specs.Finds.{Refuses, Found, Finds}
 use Rattle.tv_reader.specs.HeadReading.{head_part}
-use Rattle.tv_reader.specs.Heads.{SpellsHead}
-use Rattle.tv_reader.specs.Trees.{SpellsValue, NoValue, SpellsBehind, NoneBehind}
+use Rattle.tv_reader.specs.Heads.{EncodesHead}
+use Rattle.tv_reader.specs.Trees.{EncodesValue, NoValue, EncodesBehind, NoneBehind}
 use Rattle.tv_reader.specs.Error.{store_stop}
 use Rattle.tv_reader.specs.ValueType.{coded}
 use Rattle.tv_reader.specs.declared.error.DeserializeError.{DeserializeError}
@@ -22,19 +22,19 @@ use Rattle.tv_reader.specs.declared.error.DeserializeError.TheVariants as errors
 use Rattle.tv_reader.specs.declared.value_type.ValueType.{ValueType}
 use Rattle.tv_reader.specs.declared.heads.Head.{Head}
 use Rattle.tv_reader.specs.declared.heads.Head.TheVariants as heads
-use Rattle.tv_reader.proofs.BehindKinds.{kind_edge, held_fault}
+use Rattle.tv_reader.proofs.BehindKinds.{kind_edge, held_error}
 use Rattle.tv_value.specs.declared.leaf.LeafType.TheVariants as leaves
 use Rattle.tv_reader.proofs.Finding.{finds_then, finds_as, finds_fails, finds_short}
-use Rattle.tv_value.specs.Fault.{Refusal, corrupted, value_ends, no_extension}
-use Rattle.tv_value.specs.Spelling.{NoLegacy}
+use Rattle.tv_value.specs.InputError.{Refusal, corrupted, value_ends, no_extension}
+use Rattle.tv_value.specs.Encoding.{NoLegacy}
 use Rattle.tv_value.specs.Tree.{Document}
 use Rattle.tv_value.specs.Version.{Version}
 use Rattle.tv_value.specs.declared.owned_value.OwnedValue.{OwnedValue}
-use Rattle.tv_decoder.specs.Front.{IsPlace, IsSound, HasField, NoFront, NoRoomBehind}
+use Rattle.tv_decoder.specs.Prefix.{IsPlace, IsSound, HasField, NoPrefix, NoRoomBehind}
 use Rattle.tv_decoder.specs.Puts.{Awaiting, Fills, Puts, EndNoText, NoText, PutsBytes, IsParts, LetGo, KeepsPairs}
 use Rattle.tv_decoder.specs.Steps.{Stepped}
 use Rattle.tv_decoder.specs.declared.reading.Reading.{Reading}
-use Rattle.tv_decoder.proofs.Faulting.{value_at_fault, end_at_fault, text_at_fault}
+use Rattle.tv_decoder.proofs.WithErrors.{value_at_error, end_at_error, text_at_error}
 use Rattle.tv_decoder.proofs.States.{no_bytes_next}
 use Rattle.tv_decoder.proofs.Stepping.{one_part, IsPart, part_steps, none_seen, no_room}
 
@@ -64,42 +64,42 @@ head_parts_are heads.Legacy t l = absurd (l refl)
 head_parts_are _ t l = tt
 
 seen_as : (v : Version) (legacy : Bool) (old new : Reading) (result : Result (Unit {0}) DeserializeError) (Q : List ℕ → Refusal → Type 0) (a b : List ℕ) (k : ℕ) → Found store_stop end (λ b _. Stepped v false old new b) Q a b k result → Found store_stop end (λ b _. Stepped v legacy old new b) Q a b k result
-seen_as v legacy old new (Ok x) Q a b k h = record { front = h.front; joined = h.joined; spelled = none_seen v legacy old new h.front h.spelled }
+seen_as v legacy old new (Ok x) Q a b k h = record { prefix = h.prefix; joined = h.joined; encoded = none_seen v legacy old new h.prefix h.encoded }
 seen_as v legacy old new (Err e) Q a b k h = h
 
--- no object of an older store is spelled there, whether one was seen before or not
-pub finds_seen : {S : Type 0} {tells : S → Type 0} {left : S → List ℕ} {faults : S → Faults} {os ns : S} {i k : ℕ} {result : Result (Unit {0}) DeserializeError} (v : Version) (legacy : Bool) (old new : Reading)
-    → Finds tells left faults os i ns k result (λ b _. Stepped v false old new b) (NoFront v old) → Finds tells left faults os i ns k result (λ b _. Stepped v legacy old new b) (NoFront v old)
+-- no object of an older store is encoded there, whether one was seen before or not
+pub finds_seen : {S : Type 0} {is_known : S → Type 0} {left : S → List ℕ} {failures : S → Failures} {os ns : S} {i k : ℕ} {result : Result (Unit {0}) DeserializeError} (v : Version) (legacy : Bool) (old new : Reading)
+    → Finds is_known left failures os i ns k result (λ b _. Stepped v false old new b) (NoPrefix v old) → Finds is_known left failures os i ns k result (λ b _. Stepped v legacy old new b) (NoPrefix v old)
 finds_seen {left = left} {os = os} {ns = ns} {k = k} {result = result} v legacy old new h =
-    record { found = λ t. seen_as v legacy old new result (NoFront v old) (left os) (left ns) k (h.found t); taken = h.taken; still_tells = h.still_tells; counts = h.counts; rises = h.rises }
+    record { found = λ t. seen_as v legacy old new result (NoPrefix v old) (left os) (left ns) k (h.found t); taken = h.taken; stays_known = h.stays_known; counts = h.counts; rises = h.rises }
 
 -- ---- a value behind its codes
 
 pub record IsBehind (v : Version) (kind : ValueType) (a : List ℕ) (value : OwnedValue) : Type 0 where
   pub body : List ℕ
   pub joined : a ≡ coded kind ++ body
-  pub spelled : SpellsValue v a value
+  pub encoded : EncodesValue v a value
 
-value_edge : (v : Version) (old : Reading) (kind : ValueType) → Awaiting old awaits.Value → (a start : List ℕ) (byte : ℕ) → a ≡ coded kind → a ≡ start ++ byte ∷ [] → NoFront v old start end
-value_edge v old kind h a start byte is last = kind_edge end (NoFront v old) (value_at_fault v old [] end h value_ends) (value_at_fault v old (7 ∷ []) end h (held_fault leaves.PreTokStr (no_extension refl))) kind start byte (sym is ∙ last)
+value_edge : (v : Version) (old : Reading) (kind : ValueType) → Awaiting old awaits.Value → (a start : List ℕ) (byte : ℕ) → a ≡ coded kind → a ≡ start ++ byte ∷ [] → NoPrefix v old start end
+value_edge v old kind h a start byte is last = kind_edge end (NoPrefix v old) (value_at_error v old [] end h value_ends) (value_at_error v old (7 ∷ []) end h (held_error leaves.PreTokStr (no_extension refl))) kind start byte (sym is ∙ last)
 
-pub whole_found : {S : Type 0} {tells : S → Type 0} {left : S → List ℕ} {faults : S → Faults} {os ms ns : S} {i j k : ℕ} {head : Head} {value : OwnedValue} {I : List ℕ → Refusal → Type 0} (v : Version) (old : Reading) (kind : ValueType) → Awaiting old awaits.Value
-    → ((a : List ℕ) → SpellsHead v a (head_part head) → a ≡ coded kind) → Finds tells left faults os i ms j (Ok head) (λ b x. SpellsHead v b (head_part x)) I → Finds tells left faults ms j ns k (Ok value) (SpellsBehind v kind) (NoneBehind v kind)
-    → Finds tells left faults os i ns k (Ok value) (IsBehind v kind) (NoFront v old)
+pub whole_found : {S : Type 0} {is_known : S → Type 0} {left : S → List ℕ} {failures : S → Failures} {os ms ns : S} {i j k : ℕ} {head : Head} {value : OwnedValue} {I : List ℕ → Refusal → Type 0} (v : Version) (old : Reading) (kind : ValueType) → Awaiting old awaits.Value
+    → ((a : List ℕ) → EncodesHead v a (head_part head) → a ≡ coded kind) → Finds is_known left failures os i ms j (Ok head) (λ b x. EncodesHead v b (head_part x)) I → Finds is_known left failures ms j ns k (Ok value) (EncodesBehind v kind) (NoneBehind v kind)
+    → Finds is_known left failures os i ns k (Ok value) (IsBehind v kind) (NoPrefix v old)
 whole_found {head = head} v old kind h is p q =
-    finds_then (IsBehind v kind) (NoFront v old)
-    (λ a b y r s. record { body = b; joined = ap (λ (z : List ℕ). z ++ b) r; spelled = subst (λ z. SpellsValue v (z ++ b) y) (sym r) s })
-    (λ a w c r f. value_at_fault v old (a ++ w) c h (subst (λ z. NoValue v (z ++ w) c) (sym r) f))
+    finds_then (IsBehind v kind) (NoPrefix v old)
+    (λ a b y r s. record { body = b; joined = ap (λ (z : List ℕ). z ++ b) r; encoded = subst (λ z. EncodesValue v (z ++ b) y) (sym r) s })
+    (λ a w c r f. value_at_error v old (a ++ w) c h (subst (λ z. NoValue v (z ++ w) c) (sym r) f))
     (λ a f r other _ start byte last. value_edge v old kind h a start byte r last)
     (finds_as head (λ a _. a ≡ coded kind) (λ w r. Unit {0}) is p) q
 
-pub whole_fails : {S : Type 0} {tells : S → Type 0} {left : S → List ℕ} {faults : S → Faults} {os ms ns : S} {i j k : ℕ} {head : Head} {e : DeserializeError} {I : List ℕ → Refusal → Type 0} (v : Version) (legacy : Bool) (old new : Reading) (kind : ValueType) → Awaiting old awaits.Value
-    → ((a : List ℕ) → SpellsHead v a (head_part head) → a ≡ coded kind) → Finds tells left faults os i ms j (Ok head) (λ b x. SpellsHead v b (head_part x)) I → Finds {X = OwnedValue} tells left faults ms j ns k (Err e) (SpellsBehind v kind) (NoneBehind v kind)
-    → Finds {X = Unit {0}} tells left faults os i ns k (Err e) (λ b _. Stepped v legacy old new b) (NoFront v old)
+pub whole_fails : {S : Type 0} {is_known : S → Type 0} {left : S → List ℕ} {failures : S → Failures} {os ms ns : S} {i j k : ℕ} {head : Head} {e : DeserializeError} {I : List ℕ → Refusal → Type 0} (v : Version) (legacy : Bool) (old new : Reading) (kind : ValueType) → Awaiting old awaits.Value
+    → ((a : List ℕ) → EncodesHead v a (head_part head) → a ≡ coded kind) → Finds is_known left failures os i ms j (Ok head) (λ b x. EncodesHead v b (head_part x)) I → Finds {X = OwnedValue} is_known left failures ms j ns k (Err e) (EncodesBehind v kind) (NoneBehind v kind)
+    → Finds {X = Unit {0}} is_known left failures os i ns k (Err e) (λ b _. Stepped v legacy old new b) (NoPrefix v old)
 whole_fails {head = head} v legacy old new kind h is p q =
-    finds_then (λ b _. Stepped v legacy old new b) (NoFront v old)
+    finds_then (λ b _. Stepped v legacy old new b) (NoPrefix v old)
     (λ a b y r s. absurd s)
-    (λ a w c r f. value_at_fault v old (a ++ w) c h (subst (λ z. NoValue v (z ++ w) c) (sym r) f))
+    (λ a w c r f. value_at_error v old (a ++ w) c h (subst (λ z. NoValue v (z ++ w) c) (sym r) f))
     (λ a f r other _ start byte last. value_edge v old kind h a start byte r last)
     (finds_as head (λ a _. a ≡ coded kind) (λ w r. Unit {0}) is p) (finds_fails (λ b z. ⊥) (NoneBehind v kind) (λ w c f. f) q)
 
@@ -128,51 +128,51 @@ piece_part : (v : Version) (legacy : Bool) (old : Reading) (n : ℕ) (bytes a : 
 piece_part v legacy old n bytes a some few h = record {
   some = omega (arith, some, h.1.0);
   few = inl (omega (arith, few, h.1.0));
-  spelled = one_part Legacy v a (some_bytes bytes) (piece_is n bytes a h);
+  encoded = one_part Legacy v a (some_bytes bytes) (piece_is n bytes a h);
   plain = λ _. one_part NoLegacy v a (some_bytes bytes) (piece_is n bytes a h);
 }
 
-pub piece_ends : (v : Version) (old : Reading) (n missing : ℕ) (w : List ℕ) (c : Cause) → Awaiting old (awaits.Bytes missing) → n ≤ missing → BytesFault n w c → NoFront v old w (corrupted c)
-piece_ends v old n missing w c h few f = let q = bytes_fault n w c f in subst (λ z. NoFront v old w (corrupted z)) (sym q.0) (end_at_fault v old w missing h (omega (arith, q.1, few)))
+pub piece_ends : (v : Version) (old : Reading) (n missing : ℕ) (w : List ℕ) (c : Cause) → Awaiting old (awaits.Bytes missing) → n ≤ missing → ErrorInBytes n w c → NoPrefix v old w (corrupted c)
+piece_ends v old n missing w c h few f = let q = bytes_error n w c f in subst (λ z. NoPrefix v old w (corrupted z)) (sym q.0) (end_at_error v old w missing h (omega (arith, q.1, few)))
 
 other_cause : corrupted causes.NotUtf8 ≡ end → ⊥
 other_cause e = cc
 
-no_text_refuses : (v : Version) (old : Reading) (n missing : ℕ) (bytes a whole rest : List ℕ) → Awaiting old (awaits.Bytes missing) → n ≤ missing → EndNoText (state_of old.builder) bytes → Piece n bytes a → whole ≡ a ++ rest → Refuses end (NoFront v old) whole rest (corrupted causes.NotUtf8)
+no_text_refuses : (v : Version) (old : Reading) (n missing : ℕ) (bytes a whole rest : List ℕ) → Awaiting old (awaits.Bytes missing) → n ≤ missing → EndNoText (state_of old.builder) bytes → Piece n bytes a → whole ≡ a ++ rest → Refuses end (NoPrefix v old) whole rest (corrupted causes.NotUtf8)
 no_text_refuses v old n missing bytes a whole rest h few none p joined =
     let is = piece_is n bytes a p in
-    let fault : (x : List ℕ) → NoFront v old (a ++ x) (corrupted causes.NotUtf8) = λ x. subst (λ z. NoFront v old (z ++ x) (corrupted causes.NotUtf8)) (sym is) (text_at_fault v old bytes x (awaits.Bytes missing) h none) in
+    let error : (x : List ℕ) → NoPrefix v old (a ++ x) (corrupted causes.NotUtf8) = λ x. subst (λ z. NoPrefix v old (z ++ x) (corrupted causes.NotUtf8)) (sym is) (text_at_error v old bytes x (awaits.Bytes missing) h none) in
     record {
-      stands = subst (λ z. NoFront v old z (corrupted causes.NotUtf8)) (sym joined) (fault rest);
+      stands = subst (λ z. NoPrefix v old z (corrupted causes.NotUtf8)) (sym joined) (error rest);
       shows = record {
         taken = a;
         joined = joined;
-        shown = subst (λ z. NoFront v old z (corrupted causes.NotUtf8)) (append-nil a) (fault []);
+        shown = subst (λ z. NoPrefix v old z (corrupted causes.NotUtf8)) (append-nil a) (error []);
         all = λ e. absurd (other_cause e);
-        early = λ _ start byte last. end_at_fault v old start missing h (omega (arith, ap length last, length-append start (byte ∷ []), p.1.0, few));
+        early = λ _ start byte last. end_at_error v old start missing h (omega (arith, ap length last, length-append start (byte ∷ []), p.1.0, few));
       };
     }
 
 bytes_fill : (old new : Reading) (bytes : List ℕ) (result : Result (Unit {0}) DeserializeError) → IsErrOf result errors.HeapFull → PutsBytes old new bytes (some_bytes bytes ∷ []) result → Fills old (some_bytes bytes ∷ [])
 bytes_fill old new bytes result is q = subst (λ z. PutsBytes old new bytes (some_bytes bytes ∷ []) z) is q
 
-module _ {S X : Type 0} {tells : S → Type 0} {left : S → List ℕ} {faults : S → Faults} {os ns : S} {i k : ℕ} {x : X} {I : List ℕ → Refusal → Type 0} (v : Version) (old new : Reading) (n missing : ℕ) (bytes : List ℕ) where
-  text_refused : (c : Cause) → Awaiting old (awaits.Bytes missing) → n ≤ missing → NoText c (state_of old.builder) bytes → Finds tells left faults os i ns k (Ok x) (λ a _. Piece n bytes a) I
-      → Finds {X = Unit {0}} tells left faults os i ns k (Err (errors.CorruptedValue c)) (λ b _. Stepped v false old new b) (NoFront v old)
+module _ {S X : Type 0} {is_known : S → Type 0} {left : S → List ℕ} {failures : S → Failures} {os ns : S} {i k : ℕ} {x : X} {I : List ℕ → Refusal → Type 0} (v : Version) (old new : Reading) (n missing : ℕ) (bytes : List ℕ) where
+  text_refused : (c : Cause) → Awaiting old (awaits.Bytes missing) → n ≤ missing → NoText c (state_of old.builder) bytes → Finds is_known left failures os i ns k (Ok x) (λ a _. Piece n bytes a) I
+      → Finds {X = Unit {0}} is_known left failures os i ns k (Err (errors.CorruptedValue c)) (λ b _. Stepped v false old new b) (NoPrefix v old)
   text_refused causes.NotUtf8 h few none p = record {
-    found = λ t. λ _. let f = p.found t in no_text_refuses v old n missing bytes f.front (left os) (left ns) h few none f.spelled f.joined;
+    found = λ t. λ _. let f = p.found t in no_text_refuses v old n missing bytes f.prefix (left os) (left ns) h few none f.encoded f.joined;
     taken = p.taken;
-    still_tells = p.still_tells;
+    stays_known = p.stays_known;
     counts = p.counts;
     rises = p.rises;
   }
   text_refused _ h few none p = absurd none
 
-  pub bytes_found : (result : Result (Unit {0}) DeserializeError) → Awaiting old (awaits.Bytes missing) → 0 < n → n ≤ missing → n ≤ 4096 → Finds tells left faults os i ns k (Ok x) (λ a _. Piece n bytes a) I → PutsBytes old new bytes (some_bytes bytes ∷ []) result
-      → Finds tells left faults os i ns k result (λ b _. Stepped v false old new b) (NoFront v old)
-  bytes_found (Ok y) h some few small p q = finds_as y (λ b _. Stepped v false old new b) (NoFront v old) (λ a s. part_steps v false old new (some_bytes bytes ∷ []) a (piece_part v false old n bytes a some small s) q) p
-  bytes_found (Err errors.HeapFull) h some few small p q = finds_short errors.HeapFull (λ b _. Stepped v false old new b) (NoFront v old) refl p
-  bytes_found (Err errors.Memory) h some few small p q = finds_short errors.Memory (λ b _. Stepped v false old new b) (NoFront v old) refl p
+  pub bytes_found : (result : Result (Unit {0}) DeserializeError) → Awaiting old (awaits.Bytes missing) → 0 < n → n ≤ missing → n ≤ 4096 → Finds is_known left failures os i ns k (Ok x) (λ a _. Piece n bytes a) I → PutsBytes old new bytes (some_bytes bytes ∷ []) result
+      → Finds is_known left failures os i ns k result (λ b _. Stepped v false old new b) (NoPrefix v old)
+  bytes_found (Ok y) h some few small p q = finds_as y (λ b _. Stepped v false old new b) (NoPrefix v old) (λ a s. part_steps v false old new (some_bytes bytes ∷ []) a (piece_part v false old n bytes a some small s) q) p
+  bytes_found (Err errors.HeapFull) h some few small p q = finds_short errors.HeapFull (λ b _. Stepped v false old new b) (NoPrefix v old) refl p
+  bytes_found (Err errors.Memory) h some few small p q = finds_short errors.Memory (λ b _. Stepped v false old new b) (NoPrefix v old) refl p
   bytes_found (Err (errors.CorruptedValue c)) h some few small p q = text_refused c h few q p
   bytes_found (Err (errors.UnsupportedType t)) h some few small p q = absurd q
   bytes_found (Err (errors.TypeMismatch t u)) h some few small p q = absurd q
@@ -181,10 +181,10 @@ module _ {S X : Type 0} {tells : S → Type 0} {left : S → List ℕ} {faults :
   bytes_found (Err (errors.Io e)) h some few small p q = absurd q
   bytes_found (Err errors.AlreadyFailed) h some few small p q = absurd q
 
-  pub bytes_full : (result : Result (Unit {0}) DeserializeError) → 0 < n → n ≤ 4096 → Finds tells left faults os i ns k (Ok x) (λ a _. Piece n bytes a) I → PutsBytes old new bytes (some_bytes bytes ∷ []) result → tells os → IsErrOf result errors.HeapFull → NoRoomBehind v old (left os)
+  pub bytes_full : (result : Result (Unit {0}) DeserializeError) → 0 < n → n ≤ 4096 → Finds is_known left failures os i ns k (Ok x) (λ a _. Piece n bytes a) I → PutsBytes old new bytes (some_bytes bytes ∷ []) result → is_known os → IsErrOf result errors.HeapFull → NoRoomBehind v old (left os)
   bytes_full result some small p q t is =
       let f = p.found t in
-      no_room v old (some_bytes bytes ∷ []) (left os) (left ns) f.front f.joined (piece_part v false old n bytes f.front some small f.spelled).spelled (bytes_fill old new bytes result is q)
+      no_room v old (some_bytes bytes ∷ []) (left os) (left ns) f.prefix f.joined (piece_part v false old n bytes f.prefix some small f.encoded).encoded (bytes_fill old new bytes result is q)
 
 pub not_too_long : {C : Type 0} (old new : Reading) (more : List ℕ) (ps : List Part) (result : Result (Unit {0}) DeserializeError) → PutsBytes old new more ps result → IsErrOf result (errors.CorruptedValue causes.TooLong) → C
 not_too_long old new more ps result h is = absurd (subst (λ z. PutsBytes old new more ps z) is h)

@@ -1,9 +1,9 @@
 pub mod Errors
-pub mod Front
+pub mod Prefix
 pub mod Puts
 pub mod Steps
 pub mod Sound
 pub mod Paid
 pub mod Decoder
 pub mod Documents
-pub mod AtHand
+pub mod Buffered

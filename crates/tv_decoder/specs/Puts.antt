@@ -17,7 +17,7 @@ use Rattle.tv_reader.specs.declared.error.DeserializeError.TheVariants as errors
 use Rattle.tv_value.specs.Tree.{Document, leaf}
 use Rattle.tv_value.specs.declared.leaf.LeafType.{LeafType}
 use Rattle.tv_value.specs.declared.leaf.LeafType.TheVariants as leaves
-use Rattle.tv_decoder.specs.Front.{parts_read, IsSound, HasField}
+use Rattle.tv_decoder.specs.Prefix.{parts_read, IsSound, HasField}
 use Rattle.tv_decoder.specs.declared.reading.Reading.{Reading}
 
 -- ---- before what is finished is closed
@@ -55,12 +55,12 @@ pub record Awaiting (r : Reading) (what : Awaits) : Type 0 where
 
 -- ---- what a call leaves
 
--- Whatever spells what had come, with the part behind it, spells what has come now.
+-- Whatever encodes what had come, with the part behind it, encodes what has come now.
 pub record Put (old new : Reading) (ps : List Part) : Type 0 where
   pub sound : IsSound new
   pub trades : Trades (parts_read old ++ ps) (parts_read new)
 
--- it spells what has no room
+-- it encodes what has no room
 pub record Fills (old : Reading) (ps : List Part) : Type 0 where
   pub announced : ℕ
   pub finished : Document

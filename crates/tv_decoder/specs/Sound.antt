@@ -7,7 +7,7 @@ use Rattle.tv_builder.specs.State.{State, complete, in_lists, in_bytes}
 use Rattle.tv_doc.specs.Builder.{built, state_of}
 use Rattle.tv_value.specs.Tree.{Document}
 use Rattle.tv_value.specs.TreeCode.{coded_document}
-use Rattle.tv_decoder.specs.Front.{Lacks, IsPlace, IsSound}
+use Rattle.tv_decoder.specs.Prefix.{Lacks, IsPlace, IsSound}
 use Rattle.tv_decoder.specs.declared.reading.Reading.{Reading}
 
 Lacks-prop : (s : State) → IsProp (Lacks s)

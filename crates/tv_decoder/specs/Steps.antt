@@ -1,16 +1,16 @@
 -- What a step of a reader takes, and what has come then.
 use Rattle.std.specs.Prelude.{◌≡◌, ℕ, ◌<◌, ◌≤◌, ◌⊎◌, Bool, true, false, List, [], ◌∷◌, ◌++◌, length}
-use Rattle.tv_builder.specs.Front.{Spelled}
+use Rattle.tv_builder.specs.Prefix.{Encoded}
 use Rattle.tv_legacy.specs.Legacy.{Legacy}
-use Rattle.tv_value.specs.Spelling.{NoLegacy}
+use Rattle.tv_value.specs.Encoding.{NoLegacy}
 use Rattle.tv_value.specs.Tree.{Entries}
 use Rattle.tv_value.specs.Version.{Version}
-use Rattle.tv_decoder.specs.Front.{parts_read, ValueNext}
+use Rattle.tv_decoder.specs.Prefix.{parts_read, ValueNext}
 use Rattle.tv_decoder.specs.declared.reading.Reading.{Reading}
 
--- whatever spells what had come, with these bytes behind it, spells what has come now
+-- whatever encodes what had come, with these bytes behind it, encodes what has come now
 abbrev pub Advances : (List ℕ → Entries → Type 0) → Version → Reading → Reading → List ℕ → Type 0
-Advances L v old new taken = (bytes : List ℕ) → Spelled L v bytes (parts_read old) → Spelled L v (bytes ++ taken) (parts_read new)
+Advances L v old new taken = (bytes : List ℕ) → Encoded L v bytes (parts_read old) → Encoded L v (bytes ++ taken) (parts_read new)
 
 abbrev pub BeginsWith : ℕ → List ℕ → Type 0
 BeginsWith code [] = ⊥
@@ -21,7 +21,7 @@ abbrev pub IsTakenWhole : Reading → List ℕ → Type 0
 IsTakenWhole r bytes = ValueNext r × (BeginsWith 7 bytes ⊎ BeginsWith 8 bytes)
 
 -- A step took these bytes: one at least, and at most 4096 unless a value was taken whole. Where no object of an older store was seen, none
--- is spelled by them.
+-- is encoded by them.
 pub record Stepped (v : Version) (legacy_seen : Bool) (old new : Reading) (taken : List ℕ) : Type 0 where
   pub some : 0 < length taken
   pub few : (length taken ≤ 4096) ⊎ IsTakenWhole old taken

@@ -2,18 +2,18 @@
 
 ghost use Rattle.std.specs.Prelude.{◌≡◌, ◌↔◌, ◌-◌, ◌^◌, List, ℕ, [], length, true, false, Ok, Err, IfOk, OnOk, OnErr, IsErrOf};
 ghost use Rattle.tv_base.specs.declared.cause.Cause.TheVariants.{TooLong};
-ghost use Rattle.tv_decoder.specs.Front.{parts_read, IsSound, IsDone, NoFront, NoRoomBehind};
+ghost use Rattle.tv_decoder.specs.Prefix.{parts_read, IsSound, IsDone, NoPrefix, NoRoomBehind};
 ghost use Rattle.tv_decoder.specs.Paid.{PaidBy};
 ghost use Rattle.tv_decoder.specs.Sound.{SoundUnless-prop};
 ghost use Rattle.tv_decoder.specs.Steps.{Stepped, Sees};
 ghost use Rattle.tv_doc.specs.Builder.{built, state_of, heap_so_far};
 ghost use Rattle.tv_doc.specs.Document.{document_of};
-ghost use Rattle.tv_builder.specs.Front.{Spelled};
+ghost use Rattle.tv_builder.specs.Prefix.{Encoded};
 ghost use Rattle.tv_builder.specs.State.{lists_of, children_of};
 ghost use Rattle.tv_reader.specs.Finds.{Finds};
 ghost use Rattle.tv_reader.specs.Version.{version_of};
 ghost use Rattle.tv_reader.specs.declared.error.DeserializeError.TheVariants.{AlreadyFailed, CorruptedValue, HeapFull};
-ghost use Rattle.tv_value.specs.Spelling.{NoLegacy};
+ghost use Rattle.tv_value.specs.Encoding.{NoLegacy};
 
 use crate::reading::Reading;
 use std::alloc::Global;
@@ -21,7 +21,7 @@ use tv_base::ByteSource;
 use tv_doc::document::CompactDoc;
 use tv_reader::{DeserializeError, DocStoreVersion};
 
-/// Whether a step was the last. (Own.)
+/// Whether a step was the last. (Not in tantivy.)
 #[derive(Clone, Copy, Debug, PartialEq, Eq)]
 pub enum Step {
     /// More is to be read.
@@ -30,7 +30,7 @@ pub enum Step {
     Done,
 }
 
-/// A document that is read step by step, straight into its heap. (Own.)
+/// A document that is read step by step, straight into its heap. (Not in tantivy.)
 ///
 /// A step reads the number of the pairs, a field, the head of a key or a value (all of a value of a known width, of a pre-tokenized text
 /// and of an object as older stores hold it), or at most 4096 bytes of a text, a facet, bytes or a key. It is lent the source, so the
@@ -74,23 +74,23 @@ impl DirectDecoder {
     /// Reads the next part from the source, and says whether it was the last. Once all pairs are finished it answers `Done` and reads
     /// nothing.
     ///
-    /// Errors: `AlreadyFailed` after a refusal; `CorruptedValue` and `TypeMismatch` with the first fault in the bytes; `HeapFull` where
+    /// Errors: `AlreadyFailed` after a refusal; `CorruptedValue` and `TypeMismatch` with the first error in the bytes; `HeapFull` where
     /// what has come needs more room than 4294967295 bytes; `Io` where the source failed; `Memory`.
     pub fn step<S: ByteSource>(&mut self, source: &mut S) -> Result<Step, DeserializeError>
         // after a refusal, and once all is read, nothing happens
         ensures refused { self.old.failed ≡ true → Rests self.old self.new source.old source.new result (Err AlreadyFailed) }
         ensures finished { self.old.failed ≡ false → IsDone self.old.reading → Rests self.old self.new source.old source.new result (Ok Step.Done) }
 
-        // what was taken, and what has come then; or what is at fault
-        ensures finds { self.old.failed ≡ false → ¬ IsDone self.old.reading → Finds S.tells S.left S.faults source.old self.old.count source.new self.new.count result (λ b _. Stepped (version_of self.old.version) self.new.legacy_seen self.old.reading self.new.reading b) (NoFront (version_of self.old.version) self.old.reading) }
-        ensures full { S.tells source.old → IsErrOf result HeapFull → NoRoomBehind (version_of self.old.version) self.old.reading (S.left source.old) }
+        // what was taken, and what has come then; or what is malformed
+        ensures finds { self.old.failed ≡ false → ¬ IsDone self.old.reading → Finds S.is_known S.left S.failures source.old self.old.count source.new self.new.count result (λ b _. Stepped (version_of self.old.version) self.new.legacy_seen self.old.reading self.new.reading b) (NoPrefix (version_of self.old.version) self.old.reading) }
+        ensures full { S.is_known source.old → IsErrOf result HeapFull → NoRoomBehind (version_of self.old.version) self.old.reading (S.left source.old) }
         ensures done { IfOk result (λ step. SaysDone step ↔ IsDone self.new.reading) }
         ensures live { OnOk result (self.new.failed ≡ false) }
         ensures mark { OnErr result (self.new.failed ≡ true) }
 
         // objects of older stores, and what is paid for by the bytes that were read
-        ensures seen { S.tells source.old → Sees self.old.reading (S.left source.old) self.old.legacy_seen self.new.legacy_seen }
-        ensures paid { S.tells source.old → self.old.failed ≡ false → (bytes : List ℕ) → Spelled NoLegacy (version_of self.old.version) bytes (parts_read self.old.reading) → self.old.count ≡ length bytes → self.new.legacy_seen ≡ false → PaidBy self.new.reading.builder self.new.count }
+        ensures seen { S.is_known source.old → Sees self.old.reading (S.left source.old) self.old.legacy_seen self.new.legacy_seen }
+        ensures paid { S.is_known source.old → self.old.failed ≡ false → (bytes : List ℕ) → Encoded NoLegacy (version_of self.old.version) bytes (parts_read self.old.reading) → self.old.count ≡ length bytes → self.new.legacy_seen ≡ false → PaidBy self.new.reading.builder self.new.count }
         ensures version { self.new.version ≡ self.old.version }
     {
         if self.failed {

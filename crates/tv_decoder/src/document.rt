@@ -2,13 +2,13 @@
 
 ghost use Rattle.std.specs.Prelude.{◌≡◌, ◌-◌, ◌^◌, IsErrOf};
 ghost use Rattle.tv_base.specs.declared.cause.Cause.TheVariants.{TooLong};
-ghost use Rattle.tv_decoder.specs.Documents.{SpellsRead, SpellsBehind, NoDocument};
-ghost use Rattle.tv_decoder.specs.Front.{IsSound, NoFront, HasNoRoom, NoRoomBehind};
+ghost use Rattle.tv_decoder.specs.Documents.{EncodesRead, EncodesBehind, NoDocument};
+ghost use Rattle.tv_decoder.specs.Prefix.{IsSound, NoPrefix, HasNoRoom, NoRoomBehind};
 ghost use Rattle.tv_reader.specs.Finds.{Finds};
 ghost use Rattle.tv_reader.specs.Version.{version_of};
 ghost use Rattle.tv_reader.specs.declared.error.DeserializeError.TheVariants.{CorruptedValue, HeapFull};
 
-use crate::at_hand::take_pairs_at_hand;
+use crate::buffered::take_buffered_pairs;
 use crate::reading::Reading;
 use std::alloc::Global;
 use tv_base::{ByteSource, Cause};
@@ -28,8 +28,8 @@ fn take_rest<S: ByteSource>(
     begun: Reading,
 ) -> Result<CompactDoc, DeserializeError>
     requires { IsSound begun }
-    ensures finds { Finds S.tells S.left S.faults source.old count.old source.new count.new result (SpellsBehind (version_of version) begun) (NoFront (version_of version) begun) }
-    ensures full { S.tells source.old → IsErrOf result HeapFull → NoRoomBehind (version_of version) begun (S.left source.old) }
+    ensures finds { Finds S.is_known S.left S.failures source.old count.old source.new count.new result (EncodesBehind (version_of version) begun) (NoPrefix (version_of version) begun) }
+    ensures full { S.is_known source.old → IsErrOf result HeapFull → NoRoomBehind (version_of version) begun (S.left source.old) }
     ensures too_long { IsErrOf result (CorruptedValue TooLong) → count.new ≡ 2 ^ 64 - 1 }
 {
     let mut reading = begun;
@@ -41,7 +41,7 @@ fn take_rest<S: ByteSource>(
             return Ok(reading.into_doc());
         }
         reading.advance(alloc, source, count, version, &mut legacy_seen, &mut bytes)?;
-        reading = reading.with_pairs_at_hand(source, count, version)?;
+        reading = reading.with_buffered_pairs(source, count, version)?;
     }
     let _taken = *count;
     *count = u64::MAX;
@@ -51,7 +51,7 @@ fn take_rest<S: ByteSource>(
 /// Takes a document: the number of its pairs, and each pair, to any depth, by a recursion of 64 levels at most. Nothing is reserved from
 /// announced numbers, and no byte behind the document is taken.
 ///
-/// Errors: `CorruptedValue` and `TypeMismatch` with the first fault in the bytes; `HeapFull` where what has come needs more room than
+/// Errors: `CorruptedValue` and `TypeMismatch` with the first error in the bytes; `HeapFull` where what has come needs more room than
 /// 4294967295 bytes; `Io` where the source failed; `Memory` where memory was refused, or the source doesn't let bytes pass that it lent.
 pub fn take_document<S: ByteSource>(
     alloc: Global,
@@ -59,13 +59,13 @@ pub fn take_document<S: ByteSource>(
     count: &mut u64,
     version: DocStoreVersion,
 ) -> Result<CompactDoc, DeserializeError>
-    ensures finds { Finds S.tells S.left S.faults source.old count.old source.new count.new result (SpellsRead (version_of version)) (NoDocument (version_of version)) }
-    ensures full { S.tells source.old → IsErrOf result HeapFull → HasNoRoom (version_of version) (S.left source.old) }
+    ensures finds { Finds S.is_known S.left S.failures source.old count.old source.new count.new result (EncodesRead (version_of version)) (NoDocument (version_of version)) }
+    ensures full { S.is_known source.old → IsErrOf result HeapFull → HasNoRoom (version_of version) (S.left source.old) }
     ensures too_long { IsErrOf result (CorruptedValue TooLong) → count.new ≡ 2 ^ 64 - 1 }
 {
     let announced = take_document_head(source, count)?;
     let mut document = CompactDoc::with_capacity(alloc, SHORT_HEAP)?;
-    let finished = take_pairs_at_hand(&mut document, source, count, version, announced)?;
+    let finished = take_buffered_pairs(&mut document, source, count, version, announced)?;
     if finished == announced {
         return Ok(document);
     }

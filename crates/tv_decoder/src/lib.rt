@@ -1,7 +1,7 @@
 //! Reading documents of the store part by part, straight into a heap, with as much memory as was read.
 #![tactic(auto)]
 
-mod at_hand;
+mod buffered;
 pub mod direct_decoder;
 pub mod document;
 mod errors;

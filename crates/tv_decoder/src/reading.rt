@@ -7,8 +7,8 @@ ghost use Rattle.tv_builder.specs.Parts.{value as value_part, array_head, object
 ghost use Rattle.tv_builder.specs.State.{awaited, head_awaits, lists_of, children_of};
 ghost use Rattle.tv_builder.specs.declared.awaits.Awaits.TheVariants.{Value as ValueAwaited, Key as KeyAwaited, Bytes as BytesAwaited};
 ghost use Rattle.tv_builder.specs.declared.bytes_kind.BytesKind.TheVariants.{Key as KeyKind};
-ghost use Rattle.tv_decoder.specs.AtHand.{Nothing};
-ghost use Rattle.tv_decoder.specs.Front.{parts_read, IsSound, IsDone, LacksPair, NoFront, NoRoomBehind};
+ghost use Rattle.tv_decoder.specs.Buffered.{Nothing};
+ghost use Rattle.tv_decoder.specs.Prefix.{parts_read, IsSound, IsDone, LacksPair, NoPrefix, NoRoomBehind};
 ghost use Rattle.tv_decoder.specs.Puts.{IsOpen, AtEnd, Awaiting, Puts, PutsEnd, PutsBytes, IsParts, bytes_kind, head_parts, LetGo, KeepsPairs};
 ghost use Rattle.tv_decoder.specs.Steps.{Advances, Stepped, Sees};
 ghost use Rattle.tv_doc.specs.Builder.{built, state_of, heap_so_far};
@@ -23,7 +23,7 @@ ghost use Rattle.tv_value.specs.Owned.{owned_tree};
 ghost use Rattle.tv_value.specs.Tree.{leaf as leaf_tree};
 ghost use Rattle.tv_value.specs.Version.{Version, V2};
 
-use crate::at_hand::take_pairs_at_hand;
+use crate::buffered::take_buffered_pairs;
 use crate::errors::store_error;
 use std::alloc::Global;
 use tv_base::ByteSource;
@@ -101,7 +101,7 @@ impl Reading {
     /// Where a pair is awaited, the next pairs that the source has whole at hand, at once, as far as that can be. It may read none.
     ///
     /// The only error is `Memory`, where a source doesn't give the bytes that it lends.
-    pub(crate) fn with_pairs_at_hand<S: ByteSource>(
+    pub(crate) fn with_buffered_pairs<S: ByteSource>(
         self,
         source: &mut S,
         count: &mut u64,
@@ -109,19 +109,19 @@ impl Reading {
     ) -> Result<Reading, DeserializeError>
         requires { IsSound self }
         ensures sound { IfOk result IsSound }
-        ensures finds { Finds S.tells S.left S.faults source.old count.old source.new count.new result (λ b r. Advances Legacy (version_of version) self r b) Nothing }
+        ensures finds { Finds S.is_known S.left S.failures source.old count.old source.new count.new result (λ b r. Advances Legacy (version_of version) self r b) Nothing }
         ensures memory { IfErr result (λ e. e ≡ NoMemory) }
     {
         let (Some(announced), None) = (self.announced, self.field) else {
             return Ok(self);
         };
-        if source.at_hand().is_empty() {
+        if source.buffered().is_empty() {
             return Ok(self);
         }
         let finished = self.finished;
         let mut document = self.builder.into_doc();
         let most = announced - finished;
-        let more = take_pairs_at_hand(&mut document, source, count, version, most)?;
+        let more = take_buffered_pairs(&mut document, source, count, version, most)?;
         Ok(Reading::between_pairs(announced, finished + more, document))
     }
 
@@ -318,7 +318,7 @@ impl Reading {
         requires none { self.old.announced ≡ None }
         ensures sound { OnOk result (IsSound self.new) }
         ensures left { OnErr result (KeepsPairs self.old self.new) }
-        ensures finds { (v : Version) → Finds S.tells S.left S.faults source.old count.old source.new count.new result (λ b _. Stepped v false self.old self.new b) (NoFront v self.old) }
+        ensures finds { (v : Version) → Finds S.is_known S.left S.failures source.old count.old source.new count.new result (λ b _. Stepped v false self.old self.new b) (NoPrefix v self.old) }
         ensures too_long { IsErrOf result (CorruptedValue TooLong) → count.new ≡ 2 ^ 64 - 1 }
         ensures roomy { ¬ IsErrOf result HeapFull }
     {
@@ -338,7 +338,7 @@ impl Reading {
         requires lacks { LacksPair self.old.announced self.old.finished }
         ensures sound { OnOk result (IsSound self.new) }
         ensures left { OnErr result (KeepsPairs self.old self.new) }
-        ensures finds { (v : Version) → Finds S.tells S.left S.faults source.old count.old source.new count.new result (λ b _. Stepped v false self.old self.new b) (NoFront v self.old) }
+        ensures finds { (v : Version) → Finds S.is_known S.left S.failures source.old count.old source.new count.new result (λ b _. Stepped v false self.old self.new b) (NoPrefix v self.old) }
         ensures too_long { IsErrOf result (CorruptedValue TooLong) → count.new ≡ 2 ^ 64 - 1 }
         ensures roomy { ¬ IsErrOf result HeapFull }
     {
@@ -359,10 +359,10 @@ impl Reading {
         requires { Awaiting self.old ValueAwaited }
         ensures sound { OnOk result (IsSound self.new) }
         ensures left { OnErr result (KeepsPairs self.old self.new) }
-        ensures finds { Finds S.tells S.left S.faults source.old count.old source.new count.new result (λ b _. Stepped (version_of version) legacy_seen.new self.old self.new b) (NoFront (version_of version) self.old) }
-        ensures full { S.tells source.old → IsErrOf result HeapFull → NoRoomBehind (version_of version) self.old (S.left source.old) }
+        ensures finds { Finds S.is_known S.left S.failures source.old count.old source.new count.new result (λ b _. Stepped (version_of version) legacy_seen.new self.old self.new b) (NoPrefix (version_of version) self.old) }
+        ensures full { S.is_known source.old → IsErrOf result HeapFull → NoRoomBehind (version_of version) self.old (S.left source.old) }
         ensures too_long { IsErrOf result (CorruptedValue TooLong) → count.new ≡ 2 ^ 64 - 1 }
-        ensures seen { S.tells source.old → Sees self.old (S.left source.old) legacy_seen.old legacy_seen.new }
+        ensures seen { S.is_known source.old → Sees self.old (S.left source.old) legacy_seen.old legacy_seen.new }
     {
         let head = take_head(source, count, version)?;
         match head {
@@ -389,8 +389,8 @@ impl Reading {
         requires { Awaiting self.old KeyAwaited }
         ensures sound { OnOk result (IsSound self.new) }
         ensures left { OnErr result (KeepsPairs self.old self.new) }
-        ensures finds { Finds S.tells S.left S.faults source.old count.old source.new count.new result (λ b _. Stepped (version_of version) false self.old self.new b) (NoFront (version_of version) self.old) }
-        ensures full { S.tells source.old → IsErrOf result HeapFull → NoRoomBehind (version_of version) self.old (S.left source.old) }
+        ensures finds { Finds S.is_known S.left S.failures source.old count.old source.new count.new result (λ b _. Stepped (version_of version) false self.old self.new b) (NoPrefix (version_of version) self.old) }
+        ensures full { S.is_known source.old → IsErrOf result HeapFull → NoRoomBehind (version_of version) self.old (S.left source.old) }
         ensures too_long { IsErrOf result (CorruptedValue TooLong) → count.new ≡ 2 ^ 64 - 1 }
     {
         let len = take_key_head(source, count, version)?;
@@ -408,8 +408,8 @@ impl Reading {
         requires awaiting { Awaiting self.old (BytesAwaited missing) }
         ensures sound { OnOk result (IsSound self.new) }
         ensures left { OnErr result (KeepsPairs self.old self.new) }
-        ensures finds { (v : Version) → Finds S.tells S.left S.faults source.old count.old source.new count.new result (λ b _. Stepped v false self.old self.new b) (NoFront v self.old) }
-        ensures full { (v : Version) → S.tells source.old → IsErrOf result HeapFull → NoRoomBehind v self.old (S.left source.old) }
+        ensures finds { (v : Version) → Finds S.is_known S.left S.failures source.old count.old source.new count.new result (λ b _. Stepped v false self.old self.new b) (NoPrefix v self.old) }
+        ensures full { (v : Version) → S.is_known source.old → IsErrOf result HeapFull → NoRoomBehind v self.old (S.left source.old) }
         ensures too_long { IsErrOf result (CorruptedValue TooLong) → count.new ≡ 2 ^ 64 - 1 }
     {
         let len = missing.min(PIECE);
@@ -423,7 +423,7 @@ impl Reading {
     ///
     /// `bytes` is a buffer for at most 4096 bytes, which may be lent to one step after the other.
     ///
-    /// Errors: `CorruptedValue` and `TypeMismatch` with the first fault in the bytes, `HeapFull` where what has come needs more room
+    /// Errors: `CorruptedValue` and `TypeMismatch` with the first error in the bytes, `HeapFull` where what has come needs more room
     /// than 4294967295 bytes, `Io` where the source failed, `Memory`.
     pub fn advance<S: ByteSource>(
         &mut self,
@@ -438,10 +438,10 @@ impl Reading {
         requires more { ¬ IsDone self.old }
         ensures sound { OnOk result (IsSound self.new) }
         ensures left { OnErr result (KeepsPairs self.old self.new) }
-        ensures finds { Finds S.tells S.left S.faults source.old count.old source.new count.new result (λ b _. Stepped (version_of version) legacy_seen.new self.old self.new b) (NoFront (version_of version) self.old) }
-        ensures full { S.tells source.old → IsErrOf result HeapFull → NoRoomBehind (version_of version) self.old (S.left source.old) }
+        ensures finds { Finds S.is_known S.left S.failures source.old count.old source.new count.new result (λ b _. Stepped (version_of version) legacy_seen.new self.old self.new b) (NoPrefix (version_of version) self.old) }
+        ensures full { S.is_known source.old → IsErrOf result HeapFull → NoRoomBehind (version_of version) self.old (S.left source.old) }
         ensures too_long { IsErrOf result (CorruptedValue TooLong) → count.new ≡ 2 ^ 64 - 1 }
-        ensures seen { S.tells source.old → Sees self.old (S.left source.old) legacy_seen.old legacy_seen.new }
+        ensures seen { S.is_known source.old → Sees self.old (S.left source.old) legacy_seen.old legacy_seen.new }
     {
         if self.announced.is_none() {
             return self.step_number(source, count);

@@ -20,8 +20,8 @@ one_keeps field t old new (Ok x) adds =
     record { document = added.document; heap = (added.added, added.heap); added_places = (added.code, added.at) ∷ []; places = added.places }
 one_keeps field t old new (Err e) adds = unchanged_keeps old new adds.1
 
-front_of_front : {X : Type 0} (a b c x y : List X) → b ≡ a ++ x → c ≡ b ++ y → c ≡ a ++ (x ++ y)
-front_of_front a b c x y p q = q ∙ ap (λ z. z ++ y) p ∙ append_assoc a x y
+prefix_of_prefix : {X : Type 0} (a b c x y : List X) → b ≡ a ++ x → c ≡ b ++ y → c ≡ a ++ (x ++ y)
+prefix_of_prefix a b c x y p q = q ∙ ap (λ z. z ++ y) p ∙ append_assoc a x y
 
 pub runs_keep : (additions : List Addition) (old new : CompactDoc) → Runs additions old new → Keeps (accepted additions) old new
 runs_keep [] old new same = unchanged_keeps old new same
@@ -29,8 +29,8 @@ runs_keep (a ∷ rest) old new run =
     let one = one_keeps a.field a.tree old run.0 a.answer run.1 in
     let others = runs_keep rest run.0 new run.2 in
     record {
-      document = front_of_front (document_of old) (document_of run.0) (document_of new) (pair_of a.answer a.field a.tree) (accepted rest) one.document others.document;
-      heap = (one.heap.0 ++ others.heap.0, front_of_front (heap_of old) (heap_of run.0) (heap_of new) one.heap.0 others.heap.0 one.heap.1 others.heap.1);
+      document = prefix_of_prefix (document_of old) (document_of run.0) (document_of new) (pair_of a.answer a.field a.tree) (accepted rest) one.document others.document;
+      heap = (one.heap.0 ++ others.heap.0, prefix_of_prefix (heap_of old) (heap_of run.0) (heap_of new) one.heap.0 others.heap.0 one.heap.1 others.heap.1);
       added_places = one.added_places ++ others.added_places;
-      places = front_of_front (places_of old) (places_of run.0) (places_of new) one.added_places others.added_places one.places others.places;
+      places = prefix_of_prefix (places_of old) (places_of run.0) (places_of new) one.added_places others.added_places one.places others.places;
     }

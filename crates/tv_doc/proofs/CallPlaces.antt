@@ -55,10 +55,10 @@ pieces_at b ls kind n bs s =
       same_kind = s.at.same_kind;
       counted = at.counted;
       last = λ none.
-          let front = at.before ++ vnum n in
-          let whole : b.heap.items ≡ front ++ bs = at.joined ∙ sym (append_assoc at.before (vnum n) bs) in
-          let k : length b.heap.items - s.at.piece.announced ≡ length front = omega (arith, ap length whole, length-append front bs, at.counted, none, s.at.same_announced) in
-          (λ j. drop (k j) (whole j)) ∙ drop-append_seam front bs;
+          let prefix = at.before ++ vnum n in
+          let whole : b.heap.items ≡ prefix ++ bs = at.joined ∙ sym (append_assoc at.before (vnum n) bs) in
+          let k : length b.heap.items - s.at.piece.announced ≡ length prefix = omega (arith, ap length whole, length-append prefix bs, at.counted, none, s.at.same_announced) in
+          (λ j. drop (k j) (whole j)) ∙ drop-append_seam prefix bs;
     }
 
 -- it is known, since each part of it has one proof

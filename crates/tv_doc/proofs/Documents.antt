@@ -17,7 +17,7 @@ use Rattle.tv_doc.specs.Holds.{ReadsPair, ReadsPairs, Holds, one_document}
 use Rattle.tv_heap.specs.Room.{room, document_room}
 use Rattle.tv_heap.specs.Weight.{tree_weight, document_weight}
 use Rattle.tv_heap.specs.TypeCode.{type_code}
-use Rattle.tv_base.specs.Sink.{IsFront}
+use Rattle.tv_base.specs.Sink.{IsPrefix}
 use Rattle.tv_heap.specs.Wrote.{Wrote}
 use Rattle.tv_heap.proofs.Grown.{grown}
 
@@ -109,7 +109,7 @@ pub kept_fits : (old : CompactDoc) (heap : List ℕ) → heap ≡ heap_of old �
 kept_fits old heap e = omega (arith, ap length e, old.fits)
 
 -- what was written is cut off again
-pub restored : (old mid : List ℕ) (n : ℕ) → IsFront old mid → n ≡ length old → take n mid ≡ old
+pub restored : (old mid : List ℕ) (n : ℕ) → IsPrefix old mid → n ≡ length old → take n mid ≡ old
 restored old mid n f e = (λ i. take (e i) (f.1 i)) ∙ take-append_seam old f.0
 
 pairs_length : (heap : List ℕ) (ps : List FieldValueAddr) (d : Document) → ReadsPairs heap ps d → length ps ≡ length d

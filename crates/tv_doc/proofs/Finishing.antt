@@ -21,7 +21,7 @@ use Rattle.tv_builder.specs.Shows.{Shows, Stands}
 use Rattle.tv_builder.specs.State.{State, complete, in_lists, in_bytes, written}
 use Rattle.tv_doc.specs.declared.builder.TreeBuilder.{TreeBuilder}
 use Rattle.tv_doc.specs.declared.place.FieldValueAddr.{FieldValueAddr}
-use Rattle.tv_doc.specs.Building.{HoldsFront, Kept, KeptNot, WhyNoPair}
+use Rattle.tv_doc.specs.Building.{HoldsPrefix, Kept, KeptNot, WhyNoPair}
 use Rattle.tv_doc.specs.Builder.{built, state_of, heap_so_far, Fails, Finished, FinishesIf, Finishes, IsComplete}
 use Rattle.tv_doc.specs.Holds.{ReadsPairs, Holds, pair_at}
 use Rattle.tv_doc.proofs.Documents.{same_document, pairs_grown, pairs_push}
@@ -78,8 +78,8 @@ with_pair old mid ps kept f k =
           (record { field = refl; small = k.small; reads = reads_at old.building w.tree k.at k.is s })))),
     )
 
-front_is : (old : TreeBuilder) (mid new : Building) (ps : List FieldValueAddr) (kept f : ℕ) → Kept old.building mid old.pairs.items ps kept f → new ≡ mid → take kept new.heap.items ≡ heap_so_far old
-front_is old mid new ps kept f k e =
+prefix_is : (old : TreeBuilder) (mid new : Building) (ps : List FieldValueAddr) (kept f : ℕ) → Kept old.building mid old.pairs.items ps kept f → new ≡ mid → take kept new.heap.items ≡ heap_so_far old
+prefix_is old mid new ps kept f k e =
     let same_heap : new.heap.items ≡ heap_so_far old = ap (λ (b : Building). b.heap.items) e ∙ k.heap in
     ap (λ z. take kept z) same_heap ∙ take_all kept (heap_so_far old) (omega (arith, k.kept_is))
 
@@ -95,9 +95,9 @@ finish_fields_ok : (old : TreeBuilder) (mid new : Building) (ps : List FieldValu
 finish_fields_ok old mid new ps kept f k e =
     let w = whole old k.at k.is in
     let same_heap : new.heap.items ≡ heap_so_far old = ap (λ (b : Building). b.heap.items) e ∙ k.heap in
-    let front = front_is old mid new ps kept f k e in
-    let document : HoldsFront new.heap.items kept ps = subst (λ z. Holds z ps) (sym front) (with_pair old mid ps kept f k) in
-    let same_doc = same_document (take kept new.heap.items) (heap_so_far old) ps ps document (with_pair old mid ps kept f k) front refl in
+    let prefix = prefix_is old mid new ps kept f k e in
+    let document : HoldsPrefix new.heap.items kept ps = subst (λ z. Holds z ps) (sym prefix) (with_pair old mid ps kept f k) in
+    let same_doc = same_document (take kept new.heap.items) (heap_so_far old) ps ps document (with_pair old mid ps kept f k) prefix refl in
     record {
       document = document;
       kept_within = omega (arith, ap length same_heap, k.kept_is);
@@ -108,7 +108,7 @@ finish_fields_ok old mid new ps kept f k e =
     }
 
 left_same : (old : TreeBuilder) (mid : Building) (e : BuildError) → mid ≡ old.building → Left old.building mid (λ s. s) (Err e)
-left_same old mid e same_is = record { moves = tt; front = ([], ap (λ (b : Building). b.heap.items) same_is ∙ sym (append-nil (heap_so_far old))) }
+left_same old mid e same_is = record { moves = tt; prefix = ([], ap (λ (b : Building). b.heap.items) same_is ∙ sym (append-nil (heap_so_far old))) }
 
 settled_as : (mid new : Building) (kept other : ℕ) (failed failed_new : Bool) (r : Answer) → kept ≡ other → Settled mid new kept failed failed_new r → Settled mid new other failed failed_new r
 settled_as mid new kept other failed failed_new r e s = subst (λ n. Settled mid new n failed failed_new r) e s
@@ -130,7 +130,7 @@ finish_done old new mid f live k s =
       was = w.is;
       small = k.small;
       live = s.live ∙ live;
-      document = same_document (take new.kept (heap_so_far new)) (heap_so_far old) new.pairs.items new.pairs.items new.document (with_pair old mid new.pairs.items new.kept f k) (front_is old mid new.building new.pairs.items new.kept f k s.ok) refl;
+      document = same_document (take new.kept (heap_so_far new)) (heap_so_far old) new.pairs.items new.pairs.items new.document (with_pair old mid new.pairs.items new.kept f k) (prefix_is old mid new.building new.pairs.items new.kept f k s.ok) refl;
       state = same_state new.building new.state (after_pair old mid new.building new.pairs.items new.kept f k s.ok);
       heap = ap (λ (b : Building). b.heap.items) s.ok ∙ k.heap;
       kept = k.kept_is;

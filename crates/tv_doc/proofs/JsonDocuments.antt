@@ -54,9 +54,9 @@ pub one_pair : (v : FieldJson) (old new : CompactDoc) → AddsRow old new v.fiel
 one_pair v old new h = ((v.field, h.0) ∷ [], (h.0, [], h.1, h.2.0, refl, refl), h.2.1.document)
 
 pub Pairs-append : (vs ws : List FieldJson) (ps qs : Document) → Pairs vs ps → Pairs ws qs → Pairs (vs ++ ws) (ps ++ qs)
-Pairs-append [] ws ps qs none h = subst (λ front. Pairs ws (front ++ qs)) (sym none) h
+Pairs-append [] ws ps qs none h = subst (λ prefix. Pairs ws (prefix ++ qs)) (sym none) h
 Pairs-append (v ∷ vs) ws ps qs (tree, rest, table, small, joined, others) h =
-    (tree, rest ++ qs, table, small, ap (λ front. front ++ qs) joined, Pairs-append vs ws rest qs others h)
+    (tree, rest ++ qs, table, small, ap (λ prefix. prefix ++ qs) joined, Pairs-append vs ws rest qs others h)
 
 -- the pairs of these values are added, and then come the rest
 pub record SoFar (all rest : List FieldJson) (there now : Document) : Type 0 where

@@ -2,7 +2,7 @@
 use Rattle.std.proofs.Common.{◌≡◌, ℕ, ◌+◌, ◌≤◌, ◌<◌, ◌^◌, List, [], ◌∷◌, ◌++◌, length, take, Option, Some, None, Result, Ok, Err, IfOk, OnOk, OnErr, SomeIff, sym, subst, ◌∙◌, arith}
 use Rattle.std.specs.Prelude.{IsOkAnd, IsSomeAnd, IfErr}
 use Rattle.std.specs.declared.alloc.AllocError.{AllocError}
-use Rattle.tv_base.specs.Sink.{IsFront}
+use Rattle.tv_base.specs.Sink.{IsPrefix}
 use Rattle.tv_value.specs.Tree.{Tree}
 use Rattle.tv_doc.specs.declared.add_error.AddError.{AddError}
 use Rattle.tv_doc.specs.declared.add_error.AddError.TheVariants.{Memory}
@@ -36,7 +36,7 @@ pub record Writing (old : CompactDoc) (mid : List ℕ) (len small field : ℕ) (
   pub field_fits : field ≤ 65535
   pub tree_fits : length (heap_of old) + room t ≤ 4294967295
   pub wrote : IfOk written (λ r. Wrote (heap_of old) mid (type_code r.0) r.1 t)
-  pub front : OnErr written (IsFront (heap_of old) mid)
+  pub prefix : OnErr written (IsPrefix (heap_of old) mid)
 
 -- the place is among the pairs, or the heap is cut back
 pub record Keeping (old : CompactDoc) (mid heap : List ℕ) (ps : List FieldValueAddr) (len small : ℕ) (written : Result (ValueType × ℕ) AllocError) (result : Result (Unit {0}) AddError) : Type 0 where
@@ -46,14 +46,14 @@ pub record Keeping (old : CompactDoc) (mid heap : List ℕ) (ps : List FieldValu
   pub cut : OnErr result (heap ≡ take len mid)
   pub memory : IfErr result (λ error. error ≡ Memory)
 
-front_of : (old : CompactDoc) (mid : List ℕ) (len small field : ℕ) (t : Tree) (written : Result (ValueType × ℕ) AllocError) → Writing old mid len small field t written → IsFront (heap_of old) mid
-front_of old mid len small field t (Ok r) w = (w.wrote.added, w.wrote.grows)
-front_of old mid len small field t (Err e) w = w.front
+prefix_of : (old : CompactDoc) (mid : List ℕ) (len small field : ℕ) (t : Tree) (written : Result (ValueType × ℕ) AllocError) → Writing old mid len small field t written → IsPrefix (heap_of old) mid
+prefix_of old mid len small field t (Ok r) w = (w.wrote.added, w.wrote.grows)
+prefix_of old mid len small field t (Err e) w = w.prefix
 
 -- what was written is cut off again
-pub cut_fields : (old : CompactDoc) (mid heap : List ℕ) (ps : List FieldValueAddr) (len : ℕ) → IsFront (heap_of old) mid → len ≡ length (heap_of old) → heap ≡ take len mid → ps ≡ old.pairs.items → Fields heap ps
-cut_fields old mid heap ps len front len_is cut same_pairs =
-    let same : heap ≡ heap_of old = cut ∙ restored (heap_of old) mid len front len_is in
+pub cut_fields : (old : CompactDoc) (mid heap : List ℕ) (ps : List FieldValueAddr) (len : ℕ) → IsPrefix (heap_of old) mid → len ≡ length (heap_of old) → heap ≡ take len mid → ps ≡ old.pairs.items → Fields heap ps
+cut_fields old mid heap ps len prefix len_is cut same_pairs =
+    let same : heap ≡ heap_of old = cut ∙ restored (heap_of old) mid len prefix len_is in
     record { document = kept old heap ps same same_pairs; room = kept_room old heap ps same same_pairs; weight = kept_weight old heap ps same same_pairs; fits = kept_fits old heap same }
 
 -- there is one pair more
@@ -68,7 +68,7 @@ pushed_fields old heap ps p field t is small wrote e fits = record {
 
 pub kept_fields : (old : CompactDoc) (mid heap : List ℕ) (ps : List FieldValueAddr) (len small field : ℕ) (t : Tree) (written : Result (ValueType × ℕ) AllocError) (result : Result (Unit {0}) AddError)
     → Writing old mid len small field t written → Keeping old mid heap ps len small written result → Fields heap ps
-kept_fields old mid heap ps len small field t written (Err e) w k = cut_fields old mid heap ps len (front_of old mid len small field t written w) w.len_is k.cut k.same_pairs
+kept_fields old mid heap ps len small field t written (Err e) w k = cut_fields old mid heap ps len (prefix_of old mid len small field t written w) w.len_is k.cut k.same_pairs
 kept_fields old mid heap ps len small field t (Ok r) (Ok x) w k =
     let wrote = subst (λ h. Wrote (heap_of old) h (type_code r.0) r.1 t) (sym k.same_heap) w.wrote in
     pushed_fields old heap ps (pair_at small r) field t w.small_is w.field_fits wrote k.pair (pushed_fits old heap (type_code r.0) r.1 t wrote w.tree_fits)
@@ -77,7 +77,7 @@ kept_fields old mid heap ps len small field t (Err f) (Ok x) w k = absurd k.pair
 pub kept_adds : (old new : CompactDoc) (mid : List ℕ) (len small field : ℕ) (t : Tree) (written : Result (ValueType × ℕ) AllocError) (result : Result (Unit {0}) AddError)
     → Writing old mid len small field t written → Keeping old mid (heap_of new) new.pairs.items len small written result → Adds old new field t result
 kept_adds old new mid len small field t written (Err Memory) w k =
-    let same : heap_of new ≡ heap_of old = k.cut ∙ restored (heap_of old) mid len (front_of old mid len small field t written w) w.len_is in
+    let same : heap_of new ≡ heap_of old = k.cut ∙ restored (heap_of old) mid len (prefix_of old mid len small field t written w) w.len_is in
     ((w.field_fits, w.tree_fits), unchanged old new same k.same_pairs)
 kept_adds old new mid len small field t written (Err e) w k = let is = k.memory in absurd (cc)
 kept_adds old new mid len small field t (Ok r) (Ok x) w k =

@@ -1,7 +1,7 @@
 pub mod Documents
 pub mod Kept
 pub mod PutPairs
-pub mod SpelledPairs
+pub mod EncodedPairs
 pub mod Grouping
 pub mod Valid
 pub mod Pairs

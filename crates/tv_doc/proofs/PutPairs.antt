@@ -1,7 +1,7 @@
 -- A value that was written whole behind a document's heap, and the pair of a field and its place.
 use Rattle.std.proofs.Common.{◌≡◌, ◌≢◌, ℕ, ◌≤◌, List, ◌++◌, length, Result, Ok, Err, refl, sym, ◌∙◌, ap, subst, length-append, arith}
 use Rattle.tv_base.specs.Parts.{short_sized}
-use Rattle.tv_base.specs.Sink.{IsFront}
+use Rattle.tv_base.specs.Sink.{IsPrefix}
 use Rattle.tv_value.specs.Tree.{Leaf, null, boolean, Tree, leaf, array, object, Elements, no_elements, element, Entries, no_entries, entry}
 use Rattle.tv_heap.specs.TypeCode.{type_code}
 use Rattle.tv_heap.specs.Weight.{tree_weight}
@@ -10,8 +10,8 @@ use Rattle.tv_heap.proofs.Weights.{reads_weigh}
 use Rattle.tv_builder.specs.TreeBytes.{leaf_place, tree_heap, tree_place, elements_heap, entries_heap}
 use Rattle.tv_builder.specs.Whole.{Put}
 use Rattle.tv_builder.specs.declared.place.Place.{Place}
-use Rattle.tv_builder.proofs.Giving.{front_length}
-use Rattle.tv_builder.proofs.Putting.{tree_front}
+use Rattle.tv_builder.proofs.Giving.{prefix_length}
+use Rattle.tv_builder.proofs.Putting.{tree_prefix}
 use Rattle.tv_doc.specs.declared.add_error.AddError.{AddError}
 use Rattle.tv_doc.specs.declared.document.CompactDoc.{CompactDoc}
 use Rattle.tv_doc.specs.declared.place.FieldValueAddr.{FieldValueAddr}
@@ -25,13 +25,13 @@ use Rattle.tv_doc.proofs.Kept.{Keeping, Fields, cut_fields, pushed_fields}
 
 elements_longer : (heap : List ℕ) (ts : Elements) → length heap ≤ length (elements_heap heap ts)
 elements_longer heap no_elements = omega arith
-elements_longer heap (element t ts) = omega (arith, front_length heap (tree_heap heap t) (tree_front heap t), elements_longer (tree_heap heap t) ts)
+elements_longer heap (element t ts) = omega (arith, prefix_length heap (tree_heap heap t) (tree_prefix heap t), elements_longer (tree_heap heap t) ts)
 
 entries_longer : (heap : List ℕ) (es : Entries) → length heap ≤ length (entries_heap heap es)
 entries_longer heap no_entries = omega arith
 entries_longer heap (entry k t es) =
     let mid = heap ++ short_sized k in
-    omega (arith, length-append heap (short_sized k), front_length mid (tree_heap mid t) (tree_front mid t), entries_longer (tree_heap mid t) es)
+    omega (arith, length-append heap (short_sized k), prefix_length mid (tree_heap mid t) (tree_prefix mid t), entries_longer (tree_heap mid t) es)
 
 leaf_behind : (len : ℕ) (l : Leaf) → type_code (leaf_place len l).value_type ≢ 0 → type_code (leaf_place len l).value_type ≢ 9 → len ≤ (leaf_place len l).address
 leaf_behind len null some other = absurd (some refl)
@@ -43,17 +43,17 @@ tree_behind heap (leaf l) some other = leaf_behind (length heap) l some other
 tree_behind heap (array ts) some other = elements_longer heap ts
 tree_behind heap (object es) some other = entries_longer heap es
 
-put_front : (old : List ℕ) (t : Tree) (new : List ℕ) (p : Place) → Put old t new p → IsFront old new
-put_front old t new p w = let f = tree_front old t in (f.0, w.heap ∙ f.1)
+put_prefix : (old : List ℕ) (t : Tree) (new : List ℕ) (p : Place) → Put old t new p → IsPrefix old new
+put_prefix old t new p w = let f = tree_prefix old t in (f.0, w.heap ∙ f.1)
 
 put_wrote : (old : List ℕ) (t : Tree) (new : List ℕ) (p : Place) → Put old t new p → Wrote old new (type_code p.value_type) p.address t
 put_wrote old t new p w =
-    let front = put_front old t new p w in
-    let weighed : length front.0 ≤ tree_weight t = omega (arith, w.weighed, ap length front.1, length-append old front.0) in
+    let prefix = put_prefix old t new p w in
+    let weighed : length prefix.0 ≤ tree_weight t = omega (arith, w.weighed, ap length prefix.1, length-append old prefix.0) in
     let placed = w.placed in
     record {
-      added = front.0;
-      grows = front.1;
+      added = prefix.0;
+      grows = prefix.1;
       within = omega (arith, weighed, reads_weigh new (type_code p.value_type) p.address t (omega (arith, w.fits)) placed.reads);
       weighed = weighed;
       reads = placed.reads;
@@ -78,11 +78,11 @@ pub pair_fields : (old : CompactDoc) (mid heap : List ℕ) (ps : List FieldValue
 pair_fields old mid heap ps len small t at (Ok x) w k =
     pushed_fields old heap ps (pair_at small (at.value_type, at.address)) small t refl w.small_fits (wrote_at old mid heap len small t at w k.same_heap) k.pair
     (let p = w.put in omega (arith, ap length k.same_heap, p.fits))
-pair_fields old mid heap ps len small t at (Err e) w k = cut_fields old mid heap ps len (put_front (heap_of old) t mid at w.put) w.len_is k.cut k.same_pairs
+pair_fields old mid heap ps len small t at (Err e) w k = cut_fields old mid heap ps len (put_prefix (heap_of old) t mid at w.put) w.len_is k.cut k.same_pairs
 
 pub pair_refused : (old new : CompactDoc) (mid : List ℕ) (len small : ℕ) (t : Tree) (at : Place) (e : AddError) → PairPut old mid len small t at
     → Keeping old mid (heap_of new) new.pairs.items len small (Ok (at.value_type, at.address)) (Err e) → IsUnchanged old new
-pair_refused old new mid len small t at e w k = unchanged old new (k.cut ∙ restored (heap_of old) mid len (put_front (heap_of old) t mid at w.put) w.len_is) k.same_pairs
+pair_refused old new mid len small t at e w k = unchanged old new (k.cut ∙ restored (heap_of old) mid len (put_prefix (heap_of old) t mid at w.put) w.len_is) k.same_pairs
 
 pub put_added : (old new : CompactDoc) (mid : List ℕ) (len small : ℕ) (t : Tree) (at : Place) (x : Unit {0}) → PairPut old mid len small t at
     → Keeping old mid (heap_of new) new.pairs.items len small (Ok (at.value_type, at.address)) (Ok x) → Added old new small t

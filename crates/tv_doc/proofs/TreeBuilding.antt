@@ -3,7 +3,7 @@ use Rattle.std.proofs.Common.{◌≡◌, ℕ, ◌+◌, ◌^◌, ◌<◌, ◌≤�
 use Rattle.std.specs.Coded.{le_prop}
 use Rattle.std.proofs.lemmas.List.{take-append-le, take_all, length-take, length-take-le}
 use Rattle.std.proofs.Math.Logic.{∥∥₁_elim, ∥∥₁_map}
-use Rattle.tv_base.specs.Sink.{IsFront}
+use Rattle.tv_base.specs.Sink.{IsPrefix}
 use Rattle.tv_heap.specs.Room.{document_room}
 use Rattle.tv_heap.specs.Weight.{document_weight}
 use Rattle.tv_builder.specs.declared.build_error.BuildError.{BuildError}
@@ -18,7 +18,7 @@ use Rattle.tv_builder.specs.State.{State, in_lists, state_room, written, and_end
 use Rattle.tv_doc.specs.declared.builder.TreeBuilder.{TreeBuilder}
 use Rattle.tv_doc.specs.declared.document.CompactDoc.{CompactDoc}
 use Rattle.tv_doc.specs.declared.place.FieldValueAddr.{FieldValueAddr}
-use Rattle.tv_doc.specs.Building.{HoldsFront, Cleared}
+use Rattle.tv_doc.specs.Building.{HoldsPrefix, Cleared}
 use Rattle.tv_doc.specs.Builder.{built, state_of, heap_so_far, TakesBytes, HasAllBytes, HasContent, Goes, Fails, Overfull, BuildsIf, Builds, EndsIf, Ends}
 use Rattle.tv_doc.specs.Document.{document_of}
 use Rattle.tv_doc.specs.Holds.{Holds}
@@ -47,26 +47,26 @@ stands_none b fits places pending frames none closed = (in_lists [], ∣ shows_n
 abbrev pub Answer : Type 0
 Answer = Result (Unit {0}) BuildError
 
--- it goes on, or what stood in the heap still stands in front
+-- it goes on, or what stood in the heap still stands before it
 pub record Left (old mid : Building) (after : State → State) (r : Answer) : Type 0 where
   pub moves : OnOk r (Moves old mid after)
-  pub front : OnErr r (IsFront old.heap.items mid.heap.items)
+  pub prefix : OnErr r (IsPrefix old.heap.items mid.heap.items)
 
 pub does_left : (old mid : Building) (in_place : Type 0) (heaps : List ℕ → Type 0) (full : Type 0) (after : State → State) (r : Answer) → Does old mid in_place heaps full after r → Left old mid after r
-does_left old mid in_place heaps full after (Ok x) h = record { moves = h.2; front = tt }
-does_left old mid in_place heaps full after (Err OutOfPlace) h = record { moves = tt; front = h.1 }
-does_left old mid in_place heaps full after (Err HeapFull) h = record { moves = tt; front = h.2 }
-does_left old mid in_place heaps full after (Err Memory) h = record { moves = tt; front = h.1 }
+does_left old mid in_place heaps full after (Ok x) h = record { moves = h.2; prefix = tt }
+does_left old mid in_place heaps full after (Err OutOfPlace) h = record { moves = tt; prefix = h.1 }
+does_left old mid in_place heaps full after (Err HeapFull) h = record { moves = tt; prefix = h.2 }
+does_left old mid in_place heaps full after (Err Memory) h = record { moves = tt; prefix = h.1 }
 does_left old mid in_place heaps full after (Err AlreadyFailed) h = absurd h
 does_left old mid in_place heaps full after (Err (FieldNumber n)) h = absurd h
 does_left old mid in_place heaps full after (Err NotUtf8) h = absurd h
 
 pub ends_left : (old mid : Building) (r : Answer) → EndsBytes old mid r → Left old mid and_end r
-ends_left old mid (Ok x) h = record { moves = h.3; front = tt }
-ends_left old mid (Err OutOfPlace) h = record { moves = tt; front = h.1 }
-ends_left old mid (Err NotUtf8) h = record { moves = tt; front = h.2 }
-ends_left old mid (Err HeapFull) h = record { moves = tt; front = h.3 }
-ends_left old mid (Err Memory) h = record { moves = tt; front = h.2 }
+ends_left old mid (Ok x) h = record { moves = h.3; prefix = tt }
+ends_left old mid (Err OutOfPlace) h = record { moves = tt; prefix = h.1 }
+ends_left old mid (Err NotUtf8) h = record { moves = tt; prefix = h.2 }
+ends_left old mid (Err HeapFull) h = record { moves = tt; prefix = h.3 }
+ends_left old mid (Err Memory) h = record { moves = tt; prefix = h.2 }
 ends_left old mid (Err AlreadyFailed) h = absurd h
 ends_left old mid (Err (FieldNumber n)) h = absurd h
 
@@ -77,28 +77,28 @@ pub record Settled (mid new : Building) (kept : ℕ) (failed failed_new : Bool) 
   pub err : OnErr r (Cleared mid new kept)
   pub mark : OnErr r (failed_new ≡ true)
 
-front_kept : (kept : ℕ) (old new : List ℕ) → IsFront old new → kept ≤ length old → take kept new ≡ take kept old
-front_kept kept old new f h = ap (λ z. take kept z) f.1 ∙ take-append-le kept old f.0 h
+prefix_kept : (kept : ℕ) (old new : List ℕ) → IsPrefix old new → kept ≤ length old → take kept new ≡ take kept old
+prefix_kept kept old new f h = ap (λ z. take kept z) f.1 ∙ take-append-le kept old f.0 h
 
--- the front that is kept is the same
-same_front_kept : (old mid new : Building) (kept : ℕ) (failed failed_new : Bool) (after : State → State) (r : Answer) → kept ≤ length old.heap.items → Left old mid after r → Settled mid new kept failed failed_new r
+-- the prefix that is kept is the same
+same_prefix_kept : (old mid new : Building) (kept : ℕ) (failed failed_new : Bool) (after : State → State) (r : Answer) → kept ≤ length old.heap.items → Left old mid after r → Settled mid new kept failed failed_new r
     → (take kept new.heap.items ≡ take kept old.heap.items) × (kept ≤ length new.heap.items)
-same_front_kept old mid new kept failed failed_new after (Ok x) h l s =
+same_prefix_kept old mid new kept failed failed_new after (Ok x) h l s =
     let same_heap : new.heap.items ≡ mid.heap.items = ap (λ (b : Building). b.heap.items) s.ok in
     let grows = l.moves.grows in
-    (ap (λ z. take kept z) same_heap ∙ front_kept kept old.heap.items mid.heap.items grows h, omega (arith, h, ap length same_heap, ap length grows.1, length-append old.heap.items grows.0))
-same_front_kept old mid new kept failed failed_new after (Err e) h l s =
-    let cut = front_kept kept old.heap.items mid.heap.items l.front h in
-    let n : length mid.heap.items ≡ length old.heap.items + length l.front.0 = ap length l.front.1 ∙ length-append old.heap.items l.front.0 in
+    (ap (λ z. take kept z) same_heap ∙ prefix_kept kept old.heap.items mid.heap.items grows h, omega (arith, h, ap length same_heap, ap length grows.1, length-append old.heap.items grows.0))
+same_prefix_kept old mid new kept failed failed_new after (Err e) h l s =
+    let cut = prefix_kept kept old.heap.items mid.heap.items l.prefix h in
+    let n : length mid.heap.items ≡ length old.heap.items + length l.prefix.0 = ap length l.prefix.1 ∙ length-append old.heap.items l.prefix.0 in
     let m : length (take kept mid.heap.items) ≡ kept = length-take-le kept mid.heap.items (omega (arith, h, n)) in
     (ap (λ z. take kept z) s.err.heap ∙ take_all kept (take kept mid.heap.items) (omega (arith, m)) ∙ cut, omega (arith, ap length s.err.heap, m))
 
 pub cut_heap : (old mid new : Building) (kept : ℕ) (after : State → State) (e : BuildError) → kept ≤ length old.heap.items → Left old mid after (Err e) → Cleared mid new kept → new.heap.items ≡ take kept old.heap.items
-cut_heap old mid new kept after e h l c = c.heap ∙ front_kept kept old.heap.items mid.heap.items l.front h
+cut_heap old mid new kept after e h l c = c.heap ∙ prefix_kept kept old.heap.items mid.heap.items l.prefix h
 
 -- what is known of each builder
 pub record Fields (b : Building) (kept : ℕ) (ps : List FieldValueAddr) : Type 0 where
-  pub document : HoldsFront b.heap.items kept ps
+  pub document : HoldsPrefix b.heap.items kept ps
   pub kept_within : kept ≤ length b.heap.items
   pub room : kept ≤ document_room document.0
   pub weight : kept ≤ document_weight document.0
@@ -122,14 +122,14 @@ state_left old mid new failed_new after (Err e) l s =
 
 pub fields_left : (old : TreeBuilder) (mid new : Building) (failed_new : Bool) (after : State → State) (r : Answer) → Left old.building mid after r → Settled mid new old.kept old.failed failed_new r → Fields new old.kept old.pairs.items
 fields_left old mid new failed_new after r l s =
-    let front = same_front_kept old.building mid new old.kept old.failed failed_new after r old.kept_within l s in
-    let document : HoldsFront new.heap.items old.kept old.pairs.items = subst (λ z. Holds z old.pairs.items) (sym front.0) old.document in
+    let prefix = same_prefix_kept old.building mid new old.kept old.failed failed_new after r old.kept_within l s in
+    let document : HoldsPrefix new.heap.items old.kept old.pairs.items = subst (λ z. Holds z old.pairs.items) (sym prefix.0) old.document in
     let state = state_left old mid new failed_new after r l s in
     record {
       document = document;
-      kept_within = front.1;
-      room = omega (arith, old.room, ap document_room (same_document (take old.kept new.heap.items) (take old.kept old.building.heap.items) old.pairs.items old.pairs.items document old.document front.0 refl));
-      weight = omega (arith, old.weight, ap document_weight (same_document (take old.kept new.heap.items) (take old.kept old.building.heap.items) old.pairs.items old.pairs.items document old.document front.0 refl));
+      kept_within = prefix.1;
+      room = omega (arith, old.room, ap document_room (same_document (take old.kept new.heap.items) (take old.kept old.building.heap.items) old.pairs.items old.pairs.items document old.document prefix.0 refl));
+      weight = omega (arith, old.weight, ap document_weight (same_document (take old.kept new.heap.items) (take old.kept old.building.heap.items) old.pairs.items old.pairs.items document old.document prefix.0 refl));
       state = state.0;
       written_within = state.1;
     }
@@ -142,11 +142,11 @@ built_same old new e f = same_document (take new.kept new.building.heap.items) (
 goes_on : (old new : TreeBuilder) (mid : Building) (after : State → State) → old.failed ≡ false → Left old.building mid after (Ok tt) → Settled mid new.building old.kept old.failed new.failed (Ok tt) → new.kept ≡ old.kept → new.pairs.items ≡ old.pairs.items
     → Goes old new (after (state_of old))
 goes_on old new mid after live l s kept pairs =
-    let front = same_front_kept old.building mid new.building old.kept old.failed new.failed after (Ok tt) old.kept_within l s in
+    let prefix = same_prefix_kept old.building mid new.building old.kept old.failed new.failed after (Ok tt) old.kept_within l s in
     let grows = l.moves.grows in
     record {
       live = s.live ∙ live;
-      document = built_same old new (ap (λ z. take z new.building.heap.items) kept ∙ front.0) pairs;
+      document = built_same old new (ap (λ z. take z new.building.heap.items) kept ∙ prefix.0) pairs;
       state = same_state new.building new.state (moved_stands old.building mid new.building after old.state l.moves s.ok);
       grows = (grows.0, ap (λ (b : Building). b.heap.items) s.ok ∙ grows.1);
     }
@@ -154,11 +154,11 @@ goes_on old new mid after live l s kept pairs =
 pub fails_now : (old new : TreeBuilder) (mid : Building) (after : State → State) (e : BuildError) → Left old.building mid after (Err e) → Settled mid new.building old.kept old.failed new.failed (Err e) → new.kept ≡ old.kept → new.pairs.items ≡ old.pairs.items
     → Fails old new
 fails_now old new mid after e l s kept pairs =
-    let front = same_front_kept old.building mid new.building old.kept old.failed new.failed after (Err e) old.kept_within l s in
+    let prefix = same_prefix_kept old.building mid new.building old.kept old.failed new.failed after (Err e) old.kept_within l s in
     let small = fits_of old.building old.state in
     record {
       failed = s.mark;
-      document = built_same old new (ap (λ z. take z new.building.heap.items) kept ∙ front.0) pairs;
+      document = built_same old new (ap (λ z. take z new.building.heap.items) kept ∙ prefix.0) pairs;
       state = same_state new.building new.state (cleared_stands mid new.building old.kept (omega (arith, small, old.kept_within)) s.err);
       heap = cut_heap old.building mid new.building old.kept after e old.kept_within l s.err;
     }
@@ -166,7 +166,7 @@ fails_now old new mid after e l s kept pairs =
 heap_settled : (mid new : Building) (heaps : List ℕ → Type 0) → new ≡ mid → heaps mid.heap.items → heaps new.heap.items
 heap_settled mid new heaps e h = subst (λ (b : Building). heaps b.heap.items) (sym e) h
 
--- the heap in front of the state is within the room of the finished pairs
+-- the heap before the state is within the room of the finished pairs
 overfull : (old : TreeBuilder) (after : State → State) → HasNoRoom old.building after → Overfull old (after (state_of old))
 overfull old after none =
     let over : 4294967296 ≤ document_room (built old) + state_room (after (state_of old)) = ∥∥₁_elim old.state.1 le_prop (λ s. omega (arith, none old.state.0 s, old.written, old.room)) in
@@ -232,16 +232,16 @@ ends old new mid r t live d s kept pairs e = subst (λ z. EndsIf z old new t) (s
 
 -- ---- a new builder
 
-pub new_document : (doc : CompactDoc) (n : ℕ) → length doc.node_data.items ≡ n → HoldsFront doc.node_data.items n doc.pairs.items
+pub new_document : (doc : CompactDoc) (n : ℕ) → length doc.node_data.items ≡ n → HoldsPrefix doc.node_data.items n doc.pairs.items
 new_document doc n e = subst (λ z. Holds z doc.pairs.items) (sym (take_all n doc.node_data.items (omega (arith, e)))) doc.document
 
-pub new_same : (doc : CompactDoc) (n : ℕ) (h : HoldsFront doc.node_data.items n doc.pairs.items) → length doc.node_data.items ≡ n → h.0 ≡ document_of doc
+pub new_same : (doc : CompactDoc) (n : ℕ) (h : HoldsPrefix doc.node_data.items n doc.pairs.items) → length doc.node_data.items ≡ n → h.0 ≡ document_of doc
 new_same doc n h e = same_document (take n doc.node_data.items) doc.node_data.items doc.pairs.items doc.pairs.items h doc.document (take_all n doc.node_data.items (omega (arith, e))) refl
 
 pub new_fields : (doc : CompactDoc) (b : Building) (n : ℕ) → length doc.node_data.items ≡ n → b.heap.items ≡ doc.node_data.items → b.places.items ≡ [] → b.pending ≡ 0 → b.frames.items ≡ [] → b.complete ≡ None → b.open ≡ None
     → Fields b n doc.pairs.items
 new_fields doc b n e heap places pending frames none closed =
-    let document : HoldsFront b.heap.items n doc.pairs.items = subst (λ z. HoldsFront z n doc.pairs.items) (sym heap) (new_document doc n e) in
+    let document : HoldsPrefix b.heap.items n doc.pairs.items = subst (λ z. HoldsPrefix z n doc.pairs.items) (sym heap) (new_document doc n e) in
     record {
       document = document;
       kept_within = omega (arith, e, ap length heap);

@@ -1,6 +1,6 @@
 -- Additions to a document, one after the other, refused ones among them.
 use Rattle.std.specs.Prelude.{◌≡◌, ℕ, List, [], ◌∷◌, ◌++◌, Result, Ok, Err}
-use Rattle.tv_base.specs.Sink.{IsFront}
+use Rattle.tv_base.specs.Sink.{IsPrefix}
 use Rattle.tv_value.specs.Tree.{Tree, Document}
 use Rattle.tv_doc.specs.declared.add_error.AddError.{AddError}
 use Rattle.tv_doc.specs.declared.document.CompactDoc.{CompactDoc}
@@ -27,9 +27,9 @@ abbrev pub Runs : List Addition → CompactDoc → CompactDoc → Type 0
 Runs [] old new = IsUnchanged old new
 Runs (a ∷ rest) old new = (mid : CompactDoc) × Adds old mid a.field a.tree a.answer × Runs rest mid new
 
--- the accepted pairs stand behind those that were there, and the old heap and the old places are fronts of the new ones
+-- the accepted pairs stand behind those that were there, and the old heap and the old places are prefixes of the new ones
 pub record Keeps (pairs : Document) (old new : CompactDoc) : Type 0 where
   pub document : document_of new ≡ document_of old ++ pairs
-  pub heap : IsFront (heap_of old) (heap_of new)
+  pub heap : IsPrefix (heap_of old) (heap_of new)
   pub added_places : List (ℕ × ℕ)
   pub places : places_of new ≡ places_of old ++ added_places

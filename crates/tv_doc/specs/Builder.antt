@@ -1,6 +1,6 @@
 -- What a tree builder is seen as, and what its calls answer and leave.
 use Rattle.std.specs.Prelude.{◌≡◌, ℕ, ◌+◌, ◌<◌, ◌≤◌, Bool, true, false, List, [], ◌∷◌, ◌++◌, length, take, Result, Ok, Err}
-use Rattle.tv_base.specs.Sink.{IsFront}
+use Rattle.tv_base.specs.Sink.{IsPrefix}
 use Rattle.tv_value.specs.Tree.{Tree, Document}
 use Rattle.tv_builder.specs.declared.build_error.BuildError.{BuildError}
 use Rattle.tv_builder.specs.declared.build_error.BuildError.TheVariants.{AlreadyFailed, OutOfPlace, FieldNumber, NotUtf8, HeapFull, Memory}
@@ -41,7 +41,7 @@ pub record Goes (old new : TreeBuilder) (after : State) : Type 0 where
   pub live : new.failed ≡ false
   pub document : built new ≡ built old
   pub state : state_of new ≡ after
-  pub grows : IsFront (heap_so_far old) (heap_so_far new)
+  pub grows : IsPrefix (heap_so_far old) (heap_so_far new)
 
 -- After a refusal nothing is open, and the heap ends behind the last finished pair.
 pub record Fails (old new : TreeBuilder) : Type 0 where

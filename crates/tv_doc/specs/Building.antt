@@ -7,12 +7,12 @@ use Rattle.tv_builder.specs.declared.place.Place.{Place}
 use Rattle.tv_doc.specs.declared.place.FieldValueAddr.{FieldValueAddr}
 use Rattle.tv_doc.specs.Holds.{Holds, Holds-prop, pair_at}
 
--- the finished pairs stand in the front of the heap that is kept
-abbrev pub HoldsFront : List ℕ → ℕ → List FieldValueAddr → Type 0
-HoldsFront heap kept ps = Holds (take kept heap) ps
+-- the finished pairs stand at the start of the heap that is kept
+abbrev pub HoldsPrefix : List ℕ → ℕ → List FieldValueAddr → Type 0
+HoldsPrefix heap kept ps = Holds (take kept heap) ps
 
-pub HoldsFront-prop : (heap : List ℕ) (kept : ℕ) (ps : List FieldValueAddr) → IsProp (HoldsFront heap kept ps)
-HoldsFront-prop heap kept ps = Holds-prop (take kept heap) ps
+pub HoldsPrefix-prop : (heap : List ℕ) (kept : ℕ) (ps : List FieldValueAddr) → IsProp (HoldsPrefix heap kept ps)
+HoldsPrefix-prop heap kept ps = Holds-prop (take kept heap) ps
 
 -- nothing is open, and the heap is cut
 pub record Cleared (old new : Building) (kept : ℕ) : Type 0 where

@@ -28,7 +28,7 @@ pairs_capacity d = vec_capacity d.pairs
 abbrev pub places_of : CompactDoc → List (ℕ × ℕ)
 places_of d = map (λ p. (type_code p.value_type, p.address)) d.pairs.items
 
--- One pair is added. The old heap is kept as a front, and grew by the tree's room at most.
+-- One pair is added. The old heap is kept as a prefix, and grew by the tree's room at most.
 -- The old places are kept, and the new one is behind the old heap, unless it is that of null or a truth value.
 pub record Added (old new : CompactDoc) (field : ℕ) (t : Tree) : Type 0 where
   pub document : document_of new ≡ document_of old ++ (field, t) ∷ []

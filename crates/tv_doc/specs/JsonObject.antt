@@ -107,7 +107,7 @@ IsInvalidJson text e = ⊥
 abbrev pub IsNoObject : List ℕ → Type 0
 IsNoObject text = (members : Members) → ¬ (read text ≡ Some (json.object members))
 
--- the document is that of the object that the text spells, or the text is refused with its first 20 characters
+-- the document is that of the object that the text encodes, or the text is refused with its first 20 characters
 abbrev pub Parses : List Entry → List ℕ → Result CompactDoc DocParsingError → Type 0
 Parses schema text (Ok made) = (members : Members) × (read text ≡ Some (json.object members)) × Pairs (object_values schema members) (document_of made)
 Parses schema text (Err (error.InvalidJson start)) = IsNoObject text × (string_bytes start ≡ take_chars 20 text)

@@ -13,4 +13,4 @@ pub mod JsonObject
 pub mod Named
 pub mod NamedPairs
 pub mod SameTexts
-pub mod Spelled
+pub mod Encoded

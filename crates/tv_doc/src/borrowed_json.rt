@@ -1,4 +1,4 @@
-//! Documents from JSON objects whose values are added straight from the text that spells them.
+//! Documents from JSON objects whose values are added straight from the text that encodes them.
 
 ghost use Rattle.std.specs.Prelude.{◌∷◌, [], Some, Ok, IfSome, IfNone, OnSome, IsOkAnd};
 ghost use Rattle.serde_json.specs.Data.{object};
@@ -144,7 +144,7 @@ impl CompactDoc {
         Some(document)
     }
 
-    // The document of the JSON object that the text spells, whose texts aren't copied on the way to the heap. `None` where the text isn't
+    // The document of the JSON object that the text encodes, whose texts aren't copied on the way to the heap. `None` where the text isn't
     // read so (see `read_borrowed`) or is no object, where a value is refused, and where memory is.
     pub(crate) fn parse_borrowed(alloc: Global, schema: &Schema, text: &str) -> Option<CompactDoc>
         ensures { IfSome result (λ made. Parses schema.now text.now (Ok made)) }

@@ -4,7 +4,7 @@ ghost use Rattle.std.specs.Prelude.{◌≡◌, ◌+◌, ◌<◌, ◌≤◌, ◌�
 ghost use Rattle.tv_builder.specs.OneState.{Stands-prop};
 ghost use Rattle.tv_builder.specs.Shows.{Stands};
 ghost use Rattle.tv_builder.specs.State.{written};
-ghost use Rattle.tv_doc.specs.Building.{HoldsFront, HoldsFront-prop, Cleared, Kept, KeptNot};
+ghost use Rattle.tv_doc.specs.Building.{HoldsPrefix, HoldsPrefix-prop, Cleared, Kept, KeptNot};
 ghost use Rattle.tv_builder.specs.Weight.{document_weight, state_weight};
 ghost use Rattle.tv_heap.specs.Room.{document_room};
 
@@ -67,7 +67,7 @@ fn keep_tree(
     Ok(())
 }
 
-/// A document, and a value of any depth that is written into its heap as its parts arrive. (Own.)
+/// A document, and a value of any depth that is written into its heap as its parts arrive. (Not in tantivy.)
 ///
 /// A value comes by one call, or as a list whose children come by as many calls, or as bytes in chunks. A list closes itself with its
 /// last child. The complete value becomes a pair by `finish`. After any refusal nothing is open and every call that can refuse answers
@@ -81,7 +81,7 @@ pub struct TreeBuilder {
     // The length of the heap behind the last finished pair.
     kept: usize,
     failed: bool,
-    pub ghost document: { HoldsFront building.heap.items kept pairs.items } by { HoldsFront-prop building.heap.items kept pairs.items },
+    pub ghost document: { HoldsPrefix building.heap.items kept pairs.items } by { HoldsPrefix-prop building.heap.items kept pairs.items },
     pub ghost kept_within: { kept ≤ length building.heap.items },
     pub ghost room: { kept ≤ document_room document.0 },
     pub ghost weight: { kept ≤ document_weight document.0 },
@@ -154,7 +154,7 @@ impl TreeBuilder {
         self.building.frames.len()
     }
 
-    /// What the next call must be; after a refusal, what it would have to be at first. (Own.)
+    /// What the next call must be; after a refusal, what it would have to be at first. (Not in tantivy.)
     pub fn awaits(&self) -> Awaits
         ensures { result ≡ awaited (state_of self.now) }
     {

@@ -26,7 +26,7 @@ use std::alloc::Global;
 use tv_schema::Schema;
 use tv_schema::laws::names_are_of_one_field;
 
-/// Each document has a spelling in the store: its fields are numbers up to 65535, and its numbers, texts and lists fit.
+/// Each document has an encoding in the store: its fields are numbers up to 65535, and its numbers, texts and lists fit.
 pub fn documents_are_valid()
     ensures { (d : CompactDoc) → IsDocument (document_of d) }
 {}
@@ -70,7 +70,7 @@ pub fn named_documents_are_converted_back(
 }
 
 /// All of a builder's state stands in its heap: each finished child and the complete tree reads at its place, and open bytes so far, behind
-/// their length's shortest spelling, are the heap's last. The heap takes at most the room of the pairs and of what is written.
+/// their length's shortest encoding, are the heap's last. The heap takes at most the room of the pairs and of what is written.
 pub fn builders_hold_their_state()
     ensures shown { (b : TreeBuilder) → ∥ Shows b.building (state_of b) ∥₁ }
     ensures room { (b : TreeBuilder) → length (heap_so_far b) ≤ document_room (built b) + written (state_of b) }

@@ -16,5 +16,5 @@ mod map_value;
 pub mod named;
 mod place;
 mod same;
-mod spelled;
+mod encoded;
 mod whole_json;

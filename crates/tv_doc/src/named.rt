@@ -15,7 +15,7 @@ use tv_value::field::Field;
 use tv_value::owned_value::OwnedValue;
 use tv_value::value::Value;
 
-/// What has names of fields, as a schema. (Own.)
+/// What has names of fields, as a schema. (Not in tantivy.)
 pub trait FieldNames {
     ghost names: { Self → List (List ℕ) };
 

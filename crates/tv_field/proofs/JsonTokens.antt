@@ -1,4 +1,4 @@
--- Tokens that are spelled one after the other, and the view of their spelling.
+-- Tokens that are encoded one after the other, and the view of their encoding.
 use Rattle.std.proofs.Common.{◌≡◌, ℕ, suc, codes, ◌<◌, ◌^◌, List, [], ◌∷◌, ◌++◌, take, drop, length, Option, Some, None, option_map, option_and_then, Bool, true, false, Result, Ok, Err, refl, sym, ap, ◌∙◌, arith, append_assoc, append-nil}
 use Rattle.std.specs.List.{AllByRecursion, flat_map}
 use Rattle.std.proofs.lemmas.List.{take-append-drop}
@@ -12,13 +12,13 @@ use Rattle.serde_json.specs.declared.value.Value.{Value}
 use Rattle.tv_base.specs.Number.{vnum}
 use Rattle.tv_base.specs.Parts.{short_sized}
 use Rattle.tv_value.specs.Short.{short_token, short_tokenized, IsText, IsToken, AreTokens}
-use Rattle.tv_value.specs.Spelling.{Tokenized}
+use Rattle.tv_value.specs.Encoding.{Tokenized}
 use Rattle.tv_value.specs.Tree.{Token, tokenized}
 use Rattle.tv_value.proofs.Leaves.{agree_tokenized}
-use Rattle.tv_value.proofs.ShortSpellings.{tokenized_of}
-use Rattle.tv_field.specs.JsonTokens.{token_in, tokens_in, tokenized_in, text_at, AreTokensSpelled, IsSpelled}
+use Rattle.tv_value.proofs.ShortEncodings.{tokenized_of}
+use Rattle.tv_field.specs.JsonTokens.{token_in, tokens_in, tokenized_in, text_at, AreTokensEncoded, IsTokenizedEncoded}
 
--- the tokens that are spelled so far, and then those of the other items
+-- the tokens that are encoded so far, and then those of the other items
 pub record TokensSoFar (all rest : Items) (old new : List ℕ) : Type 0 where
   pub done : List Token
   pub parted : tokens_in all ≡ option_map (λ ts. done ++ ts) (tokens_in rest)
@@ -64,11 +64,11 @@ pub all_tokens : (all rest : Items) (old new : List ℕ) → TokensSoFar all res
 all_tokens all rest old new s none =
     (s.done, s.parted ∙ ap (λ xs. option_map (λ ts. s.done ++ ts) (tokens_in xs)) none ∙ ap Some (append-nil s.done), s.valid, s.grown)
 
--- what a front of the shortest spelling spells
-pub spelled_once : (bytes content t : List ℕ) (tokens ts : List Token) (n : ℕ) → IsText content → AreTokens tokens → bytes ≡ short_tokenized content tokens → Tokenized (take n bytes) t ts
+-- what a prefix of the shortest encoding encodes
+pub encoded_once : (bytes content t : List ℕ) (tokens ts : List Token) (n : ℕ) → IsText content → AreTokens tokens → bytes ≡ short_tokenized content tokens → Tokenized (take n bytes) t ts
     → tokenized t ts ≡ tokenized content tokens
-spelled_once bytes content t tokens ts n text valid is front =
-    ((agree_tokenized t content ts tokens).agree (take n bytes) (short_tokenized content tokens) (drop n bytes) [] front (tokenized_of content tokens text valid)
+encoded_once bytes content t tokens ts n text valid is prefix =
+    ((agree_tokenized t content ts tokens).agree (take n bytes) (short_tokenized content tokens) (drop n bytes) [] prefix (tokenized_of content tokens text valid)
     (take-append-drop n bytes ∙ is ∙ sym (append-nil (short_tokenized content tokens)))).1
 
 unsome : {A : Type 0} (a b : A) → Some a ≡ Some b → a ≡ b
@@ -84,12 +84,12 @@ tokens_count : (items : Items) (ts : List Token) → tokens_in items ≡ Some ts
 tokens_count json.no_items ts e = ap length (sym (unsome [] ts e))
 tokens_count (json.item d ds) ts e = count_at (token_in d) (tokens_in ds) (items_len ds) (tokens_count ds) ts e
 
--- a text and its tokens, spelled one after the other
-pub spelled_all : {E : Type 0} (d : Data) (content : List ℕ) (items : List Value) (mid new : List ℕ) (r : Result Bool E) → text_at (codes "text") d ≡ Some content
+-- a text and its tokens, encoded one after the other
+pub encoded_all : {E : Type 0} (d : Data) (content : List ℕ) (items : List Value) (mid new : List ℕ) (r : Result Bool E) → text_at (codes "text") d ≡ Some content
     → option_and_then as_array (get (codes "tokens") d) ≡ Some (items_view items) → IsText content → length items < 2 ^ 63 → mid ≡ short_sized content ++ vnum (length items)
-    → AreTokensSpelled (items_view items) mid new r → IsSpelled d new r
+    → AreTokensEncoded (items_view items) mid new r → IsTokenizedEncoded d new r
 unfolding tokenized_in
-spelled_all d content items mid new (Ok true) named listed text few start (ts, is, valid, grown) =
+encoded_all d content items mid new (Ok true) named listed text few start (ts, is, valid, grown) =
     let count : length ts ≡ length items = tokens_count (items_view items) ts is ∙ items_len-items_view items in
     let few_tokens : length ts < 2 ^ 63 = omega arith in (
       content,
@@ -99,5 +99,5 @@ spelled_all d content items mid new (Ok true) named listed text few start (ts, i
       record { count = few_tokens; each = valid },
       grown ∙ ap (λ bs. bs ++ flat_map short_token ts) (start ∙ ap (λ n. short_sized content ++ vnum n) (sym count)) ∙ append_assoc (short_sized content) (vnum (length ts)) (flat_map short_token ts),
     )
-spelled_all d content items mid new (Ok false) named listed text few start none = rw (named, listed, none)
-spelled_all d content items mid new (Err e) named listed text few start h = tt
+encoded_all d content items mid new (Ok false) named listed text few start none = rw (named, listed, none)
+encoded_all d content items mid new (Err e) named listed text few start h = tt

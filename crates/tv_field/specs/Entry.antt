@@ -15,7 +15,7 @@ pub record Entry : Type 0 where
   pub name : List ℕ
   pub field_type : FieldType
 
--- not empty, and without a minus sign in front
+-- not empty, and without a minus sign before it
 abbrev pub is_valid_name : List ℕ → Bool
 is_valid_name [] = false
 is_valid_name (b ∷ bs) = not (b == 45)

@@ -72,7 +72,7 @@ str_row false d = mismatched (codes "a string") d
 
 -- ---- numbers
 
--- a text that spells a number from 0 to 2^64 - 1 in decimal, perhaps behind a plus
+-- a text that encodes a number from 0 to 2^64 - 1 in decimal, perhaps behind a plus
 abbrev pub IsUnsignedText : List ℕ → Type 0
 IsUnsignedText s = IsNumeral 10 (without_leading_plus s) × (digits_value 10 (without_leading_plus s) < 2 ^ 64)
 

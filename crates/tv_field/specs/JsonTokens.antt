@@ -37,21 +37,21 @@ tokenized_in d = do
   items ← option_and_then as_array (get (codes "tokens") d)
   option_map (tokenized content) (tokens_in items)
 
--- whether the value is a token, whose shortest spelling then is added
-abbrev pub IsTokenSpelled : {E : Type 0} → Data → List ℕ → List ℕ → Result Bool E → Type 0
-IsTokenSpelled d old new (Ok true) = (t : Token) × (token_in d ≡ Some t) × IsToken t × (new ≡ old ++ short_token t)
-IsTokenSpelled d old new (Ok false) = token_in d ≡ None
-IsTokenSpelled d old new (Err e) = Unit {0}
+-- whether the value is a token, whose shortest encoding then is added
+abbrev pub IsTokenEncoded : {E : Type 0} → Data → List ℕ → List ℕ → Result Bool E → Type 0
+IsTokenEncoded d old new (Ok true) = (t : Token) × (token_in d ≡ Some t) × IsToken t × (new ≡ old ++ short_token t)
+IsTokenEncoded d old new (Ok false) = token_in d ≡ None
+IsTokenEncoded d old new (Err e) = Unit {0}
 
--- whether the items are tokens, whose shortest spellings then are added
-abbrev pub AreTokensSpelled : {E : Type 0} → Items → List ℕ → List ℕ → Result Bool E → Type 0
-AreTokensSpelled items old new (Ok true) = (ts : List Token) × (tokens_in items ≡ Some ts) × AllByRecursion IsToken ts × (new ≡ old ++ flat_map short_token ts)
-AreTokensSpelled items old new (Ok false) = tokens_in items ≡ None
-AreTokensSpelled items old new (Err e) = Unit {0}
+-- whether the items are tokens, whose shortest encodings then are added
+abbrev pub AreTokensEncoded : {E : Type 0} → Items → List ℕ → List ℕ → Result Bool E → Type 0
+AreTokensEncoded items old new (Ok true) = (ts : List Token) × (tokens_in items ≡ Some ts) × AllByRecursion IsToken ts × (new ≡ old ++ flat_map short_token ts)
+AreTokensEncoded items old new (Ok false) = tokens_in items ≡ None
+AreTokensEncoded items old new (Err e) = Unit {0}
 
--- whether the value is a text with tokens, whose shortest spelling these bytes then are
-abbrev pub IsSpelled : {E : Type 0} → Data → List ℕ → Result Bool E → Type 0
-IsSpelled d spelled (Ok true) =
-    (content : List ℕ) × (ts : List Token) × (tokenized_in d ≡ Some (tokenized content ts)) × IsText content × AreTokens ts × (spelled ≡ short_tokenized content ts)
-IsSpelled d spelled (Ok false) = tokenized_in d ≡ None
-IsSpelled d spelled (Err e) = Unit {0}
+-- whether the value is a text with tokens, whose shortest encoding these bytes then are
+abbrev pub IsTokenizedEncoded : {E : Type 0} → Data → List ℕ → Result Bool E → Type 0
+IsTokenizedEncoded d encoded (Ok true) =
+    (content : List ℕ) × (ts : List Token) × (tokenized_in d ≡ Some (tokenized content ts)) × IsText content × AreTokens ts × (encoded ≡ short_tokenized content ts)
+IsTokenizedEncoded d encoded (Ok false) = tokenized_in d ≡ None
+IsTokenizedEncoded d encoded (Err e) = Unit {0}

@@ -4,12 +4,12 @@ ghost use Rattle.std.specs.Prelude.{◌≡◌, option_map, option_and_then};
 ghost use Rattle.serde_json.specs.View.{view as data_of, items_view};
 ghost use Rattle.serde_json.specs.Find.{as_array, get};
 ghost use Rattle.tv_value.specs.TokenRef.{ref_of};
-ghost use Rattle.tv_field.specs.JsonTokens.{number_at as number_at_key, text_at as text_at_key, token_in, IsTokenSpelled, AreTokensSpelled, IsSpelled};
+ghost use Rattle.tv_field.specs.JsonTokens.{number_at as number_at_key, text_at as text_at_key, token_in, IsTokenEncoded, AreTokensEncoded, IsTokenizedEncoded};
 
 use serde_json::Value;
 use std::alloc::AllocError;
 use tv_value::pre_tokenized::TokenRef;
-use tv_value::spell::{push_number, push_text, push_token};
+use tv_value::encode::{push_number, push_text, push_token};
 
 // The whole number at a key.
 fn number_at(json: &Value, key: &str) -> Option<u64>
@@ -46,9 +46,9 @@ fn token_at(json: &Value) -> Option<TokenRef<'_>>
     })
 }
 
-// Adds the spelling of a token. Answers whether the value is one.
+// Adds the encoding of a token. Answers whether the value is one.
 fn push_json_token(bytes: &mut Vec<u8>, json: &Value) -> Result<bool, AllocError>
-    ensures { IsTokenSpelled (data_of json.now) bytes.old.items bytes.new.items result }
+    ensures { IsTokenEncoded (data_of json.now) bytes.old.items bytes.new.items result }
 {
     match token_at(json) {
         Some(token) => {
@@ -59,9 +59,9 @@ fn push_json_token(bytes: &mut Vec<u8>, json: &Value) -> Result<bool, AllocError
     }
 }
 
-// Adds the spellings of tokens. Answers whether each item is one.
+// Adds the encodings of tokens. Answers whether each item is one.
 fn push_json_tokens(bytes: &mut Vec<u8>, items: &Vec<Value>) -> Result<bool, AllocError>
-    ensures { AreTokensSpelled (items_view items.now.items) bytes.old.items bytes.new.items result }
+    ensures { AreTokensEncoded (items_view items.now.items) bytes.old.items bytes.new.items result }
 {
     for item in items {
         let is_token = push_json_token(bytes, item)?;
@@ -72,11 +72,11 @@ fn push_json_tokens(bytes: &mut Vec<u8>, items: &Vec<Value>) -> Result<bool, All
     Ok(true)
 }
 
-/// Writes the spelling of a text with its tokens, in place of what is there. Answers whether the value is one. Errors: memory was
+/// Writes the encoding of a text with its tokens, in place of what is there. Answers whether the value is one. Errors: memory was
 /// refused.
 #[tactic(auto, unfolding(crate::specs::JsonTokens::tokenized_in))]
-pub fn spell_tokenized(json: &Value, bytes: &mut Vec<u8>) -> Result<bool, AllocError>
-    ensures { IsSpelled (data_of json.now) bytes.new.items result }
+pub fn encode_tokenized(json: &Value, bytes: &mut Vec<u8>) -> Result<bool, AllocError>
+    ensures { IsTokenizedEncoded (data_of json.now) bytes.new.items result }
 {
     let Some(content) = text_at(json, "text") else {
         return Ok(false);

@@ -8,7 +8,7 @@ ghost use Rattle.tv_field.specs.JsonTokens.{tokenized_in};
 ghost use Rattle.tv_field.specs.JsonAnswer.{Lends, LendsLeaf, Answers};
 
 use crate::field_type::FieldType;
-use crate::json_tokens::spell_tokenized;
+use crate::json_tokens::encode_tokenized;
 use crate::value_parsing_error::{ParseCause, ValueParsingError};
 use base64::DecodeAllocError;
 use base64::engine::general_purpose::STANDARD;
@@ -25,7 +25,7 @@ use tv_value::leaf::ReferenceValueLeaf;
 use tv_value::owned_value::OwnedValue;
 use tv_value::pre_tokenized::PreTokenizedStr;
 
-/// Where texts and bytes are written that a field's value has and its JSON value hasn't. (Own.) One serves any number of values,
+/// Where texts and bytes are written that a field's value has and its JSON value hasn't. (Not in tantivy.) One serves any number of values,
 /// one after the other.
 #[derive(Drop)]
 pub struct JsonScratch {
@@ -43,7 +43,7 @@ impl JsonScratch {
     }
 }
 
-/// What a JSON value is to a field, lent. (Own.)
+/// What a JSON value is to a field, lent. (Not in tantivy.)
 pub enum LentFieldValue<'a> {
     /// A value without children.
     Leaf(ReferenceValueLeaf<'a>),
@@ -51,7 +51,7 @@ pub enum LentFieldValue<'a> {
     Object(LentJson<'a>),
 }
 
-/// Why a JSON value is no value of a field, without the value. (Own.)
+/// Why a JSON value is no value of a field, without the value. (Not in tantivy.)
 #[derive(Clone, Copy, Debug, PartialEq, Eq, Drop)]
 pub enum JsonRefusal {
     /// A number doesn't fit the field's type, which wants this.
@@ -164,7 +164,7 @@ fn lend_bool(coerce: bool, json: &Value) -> Result<ReferenceValueLeaf<'static>, 
     }
 }
 
-/// The date that a text of JSON is to a field of dates. (Own.) Errors: those of `lend_json`.
+/// The date that a text of JSON is to a field of dates. (Not in tantivy.) Errors: those of `lend_json`.
 #[inline(always)]
 pub fn lend_date_text(text: &str) -> Result<ReferenceValueLeaf<'static>, JsonRefusal>
     ensures { LendsLeaf (string text.now) (λ o. o ≡ date_row (string text.now)) result }
@@ -187,7 +187,7 @@ fn lend_date(json: &Value) -> Result<ReferenceValueLeaf<'static>, JsonRefusal>
     }
 }
 
-/// The facet that a text of JSON is to a field of facets, lent from the scratch. (Own.) Errors: those of `lend_json`.
+/// The facet that a text of JSON is to a field of facets, lent from the scratch. (Not in tantivy.) Errors: those of `lend_json`.
 #[inline(always)]
 pub fn lend_facet_text<'a>(
     path: &str,
@@ -215,7 +215,7 @@ fn lend_facet<'a>(
     }
 }
 
-/// The bytes that a text of JSON is to a field of bytes, lent from the scratch. (Own.) Errors: those of `lend_json`.
+/// The bytes that a text of JSON is to a field of bytes, lent from the scratch. (Not in tantivy.) Errors: those of `lend_json`.
 #[inline(always)]
 pub fn lend_bytes_text<'a>(
     text: &str,
@@ -245,7 +245,7 @@ fn lend_bytes<'a>(
     }
 }
 
-/// The address that a text of JSON is to a field of IP addresses. (Own.) Errors: those of `lend_json`.
+/// The address that a text of JSON is to a field of IP addresses. (Not in tantivy.) Errors: those of `lend_json`.
 #[inline(always)]
 pub fn lend_ip_addr_text(text: &str) -> Result<ReferenceValueLeaf<'static>, JsonRefusal>
     ensures { LendsLeaf (string text.now) (IpRow (string text.now)) result }
@@ -279,14 +279,14 @@ fn lend_object(json: &Value) -> Result<LentFieldValue<'_>, JsonRefusal>
     }
 }
 
-// A text with its tokens, lent from its spelling.
+// A text with its tokens, lent from its encoding.
 fn lend_tokenized<'a>(
     json: &Value,
     bytes: &'a mut Vec<u8>,
 ) -> Result<ReferenceValueLeaf<'a>, JsonRefusal>
     ensures { LendsLeaf (data_of json.now) (λ o. o ≡ leaf_or (tokenized_in (data_of json.now)) (mismatch (codes "a string or an pretokenized string") (data_of json.now))) result }
 {
-    let is_tokenized = spell_tokenized(json, bytes)?;
+    let is_tokenized = encode_tokenized(json, bytes)?;
     if !is_tokenized {
         return Err(JsonRefusal::Mismatch("a string or an pretokenized string"));
     }
@@ -319,7 +319,7 @@ fn lend_str<'a>(
 impl JsonRefusal {
     ghost use Rattle.tv_field.specs.JsonAnswer.{Refuses};
 
-    /// The same as an error that holds the value that was refused. (Own.)
+    /// The same as an error that holds the value that was refused. (Not in tantivy.)
     pub fn with_json(self, alloc: Global, json: Value) -> ValueParsingError
         ensures { Refuses (data_of json) self result }
     {
@@ -341,7 +341,7 @@ impl JsonRefusal {
 
 impl FieldType {
     /// What a JSON value is to a field of this type, by the table of JSON values, lent from the value or from what is written into
-    /// the scratch. (Own.) Errors: what `value_from_json` answers, without the value.
+    /// the scratch. (Not in tantivy.) Errors: what `value_from_json` answers, without the value.
     pub fn lend_json<'a>(
         &self,
         json: &'a Value,

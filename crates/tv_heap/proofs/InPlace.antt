@@ -11,7 +11,7 @@ use mathlib.Core.HLevel.{⊥_prop}
 use base.Stored.{Coded-set}
 use Rattle.tv_base.specs.Number.{Groups, last, more, vnum, low_bytes, eight_bytes, sixteen_bytes, Fixed, no_bytes, low_byte, Signed}
 use Rattle.tv_base.specs.Parts.{short_sized}
-use Rattle.tv_base.proofs.Numbers.{vnum_spells, length-fixed}
+use Rattle.tv_base.proofs.Numbers.{vnum_encodes, length-fixed}
 use Rattle.tv_value.specs.Short.{short_content, short_leaf, short, short_elements, short_entries, short_tokenized}
 use Rattle.tv_value.specs.Content.{Content, signed_content, text_content, tokens_content, form_of}
 use Rattle.tv_value.specs.Leaves.{type_of, content, store_code}
@@ -28,7 +28,7 @@ use Rattle.tv_heap.specs.Reads.{Stands, ShortSized, ShortTokenized, ContentStand
 use Rattle.tv_heap.specs.ReadsLaws.{one_type, type_small, leaf_type_small}
 use Rattle.tv_heap.specs.TypeCode.{type_code, heap_type}
 use Rattle.tv_value.proofs.Leaves.{agree_tokenized}
-use Rattle.tv_value.specs.Spelling.{Tokenized}
+use Rattle.tv_value.specs.Encoding.{Tokenized}
 use Rattle.tv_heap.proofs.Lends.{text_sized, stands_behind, tokenized_stands}
 use Rattle.tv_heap.proofs.Shapes.{GivesSized, elements_listed, same_elements, children_are}
 
@@ -57,7 +57,7 @@ groups_last (last {n = n} p) = last_more (n + 128) [] (omega arith)
 groups_last (more {b = b} {bytes = bs} p g) = last_same b bs p ∙ groups_last g
 
 number_last : (n : ℕ) → n < 2 ^ 32 → last_bytes (vnum n) ≡ 1
-number_last n h = groups_last (vnum_spells n (omega (arith, h))).groups
+number_last n h = groups_last (vnum_encodes n (omega (arith, h))).groups
 
 code_small : (heap : List ℕ) (code at : ℕ) (t : Tree) → Reads heap code at t → code < 128
 code_small heap code at (leaf l) r = omega (arith, r.0, leaf_type_small l)
@@ -110,9 +110,9 @@ flat_short (entry k t es) = ap (λ z. (0 ∷ short_sized k) ++ (short V2 t ++ z)
 
 -- ---- values
 
--- what `spelled_at` promises
-abbrev GivesSpelled : List ℕ → ℕ → List ℕ → Type 0
-GivesSpelled heap at x = (s : List ℕ) → Stands heap at (λ w. ShortSized s w) → x ≡ short_sized s
+-- what `sized_encoding_at` promises
+abbrev GivesEncoded : List ℕ → ℕ → List ℕ → Type 0
+GivesEncoded heap at x = (s : List ℕ) → Stands heap at (λ w. ShortSized s w) → x ≡ short_sized s
 
 -- what `eight_at` promises
 abbrev GivesNumber : List ℕ → ℕ → ℕ → Type 0
@@ -120,13 +120,13 @@ GivesNumber heap at x = (n : ℕ) → Stands heap at (λ w. Fixed 8 w n) → x �
 
 -- the eight bytes of a signed number are a number's
 pattern_is : (heap : List ℕ) (at x : ℕ) (z : ℤ) → GivesNumber heap at x → Stands heap at (λ w. Signed w z) → x ≡ cast_unsigned w64 z
-pattern_is heap at x z is p = is _ (record { before = p.before; whole = p.whole; behind = p.behind; joined = p.joined; place = p.place; stands = p.stands.spelled })
+pattern_is heap at x z is p = is _ (record { before = p.before; whole = p.whole; behind = p.behind; joined = p.joined; place = p.place; stands = p.stands.encoded })
 
 pub signed_bytes : (heap : List ℕ) (at x : ℕ) → GivesNumber heap at x → (c : Content) → form_of c ≡ forms.Signed → ContentStands heap at c → eight_bytes x ≡ short_content c
 signed_bytes heap at x is (signed_content z) e p = ap eight_bytes (pattern_is heap at x z is p)
 signed_bytes heap at x is _ e p = absurd (cc)
 
-pub text_bytes : (heap : List ℕ) (at : ℕ) (x : List ℕ) → GivesSpelled heap at x → (c : Content) → form_of c ≡ forms.Text → ContentStands heap at c → x ≡ short_content c
+pub text_bytes : (heap : List ℕ) (at : ℕ) (x : List ℕ) → GivesEncoded heap at x → (c : Content) → form_of c ≡ forms.Text → ContentStands heap at c → x ≡ short_content c
 text_bytes heap at x is (text_content s) e p = is s (text_sized heap at s p)
 text_bytes heap at x is _ e p = absurd (cc)
 
@@ -222,32 +222,32 @@ fixed_is (low_byte {k = k} {b = b} {high = high} p f) =
     let above : high ≡ (b + 256 * high) / 256 = omega arith in
     λ i. low i ∷ (fixed_is f ∙ ap (low_bytes k) above) i
 
-front_is : (heap : List ℕ) (at : ℕ) (P : List ℕ → Type 0) (p : Stands heap at P) (behind front : List ℕ) (n : ℕ) → behind ≡ drop at heap → front ≡ take n behind → n ≡ length p.whole → front ≡ p.whole
-front_is heap at P p behind front n e f l = f ∙ (λ i. take (l i) ((e ∙ stands_behind heap at P p) i)) ∙ take-append_seam p.whole p.behind
+prefix_is : (heap : List ℕ) (at : ℕ) (P : List ℕ → Type 0) (p : Stands heap at P) (behind prefix : List ℕ) (n : ℕ) → behind ≡ drop at heap → prefix ≡ take n behind → n ≡ length p.whole → prefix ≡ p.whole
+prefix_is heap at P p behind prefix n e f l = f ∙ (λ i. take (l i) ((e ∙ stands_behind heap at P p) i)) ∙ take-append_seam p.whole p.behind
 
-pub sixteen_is : (heap behind front : List ℕ) (at n : ℕ) → Stands heap at (λ w. Fixed 16 w n) → behind ≡ drop at heap → front ≡ take 16 behind → front ≡ sixteen_bytes n
+pub sixteen_is : (heap behind prefix : List ℕ) (at n : ℕ) → Stands heap at (λ w. Fixed 16 w n) → behind ≡ drop at heap → prefix ≡ take 16 behind → prefix ≡ sixteen_bytes n
 unfolding sixteen_bytes
-sixteen_is heap behind front at n p e f = front_is heap at _ p behind front 16 e f (sym (length-fixed p.stands)) ∙ fixed_is p.stands
+sixteen_is heap behind prefix at n p e f = prefix_is heap at _ p behind prefix 16 e f (sym (length-fixed p.stands)) ∙ fixed_is p.stands
 
 -- the length before the bytes, and as many bytes as it says
-pub spelled_is : (heap behind rest front : List ℕ) (at len n : ℕ) (s : List ℕ) → Stands heap at (λ w. ShortSized s w) → behind ≡ drop at heap
-    → ((m : ℕ) (r : List ℕ) → m < 2 ^ 64 → behind ≡ vnum m ++ r → (len ≡ m) × (rest ≡ r)) → n ≡ length behind - length rest + len → front ≡ take n behind → front ≡ short_sized s
-spelled_is heap behind rest front at len n s p e is count f =
+pub encoded_is : (heap behind rest prefix : List ℕ) (at len n : ℕ) (s : List ℕ) → Stands heap at (λ w. ShortSized s w) → behind ≡ drop at heap
+    → ((m : ℕ) (r : List ℕ) → m < 2 ^ 64 → behind ≡ vnum m ++ r → (len ≡ m) × (rest ≡ r)) → n ≡ length behind - length rest + len → prefix ≡ take n behind → prefix ≡ short_sized s
+encoded_is heap behind rest prefix at len n s p e is count f =
     let parts : behind ≡ vnum (length s) ++ (s ++ p.behind) = e ∙ stands_behind heap at _ p ∙ ap (λ z. z ++ p.behind) p.stands.is ∙ append_assoc (vnum (length s)) s p.behind in
     let found = is (length s) (s ++ p.behind) (omega (arith, p.stands.fits)) parts in
     let whole : n ≡ length p.whole =
     omega (arith, count, found.0, ap length found.1, ap length parts, length-append (vnum (length s)) (s ++ p.behind), length-append s p.behind, ap length p.stands.is, length-append (vnum (length s)) s) in
-    front_is heap at _ p behind front n e f whole ∙ p.stands.is
+    prefix_is heap at _ p behind prefix n e f whole ∙ p.stands.is
 
-pub spelled_short : {A : Type 0} (heap behind rest : List ℕ) (at len : ℕ) (s : List ℕ) → Stands heap at (λ w. ShortSized s w) → behind ≡ drop at heap
+pub encoded_short : {A : Type 0} (heap behind rest : List ℕ) (at len : ℕ) (s : List ℕ) → Stands heap at (λ w. ShortSized s w) → behind ≡ drop at heap
     → ((m : ℕ) (r : List ℕ) → m < 2 ^ 64 → behind ≡ vnum m ++ r → (len ≡ m) × (rest ≡ r)) → length rest < len → A
-spelled_short heap behind rest at len s p e is short =
+encoded_short heap behind rest at len s p e is short =
     let parts : behind ≡ vnum (length s) ++ (s ++ p.behind) = e ∙ stands_behind heap at _ p ∙ ap (λ z. z ++ p.behind) p.stands.is ∙ append_assoc (vnum (length s)) s p.behind in
     let found = is (length s) (s ++ p.behind) (omega (arith, p.stands.fits)) parts in
     absurd (omega (arith, found.0, ap length found.1, length-append s p.behind))
 
-pub tokens_is : (heap behind front : List ℕ) (at n : ℕ) (t s : List ℕ) (ts ss : List Token) → Stands heap at (λ w. ShortTokenized s ss w) → behind ≡ drop at heap → Tokenized (take n behind) t ts → front ≡ take n behind
-    → front ≡ short_tokenized s ss
-tokens_is heap behind front at n t s ts ss p e found f =
+pub tokens_is : (heap behind prefix : List ℕ) (at n : ℕ) (t s : List ℕ) (ts ss : List Token) → Stands heap at (λ w. ShortTokenized s ss w) → behind ≡ drop at heap → Tokenized (take n behind) t ts → prefix ≡ take n behind
+    → prefix ≡ short_tokenized s ss
+tokens_is heap behind prefix at n t s ts ss p e found f =
     let joined : take n behind ++ drop n behind ≡ p.whole ++ p.behind = take-append-drop n behind ∙ e ∙ stands_behind heap at _ p in
     f ∙ ((agree_tokenized t s ts ss).agree (take n behind) p.whole (drop n behind) p.behind found (tokenized_stands heap at s ss p) joined).0 ∙ p.stands.is

@@ -11,9 +11,9 @@ use Rattle.tv_base.specs.Number.{vnum, Fixed, Signed}
 use Rattle.tv_base.proofs.Numbers.{length-fixed, vnum-small, vnum-large}
 use Rattle.tv_base.proofs.Widths.{from_8, from_16}
 use Rattle.tv_value.proofs.Leaves.{agree_tokenized}
-use Rattle.tv_value.proofs.ShortSpellings.{tokenized_of}
+use Rattle.tv_value.proofs.ShortEncodings.{tokenized_of}
 use Rattle.tv_value.specs.InPlace.{NoTokenized}
-use Rattle.tv_value.specs.Spelling.{Tokenized}
+use Rattle.tv_value.specs.Encoding.{Tokenized}
 use Rattle.tv_value.specs.Tree.{Token, tokenized}
 use Rattle.tv_heap.specs.Lent.{HasText}
 use Rattle.tv_heap.specs.Reads.{Stands, ShortSized, ShortText, ShortTokenized}
@@ -30,8 +30,8 @@ stands_within heap at P p =
 pub text_sized : (heap : List ℕ) (at : ℕ) (s : List ℕ) → Stands heap at (λ w. ShortText s w) → Stands heap at (λ w. ShortSized s w)
 text_sized heap at s p = record { before = p.before; whole = p.whole; behind = p.behind; joined = p.joined; place = p.place; stands = p.stands.sized }
 
-fixed_front : (k : ℕ) (heap behind : List ℕ) (at n : ℕ) (p : Stands heap at (λ w. Fixed k w n)) → behind ≡ drop at heap → take k behind ≡ p.whole
-fixed_front k heap behind at n p e =
+fixed_prefix : (k : ℕ) (heap behind : List ℕ) (at n : ℕ) (p : Stands heap at (λ w. Fixed k w n)) → behind ≡ drop at heap → take k behind ≡ p.whole
+fixed_prefix k heap behind at n p e =
     let l : k ≡ length p.whole = sym (length-fixed p.stands) in
     (λ i. take (l i) ((e ∙ stands_behind heap at _ p) i)) ∙ take-append_seam p.whole p.behind
 
@@ -41,20 +41,20 @@ fixed_short k heap behind at n p e l =
     let all = length-fixed p.stands in
     absurd (omega (arith, length-append p.whole p.behind))
 
-pub eight_is : (heap behind front : List ℕ) (at n : ℕ) → Stands heap at (λ w. Fixed 8 w n) → behind ≡ drop at heap → front ≡ take 8 behind → from_le_bytes w64 front ≡ n
-eight_is heap behind front at n p e f = ap (from_le_bytes w64) (f ∙ fixed_front 8 heap behind at n p e) ∙ from_8 p.whole n p.stands
+pub eight_is : (heap behind prefix : List ℕ) (at n : ℕ) → Stands heap at (λ w. Fixed 8 w n) → behind ≡ drop at heap → prefix ≡ take 8 behind → from_le_bytes w64 prefix ≡ n
+eight_is heap behind prefix at n p e f = ap (from_le_bytes w64) (f ∙ fixed_prefix 8 heap behind at n p e) ∙ from_8 p.whole n p.stands
 
 pub eight_short : {A : Type 0} (heap behind : List ℕ) (at n : ℕ) → Stands heap at (λ w. Fixed 8 w n) → behind ≡ drop at heap → length behind < 8 → A
 eight_short heap behind at n p e l = fixed_short 8 heap behind at n p e l
 
 pub signed_is : (heap : List ℕ) (at x : ℕ) (y z : ℤ) → Stands heap at (λ w. Signed w z) → ((n : ℕ) → Stands heap at (λ w. Fixed 8 w n) → x ≡ n) → y ≡ cast_signed w64 x → to_z w64 (of_z w64 y) ≡ z
 signed_is heap at x y z p is f =
-    let number = is _ (record { before = p.before; whole = p.whole; behind = p.behind; joined = p.joined; place = p.place; stands = p.stands.spelled }) in
+    let number = is _ (record { before = p.before; whole = p.whole; behind = p.behind; joined = p.joined; place = p.place; stands = p.stands.encoded }) in
     let back = to_z-of_z w64 z p.stands.fits in
     ap (λ v. to_z w64 (of_z w64 v)) (f ∙ ap (cast_signed w64) number ∙ back) ∙ back
 
-pub wide_is : (heap behind front : List ℕ) (at n : ℕ) → Stands heap at (λ w. Fixed 16 w n) → behind ≡ drop at heap → front ≡ take 16 behind → from_le_bytes w128 front ≡ n
-wide_is heap behind front at n p e f = ap (from_le_bytes w128) (f ∙ fixed_front 16 heap behind at n p e) ∙ from_16 p.whole n p.stands
+pub wide_is : (heap behind prefix : List ℕ) (at n : ℕ) → Stands heap at (λ w. Fixed 16 w n) → behind ≡ drop at heap → prefix ≡ take 16 behind → from_le_bytes w128 prefix ≡ n
+wide_is heap behind prefix at n p e f = ap (from_le_bytes w128) (f ∙ fixed_prefix 16 heap behind at n p e) ∙ from_16 p.whole n p.stands
 
 pub wide_short : {A : Type 0} (heap behind : List ℕ) (at n : ℕ) → Stands heap at (λ w. Fixed 16 w n) → behind ≡ drop at heap → length behind < 16 → A
 wide_short heap behind at n p e l = fixed_short 16 heap behind at n p e l
@@ -82,8 +82,8 @@ tokenized_past heap at s ss p l = absurd (omega (arith, stands_within heap at _ 
 
 -- ---- numbers of one and of two bytes
 
-short_front : (n : ℕ) (rest : List ℕ) → 128 ≤ n → n < 2 ^ 64 → vnum n ++ rest ≡ n % 128 ∷ (vnum (n / 128) ++ rest)
-short_front n rest p h = ap (λ z. z ++ rest) (vnum-large n p h)
+short_prefix : (n : ℕ) (rest : List ℕ) → 128 ≤ n → n < 2 ^ 64 → vnum n ++ rest ≡ n % 128 ∷ (vnum (n / 128) ++ rest)
+short_prefix n rest p h = ap (λ z. z ++ rest) (vnum-large n p h)
 
 first_same : (x y : ℕ) (xs ys : List ℕ) → x ∷ xs ≡ y ∷ ys → x ≡ y
 first_same x y xs ys e = ap (λ z. get_or z 0 0) e
@@ -96,7 +96,7 @@ one_byte_at : (b : ℕ) (bytes : List ℕ) (n : ℕ) (rest : List ℕ) → 128 �
 one_byte_at b bytes n rest high h e =
     elim (cases_lt n 128) [
       | inl small ↦ let f = e ∙ ap (λ z. z ++ rest) (vnum-small n small) in (omega (arith, first_same _ _ _ _ f), rest_same _ _ _ _ f)
-      | inr large ↦ absurd (omega (arith, first_same _ _ _ _ (e ∙ short_front n rest large h)))
+      | inr large ↦ absurd (omega (arith, first_same _ _ _ _ (e ∙ short_prefix n rest large h)))
     ]
 
 -- the second is
@@ -105,7 +105,7 @@ two_bytes_at a b bytes n rest low high h e =
     elim (cases_lt n 128) [
       | inl small ↦ absurd (omega (arith, first_same _ _ _ _ (e ∙ ap (λ z. z ++ rest) (vnum-small n small))))
       | inr large ↦
-          let f = e ∙ short_front n rest large h in
+          let f = e ∙ short_prefix n rest large h in
           let g = one_byte_at b bytes (n / 128) rest high (omega arith) (rest_same _ _ _ _ f) in
           (omega (arith, g.0, first_same _ _ _ _ f), g.1)
     ]
@@ -113,16 +113,16 @@ two_bytes_at a b bytes n rest low high h e =
 all_behind : (bytes rest : List ℕ) (k : ℕ) → k ≡ length bytes → bytes ≡ rest → take k bytes ≡ rest
 all_behind bytes rest k e same = take_all k bytes (omega arith) ∙ same
 
-pub one_byte_front : (bytes : List ℕ) (n : ℕ) (rest : List ℕ) → 128 ≤ get_or bytes 0 0 → n < 2 ^ 64 → bytes ≡ vnum n ++ rest
+pub one_byte_prefix : (bytes : List ℕ) (n : ℕ) (rest : List ℕ) → 128 ≤ get_or bytes 0 0 → n < 2 ^ 64 → bytes ≡ vnum n ++ rest
     → (get_or bytes 0 0 - 128 ≡ n) × (take (length bytes - 1) (drop 1 bytes) ≡ rest)
-one_byte_front [] n rest high h e = absurd (omega arith)
-one_byte_front (b ∷ bytes) n rest high h e = let g = one_byte_at b bytes n rest high h e in (g.0, all_behind bytes rest _ (omega arith) g.1)
+one_byte_prefix [] n rest high h e = absurd (omega arith)
+one_byte_prefix (b ∷ bytes) n rest high h e = let g = one_byte_at b bytes n rest high h e in (g.0, all_behind bytes rest _ (omega arith) g.1)
 
-pub two_bytes_front : (bytes : List ℕ) (n : ℕ) (rest : List ℕ) → get_or bytes 0 0 < 128 → 128 ≤ get_or bytes 1 0 → n < 2 ^ 64 → bytes ≡ vnum n ++ rest
+pub two_bytes_prefix : (bytes : List ℕ) (n : ℕ) (rest : List ℕ) → get_or bytes 0 0 < 128 → 128 ≤ get_or bytes 1 0 → n < 2 ^ 64 → bytes ≡ vnum n ++ rest
     → (get_or bytes 0 0 + 128 * (get_or bytes 1 0 - 128) ≡ n) × (take (length bytes - 2) (drop 2 bytes) ≡ rest)
-two_bytes_front [] n rest low high h e = absurd (omega arith)
-two_bytes_front (a ∷ []) n rest low high h e = absurd (omega arith)
-two_bytes_front (a ∷ b ∷ bytes) n rest low high h e = let g = two_bytes_at a b bytes n rest low high h e in (g.0, all_behind bytes rest _ (omega arith) g.1)
+two_bytes_prefix [] n rest low high h e = absurd (omega arith)
+two_bytes_prefix (a ∷ []) n rest low high h e = absurd (omega arith)
+two_bytes_prefix (a ∷ b ∷ bytes) n rest low high h e = let g = two_bytes_at a b bytes n rest low high h e in (g.0, all_behind bytes rest _ (omega arith) g.1)
 
 -- ---- texts
 

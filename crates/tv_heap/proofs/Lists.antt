@@ -5,7 +5,7 @@ use Rattle.std.specs.declared.alloc.AllocError.{AllocError}
 use Rattle.std.proofs.Math.Seq.{drop-append_seam, take-append_seam}
 use Rattle.tv_base.specs.Number.{vnum}
 use Rattle.tv_base.specs.Parts.{short_sized}
-use Rattle.tv_base.specs.Sink.{IsFront}
+use Rattle.tv_base.specs.Sink.{IsPrefix}
 use Rattle.tv_value.specs.Size.{size, elements_size, entries_size}
 use Rattle.tv_value.specs.Tree.{Tree, array, object, elements, entries}
 use Rattle.tv_heap.specs.Reads.{Stands, ShortText, Reads, ReadsElements, ReadsEntries}
@@ -30,9 +30,9 @@ pub places_before : {T : Type 0} (r : Result T AllocError) (start places list ne
 places_before (Ok x) start places list new n e is h = h ∙ (λ i. take (is i) (e i)) ∙ take-append_seam start list
 places_before (Err x) start places list new n e is h = tt
 
--- what has grown keeps its front
-pub front_more : (old heap new added : List ℕ) → heap ≡ old ++ added → IsFront heap new → IsFront old new
-front_more old heap new added e more = (added ++ more.0, more.1 ∙ ap (λ z. z ++ more.0) e ∙ append_assoc old added more.0)
+-- what has grown keeps its prefix
+pub prefix_more : (old heap new added : List ℕ) → heap ≡ old ++ added → IsPrefix heap new → IsPrefix old new
+prefix_more old heap new added e more = (added ++ more.0, more.1 ∙ ap (λ z. z ++ more.0) e ∙ append_assoc old added more.0)
 
 -- what holds anyway holds after a refusal
 pub refused : {T P : Type 0} (r : Result T AllocError) → P → OnErr r P
@@ -40,9 +40,9 @@ refused (Ok x) p = tt
 refused (Err x) p = p
 
 -- also where a call may have been refused
-pub front_after : {T : Type 0} (r : Result T AllocError) (old heap new added : List ℕ) → heap ≡ old ++ added → OnErr r (IsFront heap new) → OnErr r (IsFront old new)
-front_after (Ok x) old heap new added e more = tt
-front_after (Err x) old heap new added e more = front_more old heap new added e more
+pub prefix_after : {T : Type 0} (r : Result T AllocError) (old heap new added : List ℕ) → heap ≡ old ++ added → OnErr r (IsPrefix heap new) → OnErr r (IsPrefix old new)
+prefix_after (Ok x) old heap new added e more = tt
+prefix_after (Err x) old heap new added e more = prefix_more old heap new added e more
 
 -- the places of others are no more than all
 pub places_within : (start places list : List ℕ) (n : ℕ) → places ≡ start ++ list → n ≡ length start → n ≤ length places

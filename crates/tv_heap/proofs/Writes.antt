@@ -12,7 +12,7 @@ use Rattle.std.proofs.Math.Logic.{∥∥₁_elim}
 use Rattle.tv_base.specs.Number.{vnum, low_bytes, eight_bytes, sixteen_bytes}
 use Rattle.tv_base.specs.Parts.{short_sized}
 use Rattle.tv_base.proofs.Numbers.{vnum-small, vnum-large}
-use Rattle.tv_base.proofs.Shortest.{eight_bytes_spell, sixteen_bytes_spell}
+use Rattle.tv_base.proofs.Shortest.{eight_bytes_encode, sixteen_bytes_encode}
 use Rattle.tv_value.specs.Short.{short_token, short_tokenized, IsToken, AreTokens, IsContent, IsLeaf}
 use Rattle.tv_value.specs.ShortLaws.{AreTokens-prop}
 use Rattle.tv_value.specs.PreTokenized.{tokens_of}
@@ -54,7 +54,7 @@ longer old new added e = ap length e ∙ length-append old added
 pub sized_length : (content : List ℕ) → length content < 2 ^ 32 → length (short_sized content) ≤ 5 + length content
 sized_length content h = omega (arith, length-append (vnum (length content)) content, vnum_five (length content) h)
 
--- a spelling of a number isn't empty
+-- an encoding of a number isn't empty
 vnum_some : (n : ℕ) → n < 2 ^ 64 → 0 < length (vnum n)
 vnum_some n h = elim (cases_lt n 128) [ inl p ↦ rw (vnum-small n p) (omega arith) | inr p ↦ rw (vnum-large n p h) (omega arith) ]
 
@@ -109,7 +109,7 @@ pub length_sixteen : (n : ℕ) → length (sixteen_bytes n) ≡ 16
 unfolding sixteen_bytes
 length_sixteen n = length-low 16 n
 
--- lengths below 2 ^ 32, and tokens with a spelling
+-- lengths below 2 ^ 32, and tokens with an encoding
 abbrev pub FitsHeap : Content → Type 0
 FitsHeap (text_content t) = length t < 2 ^ 32
 FitsHeap (bytes_content bs) = length bs < 2 ^ 32
@@ -131,23 +131,23 @@ content_within (tokens_content t ts) h =
     let many : length ts < 2 ^ 64 = let c = h.1.count in omega arith in
     omega (arith, tokenized_parts t ts, sized_length t h.0, vnum_ten (length ts) many, tokens_length ts h.1.each)
 
--- tokens that are lent have a spelling
-abbrev TokensSpell : Content → Type 0
-TokensSpell (tokens_content t ts) = AreTokens ts
-TokensSpell _ = Unit {0}
+-- tokens that are lent have an encoding
+abbrev TokensEncode : Content → Type 0
+TokensEncode (tokens_content t ts) = AreTokens ts
+TokensEncode _ = Unit {0}
 
-tokens_spell : (l : ReferenceValueLeaf) → TokensSpell (content (leaf_of l))
-tokens_spell (lent.PreTokStr s) = ∥∥₁_elim s.tokens.held.1 (AreTokens-prop (tokens_of s)) (λ p. p.valid)
-tokens_spell _ = tt
+tokens_encode : (l : ReferenceValueLeaf) → TokensEncode (content (leaf_of l))
+tokens_encode (lent.PreTokStr s) = ∥∥₁_elim s.tokens.held.1 (AreTokens-prop (tokens_of s)) (λ p. p.valid)
+tokens_encode _ = tt
 
-room_fits : (c : Content) → TokensSpell c → content_room c < 2 ^ 32 → FitsHeap c
+room_fits : (c : Content) → TokensEncode c → content_room c < 2 ^ 32 → FitsHeap c
 room_fits (text_content t) h small = omega arith
 room_fits (bytes_content bs) h small = omega arith
 room_fits (tokens_content t ts) h small = (omega arith, h)
 room_fits _ h small = tt
 
 pub leaf_within : (l : ReferenceValueLeaf) → leaf_room (leaf_of l) < 2 ^ 32 → length (leaf_bytes (leaf_of l)) ≤ leaf_room (leaf_of l)
-leaf_within l h = let c = content (leaf_of l) in content_within c (room_fits c (tokens_spell l) h)
+leaf_within l h = let c = content (leaf_of l) in content_within c (room_fits c (tokens_encode l) h)
 
 -- so where there is room for it, it fits
 pub leaf_fits : (len : ℕ) (l : ReferenceValueLeaf) → len + leaf_room (leaf_of l) < 2 ^ 32 → len + length (leaf_bytes (leaf_of l)) < 2 ^ 32
@@ -172,9 +172,9 @@ bytes_fit _ h small = tt
 content_stands : (old new : List ℕ) (c : Content) → new ≡ old ++ content_bytes c → IsContent c → FitsHeap c → ContentStands new (content_address (length old) c) c
 content_stands old new no_content e h fits = refl
 content_stands old new (truth_content b) e h fits = refl
-content_stands old new (unsigned_content n) e h fits = at_end old new _ _ e (eight_bytes_spell n h)
-content_stands old new (signed_content z) e h fits = at_end old new _ _ e (record { fits = h; spelled = eight_bytes_spell (cast_unsigned w64 z) (unsigned_fits z h) })
-content_stands old new (wide_content n) e h fits = at_end old new _ _ e (sixteen_bytes_spell n h)
+content_stands old new (unsigned_content n) e h fits = at_end old new _ _ e (eight_bytes_encode n h)
+content_stands old new (signed_content z) e h fits = at_end old new _ _ e (record { fits = h; encoded = eight_bytes_encode (cast_unsigned w64 z) (unsigned_fits z h) })
+content_stands old new (wide_content n) e h fits = at_end old new _ _ e (sixteen_bytes_encode n h)
 content_stands old new (text_content t) e h fits = at_end old new _ _ e (record { sized = record { is = refl; fits = fits }; utf8 = h.utf8 })
 content_stands old new (bytes_content bs) e h fits = at_end old new _ _ e (record { is = refl; fits = fits })
 content_stands old new (tokens_content t ts) e h fits = at_end old new _ _ e (record { is = refl; content_fits = h.0; tokens_fit = h.1 })

@@ -17,7 +17,7 @@ pub record Stands (heap : List ℕ) (at : ℕ) (P : List ℕ → Type 0) : Type 
   pub place : length before ≡ at
   pub stands : P whole
 
--- the content behind its length, in the shortest spelling
+-- the content behind its length, in the shortest encoding
 pub record ShortSized (content whole : List ℕ) : Type 0 where
   pub is : whole ≡ short_sized content
   pub fits : length content < 2 ^ 32
@@ -26,7 +26,7 @@ pub record ShortText (content whole : List ℕ) : Type 0 where
   pub sized : ShortSized content whole
   pub utf8 : IsUtf8 content
 
--- a text and its tokens, in the shortest spelling
+-- a text and its tokens, in the shortest encoding
 pub record ShortTokenized (content : List ℕ) (tokens : List Token) (whole : List ℕ) : Type 0 where
   pub is : whole ≡ short_tokenized content tokens
   pub content_fits : IsText content

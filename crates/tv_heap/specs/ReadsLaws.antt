@@ -5,15 +5,15 @@ use Rattle.std.proofs.lemmas.List.{append_cancel_left}
 use Rattle.tv_base.specs.Number.{vnum}
 use Rattle.tv_base.specs.Parts.{Sized}
 use Rattle.tv_base.proofs.Agreement.{Agree}
-use Rattle.tv_base.proofs.Numbers.{one_number, vnum_spells, agree_fixed}
-use Rattle.tv_base.proofs.Texts.{same_front, agree_sized, agree_signed}
+use Rattle.tv_base.proofs.Numbers.{one_number, vnum_encodes, agree_fixed}
+use Rattle.tv_base.proofs.Texts.{same_prefix, agree_sized, agree_signed}
 use Rattle.tv_value.specs.Content.{Content, no_content, truth_content, unsigned_content, signed_content, wide_content, text_content, bytes_content, tokens_content, form_of}
 use Rattle.tv_value.specs.Leaves.{type_of, content, form, store_code}
 use Rattle.tv_value.specs.LeavesLaws.{form_of_content, one_code, one_leaf as leaf_of_parts}
 use Rattle.tv_value.specs.Tree.{Token, Leaf, tokenized, Tree, leaf, array, object, Elements, no_elements, element, Entries, no_entries, entry}
-use Rattle.tv_value.specs.Spelling.{Tokenized}
+use Rattle.tv_value.specs.Encoding.{Tokenized}
 use Rattle.tv_value.proofs.Leaves.{agree_tokenized}
-use Rattle.tv_value.proofs.ShortSpellings.{tokenized_of}
+use Rattle.tv_value.proofs.ShortEncodings.{tokenized_of}
 use Rattle.tv_value.specs.declared.leaf.LeafType.{LeafType}
 use Rattle.tv_value.specs.declared.leaf.LeafType.TheVariants as leaves
 use Rattle.tv_heap.specs.TypeCode.{type_code, heap_type}
@@ -21,13 +21,13 @@ use Rattle.tv_heap.specs.Reads.{Stands, ShortSized, ShortText, ShortTokenized, l
 
 -- two cuts of one list at one place
 one_place : (b c x y : List ℕ) → length b ≡ length c → b ++ x ≡ c ++ y → x ≡ y
-one_place b c x y l e = let s = same_front b c x y l e in append_cancel_left c x y (ap (λ z. z ++ x) (sym s) ∙ e)
+one_place b c x y l e = let s = same_prefix b c x y l e in append_cancel_left c x y (ap (λ z. z ++ x) (sym s) ∙ e)
 
 stands_agree : {P Q : List ℕ → Type 0} {C : Type 0} {heap : List ℕ} {at : ℕ} → Agree P Q C → Stands heap at P → Stands heap at Q → C
 stands_agree r p q = (r.agree p.whole q.whole p.behind q.behind p.stands q.stands (one_place p.before q.before _ _ (p.place ∙ sym q.place) (sym p.joined ∙ q.joined))).1
 
 as_sized : (s w : List ℕ) → ShortSized s w → Sized w s
-as_sized s w p = record { size = vnum (length s); joined = p.is; number = vnum_spells (length s) (omega (arith, p.fits)) }
+as_sized s w p = record { size = vnum (length s); joined = p.is; number = vnum_encodes (length s) (omega (arith, p.fits)) }
 
 agree_short : (s t : List ℕ) → Agree (λ w. ShortSized s w) (λ w. ShortSized t w) (s ≡ t)
 agree_short s t = record { agree = λ a b x y p q e. (agree_sized s t).agree a b x y (as_sized s a p) (as_sized t b q) e }
@@ -85,7 +85,7 @@ one_child c d m n x y whole f g p q =
     let e : c ∷ (vnum m ++ x) ≡ d ∷ (vnum n ++ y) = sym p ∙ q in
     let code : c ≡ d = cc in
     let left : vnum m ++ x ≡ vnum n ++ y = cc in
-    let r = one_number (vnum m) (vnum n) x y m n (vnum_spells m (omega arith)) (vnum_spells n (omega arith)) left in
+    let r = one_number (vnum m) (vnum n) x y m n (vnum_encodes m (omega arith)) (vnum_encodes n (omega arith)) left in
     (code, r.1, append_cancel_left (vnum n) x y (ap (λ z. z ++ x) (sym r.0) ∙ left))
 
 mutual

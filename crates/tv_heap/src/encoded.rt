@@ -2,7 +2,7 @@
 
 use crate::value::CompactDocArrayIter;
 
-/// What the store has for a value: a code, and what stands in the heap is what the store has behind it. (Own.)
+/// What the store has for a value: a code, and what stands in the heap is what the store has behind it. (Not in tantivy.)
 #[derive(Clone, Copy)]
 pub enum Encoded<'a> {
     /// No value.

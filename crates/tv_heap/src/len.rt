@@ -15,7 +15,7 @@ use tv_value::content::LeafContent;
 use tv_value::leaf::ReferenceValueLeaf;
 use tv_value::pre_tokenized::{PreTokenizedStr, TokenIter, TokenRef};
 
-// The length of the shortest spelling of a number.
+// The length of the shortest encoding of a number.
 #[inline(always)]
 fn number_len(number: u64) -> u32
     ensures len { result ≡ length (vnum number) }
@@ -24,7 +24,7 @@ fn number_len(number: u64) -> u32
     if number < 128 {
         return 1;
     }
-    let (_, len) = VInt(number).spelling();
+    let (_, len) = VInt(number).encoding();
     len as u32
 }
 
@@ -37,7 +37,7 @@ fn sized_above(len: usize, base: u32) -> Option<u32>
         .checked_add(number_len(len as u64))
 }
 
-// The length of the spelling of a token, above what there is, where the sum fits.
+// The length of the encoding of a token, above what there is, where the sum fits.
 fn token_above(token: TokenRef<'_>, base: u32) -> Option<u32>
     ensures { let total = base + length (short_token (ref_of token.entry)) in SomeIff result (total < 2 ^ 32) total }
 {
@@ -48,7 +48,7 @@ fn token_above(token: TokenRef<'_>, base: u32) -> Option<u32>
         .checked_add(number_len(token.position_length as u64))
 }
 
-// The length of the spellings of tokens, above what there is, where the sum fits.
+// The length of the encodings of tokens, above what there is, where the sum fits.
 fn tokens_above(tokens: TokenIter<'_>, base: u32) -> Option<u32>
     ensures { let total = base + length (flat_map short_token (tokens_left tokens.entry)) in SomeIff result (total < 2 ^ 32) total }
 {

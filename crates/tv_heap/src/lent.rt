@@ -24,7 +24,7 @@ use tv_value::content::{Form, LeafContent};
 use tv_value::leaf::{LeafType, ReferenceValueLeaf};
 use tv_value::pre_tokenized::PreTokenizedStr;
 
-// The number whose shortest spelling stands at the front, and what follows it. Most are lengths and addresses of one or two
+// The number whose shortest encoding stands at the start, and what follows it. Most are lengths and addresses of one or two
 // bytes.
 #[inline]
 fn short_at(bytes: &[u8]) -> (u64, &[u8])
@@ -69,9 +69,9 @@ pub fn sized_at(heap: &[u8], address: u32) -> &[u8]
     content
 }
 
-/// The same with the length before them, as it is spelled there.
+/// The same with the length before them, as it is encoded there.
 #[inline]
-pub fn spelled_at(heap: &[u8], address: u32) -> &[u8]
+pub fn sized_encoding_at(heap: &[u8], address: u32) -> &[u8]
     ensures { (s : List ℕ) → Stands heap.now address (λ w. ShortSized s w) → result.now ≡ short_sized s }
 {
     let at = address as usize;
@@ -84,8 +84,8 @@ pub fn spelled_at(heap: &[u8], address: u32) -> &[u8]
         return heap;
     }
     let head = behind.len() - rest.len();
-    let (spelled, _) = behind.split_at(head + len as usize);
-    spelled
+    let (encoded, _) = behind.split_at(head + len as usize);
+    encoded
 }
 
 /// The text that stands at an address, behind its length. Its bytes were a text when they were written, so they aren't tested
@@ -109,7 +109,7 @@ pub fn eight_at(heap: &[u8], address: u32) -> u64
     }
     let (_, behind) = heap.split_at(at);
     match behind.first_chunk::<8>() {
-        Some(front) => u64::from_le_bytes(*front),
+        Some(prefix) => u64::from_le_bytes(*prefix),
         None => 0,
     }
 }
@@ -131,7 +131,7 @@ pub fn wide_at(heap: &[u8], address: u32) -> u128
     }
     let (_, behind) = heap.split_at(at);
     match behind.first_chunk::<16>() {
-        Some(front) => u128::from_le_bytes(*front),
+        Some(prefix) => u128::from_le_bytes(*prefix),
         None => 0,
     }
 }
@@ -166,8 +166,8 @@ pub fn tokenized_at(heap: &[u8], address: u32) -> Option<PreTokenizedStr<'_>>
     Some(content)
 }
 
-/// The same, as they are spelled there.
-pub fn spelled_tokens_at(heap: &[u8], address: u32) -> &[u8]
+/// The same, as they are encoded there.
+pub fn encoded_tokens_at(heap: &[u8], address: u32) -> &[u8]
     ensures { (s : List ℕ) (ts : List Token) → Stands heap.now address (λ w. ShortTokenized s ts w) → result.now ≡ short_tokenized s ts }
 {
     let at = address as usize;
@@ -178,8 +178,8 @@ pub fn spelled_tokens_at(heap: &[u8], address: u32) -> &[u8]
     let Some((_, len)) = PreTokenizedStr::from_payload(behind) else {
         return heap;
     };
-    let (spelled, _) = behind.split_at(len);
-    spelled
+    let (encoded, _) = behind.split_at(len);
+    encoded
 }
 
 // The value of this type that holds this.
@@ -227,9 +227,9 @@ pub fn encoded_at(heap: &[u8], leaf_type: LeafType, address: u32) -> Encoded<'_>
         Form::Unsigned => Encoded::Number(code, eight_at(heap, address)),
         Form::Signed => Encoded::Number(code, eight_at(heap, address)),
         Form::Wide => Encoded::Bytes(code, sixteen_at(heap, address)),
-        Form::Text => Encoded::Bytes(code, spelled_at(heap, address)),
-        Form::Bytes => Encoded::Bytes(code, spelled_at(heap, address)),
-        Form::Tokens => Encoded::Tokenized(spelled_tokens_at(heap, address)),
+        Form::Text => Encoded::Bytes(code, sized_encoding_at(heap, address)),
+        Form::Bytes => Encoded::Bytes(code, sized_encoding_at(heap, address)),
+        Form::Tokens => Encoded::Tokenized(encoded_tokens_at(heap, address)),
     }
 }
 

@@ -43,7 +43,7 @@ impl<'a> CompactDocValue<'a> {
     ghost use Rattle.tv_value.specs.Short.{short};
     ghost use Rattle.tv_value.specs.Version.{V2};
 
-    /// The value of this type that stands at this address of the heap. (Own.)
+    /// The value of this type that stands at this address of the heap. (Not in tantivy.)
     pub fn new(heap: &'a [u8], value_type: ValueType, address: u32) -> CompactDocValue<'a>
         requires held { Held heap.now (type_code value_type) address }
         ensures tree { (held : Held heap.now (type_code value_type) address) → tree_of result ≡ held.0 }
@@ -55,7 +55,7 @@ impl<'a> CompactDocValue<'a> {
         }
     }
 
-    /// What the store's version 2 has for the value: its shortest spelling, out of the heap and without memory. (Own.)
+    /// What the store's version 2 has for the value: its shortest encoding, out of the heap and without memory. (Not in tantivy.)
     #[inline(always)]
     pub fn encoded(&self) -> Encoded<'a>
         ensures bytes { encoded_bytes result ≡ short V2 (tree_of self.now) }

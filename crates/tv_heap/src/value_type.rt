@@ -44,7 +44,7 @@ pub enum ValueType {
     Array = 12,
 }
 
-/// The types of values without children, arrays and objects. (Own.)
+/// The types of values without children, arrays and objects. (Not in tantivy.)
 #[derive(Clone, Copy, Debug, PartialEq, Eq)]
 pub enum ValueKind {
     /// A value without children, of this type.
@@ -59,7 +59,7 @@ impl ValueType {
     ghost use Rattle.tv_heap.specs.declared.value_type.ValueType.{ValueType};
     ghost use Rattle.tv_heap.specs.TypeCode.{type_code, heap_type, kind_type};
 
-    /// The type of the values without children of a type. (Own.)
+    /// The type of the values without children of a type. (Not in tantivy.)
     #[inline(always)]
     pub fn of_leaf(leaf_type: LeafType) -> ValueType
         ensures { result ≡ heap_type leaf_type }
@@ -78,7 +78,7 @@ impl ValueType {
         }
     }
 
-    /// Whether its values are arrays, objects, or without children, and of which type then. (Own.)
+    /// Whether its values are arrays, objects, or without children, and of which type then. (Not in tantivy.)
     #[inline(always)]
     pub fn kind(self) -> ValueKind
         ensures { kind_type result ≡ self }
@@ -133,7 +133,7 @@ impl ValueType {
 impl BinarySerializable for ValueType {
     ghost use Rattle.tv_heap.specs.declared.value_type.ValueType.{ValueType};
     ghost use Rattle.tv_heap.specs.TypeCode.{type_code};
-    ghost use Rattle.tv_heap.specs.TypeByte.{TypeFault};
+    ghost use Rattle.tv_heap.specs.TypeByte.{ErrorInType};
 
     ghost Seen = { ValueType };
 
@@ -141,16 +141,16 @@ impl BinarySerializable for ValueType {
 
     ghost shortest = { λ t. one_byte (type_code t) };
 
-    ghost spells = { λ bytes t. Fixed 1 bytes (type_code t) };
+    ghost encodes = { λ bytes t. Fixed 1 bytes (type_code t) };
 
-    ghost is_fault = { TypeFault };
+    ghost has_error = { ErrorInType };
 
     fn serialize<K: ByteSink>(&self, sink: &mut K) -> Result<(), io::ErrorKind> {
         write_u8(sink, self.to_code())
     }
 
     fn deserialize<S: ByteSource>(alloc: Global, source: &mut S) -> Result<ValueType, ReadError>
-        ensures reads { ReadsAs S.tells S.left S.faults source.old source.new (λ t. t) result (λ bytes t. Fixed 1 bytes (type_code t)) TypeFault }
+        ensures reads { ReadsAs S.is_known S.left S.failures source.old source.new (λ t. t) result (λ bytes t. Fixed 1 bytes (type_code t)) ErrorInType }
         ensures spares { ¬ IsErrOf result Memory }
     {
         let code = u8::deserialize(alloc, source)?;

@@ -3,7 +3,7 @@
 ghost use Rattle.std.specs.Prelude.{◌≡◌, ◌+◌, ◌<◌, ◌≤◌, ◌^◌, ◌∷◌, ◌++◌, OnOk, OnErr, IfOk, length, take, drop};
 ghost use Rattle.tv_base.specs.Number.{vnum, eight_bytes, sixteen_bytes};
 ghost use Rattle.tv_base.specs.Parts.{short_sized};
-ghost use Rattle.tv_base.specs.Sink.{IsFront};
+ghost use Rattle.tv_base.specs.Sink.{IsPrefix};
 ghost use Rattle.tv_value.specs.Lent.{leaf_of, nested_tree};
 ghost use Rattle.tv_value.specs.PreTokenized.{text_of, tokens_of};
 ghost use Rattle.std.specs.Int.{w64, cast_unsigned};
@@ -20,11 +20,11 @@ use crate::value_type::ValueType;
 use std::alloc::AllocError;
 use std::convert::AsStr;
 use tv_value::content::LeafContent;
-use tv_value::laws::pre_tokenized_texts_spell;
+use tv_value::laws::pre_tokenized_texts_encode;
 use tv_value::leaf::ReferenceValueLeaf;
 use tv_value::nested::{Nested, NestedValue};
 use tv_value::pre_tokenized::PreTokenizedStr;
-use tv_value::spell::{push_number, push_sized, push_token};
+use tv_value::encode::{push_number, push_sized, push_token};
 
 // Adds the eight bytes of a number, the lowest first.
 #[inline(always)]
@@ -63,7 +63,7 @@ fn make_room(bytes: &mut Vec<u8>, room: usize) -> Result<(), AllocError>
     }
 }
 
-/// Adds a child's type and address. (Own.) The addresses in a short document have one byte or two. The only error is that memory
+/// Adds a child's type and address. (Not in tantivy.) The addresses in a short document have one byte or two. The only error is that memory
 /// was refused; what `places` holds then is open.
 #[inline(always)]
 pub fn push_place(
@@ -94,7 +94,7 @@ fn write_key(heap: &mut Vec<u8>, places: &mut Vec<u8>, key: &str) -> Result<(), 
     requires { length heap.old.items + (5 + length key.now) < 2 ^ 32 }
     ensures heap { OnOk result (heap.new.items ≡ heap.old.items ++ short_sized key.now) }
     ensures places { OnOk result (places.new.items ≡ places.old.items ++ (1 ∷ vnum (length heap.old.items))) }
-    ensures err { OnErr result (IsFront heap.old.items heap.new.items) }
+    ensures err { OnErr result (IsPrefix heap.old.items heap.new.items) }
 {
     make_room(heap, FIRST_ROOM)?;
     let at = heap.len() as u32;
@@ -107,7 +107,7 @@ fn write_text(heap: &mut Vec<u8>, content: &str) -> Result<u32, AllocError>
     requires { length heap.old.items + length (short_sized content.now) < 2 ^ 32 }
     ensures heap { OnOk result (heap.new.items ≡ heap.old.items ++ short_sized content.now) }
     ensures at { IfOk result (λ at. at ≡ length heap.old.items) }
-    ensures err { OnErr result (IsFront heap.old.items heap.new.items) }
+    ensures err { OnErr result (IsPrefix heap.old.items heap.new.items) }
 {
     let at = heap.len() as u32;
     push_sized(heap, content.as_bytes())?;
@@ -118,7 +118,7 @@ fn write_bytes(heap: &mut Vec<u8>, content: &[u8]) -> Result<u32, AllocError>
     requires { length heap.old.items + length (short_sized content.now) < 2 ^ 32 }
     ensures heap { OnOk result (heap.new.items ≡ heap.old.items ++ short_sized content.now) }
     ensures at { IfOk result (λ at. at ≡ length heap.old.items) }
-    ensures err { OnErr result (IsFront heap.old.items heap.new.items) }
+    ensures err { OnErr result (IsPrefix heap.old.items heap.new.items) }
 {
     let at = heap.len() as u32;
     push_sized(heap, content)?;
@@ -130,7 +130,7 @@ fn write_u64(heap: &mut Vec<u8>, number: u64) -> Result<u32, AllocError>
     requires { length heap.old.items + length (eight_bytes number) < 2 ^ 32 }
     ensures heap { OnOk result (heap.new.items ≡ heap.old.items ++ eight_bytes number) }
     ensures at { IfOk result (λ at. at ≡ length heap.old.items) }
-    ensures err { OnErr result (IsFront heap.old.items heap.new.items) }
+    ensures err { OnErr result (IsPrefix heap.old.items heap.new.items) }
 {
     let at = heap.len() as u32;
     push_eight(heap, number)?;
@@ -142,7 +142,7 @@ fn write_i64(heap: &mut Vec<u8>, number: i64) -> Result<u32, AllocError>
     requires { length heap.old.items + length (eight_bytes (cast_unsigned w64 number)) < 2 ^ 32 }
     ensures heap { OnOk result (heap.new.items ≡ heap.old.items ++ eight_bytes (cast_unsigned w64 number)) }
     ensures at { IfOk result (λ at. at ≡ length heap.old.items) }
-    ensures err { OnErr result (IsFront heap.old.items heap.new.items) }
+    ensures err { OnErr result (IsPrefix heap.old.items heap.new.items) }
 {
     let at = heap.len() as u32;
     push_eight(heap, number.cast_unsigned())?;
@@ -153,7 +153,7 @@ fn write_u128(heap: &mut Vec<u8>, number: u128) -> Result<u32, AllocError>
     requires { length heap.old.items + length (sixteen_bytes number) < 2 ^ 32 }
     ensures heap { OnOk result (heap.new.items ≡ heap.old.items ++ sixteen_bytes number) }
     ensures at { IfOk result (λ at. at ≡ length heap.old.items) }
-    ensures err { OnErr result (IsFront heap.old.items heap.new.items) }
+    ensures err { OnErr result (IsPrefix heap.old.items heap.new.items) }
 {
     let at = heap.len() as u32;
     push_sixteen(heap, number)?;
@@ -165,7 +165,7 @@ fn write_tokenized(heap: &mut Vec<u8>, content: PreTokenizedStr<'_>) -> Result<u
     requires { length heap.old.items + length (short_tokenized (text_of content) (tokens_of content)) < 2 ^ 32 }
     ensures heap { OnOk result (heap.new.items ≡ heap.old.items ++ short_tokenized (text_of content.entry) (tokens_of content.entry)) }
     ensures at { IfOk result (λ at. at ≡ length heap.old.items) }
-    ensures err { OnErr result (IsFront heap.old.items heap.new.items) }
+    ensures err { OnErr result (IsPrefix heap.old.items heap.new.items) }
 {
     let at = heap.len() as u32;
     push_sized(heap, content.text().as_bytes())?;
@@ -182,10 +182,10 @@ fn write_content(heap: &mut Vec<u8>, content: LeafContent<'_>) -> Result<u32, Al
     requires { length heap.old.items + length (content_bytes (content_of content)) < 2 ^ 32 }
     ensures heap { OnOk result (heap.new.items ≡ heap.old.items ++ content_bytes (content_of content.entry)) }
     ensures at { IfOk result (λ at. at ≡ content_address (length heap.old.items) (content_of content.entry)) }
-    ensures spells { IsContent (content_of content.entry) }
-    ensures err { OnErr result (IsFront heap.old.items heap.new.items) }
+    ensures encodes { IsContent (content_of content.entry) }
+    ensures err { OnErr result (IsPrefix heap.old.items heap.new.items) }
 {
-    pre_tokenized_texts_spell();
+    pre_tokenized_texts_encode();
     match content {
         LeafContent::Nothing => Ok(0),
         LeafContent::Truth(truth) => Ok(u32::from(truth)),
@@ -198,7 +198,7 @@ fn write_content(heap: &mut Vec<u8>, content: LeafContent<'_>) -> Result<u32, Al
     }
 }
 
-/// Writes a value without children, and answers its type and its address. After an error the old heap is still a front of the
+/// Writes a value without children, and answers its type and its address. After an error the old heap is still a prefix of the
 /// new.
 #[inline(always)]
 pub fn write_leaf(
@@ -209,7 +209,7 @@ pub fn write_leaf(
     ensures heap { OnOk result (heap.new.items ≡ heap.old.items ++ leaf_bytes (leaf_of value.now)) }
     ensures place { IfOk result (λ r. (r.0 ≡ leaf_value_type (leaf_of value.now)) × (r.1 ≡ leaf_address (length heap.old.items) (leaf_of value.now))) }
     ensures ok { IfOk result (λ r. Wrote heap.old.items heap.new.items (type_code r.0) r.1 (leaf (leaf_of value.now))) }
-    ensures err { OnErr result (IsFront heap.old.items heap.new.items) }
+    ensures err { OnErr result (IsPrefix heap.old.items heap.new.items) }
 {
     make_room(heap, FIRST_ROOM)?;
     let address = write_content(heap, value.content())?;
@@ -217,7 +217,7 @@ pub fn write_leaf(
 }
 
 /// Writes a value behind its children, and answers its type and its address. The places of children whose list is not yet
-/// written stand at the end of `places`, which is afterwards as it was. After an error the old heap is still a front of the
+/// written stand at the end of `places`, which is afterwards as it was. After an error the old heap is still a prefix of the
 /// new, and what `places` holds is open.
 #[inline(always)]
 #[cycle(values)]
@@ -229,7 +229,7 @@ pub fn write_tree<N: Nested>(
     requires { length heap.old.items + room (nested_tree N.array_rest N.object_rest value) < 2 ^ 32 }
     ensures ok { IfOk result (λ r. Wrote heap.old.items heap.new.items (type_code r.0) r.1 (nested_tree N.array_rest N.object_rest value.entry)) }
     ensures places { OnOk result (places.new.items ≡ places.old.items) }
-    ensures err { OnErr result (IsFront heap.old.items heap.new.items) }
+    ensures err { OnErr result (IsPrefix heap.old.items heap.new.items) }
 {
     match value {
         NestedValue::Leaf(single) => write_leaf(heap, &single),
@@ -242,8 +242,8 @@ pub fn write_tree<N: Nested>(
     }
 }
 
-/// Writes a list behind its children, whose places are those from `first` on, and answers its address. (Own.) The places are taken
-/// off. After an error the old heap is still a front of the new, and what `places` holds is open.
+/// Writes a list behind its children, whose places are those from `first` on, and answers its address. (Not in tantivy.) The places are taken
+/// off. After an error the old heap is still a prefix of the new, and what `places` holds is open.
 #[inline]
 pub fn write_list(heap: &mut Vec<u8>, places: &mut Vec<u8>, first: usize) -> Result<u32, AllocError>
     requires first { first ≤ length places.old.items }
@@ -251,7 +251,7 @@ pub fn write_list(heap: &mut Vec<u8>, places: &mut Vec<u8>, first: usize) -> Res
     ensures heap { OnOk result (heap.new.items ≡ heap.old.items ++ short_sized (drop first places.old.items)) }
     ensures places { OnOk result (places.new.items ≡ take first places.old.items) }
     ensures at { IfOk result (λ at. at ≡ length heap.old.items) }
-    ensures err { OnErr result (IsFront heap.old.items heap.new.items) }
+    ensures err { OnErr result (IsPrefix heap.old.items heap.new.items) }
 {
     let at = heap.len() as u32;
     push_sized(heap, &places[first..])?;
@@ -270,7 +270,7 @@ fn write_array<N: Nested>(
     requires { length heap.old.items + room (array (elements (N.array_rest items))) < 2 ^ 32 }
     ensures ok { IfOk result (λ at. Wrote heap.old.items heap.new.items 12 at (array (elements (N.array_rest items)))) }
     ensures places { OnOk result (places.new.items ≡ places.old.items) }
-    ensures err { OnErr result (IsFront heap.old.items heap.new.items) }
+    ensures err { OnErr result (IsPrefix heap.old.items heap.new.items) }
 {
     let first = places.len();
     for item in items {
@@ -291,7 +291,7 @@ fn write_object<N: Nested>(
     requires { length heap.old.items + room (object (entries (N.object_rest members))) < 2 ^ 32 }
     ensures ok { IfOk result (λ at. Wrote heap.old.items heap.new.items 11 at (object (entries (N.object_rest members)))) }
     ensures places { OnOk result (places.new.items ≡ places.old.items) }
-    ensures err { OnErr result (IsFront heap.old.items heap.new.items) }
+    ensures err { OnErr result (IsPrefix heap.old.items heap.new.items) }
 {
     let first = places.len();
     for (key, item) in members {

@@ -7,11 +7,11 @@ use std::io;
 use std::io::Read;
 use tv_base::ByteSource;
 
-/// Gives what a reader gives. Its bytes are known where the reader's are. Each error of the reader is a fault, `Interrupted` too.
+/// Gives what a reader gives. Its bytes are known where the reader's are. Each error of the reader is a failure, `Interrupted` too.
 #[derive(Drop)]
 pub struct ReadSource<R: Read> {
     inner: R,
-    faults: u64,
+    failures: u64,
     last: Option<io::ErrorKind>,
 }
 
@@ -19,11 +19,11 @@ impl<R: Read> ReadSource<R> {
     /// A source over this reader. Nothing is read yet.
     pub fn new(inner: R) -> ReadSource<R>
         ensures inner { result.inner ≡ inner }
-        ensures faults { ⟦<ReadSource<R> as ByteSource>⟧.faults result ≡ record { number = 0; last = None } }
+        ensures failures { ⟦<ReadSource<R> as ByteSource>⟧.failures result ≡ record { number = 0; last = None } }
     {
         ReadSource {
             inner,
-            faults: 0,
+            failures: 0,
             last: None,
         }
     }
@@ -34,7 +34,7 @@ impl<R: Read> ReadSource<R> {
     {
         let ReadSource {
             inner,
-            faults: _,
+            failures: _,
             last: _,
         } = self;
         inner
@@ -42,18 +42,18 @@ impl<R: Read> ReadSource<R> {
 }
 
 impl<R: Read> ByteSource for ReadSource<R> {
-    ghost tells = { λ s. IsSome (R.remaining s.inner) × AllBytes (unwrap_or (R.remaining s.inner) []) };
+    ghost is_known = { λ s. IsSome (R.remaining s.inner) × AllBytes (unwrap_or (R.remaining s.inner) []) };
 
     ghost left = { λ s. unwrap_or (R.remaining s.inner) [] };
 
-    ghost faults = { λ s. record { number = s.faults; last = s.last } };
+    ghost failures = { λ s. record { number = s.failures; last = s.last } };
 
     fn read(&mut self, buf: &mut [u8]) -> Result<usize, io::ErrorKind> {
         match self.inner.read(buf) {
             Ok(count) => Ok(count),
             Err(error) => {
                 let kind = error.kind();
-                self.faults = self.faults.saturating_add(1);
+                self.failures = self.failures.saturating_add(1);
                 self.last = Some(kind);
                 Err(kind)
             }

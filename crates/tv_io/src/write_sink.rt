@@ -7,12 +7,12 @@ use std::io;
 use std::io::Write;
 use tv_base::ByteSink;
 
-/// Hands what is written to a writer. What it holds is known where the writer's bytes are. Each error of the writer is a fault,
+/// Hands what is written to a writer. What it holds is known where the writer's bytes are. Each error of the writer is a failure,
 /// `Interrupted` too, and a write that takes no byte is one of kind `WriteZero`.
 #[derive(Drop)]
 pub struct WriteSink<W: Write> {
     inner: W,
-    faults: u64,
+    failures: u64,
     last: Option<io::ErrorKind>,
 }
 
@@ -20,11 +20,11 @@ impl<W: Write> WriteSink<W> {
     /// A sink over this writer. Nothing is written yet.
     pub fn new(inner: W) -> WriteSink<W>
         ensures inner { result.inner ≡ inner }
-        ensures faults { ⟦<WriteSink<W> as ByteSink>⟧.faults result ≡ record { number = 0; last = None } }
+        ensures failures { ⟦<WriteSink<W> as ByteSink>⟧.failures result ≡ record { number = 0; last = None } }
     {
         WriteSink {
             inner,
-            faults: 0,
+            failures: 0,
             last: None,
         }
     }
@@ -35,7 +35,7 @@ impl<W: Write> WriteSink<W> {
     {
         let WriteSink {
             inner,
-            faults: _,
+            failures: _,
             last: _,
         } = self;
         inner
@@ -45,20 +45,20 @@ impl<W: Write> WriteSink<W> {
     fn fail(&mut self, kind: io::ErrorKind) -> io::ErrorKind
         ensures inner { self.new.inner ≡ self.old.inner }
         ensures kind { result ≡ kind }
-        ensures failed { HasFailed kind (record { number = self.old.faults; last = self.old.last }) (record { number = self.new.faults; last = self.new.last }) }
+        ensures failed { HasFailed kind (record { number = self.old.failures; last = self.old.last }) (record { number = self.new.failures; last = self.new.last }) }
     {
-        self.faults = self.faults.saturating_add(1);
+        self.failures = self.failures.saturating_add(1);
         self.last = Some(kind);
         kind
     }
 }
 
 impl<W: Write> ByteSink for WriteSink<W> {
-    ghost tells = { λ s. IsSome (W.contents s.inner) };
+    ghost is_known = { λ s. IsSome (W.contents s.inner) };
 
     ghost held = { λ s. unwrap_or (W.contents s.inner) [] };
 
-    ghost faults = { λ s. record { number = s.faults; last = s.last } };
+    ghost failures = { λ s. record { number = s.failures; last = s.last } };
 
     fn write(&mut self, buf: &[u8]) -> Result<usize, io::ErrorKind> {
         match self.inner.write(buf) {

@@ -1,4 +1,4 @@
--- Values in front of other items.
+-- Values before other items.
 use Rattle.std.proofs.Common.{◌≡◌, List, [], ◌∷◌, ◌++◌, refl, ap}
 use Rattle.serde_json.specs.Data.{Items, no_items, item}
 use Rattle.serde_json.specs.View.{view as data_of, items_view}

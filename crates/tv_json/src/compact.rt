@@ -154,7 +154,7 @@ pub(crate) fn write_lent<'a, V: Value<'a>>(
 }
 
 /// Adds a value's JSON to a text, without spaces: the members of an object by byte order of their keys, of equal keys the last.
-/// (Own.) The only error is that memory was refused, and then the text is as it was.
+/// (Not in tantivy.) The only error is that memory was refused, and then the text is as it was.
 pub fn push_json<'a, V: Value<'a>>(
     alloc: Global,
     text: &mut String,

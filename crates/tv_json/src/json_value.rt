@@ -164,14 +164,14 @@ fn member_values<N: Nested>(
 /// The JSON value of a value: null, texts, numbers and truth values as themselves; a date as it is printed by RFC 3339, a facet as
 /// the text that names it, bytes by the standard alphabet of base64 with padding, an address of version 4 by that and another by
 /// version 6; a text with its tokens as an object of `text` and `tokens`; arrays and objects by their parts, of equal keys the last.
-/// (Own.) The only error is that memory was refused.
+/// (Not in tantivy.) The only error is that memory was refused.
 pub fn to_json_value<'a, V: Value<'a>>(alloc: Global, value: V) -> Result<JsonValue, AllocError>
     ensures { IfOk result (λ made. data_of made ≡ json_of (V.tree value)) }
 {
     nested_value(alloc, &Lent::new(value))
 }
 
-/// What has a JSON value. (Own.)
+/// What has a JSON value. (Not in tantivy.)
 pub trait ToJsonValue {
     ghost tree: { Self → Tree };
 

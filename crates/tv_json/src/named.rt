@@ -50,7 +50,7 @@ fn write_lists<'a, V: Value<'a>>(
 }
 
 /// The text of an object, without spaces: for each name, in byte order, the array of the values that stand under it, beside whatever
-/// fields. (Own.) The only error is that memory was refused.
+/// fields. (Not in tantivy.) The only error is that memory was refused.
 pub fn named_to_json<'a, V: Value<'a>>(
     alloc: Global,
     named: BTreeMap<&str, &[(Field, V)]>,

@@ -7,7 +7,7 @@ use Rattle.tv_base.specs.declared.cause.Cause.TheVariants.{UnexpectedEnd}
 use Rattle.tv_base.proofs.Agrees.{Agrees, same_start}
 use Rattle.tv_legacy.specs.Legacy.{IsBlank}
 use Rattle.tv_legacy.specs.LegacyReading.{is_blank, nonblank_at}
-use Rattle.tv_legacy.proofs.Ended.{Front, EndsBefore, ended_agrees}
+use Rattle.tv_legacy.proofs.Ended.{Prefix, EndsBefore, ended_agrees}
 
 either : (a b : Bool) → (a || b) ≡ true → (a ≡ true) ⊎ (b ≡ true)
 either true b e = inl refl
@@ -68,26 +68,26 @@ unfolding nonblank_at
 only_blank [] all = refl
 only_blank (d ∷ bytes) all = rw (blank_true d all.0) (only_blank bytes all.1)
 
-skips_to : (front : List ℕ) (b : ℕ) (rest : List ℕ) → AfterBlanks front b → nonblank_at (front ++ rest) ≡ Ok (b, rest)
-skips_to front b rest p = ap nonblank_at (ap (λ (l : List ℕ). l ++ rest) p.joined ∙ append_assoc p.blanks (b ∷ []) rest) ∙ skips p.blanks rest b p.blank p.other
+skips_to : (prefix : List ℕ) (b : ℕ) (rest : List ℕ) → AfterBlanks prefix b → nonblank_at (prefix ++ rest) ≡ Ok (b, rest)
+skips_to prefix b rest p = ap nonblank_at (ap (λ (l : List ℕ). l ++ rest) p.joined ∙ append_assoc p.blanks (b ∷ []) rest) ∙ skips p.blanks rest b p.blank p.other
 
-one_more : (b : ℕ) (bytes : List ℕ) → IsBlank b → Front AfterBlanks bytes ⊎ AllBlank bytes → Front AfterBlanks (b ∷ bytes) ⊎ AllBlank (b ∷ bytes)
+one_more : (b : ℕ) (bytes : List ℕ) → IsBlank b → Prefix AfterBlanks bytes ⊎ AllBlank bytes → Prefix AfterBlanks (b ∷ bytes) ⊎ AllBlank (b ∷ bytes)
 one_more b bytes is (inl f) = inl (record {
-  front = b ∷ f.front;
+  prefix = b ∷ f.prefix;
   rest = f.rest;
   value = f.value;
   joined = ap (λ (l : List ℕ). b ∷ l) f.joined;
-  spelled = record { blanks = b ∷ f.spelled.blanks; joined = ap (λ (l : List ℕ). b ∷ l) f.spelled.joined; blank = (is, f.spelled.blank); other = f.spelled.other };
+  encoded = record { blanks = b ∷ f.encoded.blanks; joined = ap (λ (l : List ℕ). b ∷ l) f.encoded.joined; blank = (is, f.encoded.blank); other = f.encoded.other };
 })
 one_more b bytes is (inr all) = inr (is, all)
 
-skipped : (bytes : List ℕ) → Front AfterBlanks bytes ⊎ AllBlank bytes
+skipped : (bytes : List ℕ) → Prefix AfterBlanks bytes ⊎ AllBlank bytes
 skipped [] = inr tt
 skipped (b ∷ bytes) = elim (blank_cases b) [
   | inl is ↦ one_more b bytes is (skipped bytes)
-  | inr other ↦ inl (record { front = b ∷ []; rest = bytes; value = b; joined = refl; spelled = record { blanks = []; joined = refl; blank = tt; other = other } })
+  | inr other ↦ inl (record { prefix = b ∷ []; rest = bytes; value = b; joined = refl; encoded = record { blanks = []; joined = refl; blank = tt; other = other } })
 ]
 
 pub blanks_agree : Agrees UnexpectedEnd nonblank_at AfterBlanks (EndsBefore AllBlank)
 blanks_agree = ended_agrees nonblank_at AfterBlanks AllBlank skips_to only_blank skipped
-    (λ front b p start byte last. subst AllBlank (same_start p.blanks start b byte (sym p.joined ∙ last)) p.blank)
+    (λ prefix b p start byte last. subst AllBlank (same_start p.blanks start b byte (sym p.joined ∙ last)) p.blank)

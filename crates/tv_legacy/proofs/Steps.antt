@@ -27,52 +27,52 @@ is_skipped b e bytes = rw e refl
 pub is_nonblank : (b : ℕ) → is_blank b ≡ false → (bytes : List ℕ) → nonblank_from b bytes ≡ Ok (b, bytes)
 is_nonblank b e bytes = rw e refl
 
--- a front that was taken, which is closed already or goes on
+-- a prefix that was taken, which is closed already or goes on
 abbrev pub rest_from : List ℕ → List ℕ → Result (List ℕ × List ℕ) (Cause × List ℕ)
-rest_from front bytes = cond (is_even front) (Ok (front, bytes)) (rest_at front bytes)
+rest_from prefix bytes = cond (is_even prefix) (Ok (prefix, bytes)) (rest_at prefix bytes)
 
-pub rest_by_byte : (front bytes : List ℕ) → rest_at front bytes ≡ (u8_at bytes >>= λ x. rest_from (front ++ x.0 ∷ []) x.1)
+pub rest_by_byte : (prefix bytes : List ℕ) → rest_at prefix bytes ≡ (u8_at bytes >>= λ x. rest_from (prefix ++ x.0 ∷ []) x.1)
 unfolding rest_at u8_at
-rest_by_byte front [] = refl
-rest_by_byte front (b ∷ bytes) = refl
+rest_by_byte prefix [] = refl
+rest_by_byte prefix (b ∷ bytes) = refl
 
 -- so many braces are open
 abbrev pub IsDepth : ℕ → List ℕ → Type 0
-IsDepth depth front = depth + closed front ≡ opened front
+IsDepth depth prefix = depth + closed prefix ≡ opened prefix
 
-pub is_open : (front : List ℕ) (depth : ℕ) → IsDepth depth front → 0 < depth → (bytes : List ℕ) → rest_from front bytes ≡ rest_at front bytes
-is_open front depth h positive bytes =
-    let e : is_even front ≡ false = ne_eqb (closed front) (opened front) (λ same. omega (arith, h, same)) in
+pub is_open : (prefix : List ℕ) (depth : ℕ) → IsDepth depth prefix → 0 < depth → (bytes : List ℕ) → rest_from prefix bytes ≡ rest_at prefix bytes
+is_open prefix depth h positive bytes =
+    let e : is_even prefix ≡ false = ne_eqb (closed prefix) (opened prefix) (λ same. omega (arith, h, same)) in
     rw e refl
 
-pub is_done : (front : List ℕ) (depth : ℕ) → IsDepth depth front → depth ≡ 0 → (bytes : List ℕ) → rest_from front bytes ≡ Ok (front, bytes)
-is_done front depth h none bytes =
-    let e : is_even front ≡ true = eq-eqb (closed front) (opened front) (omega (arith, h, none)) in
+pub is_done : (prefix : List ℕ) (depth : ℕ) → IsDepth depth prefix → depth ≡ 0 → (bytes : List ℕ) → rest_from prefix bytes ≡ Ok (prefix, bytes)
+is_done prefix depth h none bytes =
+    let e : is_even prefix ≡ true = eq-eqb (closed prefix) (opened prefix) (omega (arith, h, none)) in
     rw e refl
 
 -- behind the first brace
-pub first_brace : (front : List ℕ) → front ≡ 123 ∷ [] → (bytes : List ℕ) → rest_at front bytes ≡ rest_from front bytes
-first_brace front e bytes = ap (λ l. rest_at l bytes) e ∙ ap (λ (l : List ℕ). rest_from l bytes) (sym e)
+pub first_brace : (prefix : List ℕ) → prefix ≡ 123 ∷ [] → (bytes : List ℕ) → rest_at prefix bytes ≡ rest_from prefix bytes
+first_brace prefix e bytes = ap (λ l. rest_at l bytes) e ∙ ap (λ (l : List ℕ). rest_from l bytes) (sym e)
 
-pub first_depth : (front : List ℕ) → front ≡ 123 ∷ [] → IsDepth 1 front
-first_depth front e = subst (IsDepth 1) (sym e) refl
+pub first_depth : (prefix : List ℕ) → prefix ≡ 123 ∷ [] → IsDepth 1 prefix
+first_depth prefix e = subst (IsDepth 1) (sym e) refl
 
-pub first_place : (front : List ℕ) → front ≡ 123 ∷ [] → outside ≡ behind front
-first_place front e = ap behind (sym e)
+pub first_place : (prefix : List ℕ) → prefix ≡ 123 ∷ [] → outside ≡ behind prefix
+first_place prefix e = ap behind (sym e)
 
-pub next_place : (front : List ℕ) (b : ℕ) (old new : Place) → old ≡ behind front → new ≡ next old b → new ≡ behind (front ++ b ∷ [])
-next_place front b old new h step = step ∙ ap (λ p. next p b) h ∙ sym (behind-push front b)
+pub next_place : (prefix : List ℕ) (b : ℕ) (old new : Place) → old ≡ behind prefix → new ≡ next old b → new ≡ behind (prefix ++ b ∷ [])
+next_place prefix b old new h step = step ∙ ap (λ p. next p b) h ∙ sym (behind-push prefix b)
 
-pub next_depth : (front : List ℕ) (b old new : ℕ) → IsDepth old front → new + brace_count 125 (behind front) b ≡ old + brace_count 123 (behind front) b → IsDepth new (front ++ b ∷ [])
-next_depth front b old new h step = omega (arith, h, step, closed-push front b, opened-push front b)
+pub next_depth : (prefix : List ℕ) (b old new : ℕ) → IsDepth old prefix → new + brace_count 125 (behind prefix) b ≡ old + brace_count 123 (behind prefix) b → IsDepth new (prefix ++ b ∷ [])
+next_depth prefix b old new h step = omega (arith, h, step, closed-push prefix b, opened-push prefix b)
 
 one_brace : (brace : ℕ) (place : Place) (b : ℕ) → brace_count brace place b ≤ 1
 one_brace brace outside b = count_by-le-length (λ c. c == brace) (b ∷ [])
 one_brace brace inside b = omega arith
 one_brace brace escaped b = omega arith
 
-pub next_bound : (front : List ℕ) (b old new : ℕ) (place : Place) → old ≤ length front → new + brace_count 125 place b ≡ old + brace_count 123 place b → new ≤ length (front ++ b ∷ [])
-next_bound front b old new place h step = omega (arith, h, step, one_brace 123 place b, length-append front (b ∷ []))
+pub next_bound : (prefix : List ℕ) (b old new : ℕ) (place : Place) → old ≤ length prefix → new + brace_count 125 place b ≡ old + brace_count 123 place b → new ≤ length (prefix ++ b ∷ [])
+next_bound prefix b old new place h step = omega (arith, h, step, one_brace 123 place b, length-append prefix (b ∷ []))
 
 -- ---- blanks, and then the slice
 
@@ -86,14 +86,14 @@ is_other b other bytes =
     let e : (b == 123) ≡ false = ne_eqb b 123 other in
     rw e refl
 
--- a brace, of which a front was made
-pub is_brace : (b : ℕ) (front : List ℕ) → b ≡ 123 → front ≡ 123 ∷ [] → (bytes : List ℕ) → braced_at b bytes ≡ rest_at front bytes
-is_brace b front e made bytes = ap (λ n. braced_at n bytes) e ∙ ap (λ l. rest_at l bytes) (sym made)
+-- a brace, of which a prefix was made
+pub is_brace : (b : ℕ) (prefix : List ℕ) → b ≡ 123 → prefix ≡ 123 ∷ [] → (bytes : List ℕ) → braced_at b bytes ≡ rest_at prefix bytes
+is_brace b prefix e made bytes = ap (λ n. braced_at n bytes) e ∙ ap (λ l. rest_at l bytes) (sym made)
 
 same_and_nothing : (r : Result (List ℕ × List ℕ) (Cause × List ℕ)) → r ≡ (r >>= λ x. Ok x)
 same_and_nothing (Ok x) = refl
 same_and_nothing (Err e) = refl
 
 -- a reading is itself and then nothing
-pub and_nothing : (front bytes : List ℕ) → rest_at front bytes ≡ (rest_at front bytes >>= λ x. Ok x)
-and_nothing front bytes = same_and_nothing (rest_at front bytes)
+pub and_nothing : (prefix bytes : List ℕ) → rest_at prefix bytes ≡ (rest_at prefix bytes >>= λ x. Ok x)
+and_nothing prefix bytes = same_and_nothing (rest_at prefix bytes)

@@ -46,7 +46,7 @@ pub record IsClosed (slice : List ℕ) : Type 0 where
   pub more : List ℕ
   pub opens : slice ≡ 123 ∷ more
   pub closes : closed slice ≡ opened slice
-  pub first : (front rest : List ℕ) → slice ≡ front ++ rest → front ≢ [] → rest ≢ [] → closed front ≢ opened front
+  pub first : (prefix rest : List ℕ) → slice ≡ prefix ++ rest → prefix ≢ [] → rest ≢ [] → closed prefix ≢ opened prefix
 
 -- blanks, and then a closed slice
 pub record Slice (whole slice : List ℕ) : Type 0 where
@@ -68,15 +68,15 @@ pub record Legacy (whole : List ℕ) (entries : Entries) : Type 0 where
   pub reads : ReadsObject slice members
   pub numbers : json_tree (json.object members) ≡ Some (object entries)
 
--- What is wrong with bytes that are none: there are only blanks, no front of what follows them is closed, it begins with another byte,
+-- What is wrong with bytes that are none: there are only blanks, no prefix of what follows them is closed, it begins with another byte,
 -- the slice reads as no object, or a number in it isn't a whole one of 64 bits.
-pub data LegacyFault (whole : List ℕ) : Cause → Type 0 where
-  only_blanks : AllByRecursion IsBlank whole → LegacyFault whole UnexpectedEnd
+pub data ErrorInLegacy (whole : List ℕ) : Cause → Type 0 where
+  only_blanks : AllByRecursion IsBlank whole → ErrorInLegacy whole UnexpectedEnd
   not_closed : (blanks rest : List ℕ) → whole ≡ blanks ++ (123 ∷ rest) → AllByRecursion IsBlank blanks
-      → ((slice more : List ℕ) → 123 ∷ rest ≡ slice ++ more → ¬ (IsClosed slice)) → LegacyFault whole UnexpectedEnd
+      → ((slice more : List ℕ) → 123 ∷ rest ≡ slice ++ more → ¬ (IsClosed slice)) → ErrorInLegacy whole UnexpectedEnd
   no_brace : (blanks rest : List ℕ) (b : ℕ) → whole ≡ blanks ++ (b ∷ rest) → AllByRecursion IsBlank blanks → ¬ (IsBlank b) → b ≢ 123
-      → LegacyFault whole LegacyJson
-  no_object : (front rest slice : List ℕ) → whole ≡ front ++ rest → Slice front slice → ((members : Members) → ¬ (ReadsObject slice members))
-      → LegacyFault whole LegacyJson
-  not_whole : (front rest slice : List ℕ) (members : Members) → whole ≡ front ++ rest → Slice front slice → ReadsObject slice members
-      → json_tree (json.object members) ≡ None → LegacyFault whole LegacyFloat
+      → ErrorInLegacy whole LegacyJson
+  no_object : (prefix rest slice : List ℕ) → whole ≡ prefix ++ rest → Slice prefix slice → ((members : Members) → ¬ (ReadsObject slice members))
+      → ErrorInLegacy whole LegacyJson
+  not_whole : (prefix rest slice : List ℕ) (members : Members) → whole ≡ prefix ++ rest → Slice prefix slice → ReadsObject slice members
+      → json_tree (json.object members) ≡ None → ErrorInLegacy whole LegacyFloat

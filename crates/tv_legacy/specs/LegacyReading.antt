@@ -27,10 +27,10 @@ nonblank_at (b ∷ bytes) = if is_blank b then nonblank_at bytes else Ok (b, byt
 abbrev pub is_even : List ℕ → Bool
 is_even slice = closed slice == opened slice
 
--- the slice up to the brace that closes it, of which this front was read
+-- the slice up to the brace that closes it, of which this prefix was read
 unfoldable pub rest_at : List ℕ → List ℕ → Result (List ℕ × List ℕ) (Cause × List ℕ)
-rest_at front [] = Err (UnexpectedEnd, [])
-rest_at front (b ∷ bytes) = if is_even (front ++ b ∷ []) then Ok (front ++ b ∷ [], bytes) else rest_at (front ++ b ∷ []) bytes
+rest_at prefix [] = Err (UnexpectedEnd, [])
+rest_at prefix (b ∷ bytes) = if is_even (prefix ++ b ∷ []) then Ok (prefix ++ b ∷ [], bytes) else rest_at (prefix ++ b ∷ []) bytes
 
 abbrev pub braced_at : ℕ → List ℕ → Result (List ℕ × List ℕ) (Cause × List ℕ)
 braced_at b bytes = if b == 123 then rest_at (123 ∷ []) bytes else Err (LegacyJson, bytes)

@@ -25,7 +25,7 @@ fn is_blank(byte: u8) -> bool
 
 // The first byte that is no blank.
 fn take_nonblank<S: ByteSource>(source: &mut S, count: &mut u64) -> Result<u8, ReadError>
-    ensures takes { TakesBy S.tells S.left S.faults source.old count.old source.new count.new (λ x. x) result nonblank_at }
+    ensures takes { TakesBy S.is_known S.left S.failures source.old count.old source.new count.new (λ x. x) result nonblank_at }
     ensures too_long { IsErrOf result (Corrupted TooLong) → count.new ≡ 2 ^ 64 - 1 }
     ensures spares { ¬ IsErrOf result Memory }
 {
@@ -47,7 +47,7 @@ fn take_rest<S: ByteSource>(
     slice: &mut Vec<u8>,
 ) -> Result<(), ReadError>
     requires { slice.old.items ≡ 123 ∷ [] }
-    ensures takes { TakesBy S.tells S.left S.faults source.old count.old source.new count.new (λ _. slice.new.items) result (rest_at slice.old.items) }
+    ensures takes { TakesBy S.is_known S.left S.failures source.old count.old source.new count.new (λ _. slice.new.items) result (rest_at slice.old.items) }
     ensures too_long { IsErrOf result (Corrupted TooLong) → count.new ≡ 2 ^ 64 - 1 }
 {
     let mut scan = Scan::opened();
@@ -68,7 +68,7 @@ fn take_slice<S: ByteSource>(
     source: &mut S,
     count: &mut u64,
 ) -> Result<Vec<u8>, ReadError>
-    ensures takes { TakesBy S.tells S.left S.faults source.old count.old source.new count.new (λ slice. slice.items) result slice_at }
+    ensures takes { TakesBy S.is_known S.left S.failures source.old count.old source.new count.new (λ slice. slice.items) result slice_at }
     ensures too_long { IsErrOf result (Corrupted TooLong) → count.new ≡ 2 ^ 64 - 1 }
 {
     let first = take_nonblank(source, count)?;
@@ -117,7 +117,7 @@ pub fn take_legacy<S: ByteSource>(
     source: &mut S,
     count: &mut u64,
 ) -> Result<OwnedValue, ReadError>
-    ensures takes { TakesBy S.tells S.left S.faults source.old count.old source.new count.new owned_tree result legacy_at }
+    ensures takes { TakesBy S.is_known S.left S.failures source.old count.old source.new count.new owned_tree result legacy_at }
     ensures too_long { IsErrOf result (Corrupted TooLong) → count.new ≡ 2 ^ 64 - 1 }
 {
     let slice = take_slice(alloc, source, count)?;

@@ -17,8 +17,8 @@ feed_at : (bytes : List ℕ) (k : ℕ) → k < length bytes → get_or bytes k 0
 feed_at bytes k below is =
     sym (take-append-drop k bytes) ∙ ap (λ l. take k bytes ++ l) (drop-cons bytes k 0 below ∙ ap (λ b. b ∷ drop (suc k) bytes) is ∙ ap (λ n. 10 ∷ drop n bytes) (sym (add-one k)))
 
-front_of : (chunk : List ℕ) (from to len : ℕ) → len ≤ to - from → slice_range chunk from (from + len) ≡ take len (slice_range chunk from to)
-front_of chunk from to len within =
+prefix_of : (chunk : List ℕ) (from to len : ℕ) → len ≤ to - from → slice_range chunk from (from + len) ≡ take len (slice_range chunk from to)
+prefix_of chunk from to len within =
     let same : from + len - from ≡ len = omega arith in
     ap (λ n. take n (drop from chunk)) same ∙ sym (take-take len (to - from) (drop from chunk) within)
 
@@ -36,7 +36,7 @@ moves_to_feed chunk before after from to len short none passes e =
       take len unread,
       unbroken_to unread len none.before,
       feed_at unread len none.high (eqb-true _ _ passes) ∙ ap (λ l. take len unread ++ 10 ∷ l) (sym (behind chunk from to len below)),
-      e ∙ ap (λ l. before ++ l) (front_of chunk from to len (omega arith)),
+      e ∙ ap (λ l. before ++ l) (prefix_of chunk from to len (omega arith)),
     )
 
 none_left : (chunk : List ℕ) (to : ℕ) → slice_range chunk to to ≡ []
@@ -51,9 +51,9 @@ moves_all chunk before after from to none e =
     let unread = slice_range chunk from to in
     (subst IsUnbroken (take_all (length unread) unread (omega arith)) (unbroken_to unread (length unread) none), none_left chunk to, e)
 
--- what a read put into the front of a longer list
-pub front_given : (n len : ℕ) (old new buf post rest : List ℕ) → n ≤ length buf → n ≤ len → old ≡ take n buf ++ new → old ≡ take n (take len ((buf ++ post) ++ rest)) ++ new
-front_given n len old new buf post rest bound short gives =
+-- what a read put into the start of a longer list
+pub prefix_given : (n len : ℕ) (old new buf post rest : List ℕ) → n ≤ length buf → n ≤ len → old ≡ take n buf ++ new → old ≡ take n (take len ((buf ++ post) ++ rest)) ++ new
+prefix_given n len old new buf post rest bound short gives =
     let same : take n (take len ((buf ++ post) ++ rest)) ≡ take n buf =
     take-take n len ((buf ++ post) ++ rest) short ∙ ap (take n) (append_assoc buf post rest) ∙ take-append-le n buf (post ++ rest) bound in
     gives ∙ ap (λ (l : List ℕ). l ++ new) (sym same)

@@ -17,9 +17,9 @@ unbroken-append (x ∷ xs) ys g h = (g.0, unbroken-append xs ys g.1 h)
 pub cut-more : (input line line' unread left unread' left' : List ℕ) → input ≡ line ++ (unread ++ left) → line' ≡ line ++ unread → left ≡ unread' ++ left' → input ≡ line' ++ (unread' ++ left')
 cut-more input line line' unread left unread' left' cut moved filled = cut ∙ ap (λ (l : List ℕ). line ++ (unread ++ l)) filled ∙ sym (append_assoc line unread (unread' ++ left')) ∙ ap (λ (l : List ℕ). l ++ (unread' ++ left')) (sym moved)
 
-not_empty : (front rest : List ℕ) (b : ℕ) → front ++ b ∷ rest ≢ []
+not_empty : (prefix rest : List ℕ) (b : ℕ) → prefix ++ b ∷ rest ≢ []
 not_empty [] rest b = λ e. cc
-not_empty (x ∷ front) rest b = λ e. cc
+not_empty (x ∷ prefix) rest b = λ e. cc
 
 pub ends_line : (input line line' unread unread' left : List ℕ) → IsUnbroken line → input ≡ line ++ (unread ++ left) → Moves unread unread' line line' true → TakesLine input line' (unread' ++ left) true
 ends_line input line line' unread unread' left whole cut moves =

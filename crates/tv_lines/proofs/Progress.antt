@@ -3,7 +3,7 @@ use Rattle.std.proofs.Common.{◌≡◌, ℕ, true, false, Result, Ok, Err, List
 use lib.Chars.{codes}
 use Rattle.std.specs.Prelude.{OnErr}
 use Rattle.std.proofs.lemmas.List.{append-nil}
-use Rattle.tv_base.specs.Sink.{IsFront}
+use Rattle.tv_base.specs.Sink.{IsPrefix}
 use Rattle.tv_lines.specs.Answers.{Answer, Answers, ReadsSchema, SchemaRefusal}
 use Rattle.tv_lines.specs.Answers.Answer.{no_memory}
 use Rattle.tv_lines.specs.Answers.Answers.{no_answers, next_answer}
@@ -11,7 +11,7 @@ use Rattle.tv_lines.specs.Answers.SchemaRefusal.{no_memory as no_schema_memory}
 use Rattle.tv_lines.specs.Lines.{FirstLine}
 use Rattle.tv_lines.specs.Lines.Lines.{no_lines, next_line}
 use Rattle.tv_lines.specs.Reader.{TakesLine}
-use Rattle.tv_lines.specs.Run.{AnswersOf, BadSchemaText, BrokenText, DoneText, FrontOf, IsEnded, Leaves}
+use Rattle.tv_lines.specs.Run.{AnswersOf, BadSchemaText, BrokenText, DoneText, PrefixOf, IsEnded, Leaves}
 use Rattle.tv_lines.proofs.LineSteps.{some_lines, some_line}
 use Rattle.tv_field.specs.Entry.{Entry}
 
@@ -68,24 +68,24 @@ Answered-ends {schema = schema} {input = input} h takes =
     (h.done, subst (λ (l : List ℕ). AnswersOf schema input l) (append-nil h.done) (h.follows [] (no_more takes.0)), h.holds)
 
 pub Answered-breaks : {schema : List Entry} {input pending before held : List ℕ} → Answered schema input pending before held
-    → Leaves (FrontOf (AnswersOf schema input)) before held
+    → Leaves (PrefixOf (AnswersOf schema input)) before held
 Answered-breaks {schema = schema} {pending = pending} h =
     let others = any_answers schema pending in
     (h.done, (h.done ++ others.0, h.follows others.0 others.1, (others.0, refl)), h.holds)
 
 pub Answered-cut : {schema : List Entry} {input pending before held line rest text held' : List ℕ} → Answered schema input pending before held → TakesLine pending line rest true
-    → IsEnded (Answer schema line) text → Leaves (λ front. IsFront front text) held held' → Leaves (FrontOf (AnswersOf schema input)) before held'
+    → IsEnded (Answer schema line) text → Leaves (λ prefix. IsPrefix prefix text) held held' → Leaves (PrefixOf (AnswersOf schema input)) before held'
 Answered-cut {schema = schema} {input = input} {before = before} {rest = rest} {text = text} h takes ends part =
     let others = any_answers schema rest in
-    let front = part.0 in
-    let cut : text ≡ front ++ part.1.0 = part.1.1 in
-    let whole : h.done ++ (ends.0 ++ 10 ∷ others.0) ≡ (h.done ++ front) ++ (part.1.0 ++ others.0) =
+    let prefix = part.0 in
+    let cut : text ≡ prefix ++ part.1.0 = part.1.1 in
+    let whole : h.done ++ (ends.0 ++ 10 ∷ others.0) ≡ (h.done ++ prefix) ++ (part.1.0 ++ others.0) =
     sym (with_feed h.done ends.0 others.0) ∙ ap (λ (l : List ℕ). (h.done ++ l) ++ others.0) (sym ends.2 ∙ cut)
-    ∙ append_assoc h.done (front ++ part.1.0) others.0 ∙ ap (λ (l : List ℕ). h.done ++ l) (append_assoc front part.1.0 others.0)
-    ∙ sym (append_assoc h.done front (part.1.0 ++ others.0)) in (
-      h.done ++ front,
+    ∙ append_assoc h.done (prefix ++ part.1.0) others.0 ∙ ap (λ (l : List ℕ). h.done ++ l) (append_assoc prefix part.1.0 others.0)
+    ∙ sym (append_assoc h.done prefix (part.1.0 ++ others.0)) in (
+      h.done ++ prefix,
       (h.done ++ (ends.0 ++ 10 ∷ others.0), h.follows (ends.0 ++ 10 ∷ others.0) (behind_answer takes ends.1 others.0 others.1), (part.1.0 ++ others.0, whole)),
-      part.2 ∙ ap (λ (l : List ℕ). l ++ front) h.holds ∙ append_assoc before h.done front,
+      part.2 ∙ ap (λ (l : List ℕ). l ++ prefix) h.holds ∙ append_assoc before h.done prefix,
     )
 
 -- ---- a whole run
@@ -100,12 +100,12 @@ pub bad_schema_text : {input line rest text : List ℕ} (before held : List ℕ)
 bad_schema_text {line = line} {rest = rest} {text = text} before held first refused e = (text, record { line = line; rest = rest; first = first; refused = refused }, e)
 
 pub broken_lines : {input line rest : List ℕ} {schema : List Entry} (before held : List ℕ) → FirstLine input line rest → ReadsSchema line schema
-    → Leaves (FrontOf (AnswersOf schema rest)) before held → Leaves (BrokenText input) before held
+    → Leaves (PrefixOf (AnswersOf schema rest)) before held → Leaves (BrokenText input) before held
 broken_lines {line = line} {rest = rest} {schema = schema} before held first reads leaves =
     (leaves.0, (leaves.1.0, inl (record { line = line; rest = rest; schema = schema; first = first; reads = reads; answers = leaves.1.1 }), leaves.1.2), leaves.2)
 
 pub broken_refusal : {input line rest text : List ℕ} (before held : List ℕ) → FirstLine input line rest → IsEnded (SchemaRefusal line) text
-    → Leaves (λ front. IsFront front text) before held → Leaves (BrokenText input) before held
+    → Leaves (λ prefix. IsPrefix prefix text) before held → Leaves (BrokenText input) before held
 broken_refusal {line = line} {rest = rest} {text = text} before held first refused part =
     (part.0, (text, inr (record { line = line; rest = rest; first = first; refused = refused }), part.1), part.2)
 

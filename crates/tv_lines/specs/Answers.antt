@@ -17,7 +17,7 @@ use Rattle.tv_value.specs.Short.{short_document}
 use Rattle.tv_value.specs.Tree.{Tree, Document}
 use Rattle.tv_value.specs.Version.{V2}
 
--- the line is UTF-8, and spells this JSON value
+-- the line is UTF-8, and encodes this JSON value
 abbrev pub IsJson : List ℕ → Data → Type 0
 IsJson line value = IsUtf8 line × (read line ≡ Some value)
 
@@ -75,8 +75,8 @@ pub data LineAnswer (schema : List Entry) (line text : List ℕ) : Type 0 where
 pub data Answer (schema : List Entry) (line text : List ℕ) : Type 0 where
   answered : LineAnswer schema line text → Answer schema line text
   no_memory : text ≡ codes "error Memory" → Answer schema line text
-  no_room : (members : Members) (front behind : List FieldJson) (pairs : Document) → IsJson line (object members)
-      → object_values schema members ≡ front ++ behind → Pairs front pairs → 4294967295 < document_room pairs → text ≡ codes "error HeapFull" → Answer schema line text
+  no_room : (members : Members) (prefix behind : List FieldJson) (pairs : Document) → IsJson line (object members)
+      → object_values schema members ≡ prefix ++ behind → Pairs prefix pairs → 4294967295 < document_room pairs → text ≡ codes "error HeapFull" → Answer schema line text
 
 -- an answer for each line, with its line feed
 pub data Answers (schema : List Entry) : List (List ℕ) → List ℕ → Type 0 where

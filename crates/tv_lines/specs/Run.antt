@@ -1,6 +1,6 @@
 -- What a run over an input writes.
 use Rattle.std.specs.Prelude.{◌≡◌, ◌⊎◌, ℕ, List, [], ◌∷◌, ◌++◌}
-use Rattle.tv_base.specs.Sink.{IsFront}
+use Rattle.tv_base.specs.Sink.{IsPrefix}
 use Rattle.tv_lines.specs.Answers.{ReadsSchema, SchemaRefusal, Answers}
 use Rattle.tv_lines.specs.Lines.{FirstLine, Lines}
 use Rattle.tv_lines.specs.declared.run_end.RunEnd.{RunEnd}
@@ -32,12 +32,12 @@ pub record BadSchemaText (input text : List ℕ) : Type 0 where
   pub refused : IsEnded (SchemaRefusal line) text
 
 -- a beginning of such a text
-abbrev pub FrontOf : (List ℕ → Type 0) → List ℕ → Type 0
-FrontOf P text = (whole : List ℕ) × P whole × IsFront text whole
+abbrev pub PrefixOf : (List ℕ → Type 0) → List ℕ → Type 0
+PrefixOf P text = (whole : List ℕ) × P whole × IsPrefix text whole
 
 -- a beginning of what a run over the input can write
 abbrev pub BrokenText : List ℕ → List ℕ → Type 0
-BrokenText input text = FrontOf (λ whole. DoneText input whole ⊎ BadSchemaText input whole) text
+BrokenText input text = PrefixOf (λ whole. DoneText input whole ⊎ BadSchemaText input whole) text
 
 -- such a text was written behind what was held
 abbrev pub Leaves : (List ℕ → Type 0) → List ℕ → List ℕ → Type 0

@@ -27,8 +27,8 @@ pub(crate) struct LineReader {
     ghost has_room: { 0 < vec_len chunk },
 }
 
-/// Reads into the front of the piece, at most so many bytes.
-fn read_front<S: ByteSource>(
+/// Reads into the start of the piece, at most so many bytes.
+fn read_prefix<S: ByteSource>(
     source: &mut S,
     chunk: &mut Vec<u8>,
     most: usize,
@@ -36,10 +36,10 @@ fn read_front<S: ByteSource>(
     requires { most ≤ vec_len chunk.old }
     ensures bound { IfOk result (λ count. count ≤ most) }
     ensures len { vec_len chunk.new ≡ vec_len chunk.old }
-    ensures bytes { S.tells source.old → IfOk result (λ count. S.left source.old ≡ take count chunk.new.items ++ S.left source.new) }
-    ensures end { S.tells source.old → IfOk result (λ count. count ≡ 0 → 0 < most → S.left source.old ≡ []) }
-    ensures tells { S.tells source.old → S.tells source.new }
-    ensures faults { OnOk result (S.faults source.new ≡ S.faults source.old) }
+    ensures bytes { S.is_known source.old → IfOk result (λ count. S.left source.old ≡ take count chunk.new.items ++ S.left source.new) }
+    ensures end { S.is_known source.old → IfOk result (λ count. count ≡ 0 → 0 < most → S.left source.old ≡ []) }
+    ensures is_known { S.is_known source.old → S.is_known source.new }
+    ensures failures { OnOk result (S.failures source.new ≡ S.failures source.old) }
 {
     match source.read(&mut chunk[0..most]) {
         Ok(count) => Ok(count),
@@ -95,18 +95,18 @@ impl LineReader {
     /// Reads the next piece of the source in the place of the last, of which each byte belongs to a line. Tells whether there was one;
     /// none is the end.
     fn fill<S: ByteSource>(&mut self, source: &mut S) -> Result<bool, Halt>
-        ensures fills { S.tells source.old → IfOk result (λ more. Fills (S.left source.old) (S.left source.new) (unread self.new) more) }
+        ensures fills { S.is_known source.old → IfOk result (λ more. Fills (S.left source.old) (S.left source.new) (unread self.new) more) }
         ensures most { IfOk result (λ more. most_left self.new ≡ 2 ^ 64 - 1 - self.old.count) }
         ensures fewer { IfOk result (λ more. more ≡ true → 2 ^ 64 - 1 - self.new.count < 2 ^ 64 - 1 - self.old.count) }
-        ensures tells { S.tells source.old → S.tells source.new }
-        ensures faults { OnOk result (S.faults source.new ≡ S.faults source.old) }
+        ensures is_known { S.is_known source.old → S.is_known source.new }
+        ensures failures { OnOk result (S.failures source.new ≡ S.failures source.old) }
     {
         let room = u64::MAX - self.count;
         if room == 0 {
             return Err(Halt::TooLong);
         }
         let most = self.chunk.len().min(room as usize);
-        match read_front(source, &mut self.chunk, most) {
+        match read_prefix(source, &mut self.chunk, most) {
             Ok(count) => {
                 self.from = 0;
                 self.to = count;
@@ -123,10 +123,10 @@ impl LineReader {
         source: &mut S,
         line: &mut Vec<u8>,
     ) -> Result<bool, Halt>
-        ensures takes { S.tells source.old → IfOk result (λ more. TakesLine (unread self.old ++ S.left source.old) line.new.items (unread self.new ++ S.left source.new) more) }
+        ensures takes { S.is_known source.old → IfOk result (λ more. TakesLine (unread self.old ++ S.left source.old) line.new.items (unread self.new ++ S.left source.new) more) }
         ensures fewer { IfOk result (λ more. more ≡ true → most_left self.new < most_left self.old) }
-        ensures tells { S.tells source.old → S.tells source.new }
-        ensures faults { OnOk result (S.faults source.new ≡ S.faults source.old) }
+        ensures is_known { S.is_known source.old → S.is_known source.new }
+        ensures failures { OnOk result (S.failures source.new ≡ S.failures source.old) }
     {
         line.clear();
         'pieces: loop {

@@ -12,7 +12,7 @@ use std::alloc::Global;
 use tv_base::SliceSource;
 use tv_doc::document::CompactDoc;
 use tv_legacy::laws::{
-    documents_have_one_reading, faulty_documents_derive_none, short_documents_spell,
+    documents_have_one_reading, malformed_documents_derive_none, short_documents_encode,
 };
 use tv_store::{DeserializeError, DocStoreVersion, read_document};
 
@@ -29,7 +29,7 @@ fn unwritten(error: &DeserializeError) -> &'static str
     }
 }
 
-/// Reads back a document from its shortest spelling, or gives the text that is answered where that takes more memory or room than
+/// Reads back a document from its shortest encoding, or gives the text that is answered where that takes more memory or room than
 /// there is.
 pub(crate) fn read_back(alloc: Global, bytes: &[u8]) -> Result<CompactDoc, &'static str>
     requires { (d : Document) × (IsDocument d × (bytes.now ≡ short_document V2 d)) }
@@ -37,8 +37,8 @@ pub(crate) fn read_back(alloc: Global, bytes: &[u8]) -> Result<CompactDoc, &'sta
     ensures err { (d : Document) → IsDocument d → bytes.now ≡ short_document V2 d → IfErr result (λ text. IsUnwritten d text.now) }
 {
     documents_have_one_reading();
-    faulty_documents_derive_none();
-    short_documents_spell();
+    malformed_documents_derive_none();
+    short_documents_encode();
     match read_document(alloc, &mut SliceSource::new(bytes), DocStoreVersion::V2) {
         Ok(found) => Ok(found),
         Err(error) => Err(unwritten(&error)),

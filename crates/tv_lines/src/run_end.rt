@@ -15,7 +15,7 @@ pub enum RunEnd {
 }
 
 impl RunEnd {
-    /// The exit status of a program that ends so: 0 for `Done`, 1 for `BadSchema` and 2 for `Broken`. (Own.)
+    /// The exit status of a program that ends so: 0 for `Done`, 1 for `BadSchema` and 2 for `Broken`. (Not in tantivy.)
     pub fn status(self) -> u8
         ensures { result ≡ status_of self }
     {

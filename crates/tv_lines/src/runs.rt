@@ -1,8 +1,8 @@
 //! A run over the lines of a source.
 
 ghost use Rattle.std.specs.Prelude.{◌≡◌, ◌≢◌, ◌++◌, [], IfErr, IfOk, OnErr, OnOk};
-ghost use Rattle.tv_base.specs.Sink.{IsFront};
-ghost use Rattle.tv_lines.specs.Run.{AnswersOf, BadSchemaText, BrokenText, DoneText, EndsWith, FrontOf, Leaves};
+ghost use Rattle.tv_base.specs.Sink.{IsPrefix};
+ghost use Rattle.tv_lines.specs.Run.{AnswersOf, BadSchemaText, BrokenText, DoneText, EndsWith, PrefixOf, Leaves};
 ghost use Rattle.tv_lines.specs.Reader.{unread};
 ghost use Rattle.tv_lines.specs.declared.run_end.RunEnd.TheVariants.{Done, BadSchema, Broken};
 
@@ -18,10 +18,10 @@ use tv_schema::Schema;
 
 /// Writes a line.
 fn write_line<K: ByteSink>(sink: &mut K, line: &[u8]) -> Result<(), Halt>
-    ensures ok { K.tells sink.old → OnOk result (K.held sink.new ≡ K.held sink.old ++ line.now) }
-    ensures err { K.tells sink.old → OnErr result (Leaves (λ text. IsFront text line.now) (K.held sink.old) (K.held sink.new)) }
-    ensures tells { K.tells sink.old → K.tells sink.new }
-    ensures faults { OnOk result (K.faults sink.new ≡ K.faults sink.old) }
+    ensures ok { K.is_known sink.old → OnOk result (K.held sink.new ≡ K.held sink.old ++ line.now) }
+    ensures err { K.is_known sink.old → OnErr result (Leaves (λ text. IsPrefix text line.now) (K.held sink.old) (K.held sink.new)) }
+    ensures is_known { K.is_known sink.old → K.is_known sink.new }
+    ensures failures { OnOk result (K.failures sink.new ≡ K.failures sink.old) }
 {
     match write_all(sink, line) {
         Ok(()) => Ok(()),
@@ -37,13 +37,13 @@ fn answer_lines<S: ByteSource, K: ByteSink>(
     reader: &mut LineReader,
     schema: &Schema,
 ) -> Result<(), Halt>
-    ensures ok { S.tells source.old → K.tells sink.old → OnOk result (Leaves (AnswersOf schema.now (unread reader.old ++ S.left source.old)) (K.held sink.old) (K.held sink.new)) }
-    ensures err { S.tells source.old → K.tells sink.old → OnErr result (Leaves (FrontOf (AnswersOf schema.now (unread reader.old ++ S.left source.old))) (K.held sink.old) (K.held sink.new)) }
-    ensures all { S.tells source.old → OnOk result (S.left source.new ≡ []) }
-    ensures source_tells { S.tells source.old → S.tells source.new }
-    ensures sink_tells { K.tells sink.old → K.tells sink.new }
-    ensures source_faults { OnOk result (S.faults source.new ≡ S.faults source.old) }
-    ensures sink_faults { OnOk result (K.faults sink.new ≡ K.faults sink.old) }
+    ensures ok { S.is_known source.old → K.is_known sink.old → OnOk result (Leaves (AnswersOf schema.now (unread reader.old ++ S.left source.old)) (K.held sink.old) (K.held sink.new)) }
+    ensures err { S.is_known source.old → K.is_known sink.old → OnErr result (Leaves (PrefixOf (AnswersOf schema.now (unread reader.old ++ S.left source.old))) (K.held sink.old) (K.held sink.new)) }
+    ensures all { S.is_known source.old → OnOk result (S.left source.new ≡ []) }
+    ensures source_is_known { S.is_known source.old → S.is_known source.new }
+    ensures sink_is_known { K.is_known sink.old → K.is_known sink.new }
+    ensures source_failures { OnOk result (S.failures source.new ≡ S.failures source.old) }
+    ensures sink_failures { OnOk result (K.failures sink.new ≡ K.failures sink.old) }
 {
     let mut line = Vec::new(alloc);
     let mut bytes = VecSink::new(alloc);
@@ -57,19 +57,19 @@ fn answer_lines<S: ByteSource, K: ByteSink>(
     }
 }
 
-/// Answers the lines of the source, or tells why that breaks off.
+/// Answers the lines of the source, or is_known why that breaks off.
 fn answer_source<S: ByteSource, K: ByteSink>(
     alloc: Global,
     source: &mut S,
     sink: &mut K,
 ) -> Result<RunEnd, Halt>
-    ensures ok { S.tells source.old → K.tells sink.old → IfOk result (λ end. EndsWith end (S.left source.old) (K.held sink.old) (K.held sink.new)) }
-    ensures err { S.tells source.old → K.tells sink.old → OnErr result (Leaves (BrokenText (S.left source.old)) (K.held sink.old) (K.held sink.new)) }
-    ensures all { S.tells source.old → IfOk result (λ end. end ≡ Done → S.left source.new ≡ []) }
-    ensures source_tells { S.tells source.old → S.tells source.new }
-    ensures sink_tells { K.tells sink.old → K.tells sink.new }
-    ensures source_faults { OnOk result (S.faults source.new ≡ S.faults source.old) }
-    ensures sink_faults { OnOk result (K.faults sink.new ≡ K.faults sink.old) }
+    ensures ok { S.is_known source.old → K.is_known sink.old → IfOk result (λ end. EndsWith end (S.left source.old) (K.held sink.old) (K.held sink.new)) }
+    ensures err { S.is_known source.old → K.is_known sink.old → OnErr result (Leaves (BrokenText (S.left source.old)) (K.held sink.old) (K.held sink.new)) }
+    ensures all { S.is_known source.old → IfOk result (λ end. end ≡ Done → S.left source.new ≡ []) }
+    ensures source_is_known { S.is_known source.old → S.is_known source.new }
+    ensures sink_is_known { K.is_known sink.old → K.is_known sink.new }
+    ensures source_failures { OnOk result (S.failures source.new ≡ S.failures source.old) }
+    ensures sink_failures { OnOk result (K.failures sink.new ≡ K.failures sink.old) }
 {
     let mut reader = LineReader::new(alloc)?;
     let mut line = Vec::new(alloc);
@@ -96,16 +96,16 @@ fn answer_source<S: ByteSource, K: ByteSink>(
 /// Bytes are read in pieces of 64 KiB, and each answer is written at once. The memory of a line serves the next.
 pub fn run<S: ByteSource, K: ByteSink>(alloc: Global, source: &mut S, sink: &mut K) -> RunEnd
     // what is written behind what the sink held
-    ensures done { S.tells source.old → K.tells sink.old → result ≡ Done → Leaves (DoneText (S.left source.old)) (K.held sink.old) (K.held sink.new) }
-    ensures bad_schema { S.tells source.old → K.tells sink.old → result ≡ BadSchema → Leaves (BadSchemaText (S.left source.old)) (K.held sink.old) (K.held sink.new) }
-    ensures broken { S.tells source.old → K.tells sink.old → result ≡ Broken → Leaves (BrokenText (S.left source.old)) (K.held sink.old) (K.held sink.new) }
+    ensures done { S.is_known source.old → K.is_known sink.old → result ≡ Done → Leaves (DoneText (S.left source.old)) (K.held sink.old) (K.held sink.new) }
+    ensures bad_schema { S.is_known source.old → K.is_known sink.old → result ≡ BadSchema → Leaves (BadSchemaText (S.left source.old)) (K.held sink.old) (K.held sink.new) }
+    ensures broken { S.is_known source.old → K.is_known sink.old → result ≡ Broken → Leaves (BrokenText (S.left source.old)) (K.held sink.old) (K.held sink.new) }
 
     // all of the source was read, and no read or write failed
-    ensures all { S.tells source.old → result ≡ Done → S.left source.new ≡ [] }
-    ensures source_faults { result ≢ Broken → S.faults source.new ≡ S.faults source.old }
-    ensures sink_faults { result ≢ Broken → K.faults sink.new ≡ K.faults sink.old }
-    ensures source_tells { S.tells source.old → S.tells source.new }
-    ensures sink_tells { K.tells sink.old → K.tells sink.new }
+    ensures all { S.is_known source.old → result ≡ Done → S.left source.new ≡ [] }
+    ensures source_failures { result ≢ Broken → S.failures source.new ≡ S.failures source.old }
+    ensures sink_failures { result ≢ Broken → K.failures sink.new ≡ K.failures sink.old }
+    ensures source_is_known { S.is_known source.old → S.is_known source.new }
+    ensures sink_is_known { K.is_known sink.old → K.is_known sink.new }
 {
     match answer_source(alloc, source, sink) {
         Ok(end) => end,

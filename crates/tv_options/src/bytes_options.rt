@@ -7,7 +7,7 @@ use crate::flag_options::FlagOptions;
 use crate::own_part::OfBytes;
 
 impl BytesOptions {
-    /// Options of these parts (own).
+    /// Options of these parts (not in tantivy).
     pub fn from_parts(indexed: bool, fieldnorms: bool, fast: bool, stored: bool) -> BytesOptions
         ensures { result ≡ record {
           indexed = indexed;

@@ -7,7 +7,7 @@ use crate::flag_options::FlagOptions;
 use tv_value::date_time::DateTimePrecision;
 
 impl DateOptions {
-    /// Options of these parts (own).
+    /// Options of these parts (not in tantivy).
     pub fn from_parts(
         indexed: bool,
         fieldnorms: bool,

@@ -16,7 +16,7 @@ pub struct FacetOptions {
 }
 
 impl FacetOptions {
-    /// Options of this part (own).
+    /// Options of this part (not in tantivy).
     pub fn from_parts(stored: bool) -> FacetOptions
         ensures { result ≡ record { stored = stored } }
     {

@@ -58,7 +58,7 @@ impl<Part: OwnPart> FlagOptions<Part> {
         self.fast
     }
 
-    /// Whether field norms were asked for, also where the values aren't searchable (own).
+    /// Whether field norms were asked for, also where the values aren't searchable (not in tantivy).
     pub fn asks_for_fieldnorms(&self) -> bool
         ensures { result ≡ self.now.fieldnorms }
     {

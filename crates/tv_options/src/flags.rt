@@ -12,7 +12,7 @@ pub struct StoredFlag;
 #[derive(Clone, Copy, Debug, PartialEq, Eq)]
 pub struct IndexedFlag;
 
-/// Takes JSON values of another kind for values of the field's type, where they spell one.
+/// Takes JSON values of another kind for values of the field's type, where they encode one.
 #[derive(Clone, Copy, Debug, PartialEq, Eq)]
 pub struct CoerceFlag;
 
@@ -59,7 +59,7 @@ impl<Head: Clone, OldHead: Clone, OldTail: Clone> BitOr<SchemaFlagList<Head, ()>
 
     ghost bitor_gives = { λ list flag joined. joined ≡ record { head = flag.head; tail = list } };
 
-    /// The list with the flag in front.
+    /// The list with the flag before it.
     fn bitor(self, flag: SchemaFlagList<Head, ()>) -> Self::Output {
         SchemaFlagList {
             head: flag.head,

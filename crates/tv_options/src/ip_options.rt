@@ -7,7 +7,7 @@ pub use crate::flag_options::IpAddrOptions;
 use crate::own_part::OfIpAddrs;
 
 impl IpAddrOptions {
-    /// Options of these parts (own).
+    /// Options of these parts (not in tantivy).
     pub fn from_parts(indexed: bool, fieldnorms: bool, fast: bool, stored: bool) -> IpAddrOptions
         ensures { result ≡ record {
           indexed = indexed;

@@ -10,7 +10,7 @@ pub use crate::textual_options::JsonObjectOptions;
 use crate::textual_options::TextualOptions;
 
 impl JsonObjectOptions {
-    /// Options of these parts (own).
+    /// Options of these parts (not in tantivy).
     pub fn from_parts(
         stored: bool,
         indexing: Option<TextFieldIndexing>,

@@ -79,22 +79,22 @@ pub fn fast_text_options_join_idempotently()
     ensures { (a : FastFieldTextOptions) → join_fast a a ≡ a }
 {}
 
-/// `==` on options of flags tells whether they are the same.
+/// `==` on options of flags is_known whether they are the same.
 pub fn comparisons_of_flag_options_agree<Part: OwnPart>()
     ensures { (a b : FlagOptions Part) → IsTrue (⟦<FlagOptions<Part> as PartialEq>⟧.eq a b) ↔ (a ≡ b) }
 {}
 
-/// `==` on options of texts, or of JSON objects, tells whether they are the same.
+/// `==` on options of texts, or of JSON objects, is_known whether they are the same.
 pub fn comparisons_of_textual_options_agree<Part: OwnPart>()
     ensures { (a b : TextualOptions Part) → IsTrue (⟦<TextualOptions<Part> as PartialEq>⟧.eq a b) ↔ (a ≡ b) }
 {}
 
-/// `==` on options of facets tells whether they are the same.
+/// `==` on options of facets is_known whether they are the same.
 pub fn comparisons_of_facet_options_agree()
     ensures { (a b : FacetOptions) → IsTrue (⟦<FacetOptions as PartialEq>⟧.eq a b) ↔ (a ≡ b) }
 {}
 
-/// `==` on what says how texts are indexed tells whether it is the same; names of tokenizers are compared as texts.
+/// `==` on what says how texts are indexed is_known whether it is the same; names of tokenizers are compared as texts.
 pub fn comparisons_of_text_indexing_agree()
     ensures name { (a b : List ℕ) → IsTrue (⟦<TokenizerName as PartialEq>⟧.eq a b) ↔ (a ≡ b) }
     ensures kept { (a b : IndexRecordOption) → IsTrue (⟦<IndexRecordOption as PartialEq>⟧.eq a b) ↔ (a ≡ b) }
@@ -110,7 +110,7 @@ pub fn comparisons_of_flags_agree()
     ensures fast { (a b : FastFlag) → IsTrue (⟦<FastFlag as PartialEq>⟧.eq a b) ↔ (a ≡ b) }
 {}
 
-/// `==` on lists of flags tells whether they are the same, where it does so on their parts.
+/// `==` on lists of flags is_known whether they are the same, where it does so on their parts.
 pub fn comparisons_of_flag_lists_agree<Head: PartialEq, Tail: PartialEq>()
     ensures { ((a b : Head) → IsTrue (Head.eq a b) ↔ (a ≡ b)) → ((a b : Tail) → IsTrue (Tail.eq a b) ↔ (a ≡ b))
         → (a b : SchemaFlagList Head Tail) → IsTrue (⟦<SchemaFlagList<Head, Tail> as PartialEq>⟧.eq a b) ↔ (a ≡ b) }

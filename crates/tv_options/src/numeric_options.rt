@@ -9,7 +9,7 @@ use crate::flags::CoerceFlag;
 use crate::own_part::Coercion;
 
 impl NumericOptions {
-    /// Options of these parts (own).
+    /// Options of these parts (not in tantivy).
     pub fn from_parts(
         indexed: bool,
         fieldnorms: bool,
@@ -41,7 +41,7 @@ impl NumericOptions {
         self.fieldnorms && self.indexed
     }
 
-    /// Whether a JSON text that spells a value is taken for it.
+    /// Whether a JSON text that encodes a value is taken for it.
     pub fn should_coerce(&self) -> bool
         ensures { result ≡ self.now.part.coerce }
     {
@@ -56,7 +56,7 @@ impl NumericOptions {
         self.with_fieldnorms()
     }
 
-    /// The same options, with JSON texts taken for the values that they spell.
+    /// The same options, with JSON texts taken for the values that they encode.
     #[must_use]
     pub fn set_coerce(mut self) -> NumericOptions
         ensures { result ≡ record self { part = record { coerce = true } } }

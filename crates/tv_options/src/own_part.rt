@@ -27,7 +27,7 @@ pub trait OwnPart: Copy + PartialEq {
     ghost compares_by_value: { (a b : Self) → IsTrue (Self.eq a b) ↔ (a ≡ b) };
 }
 
-/// Whether JSON values of another kind are taken for values of the field's type, where they spell one.
+/// Whether JSON values of another kind are taken for values of the field's type, where they encode one.
 #[derive(Clone, Copy, Debug, PartialEq, Eq)]
 pub struct Coercion {
     pub(crate) coerce: bool,

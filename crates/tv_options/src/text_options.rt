@@ -202,7 +202,7 @@ impl TextFieldIndexing {
 }
 
 impl TextOptions {
-    /// Options of these parts (own).
+    /// Options of these parts (not in tantivy).
     pub fn from_parts(
         indexing: Option<TextFieldIndexing>,
         stored: bool,

@@ -8,7 +8,7 @@ use Rattle.tv_base.proofs.AgreeWidths.{ended_shown}
 use Rattle.tv_reader.specs.declared.value_type.ValueType.{ValueType}
 use Rattle.tv_reader.specs.declared.value_type.ValueType.TheVariants as types
 use Rattle.tv_reader.specs.Kinds.{extension_of, extension_at, known_kind, kind_of, kind_at}
-use Rattle.tv_reader.specs.ValueType.{type_code, type_with, coded, IsCoded, CodeFault, no_code, unknown_type, float_type, no_extension_code, unknown_extension}
+use Rattle.tv_reader.specs.ValueType.{type_code, type_with, coded, IsCoded, ErrorInCode, no_code, unknown_type, float_type, no_extension_code, unknown_extension}
 use Rattle.tv_reader.proofs.Codes.{differs, above, no_type}
 
 passes : {A : Type 0} (test : Bool) (x y : A) → test ≡ false → (if test then x else y) ≡ y
@@ -30,7 +30,7 @@ unfolding kind_at extension_at u8_at
 known_read types.PreTokStr rest = refl
 known_read _ rest = refl
 
--- a code tells the type, and where what is behind it begins
+-- a code is_known the type, and where what is behind it begins
 pub same_coded : (k l : ValueType) (a b : List ℕ) → coded k ++ a ≡ coded l ++ b → (k ≡ l) × (a ≡ b)
 same_coded k l a b e =
     let q = ok_is (Cause × List ℕ) (k, a) (l, b) (sym (known_read k a) ∙ ap kind_at e ∙ known_read l b) in
@@ -52,24 +52,24 @@ coded_early : (k : ValueType) (start : List ℕ) (byte : ℕ) → coded k ≡ st
 coded_early types.PreTokStr start byte last = extension_early 0 start byte last
 coded_early kind start byte last = one_early (type_code kind) start byte last
 
--- bytes begin with the code of a type, or are at fault there
+-- bytes begin with the code of a type, or are malformed there
 data Coding (bytes : List ℕ) : Type 0 where
   known : (k : ValueType) (rest : List ℕ) → bytes ≡ coded k ++ rest → Coding bytes
-  faulty : (c : Cause) (rest : List ℕ) → kind_at bytes ≡ Err (c, rest) → CodeFault bytes c → Shown UnexpectedEnd kind_at bytes rest c → Coding bytes
+  malformed : (c : Cause) (rest : List ℕ) → kind_at bytes ≡ Err (c, rest) → ErrorInCode bytes c → Shown UnexpectedEnd kind_at bytes rest c → Coding bytes
 
--- at fault behind one byte, and behind two
-faulty_byte : (code : ℕ) (rest : List ℕ) (c : Cause) → c ≢ UnexpectedEnd → kind_at (code ∷ rest) ≡ Err (c, rest) → kind_at (code ∷ []) ≡ Err (c, []) → CodeFault (code ∷ rest) c → Coding (code ∷ rest)
-faulty_byte code rest c other read alone fault = faulty c rest read fault (record {
-  front = code ∷ [];
+-- a malformed part behind one byte, and behind two
+malformed_byte : (code : ℕ) (rest : List ℕ) (c : Cause) → c ≢ UnexpectedEnd → kind_at (code ∷ rest) ≡ Err (c, rest) → kind_at (code ∷ []) ≡ Err (c, []) → ErrorInCode (code ∷ rest) c → Coding (code ∷ rest)
+malformed_byte code rest c other read alone error = malformed c rest read error (record {
+  prefix = code ∷ [];
   joined = refl;
   alone = alone;
   all = λ e. absurd (other e);
   early = λ _ start byte last. one_early code start byte last;
 })
 
-faulty_extension : (code : ℕ) (rest : List ℕ) (c : Cause) → c ≢ UnexpectedEnd → kind_at (7 ∷ code ∷ rest) ≡ Err (c, rest) → kind_at (7 ∷ code ∷ []) ≡ Err (c, []) → CodeFault (7 ∷ code ∷ rest) c → Coding (7 ∷ code ∷ rest)
-faulty_extension code rest c other read alone fault = faulty c rest read fault (record {
-  front = 7 ∷ code ∷ [];
+malformed_extension : (code : ℕ) (rest : List ℕ) (c : Cause) → c ≢ UnexpectedEnd → kind_at (7 ∷ code ∷ rest) ≡ Err (c, rest) → kind_at (7 ∷ code ∷ []) ≡ Err (c, []) → ErrorInCode (7 ∷ code ∷ rest) c → Coding (7 ∷ code ∷ rest)
+malformed_extension code rest c other read alone error = malformed c rest read error (record {
+  prefix = 7 ∷ code ∷ [];
   joined = refl;
   alone = alone;
   all = λ e. absurd (other e);
@@ -78,19 +78,19 @@ faulty_extension code rest c other read alone fault = faulty c rest read fault (
 
 extension_coding : (rest : List ℕ) → Coding (7 ∷ rest)
 unfolding kind_at extension_at u8_at
-extension_coding [] = faulty UnexpectedEnd [] refl no_extension_code (ended_shown kind_at (7 ∷ []) [] UnexpectedEnd refl refl)
+extension_coding [] = malformed UnexpectedEnd [] refl no_extension_code (ended_shown kind_at (7 ∷ []) [] UnexpectedEnd refl refl)
 extension_coding (zero ∷ rest) = known types.PreTokStr rest refl
 extension_coding (suc n ∷ rest) =
     let other : suc n ≢ 0 = λ p. omega (arith, p) in
-    faulty_extension (suc n) rest (UnknownExtCode (suc n)) (λ e. cc) (extension_far (suc n) rest other) (extension_far (suc n) [] other) (unknown_extension other)
+    malformed_extension (suc n) rest (UnknownExtCode (suc n)) (λ e. cc) (extension_far (suc n) rest other) (extension_far (suc n) [] other) (unknown_extension other)
 
 far_coding : (code : ℕ) (rest : List ℕ) → 13 < code → Coding (code ∷ rest)
 unfolding kind_at u8_at
-far_coding code rest h = faulty_byte code rest (UnknownTypeCode code) (λ e. cc) (far code rest h) (far code [] h) (unknown_type h)
+far_coding code rest h = malformed_byte code rest (UnknownTypeCode code) (λ e. cc) (far code rest h) (far code [] h) (unknown_type h)
 
 float_coding : (rest : List ℕ) → Coding (6 ∷ rest)
 unfolding kind_at u8_at
-float_coding rest = faulty_byte 6 rest FloatCode (λ e. cc) refl refl float_type
+float_coding rest = malformed_byte 6 rest FloatCode (λ e. cc) refl refl float_type
 
 abbrev kind_or_string : Option ValueType → ValueType
 kind_or_string (Some kind) = kind
@@ -103,7 +103,7 @@ code_coding (suc (suc (suc (suc (suc (suc (suc (suc (suc (suc (suc (suc (suc (su
 code_coding code rest = known (kind_or_string (type_with code)) rest refl
 
 coding : (bytes : List ℕ) → Coding bytes
-coding [] = faulty UnexpectedEnd [] nothing_read no_code (ended_shown kind_at [] [] UnexpectedEnd nothing_read nothing_read)
+coding [] = malformed UnexpectedEnd [] nothing_read no_code (ended_shown kind_at [] [] UnexpectedEnd nothing_read nothing_read)
 coding (code ∷ rest) = code_coding code rest
 
 known_at : (bytes : List ℕ) (k : ValueType) (rest : List ℕ) → bytes ≡ coded k ++ rest → kind_at bytes ≡ Ok (k, rest)
@@ -111,19 +111,19 @@ known_at bytes k rest joined = ap kind_at joined ∙ known_read k rest
 
 sound : (bytes : List ℕ) (x : ValueType × List ℕ) → Coding bytes → kind_at bytes ≡ Ok x → bytes ≡ coded x.0 ++ x.1
 sound bytes x (known k rest joined) e = joined ∙ ap (λ z. coded z.0 ++ z.1) (ok_is (Cause × List ℕ) (k, rest) x (sym (known_at bytes k rest joined) ∙ e))
-sound bytes x (faulty c rest read fault shown) e = absurd (no_ok (c, rest) x (sym read ∙ e))
+sound bytes x (malformed c rest read error shown) e = absurd (no_ok (c, rest) x (sym read ∙ e))
 
-refused : (bytes : List ℕ) (c : Cause) (rest : List ℕ) → Coding bytes → kind_at bytes ≡ Err (c, rest) → CodeFault bytes c × Shown UnexpectedEnd kind_at bytes rest c
+refused : (bytes : List ℕ) (c : Cause) (rest : List ℕ) → Coding bytes → kind_at bytes ≡ Err (c, rest) → ErrorInCode bytes c × Shown UnexpectedEnd kind_at bytes rest c
 refused bytes c rest (known k after joined) e = absurd (no_ok (c, rest) (k, after) (sym e ∙ known_at bytes k after joined))
-refused bytes c rest (faulty d after read fault shown) e =
+refused bytes c rest (malformed d after read error shown) e =
     let q = err_is (ValueType × List ℕ) (d, after) (c, rest) (sym read ∙ e) in
-    subst (λ (z : Cause × List ℕ). CodeFault bytes z.0 × Shown UnexpectedEnd kind_at bytes z.1 z.0) q (fault, shown)
+    subst (λ (z : Cause × List ℕ). ErrorInCode bytes z.0 × Shown UnexpectedEnd kind_at bytes z.1 z.0) q (error, shown)
 
-pub kind_agrees : Agrees UnexpectedEnd kind_at IsCoded CodeFault
+pub kind_agrees : Agrees UnexpectedEnd kind_at IsCoded ErrorInCode
 kind_agrees = record {
   sound = λ bytes x small e. (coded x.0, refl, sound bytes x (coding bytes) e);
-  complete = λ front k rest p. known_at (front ++ rest) k rest (ap (λ (l : List ℕ). l ++ rest) p);
+  complete = λ prefix k rest p. known_at (prefix ++ rest) k rest (ap (λ (l : List ℕ). l ++ rest) p);
   refused = λ bytes c rest small e. (refused bytes c rest (coding bytes) e).0;
-  before = λ front k p start byte last. coded_early k start byte (sym p ∙ last);
+  before = λ prefix k p start byte last. coded_early k start byte (sym p ∙ last);
   shown = λ bytes c rest small e. (refused bytes c rest (coding bytes) e).1;
 }

@@ -12,23 +12,23 @@ use Rattle.tv_base.specs.Stop.{◌>>=◌}
 use Rattle.tv_base.specs.Number.{VNum, Signed}
 use Rattle.tv_base.specs.Parts.{Text, Each, Then}
 use Rattle.tv_base.specs.Reading.{vint_at}
-use Rattle.tv_base.specs.PartFault.{InThen, InEach, NumberFault, BytesFault, TextFault}
+use Rattle.tv_base.specs.ErrorInPart.{InThen, InEach, ErrorInNumber, ErrorInBytes, ErrorInText}
 use Rattle.tv_base.proofs.Agrees.{Agrees, InTurn, agrees_too, in_turn, make, made, chosen, nothing_read, nothing_stands}
-use Rattle.tv_base.proofs.AgreeWidths.{bytes_fault, u64_agrees, u128_agrees, i64_agrees}
+use Rattle.tv_base.proofs.AgreeWidths.{bytes_error, u64_agrees, u128_agrees, i64_agrees}
 use Rattle.tv_base.proofs.AgreeNumbers.{vint_agrees}
 use Rattle.tv_base.proofs.AgreeParts.{sized_agrees, text_agrees, each_agrees}
 use Rattle.tv_base.proofs.AgreeTruth.{truth_agrees}
 use Rattle.tv_value.specs.Content.{no_content, truth_content, unsigned_content, signed_content, wide_content, text_content, bytes_content, tokens_content}
-use Rattle.tv_value.specs.Fault.{TokenFault, TokenizedFault, ScaledFault, DateFault, MicrosecondsFault, date_ends, date_range}
+use Rattle.tv_value.specs.InputError.{ErrorInToken, ErrorInTokenized, ErrorInScaled, ErrorInDate, ErrorInMicroseconds, date_ends, date_range}
 use Rattle.tv_value.specs.Leaves.{form, scale}
-use Rattle.tv_value.specs.Spelling.{TokenSpelling}
+use Rattle.tv_value.specs.Encoding.{TokenEncoding}
 use Rattle.tv_value.specs.Tree.{Token, leaf}
 use Rattle.tv_value.specs.Version.{Version, V1, V2, V3, Date, Microseconds, Scaled}
 use Rattle.tv_value.specs.declared.content.Form.{Form}
 use Rattle.tv_value.specs.declared.content.Form.TheVariants as forms
 use Rattle.tv_value.specs.declared.leaf.LeafType.{LeafType}
 use Rattle.tv_value.specs.declared.leaf.LeafType.TheVariants as leaves
-use Rattle.tv_reader.specs.LeafBodies.{TokenizedPair, Held, HeldFault, LeafOfType, LeafOfTypeFault, LeafOf, LeafOfFault}
+use Rattle.tv_reader.specs.LeafBodies.{TokenizedPair, Held, ErrorInHeld, LeafOfType, ErrorInLeafOfType, LeafOf, ErrorInLeafOf}
 use Rattle.tv_reader.specs.Leaves.{micros_of, date_at, offsets_at, named_at, placed_at, token_at, tokens_at, counted_tokens_at, tokenized_at, leaf_holding, number_at, content_at, leaf_of_type, leaf_at}
 use Rattle.tv_reader.specs.ValueType.{leaf_type}
 use Rattle.tv_reader.specs.declared.value_type.ValueType.{ValueType}
@@ -41,8 +41,8 @@ Ranged z rest n =
     ⊎ ((lt_z z (negsuc 9223372036854774) ≡ false) × (((lt_z (pos 9223372036854775) z ≡ true) × ⊥)
     ⊎ ((lt_z (pos 9223372036854775) z ≡ false) × ((rest ≡ []) × (n ≡ z *ℤ pos 1000)))))
 
-abbrev RangeFault : ℤ → List ℕ → Cause → Type 0
-RangeFault z rest c =
+abbrev ErrorInRange : ℤ → List ℕ → Cause → Type 0
+ErrorInRange z rest c =
     ((lt_z z (negsuc 9223372036854774) ≡ true) × (c ≡ DateRange))
     ⊎ ((lt_z z (negsuc 9223372036854774) ≡ false) × (((lt_z (pos 9223372036854775) z ≡ true) × (c ≡ DateRange))
     ⊎ ((lt_z (pos 9223372036854775) z ≡ false) × ⊥)))
@@ -70,14 +70,14 @@ micros_to whole n small p = elim p.1.second [
   | inr q ↦ elim q.1 [
     | inl r ↦ absurd r.1
     | inr r ↦
-        let all : p.1.front ≡ whole = sym (p.1.joined ∙ ap (λ (l : List ℕ). p.1.front ++ l) r.1.0 ∙ append-nil p.1.front) in
+        let all : p.1.prefix ≡ whole = sym (p.1.joined ∙ ap (λ (l : List ℕ). p.1.prefix ++ l) r.1.0 ∙ append-nil p.1.prefix) in
         let there = subst (λ (l : List ℕ). Signed l p.0) all p.1.first in
         record {
           microseconds = p.0;
           from = at_least p.0 (negsuc 9223372036854774) q.0;
           to = at_least (pos 9223372036854775) p.0 r.0;
           same = r.1.1;
-          spelled = there.spelled;
+          encoded = there.encoded;
         }
   ]
 ]
@@ -86,22 +86,22 @@ micros_from : (whole : List ℕ) (n : ℤ) → Microseconds whole n → InTurn S
 micros_from whole n h = (
   h.microseconds,
   record {
-    front = whole;
+    prefix = whole;
     rest = [];
     joined = sym (append-nil whole);
-    first = record { fits = within_fits h.microseconds h.from h.to; spelled = h.spelled };
+    first = record { fits = within_fits h.microseconds h.from h.to; encoded = h.encoded };
     second = inr (not_below h.microseconds (negsuc 9223372036854774) h.from, inr (not_below (pos 9223372036854775) h.microseconds h.to, (refl, h.same)));
   },
 )
 
-date_ended : (whole : List ℕ) (c : Cause) → BytesFault 8 whole c → MicrosecondsFault whole c
-date_ended whole c h = let q = bytes_fault 8 whole c h in subst (MicrosecondsFault whole) (sym q.0) (date_ends q.1)
+date_ended : (whole : List ℕ) (c : Cause) → ErrorInBytes 8 whole c → ErrorInMicroseconds whole c
+date_ended whole c h = let q = bytes_error 8 whole c h in subst (ErrorInMicroseconds whole) (sym q.0) (date_ends q.1)
 
-outside : (whole : List ℕ) (c : Cause) (z : ℤ) (p : Then (λ b. Signed b z) (λ rest. RangeFault z rest c) whole) → c ≡ DateRange → (z <ℤ negsuc 9223372036854774) ⊎ (pos 9223372036854775 <ℤ z) → MicrosecondsFault whole c
-outside whole c z p is out = subst (MicrosecondsFault whole) (sym is) (date_range z p.front p.rest p.joined p.first.spelled (record { fits = p.first.fits; outside = out }))
+outside : (whole : List ℕ) (c : Cause) (z : ℤ) (p : Then (λ b. Signed b z) (λ rest. ErrorInRange z rest c) whole) → c ≡ DateRange → (z <ℤ negsuc 9223372036854774) ⊎ (pos 9223372036854775 <ℤ z) → ErrorInMicroseconds whole c
+outside whole c z p is out = subst (ErrorInMicroseconds whole) (sym is) (date_range z p.prefix p.rest p.joined p.first.encoded (record { fits = p.first.fits; outside = out }))
 
-micros_faults : (whole : List ℕ) (c : Cause) → AllBytes whole → InThen (BytesFault 8) Signed RangeFault whole c → MicrosecondsFault whole c
-micros_faults whole c small p = elim p [
+micros_errors : (whole : List ℕ) (c : Cause) → AllBytes whole → InThen (ErrorInBytes 8) Signed ErrorInRange whole c → ErrorInMicroseconds whole c
+micros_errors whole c small p = elim p [
   | inl h ↦ date_ended whole c h
   | inr q ↦ elim q.1.second [
     | inl r ↦ outside whole c q.0 q.1 r.1 (inl (below q.0 (negsuc 9223372036854774) r.0))
@@ -112,7 +112,7 @@ micros_faults whole c small p = elim p [
   ]
 ]
 
-range_agrees : (z : ℤ) → Agrees UnexpectedEnd (micros_of z) (Ranged z) (RangeFault z)
+range_agrees : (z : ℤ) → Agrees UnexpectedEnd (micros_of z) (Ranged z) (ErrorInRange z)
 range_agrees z =
     chosen (lt_z z (negsuc 9223372036854774)) (nothing_stands DateRange (λ e. cc))
     (chosen (lt_z (pos 9223372036854775) z) (nothing_stands DateRange (λ e. cc)) (nothing_read UnexpectedEnd (z *ℤ pos 1000)))
@@ -121,9 +121,9 @@ same_read : {F Y : Type 0} (r : Result (Y × List ℕ) F) → (r >>= λ x. Ok (x
 same_read (Ok x) = refl
 same_read (Err e) = refl
 
-pub date_agrees : (v : Version) → Agrees UnexpectedEnd (date_at v) (Date v) (λ whole c. DateFault whole v c)
+pub date_agrees : (v : Version) → Agrees UnexpectedEnd (date_at v) (Date v) (λ whole c. ErrorInDate whole v c)
 unfolding date_at
-date_agrees V1 = agrees_too (λ whole. refl) micros_to micros_from micros_faults (in_turn {b = micros_of} i64_agrees range_agrees)
+date_agrees V1 = agrees_too (λ whole. refl) micros_to micros_from micros_errors (in_turn {b = micros_of} i64_agrees range_agrees)
 date_agrees V2 = agrees_too (λ whole. same_read _) (λ whole z small h. h) (λ whole z h. h) (λ whole c small h. h) i64_agrees
 date_agrees V3 = agrees_too (λ whole. same_read _) (λ whole z small h. h) (λ whole z h. h) (λ whole c small h. h) i64_agrees
 
@@ -138,21 +138,21 @@ Named = InTurn Text (λ content whole pair. (n : ℕ) × VNum whole n × (pair �
 abbrev Placed : List ℕ → ℕ × (List ℕ × ℕ) → Type 0
 Placed = InTurn VNum (λ position whole x. (named : List ℕ × ℕ) × Named whole named × (x ≡ (position, named)))
 
-abbrev OffsetsFault : List ℕ → Cause → Type 0
-OffsetsFault = InThen NumberFault VNum (λ _. NumberFault)
+abbrev ErrorInOffsets : List ℕ → Cause → Type 0
+ErrorInOffsets = InThen ErrorInNumber VNum (λ _. ErrorInNumber)
 
-abbrev PlacedFault : List ℕ → Cause → Type 0
-PlacedFault = InThen NumberFault VNum (λ _. InThen TextFault Text (λ _. NumberFault))
+abbrev ErrorInPlaced : List ℕ → Cause → Type 0
+ErrorInPlaced = InThen ErrorInNumber VNum (λ _. InThen ErrorInText Text (λ _. ErrorInNumber))
 
-offsets_agree : Agrees UnexpectedEnd offsets_at Offsets OffsetsFault
+offsets_agree : Agrees UnexpectedEnd offsets_at Offsets ErrorInOffsets
 unfolding offsets_at
 offsets_agree = in_turn {b = λ from whole. vint_at whole >>= make (λ to. (from, to))} vint_agrees (λ from. made (λ to. (from, to)) vint_agrees)
 
-named_agree : Agrees UnexpectedEnd named_at Named (InThen TextFault Text (λ _. NumberFault))
+named_agree : Agrees UnexpectedEnd named_at Named (InThen ErrorInText Text (λ _. ErrorInNumber))
 unfolding named_at
 named_agree = in_turn {b = λ content whole. vint_at whole >>= make (λ n. (content, n))} text_agrees (λ content. made (λ n. (content, n)) vint_agrees)
 
-placed_agree : Agrees UnexpectedEnd placed_at Placed PlacedFault
+placed_agree : Agrees UnexpectedEnd placed_at Placed ErrorInPlaced
 unfolding placed_at
 placed_agree = in_turn {b = λ position whole. named_at whole >>= make (λ named. (position, named))} vint_agrees (λ position. made (λ named. (position, named)) named_agree)
 
@@ -162,7 +162,7 @@ token_with offsets placed = record { offset_from = offsets.0; offset_to = offset
 abbrev TokenParts : List ℕ → Token → Type 0
 TokenParts = InTurn Offsets (λ offsets whole t. (placed : ℕ × (List ℕ × ℕ)) × Placed whole placed × (t ≡ token_with offsets placed))
 
-token_to : (whole : List ℕ) (t : Token) → AllBytes whole → TokenParts whole t → TokenSpelling whole t
+token_to : (whole : List ℕ) (t : Token) → AllBytes whole → TokenParts whole t → TokenEncoding whole t
 token_to whole t small p =
     let o = p.1.first.1 in
     let q = p.1.second in
@@ -171,22 +171,22 @@ token_to whole t small p =
     let word = named.1.1 in
     let same : t ≡ token_with (p.1.first.0, o.second.0) (q.1.0, (named.1.0, word.second.0)) =
     q.2 ∙ ap (λ x. token_with x q.0) o.second.2 ∙ ap (λ x. token_with (p.1.first.0, o.second.0) x) (named_is q.0 q.1.0 named.0 (named.1.0, word.second.0) named.2 word.second.2) in
-    subst (TokenSpelling whole) (sym same) (record {
-      front = o.front;
+    subst (TokenEncoding whole) (sym same) (record {
+      prefix = o.prefix;
       rest = o.rest ++ p.1.rest;
-      joined = p.1.joined ∙ ap (λ (l : List ℕ). l ++ p.1.rest) o.joined ∙ append_assoc o.front o.rest p.1.rest;
+      joined = p.1.joined ∙ ap (λ (l : List ℕ). l ++ p.1.rest) o.joined ∙ append_assoc o.prefix o.rest p.1.rest;
       first = o.first;
       second = record {
-        front = o.rest;
+        prefix = o.rest;
         rest = p.1.rest;
         joined = refl;
         first = o.second.1;
         second = record {
-          front = at.front;
+          prefix = at.prefix;
           rest = at.rest;
           joined = at.joined;
           first = at.first;
-          second = record { front = word.front; rest = word.rest; joined = word.joined; first = word.first; second = word.second.1 };
+          second = record { prefix = word.prefix; rest = word.rest; joined = word.joined; first = word.first; second = word.second.1 };
         };
       };
     })
@@ -194,27 +194,27 @@ token_to whole t small p =
     named_is : (x : ℕ × (List ℕ × ℕ)) (position : ℕ) (named pair : List ℕ × ℕ) → x ≡ (position, named) → named ≡ pair → x ≡ (position, pair)
     named_is x position named pair p q = p ∙ ap (λ z. (position, z)) q
 
-token_from : (whole : List ℕ) (t : Token) → TokenSpelling whole t → TokenParts whole t
+token_from : (whole : List ℕ) (t : Token) → TokenEncoding whole t → TokenParts whole t
 token_from whole t h =
     let s = h.second in
     let at = s.second in
     let word = at.second in (
       (t.offset_from, t.offset_to),
       record {
-        front = h.front ++ s.front;
+        prefix = h.prefix ++ s.prefix;
         rest = s.rest;
-        joined = h.joined ∙ ap (λ (l : List ℕ). h.front ++ l) s.joined ∙ sym (append_assoc h.front s.front s.rest);
-        first = (t.offset_from, record { front = h.front; rest = s.front; joined = refl; first = h.first; second = (t.offset_to, s.first, refl) });
+        joined = h.joined ∙ ap (λ (l : List ℕ). h.prefix ++ l) s.joined ∙ sym (append_assoc h.prefix s.prefix s.rest);
+        first = (t.offset_from, record { prefix = h.prefix; rest = s.prefix; joined = refl; first = h.first; second = (t.offset_to, s.first, refl) });
         second = (
           (t.position, (t.text, t.position_length)),
           (
             t.position,
             record {
-              front = at.front;
+              prefix = at.prefix;
               rest = at.rest;
               joined = at.joined;
               first = at.first;
-              second = ((t.text, t.position_length), (t.text, record { front = word.front; rest = word.rest; joined = word.joined; first = word.first; second = (t.position_length, word.second, refl) }), refl);
+              second = ((t.text, t.position_length), (t.text, record { prefix = word.prefix; rest = word.rest; joined = word.joined; first = word.first; second = (t.position_length, word.second, refl) }), refl);
             },
           ),
           refl,
@@ -222,37 +222,37 @@ token_from whole t h =
       },
     )
 
-token_faults : (whole : List ℕ) (c : Cause) → AllBytes whole → InThen OffsetsFault Offsets (λ _. PlacedFault) whole c → TokenFault whole c
-token_faults whole c small p = elim p [
+token_errors : (whole : List ℕ) (c : Cause) → AllBytes whole → InThen ErrorInOffsets Offsets (λ _. ErrorInPlaced) whole c → ErrorInToken whole c
+token_errors whole c small p = elim p [
   | inl q ↦ elim q [
     | inl h ↦ inl h
-    | inr h ↦ inr (h.0, record { front = h.1.front; rest = h.1.rest; joined = h.1.joined; first = h.1.first; second = inl h.1.second })
+    | inr h ↦ inr (h.0, record { prefix = h.1.prefix; rest = h.1.rest; joined = h.1.joined; first = h.1.first; second = inl h.1.second })
   ]
   | inr q ↦
       let o = q.1.first.1 in
       inr (
         q.1.first.0,
         record {
-          front = o.front;
+          prefix = o.prefix;
           rest = o.rest ++ q.1.rest;
-          joined = q.1.joined ∙ ap (λ (l : List ℕ). l ++ q.1.rest) o.joined ∙ append_assoc o.front o.rest q.1.rest;
+          joined = q.1.joined ∙ ap (λ (l : List ℕ). l ++ q.1.rest) o.joined ∙ append_assoc o.prefix o.rest q.1.rest;
           first = o.first;
-          second = inr (o.second.0, record { front = o.rest; rest = q.1.rest; joined = refl; first = o.second.1; second = q.1.second });
+          second = inr (o.second.0, record { prefix = o.rest; rest = q.1.rest; joined = refl; first = o.second.1; second = q.1.second });
         },
       )
 ]
 
-token_agrees : Agrees UnexpectedEnd token_at TokenSpelling TokenFault
+token_agrees : Agrees UnexpectedEnd token_at TokenEncoding ErrorInToken
 unfolding token_at
-token_agrees = agrees_too (λ whole. refl) token_to token_from token_faults
+token_agrees = agrees_too (λ whole. refl) token_to token_from token_errors
     (in_turn {b = λ offsets whole. placed_at whole >>= make (λ placed. token_with offsets placed)} offsets_agree (λ offsets. made (λ placed. token_with offsets placed) placed_agree))
 
 -- ---- texts with their tokens
 
 abbrev CountedTokens : List ℕ → List Token → Type 0
-CountedTokens = InTurn VNum (λ n whole ts. (length ts ≡ n) × Each TokenSpelling whole ts)
+CountedTokens = InTurn VNum (λ n whole ts. (length ts ≡ n) × Each TokenEncoding whole ts)
 
-counted_agree : Agrees UnexpectedEnd counted_tokens_at CountedTokens (InThen NumberFault VNum (InEach TokenFault TokenSpelling))
+counted_agree : Agrees UnexpectedEnd counted_tokens_at CountedTokens (InThen ErrorInNumber VNum (InEach ErrorInToken TokenEncoding))
 unfolding counted_tokens_at
 counted_agree = in_turn {b = tokens_at} vint_agrees (each_agrees token_agrees)
 
@@ -261,11 +261,11 @@ tokenized_to whole pair small p =
     let q = p.1.second in
     let counted = q.1.1 in
     subst (TokenizedPair whole) (sym q.2) (record {
-      front = p.1.front;
+      prefix = p.1.prefix;
       rest = p.1.rest;
       joined = p.1.joined;
       first = p.1.first;
-      second = record { front = counted.front; rest = counted.rest; joined = counted.joined; first = subst (VNum counted.front) (sym counted.second.0) counted.first; second = counted.second.1 };
+      second = record { prefix = counted.prefix; rest = counted.rest; joined = counted.joined; first = subst (VNum counted.prefix) (sym counted.second.0) counted.first; second = counted.second.1 };
     })
 
 tokenized_from : (whole : List ℕ) (pair : List ℕ × List Token) → TokenizedPair whole pair → InTurn Text (λ content b x. (ts : List Token) × CountedTokens b ts × (x ≡ (content, ts))) whole pair
@@ -273,26 +273,26 @@ tokenized_from whole pair h =
     let counted = h.second in (
       pair.0,
       record {
-        front = h.front;
+        prefix = h.prefix;
         rest = h.rest;
         joined = h.joined;
         first = h.first;
-        second = (pair.1, (length pair.1, record { front = counted.front; rest = counted.rest; joined = counted.joined; first = counted.first; second = (refl, counted.second) }), refl);
+        second = (pair.1, (length pair.1, record { prefix = counted.prefix; rest = counted.rest; joined = counted.joined; first = counted.first; second = (refl, counted.second) }), refl);
       },
     )
 
-pub tokenized_agrees : Agrees UnexpectedEnd tokenized_at TokenizedPair TokenizedFault
+pub tokenized_agrees : Agrees UnexpectedEnd tokenized_at TokenizedPair ErrorInTokenized
 unfolding tokenized_at
 tokenized_agrees = agrees_too (λ whole. refl) tokenized_to tokenized_from (λ whole c small h. h)
     (in_turn {b = λ content whole. counted_tokens_at whole >>= make (λ ts. (content, ts))} text_agrees (λ content. made (λ ts. (content, ts)) counted_agree))
 
 -- ---- leaves
 
-pub number_agrees : (v : Version) (t : LeafType) → Agrees UnexpectedEnd (number_at v t) (Scaled (scale v t)) (λ whole c. ScaledFault (scale v t) whole c)
+pub number_agrees : (v : Version) (t : LeafType) → Agrees UnexpectedEnd (number_at v t) (Scaled (scale v t)) (λ whole c. ErrorInScaled (scale v t) whole c)
 number_agrees v leaves.Date = date_agrees v
 number_agrees v _ = i64_agrees
 
-held_agrees : (v : Version) (t : LeafType) (f : Form) → Agrees UnexpectedEnd (content_at v t f) (Held v t f) (HeldFault v t f)
+held_agrees : (v : Version) (t : LeafType) (f : Form) → Agrees UnexpectedEnd (content_at v t f) (Held v t f) (ErrorInHeld v t f)
 held_agrees v t forms.Nothing = nothing_read UnexpectedEnd (leaf (leaf_holding t no_content))
 held_agrees v t forms.Truth = made (λ x. leaf (leaf_holding t (truth_content x))) truth_agrees
 held_agrees v t forms.Unsigned = made (λ x. leaf (leaf_holding t (unsigned_content x))) u64_agrees
@@ -302,10 +302,10 @@ held_agrees v t forms.Text = made (λ x. leaf (leaf_holding t (text_content x)))
 held_agrees v t forms.Bytes = made (λ x. leaf (leaf_holding t (bytes_content x))) sized_agrees
 held_agrees v t forms.Tokens = made (λ x. leaf (leaf_holding t (tokens_content x.0 x.1))) tokenized_agrees
 
-type_agrees : (v : Version) (o : Option LeafType) → Agrees UnexpectedEnd (leaf_of_type v o) (LeafOfType v o) (LeafOfTypeFault v o)
+type_agrees : (v : Version) (o : Option LeafType) → Agrees UnexpectedEnd (leaf_of_type v o) (LeafOfType v o) (ErrorInLeafOfType v o)
 type_agrees v (Some t) = held_agrees v t (form t)
 type_agrees v None = nothing_stands LegacyJson (λ e. cc)
 
-pub leaf_agrees : (v : Version) (kind : ValueType) → Agrees UnexpectedEnd (leaf_at v kind) (LeafOf v kind) (LeafOfFault v kind)
+pub leaf_agrees : (v : Version) (kind : ValueType) → Agrees UnexpectedEnd (leaf_at v kind) (LeafOf v kind) (ErrorInLeafOf v kind)
 unfolding leaf_at
 leaf_agrees v kind = type_agrees v (leaf_type kind)

@@ -2,21 +2,21 @@
 use Rattle.std.proofs.Common.{◌≡◌, ◌≢◌, ℕ, true, false, List, [], ◌∷◌, ◌++◌, Option, Some, None, Result, Ok, refl, sym, subst, ◌∙◌, arith}
 use Rattle.tv_base.specs.declared.cause.Cause.{Cause}
 use Rattle.tv_base.specs.declared.cause.Cause.TheVariants.{UnexpectedEnd}
-use Rattle.tv_base.specs.Source.{AllBytes, Faults}
+use Rattle.tv_base.specs.Source.{AllBytes, Failures}
 use Rattle.tv_base.specs.Take as reads
 use Rattle.tv_base.proofs.Agrees.{same_start}
 use Rattle.tv_legacy.specs.Legacy.{Legacy}
-use Rattle.tv_value.specs.Fault.{Refusal, corrupted, no_text_key, no_extension, other_extension, in_tokenized, BodyFault, CodedKeyFault, key_ends, key_unknown, key_float, key_other, key_no_extension, key_tokenized, key_other_extension, value_ends, unknown_code, float_code, in_leaf, in_legacy, in_count, in_element, in_entry_count, odd_count, in_entry_key, in_entry, in_key}
+use Rattle.tv_value.specs.InputError.{Refusal, corrupted, no_text_key, no_extension, other_extension, in_tokenized, ErrorInBody, ErrorInCodedKey, key_ends, key_unknown, key_float, key_other, key_no_extension, key_tokenized, key_other_extension, value_ends, unknown_code, float_code, in_leaf, in_legacy, in_count, in_element, in_entry_count, odd_count, in_entry_key, in_entry, in_key}
 use Rattle.tv_value.specs.Leaves.{store_code}
-use Rattle.tv_value.specs.Spelling.{Spells}
+use Rattle.tv_value.specs.Encoding.{Encodes}
 use Rattle.tv_value.specs.Tree.{Tree}
 use Rattle.tv_value.specs.Version.{Version}
 use Rattle.tv_reader.specs.Finds.{Finds}
 use Rattle.tv_reader.specs.Kinds.{kind_at}
-use Rattle.tv_reader.specs.LeafBodies.{LeafOf, LeafOfFault}
+use Rattle.tv_reader.specs.LeafBodies.{LeafOf, ErrorInLeafOf}
 use Rattle.tv_reader.specs.Leaves.{is_leaf_type}
 use Rattle.tv_reader.specs.Trees.{NoValue}
-use Rattle.tv_reader.specs.ValueType.{leaf_type, type_code, coded, CodeFault, no_code, unknown_type, float_type, no_extension_code, unknown_extension}
+use Rattle.tv_reader.specs.ValueType.{leaf_type, type_code, coded, ErrorInCode, no_code, unknown_type, float_type, no_extension_code, unknown_extension}
 use Rattle.tv_reader.specs.declared.error.DeserializeError.{DeserializeError}
 use Rattle.tv_reader.specs.declared.value_type.ValueType.{ValueType}
 use Rattle.tv_reader.specs.declared.value_type.ValueType.TheVariants as types
@@ -36,9 +36,9 @@ kind_edge end Q none seven types.PreTokStr start byte last = subst (λ l. Q l en
 kind_edge end Q none seven kind start byte last = subst (λ l. Q l end) (sym (same_start start [] byte (type_code kind) (sym last))) none
 
 -- the type was taken, and then what stands behind it
-pub finds_behind : {S Y : Type 0} {tells : S → Type 0} {left : S → List ℕ} {faults : S → Faults} {old mid new : S} {i j k : ℕ} {kind : ValueType} {result : Result Y DeserializeError} (B : List ℕ → Y → Type 0) (Q : List ℕ → Refusal → Type 0)
-    → ((source : S) → tells source → AllBytes (left source)) → Q [] end → Q (7 ∷ []) end → reads.TakesBy tells left faults old i mid j (λ x. x) (Ok kind) kind_at
-    → Finds tells left faults mid j new k result (λ b y. B (coded kind ++ b) y) (λ w r. Q (coded kind ++ w) r) → Finds tells left faults old i new k result B Q
+pub finds_behind : {S Y : Type 0} {is_known : S → Type 0} {left : S → List ℕ} {failures : S → Failures} {old mid new : S} {i j k : ℕ} {kind : ValueType} {result : Result Y DeserializeError} (B : List ℕ → Y → Type 0) (Q : List ℕ → Refusal → Type 0)
+    → ((source : S) → is_known source → AllBytes (left source)) → Q [] end → Q (7 ∷ []) end → reads.TakesBy is_known left failures old i mid j (λ x. x) (Ok kind) kind_at
+    → Finds is_known left failures mid j new k result (λ b y. B (coded kind ++ b) y) (λ w r. Q (coded kind ++ w) r) → Finds is_known left failures old i new k result B Q
 finds_behind {kind = kind} B Q are_bytes none seven part h =
     finds_then B Q
     (λ a b y is p. subst (λ l. B (l ++ b) y) (sym is) p)
@@ -46,18 +46,18 @@ finds_behind {kind = kind} B Q are_bytes none seven part h =
     (λ a f is _ _ start byte last. kind_edge end Q none seven kind start byte (sym is ∙ last))
     (finds_part are_bytes kind_agrees part) h
 
--- what a leaf of a type holds is at fault
-pub held_fault : {v : Version} {w : List ℕ} {c : Cause} (t : LeafType) → BodyFault v t w c → NoValue v (store_code t ∷ w) (corrupted c)
-held_fault t h = in_leaf (record { of_type = t; coded = refl; fault = h })
+-- what a leaf of a type holds is malformed
+pub held_error : {v : Version} {w : List ℕ} {c : Cause} (t : LeafType) → ErrorInBody v t w c → NoValue v (store_code t ∷ w) (corrupted c)
+held_error t h = in_leaf (record { of_type = t; coded = refl; error = h })
 
-pub code_value : (v : Version) (w : List ℕ) (c : Cause) → CodeFault w c → NoValue v w (corrupted c)
+pub code_value : (v : Version) (w : List ℕ) (c : Cause) → ErrorInCode w c → NoValue v w (corrupted c)
 code_value v _ _ no_code = value_ends
 code_value v _ _ (unknown_type h) = unknown_code h
 code_value v _ _ float_type = float_code
-code_value v _ _ no_extension_code = held_fault leaves.PreTokStr (no_extension refl)
-code_value v _ _ (unknown_extension {rest = rest} h) = held_fault leaves.PreTokStr (other_extension rest refl h)
+code_value v _ _ no_extension_code = held_error leaves.PreTokStr (no_extension refl)
+code_value v _ _ (unknown_extension {rest = rest} h) = held_error leaves.PreTokStr (other_extension rest refl h)
 
-pub code_key : (w : List ℕ) (c : Cause) → CodeFault w c → CodedKeyFault w (corrupted c)
+pub code_key : (w : List ℕ) (c : Cause) → ErrorInCode w c → ErrorInCodedKey w (corrupted c)
 code_key _ _ no_code = key_ends
 code_key _ _ (unknown_type h) = key_unknown h
 code_key _ _ float_type = key_float
@@ -65,20 +65,20 @@ code_key _ _ no_extension_code = key_no_extension
 code_key _ _ (unknown_extension h) = key_other_extension h
 
 -- a value of another type in a key's place
-pub other_key : (kind : ValueType) (rest : List ℕ) → kind ≢ types.String → CodedKeyFault (coded kind ++ rest) (no_text_key (type_code kind))
+pub other_key : (kind : ValueType) (rest : List ℕ) → kind ≢ types.String → ErrorInCodedKey (coded kind ++ rest) (no_text_key (type_code kind))
 other_key types.String rest ne = absurd (ne refl)
 other_key types.PreTokStr rest ne = key_tokenized
 other_key _ rest ne = key_other (omega arith) (omega arith) (λ e. omega (arith, e)) (λ e. omega (arith, e))
 
 -- ---- leaves
 
-pub leaf_spelled : (v : Version) (kind : ValueType) (a : List ℕ) (t : Tree) → LeafOf v kind a t → Spells Legacy v (coded kind ++ a) t
-leaf_spelled v types.PreTokStr a t p = subst (Spells Legacy v (7 ∷ 0 ∷ a)) (sym p.2) (record { body = 0 ∷ a; joined = refl; spelled = record { body = a; joined = refl; spelled = p.1 } })
-leaf_spelled v types.JSONObject a t p = absurd p
-leaf_spelled v types.Null a t p = subst (Spells Legacy v (11 ∷ a)) (sym p.1) (record { body = a; joined = refl; spelled = p.0 })
-leaf_spelled v types.Array a t p = absurd p
-leaf_spelled v types.Object a t p = absurd p
-leaf_spelled v kind a t p = subst (Spells Legacy v (coded kind ++ a)) (sym p.2) (record { body = a; joined = refl; spelled = p.1 })
+pub leaf_encoded : (v : Version) (kind : ValueType) (a : List ℕ) (t : Tree) → LeafOf v kind a t → Encodes Legacy v (coded kind ++ a) t
+leaf_encoded v types.PreTokStr a t p = subst (Encodes Legacy v (7 ∷ 0 ∷ a)) (sym p.2) (record { body = 0 ∷ a; joined = refl; encoded = record { body = a; joined = refl; encoded = p.1 } })
+leaf_encoded v types.JSONObject a t p = absurd p
+leaf_encoded v types.Null a t p = subst (Encodes Legacy v (11 ∷ a)) (sym p.1) (record { body = a; joined = refl; encoded = p.0 })
+leaf_encoded v types.Array a t p = absurd p
+leaf_encoded v types.Object a t p = absurd p
+leaf_encoded v kind a t p = subst (Encodes Legacy v (coded kind ++ a)) (sym p.2) (record { body = a; joined = refl; encoded = p.1 })
 
 impossible : false ≡ true → ⊥
 impossible e = absurd cc
@@ -87,12 +87,12 @@ abbrev pub type_or_text : Option LeafType → LeafType
 type_or_text (Some t) = t
 type_or_text None = leaves.Str
 
-pub leaf_refused : (v : Version) (kind : ValueType) → is_leaf_type kind ≡ true → (w : List ℕ) (c : Cause) → LeafOfFault v kind w c → NoValue v (coded kind ++ w) (corrupted c)
-leaf_refused v types.PreTokStr is w c h = held_fault leaves.PreTokStr (in_tokenized w refl h)
+pub leaf_refused : (v : Version) (kind : ValueType) → is_leaf_type kind ≡ true → (w : List ℕ) (c : Cause) → ErrorInLeafOf v kind w c → NoValue v (coded kind ++ w) (corrupted c)
+leaf_refused v types.PreTokStr is w c h = held_error leaves.PreTokStr (in_tokenized w refl h)
 leaf_refused v types.JSONObject is w c h = absurd (impossible is)
 leaf_refused v types.Array is w c h = absurd (impossible is)
 leaf_refused v types.Object is w c h = absurd (impossible is)
-leaf_refused v kind is w c h = held_fault (type_or_text (leaf_type kind)) h
+leaf_refused v kind is w c h = held_error (type_or_text (leaf_type kind)) h
 
 -- all types but those of three
 pub is_leaf : (kind : ValueType) → kind ≢ types.Array → kind ≢ types.Object → kind ≢ types.JSONObject → is_leaf_type kind ≡ true
@@ -106,7 +106,7 @@ is_leaf _ a b c = refl
 no_cons : {b : ℕ} {rest : List ℕ} → b ∷ rest ≡ [] → ⊥
 no_cons e = absurd cc
 
--- where there are no bytes, their end is the fault
+-- where there are no bytes, their end is the error
 pub value_ended : {v : Version} {w : List ℕ} {r : Refusal} → w ≡ [] → NoValue v w r → r ≡ end
 value_ended e value_ends = refl
 value_ended e (unknown_code h) = absurd (no_cons e)
@@ -114,13 +114,13 @@ value_ended e float_code = absurd (no_cons e)
 value_ended e (in_leaf h) = absurd (no_cons e)
 value_ended e (in_legacy h) = absurd (no_cons e)
 value_ended e (in_count h) = absurd (no_cons e)
-value_ended e (in_element n ts count front rest joined number spelled fewer h) = absurd (no_cons e)
+value_ended e (in_element n ts count prefix rest joined number encoded fewer h) = absurd (no_cons e)
 value_ended e (in_entry_count h) = absurd (no_cons e)
 value_ended e (odd_count n count rest joined number none) = absurd (no_cons e)
-value_ended e (in_entry_key n es count front rest joined number spelled fewer h) = absurd (no_cons e)
-value_ended e (in_entry n es k count front key rest joined number spelled fewer keyed h) = absurd (no_cons e)
+value_ended e (in_entry_key n es count prefix rest joined number encoded fewer h) = absurd (no_cons e)
+value_ended e (in_entry n es k count prefix key rest joined number encoded fewer keyed h) = absurd (no_cons e)
 
-pub key_ended : {w : List ℕ} {r : Refusal} → w ≡ [] → CodedKeyFault w r → r ≡ end
+pub key_ended : {w : List ℕ} {r : Refusal} → w ≡ [] → ErrorInCodedKey w r → r ≡ end
 key_ended e key_ends = refl
 key_ended e (key_unknown h) = absurd (no_cons e)
 key_ended e key_float = absurd (no_cons e)

@@ -7,20 +7,20 @@ use Rattle.tv_base.specs.declared.read_error.ReadError.{ReadError}
 use Rattle.tv_base.specs.declared.read_error.ReadError.TheVariants as reads
 use Rattle.tv_base.specs.Parts.{Begins}
 use Rattle.tv_base.specs.ReadsAs.{Shows}
-use Rattle.tv_base.specs.Source.{Faults, AllBytes}
+use Rattle.tv_base.specs.Source.{Failures, AllBytes}
 use Rattle.tv_base.specs.Stop.{Stop, Stops, CountsStop, Counts}
-use Rattle.tv_base.specs.Stop.Stop.{Fault, Failed, Short, Never}
+use Rattle.tv_base.specs.Stop.Stop.{InputError, Failed, Short, Never}
 use Rattle.tv_base.specs.Take.{TakesBy, read_stop}
 use Rattle.tv_base.proofs.Agrees.{Agrees, empty, ends_in, ends, same_start, no_last}
 use Rattle.tv_base.proofs.ByGrammar.{shows_by}
 use Rattle.tv_base.proofs.TakeSteps.{Taken_none, Taken_then, CountsStop-from}
-use Rattle.tv_value.specs.Fault.{Refusal, corrupted}
+use Rattle.tv_value.specs.InputError.{Refusal, corrupted}
 use Rattle.tv_reader.specs.Error.{read_error, store_stop}
 use Rattle.tv_reader.specs.Error as store
 use Rattle.tv_reader.specs.declared.error.DeserializeError.{DeserializeError}
-use Rattle.tv_reader.specs.Finds.{Refuses, TellsStop, Found, FindsBy, Finds}
+use Rattle.tv_reader.specs.Finds.{Refuses, GivesStop, Found, FindsBy, Finds}
 
--- ---- bytes that show a fault
+-- ---- bytes that show an error
 
 pub shows_map : {F G : Type 0} {end : F} (to : F → G) → ((f : F) → to f ≡ to end → f ≡ end) → {P : List ℕ → F → Type 0} {Q : List ℕ → G → Type 0} (old new : List ℕ) (f : F)
     → ((w : List ℕ) (c : F) → P w c → Q w (to c)) → Shows end P old new f → Shows (to end) Q old new (to f)
@@ -29,43 +29,43 @@ shows_map {end = end} to apart old new f map s = record {
   joined = s.joined;
   shown = map s.taken f s.shown;
   all = λ e. s.all (apart f e);
-  early = λ other front byte last. map front end (s.early (λ e. other (ap to e)) front byte last);
+  early = λ other prefix byte last. map prefix end (s.early (λ e. other (ap to e)) prefix byte last);
 }
 
--- behind a front, of which the bytes without the last are at their end where nothing behind it was taken
-pub shows_behind : {F : Type 0} {end : F} {P Q : List ℕ → F → Type 0} (front old mid new : List ℕ) (f : F) → old ≡ front ++ mid
-    → ((w : List ℕ) (c : F) → P w c → Q (front ++ w) c) → (f ≢ end → P [] f → (start : List ℕ) (byte : ℕ) → front ≡ start ++ byte ∷ [] → Q start end)
+-- behind a prefix, of which the bytes without the last are at their end where nothing behind it was taken
+pub shows_behind : {F : Type 0} {end : F} {P Q : List ℕ → F → Type 0} (prefix old mid new : List ℕ) (f : F) → old ≡ prefix ++ mid
+    → ((w : List ℕ) (c : F) → P w c → Q (prefix ++ w) c) → (f ≢ end → P [] f → (start : List ℕ) (byte : ℕ) → prefix ≡ start ++ byte ∷ [] → Q start end)
     → Shows end P mid new f → Shows end Q old new f
-shows_behind {end = end} {P = P} {Q = Q} front old mid new f joined behind edge s = record {
-  taken = front ++ s.taken;
-  joined = joined ∙ ap (λ (l : List ℕ). front ++ l) s.joined ∙ sym (append_assoc front s.taken new);
+shows_behind {end = end} {P = P} {Q = Q} prefix old mid new f joined behind edge s = record {
+  taken = prefix ++ s.taken;
+  joined = joined ∙ ap (λ (l : List ℕ). prefix ++ l) s.joined ∙ sym (append_assoc prefix s.taken new);
   shown = behind s.taken f s.shown;
   all = s.all;
   early = λ other start byte last. elim (ends s.taken) [
     | empty none ↦
-        let whole : front ≡ start ++ byte ∷ [] = sym (append-nil front) ∙ ap (λ (l : List ℕ). front ++ l) (sym none) ∙ last in
+        let whole : prefix ≡ start ++ byte ∷ [] = sym (append-nil prefix) ∙ ap (λ (l : List ℕ). prefix ++ l) (sym none) ∙ last in
         edge other (subst (λ l. P l f) none s.shown) start byte whole
     | ends_in before y is ↦
-        let cut : start ≡ front ++ before = same_start start (front ++ before) byte y (sym last ∙ ap (λ (l : List ℕ). front ++ l) is ∙ sym (append_assoc front before (y ∷ []))) in
+        let cut : start ≡ prefix ++ before = same_start start (prefix ++ before) byte y (sym last ∙ ap (λ (l : List ℕ). prefix ++ l) is ∙ sym (append_assoc prefix before (y ∷ []))) in
         subst (λ l. Q l end) (sym cut) (behind before end (s.early other before y is))
   ];
 }
 
-refuses_behind : {F : Type 0} {end : F} {P Q : List ℕ → F → Type 0} (front old mid new : List ℕ) (f : F) → old ≡ front ++ mid
-    → ((w : List ℕ) (c : F) → P w c → Q (front ++ w) c) → (f ≢ end → P [] f → (start : List ℕ) (byte : ℕ) → front ≡ start ++ byte ∷ [] → Q start end)
+refuses_behind : {F : Type 0} {end : F} {P Q : List ℕ → F → Type 0} (prefix old mid new : List ℕ) (f : F) → old ≡ prefix ++ mid
+    → ((w : List ℕ) (c : F) → P w c → Q (prefix ++ w) c) → (f ≢ end → P [] f → (start : List ℕ) (byte : ℕ) → prefix ≡ start ++ byte ∷ [] → Q start end)
     → Refuses end P mid new f → Refuses end Q old new f
-refuses_behind {Q = Q} front old mid new f joined behind edge r =
-    record { stands = subst (λ l. Q l f) (sym joined) (behind mid f r.stands); shows = shows_behind front old mid new f joined behind edge r.shows }
+refuses_behind {Q = Q} prefix old mid new f joined behind edge r =
+    record { stands = subst (λ l. Q l f) (sym joined) (behind mid f r.stands); shows = shows_behind prefix old mid new f joined behind edge r.shows }
 
-stop_behind : {F : Type 0} (end : F) (P Q : List ℕ → F → Type 0) (s : Stop F) (front old mid new : List ℕ) (count : ℕ) → old ≡ front ++ mid
-    → ((w : List ℕ) (c : F) → P w c → Q (front ++ w) c) → ((f : F) → f ≢ end → P [] f → (start : List ℕ) (byte : ℕ) → front ≡ start ++ byte ∷ [] → Q start end)
-    → TellsStop end P mid new count s → TellsStop end Q old new count s
-stop_behind end P Q (Fault f) front old mid new count joined behind edge h = λ few. refuses_behind front old mid new f joined behind (edge f) (h few)
-stop_behind end P Q (Failed kind) front old mid new count joined behind edge h = tt
-stop_behind end P Q Short front old mid new count joined behind edge h = tt
-stop_behind end P Q Never front old mid new count joined behind edge h = h
+stop_behind : {F : Type 0} (end : F) (P Q : List ℕ → F → Type 0) (s : Stop F) (prefix old mid new : List ℕ) (count : ℕ) → old ≡ prefix ++ mid
+    → ((w : List ℕ) (c : F) → P w c → Q (prefix ++ w) c) → ((f : F) → f ≢ end → P [] f → (start : List ℕ) (byte : ℕ) → prefix ≡ start ++ byte ∷ [] → Q start end)
+    → GivesStop end P mid new count s → GivesStop end Q old new count s
+stop_behind end P Q (InputError f) prefix old mid new count joined behind edge h = λ few. refuses_behind prefix old mid new f joined behind (edge f) (h few)
+stop_behind end P Q (Failed kind) prefix old mid new count joined behind edge h = tt
+stop_behind end P Q Short prefix old mid new count joined behind edge h = tt
+stop_behind end P Q Never prefix old mid new count joined behind edge h = h
 
-counts_from : {E F X : Type 0} (stop : E → Stop F) (result : Result X E) (old mid new : Faults) → mid ≡ old → Counts stop result mid new → Counts stop result old new
+counts_from : {E F X : Type 0} (stop : E → Stop F) (result : Result X E) (old mid new : Failures) → mid ≡ old → Counts stop result mid new → Counts stop result old new
 counts_from stop (Ok x) old mid new same h = h ∙ same
 counts_from stop (Err e) old mid new same h = CountsStop-from (stop e) old mid new same h
 
@@ -76,91 +76,91 @@ pub found_behind : {E F X Y : Type 0} (stop : E → Stop F) (end : F) (R : List 
     → ((a : List ℕ) (f : F) → R a x → f ≢ end → P [] f → (start : List ℕ) (byte : ℕ) → a ≡ start ++ byte ∷ [] → Q start end)
     → Begins (λ b. R b x) old mid → Found stop end A P mid new count result → Found stop end B Q old new count result
 found_behind stop end R P Q A B x (Ok y) old mid new count join behind edge p h = record {
-  front = p.front ++ h.front;
-  joined = p.joined ∙ ap (λ (l : List ℕ). p.front ++ l) h.joined ∙ sym (append_assoc p.front h.front new);
-  spelled = join p.front h.front y p.spelled h.spelled;
+  prefix = p.prefix ++ h.prefix;
+  joined = p.joined ∙ ap (λ (l : List ℕ). p.prefix ++ l) h.joined ∙ sym (append_assoc p.prefix h.prefix new);
+  encoded = join p.prefix h.prefix y p.encoded h.encoded;
 }
 found_behind stop end R P Q A B x (Err e) old mid new count join behind edge p h =
-    stop_behind end P Q (stop e) p.front old mid new count p.joined (λ w c q. behind p.front w c p.spelled q) (λ f. edge p.front f p.spelled) h
+    stop_behind end P Q (stop e) p.prefix old mid new count p.joined (λ w c q. behind p.prefix w c p.encoded q) (λ f. edge p.prefix f p.encoded) h
 
 -- a first part was read, and then the reader went on
-pub finds_then : {S E F X Y : Type 0} {stop : E → Stop F} {end : F} {tells : S → Type 0} {left : S → List ℕ} {faults : S → Faults} {old mid new : S} {i j k : ℕ} {x : X} {result : Result Y E}
+pub finds_then : {S E F X Y : Type 0} {stop : E → Stop F} {end : F} {is_known : S → Type 0} {left : S → List ℕ} {failures : S → Failures} {old mid new : S} {i j k : ℕ} {x : X} {result : Result Y E}
     {R : List ℕ → X → Type 0} {I : List ℕ → F → Type 0} {A : List ℕ → Y → Type 0} {P : List ℕ → F → Type 0} (B : List ℕ → Y → Type 0) (Q : List ℕ → F → Type 0)
     → ((a b : List ℕ) (y : Y) → R a x → A b y → B (a ++ b) y) → ((a w : List ℕ) (c : F) → R a x → P w c → Q (a ++ w) c)
     → ((a : List ℕ) (f : F) → R a x → f ≢ end → P [] f → (start : List ℕ) (byte : ℕ) → a ≡ start ++ byte ∷ [] → Q start end)
-    → FindsBy stop end tells left faults old i mid j (Ok x) R I → FindsBy stop end tells left faults mid j new k result A P → FindsBy stop end tells left faults old i new k result B Q
-finds_then {stop = stop} {end = end} {left = left} {faults = faults} {old = old} {mid = mid} {new = new} {k = k} {x = x} {result = result} {R = R} {A = A} {P = P} B Q join behind edge p h = record {
-  found = λ t. found_behind stop end R P Q A B x result (left old) (left mid) (left new) k join behind edge (p.found t) (h.found (p.still_tells t));
-  taken = λ t. Taken_then (p.taken t) (h.taken (p.still_tells t));
-  still_tells = λ t. h.still_tells (p.still_tells t);
-  counts = counts_from stop result (faults old) (faults mid) (faults new) p.counts h.counts;
+    → FindsBy stop end is_known left failures old i mid j (Ok x) R I → FindsBy stop end is_known left failures mid j new k result A P → FindsBy stop end is_known left failures old i new k result B Q
+finds_then {stop = stop} {end = end} {left = left} {failures = failures} {old = old} {mid = mid} {new = new} {k = k} {x = x} {result = result} {R = R} {A = A} {P = P} B Q join behind edge p h = record {
+  found = λ t. found_behind stop end R P Q A B x result (left old) (left mid) (left new) k join behind edge (p.found t) (h.found (p.stays_known t));
+  taken = λ t. Taken_then (p.taken t) (h.taken (p.stays_known t));
+  stays_known = λ t. h.stays_known (p.stays_known t);
+  counts = counts_from stop result (failures old) (failures mid) (failures new) p.counts h.counts;
   rises = omega (arith, p.rises, h.rises);
 }
 
 -- the same of what is read, in other words
-pub finds_as : {S E F X Y : Type 0} {stop : E → Stop F} {end : F} {tells : S → Type 0} {left : S → List ℕ} {faults : S → Faults} {old new : S} {i k : ℕ} {x : X} {R : List ℕ → X → Type 0} {I : List ℕ → F → Type 0} (y : Y) (B : List ℕ → Y → Type 0) (Q : List ℕ → F → Type 0)
-    → ((a : List ℕ) → R a x → B a y) → FindsBy stop end tells left faults old i new k (Ok x) R I → FindsBy stop end tells left faults old i new k (Ok y) B Q
+pub finds_as : {S E F X Y : Type 0} {stop : E → Stop F} {end : F} {is_known : S → Type 0} {left : S → List ℕ} {failures : S → Failures} {old new : S} {i k : ℕ} {x : X} {R : List ℕ → X → Type 0} {I : List ℕ → F → Type 0} (y : Y) (B : List ℕ → Y → Type 0) (Q : List ℕ → F → Type 0)
+    → ((a : List ℕ) → R a x → B a y) → FindsBy stop end is_known left failures old i new k (Ok x) R I → FindsBy stop end is_known left failures old i new k (Ok y) B Q
 finds_as y B Q map p = record {
-  found = λ t. let h = p.found t in record { front = h.front; joined = h.joined; spelled = map h.front h.spelled };
+  found = λ t. let h = p.found t in record { prefix = h.prefix; joined = h.joined; encoded = map h.prefix h.encoded };
   taken = p.taken;
-  still_tells = p.still_tells;
+  stays_known = p.stays_known;
   counts = p.counts;
   rises = p.rises;
 }
 
-pub stop_map : {F : Type 0} (end : F) (P Q : List ℕ → F → Type 0) (s : Stop F) (old new : List ℕ) (count : ℕ) → ((w : List ℕ) (c : F) → P w c → Q w c) → TellsStop end P old new count s → TellsStop end Q old new count s
-stop_map end P Q (Fault f) old new count map h = λ few. record { stands = map old f (h few).stands; shows = shows_map (λ c. c) (λ f e. e) old new f map (h few).shows }
+pub stop_map : {F : Type 0} (end : F) (P Q : List ℕ → F → Type 0) (s : Stop F) (old new : List ℕ) (count : ℕ) → ((w : List ℕ) (c : F) → P w c → Q w c) → GivesStop end P old new count s → GivesStop end Q old new count s
+stop_map end P Q (InputError f) old new count map h = λ few. record { stands = map old f (h few).stands; shows = shows_map (λ c. c) (λ f e. e) old new f map (h few).shows }
 stop_map end P Q (Failed kind) old new count map h = tt
 stop_map end P Q Short old new count map h = tt
 stop_map end P Q Never old new count map h = h
 
 -- a refusal of a part is one of the whole
-pub finds_fails : {S E F X Y : Type 0} {stop : E → Stop F} {end : F} {tells : S → Type 0} {left : S → List ℕ} {faults : S → Faults} {old new : S} {i k : ℕ} {e : E} {R : List ℕ → X → Type 0} {P : List ℕ → F → Type 0} (B : List ℕ → Y → Type 0) (Q : List ℕ → F → Type 0)
-    → ((w : List ℕ) (c : F) → P w c → Q w c) → FindsBy stop end tells left faults old i new k (Err e) R P → FindsBy stop end tells left faults old i new k (Err e) B Q
+pub finds_fails : {S E F X Y : Type 0} {stop : E → Stop F} {end : F} {is_known : S → Type 0} {left : S → List ℕ} {failures : S → Failures} {old new : S} {i k : ℕ} {e : E} {R : List ℕ → X → Type 0} {P : List ℕ → F → Type 0} (B : List ℕ → Y → Type 0) (Q : List ℕ → F → Type 0)
+    → ((w : List ℕ) (c : F) → P w c → Q w c) → FindsBy stop end is_known left failures old i new k (Err e) R P → FindsBy stop end is_known left failures old i new k (Err e) B Q
 finds_fails {stop = stop} {end = end} {left = left} {old = old} {new = new} {k = k} {e = e} {P = P} B Q map p = record {
   found = λ t. stop_map end P Q (stop e) (left old) (left new) k map (p.found t);
   taken = p.taken;
-  still_tells = p.still_tells;
+  stays_known = p.stays_known;
   counts = p.counts;
   rises = p.rises;
 }
 
 -- what was read can't be kept
-pub finds_short : {S E F X Y : Type 0} {stop : E → Stop F} {end : F} {tells : S → Type 0} {left : S → List ℕ} {faults : S → Faults} {old new : S} {i k : ℕ} {x : X} {R : List ℕ → X → Type 0} {I : List ℕ → F → Type 0} (e : E) (B : List ℕ → Y → Type 0) (Q : List ℕ → F → Type 0)
-    → stop e ≡ Short → FindsBy stop end tells left faults old i new k (Ok x) R I → FindsBy stop end tells left faults old i new k (Err e) B Q
-finds_short {end = end} {left = left} {faults = faults} {old = old} {new = new} {k = k} e B Q is p = record {
-  found = λ t. subst (TellsStop end Q (left old) (left new) k) (sym is) tt;
+pub finds_short : {S E F X Y : Type 0} {stop : E → Stop F} {end : F} {is_known : S → Type 0} {left : S → List ℕ} {failures : S → Failures} {old new : S} {i k : ℕ} {x : X} {R : List ℕ → X → Type 0} {I : List ℕ → F → Type 0} (e : E) (B : List ℕ → Y → Type 0) (Q : List ℕ → F → Type 0)
+    → stop e ≡ Short → FindsBy stop end is_known left failures old i new k (Ok x) R I → FindsBy stop end is_known left failures old i new k (Err e) B Q
+finds_short {end = end} {left = left} {failures = failures} {old = old} {new = new} {k = k} e B Q is p = record {
+  found = λ t. subst (GivesStop end Q (left old) (left new) k) (sym is) tt;
   taken = p.taken;
-  still_tells = p.still_tells;
-  counts = subst (λ s. CountsStop s (faults old) (faults new)) (sym is) p.counts;
+  stays_known = p.stays_known;
+  counts = subst (λ s. CountsStop s (failures old) (failures new)) (sym is) p.counts;
   rises = p.rises;
 }
 
 -- two parts were read, and can't be kept
-pub finds_short_then : {S F E X Y Z : Type 0} {stop : E → Stop F} {end : F} {tells : S → Type 0} {left : S → List ℕ} {faults : S → Faults} {old mid new : S} {i j k : ℕ} {x : X} {y : Y} {R : List ℕ → X → Type 0} {I : List ℕ → F → Type 0} {A : List ℕ → Y → Type 0} {P : List ℕ → F → Type 0}
+pub finds_short_then : {S F E X Y Z : Type 0} {stop : E → Stop F} {end : F} {is_known : S → Type 0} {left : S → List ℕ} {failures : S → Failures} {old mid new : S} {i j k : ℕ} {x : X} {y : Y} {R : List ℕ → X → Type 0} {I : List ℕ → F → Type 0} {A : List ℕ → Y → Type 0} {P : List ℕ → F → Type 0}
     (e : E) (B : List ℕ → Z → Type 0) (Q : List ℕ → F → Type 0)
-    → stop e ≡ Short → FindsBy stop end tells left faults old i mid j (Ok x) R I → FindsBy stop end tells left faults mid j new k (Ok y) A P → FindsBy stop end tells left faults old i new k (Err e) B Q
+    → stop e ≡ Short → FindsBy stop end is_known left failures old i mid j (Ok x) R I → FindsBy stop end is_known left failures mid j new k (Ok y) A P → FindsBy stop end is_known left failures old i new k (Err e) B Q
 finds_short_then e B Q is p h = finds_short e B Q is (finds_then (λ b y. Unit {0}) (λ w r. Unit {0}) (λ a b y r s. tt) (λ a w c r f. tt) (λ a f r _ _ start byte last. tt) p h)
 
 -- nothing was read yet
-pub finds_nothing : {S E F X : Type 0} (stop : E → Stop F) (end : F) (tells : S → Type 0) (left : S → List ℕ) (faults : S → Faults) (p : S) (i : ℕ) (x : X) (R : List ℕ → X → Type 0) (Q : List ℕ → F → Type 0)
-    → R [] x → FindsBy stop end tells left faults p i p i (Ok x) R Q
-finds_nothing stop end tells left faults p i x R Q r = record {
-  found = λ t. record { front = []; joined = refl; spelled = r };
+pub finds_nothing : {S E F X : Type 0} (stop : E → Stop F) (end : F) (is_known : S → Type 0) (left : S → List ℕ) (failures : S → Failures) (p : S) (i : ℕ) (x : X) (R : List ℕ → X → Type 0) (Q : List ℕ → F → Type 0)
+    → R [] x → FindsBy stop end is_known left failures p i p i (Ok x) R Q
+finds_nothing stop end is_known left failures p i x R Q r = record {
+  found = λ t. record { prefix = []; joined = refl; encoded = r };
   taken = λ t. Taken_none (left p) i;
-  still_tells = λ t. t;
+  stays_known = λ t. t;
   counts = refl;
   rises = omega arith;
 }
 
 -- a refusal that takes no byte
-pub finds_refused : {S E F X : Type 0} (stop : E → Stop F) (end : F) (tells : S → Type 0) (left : S → List ℕ) (faults : S → Faults) (p : S) (i : ℕ) (e : E) (f : F) (R : List ℕ → X → Type 0) (Q : List ℕ → F → Type 0)
-    → stop e ≡ Fault f → f ≢ end → ((w : List ℕ) → Q w f) → FindsBy stop end tells left faults p i p i (Err e) R Q
-finds_refused stop end tells left faults p i e f R Q is other q = record {
-  found = λ t. subst (TellsStop end Q (left p) (left p) i) (sym is) (λ few. record { stands = q (left p); shows = record { taken = []; joined = refl; shown = q []; all = λ same. absurd (other same); early = λ _ start byte last. absurd (no_last start byte last) } });
+pub finds_refused : {S E F X : Type 0} (stop : E → Stop F) (end : F) (is_known : S → Type 0) (left : S → List ℕ) (failures : S → Failures) (p : S) (i : ℕ) (e : E) (f : F) (R : List ℕ → X → Type 0) (Q : List ℕ → F → Type 0)
+    → stop e ≡ InputError f → f ≢ end → ((w : List ℕ) → Q w f) → FindsBy stop end is_known left failures p i p i (Err e) R Q
+finds_refused stop end is_known left failures p i e f R Q is other q = record {
+  found = λ t. subst (GivesStop end Q (left p) (left p) i) (sym is) (λ few. record { stands = q (left p); shows = record { taken = []; joined = refl; shown = q []; all = λ same. absurd (other same); early = λ _ start byte last. absurd (no_last start byte last) } });
   taken = λ t. Taken_none (left p) i;
-  still_tells = λ t. t;
-  counts = subst (λ s. CountsStop s (faults p) (faults p)) (sym is) refl;
+  stays_known = λ t. t;
+  counts = subst (λ s. CountsStop s (failures p) (failures p)) (sym is) refl;
   rises = omega arith;
 }
 
@@ -169,68 +169,68 @@ finds_refused stop end tells left faults p i e f R Q is other q = record {
 same_cause : (c : Cause) → corrupted c ≡ corrupted UnexpectedEnd → c ≡ UnexpectedEnd
 same_cause c e = cc
 
-part_found : {X Y : Type 0} (view : X → Y) {reading : List ℕ → Result (Y × List ℕ) (Cause × List ℕ)} {Spells : List ℕ → Y → Type 0} {IsFault : List ℕ → Cause → Type 0}
-    → Agrees UnexpectedEnd reading Spells IsFault → (x : X) (old new : List ℕ) → AllBytes old → reading old ≡ Ok (view x, new) → Begins (λ b. Spells b (view x)) old new
-part_found view agrees x old new small e = let p = agrees.sound old (view x, new) small e in record { front = p.0; joined = p.2; spelled = p.1 }
+part_found : {X Y : Type 0} (view : X → Y) {reading : List ℕ → Result (Y × List ℕ) (Cause × List ℕ)} {Encodes : List ℕ → Y → Type 0} {HasError : List ℕ → Cause → Type 0}
+    → Agrees UnexpectedEnd reading Encodes HasError → (x : X) (old new : List ℕ) → AllBytes old → reading old ≡ Ok (view x, new) → Begins (λ b. Encodes b (view x)) old new
+part_found view agrees x old new small e = let p = agrees.sound old (view x, new) small e in record { prefix = p.0; joined = p.2; encoded = p.1 }
 
 -- a part was read
-pub finds_part : {S X Y : Type 0} {tells : S → Type 0} {left : S → List ℕ} {faults : S → Faults} {old new : S} {i k : ℕ} {view : X → Y} {x : X} {reading : List ℕ → Result (Y × List ℕ) (Cause × List ℕ)} {Spells : List ℕ → Y → Type 0} {IsFault : List ℕ → Cause → Type 0}
-    → ((source : S) → tells source → AllBytes (left source)) → Agrees UnexpectedEnd reading Spells IsFault → TakesBy tells left faults old i new k view (Ok x) reading
-    → Finds tells left faults old i new k (Ok x) (λ b x. Spells b (view x)) (λ w f. ⊥)
+pub finds_part : {S X Y : Type 0} {is_known : S → Type 0} {left : S → List ℕ} {failures : S → Failures} {old new : S} {i k : ℕ} {view : X → Y} {x : X} {reading : List ℕ → Result (Y × List ℕ) (Cause × List ℕ)} {Encodes : List ℕ → Y → Type 0} {HasError : List ℕ → Cause → Type 0}
+    → ((source : S) → is_known source → AllBytes (left source)) → Agrees UnexpectedEnd reading Encodes HasError → TakesBy is_known left failures old i new k view (Ok x) reading
+    → Finds is_known left failures old i new k (Ok x) (λ b x. Encodes b (view x)) (λ w f. ⊥)
 finds_part {left = left} {old = old} {new = new} {view = view} {x = x} are_bytes agrees h = record {
   found = λ t. part_found view agrees x (left old) (left new) (are_bytes old t) (h.gives t);
   taken = h.taken;
-  still_tells = h.still_tells;
+  stays_known = h.stays_known;
   counts = h.counts;
   rises = h.rises;
 }
 
-part_shown : {Y : Type 0} {reading : List ℕ → Result (Y × List ℕ) (Cause × List ℕ)} {Spells : List ℕ → Y → Type 0} {IsFault : List ℕ → Cause → Type 0} (e : ReadError) (Q : List ℕ → Refusal → Type 0)
-    → Agrees UnexpectedEnd reading Spells IsFault → ((w : List ℕ) (c : Cause) → IsFault w c → Q w (corrupted c)) → (old new : List ℕ) (count : ℕ) → AllBytes old → Stops (read_stop e) (reading old) new count
-    → TellsStop (corrupted UnexpectedEnd) Q old new count (store_stop (read_error e))
+part_shown : {Y : Type 0} {reading : List ℕ → Result (Y × List ℕ) (Cause × List ℕ)} {Encodes : List ℕ → Y → Type 0} {HasError : List ℕ → Cause → Type 0} (e : ReadError) (Q : List ℕ → Refusal → Type 0)
+    → Agrees UnexpectedEnd reading Encodes HasError → ((w : List ℕ) (c : Cause) → HasError w c → Q w (corrupted c)) → (old new : List ℕ) (count : ℕ) → AllBytes old → Stops (read_stop e) (reading old) new count
+    → GivesStop (corrupted UnexpectedEnd) Q old new count (store_stop (read_error e))
 part_shown (reads.Corrupted c) Q agrees map old new count small h = λ few. record { stands = map old c (agrees.refused old c new small (h few)); shows = shows_map corrupted same_cause old new c map (shows_by agrees old new c small (h few)) }
 part_shown (reads.Io kind) Q agrees map old new count small h = tt
 part_shown reads.Memory Q agrees map old new count small h = tt
 
-raised_counts : (e : ReadError) (old new : Faults) → CountsStop (read_stop e) old new → CountsStop (store_stop (read_error e)) old new
+raised_counts : (e : ReadError) (old new : Failures) → CountsStop (read_stop e) old new → CountsStop (store_stop (read_error e)) old new
 raised_counts (reads.Corrupted c) old new h = h
 raised_counts (reads.Io kind) old new h = h
 raised_counts reads.Memory old new h = h
 
 -- a part was refused
-pub finds_part_fails : {S X Y Z : Type 0} {tells : S → Type 0} {left : S → List ℕ} {faults : S → Faults} {old new : S} {i k : ℕ} {view : X → Y} {e : ReadError} {reading : List ℕ → Result (Y × List ℕ) (Cause × List ℕ)} {Spells : List ℕ → Y → Type 0} {IsFault : List ℕ → Cause → Type 0}
-    (B : List ℕ → Z → Type 0) (Q : List ℕ → Refusal → Type 0) → ((source : S) → tells source → AllBytes (left source)) → Agrees UnexpectedEnd reading Spells IsFault → ((w : List ℕ) (c : Cause) → IsFault w c → Q w (corrupted c))
-    → TakesBy tells left faults old i new k view (Err e) reading → Finds tells left faults old i new k (Err (read_error e)) B Q
-finds_part_fails {left = left} {faults = faults} {old = old} {new = new} {k = k} {e = e} B Q are_bytes agrees map h = record {
+pub finds_part_fails : {S X Y Z : Type 0} {is_known : S → Type 0} {left : S → List ℕ} {failures : S → Failures} {old new : S} {i k : ℕ} {view : X → Y} {e : ReadError} {reading : List ℕ → Result (Y × List ℕ) (Cause × List ℕ)} {Encodes : List ℕ → Y → Type 0} {HasError : List ℕ → Cause → Type 0}
+    (B : List ℕ → Z → Type 0) (Q : List ℕ → Refusal → Type 0) → ((source : S) → is_known source → AllBytes (left source)) → Agrees UnexpectedEnd reading Encodes HasError → ((w : List ℕ) (c : Cause) → HasError w c → Q w (corrupted c))
+    → TakesBy is_known left failures old i new k view (Err e) reading → Finds is_known left failures old i new k (Err (read_error e)) B Q
+finds_part_fails {left = left} {failures = failures} {old = old} {new = new} {k = k} {e = e} B Q are_bytes agrees map h = record {
   found = λ t. part_shown e Q agrees map (left old) (left new) k (are_bytes old t) (h.gives t);
   taken = h.taken;
-  still_tells = h.still_tells;
-  counts = raised_counts e (faults old) (faults new) h.counts;
+  stays_known = h.stays_known;
+  counts = raised_counts e (failures old) (failures new) h.counts;
   rises = h.rises;
 }
 
 -- ---- parts of the store's own
 
-read_found : {X Y : Type 0} (view : X → Y) {reading : List ℕ → Result (Y × List ℕ) (Refusal × List ℕ)} {Spells : List ℕ → Y → Type 0} {IsFault : List ℕ → Refusal → Type 0}
-    → Agrees (corrupted UnexpectedEnd) reading Spells IsFault → (x : X) (old new : List ℕ) → AllBytes old → reading old ≡ Ok (view x, new) → Begins (λ b. Spells b (view x)) old new
-read_found view agrees x old new small e = let p = agrees.sound old (view x, new) small e in record { front = p.0; joined = p.2; spelled = p.1 }
+read_found : {X Y : Type 0} (view : X → Y) {reading : List ℕ → Result (Y × List ℕ) (Refusal × List ℕ)} {Encodes : List ℕ → Y → Type 0} {HasError : List ℕ → Refusal → Type 0}
+    → Agrees (corrupted UnexpectedEnd) reading Encodes HasError → (x : X) (old new : List ℕ) → AllBytes old → reading old ≡ Ok (view x, new) → Begins (λ b. Encodes b (view x)) old new
+read_found view agrees x old new small e = let p = agrees.sound old (view x, new) small e in record { prefix = p.0; joined = p.2; encoded = p.1 }
 
 -- a part was read
-pub finds_read : {S X Y : Type 0} {tells : S → Type 0} {left : S → List ℕ} {faults : S → Faults} {old new : S} {i k : ℕ} {view : X → Y} {x : X} {reading : List ℕ → Result (Y × List ℕ) (Refusal × List ℕ)} {Spells : List ℕ → Y → Type 0} {IsFault : List ℕ → Refusal → Type 0}
-    → ((source : S) → tells source → AllBytes (left source)) → Agrees (corrupted UnexpectedEnd) reading Spells IsFault → store.TakesBy tells left faults old i new k view (Ok x) reading
-    → Finds tells left faults old i new k (Ok x) (λ b x. Spells b (view x)) (λ w f. ⊥)
+pub finds_read : {S X Y : Type 0} {is_known : S → Type 0} {left : S → List ℕ} {failures : S → Failures} {old new : S} {i k : ℕ} {view : X → Y} {x : X} {reading : List ℕ → Result (Y × List ℕ) (Refusal × List ℕ)} {Encodes : List ℕ → Y → Type 0} {HasError : List ℕ → Refusal → Type 0}
+    → ((source : S) → is_known source → AllBytes (left source)) → Agrees (corrupted UnexpectedEnd) reading Encodes HasError → store.TakesBy is_known left failures old i new k view (Ok x) reading
+    → Finds is_known left failures old i new k (Ok x) (λ b x. Encodes b (view x)) (λ w f. ⊥)
 finds_read {left = left} {old = old} {new = new} {view = view} {x = x} are_bytes agrees h = record {
   found = λ t. read_found view agrees x (left old) (left new) (are_bytes old t) (h.gives t);
   taken = h.taken;
-  still_tells = h.still_tells;
+  stays_known = h.stays_known;
   counts = h.counts;
   rises = h.rises;
 }
 
-read_shown : {Y : Type 0} {reading : List ℕ → Result (Y × List ℕ) (Refusal × List ℕ)} {Spells : List ℕ → Y → Type 0} {IsFault : List ℕ → Refusal → Type 0} (s : Stop Refusal) (Q : List ℕ → Refusal → Type 0)
-    → Agrees (corrupted UnexpectedEnd) reading Spells IsFault → ((w : List ℕ) (r : Refusal) → IsFault w r → Q w r) → (old new : List ℕ) (count : ℕ) → AllBytes old → Stops s (reading old) new count
-    → TellsStop (corrupted UnexpectedEnd) Q old new count s
-read_shown (Fault f) Q agrees map old new count small h = λ few. record {
+read_shown : {Y : Type 0} {reading : List ℕ → Result (Y × List ℕ) (Refusal × List ℕ)} {Encodes : List ℕ → Y → Type 0} {HasError : List ℕ → Refusal → Type 0} (s : Stop Refusal) (Q : List ℕ → Refusal → Type 0)
+    → Agrees (corrupted UnexpectedEnd) reading Encodes HasError → ((w : List ℕ) (r : Refusal) → HasError w r → Q w r) → (old new : List ℕ) (count : ℕ) → AllBytes old → Stops s (reading old) new count
+    → GivesStop (corrupted UnexpectedEnd) Q old new count s
+read_shown (InputError f) Q agrees map old new count small h = λ few. record {
   stands = map old f (agrees.refused old f new small (h few));
   shows = shows_map (λ c. c) (λ f e. e) old new f map (shows_by agrees old new f small (h few));
 }
@@ -239,13 +239,13 @@ read_shown Short Q agrees map old new count small h = tt
 read_shown Never Q agrees map old new count small h = h
 
 -- a part was refused
-pub finds_read_fails : {S X Y Z : Type 0} {tells : S → Type 0} {left : S → List ℕ} {faults : S → Faults} {old new : S} {i k : ℕ} {view : X → Y} {e : DeserializeError} {reading : List ℕ → Result (Y × List ℕ) (Refusal × List ℕ)} {Spells : List ℕ → Y → Type 0} {IsFault : List ℕ → Refusal → Type 0}
-    (B : List ℕ → Z → Type 0) (Q : List ℕ → Refusal → Type 0) → ((source : S) → tells source → AllBytes (left source)) → Agrees (corrupted UnexpectedEnd) reading Spells IsFault → ((w : List ℕ) (r : Refusal) → IsFault w r → Q w r)
-    → store.TakesBy tells left faults old i new k view (Err e) reading → Finds tells left faults old i new k (Err e) B Q
+pub finds_read_fails : {S X Y Z : Type 0} {is_known : S → Type 0} {left : S → List ℕ} {failures : S → Failures} {old new : S} {i k : ℕ} {view : X → Y} {e : DeserializeError} {reading : List ℕ → Result (Y × List ℕ) (Refusal × List ℕ)} {Encodes : List ℕ → Y → Type 0} {HasError : List ℕ → Refusal → Type 0}
+    (B : List ℕ → Z → Type 0) (Q : List ℕ → Refusal → Type 0) → ((source : S) → is_known source → AllBytes (left source)) → Agrees (corrupted UnexpectedEnd) reading Encodes HasError → ((w : List ℕ) (r : Refusal) → HasError w r → Q w r)
+    → store.TakesBy is_known left failures old i new k view (Err e) reading → Finds is_known left failures old i new k (Err e) B Q
 finds_read_fails {left = left} {old = old} {new = new} {k = k} {e = e} B Q are_bytes agrees map h = record {
   found = λ t. read_shown (store_stop e) Q agrees map (left old) (left new) k (are_bytes old t) (h.gives t);
   taken = h.taken;
-  still_tells = h.still_tells;
+  stays_known = h.stays_known;
   counts = h.counts;
   rises = h.rises;
 }

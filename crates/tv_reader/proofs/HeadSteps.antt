@@ -4,25 +4,25 @@ use Rattle.tv_base.specs.declared.cause.Cause.{Cause}
 use Rattle.tv_base.specs.declared.cause.Cause.TheVariants.{UnexpectedEnd}
 use Rattle.tv_base.specs.declared.read_error.ReadError.{ReadError}
 use Rattle.tv_base.specs.Number.{VNum, Fixed, Truth}
-use Rattle.tv_base.specs.PartFault.{NumberFault, in_sized}
+use Rattle.tv_base.specs.ErrorInPart.{ErrorInNumber, in_sized}
 use Rattle.tv_base.specs.Reading.{vint_at}
-use Rattle.tv_base.specs.Source.{AllBytes, Faults}
+use Rattle.tv_base.specs.Source.{AllBytes, Failures}
 use Rattle.tv_base.specs.Take as reads
 use Rattle.tv_base.proofs.Agrees.{Agrees, made, nothing_read}
 use Rattle.tv_base.proofs.AgreeNumbers.{vint_agrees}
 use Rattle.tv_base.proofs.AgreeTruth.{truth_agrees}
 use Rattle.tv_base.proofs.AgreeWidths.{u64_agrees, u128_agrees}
 use Rattle.tv_value.specs.Content.{no_content, truth_content, unsigned_content, signed_content, wide_content}
-use Rattle.tv_value.specs.Fault.{Refusal, corrupted, no_text_key, ContentFault, no_extension, CodedKeyFault, key_ends, key_no_extension, in_key, value_ends, in_count}
+use Rattle.tv_value.specs.InputError.{Refusal, corrupted, no_text_key, ErrorInContent, no_extension, ErrorInCodedKey, key_ends, key_no_extension, in_key, value_ends, in_count}
 use Rattle.tv_value.specs.Leaves.{form, scale}
 use Rattle.tv_value.specs.Version.{Version, Scaled}
 use Rattle.tv_reader.specs.Error.{read_error, store_stop}
 use Rattle.tv_reader.specs.Finds.{Finds}
 use Rattle.tv_reader.specs.HeadReading.{head_part, form_head_at, type_head_at, head_at}
-use Rattle.tv_reader.specs.Heads.{HeadPart, leaf_head, length_head, array_head, object_head, tokenized_head, legacy_head, SpellsHead, CodedLength}
+use Rattle.tv_reader.specs.Heads.{HeadPart, leaf_head, length_head, array_head, object_head, tokenized_head, legacy_head, EncodesHead, CodedLength}
 use Rattle.tv_reader.specs.Kinds.{kind_at}
 use Rattle.tv_reader.specs.Leaves.{leaf_holding}
-use Rattle.tv_reader.specs.Trees.{NoValue, SpellsTwice, TwiceFault}
+use Rattle.tv_reader.specs.Trees.{NoValue, EncodesTwice, ErrorInTwice}
 use Rattle.tv_reader.specs.ValueType.{leaf_type, type_code, coded}
 use Rattle.tv_reader.specs.Version.{version_of}
 use Rattle.tv_reader.specs.declared.error.DeserializeError.TheVariants as errors
@@ -35,7 +35,7 @@ use Rattle.tv_value.specs.declared.content.Form.TheVariants as forms
 use Rattle.tv_value.specs.declared.leaf.LeafType.{LeafType}
 use Rattle.tv_value.specs.declared.leaf.LeafType.TheVariants as leaves
 use Rattle.tv_reader.proofs.AgreeLeaves.{number_agrees}
-use Rattle.tv_reader.proofs.BehindKinds.{finds_behind, other_key, held_fault, type_or_text}
+use Rattle.tv_reader.proofs.BehindKinds.{finds_behind, other_key, held_error, type_or_text}
 use Rattle.tv_reader.proofs.Finding.{finds_as, finds_part, finds_part_fails, finds_refused}
 use Rattle.tv_reader.proofs.TreeSteps.{half_agrees, twice_refused, total}
 
@@ -61,13 +61,13 @@ FormHead v t forms.Text = HeadOf VNum (length_head t)
 FormHead v t forms.Bytes = HeadOf VNum (length_head t)
 FormHead v t forms.Tokens = Alone tokenized_head
 
-abbrev FormHeadFault : Version → LeafType → Form → List ℕ → Cause → Type 0
-FormHeadFault v t forms.Text = NumberFault
-FormHeadFault v t forms.Bytes = NumberFault
-FormHeadFault v t forms.Tokens = λ whole c. ⊥
-FormHeadFault v t f = ContentFault (scale v t) f
+abbrev ErrorInFormHead : Version → LeafType → Form → List ℕ → Cause → Type 0
+ErrorInFormHead v t forms.Text = ErrorInNumber
+ErrorInFormHead v t forms.Bytes = ErrorInNumber
+ErrorInFormHead v t forms.Tokens = λ whole c. ⊥
+ErrorInFormHead v t f = ErrorInContent (scale v t) f
 
-form_head_agrees : (v : Version) (t : LeafType) (f : Form) → Agrees UnexpectedEnd (form_head_at v t f) (FormHead v t f) (FormHeadFault v t f)
+form_head_agrees : (v : Version) (t : LeafType) (f : Form) → Agrees UnexpectedEnd (form_head_at v t f) (FormHead v t f) (ErrorInFormHead v t f)
 form_head_agrees v t forms.Nothing = nothing_read UnexpectedEnd (leaf_head (leaf_holding t no_content))
 form_head_agrees v t forms.Truth = made (λ x. leaf_head (leaf_holding t (truth_content x))) truth_agrees
 form_head_agrees v t forms.Unsigned = made (λ x. leaf_head (leaf_holding t (unsigned_content x))) u64_agrees
@@ -81,25 +81,25 @@ abbrev TypeHead : Version → Option LeafType → List ℕ → HeadPart → Type
 TypeHead v (Some t) = FormHead v t (form t)
 TypeHead v None = Alone legacy_head
 
-abbrev TypeHeadFault : Version → Option LeafType → List ℕ → Cause → Type 0
-TypeHeadFault v (Some t) = FormHeadFault v t (form t)
-TypeHeadFault v None = λ whole c. ⊥
+abbrev ErrorInTypeHead : Version → Option LeafType → List ℕ → Cause → Type 0
+ErrorInTypeHead v (Some t) = ErrorInFormHead v t (form t)
+ErrorInTypeHead v None = λ whole c. ⊥
 
-type_head_agrees : (v : Version) (o : Option LeafType) → Agrees UnexpectedEnd (type_head_at v o) (TypeHead v o) (TypeHeadFault v o)
+type_head_agrees : (v : Version) (o : Option LeafType) → Agrees UnexpectedEnd (type_head_at v o) (TypeHead v o) (ErrorInTypeHead v o)
 type_head_agrees v (Some t) = form_head_agrees v t (form t)
 type_head_agrees v None = nothing_read UnexpectedEnd legacy_head
 
 abbrev Body : Version → ValueType → List ℕ → HeadPart → Type 0
 Body v types.Array = HeadOf VNum array_head
-Body v types.Object = HeadOf SpellsTwice object_head
+Body v types.Object = HeadOf EncodesTwice object_head
 Body v kind = TypeHead v (leaf_type kind)
 
-abbrev BodyFault : Version → ValueType → List ℕ → Cause → Type 0
-BodyFault v types.Array = NumberFault
-BodyFault v types.Object = TwiceFault
-BodyFault v kind = TypeHeadFault v (leaf_type kind)
+abbrev ErrorInBody : Version → ValueType → List ℕ → Cause → Type 0
+ErrorInBody v types.Array = ErrorInNumber
+ErrorInBody v types.Object = ErrorInTwice
+ErrorInBody v kind = ErrorInTypeHead v (leaf_type kind)
 
-pub head_agrees : (v : Version) (kind : ValueType) → Agrees UnexpectedEnd (head_at v kind) (Body v kind) (BodyFault v kind)
+pub head_agrees : (v : Version) (kind : ValueType) → Agrees UnexpectedEnd (head_at v kind) (Body v kind) (ErrorInBody v kind)
 unfolding head_at
 head_agrees v types.Array = made array_head vint_agrees
 head_agrees v types.Object = made object_head half_agrees
@@ -107,67 +107,67 @@ head_agrees v kind = type_head_agrees v (leaf_type kind)
 
 -- ---- with the code
 
-head_spelled : (version : DocStoreVersion) (kind : ValueType) (a : List ℕ) (h : HeadPart) → Body (version_of version) kind a h → SpellsHead (version_of version) (coded kind ++ a) h
-head_spelled version types.PreTokStr a h p = subst (SpellsHead (version_of version) (7 ∷ 0 ∷ a)) (sym p.1) (ap (λ (l : List ℕ). 7 ∷ 0 ∷ l) p.0)
-head_spelled version types.JSONObject a h p = subst (SpellsHead (version_of version) (8 ∷ a)) (sym p.1) (ap (λ (l : List ℕ). 8 ∷ l) p.0)
-head_spelled version types.Null a h p = subst (SpellsHead (version_of version) (11 ∷ a)) (sym p.1) (tt, record { body = a; joined = refl; spelled = p.0 })
-head_spelled version types.Array a h p = subst (SpellsHead (version_of version) (12 ∷ a)) (sym p.2) (record { body = a; joined = refl; spelled = p.1 })
-head_spelled version types.Object a h p =
-    subst (SpellsHead (version_of version) (13 ∷ a)) (sym p.2) (record { body = a; joined = refl; spelled = subst (λ n. VNum a n) (sym (total version p.0)) p.1 })
-head_spelled version kind a h p = subst (SpellsHead (version_of version) (coded kind ++ a)) (sym p.2) (tt, record { body = a; joined = refl; spelled = p.1 })
+head_encoded : (version : DocStoreVersion) (kind : ValueType) (a : List ℕ) (h : HeadPart) → Body (version_of version) kind a h → EncodesHead (version_of version) (coded kind ++ a) h
+head_encoded version types.PreTokStr a h p = subst (EncodesHead (version_of version) (7 ∷ 0 ∷ a)) (sym p.1) (ap (λ (l : List ℕ). 7 ∷ 0 ∷ l) p.0)
+head_encoded version types.JSONObject a h p = subst (EncodesHead (version_of version) (8 ∷ a)) (sym p.1) (ap (λ (l : List ℕ). 8 ∷ l) p.0)
+head_encoded version types.Null a h p = subst (EncodesHead (version_of version) (11 ∷ a)) (sym p.1) (tt, record { body = a; joined = refl; encoded = p.0 })
+head_encoded version types.Array a h p = subst (EncodesHead (version_of version) (12 ∷ a)) (sym p.2) (record { body = a; joined = refl; encoded = p.1 })
+head_encoded version types.Object a h p =
+    subst (EncodesHead (version_of version) (13 ∷ a)) (sym p.2) (record { body = a; joined = refl; encoded = subst (λ n. VNum a n) (sym (total version p.0)) p.1 })
+head_encoded version kind a h p = subst (EncodesHead (version_of version) (coded kind ++ a)) (sym p.2) (tt, record { body = a; joined = refl; encoded = p.1 })
 
--- a fault in the head of a leaf is one in what it holds
-in_content : (v : Version) (t : LeafType) (f : Form) (w : List ℕ) (c : Cause) → FormHeadFault v t f w c → ContentFault (scale v t) f w c
+-- an error in the head of a leaf is one in what it holds
+in_content : (v : Version) (t : LeafType) (f : Form) (w : List ℕ) (c : Cause) → ErrorInFormHead v t f w c → ErrorInContent (scale v t) f w c
 in_content v t forms.Text w c h = in_sized (inl h)
 in_content v t forms.Bytes w c h = inl h
 in_content v t forms.Tokens w c h = absurd h
 in_content v t _ w c h = h
 
-head_refused : (version : DocStoreVersion) (kind : ValueType) (w : List ℕ) (c : Cause) → BodyFault (version_of version) kind w c → NoValue (version_of version) (coded kind ++ w) (corrupted c)
+head_refused : (version : DocStoreVersion) (kind : ValueType) (w : List ℕ) (c : Cause) → ErrorInBody (version_of version) kind w c → NoValue (version_of version) (coded kind ++ w) (corrupted c)
 head_refused version types.PreTokStr w c h = absurd h
 head_refused version types.JSONObject w c h = absurd h
 head_refused version types.Array w c h = in_count h
 head_refused version types.Object w c h = twice_refused version w c h
-head_refused version kind w c h = let t = type_or_text (leaf_type kind) in held_fault t (in_content (version_of version) t (form t) w c h)
+head_refused version kind w c h = let t = type_or_text (leaf_type kind) in held_error t (in_content (version_of version) t (form t) w c h)
 
 -- ---- heads
 
-abbrev pub HeadSpelled : DocStoreVersion → List ℕ → Head → Type 0
-HeadSpelled version b head = SpellsHead (version_of version) b (head_part head)
+abbrev pub HeadEncoded : DocStoreVersion → List ℕ → Head → Type 0
+HeadEncoded version b head = EncodesHead (version_of version) b (head_part head)
 
-pub head_found : {S : Type 0} {tells : S → Type 0} {left : S → List ℕ} {faults : S → Faults} {old mid new : S} {i j k : ℕ} {kind : ValueType} {head : Head} (version : DocStoreVersion)
-    → ((source : S) → tells source → AllBytes (left source)) → reads.TakesBy tells left faults old i mid j (λ x. x) (Ok kind) kind_at
-    → reads.TakesBy tells left faults mid j new k head_part (Ok head) (head_at (version_of version) kind) → Finds tells left faults old i new k (Ok head) (HeadSpelled version) (NoValue (version_of version))
+pub head_found : {S : Type 0} {is_known : S → Type 0} {left : S → List ℕ} {failures : S → Failures} {old mid new : S} {i j k : ℕ} {kind : ValueType} {head : Head} (version : DocStoreVersion)
+    → ((source : S) → is_known source → AllBytes (left source)) → reads.TakesBy is_known left failures old i mid j (λ x. x) (Ok kind) kind_at
+    → reads.TakesBy is_known left failures mid j new k head_part (Ok head) (head_at (version_of version) kind) → Finds is_known left failures old i new k (Ok head) (HeadEncoded version) (NoValue (version_of version))
 head_found {kind = kind} {head = head} version are_bytes part h =
-    finds_behind (HeadSpelled version) (NoValue (version_of version)) are_bytes value_ends (held_fault leaves.PreTokStr (no_extension refl)) part
-    (finds_as head _ _ (λ a p. head_spelled version kind a (head_part head) p) (finds_part are_bytes (head_agrees (version_of version) kind) h))
+    finds_behind (HeadEncoded version) (NoValue (version_of version)) are_bytes value_ends (held_error leaves.PreTokStr (no_extension refl)) part
+    (finds_as head _ _ (λ a p. head_encoded version kind a (head_part head) p) (finds_part are_bytes (head_agrees (version_of version) kind) h))
 
-pub head_fails : {S : Type 0} {tells : S → Type 0} {left : S → List ℕ} {faults : S → Faults} {old mid new : S} {i j k : ℕ} {kind : ValueType} {e : ReadError} (version : DocStoreVersion)
-    → ((source : S) → tells source → AllBytes (left source)) → reads.TakesBy tells left faults old i mid j (λ x. x) (Ok kind) kind_at
-    → reads.TakesBy {X = Head} tells left faults mid j new k head_part (Err e) (head_at (version_of version) kind) → Finds {X = Head} tells left faults old i new k (Err (read_error e)) (HeadSpelled version) (NoValue (version_of version))
+pub head_fails : {S : Type 0} {is_known : S → Type 0} {left : S → List ℕ} {failures : S → Failures} {old mid new : S} {i j k : ℕ} {kind : ValueType} {e : ReadError} (version : DocStoreVersion)
+    → ((source : S) → is_known source → AllBytes (left source)) → reads.TakesBy is_known left failures old i mid j (λ x. x) (Ok kind) kind_at
+    → reads.TakesBy {X = Head} is_known left failures mid j new k head_part (Err e) (head_at (version_of version) kind) → Finds {X = Head} is_known left failures old i new k (Err (read_error e)) (HeadEncoded version) (NoValue (version_of version))
 head_fails {kind = kind} version are_bytes part h =
-    finds_behind (HeadSpelled version) (NoValue (version_of version)) are_bytes value_ends (held_fault leaves.PreTokStr (no_extension refl)) part
+    finds_behind (HeadEncoded version) (NoValue (version_of version)) are_bytes value_ends (held_error leaves.PreTokStr (no_extension refl)) part
     (finds_part_fails _ _ are_bytes (head_agrees (version_of version) kind) (head_refused version kind) h)
 
 -- ---- heads of keys
 
-pub key_length_found : {S : Type 0} {tells : S → Type 0} {left : S → List ℕ} {faults : S → Faults} {old mid new : S} {i j k n : ℕ} {kind : ValueType}
-    → ((source : S) → tells source → AllBytes (left source)) → kind ≡ types.String → reads.TakesBy tells left faults old i mid j (λ x. x) (Ok kind) kind_at
-    → reads.TakesBy tells left faults mid j new k (λ x. x) (Ok n) vint_at → Finds tells left faults old i new k (Ok n) CodedLength CodedKeyFault
+pub key_length_found : {S : Type 0} {is_known : S → Type 0} {left : S → List ℕ} {failures : S → Failures} {old mid new : S} {i j k n : ℕ} {kind : ValueType}
+    → ((source : S) → is_known source → AllBytes (left source)) → kind ≡ types.String → reads.TakesBy is_known left failures old i mid j (λ x. x) (Ok kind) kind_at
+    → reads.TakesBy is_known left failures mid j new k (λ x. x) (Ok n) vint_at → Finds is_known left failures old i new k (Ok n) CodedLength ErrorInCodedKey
 key_length_found {n = n} are_bytes is part h =
-    finds_behind CodedLength CodedKeyFault are_bytes key_ends key_no_extension part
-    (finds_as n _ _ (λ a t. subst (λ z. CodedLength (coded z ++ a) n) (sym is) (record { body = a; joined = refl; spelled = t })) (finds_part are_bytes vint_agrees h))
+    finds_behind CodedLength ErrorInCodedKey are_bytes key_ends key_no_extension part
+    (finds_as n _ _ (λ a t. subst (λ z. CodedLength (coded z ++ a) n) (sym is) (record { body = a; joined = refl; encoded = t })) (finds_part are_bytes vint_agrees h))
 
-pub key_length_fails : {S : Type 0} {tells : S → Type 0} {left : S → List ℕ} {faults : S → Faults} {old mid new : S} {i j k : ℕ} {kind : ValueType} {e : ReadError}
-    → ((source : S) → tells source → AllBytes (left source)) → kind ≡ types.String → reads.TakesBy tells left faults old i mid j (λ x. x) (Ok kind) kind_at
-    → reads.TakesBy {X = ℕ} tells left faults mid j new k (λ x. x) (Err e) vint_at → Finds {X = ℕ} tells left faults old i new k (Err (read_error e)) CodedLength CodedKeyFault
+pub key_length_fails : {S : Type 0} {is_known : S → Type 0} {left : S → List ℕ} {failures : S → Failures} {old mid new : S} {i j k : ℕ} {kind : ValueType} {e : ReadError}
+    → ((source : S) → is_known source → AllBytes (left source)) → kind ≡ types.String → reads.TakesBy is_known left failures old i mid j (λ x. x) (Ok kind) kind_at
+    → reads.TakesBy {X = ℕ} is_known left failures mid j new k (λ x. x) (Err e) vint_at → Finds {X = ℕ} is_known left failures old i new k (Err (read_error e)) CodedLength ErrorInCodedKey
 key_length_fails are_bytes is part h =
-    finds_behind CodedLength CodedKeyFault are_bytes key_ends key_no_extension part
-    (finds_part_fails _ _ are_bytes vint_agrees (λ w c f. subst (λ z. CodedKeyFault (coded z ++ w) (corrupted c)) (sym is) (in_key (in_sized (inl f)))) h)
+    finds_behind CodedLength ErrorInCodedKey are_bytes key_ends key_no_extension part
+    (finds_part_fails _ _ are_bytes vint_agrees (λ w c f. subst (λ z. ErrorInCodedKey (coded z ++ w) (corrupted c)) (sym is) (in_key (in_sized (inl f)))) h)
 
-pub key_length_refused : {S : Type 0} {tells : S → Type 0} {left : S → List ℕ} {faults : S → Faults} {old mid : S} {i j : ℕ} {kind : ValueType}
-    → ((source : S) → tells source → AllBytes (left source)) → kind ≢ types.String → reads.TakesBy tells left faults old i mid j (λ x. x) (Ok kind) kind_at
-    → Finds tells left faults old i mid j (Err (errors.TypeMismatch types.String kind)) CodedLength CodedKeyFault
-key_length_refused {tells = tells} {left = left} {faults = faults} {mid = mid} {j = j} {kind = kind} are_bytes other part =
-    finds_behind CodedLength CodedKeyFault are_bytes key_ends key_no_extension part
-    (finds_refused store_stop end tells left faults mid j (errors.TypeMismatch types.String kind) (no_text_key (type_code kind)) _ _ refl (λ e. cc) (λ w. other_key kind w other))
+pub key_length_refused : {S : Type 0} {is_known : S → Type 0} {left : S → List ℕ} {failures : S → Failures} {old mid : S} {i j : ℕ} {kind : ValueType}
+    → ((source : S) → is_known source → AllBytes (left source)) → kind ≢ types.String → reads.TakesBy is_known left failures old i mid j (λ x. x) (Ok kind) kind_at
+    → Finds is_known left failures old i mid j (Err (errors.TypeMismatch types.String kind)) CodedLength ErrorInCodedKey
+key_length_refused {is_known = is_known} {left = left} {failures = failures} {mid = mid} {j = j} {kind = kind} are_bytes other part =
+    finds_behind CodedLength ErrorInCodedKey are_bytes key_ends key_no_extension part
+    (finds_refused store_stop end is_known left failures mid j (errors.TypeMismatch types.String kind) (no_text_key (type_code kind)) _ _ refl (λ e. cc) (λ w. other_key kind w other))

@@ -8,9 +8,9 @@ use Rattle.tv_base.specs.declared.cause.Cause.{Cause}
 use Rattle.tv_base.specs.declared.cause.Cause.TheVariants.{UnexpectedEnd, OddObject}
 use Rattle.tv_base.specs.declared.read_error.ReadError.{ReadError}
 use Rattle.tv_base.specs.Number.{VNum}
-use Rattle.tv_base.specs.PartFault.{InThen, NumberFault}
+use Rattle.tv_base.specs.ErrorInPart.{InThen, ErrorInNumber}
 use Rattle.tv_base.specs.Reading.{text_at, vint_at}
-use Rattle.tv_base.specs.Source.{AllBytes, Faults}
+use Rattle.tv_base.specs.Source.{AllBytes, Failures}
 use Rattle.tv_base.specs.Take as reads
 use Rattle.tv_base.proofs.Agrees.{Agrees, InTurn, agrees_too, in_turn, chosen, nothing_read, nothing_stands}
 use Rattle.tv_base.proofs.AgreeNumbers.{vint_agrees}
@@ -19,21 +19,21 @@ use Rattle.tv_base.proofs.EarlyNumbers.{number_early}
 use Rattle.tv_legacy.specs.Legacy.{Legacy}
 use Rattle.tv_legacy.specs.LegacyReading.{legacy_at}
 use Rattle.tv_legacy.proofs.Agrees.{LegacyTree, legacy_agrees}
-use Rattle.tv_value.specs.Fault.{Refusal, corrupted, no_text_key, CodedKeyFault, key_ends, key_no_extension, in_key, KeyFault, value_ends, no_extension, in_legacy, in_count, in_element, in_entry_count, odd_count, in_entry_key, in_entry}
-use Rattle.tv_value.specs.ListFault.{in_next_key, in_next_value}
+use Rattle.tv_value.specs.InputError.{Refusal, corrupted, no_text_key, ErrorInCodedKey, key_ends, key_no_extension, in_key, ErrorInKey, value_ends, no_extension, in_legacy, in_count, in_element, in_entry_count, odd_count, in_entry_key, in_entry}
+use Rattle.tv_value.specs.ErrorInList.{in_next_key, in_next_value}
 use Rattle.tv_value.specs.Lent.{key_and}
 use Rattle.tv_value.specs.Owned.{owned_tree, owned_entries}
-use Rattle.tv_value.specs.Spelling.{Key, Spells, SpellsElements, SpellsEntries}
+use Rattle.tv_value.specs.Encoding.{Key, Encodes, EncodesElements, EncodesEntries}
 use Rattle.tv_value.specs.Tree.{Tree, array, object, elements, element_count, entries, entry_count}
 use Rattle.tv_value.specs.Version.{Version, entry_total}
 use Rattle.tv_value.specs.declared.owned_value.OwnedValue.{OwnedValue, Array, Object, the_lemmas}
-use Rattle.tv_value.proofs.Lists.{elements-length, entries-length, spells_push, entries_push}
+use Rattle.tv_value.proofs.Lists.{elements-length, entries-length, encodes_push, entries_push}
 use Rattle.tv_reader.specs.Counts.{half_of, half_at}
 use Rattle.tv_reader.specs.Error.{read_error, store_stop}
 use Rattle.tv_reader.specs.Finds.{Finds}
 use Rattle.tv_reader.specs.Kinds.{kind_at}
 use Rattle.tv_reader.specs.Leaves.{is_leaf_type, leaf_at}
-use Rattle.tv_reader.specs.Trees.{SpellsValue, NoValue, SpellsBehind, NoneBehind, SpellsItems, NoItems, SpellsMember, NoMember, SpellsMembers, NoMembers, CodedKey, SpellsTwice, TwiceFault, in_number, odd_number}
+use Rattle.tv_reader.specs.Trees.{EncodesValue, NoValue, EncodesBehind, NoneBehind, EncodesItems, NoItems, EncodesMember, NoMember, EncodesMembers, NoMembers, CodedKey, EncodesTwice, ErrorInTwice, in_number, odd_number}
 use Rattle.tv_reader.specs.ValueType.{type_code, coded}
 use Rattle.tv_reader.specs.Version.{version_of}
 use Rattle.tv_reader.specs.declared.error.DeserializeError.{DeserializeError}
@@ -43,7 +43,7 @@ use Rattle.tv_reader.specs.declared.value_type.ValueType.TheVariants as types
 use Rattle.tv_reader.specs.declared.version.DocStoreVersion.{DocStoreVersion}
 use Rattle.tv_reader.specs.declared.version.DocStoreVersion.TheVariants as stores
 use Rattle.tv_reader.proofs.AgreeLeaves.{leaf_agrees}
-use Rattle.tv_reader.proofs.BehindKinds.{finds_behind, other_key, leaf_spelled, leaf_refused, value_ended, key_ended, held_fault}
+use Rattle.tv_reader.proofs.BehindKinds.{finds_behind, other_key, leaf_encoded, leaf_refused, value_ended, key_ended, held_error}
 use Rattle.tv_value.specs.declared.leaf.LeafType.TheVariants as leaves
 use Rattle.tv_reader.proofs.Finding.{finds_then, finds_as, finds_fails, finds_part, finds_part_fails, finds_refused}
 
@@ -52,39 +52,39 @@ end = corrupted UnexpectedEnd
 
 -- ---- keys
 
-pub key_found : {S : Type 0} {tells : S → Type 0} {left : S → List ℕ} {faults : S → Faults} {old mid new : S} {i j k : ℕ} {kind : ValueType} {key : String Global}
-    → ((source : S) → tells source → AllBytes (left source)) → kind ≡ types.String → reads.TakesBy tells left faults old i mid j (λ x. x) (Ok kind) kind_at
-    → reads.TakesBy tells left faults mid j new k (λ s. string_bytes s) (Ok key) text_at → Finds tells left faults old i new k (Ok key) CodedKey CodedKeyFault
+pub key_found : {S : Type 0} {is_known : S → Type 0} {left : S → List ℕ} {failures : S → Failures} {old mid new : S} {i j k : ℕ} {kind : ValueType} {key : String Global}
+    → ((source : S) → is_known source → AllBytes (left source)) → kind ≡ types.String → reads.TakesBy is_known left failures old i mid j (λ x. x) (Ok kind) kind_at
+    → reads.TakesBy is_known left failures mid j new k (λ s. string_bytes s) (Ok key) text_at → Finds is_known left failures old i new k (Ok key) CodedKey ErrorInCodedKey
 key_found {key = key} are_bytes is part text_part =
-    finds_behind CodedKey CodedKeyFault are_bytes key_ends key_no_extension part
-    (finds_as key _ _ (λ a t. subst (λ z. CodedKey (coded z ++ a) key) (sym is) (record { body = a; joined = refl; spelled = t })) (finds_part are_bytes text_agrees text_part))
+    finds_behind CodedKey ErrorInCodedKey are_bytes key_ends key_no_extension part
+    (finds_as key _ _ (λ a t. subst (λ z. CodedKey (coded z ++ a) key) (sym is) (record { body = a; joined = refl; encoded = t })) (finds_part are_bytes text_agrees text_part))
 
-pub key_text_fails : {S : Type 0} {tells : S → Type 0} {left : S → List ℕ} {faults : S → Faults} {old mid new : S} {i j k : ℕ} {kind : ValueType} {e : ReadError}
-    → ((source : S) → tells source → AllBytes (left source)) → kind ≡ types.String → reads.TakesBy tells left faults old i mid j (λ x. x) (Ok kind) kind_at
-    → reads.TakesBy {X = String Global} tells left faults mid j new k (λ s. string_bytes s) (Err e) text_at → Finds {X = String Global} tells left faults old i new k (Err (read_error e)) CodedKey CodedKeyFault
+pub key_text_fails : {S : Type 0} {is_known : S → Type 0} {left : S → List ℕ} {failures : S → Failures} {old mid new : S} {i j k : ℕ} {kind : ValueType} {e : ReadError}
+    → ((source : S) → is_known source → AllBytes (left source)) → kind ≡ types.String → reads.TakesBy is_known left failures old i mid j (λ x. x) (Ok kind) kind_at
+    → reads.TakesBy {X = String Global} is_known left failures mid j new k (λ s. string_bytes s) (Err e) text_at → Finds {X = String Global} is_known left failures old i new k (Err (read_error e)) CodedKey ErrorInCodedKey
 key_text_fails are_bytes is part text_part =
-    finds_behind CodedKey CodedKeyFault are_bytes key_ends key_no_extension part
-    (finds_part_fails _ _ are_bytes text_agrees (λ w c f. subst (λ z. CodedKeyFault (coded z ++ w) (corrupted c)) (sym is) (in_key f)) text_part)
+    finds_behind CodedKey ErrorInCodedKey are_bytes key_ends key_no_extension part
+    (finds_part_fails _ _ are_bytes text_agrees (λ w c f. subst (λ z. ErrorInCodedKey (coded z ++ w) (corrupted c)) (sym is) (in_key f)) text_part)
 
-pub key_refused : {S : Type 0} {tells : S → Type 0} {left : S → List ℕ} {faults : S → Faults} {old mid : S} {i j : ℕ} {kind : ValueType}
-    → ((source : S) → tells source → AllBytes (left source)) → kind ≢ types.String → reads.TakesBy tells left faults old i mid j (λ x. x) (Ok kind) kind_at
-    → Finds tells left faults old i mid j (Err (errors.TypeMismatch types.String kind)) CodedKey CodedKeyFault
-key_refused {tells = tells} {left = left} {faults = faults} {mid = mid} {j = j} {kind = kind} are_bytes other part =
-    finds_behind CodedKey CodedKeyFault are_bytes key_ends key_no_extension part
-    (finds_refused store_stop end tells left faults mid j (errors.TypeMismatch types.String kind) (no_text_key (type_code kind)) _ _ refl (λ e. cc) (λ w. other_key kind w other))
+pub key_refused : {S : Type 0} {is_known : S → Type 0} {left : S → List ℕ} {failures : S → Failures} {old mid : S} {i j : ℕ} {kind : ValueType}
+    → ((source : S) → is_known source → AllBytes (left source)) → kind ≢ types.String → reads.TakesBy is_known left failures old i mid j (λ x. x) (Ok kind) kind_at
+    → Finds is_known left failures old i mid j (Err (errors.TypeMismatch types.String kind)) CodedKey ErrorInCodedKey
+key_refused {is_known = is_known} {left = left} {failures = failures} {mid = mid} {j = j} {kind = kind} are_bytes other part =
+    finds_behind CodedKey ErrorInCodedKey are_bytes key_ends key_no_extension part
+    (finds_refused store_stop end is_known left failures mid j (errors.TypeMismatch types.String kind) (no_text_key (type_code kind)) _ _ refl (λ e. cc) (λ w. other_key kind w other))
 
 -- a key of the versions that are read
 pub key_at : (version : DocStoreVersion) (b : List ℕ) (key : String Global) → CodedKey b key → Key (version_of version) b (string_bytes key)
 key_at stores.V1 b key h = h
 key_at stores.V2 b key h = h
 
-pub key_fault_at : (version : DocStoreVersion) (w : List ℕ) (r : Refusal) → CodedKeyFault w r → KeyFault (version_of version) w r
-key_fault_at stores.V1 w r h = h
-key_fault_at stores.V2 w r h = h
+pub key_error_at : (version : DocStoreVersion) (w : List ℕ) (r : Refusal) → ErrorInCodedKey w r → ErrorInKey (version_of version) w r
+key_error_at stores.V1 w r h = h
+key_error_at stores.V2 w r h = h
 
-pub key_fault_ended : (version : DocStoreVersion) (w : List ℕ) (r : Refusal) → w ≡ [] → KeyFault (version_of version) w r → r ≡ end
-key_fault_ended stores.V1 w r e h = key_ended e h
-key_fault_ended stores.V2 w r e h = key_ended e h
+pub key_error_ended : (version : DocStoreVersion) (w : List ℕ) (r : Refusal) → w ≡ [] → ErrorInKey (version_of version) w r → r ≡ end
+key_error_ended stores.V1 w r e h = key_ended e h
+key_error_ended stores.V2 w r e h = key_ended e h
 
 pub total : (version : DocStoreVersion) (n : ℕ) → entry_total (version_of version) n ≡ 2 * n
 total stores.V1 n = refl
@@ -95,13 +95,13 @@ total stores.V2 n = refl
 abbrev Half : ℕ → List ℕ → ℕ → Type 0
 Half n rest m = ((eqb (n % 2) 0 ≡ true) × ((rest ≡ []) × (m ≡ n / 2))) ⊎ ((eqb (n % 2) 0 ≡ false) × ⊥)
 
-abbrev HalfFault : ℕ → List ℕ → Cause → Type 0
-HalfFault n rest c = ((eqb (n % 2) 0 ≡ true) × ⊥) ⊎ ((eqb (n % 2) 0 ≡ false) × (c ≡ OddObject))
+abbrev ErrorInHalf : ℕ → List ℕ → Cause → Type 0
+ErrorInHalf n rest c = ((eqb (n % 2) 0 ≡ true) × ⊥) ⊎ ((eqb (n % 2) 0 ≡ false) × (c ≡ OddObject))
 
-half_to : (whole : List ℕ) (m : ℕ) → AllBytes whole → InTurn VNum Half whole m → SpellsTwice whole m
+half_to : (whole : List ℕ) (m : ℕ) → AllBytes whole → InTurn VNum Half whole m → EncodesTwice whole m
 half_to whole m small p = elim p.1.second [
   | inl q ↦
-      let all : p.1.front ≡ whole = sym (p.1.joined ∙ ap (λ (l : List ℕ). p.1.front ++ l) q.1.0 ∙ append-nil p.1.front) in
+      let all : p.1.prefix ≡ whole = sym (p.1.joined ∙ ap (λ (l : List ℕ). p.1.prefix ++ l) q.1.0 ∙ append-nil p.1.prefix) in
       let even : p.0 % 2 ≡ 0 = eqb-true (p.0 % 2) 0 q.0 in
       let twice : p.0 ≡ 2 * m = omega (arith, q.1.1, even) in
       subst (λ n. VNum whole n) twice (subst (λ w. VNum w p.0) all p.1.first)
@@ -117,55 +117,55 @@ odd_apart n m e = elim (eqb_tells (n % 2) 0) [ inl p ↦ absurd (impossible (sym
     impossible : true ≡ false → ⊥
     impossible e = absurd cc
 
-half_from : (whole : List ℕ) (m : ℕ) → SpellsTwice whole m → InTurn VNum Half whole m
-half_from whole m h = (2 * m, record { front = whole; rest = []; joined = sym (append-nil whole); first = h; second = inl (even_test m, (refl, omega arith)) })
+half_from : (whole : List ℕ) (m : ℕ) → EncodesTwice whole m → InTurn VNum Half whole m
+half_from whole m h = (2 * m, record { prefix = whole; rest = []; joined = sym (append-nil whole); first = h; second = inl (even_test m, (refl, omega arith)) })
 
-half_faults : (whole : List ℕ) (c : Cause) → AllBytes whole → InThen NumberFault VNum HalfFault whole c → TwiceFault whole c
-half_faults whole c small p = elim p [
+half_errors : (whole : List ℕ) (c : Cause) → AllBytes whole → InThen ErrorInNumber VNum ErrorInHalf whole c → ErrorInTwice whole c
+half_errors whole c small p = elim p [
   | inl h ↦ in_number h
   | inr q ↦ elim q.1.second [
     | inl r ↦ absurd r.1
-    | inr r ↦ subst (TwiceFault whole) (sym r.1) (odd_number q.0 q.1.front q.1.rest q.1.joined q.1.first (λ m. odd_apart q.0 m r.0))
+    | inr r ↦ subst (ErrorInTwice whole) (sym r.1) (odd_number q.0 q.1.prefix q.1.rest q.1.joined q.1.first (λ m. odd_apart q.0 m r.0))
   ]
 ]
 
-pub half_agrees : Agrees UnexpectedEnd half_at SpellsTwice TwiceFault
+pub half_agrees : Agrees UnexpectedEnd half_at EncodesTwice ErrorInTwice
 unfolding half_at
-half_agrees = agrees_too (λ whole. refl) half_to half_from half_faults
+half_agrees = agrees_too (λ whole. refl) half_to half_from half_errors
     (in_turn {b = half_of} vint_agrees (λ n. chosen (eqb (n % 2) 0) (nothing_read UnexpectedEnd (n / 2)) (nothing_stands OddObject (λ e. cc))))
 
 -- ---- leaves
 
-pub leaf_found : {S : Type 0} {tells : S → Type 0} {left : S → List ℕ} {faults : S → Faults} {old new : S} {i k : ℕ} {value : OwnedValue} (v : Version) (kind : ValueType)
-    → ((source : S) → tells source → AllBytes (left source)) → reads.TakesBy tells left faults old i new k owned_tree (Ok value) (leaf_at v kind)
-    → Finds tells left faults old i new k (Ok value) (SpellsBehind v kind) (NoneBehind v kind)
-leaf_found {value = value} v kind are_bytes h = finds_as value _ _ (λ a p. leaf_spelled v kind a (owned_tree value) p) (finds_part are_bytes (leaf_agrees v kind) h)
+pub leaf_found : {S : Type 0} {is_known : S → Type 0} {left : S → List ℕ} {failures : S → Failures} {old new : S} {i k : ℕ} {value : OwnedValue} (v : Version) (kind : ValueType)
+    → ((source : S) → is_known source → AllBytes (left source)) → reads.TakesBy is_known left failures old i new k owned_tree (Ok value) (leaf_at v kind)
+    → Finds is_known left failures old i new k (Ok value) (EncodesBehind v kind) (NoneBehind v kind)
+leaf_found {value = value} v kind are_bytes h = finds_as value _ _ (λ a p. leaf_encoded v kind a (owned_tree value) p) (finds_part are_bytes (leaf_agrees v kind) h)
 
-pub leaf_fails : {S : Type 0} {tells : S → Type 0} {left : S → List ℕ} {faults : S → Faults} {old new : S} {i k : ℕ} {e : ReadError} (v : Version) (kind : ValueType)
-    → ((source : S) → tells source → AllBytes (left source)) → is_leaf_type kind ≡ true → reads.TakesBy tells left faults old i new k owned_tree (Err e) (leaf_at v kind)
-    → Finds tells left faults old i new k (Err (read_error e)) (SpellsBehind v kind) (NoneBehind v kind)
+pub leaf_fails : {S : Type 0} {is_known : S → Type 0} {left : S → List ℕ} {failures : S → Failures} {old new : S} {i k : ℕ} {e : ReadError} (v : Version) (kind : ValueType)
+    → ((source : S) → is_known source → AllBytes (left source)) → is_leaf_type kind ≡ true → reads.TakesBy is_known left failures old i new k owned_tree (Err e) (leaf_at v kind)
+    → Finds is_known left failures old i new k (Err (read_error e)) (EncodesBehind v kind) (NoneBehind v kind)
 leaf_fails v kind are_bytes is h = finds_part_fails _ _ are_bytes (leaf_agrees v kind) (leaf_refused v kind is) h
 
 -- ---- legacy objects
 
-legacy_spelled : (v : Version) (a : List ℕ) (t : Tree) → LegacyTree a t → Spells Legacy v (8 ∷ a) t
-legacy_spelled v a t h = subst (Spells Legacy v (8 ∷ a)) (sym h.is) (inr (record { body = a; joined = refl; spelled = h.spelled }))
+legacy_encoded : (v : Version) (a : List ℕ) (t : Tree) → LegacyTree a t → Encodes Legacy v (8 ∷ a) t
+legacy_encoded v a t h = subst (Encodes Legacy v (8 ∷ a)) (sym h.is) (inr (record { body = a; joined = refl; encoded = h.encoded }))
 
-pub legacy_found : {S : Type 0} {tells : S → Type 0} {left : S → List ℕ} {faults : S → Faults} {old new : S} {i k : ℕ} {value : OwnedValue} (v : Version)
-    → ((source : S) → tells source → AllBytes (left source)) → reads.TakesBy tells left faults old i new k owned_tree (Ok value) legacy_at
-    → Finds tells left faults old i new k (Ok value) (SpellsBehind v types.JSONObject) (NoneBehind v types.JSONObject)
-legacy_found {value = value} v are_bytes h = finds_as value _ _ (λ a p. legacy_spelled v a (owned_tree value) p) (finds_part are_bytes legacy_agrees h)
+pub legacy_found : {S : Type 0} {is_known : S → Type 0} {left : S → List ℕ} {failures : S → Failures} {old new : S} {i k : ℕ} {value : OwnedValue} (v : Version)
+    → ((source : S) → is_known source → AllBytes (left source)) → reads.TakesBy is_known left failures old i new k owned_tree (Ok value) legacy_at
+    → Finds is_known left failures old i new k (Ok value) (EncodesBehind v types.JSONObject) (NoneBehind v types.JSONObject)
+legacy_found {value = value} v are_bytes h = finds_as value _ _ (λ a p. legacy_encoded v a (owned_tree value) p) (finds_part are_bytes legacy_agrees h)
 
-pub legacy_fails : {S : Type 0} {tells : S → Type 0} {left : S → List ℕ} {faults : S → Faults} {old new : S} {i k : ℕ} {e : ReadError} (v : Version)
-    → ((source : S) → tells source → AllBytes (left source)) → reads.TakesBy tells left faults old i new k owned_tree (Err e) legacy_at
-    → Finds tells left faults old i new k (Err (read_error e)) (SpellsBehind v types.JSONObject) (NoneBehind v types.JSONObject)
+pub legacy_fails : {S : Type 0} {is_known : S → Type 0} {left : S → List ℕ} {failures : S → Failures} {old new : S} {i k : ℕ} {e : ReadError} (v : Version)
+    → ((source : S) → is_known source → AllBytes (left source)) → reads.TakesBy is_known left failures old i new k owned_tree (Err e) legacy_at
+    → Finds is_known left failures old i new k (Err (read_error e)) (EncodesBehind v types.JSONObject) (NoneBehind v types.JSONObject)
 legacy_fails v are_bytes h = finds_part_fails _ _ are_bytes legacy_agrees (λ w c f. in_legacy f) h
 
 -- a value, by its type and what stands behind it
-pub value_then : {S : Type 0} {tells : S → Type 0} {left : S → List ℕ} {faults : S → Faults} {old mid new : S} {i j k : ℕ} {kind : ValueType} {result : Result OwnedValue DeserializeError} (v : Version)
-    → ((source : S) → tells source → AllBytes (left source)) → reads.TakesBy tells left faults old i mid j (λ x. x) (Ok kind) kind_at
-    → Finds tells left faults mid j new k result (SpellsBehind v kind) (NoneBehind v kind) → Finds tells left faults old i new k result (SpellsValue v) (NoValue v)
-value_then v are_bytes part h = finds_behind (SpellsValue v) (NoValue v) are_bytes value_ends (held_fault leaves.PreTokStr (no_extension refl)) part h
+pub value_then : {S : Type 0} {is_known : S → Type 0} {left : S → List ℕ} {failures : S → Failures} {old mid new : S} {i j k : ℕ} {kind : ValueType} {result : Result OwnedValue DeserializeError} (v : Version)
+    → ((source : S) → is_known source → AllBytes (left source)) → reads.TakesBy is_known left failures old i mid j (λ x. x) (Ok kind) kind_at
+    → Finds is_known left failures mid j new k result (EncodesBehind v kind) (NoneBehind v kind) → Finds is_known left failures old i new k result (EncodesValue v) (NoValue v)
+value_then v are_bytes part h = finds_behind (EncodesValue v) (NoValue v) are_bytes value_ends (held_error leaves.PreTokStr (no_extension refl)) part h
 
 -- ---- arrays
 
@@ -175,149 +175,149 @@ owned-Array v = search (rules, the_lemmas)
 owned-Object : (v : Vec (String Global × OwnedValue) Global) → owned_tree (Object v) ≡ object (entries (owned_entries v.items))
 owned-Object v = search (rules, the_lemmas)
 
-array_of : (v : Version) (n : ℕ) (a b : List ℕ) (xs : Vec OwnedValue Global) → VNum a n → SpellsItems v n b xs → Spells Legacy v (12 ∷ (a ++ b)) (array (elements (map owned_tree xs.items)))
+array_of : (v : Version) (n : ℕ) (a b : List ℕ) (xs : Vec OwnedValue Global) → VNum a n → EncodesItems v n b xs → Encodes Legacy v (12 ∷ (a ++ b)) (array (elements (map owned_tree xs.items)))
 array_of v n a b xs r s =
     let many : n ≡ element_count (elements (map owned_tree xs.items)) = sym s.many ∙ sym (length-map xs.items owned_tree) ∙ sym (elements-length (map owned_tree xs.items)) in
-    record { body = a ++ b; joined = refl; spelled = record { front = a; rest = b; joined = refl; first = subst (λ m. VNum a m) many r; second = s.spelled } }
+    record { body = a ++ b; joined = refl; encoded = record { prefix = a; rest = b; joined = refl; first = subst (λ m. VNum a m) many r; second = s.encoded } }
 
 array_refused : (v : Version) (n : ℕ) (a w : List ℕ) (r : Refusal) → VNum a n → NoItems v n w r → NoValue v (12 ∷ (a ++ w)) r
-array_refused v n a w r number f = in_element n f.before a f.front f.rest (ap (λ (l : List ℕ). a ++ l) f.joined) number f.spelled f.fewer f.fault
+array_refused v n a w r number f = in_element n f.before a f.prefix f.rest (ap (λ (l : List ℕ). a ++ l) f.joined) number f.encoded f.fewer f.error
 
-pub array_found : {S : Type 0} {tells : S → Type 0} {left : S → List ℕ} {faults : S → Faults} {old mid new : S} {i j k n : ℕ} {items : Vec OwnedValue Global} (v : Version)
-    → ((source : S) → tells source → AllBytes (left source)) → reads.TakesBy tells left faults old i mid j (λ x. x) (Ok n) vint_at
-    → Finds tells left faults mid j new k (Ok items) (SpellsItems v n) (NoItems v n) → Finds tells left faults old i new k (Ok (Array items)) (SpellsBehind v types.Array) (NoneBehind v types.Array)
+pub array_found : {S : Type 0} {is_known : S → Type 0} {left : S → List ℕ} {failures : S → Failures} {old mid new : S} {i j k n : ℕ} {items : Vec OwnedValue Global} (v : Version)
+    → ((source : S) → is_known source → AllBytes (left source)) → reads.TakesBy is_known left failures old i mid j (λ x. x) (Ok n) vint_at
+    → Finds is_known left failures mid j new k (Ok items) (EncodesItems v n) (NoItems v n) → Finds is_known left failures old i new k (Ok (Array items)) (EncodesBehind v types.Array) (NoneBehind v types.Array)
 array_found {n = n} {items = items} v are_bytes part h =
-    finds_as (Array items) _ _ (λ a s. subst (Spells Legacy v (12 ∷ a)) (sym (owned-Array items)) s)
-    (finds_then (λ b xs. Spells Legacy v (12 ∷ b) (array (elements (map owned_tree xs.items)))) (λ w r. NoValue v (12 ∷ w) r)
+    finds_as (Array items) _ _ (λ a s. subst (Encodes Legacy v (12 ∷ a)) (sym (owned-Array items)) s)
+    (finds_then (λ b xs. Encodes Legacy v (12 ∷ b) (array (elements (map owned_tree xs.items)))) (λ w r. NoValue v (12 ∷ w) r)
     (λ a b xs r s. array_of v n a b xs r s) (λ a w c r f. array_refused v n a w c r f) (λ a f r _ _ start byte last. in_count (number_early a n r start byte last))
     (finds_part are_bytes vint_agrees part) h)
 
-pub array_fails : {S : Type 0} {tells : S → Type 0} {left : S → List ℕ} {faults : S → Faults} {old mid new : S} {i j k n : ℕ} {e : DeserializeError} (v : Version)
-    → ((source : S) → tells source → AllBytes (left source)) → reads.TakesBy tells left faults old i mid j (λ x. x) (Ok n) vint_at
-    → Finds {X = Vec OwnedValue Global} tells left faults mid j new k (Err e) (SpellsItems v n) (NoItems v n) → Finds tells left faults old i new k (Err e) (SpellsBehind v types.Array) (NoneBehind v types.Array)
+pub array_fails : {S : Type 0} {is_known : S → Type 0} {left : S → List ℕ} {failures : S → Failures} {old mid new : S} {i j k n : ℕ} {e : DeserializeError} (v : Version)
+    → ((source : S) → is_known source → AllBytes (left source)) → reads.TakesBy is_known left failures old i mid j (λ x. x) (Ok n) vint_at
+    → Finds {X = Vec OwnedValue Global} is_known left failures mid j new k (Err e) (EncodesItems v n) (NoItems v n) → Finds is_known left failures old i new k (Err e) (EncodesBehind v types.Array) (NoneBehind v types.Array)
 array_fails {n = n} v are_bytes part h =
-    finds_then (SpellsBehind v types.Array) (NoneBehind v types.Array)
+    finds_then (EncodesBehind v types.Array) (NoneBehind v types.Array)
     (λ a b y r s. absurd s) (λ a w c r f. array_refused v n a w c r f) (λ a f r _ _ start byte last. in_count (number_early a n r start byte last))
     (finds_part are_bytes vint_agrees part) (finds_fails (λ b y. ⊥) (NoItems v n) (λ w c f. f) h)
 
-pub array_count_fails : {S : Type 0} {tells : S → Type 0} {left : S → List ℕ} {faults : S → Faults} {old new : S} {i k : ℕ} {e : ReadError} (v : Version)
-    → ((source : S) → tells source → AllBytes (left source)) → reads.TakesBy tells left faults old i new k (λ x. x) (Err e) vint_at → Finds tells left faults old i new k (Err (read_error e)) (SpellsBehind v types.Array) (NoneBehind v types.Array)
+pub array_count_fails : {S : Type 0} {is_known : S → Type 0} {left : S → List ℕ} {failures : S → Failures} {old new : S} {i k : ℕ} {e : ReadError} (v : Version)
+    → ((source : S) → is_known source → AllBytes (left source)) → reads.TakesBy is_known left failures old i new k (λ x. x) (Err e) vint_at → Finds is_known left failures old i new k (Err (read_error e)) (EncodesBehind v types.Array) (NoneBehind v types.Array)
 array_count_fails v are_bytes h = finds_part_fails _ _ are_bytes vint_agrees (λ w c f. in_count f) h
 
 -- one element more
-item_more : (v : Version) (n : ℕ) (a b : List ℕ) (items more : Vec OwnedValue Global) (y : OwnedValue) → more.items ≡ items.items ++ y ∷ [] → SpellsItems v n a items → SpellsValue v b y → SpellsItems v (n + 1) (a ++ b) more
+item_more : (v : Version) (n : ℕ) (a b : List ℕ) (items more : Vec OwnedValue Global) (y : OwnedValue) → more.items ≡ items.items ++ y ∷ [] → EncodesItems v n a items → EncodesValue v b y → EncodesItems v (n + 1) (a ++ b) more
 item_more v n a b items more y is p q =
     let trees : map owned_tree more.items ≡ map owned_tree items.items ++ owned_tree y ∷ [] = ap (map owned_tree) is ∙ map_push owned_tree items.items y in
     record {
       many = ap length is ∙ omega (arith, length-append items.items (y ∷ []), p.many);
-      spelled = subst (λ ts. SpellsElements Legacy v (a ++ b) (elements ts)) (sym trees) (spells_push Legacy v (map owned_tree items.items) (owned_tree y) a b p.spelled q);
+      encoded = subst (λ ts. EncodesElements Legacy v (a ++ b) (elements ts)) (sym trees) (encodes_push Legacy v (map owned_tree items.items) (owned_tree y) a b p.encoded q);
     }
 
-item_refused : (v : Version) (m n : ℕ) (a w : List ℕ) (items : Vec OwnedValue Global) (r : Refusal) → m < n → SpellsItems v m a items → NoValue v w r → NoItems v n (a ++ w) r
+item_refused : (v : Version) (m n : ℕ) (a w : List ℕ) (items : Vec OwnedValue Global) (r : Refusal) → m < n → EncodesItems v m a items → NoValue v w r → NoItems v n (a ++ w) r
 item_refused v m n a w items r less p f = record {
   before = elements (map owned_tree items.items);
-  front = a;
+  prefix = a;
   rest = w;
   joined = refl;
-  spelled = p.spelled;
+  encoded = p.encoded;
   fewer = omega (arith, elements-length (map owned_tree items.items), length-map items.items owned_tree, p.many);
-  fault = f;
+  error = f;
 }
 
-pub items_more : {S : Type 0} {tells : S → Type 0} {left : S → List ℕ} {faults : S → Faults} {old mid new : S} {i j k m : ℕ} {items : Vec OwnedValue Global} {y : OwnedValue} (v : Version) (more : Vec OwnedValue Global)
-    → more.items ≡ items.items ++ y ∷ [] → Finds tells left faults old i mid j (Ok items) (SpellsItems v m) (λ w r. ⊥) → Finds tells left faults mid j new k (Ok y) (SpellsValue v) (NoValue v)
-    → Finds tells left faults old i new k (Ok more) (SpellsItems v (m + 1)) (λ w r. ⊥)
+pub items_more : {S : Type 0} {is_known : S → Type 0} {left : S → List ℕ} {failures : S → Failures} {old mid new : S} {i j k m : ℕ} {items : Vec OwnedValue Global} {y : OwnedValue} (v : Version) (more : Vec OwnedValue Global)
+    → more.items ≡ items.items ++ y ∷ [] → Finds is_known left failures old i mid j (Ok items) (EncodesItems v m) (λ w r. ⊥) → Finds is_known left failures mid j new k (Ok y) (EncodesValue v) (NoValue v)
+    → Finds is_known left failures old i new k (Ok more) (EncodesItems v (m + 1)) (λ w r. ⊥)
 items_more {m = m} {items = items} {y = y} v more is p q =
     finds_as more _ _ (λ a s. s refl)
-    (finds_then (λ b z. z ≡ y → SpellsItems v (m + 1) b more) (λ w r. Unit {0})
+    (finds_then (λ b z. z ≡ y → EncodesItems v (m + 1) b more) (λ w r. Unit {0})
     (λ a b z r s e. item_more v m a b items more z (is ∙ ap (λ (u : OwnedValue). items.items ++ u ∷ []) (sym e)) r s) (λ a w c r f. tt) (λ a f r _ _ start byte last. tt) p q)
 
-pub items_fail : {S : Type 0} {tells : S → Type 0} {left : S → List ℕ} {faults : S → Faults} {old mid new : S} {i j k m n : ℕ} {items : Vec OwnedValue Global} {e : DeserializeError} (v : Version)
-    → m < n → Finds tells left faults old i mid j (Ok items) (SpellsItems v m) (λ w r. ⊥) → Finds {X = OwnedValue} tells left faults mid j new k (Err e) (SpellsValue v) (NoValue v)
-    → Finds {X = Vec OwnedValue Global} tells left faults old i new k (Err e) (SpellsItems v n) (NoItems v n)
+pub items_fail : {S : Type 0} {is_known : S → Type 0} {left : S → List ℕ} {failures : S → Failures} {old mid new : S} {i j k m n : ℕ} {items : Vec OwnedValue Global} {e : DeserializeError} (v : Version)
+    → m < n → Finds is_known left failures old i mid j (Ok items) (EncodesItems v m) (λ w r. ⊥) → Finds {X = OwnedValue} is_known left failures mid j new k (Err e) (EncodesValue v) (NoValue v)
+    → Finds {X = Vec OwnedValue Global} is_known left failures old i new k (Err e) (EncodesItems v n) (NoItems v n)
 items_fail {m = m} {n = n} {items = items} v less p q =
-    finds_then (SpellsItems v n) (NoItems v n) (λ a b z r s. absurd s) (λ a w c r f. item_refused v m n a w items c less r f) (λ a f r other nothing start byte last. absurd (other (value_ended refl nothing)))
+    finds_then (EncodesItems v n) (NoItems v n) (λ a b z r s. absurd s) (λ a w c r f. item_refused v m n a w items c less r f) (λ a f r other nothing start byte last. absurd (other (value_ended refl nothing)))
     p (finds_fails (λ b z. ⊥) (NoValue v) (λ w c f. f) q)
 
 -- ---- objects
 
-object_of : (version : DocStoreVersion) (n : ℕ) (a b : List ℕ) (xs : Vec (String Global × OwnedValue) Global) → SpellsTwice a n → SpellsMembers (version_of version) n b xs
-    → Spells Legacy (version_of version) (13 ∷ (a ++ b)) (object (entries (owned_entries xs.items)))
+object_of : (version : DocStoreVersion) (n : ℕ) (a b : List ℕ) (xs : Vec (String Global × OwnedValue) Global) → EncodesTwice a n → EncodesMembers (version_of version) n b xs
+    → Encodes Legacy (version_of version) (13 ∷ (a ++ b)) (object (entries (owned_entries xs.items)))
 object_of version n a b xs r s =
     let v = version_of version in
     let count : length (owned_entries xs.items) ≡ n = length-map (map (λ m. (m.0, owned_tree m.1)) xs.items) key_and ∙ length-map xs.items (λ m. (m.0, owned_tree m.1)) ∙ s.many in
     let many : 2 * n ≡ entry_total v (entry_count (entries (owned_entries xs.items))) = sym (total version n) ∙ ap (entry_total v) (sym (entries-length (owned_entries xs.items) ∙ count)) in
-    inl (record { body = a ++ b; joined = refl; spelled = record { front = a; rest = b; joined = refl; first = subst (λ m. VNum a m) many r; second = s.spelled } })
+    inl (record { body = a ++ b; joined = refl; encoded = record { prefix = a; rest = b; joined = refl; first = subst (λ m. VNum a m) many r; second = s.encoded } })
 
-object_refused : (version : DocStoreVersion) (n : ℕ) (a w : List ℕ) (r : Refusal) → SpellsTwice a n → NoMembers (version_of version) n w r → NoValue (version_of version) (13 ∷ (a ++ w)) r
-object_refused version n a w r number (in_next_key es front rest joined spelled fewer f) =
-    in_entry_key n es a front rest (ap (λ (l : List ℕ). a ++ l) joined) (subst (λ m. VNum a m) (sym (total version n)) number) spelled fewer f
-object_refused version n a w r number (in_next_value es k front key rest joined spelled fewer keyed f) =
-    in_entry n es k a front key rest (ap (λ (l : List ℕ). a ++ l) joined) (subst (λ m. VNum a m) (sym (total version n)) number) spelled fewer keyed f
+object_refused : (version : DocStoreVersion) (n : ℕ) (a w : List ℕ) (r : Refusal) → EncodesTwice a n → NoMembers (version_of version) n w r → NoValue (version_of version) (13 ∷ (a ++ w)) r
+object_refused version n a w r number (in_next_key es prefix rest joined encoded fewer f) =
+    in_entry_key n es a prefix rest (ap (λ (l : List ℕ). a ++ l) joined) (subst (λ m. VNum a m) (sym (total version n)) number) encoded fewer f
+object_refused version n a w r number (in_next_value es k prefix key rest joined encoded fewer keyed f) =
+    in_entry n es k a prefix key rest (ap (λ (l : List ℕ). a ++ l) joined) (subst (λ m. VNum a m) (sym (total version n)) number) encoded fewer keyed f
 
-pub twice_refused : (version : DocStoreVersion) (w : List ℕ) (c : Cause) → TwiceFault w c → NoValue (version_of version) (13 ∷ w) (corrupted c)
+pub twice_refused : (version : DocStoreVersion) (w : List ℕ) (c : Cause) → ErrorInTwice w c → NoValue (version_of version) (13 ∷ w) (corrupted c)
 twice_refused version w c (in_number f) = in_entry_count f
-twice_refused version w _ (odd_number n front rest joined number none) = odd_count n front rest joined number (λ m e. none m (sym (total version m) ∙ e))
+twice_refused version w _ (odd_number n prefix rest joined number none) = odd_count n prefix rest joined number (λ m e. none m (sym (total version m) ∙ e))
 
-pub object_found : {S : Type 0} {tells : S → Type 0} {left : S → List ℕ} {faults : S → Faults} {old mid new : S} {i j k n : ℕ} {members : Vec (String Global × OwnedValue) Global} (version : DocStoreVersion)
-    → ((source : S) → tells source → AllBytes (left source)) → reads.TakesBy tells left faults old i mid j (λ x. x) (Ok n) half_at
-    → Finds tells left faults mid j new k (Ok members) (SpellsMembers (version_of version) n) (NoMembers (version_of version) n)
-    → Finds tells left faults old i new k (Ok (Object members)) (SpellsBehind (version_of version) types.Object) (NoneBehind (version_of version) types.Object)
+pub object_found : {S : Type 0} {is_known : S → Type 0} {left : S → List ℕ} {failures : S → Failures} {old mid new : S} {i j k n : ℕ} {members : Vec (String Global × OwnedValue) Global} (version : DocStoreVersion)
+    → ((source : S) → is_known source → AllBytes (left source)) → reads.TakesBy is_known left failures old i mid j (λ x. x) (Ok n) half_at
+    → Finds is_known left failures mid j new k (Ok members) (EncodesMembers (version_of version) n) (NoMembers (version_of version) n)
+    → Finds is_known left failures old i new k (Ok (Object members)) (EncodesBehind (version_of version) types.Object) (NoneBehind (version_of version) types.Object)
 object_found {n = n} {members = members} version are_bytes part h =
-    finds_as (Object members) _ _ (λ a s. subst (Spells Legacy (version_of version) (13 ∷ a)) (sym (owned-Object members)) s)
-    (finds_then (λ b xs. Spells Legacy (version_of version) (13 ∷ b) (object (entries (owned_entries xs.items)))) (λ w r. NoValue (version_of version) (13 ∷ w) r)
+    finds_as (Object members) _ _ (λ a s. subst (Encodes Legacy (version_of version) (13 ∷ a)) (sym (owned-Object members)) s)
+    (finds_then (λ b xs. Encodes Legacy (version_of version) (13 ∷ b) (object (entries (owned_entries xs.items)))) (λ w r. NoValue (version_of version) (13 ∷ w) r)
     (λ a b xs r s. object_of version n a b xs r s) (λ a w c r f. object_refused version n a w c r f) (λ a f r _ _ start byte last. in_entry_count (number_early a (2 * n) r start byte last))
     (finds_part are_bytes half_agrees part) h)
 
-pub object_fails : {S : Type 0} {tells : S → Type 0} {left : S → List ℕ} {faults : S → Faults} {old mid new : S} {i j k n : ℕ} {e : DeserializeError} (version : DocStoreVersion)
-    → ((source : S) → tells source → AllBytes (left source)) → reads.TakesBy tells left faults old i mid j (λ x. x) (Ok n) half_at
-    → Finds {X = Vec (String Global × OwnedValue) Global} tells left faults mid j new k (Err e) (SpellsMembers (version_of version) n) (NoMembers (version_of version) n)
-    → Finds tells left faults old i new k (Err e) (SpellsBehind (version_of version) types.Object) (NoneBehind (version_of version) types.Object)
+pub object_fails : {S : Type 0} {is_known : S → Type 0} {left : S → List ℕ} {failures : S → Failures} {old mid new : S} {i j k n : ℕ} {e : DeserializeError} (version : DocStoreVersion)
+    → ((source : S) → is_known source → AllBytes (left source)) → reads.TakesBy is_known left failures old i mid j (λ x. x) (Ok n) half_at
+    → Finds {X = Vec (String Global × OwnedValue) Global} is_known left failures mid j new k (Err e) (EncodesMembers (version_of version) n) (NoMembers (version_of version) n)
+    → Finds is_known left failures old i new k (Err e) (EncodesBehind (version_of version) types.Object) (NoneBehind (version_of version) types.Object)
 object_fails {n = n} version are_bytes part h =
-    finds_then (SpellsBehind (version_of version) types.Object) (NoneBehind (version_of version) types.Object)
+    finds_then (EncodesBehind (version_of version) types.Object) (NoneBehind (version_of version) types.Object)
     (λ a b y r s. absurd s) (λ a w c r f. object_refused version n a w c r f) (λ a f r _ _ start byte last. in_entry_count (number_early a (2 * n) r start byte last))
     (finds_part are_bytes half_agrees part) (finds_fails (λ b y. ⊥) (NoMembers (version_of version) n) (λ w c f. f) h)
 
-pub object_count_fails : {S : Type 0} {tells : S → Type 0} {left : S → List ℕ} {faults : S → Faults} {old new : S} {i k : ℕ} {e : ReadError} (version : DocStoreVersion)
-    → ((source : S) → tells source → AllBytes (left source)) → reads.TakesBy tells left faults old i new k (λ x. x) (Err e) half_at
-    → Finds tells left faults old i new k (Err (read_error e)) (SpellsBehind (version_of version) types.Object) (NoneBehind (version_of version) types.Object)
+pub object_count_fails : {S : Type 0} {is_known : S → Type 0} {left : S → List ℕ} {failures : S → Failures} {old new : S} {i k : ℕ} {e : ReadError} (version : DocStoreVersion)
+    → ((source : S) → is_known source → AllBytes (left source)) → reads.TakesBy is_known left failures old i new k (λ x. x) (Err e) half_at
+    → Finds is_known left failures old i new k (Err (read_error e)) (EncodesBehind (version_of version) types.Object) (NoneBehind (version_of version) types.Object)
 object_count_fails version are_bytes h = finds_part_fails _ _ are_bytes half_agrees (twice_refused version) h
 
 -- ---- members
 
-pub member_found : {S : Type 0} {tells : S → Type 0} {left : S → List ℕ} {faults : S → Faults} {old mid new : S} {i j k : ℕ} {key : String Global} {value : OwnedValue} (version : DocStoreVersion)
-    → Finds tells left faults old i mid j (Ok key) CodedKey CodedKeyFault → Finds tells left faults mid j new k (Ok value) (SpellsValue (version_of version)) (NoValue (version_of version))
-    → Finds tells left faults old i new k (Ok (key, value)) (SpellsMember (version_of version)) (NoMember (version_of version))
+pub member_found : {S : Type 0} {is_known : S → Type 0} {left : S → List ℕ} {failures : S → Failures} {old mid new : S} {i j k : ℕ} {key : String Global} {value : OwnedValue} (version : DocStoreVersion)
+    → Finds is_known left failures old i mid j (Ok key) CodedKey ErrorInCodedKey → Finds is_known left failures mid j new k (Ok value) (EncodesValue (version_of version)) (NoValue (version_of version))
+    → Finds is_known left failures old i new k (Ok (key, value)) (EncodesMember (version_of version)) (NoMember (version_of version))
 member_found {key = key} {value = value} version p q =
     finds_as (key, value) _ _ (λ a s. s)
-    (finds_then (λ b x. SpellsMember (version_of version) b (key, x)) (λ w r. Unit {0})
-    (λ a b x r s. record { front = a; rest = b; joined = refl; first = key_at version a key r; second = s }) (λ a w c r f. tt) (λ a f r _ _ start byte last. tt) p q)
+    (finds_then (λ b x. EncodesMember (version_of version) b (key, x)) (λ w r. Unit {0})
+    (λ a b x r s. record { prefix = a; rest = b; joined = refl; first = key_at version a key r; second = s }) (λ a w c r f. tt) (λ a f r _ _ start byte last. tt) p q)
 
-pub member_key_fails : {S : Type 0} {tells : S → Type 0} {left : S → List ℕ} {faults : S → Faults} {old new : S} {i k : ℕ} {e : DeserializeError} (version : DocStoreVersion)
-    → Finds {X = String Global} tells left faults old i new k (Err e) CodedKey CodedKeyFault → Finds {X = String Global × OwnedValue} tells left faults old i new k (Err e) (SpellsMember (version_of version)) (NoMember (version_of version))
-member_key_fails version p = finds_fails _ _ (λ w c f. inl (key_fault_at version w c f)) p
+pub member_key_fails : {S : Type 0} {is_known : S → Type 0} {left : S → List ℕ} {failures : S → Failures} {old new : S} {i k : ℕ} {e : DeserializeError} (version : DocStoreVersion)
+    → Finds {X = String Global} is_known left failures old i new k (Err e) CodedKey ErrorInCodedKey → Finds {X = String Global × OwnedValue} is_known left failures old i new k (Err e) (EncodesMember (version_of version)) (NoMember (version_of version))
+member_key_fails version p = finds_fails _ _ (λ w c f. inl (key_error_at version w c f)) p
 
-pub member_value_fails : {S : Type 0} {tells : S → Type 0} {left : S → List ℕ} {faults : S → Faults} {old mid new : S} {i j k : ℕ} {key : String Global} {e : DeserializeError} (version : DocStoreVersion)
-    → Finds tells left faults old i mid j (Ok key) CodedKey CodedKeyFault → Finds {X = OwnedValue} tells left faults mid j new k (Err e) (SpellsValue (version_of version)) (NoValue (version_of version))
-    → Finds {X = String Global × OwnedValue} tells left faults old i new k (Err e) (SpellsMember (version_of version)) (NoMember (version_of version))
+pub member_value_fails : {S : Type 0} {is_known : S → Type 0} {left : S → List ℕ} {failures : S → Failures} {old mid new : S} {i j k : ℕ} {key : String Global} {e : DeserializeError} (version : DocStoreVersion)
+    → Finds is_known left failures old i mid j (Ok key) CodedKey ErrorInCodedKey → Finds {X = OwnedValue} is_known left failures mid j new k (Err e) (EncodesValue (version_of version)) (NoValue (version_of version))
+    → Finds {X = String Global × OwnedValue} is_known left failures old i new k (Err e) (EncodesMember (version_of version)) (NoMember (version_of version))
 member_value_fails {key = key} version p q =
-    finds_then (SpellsMember (version_of version)) (NoMember (version_of version)) (λ a b x r s. absurd s)
-    (λ a w c r f. inr (string_bytes key, record { front = a; rest = w; joined = refl; first = key_at version a key r; second = f }))
+    finds_then (EncodesMember (version_of version)) (NoMember (version_of version)) (λ a b x r s. absurd s)
+    (λ a w c r f. inr (string_bytes key, record { prefix = a; rest = w; joined = refl; first = key_at version a key r; second = f }))
     (λ a f r other nothing start byte last. absurd (other (value_ended refl nothing)))
     p (finds_fails (λ b z. ⊥) (NoValue (version_of version)) (λ w c f. f) q)
 
-no_rest : (front rest : List ℕ) → [] ≡ front ++ rest → rest ≡ []
+no_rest : (prefix rest : List ℕ) → [] ≡ prefix ++ rest → rest ≡ []
 no_rest [] rest e = sym e
-no_rest (b ∷ front) rest e = absurd cc
+no_rest (b ∷ prefix) rest e = absurd cc
 
 member_ended : (version : DocStoreVersion) (r : Refusal) → NoMember (version_of version) [] r → r ≡ end
 member_ended version r p = elim p [
-  | inl f ↦ key_fault_ended version [] r refl f
-  | inr q ↦ value_ended (no_rest q.1.front q.1.rest q.1.joined) q.1.second
+  | inl f ↦ key_error_ended version [] r refl f
+  | inr q ↦ value_ended (no_rest q.1.prefix q.1.rest q.1.joined) q.1.second
 ]
 
 member_more : (version : DocStoreVersion) (n : ℕ) (a b : List ℕ) (members more : Vec (String Global × OwnedValue) Global) (y : String Global × OwnedValue) → more.items ≡ members.items ++ y ∷ []
-    → SpellsMembers (version_of version) n a members → SpellsMember (version_of version) b y → SpellsMembers (version_of version) (n + 1) (a ++ b) more
+    → EncodesMembers (version_of version) n a members → EncodesMember (version_of version) b y → EncodesMembers (version_of version) (n + 1) (a ++ b) more
 member_more version n a b members more y is p q =
     let v = version_of version in
     let step : owned_entries (members.items ++ y ∷ []) ≡ owned_entries members.items ++ (string_bytes y.0, owned_tree y.1) ∷ [] =
@@ -325,32 +325,32 @@ member_more version n a b members more y is p q =
     let entered : owned_entries more.items ≡ owned_entries members.items ++ (string_bytes y.0, owned_tree y.1) ∷ [] = ap owned_entries is ∙ step in
     record {
       many = ap length is ∙ omega (arith, length-append members.items (y ∷ []), p.many);
-      spelled = subst (λ es. SpellsEntries Legacy v (a ++ b) (entries es)) (sym entered)
-          (subst (λ l. SpellsEntries Legacy v (a ++ l) (entries (owned_entries members.items ++ (string_bytes y.0, owned_tree y.1) ∷ []))) (sym q.joined)
-          (entries_push Legacy v (owned_entries members.items) (string_bytes y.0) (owned_tree y.1) a q.front q.rest p.spelled q.first q.second));
+      encoded = subst (λ es. EncodesEntries Legacy v (a ++ b) (entries es)) (sym entered)
+          (subst (λ l. EncodesEntries Legacy v (a ++ l) (entries (owned_entries members.items ++ (string_bytes y.0, owned_tree y.1) ∷ []))) (sym q.joined)
+          (entries_push Legacy v (owned_entries members.items) (string_bytes y.0) (owned_tree y.1) a q.prefix q.rest p.encoded q.first q.second));
     }
 
-member_refused : (v : Version) (m n : ℕ) (a w : List ℕ) (members : Vec (String Global × OwnedValue) Global) (r : Refusal) → m < n → SpellsMembers v m a members → NoMember v w r → NoMembers v n (a ++ w) r
+member_refused : (v : Version) (m n : ℕ) (a w : List ℕ) (members : Vec (String Global × OwnedValue) Global) (r : Refusal) → m < n → EncodesMembers v m a members → NoMember v w r → NoMembers v n (a ++ w) r
 member_refused v m n a w members r less p f =
     let count : length (owned_entries members.items) ≡ m = length-map (map (λ m. (m.0, owned_tree m.1)) members.items) key_and ∙ length-map members.items (λ m. (m.0, owned_tree m.1)) ∙ p.many in
     let fewer : entry_count (entries (owned_entries members.items)) < n = omega (arith, entries-length (owned_entries members.items), count) in
     elim f [
-      | inl g ↦ in_next_key (entries (owned_entries members.items)) a w refl p.spelled fewer g
-      | inr g ↦ in_next_value (entries (owned_entries members.items)) g.0 a g.1.front g.1.rest (ap (λ (l : List ℕ). a ++ l) g.1.joined) p.spelled fewer g.1.first g.1.second
+      | inl g ↦ in_next_key (entries (owned_entries members.items)) a w refl p.encoded fewer g
+      | inr g ↦ in_next_value (entries (owned_entries members.items)) g.0 a g.1.prefix g.1.rest (ap (λ (l : List ℕ). a ++ l) g.1.joined) p.encoded fewer g.1.first g.1.second
     ]
 
-pub members_more : {S : Type 0} {tells : S → Type 0} {left : S → List ℕ} {faults : S → Faults} {old mid new : S} {i j k m : ℕ} {members : Vec (String Global × OwnedValue) Global} {y : String Global × OwnedValue} (version : DocStoreVersion) (more : Vec (String Global × OwnedValue) Global)
-    → more.items ≡ members.items ++ y ∷ [] → Finds tells left faults old i mid j (Ok members) (SpellsMembers (version_of version) m) (λ w r. ⊥) → Finds tells left faults mid j new k (Ok y) (SpellsMember (version_of version)) (NoMember (version_of version))
-    → Finds tells left faults old i new k (Ok more) (SpellsMembers (version_of version) (m + 1)) (λ w r. ⊥)
+pub members_more : {S : Type 0} {is_known : S → Type 0} {left : S → List ℕ} {failures : S → Failures} {old mid new : S} {i j k m : ℕ} {members : Vec (String Global × OwnedValue) Global} {y : String Global × OwnedValue} (version : DocStoreVersion) (more : Vec (String Global × OwnedValue) Global)
+    → more.items ≡ members.items ++ y ∷ [] → Finds is_known left failures old i mid j (Ok members) (EncodesMembers (version_of version) m) (λ w r. ⊥) → Finds is_known left failures mid j new k (Ok y) (EncodesMember (version_of version)) (NoMember (version_of version))
+    → Finds is_known left failures old i new k (Ok more) (EncodesMembers (version_of version) (m + 1)) (λ w r. ⊥)
 members_more {m = m} {members = members} {y = y} version more is p q =
     finds_as more _ _ (λ a s. s refl)
-    (finds_then (λ b z. z ≡ y → SpellsMembers (version_of version) (m + 1) b more) (λ w r. Unit {0})
+    (finds_then (λ b z. z ≡ y → EncodesMembers (version_of version) (m + 1) b more) (λ w r. Unit {0})
     (λ a b z r s e. member_more version m a b members more z (is ∙ ap (λ (u : String Global × OwnedValue). members.items ++ u ∷ []) (sym e)) r s) (λ a w c r f. tt) (λ a f r _ _ start byte last. tt) p q)
 
-pub members_fail : {S : Type 0} {tells : S → Type 0} {left : S → List ℕ} {faults : S → Faults} {old mid new : S} {i j k m n : ℕ} {members : Vec (String Global × OwnedValue) Global} {e : DeserializeError} (version : DocStoreVersion)
-    → m < n → Finds tells left faults old i mid j (Ok members) (SpellsMembers (version_of version) m) (λ w r. ⊥) → Finds {X = String Global × OwnedValue} tells left faults mid j new k (Err e) (SpellsMember (version_of version)) (NoMember (version_of version))
-    → Finds {X = Vec (String Global × OwnedValue) Global} tells left faults old i new k (Err e) (SpellsMembers (version_of version) n) (NoMembers (version_of version) n)
+pub members_fail : {S : Type 0} {is_known : S → Type 0} {left : S → List ℕ} {failures : S → Failures} {old mid new : S} {i j k m n : ℕ} {members : Vec (String Global × OwnedValue) Global} {e : DeserializeError} (version : DocStoreVersion)
+    → m < n → Finds is_known left failures old i mid j (Ok members) (EncodesMembers (version_of version) m) (λ w r. ⊥) → Finds {X = String Global × OwnedValue} is_known left failures mid j new k (Err e) (EncodesMember (version_of version)) (NoMember (version_of version))
+    → Finds {X = Vec (String Global × OwnedValue) Global} is_known left failures old i new k (Err e) (EncodesMembers (version_of version) n) (NoMembers (version_of version) n)
 members_fail {m = m} {n = n} {members = members} version less p q =
-    finds_then (SpellsMembers (version_of version) n) (NoMembers (version_of version) n) (λ a b z r s. absurd s) (λ a w c r f. member_refused (version_of version) m n a w members c less r f)
+    finds_then (EncodesMembers (version_of version) n) (NoMembers (version_of version) n) (λ a b z r s. absurd s) (λ a w c r f. member_refused (version_of version) m n a w members c less r f)
     (λ a f r other nothing start byte last. absurd (other (member_ended version f nothing)))
     p (finds_fails (λ b z. ⊥) (NoMember (version_of version)) (λ w c f. f) q)

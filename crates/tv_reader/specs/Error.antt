@@ -3,11 +3,11 @@ use Rattle.std.specs.Prelude.{ℕ, Result, List}
 use Rattle.tv_base.specs.declared.cause.Cause.{Cause}
 use Rattle.tv_base.specs.declared.read_error.ReadError.{ReadError}
 use Rattle.tv_base.specs.declared.read_error.ReadError.TheVariants as reads
-use Rattle.tv_base.specs.Source.{Faults}
+use Rattle.tv_base.specs.Source.{Failures}
 use Rattle.tv_base.specs.Stop.{Stop, Takes}
-use Rattle.tv_base.specs.Stop.Stop.{Fault, Failed, Short, Never}
+use Rattle.tv_base.specs.Stop.Stop.{InputError, Failed, Short, Never}
 use Rattle.tv_base.specs.Take.{told}
-use Rattle.tv_value.specs.Fault.{Refusal, corrupted, no_text_key}
+use Rattle.tv_value.specs.InputError.{Refusal, corrupted, no_text_key}
 use Rattle.tv_reader.specs.ValueType.{type_code}
 use Rattle.tv_reader.specs.declared.error.DeserializeError.{DeserializeError}
 use Rattle.tv_reader.specs.declared.error.DeserializeError.TheVariants as errors
@@ -21,12 +21,12 @@ read_error reads.Memory = errors.Memory
 
 -- a value of this type stands where one of that type was expected, which is told of a key alone
 abbrev pub key_stop : ValueType → ValueType → Stop Refusal
-key_stop types.String actual = Fault (no_text_key (type_code actual))
+key_stop types.String actual = InputError (no_text_key (type_code actual))
 key_stop _ actual = Never
 
 -- Why a reader of documents stopped: its bytes are refused, the source failed, or there is no room.
 abbrev pub store_stop : DeserializeError → Stop Refusal
-store_stop (errors.CorruptedValue c) = Fault (corrupted c)
+store_stop (errors.CorruptedValue c) = InputError (corrupted c)
 store_stop (errors.TypeMismatch expected actual) = key_stop expected actual
 store_stop (errors.Io k) = Failed k
 store_stop errors.Memory = Short
@@ -36,12 +36,12 @@ store_stop (errors.Custom s) = Never
 store_stop (errors.UnsupportedVersion m n) = Never
 store_stop errors.AlreadyFailed = Never
 
--- The fault in the bytes that an error tells: what is corrupt, or in a key's place a value of another type than a text.
+-- The error in the bytes that an error is_known: what is corrupt, or in a key's place a value of another type than a text.
 pub data IsRefusal : DeserializeError → Refusal → Type 0 where
   is_corrupted : {c : Cause} → IsRefusal (errors.CorruptedValue c) (corrupted c)
   is_no_text : {actual : ValueType} → IsRefusal (errors.TypeMismatch types.String actual) (no_text_key (type_code actual))
 
 -- what a reader of the store returned and did, by a reading of lists
-abbrev pub TakesBy : {S X Y : Type 0} (tells : S → Type 0) (left : S → List ℕ) (faults : S → Faults) (old : S) (old_count : ℕ) (new : S) (new_count : ℕ) (view : X → Y) (result : Result X DeserializeError) (reading : List ℕ → Result (Y × List ℕ) (Refusal × List ℕ)) → Type 0
-TakesBy tells left faults old old_count new new_count view result reading =
-    Takes store_stop (told tells) (λ p. left p.source) (λ p. p.count) (λ p. faults p.source) (record { source = old; count = old_count }) (record { source = new; count = new_count }) view result reading
+abbrev pub TakesBy : {S X Y : Type 0} (is_known : S → Type 0) (left : S → List ℕ) (failures : S → Failures) (old : S) (old_count : ℕ) (new : S) (new_count : ℕ) (view : X → Y) (result : Result X DeserializeError) (reading : List ℕ → Result (Y × List ℕ) (Refusal × List ℕ)) → Type 0
+TakesBy is_known left failures old old_count new new_count view result reading =
+    Takes store_stop (told is_known) (λ p. left p.source) (λ p. p.count) (λ p. failures p.source) (record { source = old; count = old_count }) (record { source = new; count = new_count }) view result reading

@@ -1,10 +1,10 @@
--- What is taken of a value or of a key at once, and the bytes that spell it.
+-- What is taken of a value or of a key at once, and the bytes that encode it.
 use Rattle.std.specs.Prelude.{◌≡◌, ℕ, List, [], ◌∷◌}
 use Rattle.tv_base.specs.Number.{VNum}
 use Rattle.tv_base.specs.Parts.{Behind}
 use Rattle.tv_value.specs.Content.{form_of}
 use Rattle.tv_value.specs.Leaves.{content, form, store_code}
-use Rattle.tv_value.specs.Spelling.{leaf_code, LeafBody}
+use Rattle.tv_value.specs.Encoding.{leaf_code, LeafBody}
 use Rattle.tv_value.specs.Tree.{Leaf}
 use Rattle.tv_value.specs.Version.{Version, V1, V2, V3, entry_total}
 use Rattle.tv_value.specs.declared.content.Form.{Form}
@@ -34,20 +34,20 @@ HasLength forms.Bytes = Unit {0}
 HasLength _ = ⊥
 
 -- the code, and what is taken behind it
-abbrev pub SpellsHead : Version → List ℕ → HeadPart → Type 0
-SpellsHead v whole (leaf_head l) = HasWidth (form_of (content l)) × Behind (leaf_code l) (λ b. LeafBody v b l) whole
-SpellsHead v whole (length_head t n) = HasLength (form t) × Behind (store_code t) (λ b. VNum b n) whole
-SpellsHead v whole (array_head n) = Behind 12 (λ b. VNum b n) whole
-SpellsHead v whole (object_head n) = Behind 13 (λ b. VNum b (entry_total v n)) whole
-SpellsHead v whole tokenized_head = whole ≡ 7 ∷ 0 ∷ []
-SpellsHead v whole legacy_head = whole ≡ 8 ∷ []
+abbrev pub EncodesHead : Version → List ℕ → HeadPart → Type 0
+EncodesHead v whole (leaf_head l) = HasWidth (form_of (content l)) × Behind (leaf_code l) (λ b. LeafBody v b l) whole
+EncodesHead v whole (length_head t n) = HasLength (form t) × Behind (store_code t) (λ b. VNum b n) whole
+EncodesHead v whole (array_head n) = Behind 12 (λ b. VNum b n) whole
+EncodesHead v whole (object_head n) = Behind 13 (λ b. VNum b (entry_total v n)) whole
+EncodesHead v whole tokenized_head = whole ≡ 7 ∷ 0 ∷ []
+EncodesHead v whole legacy_head = whole ≡ 8 ∷ []
 
 -- a length, behind the code of a text
 abbrev pub CodedLength : List ℕ → ℕ → Type 0
 CodedLength whole n = Behind 0 (λ b. VNum b n) whole
 
 -- the length of a key, behind its code in versions 1 and 2
-abbrev pub SpellsKeyHead : Version → List ℕ → ℕ → Type 0
-SpellsKeyHead V1 = CodedLength
-SpellsKeyHead V2 = CodedLength
-SpellsKeyHead V3 = VNum
+abbrev pub EncodesKeyHead : Version → List ℕ → ℕ → Type 0
+EncodesKeyHead V1 = CodedLength
+EncodesKeyHead V2 = CodedLength
+EncodesKeyHead V3 = VNum

@@ -5,9 +5,9 @@ use Rattle.tv_base.specs.declared.cause.Cause.TheVariants.{LegacyJson}
 use Rattle.tv_base.specs.Number.{Fixed, Truth}
 use Rattle.tv_base.specs.Parts.{Sized, Text}
 use Rattle.tv_value.specs.Content.{no_content, truth_content, unsigned_content, signed_content, wide_content, text_content, bytes_content, tokens_content}
-use Rattle.tv_value.specs.Fault.{ContentFault, TokenizedFault}
+use Rattle.tv_value.specs.InputError.{ErrorInContent, ErrorInTokenized}
 use Rattle.tv_value.specs.Leaves.{form, scale}
-use Rattle.tv_value.specs.Spelling.{Tokenized}
+use Rattle.tv_value.specs.Encoding.{Tokenized}
 use Rattle.tv_value.specs.Tree.{Token, Tree, leaf}
 use Rattle.tv_value.specs.Version.{Version, Scaled}
 use Rattle.tv_value.specs.declared.content.Form.{Form}
@@ -17,7 +17,7 @@ use Rattle.tv_reader.specs.Leaves.{leaf_holding}
 use Rattle.tv_reader.specs.ValueType.{leaf_type}
 use Rattle.tv_reader.specs.declared.value_type.ValueType.{ValueType}
 
--- the bytes spell something of which the tree is made
+-- the bytes encode something of which the tree is made
 abbrev pub MadeOf : {A : Type 0} → (List ℕ → A → Type 0) → (A → Tree) → List ℕ → Tree → Type 0
 MadeOf {A} R make whole t = (x : A) × R whole x × (t ≡ make x)
 
@@ -44,13 +44,13 @@ abbrev pub LeafOf : Version → ValueType → List ℕ → Tree → Type 0
 LeafOf v kind = LeafOfType v (leaf_type kind)
 
 -- the same of what is none; both codes of a text with its tokens were read
-abbrev pub HeldFault : Version → LeafType → Form → List ℕ → Cause → Type 0
-HeldFault v t forms.Tokens = TokenizedFault
-HeldFault v t f = ContentFault (scale v t) f
+abbrev pub ErrorInHeld : Version → LeafType → Form → List ℕ → Cause → Type 0
+ErrorInHeld v t forms.Tokens = ErrorInTokenized
+ErrorInHeld v t f = ErrorInContent (scale v t) f
 
-abbrev pub LeafOfTypeFault : Version → Option LeafType → List ℕ → Cause → Type 0
-LeafOfTypeFault v (Some t) = HeldFault v t (form t)
-LeafOfTypeFault v None = λ whole c. c ≡ LegacyJson
+abbrev pub ErrorInLeafOfType : Version → Option LeafType → List ℕ → Cause → Type 0
+ErrorInLeafOfType v (Some t) = ErrorInHeld v t (form t)
+ErrorInLeafOfType v None = λ whole c. c ≡ LegacyJson
 
-abbrev pub LeafOfFault : Version → ValueType → List ℕ → Cause → Type 0
-LeafOfFault v kind = LeafOfTypeFault v (leaf_type kind)
+abbrev pub ErrorInLeafOf : Version → ValueType → List ℕ → Cause → Type 0
+ErrorInLeafOf v kind = ErrorInLeafOfType v (leaf_type kind)

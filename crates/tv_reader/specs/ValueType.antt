@@ -62,9 +62,9 @@ abbrev pub IsCoded : List ℕ → ValueType → Type 0
 IsCoded b kind = b ≡ coded kind
 
 -- of a value's code: there is none, it is unknown, or it is that of floating-point numbers
-pub data CodeFault : List ℕ → Cause → Type 0 where
-  no_code : CodeFault [] UnexpectedEnd
-  unknown_type : {b : ℕ} {rest : List ℕ} → 13 < b → CodeFault (b ∷ rest) (UnknownTypeCode b)
-  float_type : {rest : List ℕ} → CodeFault (6 ∷ rest) FloatCode
-  no_extension_code : CodeFault (7 ∷ []) UnexpectedEnd
-  unknown_extension : {b : ℕ} {rest : List ℕ} → b ≢ 0 → CodeFault (7 ∷ b ∷ rest) (UnknownExtCode b)
+pub data ErrorInCode : List ℕ → Cause → Type 0 where
+  no_code : ErrorInCode [] UnexpectedEnd
+  unknown_type : {b : ℕ} {rest : List ℕ} → 13 < b → ErrorInCode (b ∷ rest) (UnknownTypeCode b)
+  float_type : {rest : List ℕ} → ErrorInCode (6 ∷ rest) FloatCode
+  no_extension_code : ErrorInCode (7 ∷ []) UnexpectedEnd
+  unknown_extension : {b : ℕ} {rest : List ℕ} → b ≢ 0 → ErrorInCode (7 ∷ b ∷ rest) (UnknownExtCode b)

@@ -10,7 +10,7 @@ use std::io;
 use thiserror::Error;
 use tv_base::{Cause, ReadError};
 
-/// Why bytes of a store couldn't be read. The first fault in reading order is answered.
+/// Why bytes of a store couldn't be read. The first error in reading order is answered.
 #[derive(Debug, PartialEq, Drop, Error)]
 pub enum DeserializeError {
     /// A value of this type can't be read where it stands.
@@ -24,7 +24,7 @@ pub enum DeserializeError {
         /// The type that stands there.
         actual: ValueType,
     },
-    /// The bytes spell no value.
+    /// The bytes encode no value.
     #[error("{0}")]
     CorruptedValue(Cause),
     /// An error of a reader that a user wrote.

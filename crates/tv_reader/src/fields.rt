@@ -19,7 +19,7 @@ const LARGEST_FIELD: u32 = 65535;
 /// 65535, and `Io`.
 #[tactic(auto, using(tv_base::proofs::TakeSteps::Taken_then), unfolding(crate::specs::Fields::field_at))]
 pub fn take_field<S: ByteSource>(source: &mut S, count: &mut u64) -> Result<u32, DeserializeError>
-    ensures takes { TakesBy S.tells S.left S.faults source.old count.old source.new count.new (λ x. x) result field_at }
+    ensures takes { TakesBy S.is_known S.left S.failures source.old count.old source.new count.new (λ x. x) result field_at }
     ensures too_long { IsErrOf result (CorruptedValue TooLong) → count.new ≡ 2 ^ 64 - 1 }
     ensures roomy { ¬ IsErrOf result HeapFull }
     ensures small { IfOk result (λ field. field ≤ 65535) }

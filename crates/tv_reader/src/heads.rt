@@ -2,15 +2,15 @@
 
 ghost use Rattle.std.specs.Prelude.{◌≡◌, ◌-◌, ◌^◌, IsErrOf};
 ghost use Rattle.tv_base.specs.Number.{VNum};
-ghost use Rattle.tv_base.specs.PartFault.{NumberFault};
+ghost use Rattle.tv_base.specs.ErrorInPart.{ErrorInNumber};
 ghost use Rattle.tv_base.specs.declared.cause.Cause.TheVariants.{TooLong};
 ghost use Rattle.tv_reader.specs.Finds.{Finds};
-ghost use Rattle.tv_reader.specs.Heads.{SpellsHead, SpellsKeyHead, CodedLength};
+ghost use Rattle.tv_reader.specs.Heads.{EncodesHead, EncodesKeyHead, CodedLength};
 ghost use Rattle.tv_reader.specs.HeadReading.{head_part};
 ghost use Rattle.tv_reader.specs.Trees.{NoValue};
 ghost use Rattle.tv_reader.specs.Version.{version_of};
 ghost use Rattle.tv_reader.specs.declared.error.DeserializeError.TheVariants.{CorruptedValue, HeapFull, Memory};
-ghost use Rattle.tv_value.specs.Fault.{Corrupt, CodedKeyFault, KeyFault};
+ghost use Rattle.tv_value.specs.InputError.{Corrupt, ErrorInCodedKey, ErrorInKey};
 
 use crate::error::DeserializeError;
 use crate::kinds::take_kind;
@@ -40,13 +40,13 @@ pub enum Head {
 /// Takes the head of a value: all of one of a known width, and of any other its code and what the code is followed by up to the
 /// first byte, element or entry. No memory is taken.
 ///
-/// Errors: `CorruptedValue` with the first fault in the head, and `Io` where the source failed.
+/// Errors: `CorruptedValue` with the first error in the head, and `Io` where the source failed.
 pub fn take_head<S: ByteSource>(
     source: &mut S,
     count: &mut u64,
     version: DocStoreVersion,
 ) -> Result<Head, DeserializeError>
-    ensures finds { Finds S.tells S.left S.faults source.old count.old source.new count.new result (λ b head. SpellsHead (version_of version) b (head_part head)) (NoValue (version_of version)) }
+    ensures finds { Finds S.is_known S.left S.failures source.old count.old source.new count.new result (λ b head. EncodesHead (version_of version) b (head_part head)) (NoValue (version_of version)) }
     ensures too_long { IsErrOf result (CorruptedValue TooLong) → count.new ≡ 2 ^ 64 - 1 }
     ensures roomy { ¬ IsErrOf result HeapFull }
     ensures spares { ¬ IsErrOf result Memory }
@@ -58,13 +58,13 @@ pub fn take_head<S: ByteSource>(
 
 /// Takes the head of a key: its code, and its length in bytes. None of these bytes is taken.
 ///
-/// Errors: `CorruptedValue` with the first fault in the head, `TypeMismatch` where a value of another type stands there, and `Io`.
+/// Errors: `CorruptedValue` with the first error in the head, `TypeMismatch` where a value of another type stands there, and `Io`.
 pub fn take_key_head<S: ByteSource>(
     source: &mut S,
     count: &mut u64,
     version: DocStoreVersion,
 ) -> Result<u64, DeserializeError>
-    ensures finds { Finds S.tells S.left S.faults source.old count.old source.new count.new result (SpellsKeyHead (version_of version)) (KeyFault (version_of version)) }
+    ensures finds { Finds S.is_known S.left S.failures source.old count.old source.new count.new result (EncodesKeyHead (version_of version)) (ErrorInKey (version_of version)) }
     ensures too_long { IsErrOf result (CorruptedValue TooLong) → count.new ≡ 2 ^ 64 - 1 }
     ensures roomy { ¬ IsErrOf result HeapFull }
     ensures spares { ¬ IsErrOf result Memory }
@@ -79,7 +79,7 @@ fn take_coded_key_head<S: ByteSource>(
     source: &mut S,
     count: &mut u64,
 ) -> Result<u64, DeserializeError>
-    ensures finds { Finds S.tells S.left S.faults source.old count.old source.new count.new result CodedLength CodedKeyFault }
+    ensures finds { Finds S.is_known S.left S.failures source.old count.old source.new count.new result CodedLength ErrorInCodedKey }
     ensures too_long { IsErrOf result (CorruptedValue TooLong) → count.new ≡ 2 ^ 64 - 1 }
     ensures roomy { ¬ IsErrOf result HeapFull }
     ensures spares { ¬ IsErrOf result Memory }
@@ -99,12 +99,12 @@ fn take_coded_key_head<S: ByteSource>(
 
 /// Takes the head of a document: the number of its pairs.
 ///
-/// Errors: `CorruptedValue` with the first fault in the number, and `Io`.
+/// Errors: `CorruptedValue` with the first error in the number, and `Io`.
 pub fn take_document_head<S: ByteSource>(
     source: &mut S,
     count: &mut u64,
 ) -> Result<u64, DeserializeError>
-    ensures finds { Finds S.tells S.left S.faults source.old count.old source.new count.new result VNum (Corrupt NumberFault) }
+    ensures finds { Finds S.is_known S.left S.failures source.old count.old source.new count.new result VNum (Corrupt ErrorInNumber) }
     ensures too_long { IsErrOf result (CorruptedValue TooLong) → count.new ≡ 2 ^ 64 - 1 }
     ensures roomy { ¬ IsErrOf result HeapFull }
     ensures spares { ¬ IsErrOf result Memory }

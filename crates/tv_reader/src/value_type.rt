@@ -55,7 +55,7 @@ pub enum ValueType {
 }
 
 impl ValueType {
-    /// The type as one among all. (Own.)
+    /// The type as one among all. (Not in tantivy.)
     #[inline(always)]
     pub fn of_leaf(leaf: LeafType) -> ValueType
         ensures { result ≡ of_leaf leaf }
@@ -74,7 +74,7 @@ impl ValueType {
         }
     }
 
-    /// The type as one of values that hold no others; `None` for arrays and for objects, legacy ones too. (Own.)
+    /// The type as one of values that hold no others; `None` for arrays and for objects, legacy ones too. (Not in tantivy.)
     #[inline(always)]
     pub fn leaf_type(self) -> Option<LeafType>
         ensures { result ≡ leaf_type self }
@@ -94,7 +94,7 @@ impl ValueType {
         }
     }
 
-    /// The type of this code; `None` where there is none. (Own.)
+    /// The type of this code; `None` where there is none. (Not in tantivy.)
     #[inline(always)]
     pub fn from_code(code: u8) -> Option<ValueType>
         ensures { result ≡ type_with code }
@@ -121,7 +121,7 @@ pub(crate) fn take_head_behind<S: ByteSource>(
     version: DocStoreVersion,
     kind: ValueType,
 ) -> Result<Head, ReadError>
-    ensures takes { TakesBy S.tells S.left S.faults source.old count.old source.new count.new head_part result (head_at (version_of version) kind) }
+    ensures takes { TakesBy S.is_known S.left S.failures source.old count.old source.new count.new head_part result (head_at (version_of version) kind) }
     ensures too_long { IsErrOf result (Corrupted TooLong) → count.new ≡ 2 ^ 64 - 1 }
     ensures spares { ¬ IsErrOf result Memory }
 {
@@ -160,7 +160,7 @@ pub(crate) fn take_leaf<S: ByteSource>(
     kind: ValueType,
 ) -> Result<OwnedValue, ReadError>
     requires { IsTrue (is_leaf_type kind) }
-    ensures takes { TakesBy S.tells S.left S.faults source.old count.old source.new count.new owned_tree result (leaf_at (version_of version) kind) }
+    ensures takes { TakesBy S.is_known S.left S.failures source.old count.old source.new count.new owned_tree result (leaf_at (version_of version) kind) }
     ensures too_long { IsErrOf result (Corrupted TooLong) → count.new ≡ 2 ^ 64 - 1 }
 {
     match kind {

@@ -3,7 +3,7 @@ use Rattle.std.proofs.Common.{◌≡◌, ℕ, suc, zero, ◌+◌, ◌<◌, Bool,
 use Rattle.std.specs.Option.{option_map}
 use Rattle.std.proofs.lemmas.Bool.{cases_lt}
 use Rattle.tv_field.specs.Entry.{Entry}
-use Rattle.tv_schema.specs.Path.{is_splitting_dot, field_of_front, parted_at, last_given, find}
+use Rattle.tv_schema.specs.Path.{is_splitting_dot, field_of_prefix, parted_at, last_given, find}
 use Rattle.tv_schema.specs.Schema.{field_named}
 
 module _ {A : Type 0} (give : ℕ → Option A) where
@@ -30,15 +30,15 @@ none_parted false field rest h = refl
 pub find-whole : (schema : List Entry) (path : List ℕ) (field : ℕ) → field_named schema path ≡ Some field → find schema path ≡ Some (field, [])
 find-whole schema path field e = rw e refl
 
-pub find-last : (schema : List Entry) (path : List ℕ) (place field : ℕ) → field_named schema path ≡ None → place < length path → IsTrue (is_splitting_dot path place) → field_of_front schema (take place path) ≡ Some field → ((later : ℕ) → place < later → later < length path → IsTrue (is_splitting_dot path later) → field_of_front schema (take later path) ≡ None) → find schema path ≡ Some (field, drop (place + 1) path)
-find-last schema path place field whole h dot front later =
-    let here : parted_at schema path place ≡ Some (field, drop (place + 1) path) = rw (dot, front) refl in
+pub find-last : (schema : List Entry) (path : List ℕ) (place field : ℕ) → field_named schema path ≡ None → place < length path → IsTrue (is_splitting_dot path place) → field_of_prefix schema (take place path) ≡ Some field → ((later : ℕ) → place < later → later < length path → IsTrue (is_splitting_dot path later) → field_of_prefix schema (take later path) ≡ None) → find schema path ≡ Some (field, drop (place + 1) path)
+find-last schema path place field whole h dot prefix later =
+    let here : parted_at schema path place ≡ Some (field, drop (place + 1) path) = rw (dot, prefix) refl in
     rw whole
     (last_given-is (parted_at schema path) place (length path) (field, drop (place + 1) path) h here
-    (λ k l m. none_parted (is_splitting_dot path k) (field_of_front schema (take k path)) (drop (k + 1) path) (later k l m)))
+    (λ k l m. none_parted (is_splitting_dot path k) (field_of_prefix schema (take k path)) (drop (k + 1) path) (later k l m)))
 
-pub find-none : (schema : List Entry) (path : List ℕ) → field_named schema path ≡ None → ((place : ℕ) → place < length path → IsTrue (is_splitting_dot path place) → field_of_front schema (take place path) ≡ None) → find schema path ≡ None
+pub find-none : (schema : List Entry) (path : List ℕ) → field_named schema path ≡ None → ((place : ℕ) → place < length path → IsTrue (is_splitting_dot path place) → field_of_prefix schema (take place path) ≡ None) → find schema path ≡ None
 find-none schema path whole none =
     rw whole
     (last_given-none (parted_at schema path) (length path)
-    (λ k l. none_parted (is_splitting_dot path k) (field_of_front schema (take k path)) (drop (k + 1) path) (none k l)))
+    (λ k l. none_parted (is_splitting_dot path k) (field_of_prefix schema (take k path)) (drop (k + 1) path) (none k l)))

@@ -1,4 +1,4 @@
--- The items of an array, with those that were written first in front.
+-- The items of an array, with those that were written first before it.
 use Rattle.std.proofs.Common.{◌≡◌, List, [], ◌∷◌, ◌++◌, refl, ap}
 use Rattle.serde_json.specs.Data.{Items, no_items, item}
 use Rattle.serde_json.specs.View.{view, items_view}

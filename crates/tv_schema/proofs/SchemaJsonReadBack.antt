@@ -129,8 +129,8 @@ with_entry-entry_json schema entry taken = rw (entry_of-entry_json (length schem
 
 -- ---- schemas
 
-get_or-front : (xs ys : List Entry) (k : ℕ) (d : Entry) → k < length xs → get_or (xs ++ ys) k d ≡ get_or xs k d
-get_or-front xs ys k d h = grind (arith, common_steps)
+get_or-prefix : (xs ys : List Entry) (k : ℕ) (d : Entry) → k < length xs → get_or (xs ++ ys) k d ≡ get_or xs k d
+get_or-prefix xs ys k d h = grind (arith, common_steps)
 
 get_or-middle : (xs : List Entry) (y : Entry) (ys : List Entry) (d : Entry) → get_or (xs ++ y ∷ ys) (length xs) d ≡ y
 get_or-middle [] y ys d = refl
@@ -143,22 +143,22 @@ place_from-other n (e ∷ es) q other =
     cond-not (bytes_eq e.name q) n (place_from (n + 1) es q) (λ same. other 0 e (omega arith) ((bytes_eq-Decides e.name q).0 same))
     ∙ place_from-other (n + 1) es q (λ k d h. other (suc k) d (omega arith))
 
--- each entry of a schema is taken behind those in front of it
+-- each entry of a schema is taken behind those before it
 refusal-fresh : (schema : List Entry) (entry : Entry) (rest : List Entry) → IsSchema (schema ++ entry ∷ rest) → refusal schema entry.name ≡ None
 refusal-fresh schema entry rest is =
     let long : length schema < length (schema ++ entry ∷ rest) = omega (arith, length-append schema (entry ∷ rest)) in
     let valid : is_valid_name entry.name ≡ true = rw get_or-middle at (is.valid (length schema) entry long) in
     let fresh : field_named schema entry.name ≡ None = place_from-other 0 schema entry.name
-    (λ k d h same. is.distinct k (length schema) d h long (rw (get_or-front schema (entry ∷ rest) k d h, get_or-middle schema entry rest d) same)) in
+    (λ k d h same. is.distinct k (length schema) d h long (rw (get_or-prefix schema (entry ∷ rest) k d h, get_or-middle schema entry rest d) same)) in
     let few : eqb (length schema) 4294967295 ≡ false = ne_eqb _ _ (λ same. omega (arith, is.few, long, same)) in
     rw (valid, fresh, few)
 
-with_entries-entries_json : (front rest : List Entry) → IsSchema (front ++ rest) → with_entries front (entries_json rest) ≡ Ok (front ++ rest)
-with_entries-entries_json front [] is = ap Ok (sym (append-nil front))
-with_entries-entries_json front (entry ∷ rest) is =
-    let again : (front ++ entry ∷ []) ++ rest ≡ front ++ entry ∷ rest = append_assoc front (entry ∷ []) rest in
-    rw (with_entry-entry_json front entry (refusal-fresh front entry rest is))
-    (with_entries-entries_json (front ++ entry ∷ []) rest (subst IsSchema (sym again) is) ∙ ap Ok again)
+with_entries-entries_json : (prefix rest : List Entry) → IsSchema (prefix ++ rest) → with_entries prefix (entries_json rest) ≡ Ok (prefix ++ rest)
+with_entries-entries_json prefix [] is = ap Ok (sym (append-nil prefix))
+with_entries-entries_json prefix (entry ∷ rest) is =
+    let again : (prefix ++ entry ∷ []) ++ rest ≡ prefix ++ entry ∷ rest = append_assoc prefix (entry ∷ []) rest in
+    rw (with_entry-entry_json prefix entry (refusal-fresh prefix entry rest is))
+    (with_entries-entries_json (prefix ++ entry ∷ []) rest (subst IsSchema (sym again) is) ∙ ap Ok again)
 
 pub schema_of-schema_json : (schema : List Entry) → IsSchema schema → schema_of (schema_json schema) ≡ Ok schema
 schema_of-schema_json schema is = with_entries-entries_json [] schema is

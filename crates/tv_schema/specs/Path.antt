@@ -11,14 +11,14 @@ use Rattle.tv_field.specs.declared.field_type.FieldType.TheVariants as types
 abbrev pub is_splitting_dot : List ℕ → ℕ → Bool
 is_splitting_dot path place = (slice_index path place == 46) && is_unescaped path place
 
--- the field whose name is the front, or else the front without its escapes
-abbrev pub field_of_front : List Entry → List ℕ → Option ℕ
-field_of_front schema front = option_or (field_named schema front) (field_named schema (without_escapes front))
+-- the field whose name is the prefix, or else the prefix without its escapes
+abbrev pub field_of_prefix : List Entry → List ℕ → Option ℕ
+field_of_prefix schema prefix = option_or (field_named schema prefix) (field_named schema (without_escapes prefix))
 
--- the field of the front and the text behind, where an unescaped dot parts them
+-- the field of the prefix and the text behind, where an unescaped dot parts them
 abbrev pub parted_at : List Entry → List ℕ → ℕ → Option (ℕ × List ℕ)
 parted_at schema path place =
-    if is_splitting_dot path place then option_map (λ field. (field, drop (place + 1) path)) (field_of_front schema (take place path))
+    if is_splitting_dot path place then option_map (λ field. (field, drop (place + 1) path)) (field_of_prefix schema (take place path))
     else None
 
 -- what is given at the last place below n at which something is
@@ -27,7 +27,7 @@ last_given give zero = None
 last_given give (suc n) = option_or (give n) (last_given give n)
 
 -- The field that the path names, and the rest of the path: where the path is a name, that field and nothing; else what the
--- last unescaped dot parts whose front names a field.
+-- last unescaped dot parts whose prefix names a field.
 abbrev pub find : List Entry → List ℕ → Option (ℕ × List ℕ)
 find schema path =
     option_or (option_map (λ field. (field, [])) (field_named schema path)) (last_given (parted_at schema path) (length path))

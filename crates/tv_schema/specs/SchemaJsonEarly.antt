@@ -1,4 +1,4 @@
--- The faults of a schema's description that are found before any memory is taken.
+-- The errors of a schema's description that are found before any memory is taken.
 use Rattle.std.specs.Prelude.{ℕ, Option, None, Some, Result, Ok, Err, codes}
 use Rattle.serde_json.specs.Data.{Data, Items, no_items, item, Members}
 use Rattle.serde_json.specs.Find.{as_array, as_object}
@@ -16,23 +16,23 @@ opened place description = do
   type_tag ← type_named place word
   or_bad place (required_object (codes "options") members)
 
-abbrev pub fault_in : {A : Type 0} → Result A SchemaError → Option SchemaError
-fault_in (Ok found) = None
-fault_in (Err error) = Some error
+abbrev pub error_in : {A : Type 0} → Result A SchemaError → Option SchemaError
+error_in (Ok found) = None
+error_in (Err error) = Some error
 
--- the fault of an entry's description before the members of its options
-abbrev pub head_fault : ℕ → Data → Option SchemaError
-head_fault place description = fault_in (opened place description)
+-- the error of an entry's description before the members of its options
+abbrev pub head_error : ℕ → Data → Option SchemaError
+head_error place description = error_in (opened place description)
 
 -- the same of the first entry
-abbrev pub first_fault : Items → Option SchemaError
-first_fault no_items = None
-first_fault (item first others) = head_fault 0 first
+abbrev pub first_error : Items → Option SchemaError
+first_error no_items = None
+first_error (item first others) = head_error 0 first
 
-abbrev pub early_fault_of : Option Items → Option SchemaError
-early_fault_of None = Some (BadJson None)
-early_fault_of (Some items) = first_fault items
+abbrev pub early_error_of : Option Items → Option SchemaError
+early_error_of None = Some (BadJson None)
+early_error_of (Some items) = first_error items
 
 -- a value that is no array, or the first entry's name, type or options
-abbrev pub early_fault : Data → Option SchemaError
-early_fault description = early_fault_of (as_array description)
+abbrev pub early_error : Data → Option SchemaError
+early_error description = early_error_of (as_array description)

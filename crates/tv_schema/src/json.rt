@@ -3,7 +3,7 @@
 ghost use Rattle.std.specs.Prelude.{◌≡◌, ◌≢◌, Ok, Err, IfOk, IfErr, IfSome};
 ghost use Rattle.serde_json.specs.View.{view};
 ghost use Rattle.tv_schema.specs.SchemaJson.{schema_json};
-ghost use Rattle.tv_schema.specs.SchemaJsonEarly.{early_fault};
+ghost use Rattle.tv_schema.specs.SchemaJsonEarly.{early_error};
 ghost use Rattle.tv_schema.specs.SchemaJsonReading.{schema_of};
 ghost use Rattle.tv_field.specs.declared.schema_error.SchemaError.TheVariants.{Memory};
 
@@ -31,7 +31,7 @@ impl Schema {
     /// The schema that the JSON value describes, in the form in which `to_json_value` prints one. Keys that aren't named
     /// there are passed over.
     ///
-    /// Errors: `BadJson { entry: None }` where the value is no array. Else the first faulty entry's, from the place 0:
+    /// Errors: `BadJson { entry: None }` where the value is no array. Else the first malformed entry's, from the place 0:
     /// `BadJson` where it is no object, or its `name` or `type` is no text, or the type's word is unknown; `FloatField`
     /// for the type `f64`; `BadJson` where its `options` are no object, or not those of the type; `InvalidName`,
     /// `DuplicateName` or `TooManyFields` as `SchemaBuilder::add_field` has them. `Memory` where memory was refused: no
@@ -40,7 +40,7 @@ impl Schema {
     pub fn from_json_value(alloc: Global, value: &Value) -> Result<Schema, SchemaError>
         ensures ok { IfOk result (λ schema. schema_of (view value.now) ≡ Ok schema) }
         ensures err { IfErr result (λ error. error ≢ Memory → schema_of (view value.now) ≡ Err error) }
-        ensures early { IfSome (early_fault (view value.now)) (λ error. result ≡ Err error) }
+        ensures early { IfSome (early_error (view value.now)) (λ error. result ≡ Err error) }
     {
         let items = value
             .as_array()

@@ -2,7 +2,7 @@
 
 ghost use Rattle.std.specs.Prelude.{◌≡◌, ◌↔◌, ◌<◌, ◌+◌, ℕ, List, [], length, take, drop, None, Some, IsTrue, IsSomeAnd, slice_get};
 ghost use Rattle.tv_field.specs.Entry.{Entry, record_option};
-ghost use Rattle.tv_schema.specs.Path.{is_splitting_dot, field_of_front, find};
+ghost use Rattle.tv_schema.specs.Path.{is_splitting_dot, field_of_prefix, find};
 ghost use Rattle.tv_schema.specs.Schema.{IsSchema, field_named};
 ghost use Rattle.tv_field.specs.declared.field_type.FieldType.{FieldType};
 
@@ -56,8 +56,8 @@ pub fn whole_paths_come_first()
     ensures { (schema : List Entry) (path : List ℕ) (field : ℕ) → field_named schema path ≡ Some field → find schema path ≡ Some (field, []) }
 {}
 
-/// Else the last unescaped dot counts whose front names a field, and where there is none no field is found.
+/// Else the last unescaped dot counts whose prefix names a field, and where there is none no field is found.
 pub fn the_last_dot_counts()
-    ensures found { (schema : List Entry) (path : List ℕ) (place field : ℕ) → field_named schema path ≡ None → place < length path → IsTrue (is_splitting_dot path place) → field_of_front schema (take place path) ≡ Some field → ((later : ℕ) → place < later → later < length path → IsTrue (is_splitting_dot path later) → field_of_front schema (take later path) ≡ None) → find schema path ≡ Some (field, drop (place + 1) path) }
-    ensures none { (schema : List Entry) (path : List ℕ) → field_named schema path ≡ None → ((place : ℕ) → place < length path → IsTrue (is_splitting_dot path place) → field_of_front schema (take place path) ≡ None) → find schema path ≡ None }
+    ensures found { (schema : List Entry) (path : List ℕ) (place field : ℕ) → field_named schema path ≡ None → place < length path → IsTrue (is_splitting_dot path place) → field_of_prefix schema (take place path) ≡ Some field → ((later : ℕ) → place < later → later < length path → IsTrue (is_splitting_dot path later) → field_of_prefix schema (take later path) ≡ None) → find schema path ≡ Some (field, drop (place + 1) path) }
+    ensures none { (schema : List Entry) (path : List ℕ) → field_named schema path ≡ None → ((place : ℕ) → place < length path → IsTrue (is_splitting_dot path place) → field_of_prefix schema (take place path) ≡ None) → find schema path ≡ None }
 {}

@@ -4,7 +4,7 @@
 ghost use Rattle.std.specs.Prelude.{◌≡◌, ◌<◌, length, IfSome};
 ghost use Rattle.std.specs.Option.{option_map};
 ghost use Rattle.tv_base.specs.Escapes.{without_escapes};
-ghost use Rattle.tv_schema.specs.Path.{field_of_front, parted_at, find};
+ghost use Rattle.tv_schema.specs.Path.{field_of_prefix, parted_at, find};
 ghost use Rattle.tv_schema.specs.Schema.{field_named};
 
 use crate::table::FieldTable;
@@ -27,7 +27,7 @@ pub(crate) fn find<'a>(table: &FieldTable, path: &'a str) -> Option<(u32, &'a st
     None
 }
 
-/// The field that the front before the place names, and the text behind the place, where an unescaped dot stands there.
+/// The field that the prefix before the place names, and the text behind the place, where an unescaped dot stands there.
 fn parted_at<'a>(table: &FieldTable, path: &'a str, place: usize) -> Option<(u32, &'a str)>
     requires { place < length path.now }
     ensures found { option_map (λ found. (found.0, found.1.now)) result ≡ parted_at table.now path.now place }
@@ -35,21 +35,21 @@ fn parted_at<'a>(table: &FieldTable, path: &'a str, place: usize) -> Option<(u32
 {
     let bytes = path.as_bytes();
     if bytes[place] == b'.' && is_unescaped_at(bytes, place) {
-        let field = field_of_front(table, &path[..place])?;
+        let field = field_of_prefix(table, &path[..place])?;
         Some((field, &path[place + 1..]))
     } else {
         None
     }
 }
 
-/// The field whose name is the front, or else the front without its escapes.
-fn field_of_front(table: &FieldTable, front: &str) -> Option<u32>
-    ensures number { result ≡ field_of_front table.now front.now }
+/// The field whose name is the prefix, or else the prefix without its escapes.
+fn field_of_prefix(table: &FieldTable, prefix: &str) -> Option<u32>
+    ensures number { result ≡ field_of_prefix table.now prefix.now }
     ensures within { IfSome result (λ number. number < length table.now) }
 {
-    match table.field_named(front) {
+    match table.field_named(prefix) {
         Some(field) => Some(field),
-        None if front.as_bytes().contains(&b'\\') => field_unescaped(table, front),
+        None if prefix.as_bytes().contains(&b'\\') => field_unescaped(table, prefix),
         None => {
             texts_without_backslashes_have_no_escapes();
             None
@@ -57,13 +57,13 @@ fn field_of_front(table: &FieldTable, front: &str) -> Option<u32>
     }
 }
 
-/// The field whose name is the front without its escapes. It compares the front with each name, so that it takes no memory.
-fn field_unescaped(table: &FieldTable, front: &str) -> Option<u32>
-    ensures number { result ≡ field_named table.now (without_escapes front.now) }
+/// The field whose name is the prefix without its escapes. It compares the prefix with each name, so that it takes no memory.
+fn field_unescaped(table: &FieldTable, prefix: &str) -> Option<u32>
+    ensures number { result ≡ field_named table.now (without_escapes prefix.now) }
     ensures within { IfSome result (λ number. number < length table.now) }
 {
     for (number, entry) in table.entries().iter().enumerate() {
-        if unescapes_to(front, entry.name()) {
+        if unescapes_to(prefix, entry.name()) {
             return Some(number as u32);
         }
     }

@@ -40,10 +40,10 @@ addition_refused gives refuses first mid last doc field t error e is p g within 
 
 -- ---- the next pair
 
-pub given_next : {D X : Type 0} (remaining : D → ℕ) (tells : D → Type 0) (gives : D → ℕ × Tree → D → Type 0) (is : Tree → X → Type 0) (old new : D) (result : Option (Field × X)) (field : Field) (value : X) → result ≡ Some (field, value) → NextField remaining tells gives is old new result
-    → (remaining old ≡ suc (remaining new)) × (tells old → tells new × ((t : Tree) × gives old (field.id, t) new × is t value))
-given_next remaining tells gives is old new result field value same h = subst (NextField remaining tells gives is old new) same h
+pub given_next : {D X : Type 0} (remaining : D → ℕ) (is_known : D → Type 0) (gives : D → ℕ × Tree → D → Type 0) (is : Tree → X → Type 0) (old new : D) (result : Option (Field × X)) (field : Field) (value : X) → result ≡ Some (field, value) → NextField remaining is_known gives is old new result
+    → (remaining old ≡ suc (remaining new)) × (is_known old → is_known new × ((t : Tree) × gives old (field.id, t) new × is t value))
+given_next remaining is_known gives is old new result field value same h = subst (NextField remaining is_known gives is old new) same h
 
-pub none_left : {D X : Type 0} (remaining : D → ℕ) (tells : D → Type 0) (gives : D → ℕ × Tree → D → Type 0) (is : Tree → X → Type 0) (old new : D) (result : Option (Field × X)) → ((p : Field × X) → result ≡ Some p → ⊥) → NextField remaining tells gives is old new result → remaining old ≡ 0
-none_left remaining tells gives is old new None none h = h
-none_left remaining tells gives is old new (Some p) none h = absurd (none p refl)
+pub none_left : {D X : Type 0} (remaining : D → ℕ) (is_known : D → Type 0) (gives : D → ℕ × Tree → D → Type 0) (is : Tree → X → Type 0) (old new : D) (result : Option (Field × X)) → ((p : Field × X) → result ≡ Some p → ⊥) → NextField remaining is_known gives is old new result → remaining old ≡ 0
+none_left remaining is_known gives is old new None none h = h
+none_left remaining is_known gives is old new (Some p) none h = absurd (none p refl)

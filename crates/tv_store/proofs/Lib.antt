@@ -1,4 +1,4 @@
-pub mod Spelled
+pub mod Encoded
 pub mod Room
 pub mod GivenSteps
 pub mod Promises

@@ -3,42 +3,42 @@ use Rattle.std.proofs.Common.{◌≡◌, ℕ, ◌-◌, ◌^◌, ◌<◌, ◌≤�
 use Rattle.std.specs.Prelude.{IfOk, IfErr, IsErrOf}
 use Rattle.std.proofs.lemmas.List.{append_cancel_left}
 use Rattle.tv_base.specs.declared.cause.Cause.TheVariants.{UnexpectedEnd}
-use Rattle.tv_base.specs.Source.{Faults}
+use Rattle.tv_base.specs.Source.{Failures}
 use Rattle.tv_base.specs.Stop.{CountsStop, Counts}
 use Rattle.tv_doc.specs.declared.document.CompactDoc.{CompactDoc}
 use Rattle.tv_doc.specs.Document.{document_of}
 use Rattle.tv_heap.specs.Room.{document_room}
-use Rattle.tv_legacy.specs.Legacy.{Legacy, LegacyFault}
+use Rattle.tv_legacy.specs.Legacy.{Legacy, ErrorInLegacy}
 use Rattle.tv_legacy.proofs.Unique.{one_legacy, legacy_excludes}
 use Rattle.tv_reader.specs.Error.{key_stop, store_stop}
 use Rattle.tv_reader.specs.Error.{IsRefusal, is_corrupted, is_no_text}
-use Rattle.tv_reader.specs.Finds.{Refuses, TellsStop, Found}
+use Rattle.tv_reader.specs.Finds.{Refuses, GivesStop, Found}
 use Rattle.tv_reader.specs.declared.error.DeserializeError.{DeserializeError}
 use Rattle.tv_reader.specs.declared.error.DeserializeError.TheVariants as errors
 use Rattle.tv_reader.specs.declared.value_type.ValueType.{ValueType}
 use Rattle.tv_reader.specs.declared.value_type.ValueType.TheVariants as types
-use Rattle.tv_value.specs.Fault.{Refusal, corrupted, no_text_key}
-use Rattle.tv_value.specs.Spelling.{SpellsDocument}
+use Rattle.tv_value.specs.InputError.{Refusal, corrupted, no_text_key}
+use Rattle.tv_value.specs.Encoding.{EncodesDocument}
 use Rattle.tv_value.specs.Tree.{Document}
 use Rattle.tv_value.specs.Version.{Version}
 use Rattle.tv_value.proofs.ExcludingTrees.{document_excludes}
 use Rattle.tv_value.proofs.Trees.{one_document}
 use Rattle.tv_store.specs.Documents.{BeginsWith, Answers, NoDocument, IsReadingError}
-use Rattle.tv_decoder.specs.Documents.{SpellsRead}
-use Rattle.tv_decoder.specs.Front.{HasNoRoom}
+use Rattle.tv_decoder.specs.Documents.{EncodesRead}
+use Rattle.tv_decoder.specs.Prefix.{HasNoRoom}
 use Rattle.tv_decoder.proofs.RoomWithin.{document_within}
 
 abbrev end : Refusal
 end = corrupted UnexpectedEnd
 
 abbrev FoundDocument : Version → Result CompactDoc DeserializeError → List ℕ → List ℕ → ℕ → Type 0
-FoundDocument v result old new count = Found store_stop end (SpellsRead v) (NoDocument v) old new count result
+FoundDocument v result old new count = Found store_stop end (EncodesRead v) (NoDocument v) old new count result
 
 pub found_by : (v : Version) (result : Result CompactDoc DeserializeError) (old new : List ℕ) (count : ℕ) → FoundDocument v result old new count → IfOk result (λ d. BeginsWith v old new (document_of d))
 found_by v (Ok d) old new count h = h
 found_by v (Err e) old new count h = tt
 
-told : (v : Version) (e : DeserializeError) (r : Refusal) (old new : List ℕ) (count : ℕ) → IsRefusal e r → count < 2 ^ 64 - 1 → TellsStop end (NoDocument v) old new count (store_stop e) → Refuses end (NoDocument v) old new r
+told : (v : Version) (e : DeserializeError) (r : Refusal) (old new : List ℕ) (count : ℕ) → IsRefusal e r → count < 2 ^ 64 - 1 → GivesStop end (NoDocument v) old new count (store_stop e) → Refuses end (NoDocument v) old new r
 told v _ _ old new count is_corrupted few h = h few
 told v _ _ old new count is_no_text few h = h few
 
@@ -48,11 +48,11 @@ refused_by v result old new count few h e r is refusal = told v e r old new coun
 
 -- ---- which errors come
 
-mismatched : (expected actual : ValueType) (old new : Faults) → CountsStop (key_stop expected actual) old new → expected ≡ types.String
+mismatched : (expected actual : ValueType) (old new : Failures) → CountsStop (key_stop expected actual) old new → expected ≡ types.String
 mismatched types.String actual old new h = refl
 mismatched _ actual old new h = absurd h
 
-pub errors_by : (result : Result CompactDoc DeserializeError) (old new : Faults) → Counts store_stop result old new → IfErr result IsReadingError
+pub errors_by : (result : Result CompactDoc DeserializeError) (old new : Failures) → Counts store_stop result old new → IfErr result IsReadingError
 errors_by (Ok d) old new h = tt
 errors_by (Err (errors.CorruptedValue c)) old new h = tt
 errors_by (Err (errors.TypeMismatch expected actual)) old new h = mismatched expected actual old new h
@@ -66,29 +66,29 @@ errors_by (Err errors.AlreadyFailed) old new h = h
 
 -- ---- want of room
 
-has_room : (v : Version) (old front rest : List ℕ) (d : Document) → old ≡ front ++ rest → SpellsDocument Legacy v front d → HasNoRoom v old → document_room d ≤ 4294967295 → ⊥
-has_room v old front rest d joined spelled full small =
-    let within = document_within Legacy v one_legacy full.announced full.finished full.field full.state full.front full.rest front rest d full.is full.less full.spelled (sym full.joined ∙ joined) spelled in
+has_room : (v : Version) (old prefix rest : List ℕ) (d : Document) → old ≡ prefix ++ rest → EncodesDocument Legacy v prefix d → HasNoRoom v old → document_room d ≤ 4294967295 → ⊥
+has_room v old prefix rest d joined encoded full small =
+    let within = document_within Legacy v one_legacy full.announced full.finished full.field full.state full.prefix full.rest prefix rest d full.is full.less full.encoded (sym full.joined ∙ joined) encoded in
     omega (arith, full.full, small, within)
 
--- ---- what is spelled is what is answered
+-- ---- what is encoded is what is answered
 
-excluded : (v : Version) (old front rest : List ℕ) (d : Document) (r : Refusal) → old ≡ front ++ rest → SpellsDocument Legacy v front d → NoDocument v old r → ⊥
-excluded v old front rest d r joined spelled f = (document_excludes Legacy LegacyFault v one_legacy legacy_excludes d).excludes old front rest r f spelled joined
+excluded : (v : Version) (old prefix rest : List ℕ) (d : Document) (r : Refusal) → old ≡ prefix ++ rest → EncodesDocument Legacy v prefix d → NoDocument v old r → ⊥
+excluded v old prefix rest d r joined encoded f = (document_excludes Legacy ErrorInLegacy v one_legacy legacy_excludes d).excludes old prefix rest r f encoded joined
 
 pub only_by : (v : Version) (result : Result CompactDoc DeserializeError) (old new : List ℕ) (count : ℕ) → FoundDocument v result old new count → (IsErrOf result errors.HeapFull → HasNoRoom v old) → IfErr result IsReadingError → count < 2 ^ 64 - 1
-    → (d : Document) (front rest : List ℕ) → old ≡ front ++ rest → SpellsDocument Legacy v front d → document_room d ≤ 4294967295 → Answers result d rest new
-only_by v (Ok x) old new count h full kind few d front rest joined spelled small =
-    let same = one_document Legacy v one_legacy h.front front new rest (document_of x) d h.spelled spelled (sym h.joined ∙ joined) in
-    (same.1, append_cancel_left front new rest (ap (λ (l : List ℕ). l ++ new) (sym same.0) ∙ sym h.joined ∙ joined))
-only_by v (Err (errors.CorruptedValue c)) old new count h full kind few d front rest joined spelled small = excluded v old front rest d (corrupted c) joined spelled (h few).stands
-only_by v (Err (errors.TypeMismatch expected actual)) old new count h full kind few d front rest joined spelled small =
-    let r = told v (errors.TypeMismatch types.String actual) (no_text_key _) old new count is_no_text few (subst (λ z. TellsStop end (NoDocument v) old new count (key_stop z actual)) kind h) in
-    excluded v old front rest d (no_text_key _) joined spelled r.stands
-only_by v (Err errors.HeapFull) old new count h full kind few d front rest joined spelled small = has_room v old front rest d joined spelled (full refl) small
-only_by v (Err (errors.Io k)) old new count h full kind few d front rest joined spelled small = tt
-only_by v (Err errors.Memory) old new count h full kind few d front rest joined spelled small = tt
-only_by v (Err (errors.UnsupportedType t)) old new count h full kind few d front rest joined spelled small = kind
-only_by v (Err (errors.Custom s)) old new count h full kind few d front rest joined spelled small = kind
-only_by v (Err (errors.UnsupportedVersion m n)) old new count h full kind few d front rest joined spelled small = kind
-only_by v (Err errors.AlreadyFailed) old new count h full kind few d front rest joined spelled small = kind
+    → (d : Document) (prefix rest : List ℕ) → old ≡ prefix ++ rest → EncodesDocument Legacy v prefix d → document_room d ≤ 4294967295 → Answers result d rest new
+only_by v (Ok x) old new count h full kind few d prefix rest joined encoded small =
+    let same = one_document Legacy v one_legacy h.prefix prefix new rest (document_of x) d h.encoded encoded (sym h.joined ∙ joined) in
+    (same.1, append_cancel_left prefix new rest (ap (λ (l : List ℕ). l ++ new) (sym same.0) ∙ sym h.joined ∙ joined))
+only_by v (Err (errors.CorruptedValue c)) old new count h full kind few d prefix rest joined encoded small = excluded v old prefix rest d (corrupted c) joined encoded (h few).stands
+only_by v (Err (errors.TypeMismatch expected actual)) old new count h full kind few d prefix rest joined encoded small =
+    let r = told v (errors.TypeMismatch types.String actual) (no_text_key _) old new count is_no_text few (subst (λ z. GivesStop end (NoDocument v) old new count (key_stop z actual)) kind h) in
+    excluded v old prefix rest d (no_text_key _) joined encoded r.stands
+only_by v (Err errors.HeapFull) old new count h full kind few d prefix rest joined encoded small = has_room v old prefix rest d joined encoded (full refl) small
+only_by v (Err (errors.Io k)) old new count h full kind few d prefix rest joined encoded small = tt
+only_by v (Err errors.Memory) old new count h full kind few d prefix rest joined encoded small = tt
+only_by v (Err (errors.UnsupportedType t)) old new count h full kind few d prefix rest joined encoded small = kind
+only_by v (Err (errors.Custom s)) old new count h full kind few d prefix rest joined encoded small = kind
+only_by v (Err (errors.UnsupportedVersion m n)) old new count h full kind few d prefix rest joined encoded small = kind
+only_by v (Err errors.AlreadyFailed) old new count h full kind few d prefix rest joined encoded small = kind

@@ -5,7 +5,7 @@ use Rattle.std.proofs.lemmas.List.{append-nil}
 use Rattle.std.proofs.lemmas.List.Concat.{flat_map-cons}
 use Rattle.tv_field.specs.Entry.{is_stored_type}
 use Rattle.std.specs.declared.io.ErrorKind.{ErrorKind}
-use Rattle.tv_base.specs.Source.{Faults}
+use Rattle.tv_base.specs.Source.{Failures}
 use Rattle.tv_base.specs.Sink.{Writes, WritesBy}
 use Rattle.tv_field.specs.Entry.{Entry}
 use Rattle.tv_value.specs.Tree.{Tree, Document}
@@ -59,6 +59,6 @@ written_next schema p rest d cut =
     ∙ ap (λ (l : List ℕ). l ++ written_pairs schema rest) (ap (flat_map (short_pair V2)) (sym (stored-cons schema p [])))
 
 -- what the sink told, in the words of the store
-pub writes_for : {S T U : Type 0} {tells : S → Type 0} {held : S → List ℕ} {faults : S → Faults} {old new : S} {kind : ErrorKind} {text : List ℕ}
-    → Writes {T = T} tells held faults old new (Err kind) text → WritesBy {T = U} write_stop tells held faults old new (Err (write_error kind)) (Ok text)
-writes_for w = record { appends = w.appends; still_tells = w.still_tells; counts = w.counts }
+pub writes_for : {S T U : Type 0} {is_known : S → Type 0} {held : S → List ℕ} {failures : S → Failures} {old new : S} {kind : ErrorKind} {text : List ℕ}
+    → Writes {T = T} is_known held failures old new (Err kind) text → WritesBy {T = U} write_stop is_known held failures old new (Err (write_error kind)) (Ok text)
+writes_for w = record { appends = w.appends; stays_known = w.stays_known; counts = w.counts }

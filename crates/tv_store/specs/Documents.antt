@@ -9,16 +9,16 @@ use Rattle.tv_legacy.specs.Legacy.{Legacy}
 use Rattle.tv_reader.specs.declared.error.DeserializeError.{DeserializeError}
 use Rattle.tv_reader.specs.declared.error.DeserializeError.TheVariants as errors
 use Rattle.tv_reader.specs.declared.value_type.ValueType.TheVariants.{String}
-use Rattle.tv_value.specs.Fault.{Refusal, corrupted}
-use Rattle.tv_value.specs.Spelling.{SpellsDocument}
+use Rattle.tv_value.specs.InputError.{Refusal, corrupted}
+use Rattle.tv_value.specs.Encoding.{EncodesDocument}
 use Rattle.tv_value.specs.Tree.{Document}
 use Rattle.tv_value.specs.Version.{Version}
 pub use Rattle.tv_decoder.specs.Documents.{NoDocument}
-pub use Rattle.tv_decoder.specs.Front.{HasNoRoom}
+pub use Rattle.tv_decoder.specs.Prefix.{HasNoRoom}
 
--- a front of the bytes spells the document, and the rest is left
+-- a prefix of the bytes encodes the document, and the rest is left
 abbrev pub BeginsWith : Version → List ℕ → List ℕ → Document → Type 0
-BeginsWith v bytes rest d = Begins (λ front. SpellsDocument Legacy v front d) bytes rest
+BeginsWith v bytes rest d = Begins (λ prefix. EncodesDocument Legacy v prefix d) bytes rest
 
 -- this document is answered and this rest left, unless the source failed or memory was refused
 abbrev pub Answers : Result CompactDoc DeserializeError → Document → List ℕ → List ℕ → Type 0

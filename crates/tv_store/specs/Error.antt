@@ -3,9 +3,9 @@ use Rattle.std.specs.Prelude.{ℕ, Result, List}
 use Rattle.std.specs.declared.io.ErrorKind.{ErrorKind}
 use Rattle.tv_base.specs.declared.cause.Cause.TheVariants as causes
 use Rattle.tv_base.specs.Sink.{WritesBy}
-use Rattle.tv_base.specs.Source.{Faults}
+use Rattle.tv_base.specs.Source.{Failures}
 use Rattle.tv_base.specs.Stop.{Stop}
-use Rattle.tv_base.specs.Stop.Stop.{Fault, Failed}
+use Rattle.tv_base.specs.Stop.Stop.{InputError, Failed}
 use Rattle.tv_doc.specs.declared.add_error.AddError.{AddError}
 use Rattle.tv_doc.specs.declared.add_error.AddError.TheVariants as adds
 use Rattle.tv_reader.specs.declared.error.DeserializeError.{DeserializeError}
@@ -28,12 +28,12 @@ pub data Unwritten : Type 0 where
 -- Why a writer of the store stopped: the sink failed, or what it was given is refused.
 abbrev pub write_stop : SerializeError → Stop Unwritten
 write_stop (writes.Io kind) = Failed kind
-write_stop writes.WrongCount = Fault wrong_count
-write_stop writes.TooMany = Fault too_many
+write_stop writes.WrongCount = InputError wrong_count
+write_stop writes.TooMany = InputError too_many
 
 -- what a writer of the store returned and did, by what is to be written
-abbrev pub Writes : {S T : Type 0} (tells : S → Type 0) (held : S → List ℕ) (faults : S → Faults) (old new : S) (result : Result T SerializeError) (writing : Result (List ℕ) (Unwritten × List ℕ)) → Type 0
-Writes tells held faults old new result writing = WritesBy write_stop tells held faults old new result writing
+abbrev pub Writes : {S T : Type 0} (is_known : S → Type 0) (held : S → List ℕ) (failures : S → Failures) (old new : S) (result : Result T SerializeError) (writing : Result (List ℕ) (Unwritten × List ℕ)) → Type 0
+Writes is_known held failures old new result writing = WritesBy write_stop is_known held failures old new result writing
 
 -- the sink failed
 abbrev pub IsIo : SerializeError → Type 0

@@ -1,6 +1,6 @@
 -- What the serializers of values, arrays and objects do.
 use Rattle.std.specs.Prelude.{◌≡◌, ◌-◌, ℕ, List, Result, Ok, Err, IfErr, is_ok, if◌then◌else◌}
-use Rattle.tv_base.specs.Source.{Faults}
+use Rattle.tv_base.specs.Source.{Failures}
 use Rattle.tv_store.specs.Error.{Writes, IsIo}
 use Rattle.tv_store.specs.declared.error.SerializeError.{SerializeError}
 use Rattle.tv_store.specs.declared.error.SerializeError.TheVariants.{TooMany}
@@ -10,8 +10,8 @@ abbrev pub Refuses : {S T : Type 0} → SerializeError → S → S → Result T 
 Refuses error old new result = (result ≡ Err error) × (new ≡ old)
 
 -- The text is written where P holds, unless the sink fails, and else it is refused.
-pub record WritesWhere {S T : Type 0} (P : Type 0) (tells : S → Type 0) (held : S → List ℕ) (faults : S → Faults) (old new : S) (result : Result T SerializeError) (text : List ℕ) : Type 0 where
-  pub writes : P → Writes tells held faults old new result (Ok text)
+pub record WritesWhere {S T : Type 0} (P : Type 0) (is_known : S → Type 0) (held : S → List ℕ) (failures : S → Failures) (old new : S) (result : Result T SerializeError) (text : List ℕ) : Type 0 where
+  pub writes : P → Writes is_known held failures old new result (Ok text)
   pub io : P → IfErr result IsIo
   pub refuses : ¬ P → Refuses TooMany old new result
 

@@ -5,7 +5,7 @@ ghost use Rattle.tv_base.specs.declared.cause.Cause.TheVariants.{TooLong};
 ghost use Rattle.tv_base.specs.ReadsAs.{Known, TakesMost};
 ghost use Rattle.tv_base.specs.Stop.{Counts};
 ghost use Rattle.tv_doc.specs.Document.{document_of};
-ghost use Rattle.tv_decoder.specs.Front.{HasNoRoom};
+ghost use Rattle.tv_decoder.specs.Prefix.{HasNoRoom};
 ghost use Rattle.tv_heap.specs.Room.{document_room};
 ghost use Rattle.tv_legacy.specs.Legacy.{Legacy};
 ghost use Rattle.tv_reader.specs.Error.{store_stop};
@@ -14,8 +14,8 @@ ghost use Rattle.tv_reader.specs.Version.{version_of};
 ghost use Rattle.tv_reader.specs.declared.error.DeserializeError.{DeserializeError};
 ghost use Rattle.tv_reader.specs.declared.error.DeserializeError.TheVariants.{CorruptedValue, HeapFull};
 ghost use Rattle.tv_store.specs.Documents.{BeginsWith, Answers, NoDocument, ShowsRefusal, IsReadingError};
-ghost use Rattle.tv_value.specs.Fault.{Refusal};
-ghost use Rattle.tv_value.specs.Spelling.{SpellsDocument};
+ghost use Rattle.tv_value.specs.InputError.{Refusal};
+ghost use Rattle.tv_value.specs.Encoding.{EncodesDocument};
 ghost use Rattle.tv_value.specs.Tree.{Document};
 
 use crate::error::DeserializeError;
@@ -29,36 +29,36 @@ pub use tv_reader::version::DocStoreVersion;
 /// Reads a document, however the source cuts its bytes, and takes no byte behind it. Values of every type are read, to any
 /// depth, straight into the document's heap, by a recursion of 64 levels at most; and objects as older stores hold them.
 ///
-/// Errors, the first fault in reading order: `CorruptedValue` where the bytes spell no document, `TypeMismatch` where in a key's
+/// Errors, the first error in reading order: `CorruptedValue` where the bytes encode no document, `TypeMismatch` where in a key's
 /// place stands a value that isn't a text, `HeapFull` where what has come so far needs more room than 4294967295 bytes, `Io` where
 /// the source failed, `Memory` where memory was refused, or the source doesn't let bytes pass that it lent. After `CorruptedValue` and
-/// `TypeMismatch` just the bytes that show the fault were taken.
+/// `TypeMismatch` just the bytes that show the error were taken.
 pub fn read_document<S: ByteSource>(
     alloc: Global,
     source: &mut S,
     version: DocStoreVersion,
 ) -> Result<CompactDoc, DeserializeError>
-    // a front of the bytes spells what is answered, and the rest is left
-    ensures found { S.tells source.old → IfOk result (λ d. BeginsWith (version_of version) (S.left source.old) (S.left source.new) (document_of d)) }
+    // a prefix of the bytes encodes what is answered, and the rest is left
+    ensures found { S.is_known source.old → IfOk result (λ d. BeginsWith (version_of version) (S.left source.old) (S.left source.new) (document_of d)) }
 
-    // wherever a front spells a document that has room, that one is answered
-    ensures only { Known S.tells S.left source.old → (d : Document) (front rest : List ℕ) → S.left source.old ≡ front ++ rest → SpellsDocument Legacy (version_of version) front d → document_room d ≤ 4294967295 → Answers result d rest (S.left source.new) }
+    // wherever a prefix encodes a document that has room, that one is answered
+    ensures only { Known S.is_known S.left source.old → (d : Document) (prefix rest : List ℕ) → S.left source.old ≡ prefix ++ rest → EncodesDocument Legacy (version_of version) prefix d → document_room d ≤ 4294967295 → Answers result d rest (S.left source.new) }
 
     // refusals of the bytes are true of them, and others don't come
-    ensures fault { Known S.tells S.left source.old → (e : DeserializeError) (r : Refusal) → IsErrOf result e → IsRefusal e r → NoDocument (version_of version) (S.left source.old) r }
-    ensures full { S.tells source.old → IsErrOf result HeapFull → HasNoRoom (version_of version) (S.left source.old) }
+    ensures error { Known S.is_known S.left source.old → (e : DeserializeError) (r : Refusal) → IsErrOf result e → IsRefusal e r → NoDocument (version_of version) (S.left source.old) r }
+    ensures full { S.is_known source.old → IsErrOf result HeapFull → HasNoRoom (version_of version) (S.left source.old) }
     ensures errors { IfErr result IsReadingError }
 
-    // just the bytes that show the fault were taken, and after every error a slice of what was left
-    ensures shows { Known S.tells S.left source.old → (e : DeserializeError) (r : Refusal) → IsErrOf result e → IsRefusal e r → ShowsRefusal (version_of version) (S.left source.old) (S.left source.new) r }
-    ensures taken { S.tells source.old → (front : List ℕ) × (S.left source.old ≡ front ++ S.left source.new) }
+    // just the bytes that show the error were taken, and after every error a slice of what was left
+    ensures shows { Known S.is_known S.left source.old → (e : DeserializeError) (r : Refusal) → IsErrOf result e → IsRefusal e r → ShowsRefusal (version_of version) (S.left source.old) (S.left source.new) r }
+    ensures taken { S.is_known source.old → (prefix : List ℕ) × (S.left source.old ≡ prefix ++ S.left source.new) }
 
     // so many bytes that no more can be counted were taken
-    ensures too_long { S.tells source.old → IsErrOf result (CorruptedValue TooLong) → TakesMost (S.left source.old) (S.left source.new) }
+    ensures too_long { S.is_known source.old → IsErrOf result (CorruptedValue TooLong) → TakesMost (S.left source.old) (S.left source.new) }
 
-    // the source failed exactly where its count of faults rose, with the kind that it answered
-    ensures faults { Counts store_stop result (S.faults source.old) (S.faults source.new) }
-    ensures still_tells { S.tells source.old → S.tells source.new }
+    // the source failed exactly where its count of failures rose, with the kind that it answered
+    ensures failures { Counts store_stop result (S.failures source.old) (S.failures source.new) }
+    ensures stays_known { S.is_known source.old → S.is_known source.new }
 {
     let mut count = 0;
     take_document(alloc, source, &mut count, version)

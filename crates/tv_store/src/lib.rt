@@ -7,7 +7,7 @@ pub mod laws;
 pub mod pairs_given;
 pub mod se;
 mod serializers;
-mod spelling;
+mod encoding;
 mod value_writer;
 
 pub use de::{DirectDecoder, DocStoreVersion, Step, read_document};

@@ -10,7 +10,7 @@ ghost use Rattle.tv_value.specs.Short.{short, short_key, IsValue};
 ghost use Rattle.tv_value.specs.Version.{V2};
 
 use crate::error::SerializeError;
-use crate::spelling::has_spelling;
+use crate::encoding::has_encoding;
 use crate::type_codes::TEXT_CODE;
 use crate::value_writer::write_value;
 use std::io;
@@ -21,20 +21,20 @@ use tv_value::value::Value;
 // A key: the code of a text, and the text behind its length.
 #[tactic(auto, using(crate::proofs::Coded::Coded_then, crate::proofs::Coded::Coded_fails), unfolding(tv_base::specs::Number::one_byte))]
 fn write_key<K: ByteSink>(sink: &mut K, key: &str) -> Result<(), io::ErrorKind>
-    ensures { Writes K.tells K.held K.faults sink.old sink.new result (short_key V2 key.now) }
+    ensures { Writes K.is_known K.held K.failures sink.old sink.new result (short_key V2 key.now) }
 {
     write_u8(sink, TEXT_CODE)?;
     write_text(sink, key)
 }
 
-// A value, where it has a spelling.
-fn write_spelled<'a, K: ByteSink, V: Value<'a>>(
+// A value, where it has an encoding.
+fn write_shortest<'a, K: ByteSink, V: Value<'a>>(
     sink: &mut K,
     value: &V,
 ) -> Result<(), SerializeError>
-    ensures { WritesWhere (IsValue (V.tree value.now)) K.tells K.held K.faults sink.old sink.new result (short V2 (V.tree value.now)) }
+    ensures { WritesWhere (IsValue (V.tree value.now)) K.is_known K.held K.failures sink.old sink.new result (short V2 (V.tree value.now)) }
 {
-    if !has_spelling(value) {
+    if !has_encoding(value) {
         return Err(SerializeError::TooMany);
     }
     write_value(sink, value)?;
@@ -42,28 +42,28 @@ fn write_spelled<'a, K: ByteSink, V: Value<'a>>(
 }
 
 // A key and a value.
-#[tactic(auto, using(tv_base::proofs::Written::Writes_then, tv_base::proofs::Written::Writes_front))]
+#[tactic(auto, using(tv_base::proofs::Written::Writes_then, tv_base::proofs::Written::Writes_prefix))]
 fn write_key_and_value<'a, K: ByteSink, V: Value<'a>>(
     sink: &mut K,
     key: &str,
     value: &V,
 ) -> Result<(), io::ErrorKind>
     requires { IsValue (V.tree value.now) }
-    ensures { Writes K.tells K.held K.faults sink.old sink.new result (short_key V2 key.now ++ short V2 (V.tree value.now)) }
+    ensures { Writes K.is_known K.held K.failures sink.old sink.new result (short_key V2 key.now ++ short V2 (V.tree value.now)) }
 {
     write_key(sink, key)?;
     write_value(sink, value)
 }
 
-// A key and a value, where the value has a spelling.
+// A key and a value, where the value has an encoding.
 fn write_entry<'a, K: ByteSink, V: Value<'a>>(
     sink: &mut K,
     key: &str,
     value: &V,
 ) -> Result<(), SerializeError>
-    ensures { WritesWhere (IsValue (V.tree value.now)) K.tells K.held K.faults sink.old sink.new result (short_key V2 key.now ++ short V2 (V.tree value.now)) }
+    ensures { WritesWhere (IsValue (V.tree value.now)) K.is_known K.held K.failures sink.old sink.new result (short_key V2 key.now ++ short V2 (V.tree value.now)) }
 {
-    if !has_spelling(value) {
+    if !has_encoding(value) {
         return Err(SerializeError::TooMany);
     }
     write_key_and_value(sink, key, value)?;
@@ -81,7 +81,7 @@ fn ended(awaited: u64) -> Result<(), SerializeError>
     }
 }
 
-/// Writes values to a sink, each in its shortest spelling.
+/// Writes values to a sink, each in its shortest encoding.
 #[derive(Drop)]
 pub struct BinaryValueSerializer<'se, K: ByteSink> {
     sink: &'se mut K,
@@ -103,9 +103,9 @@ impl<'se, K: ByteSink> BinaryValueSerializer<'se, K> {
     /// value; a later call appends to that.
     pub fn serialize_value<'a, V: Value<'a>>(&mut self, value: &V) -> Result<(), SerializeError>
         ensures same_sink { self.new.sink.ghost_name ≡ self.old.sink.ghost_name }
-        ensures writes { WritesWhere (IsValue (V.tree value.now)) K.tells K.held K.faults self.old.sink.now self.new.sink.now result (short V2 (V.tree value.now)) }
+        ensures writes { WritesWhere (IsValue (V.tree value.now)) K.is_known K.held K.failures self.old.sink.now self.new.sink.now result (short V2 (V.tree value.now)) }
     {
-        write_spelled(self.sink, value)
+        write_shortest(self.sink, value)
     }
 }
 
@@ -134,7 +134,7 @@ impl<'se, K: ByteSink> BinaryArraySerializer<'se, K> {
         sink: &'se mut K,
     ) -> Result<BinaryArraySerializer<'se, K>, SerializeError>
         ensures same_sink { IfOk result (λ made. made.sink.ghost_name ≡ sink.entry.ghost_name) }
-        ensures writes { IfOk result (λ made. store.Writes K.tells K.held K.faults sink.old made.sink.now result (Ok (vnum count))) }
+        ensures writes { IfOk result (λ made. store.Writes K.is_known K.held K.failures sink.old made.sink.now result (Ok (vnum count))) }
         ensures awaited { IfOk result (λ made. made.awaited ≡ count) }
         ensures io { IfErr result IsIo }
     {
@@ -149,13 +149,13 @@ impl<'se, K: ByteSink> BinaryArraySerializer<'se, K> {
     pub fn serialize_value<'a, V: Value<'a>>(&mut self, value: &V) -> Result<(), SerializeError>
         ensures same_sink { self.new.sink.ghost_name ≡ self.old.sink.ghost_name }
         ensures full { self.old.awaited ≡ 0 → Refuses SerializeError.WrongCount self.old.sink.now self.new.sink.now result }
-        ensures writes { 0 < self.old.awaited → WritesWhere (IsValue (V.tree value.now)) K.tells K.held K.faults self.old.sink.now self.new.sink.now result (short V2 (V.tree value.now)) }
+        ensures writes { 0 < self.old.awaited → WritesWhere (IsValue (V.tree value.now)) K.is_known K.held K.failures self.old.sink.now self.new.sink.now result (short V2 (V.tree value.now)) }
         ensures awaited { self.new.awaited ≡ awaited_after self.old.awaited result }
     {
         let Some(others) = self.awaited.checked_sub(1) else {
             return Err(SerializeError::WrongCount);
         };
-        write_spelled(self.sink, value)?;
+        write_shortest(self.sink, value)?;
         self.awaited = others;
         Ok(())
     }
@@ -195,7 +195,7 @@ impl<'se, K: ByteSink> BinaryObjectSerializer<'se, K> {
         sink: &'se mut K,
     ) -> Result<BinaryObjectSerializer<'se, K>, SerializeError>
         ensures same_sink { IfOk result (λ made. made.sink.ghost_name ≡ sink.entry.ghost_name) }
-        ensures writes { IfOk result (λ made. store.Writes K.tells K.held K.faults sink.old made.sink.now result (Ok (vnum (2 * count)))) }
+        ensures writes { IfOk result (λ made. store.Writes K.is_known K.held K.failures sink.old made.sink.now result (Ok (vnum (2 * count)))) }
         ensures awaited { IfOk result (λ made. made.awaited ≡ count) }
         ensures too_many { 2 ^ 64 ≤ 2 * count → result ≡ Err SerializeError.TooMany }
         ensures io { 2 * count < 2 ^ 64 → IfErr result IsIo }
@@ -218,7 +218,7 @@ impl<'se, K: ByteSink> BinaryObjectSerializer<'se, K> {
     ) -> Result<(), SerializeError>
         ensures same_sink { self.new.sink.ghost_name ≡ self.old.sink.ghost_name }
         ensures full { self.old.awaited ≡ 0 → Refuses SerializeError.WrongCount self.old.sink.now self.new.sink.now result }
-        ensures writes { 0 < self.old.awaited → WritesWhere (IsValue (V.tree value.now)) K.tells K.held K.faults self.old.sink.now self.new.sink.now result (short_key V2 key.now ++ short V2 (V.tree value.now)) }
+        ensures writes { 0 < self.old.awaited → WritesWhere (IsValue (V.tree value.now)) K.is_known K.held K.failures self.old.sink.now self.new.sink.now result (short_key V2 key.now ++ short V2 (V.tree value.now)) }
         ensures awaited { self.new.awaited ≡ awaited_after self.old.awaited result }
     {
         let Some(others) = self.awaited.checked_sub(1) else {

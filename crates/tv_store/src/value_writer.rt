@@ -1,4 +1,4 @@
-//! Writing values of any kind, each in its shortest spelling, as the store's version 2 has it.
+//! Writing values of any kind, each in its shortest encoding, as the store's version 2 has it.
 //!
 //! Each function hands on the error of a failed write. The sink then holds what it held before, and a beginning of what was
 //! to be written.
@@ -40,7 +40,7 @@ use tv_value::value::Value;
 #[inline]
 #[tactic(auto, unfolding(tv_base::specs::Number::one_byte))]
 fn write_code<K: ByteSink>(sink: &mut K, code: u8) -> Result<(), io::ErrorKind>
-    ensures { Writes K.tells K.held K.faults sink.old sink.new result (code ∷ []) }
+    ensures { Writes K.is_known K.held K.failures sink.old sink.new result (code ∷ []) }
 {
     write_u8(sink, code)
 }
@@ -52,7 +52,7 @@ pub(crate) fn write_coded_text<K: ByteSink>(
     code: u8,
     text: &str,
 ) -> Result<(), io::ErrorKind>
-    ensures { Writes K.tells K.held K.faults sink.old sink.new result (code ∷ short_sized text.now) }
+    ensures { Writes K.is_known K.held K.failures sink.old sink.new result (code ∷ short_sized text.now) }
 {
     write_coded_bytes(sink, code, text.as_bytes())
 }
@@ -65,7 +65,7 @@ fn write_coded_bytes<K: ByteSink>(
     code: u8,
     content: &[u8],
 ) -> Result<(), io::ErrorKind>
-    ensures { Writes K.tells K.held K.faults sink.old sink.new result (code ∷ short_sized content.now) }
+    ensures { Writes K.is_known K.held K.failures sink.old sink.new result (code ∷ short_sized content.now) }
 {
     let len = content.len();
     if len < 128 {
@@ -80,7 +80,7 @@ fn write_coded_bytes<K: ByteSink>(
 #[inline]
 #[tactic(auto, using(crate::proofs::Coded::Coded_then))]
 fn write_coded_u64<K: ByteSink>(sink: &mut K, code: u8, number: u64) -> Result<(), io::ErrorKind>
-    ensures { Writes K.tells K.held K.faults sink.old sink.new result (code ∷ eight_bytes number) }
+    ensures { Writes K.is_known K.held K.failures sink.old sink.new result (code ∷ eight_bytes number) }
 {
     let [a, b, c, d, e, f, g, h] = number.to_le_bytes();
     write_all(sink, &[code, a, b, c, d, e, f, g, h])
@@ -90,7 +90,7 @@ fn write_coded_u64<K: ByteSink>(sink: &mut K, code: u8, number: u64) -> Result<(
 #[inline]
 #[tactic(auto, using(crate::proofs::Coded::Coded_then))]
 fn write_coded_i64<K: ByteSink>(sink: &mut K, code: u8, number: i64) -> Result<(), io::ErrorKind>
-    ensures { Writes K.tells K.held K.faults sink.old sink.new result (code ∷ signed_bytes number) }
+    ensures { Writes K.is_known K.held K.failures sink.old sink.new result (code ∷ signed_bytes number) }
 {
     write_coded_u64(sink, code, number.cast_unsigned())
 }
@@ -99,7 +99,7 @@ fn write_coded_i64<K: ByteSink>(sink: &mut K, code: u8, number: i64) -> Result<(
 #[inline]
 #[tactic(auto, using(crate::proofs::Coded::Coded_then))]
 fn write_coded_u128<K: ByteSink>(sink: &mut K, code: u8, number: u128) -> Result<(), io::ErrorKind>
-    ensures { Writes K.tells K.held K.faults sink.old sink.new result (code ∷ sixteen_bytes number) }
+    ensures { Writes K.is_known K.held K.failures sink.old sink.new result (code ∷ sixteen_bytes number) }
 {
     write_code(sink, code)?;
     write_u128(sink, number)
@@ -109,7 +109,7 @@ fn write_coded_u128<K: ByteSink>(sink: &mut K, code: u8, number: u128) -> Result
 #[inline]
 #[tactic(auto, using(crate::proofs::Coded::Coded_then))]
 fn write_coded_bool<K: ByteSink>(sink: &mut K, code: u8, truth: bool) -> Result<(), io::ErrorKind>
-    ensures { Writes K.tells K.held K.faults sink.old sink.new result (code ∷ truth_byte truth) }
+    ensures { Writes K.is_known K.held K.failures sink.old sink.new result (code ∷ truth_byte truth) }
 {
     write_code(sink, code)?;
     write_bool(sink, truth)
@@ -119,16 +119,16 @@ fn write_coded_bool<K: ByteSink>(sink: &mut K, code: u8, truth: bool) -> Result<
 #[inline]
 #[tactic(auto, using(crate::proofs::Coded::Coded_then))]
 fn write_coded_count<K: ByteSink>(sink: &mut K, code: u8, count: u64) -> Result<(), io::ErrorKind>
-    ensures { Writes K.tells K.held K.faults sink.old sink.new result (code ∷ vnum count) }
+    ensures { Writes K.is_known K.held K.failures sink.old sink.new result (code ∷ vnum count) }
 {
     write_code(sink, code)?;
     write_vint(sink, count)
 }
 
 // A token: where it begins and ends, its position, its text, and how many positions it takes.
-#[tactic(auto, using(tv_base::proofs::Written::Writes_then, tv_base::proofs::Written::Writes_front))]
+#[tactic(auto, using(tv_base::proofs::Written::Writes_then, tv_base::proofs::Written::Writes_prefix))]
 fn write_token<K: ByteSink>(sink: &mut K, token: TokenRef<'_>) -> Result<(), io::ErrorKind>
-    ensures { Writes K.tells K.held K.faults sink.old sink.new result (short_token (ref_of token.entry)) }
+    ensures { Writes K.is_known K.held K.failures sink.old sink.new result (short_token (ref_of token.entry)) }
 {
     write_vint(sink, token.offset_from as u64)?;
     write_vint(sink, token.offset_to as u64)?;
@@ -139,7 +139,7 @@ fn write_token<K: ByteSink>(sink: &mut K, token: TokenRef<'_>) -> Result<(), io:
 
 // The tokens that are left, in order.
 fn write_tokens<K: ByteSink>(sink: &mut K, tokens: TokenIter<'_>) -> Result<(), io::ErrorKind>
-    ensures { Writes K.tells K.held K.faults sink.old sink.new result (flat_map short_token (tokens_left tokens.entry)) }
+    ensures { Writes K.is_known K.held K.failures sink.old sink.new result (flat_map short_token (tokens_left tokens.entry)) }
 {
     for token in tokens {
         write_token(sink, token)?;
@@ -148,12 +148,12 @@ fn write_tokens<K: ByteSink>(sink: &mut K, tokens: TokenIter<'_>) -> Result<(), 
 }
 
 // A text, how many tokens it has, and each.
-#[tactic(auto, using(tv_base::proofs::Written::Writes_then, tv_base::proofs::Written::Writes_front))]
+#[tactic(auto, using(tv_base::proofs::Written::Writes_then, tv_base::proofs::Written::Writes_prefix))]
 fn write_tokenized<K: ByteSink>(
     sink: &mut K,
     text: PreTokenizedStr<'_>,
 ) -> Result<(), io::ErrorKind>
-    ensures { Writes K.tells K.held K.faults sink.old sink.new result (short_tokenized (text_of text.entry) (tokens_of text.entry)) }
+    ensures { Writes K.is_known K.held K.failures sink.old sink.new result (short_tokenized (text_of text.entry) (tokens_of text.entry)) }
 {
     write_text(sink, text.text())?;
     write_vint(sink, text.len() as u64)?;
@@ -167,7 +167,7 @@ fn write_extension<K: ByteSink>(
     code: u8,
     text: PreTokenizedStr<'_>,
 ) -> Result<(), io::ErrorKind>
-    ensures { Writes K.tells K.held K.faults sink.old sink.new result (code ∷ 0 ∷ short_tokenized (text_of text.entry) (tokens_of text.entry)) }
+    ensures { Writes K.is_known K.held K.failures sink.old sink.new result (code ∷ 0 ∷ short_tokenized (text_of text.entry) (tokens_of text.entry)) }
 {
     write_code(sink, code)?;
     write_code(sink, TOK_STR_EXT_CODE)?;
@@ -180,7 +180,7 @@ fn write_content<K: ByteSink>(
     code: u8,
     content: LeafContent<'_>,
 ) -> Result<(), io::ErrorKind>
-    ensures { Writes K.tells K.held K.faults sink.old sink.new result (code ∷ short_content (content_of content.entry)) }
+    ensures { Writes K.is_known K.held K.failures sink.old sink.new result (code ∷ short_content (content_of content.entry)) }
 {
     match content {
         LeafContent::Nothing => write_code(sink, code),
@@ -197,7 +197,7 @@ fn write_content<K: ByteSink>(
 // A value without children. What is commonest is written as it is lent, without standing in memory before.
 #[inline(always)]
 fn write_leaf<K: ByteSink>(sink: &mut K, leaf: &ReferenceValueLeaf<'_>) -> Result<(), io::ErrorKind>
-    ensures { Writes K.tells K.held K.faults sink.old sink.new result (short_leaf (leaf_of leaf.now)) }
+    ensures { Writes K.is_known K.held K.failures sink.old sink.new result (short_leaf (leaf_of leaf.now)) }
 {
     let code = leaf.leaf_type().store_code();
     match leaf.content() {
@@ -249,7 +249,7 @@ fn children<N: Nested>(value: NestedValue<'_, N>) -> u64
 #[cycle(values)]
 fn write_tree<K: ByteSink, N: Nested>(sink: &mut K, value: &N) -> Result<(), io::ErrorKind>
     requires { IsValue (N.tree value.now) }
-    ensures { Writes K.tells K.held K.faults sink.old sink.new result (short V2 (N.tree value.now)) }
+    ensures { Writes K.is_known K.held K.failures sink.old sink.new result (short V2 (N.tree value.now)) }
 {
     match value.as_nested() {
         NestedValue::Leaf(leaf) => write_leaf(sink, &leaf),
@@ -271,7 +271,7 @@ fn write_items<K: ByteSink, N: Nested>(
     items: N::ArrayIter,
 ) -> Result<(), io::ErrorKind>
     requires { AreElements (elements (N.array_rest items)) }
-    ensures { Writes K.tells K.held K.faults sink.old sink.new result (short_elements V2 (elements (N.array_rest items))) }
+    ensures { Writes K.is_known K.held K.failures sink.old sink.new result (short_elements V2 (elements (N.array_rest items))) }
 {
     for item in items {
         write_tree(sink, &item)?;
@@ -286,7 +286,7 @@ fn write_members<K: ByteSink, N: Nested>(
     members: N::ObjectIter,
 ) -> Result<(), io::ErrorKind>
     requires { AreEntries (entries (N.object_rest members)) }
-    ensures { Writes K.tells K.held K.faults sink.old sink.new result (short_entries V2 (entries (N.object_rest members))) }
+    ensures { Writes K.is_known K.held K.failures sink.old sink.new result (short_entries V2 (entries (N.object_rest members))) }
 {
     for (key, item) in members {
         write_coded_text(sink, TEXT_CODE, key.as_str())?;
@@ -303,7 +303,7 @@ pub(crate) fn write_value<'a, K: ByteSink, V: Value<'a>>(
     value: &V,
 ) -> Result<(), io::ErrorKind>
     requires { IsValue (V.tree value.now) }
-    ensures { Writes K.tells K.held K.faults sink.old sink.new result (short V2 (V.tree value.now)) }
+    ensures { Writes K.is_known K.held K.failures sink.old sink.new result (short V2 (V.tree value.now)) }
 {
     match lend(value) {
         NestedValue::Leaf(leaf) => write_leaf(sink, &leaf),
@@ -322,16 +322,16 @@ pub(crate) fn write_value<'a, K: ByteSink, V: Value<'a>>(
 #[inline]
 #[tactic(auto, using(crate::proofs::Coded::Coded_then))]
 fn write_behind<K: ByteSink>(sink: &mut K, code: u8, content: &[u8]) -> Result<(), io::ErrorKind>
-    ensures { Writes K.tells K.held K.faults sink.old sink.new result (code ∷ content.now) }
+    ensures { Writes K.is_known K.held K.failures sink.old sink.new result (code ∷ content.now) }
 {
     write_code(sink, code)?;
     write_all(sink, content)
 }
 
-// A text and its tokens, as they are spelled behind their two codes.
-#[tactic(auto, using(tv_base::proofs::Written::Writes_then, tv_base::proofs::Written::Writes_front))]
-fn write_spelled_tokens<K: ByteSink>(sink: &mut K, content: &[u8]) -> Result<(), io::ErrorKind>
-    ensures { Writes K.tells K.held K.faults sink.old sink.new result (7 ∷ 0 ∷ content.now) }
+// A text and its tokens, as they are encoded behind their two codes.
+#[tactic(auto, using(tv_base::proofs::Written::Writes_then, tv_base::proofs::Written::Writes_prefix))]
+fn write_encoded_tokens<K: ByteSink>(sink: &mut K, content: &[u8]) -> Result<(), io::ErrorKind>
+    ensures { Writes K.is_known K.held K.failures sink.old sink.new result (7 ∷ 0 ∷ content.now) }
 {
     write_all(sink, &[EXT_CODE, TOK_STR_EXT_CODE])?;
     write_all(sink, content)
@@ -346,14 +346,14 @@ pub(crate) fn write_encoded<K: ByteSink>(
     sink: &mut K,
     value: CompactDocValue<'_>,
 ) -> Result<(), io::ErrorKind>
-    ensures { Writes K.tells K.held K.faults sink.old sink.new result (short V2 (tree_of value.entry)) }
+    ensures { Writes K.is_known K.held K.failures sink.old sink.new result (short V2 (tree_of value.entry)) }
 {
     match value.encoded() {
         Encoded::Null => write_code(sink, NULL_CODE),
         Encoded::Bool(truth) => write_coded_bool(sink, BOOL_CODE, truth),
         Encoded::Number(code, number) => write_coded_u64(sink, code, number),
         Encoded::Bytes(code, content) => write_behind(sink, code, content),
-        Encoded::Tokenized(content) => write_spelled_tokens(sink, content),
+        Encoded::Tokenized(content) => write_encoded_tokens(sink, content),
         Encoded::List(code, count, items) => {
             write_coded_count(sink, code, count)?;
             write_encoded_items(sink, items)
@@ -368,7 +368,7 @@ fn write_encoded_items<K: ByteSink>(
     sink: &mut K,
     items: CompactDocArrayIter<'_>,
 ) -> Result<(), io::ErrorKind>
-    ensures { Writes K.tells K.held K.faults sink.old sink.new result (short_elements V2 (elements items.entry.held.0)) }
+    ensures { Writes K.is_known K.held K.failures sink.old sink.new result (short_elements V2 (elements items.entry.held.0)) }
 {
     for item in items {
         write_encoded(sink, item)?;
@@ -383,7 +383,7 @@ pub(crate) fn write_stored_leaf<K: ByteSink>(
     sink: &mut K,
     leaf: &ReferenceValueLeaf<'_>,
 ) -> Result<(), io::ErrorKind>
-    ensures { Writes K.tells K.held K.faults sink.old sink.new result (short_leaf (leaf_written (leaf_of leaf.now))) }
+    ensures { Writes K.is_known K.held K.failures sink.old sink.new result (short_leaf (leaf_written (leaf_of leaf.now))) }
 {
     match leaf {
         ReferenceValueLeaf::PreTokStr(text) => write_coded_text(sink, TEXT_CODE, text.text()),

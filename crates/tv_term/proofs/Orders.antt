@@ -1,4 +1,4 @@
--- The order of bytes is the order of what they spell.
+-- The order of bytes is the order of what they encode.
 use Rattle.std.proofs.Common.{◌≡◌, ◌≢◌, ℕ, suc, zero, ◌+◌, ◌*◌, ◌/◌, ◌%◌, ◌^◌, ◌<◌, Bool, true, false, List, [], ◌∷◌, ◌++◌, length, refl, sym, ◌∙◌, ap, arith}
 use Rattle.std.specs.Prelude.{ℤ, FitsSigned}
 use Rattle.std.specs.Int.{to_be_bytes, bytes_high_first, byte_at, w32, w64}
@@ -22,7 +22,7 @@ then_assoc Less b c = refl
 then_assoc Equal b c = refl
 then_assoc Greater b c = refl
 
--- fronts of one length decide first
+-- prefixes of one length decide first
 pub slice_cmp-append : (a b x y : List ℕ) → length a ≡ length b → slice_cmp nat_cmp (a ++ x) (b ++ y) ≡ ordering_then (slice_cmp nat_cmp a b) (slice_cmp nat_cmp x y)
 slice_cmp-append [] [] x y e = refl
 slice_cmp-append [] (d ∷ b) x y e = absurd (omega arith)
@@ -70,7 +70,7 @@ number-order k m n h j = bytes-order k m n ∙ rw (mod-eq_of_lt h, mod-eq_of_lt 
 positive : (n : ℕ) → n ≢ 0 → 0 < n
 positive n h = omega arith
 
--- a list that ends at its first zero is no front of another
+-- a list that ends at its first zero is no prefix of another
 pub slice_cmp-zero : (p q x y : List ℕ) → HasNoZero p → HasNoZero q → slice_cmp nat_cmp (p ++ 0 ∷ x) (q ++ 0 ∷ y) ≡ ordering_then (slice_cmp nat_cmp p q) (slice_cmp nat_cmp x y)
 slice_cmp-zero [] [] x y h k = refl
 slice_cmp-zero [] (d ∷ q) x y h k = let p : 0 < d = positive d k.0 in rw (less 0 d p) refl

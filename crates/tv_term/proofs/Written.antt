@@ -98,11 +98,11 @@ pub json_type_read : (path : List ℕ) (value : TermValue) → HasNoZero path �
 json_type_read path value h =
     ap (option_and_then (λ parts. type_at parts.1)) (cut_behind_zero-path path (coded value) h) ∙ type_of_code-code (type_of value)
 
-json_front : (path : List ℕ) → take (length (path ++ 0 ∷ []) - 1) (path ++ 0 ∷ []) ≡ path
-json_front path =
+json_prefix : (path : List ℕ) → take (length (path ++ 0 ∷ []) - 1) (path ++ 0 ∷ []) ≡ path
+json_prefix path =
     let shorter : length (path ++ 0 ∷ []) - 1 ≡ length path = omega (arith, length-append path (0 ∷ [])) in
     rw shorter (take-append_seam path (0 ∷ []))
 
 pub json_path_read : (path : List ℕ) (value : TermValue) → HasNoZero path → json_path (coded (Json path value)) ≡ Some path
 json_path_read path value h =
-    ap (option_map (λ parts. take (length parts.0 - 1) parts.0)) (cut_behind_zero-path path (coded value) h) ∙ ap Some (json_front path)
+    ap (option_map (λ parts. take (length parts.0 - 1) parts.0)) (cut_behind_zero-path path (coded value) h) ∙ ap Some (json_prefix path)

@@ -4,20 +4,20 @@ use Rattle.std.specs.Prelude.{is_err, OnOk, IsErrOf}
 use Rattle.std.proofs.lemmas.List.{append_cancel_left}
 use Rattle.tv_base.specs.declared.cause.Cause.TheVariants.{UnexpectedEnd}
 use Rattle.tv_base.specs.Parts.{Begins}
-use Rattle.tv_base.specs.Source.{Faults}
+use Rattle.tv_base.specs.Source.{Failures}
 use Rattle.tv_base.specs.Stop.{Stop, Taken}
-use Rattle.tv_base.specs.Stop.Stop.{Fault, Failed, Short, Never}
+use Rattle.tv_base.specs.Stop.Stop.{InputError, Failed, Short, Never}
 use Rattle.tv_base.proofs.TakeSteps.{Taken_then}
 use Rattle.tv_legacy.specs.Legacy.{Legacy}
 use Rattle.tv_legacy.proofs.Unique.{one_legacy}
-use Rattle.tv_value.specs.Spelling.{Spells, NoLegacy}
+use Rattle.tv_value.specs.Encoding.{Encodes, NoLegacy}
 use Rattle.tv_value.specs.Owned.{owned_tree}
 use Rattle.tv_value.specs.Tree.{Leaf, Tree, leaf}
 use Rattle.tv_value.specs.Version.{Version}
 use Rattle.tv_value.specs.declared.owned_value.OwnedValue.{OwnedValue}
 use Rattle.tv_value.proofs.Trees.{one_tree}
-use Rattle.tv_reader.specs.Finds.{TellsStop, Found}
-use Rattle.tv_reader.specs.Trees.{SpellsBehind}
+use Rattle.tv_reader.specs.Finds.{GivesStop, Found}
+use Rattle.tv_reader.specs.Trees.{EncodesBehind}
 use Rattle.tv_reader.specs.ValueType.{IsCoded, coded, no_code, no_extension_code}
 use Rattle.tv_reader.specs.Version.{version_of}
 use Rattle.tv_reader.specs.declared.error.DeserializeError.{DeserializeError}
@@ -28,7 +28,7 @@ use Rattle.tv_reader.proofs.Finding.{found_behind, stop_map}
 use Rattle.tv_typed.specs.Typed.{typed_stop, Reads, Deserializes}
 use Rattle.tv_typed.specs.Excluding.{leaf_type, leaf_excludes, tree_excludes, next_excludes}
 use Rattle.tv_typed.specs.Excluding.{with_legacy}
-use Rattle.tv_typed.specs.Values.{SpellsAs, SpelledAs, IsLeaf, IsTree, SpellsLeaf, LeafRefused, TreeRefused, CodeRefused, in_code, NextRefused, RefusalsExclude, SparesBytes, IsReadOf, Only}
+use Rattle.tv_typed.specs.Values.{EncodesAs, EncodedAs, IsLeaf, IsTree, EncodesLeaf, LeafRefused, TreeRefused, CodeRefused, in_code, NextRefused, RefusalsExclude, SparesBytes, IsReadOf, Only}
 use Rattle.tv_typed.specs.declared.store_reader.StoreReader.{StoreReader}
 
 abbrev pub end : DeserializeError
@@ -41,18 +41,18 @@ unmarked_by (Ok x) b e = e
 unmarked_by (Err e) b h = tt
 
 found_map : {X : Type 0} (B C : List ℕ → X → Type 0) (Q : List ℕ → DeserializeError → Type 0) (result : Result X DeserializeError) (old new : List ℕ) (count : ℕ) → ((b : List ℕ) (x : X) → B b x → C b x) → Found typed_stop end B Q old new count result → Found typed_stop end C Q old new count result
-found_map B C Q (Ok x) old new count map h = record { front = h.front; joined = h.joined; spelled = map h.front x h.spelled }
+found_map B C Q (Ok x) old new count map h = record { prefix = h.prefix; joined = h.joined; encoded = map h.prefix x h.encoded }
 found_map B C Q (Err e) old new count map h = h
 
 -- what is promised of a call that anyone writes, in the words of its type
-pub deserializes : {S X : Type 0} {tells : S → Type 0} {left : S → List ℕ} {faults : S → Faults} {old new : StoreReader S} {result : Result X DeserializeError} {B : List ℕ → X → Type 0} {Q : List ℕ → DeserializeError → Type 0} (C : List ℕ → X → Type 0)
-    → ((b : List ℕ) (x : X) → B b x → C b x) → Reads tells left faults old new result B Q → Deserializes tells left old new result C Q
+pub deserializes : {S X : Type 0} {is_known : S → Type 0} {left : S → List ℕ} {failures : S → Failures} {old new : StoreReader S} {result : Result X DeserializeError} {B : List ℕ → X → Type 0} {Q : List ℕ → DeserializeError → Type 0} (C : List ℕ → X → Type 0)
+    → ((b : List ℕ) (x : X) → B b x → C b x) → Reads is_known left failures old new result B Q → Deserializes is_known left old new result C Q
 deserializes {left = left} {old = old} {new = new} {result = result} {B = B} {Q = Q} C map h = record {
   closed = h.closed;
   unmarked = unmarked_by result _ h.marks;
   found = λ is_open t. found_map B C Q result (left old.source) (left new.source) new.count map ((h.finds is_open).found t);
   taken = λ is_open. (h.finds is_open).taken;
-  still_tells = λ is_open. (h.finds is_open).still_tells;
+  stays_known = λ is_open. (h.finds is_open).stays_known;
   same_version = h.same_version;
 }
 
@@ -64,53 +64,53 @@ not_ok x e = absurd cc
 err_for : {A B : Type 0} (e d : DeserializeError) → IsErrOf {T = A} (Err e) d → IsErrOf {T = B} (Err e) d
 err_for e d is = let same : e ≡ d = cc in ap (λ (z : DeserializeError). Err z) same
 
-pub goes_then : {S X Y : Type 0} {tells : S → Type 0} {left : S → List ℕ} {old mid new : StoreReader S} {x : X} {result : Result Y DeserializeError} {R : List ℕ → X → Type 0} {I : List ℕ → DeserializeError → Type 0} {A : List ℕ → Y → Type 0} {P : List ℕ → DeserializeError → Type 0}
+pub goes_then : {S X Y : Type 0} {is_known : S → Type 0} {left : S → List ℕ} {old mid new : StoreReader S} {x : X} {result : Result Y DeserializeError} {R : List ℕ → X → Type 0} {I : List ℕ → DeserializeError → Type 0} {A : List ℕ → Y → Type 0} {P : List ℕ → DeserializeError → Type 0}
     (B : List ℕ → Y → Type 0) (Q : List ℕ → DeserializeError → Type 0)
     → ((a b : List ℕ) (y : Y) → R a x → A b y → B (a ++ b) y) → ((a w : List ℕ) (c : DeserializeError) → R a x → P w c → Q (a ++ w) c)
     → ((a : List ℕ) (f : DeserializeError) → R a x → f ≢ end → P [] f → (start : List ℕ) (byte : ℕ) → a ≡ start ++ byte ∷ [] → Q start end)
-    → Deserializes tells left old mid (Ok x) R I → Deserializes tells left mid new result A P → Deserializes tells left old new result B Q
+    → Deserializes is_known left old mid (Ok x) R I → Deserializes is_known left mid new result A P → Deserializes is_known left old new result B Q
 goes_then {left = left} {old = old} {mid = mid} {new = new} {x = x} {result = result} {R = R} {A = A} {P = P} B Q join behind edge p h = record {
   closed = λ failed. absurd (not_ok x (p.closed failed).0);
   unmarked = h.unmarked;
-  found = λ is_open t. found_behind typed_stop end R P Q A B x result (left old.source) (left mid.source) (left new.source) new.count join behind edge (p.found is_open t) (h.found p.unmarked (p.still_tells is_open t));
-  taken = λ is_open t. Taken_then (p.taken is_open t) (h.taken p.unmarked (p.still_tells is_open t));
-  still_tells = λ is_open t. h.still_tells p.unmarked (p.still_tells is_open t);
+  found = λ is_open t. found_behind typed_stop end R P Q A B x result (left old.source) (left mid.source) (left new.source) new.count join behind edge (p.found is_open t) (h.found p.unmarked (p.stays_known is_open t));
+  taken = λ is_open t. Taken_then (p.taken is_open t) (h.taken p.unmarked (p.stays_known is_open t));
+  stays_known = λ is_open t. h.stays_known p.unmarked (p.stays_known is_open t);
   same_version = h.same_version ∙ p.same_version;
 }
 
 -- the same of what is read, in other words
-pub goes_as : {S X Y : Type 0} {tells : S → Type 0} {left : S → List ℕ} {old new : StoreReader S} {x : X} {R : List ℕ → X → Type 0} {I : List ℕ → DeserializeError → Type 0} (y : Y) (B : List ℕ → Y → Type 0) (Q : List ℕ → DeserializeError → Type 0)
-    → ((a : List ℕ) → R a x → B a y) → Deserializes tells left old new (Ok x) R I → Deserializes tells left old new (Ok y) B Q
+pub goes_as : {S X Y : Type 0} {is_known : S → Type 0} {left : S → List ℕ} {old new : StoreReader S} {x : X} {R : List ℕ → X → Type 0} {I : List ℕ → DeserializeError → Type 0} (y : Y) (B : List ℕ → Y → Type 0) (Q : List ℕ → DeserializeError → Type 0)
+    → ((a : List ℕ) → R a x → B a y) → Deserializes is_known left old new (Ok x) R I → Deserializes is_known left old new (Ok y) B Q
 goes_as {x = x} y B Q map p = record {
   closed = λ failed. absurd (not_ok x (p.closed failed).0);
   unmarked = p.unmarked;
-  found = λ is_open t. let h = p.found is_open t in record { front = h.front; joined = h.joined; spelled = map h.front h.spelled };
+  found = λ is_open t. let h = p.found is_open t in record { prefix = h.prefix; joined = h.joined; encoded = map h.prefix h.encoded };
   taken = p.taken;
-  still_tells = p.still_tells;
+  stays_known = p.stays_known;
   same_version = p.same_version;
 }
 
 -- a refusal of a part is one of the whole
-pub goes_fails : {S X Y : Type 0} {tells : S → Type 0} {left : S → List ℕ} {old new : StoreReader S} {e : DeserializeError} {R : List ℕ → X → Type 0} {P : List ℕ → DeserializeError → Type 0} (B : List ℕ → Y → Type 0) (Q : List ℕ → DeserializeError → Type 0)
-    → ((w : List ℕ) (c : DeserializeError) → P w c → Q w c) → Deserializes {X = X} tells left old new (Err e) R P → Deserializes {X = Y} tells left old new (Err e) B Q
+pub goes_fails : {S X Y : Type 0} {is_known : S → Type 0} {left : S → List ℕ} {old new : StoreReader S} {e : DeserializeError} {R : List ℕ → X → Type 0} {P : List ℕ → DeserializeError → Type 0} (B : List ℕ → Y → Type 0) (Q : List ℕ → DeserializeError → Type 0)
+    → ((w : List ℕ) (c : DeserializeError) → P w c → Q w c) → Deserializes {X = X} is_known left old new (Err e) R P → Deserializes {X = Y} is_known left old new (Err e) B Q
 goes_fails {left = left} {old = old} {new = new} {e = e} {P = P} B Q map p = record {
   closed = λ failed. let c = p.closed failed in (err_for e errors.AlreadyFailed c.0, c.1, c.2);
   unmarked = tt;
   found = λ is_open t. stop_map end P Q (typed_stop e) (left old.source) (left new.source) new.count map (p.found is_open t);
   taken = p.taken;
-  still_tells = p.still_tells;
+  stays_known = p.stays_known;
   same_version = p.same_version;
 }
 
 -- what was read can't be kept, for want of memory
-pub goes_short : {S X Y : Type 0} {tells : S → Type 0} {left : S → List ℕ} {old new : StoreReader S} {x : X} {R : List ℕ → X → Type 0} {I : List ℕ → DeserializeError → Type 0} (B : List ℕ → Y → Type 0) (Q : List ℕ → DeserializeError → Type 0)
-    → Deserializes tells left old new (Ok x) R I → Deserializes {X = Y} tells left old new (Err errors.Memory) B Q
+pub goes_short : {S X Y : Type 0} {is_known : S → Type 0} {left : S → List ℕ} {old new : StoreReader S} {x : X} {R : List ℕ → X → Type 0} {I : List ℕ → DeserializeError → Type 0} (B : List ℕ → Y → Type 0) (Q : List ℕ → DeserializeError → Type 0)
+    → Deserializes is_known left old new (Ok x) R I → Deserializes {X = Y} is_known left old new (Err errors.Memory) B Q
 goes_short {x = x} B Q p = record {
   closed = λ failed. absurd (not_ok x (p.closed failed).0);
   unmarked = tt;
   found = λ is_open t. tt;
   taken = p.taken;
-  still_tells = p.still_tells;
+  stays_known = p.stays_known;
   same_version = p.same_version;
 }
 
@@ -119,26 +119,26 @@ kept b c (Ok x) p q = q ∙ p
 kept b c (Err e) p q = tt
 
 -- a refusal was marked
-pub goes_marked : {S X : Type 0} {tells : S → Type 0} {left : S → List ℕ} {old new : StoreReader S} {result : Result X DeserializeError} {B : List ℕ → X → Type 0} {Q : List ℕ → DeserializeError → Type 0} (has_failed : Bool) → OnOk result (has_failed ≡ new.has_failed)
-    → Deserializes tells left old new result B Q → Deserializes tells left old (record new { has_failed = has_failed }) result B Q
+pub goes_marked : {S X : Type 0} {is_known : S → Type 0} {left : S → List ℕ} {old new : StoreReader S} {result : Result X DeserializeError} {B : List ℕ → X → Type 0} {Q : List ℕ → DeserializeError → Type 0} (has_failed : Bool) → OnOk result (has_failed ≡ new.has_failed)
+    → Deserializes is_known left old new result B Q → Deserializes is_known left old (record new { has_failed = has_failed }) result B Q
 goes_marked {new = new} {result = result} has_failed keeps p = record {
   closed = p.closed;
   unmarked = kept new.has_failed has_failed result p.unmarked keeps;
   found = p.found;
   taken = p.taken;
-  still_tells = p.still_tells;
+  stays_known = p.stays_known;
   same_version = p.same_version;
 }
 
 -- whether there was a refusal was marked
-pub goes_told : {S X : Type 0} {tells : S → Type 0} {left : S → List ℕ} {old new : StoreReader S} {result : Result X DeserializeError} {B : List ℕ → X → Type 0} {Q : List ℕ → DeserializeError → Type 0} (has_failed : Bool) → has_failed ≡ is_err result
-    → Deserializes tells left old new result B Q → Deserializes tells left old (record new { has_failed = has_failed }) result B Q
+pub goes_told : {S X : Type 0} {is_known : S → Type 0} {left : S → List ℕ} {old new : StoreReader S} {result : Result X DeserializeError} {B : List ℕ → X → Type 0} {Q : List ℕ → DeserializeError → Type 0} (has_failed : Bool) → has_failed ≡ is_err result
+    → Deserializes is_known left old new result B Q → Deserializes is_known left old (record new { has_failed = has_failed }) result B Q
 goes_told {result = result} has_failed marks p = record {
   closed = p.closed;
   unmarked = unmarked_by result has_failed marks;
   found = p.found;
   taken = p.taken;
-  still_tells = p.still_tells;
+  stays_known = p.stays_known;
   same_version = p.same_version;
 }
 
@@ -148,75 +148,75 @@ no_cons : (b : ℕ) (rest : List ℕ) → [] ≡ b ∷ rest → ⊥
 no_cons b rest e = absurd cc
 
 -- its code was taken, and then what stands behind it
-pub next_then : {S X : Type 0} {tells : S → Type 0} {left : S → List ℕ} {faults : S → Faults} {old mid new : StoreReader S} {kind : ValueType} {result : Result X DeserializeError}
+pub next_then : {S X : Type 0} {is_known : S → Type 0} {left : S → List ℕ} {failures : S → Failures} {old mid new : StoreReader S} {kind : ValueType} {result : Result X DeserializeError}
     (is : Tree → X → Type 0) (refused : Version → ValueType → List ℕ → DeserializeError → Type 0)
-    → Reads tells left faults old mid (Ok kind) IsCoded CodeRefused → Deserializes tells left mid new result (SpelledAs is (version_of mid.version) kind) (refused (version_of mid.version) kind)
-    → Deserializes tells left old new result (SpellsAs is (version_of old.version)) (NextRefused refused (version_of old.version))
-next_then {tells = tells} {left = left} {old = old} {mid = mid} {new = new} {kind = kind} {result = result} is refused p g =
+    → Reads is_known left failures old mid (Ok kind) IsCoded CodeRefused → Deserializes is_known left mid new result (EncodedAs is (version_of mid.version) kind) (refused (version_of mid.version) kind)
+    → Deserializes is_known left old new result (EncodesAs is (version_of old.version)) (NextRefused refused (version_of old.version))
+next_then {is_known = is_known} {left = left} {old = old} {mid = mid} {new = new} {kind = kind} {result = result} is refused p g =
     let v = version_of old.version in
-    let h = subst (λ z. Deserializes tells left mid new result (SpelledAs is (version_of z) kind) (refused (version_of z) kind)) p.same_version g in
-    goes_then (SpellsAs is v) (NextRefused refused v)
-    (λ a b x code s. (s.0, subst (λ w. Spells Legacy v (w ++ b) s.0) (sym code) s.1, s.2))
-    (λ a w c code f. inr (kind, record { front = a; rest = w; joined = refl; first = code; second = f }))
+    let h = subst (λ z. Deserializes is_known left mid new result (EncodedAs is (version_of z) kind) (refused (version_of z) kind)) p.same_version g in
+    goes_then (EncodesAs is v) (NextRefused refused v)
+    (λ a b x code s. (s.0, subst (λ w. Encodes Legacy v (w ++ b) s.0) (sym code) s.1, s.2))
+    (λ a w c code f. inr (kind, record { prefix = a; rest = w; joined = refl; first = code; second = f }))
     (λ a f code _ _ start byte last. kind_edge end (NextRefused refused v) (inl (in_code no_code)) (inl (in_code no_extension_code)) kind start byte (sym code ∙ last))
     (deserializes IsCoded (λ b k c. c) p) h
 
 -- ---- what a type promises beside
 
-spares : (C : List ℕ → DeserializeError → Type 0) (s : Stop DeserializeError) (old new : List ℕ) (count : ℕ) → count < 2 ^ 64 - 1 → ((e : DeserializeError) → C old e → ⊥) → TellsStop end C old new count s → SparesBytes s
-spares C (Fault f) old new count few none h = none f (h few).stands
+spares : (C : List ℕ → DeserializeError → Type 0) (s : Stop DeserializeError) (old new : List ℕ) (count : ℕ) → count < 2 ^ 64 - 1 → ((e : DeserializeError) → C old e → ⊥) → GivesStop end C old new count s → SparesBytes s
+spares C (InputError f) old new count few none h = none f (h few).stands
 spares C (Failed kind) old new count few none h = tt
 spares C Short old new count few none h = tt
 spares C Never old new count few none h = h
 
 read_of : {X : Type 0} (is : Tree → X → Type 0) (v : Version) (code : List ℕ) (Q : List ℕ → DeserializeError → Type 0) (result : Result X DeserializeError) (old new : List ℕ) (count : ℕ) → count < 2 ^ 64 - 1
-    → ((front rest : List ℕ) (e : DeserializeError) (t : Tree) (x : X) → Q (front ++ rest) e → Spells NoLegacy v (code ++ front) t → is t x → ⊥)
-    → Found typed_stop end (λ b x. SpellsAs is v (code ++ b) x) Q old new count result
-    → (t : Tree) (x : X) (front rest : List ℕ) → old ≡ front ++ rest → Spells NoLegacy v (code ++ front) t → is t x → IsReadOf is t rest result new
-read_of is v code Q (Ok y) old new count few excludes h t x front rest joined spelled same =
-    let there : (code ++ h.front) ++ new ≡ (code ++ front) ++ rest =
-    append_assoc code h.front new ∙ ap (λ l. code ++ l) (sym h.joined ∙ joined) ∙ sym (append_assoc code front rest) in
-    let one = one_tree Legacy v one_legacy (code ++ h.front) (code ++ front) new rest h.spelled.0 t h.spelled.1 (with_legacy v t (code ++ front) spelled) there in (
-      subst (λ z. is z y) one.1 h.spelled.2,
-      append_cancel_left (code ++ front) new rest (ap (λ l. l ++ new) (sym one.0) ∙ there),
+    → ((prefix rest : List ℕ) (e : DeserializeError) (t : Tree) (x : X) → Q (prefix ++ rest) e → Encodes NoLegacy v (code ++ prefix) t → is t x → ⊥)
+    → Found typed_stop end (λ b x. EncodesAs is v (code ++ b) x) Q old new count result
+    → (t : Tree) (x : X) (prefix rest : List ℕ) → old ≡ prefix ++ rest → Encodes NoLegacy v (code ++ prefix) t → is t x → IsReadOf is t rest result new
+read_of is v code Q (Ok y) old new count few excludes h t x prefix rest joined encoded same =
+    let there : (code ++ h.prefix) ++ new ≡ (code ++ prefix) ++ rest =
+    append_assoc code h.prefix new ∙ ap (λ l. code ++ l) (sym h.joined ∙ joined) ∙ sym (append_assoc code prefix rest) in
+    let one = one_tree Legacy v one_legacy (code ++ h.prefix) (code ++ prefix) new rest h.encoded.0 t h.encoded.1 (with_legacy v t (code ++ prefix) encoded) there in (
+      subst (λ z. is z y) one.1 h.encoded.2,
+      append_cancel_left (code ++ prefix) new rest (ap (λ l. l ++ new) (sym one.0) ∙ there),
     )
-read_of is v code Q (Err e) old new count few excludes h t x front rest joined spelled same =
-    spares Q (typed_stop e) old new count few (λ f q. excludes front rest f t x (subst (λ w. Q w f) joined q) spelled same) h
+read_of is v code Q (Err e) old new count few excludes h t x prefix rest joined encoded same =
+    spares Q (typed_stop e) old new count few (λ f q. excludes prefix rest f t x (subst (λ w. Q w f) joined q) encoded same) h
 
 few_more : (old new : List ℕ) (count now : ℕ) → Taken old new count now → count + length old < 2 ^ 64 - 1 → now < 2 ^ 64 - 1
-few_more old new count now t few = omega (arith, t.counted, ap length t.joined, length-append t.front new, few)
+few_more old new count now t few = omega (arith, t.counted, ap length t.joined, length-append t.prefix new, few)
 
-pub only_by : {S X : Type 0} {tells : S → Type 0} {left : S → List ℕ} {old new : StoreReader S} {result : Result X DeserializeError} (is : Tree → X → Type 0) (v : Version) (code : List ℕ) (Q : List ℕ → DeserializeError → Type 0)
-    → ((front rest : List ℕ) (e : DeserializeError) (t : Tree) (x : X) → Q (front ++ rest) e → Spells NoLegacy v (code ++ front) t → is t x → ⊥)
-    → Deserializes tells left old new result (λ b x. SpellsAs is v (code ++ b) x) Q → Only tells left old new result is v code
+pub only_by : {S X : Type 0} {is_known : S → Type 0} {left : S → List ℕ} {old new : StoreReader S} {result : Result X DeserializeError} (is : Tree → X → Type 0) (v : Version) (code : List ℕ) (Q : List ℕ → DeserializeError → Type 0)
+    → ((prefix rest : List ℕ) (e : DeserializeError) (t : Tree) (x : X) → Q (prefix ++ rest) e → Encodes NoLegacy v (code ++ prefix) t → is t x → ⊥)
+    → Deserializes is_known left old new result (λ b x. EncodesAs is v (code ++ b) x) Q → Only is_known left old new result is v code
 only_by {left = left} {old = old} {new = new} {result = result} is v code Q excludes h =
-    λ is_open told few t x front rest joined spelled same.
-    read_of is v code Q result (left old.source) (left new.source) new.count (few_more (left old.source) (left new.source) old.count new.count (h.taken is_open told) few) excludes (h.found is_open told) t x front rest joined spelled same
+    λ is_open told few t x prefix rest joined encoded same.
+    read_of is v code Q result (left old.source) (left new.source) new.count (few_more (left old.source) (left new.source) old.count new.count (h.taken is_open told) few) excludes (h.found is_open told) t x prefix rest joined encoded same
 
 -- a leaf behind the code of its type
-pub leaf_deserializes : {S X : Type 0} {tells : S → Type 0} {left : S → List ℕ} {faults : S → Faults} {old new : StoreReader S} {result : Result X DeserializeError} {Q : List ℕ → DeserializeError → Type 0} (make : X → Leaf) (v : Version) (kind : ValueType)
-    → Reads tells left faults old new result (SpellsLeaf v kind make) Q → Deserializes tells left old new result (SpelledAs (IsLeaf make) v kind) Q
-leaf_deserializes make v kind h = deserializes (SpelledAs (IsLeaf make) v kind) (λ b x p. (leaf (make x), p, refl)) h
+pub leaf_deserializes : {S X : Type 0} {is_known : S → Type 0} {left : S → List ℕ} {failures : S → Failures} {old new : StoreReader S} {result : Result X DeserializeError} {Q : List ℕ → DeserializeError → Type 0} (make : X → Leaf) (v : Version) (kind : ValueType)
+    → Reads is_known left failures old new result (EncodesLeaf v kind make) Q → Deserializes is_known left old new result (EncodedAs (IsLeaf make) v kind) Q
+leaf_deserializes make v kind h = deserializes (EncodedAs (IsLeaf make) v kind) (λ b x p. (leaf (make x), p, refl)) h
 
-pub leaf_only : {S X : Type 0} {tells : S → Type 0} {left : S → List ℕ} {faults : S → Faults} {old new : StoreReader S} {result : Result X DeserializeError} (expected : ValueType) (make : X → Leaf) → ((x : X) → leaf_type (make x) ≡ expected) → (v : Version) (kind : ValueType)
-    → Reads tells left faults old new result (SpellsLeaf v kind make) (LeafRefused expected v kind) → Only tells left old new result (IsLeaf make) v (coded kind)
+pub leaf_only : {S X : Type 0} {is_known : S → Type 0} {left : S → List ℕ} {failures : S → Failures} {old new : StoreReader S} {result : Result X DeserializeError} (expected : ValueType) (make : X → Leaf) → ((x : X) → leaf_type (make x) ≡ expected) → (v : Version) (kind : ValueType)
+    → Reads is_known left failures old new result (EncodesLeaf v kind make) (LeafRefused expected v kind) → Only is_known left old new result (IsLeaf make) v (coded kind)
 leaf_only expected make is v kind h =
-    only_by (IsLeaf make) v (coded kind) (LeafRefused expected v kind) (λ front rest e t x r p same. leaf_excludes expected (make x) (is x) v kind front rest e t r p same) (leaf_deserializes make v kind h)
+    only_by (IsLeaf make) v (coded kind) (LeafRefused expected v kind) (λ prefix rest e t x r p same. leaf_excludes expected (make x) (is x) v kind prefix rest e t r p same) (leaf_deserializes make v kind h)
 
 -- a value of any type behind its code
-pub tree_deserializes : {S : Type 0} {tells : S → Type 0} {left : S → List ℕ} {faults : S → Faults} {old new : StoreReader S} {result : Result OwnedValue DeserializeError} {Q : List ℕ → DeserializeError → Type 0} (v : Version) (kind : ValueType)
-    → Reads tells left faults old new result (SpellsBehind v kind) Q → Deserializes tells left old new result (SpelledAs IsTree v kind) Q
-tree_deserializes v kind h = deserializes (SpelledAs IsTree v kind) (λ b x p. (owned_tree x, p, refl)) h
+pub tree_deserializes : {S : Type 0} {is_known : S → Type 0} {left : S → List ℕ} {failures : S → Failures} {old new : StoreReader S} {result : Result OwnedValue DeserializeError} {Q : List ℕ → DeserializeError → Type 0} (v : Version) (kind : ValueType)
+    → Reads is_known left failures old new result (EncodesBehind v kind) Q → Deserializes is_known left old new result (EncodedAs IsTree v kind) Q
+tree_deserializes v kind h = deserializes (EncodedAs IsTree v kind) (λ b x p. (owned_tree x, p, refl)) h
 
-pub tree_only : {S : Type 0} {tells : S → Type 0} {left : S → List ℕ} {faults : S → Faults} {old new : StoreReader S} {result : Result OwnedValue DeserializeError} (v : Version) (kind : ValueType)
-    → Reads tells left faults old new result (SpellsBehind v kind) (TreeRefused v kind) → Only tells left old new result IsTree v (coded kind)
-tree_only v kind h = only_by IsTree v (coded kind) (TreeRefused v kind) (λ front rest e t x r p same. tree_excludes IsTree v kind front rest e t x r p same) (tree_deserializes v kind h)
+pub tree_only : {S : Type 0} {is_known : S → Type 0} {left : S → List ℕ} {failures : S → Failures} {old new : StoreReader S} {result : Result OwnedValue DeserializeError} (v : Version) (kind : ValueType)
+    → Reads is_known left failures old new result (EncodesBehind v kind) (TreeRefused v kind) → Only is_known left old new result IsTree v (coded kind)
+tree_only v kind h = only_by IsTree v (coded kind) (TreeRefused v kind) (λ prefix rest e t x r p same. tree_excludes IsTree v kind prefix rest e t x r p same) (tree_deserializes v kind h)
 
 -- the next value
-pub next_code_fails : {S X : Type 0} {tells : S → Type 0} {left : S → List ℕ} {faults : S → Faults} {old new : StoreReader S} {e : DeserializeError} (is : Tree → X → Type 0) (refused : Version → ValueType → List ℕ → DeserializeError → Type 0) (v : Version)
-    → Reads {X = ValueType} tells left faults old new (Err e) IsCoded CodeRefused → Deserializes {X = X} tells left old new (Err e) (SpellsAs is v) (NextRefused refused v)
-next_code_fails is refused v p = goes_fails (SpellsAs is v) (NextRefused refused v) (λ w c f. inl f) (deserializes IsCoded (λ b k c. c) p)
+pub next_code_fails : {S X : Type 0} {is_known : S → Type 0} {left : S → List ℕ} {failures : S → Failures} {old new : StoreReader S} {e : DeserializeError} (is : Tree → X → Type 0) (refused : Version → ValueType → List ℕ → DeserializeError → Type 0) (v : Version)
+    → Reads {X = ValueType} is_known left failures old new (Err e) IsCoded CodeRefused → Deserializes {X = X} is_known left old new (Err e) (EncodesAs is v) (NextRefused refused v)
+next_code_fails is refused v p = goes_fails (EncodesAs is v) (NextRefused refused v) (λ w c f. inl f) (deserializes IsCoded (λ b k c. c) p)
 
-pub next_only : {S X : Type 0} {tells : S → Type 0} {left : S → List ℕ} {old new : StoreReader S} {result : Result X DeserializeError} (is : Tree → X → Type 0) (refused : Version → ValueType → List ℕ → DeserializeError → Type 0) → RefusalsExclude is refused → (v : Version)
-    → Deserializes tells left old new result (SpellsAs is v) (NextRefused refused v) → Only tells left old new result is v []
-next_only is refused excludes v h = only_by is v [] (NextRefused refused v) (λ front rest e t x r p same. next_excludes is refused excludes v (front ++ rest) front rest e t x r refl p same) h
+pub next_only : {S X : Type 0} {is_known : S → Type 0} {left : S → List ℕ} {old new : StoreReader S} {result : Result X DeserializeError} (is : Tree → X → Type 0) (refused : Version → ValueType → List ℕ → DeserializeError → Type 0) → RefusalsExclude is refused → (v : Version)
+    → Deserializes is_known left old new result (EncodesAs is v) (NextRefused refused v) → Only is_known left old new result is v []
+next_only is refused excludes v h = only_by is v [] (NextRefused refused v) (λ prefix rest e t x r p same. next_excludes is refused excludes v (prefix ++ rest) prefix rest e t x r refl p same) h

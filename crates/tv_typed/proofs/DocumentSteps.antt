@@ -1,8 +1,8 @@
 -- Pairs of a document by their parts.
 use Rattle.std.proofs.Common.{◌≡◌, ℕ, ◌<◌, Bool, true, false, List, [], ◌∷◌, ◌++◌, Option, Result, Ok, Err, refl, sym, subst, ◌∙◌, inl, inr}
 use Rattle.std.specs.Prelude.{is_err, IsErrOf}
-use Rattle.tv_base.specs.Source.{AllBytes, Faults}
-use Rattle.tv_value.specs.Fault.{Corrupt, FieldFault, SmallField}
+use Rattle.tv_base.specs.Source.{AllBytes, Failures}
+use Rattle.tv_value.specs.InputError.{Corrupt, ErrorInField, SmallField}
 use Rattle.tv_value.specs.Tree.{Tree}
 use Rattle.tv_value.specs.Version.{Version}
 use Rattle.tv_value.specs.declared.field.Field.{Field}
@@ -15,10 +15,10 @@ use Rattle.tv_reader.specs.declared.error.DeserializeError.TheVariants as errors
 use Rattle.tv_reader.specs.declared.value_type.ValueType.{ValueType}
 use Rattle.tv_reader.proofs.AgreeField.{field_agrees}
 use Rattle.tv_reader.proofs.Finding.{finds_as, finds_read, finds_read_fails}
-use Rattle.tv_typed.specs.Documents.{SpellsField, FieldNumberRefused, FieldRefused, GivesPair, RefusesPair}
+use Rattle.tv_typed.specs.Documents.{EncodesField, FieldNumberRefused, FieldRefused, GivesPair, RefusesPair}
 use Rattle.tv_typed.specs.Lists.{NextItemRefused}
 use Rattle.tv_typed.specs.Typed.{Reads, Deserializes}
-use Rattle.tv_typed.specs.Values.{SpellsAs, NextRefused}
+use Rattle.tv_typed.specs.Values.{EncodesAs, NextRefused}
 use Rattle.tv_typed.specs.declared.store_reader.StoreReader.{StoreReader}
 use Rattle.tv_typed.proofs.DeserializeSteps.{deserializes, goes_then, goes_as, goes_fails}
 use Rattle.tv_typed.proofs.ListSteps.{at_version, next_ended}
@@ -26,77 +26,77 @@ use Rattle.tv_typed.proofs.TypedSteps.{told_reads}
 
 -- ---- fields
 
-field_found : {S : Type 0} {tells : S → Type 0} {left : S → List ℕ} {faults : S → Faults} {old new : S} {i k : ℕ} (result : Result ℕ DeserializeError) → ((source : S) → tells source → AllBytes (left source))
-    → stores.TakesBy tells left faults old i new k (λ x. x) result field_at → Finds tells left faults old i new k result SmallField (Corrupt FieldFault)
-field_found (Ok x) are_bytes h = finds_as x SmallField (Corrupt FieldFault) (λ a p. p) (finds_read are_bytes field_agrees h)
-field_found (Err e) are_bytes h = finds_read_fails SmallField (Corrupt FieldFault) are_bytes field_agrees (λ w r f. f) h
+field_found : {S : Type 0} {is_known : S → Type 0} {left : S → List ℕ} {failures : S → Failures} {old new : S} {i k : ℕ} (result : Result ℕ DeserializeError) → ((source : S) → is_known source → AllBytes (left source))
+    → stores.TakesBy is_known left failures old i new k (λ x. x) result field_at → Finds is_known left failures old i new k result SmallField (Corrupt ErrorInField)
+field_found (Ok x) are_bytes h = finds_as x SmallField (Corrupt ErrorInField) (λ a p. p) (finds_read are_bytes field_agrees h)
+field_found (Err e) are_bytes h = finds_read_fails SmallField (Corrupt ErrorInField) are_bytes field_agrees (λ w r f. f) h
 
-pub field_reads : {S : Type 0} {tells : S → Type 0} {left : S → List ℕ} {faults : S → Faults} {s : S} {k : ℕ} (old new : StoreReader S) (result : Result ℕ DeserializeError) → ((source : S) → tells source → AllBytes (left source))
-    → old.has_failed ≡ false → stores.TakesBy tells left faults old.source old.count s k (λ x. x) result field_at → (IsErrOf result errors.HeapFull → ⊥) → new.source ≡ s → new.count ≡ k → new.version ≡ old.version → new.has_failed ≡ is_err result
-    → Reads tells left faults old new result SmallField FieldNumberRefused
-field_reads old new result are_bytes is_open h roomy source count version marks = told_reads old new result SmallField (Corrupt FieldFault) is_open (field_found result are_bytes h) roomy source count version marks
+pub field_reads : {S : Type 0} {is_known : S → Type 0} {left : S → List ℕ} {failures : S → Failures} {s : S} {k : ℕ} (old new : StoreReader S) (result : Result ℕ DeserializeError) → ((source : S) → is_known source → AllBytes (left source))
+    → old.has_failed ≡ false → stores.TakesBy is_known left failures old.source old.count s k (λ x. x) result field_at → (IsErrOf result errors.HeapFull → ⊥) → new.source ≡ s → new.count ≡ k → new.version ≡ old.version → new.has_failed ≡ is_err result
+    → Reads is_known left failures old new result SmallField FieldNumberRefused
+field_reads old new result are_bytes is_open h roomy source count version marks = told_reads old new result SmallField (Corrupt ErrorInField) is_open (field_found result are_bytes h) roomy source count version marks
 
 -- ---- pairs
 
-pub pair_found : {S X : Type 0} {tells : S → Type 0} {left : S → List ℕ} {faults : S → Faults} {old mid new : StoreReader S} {n : ℕ} {value : X} (is : Tree → X → Type 0) (refused : Version → ValueType → List ℕ → DeserializeError → Type 0) (field : Field) → field.id ≡ n
-    → Reads tells left faults old mid (Ok n) SmallField FieldNumberRefused → Deserializes tells left mid new (Ok value) (SpellsAs is (version_of mid.version)) (NextRefused refused (version_of mid.version))
-    → Deserializes tells left old new (Ok (field, value)) (SpellsField is (version_of old.version)) (FieldRefused refused (version_of old.version))
+pub pair_found : {S X : Type 0} {is_known : S → Type 0} {left : S → List ℕ} {failures : S → Failures} {old mid new : StoreReader S} {n : ℕ} {value : X} (is : Tree → X → Type 0) (refused : Version → ValueType → List ℕ → DeserializeError → Type 0) (field : Field) → field.id ≡ n
+    → Reads is_known left failures old mid (Ok n) SmallField FieldNumberRefused → Deserializes is_known left mid new (Ok value) (EncodesAs is (version_of mid.version)) (NextRefused refused (version_of mid.version))
+    → Deserializes is_known left old new (Ok (field, value)) (EncodesField is (version_of old.version)) (FieldRefused refused (version_of old.version))
 pair_found {old = old} {value = value} is refused field same p h =
     let v = version_of old.version in
-    goes_as (field, value) (SpellsField is v) (FieldRefused refused v) (λ a s. s)
-    (goes_then (λ b x. SpellsField is v b (field, x)) (λ w r. Unit {0}) (λ a b x r s. record { front = a; rest = b; joined = refl; first = subst (SmallField a) (sym same) r; second = s }) (λ a w c r f. tt) (λ a f r _ _ start byte last. tt)
-    (deserializes SmallField (λ b x q. q) p) (at_version (SpellsAs is) (NextRefused refused) old.version p.same_version h))
+    goes_as (field, value) (EncodesField is v) (FieldRefused refused v) (λ a s. s)
+    (goes_then (λ b x. EncodesField is v b (field, x)) (λ w r. Unit {0}) (λ a b x r s. record { prefix = a; rest = b; joined = refl; first = subst (SmallField a) (sym same) r; second = s }) (λ a w c r f. tt) (λ a f r _ _ start byte last. tt)
+    (deserializes SmallField (λ b x q. q) p) (at_version (EncodesAs is) (NextRefused refused) old.version p.same_version h))
 
-pub pair_field_fails : {S X : Type 0} {tells : S → Type 0} {left : S → List ℕ} {faults : S → Faults} {old new : StoreReader S} {e : DeserializeError} (is : Tree → X → Type 0) (refused : Version → ValueType → List ℕ → DeserializeError → Type 0) (v : Version)
-    → Reads {X = ℕ} tells left faults old new (Err e) SmallField FieldNumberRefused → Deserializes {X = Field × X} tells left old new (Err e) (SpellsField is v) (FieldRefused refused v)
-pair_field_fails is refused v p = goes_fails (SpellsField is v) (FieldRefused refused v) (λ w c f. inl f) (deserializes SmallField (λ b x q. q) p)
+pub pair_field_fails : {S X : Type 0} {is_known : S → Type 0} {left : S → List ℕ} {failures : S → Failures} {old new : StoreReader S} {e : DeserializeError} (is : Tree → X → Type 0) (refused : Version → ValueType → List ℕ → DeserializeError → Type 0) (v : Version)
+    → Reads {X = ℕ} is_known left failures old new (Err e) SmallField FieldNumberRefused → Deserializes {X = Field × X} is_known left old new (Err e) (EncodesField is v) (FieldRefused refused v)
+pair_field_fails is refused v p = goes_fails (EncodesField is v) (FieldRefused refused v) (λ w c f. inl f) (deserializes SmallField (λ b x q. q) p)
 
-pub pair_value_fails : {S X : Type 0} {tells : S → Type 0} {left : S → List ℕ} {faults : S → Faults} {old mid new : StoreReader S} {n : ℕ} {e : DeserializeError} (is : Tree → X → Type 0) (refused : Version → ValueType → List ℕ → DeserializeError → Type 0)
-    → Reads tells left faults old mid (Ok n) SmallField FieldNumberRefused → Deserializes {X = X} tells left mid new (Err e) (SpellsAs is (version_of mid.version)) (NextRefused refused (version_of mid.version))
-    → Deserializes {X = Field × X} tells left old new (Err e) (SpellsField is (version_of old.version)) (FieldRefused refused (version_of old.version))
+pub pair_value_fails : {S X : Type 0} {is_known : S → Type 0} {left : S → List ℕ} {failures : S → Failures} {old mid new : StoreReader S} {n : ℕ} {e : DeserializeError} (is : Tree → X → Type 0) (refused : Version → ValueType → List ℕ → DeserializeError → Type 0)
+    → Reads is_known left failures old mid (Ok n) SmallField FieldNumberRefused → Deserializes {X = X} is_known left mid new (Err e) (EncodesAs is (version_of mid.version)) (NextRefused refused (version_of mid.version))
+    → Deserializes {X = Field × X} is_known left old new (Err e) (EncodesField is (version_of old.version)) (FieldRefused refused (version_of old.version))
 pair_value_fails {old = old} {n = n} is refused p h =
     let v = version_of old.version in
-    goes_then (SpellsField is v) (FieldRefused refused v) (λ a b x r s. absurd s)
-    (λ a w c r f. inr (n, record { front = a; rest = w; joined = refl; first = r; second = f }))
+    goes_then (EncodesField is v) (FieldRefused refused v) (λ a b x r s. absurd s)
+    (λ a w c r f. inr (n, record { prefix = a; rest = w; joined = refl; first = r; second = f }))
     (λ a f r other nothing start byte last. absurd (other (next_ended refused v f nothing)))
-    (deserializes SmallField (λ b x q. q) p) (goes_fails (λ b z. ⊥) (NextRefused refused v) (λ w c f. f) (at_version (SpellsAs is) (NextRefused refused) old.version p.same_version h))
+    (deserializes SmallField (λ b x q. q) p) (goes_fails (λ b z. ⊥) (NextRefused refused v) (λ w c f. f) (at_version (EncodesAs is) (NextRefused refused) old.version p.same_version h))
 
 -- ---- what gives pairs
 
-pub pair_given : {S X : Type 0} {tells : S → Type 0} {left : S → List ℕ} {old new : StoreReader S} {p : Field × X} {Q : List ℕ → DeserializeError → Type 0} (is : Tree → X → Type 0) → old.has_failed ≡ false → Deserializes tells left old new (Ok p) (SpellsField is (version_of old.version)) Q
-    → tells old.source → tells new.source × ((t : Tree) × GivesPair left old (p.0.id, t) new × is t p.1)
+pub pair_given : {S X : Type 0} {is_known : S → Type 0} {left : S → List ℕ} {old new : StoreReader S} {p : Field × X} {Q : List ℕ → DeserializeError → Type 0} (is : Tree → X → Type 0) → old.has_failed ≡ false → Deserializes is_known left old new (Ok p) (EncodesField is (version_of old.version)) Q
+    → is_known old.source → is_known new.source × ((t : Tree) × GivesPair left old (p.0.id, t) new × is t p.1)
 pair_given is is_open h told =
     let b = h.found is_open told in
-    let s = b.spelled in (
-      h.still_tells is_open told,
+    let s = b.encoded in (
+      h.stays_known is_open told,
       (
         s.second.0,
         record {
           was_open = is_open;
           is_open = h.unmarked;
           same_version = h.same_version;
-          spells = record { front = b.front; joined = b.joined; spelled = record { small = s.first.1; parts = record { front = s.front; rest = s.rest; joined = s.joined; first = s.first.0; second = s.second.1 } } };
+          encodes = record { prefix = b.prefix; joined = b.joined; encoded = record { small = s.first.1; parts = record { prefix = s.prefix; rest = s.rest; joined = s.joined; first = s.first.0; second = s.second.1 } } };
         },
         s.second.2,
       ),
     )
 
-pub pair_refused : {S X : Type 0} {tells : S → Type 0} {left : S → List ℕ} {old new : StoreReader S} {e : DeserializeError} (is : Tree → X → Type 0) (refused : Version → ValueType → List ℕ → DeserializeError → Type 0) (position announced : ℕ) → position < announced
-    → Deserializes {X = Field × X} tells left old new (Err e) (SpellsField is (version_of old.version)) (FieldRefused refused (version_of old.version)) → RefusesPair tells left position announced old refused e
+pub pair_refused : {S X : Type 0} {is_known : S → Type 0} {left : S → List ℕ} {old new : StoreReader S} {e : DeserializeError} (is : Tree → X → Type 0) (refused : Version → ValueType → List ℕ → DeserializeError → Type 0) (position announced : ℕ) → position < announced
+    → Deserializes {X = Field × X} is_known left old new (Err e) (EncodesField is (version_of old.version)) (FieldRefused refused (version_of old.version)) → RefusesPair is_known left position announced old refused e
 pair_refused {old = old} {new = new} is refused position announced fewer h = (new, goes_fails (λ b x. ⊥) (NextItemRefused (FieldRefused refused (version_of old.version)) position announced) (λ w c f. (fewer, f)) h)
 
 both : false ≡ true → ⊥
 both e = absurd cc
 
-pub closed_refused : {S : Type 0} (tells : S → Type 0) (left : S → List ℕ) (old : StoreReader S) (refused : Version → ValueType → List ℕ → DeserializeError → Type 0) (position announced : ℕ) → old.has_failed ≡ true → RefusesPair tells left position announced old refused errors.AlreadyFailed
-closed_refused tells left old refused position announced failed = (
+pub closed_refused : {S : Type 0} (is_known : S → Type 0) (left : S → List ℕ) (old : StoreReader S) (refused : Version → ValueType → List ℕ → DeserializeError → Type 0) (position announced : ℕ) → old.has_failed ≡ true → RefusesPair is_known left position announced old refused errors.AlreadyFailed
+closed_refused is_known left old refused position announced failed = (
   old,
   record {
     closed = λ _. (refl, refl, refl);
     unmarked = tt;
     found = λ is_open t. absurd (both (sym is_open ∙ failed));
     taken = λ is_open t. absurd (both (sym is_open ∙ failed));
-    still_tells = λ is_open t. t;
+    stays_known = λ is_open t. t;
     same_version = refl;
   },
 )

@@ -1,29 +1,29 @@
--- Legacy objects as lists and maps: a code and the object behind it are read, and then the spelling of its tree.
+-- Legacy objects as lists and maps: a code and the object behind it are read, and then the encoding of its tree.
 use Rattle.std.proofs.Common.{◌≡◌, ◌≢◌, ℕ, ◌-◌, ◌^◌, ◌<◌, Bool, true, false, List, [], ◌∷◌, ◌++◌, Result, Ok, Err, refl, sym, ap, subst, ◌∙◌, append_assoc, length, length-append, arith, inl, inr}
 use Rattle.std.specs.Prelude.{OnOk}
 use Rattle.std.specs.List.{AllByRecursion}
 use Rattle.std.proofs.lemmas.List.{append-nil}
 use Rattle.tv_base.specs.declared.cause.Cause.TheVariants.{UnexpectedEnd}
-use Rattle.tv_base.specs.Source.{Faults}
+use Rattle.tv_base.specs.Source.{Failures}
 use Rattle.tv_base.specs.Stop.{Stop, Taken}
-use Rattle.tv_base.specs.Stop.Stop.{Fault, Failed, Short, Never}
+use Rattle.tv_base.specs.Stop.Stop.{InputError, Failed, Short, Never}
 use Rattle.tv_base.proofs.TakeSteps.{Taken_none}
-use Rattle.tv_legacy.specs.Legacy.{IsBlank, IsClosed, Legacy, LegacyFault, only_blanks, not_closed}
+use Rattle.tv_legacy.specs.Legacy.{IsBlank, IsClosed, Legacy, ErrorInLegacy, only_blanks, not_closed}
 use Rattle.tv_legacy.proofs.Unique.{one_legacy}
-use Rattle.tv_value.specs.Fault.{corrupted, in_legacy}
+use Rattle.tv_value.specs.InputError.{corrupted, in_legacy}
 use Rattle.tv_value.specs.Leaves.{type_of, store_code}
 use Rattle.tv_value.specs.LeavesLaws.{small_code}
 use Rattle.tv_value.specs.Owned.{owned_tree}
 use Rattle.tv_value.specs.Short.{short, IsValue}
-use Rattle.tv_value.specs.Spelling.{Spells}
+use Rattle.tv_value.specs.Encoding.{Encodes}
 use Rattle.tv_value.specs.Tree.{Tree, leaf, array, object}
 use Rattle.tv_value.specs.Version.{Version, V2}
 use Rattle.tv_value.specs.declared.owned_value.OwnedValue.{OwnedValue}
-use Rattle.tv_value.proofs.ShortSpellings.{short_spells}
+use Rattle.tv_value.proofs.ShortEncodings.{short_encodes}
 use Rattle.tv_value.proofs.Trees.{one_tree}
 use Rattle.tv_reader.specs.Error.{is_corrupted}
-use Rattle.tv_reader.specs.Finds.{TellsStop, Found}
-use Rattle.tv_reader.specs.Trees.{SpellsBehind}
+use Rattle.tv_reader.specs.Finds.{GivesStop, Found}
+use Rattle.tv_reader.specs.Trees.{EncodesBehind}
 use Rattle.tv_reader.specs.Version.{version_of}
 use Rattle.tv_reader.specs.declared.error.DeserializeError.{DeserializeError}
 use Rattle.tv_reader.specs.declared.error.DeserializeError.TheVariants as errors
@@ -32,16 +32,16 @@ use Rattle.tv_reader.specs.declared.value_type.ValueType.TheVariants as types
 use Rattle.tv_reader.specs.declared.version.DocStoreVersion.{DocStoreVersion}
 use Rattle.tv_reader.specs.declared.version.DocStoreVersion.TheVariants as stores
 use Rattle.tv_reader.proofs.Finding.{stop_map}
-use Rattle.tv_typed.specs.LegacyObjects.{Retold, as_it_is, past_the_end, SpellingRefused, ToldOf, OfSpelling, LegacyRefused, MembersRefused, in_other, in_legacy_object}
+use Rattle.tv_typed.specs.LegacyObjects.{Retold, as_it_is, past_the_end, EncodingRefused, ToldOf, OfEncoding, LegacyRefused, MembersRefused, in_other, in_legacy_object}
 use Rattle.tv_typed.specs.Typed.{typed_stop, Reads, Deserializes}
-use Rattle.tv_typed.specs.Values.{SpellsAs, SpelledAs, TreeRefused, NextRefused}
+use Rattle.tv_typed.specs.Values.{EncodesAs, EncodedAs, TreeRefused, NextRefused}
 use Rattle.tv_typed.specs.declared.store_reader.StoreReader.{StoreReader}
 use Rattle.tv_typed.proofs.DeserializeSteps.{end, deserializes, goes_then, goes_fails, goes_short}
 
 -- ---- a legacy object that is cut short
 
--- a blank in front changes nothing
-blank_first : (b : ℕ) (content : List ℕ) → IsBlank b → LegacyFault content UnexpectedEnd → LegacyFault (b ∷ content) UnexpectedEnd
+-- a blank before it changes nothing
+blank_first : (b : ℕ) (content : List ℕ) → IsBlank b → ErrorInLegacy content UnexpectedEnd → ErrorInLegacy (b ∷ content) UnexpectedEnd
 blank_first b content blank (only_blanks all) = only_blanks (blank, all)
 blank_first b content blank (not_closed blanks rest joined all never) = not_closed (b ∷ blanks) rest (ap (λ (l : List ℕ). b ∷ l) joined) (blank, all) never
 
@@ -49,7 +49,7 @@ some_last : (m : List ℕ) (byte : ℕ) → m ++ byte ∷ [] ≢ []
 some_last [] byte e = absurd cc
 some_last (n ∷ m) byte e = absurd cc
 
-cut_slice : (slice start : List ℕ) (byte : ℕ) → IsClosed slice → slice ≡ start ++ byte ∷ [] → LegacyFault start UnexpectedEnd
+cut_slice : (slice start : List ℕ) (byte : ℕ) → IsClosed slice → slice ≡ start ++ byte ∷ [] → ErrorInLegacy start UnexpectedEnd
 cut_slice slice [] byte h joined = only_blanks tt
 cut_slice slice (d ∷ start) byte h joined =
     let head : 123 ∷ h.more ≡ d ∷ (start ++ byte ∷ []) = sym h.opens ∙ joined in
@@ -59,7 +59,7 @@ cut_slice slice (d ∷ start) byte h joined =
     let whole : slice ≡ s ++ (m ++ byte ∷ []) = joined ∙ ap (λ (l : List ℕ). l ++ byte ∷ []) (ap (λ n. n ∷ start) brace ∙ cut) ∙ append_assoc s m (byte ∷ []) in
     h.first s (m ++ byte ∷ []) whole (λ none. let none_opens : [] ≡ 123 ∷ is.more = sym none ∙ is.opens in absurd cc) (some_last m byte) is.closes)
 
-cut_legacy : (blanks slice start : List ℕ) (byte : ℕ) → AllByRecursion IsBlank blanks → IsClosed slice → blanks ++ slice ≡ start ++ byte ∷ [] → LegacyFault start UnexpectedEnd
+cut_legacy : (blanks slice start : List ℕ) (byte : ℕ) → AllByRecursion IsBlank blanks → IsClosed slice → blanks ++ slice ≡ start ++ byte ∷ [] → ErrorInLegacy start UnexpectedEnd
 cut_legacy [] slice start byte all h joined = cut_slice slice start byte h joined
 cut_legacy (b ∷ blanks) slice [] byte all h joined = only_blanks tt
 cut_legacy (b ∷ blanks) slice (d ∷ start) byte all h joined =
@@ -67,20 +67,20 @@ cut_legacy (b ∷ blanks) slice (d ∷ start) byte all h joined =
     let rest : blanks ++ slice ≡ start ++ byte ∷ [] = cc in
     blank_first d start (subst IsBlank same all.0) (cut_legacy blanks slice start byte all.1 h rest)
 
-cut_object : (v : Version) (a : List ℕ) (t : Tree) → Spells Legacy v (8 ∷ a) t → (start : List ℕ) (byte : ℕ) → a ≡ start ++ byte ∷ [] → LegacyFault start UnexpectedEnd
+cut_object : (v : Version) (a : List ℕ) (t : Tree) → Encodes Legacy v (8 ∷ a) t → (start : List ℕ) (byte : ℕ) → a ≡ start ++ byte ∷ [] → ErrorInLegacy start UnexpectedEnd
 cut_object v a (leaf l) p start byte last = let e = p.joined in let same : store_code (type_of l) ≡ 8 = cc in absurd ((small_code (type_of l)).1 same)
 cut_object v a (array ts) p start byte last = absurd (let e = p.joined in cc)
 cut_object v a (object es) (inl p) start byte last = absurd (let e = p.joined in cc)
 cut_object v a (object es) (inr p) start byte last =
     let e : 8 ∷ a ≡ 8 ∷ p.body = p.joined in
     let same : a ≡ p.body = cc in
-    let cut = p.spelled.cut in
-    cut_legacy cut.blanks p.spelled.slice start byte cut.blank cut.is_closed (sym cut.joined ∙ sym same ∙ last)
+    let cut = p.encoded.cut in
+    cut_legacy cut.blanks p.encoded.slice start byte cut.blank cut.is_closed (sym cut.joined ∙ sym same ∙ last)
 
--- ---- what a spelling gives
+-- ---- what an encoding gives
 
 -- a refusal, retold
-of_told : (Q : List ℕ → DeserializeError → Type 0) (e told : DeserializeError) (old new : List ℕ) (count : ℕ) → Retold e told → count < 2 ^ 64 - 1 → TellsStop end Q old new count (typed_stop e) → ToldOf Q old (typed_stop told)
+of_told : (Q : List ℕ → DeserializeError → Type 0) (e told : DeserializeError) (old new : List ℕ) (count : ℕ) → Retold e told → count < 2 ^ 64 - 1 → GivesStop end Q old new count (typed_stop e) → ToldOf Q old (typed_stop told)
 of_told Q (errors.CorruptedValue c) _ old new count (as_it_is other) few h = (errors.CorruptedValue c, (h few).stands, as_it_is other)
 of_told Q (errors.TypeMismatch expected actual) _ old new count (as_it_is other) few h = (errors.TypeMismatch expected actual, (h few).stands, as_it_is other)
 of_told Q (errors.UnsupportedType t) _ old new count (as_it_is other) few h = (errors.UnsupportedType t, (h few).stands, as_it_is other)
@@ -91,20 +91,20 @@ of_told Q errors.HeapFull _ old new count (as_it_is other) few h = h
 of_told Q (errors.UnsupportedVersion m n) _ old new count (as_it_is other) few h = h
 of_told Q errors.AlreadyFailed _ old new count (as_it_is other) few h = h
 of_told Q e _ old new count (past_the_end same) few h =
-    let at_end : TellsStop end Q old new count (typed_stop end) = subst (λ z. TellsStop end Q old new count (typed_stop z)) same h in
+    let at_end : GivesStop end Q old new count (typed_stop end) = subst (λ z. GivesStop end Q old new count (typed_stop z)) same h in
     (end, (at_end few).stands, past_the_end refl)
 
-pub spelling_refused : {X : Type 0} (is : Tree → X → Type 0) (Q : Version → List ℕ → DeserializeError → Type 0) (version : DocStoreVersion) (e told : DeserializeError) (content old new : List ℕ) (count : ℕ) → version ≡ stores.V2 → old ≡ content → Retold e told → count < 2 ^ 64 - 1
-    → Found {X = X} typed_stop end (SpellsAs is (version_of version)) (Q (version_of version)) old new count (Err e) → OfSpelling {X = X} is (Q V2) content (Err told)
-spelling_refused is Q version e told content old new count second same retold few h =
+pub encoding_refused : {X : Type 0} (is : Tree → X → Type 0) (Q : Version → List ℕ → DeserializeError → Type 0) (version : DocStoreVersion) (e told : DeserializeError) (content old new : List ℕ) (count : ℕ) → version ≡ stores.V2 → old ≡ content → Retold e told → count < 2 ^ 64 - 1
+    → Found {X = X} typed_stop end (EncodesAs is (version_of version)) (Q (version_of version)) old new count (Err e) → OfEncoding {X = X} is (Q V2) content (Err told)
+encoding_refused is Q version e told content old new count second same retold few h =
     subst (λ (l : List ℕ). ToldOf (Q V2) l (typed_stop told)) same
-    (of_told (Q V2) e told old new count retold few (subst (λ z. TellsStop end (Q (version_of z)) old new count (typed_stop e)) second h))
+    (of_told (Q V2) e told old new count retold few (subst (λ z. GivesStop end (Q (version_of z)) old new count (typed_stop e)) second h))
 
 -- fewer bytes are taken than are counted
 pub few_taken : (old new : List ℕ) (count now : ℕ) → Taken old new count now → count ≡ 0 → length old < 2 ^ 63 → now < 2 ^ 64 - 1
-few_taken old new count now t none small = omega (arith, t.counted, none, ap length t.joined, length-append t.front new, small)
+few_taken old new count now t none small = omega (arith, t.counted, none, ap length t.joined, length-append t.prefix new, small)
 
--- ---- the object, and then its spelling
+-- ---- the object, and then its encoding
 
 not_end : (e told : DeserializeError) → Retold e told → told ≢ end
 not_end e _ (as_it_is other) same = other same
@@ -115,9 +115,9 @@ no_last [] byte e = absurd cc
 no_last (n ∷ start) byte e = absurd cc
 
 -- nothing more is taken
-stop_here : (Q : List ℕ → DeserializeError → Type 0) (t : Tree) (content left : List ℕ) (count : ℕ) (s : Stop DeserializeError) → content ≡ short V2 t → ToldOf Q content s → TellsStop end (λ w told. SpellingRefused Q t told) left left count s
-stop_here Q t content left count (Fault told) same h =
-    let refused : SpellingRefused Q t told = (h.0, subst (λ (l : List ℕ). Q l h.0) same h.1, h.2) in
+stop_here : (Q : List ℕ → DeserializeError → Type 0) (t : Tree) (content left : List ℕ) (count : ℕ) (s : Stop DeserializeError) → content ≡ short V2 t → ToldOf Q content s → GivesStop end (λ w told. EncodingRefused Q t told) left left count s
+stop_here Q t content left count (InputError told) same h =
+    let refused : EncodingRefused Q t told = (h.0, subst (λ (l : List ℕ). Q l h.0) same h.1, h.2) in
     λ few. record {
       stands = refused;
       shows = record { taken = []; joined = refl; shown = refused; all = λ at_end. absurd (not_end h.0 told h.2 at_end); early = λ other start byte last. absurd (no_last start byte last) };
@@ -127,15 +127,15 @@ stop_here Q t content left count Short same h = tt
 stop_here Q t content left count Never same h = h
 
 -- the value is of the object's own tree
-of_tree : {X : Type 0} (is : Tree → X → Type 0) (t : Tree) (x : X) (content rest front : List ℕ) → content ≡ short V2 t → IsValue t → content ≡ front ++ rest → SpellsAs is V2 front x → is t x
-of_tree is t x content rest front same valid joined s =
-    let whole : short V2 t ++ [] ≡ front ++ rest = append-nil (short V2 t) ∙ sym same ∙ joined in
-    let one = one_tree Legacy V2 one_legacy (short V2 t) front [] rest t s.0 (short_spells Legacy V2 tt t valid) s.1 whole in
+of_tree : {X : Type 0} (is : Tree → X → Type 0) (t : Tree) (x : X) (content rest prefix : List ℕ) → content ≡ short V2 t → IsValue t → content ≡ prefix ++ rest → EncodesAs is V2 prefix x → is t x
+of_tree is t x content rest prefix same valid joined s =
+    let whole : short V2 t ++ [] ≡ prefix ++ rest = append-nil (short V2 t) ∙ sym same ∙ joined in
+    let one = one_tree Legacy V2 one_legacy (short V2 t) prefix [] rest t s.0 (short_encodes Legacy V2 tt t valid) s.1 whole in
     subst (λ z. is z x) (sym one.1) s.2
 
-found_here : {X : Type 0} (is : Tree → X → Type 0) (Q : List ℕ → DeserializeError → Type 0) (t : Tree) (content left : List ℕ) (count : ℕ) (result : Result X DeserializeError) → content ≡ short V2 t → IsValue t → OfSpelling is Q content result
-    → Found typed_stop end (λ b x. (b ≡ []) × is t x) (λ w told. SpellingRefused Q t told) left left count result
-found_here is Q t content left count (Ok x) same valid h = record { front = []; joined = refl; spelled = (refl, of_tree is t x content h.0 h.1.front same valid h.1.joined h.1.spelled) }
+found_here : {X : Type 0} (is : Tree → X → Type 0) (Q : List ℕ → DeserializeError → Type 0) (t : Tree) (content left : List ℕ) (count : ℕ) (result : Result X DeserializeError) → content ≡ short V2 t → IsValue t → OfEncoding is Q content result
+    → Found typed_stop end (λ b x. (b ≡ []) × is t x) (λ w told. EncodingRefused Q t told) left left count result
+found_here is Q t content left count (Ok x) same valid h = record { prefix = []; joined = refl; encoded = (refl, of_tree is t x content h.0 h.1.prefix same valid h.1.joined h.1.encoded) }
 found_here is Q t content left count (Err told) same valid h = stop_here Q t content left count (typed_stop told) same h
 
 both : false ≡ true → ⊥
@@ -145,32 +145,32 @@ still_open : {X : Type 0} (result : Result X DeserializeError) (b : Bool) → b 
 still_open (Ok x) b e = e
 still_open (Err e) b h = tt
 
-pub legacy_then : {S X : Type 0} {tells : S → Type 0} {left : S → List ℕ} {faults : S → Faults} {old new : StoreReader S} {tree : OwnedValue} {content : List ℕ} {result : Result X DeserializeError} (is : Tree → X → Type 0) (refused : Version → ValueType → List ℕ → DeserializeError → Type 0) (v : Version)
-    → Reads tells left faults old new (Ok tree) (SpellsBehind v types.JSONObject) (TreeRefused v types.JSONObject) → content ≡ short V2 (owned_tree tree) → IsValue (owned_tree tree) → OfSpelling is (NextRefused refused V2) content result
-    → Deserializes tells left old new result (SpelledAs is v types.JSONObject) (LegacyRefused refused v)
-legacy_then {tells = tells} {left = left} {new = new} {tree = tree} {content = content} {result = result} is refused v p same valid h =
+pub legacy_then : {S X : Type 0} {is_known : S → Type 0} {left : S → List ℕ} {failures : S → Failures} {old new : StoreReader S} {tree : OwnedValue} {content : List ℕ} {result : Result X DeserializeError} (is : Tree → X → Type 0) (refused : Version → ValueType → List ℕ → DeserializeError → Type 0) (v : Version)
+    → Reads is_known left failures old new (Ok tree) (EncodesBehind v types.JSONObject) (TreeRefused v types.JSONObject) → content ≡ short V2 (owned_tree tree) → IsValue (owned_tree tree) → OfEncoding is (NextRefused refused V2) content result
+    → Deserializes is_known left old new result (EncodedAs is v types.JSONObject) (LegacyRefused refused v)
+legacy_then {is_known = is_known} {left = left} {new = new} {tree = tree} {content = content} {result = result} is refused v p same valid h =
     let t = owned_tree tree in
-    goes_then {A = λ b x. (b ≡ []) × is t x} {P = λ w told. SpellingRefused (NextRefused refused V2) t told} (SpelledAs is v types.JSONObject) (LegacyRefused refused v)
-    (λ a b x r s. (t, subst (λ (l : List ℕ). Spells Legacy v (8 ∷ l) t) (sym (ap (λ (l : List ℕ). a ++ l) s.0 ∙ append-nil a)) r, s.1))
-    (λ a w c r f. inr (t, record { front = a; rest = w; joined = refl; first = r; second = f }))
-    (λ a f r _ _ start byte last. inl (record { refusal = corrupted UnexpectedEnd; told = is_corrupted; fault = in_legacy (cut_object v a t r start byte last) }))
-    (deserializes (λ b x. Spells Legacy v (8 ∷ b) (owned_tree x)) (λ b x q. q) p)
+    goes_then {A = λ b x. (b ≡ []) × is t x} {P = λ w told. EncodingRefused (NextRefused refused V2) t told} (EncodedAs is v types.JSONObject) (LegacyRefused refused v)
+    (λ a b x r s. (t, subst (λ (l : List ℕ). Encodes Legacy v (8 ∷ l) t) (sym (ap (λ (l : List ℕ). a ++ l) s.0 ∙ append-nil a)) r, s.1))
+    (λ a w c r f. inr (t, record { prefix = a; rest = w; joined = refl; first = r; second = f }))
+    (λ a f r _ _ start byte last. inl (record { refusal = corrupted UnexpectedEnd; told = is_corrupted; error = in_legacy (cut_object v a t r start byte last) }))
+    (deserializes (λ b x. Encodes Legacy v (8 ∷ b) (owned_tree x)) (λ b x q. q) p)
     (record {
       closed = λ failed. absurd (both (sym p.marks ∙ failed));
       unmarked = still_open result new.has_failed p.marks;
       found = λ _ told. found_here is (NextRefused refused V2) t content (left new.source) new.count result same valid h;
       taken = λ _ told. Taken_none (left new.source) new.count;
-      still_tells = λ _ told. told;
+      stays_known = λ _ told. told;
       same_version = refl;
     })
 
-pub legacy_fails : {S X : Type 0} {tells : S → Type 0} {left : S → List ℕ} {faults : S → Faults} {old new : StoreReader S} {e : DeserializeError} (is : Tree → X → Type 0) (refused : Version → ValueType → List ℕ → DeserializeError → Type 0) (v : Version)
-    → Reads {X = OwnedValue} tells left faults old new (Err e) (SpellsBehind v types.JSONObject) (TreeRefused v types.JSONObject) → Deserializes {X = X} tells left old new (Err e) (SpelledAs is v types.JSONObject) (LegacyRefused refused v)
-legacy_fails is refused v p = goes_fails (SpelledAs is v types.JSONObject) (LegacyRefused refused v) (λ w c f. inl f) (deserializes (SpellsBehind v types.JSONObject) (λ b x q. q) p)
+pub legacy_fails : {S X : Type 0} {is_known : S → Type 0} {left : S → List ℕ} {failures : S → Failures} {old new : StoreReader S} {e : DeserializeError} (is : Tree → X → Type 0) (refused : Version → ValueType → List ℕ → DeserializeError → Type 0) (v : Version)
+    → Reads {X = OwnedValue} is_known left failures old new (Err e) (EncodesBehind v types.JSONObject) (TreeRefused v types.JSONObject) → Deserializes {X = X} is_known left old new (Err e) (EncodedAs is v types.JSONObject) (LegacyRefused refused v)
+legacy_fails is refused v p = goes_fails (EncodedAs is v types.JSONObject) (LegacyRefused refused v) (λ w c f. inl f) (deserializes (EncodesBehind v types.JSONObject) (λ b x q. q) p)
 
-pub legacy_short : {S X : Type 0} {tells : S → Type 0} {left : S → List ℕ} {faults : S → Faults} {old new : StoreReader S} {tree : OwnedValue} (is : Tree → X → Type 0) (refused : Version → ValueType → List ℕ → DeserializeError → Type 0) (v : Version)
-    → Reads tells left faults old new (Ok tree) (SpellsBehind v types.JSONObject) (TreeRefused v types.JSONObject) → Deserializes {X = X} tells left old new (Err errors.Memory) (SpelledAs is v types.JSONObject) (LegacyRefused refused v)
-legacy_short is refused v p = goes_short (SpelledAs is v types.JSONObject) (LegacyRefused refused v) (deserializes (SpellsBehind v types.JSONObject) (λ b x q. q) p)
+pub legacy_short : {S X : Type 0} {is_known : S → Type 0} {left : S → List ℕ} {failures : S → Failures} {old new : StoreReader S} {tree : OwnedValue} (is : Tree → X → Type 0) (refused : Version → ValueType → List ℕ → DeserializeError → Type 0) (v : Version)
+    → Reads is_known left failures old new (Ok tree) (EncodesBehind v types.JSONObject) (TreeRefused v types.JSONObject) → Deserializes {X = X} is_known left old new (Err errors.Memory) (EncodedAs is v types.JSONObject) (LegacyRefused refused v)
+legacy_short is refused v p = goes_short (EncodedAs is v types.JSONObject) (LegacyRefused refused v) (deserializes (EncodesBehind v types.JSONObject) (λ b x q. q) p)
 
 -- ---- legacy objects among others
 
@@ -178,22 +178,22 @@ found_more : {X : Type 0} (A : List ℕ → X → Type 0) (P Q : List ℕ → De
 found_more A P Q (Ok x) old new count map h = h
 found_more A P Q (Err e) old new count map h = stop_map end P Q (typed_stop e) old new count map h
 
-goes_more : {S X : Type 0} {tells : S → Type 0} {left : S → List ℕ} {old new : StoreReader S} {result : Result X DeserializeError} {A : List ℕ → X → Type 0} {P : List ℕ → DeserializeError → Type 0} (Q : List ℕ → DeserializeError → Type 0)
-    → ((w : List ℕ) (c : DeserializeError) → P w c → Q w c) → Deserializes tells left old new result A P → Deserializes tells left old new result A Q
+goes_more : {S X : Type 0} {is_known : S → Type 0} {left : S → List ℕ} {old new : StoreReader S} {result : Result X DeserializeError} {A : List ℕ → X → Type 0} {P : List ℕ → DeserializeError → Type 0} (Q : List ℕ → DeserializeError → Type 0)
+    → ((w : List ℕ) (c : DeserializeError) → P w c → Q w c) → Deserializes is_known left old new result A P → Deserializes is_known left old new result A Q
 goes_more {left = left} {old = old} {new = new} {result = result} {A = A} {P = P} Q map p = record {
   closed = p.closed;
   unmarked = p.unmarked;
   found = λ is_open t. found_more A P Q result (left old.source) (left new.source) new.count map (p.found is_open t);
   taken = p.taken;
-  still_tells = p.still_tells;
+  stays_known = p.stays_known;
   same_version = p.same_version;
 }
 
-pub legacy_among : {S X : Type 0} {tells : S → Type 0} {left : S → List ℕ} {old new : StoreReader S} {result : Result X DeserializeError} (is : Tree → X → Type 0) (refused : Version → ValueType → List ℕ → DeserializeError → Type 0) (v : Version) (kind : ValueType) → kind ≡ types.JSONObject
-    → Deserializes tells left old new result (SpelledAs is v types.JSONObject) (LegacyRefused refused v) → Deserializes tells left old new result (SpelledAs is v kind) (MembersRefused refused v kind)
-legacy_among {tells = tells} {left = left} {old = old} {new = new} {result = result} is refused v kind same p =
-    goes_more (MembersRefused refused v kind) (λ w c f. in_legacy_object same f) (subst (λ k. Deserializes tells left old new result (SpelledAs is v k) (LegacyRefused refused v)) (sym same) p)
+pub legacy_among : {S X : Type 0} {is_known : S → Type 0} {left : S → List ℕ} {old new : StoreReader S} {result : Result X DeserializeError} (is : Tree → X → Type 0) (refused : Version → ValueType → List ℕ → DeserializeError → Type 0) (v : Version) (kind : ValueType) → kind ≡ types.JSONObject
+    → Deserializes is_known left old new result (EncodedAs is v types.JSONObject) (LegacyRefused refused v) → Deserializes is_known left old new result (EncodedAs is v kind) (MembersRefused refused v kind)
+legacy_among {is_known = is_known} {left = left} {old = old} {new = new} {result = result} is refused v kind same p =
+    goes_more (MembersRefused refused v kind) (λ w c f. in_legacy_object same f) (subst (λ k. Deserializes is_known left old new result (EncodedAs is v k) (LegacyRefused refused v)) (sym same) p)
 
-pub other_among : {S X : Type 0} {tells : S → Type 0} {left : S → List ℕ} {old new : StoreReader S} {result : Result X DeserializeError} (is : Tree → X → Type 0) (refused : Version → ValueType → List ℕ → DeserializeError → Type 0) (v : Version) (kind : ValueType) → kind ≢ types.JSONObject
-    → Deserializes tells left old new result (SpelledAs is v kind) (refused v kind) → Deserializes tells left old new result (SpelledAs is v kind) (MembersRefused refused v kind)
+pub other_among : {S X : Type 0} {is_known : S → Type 0} {left : S → List ℕ} {old new : StoreReader S} {result : Result X DeserializeError} (is : Tree → X → Type 0) (refused : Version → ValueType → List ℕ → DeserializeError → Type 0) (v : Version) (kind : ValueType) → kind ≢ types.JSONObject
+    → Deserializes is_known left old new result (EncodedAs is v kind) (refused v kind) → Deserializes is_known left old new result (EncodedAs is v kind) (MembersRefused refused v kind)
 other_among is refused v kind other p = goes_more (MembersRefused refused v kind) (λ w c f. in_other other f) p

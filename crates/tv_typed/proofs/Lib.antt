@@ -5,5 +5,5 @@ pub mod ListSteps
 pub mod ItemSteps
 pub mod DocumentSteps
 pub mod VisitSteps
-pub mod SpellSteps
+pub mod EncodeSteps
 pub mod LegacySteps

@@ -7,19 +7,19 @@ use Rattle.tv_base.specs.declared.cause.Cause.TheVariants.{UnexpectedEnd}
 use Rattle.tv_base.specs.declared.read_error.ReadError.{ReadError}
 use Rattle.tv_base.specs.Number.{VNum}
 use Rattle.tv_base.specs.Reading.{vint_at}
-use Rattle.tv_base.specs.Source.{AllBytes, Faults}
+use Rattle.tv_base.specs.Source.{AllBytes, Failures}
 use Rattle.tv_base.specs.Take.{TakesBy}
 use Rattle.tv_base.proofs.Agrees.{no_last}
 use Rattle.tv_base.proofs.AgreeNumbers.{vint_agrees}
-use Rattle.tv_value.specs.Fault.{Refusal, corrupted, CodedKeyFault, KeyFault}
-use Rattle.tv_value.specs.Spelling.{Key}
+use Rattle.tv_value.specs.InputError.{Refusal, corrupted, ErrorInCodedKey, ErrorInKey}
+use Rattle.tv_value.specs.Encoding.{Key}
 use Rattle.tv_value.specs.Tree.{Tree}
 use Rattle.tv_value.specs.Version.{Version, entry_total}
 use Rattle.tv_reader.specs.Counts.{half_at}
 use Rattle.tv_reader.specs.Error.{IsRefusal, is_corrupted, is_no_text}
 use Rattle.tv_reader.specs.Finds.{Finds}
-use Rattle.tv_reader.specs.Trees.{CodedKey, TwiceFault, in_number, odd_number}
-use Rattle.tv_reader.specs.ValueType.{coded, CodeFault, no_code, unknown_type, float_type, no_extension_code, unknown_extension}
+use Rattle.tv_reader.specs.Trees.{CodedKey, ErrorInTwice, in_number, odd_number}
+use Rattle.tv_reader.specs.ValueType.{coded, ErrorInCode, no_code, unknown_type, float_type, no_extension_code, unknown_extension}
 use Rattle.tv_reader.specs.Version.{version_of}
 use Rattle.tv_reader.specs.declared.error.DeserializeError.{DeserializeError}
 use Rattle.tv_reader.specs.declared.error.DeserializeError.TheVariants as errors
@@ -28,10 +28,10 @@ use Rattle.tv_reader.specs.declared.value_type.ValueType.TheVariants as types
 use Rattle.tv_reader.specs.declared.version.DocStoreVersion.{DocStoreVersion}
 use Rattle.tv_reader.proofs.AgreeKinds.{same_coded}
 use Rattle.tv_reader.proofs.Finding.{finds_as, finds_fails}
-use Rattle.tv_reader.proofs.TreeSteps.{half_agrees, key_at, key_fault_at, key_fault_ended, total}
+use Rattle.tv_reader.proofs.TreeSteps.{half_agrees, key_at, key_error_at, key_error_ended, total}
 use Rattle.tv_typed.specs.Typed.{raised, Reads, Deserializes, IsMismatch}
-use Rattle.tv_typed.specs.Values.{SpellsAs, in_code, NextRefused}
-use Rattle.tv_typed.specs.Lists.{Length, element_total, SpellsEntry, LengthRefused, other_collection, in_length, no_total, KeyRefused, EntryRefused}
+use Rattle.tv_typed.specs.Values.{EncodesAs, in_code, NextRefused}
+use Rattle.tv_typed.specs.Lists.{Length, element_total, EncodesEntry, LengthRefused, other_collection, in_length, no_total, KeyRefused, EntryRefused}
 use Rattle.tv_typed.specs.declared.store_reader.StoreReader.{StoreReader}
 use Rattle.tv_typed.proofs.DeserializeSteps.{end, deserializes, goes_then, goes_as, goes_fails}
 use Rattle.tv_typed.proofs.TypedSteps.{reads_mismatch, reads_then, told_reads}
@@ -39,27 +39,27 @@ use Rattle.tv_typed.proofs.TypedSteps.{reads_mismatch, reads_then, told_reads}
 -- ---- the number
 
 -- the reader was refused before, or a value of another type stands there
-pub length_mismatch : {S X : Type 0} (tells : S → Type 0) (left : S → List ℕ) (faults : S → Faults) (old new : StoreReader S) (kind collection : ValueType) (total : ℕ → ℕ) (e : DeserializeError) (B : List ℕ → X → Type 0)
-    → IsMismatch old.has_failed kind collection (errors.UnsupportedType kind) e → new.source ≡ old.source → new.count ≡ old.count → new.version ≡ old.version → new.has_failed ≡ true → Reads tells left faults old new (Err e) B (LengthRefused collection total kind)
-length_mismatch tells left faults old new kind collection total e B h source count version marks =
-    reads_mismatch tells left faults old new kind collection (errors.UnsupportedType kind) e B (LengthRefused collection total kind) refl (λ same. cc) (λ other w. other_collection other) h source count version marks
+pub length_mismatch : {S X : Type 0} (is_known : S → Type 0) (left : S → List ℕ) (failures : S → Failures) (old new : StoreReader S) (kind collection : ValueType) (total : ℕ → ℕ) (e : DeserializeError) (B : List ℕ → X → Type 0)
+    → IsMismatch old.has_failed kind collection (errors.UnsupportedType kind) e → new.source ≡ old.source → new.count ≡ old.count → new.version ≡ old.version → new.has_failed ≡ true → Reads is_known left failures old new (Err e) B (LengthRefused collection total kind)
+length_mismatch is_known left failures old new kind collection total e B h source count version marks =
+    reads_mismatch is_known left failures old new kind collection (errors.UnsupportedType kind) e B (LengthRefused collection total kind) refl (λ same. cc) (λ other w. other_collection other) h source count version marks
 
-pub elements_read : {S : Type 0} {tells : S → Type 0} {left : S → List ℕ} {faults : S → Faults} {s : S} {k : ℕ} {answer : Result ℕ ReadError} (old mid new : StoreReader S) (result : Result ℕ DeserializeError) (kind : ValueType)
-    → ((source : S) → tells source → AllBytes (left source)) → kind ≡ types.Array → old.has_failed ≡ false → mid.source ≡ old.source → mid.count ≡ old.count → mid.version ≡ old.version
-    → TakesBy tells left faults mid.source mid.count s k (λ x. x) answer vint_at → new.source ≡ s → new.count ≡ k → new.version ≡ mid.version → new.has_failed ≡ is_err result → result ≡ raised answer
-    → Reads tells left faults old new result (Length types.Array element_total kind) (LengthRefused types.Array element_total kind)
+pub elements_read : {S : Type 0} {is_known : S → Type 0} {left : S → List ℕ} {failures : S → Failures} {s : S} {k : ℕ} {answer : Result ℕ ReadError} (old mid new : StoreReader S) (result : Result ℕ DeserializeError) (kind : ValueType)
+    → ((source : S) → is_known source → AllBytes (left source)) → kind ≡ types.Array → old.has_failed ≡ false → mid.source ≡ old.source → mid.count ≡ old.count → mid.version ≡ old.version
+    → TakesBy is_known left failures mid.source mid.count s k (λ x. x) answer vint_at → new.source ≡ s → new.count ≡ k → new.version ≡ mid.version → new.has_failed ≡ is_err result → result ≡ raised answer
+    → Reads is_known left failures old new result (Length types.Array element_total kind) (LengthRefused types.Array element_total kind)
 elements_read old mid new result kind are_bytes is is_open source count version part source_new count_new version_new marks told =
     reads_then old mid new result (Length types.Array element_total kind) (LengthRefused types.Array element_total kind) are_bytes vint_agrees (λ a x h. (is, h)) (λ w c f. in_length is f)
     is_open source count version part source_new count_new version_new marks told
 
-twice_refused : (version : DocStoreVersion) (kind : ValueType) (w : List ℕ) (c : Cause) → kind ≡ types.Object → TwiceFault w c → LengthRefused types.Object (entry_total (version_of version)) kind w (errors.CorruptedValue c)
+twice_refused : (version : DocStoreVersion) (kind : ValueType) (w : List ℕ) (c : Cause) → kind ≡ types.Object → ErrorInTwice w c → LengthRefused types.Object (entry_total (version_of version)) kind w (errors.CorruptedValue c)
 twice_refused version kind w c is (in_number f) = in_length is f
-twice_refused version kind w _ is (odd_number n front rest joined number none) = no_total n front rest is joined number (λ m e. none m (sym (total version m) ∙ e))
+twice_refused version kind w _ is (odd_number n prefix rest joined number none) = no_total n prefix rest is joined number (λ m e. none m (sym (total version m) ∙ e))
 
-pub entries_read : {S : Type 0} {tells : S → Type 0} {left : S → List ℕ} {faults : S → Faults} {s : S} {k : ℕ} {answer : Result ℕ ReadError} (old mid new : StoreReader S) (result : Result ℕ DeserializeError) (kind : ValueType)
-    → ((source : S) → tells source → AllBytes (left source)) → kind ≡ types.Object → old.has_failed ≡ false → mid.source ≡ old.source → mid.count ≡ old.count → mid.version ≡ old.version
-    → TakesBy tells left faults mid.source mid.count s k (λ x. x) answer half_at → new.source ≡ s → new.count ≡ k → new.version ≡ mid.version → new.has_failed ≡ is_err result → result ≡ raised answer
-    → Reads tells left faults old new result (Length types.Object (entry_total (version_of old.version)) kind) (LengthRefused types.Object (entry_total (version_of old.version)) kind)
+pub entries_read : {S : Type 0} {is_known : S → Type 0} {left : S → List ℕ} {failures : S → Failures} {s : S} {k : ℕ} {answer : Result ℕ ReadError} (old mid new : StoreReader S) (result : Result ℕ DeserializeError) (kind : ValueType)
+    → ((source : S) → is_known source → AllBytes (left source)) → kind ≡ types.Object → old.has_failed ≡ false → mid.source ≡ old.source → mid.count ≡ old.count → mid.version ≡ old.version
+    → TakesBy is_known left failures mid.source mid.count s k (λ x. x) answer half_at → new.source ≡ s → new.count ≡ k → new.version ≡ mid.version → new.has_failed ≡ is_err result → result ≡ raised answer
+    → Reads is_known left failures old new result (Length types.Object (entry_total (version_of old.version)) kind) (LengthRefused types.Object (entry_total (version_of old.version)) kind)
 entries_read old mid new result kind are_bytes is is_open source count version part source_new count_new version_new marks told =
     reads_then old mid new result (Length types.Object (entry_total (version_of old.version)) kind) (LengthRefused types.Object (entry_total (version_of old.version)) kind) are_bytes half_agrees
     (λ a x h. (is, subst (VNum a) (sym (total old.version x)) h)) (λ w c f. twice_refused old.version kind w c is f)
@@ -67,23 +67,23 @@ entries_read old mid new result kind are_bytes is is_open source count version p
 
 -- ---- keys
 
-key_found : {S : Type 0} {tells : S → Type 0} {left : S → List ℕ} {faults : S → Faults} {old new : S} {i k : ℕ} (version : DocStoreVersion) (result : Result (String Global) DeserializeError)
-    → Finds tells left faults old i new k result CodedKey CodedKeyFault → Finds tells left faults old i new k result (λ b key. Key (version_of version) b (string_bytes key)) (KeyFault (version_of version))
+key_found : {S : Type 0} {is_known : S → Type 0} {left : S → List ℕ} {failures : S → Failures} {old new : S} {i k : ℕ} (version : DocStoreVersion) (result : Result (String Global) DeserializeError)
+    → Finds is_known left failures old i new k result CodedKey ErrorInCodedKey → Finds is_known left failures old i new k result (λ b key. Key (version_of version) b (string_bytes key)) (ErrorInKey (version_of version))
 key_found version (Ok key) h = finds_as key _ _ (λ a p. key_at version a key p) h
-key_found version (Err e) h = finds_fails _ _ (λ w r f. key_fault_at version w r f) h
+key_found version (Err e) h = finds_fails _ _ (λ w r f. key_error_at version w r f) h
 
-pub key_reads : {S : Type 0} {tells : S → Type 0} {left : S → List ℕ} {faults : S → Faults} {s : S} {k : ℕ} (old new : StoreReader S) (result : Result (String Global) DeserializeError)
-    → old.has_failed ≡ false → Finds tells left faults old.source old.count s k result CodedKey CodedKeyFault → (IsErrOf result errors.HeapFull → ⊥) → new.source ≡ s → new.count ≡ k → new.version ≡ old.version → new.has_failed ≡ is_err result
-    → Reads tells left faults old new result (λ b key. Key (version_of old.version) b (string_bytes key)) (KeyRefused (version_of old.version))
+pub key_reads : {S : Type 0} {is_known : S → Type 0} {left : S → List ℕ} {failures : S → Failures} {s : S} {k : ℕ} (old new : StoreReader S) (result : Result (String Global) DeserializeError)
+    → old.has_failed ≡ false → Finds is_known left failures old.source old.count s k result CodedKey ErrorInCodedKey → (IsErrOf result errors.HeapFull → ⊥) → new.source ≡ s → new.count ≡ k → new.version ≡ old.version → new.has_failed ≡ is_err result
+    → Reads is_known left failures old new result (λ b key. Key (version_of old.version) b (string_bytes key)) (KeyRefused (version_of old.version))
 key_reads old new result is_open h roomy source count version marks =
-    told_reads old new result (λ b key. Key (version_of old.version) b (string_bytes key)) (KeyFault (version_of old.version)) is_open (key_found old.version result h) roomy source count version marks
+    told_reads old new result (λ b key. Key (version_of old.version) b (string_bytes key)) (ErrorInKey (version_of old.version)) is_open (key_found old.version result h) roomy source count version marks
 
 -- ---- no bytes
 
 no_cons : {b : ℕ} {rest : List ℕ} → b ∷ rest ≡ [] → ⊥
 no_cons e = absurd cc
 
-code_ended : {w : List ℕ} {c : Cause} → w ≡ [] → CodeFault w c → c ≡ UnexpectedEnd
+code_ended : {w : List ℕ} {c : Cause} → w ≡ [] → ErrorInCode w c → c ≡ UnexpectedEnd
 code_ended e no_code = refl
 code_ended e (unknown_type h) = absurd (no_cons e)
 code_ended e float_type = absurd (no_cons e)
@@ -101,35 +101,35 @@ next_ended refused v e (inr p) = absurd (coded_some p.0 p.1.rest (p.1.joined ∙
 -- ---- entries
 
 -- what a call promises in the version that the reader had before
-pub at_version : {S X : Type 0} {tells : S → Type 0} {left : S → List ℕ} {mid new : StoreReader S} {result : Result X DeserializeError} (Item : Version → List ℕ → X → Type 0) (Refused : Version → List ℕ → DeserializeError → Type 0) (version : DocStoreVersion) → mid.version ≡ version
-    → Deserializes tells left mid new result (Item (version_of mid.version)) (Refused (version_of mid.version)) → Deserializes tells left mid new result (Item (version_of version)) (Refused (version_of version))
-at_version {tells = tells} {left = left} {mid = mid} {new = new} {result = result} Item Refused version same h = subst (λ z. Deserializes tells left mid new result (Item (version_of z)) (Refused (version_of z))) same h
+pub at_version : {S X : Type 0} {is_known : S → Type 0} {left : S → List ℕ} {mid new : StoreReader S} {result : Result X DeserializeError} (Item : Version → List ℕ → X → Type 0) (Refused : Version → List ℕ → DeserializeError → Type 0) (version : DocStoreVersion) → mid.version ≡ version
+    → Deserializes is_known left mid new result (Item (version_of mid.version)) (Refused (version_of mid.version)) → Deserializes is_known left mid new result (Item (version_of version)) (Refused (version_of version))
+at_version {is_known = is_known} {left = left} {mid = mid} {new = new} {result = result} Item Refused version same h = subst (λ z. Deserializes is_known left mid new result (Item (version_of z)) (Refused (version_of z))) same h
 
-pub entry_found : {S X : Type 0} {tells : S → Type 0} {left : S → List ℕ} {faults : S → Faults} {old mid new : StoreReader S} {key : String Global} {value : X} (is : Tree → X → Type 0) (refused : Version → ValueType → List ℕ → DeserializeError → Type 0)
-    → Reads tells left faults old mid (Ok key) (λ b key. Key (version_of old.version) b (string_bytes key)) (KeyRefused (version_of old.version)) → Deserializes tells left mid new (Ok value) (SpellsAs is (version_of mid.version)) (NextRefused refused (version_of mid.version))
-    → Deserializes tells left old new (Ok (key, value)) (SpellsEntry is (version_of old.version)) (EntryRefused refused (version_of old.version))
+pub entry_found : {S X : Type 0} {is_known : S → Type 0} {left : S → List ℕ} {failures : S → Failures} {old mid new : StoreReader S} {key : String Global} {value : X} (is : Tree → X → Type 0) (refused : Version → ValueType → List ℕ → DeserializeError → Type 0)
+    → Reads is_known left failures old mid (Ok key) (λ b key. Key (version_of old.version) b (string_bytes key)) (KeyRefused (version_of old.version)) → Deserializes is_known left mid new (Ok value) (EncodesAs is (version_of mid.version)) (NextRefused refused (version_of mid.version))
+    → Deserializes is_known left old new (Ok (key, value)) (EncodesEntry is (version_of old.version)) (EntryRefused refused (version_of old.version))
 entry_found {old = old} {key = key} {value = value} is refused p h =
     let v = version_of old.version in
-    goes_as (key, value) (SpellsEntry is v) (EntryRefused refused v) (λ a s. s)
-    (goes_then (λ b x. SpellsEntry is v b (key, x)) (λ w r. Unit {0}) (λ a b x r s. record { front = a; rest = b; joined = refl; first = r; second = s }) (λ a w c r f. tt) (λ a f r _ _ start byte last. tt)
-    (deserializes (λ b key. Key v b (string_bytes key)) (λ b x q. q) p) (at_version (SpellsAs is) (NextRefused refused) old.version p.same_version h))
+    goes_as (key, value) (EncodesEntry is v) (EntryRefused refused v) (λ a s. s)
+    (goes_then (λ b x. EncodesEntry is v b (key, x)) (λ w r. Unit {0}) (λ a b x r s. record { prefix = a; rest = b; joined = refl; first = r; second = s }) (λ a w c r f. tt) (λ a f r _ _ start byte last. tt)
+    (deserializes (λ b key. Key v b (string_bytes key)) (λ b x q. q) p) (at_version (EncodesAs is) (NextRefused refused) old.version p.same_version h))
 
-pub entry_key_fails : {S X : Type 0} {tells : S → Type 0} {left : S → List ℕ} {faults : S → Faults} {old new : StoreReader S} {e : DeserializeError} (is : Tree → X → Type 0) (refused : Version → ValueType → List ℕ → DeserializeError → Type 0)
-    → Reads {X = String Global} tells left faults old new (Err e) (λ b key. Key (version_of old.version) b (string_bytes key)) (KeyRefused (version_of old.version))
-    → Deserializes {X = String Global × X} tells left old new (Err e) (SpellsEntry is (version_of old.version)) (EntryRefused refused (version_of old.version))
+pub entry_key_fails : {S X : Type 0} {is_known : S → Type 0} {left : S → List ℕ} {failures : S → Failures} {old new : StoreReader S} {e : DeserializeError} (is : Tree → X → Type 0) (refused : Version → ValueType → List ℕ → DeserializeError → Type 0)
+    → Reads {X = String Global} is_known left failures old new (Err e) (λ b key. Key (version_of old.version) b (string_bytes key)) (KeyRefused (version_of old.version))
+    → Deserializes {X = String Global × X} is_known left old new (Err e) (EncodesEntry is (version_of old.version)) (EntryRefused refused (version_of old.version))
 entry_key_fails {old = old} is refused p =
     let v = version_of old.version in
-    goes_fails (SpellsEntry is v) (EntryRefused refused v) (λ w c f. inl f) (deserializes (λ b key. Key v b (string_bytes key)) (λ b x q. q) p)
+    goes_fails (EncodesEntry is v) (EntryRefused refused v) (λ w c f. inl f) (deserializes (λ b key. Key v b (string_bytes key)) (λ b x q. q) p)
 
-pub entry_value_fails : {S X : Type 0} {tells : S → Type 0} {left : S → List ℕ} {faults : S → Faults} {old mid new : StoreReader S} {key : String Global} {e : DeserializeError} (is : Tree → X → Type 0) (refused : Version → ValueType → List ℕ → DeserializeError → Type 0)
-    → Reads tells left faults old mid (Ok key) (λ b key. Key (version_of old.version) b (string_bytes key)) (KeyRefused (version_of old.version)) → Deserializes {X = X} tells left mid new (Err e) (SpellsAs is (version_of mid.version)) (NextRefused refused (version_of mid.version))
-    → Deserializes {X = String Global × X} tells left old new (Err e) (SpellsEntry is (version_of old.version)) (EntryRefused refused (version_of old.version))
+pub entry_value_fails : {S X : Type 0} {is_known : S → Type 0} {left : S → List ℕ} {failures : S → Failures} {old mid new : StoreReader S} {key : String Global} {e : DeserializeError} (is : Tree → X → Type 0) (refused : Version → ValueType → List ℕ → DeserializeError → Type 0)
+    → Reads is_known left failures old mid (Ok key) (λ b key. Key (version_of old.version) b (string_bytes key)) (KeyRefused (version_of old.version)) → Deserializes {X = X} is_known left mid new (Err e) (EncodesAs is (version_of mid.version)) (NextRefused refused (version_of mid.version))
+    → Deserializes {X = String Global × X} is_known left old new (Err e) (EncodesEntry is (version_of old.version)) (EntryRefused refused (version_of old.version))
 entry_value_fails {old = old} {key = key} is refused p h =
     let v = version_of old.version in
-    goes_then (SpellsEntry is v) (EntryRefused refused v) (λ a b x r s. absurd s)
-    (λ a w c r f. inr (string_bytes key, record { front = a; rest = w; joined = refl; first = r; second = f }))
+    goes_then (EncodesEntry is v) (EntryRefused refused v) (λ a b x r s. absurd s)
+    (λ a w c r f. inr (string_bytes key, record { prefix = a; rest = w; joined = refl; first = r; second = f }))
     (λ a f r other nothing start byte last. absurd (other (next_ended refused v f nothing)))
-    (deserializes (λ b key. Key v b (string_bytes key)) (λ b x q. q) p) (goes_fails (λ b z. ⊥) (NextRefused refused v) (λ w c f. f) (at_version (SpellsAs is) (NextRefused refused) old.version p.same_version h))
+    (deserializes (λ b key. Key v b (string_bytes key)) (λ b x q. q) p) (goes_fails (λ b z. ⊥) (NextRefused refused v) (λ w c f. f) (at_version (EncodesAs is) (NextRefused refused) old.version p.same_version h))
 
 no_bytes : (a b : List ℕ) → [] ≡ a ++ b → b ≡ []
 no_bytes [] b e = sym e
@@ -140,5 +140,5 @@ told_ended _ _ is_corrupted is = cc
 told_ended _ _ is_no_text is = cc
 
 pub entry_ended : (refused : Version → ValueType → List ℕ → DeserializeError → Type 0) (version : DocStoreVersion) (e : DeserializeError) → EntryRefused refused (version_of version) [] e → e ≡ end
-entry_ended refused version e (inl f) = told_ended e f.refusal f.told (key_fault_ended version [] f.refusal refl f.fault)
-entry_ended refused version e (inr f) = next_ended refused (version_of version) e (subst (λ w. NextRefused refused (version_of version) w e) (no_bytes f.1.front f.1.rest f.1.joined) f.1.second)
+entry_ended refused version e (inl f) = told_ended e f.refusal f.told (key_error_ended version [] f.refusal refl f.error)
+entry_ended refused version e (inr f) = next_ended refused (version_of version) e (subst (λ w. NextRefused refused (version_of version) w e) (no_bytes f.1.prefix f.1.rest f.1.joined) f.1.second)

@@ -6,31 +6,31 @@ use Rattle.tv_base.specs.declared.cause.Cause.TheVariants.{UnexpectedEnd}
 use Rattle.tv_base.specs.declared.read_error.ReadError.{ReadError}
 use Rattle.tv_base.specs.declared.read_error.ReadError.TheVariants as reads
 use Rattle.tv_base.specs.ReadsAs.{Shows}
-use Rattle.tv_base.specs.Source.{AllBytes, Faults}
+use Rattle.tv_base.specs.Source.{AllBytes, Failures}
 use Rattle.tv_base.specs.Stop.{CountsStop, Counts, Gives}
-use Rattle.tv_base.specs.Stop.Stop.{Fault}
+use Rattle.tv_base.specs.Stop.Stop.{InputError}
 use Rattle.tv_base.specs.Take.{TakesBy, read_stop}
 use Rattle.tv_base.proofs.Agrees.{Agrees}
 use Rattle.tv_base.proofs.ByGrammar.{shows_by}
 use Rattle.tv_legacy.specs.Legacy.{Legacy}
-use Rattle.tv_value.specs.Fault.{Refusal, corrupted}
-use Rattle.tv_value.specs.Spelling.{Spells}
+use Rattle.tv_value.specs.InputError.{Refusal, corrupted}
+use Rattle.tv_value.specs.Encoding.{Encodes}
 use Rattle.tv_value.specs.Tree.{Leaf, leaf}
 use Rattle.tv_value.specs.Version.{Version}
 use Rattle.tv_reader.specs.Error.{key_stop, store_stop, IsRefusal, is_corrupted, is_no_text}
-use Rattle.tv_reader.specs.Finds.{Refuses, TellsStop, Found, FindsBy, Finds}
-use Rattle.tv_reader.specs.LeafBodies.{LeafOf, LeafOfFault}
+use Rattle.tv_reader.specs.Finds.{Refuses, GivesStop, Found, FindsBy, Finds}
+use Rattle.tv_reader.specs.LeafBodies.{LeafOf, ErrorInLeafOf}
 use Rattle.tv_reader.specs.Leaves.{is_leaf_type}
 use Rattle.tv_reader.specs.Trees.{NoneBehind}
 use Rattle.tv_reader.specs.ValueType.{coded}
 use Rattle.tv_typed.specs.Typed.{typed_stop, Reads, raised, IsMismatch, failed_before, mismatched}
-use Rattle.tv_typed.specs.Values.{SpellsLeaf, LeafRefused, other_type, in_body, TellsFault}
+use Rattle.tv_typed.specs.Values.{EncodesLeaf, LeafRefused, other_type, in_body, GivesError}
 use Rattle.tv_reader.specs.declared.error.DeserializeError.{DeserializeError}
 use Rattle.tv_reader.specs.declared.error.DeserializeError.TheVariants as errors
 use Rattle.tv_reader.specs.declared.value_type.ValueType.{ValueType}
 use Rattle.tv_reader.specs.declared.value_type.ValueType.TheVariants as types
 use Rattle.tv_typed.specs.declared.store_reader.StoreReader.{StoreReader}
-use Rattle.tv_reader.proofs.BehindKinds.{leaf_spelled, leaf_refused}
+use Rattle.tv_reader.proofs.BehindKinds.{leaf_encoded, leaf_refused}
 use Rattle.tv_reader.proofs.Finding.{shows_map, finds_refused}
 
 abbrev end : DeserializeError
@@ -39,10 +39,10 @@ end = errors.CorruptedValue UnexpectedEnd
 same_cause : (c : Cause) → errors.CorruptedValue c ≡ errors.CorruptedValue UnexpectedEnd → c ≡ UnexpectedEnd
 same_cause c e = cc
 
-typed_found : {X Y : Type 0} (view : X → Y) {reading : List ℕ → Result (Y × List ℕ) (Cause × List ℕ)} {Spells : List ℕ → Y → Type 0} {IsFault : List ℕ → Cause → Type 0} (answer : Result X ReadError) (B : List ℕ → X → Type 0) (Q : List ℕ → DeserializeError → Type 0)
-    → Agrees UnexpectedEnd reading Spells IsFault → ((a : List ℕ) (x : X) → Spells a (view x) → B a x) → ((w : List ℕ) (c : Cause) → IsFault w c → Q w (errors.CorruptedValue c)) → (old new : List ℕ) (count : ℕ) → AllBytes old
+typed_found : {X Y : Type 0} (view : X → Y) {reading : List ℕ → Result (Y × List ℕ) (Cause × List ℕ)} {Encodes : List ℕ → Y → Type 0} {HasError : List ℕ → Cause → Type 0} (answer : Result X ReadError) (B : List ℕ → X → Type 0) (Q : List ℕ → DeserializeError → Type 0)
+    → Agrees UnexpectedEnd reading Encodes HasError → ((a : List ℕ) (x : X) → Encodes a (view x) → B a x) → ((w : List ℕ) (c : Cause) → HasError w c → Q w (errors.CorruptedValue c)) → (old new : List ℕ) (count : ℕ) → AllBytes old
     → Gives read_stop view answer (reading old) new count → Found typed_stop end B Q old new count (raised answer)
-typed_found view (Ok x) B Q agrees join map old new count small h = let p = agrees.sound old (view x, new) small h in record { front = p.0; joined = p.2; spelled = join p.0 x p.1 }
+typed_found view (Ok x) B Q agrees join map old new count small h = let p = agrees.sound old (view x, new) small h in record { prefix = p.0; joined = p.2; encoded = join p.0 x p.1 }
 typed_found view (Err (reads.Corrupted c)) B Q agrees join map old new count small h = λ few. record {
   stands = map old c (agrees.refused old c new small (h few));
   shows = shows_map (λ d. errors.CorruptedValue d) same_cause old new c map (shows_by agrees old new c small (h few));
@@ -50,20 +50,20 @@ typed_found view (Err (reads.Corrupted c)) B Q agrees join map old new count sma
 typed_found view (Err (reads.Io kind)) B Q agrees join map old new count small h = tt
 typed_found view (Err reads.Memory) B Q agrees join map old new count small h = tt
 
-typed_counts : {X : Type 0} (answer : Result X ReadError) (old new : Faults) → Counts read_stop answer old new → Counts typed_stop (raised answer) old new
+typed_counts : {X : Type 0} (answer : Result X ReadError) (old new : Failures) → Counts read_stop answer old new → Counts typed_stop (raised answer) old new
 typed_counts (Ok x) old new h = h
 typed_counts (Err (reads.Corrupted c)) old new h = h
 typed_counts (Err (reads.Io kind)) old new h = h
 typed_counts (Err reads.Memory) old new h = h
 
-typed_part : {S X Y : Type 0} (tells : S → Type 0) (left : S → List ℕ) (faults : S → Faults) (old new : S) (i k : ℕ) (view : X → Y) (answer : Result X ReadError) {reading : List ℕ → Result (Y × List ℕ) (Cause × List ℕ)} {Spells : List ℕ → Y → Type 0} {IsFault : List ℕ → Cause → Type 0} (B : List ℕ → X → Type 0) (Q : List ℕ → DeserializeError → Type 0)
-    → ((source : S) → tells source → AllBytes (left source)) → Agrees UnexpectedEnd reading Spells IsFault → ((a : List ℕ) (x : X) → Spells a (view x) → B a x) → ((w : List ℕ) (c : Cause) → IsFault w c → Q w (errors.CorruptedValue c))
-    → TakesBy tells left faults old i new k view answer reading → FindsBy typed_stop end tells left faults old i new k (raised answer) B Q
-typed_part tells left faults old new i k view answer B Q are_bytes agrees join map h = record {
+typed_part : {S X Y : Type 0} (is_known : S → Type 0) (left : S → List ℕ) (failures : S → Failures) (old new : S) (i k : ℕ) (view : X → Y) (answer : Result X ReadError) {reading : List ℕ → Result (Y × List ℕ) (Cause × List ℕ)} {Encodes : List ℕ → Y → Type 0} {HasError : List ℕ → Cause → Type 0} (B : List ℕ → X → Type 0) (Q : List ℕ → DeserializeError → Type 0)
+    → ((source : S) → is_known source → AllBytes (left source)) → Agrees UnexpectedEnd reading Encodes HasError → ((a : List ℕ) (x : X) → Encodes a (view x) → B a x) → ((w : List ℕ) (c : Cause) → HasError w c → Q w (errors.CorruptedValue c))
+    → TakesBy is_known left failures old i new k view answer reading → FindsBy typed_stop end is_known left failures old i new k (raised answer) B Q
+typed_part is_known left failures old new i k view answer B Q are_bytes agrees join map h = record {
   found = λ t. typed_found view answer B Q agrees join map (left old) (left new) k (are_bytes old t) (h.gives t);
   taken = h.taken;
-  still_tells = h.still_tells;
-  counts = typed_counts answer (faults old) (faults new) h.counts;
+  stays_known = h.stays_known;
+  counts = typed_counts answer (failures old) (failures new) h.counts;
   rises = h.rises;
 }
 
@@ -71,50 +71,50 @@ both : (b : Bool) → b ≡ false → b ≡ true → ⊥
 both b p q = let e = sym p ∙ q in absurd cc
 
 -- the reader was open, and a part was taken
-pub reads_part : {S X Y : Type 0} {tells : S → Type 0} {left : S → List ℕ} {faults : S → Faults} {s : S} {k : ℕ} {view : X → Y} {answer : Result X ReadError} {reading : List ℕ → Result (Y × List ℕ) (Cause × List ℕ)} {Spells : List ℕ → Y → Type 0} {IsFault : List ℕ → Cause → Type 0}
+pub reads_part : {S X Y : Type 0} {is_known : S → Type 0} {left : S → List ℕ} {failures : S → Failures} {s : S} {k : ℕ} {view : X → Y} {answer : Result X ReadError} {reading : List ℕ → Result (Y × List ℕ) (Cause × List ℕ)} {Encodes : List ℕ → Y → Type 0} {HasError : List ℕ → Cause → Type 0}
     (old new : StoreReader S) (result : Result X DeserializeError) (B : List ℕ → X → Type 0) (Q : List ℕ → DeserializeError → Type 0)
-    → ((source : S) → tells source → AllBytes (left source)) → Agrees UnexpectedEnd reading Spells IsFault → ((a : List ℕ) (x : X) → Spells a (view x) → B a x) → ((w : List ℕ) (c : Cause) → IsFault w c → Q w (errors.CorruptedValue c))
-    → old.has_failed ≡ false → TakesBy tells left faults old.source old.count s k view answer reading → new.source ≡ s → new.count ≡ k → new.version ≡ old.version → new.has_failed ≡ is_err result → result ≡ raised answer
-    → Reads tells left faults old new result B Q
-reads_part {tells = tells} {left = left} {faults = faults} {s = s} {k = k} {view = view} {answer = answer} old new result B Q are_bytes agrees join map is_open part source count version marks told = record {
+    → ((source : S) → is_known source → AllBytes (left source)) → Agrees UnexpectedEnd reading Encodes HasError → ((a : List ℕ) (x : X) → Encodes a (view x) → B a x) → ((w : List ℕ) (c : Cause) → HasError w c → Q w (errors.CorruptedValue c))
+    → old.has_failed ≡ false → TakesBy is_known left failures old.source old.count s k view answer reading → new.source ≡ s → new.count ≡ k → new.version ≡ old.version → new.has_failed ≡ is_err result → result ≡ raised answer
+    → Reads is_known left failures old new result B Q
+reads_part {is_known = is_known} {left = left} {failures = failures} {s = s} {k = k} {view = view} {answer = answer} old new result B Q are_bytes agrees join map is_open part source count version marks told = record {
   closed = λ failed. absurd (both old.has_failed is_open failed);
-  finds = λ _. subst (λ r. FindsBy typed_stop end tells left faults old.source old.count new.source new.count r B Q) (sym told)
-      (subst (λ z. FindsBy typed_stop end tells left faults old.source old.count z new.count (raised answer) B Q) (sym source)
-      (subst (λ n. FindsBy typed_stop end tells left faults old.source old.count s n (raised answer) B Q) (sym count)
-      (typed_part tells left faults old.source s old.count k view answer B Q are_bytes agrees join map part)));
+  finds = λ _. subst (λ r. FindsBy typed_stop end is_known left failures old.source old.count new.source new.count r B Q) (sym told)
+      (subst (λ z. FindsBy typed_stop end is_known left failures old.source old.count z new.count (raised answer) B Q) (sym source)
+      (subst (λ n. FindsBy typed_stop end is_known left failures old.source old.count s n (raised answer) B Q) (sym count)
+      (typed_part is_known left failures old.source s old.count k view answer B Q are_bytes agrees join map part)));
   marks = marks;
   same_version = version;
 }
 
 -- the reader was refused before, or the type is another than that which is expected
-pub reads_mismatch : {S X Kind : Type 0} (tells : S → Type 0) (left : S → List ℕ) (faults : S → Faults) (old new : StoreReader S) (kind expected : Kind) (refusal e : DeserializeError) (B : List ℕ → X → Type 0) (Q : List ℕ → DeserializeError → Type 0)
-    → typed_stop refusal ≡ Fault refusal → refusal ≢ end → (kind ≢ expected → (w : List ℕ) → Q w refusal)
-    → IsMismatch old.has_failed kind expected refusal e → new.source ≡ old.source → new.count ≡ old.count → new.version ≡ old.version → new.has_failed ≡ true → Reads tells left faults old new (Err e) B Q
-reads_mismatch tells left faults old new kind expected refusal _ B Q is other shows (failed_before failed) source count version marks = record {
+pub reads_mismatch : {S X Kind : Type 0} (is_known : S → Type 0) (left : S → List ℕ) (failures : S → Failures) (old new : StoreReader S) (kind expected : Kind) (refusal e : DeserializeError) (B : List ℕ → X → Type 0) (Q : List ℕ → DeserializeError → Type 0)
+    → typed_stop refusal ≡ InputError refusal → refusal ≢ end → (kind ≢ expected → (w : List ℕ) → Q w refusal)
+    → IsMismatch old.has_failed kind expected refusal e → new.source ≡ old.source → new.count ≡ old.count → new.version ≡ old.version → new.has_failed ≡ true → Reads is_known left failures old new (Err e) B Q
+reads_mismatch is_known left failures old new kind expected refusal _ B Q is other shows (failed_before failed) source count version marks = record {
   closed = λ _. (refl, source, count);
   finds = λ is_open. absurd (both old.has_failed is_open failed);
   marks = marks;
   same_version = version;
 }
-reads_mismatch tells left faults old new kind expected refusal _ B Q is other shows (mismatched is_open apart) source count version marks = record {
+reads_mismatch is_known left failures old new kind expected refusal _ B Q is other shows (mismatched is_open apart) source count version marks = record {
   closed = λ failed. absurd (both old.has_failed is_open failed);
-  finds = λ _. subst (λ z. FindsBy typed_stop end tells left faults old.source old.count z new.count (Err refusal) B Q) (sym source)
-      (subst (λ n. FindsBy typed_stop end tells left faults old.source old.count old.source n (Err refusal) B Q) (sym count)
-      (finds_refused typed_stop end tells left faults old.source old.count refusal refusal B Q is other (shows apart)));
+  finds = λ _. subst (λ z. FindsBy typed_stop end is_known left failures old.source old.count z new.count (Err refusal) B Q) (sym source)
+      (subst (λ n. FindsBy typed_stop end is_known left failures old.source old.count old.source n (Err refusal) B Q) (sym count)
+      (finds_refused typed_stop end is_known left failures old.source old.count refusal refusal B Q is other (shows apart)));
   marks = marks;
   same_version = version;
 }
 
 -- the same of a leaf
-pub leaf_mismatch : {S X : Type 0} (tells : S → Type 0) (left : S → List ℕ) (faults : S → Faults) (old new : StoreReader S) (kind expected : ValueType) (v : Version) (e : DeserializeError) (B : List ℕ → X → Type 0)
-    → IsMismatch old.has_failed kind expected (errors.TypeMismatch expected kind) e → new.source ≡ old.source → new.count ≡ old.count → new.version ≡ old.version → new.has_failed ≡ true → Reads tells left faults old new (Err e) B (LeafRefused expected v kind)
-leaf_mismatch tells left faults old new kind expected v e B h source count version marks =
-    reads_mismatch tells left faults old new kind expected (errors.TypeMismatch expected kind) e B (LeafRefused expected v kind) refl (λ same. cc) (λ other w. other_type other) h source count version marks
+pub leaf_mismatch : {S X : Type 0} (is_known : S → Type 0) (left : S → List ℕ) (failures : S → Failures) (old new : StoreReader S) (kind expected : ValueType) (v : Version) (e : DeserializeError) (B : List ℕ → X → Type 0)
+    → IsMismatch old.has_failed kind expected (errors.TypeMismatch expected kind) e → new.source ≡ old.source → new.count ≡ old.count → new.version ≡ old.version → new.has_failed ≡ true → Reads is_known left failures old new (Err e) B (LeafRefused expected v kind)
+leaf_mismatch is_known left failures old new kind expected v e B h source count version marks =
+    reads_mismatch is_known left failures old new kind expected (errors.TypeMismatch expected kind) e B (LeafRefused expected v kind) refl (λ same. cc) (λ other w. other_type other) h source count version marks
 
 -- the reader was refused before
-pub reads_closed : {S X : Type 0} (tells : S → Type 0) (left : S → List ℕ) (faults : S → Faults) (old new : StoreReader S) (e : DeserializeError) (B : List ℕ → X → Type 0) (Q : List ℕ → DeserializeError → Type 0)
-    → e ≡ errors.AlreadyFailed → old.has_failed ≡ true → new.source ≡ old.source → new.count ≡ old.count → new.version ≡ old.version → new.has_failed ≡ true → Reads tells left faults old new (Err e) B Q
-reads_closed tells left faults old new e B Q is failed source count version marks = record {
+pub reads_closed : {S X : Type 0} (is_known : S → Type 0) (left : S → List ℕ) (failures : S → Failures) (old new : StoreReader S) (e : DeserializeError) (B : List ℕ → X → Type 0) (Q : List ℕ → DeserializeError → Type 0)
+    → e ≡ errors.AlreadyFailed → old.has_failed ≡ true → new.source ≡ old.source → new.count ≡ old.count → new.version ≡ old.version → new.has_failed ≡ true → Reads is_known left failures old new (Err e) B Q
+reads_closed is_known left failures old new e B Q is failed source count version marks = record {
   closed = λ _. (ap (λ (d : DeserializeError). Err d) is, source, count);
   finds = λ is_open. absurd (both old.has_failed is_open failed);
   marks = marks;
@@ -122,39 +122,39 @@ reads_closed tells left faults old new e B Q is failed source count version mark
 }
 
 -- the type was the one that is expected, and then a part was taken
-pub reads_then : {S X Y : Type 0} {tells : S → Type 0} {left : S → List ℕ} {faults : S → Faults} {s : S} {k : ℕ} {view : X → Y} {answer : Result X ReadError} {reading : List ℕ → Result (Y × List ℕ) (Cause × List ℕ)} {R : List ℕ → Y → Type 0} {F : List ℕ → Cause → Type 0}
+pub reads_then : {S X Y : Type 0} {is_known : S → Type 0} {left : S → List ℕ} {failures : S → Failures} {s : S} {k : ℕ} {view : X → Y} {answer : Result X ReadError} {reading : List ℕ → Result (Y × List ℕ) (Cause × List ℕ)} {R : List ℕ → Y → Type 0} {F : List ℕ → Cause → Type 0}
     (old mid new : StoreReader S) (result : Result X DeserializeError) (B : List ℕ → X → Type 0) (Q : List ℕ → DeserializeError → Type 0)
-    → ((source : S) → tells source → AllBytes (left source)) → Agrees UnexpectedEnd reading R F → ((a : List ℕ) (x : X) → R a (view x) → B a x) → ((w : List ℕ) (c : Cause) → F w c → Q w (errors.CorruptedValue c))
+    → ((source : S) → is_known source → AllBytes (left source)) → Agrees UnexpectedEnd reading R F → ((a : List ℕ) (x : X) → R a (view x) → B a x) → ((w : List ℕ) (c : Cause) → F w c → Q w (errors.CorruptedValue c))
     → old.has_failed ≡ false → mid.source ≡ old.source → mid.count ≡ old.count → mid.version ≡ old.version
-    → TakesBy tells left faults mid.source mid.count s k view answer reading → new.source ≡ s → new.count ≡ k → new.version ≡ mid.version → new.has_failed ≡ is_err result → result ≡ raised answer
-    → Reads tells left faults old new result B Q
-reads_then {tells = tells} {left = left} {faults = faults} {s = s} {k = k} {view = view} {answer = answer} {reading = reading} old mid new result B Q are_bytes agrees join map is_open source count version part source_new count_new version_new marks told =
+    → TakesBy is_known left failures mid.source mid.count s k view answer reading → new.source ≡ s → new.count ≡ k → new.version ≡ mid.version → new.has_failed ≡ is_err result → result ≡ raised answer
+    → Reads is_known left failures old new result B Q
+reads_then {is_known = is_known} {left = left} {failures = failures} {s = s} {k = k} {view = view} {answer = answer} {reading = reading} old mid new result B Q are_bytes agrees join map is_open source count version part source_new count_new version_new marks told =
     reads_part old new result B Q are_bytes agrees join map is_open
-    (subst (λ z. TakesBy tells left faults z old.count s k view answer reading) source (subst (λ n. TakesBy tells left faults mid.source n s k view answer reading) count part))
+    (subst (λ z. TakesBy is_known left failures z old.count s k view answer reading) source (subst (λ n. TakesBy is_known left failures mid.source n s k view answer reading) count part))
     source_new count_new (version_new ∙ version) marks told
 
--- what was read is spelled behind the code of the type that was expected
-pub leaf_reads : {S X Y : Type 0} {tells : S → Type 0} {left : S → List ℕ} {faults : S → Faults} {s : S} {k : ℕ} {view : X → Y} {answer : Result X ReadError} {reading : List ℕ → Result (Y × List ℕ) (Cause × List ℕ)} {R : List ℕ → Y → Type 0} {F : List ℕ → Cause → Type 0}
+-- what was read is encoded behind the code of the type that was expected
+pub leaf_reads : {S X Y : Type 0} {is_known : S → Type 0} {left : S → List ℕ} {failures : S → Failures} {s : S} {k : ℕ} {view : X → Y} {answer : Result X ReadError} {reading : List ℕ → Result (Y × List ℕ) (Cause × List ℕ)} {R : List ℕ → Y → Type 0} {F : List ℕ → Cause → Type 0}
     (old mid new : StoreReader S) (result : Result X DeserializeError) (v : Version) (kind expected : ValueType) (make : X → Leaf)
-    → ((source : S) → tells source → AllBytes (left source)) → Agrees UnexpectedEnd reading R F → ((a : List ℕ) (x : X) → R a (view x) → LeafOf v expected a (leaf (make x))) → ((w : List ℕ) (c : Cause) → F w c → LeafOfFault v expected w c)
+    → ((source : S) → is_known source → AllBytes (left source)) → Agrees UnexpectedEnd reading R F → ((a : List ℕ) (x : X) → R a (view x) → LeafOf v expected a (leaf (make x))) → ((w : List ℕ) (c : Cause) → F w c → ErrorInLeafOf v expected w c)
     → is_leaf_type expected ≡ true → kind ≡ expected → old.has_failed ≡ false → mid.source ≡ old.source → mid.count ≡ old.count → mid.version ≡ old.version
-    → TakesBy tells left faults mid.source mid.count s k view answer reading → new.source ≡ s → new.count ≡ k → new.version ≡ mid.version → new.has_failed ≡ is_err result → result ≡ raised answer
-    → Reads tells left faults old new result (SpellsLeaf v kind make) (LeafRefused expected v kind)
-leaf_reads {tells = tells} {left = left} {faults = faults} {s = s} {k = k} {view = view} {answer = answer} {reading = reading} old mid new result v kind expected make are_bytes agrees join map is_leaf is is_open source count version part source_new count_new version_new marks told =
-    reads_then old mid new result (SpellsLeaf v kind make) (LeafRefused expected v kind) are_bytes agrees
-    (λ a x p. subst (λ z. Spells Legacy v (coded z ++ a) (leaf (make x))) (sym is) (leaf_spelled v expected a (leaf (make x)) (join a x p)))
+    → TakesBy is_known left failures mid.source mid.count s k view answer reading → new.source ≡ s → new.count ≡ k → new.version ≡ mid.version → new.has_failed ≡ is_err result → result ≡ raised answer
+    → Reads is_known left failures old new result (EncodesLeaf v kind make) (LeafRefused expected v kind)
+leaf_reads {is_known = is_known} {left = left} {failures = failures} {s = s} {k = k} {view = view} {answer = answer} {reading = reading} old mid new result v kind expected make are_bytes agrees join map is_leaf is is_open source count version part source_new count_new version_new marks told =
+    reads_then old mid new result (EncodesLeaf v kind make) (LeafRefused expected v kind) are_bytes agrees
+    (λ a x p. subst (λ z. Encodes Legacy v (coded z ++ a) (leaf (make x))) (sym is) (leaf_encoded v expected a (leaf (make x)) (join a x p)))
     (λ w c f. in_body is (subst (λ z. NoneBehind v z w (corrupted c)) (sym is) (leaf_refused v expected is_leaf w c (map w c f))))
     is_open source count version part source_new count_new version_new marks told
 
 -- ---- what is refused in the words of lower layers
 
-told_shows : {F : List ℕ → Refusal → Type 0} (e : DeserializeError) (r : Refusal) (old new : List ℕ) → IsRefusal e r → Shows (corrupted UnexpectedEnd) F old new r → Shows end (TellsFault F) old new e
+told_shows : {F : List ℕ → Refusal → Type 0} (e : DeserializeError) (r : Refusal) (old new : List ℕ) → IsRefusal e r → Shows (corrupted UnexpectedEnd) F old new r → Shows end (GivesError F) old new e
 told_shows e r old new told s = record {
   taken = s.taken;
   joined = s.joined;
-  shown = record { refusal = r; told = told; fault = s.shown };
+  shown = record { refusal = r; told = told; error = s.shown };
   all = λ is. s.all (ends e r told is);
-  early = λ other front byte last. record { refusal = corrupted UnexpectedEnd; told = is_corrupted; fault = s.early (λ is. other (ended e r told is)) front byte last };
+  early = λ other prefix byte last. record { refusal = corrupted UnexpectedEnd; told = is_corrupted; error = s.early (λ is. other (ended e r told is)) prefix byte last };
 }
   where
     ends : (e : DeserializeError) (r : Refusal) → IsRefusal e r → e ≡ end → r ≡ corrupted UnexpectedEnd
@@ -165,20 +165,20 @@ told_shows e r old new told s = record {
     ended _ _ is_corrupted is = cc
     ended _ _ is_no_text is = cc
 
-told_refuses : {F : List ℕ → Refusal → Type 0} (e : DeserializeError) (r : Refusal) (old new : List ℕ) → IsRefusal e r → Refuses (corrupted UnexpectedEnd) F old new r → Refuses end (TellsFault F) old new e
-told_refuses e r old new told h = record { stands = record { refusal = r; told = told; fault = h.stands }; shows = told_shows e r old new told h.shows }
+told_refuses : {F : List ℕ → Refusal → Type 0} (e : DeserializeError) (r : Refusal) (old new : List ℕ) → IsRefusal e r → Refuses (corrupted UnexpectedEnd) F old new r → Refuses end (GivesError F) old new e
+told_refuses e r old new told h = record { stands = record { refusal = r; told = told; error = h.stands }; shows = told_shows e r old new told h.shows }
 
-mismatch_found : {F : List ℕ → Refusal → Type 0} (expected actual : ValueType) (old new : List ℕ) (count : ℕ) → TellsStop (corrupted UnexpectedEnd) F old new count (key_stop expected actual)
-    → count < 2 ^ 64 - 1 → Refuses end (TellsFault F) old new (errors.TypeMismatch expected actual)
+mismatch_found : {F : List ℕ → Refusal → Type 0} (expected actual : ValueType) (old new : List ℕ) (count : ℕ) → GivesStop (corrupted UnexpectedEnd) F old new count (key_stop expected actual)
+    → count < 2 ^ 64 - 1 → Refuses end (GivesError F) old new (errors.TypeMismatch expected actual)
 mismatch_found types.String actual old new count h = λ few. told_refuses _ _ old new is_no_text (h few)
 mismatch_found _ actual old new count h = absurd h
 
-mismatch_counts : (expected actual : ValueType) (old new : Faults) → CountsStop (key_stop expected actual) old new → new ≡ old
+mismatch_counts : (expected actual : ValueType) (old new : Failures) → CountsStop (key_stop expected actual) old new → new ≡ old
 mismatch_counts types.String actual old new h = h
 mismatch_counts _ actual old new h = absurd h
 
 told_found : {X : Type 0} (B : List ℕ → X → Type 0) (F : List ℕ → Refusal → Type 0) (result : Result X DeserializeError) (old new : List ℕ) (count : ℕ) → (IsErrOf result errors.HeapFull → ⊥) → Found store_stop (corrupted UnexpectedEnd) B F old new count result
-    → Found typed_stop end B (TellsFault F) old new count result
+    → Found typed_stop end B (GivesError F) old new count result
 told_found B F (Ok x) old new count roomy h = h
 told_found B F (Err (errors.CorruptedValue c)) old new count roomy h = λ few. told_refuses _ _ old new is_corrupted (h few)
 told_found B F (Err (errors.TypeMismatch expected actual)) old new count roomy h = mismatch_found expected actual old new count h
@@ -190,7 +190,7 @@ told_found B F (Err (errors.Custom s)) old new count roomy h = absurd h
 told_found B F (Err (errors.UnsupportedVersion m n)) old new count roomy h = absurd h
 told_found B F (Err errors.AlreadyFailed) old new count roomy h = absurd h
 
-told_counts : {X : Type 0} (result : Result X DeserializeError) (old new : Faults) → (IsErrOf result errors.HeapFull → ⊥) → Counts store_stop result old new → Counts typed_stop result old new
+told_counts : {X : Type 0} (result : Result X DeserializeError) (old new : Failures) → (IsErrOf result errors.HeapFull → ⊥) → Counts store_stop result old new → Counts typed_stop result old new
 told_counts (Ok x) old new roomy h = h
 told_counts (Err (errors.CorruptedValue c)) old new roomy h = h
 told_counts (Err (errors.TypeMismatch expected actual)) old new roomy h = mismatch_counts expected actual old new h
@@ -202,18 +202,18 @@ told_counts (Err (errors.Custom s)) old new roomy h = absurd h
 told_counts (Err (errors.UnsupportedVersion m n)) old new roomy h = absurd h
 told_counts (Err errors.AlreadyFailed) old new roomy h = absurd h
 
-pub told_reads : {S X : Type 0} {tells : S → Type 0} {left : S → List ℕ} {faults : S → Faults} {s : S} {k : ℕ} (old new : StoreReader S) (result : Result X DeserializeError) (B : List ℕ → X → Type 0) (F : List ℕ → Refusal → Type 0)
-    → old.has_failed ≡ false → Finds tells left faults old.source old.count s k result B F → (IsErrOf result errors.HeapFull → ⊥) → new.source ≡ s → new.count ≡ k → new.version ≡ old.version → new.has_failed ≡ is_err result
-    → Reads tells left faults old new result B (TellsFault F)
-told_reads {tells = tells} {left = left} {faults = faults} {s = s} {k = k} old new result B F is_open h roomy source count version marks = record {
+pub told_reads : {S X : Type 0} {is_known : S → Type 0} {left : S → List ℕ} {failures : S → Failures} {s : S} {k : ℕ} (old new : StoreReader S) (result : Result X DeserializeError) (B : List ℕ → X → Type 0) (F : List ℕ → Refusal → Type 0)
+    → old.has_failed ≡ false → Finds is_known left failures old.source old.count s k result B F → (IsErrOf result errors.HeapFull → ⊥) → new.source ≡ s → new.count ≡ k → new.version ≡ old.version → new.has_failed ≡ is_err result
+    → Reads is_known left failures old new result B (GivesError F)
+told_reads {is_known = is_known} {left = left} {failures = failures} {s = s} {k = k} old new result B F is_open h roomy source count version marks = record {
   closed = λ failed. absurd (both old.has_failed is_open failed);
-  finds = λ _. subst (λ z. FindsBy typed_stop end tells left faults old.source old.count z new.count result B (TellsFault F)) (sym source)
-      (subst (λ n. FindsBy typed_stop end tells left faults old.source old.count s n result B (TellsFault F)) (sym count)
+  finds = λ _. subst (λ z. FindsBy typed_stop end is_known left failures old.source old.count z new.count result B (GivesError F)) (sym source)
+      (subst (λ n. FindsBy typed_stop end is_known left failures old.source old.count s n result B (GivesError F)) (sym count)
       (record {
         found = λ t. told_found B F result (left old.source) (left s) k roomy (h.found t);
         taken = h.taken;
-        still_tells = h.still_tells;
-        counts = told_counts result (faults old.source) (faults s) roomy h.counts;
+        stays_known = h.stays_known;
+        counts = told_counts result (failures old.source) (failures s) roomy h.counts;
         rises = h.rises;
       }));
   marks = marks;

@@ -1,41 +1,41 @@
 -- Values that are handed to visitors.
 use Rattle.std.proofs.Common.{◌≡◌, ℕ, true, List, ◌++◌, Result, Ok, Err, refl, sym, ap, subst, ◌∙◌}
 use Rattle.std.specs.Prelude.{is_err, IsErrOf}
-use Rattle.tv_base.specs.Source.{Faults}
-use Rattle.tv_value.specs.Spelling.{Spells, NoLegacy}
+use Rattle.tv_base.specs.Source.{Failures}
+use Rattle.tv_value.specs.Encoding.{Encodes, NoLegacy}
 use Rattle.tv_value.specs.Tree.{Leaf, Tree, leaf}
 use Rattle.tv_value.specs.Version.{Version}
 use Rattle.tv_value.specs.declared.owned_value.OwnedValue.{OwnedValue}
-use Rattle.tv_reader.specs.Trees.{SpellsBehind}
+use Rattle.tv_reader.specs.Trees.{EncodesBehind}
 use Rattle.tv_reader.specs.ValueType.{coded}
 use Rattle.tv_reader.specs.Version.{version_of}
 use Rattle.tv_reader.specs.declared.error.DeserializeError.{DeserializeError}
 use Rattle.tv_reader.specs.declared.error.DeserializeError.TheVariants as errors
 use Rattle.tv_reader.specs.declared.value_type.ValueType.{ValueType}
 use Rattle.tv_reader.specs.declared.value_type.ValueType.TheVariants as types
-use Rattle.tv_typed.specs.Excluding.{faulty_behind}
+use Rattle.tv_typed.specs.Excluding.{malformed_behind}
 use Rattle.tv_typed.specs.Typed.{typed_stop, Reads}
-use Rattle.tv_typed.specs.Values.{IsLeaf, SpellsLeaf, LeafRefused, other_type, in_body, TreeRefused}
+use Rattle.tv_typed.specs.Values.{IsLeaf, EncodesLeaf, LeafRefused, other_type, in_body, TreeRefused}
 use Rattle.tv_typed.specs.Lists.{Length, LengthRefused}
 use Rattle.tv_typed.specs.Visits.{Answered, Visits, Handed, VisitsItems, VisitsLegacy}
 use Rattle.tv_typed.specs.declared.store_reader.StoreReader.{StoreReader}
 use Rattle.tv_typed.proofs.DeserializeSteps.{end, only_by, leaf_deserializes}
-use Rattle.tv_reader.specs.Finds.{TellsStop}
+use Rattle.tv_reader.specs.Finds.{GivesStop}
 
 -- ---- leaves
 
-any_excluded : (v : Version) (kind : ValueType) (front rest : List ℕ) (e : DeserializeError) (t : Tree) → LeafRefused kind v kind (front ++ rest) e → Spells NoLegacy v (coded kind ++ front) t → ⊥
-any_excluded v kind front rest e t (other_type other) p = absurd (other refl)
-any_excluded v kind front rest e t (in_body {c} same f) p = faulty_behind v kind front rest _ t f p
+any_excluded : (v : Version) (kind : ValueType) (prefix rest : List ℕ) (e : DeserializeError) (t : Tree) → LeafRefused kind v kind (prefix ++ rest) e → Encodes NoLegacy v (coded kind ++ prefix) t → ⊥
+any_excluded v kind prefix rest e t (other_type other) p = absurd (other refl)
+any_excluded v kind prefix rest e t (in_body {c} same f) p = malformed_behind v kind prefix rest _ t f p
 
-visits : {S X : Type 0} {tells : S → Type 0} {left : S → List ℕ} {faults : S → Faults} (old new : StoreReader S) (kind : ValueType) (answers : Leaf → Result X DeserializeError → Type 0) (result : Result X DeserializeError) (read : Result Leaf DeserializeError)
-    → Reads tells left faults old (record new { has_failed = is_err read }) read (SpellsLeaf (version_of old.version) kind (λ l. l)) (LeafRefused kind (version_of old.version) kind) → Answered answers read result → Visits tells left faults old new kind answers result
+visits : {S X : Type 0} {is_known : S → Type 0} {left : S → List ℕ} {failures : S → Failures} (old new : StoreReader S) (kind : ValueType) (answers : Leaf → Result X DeserializeError → Type 0) (result : Result X DeserializeError) (read : Result Leaf DeserializeError)
+    → Reads is_known left failures old (record new { has_failed = is_err read }) read (EncodesLeaf (version_of old.version) kind (λ l. l)) (LeafRefused kind (version_of old.version) kind) → Answered answers read result → Visits is_known left failures old new kind answers result
 visits old new kind answers result read h a =
     let v = version_of old.version in
     record {
       read = read;
       reads = h;
-      only = only_by (IsLeaf (λ l. l)) v (coded kind) (LeafRefused kind v kind) (λ front rest e t x r p same. any_excluded v kind front rest e t r p) (leaf_deserializes (λ l. l) v kind h);
+      only = only_by (IsLeaf (λ l. l)) v (coded kind) (LeafRefused kind v kind) (λ prefix rest e t x r p same. any_excluded v kind prefix rest e t r p) (leaf_deserializes (λ l. l) v kind h);
       answered = a;
     }
 
@@ -46,16 +46,16 @@ err_for : {A B : Type 0} (e d : DeserializeError) → IsErrOf {T = A} (Err e) d 
 err_for e d is = let same : e ≡ d = cc in ap (λ (z : DeserializeError). Err z) same
 
 -- a leaf was read, and this is the answer to it
-pub leaf_answered : {S A X : Type 0} {tells : S → Type 0} {left : S → List ℕ} {faults : S → Faults} (old new : StoreReader S) (kind expected : ValueType) (make : A → Leaf) (a : A) (l : Leaf) (answers : Leaf → Result X DeserializeError → Type 0) (result : Result X DeserializeError)
-    → kind ≡ expected → Reads tells left faults old new (Ok a) (SpellsLeaf (version_of old.version) kind make) (LeafRefused expected (version_of old.version) kind) → ((b : List ℕ) → SpellsLeaf (version_of old.version) kind make b a → SpellsLeaf (version_of old.version) kind (λ z. z) b l) → answers l result → Visits tells left faults old new kind answers result
+pub leaf_answered : {S A X : Type 0} {is_known : S → Type 0} {left : S → List ℕ} {failures : S → Failures} (old new : StoreReader S) (kind expected : ValueType) (make : A → Leaf) (a : A) (l : Leaf) (answers : Leaf → Result X DeserializeError → Type 0) (result : Result X DeserializeError)
+    → kind ≡ expected → Reads is_known left failures old new (Ok a) (EncodesLeaf (version_of old.version) kind make) (LeafRefused expected (version_of old.version) kind) → ((b : List ℕ) → EncodesLeaf (version_of old.version) kind make b a → EncodesLeaf (version_of old.version) kind (λ z. z) b l) → answers l result → Visits is_known left failures old new kind answers result
 leaf_answered old new kind expected make a l answers result is h same answered =
     visits old new kind answers result (Ok l)
     (record {
       closed = λ failed. absurd (not_ok a (h.closed failed).0);
       finds = λ is_open. let f = h.finds is_open in record {
-        found = λ t. let b = f.found t in record { front = b.front; joined = b.joined; spelled = same b.front b.spelled };
+        found = λ t. let b = f.found t in record { prefix = b.prefix; joined = b.joined; encoded = same b.prefix b.encoded };
         taken = f.taken;
-        still_tells = f.still_tells;
+        stays_known = f.stays_known;
         counts = f.counts;
         rises = f.rises;
       };
@@ -65,17 +65,17 @@ leaf_answered old new kind expected make a l answers result is h same answered =
     answered
 
 -- none was read
-pub leaf_refused : {S A X : Type 0} {tells : S → Type 0} {left : S → List ℕ} {faults : S → Faults} (old new : StoreReader S) (kind expected : ValueType) (make : A → Leaf) (answers : Leaf → Result X DeserializeError → Type 0) (e : DeserializeError)
-    → kind ≡ expected → Reads {X = A} tells left faults old new (Err e) (SpellsLeaf (version_of old.version) kind make) (LeafRefused expected (version_of old.version) kind) → Visits {X = X} tells left faults old new kind answers (Err e)
+pub leaf_refused : {S A X : Type 0} {is_known : S → Type 0} {left : S → List ℕ} {failures : S → Failures} (old new : StoreReader S) (kind expected : ValueType) (make : A → Leaf) (answers : Leaf → Result X DeserializeError → Type 0) (e : DeserializeError)
+    → kind ≡ expected → Reads {X = A} is_known left failures old new (Err e) (EncodesLeaf (version_of old.version) kind make) (LeafRefused expected (version_of old.version) kind) → Visits {X = X} is_known left failures old new kind answers (Err e)
 leaf_refused {left = left} old new kind expected make answers e is h =
     let v = version_of old.version in
     visits old new kind answers (Err e) (Err e)
     (record {
       closed = λ failed. let c = h.closed failed in (err_for e errors.AlreadyFailed c.0, c.1, c.2);
       finds = λ is_open. let f = h.finds is_open in record {
-        found = λ t. subst (λ z. TellsStop end (LeafRefused z v kind) (left old.source) (left new.source) new.count (typed_stop e)) (sym is) (f.found t);
+        found = λ t. subst (λ z. GivesStop end (LeafRefused z v kind) (left old.source) (left new.source) new.count (typed_stop e)) (sym is) (f.found t);
         taken = f.taken;
-        still_tells = f.still_tells;
+        stays_known = f.stays_known;
         counts = f.counts;
         rises = f.rises;
       };
@@ -87,36 +87,36 @@ leaf_refused {left = left} old new kind expected make answers e is h =
 -- ---- arrays and objects
 
 -- their number is refused
-pub items_refused : {S X : Type 0} {tells : S → Type 0} {left : S → List ℕ} {faults : S → Faults} {old new : StoreReader S} {collection : ValueType} {total : ℕ → ℕ} {kind : ValueType} (e : DeserializeError)
-    → Reads {X = ℕ} tells left faults old new (Err e) (Length collection total kind) (LengthRefused collection total kind) → VisitsItems {X = X} tells left faults old new collection total kind (Err e)
+pub items_refused : {S X : Type 0} {is_known : S → Type 0} {left : S → List ℕ} {failures : S → Failures} {old new : StoreReader S} {collection : ValueType} {total : ℕ → ℕ} {kind : ValueType} (e : DeserializeError)
+    → Reads {X = ℕ} is_known left failures old new (Err e) (Length collection total kind) (LengthRefused collection total kind) → VisitsItems {X = X} is_known left failures old new collection total kind (Err e)
 items_refused {new = new} e h = record { behind_number = new; announced = Err e; reads = h; handed = (refl, refl) }
 
 -- what the visitor refused was marked
-pub visits_marked : {S X : Type 0} {tells : S → Type 0} {left : S → List ℕ} {faults : S → Faults} {old new : StoreReader S} {kind : ValueType} {answers : Leaf → Result X DeserializeError → Type 0} {result : Result X DeserializeError}
-    → Visits tells left faults old new kind answers result → Visits tells left faults old (record new { has_failed = true }) kind answers result
+pub visits_marked : {S X : Type 0} {is_known : S → Type 0} {left : S → List ℕ} {failures : S → Failures} {old new : StoreReader S} {kind : ValueType} {answers : Leaf → Result X DeserializeError → Type 0} {result : Result X DeserializeError}
+    → Visits is_known left failures old new kind answers result → Visits is_known left failures old (record new { has_failed = true }) kind answers result
 visits_marked h = record { read = h.read; reads = h.reads; only = h.only; answered = h.answered }
 
-handed_marked : {S X : Type 0} (tells : S → Type 0) (left : S → List ℕ) (mid new : StoreReader S) (announced : Result ℕ DeserializeError) (result : Result X DeserializeError)
-    → mid.has_failed ≡ is_err announced → Handed tells left mid new announced result → Handed tells left mid (record new { has_failed = true }) announced result
-handed_marked tells left mid new (Ok n) result marks h = record { closed = λ failed. let c = h.closed failed in (refl, c.1, c.2); taken = h.taken; still_tells = h.still_tells; same_version = h.same_version }
-handed_marked {S} tells left mid new (Err e) result marks h = (h.0, ap (λ (r : StoreReader S). record r { has_failed = true }) h.1 ∙ ap (λ b. record mid { has_failed = b }) (sym marks))
+handed_marked : {S X : Type 0} (is_known : S → Type 0) (left : S → List ℕ) (mid new : StoreReader S) (announced : Result ℕ DeserializeError) (result : Result X DeserializeError)
+    → mid.has_failed ≡ is_err announced → Handed is_known left mid new announced result → Handed is_known left mid (record new { has_failed = true }) announced result
+handed_marked is_known left mid new (Ok n) result marks h = record { closed = λ failed. let c = h.closed failed in (refl, c.1, c.2); taken = h.taken; stays_known = h.stays_known; same_version = h.same_version }
+handed_marked {S} is_known left mid new (Err e) result marks h = (h.0, ap (λ (r : StoreReader S). record r { has_failed = true }) h.1 ∙ ap (λ b. record mid { has_failed = b }) (sym marks))
 
-pub items_marked : {S X : Type 0} {tells : S → Type 0} {left : S → List ℕ} {faults : S → Faults} {old new : StoreReader S} {collection : ValueType} {total : ℕ → ℕ} {kind : ValueType} {result : Result X DeserializeError}
-    → VisitsItems tells left faults old new collection total kind result → VisitsItems tells left faults old (record new { has_failed = true }) collection total kind result
-items_marked {tells = tells} {left = left} {new = new} {result = result} h = record { behind_number = h.behind_number; announced = h.announced; reads = h.reads; handed = handed_marked tells left h.behind_number new h.announced result h.reads.marks h.handed }
+pub items_marked : {S X : Type 0} {is_known : S → Type 0} {left : S → List ℕ} {failures : S → Failures} {old new : StoreReader S} {collection : ValueType} {total : ℕ → ℕ} {kind : ValueType} {result : Result X DeserializeError}
+    → VisitsItems is_known left failures old new collection total kind result → VisitsItems is_known left failures old (record new { has_failed = true }) collection total kind result
+items_marked {is_known = is_known} {left = left} {new = new} {result = result} h = record { behind_number = h.behind_number; announced = h.announced; reads = h.reads; handed = handed_marked is_known left h.behind_number new h.announced result h.reads.marks h.handed }
 
 -- ---- legacy objects
 
 -- what the visitor refused was marked
-pub legacy_marked : {S X : Type 0} {tells : S → Type 0} {left : S → List ℕ} {faults : S → Faults} {old new : StoreReader S} {result : Result X DeserializeError} → VisitsLegacy tells left faults old new result → VisitsLegacy tells left faults old (record new { has_failed = true }) result
+pub legacy_marked : {S X : Type 0} {is_known : S → Type 0} {left : S → List ℕ} {failures : S → Failures} {old new : StoreReader S} {result : Result X DeserializeError} → VisitsLegacy is_known left failures old new result → VisitsLegacy is_known left failures old (record new { has_failed = true }) result
 legacy_marked h = record { behind_object = h.behind_object; read = h.read; reads = h.reads; gives = h.gives; same_source = h.same_source; same_count = h.same_count; same_version = h.same_version }
 
 -- the object was refused
-pub legacy_refused : {S X : Type 0} {tells : S → Type 0} {left : S → List ℕ} {faults : S → Faults} {old new : StoreReader S} (e : DeserializeError)
-    → Reads {X = OwnedValue} tells left faults old new (Err e) (SpellsBehind (version_of old.version) types.JSONObject) (TreeRefused (version_of old.version) types.JSONObject) → VisitsLegacy {X = X} tells left faults old new (Err e)
+pub legacy_refused : {S X : Type 0} {is_known : S → Type 0} {left : S → List ℕ} {failures : S → Failures} {old new : StoreReader S} (e : DeserializeError)
+    → Reads {X = OwnedValue} is_known left failures old new (Err e) (EncodesBehind (version_of old.version) types.JSONObject) (TreeRefused (version_of old.version) types.JSONObject) → VisitsLegacy {X = X} is_known left failures old new (Err e)
 legacy_refused {new = new} e h = record { behind_object = new; read = Err e; reads = h; gives = refl; same_source = refl; same_count = refl; same_version = refl }
 
 -- it was read
-pub legacy_visited : {S X : Type 0} {tells : S → Type 0} {left : S → List ℕ} {faults : S → Faults} {old new : StoreReader S} (tree : OwnedValue) (result : Result X DeserializeError)
-    → Reads tells left faults old new (Ok tree) (SpellsBehind (version_of old.version) types.JSONObject) (TreeRefused (version_of old.version) types.JSONObject) → VisitsLegacy tells left faults old new result
+pub legacy_visited : {S X : Type 0} {is_known : S → Type 0} {left : S → List ℕ} {failures : S → Failures} {old new : StoreReader S} (tree : OwnedValue) (result : Result X DeserializeError)
+    → Reads is_known left failures old new (Ok tree) (EncodesBehind (version_of old.version) types.JSONObject) (TreeRefused (version_of old.version) types.JSONObject) → VisitsLegacy is_known left failures old new result
 legacy_visited {new = new} tree result h = record { behind_object = new; read = Ok tree; reads = h; gives = tt; same_source = refl; same_count = refl; same_version = refl }

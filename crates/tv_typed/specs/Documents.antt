@@ -2,10 +2,10 @@
 use Rattle.std.specs.Prelude.{◌≡◌, ℕ, suc, false, List, [], ◌∷◌, Option, Some, None, Result, Err}
 use Rattle.tv_base.specs.declared.cause.Cause.{Cause}
 use Rattle.tv_base.specs.Parts.{Begins, Then}
-use Rattle.tv_base.specs.PartFault.{InThen, NumberFault}
+use Rattle.tv_base.specs.ErrorInPart.{InThen, ErrorInNumber}
 use Rattle.tv_legacy.specs.Legacy.{Legacy}
-use Rattle.tv_value.specs.Fault.{Corrupt, FieldFault, SmallField}
-use Rattle.tv_value.specs.Spelling.{SpellsPair}
+use Rattle.tv_value.specs.InputError.{Corrupt, ErrorInField, SmallField}
+use Rattle.tv_value.specs.Encoding.{EncodesPair}
 use Rattle.tv_value.specs.Tree.{Tree, Document}
 use Rattle.tv_value.specs.Version.{Version}
 use Rattle.tv_value.specs.declared.field.Field.{Field}
@@ -15,22 +15,22 @@ use Rattle.tv_reader.specs.declared.error.DeserializeError.TheVariants as errors
 use Rattle.tv_reader.specs.declared.value_type.ValueType.{ValueType}
 use Rattle.tv_typed.specs.Lists.{NextItemRefused}
 use Rattle.tv_typed.specs.Typed.{Deserializes}
-use Rattle.tv_typed.specs.Values.{SpellsAs, TellsFault, NextRefused}
+use Rattle.tv_typed.specs.Values.{EncodesAs, GivesError, NextRefused}
 use Rattle.tv_typed.specs.declared.store_reader.StoreReader.{StoreReader}
 
--- ---- what bytes spell
+-- ---- what bytes encode
 
 -- a field, and then a value
-abbrev pub SpellsField : {X : Type 0} → (Tree → X → Type 0) → Version → List ℕ → Field × X → Type 0
-SpellsField is v b p = Then (λ w. SmallField w p.0.id) (λ w. SpellsAs is v w p.1) b
+abbrev pub EncodesField : {X : Type 0} → (Tree → X → Type 0) → Version → List ℕ → Field × X → Type 0
+EncodesField is v b p = Then (λ w. SmallField w p.0.id) (λ w. EncodesAs is v w p.1) b
 
--- the number of pairs is at fault
+-- the number of pairs is malformed
 pub data NumberRefused (whole : List ℕ) : DeserializeError → Type 0 where
-  in_pair_count : {c : Cause} → NumberFault whole c → NumberRefused whole (errors.CorruptedValue c)
+  in_pair_count : {c : Cause} → ErrorInNumber whole c → NumberRefused whole (errors.CorruptedValue c)
 
 -- a field
 abbrev pub FieldNumberRefused : List ℕ → DeserializeError → Type 0
-FieldNumberRefused = TellsFault (Corrupt FieldFault)
+FieldNumberRefused = GivesError (Corrupt ErrorInField)
 
 -- a field, or the value behind it
 abbrev pub FieldRefused : (Version → ValueType → List ℕ → DeserializeError → Type 0) → Version → List ℕ → DeserializeError → Type 0
@@ -40,8 +40,8 @@ FieldRefused refused v = InThen FieldNumberRefused SmallField (λ _. NextRefused
 
 -- None where all were given, else a pair. Where its pairs are known, the value is read of the tree of the pair that is given next.
 abbrev pub NextField : {D X : Type 0} → (D → ℕ) → (D → Type 0) → (D → ℕ × Tree → D → Type 0) → (Tree → X → Type 0) → D → D → Option (Field × X) → Type 0
-NextField remaining tells gives is old new None = remaining old ≡ 0
-NextField remaining tells gives is old new (Some p) = (remaining old ≡ suc (remaining new)) × (tells old → tells new × ((t : Tree) × gives old (p.0.id, t) new × is t p.1))
+NextField remaining is_known gives is old new None = remaining old ≡ 0
+NextField remaining is_known gives is old new (Some p) = (remaining old ≡ suc (remaining new)) × (is_known old → is_known new × ((t : Tree) × gives old (p.0.id, t) new × is t p.1))
 
 -- these pairs in turn
 abbrev pub GivesAll : {D : Type 0} → (D → ℕ × Tree → D → Type 0) → D → Document → D → Type 0
@@ -50,14 +50,14 @@ GivesAll {D} gives first (pair ∷ pairs) last = (next : D) × gives first pair 
 
 -- ---- the pairs of a store
 
--- nothing was refused, a front of the bytes that were left spells the pair, and the rest is left
+-- nothing was refused, a prefix of the bytes that were left encodes the pair, and the rest is left
 pub record GivesPair {S : Type 0} (left : S → List ℕ) (old : StoreReader S) (pair : ℕ × Tree) (new : StoreReader S) : Type 0 where
   pub was_open : old.has_failed ≡ false
   pub is_open : new.has_failed ≡ false
   pub same_version : new.version ≡ old.version
-  pub spells : Begins (λ b. SpellsPair Legacy (version_of old.version) b pair) (left old.source) (left new.source)
+  pub encodes : Begins (λ b. EncodesPair Legacy (version_of old.version) b pair) (left old.source) (left new.source)
 
 -- a call that reads a pair may answer this error
 abbrev pub RefusesPair : {S : Type 0} → (S → Type 0) → (S → List ℕ) → ℕ → ℕ → StoreReader S → (Version → ValueType → List ℕ → DeserializeError → Type 0) → DeserializeError → Type 0
-RefusesPair {S} tells left position announced old refused e =
-    (new : StoreReader S) × Deserializes {X = ℕ} tells left old new (Err e) (λ b x. ⊥) (NextItemRefused (FieldRefused refused (version_of old.version)) position announced)
+RefusesPair {S} is_known left position announced old refused e =
+    (new : StoreReader S) × Deserializes {X = ℕ} is_known left old new (Err e) (λ b x. ⊥) (NextItemRefused (FieldRefused refused (version_of old.version)) position announced)

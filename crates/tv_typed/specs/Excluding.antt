@@ -1,12 +1,12 @@
--- Where a value is refused, no front of its bytes spells a tree of which one is read.
+-- Where a value is refused, no prefix of its bytes encodes a tree of which one is read.
 use Rattle.std.specs.Prelude.{◌≡◌, ℕ, List, ◌∷◌, ◌++◌}
 use Rattle.std.proofs.Common.{refl, sym, ap, subst, ◌∙◌, append_assoc, inl, inr}
 use Rattle.tv_base.specs.declared.cause.Cause.{Cause}
-use Rattle.tv_legacy.specs.Legacy.{Legacy, LegacyFault}
+use Rattle.tv_legacy.specs.Legacy.{Legacy, ErrorInLegacy}
 use Rattle.tv_legacy.proofs.Unique.{one_legacy, legacy_excludes}
-use Rattle.tv_value.specs.Fault.{Refusal}
+use Rattle.tv_value.specs.InputError.{Refusal}
 use Rattle.tv_value.specs.Leaves.{type_of}
-use Rattle.tv_value.specs.Spelling.{Spells, SpellsElements, SpellsEntries, NoLegacy}
+use Rattle.tv_value.specs.Encoding.{Encodes, EncodesElements, EncodesEntries, NoLegacy}
 use Rattle.tv_value.specs.Tree.{Leaf, tokenized, Tree, leaf, array, object, Elements, no_elements, element, Entries, no_entries, entry}
 use Rattle.tv_value.specs.Version.{Version}
 use Rattle.tv_value.proofs.ExcludingTrees.{value_excludes}
@@ -21,34 +21,34 @@ use Rattle.tv_typed.specs.Values.{CodeRefused, in_code, LeafRefused, other_type,
 
 -- ---- trees
 
--- what is spelled without legacy objects is spelled
+-- what is encoded without legacy objects is encoded
 mutual
-  pub with_legacy : (v : Version) (t : Tree) (b : List ℕ) → Spells NoLegacy v b t → Spells Legacy v b t
+  pub with_legacy : (v : Version) (t : Tree) (b : List ℕ) → Encodes NoLegacy v b t → Encodes Legacy v b t
   with_legacy v (leaf l) b p = p
-  with_legacy v (array ts) b p = record { body = p.body; joined = p.joined; spelled = let s = p.spelled in record { front = s.front; rest = s.rest; joined = s.joined; first = s.first; second = elements_with_legacy v ts s.rest s.second } }
-  with_legacy v (object es) b (inl p) = inl (record { body = p.body; joined = p.joined; spelled = let s = p.spelled in record { front = s.front; rest = s.rest; joined = s.joined; first = s.first; second = entries_with_legacy v es s.rest s.second } })
-  with_legacy v (object es) b (inr p) = absurd p.spelled
+  with_legacy v (array ts) b p = record { body = p.body; joined = p.joined; encoded = let s = p.encoded in record { prefix = s.prefix; rest = s.rest; joined = s.joined; first = s.first; second = elements_with_legacy v ts s.rest s.second } }
+  with_legacy v (object es) b (inl p) = inl (record { body = p.body; joined = p.joined; encoded = let s = p.encoded in record { prefix = s.prefix; rest = s.rest; joined = s.joined; first = s.first; second = entries_with_legacy v es s.rest s.second } })
+  with_legacy v (object es) b (inr p) = absurd p.encoded
 
-  elements_with_legacy : (v : Version) (ts : Elements) (b : List ℕ) → SpellsElements NoLegacy v b ts → SpellsElements Legacy v b ts
+  elements_with_legacy : (v : Version) (ts : Elements) (b : List ℕ) → EncodesElements NoLegacy v b ts → EncodesElements Legacy v b ts
   elements_with_legacy v no_elements b p = p
-  elements_with_legacy v (element t ts) b p = record { front = p.front; rest = p.rest; joined = p.joined; first = with_legacy v t p.front p.first; second = elements_with_legacy v ts p.rest p.second }
+  elements_with_legacy v (element t ts) b p = record { prefix = p.prefix; rest = p.rest; joined = p.joined; first = with_legacy v t p.prefix p.first; second = elements_with_legacy v ts p.rest p.second }
 
-  entries_with_legacy : (v : Version) (es : Entries) (b : List ℕ) → SpellsEntries NoLegacy v b es → SpellsEntries Legacy v b es
+  entries_with_legacy : (v : Version) (es : Entries) (b : List ℕ) → EncodesEntries NoLegacy v b es → EncodesEntries Legacy v b es
   entries_with_legacy v no_entries b p = p
   entries_with_legacy v (entry k t es) b p =
       let s = p.second in
-      record { front = p.front; rest = p.rest; joined = p.joined; first = p.first; second = record { front = s.front; rest = s.rest; joined = s.joined; first = with_legacy v t s.front s.first; second = entries_with_legacy v es s.rest s.second } }
+      record { prefix = p.prefix; rest = p.rest; joined = p.joined; first = p.first; second = record { prefix = s.prefix; rest = s.rest; joined = s.joined; first = with_legacy v t s.prefix s.first; second = entries_with_legacy v es s.rest s.second } }
 
--- bytes at fault, whatever stands behind a front of them
-pub faulty : (v : Version) (front rest : List ℕ) (r : Refusal) (t : Tree) → NoValue v (front ++ rest) r → Spells NoLegacy v front t → ⊥
-faulty v front rest r t f p = value_excludes Legacy LegacyFault v one_legacy legacy_excludes f t front rest (with_legacy v t front p) refl
+-- malformed bytes, whatever stands behind a prefix of them
+pub malformed : (v : Version) (prefix rest : List ℕ) (r : Refusal) (t : Tree) → NoValue v (prefix ++ rest) r → Encodes NoLegacy v prefix t → ⊥
+malformed v prefix rest r t f p = value_excludes Legacy ErrorInLegacy v one_legacy legacy_excludes f t prefix rest (with_legacy v t prefix p) refl
 
 -- the same behind the code of a type
-pub faulty_behind : (v : Version) (kind : ValueType) (front rest : List ℕ) (r : Refusal) (t : Tree) → NoValue v (coded kind ++ (front ++ rest)) r → Spells NoLegacy v (coded kind ++ front) t → ⊥
-faulty_behind v kind front rest r t f p = faulty v (coded kind ++ front) rest r t (subst (λ w. NoValue v w r) (sym (append_assoc (coded kind) front rest)) f) p
+pub malformed_behind : (v : Version) (kind : ValueType) (prefix rest : List ℕ) (r : Refusal) (t : Tree) → NoValue v (coded kind ++ (prefix ++ rest)) r → Encodes NoLegacy v (coded kind ++ prefix) t → ⊥
+malformed_behind v kind prefix rest r t f p = malformed v (coded kind ++ prefix) rest r t (subst (λ w. NoValue v w r) (sym (append_assoc (coded kind) prefix rest)) f) p
 
 pub tree_excludes : {X : Type 0} (is : Tree → X → Type 0) → RefusalsExclude is TreeRefused
-tree_excludes is v kind front rest e t x r p same = faulty_behind v kind front rest r.refusal t r.fault p
+tree_excludes is v kind prefix rest e t x r p same = malformed_behind v kind prefix rest r.refusal t r.error p
 
 -- ---- leaves
 
@@ -57,39 +57,39 @@ abbrev pub leaf_type : Leaf → ValueType
 leaf_type l = of_leaf (type_of l)
 
 -- its code stands first
-leaf_coded : (v : Version) (whole : List ℕ) (l : Leaf) → Spells NoLegacy v whole (leaf l) → (body : List ℕ) × (whole ≡ coded (leaf_type l) ++ body)
-leaf_coded v whole (tokenized t ts) p = (p.spelled.body, p.joined ∙ ap (λ (l : List ℕ). 7 ∷ l) p.spelled.joined)
+leaf_coded : (v : Version) (whole : List ℕ) (l : Leaf) → Encodes NoLegacy v whole (leaf l) → (body : List ℕ) × (whole ≡ coded (leaf_type l) ++ body)
+leaf_coded v whole (tokenized t ts) p = (p.encoded.body, p.joined ∙ ap (λ (l : List ℕ). 7 ∷ l) p.encoded.joined)
 leaf_coded v whole _ p = (p.body, p.joined)
 
-leaf_excluded : (expected : ValueType) (l : Leaf) → leaf_type l ≡ expected → (v : Version) (kind : ValueType) (front rest : List ℕ) (e : DeserializeError) → LeafRefused expected v kind (front ++ rest) e → Spells NoLegacy v (coded kind ++ front) (leaf l) → ⊥
-leaf_excluded expected l is v kind front rest e (other_type other) p =
-    let q = leaf_coded v (coded kind ++ front) l p in
-    other ((same_coded kind (leaf_type l) front q.0 q.1).0 ∙ is)
-leaf_excluded expected l is v kind front rest e (in_body {c} same f) p = faulty_behind v kind front rest _ (leaf l) f p
+leaf_excluded : (expected : ValueType) (l : Leaf) → leaf_type l ≡ expected → (v : Version) (kind : ValueType) (prefix rest : List ℕ) (e : DeserializeError) → LeafRefused expected v kind (prefix ++ rest) e → Encodes NoLegacy v (coded kind ++ prefix) (leaf l) → ⊥
+leaf_excluded expected l is v kind prefix rest e (other_type other) p =
+    let q = leaf_coded v (coded kind ++ prefix) l p in
+    other ((same_coded kind (leaf_type l) prefix q.0 q.1).0 ∙ is)
+leaf_excluded expected l is v kind prefix rest e (in_body {c} same f) p = malformed_behind v kind prefix rest _ (leaf l) f p
 
-pub leaf_excludes : (expected : ValueType) (l : Leaf) → leaf_type l ≡ expected → (v : Version) (kind : ValueType) (front rest : List ℕ) (e : DeserializeError) (t : Tree) → LeafRefused expected v kind (front ++ rest) e → Spells NoLegacy v (coded kind ++ front) t → t ≡ leaf l → ⊥
-leaf_excludes expected l is v kind front rest e t r p same = leaf_excluded expected l is v kind front rest e r (subst (λ z. Spells NoLegacy v (coded kind ++ front) z) same p)
+pub leaf_excludes : (expected : ValueType) (l : Leaf) → leaf_type l ≡ expected → (v : Version) (kind : ValueType) (prefix rest : List ℕ) (e : DeserializeError) (t : Tree) → LeafRefused expected v kind (prefix ++ rest) e → Encodes NoLegacy v (coded kind ++ prefix) t → t ≡ leaf l → ⊥
+leaf_excludes expected l is v kind prefix rest e t r p same = leaf_excluded expected l is v kind prefix rest e r (subst (λ z. Encodes NoLegacy v (coded kind ++ prefix) z) same p)
 
 -- ---- the next value
 
-code_excluded : (v : Version) (front rest : List ℕ) (e : DeserializeError) (t : Tree) → CodeRefused (front ++ rest) e → Spells NoLegacy v front t → ⊥
-code_excluded v front rest e t (in_code {c} f) p = faulty v front rest _ t (code_value v (front ++ rest) c f) p
+code_excluded : (v : Version) (prefix rest : List ℕ) (e : DeserializeError) (t : Tree) → CodeRefused (prefix ++ rest) e → Encodes NoLegacy v prefix t → ⊥
+code_excluded v prefix rest e t (in_code {c} f) p = malformed v prefix rest _ t (code_value v (prefix ++ rest) c f) p
 
 -- each value begins with the code of its type
-tree_coded : (v : Version) (whole : List ℕ) (t : Tree) → Spells NoLegacy v whole t → (kind : ValueType) × (body : List ℕ) × (whole ≡ coded kind ++ body)
+tree_coded : (v : Version) (whole : List ℕ) (t : Tree) → Encodes NoLegacy v whole t → (kind : ValueType) × (body : List ℕ) × (whole ≡ coded kind ++ body)
 tree_coded v whole (leaf l) p = let q = leaf_coded v whole l p in (leaf_type l, q.0, q.1)
 tree_coded v whole (array ts) p = (types.Array, p.body, p.joined)
 tree_coded v whole (object es) (inl p) = (types.Object, p.body, p.joined)
 tree_coded v whole (object es) (inr p) = (types.JSONObject, p.body, p.joined)
 
 pub next_excludes : {X : Type 0} (is : Tree → X → Type 0) (refused : Version → ValueType → List ℕ → DeserializeError → Type 0) → RefusalsExclude is refused
-    → (v : Version) (whole front rest : List ℕ) (e : DeserializeError) (t : Tree) (x : X) → NextRefused refused v whole e → whole ≡ front ++ rest → Spells NoLegacy v front t → is t x → ⊥
-next_excludes is refused excludes v whole front rest e t x (inl f) joined p same = code_excluded v front rest e t (subst (λ w. CodeRefused w e) joined f) p
-next_excludes is refused excludes v whole front rest e t x (inr f) joined p same =
-    let q = tree_coded v front t p in
+    → (v : Version) (whole prefix rest : List ℕ) (e : DeserializeError) (t : Tree) (x : X) → NextRefused refused v whole e → whole ≡ prefix ++ rest → Encodes NoLegacy v prefix t → is t x → ⊥
+next_excludes is refused excludes v whole prefix rest e t x (inl f) joined p same = code_excluded v prefix rest e t (subst (λ w. CodeRefused w e) joined f) p
+next_excludes is refused excludes v whole prefix rest e t x (inr f) joined p same =
+    let q = tree_coded v prefix t p in
     let kind = f.0 in
     let h = f.1 in
     let cut : coded q.0 ++ (q.1 ++ rest) ≡ coded kind ++ h.rest =
     sym (append_assoc (coded q.0) q.1 rest) ∙ ap (λ l. l ++ rest) (sym q.2) ∙ sym joined ∙ h.joined ∙ ap (λ l. l ++ h.rest) h.first in
     let both = same_coded q.0 kind (q.1 ++ rest) h.rest cut in
-    excludes v kind q.1 rest e t x (subst (λ w. refused v kind w e) (sym both.1) h.second) (subst (λ w. Spells NoLegacy v w t) (q.2 ∙ ap (λ k. coded k ++ q.1) both.0) p) same
+    excludes v kind q.1 rest e t x (subst (λ w. refused v kind w e) (sym both.1) h.second) (subst (λ w. Encodes NoLegacy v w t) (q.2 ∙ ap (λ k. coded k ++ q.1) both.0) p) same

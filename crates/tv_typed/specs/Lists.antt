@@ -6,16 +6,16 @@ use Rattle.tv_base.specs.declared.cause.Cause.{Cause}
 use Rattle.tv_base.specs.declared.cause.Cause.TheVariants.{OddObject}
 use Rattle.tv_base.specs.Number.{VNum}
 use Rattle.tv_base.specs.Parts.{Then, Each}
-use Rattle.tv_base.specs.PartFault.{InThen, InEach, NumberFault}
-use Rattle.tv_value.specs.Fault.{KeyFault}
-use Rattle.tv_value.specs.Spelling.{Key}
+use Rattle.tv_base.specs.ErrorInPart.{InThen, InEach, ErrorInNumber}
+use Rattle.tv_value.specs.InputError.{ErrorInKey}
+use Rattle.tv_value.specs.Encoding.{Key}
 use Rattle.tv_value.specs.Tree.{Tree, array, object, elements, entries}
 use Rattle.tv_value.specs.Version.{Version, entry_total}
 use Rattle.tv_reader.specs.declared.error.DeserializeError.{DeserializeError}
 use Rattle.tv_reader.specs.declared.error.DeserializeError.TheVariants as errors
 use Rattle.tv_reader.specs.declared.value_type.ValueType.{ValueType}
 use Rattle.tv_reader.specs.declared.value_type.ValueType.TheVariants as types
-use Rattle.tv_typed.specs.Values.{SpellsAs, TellsFault, NextRefused}
+use Rattle.tv_typed.specs.Values.{EncodesAs, GivesError, NextRefused}
 
 -- ---- what is read of trees
 
@@ -49,7 +49,7 @@ pub record MapOf {X : Type 0} (is : Tree → X → Type 0) (t : Tree) (get : Lis
   pub read : ObjectOf is t pairs
   pub last : GivesLast get pairs
 
--- ---- what bytes spell
+-- ---- what bytes encode
 
 -- How many values an array or an object has, behind the code of its type. So many are announced by `total`.
 abbrev pub Length : ValueType → (ℕ → ℕ) → ValueType → List ℕ → ℕ → Type 0
@@ -60,20 +60,20 @@ abbrev pub element_total : ℕ → ℕ
 element_total n = n
 
 -- so many items, of which something is made
-abbrev pub SpellsInto : {C X : Type 0} → (C → List X → Type 0) → (List ℕ → X → Type 0) → ℕ → List ℕ → C → Type 0
-SpellsInto {X = X} Made Item n b c = (xs : List X) × Made c xs × (length xs ≡ n) × Each Item b xs
+abbrev pub EncodesInto : {C X : Type 0} → (C → List X → Type 0) → (List ℕ → X → Type 0) → ℕ → List ℕ → C → Type 0
+EncodesInto {X = X} Made Item n b c = (xs : List X) × Made c xs × (length xs ≡ n) × Each Item b xs
 
 -- a key, and then a value
-abbrev pub SpellsEntry : {X : Type 0} → (Tree → X → Type 0) → Version → List ℕ → String Global × X → Type 0
-SpellsEntry is v b p = Then (λ w. Key v w (string_bytes p.0)) (λ w. SpellsAs is v w p.1) b
+abbrev pub EncodesEntry : {X : Type 0} → (Tree → X → Type 0) → Version → List ℕ → String Global × X → Type 0
+EncodesEntry is v b p = Then (λ w. Key v w (string_bytes p.0)) (λ w. EncodesAs is v w p.1) b
 
 -- ---- why there is none
 
--- a value of another type stands there, or the number of values is at fault, or no object announces it
+-- a value of another type stands there, or the number of values is malformed, or no object announces it
 pub data LengthRefused (collection : ValueType) (total : ℕ → ℕ) (kind : ValueType) (whole : List ℕ) : DeserializeError → Type 0 where
   other_collection : kind ≢ collection → LengthRefused collection total kind whole (errors.UnsupportedType kind)
-  in_length : {c : Cause} → kind ≡ collection → NumberFault whole c → LengthRefused collection total kind whole (errors.CorruptedValue c)
-  no_total : (n : ℕ) (front rest : List ℕ) → kind ≡ collection → whole ≡ front ++ rest → VNum front n → ((m : ℕ) → total m ≢ n) → LengthRefused collection total kind whole (errors.CorruptedValue OddObject)
+  in_length : {c : Cause} → kind ≡ collection → ErrorInNumber whole c → LengthRefused collection total kind whole (errors.CorruptedValue c)
+  no_total : (n : ℕ) (prefix rest : List ℕ) → kind ≡ collection → whole ≡ prefix ++ rest → VNum prefix n → ((m : ℕ) → total m ≢ n) → LengthRefused collection total kind whole (errors.CorruptedValue OddObject)
 
 -- there are none, or one of them is refused
 abbrev pub ItemsRefused : {X : Type 0} → ValueType → (ℕ → ℕ) → (List ℕ → X → Type 0) → (List ℕ → DeserializeError → Type 0) → ValueType → List ℕ → DeserializeError → Type 0
@@ -81,11 +81,11 @@ ItemsRefused collection total Item Refused kind = InThen (LengthRefused collecti
 
 -- an array, or one of its values
 abbrev pub ArrayRefused : {X : Type 0} → (Tree → X → Type 0) → (Version → ValueType → List ℕ → DeserializeError → Type 0) → Version → ValueType → List ℕ → DeserializeError → Type 0
-ArrayRefused is refused v = ItemsRefused types.Array element_total (SpellsAs is v) (NextRefused refused v)
+ArrayRefused is refused v = ItemsRefused types.Array element_total (EncodesAs is v) (NextRefused refused v)
 
 -- a key
 abbrev pub KeyRefused : Version → List ℕ → DeserializeError → Type 0
-KeyRefused v = TellsFault (KeyFault v)
+KeyRefused v = GivesError (ErrorInKey v)
 
 -- a key, or the value behind it
 abbrev pub EntryRefused : (Version → ValueType → List ℕ → DeserializeError → Type 0) → Version → List ℕ → DeserializeError → Type 0
@@ -93,7 +93,7 @@ EntryRefused refused v = InThen (KeyRefused v) (Key v) (λ _. NextRefused refuse
 
 -- an object, or one of its entries
 abbrev pub ObjectRefused : {X : Type 0} → (Tree → X → Type 0) → (Version → ValueType → List ℕ → DeserializeError → Type 0) → Version → ValueType → List ℕ → DeserializeError → Type 0
-ObjectRefused is refused v = ItemsRefused types.Object (entry_total v) (SpellsEntry is v) (EntryRefused refused v)
+ObjectRefused is refused v = ItemsRefused types.Object (entry_total v) (EncodesEntry is v) (EntryRefused refused v)
 
 -- ---- one item after the other
 

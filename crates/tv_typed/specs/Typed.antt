@@ -3,9 +3,9 @@ use Rattle.std.specs.Prelude.{◌≡◌, ◌≢◌, ℕ, Bool, true, false, is_e
 use Rattle.tv_base.specs.declared.cause.Cause.{Cause}
 use Rattle.tv_base.specs.declared.cause.Cause.TheVariants.{UnexpectedEnd}
 use Rattle.tv_base.specs.declared.read_error.ReadError.{ReadError}
-use Rattle.tv_base.specs.Source.{Faults}
+use Rattle.tv_base.specs.Source.{Failures}
 use Rattle.tv_base.specs.Stop.{Stop, Taken}
-use Rattle.tv_base.specs.Stop.Stop.{Fault, Failed, Short, Never}
+use Rattle.tv_base.specs.Stop.Stop.{InputError, Failed, Short, Never}
 use Rattle.tv_reader.specs.Error.{read_error}
 use Rattle.tv_reader.specs.Finds.{Found, FindsBy}
 use Rattle.tv_reader.specs.declared.error.DeserializeError.{DeserializeError}
@@ -14,32 +14,32 @@ use Rattle.tv_typed.specs.declared.store_reader.StoreReader.{StoreReader}
 
 -- Why a typed read stopped. What is refused is told by the error itself.
 abbrev pub typed_stop : DeserializeError → Stop DeserializeError
-typed_stop (errors.CorruptedValue c) = Fault (errors.CorruptedValue c)
-typed_stop (errors.TypeMismatch expected actual) = Fault (errors.TypeMismatch expected actual)
-typed_stop (errors.UnsupportedType t) = Fault (errors.UnsupportedType t)
-typed_stop (errors.Custom s) = Fault (errors.Custom s)
+typed_stop (errors.CorruptedValue c) = InputError (errors.CorruptedValue c)
+typed_stop (errors.TypeMismatch expected actual) = InputError (errors.TypeMismatch expected actual)
+typed_stop (errors.UnsupportedType t) = InputError (errors.UnsupportedType t)
+typed_stop (errors.Custom s) = InputError (errors.Custom s)
 typed_stop (errors.Io k) = Failed k
 typed_stop errors.Memory = Short
 typed_stop errors.HeapFull = Never
 typed_stop (errors.UnsupportedVersion m n) = Never
 typed_stop errors.AlreadyFailed = Never
 
--- After a refusal a reader reads nothing more, and takes nothing. Before one, the bytes that were taken spell what is read, or show
+-- After a refusal a reader reads nothing more, and takes nothing. Before one, the bytes that were taken encode what is read, or show
 -- why nothing is; and a refusal is marked.
-pub record Reads {S X : Type 0} (tells : S → Type 0) (left : S → List ℕ) (faults : S → Faults) (old new : StoreReader S) (result : Result X DeserializeError) (Spells : List ℕ → X → Type 0) (IsFault : List ℕ → DeserializeError → Type 0) : Type 0 where
+pub record Reads {S X : Type 0} (is_known : S → Type 0) (left : S → List ℕ) (failures : S → Failures) (old new : StoreReader S) (result : Result X DeserializeError) (Encodes : List ℕ → X → Type 0) (HasError : List ℕ → DeserializeError → Type 0) : Type 0 where
   pub closed : old.has_failed ≡ true → IsErrOf result errors.AlreadyFailed × (new.source ≡ old.source) × (new.count ≡ old.count)
-  pub finds : old.has_failed ≡ false → FindsBy typed_stop (errors.CorruptedValue UnexpectedEnd) tells left faults old.source old.count new.source new.count result Spells IsFault
+  pub finds : old.has_failed ≡ false → FindsBy typed_stop (errors.CorruptedValue UnexpectedEnd) is_known left failures old.source old.count new.source new.count result Encodes HasError
   pub marks : new.has_failed ≡ is_err result
   pub same_version : new.version ≡ old.version
 
 -- What a call that reads a value of a type through a reader promises, whoever wrote it: as `Reads`, but that a refusal may be left
 -- unmarked, and that a failure of the source may be told in other words.
-pub record Deserializes {S X : Type 0} (tells : S → Type 0) (left : S → List ℕ) (old new : StoreReader S) (result : Result X DeserializeError) (Spells : List ℕ → X → Type 0) (IsFault : List ℕ → DeserializeError → Type 0) : Type 0 where
+pub record Deserializes {S X : Type 0} (is_known : S → Type 0) (left : S → List ℕ) (old new : StoreReader S) (result : Result X DeserializeError) (Encodes : List ℕ → X → Type 0) (HasError : List ℕ → DeserializeError → Type 0) : Type 0 where
   pub closed : old.has_failed ≡ true → IsErrOf result errors.AlreadyFailed × (new.source ≡ old.source) × (new.count ≡ old.count)
   pub unmarked : OnOk result (new.has_failed ≡ false)
-  pub found : old.has_failed ≡ false → tells old.source → Found typed_stop (errors.CorruptedValue UnexpectedEnd) Spells IsFault (left old.source) (left new.source) new.count result
-  pub taken : old.has_failed ≡ false → tells old.source → Taken (left old.source) (left new.source) old.count new.count
-  pub still_tells : old.has_failed ≡ false → tells old.source → tells new.source
+  pub found : old.has_failed ≡ false → is_known old.source → Found typed_stop (errors.CorruptedValue UnexpectedEnd) Encodes HasError (left old.source) (left new.source) new.count result
+  pub taken : old.has_failed ≡ false → is_known old.source → Taken (left old.source) (left new.source) old.count new.count
+  pub stays_known : old.has_failed ≡ false → is_known old.source → is_known new.source
   pub same_version : new.version ≡ old.version
 
 -- a result of a lower layer

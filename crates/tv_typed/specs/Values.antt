@@ -1,19 +1,19 @@
--- Which values are read of which bytes, by the trees that these spell.
+-- Which values are read of which bytes, by the trees that these encode.
 use Rattle.std.specs.Prelude.{◌≡◌, ◌≢◌, ◌+◌, ◌-◌, ◌^◌, ◌<◌, ℕ, false, List, ◌++◌, length, Result, Ok, Err}
 use Rattle.tv_base.specs.declared.cause.Cause.{Cause}
-use Rattle.tv_base.specs.PartFault.{InThen}
+use Rattle.tv_base.specs.ErrorInPart.{InThen}
 use Rattle.tv_base.specs.Stop.{Stop}
-use Rattle.tv_base.specs.Stop.Stop.{Fault, Failed, Short, Never}
+use Rattle.tv_base.specs.Stop.Stop.{InputError, Failed, Short, Never}
 use Rattle.tv_legacy.specs.Legacy.{Legacy}
-use Rattle.tv_value.specs.Fault.{Refusal, corrupted}
+use Rattle.tv_value.specs.InputError.{Refusal, corrupted}
 use Rattle.tv_value.specs.Owned.{owned_tree}
-use Rattle.tv_value.specs.Spelling.{Spells, NoLegacy}
+use Rattle.tv_value.specs.Encoding.{Encodes, NoLegacy}
 use Rattle.tv_value.specs.Tree.{Leaf, Tree, leaf}
 use Rattle.tv_value.specs.Version.{Version}
 use Rattle.tv_value.specs.declared.owned_value.OwnedValue.{OwnedValue}
 use Rattle.tv_reader.specs.Error.{IsRefusal}
 use Rattle.tv_reader.specs.Trees.{NoneBehind}
-use Rattle.tv_reader.specs.ValueType.{coded, IsCoded, CodeFault}
+use Rattle.tv_reader.specs.ValueType.{coded, IsCoded, ErrorInCode}
 use Rattle.tv_reader.specs.declared.error.DeserializeError.{DeserializeError}
 use Rattle.tv_reader.specs.declared.error.DeserializeError.TheVariants as errors
 use Rattle.tv_reader.specs.declared.value_type.ValueType.{ValueType}
@@ -22,13 +22,13 @@ use Rattle.tv_typed.specs.declared.store_reader.StoreReader.{StoreReader}
 
 -- ---- values
 
--- The bytes spell a tree of which this value is read. `is` says which values are read of which trees.
-abbrev pub SpellsAs : {X : Type 0} → (Tree → X → Type 0) → Version → List ℕ → X → Type 0
-SpellsAs is v b x = (t : Tree) × Spells Legacy v b t × is t x
+-- The bytes encode a tree of which this value is read. `is` says which values are read of which trees.
+abbrev pub EncodesAs : {X : Type 0} → (Tree → X → Type 0) → Version → List ℕ → X → Type 0
+EncodesAs is v b x = (t : Tree) × Encodes Legacy v b t × is t x
 
 -- the same behind the code of a type
-abbrev pub SpelledAs : {X : Type 0} → (Tree → X → Type 0) → Version → ValueType → List ℕ → X → Type 0
-SpelledAs is v kind b x = SpellsAs is v (coded kind ++ b) x
+abbrev pub EncodedAs : {X : Type 0} → (Tree → X → Type 0) → Version → ValueType → List ℕ → X → Type 0
+EncodedAs is v kind b x = EncodesAs is v (coded kind ++ b) x
 
 -- of a leaf, what it holds
 abbrev pub IsLeaf : {X : Type 0} → (X → Leaf) → Tree → X → Type 0
@@ -39,44 +39,44 @@ abbrev pub IsTree : Tree → OwnedValue → Type 0
 IsTree t x = t ≡ owned_tree x
 
 -- a leaf behind the code of its type
-abbrev pub SpellsLeaf : {X : Type 0} → Version → ValueType → (X → Leaf) → List ℕ → X → Type 0
-SpellsLeaf v kind make b x = Spells Legacy v (coded kind ++ b) (leaf (make x))
+abbrev pub EncodesLeaf : {X : Type 0} → Version → ValueType → (X → Leaf) → List ℕ → X → Type 0
+EncodesLeaf v kind make b x = Encodes Legacy v (coded kind ++ b) (leaf (make x))
 
 -- ---- refusals
 
--- a code is at fault
+-- a code is malformed
 pub data CodeRefused (whole : List ℕ) : DeserializeError → Type 0 where
-  in_code : {c : Cause} → CodeFault whole c → CodeRefused whole (errors.CorruptedValue c)
+  in_code : {c : Cause} → ErrorInCode whole c → CodeRefused whole (errors.CorruptedValue c)
 
--- A value of one type is expected: behind the code of its own type stands a value of another, or its bytes are at fault.
+-- A value of one type is expected: behind the code of its own type stands a value of another, or its bytes are malformed.
 pub data LeafRefused (expected : ValueType) (v : Version) (kind : ValueType) (whole : List ℕ) : DeserializeError → Type 0 where
   other_type : kind ≢ expected → LeafRefused expected v kind whole (errors.TypeMismatch expected kind)
   in_body : {c : Cause} → kind ≡ expected → NoneBehind v kind whole (corrupted c) → LeafRefused expected v kind whole (errors.CorruptedValue c)
 
--- the error tells what is wrong with the bytes
-pub record TellsFault (IsFault : List ℕ → Refusal → Type 0) (whole : List ℕ) (e : DeserializeError) : Type 0 where
+-- the error is_known what is wrong with the bytes
+pub record GivesError (HasError : List ℕ → Refusal → Type 0) (whole : List ℕ) (e : DeserializeError) : Type 0 where
   pub refusal : Refusal
   pub told : IsRefusal e refusal
-  pub fault : IsFault whole refusal
+  pub error : HasError whole refusal
 
--- a value of any type is at fault
+-- a value of any type is malformed
 abbrev pub TreeRefused : Version → ValueType → List ℕ → DeserializeError → Type 0
-TreeRefused v kind = TellsFault (NoneBehind v kind)
+TreeRefused v kind = GivesError (NoneBehind v kind)
 
--- the next value: its code is at fault, or what stands behind that is refused
+-- the next value: its code is malformed, or what stands behind that is refused
 abbrev pub NextRefused : (Version → ValueType → List ℕ → DeserializeError → Type 0) → Version → List ℕ → DeserializeError → Type 0
 NextRefused refused v = InThen CodeRefused IsCoded (λ kind. refused v kind)
 
 -- ---- what both say of each other
 
--- Where bytes behind a code are refused, no front of them spells, without legacy objects, a tree of which a value is read.
+-- Where bytes behind a code are refused, no prefix of them encodes, without legacy objects, a tree of which a value is read.
 abbrev pub RefusalsExclude : {X : Type 0} → (Tree → X → Type 0) → (Version → ValueType → List ℕ → DeserializeError → Type 0) → Type 0
 RefusalsExclude {X} is refused =
-    (v : Version) (kind : ValueType) (front rest : List ℕ) (e : DeserializeError) (t : Tree) (x : X) → refused v kind (front ++ rest) e → Spells NoLegacy v (coded kind ++ front) t → is t x → ⊥
+    (v : Version) (kind : ValueType) (prefix rest : List ℕ) (e : DeserializeError) (t : Tree) (x : X) → refused v kind (prefix ++ rest) e → Encodes NoLegacy v (coded kind ++ prefix) t → is t x → ⊥
 
 -- it was not for the bytes: the source failed, or memory was refused
 abbrev pub SparesBytes : Stop DeserializeError → Type 0
-SparesBytes (Fault e) = ⊥
+SparesBytes (InputError e) = ⊥
 SparesBytes (Failed kind) = Unit {0}
 SparesBytes Short = Unit {0}
 SparesBytes Never = ⊥
@@ -86,9 +86,9 @@ abbrev pub IsReadOf : {X : Type 0} → (Tree → X → Type 0) → Tree → List
 IsReadOf is t rest (Ok x) left = is t x × (left ≡ rest)
 IsReadOf is t rest (Err e) left = SparesBytes (typed_stop e)
 
--- Wherever a front of what is left spells, without legacy objects, a tree of which a value is read, a value of that tree is read and the rest is left, unless
+-- Wherever a prefix of what is left encodes, without legacy objects, a tree of which a value is read, a value of that tree is read and the rest is left, unless
 -- the source failed or memory was refused. The code of the value was read before.
-abbrev pub Only : {S X : Type 0} (tells : S → Type 0) (left : S → List ℕ) (old new : StoreReader S) (result : Result X DeserializeError) → (Tree → X → Type 0) → Version → List ℕ → Type 0
-Only {X = X} tells left old new result is v code =
-    old.has_failed ≡ false → tells old.source → old.count + length (left old.source) < 2 ^ 64 - 1
-    → (t : Tree) (x : X) (front rest : List ℕ) → left old.source ≡ front ++ rest → Spells NoLegacy v (code ++ front) t → is t x → IsReadOf is t rest result (left new.source)
+abbrev pub Only : {S X : Type 0} (is_known : S → Type 0) (left : S → List ℕ) (old new : StoreReader S) (result : Result X DeserializeError) → (Tree → X → Type 0) → Version → List ℕ → Type 0
+Only {X = X} is_known left old new result is v code =
+    old.has_failed ≡ false → is_known old.source → old.count + length (left old.source) < 2 ^ 64 - 1
+    → (t : Tree) (x : X) (prefix rest : List ℕ) → left old.source ≡ prefix ++ rest → Encodes NoLegacy v (code ++ prefix) t → is t x → IsReadOf is t rest result (left new.source)

@@ -1,8 +1,8 @@
 -- What a visitor is handed, and what is done through a reader then.
 use Rattle.std.specs.Prelude.{◌≡◌, ℕ, true, is_err, List, Result, Ok, Err}
-use Rattle.tv_base.specs.Source.{Faults}
+use Rattle.tv_base.specs.Source.{Failures}
 use Rattle.tv_base.specs.Stop.{Taken}
-use Rattle.tv_reader.specs.Trees.{SpellsBehind}
+use Rattle.tv_reader.specs.Trees.{EncodesBehind}
 use Rattle.tv_reader.specs.ValueType.{coded}
 use Rattle.tv_reader.specs.Version.{version_of}
 use Rattle.tv_reader.specs.declared.error.DeserializeError.{DeserializeError}
@@ -12,7 +12,7 @@ use Rattle.tv_value.specs.Tree.{Leaf}
 use Rattle.tv_value.specs.declared.owned_value.OwnedValue.{OwnedValue}
 use Rattle.tv_typed.specs.Lists.{Length, LengthRefused}
 use Rattle.tv_typed.specs.Typed.{Reads}
-use Rattle.tv_typed.specs.Values.{IsLeaf, SpellsLeaf, LeafRefused, TreeRefused, Only}
+use Rattle.tv_typed.specs.Values.{IsLeaf, EncodesLeaf, LeafRefused, TreeRefused, Only}
 use Rattle.tv_typed.specs.declared.store_reader.StoreReader.{StoreReader}
 
 -- ---- leaves
@@ -24,32 +24,32 @@ Answered answers (Err e) result = result ≡ Err e
 
 -- The leaf behind the code of its type was read, and the answer to it is given. Where none was read, its refusal is. The reader is
 -- as reading has left it, but that its mark may also tell of the answer.
-pub record Visits {S X : Type 0} (tells : S → Type 0) (left : S → List ℕ) (faults : S → Faults) (old new : StoreReader S) (kind : ValueType) (answers : Leaf → Result X DeserializeError → Type 0) (result : Result X DeserializeError) : Type 0 where
+pub record Visits {S X : Type 0} (is_known : S → Type 0) (left : S → List ℕ) (failures : S → Failures) (old new : StoreReader S) (kind : ValueType) (answers : Leaf → Result X DeserializeError → Type 0) (result : Result X DeserializeError) : Type 0 where
   pub read : Result Leaf DeserializeError
-  pub reads : Reads tells left faults old (record new { has_failed = is_err read }) read (SpellsLeaf (version_of old.version) kind (λ l. l)) (LeafRefused kind (version_of old.version) kind)
-  pub only : Only tells left old (record new { has_failed = is_err read }) read (IsLeaf (λ l. l)) (version_of old.version) (coded kind)
+  pub reads : Reads is_known left failures old (record new { has_failed = is_err read }) read (EncodesLeaf (version_of old.version) kind (λ l. l)) (LeafRefused kind (version_of old.version) kind)
+  pub only : Only is_known left old (record new { has_failed = is_err read }) read (IsLeaf (λ l. l)) (version_of old.version) (coded kind)
   pub answered : Answered answers read result
 
 -- ---- arrays and objects
 
 -- Some bytes were taken through a reader, or none, whoever took them.
-pub record TakesSome {S : Type 0} (tells : S → Type 0) (left : S → List ℕ) (old new : StoreReader S) : Type 0 where
+pub record TakesSome {S : Type 0} (is_known : S → Type 0) (left : S → List ℕ) (old new : StoreReader S) : Type 0 where
   pub closed : old.has_failed ≡ true → (new.has_failed ≡ true) × (new.source ≡ old.source) × (new.count ≡ old.count)
-  pub taken : tells old.source → Taken (left old.source) (left new.source) old.count new.count
-  pub still_tells : tells old.source → tells new.source
+  pub taken : is_known old.source → Taken (left old.source) (left new.source) old.count new.count
+  pub stays_known : is_known old.source → is_known new.source
   pub same_version : new.version ≡ old.version
 
 -- What was done with so many values: behind their number some bytes were taken. Where no number was read, nothing was done, and its refusal is given.
-abbrev pub Handed : {S X : Type 0} (tells : S → Type 0) (left : S → List ℕ) (mid new : StoreReader S) → Result ℕ DeserializeError → Result X DeserializeError → Type 0
-Handed tells left mid new (Ok n) result = TakesSome tells left mid new
-Handed tells left mid new (Err e) result = (result ≡ Err e) × (new ≡ mid)
+abbrev pub Handed : {S X : Type 0} (is_known : S → Type 0) (left : S → List ℕ) (mid new : StoreReader S) → Result ℕ DeserializeError → Result X DeserializeError → Type 0
+Handed is_known left mid new (Ok n) result = TakesSome is_known left mid new
+Handed is_known left mid new (Err e) result = (result ≡ Err e) × (new ≡ mid)
 
 -- The number of the values was read behind the code, and then they were handed on.
-pub record VisitsItems {S X : Type 0} (tells : S → Type 0) (left : S → List ℕ) (faults : S → Faults) (old new : StoreReader S) (collection : ValueType) (total : ℕ → ℕ) (kind : ValueType) (result : Result X DeserializeError) : Type 0 where
+pub record VisitsItems {S X : Type 0} (is_known : S → Type 0) (left : S → List ℕ) (failures : S → Failures) (old new : StoreReader S) (collection : ValueType) (total : ℕ → ℕ) (kind : ValueType) (result : Result X DeserializeError) : Type 0 where
   pub behind_number : StoreReader S
   pub announced : Result ℕ DeserializeError
-  pub reads : Reads tells left faults old behind_number announced (Length collection total kind) (LengthRefused collection total kind)
-  pub handed : Handed tells left behind_number new announced result
+  pub reads : Reads is_known left failures old behind_number announced (Length collection total kind) (LengthRefused collection total kind)
+  pub handed : Handed is_known left behind_number new announced result
 
 -- ---- legacy objects
 
@@ -58,12 +58,12 @@ abbrev pub GivesRefusal : {X : Type 0} → Result OwnedValue DeserializeError �
 GivesRefusal (Ok tree) result = Unit {0}
 GivesRefusal (Err e) result = result ≡ Err e
 
--- A legacy object was read whole behind its code, and then the entries that its tree spells were handed on, or its refusal is given. Nothing more is taken
+-- A legacy object was read whole behind its code, and then the entries that its tree encodes were handed on, or its refusal is given. Nothing more is taken
 -- through the reader, whose mark may also tell of the answer.
-pub record VisitsLegacy {S X : Type 0} (tells : S → Type 0) (left : S → List ℕ) (faults : S → Faults) (old new : StoreReader S) (result : Result X DeserializeError) : Type 0 where
+pub record VisitsLegacy {S X : Type 0} (is_known : S → Type 0) (left : S → List ℕ) (failures : S → Failures) (old new : StoreReader S) (result : Result X DeserializeError) : Type 0 where
   pub behind_object : StoreReader S
   pub read : Result OwnedValue DeserializeError
-  pub reads : Reads tells left faults old behind_object read (SpellsBehind (version_of old.version) types.JSONObject) (TreeRefused (version_of old.version) types.JSONObject)
+  pub reads : Reads is_known left failures old behind_object read (EncodesBehind (version_of old.version) types.JSONObject) (TreeRefused (version_of old.version) types.JSONObject)
   pub gives : GivesRefusal read result
   pub same_source : new.source ≡ behind_object.source
   pub same_count : new.count ≡ behind_object.count

@@ -1,11 +1,11 @@
 //! Arrays in a store.
 
 ghost use Rattle.std.specs.Prelude.{◌≡◌, ◌+◌, false, true, OnErr, if◌then◌else◌};
-ghost use Rattle.tv_base.specs.PartFault.{InEach};
+ghost use Rattle.tv_base.specs.ErrorInPart.{InEach};
 ghost use Rattle.tv_reader.specs.Version.{version_of};
-ghost use Rattle.tv_typed.specs.Lists.{SpellsInto, NextItem, NextItemRefused, gives_some};
+ghost use Rattle.tv_typed.specs.Lists.{EncodesInto, NextItem, NextItemRefused, gives_some};
 ghost use Rattle.tv_typed.specs.Typed.{Deserializes};
-ghost use Rattle.tv_typed.specs.Values.{SpellsAs, NextRefused};
+ghost use Rattle.tv_typed.specs.Values.{EncodesAs, NextRefused};
 
 use crate::de::ValueDeserialize;
 use crate::store_reader::StoreReader;
@@ -20,7 +20,7 @@ pub(crate) fn read_elements<T: ValueDeserialize, S: ByteSource>(
     announced: u64,
 ) -> Result<Vec<T>, DeserializeError>
     requires { reader.old.has_failed ≡ false }
-    ensures { Deserializes S.tells S.left reader.old reader.new result (SpellsInto (λ items xs. items.items ≡ xs) (SpellsAs T.is (version_of reader.old.version)) announced) (InEach (NextRefused T.refused (version_of reader.old.version)) (SpellsAs T.is (version_of reader.old.version)) announced) }
+    ensures { Deserializes S.is_known S.left reader.old reader.new result (EncodesInto (λ items xs. items.items ≡ xs) (EncodesAs T.is (version_of reader.old.version)) announced) (InEach (NextRefused T.refused (version_of reader.old.version)) (EncodesAs T.is (version_of reader.old.version)) announced) }
 {
     let mut items = Vec::new(alloc);
     for _ in 0..announced {
@@ -56,7 +56,7 @@ impl<'de, S: ByteSource> BinaryArrayDeserializer<'de, S> {
         ensures same_reader { self.new.reader.ghost_name ≡ self.old.reader.ghost_name }
         ensures announced { self.new.announced ≡ self.old.announced }
         ensures position { self.new.position ≡ self.old.position + (if gives_some result then 1 else 0) }
-        ensures deserializes { Deserializes S.tells S.left self.old.reader.now self.new.reader.now result (NextItem (SpellsAs V.is (version_of self.old.reader.now.version)) self.old.position self.old.announced) (NextItemRefused (NextRefused V.refused (version_of self.old.reader.now.version)) self.old.position self.old.announced) }
+        ensures deserializes { Deserializes S.is_known S.left self.old.reader.now self.new.reader.now result (NextItem (EncodesAs V.is (version_of self.old.reader.now.version)) self.old.position self.old.announced) (NextItemRefused (NextRefused V.refused (version_of self.old.reader.now.version)) self.old.position self.old.announced) }
         ensures marks { OnErr result (self.new.reader.now.has_failed ≡ true) }
     {
         self.reader.go_on()?;

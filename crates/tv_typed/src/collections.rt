@@ -1,12 +1,12 @@
 //! Arrays and objects, read as lists and maps of values of one type.
 //!
 //! Errors of each: `UnsupportedType` where a value of another type stands there, and nothing more is taken then; `CorruptedValue`
-//! where the number of values is at fault, with `OddObject` where no object announces it; and the first refusal of a key or of a
+//! where the number of values is malformed, with `OddObject` where no object announces it; and the first refusal of a key or of a
 //! value. `Memory` where the list or the map can't grow: nothing is reserved from the number.
 //!
-//! A legacy object is read too, as a list of keys and values and as a map: its tree is spelled in memory, in its shortest spelling, and read
+//! A legacy object is read too, as a list of keys and values and as a map: its tree is encoded in memory, in its shortest encoding, and read
 //! from there. Its own errors are those of `deserialize_tree`; the first refusal of a value in it comes behind the whole object.
-//! `UnsupportedType(JSONObject)` where the type of its values reads past the end of that spelling, which none of this library does.
+//! `UnsupportedType(JSONObject)` where the type of its values reads past the end of that encoding, which none of this library does.
 
 ghost use Rattle.std.specs.Prelude.{◌≡◌, true, OnErr};
 ghost use Rattle.std.specs.BTreeMap as tree;
@@ -17,7 +17,7 @@ ghost use Rattle.tv_typed.specs.ExcludingLists.{array_excludes, object_excludes}
 ghost use Rattle.tv_typed.specs.LegacyObjects.{MembersRefused};
 ghost use Rattle.tv_typed.specs.Lists.{ArrayOf, ObjectOf, MapOf, ArrayRefused, ObjectRefused};
 ghost use Rattle.tv_typed.specs.Typed.{Deserializes};
-ghost use Rattle.tv_typed.specs.Values.{SpelledAs};
+ghost use Rattle.tv_typed.specs.Values.{EncodedAs};
 
 use crate::array::read_elements;
 use crate::de::{BinaryValueDeserializer, ValueDeserialize};
@@ -38,7 +38,7 @@ impl<T: ValueDeserialize> ValueDeserialize for Vec<T> {
         alloc: Global,
         deserializer: BinaryValueDeserializer<'_, S>,
     ) -> Result<Vec<T>, DeserializeError>
-        ensures deserializes { Deserializes S.tells S.left deserializer.entry.reader.now deserializer.exit.1.0.now result (SpelledAs (λ t list. ArrayOf T.is t list.items) (version_of deserializer.entry.reader.now.version) deserializer.entry.kind) (ArrayRefused T.is T.refused (version_of deserializer.entry.reader.now.version) deserializer.entry.kind) }
+        ensures deserializes { Deserializes S.is_known S.left deserializer.entry.reader.now deserializer.exit.1.0.now result (EncodedAs (λ t list. ArrayOf T.is t list.items) (version_of deserializer.entry.reader.now.version) deserializer.entry.kind) (ArrayRefused T.is T.refused (version_of deserializer.entry.reader.now.version) deserializer.entry.kind) }
         ensures marks { OnErr result (deserializer.exit.1.0.now.has_failed ≡ true) }
     {
         let BinaryValueDeserializer { kind, reader } = deserializer;
@@ -48,7 +48,7 @@ impl<T: ValueDeserialize> ValueDeserialize for Vec<T> {
         answer
     }
 
-    ghost excludes = { λ v kind front rest e t list refused spelled is. array_excludes T.is T.refused T.excludes v kind front rest e t list.items refused spelled is };
+    ghost excludes = { λ v kind prefix rest e t list refused encoded is. array_excludes T.is T.refused T.excludes v kind prefix rest e t list.items refused encoded is };
 }
 
 impl<T: ValueDeserialize> CodedObject for Vec<(String, T)> {
@@ -61,7 +61,7 @@ impl<T: ValueDeserialize> CodedObject for Vec<(String, T)> {
         kind: ValueType,
         reader: &mut StoreReader<S>,
     ) -> Result<Vec<(String, T)>, DeserializeError>
-        ensures { Deserializes S.tells S.left reader.old reader.new result (SpelledAs (λ t list. ObjectOf T.is t list.items) (version_of reader.old.version) kind) (ObjectRefused T.is T.refused (version_of reader.old.version) kind) }
+        ensures { Deserializes S.is_known S.left reader.old reader.new result (EncodedAs (λ t list. ObjectOf T.is t list.items) (version_of reader.old.version) kind) (ObjectRefused T.is T.refused (version_of reader.old.version) kind) }
     {
         let announced = reader.object_length(kind)?;
         let answer = read_entries(alloc, reader, announced);
@@ -79,7 +79,7 @@ impl<T: ValueDeserialize> ValueDeserialize for Vec<(String, T)> {
         alloc: Global,
         deserializer: BinaryValueDeserializer<'_, S>,
     ) -> Result<Vec<(String, T)>, DeserializeError>
-        ensures deserializes { Deserializes S.tells S.left deserializer.entry.reader.now deserializer.exit.1.0.now result (SpelledAs (λ t list. ObjectOf T.is t list.items) (version_of deserializer.entry.reader.now.version) deserializer.entry.kind) (MembersRefused (ObjectRefused T.is T.refused) (version_of deserializer.entry.reader.now.version) deserializer.entry.kind) }
+        ensures deserializes { Deserializes S.is_known S.left deserializer.entry.reader.now deserializer.exit.1.0.now result (EncodedAs (λ t list. ObjectOf T.is t list.items) (version_of deserializer.entry.reader.now.version) deserializer.entry.kind) (MembersRefused (ObjectRefused T.is T.refused) (version_of deserializer.entry.reader.now.version) deserializer.entry.kind) }
         ensures marks { OnErr result (deserializer.exit.1.0.now.has_failed ≡ true) }
     {
         let BinaryValueDeserializer { kind, reader } = deserializer;
@@ -88,7 +88,7 @@ impl<T: ValueDeserialize> ValueDeserialize for Vec<(String, T)> {
         answer
     }
 
-    ghost excludes = { λ v kind front rest e t list refused spelled is. members_exclude (ObjectRefused T.is T.refused) v kind front rest e t (λ f. object_excludes T.is T.refused T.excludes v kind front rest e t list.items f spelled is) refused spelled };
+    ghost excludes = { λ v kind prefix rest e t list refused encoded is. members_exclude (ObjectRefused T.is T.refused) v kind prefix rest e t (λ f. object_excludes T.is T.refused T.excludes v kind prefix rest e t list.items f encoded is) refused encoded };
 }
 
 impl<T: ValueDeserialize> CodedObject for BTreeMap<String, T> {
@@ -101,7 +101,7 @@ impl<T: ValueDeserialize> CodedObject for BTreeMap<String, T> {
         kind: ValueType,
         reader: &mut StoreReader<S>,
     ) -> Result<BTreeMap<String, T>, DeserializeError>
-        ensures { Deserializes S.tells S.left reader.old reader.new result (SpelledAs (λ t map. MapOf T.is t (λ key. tree.get_by_text map key)) (version_of reader.old.version) kind) (ObjectRefused T.is T.refused (version_of reader.old.version) kind) }
+        ensures { Deserializes S.is_known S.left reader.old reader.new result (EncodedAs (λ t map. MapOf T.is t (λ key. tree.get_by_text map key)) (version_of reader.old.version) kind) (ObjectRefused T.is T.refused (version_of reader.old.version) kind) }
     {
         let announced = reader.object_length(kind)?;
         let answer = read_map(alloc, reader, announced);
@@ -119,7 +119,7 @@ impl<T: ValueDeserialize> ValueDeserialize for BTreeMap<String, T> {
         alloc: Global,
         deserializer: BinaryValueDeserializer<'_, S>,
     ) -> Result<BTreeMap<String, T>, DeserializeError>
-        ensures deserializes { Deserializes S.tells S.left deserializer.entry.reader.now deserializer.exit.1.0.now result (SpelledAs (λ t map. MapOf T.is t (λ key. tree.get_by_text map key)) (version_of deserializer.entry.reader.now.version) deserializer.entry.kind) (MembersRefused (ObjectRefused T.is T.refused) (version_of deserializer.entry.reader.now.version) deserializer.entry.kind) }
+        ensures deserializes { Deserializes S.is_known S.left deserializer.entry.reader.now deserializer.exit.1.0.now result (EncodedAs (λ t map. MapOf T.is t (λ key. tree.get_by_text map key)) (version_of deserializer.entry.reader.now.version) deserializer.entry.kind) (MembersRefused (ObjectRefused T.is T.refused) (version_of deserializer.entry.reader.now.version) deserializer.entry.kind) }
         ensures marks { OnErr result (deserializer.exit.1.0.now.has_failed ≡ true) }
     {
         let BinaryValueDeserializer { kind, reader } = deserializer;
@@ -128,7 +128,7 @@ impl<T: ValueDeserialize> ValueDeserialize for BTreeMap<String, T> {
         answer
     }
 
-    ghost excludes = { λ v kind front rest e t map refused spelled is. members_exclude (ObjectRefused T.is T.refused) v kind front rest e t (λ f. object_excludes T.is T.refused T.excludes v kind front rest e t is.pairs f spelled is.read) refused spelled };
+    ghost excludes = { λ v kind prefix rest e t map refused encoded is. members_exclude (ObjectRefused T.is T.refused) v kind prefix rest e t (λ f. object_excludes T.is T.refused T.excludes v kind prefix rest e t is.pairs f encoded is.read) refused encoded };
 }
 
 impl<T: ValueDeserialize> CodedObject for HashMap<String, T> {
@@ -141,7 +141,7 @@ impl<T: ValueDeserialize> CodedObject for HashMap<String, T> {
         kind: ValueType,
         reader: &mut StoreReader<S>,
     ) -> Result<HashMap<String, T>, DeserializeError>
-        ensures { Deserializes S.tells S.left reader.old reader.new result (SpelledAs (λ t map. MapOf T.is t (λ key. hash.get_by_text map key)) (version_of reader.old.version) kind) (ObjectRefused T.is T.refused (version_of reader.old.version) kind) }
+        ensures { Deserializes S.is_known S.left reader.old reader.new result (EncodedAs (λ t map. MapOf T.is t (λ key. hash.get_by_text map key)) (version_of reader.old.version) kind) (ObjectRefused T.is T.refused (version_of reader.old.version) kind) }
     {
         let announced = reader.object_length(kind)?;
         let answer = read_hashed(alloc, reader, announced);
@@ -159,7 +159,7 @@ impl<T: ValueDeserialize> ValueDeserialize for HashMap<String, T> {
         alloc: Global,
         deserializer: BinaryValueDeserializer<'_, S>,
     ) -> Result<HashMap<String, T>, DeserializeError>
-        ensures deserializes { Deserializes S.tells S.left deserializer.entry.reader.now deserializer.exit.1.0.now result (SpelledAs (λ t map. MapOf T.is t (λ key. hash.get_by_text map key)) (version_of deserializer.entry.reader.now.version) deserializer.entry.kind) (MembersRefused (ObjectRefused T.is T.refused) (version_of deserializer.entry.reader.now.version) deserializer.entry.kind) }
+        ensures deserializes { Deserializes S.is_known S.left deserializer.entry.reader.now deserializer.exit.1.0.now result (EncodedAs (λ t map. MapOf T.is t (λ key. hash.get_by_text map key)) (version_of deserializer.entry.reader.now.version) deserializer.entry.kind) (MembersRefused (ObjectRefused T.is T.refused) (version_of deserializer.entry.reader.now.version) deserializer.entry.kind) }
         ensures marks { OnErr result (deserializer.exit.1.0.now.has_failed ≡ true) }
     {
         let BinaryValueDeserializer { kind, reader } = deserializer;
@@ -168,5 +168,5 @@ impl<T: ValueDeserialize> ValueDeserialize for HashMap<String, T> {
         answer
     }
 
-    ghost excludes = { λ v kind front rest e t map refused spelled is. members_exclude (ObjectRefused T.is T.refused) v kind front rest e t (λ f. object_excludes T.is T.refused T.excludes v kind front rest e t is.pairs f spelled is.read) refused spelled };
+    ghost excludes = { λ v kind prefix rest e t map refused encoded is. members_exclude (ObjectRefused T.is T.refused) v kind prefix rest e t (λ f. object_excludes T.is T.refused T.excludes v kind prefix rest e t is.pairs f encoded is.read) refused encoded };
 }

@@ -6,10 +6,10 @@ ghost use Rattle.tv_base.specs.Number.{VNum};
 ghost use Rattle.tv_reader.specs.Version.{version_of};
 ghost use Rattle.tv_reader.specs.declared.error.DeserializeError.{DeserializeError};
 ghost use Rattle.tv_reader.specs.declared.value_type.ValueType.{ValueType};
-ghost use Rattle.tv_value.specs.Fault.{SmallField};
+ghost use Rattle.tv_value.specs.InputError.{SmallField};
 ghost use Rattle.tv_value.specs.Tree.{Tree};
 ghost use Rattle.tv_value.specs.Version.{Version};
-ghost use Rattle.tv_typed.specs.Documents.{NextField, GivesPair, RefusesPair, SpellsField, FieldRefused, FieldNumberRefused, NumberRefused};
+ghost use Rattle.tv_typed.specs.Documents.{NextField, GivesPair, RefusesPair, EncodesField, FieldRefused, FieldNumberRefused, NumberRefused};
 ghost use Rattle.tv_typed.specs.Lists.{NextItem, NextItemRefused, gives_some};
 ghost use Rattle.tv_typed.specs.Typed.{Reads, Deserializes};
 ghost use Rattle.tv_typed.specs.contracts.store_reader.StoreReader.{the_row};
@@ -32,7 +32,7 @@ pub trait DocumentDeserializer: Drop {
     ghost remaining: { Self → ℕ };
 
     /// Whether its pairs are known.
-    ghost tells: { Self → Type 0 };
+    ghost is_known: { Self → Type 0 };
 
     /// Which pair of a field and a tree is given next, and what is left then.
     ghost gives: { Self → ℕ × Tree → Self → Type 0 };
@@ -49,14 +49,14 @@ pub trait DocumentDeserializer: Drop {
         &mut self,
         alloc: Global,
     ) -> Result<Option<(Field, V)>, DeserializeError>
-        ensures gives { IfOk result (NextField remaining tells gives V.is self.old self.new) }
+        ensures gives { IfOk result (NextField remaining is_known gives V.is self.old self.new) }
         ensures refuses { IfErr result (λ e. refuses self.old V.refused e) };
 }
 
 impl<S: ByteSource> StoreReader<S> {
     // Takes the number of a document's pairs.
     pub(crate) fn pair_count(&mut self) -> Result<u64, DeserializeError>
-        ensures { Reads S.tells S.left S.faults self.old self.new result VNum NumberRefused }
+        ensures { Reads S.is_known S.left S.failures self.old self.new result VNum NumberRefused }
     {
         self.go_on()?;
         let answer = take_vint(&mut self.source, &mut self.count);
@@ -65,7 +65,7 @@ impl<S: ByteSource> StoreReader<S> {
 
     // Takes the field of a pair.
     pub(crate) fn field(&mut self) -> Result<u32, DeserializeError>
-        ensures { Reads S.tells S.left S.faults self.old self.new result SmallField FieldNumberRefused }
+        ensures { Reads S.is_known S.left S.failures self.old self.new result SmallField FieldNumberRefused }
     {
         self.go_on()?;
         let answer = take_field(&mut self.source, &mut self.count);
@@ -78,7 +78,7 @@ impl<S: ByteSource> StoreReader<S> {
         &mut self,
         alloc: Global,
     ) -> Result<(Field, V), DeserializeError>
-        ensures deserializes { Deserializes S.tells S.left self.old self.new result (SpellsField V.is (version_of self.old.version)) (FieldRefused V.refused (version_of self.old.version)) }
+        ensures deserializes { Deserializes S.is_known S.left self.old self.new result (EncodesField V.is (version_of self.old.version)) (FieldRefused V.refused (version_of self.old.version)) }
         ensures marks { OnErr result (self.new.has_failed ≡ true) }
     {
         let field = self.field()?;
@@ -96,14 +96,14 @@ pub struct BinaryDocumentDeserializer<'de, S: ByteSource> {
 }
 
 impl<'de, S: ByteSource> BinaryDocumentDeserializer<'de, S> {
-    /// Reads the number of a document's pairs. Errors: `CorruptedValue` where the bytes spell no number, and just the bytes that
+    /// Reads the number of a document's pairs. Errors: `CorruptedValue` where the bytes encode no number, and just the bytes that
     /// show it were taken then; `Io`; and `AlreadyFailed` where an earlier read was refused. A refusal is marked in the reader.
     pub fn from_reader(
         reader: &'de mut StoreReader<S>,
     ) -> Result<BinaryDocumentDeserializer<'de, S>, DeserializeError>
-        ensures* rests { sem 𝓛 (RestsIfErr (the_row S.row) reader.entry (λ d. d.reader.ghost_name) result (λ now. IfErr result (λ e. Reads {X = ℕ} S.tells S.left S.faults reader.entry.now now (Err e) VNum NumberRefused))) }
+        ensures* rests { sem 𝓛 (RestsIfErr (the_row S.row) reader.entry (λ d. d.reader.ghost_name) result (λ now. IfErr result (λ e. Reads {X = ℕ} S.is_known S.left S.failures reader.entry.now now (Err e) VNum NumberRefused))) }
         ensures same_reader { IfOk result (λ d. d.reader.ghost_name ≡ reader.entry.ghost_name) }
-        ensures reads { IfOk result (λ d. Reads S.tells S.left S.faults reader.entry.now d.reader.now (Ok d.announced) VNum NumberRefused) }
+        ensures reads { IfOk result (λ d. Reads S.is_known S.left S.failures reader.entry.now d.reader.now (Ok d.announced) VNum NumberRefused) }
         ensures first { IfOk result (λ d. d.position ≡ 0) }
     {
         let announced = reader.pair_count()?;
@@ -120,11 +120,11 @@ impl<'de, S: ByteSource> DocumentDeserializer for BinaryDocumentDeserializer<'de
 
     ghost remaining = { λ d. d.announced - d.position };
 
-    ghost tells = { λ d. S.tells d.reader.now.source };
+    ghost is_known = { λ d. S.is_known d.reader.now.source };
 
     ghost gives = { λ old pair new. GivesPair S.left old.reader.now pair new.reader.now };
 
-    ghost refuses = { λ d refused. RefusesPair S.tells S.left d.position d.announced d.reader.now refused };
+    ghost refuses = { λ d refused. RefusesPair S.is_known S.left d.position d.announced d.reader.now refused };
 
     fn size_hint(&self) -> usize {
         self.announced as usize
@@ -132,18 +132,18 @@ impl<'de, S: ByteSource> DocumentDeserializer for BinaryDocumentDeserializer<'de
 
     /// Reads the next pair, its value as one of this type. None where as many were read as are announced.
     ///
-    /// Errors: `CorruptedValue` where the field is at fault, with `FieldNumber` where it is above 65535, and those of
+    /// Errors: `CorruptedValue` where the field is malformed, with `FieldNumber` where it is above 65535, and those of
     /// `StoreReader::read`. Each is marked in the reader, and the place in the document stays.
     fn next_field<V: ValueDeserialize>(
         &mut self,
         alloc: Global,
     ) -> Result<Option<(Field, V)>, DeserializeError>
-        ensures gives { IfOk result (NextField (λ d. d.announced - d.position) (λ d. S.tells d.reader.now.source) (λ old pair new. GivesPair S.left old.reader.now pair new.reader.now) V.is self.old self.new) }
-        ensures refuses { IfErr result (λ e. RefusesPair S.tells S.left self.old.position self.old.announced self.old.reader.now V.refused e) }
+        ensures gives { IfOk result (NextField (λ d. d.announced - d.position) (λ d. S.is_known d.reader.now.source) (λ old pair new. GivesPair S.left old.reader.now pair new.reader.now) V.is self.old self.new) }
+        ensures refuses { IfErr result (λ e. RefusesPair S.is_known S.left self.old.position self.old.announced self.old.reader.now V.refused e) }
         ensures same_reader { self.new.reader.ghost_name ≡ self.old.reader.ghost_name }
         ensures announced { self.new.announced ≡ self.old.announced }
         ensures position { self.new.position ≡ self.old.position + (if gives_some result then 1 else 0) }
-        ensures deserializes { Deserializes S.tells S.left self.old.reader.now self.new.reader.now result (NextItem (SpellsField V.is (version_of self.old.reader.now.version)) self.old.position self.old.announced) (NextItemRefused (FieldRefused V.refused (version_of self.old.reader.now.version)) self.old.position self.old.announced) }
+        ensures deserializes { Deserializes S.is_known S.left self.old.reader.now self.new.reader.now result (NextItem (EncodesField V.is (version_of self.old.reader.now.version)) self.old.position self.old.announced) (NextItemRefused (FieldRefused V.refused (version_of self.old.reader.now.version)) self.old.position self.old.announced) }
         ensures marks { OnErr result (self.new.reader.now.has_failed ≡ true) }
     {
         self.reader.go_on()?;

@@ -1,18 +1,18 @@
-//! Legacy objects, read as lists and maps: the object's tree is spelled in memory, and read from there.
+//! Legacy objects, read as lists and maps: the object's tree is encoded in memory, and read from there.
 
 ghost use Rattle.std.specs.Prelude.{◌≡◌, List, ℕ};
 ghost use Rattle.tv_reader.specs.Version.{version_of};
 ghost use Rattle.tv_reader.specs.declared.error.DeserializeError.{DeserializeError};
 ghost use Rattle.tv_reader.specs.declared.value_type.ValueType.{ValueType};
 ghost use Rattle.tv_reader.specs.declared.value_type.ValueType.TheVariants as types;
-ghost use Rattle.tv_typed.specs.LegacyObjects.{Retold, OfSpelling, LegacyRefused, MembersRefused};
+ghost use Rattle.tv_typed.specs.LegacyObjects.{Retold, OfEncoding, LegacyRefused, MembersRefused};
 ghost use Rattle.tv_typed.specs.Typed.{Deserializes};
-ghost use Rattle.tv_typed.specs.Values.{SpellsAs, SpelledAs, NextRefused};
+ghost use Rattle.tv_typed.specs.Values.{EncodesAs, EncodedAs, NextRefused};
 ghost use Rattle.tv_value.specs.Tree.{Tree};
 ghost use Rattle.tv_value.specs.Version.{Version, V2};
 
 use crate::de::BinaryValueDeserializer;
-use crate::spell::spelled;
+use crate::encode::encoded;
 use crate::store_reader::StoreReader;
 use std::alloc::Global;
 use tv_base::{ByteSource, Cause, SliceSource};
@@ -32,7 +32,7 @@ pub(crate) trait CodedObject: Sized + Drop {
         kind: ValueType,
         reader: &mut StoreReader<S>,
     ) -> Result<Self, DeserializeError>
-        ensures { Deserializes S.tells S.left reader.old reader.new result (SpelledAs is (version_of reader.old.version) kind) (refused (version_of reader.old.version) kind) };
+        ensures { Deserializes S.is_known S.left reader.old reader.new result (EncodedAs is (version_of reader.old.version) kind) (refused (version_of reader.old.version) kind) };
 }
 
 // The code, and the value behind it.
@@ -40,13 +40,13 @@ fn next_object<V: CodedObject, S: ByteSource>(
     alloc: Global,
     reader: &mut StoreReader<S>,
 ) -> Result<V, DeserializeError>
-    ensures { Deserializes S.tells S.left reader.old reader.new result (SpellsAs V.is (version_of reader.old.version)) (NextRefused V.refused (version_of reader.old.version)) }
+    ensures { Deserializes S.is_known S.left reader.old reader.new result (EncodesAs V.is (version_of reader.old.version)) (NextRefused V.refused (version_of reader.old.version)) }
 {
     let kind = reader.code()?;
     V::behind(alloc, kind, reader)
 }
 
-// How a refusal of what was spelled is told.
+// How a refusal of what was encoded is told.
 fn retold(error: DeserializeError) -> DeserializeError
     ensures { Retold error result }
 {
@@ -59,9 +59,9 @@ fn retold(error: DeserializeError) -> DeserializeError
     }
 }
 
-// What is read of the shortest spelling of a tree.
-fn of_spelling<V: CodedObject>(alloc: Global, bytes: &Vec<u8>) -> Result<V, DeserializeError>
-    ensures { OfSpelling V.is (NextRefused V.refused V2) bytes.now.items result }
+// What is read of the shortest encoding of a tree.
+fn of_encoding<V: CodedObject>(alloc: Global, bytes: &Vec<u8>) -> Result<V, DeserializeError>
+    ensures { OfEncoding V.is (NextRefused V.refused V2) bytes.now.items result }
 {
     let mut reader = StoreReader::new(SliceSource::new(bytes), DocStoreVersion::V2);
     match next_object::<V, SliceSource<'_>>(alloc, &mut reader) {
@@ -75,12 +75,12 @@ fn legacy_object<V: CodedObject, S: ByteSource>(
     alloc: Global,
     reader: &mut StoreReader<S>,
 ) -> Result<V, DeserializeError>
-    ensures { Deserializes S.tells S.left reader.old reader.new result (SpelledAs V.is (version_of reader.old.version) types.JSONObject) (LegacyRefused V.refused (version_of reader.old.version)) }
+    ensures { Deserializes S.is_known S.left reader.old reader.new result (EncodedAs V.is (version_of reader.old.version) types.JSONObject) (LegacyRefused V.refused (version_of reader.old.version)) }
 {
     let kind = ValueType::JSONObject;
     let tree = BinaryValueDeserializer { kind, reader }.deserialize_tree(alloc)?;
-    let bytes = spelled(alloc, &tree)?;
-    of_spelling(alloc, &bytes)
+    let bytes = encoded(alloc, &tree)?;
+    of_encoding(alloc, &bytes)
 }
 
 /// Reads a value behind its code, of a legacy object too.
@@ -89,7 +89,7 @@ pub(crate) fn read_object<V: CodedObject, S: ByteSource>(
     kind: ValueType,
     reader: &mut StoreReader<S>,
 ) -> Result<V, DeserializeError>
-    ensures { Deserializes S.tells S.left reader.old reader.new result (SpelledAs V.is (version_of reader.old.version) kind) (MembersRefused V.refused (version_of reader.old.version) kind) }
+    ensures { Deserializes S.is_known S.left reader.old reader.new result (EncodedAs V.is (version_of reader.old.version) kind) (MembersRefused V.refused (version_of reader.old.version) kind) }
 {
     match kind {
         ValueType::JSONObject => legacy_object(alloc, reader),

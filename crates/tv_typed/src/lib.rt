@@ -8,7 +8,7 @@ pub mod document;
 mod leaf_value;
 mod legacy_object;
 pub mod object;
-mod spell;
+mod encode;
 pub mod store_reader;
 mod visits;
 

@@ -4,7 +4,7 @@ ghost use Rattle.std.specs.Prelude.{◌≡◌, true, false, is_err, IfErr, OnOk,
 ghost use Rattle.tv_reader.specs.ValueType.{IsCoded};
 ghost use Rattle.tv_reader.specs.Version.{version_of};
 ghost use Rattle.tv_reader.specs.declared.value_type.ValueType.TheVariants as types;
-ghost use Rattle.tv_value.specs.Spelling.{Key};
+ghost use Rattle.tv_value.specs.Encoding.{Key};
 ghost use Rattle.tv_value.specs.Version.{entry_total};
 ghost use Rattle.tv_typed.specs.Lists.{Length, LengthRefused, KeyRefused, element_total};
 ghost use Rattle.tv_typed.specs.Typed.{Reads, raised, IsMismatch};
@@ -82,7 +82,7 @@ impl<S: ByteSource> StoreReader<S> {
         Ok(())
     }
 
-    // Marks a refusal, and tells it in the words of the store.
+    // Marks a refusal, and is_known it in the words of the store.
     pub(crate) fn marked<T>(&mut self, answer: Result<T, ReadError>) -> Result<T, DeserializeError>
         ensures source { self.new.source ≡ self.old.source }
         ensures count { self.new.count ≡ self.old.count }
@@ -126,7 +126,7 @@ impl<S: ByteSource> StoreReader<S> {
 
     // Takes all that stands before the next value.
     pub(crate) fn code(&mut self) -> Result<ValueType, DeserializeError>
-        ensures { Reads S.tells S.left S.faults self.old self.new result IsCoded CodeRefused }
+        ensures { Reads S.is_known S.left S.failures self.old self.new result IsCoded CodeRefused }
     {
         self.go_on()?;
         let answer = take_kind(&mut self.source, &mut self.count);
@@ -156,7 +156,7 @@ impl<S: ByteSource> StoreReader<S> {
 
     // Takes the number of an array's values, behind its code.
     pub(crate) fn array_length(&mut self, kind: ValueType) -> Result<u64, DeserializeError>
-        ensures { Reads S.tells S.left S.faults self.old self.new result (Length types.Array element_total kind) (LengthRefused types.Array element_total kind) }
+        ensures { Reads S.is_known S.left S.failures self.old self.new result (Length types.Array element_total kind) (LengthRefused types.Array element_total kind) }
     {
         self.expect_collection(kind, ValueType::Array)?;
         let answer = take_vint(&mut self.source, &mut self.count);
@@ -165,7 +165,7 @@ impl<S: ByteSource> StoreReader<S> {
 
     // Takes the number of an object's entries, behind its code.
     pub(crate) fn object_length(&mut self, kind: ValueType) -> Result<u64, DeserializeError>
-        ensures { Reads S.tells S.left S.faults self.old self.new result (Length types.Object (entry_total (version_of self.old.version)) kind) (LengthRefused types.Object (entry_total (version_of self.old.version)) kind) }
+        ensures { Reads S.is_known S.left S.failures self.old self.new result (Length types.Object (entry_total (version_of self.old.version)) kind) (LengthRefused types.Object (entry_total (version_of self.old.version)) kind) }
     {
         self.expect_collection(kind, ValueType::Object)?;
         let answer = take_half(&mut self.source, &mut self.count);
@@ -174,7 +174,7 @@ impl<S: ByteSource> StoreReader<S> {
 
     // Takes a key.
     pub(crate) fn key(&mut self, alloc: Global) -> Result<String, DeserializeError>
-        ensures { Reads S.tells S.left S.faults self.old self.new result (λ b key. Key (version_of self.old.version) b (string_bytes key)) (KeyRefused (version_of self.old.version)) }
+        ensures { Reads S.is_known S.left S.failures self.old self.new result (λ b key. Key (version_of self.old.version) b (string_bytes key)) (KeyRefused (version_of self.old.version)) }
     {
         self.go_on()?;
         let answer = take_key(alloc, &mut self.source, &mut self.count);

@@ -11,7 +11,7 @@ ghost use Rattle.tv_value.specs.Version.{entry_total};
 use crate::array::BinaryArrayDeserializer;
 use crate::de::{BinaryValueDeserializer, ValueVisitor};
 use crate::object::BinaryObjectDeserializer;
-use crate::spell::spelled;
+use crate::encode::encoded;
 use crate::store_reader::StoreReader;
 use std::alloc::Global;
 use tv_base::{ByteSource, SliceSource};
@@ -25,7 +25,7 @@ impl<S: ByteSource> StoreReader<S> {
         kind: ValueType,
         visitor: &V,
     ) -> Result<V::Value, DeserializeError>
-        ensures { VisitsItems S.tells S.left S.faults self.old self.new types.Array element_total kind result }
+        ensures { VisitsItems S.is_known S.left S.failures self.old self.new types.Array element_total kind result }
     {
         let announced = self.array_length(kind)?;
         let access = BinaryArrayDeserializer {
@@ -43,7 +43,7 @@ impl<S: ByteSource> StoreReader<S> {
         kind: ValueType,
         visitor: &V,
     ) -> Result<V::Value, DeserializeError>
-        ensures { VisitsItems S.tells S.left S.faults self.old self.new types.Object (entry_total (version_of self.old.version)) kind result }
+        ensures { VisitsItems S.is_known S.left S.failures self.old self.new types.Object (entry_total (version_of self.old.version)) kind result }
     {
         let announced = self.object_length(kind)?;
         let access = BinaryObjectDeserializer {
@@ -54,20 +54,20 @@ impl<S: ByteSource> StoreReader<S> {
         visitor.visit_object(alloc, access)
     }
 
-    // Hands the visitor the entries of a legacy object, out of the spelling of its tree. What it refuses isn't marked yet.
+    // Hands the visitor the entries of a legacy object, out of the encoding of its tree. What it refuses isn't marked yet.
     fn visit_legacy<V: ValueVisitor>(
         &mut self,
         alloc: Global,
         visitor: &V,
     ) -> Result<V::Value, DeserializeError>
-        ensures { VisitsLegacy S.tells S.left S.faults self.old self.new result }
+        ensures { VisitsLegacy S.is_known S.left S.failures self.old self.new result }
     {
         let kind = ValueType::JSONObject;
         let tree = BinaryValueDeserializer { kind, reader: self }.deserialize_tree(alloc)?;
-        let bytes = spelled(alloc, &tree)?;
-        let mut spelling = StoreReader::new(SliceSource::new(&bytes), DocStoreVersion::V2);
-        let kind = spelling.code()?;
-        spelling.visit_entries(alloc, kind, visitor)
+        let bytes = encoded(alloc, &tree)?;
+        let mut encoding = StoreReader::new(SliceSource::new(&bytes), DocStoreVersion::V2);
+        let kind = encoding.code()?;
+        encoding.visit_entries(alloc, kind, visitor)
     }
 
     // Hands the visitor what stands behind the code of a type. What it refuses isn't marked yet.
@@ -77,10 +77,10 @@ impl<S: ByteSource> StoreReader<S> {
         kind: ValueType,
         visitor: &V,
     ) -> Result<V::Value, DeserializeError>
-        ensures leaf { is_leaf_type kind ≡ true → Visits S.tells S.left S.faults self.old self.new kind (V.answers visitor.now) result }
-        ensures array { kind ≡ types.Array → VisitsItems S.tells S.left S.faults self.old self.new types.Array element_total kind result }
-        ensures object { kind ≡ types.Object → VisitsItems S.tells S.left S.faults self.old self.new types.Object (entry_total (version_of self.old.version)) kind result }
-        ensures legacy { kind ≡ types.JSONObject → VisitsLegacy S.tells S.left S.faults self.old self.new result }
+        ensures leaf { is_leaf_type kind ≡ true → Visits S.is_known S.left S.failures self.old self.new kind (V.answers visitor.now) result }
+        ensures array { kind ≡ types.Array → VisitsItems S.is_known S.left S.failures self.old self.new types.Array element_total kind result }
+        ensures object { kind ≡ types.Object → VisitsItems S.is_known S.left S.failures self.old self.new types.Object (entry_total (version_of self.old.version)) kind result }
+        ensures legacy { kind ≡ types.JSONObject → VisitsLegacy S.is_known S.left S.failures self.old self.new result }
     {
         match kind {
             ValueType::Array => self.visit_elements(alloc, kind, visitor),
@@ -97,10 +97,10 @@ impl<S: ByteSource> StoreReader<S> {
         kind: ValueType,
         visitor: &V,
     ) -> Result<V::Value, DeserializeError>
-        ensures leaf { is_leaf_type kind ≡ true → Visits S.tells S.left S.faults self.old self.new kind (V.answers visitor.now) result }
-        ensures array { kind ≡ types.Array → VisitsItems S.tells S.left S.faults self.old self.new types.Array element_total kind result }
-        ensures object { kind ≡ types.Object → VisitsItems S.tells S.left S.faults self.old self.new types.Object (entry_total (version_of self.old.version)) kind result }
-        ensures legacy { kind ≡ types.JSONObject → VisitsLegacy S.tells S.left S.faults self.old self.new result }
+        ensures leaf { is_leaf_type kind ≡ true → Visits S.is_known S.left S.failures self.old self.new kind (V.answers visitor.now) result }
+        ensures array { kind ≡ types.Array → VisitsItems S.is_known S.left S.failures self.old self.new types.Array element_total kind result }
+        ensures object { kind ≡ types.Object → VisitsItems S.is_known S.left S.failures self.old self.new types.Object (entry_total (version_of self.old.version)) kind result }
+        ensures legacy { kind ≡ types.JSONObject → VisitsLegacy S.is_known S.left S.failures self.old self.new result }
         ensures marks { OnErr result (self.new.has_failed ≡ true) }
     {
         match self.visit_kind(alloc, kind, visitor) {
@@ -117,8 +117,8 @@ impl<'de, S: ByteSource> BinaryValueDeserializer<'de, S> {
     /// Hands the value to the visitor's call for its type, and gives what that answers.
     ///
     /// Errors: those of the call for a value of this type; for an array or an object `CorruptedValue` where the number of its values
-    /// is at fault, with `OddObject` where no object announces it; for a legacy object those of `deserialize_tree`, and then the
-    /// visitor's call for objects is handed the entries of a spelling of its tree, which is made in memory; `Io`; `Memory`;
+    /// is malformed, with `OddObject` where no object announces it; for a legacy object those of `deserialize_tree`, and then the
+    /// visitor's call for objects is handed the entries of an encoding of its tree, which is made in memory; `Io`; `Memory`;
     /// `AlreadyFailed` where an earlier read was refused; and what the visitor refuses. The visitor isn't called after another refusal.
     /// Each is marked in the reader.
     pub fn deserialize_any<V: ValueVisitor>(
@@ -126,10 +126,10 @@ impl<'de, S: ByteSource> BinaryValueDeserializer<'de, S> {
         alloc: Global,
         visitor: &V,
     ) -> Result<V::Value, DeserializeError>
-        ensures leaf { is_leaf_type self.entry.kind ≡ true → Visits S.tells S.left S.faults self.entry.reader.now self.exit.1.0.now self.entry.kind (V.answers visitor.now) result }
-        ensures array { self.entry.kind ≡ types.Array → VisitsItems S.tells S.left S.faults self.entry.reader.now self.exit.1.0.now types.Array element_total self.entry.kind result }
-        ensures object { self.entry.kind ≡ types.Object → VisitsItems S.tells S.left S.faults self.entry.reader.now self.exit.1.0.now types.Object (entry_total (version_of self.entry.reader.now.version)) self.entry.kind result }
-        ensures legacy { self.entry.kind ≡ types.JSONObject → VisitsLegacy S.tells S.left S.faults self.entry.reader.now self.exit.1.0.now result }
+        ensures leaf { is_leaf_type self.entry.kind ≡ true → Visits S.is_known S.left S.failures self.entry.reader.now self.exit.1.0.now self.entry.kind (V.answers visitor.now) result }
+        ensures array { self.entry.kind ≡ types.Array → VisitsItems S.is_known S.left S.failures self.entry.reader.now self.exit.1.0.now types.Array element_total self.entry.kind result }
+        ensures object { self.entry.kind ≡ types.Object → VisitsItems S.is_known S.left S.failures self.entry.reader.now self.exit.1.0.now types.Object (entry_total (version_of self.entry.reader.now.version)) self.entry.kind result }
+        ensures legacy { self.entry.kind ≡ types.JSONObject → VisitsLegacy S.is_known S.left S.failures self.entry.reader.now self.exit.1.0.now result }
         ensures marks { OnErr result (self.exit.1.0.now.has_failed ≡ true) }
     {
         let BinaryValueDeserializer { kind, reader } = self;

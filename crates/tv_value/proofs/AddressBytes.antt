@@ -51,7 +51,7 @@ segments_of-octets_of : (ss : List ℕ) → segments_of (octets_of ss) ≡ ss
 segments_of-octets_of [] = refl
 segments_of-octets_of (s ∷ ss) = let whole : s / 256 * 256 + s % 256 ≡ s = omega arith in ap (λ x. x ∷ segments_of (octets_of ss)) whole ∙ ap (λ xs. s ∷ xs) (segments_of-octets_of ss)
 
--- what sixteen bytes spell has these bytes
+-- what sixteen bytes encode has these bytes
 pub to_be_bytes-from_be_bytes_16 : (bs : List ℕ) → length bs ≡ 16 → AreBytes bs → to_be_bytes w128 (from_be_bytes w128 bs) ≡ bs
 to_be_bytes-from_be_bytes_16 bs l h =
     let cells = sixteen_items bs l in

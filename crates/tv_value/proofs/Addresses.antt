@@ -5,7 +5,7 @@ use Rattle.std.specs.Net.Addr.{ipv6_bits, IsIpv6OfBits, segments_of, octets_of}
 use Rattle.std.specs.declared.net.ipv6_addr.Ipv6Addr.{Ipv6Addr}
 use Rattle.tv_base.specs.Number.{Fixed, no_bytes, low_byte}
 use Rattle.tv_base.proofs.Numbers.{length-fixed}
-use Rattle.tv_base.proofs.Shortest.{sixteen_bytes_spell}
+use Rattle.tv_base.proofs.Shortest.{sixteen_bytes_encode}
 use Rattle.tv_base.proofs.Widths.{from_16, sixteen_bytes_is}
 
 fixed_small : {k : ℕ} {bytes : List ℕ} {n : ℕ} → Fixed k bytes n → (i : ℕ) → get_or bytes i 0 < 256
@@ -39,5 +39,5 @@ pub address_bits : (a : Ipv6Addr) (n : ℕ) → n < 2 ^ 128 → IsIpv6OfBits a n
 unfolding IsIpv6OfBits ipv6_bits
 address_bits a n h is =
     let bs = to_le_bytes w128 n in
-    let spelled : Fixed 16 bs n = subst (λ z. Fixed 16 z n) (sym (sixteen_bytes_is n)) (sixteen_bytes_spell n h) in
-    ap (λ s. from_be_bytes w128 (octets_of s)) is ∙ turned bs (length-fixed spelled) (fixed_small spelled) ∙ from_16 bs n spelled
+    let encoded : Fixed 16 bs n = subst (λ z. Fixed 16 z n) (sym (sixteen_bytes_is n)) (sixteen_bytes_encode n h) in
+    ap (λ s. from_be_bytes w128 (octets_of s)) is ∙ turned bs (length-fixed encoded) (fixed_small encoded) ∙ from_16 bs n encoded

@@ -1,4 +1,4 @@
--- Tokens that are kept are held, and each has a spelling.
+-- Tokens that are kept are held, and each has an encoding.
 use Rattle.std.proofs.Common.{◌≡◌, ℕ, ◌<◌, ◌^◌, List, [], ◌∷◌, length, map, refl, sym, ap, arith}
 use Rattle.std.proofs.lemmas.List.{append-nil, length-map}
 use Rattle.std.proofs.lemmas.Str.{IsUtf8-had}
@@ -21,8 +21,8 @@ each_kept [] = tt
 each_kept (t ∷ ts) = (kept_token t, each_kept ts)
 
 -- there is one list of tokens that are left
-pub same_tokens : (kept : List tokenizer.Token) (spelled : List ℕ) (count : ℕ) (x y : HeldTokens kept spelled count) → x.0 ≡ y.0
-same_tokens kept spelled count x y = ap (λ p. p.0) (HeldTokens-prop kept spelled count x y)
+pub same_tokens : (kept : List tokenizer.Token) (encoded : List ℕ) (count : ℕ) (x y : HeldTokens kept encoded count) → x.0 ≡ y.0
+same_tokens kept encoded count x y = ap (λ p. p.0) (HeldTokens-prop kept encoded count x y)
 
 pub all_kept : (kept : List tokenizer.Token) → length kept < 2 ^ 63 → AreHeld kept [] 0 (map token_of kept)
 all_kept kept few = record {
@@ -30,7 +30,7 @@ all_kept kept few = record {
   joined = sym (append-nil (map token_of kept));
   counted = refl;
   behind = [];
-  begins = record { front = []; joined = refl; spelled = refl };
+  begins = record { prefix = []; joined = refl; encoded = refl };
   valid = record { count = omega (arith, length-map kept token_of); each = each_kept kept };
 }
 

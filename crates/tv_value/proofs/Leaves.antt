@@ -9,7 +9,7 @@ use Rattle.tv_value.specs.LeavesLaws.{one_leaf, form_of_content, one_code, small
 use Rattle.tv_value.specs.Tree.{Token, Leaf, tokenized}
 use Rattle.tv_value.specs.Version.{Version, V1, V2, V3, Scale, plain, thousands, Scaled, Microseconds, entry_total}
 use Rattle.tv_base.specs.Number.{Truth}
-use Rattle.tv_value.specs.Spelling.{TokenSpelling, Tokenized, leaf_code, ContentBody, LeafBody, Key}
+use Rattle.tv_value.specs.Encoding.{TokenEncoding, Tokenized, leaf_code, ContentBody, LeafBody, Key}
 use Rattle.tv_value.specs.TokensLaws.{one_token}
 use Rattle.tv_base.proofs.Agreement.{Agree, agree_map, agree_empty, agree_then, agree_behind}
 use Rattle.tv_base.proofs.Numbers.{agree_counted, agree_fixed}
@@ -28,7 +28,7 @@ fits_microseconds (negsuc n) p q = record { sfits = omega (arith, ints) }
 agree_microseconds : (s t : ℤ) → Agree (λ b. Microseconds b s) (λ b. Microseconds b t) (s ≡ t)
 agree_microseconds s t = record {
   agree = λ a b x y p q e.
-      let r = (agree_fixed 8 (cast_unsigned w64 p.microseconds) (cast_unsigned w64 q.microseconds)).agree a b x y p.spelled q.spelled e in
+      let r = (agree_fixed 8 (cast_unsigned w64 p.microseconds) (cast_unsigned w64 q.microseconds)).agree a b x y p.encoded q.encoded e in
       let same = same_signed p.microseconds q.microseconds (fits_microseconds p.microseconds p.from p.to) (fits_microseconds q.microseconds q.from q.to) r.1 in
       (r.0, p.same ∙ ap (λ m. m *ℤ pos 1000) same ∙ sym q.same);
 }
@@ -38,7 +38,7 @@ agree_scaled plain y z = agree_signed y z
 agree_scaled thousands y z = agree_microseconds y z
 
 pub agree_tokenized : (s t : List ℕ) (ss ts : List Token) → Agree (λ b. Tokenized b s ss) (λ b. Tokenized b t ts) (tokenized s ss ≡ tokenized t ts)
-agree_tokenized s t ss ts = agree_map (λ e. λ i. tokenized (e.0 i) (e.1 i)) (agree_then (agree_text s t) (λ _. agree_counted {R = TokenSpelling} one_token ss ts))
+agree_tokenized s t ss ts = agree_map (λ e. λ i. tokenized (e.0 i) (e.1 i)) (agree_then (agree_text s t) (λ _. agree_counted {R = TokenEncoding} one_token ss ts))
 
 agree_content : (s : Scale) (h i : Content) → form_of h ≡ form_of i → Agree (λ b. ContentBody s b h) (λ b. ContentBody s b i) (h ≡ i)
 agree_content s no_content no_content e = agree_map (λ _. refl) agree_empty

@@ -8,8 +8,8 @@ pub mod SingleLeaves
 pub mod SingleTrees
 pub mod DecidingLeaves
 pub mod DecidingTrees
-pub mod ShortSpellings
-pub mod Fronts
+pub mod ShortEncodings
+pub mod Prefixes
 pub mod Lists
 pub mod Kept
 pub mod InPlace
@@ -17,5 +17,5 @@ pub mod TokenSteps
 pub mod Payloads
 pub mod LentJson
 pub mod MovedJson
-pub mod Utf8Fronts
+pub mod Utf8Prefixes
 mod SameChildren

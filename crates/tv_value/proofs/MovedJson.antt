@@ -1,4 +1,4 @@
--- The values made of a JSON value's items and members so far, in front of the rest.
+-- The values made of a JSON value's items and members so far, before the rest.
 use Rattle.std.proofs.Common.{◌≡◌, ℕ, List, [], ◌∷◌, ◌++◌, length, map, String, Global, string_bytes, refl, ap, ◌∙◌, sym, arith}
 use Rattle.serde_json.specs.Data as json
 use Rattle.serde_json.specs.Data.{Data, Items, Members}

@@ -1,4 +1,4 @@
--- Tokens that are spelled are held, and each has a spelling.
+-- Tokens that are encoded are held, and each has an encoding.
 use Rattle.std.proofs.Common.{◌≡◌, ℕ, ◌+◌, ◌-◌, ◌<◌, ◌≤◌, ◌^◌, List, [], ◌∷◌, length, take, refl, sym, ◌∙◌, ap, subst, arith, length-append}
 use Rattle.std.proofs.Math.Seq.{take-append_seam}
 use Rattle.std.specs.List.{AllByRecursion}
@@ -8,12 +8,12 @@ use Rattle.tv_base.proofs.Excluding.{groups_some}
 use Rattle.tv_value.specs.HeldTokens.{AreHeld, HeldTokens}
 use Rattle.tv_value.specs.InPlace.{BeginsTokens}
 use Rattle.tv_value.specs.Short.{IsText, IsToken}
-use Rattle.tv_value.specs.Spelling.{TokenSpelling, Tokenized}
+use Rattle.tv_value.specs.Encoding.{TokenEncoding, Tokenized}
 use Rattle.tv_value.specs.Tree.{Token}
 use Rattle.tv_value.proofs.Kept.{same_tokens}
-use Rattle.tv_value.proofs.Fronts.{begins_length, begins_then}
+use Rattle.tv_value.proofs.Prefixes.{begins_length, begins_then}
 
--- what follows a front has no more bytes
+-- what follows a prefix has no more bytes
 pub begins_fewer : {P : List ℕ → Type 0} (whole rest : List ℕ) → Begins P whole rest → length whole < 2 ^ 63 → length rest < 2 ^ 63
 begins_fewer whole rest p few = omega (arith, begins_length whole rest p)
 
@@ -22,74 +22,74 @@ text_short b content p few = record { size = omega (arith, ap length p.sized.joi
 
 pub text_valid : (whole rest content : List ℕ) → Begins (λ b. Text b content) whole rest → length whole < 2 ^ 63 → IsText content
 text_valid whole rest content p few =
-    let fewer : length p.front < 2 ^ 63 = omega (arith, ap length p.joined, length-append p.front rest) in
-    text_short p.front content p.spelled fewer
+    let fewer : length p.prefix < 2 ^ 63 = omega (arith, ap length p.joined, length-append p.prefix rest) in
+    text_short p.prefix content p.encoded fewer
 
 -- the two parts take the bytes of the whole
-lengths : {P Q : List ℕ → Type 0} (whole : List ℕ) (p : Then P Q whole) → length whole ≡ length p.front + length p.rest
-lengths whole p = ap length p.joined ∙ length-append p.front p.rest
+lengths : {P Q : List ℕ → Type 0} (whole : List ℕ) (p : Then P Q whole) → length whole ≡ length p.prefix + length p.rest
+lengths whole p = ap length p.joined ∙ length-append p.prefix p.rest
 
-token_valid : (b : List ℕ) (t : Token) → TokenSpelling b t → length b < 2 ^ 63 → IsToken t
+token_valid : (b : List ℕ) (t : Token) → TokenEncoding b t → length b < 2 ^ 63 → IsToken t
 token_valid b t p few =
     let behind_from = p.second in
     let behind_to = behind_from.second in
     let behind_position = behind_to.second in
-    let fewer : length behind_position.front < 2 ^ 63 = omega (arith, lengths b p, lengths p.rest behind_from, lengths behind_from.rest behind_to, lengths behind_to.rest behind_position) in
+    let fewer : length behind_position.prefix < 2 ^ 63 = omega (arith, lengths b p, lengths p.rest behind_from, lengths behind_from.rest behind_to, lengths behind_to.rest behind_position) in
     record {
       offset_from = p.first.fits;
       offset_to = behind_from.first.fits;
       position = behind_to.first.fits;
-      text = text_short behind_position.front t.text behind_position.first fewer;
+      text = text_short behind_position.prefix t.text behind_position.first fewer;
       position_length = behind_position.second.fits;
     }
 
 -- a token takes a byte at least
-tokens_fewer : (b : List ℕ) (ts : List Token) → Each TokenSpelling b ts → length ts ≤ length b
+tokens_fewer : (b : List ℕ) (ts : List Token) → Each TokenEncoding b ts → length ts ≤ length b
 tokens_fewer b [] p = omega arith
 tokens_fewer b (t ∷ ts) p =
     let some = groups_some p.first.first.groups in
-    omega (arith, some, lengths b p, lengths p.front p.first, tokens_fewer p.rest ts p.second)
+    omega (arith, some, lengths b p, lengths p.prefix p.first, tokens_fewer p.rest ts p.second)
 
-tokens_valid : (b : List ℕ) (ts : List Token) → Each TokenSpelling b ts → length b < 2 ^ 63 → AllByRecursion IsToken ts
+tokens_valid : (b : List ℕ) (ts : List Token) → Each TokenEncoding b ts → length b < 2 ^ 63 → AllByRecursion IsToken ts
 tokens_valid b [] p few = tt
 tokens_valid b (t ∷ ts) p few =
-    let first : length p.front < 2 ^ 63 = omega (arith, lengths b p) in
+    let first : length p.prefix < 2 ^ 63 = omega (arith, lengths b p) in
     let others : length p.rest < 2 ^ 63 = omega (arith, lengths b p) in
-    (token_valid p.front t p.first first, tokens_valid p.rest ts p.second others)
+    (token_valid p.prefix t p.first first, tokens_valid p.rest ts p.second others)
 
-pub all_spelled : (spelled rest : List ℕ) (count : ℕ) → length spelled < 2 ^ 63 → (b : BeginsTokens count spelled rest) → AreHeld [] spelled count b.tokens
-all_spelled spelled rest count few b =
-    let fewer : length b.begins.front < 2 ^ 63 = omega (arith, ap length b.begins.joined, length-append b.begins.front rest) in
+pub all_encoded : (encoded rest : List ℕ) (count : ℕ) → length encoded < 2 ^ 63 → (b : BeginsTokens count encoded rest) → AreHeld [] encoded count b.tokens
+all_encoded encoded rest count few b =
+    let fewer : length b.begins.prefix < 2 ^ 63 = omega (arith, ap length b.begins.joined, length-append b.begins.prefix rest) in
     record {
       others = b.tokens;
       joined = refl;
       counted = b.counted;
       behind = rest;
       begins = b.begins;
-      valid = record { count = omega (arith, tokens_fewer b.begins.front b.tokens b.begins.spelled); each = tokens_valid b.begins.front b.tokens b.begins.spelled fewer };
+      valid = record { count = omega (arith, tokens_fewer b.begins.prefix b.tokens b.begins.encoded); each = tokens_valid b.begins.prefix b.tokens b.begins.encoded fewer };
     }
 
-pub spelled_only : (spelled rest : List ℕ) (count : ℕ) → length spelled < 2 ^ 63 → (b : BeginsTokens count spelled rest) → (y : HeldTokens [] spelled count) → y.0 ≡ b.tokens
-spelled_only spelled rest count few b y = same_tokens [] spelled count y (b.tokens, ∣ all_spelled spelled rest count few b ∣₁)
+pub encoded_only : (encoded rest : List ℕ) (count : ℕ) → length encoded < 2 ^ 63 → (b : BeginsTokens count encoded rest) → (y : HeldTokens [] encoded count) → y.0 ≡ b.tokens
+encoded_only encoded rest count few b y = same_tokens [] encoded count y (b.tokens, ∣ all_encoded encoded rest count few b ∣₁)
 
 -- the text, the count and the tokens are the payload
-payload : (bytes behind_text spelled rest content : List ℕ) (count : ℕ) → Begins (λ b. Text b content) bytes behind_text → Begins (λ b. VNum b count) behind_text spelled
-    → (b : BeginsTokens count spelled rest) → Begins (λ s. Tokenized s content b.tokens) bytes rest
-payload bytes behind_text spelled rest content count p q b =
-    let number = subst (λ n. Begins (λ s. VNum s n) behind_text spelled) (sym b.counted) q in
-    begins_then bytes behind_text rest p (begins_then behind_text spelled rest number b.begins)
+payload : (bytes behind_text encoded rest content : List ℕ) (count : ℕ) → Begins (λ b. Text b content) bytes behind_text → Begins (λ b. VNum b count) behind_text encoded
+    → (b : BeginsTokens count encoded rest) → Begins (λ s. Tokenized s content b.tokens) bytes rest
+payload bytes behind_text encoded rest content count p q b =
+    let number = subst (λ n. Begins (λ s. VNum s n) behind_text encoded) (sym b.counted) q in
+    begins_then bytes behind_text rest p (begins_then behind_text encoded rest number b.begins)
 
--- the front, by its length
-front_of : {P : List ℕ → Type 0} (bytes rest : List ℕ) (n : ℕ) → Begins P bytes rest → n ≡ length bytes - length rest → (n ≤ length bytes) × P (take n bytes)
-front_of {P} bytes rest n p e =
-    let len : length p.front ≡ n = omega (arith, e, ap length p.joined, length-append p.front rest) in
-    let same : p.front ≡ take n bytes = sym (take-append_seam p.front rest) ∙ (λ i. take (len i) (sym p.joined i)) in
-    (omega (arith, e), subst P same p.spelled)
+-- the prefix, by its length
+prefix_of : {P : List ℕ → Type 0} (bytes rest : List ℕ) (n : ℕ) → Begins P bytes rest → n ≡ length bytes - length rest → (n ≤ length bytes) × P (take n bytes)
+prefix_of {P} bytes rest n p e =
+    let len : length p.prefix ≡ n = omega (arith, e, ap length p.joined, length-append p.prefix rest) in
+    let same : p.prefix ≡ take n bytes = sym (take-append_seam p.prefix rest) ∙ (λ i. take (len i) (sym p.joined i)) in
+    (omega (arith, e), subst P same p.encoded)
 
-pub payload_found : (bytes behind_text spelled rest content : List ℕ) (count n : ℕ) → Begins (λ b. Text b content) bytes behind_text → Begins (λ b. VNum b count) behind_text spelled
-    → (b : BeginsTokens count spelled rest) → n ≡ length bytes - length rest → length bytes < 2 ^ 63
-    → (y : HeldTokens [] spelled count) → (n ≤ length bytes) × Tokenized (take n bytes) content y.0
-payload_found bytes behind_text spelled rest content count n p q b e few y =
-    let fewer = begins_fewer behind_text spelled q (begins_fewer bytes behind_text p few) in
-    let whole = front_of {P = λ s. Tokenized s content b.tokens} bytes rest n (payload bytes behind_text spelled rest content count p q b) e in
-    (whole.0, subst (λ ts. Tokenized (take n bytes) content ts) (sym (spelled_only spelled rest count fewer b y)) whole.1)
+pub payload_found : (bytes behind_text encoded rest content : List ℕ) (count n : ℕ) → Begins (λ b. Text b content) bytes behind_text → Begins (λ b. VNum b count) behind_text encoded
+    → (b : BeginsTokens count encoded rest) → n ≡ length bytes - length rest → length bytes < 2 ^ 63
+    → (y : HeldTokens [] encoded count) → (n ≤ length bytes) × Tokenized (take n bytes) content y.0
+payload_found bytes behind_text encoded rest content count n p q b e few y =
+    let fewer = begins_fewer behind_text encoded q (begins_fewer bytes behind_text p few) in
+    let whole = prefix_of {P = λ s. Tokenized s content b.tokens} bytes rest n (payload bytes behind_text encoded rest content count p q b) e in
+    (whole.0, subst (λ ts. Tokenized (take n bytes) content ts) (sym (encoded_only encoded rest count fewer b y)) whole.1)

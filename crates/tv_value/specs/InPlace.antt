@@ -1,22 +1,22 @@
--- Bytes of which no front is of some kind, or of which a front is so many tokens.
+-- Bytes of which no prefix is of some kind, or of which a prefix is so many tokens.
 use Rattle.std.specs.Prelude.{◌≡◌, ℕ, List, ◌++◌, length}
 use Rattle.tv_base.specs.Parts.{Begins, Each}
-use Rattle.tv_value.specs.Spelling.{TokenSpelling, Tokenized}
+use Rattle.tv_value.specs.Encoding.{TokenEncoding, Tokenized}
 use Rattle.tv_value.specs.Tree.{Token}
 
-pub record NoFront (P : List ℕ → Type 0) (whole : List ℕ) : Type 0 where
-  pub none : (front rest : List ℕ) → whole ≡ front ++ rest → P front → ⊥
+pub record NoPrefix (P : List ℕ → Type 0) (whole : List ℕ) : Type 0 where
+  pub none : (prefix rest : List ℕ) → whole ≡ prefix ++ rest → P prefix → ⊥
 
 -- so many tokens begin the bytes, and this is what follows them
 pub record BeginsTokens (count : ℕ) (whole rest : List ℕ) : Type 0 where
   pub tokens : List Token
   pub counted : length tokens ≡ count
-  pub begins : Begins (λ b. Each TokenSpelling b tokens) whole rest
+  pub begins : Begins (λ b. Each TokenEncoding b tokens) whole rest
 
--- no front of the bytes is so many tokens
+-- no prefix of the bytes is so many tokens
 abbrev pub NoTokens : ℕ → List ℕ → Type 0
-NoTokens count whole = (tokens : List Token) → length tokens ≡ count → NoFront (λ b. Each TokenSpelling b tokens) whole
+NoTokens count whole = (tokens : List Token) → length tokens ≡ count → NoPrefix (λ b. Each TokenEncoding b tokens) whole
 
--- no front of the bytes is a text and its tokens
+-- no prefix of the bytes is a text and its tokens
 abbrev pub NoTokenized : List ℕ → Type 0
-NoTokenized whole = (content : List ℕ) (tokens : List Token) → NoFront (λ b. Tokenized b content tokens) whole
+NoTokenized whole = (content : List ℕ) (tokens : List Token) → NoPrefix (λ b. Tokenized b content tokens) whole

@@ -5,10 +5,10 @@ pub mod LeavesLaws
 pub mod LeafParts
 pub mod TreeCode
 pub mod Version
-pub mod Spelling
+pub mod Encoding
 pub mod Short
-pub mod Fault
-pub mod ListFault
+pub mod InputError
+pub mod ErrorInList
 pub use Rattle.tv_date.specs.DateTime
 pub mod Cases
 pub mod Size

@@ -1,4 +1,4 @@
--- The spelling with the fewest bytes, and what has one.
+-- The encoding with the fewest bytes, and what has one.
 use Rattle.std.specs.Prelude.{ℕ, ◌^◌, ◌<◌, ◌≤◌, List, [], ◌∷◌, ◌++◌, length, IsUtf8, FitsSigned}
 use Rattle.std.specs.Int.{w64}
 use Rattle.std.specs.List.{AllByRecursion, flat_map}
@@ -7,7 +7,7 @@ use Rattle.tv_base.specs.Number.{vnum, four_bytes, eight_bytes, sixteen_bytes, s
 use Rattle.tv_value.specs.Version.{Version, V1, V2, V3, entry_total}
 use Rattle.tv_value.specs.Content.{Content, no_content, truth_content, unsigned_content, signed_content, wide_content, text_content, bytes_content, tokens_content}
 use Rattle.tv_value.specs.Leaves.{content}
-use Rattle.tv_value.specs.Spelling.{leaf_code}
+use Rattle.tv_value.specs.Encoding.{leaf_code}
 use Rattle.tv_value.specs.Tree.{Token, Leaf, Tree, leaf, array, object, Elements, no_elements, element, Entries, no_entries, entry, element_count, entry_count, Document}
 
 abbrev pub short_token : Token → List ℕ
@@ -57,7 +57,7 @@ module _ (v : Version) where
   abbrev pub short_document : Document → List ℕ
   short_document d = vnum (length d) ++ flat_map short_pair d
 
--- what has a spelling of a version that is written, with lengths and counts below 2 ^ 63
+-- what has an encoding of a version that is written, with lengths and counts below 2 ^ 63
 pub record IsSized (content : List ℕ) : Type 0 where
   pub size : length content < 2 ^ 63
 

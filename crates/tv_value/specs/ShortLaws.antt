@@ -1,4 +1,4 @@
--- What has a spelling has it for one reason.
+-- What has an encoding has it for one reason.
 use Rattle.std.specs.Prelude.{ℕ, ◌<◌, ◌^◌, List, [], ◌∷◌, length}
 use Rattle.std.specs.List.{AllByRecursion}
 use Rattle.std.proofs.Props.{props}

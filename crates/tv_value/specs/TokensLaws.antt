@@ -4,10 +4,10 @@ use Rattle.tv_base.specs.Parts.{OneReading}
 use Rattle.tv_base.proofs.Agreement.{Agree, one_from, agree_map, agree_then}
 use Rattle.tv_base.proofs.Numbers.{agree_number}
 use Rattle.tv_base.proofs.Texts.{agree_text}
-use Rattle.tv_value.specs.Spelling.{TokenSpelling}
+use Rattle.tv_value.specs.Encoding.{TokenEncoding}
 use Rattle.tv_value.specs.Tree.{Token}
 
-pub agree_token : (s t : Token) → Agree (λ b. TokenSpelling b s) (λ b. TokenSpelling b t) (s ≡ t)
+pub agree_token : (s t : Token) → Agree (λ b. TokenEncoding b s) (λ b. TokenEncoding b t) (s ≡ t)
 agree_token s t =
     agree_map (λ e. λ i. record { offset_from = e.0 i; offset_to = e.1.0 i; position = e.1.1.0 i; text = e.1.1.1.0 i; position_length = e.1.1.1.1 i })
     (agree_then (agree_number s.offset_from t.offset_from) (λ _.
@@ -15,5 +15,5 @@ agree_token s t =
     (agree_then (agree_number s.position t.position) (λ _.
     (agree_then (agree_text s.text t.text) (λ _. agree_number s.position_length t.position_length))))))))
 
-pub one_token : OneReading TokenSpelling
-one_token = one_from TokenSpelling agree_token
+pub one_token : OneReading TokenEncoding
+one_token = one_from TokenEncoding agree_token

@@ -6,7 +6,7 @@ use base.Stored.{Gv, gnil, gnum, gcons}
 use Rattle.tv_value.specs.Content.{Content, no_content, truth_content, unsigned_content, signed_content, wide_content, text_content, bytes_content, tokens_content}
 use Rattle.tv_value.specs.Leaves.{type_of, content}
 use Rattle.tv_value.specs.LeavesLaws.{one_leaf, one_code}
-use Rattle.tv_value.specs.Spelling.{leaf_code}
+use Rattle.tv_value.specs.Encoding.{leaf_code}
 use Rattle.tv_value.specs.Tree.{Token, Leaf, Tree, leaf, array, object, Elements, no_elements, element, Entries, no_entries, entry}
 
 abbrev pub coded_text : Coded (List ℕ)

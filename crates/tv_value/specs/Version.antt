@@ -12,7 +12,7 @@ pub record Microseconds (bytes : List ℕ) (nanoseconds : ℤ) : Type 0 where
   pub from : negsuc 9223372036854774 ≤ℤ microseconds
   pub to : microseconds ≤ℤ pos 9223372036854775
   pub same : nanoseconds ≡ microseconds *ℤ pos 1000
-  pub spelled : Fixed 8 bytes (cast_unsigned w64 microseconds)
+  pub encoded : Fixed 8 bytes (cast_unsigned w64 microseconds)
 
 -- what a signed number stands for: itself, or a thousand times as much
 pub data Scale : Type 0 where

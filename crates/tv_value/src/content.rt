@@ -2,7 +2,7 @@
 
 use crate::pre_tokenized::PreTokenizedStr;
 
-/// The forms of what values without children hold. Several types may have one. (Own.)
+/// The forms of what values without children hold. Several types may have one. (Not in tantivy.)
 #[derive(Clone, Copy, Debug, PartialEq, Eq)]
 pub enum Form {
     /// Nothing.
@@ -23,7 +23,7 @@ pub enum Form {
     Tokens,
 }
 
-/// What a value without children holds. Texts and bytes are borrowed. (Own.)
+/// What a value without children holds. Texts and bytes are borrowed. (Not in tantivy.)
 #[derive(Clone, Copy, Debug)]
 pub enum LeafContent<'a> {
     /// Nothing.

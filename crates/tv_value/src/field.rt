@@ -3,7 +3,7 @@
 ghost use Rattle.std.specs.Prelude.{◌≡◌, ℕ, IsErrOf};
 ghost use Rattle.tv_base.specs.declared.read_error.ReadError.TheVariants.{Memory};
 ghost use Rattle.tv_base.specs.Number.{Fixed, four_bytes};
-ghost use Rattle.tv_base.specs.PartFault.{BytesFault};
+ghost use Rattle.tv_base.specs.ErrorInPart.{ErrorInBytes};
 ghost use Rattle.tv_base.specs.ReadsAs.{ReadsAs};
 
 use std::alloc::Global;
@@ -32,7 +32,7 @@ impl Field {
     }
 }
 
-/// The number in four bytes, the lowest first. Each 32-bit number is read: a schema tells which fields it has.
+/// The number in four bytes, the lowest first. Each 32-bit number is read: a schema is_known which fields it has.
 impl BinarySerializable for Field {
     ghost Seen = { ℕ };
 
@@ -40,16 +40,16 @@ impl BinarySerializable for Field {
 
     ghost shortest = { four_bytes };
 
-    ghost spells = { Fixed 4 };
+    ghost encodes = { Fixed 4 };
 
-    ghost is_fault = { BytesFault 4 };
+    ghost has_error = { ErrorInBytes 4 };
 
     fn serialize<K: ByteSink>(&self, sink: &mut K) -> Result<(), io::ErrorKind> {
         self.id.serialize(sink)
     }
 
     fn deserialize<S: ByteSource>(alloc: Global, source: &mut S) -> Result<Field, ReadError>
-        ensures reads { ReadsAs S.tells S.left S.faults source.old source.new (λ field. field.id) result (Fixed 4) (BytesFault 4) }
+        ensures reads { ReadsAs S.is_known S.left S.failures source.old source.new (λ field. field.id) result (Fixed 4) (ErrorInBytes 4) }
         ensures spares { ¬ IsErrOf result Memory }
     {
         match u32::deserialize(alloc, source) {

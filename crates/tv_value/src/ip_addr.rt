@@ -5,7 +5,7 @@ ghost use Rattle.std.specs.Net.Addr.{ipv6_bits};
 
 use std::net::{IpAddr, Ipv6Addr};
 
-/// The address of version 6 whose number this is. (Own.)
+/// The address of version 6 whose number this is. (Not in tantivy.)
 #[inline]
 pub fn address_of(bits: u128) -> Ipv6Addr
     ensures { ipv6_bits result ≡ bits }

@@ -20,7 +20,7 @@ fn is_float_number(number: &Number) -> bool
     number.as_i64().is_none() && number.as_u64().is_none()
 }
 
-/// Whether a number in the JSON value, at any depth, isn't whole or doesn't fit 64 bits. (Own.)
+/// Whether a number in the JSON value, at any depth, isn't whole or doesn't fit 64 bits. (Not in tantivy.)
 #[inline(always)]
 #[cycle(has_float)]
 pub fn has_float(json: &JsonValue) -> bool
@@ -60,7 +60,7 @@ fn some_member_has_float(members: &Map<String, JsonValue>) -> bool
     false
 }
 
-/// A JSON value that is lent as a value of a document. (Own.) Numbers are lent as signed ones where they fit 64 bits, else as
+/// A JSON value that is lent as a value of a document. (Not in tantivy.) Numbers are lent as signed ones where they fit 64 bits, else as
 /// unsigned ones; a number that isn't whole is lent as no value, so `has_float` is asked before.
 #[derive(Clone, Copy)]
 pub struct LentJson<'a> {
@@ -76,7 +76,7 @@ impl<'a> LentJson<'a> {
     }
 }
 
-/// The values of a JSON array that are left, in order. (Own.)
+/// The values of a JSON array that are left, in order. (Not in tantivy.)
 #[derive(Clone, Copy)]
 pub struct LentJsonArray<'a> {
     items: &'a [JsonValue],
@@ -99,7 +99,7 @@ impl<'a> Iterator for LentJsonArray<'a> {
     }
 }
 
-/// The keys and values of a JSON object that are left, in byte order of the keys. (Own.)
+/// The keys and values of a JSON object that are left, in byte order of the keys. (Not in tantivy.)
 #[derive(Drop)]
 pub struct LentJsonObject<'a> {
     members: btree_map::Iter<'a, String, JsonValue>,

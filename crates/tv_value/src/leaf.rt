@@ -15,7 +15,7 @@ use crate::pre_tokenized::PreTokenizedStr;
 use crate::same::same_leaf;
 use std::net::Ipv6Addr;
 
-/// The types of values without children, each with the code that stands before its values in the store. (Own.)
+/// The types of values without children, each with the code that stands before its values in the store. (Not in tantivy.)
 #[derive(Clone, Copy, Debug, PartialEq, Eq)]
 pub enum LeafType {
     /// A text.
@@ -119,7 +119,7 @@ pub enum ReferenceValueLeaf<'a> {
 }
 
 impl<'a> ReferenceValueLeaf<'a> {
-    /// Its type. (Own.)
+    /// Its type. (Not in tantivy.)
     #[inline(always)]
     pub fn leaf_type(&self) -> LeafType
         ensures { result ≡ type_of (leaf_of self.now) }
@@ -138,7 +138,7 @@ impl<'a> ReferenceValueLeaf<'a> {
         }
     }
 
-    /// What it holds, of the form of its type. (Own.)
+    /// What it holds, of the form of its type. (Not in tantivy.)
     #[inline(always)]
     pub fn content(&self) -> LeafContent<'a>
         ensures { content_of result ≡ content (leaf_of self.now) }
@@ -157,7 +157,7 @@ impl<'a> ReferenceValueLeaf<'a> {
         }
     }
 
-    /// The value of a type that holds this; `None` exactly where it is of another form than the type's. (Own.)
+    /// The value of a type that holds this; `None` exactly where it is of another form than the type's. (Not in tantivy.)
     #[inline(always)]
     pub fn with_content(
         leaf_type: LeafType,

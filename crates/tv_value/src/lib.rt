@@ -1,4 +1,4 @@
-//! Values as finite trees, and the bytes that spell them in a store.
+//! Values as finite trees, and the bytes that encode them in a store.
 #![tactic(auto)]
 
 pub mod content;
@@ -15,7 +15,7 @@ pub mod nested;
 pub mod owned_value;
 pub mod pre_tokenized;
 pub mod same;
-pub mod spell;
+pub mod encode;
 pub mod tokenizer;
 pub mod type_codes;
 mod utf8;

@@ -10,7 +10,7 @@ use crate::value::{ReferenceValue, Value};
 use std::convert::AsStr;
 use std::marker::PhantomData;
 
-/// What a value is: a leaf, or an iterator over its children. (Own.)
+/// What a value is: a leaf, or an iterator over its children. (Not in tantivy.)
 #[derive(Drop)]
 pub enum NestedValue<'s, N: Nested> {
     /// A value without children.
@@ -21,7 +21,7 @@ pub enum NestedValue<'s, N: Nested> {
     Object(N::ObjectIter),
 }
 
-/// A value of any depth, as `Value` without a lifetime. A recursion over values is written over this trait. (Own.)
+/// A value of any depth, as `Value` without a lifetime. A recursion over values is written over this trait. (Not in tantivy.)
 pub trait Nested: Drop {
     /// The keys of objects.
     type Key: AsStr + Drop;
@@ -51,7 +51,7 @@ pub trait Nested: Drop {
     ghost object_steps: { (s t : Self.ObjectIter) (r : Option (Self.Key × Self)) → Self.ObjectIter.next_gives s r t → YieldsFirstBy (nested_entry Self.Key.text tree) object_rest s r t };
 }
 
-/// A value that is lent. (Own.)
+/// A value that is lent. (Not in tantivy.)
 pub struct Lent<'a, V: Value<'a>> {
     value: V,
     marker: PhantomData<&'a ()>,
@@ -78,7 +78,7 @@ impl<'a, V: Value<'a>> Drop for Lent<'a, V> {
     }
 }
 
-/// The values of an array that is lent. (Own.)
+/// The values of an array that is lent. (Not in tantivy.)
 pub struct LentArray<'a, V: Value<'a>> {
     items: V::ArrayIter,
     marker: PhantomData<&'a ()>,
@@ -116,7 +116,7 @@ impl<'a, V: Value<'a>> Iterator for LentArray<'a, V> {
     }
 }
 
-/// The keys and values of an object that is lent. (Own.)
+/// The keys and values of an object that is lent. (Not in tantivy.)
 pub struct LentObject<'a, V: Value<'a>> {
     members: V::ObjectIter,
     marker: PhantomData<&'a ()>,
@@ -184,7 +184,7 @@ impl<'a, V: Value<'a>> Nested for Lent<'a, V> {
     }
 }
 
-/// What a value is, with its children lent the same way. (Own.)
+/// What a value is, with its children lent the same way. (Not in tantivy.)
 #[inline(always)]
 pub fn lend<'a, V: Value<'a>>(value: &V) -> NestedValue<'a, Lent<'a, V>>
     ensures { nested_tree (λ s. V.array_rest s.items) (λ s. V.object_rest s.members) result ≡ V.tree value.now }

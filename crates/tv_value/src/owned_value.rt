@@ -167,7 +167,7 @@ impl OwnedValue {
         owned_of(alloc, lend(value))
     }
 
-    /// A copy of a value without children. (Own.) The only error is that memory was refused.
+    /// A copy of a value without children. (Not in tantivy.) The only error is that memory was refused.
     pub fn from_leaf(alloc: Global, value: ReferenceValueLeaf<'_>) -> Result<OwnedValue, AllocError>
         ensures { IfOk result (λ made. owned_tree made ≡ leaf (leaf_of value.entry)) }
     {

@@ -1,4 +1,4 @@
-//! Texts with their tokens, lent from where they are kept or spelled. A copy alone takes memory.
+//! Texts with their tokens, lent from where they are kept or encoded. A copy alone takes memory.
 
 ghost use Rattle.std.specs.Prelude.{◌≡◌, ◌↔◌, [], IfOk, IsTrue, length};
 ghost use Rattle.tv_value.specs.HeldTokens.{HeldTokens, HeldTokens-prop, token_of};
@@ -11,7 +11,7 @@ use crate::tokenizer::{PreTokenizedString, Token};
 use std::alloc::{AllocError, Global};
 use std::fmt;
 
-/// A token that is lent (own). Offsets are in bytes of the text that it is a token of.
+/// A token that is lent (not in tantivy). Offsets are in bytes of the text that it is a token of.
 #[derive(Clone, Copy, Debug, PartialEq, Eq)]
 pub struct TokenRef<'a> {
     /// Where it begins.
@@ -26,16 +26,16 @@ pub struct TokenRef<'a> {
     pub position_length: usize,
 }
 
-/// The tokens of a text that are left, each once and in order (own).
+/// The tokens of a text that are left, each once and in order (not in tantivy).
 #[derive(Clone, Copy)]
 pub struct TokenIter<'a> {
     kept: &'a [Token],
-    spelled: &'a [u8],
+    encoded: &'a [u8],
     count: u64,
-    pub ghost held: { HeldTokens kept.now spelled.now count } by { HeldTokens-prop kept.now spelled.now count },
+    pub ghost held: { HeldTokens kept.now encoded.now count } by { HeldTokens-prop kept.now encoded.now count },
 }
 
-/// A text and its tokens, both lent (own).
+/// A text and its tokens, both lent (not in tantivy).
 #[derive(Clone, Copy, Debug)]
 pub struct PreTokenizedStr<'a> {
     text: &'a str,
@@ -48,7 +48,7 @@ impl<'a> PreTokenizedStr<'a> {
     ghost use Rattle.std.specs.String.{string_bytes};
     ghost use Rattle.tv_value.specs.InPlace.{NoTokenized};
     ghost use Rattle.tv_value.specs.PreTokenized.{text_of, tokens_left, tokens_of};
-    ghost use Rattle.tv_value.specs.Spelling.{Tokenized};
+    ghost use Rattle.tv_value.specs.Encoding.{Tokenized};
 
     /// The text and the tokens of the string.
     pub fn from_string(string: &'a PreTokenizedString) -> PreTokenizedStr<'a>
@@ -57,7 +57,7 @@ impl<'a> PreTokenizedStr<'a> {
     {
         let tokens = TokenIter {
             kept: string.tokens.as_slice(),
-            spelled: &[],
+            encoded: &[],
             count: 0,
         };
         PreTokenizedStr {
@@ -66,18 +66,18 @@ impl<'a> PreTokenizedStr<'a> {
         }
     }
 
-    /// The text and the tokens that a front of the bytes spells as the store does, and how many bytes that front has (own). None
-    /// where no front spells a text and its tokens.
+    /// The text and the tokens that a prefix of the bytes encodes as the store does, and how many bytes that prefix has (not in tantivy). None
+    /// where no prefix encodes a text and its tokens.
     pub fn from_payload(bytes: &'a [u8]) -> Option<(PreTokenizedStr<'a>, usize)>
         ensures found { IfSome result (λ x. (x.1 ≤ length bytes.now) × Tokenized (take x.1 bytes.now) (text_of x.0) (tokens_of x.0)) }
         ensures none { IfNone result (NoTokenized bytes.now) }
     {
         let (text, behind_text) = text_at(bytes)?;
-        let (count, spelled) = number_at(behind_text)?;
-        let rest = behind_tokens(count, spelled)?;
+        let (count, encoded) = number_at(behind_text)?;
+        let rest = behind_tokens(count, encoded)?;
         let tokens = TokenIter {
             kept: &[],
-            spelled,
+            encoded,
             count,
         };
         let len = bytes.len() - rest.len();
@@ -113,7 +113,7 @@ impl<'a> PreTokenizedStr<'a> {
         self.len() == 0
     }
 
-    /// A copy that owns the text and the tokens (own). AllocError where memory runs out.
+    /// A copy that owns the text and the tokens (not in tantivy). AllocError where memory runs out.
     pub fn to_owned_string(&self, alloc: Global) -> Result<PreTokenizedString, AllocError>
         ensures text { IfOk result (λ copy. string_bytes copy.text ≡ text_of self.now) }
         ensures tokens { IfOk result (λ copy. map token_of copy.tokens.items ≡ tokens_of self.now) }
@@ -165,13 +165,13 @@ impl<'a> Iterator for TokenIter<'a> {
     fn next(&mut self) -> Option<TokenRef<'a>> {
         let TokenIter {
             kept,
-            spelled,
+            encoded,
             count,
         } = *self;
         if let Some((token, kept)) = kept.split_first() {
             *self = TokenIter {
                 kept,
-                spelled,
+                encoded,
                 count,
             };
             return Some(lent(token));
@@ -179,10 +179,10 @@ impl<'a> Iterator for TokenIter<'a> {
         if count == 0 {
             return None;
         }
-        let (token, spelled) = token_at(spelled)?;
+        let (token, encoded) = token_at(encoded)?;
         *self = TokenIter {
             kept,
-            spelled,
+            encoded,
             count: count - 1,
         };
         Some(token)

@@ -91,7 +91,7 @@ fn same_members<M: Nested, N: Nested>(members: M::ObjectIter, others: N::ObjectI
 }
 
 /// Whether two values are one: of one kind, with the same content, children in the same order and keys among them. It takes no
-/// memory. (Own.)
+/// memory. (Not in tantivy.)
 pub fn is_same<'a, V: Value<'a>, W: Value<'a>>(one: &V, other: &W) -> bool
     ensures { result ≡ tree_eq (V.tree one.now) (W.tree other.now) }
 {

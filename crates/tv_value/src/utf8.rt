@@ -23,8 +23,8 @@ fn mask_of(len: usize) -> u8x64
     requires { len ≤ 64 }
     ensures { result ≡ replicate len 255 ++ replicate (64 - len) 0 }
 {
-    let fronts: &[u8] = &FRONTS;
-    u8x64::from_slice(&fronts[64 - len..])
+    let prefixes: &[u8] = &FRONTS;
+    u8x64::from_slice(&prefixes[64 - len..])
 }
 
 // The bits that both have.
@@ -38,17 +38,17 @@ fn common(a: u8x64, b: u8x64) -> u8x64
 
 // The first bytes of the block, and zeros behind them.
 #[inline(always)]
-fn front_of(block: u8x64, len: usize) -> u8x64
+fn prefix_of(block: u8x64, len: usize) -> u8x64
     requires { len ≤ 64 }
     ensures { result ≡ take len block ++ replicate (64 - len) 0 }
 {
     common(block, mask_of(len))
 }
 
-/// Whether the first `len` bytes are UTF-8. (Own.) Their last block is read where it stands, without a copy, if with what stands behind
+/// Whether the first `len` bytes are UTF-8. (Not in tantivy.) Their last block is read where it stands, without a copy, if with what stands behind
 /// them it has 64 bytes.
 #[inline]
-pub(crate) fn is_utf8_front(bytes: &[u8], len: usize) -> bool
+pub(crate) fn is_utf8_prefix(bytes: &[u8], len: usize) -> bool
     requires { len ≤ length bytes.now }
     ensures { IsTrue result ↔ IsUtf8 (take len bytes.now) }
 {
@@ -62,6 +62,6 @@ pub(crate) fn is_utf8_front(bytes: &[u8], len: usize) -> bool
         checker = checker.step(u8x64::from_slice(&bytes[at..]));
         at += 64;
     }
-    let last = front_of(u8x64::from_slice(&bytes[at..]), len - at);
+    let last = prefix_of(u8x64::from_slice(&bytes[at..]), len - at);
     checker.step(last).finish()
 }

@@ -14,7 +14,7 @@ use tv_io::ReadSource;
 // The largest number.
 const LARGEST: [u8; 10] = *b"\x7f\x7f\x7f\x7f\x7f\x7f\x7f\x7f\x7f\x81";
 
-// Bytes, the number at their front or its fault, and how many bytes are taken.
+// Bytes, the number at their start or its error, and how many bytes are taken.
 const NUMBERS: [(&[u8], Result<u64, ReadError>, u64); 4] = [
     (b"\x85\x01", Ok(5), 1),
     (b"\x05\x80\x01", Ok(5), 2),
@@ -74,14 +74,14 @@ fn no_more_is_counted_than_fits(rt: HostRuntime) {
 fn what_sources_lend(rt: HostRuntime) {
     let bytes = [1, 2, 3];
     let mut slice = SliceSource::new(&bytes);
-    assert!(rt; slice.at_hand() == [1, 2, 3].as_slice());
+    assert!(rt; slice.buffered() == [1, 2, 3].as_slice());
     assert!(rt; slice.pass(2));
-    assert!(rt; slice.at_hand() == [3].as_slice());
+    assert!(rt; slice.buffered() == [3].as_slice());
     assert!(rt; !slice.pass(2));
     assert!(rt; slice.pass(1));
-    assert!(rt; slice.at_hand().is_empty());
+    assert!(rt; slice.buffered().is_empty());
     let mut reader = ReadSource::new([1, 2].as_slice());
-    assert!(rt; reader.at_hand().is_empty());
+    assert!(rt; reader.buffered().is_empty());
     assert!(rt; !reader.pass(1));
     let mut byte = [0; 1];
     assert!(rt; reader.read(&mut byte) == Ok(1));
@@ -93,23 +93,23 @@ fn what_sources_lend(rt: HostRuntime) {
 struct SmallSink {
     held: VecSink,
     room: usize,
-    faults: u64,
+    failures: u64,
     last: Option<io::ErrorKind>,
 }
 
 impl ByteSink for SmallSink {
-    ghost tells = { λ _. Unit {0} };
+    ghost is_known = { λ _. Unit {0} };
 
     ghost held = { λ s. ⟦<VecSink as ByteSink>⟧.held s.held };
 
-    ghost faults = { λ s. record { number = s.faults; last = s.last } };
+    ghost failures = { λ s. record { number = s.failures; last = s.last } };
 
     fn write(&mut self, buf: &[u8]) -> Result<usize, io::ErrorKind> {
         if buf.is_empty() {
             return Ok(0);
         }
         if self.room == 0 {
-            self.faults = self.faults.saturating_add(1);
+            self.failures = self.failures.saturating_add(1);
             self.last = Some(io::ErrorKind::StorageFull);
             return Err(io::ErrorKind::StorageFull);
         }
@@ -119,7 +119,7 @@ impl ByteSink for SmallSink {
                 Ok(count)
             }
             Err(kind) => {
-                self.faults = self.faults.saturating_add(1);
+                self.failures = self.failures.saturating_add(1);
                 self.last = Some(kind);
                 Err(kind)
             }
@@ -143,11 +143,11 @@ fn what_fits_is_written(rt: HostRuntime) {
     let mut small = SmallSink {
         held: VecSink::new(rt.alloc()),
         room: 20,
-        faults: 0,
+        failures: 0,
         last: None,
     };
     assert!(rt; write_each(&mut small) == Err(io::ErrorKind::StorageFull));
     let first = b"\xff\0\x81\x55\xff\xff\0\0\x14\0\0\0\0\0\0\0\x8aChi";
     assert!(rt; small.held.as_slice() == first.as_slice());
-    assert!(rt; small.faults == 1);
+    assert!(rt; small.failures == 1);
 }

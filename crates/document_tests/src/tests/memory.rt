@@ -109,10 +109,10 @@ fn keeps_the_finished_pairs_where_memory_is_refused(rt: HostRuntime) -> Result<(
     for (index, place) in PLACES.iter().enumerate().take(finished) {
         assert_eq!(rt; document.addr_of(index), Some(*place));
     }
-    let front = heap_of(finished);
-    assert!(rt; document.node_data().starts_with(front));
+    let prefix = heap_of(finished);
+    assert!(rt; document.node_data().starts_with(prefix));
     if finished < 5 {
-        assert_eq!(rt; len, front.len());
+        assert_eq!(rt; len, prefix.len());
     }
     Ok(())
 }

@@ -12,20 +12,20 @@ use tv_base::{ByteSource, ReadError};
 #[derive(Drop)]
 struct FailingSource<'a> {
     rest: &'a [u8],
-    faults: u64,
+    failures: u64,
     ghost are_bytes: { AllBytes rest.now },
 }
 
 impl<'a> ByteSource for FailingSource<'a> {
-    ghost tells = { λ _. Unit {0} };
+    ghost is_known = { λ _. Unit {0} };
 
     ghost left = { λ s. s.rest.now };
 
-    ghost faults = { λ s. record { number = s.faults; last = Some TimedOut } };
+    ghost failures = { λ s. record { number = s.failures; last = Some TimedOut } };
 
     fn read(&mut self, buf: &mut [u8]) -> Result<usize, io::ErrorKind> {
         if self.rest.len() == 3 {
-            self.faults = self.faults.saturating_add(1);
+            self.failures = self.failures.saturating_add(1);
             return Err(io::ErrorKind::TimedOut);
         }
         let count = self.rest.len().min(buf.len()).min(1);
@@ -41,7 +41,7 @@ impl<'a> ByteSource for FailingSource<'a> {
 fn a_text_that_cannot_be_read_leaves_none(rt: HostRuntime) {
     let mut source = FailingSource {
         rest: b"\x8aChillFish8",
-        faults: 0,
+        failures: 0,
     };
     let mut text = String::new(rt.alloc());
     let mut count = 0;
@@ -49,5 +49,5 @@ fn a_text_that_cannot_be_read_leaves_none(rt: HostRuntime) {
     assert!(rt; taken == Err(ReadError::Io(io::ErrorKind::TimedOut)));
     assert!(rt; count == 8);
     assert!(rt; text.is_empty());
-    assert!(rt; source.faults == 1);
+    assert!(rt; source.failures == 1);
 }

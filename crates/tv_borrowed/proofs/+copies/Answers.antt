@@ -31,11 +31,11 @@ value::copied_members-loop-key-preserved t c =
     let ms = c.args.members.now in
     let l = c.loop-key in
     let m = c.loop-key-item.result in
-    let front = take l.key-index ms in
-    let up : take (l.key-index + 1) ms ≡ front ++ m ∷ [] = take_more ms l.key-index m c.loop-key-test.true ∙ ap (λ e. front ++ e ∷ []) (sym c.loop-key-item.is) in
-    let below : AllBelow m.0.now front = l.invariant.1 m.0.now (c.is_above.ensures.0 c.if-not-is_above.false) in
+    let prefix = take l.key-index ms in
+    let up : take (l.key-index + 1) ms ≡ prefix ++ m ∷ [] = take_more ms l.key-index m c.loop-key-test.true ∙ ap (λ e. prefix ++ e ∷ []) (sym c.loop-key-item.is) in
+    let below : AllBelow m.0.now prefix = l.invariant.1 m.0.now (c.is_above.ensures.0 c.if-not-is_above.false) in
     let placed = c.in_ok-insert_copy.ensures ∙ ap (λ d. put m.0.now d (members_view l.made.entries)) c.in_ok-value.ensures ∙ ap (put m.0.now (data_of m.1)) l.invariant.0 in
-    (placed ∙ put_last m front below ∙ ap members_data (sym up), subst (RisesTo (Some m.0)) (sym up) (rises_on front m below))
+    (placed ∙ put_last m prefix below ∙ ap members_data (sym up), subst (RisesTo (Some m.0)) (sym up) (rises_on prefix m below))
 
 pub value::copied_members-returns : goal.value::copied_members-returns
 value::copied_members-returns t c =

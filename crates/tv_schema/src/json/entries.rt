@@ -3,7 +3,7 @@
 ghost use Rattle.std.specs.Prelude.{◌≡◌, ◌+◌, [], length, Err, IfSome, OnOk, string_bytes};
 ghost use Rattle.serde_json.specs.View.{view, items_view};
 ghost use Rattle.tv_field.specs.Entry.{Entry};
-ghost use Rattle.tv_schema.specs.SchemaJsonEarly.{head_fault, first_fault};
+ghost use Rattle.tv_schema.specs.SchemaJsonEarly.{head_error, first_error};
 ghost use Rattle.tv_schema.specs.SchemaJsonReading.{Gives, entry_of, with_entry, with_entries, type_named};
 
 use crate::json::members::{required_object, required_text};
@@ -20,7 +20,7 @@ use tv_options::Type;
 /// A builder with the entries that the JSON values describe.
 pub(super) fn builder_of(alloc: Global, items: &[Value]) -> Result<SchemaBuilder, SchemaError>
     ensures built { Gives (λ builder. builder) (with_entries [] (items_view items.now)) result }
-    ensures early { IfSome (first_fault (items_view items.now)) (λ error. result ≡ Err error) }
+    ensures early { IfSome (first_error (items_view items.now)) (λ error. result ≡ Err error) }
 {
     let mut builder = SchemaBuilder::new(alloc);
     for (place, description) in items.iter().enumerate() {
@@ -39,7 +39,7 @@ fn add_entry(
 ) -> Result<(), SchemaError>
     requires { place ≡ length builder.old }
     ensures added { Gives (λ _. builder.new) (with_entry builder.old (view description.now)) result }
-    ensures early { IfSome (head_fault place (view description.now)) (λ error. result ≡ Err error) }
+    ensures early { IfSome (head_error place (view description.now)) (λ error. result ≡ Err error) }
     ensures one_more { OnOk result (length builder.new ≡ place + 1) }
 {
     let (name, field_type) = entry_of(alloc, place, description)?;
@@ -56,7 +56,7 @@ fn entry_of(
 ) -> Result<(String, FieldType), SchemaError>
     ensures found { Gives (λ found. record { name = string_bytes found.0; field_type = found.1 })
         (entry_of place (view description.now)) result }
-    ensures early { IfSome (head_fault place (view description.now)) (λ error. result ≡ Err error) }
+    ensures early { IfSome (head_error place (view description.now)) (λ error. result ≡ Err error) }
 {
     let bad = SchemaError::BadJson { entry: Some(place) };
     let members = description.as_object().ok_or(bad)?;

@@ -10,5 +10,5 @@ returns g c = λ known small rest e.
     let document = c.args.document.now in
     let pairs = stored schema (document_of document) in
     c.read_document.ensures.only known pairs _ rest e
-    (c.short_documents_spell.ensures V2 tt pairs (c.stored_pairs_are_valid.ensures schema (document_of document) (c.documents_are_valid.ensures document)))
+    (c.short_documents_encode.ensures V2 tt pairs (c.stored_pairs_are_valid.ensures schema (document_of document) (c.documents_are_valid.ensures document)))
     (omega (arith, c.stored_pairs_need_no_more_room.ensures schema (document_of document)))

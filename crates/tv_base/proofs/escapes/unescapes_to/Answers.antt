@@ -9,7 +9,7 @@ use Rattle.tv_base.proofs.escapes.unescapes_to.Goals.{then-not-is_escape+in-Some
 
 pub loop-byte-init : goal.loop-byte-init
 loop-byte-init c =
-    let all = rewritten-from kept_byte c.args.front.now in
+    let all = rewritten-from kept_byte c.args.prefix.now in
     rw (c.as_bytes-rest.ensures.value, c.as_bytes-byte-items.ensures.value) (ap (bytes_eq c.args.name.now) all)
 
 pub loop-byte-preserved : goal.loop-byte-preserved

@@ -3,4 +3,4 @@ use Rattle.std.proofs.lemmas.Slice.Eq.{strip_prefix_is}
 use Rattle.tv_base.proofs.facet.rest_behind.Goals as goal
 
 pub returns : goal.returns
-returns c = strip_prefix_is Decides-eqb c.args.whole.now c.args.front.now c.strip_prefix.result c.strip_prefix.ensures.cases
+returns c = strip_prefix_is Decides-eqb c.args.whole.now c.args.prefix.now c.strip_prefix.result c.strip_prefix.ensures.cases

@@ -26,29 +26,29 @@ loop-place-preserved c =
     let within : place < length text = omega arith in
     let all = split text in
     let done = map string_bytes c.loop-place.segments.items in
-    let front = string_bytes c.loop-place.segment in
+    let prefix = string_bytes c.loop-place.segment in
     let kept = λ (dot : (c.loop-place.is_unescaped && eqb (get_or text place 0) 46) ≡ false) (back : (eqb (get_or text place 0) 92 && c.loop-place.is_unescaped) ≡ false).
-    segment-kept done all text front c.loop-place.start place c.loop-place.is_unescaped c.loop-place.invariant.in_range within dot back c.loop-place.invariant.told in
+    segment-kept done all text prefix c.loop-place.start place c.loop-place.is_unescaped c.loop-place.invariant.in_range within dot back c.loop-place.invariant.told in
     elim c.match-bytes-place.branch [
       | in-92+in_ok-push_str-in-92 w ↦
           let unescaped : c.loop-place.is_unescaped ≡ true = search rules in
           let told = rw unescaped at c.loop-place.invariant.told in
-          let written : string_bytes w.push_str.new.self ≡ front ++ slice_range text c.loop-place.start place = search rules in
+          let written : string_bytes w.push_str.new.self ≡ prefix ++ slice_range text c.loop-place.start place = search rules in
           record {
             in_range = omega arith;
             boundary = λ _. rw w.start-is (IsCharBoundary-after_ascii text place c.utf8.path within (search rules));
-            told = rw (w.start-is, w.segments-is, w.segment-is, w.is_unescaped-is) (segment-escape done all text front _ c.loop-place.start place within (search rules) written told);
+            told = rw (w.start-is, w.segments-is, w.segment-is, w.is_unescaped-is) (segment-escape done all text prefix _ c.loop-place.start place within (search rules) written told);
           }
       | in-46+in_ok-push_str-in-46+in_ok-push-in-46 w ↦
           let unescaped : c.loop-place.is_unescaped ≡ true = search rules in
           let told = rw unescaped at c.loop-place.invariant.told in
-          let written : string_bytes w.push_str-in-46.new.self ≡ front ++ slice_range text c.loop-place.start place = search rules in
+          let written : string_bytes w.push_str-in-46.new.self ≡ prefix ++ slice_range text c.loop-place.start place = search rules in
           let more : map string_bytes w.push.new.self.items ≡ done ++ string_bytes w.push_str-in-46.new.self ∷ [] = ap (map string_bytes) (search rules) ∙ map-append string_bytes c.loop-place.segments.items (w.push_str-in-46.new.self ∷ []) in
           let empty : string_bytes w.new-segment-in-46.result ≡ [] = search rules in
           record {
             in_range = omega arith;
             boundary = λ _. rw w.start-is (IsCharBoundary-after_ascii text place c.utf8.path within (search rules));
-            told = rw (w.start-is, w.segments-is, w.segment-is, w.is_unescaped-is, more, empty, unescaped) (segment-dot done all text front _ c.loop-place.start place within (search rules) written told);
+            told = rw (w.start-is, w.segments-is, w.segment-is, w.is_unescaped-is, more, empty, unescaped) (segment-dot done all text prefix _ c.loop-place.start place within (search rules) written told);
           }
       | in_default-2 w ↦
           let escaped : c.loop-place.is_unescaped ≡ false = search rules in

@@ -7,7 +7,7 @@ returns-then-fill-clause-takes g c =
     record {
       gives = λ told. full _ _ _ _ (omega (arith, c.if-fill.ensures.length)) (c.if-fill.ensures.bytes told);
       taken = λ told. full_taken _ (omega (arith, c.if-fill.ensures.length)) refl (c.if-fill.ensures.bytes told);
-      still_tells = c.if-fill.ensures.tells;
-      counts = c.if-fill.ensures.faults;
+      stays_known = c.if-fill.ensures.is_known;
+      counts = c.if-fill.ensures.failures;
       rises = omega arith;
     }

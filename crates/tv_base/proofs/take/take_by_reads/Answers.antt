@@ -9,7 +9,7 @@ returns-then-room-eq0-clause-takes g c =
     record {
       gives = λ told few. absurd (omega arith);
       taken = λ told. taken_so_far _ _ _ before.within before.taken (before.given told);
-      still_tells = before.still_tells;
+      stays_known = before.stays_known;
       counts = before.counts;
       rises = omega (arith, before.taken);
     }
@@ -18,14 +18,14 @@ pub returns-in-Ok-eq0-clause-takes : goal.returns-in-Ok-eq0-clause-takes
 returns-in-Ok-eq0-clause-takes g c =
     let l = c.loop-filled in
     let before = l.invariant in
-    let read = λ (told : g.S.ByteSource.tells c.args.source.now). c.in-Ok-eq0.ensures.bytes (before.still_tells told) in
-    let same = λ (told : g.S.ByteSource.tells c.args.source.now). none_read _ _ _ _ c.in-Ok-eq0.field-0-test (read told).0 in
-    let given = λ (told : g.S.ByteSource.tells c.args.source.now). given_still _ _ _ _ (before.given told) (same told) in
+    let read = λ (told : g.S.ByteSource.is_known c.args.source.now). c.in-Ok-eq0.ensures.bytes (before.stays_known told) in
+    let same = λ (told : g.S.ByteSource.is_known c.args.source.now). none_read _ _ _ _ c.in-Ok-eq0.field-0-test (read told).0 in
+    let given = λ (told : g.S.ByteSource.is_known c.args.source.now). given_still _ _ _ _ (before.given told) (same told) in
     record {
       gives = λ told few. ends_early l.filled _ l.buf _ _ (omega arith) before.within (given told) (sym (same told) ∙ (read told).1 c.in-Ok-eq0.field-0-test (omega arith));
       taken = λ told. taken_so_far _ _ _ before.within before.taken (given told);
-      still_tells = λ told. c.in-Ok-eq0.ensures.tells (before.still_tells told);
-      counts = c.in-Ok-eq0.ensures.faults ∙ before.counts;
+      stays_known = λ told. c.in-Ok-eq0.ensures.is_known (before.stays_known told);
+      counts = c.in-Ok-eq0.ensures.failures ∙ before.counts;
       rises = omega (arith, before.taken);
     }
 
@@ -36,9 +36,9 @@ loop-filled-preserved g c =
     record {
       within = search rules;
       same_length = search rules;
-      given = λ told. fills_more l.filled _ c.in-Ok.more l.buf c.read.new.buf _ _ _ before.within c.in-Ok.ensures.bound (before.given told) (c.in-Ok.ensures.bytes (before.still_tells told)).0;
-      still_tells = λ told. c.in-Ok.ensures.tells (before.still_tells told);
-      counts = c.in-Ok.ensures.faults ∙ before.counts;
+      given = λ told. fills_more l.filled _ c.in-Ok.more l.buf c.read.new.buf _ _ _ before.within c.in-Ok.ensures.bound (before.given told) (c.in-Ok.ensures.bytes (before.stays_known told)).0;
+      stays_known = λ told. c.in-Ok.ensures.is_known (before.stays_known told);
+      counts = c.in-Ok.ensures.failures ∙ before.counts;
       taken = omega arith;
     }
 
@@ -49,7 +49,7 @@ returns-clause-takes g c =
     record {
       gives = λ told. is_full l.filled _ l.buf _ _ c.loop-filled-test.false (omega arith) (before.given told);
       taken = λ told. taken_so_far _ _ _ before.within before.taken (before.given told);
-      still_tells = before.still_tells;
+      stays_known = before.stays_known;
       counts = before.counts;
       rises = omega (arith, before.taken);
     }
@@ -60,8 +60,8 @@ returns-in-Err-clause-takes g c =
     let before = l.invariant in
     record {
       gives = λ told. tt;
-      taken = λ told. taken_so_far _ _ _ before.within before.taken (given_still _ _ _ _ (before.given told) (sym (c.in-Err.ensures.bytes (before.still_tells told))));
-      still_tells = λ told. c.in-Err.ensures.tells (before.still_tells told);
-      counts = failed_since before.counts c.in-Err.ensures.faults;
+      taken = λ told. taken_so_far _ _ _ before.within before.taken (given_still _ _ _ _ (before.given told) (sym (c.in-Err.ensures.bytes (before.stays_known told))));
+      stays_known = λ told. c.in-Err.ensures.is_known (before.stays_known told);
+      counts = failed_since before.counts c.in-Err.ensures.failures;
       rises = omega (arith, before.taken);
     }

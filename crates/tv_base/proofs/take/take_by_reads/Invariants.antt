@@ -4,13 +4,13 @@ use Rattle.tv_base.proofs.take.take_by_reads.Given as goal
 abbrev pub invariant-loop-filled : goal.invariant-loop-filled
 invariant-loop-filled g l =
     let source = g.S.ByteSource in
-    let knows = source.tells l.initial.source in
+    let knows = source.is_known l.initial.source in
     record {
       within : l.filled ≤ length l.buf;
       same_length : length l.buf ≡ length l.initial.buf;
       given : knows → source.left l.initial.source ≡ take l.filled l.buf ++ source.left l.source;
-      still_tells : knows → source.tells l.source;
-      counts : source.faults l.source ≡ source.faults l.initial.source;
+      stays_known : knows → source.is_known l.source;
+      counts : source.failures l.source ≡ source.failures l.initial.source;
       taken : l.count ≡ l.initial.count + l.filled;
     }
 

@@ -12,5 +12,5 @@ invariant-loop g l =
       small : l.value < l.weight;
       counted : l.count ≡ l.initial.count + l.counter;
       weight : l.weight ≡ 128 ^ l.counter;
-      so_far : SoFar (told source.tells) (λ p. source.left p.source) (λ p. p.count) (λ p. source.faults p.source) (record { source = l.initial.source; count = l.initial.count }) (record { source = l.source; count = l.count }) (groups_at 9) (λ bytes. with_low l.value l.weight (groups_at (9 - l.counter) bytes));
+      so_far : SoFar (told source.is_known) (λ p. source.left p.source) (λ p. p.count) (λ p. source.failures p.source) (record { source = l.initial.source; count = l.initial.count }) (record { source = l.source; count = l.count }) (groups_at 9) (λ bytes. with_low l.value l.weight (groups_at (9 - l.counter) bytes));
     }

@@ -11,13 +11,13 @@ loop-missing-init g c = record { so_far = SoFar-start _ _ _ _ _ _ _ (λ bytes. r
 pub returns-then-more-eq0-clause-takes : goal.returns-then-more-eq0-clause-takes
 returns-then-more-eq0-clause-takes g c =
     let l = c.loop-missing in
-    piece_ends _ l.bytes.items _ l.missing c.min-most.result c.in_ok-more.more c.if-more-eq0.true (omega arith) (omega arith) l.invariant.so_far c.in_ok-more.ensures.bytes c.in_ok-more.ensures.tells c.in_ok-more.ensures.faults refl
+    piece_ends _ l.bytes.items _ l.missing c.min-most.result c.in_ok-more.more c.if-more-eq0.true (omega arith) (omega arith) l.invariant.so_far c.in_ok-more.ensures.bytes c.in_ok-more.ensures.is_known c.in_ok-more.ensures.failures refl
 
 pub loop-missing-preserved : goal.loop-missing-preserved
 loop-missing-preserved g c =
     let l = c.loop-missing in
     record {
-      so_far = piece_taken l.bytes.items _ l.missing _ c.in_ok-more.more (omega (arith, c.in_ok-more.ensures.bound)) l.invariant.so_far c.in_ok-more.ensures.bytes c.in_ok-more.ensures.tells c.in_ok-more.ensures.faults refl;
+      so_far = piece_taken l.bytes.items _ l.missing _ c.in_ok-more.more (omega (arith, c.in_ok-more.ensures.bound)) l.invariant.so_far c.in_ok-more.ensures.bytes c.in_ok-more.ensures.is_known c.in_ok-more.ensures.failures refl;
       longer = omega (arith, l.invariant.longer, c.in_ok-more.ensures.longer, c.in_ok-more.ensures.bound);
     }
 

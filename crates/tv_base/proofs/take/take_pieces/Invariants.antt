@@ -8,7 +8,7 @@ abbrev pub invariant-loop-missing : goal.invariant-loop-missing
 invariant-loop-missing g l =
     let source = g.S.ByteSource in
     record {
-      so_far : SoFar (told source.tells) (λ p. source.left p.source) (λ p. p.count) (λ p. source.faults p.source) (record { source = l.initial.source; count = l.initial.count }) (record { source = l.source; count = l.count }) (more_at l.initial.bytes.items l.len) (more_at l.bytes.items l.missing);
+      so_far : SoFar (told source.is_known) (λ p. source.left p.source) (λ p. p.count) (λ p. source.failures p.source) (record { source = l.initial.source; count = l.initial.count }) (record { source = l.source; count = l.count }) (more_at l.initial.bytes.items l.len) (more_at l.bytes.items l.missing);
       longer : length l.bytes.items + l.missing ≡ length l.initial.bytes.items + l.len;
     }
 

@@ -8,7 +8,7 @@ returns-in-Ok-Some-clause-takes g c =
     record {
       gives = λ told. byte_read (given told);
       taken = λ told. byte_taken (given told);
-      still_tells = c.in-Ok-Some.ensures.tells;
-      counts = c.in-Ok-Some.ensures.faults;
+      stays_known = c.in-Ok-Some.ensures.is_known;
+      counts = c.in-Ok-Some.ensures.failures;
       rises = omega arith;
     }

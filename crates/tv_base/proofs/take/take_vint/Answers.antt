@@ -8,7 +8,7 @@ returns-in-Some-clause-takes g c =
     record {
       gives = λ told. number_read _ _ c.in-Some.number c.in-Some.len (gave.bytes told);
       taken = λ told. number_taken {n = c.in-Some.number} refl (gave.bytes told);
-      still_tells = gave.tells;
-      counts = gave.faults;
+      stays_known = gave.is_known;
+      counts = gave.failures;
       rises = omega arith;
     }

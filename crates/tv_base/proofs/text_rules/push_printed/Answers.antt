@@ -5,7 +5,7 @@ use Rattle.std.proofs.lemmas.List.{take_all}
 use Rattle.std.proofs.lemmas.Str.{IsCharBoundary-after_ascii}
 use Rattle.tv_base.specs.Facet.{printed, printed_or_slash}
 use Rattle.tv_base.proofs.Rewriting.{step-kept, step-written, slice_range-all}
-use Rattle.tv_base.proofs.Printing.{printed-is, printed-more, printed-front}
+use Rattle.tv_base.proofs.Printing.{printed-is, printed-more, printed-prefix}
 use Rattle.tv_base.proofs.text_rules.push_printed.Goals as goal
 use Rattle.tv_base.proofs.text_rules.push_printed.Goals.{in-Some+in_ok-push_str-2+in_ok-push_str-3, in_default}
 
@@ -70,7 +70,7 @@ returns-in_err-push_str-2-clause-err c =
     let l = c.loop-place in
     let before = l.invariant.built in
     let kept : string_bytes c.push_str-in-Some.new.self ≡ string_bytes l.out = search rules in
-    err_always c.from_residual-in_err-push_str-2.result (before.0, printed-front encoded before.0 (slice_range encoded l.start l.place) l.place before.2, kept ∙ before.1)
+    err_always c.from_residual-in_err-push_str-2.result (before.0, printed-prefix encoded before.0 (slice_range encoded l.start l.place) l.place before.2, kept ∙ before.1)
 
 pub returns-in_err-push_str-3-clause-err : goal.returns-in_err-push_str-3-clause-err
 returns-in_err-push_str-3-clause-err c =
@@ -82,7 +82,7 @@ returns-in_err-push_str-3-clause-err c =
     let kept : string_bytes c.push_str-in-Some-2.new.self ≡ string_bytes c.push_str-in-Some.new.self = search rules in
     err_always c.from_residual-in_err-push_str-3.result (
       before.0 ++ part,
-      printed-front encoded (before.0 ++ part) [] l.place (append-nil (before.0 ++ part) ∙ before.2),
+      printed-prefix encoded (before.0 ++ part) [] l.place (append-nil (before.0 ++ part) ∙ before.2),
       kept ∙ first ∙ ap (λ z. z ++ part) before.1 ∙ append_assoc (string_bytes c.args.out.now) before.0 part,
     )
 
@@ -104,4 +104,4 @@ returns-clause-err c =
     let l = c.loop-place in
     let before = l.invariant.built in
     err_from c.push_str-2.result (string_bytes l.out) (string_bytes c.push_str-2.new.self) c.range_from.result.now c.push_str-2.ensures.bytes
-    (λ kept. (before.0, printed-front encoded before.0 (slice_range encoded l.start l.place) l.place before.2, kept ∙ before.1))
+    (λ kept. (before.0, printed-prefix encoded before.0 (slice_range encoded l.start l.place) l.place before.2, kept ∙ before.1))

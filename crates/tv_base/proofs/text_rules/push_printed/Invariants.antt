@@ -10,5 +10,5 @@ abbrev pub invariant-loop-place : goal.invariant-loop-place
 invariant-loop-place l = record {
   in_range : l.start ≤ l.place;
   boundary : 0 < l.start → IsCharBoundary l.encoded l.start;
-  built : (front : List ℕ) × (string_bytes l.out ≡ string_bytes l.fn.out ++ front) × (front ++ slice_range l.encoded l.start l.place ≡ 47 ∷ flat_map printed_or_slash (take l.place l.encoded));
+  built : (prefix : List ℕ) × (string_bytes l.out ≡ string_bytes l.fn.out ++ prefix) × (prefix ++ slice_range l.encoded l.start l.place ≡ 47 ∷ flat_map printed_or_slash (take l.place l.encoded));
 }

@@ -10,9 +10,9 @@ loop-rest-preserved g c =
     let n = c.in_ok-count.count in
     let sink = g.K.ByteSink in
     let cut : rest ≡ take n rest ++ take (length rest - n) (drop n rest) = sym (take-append-drop n rest) ∙ ap (λ l. take n rest ++ l) (sym (take_all (length rest - n) (drop n rest) (omega (arith, length-drop n rest)))) in
-    let write : Writes sink.tells sink.held sink.faults c.loop-rest.sink c.write.new.self c.write.result (take n rest) = rw c.in_ok-count.was (record {
+    let write : Writes sink.is_known sink.held sink.failures c.loop-rest.sink c.write.new.self c.write.result (take n rest) = rw c.in_ok-count.was (record {
       appends = c.in_ok-count.ensures.bytes;
-      still_tells = c.in_ok-count.ensures.tells;
-      counts = c.in_ok-count.ensures.faults;
+      stays_known = c.in_ok-count.ensures.is_known;
+      counts = c.in_ok-count.ensures.failures;
     }) in
     Written-step (take n rest) _ cut c.loop-rest.invariant (rw c.in_ok-count.was at write)

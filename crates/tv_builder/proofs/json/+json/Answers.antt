@@ -5,7 +5,7 @@ use Rattle.tv_borrowed.proofs.Levels.{data_of-Null, data_of-Bool, data_of-Unsign
 use Rattle.tv_heap.proofs.Lists.{place_added}
 use Rattle.tv_builder.specs.Given.{place_bytes}
 use Rattle.tv_builder.proofs.JsonValues.{json_tree_of, json_entries, next_item, next_member, array_json, object_json, put_at, put_array_at, put_object_at, places_same, nothing_put}
-use Rattle.tv_builder.proofs.Giving.{front_then}
+use Rattle.tv_builder.proofs.Giving.{prefix_then}
 use Rattle.tv_builder.proofs.Putting.{ArrayPut, ObjectPut, array_start, array_step, object_start, object_step, own_places}
 use Rattle.tv_builder.proofs.json.+json.Goals as goal
 
@@ -17,8 +17,8 @@ put_json-returns-in-Null-clause-found t c = put_at c.args.json.now _ _ _ _ _ c.i
 pub put_json-returns-in-Null-clause-places : goal.put_json-returns-in-Null-clause-places
 put_json-returns-in-Null-clause-places t c = places_same _ _
 
-pub put_json-returns-in-Null-clause-front : goal.put_json-returns-in-Null-clause-front
-put_json-returns-in-Null-clause-front t c = c.put.ensures.front
+pub put_json-returns-in-Null-clause-prefix : goal.put_json-returns-in-Null-clause-prefix
+put_json-returns-in-Null-clause-prefix t c = c.put.ensures.prefix
 
 pub put_json-returns-in-Bool-clause-found : goal.put_json-returns-in-Bool-clause-found
 put_json-returns-in-Bool-clause-found t c = put_at c.args.json.now _ _ _ _ _ c.in-Bool.is (data_of-Bool c.in-Bool.truth) c.put-in-Bool.ensures.found
@@ -26,8 +26,8 @@ put_json-returns-in-Bool-clause-found t c = put_at c.args.json.now _ _ _ _ _ c.i
 pub put_json-returns-in-Bool-clause-places : goal.put_json-returns-in-Bool-clause-places
 put_json-returns-in-Bool-clause-places t c = places_same _ _
 
-pub put_json-returns-in-Bool-clause-front : goal.put_json-returns-in-Bool-clause-front
-put_json-returns-in-Bool-clause-front t c = c.put-in-Bool.ensures.front
+pub put_json-returns-in-Bool-clause-prefix : goal.put_json-returns-in-Bool-clause-prefix
+put_json-returns-in-Bool-clause-prefix t c = c.put-in-Bool.ensures.prefix
 
 pub put_json-returns-in-Unsigned-clause-found : goal.put_json-returns-in-Unsigned-clause-found
 put_json-returns-in-Unsigned-clause-found t c = put_at c.args.json.now _ _ _ _ _ c.in-Unsigned.is (data_of-Unsigned c.in-Unsigned.number) c.put_number.ensures.found
@@ -35,14 +35,14 @@ put_json-returns-in-Unsigned-clause-found t c = put_at c.args.json.now _ _ _ _ _
 pub put_json-returns-in-Unsigned-clause-places : goal.put_json-returns-in-Unsigned-clause-places
 put_json-returns-in-Unsigned-clause-places t c = places_same _ _
 
-pub put_json-returns-in-Unsigned-clause-front : goal.put_json-returns-in-Unsigned-clause-front
-put_json-returns-in-Unsigned-clause-front t c = c.put_number.ensures.front
+pub put_json-returns-in-Unsigned-clause-prefix : goal.put_json-returns-in-Unsigned-clause-prefix
+put_json-returns-in-Unsigned-clause-prefix t c = c.put_number.ensures.prefix
 
 pub put_json-returns-in-Negative-clause-places : goal.put_json-returns-in-Negative-clause-places
 put_json-returns-in-Negative-clause-places t c = places_same _ _
 
-pub put_json-returns-in-Negative-clause-front : goal.put_json-returns-in-Negative-clause-front
-put_json-returns-in-Negative-clause-front t c = c.put-in-Negative.ensures.front
+pub put_json-returns-in-Negative-clause-prefix : goal.put_json-returns-in-Negative-clause-prefix
+put_json-returns-in-Negative-clause-prefix t c = c.put-in-Negative.ensures.prefix
 
 pub put_json-returns-in-String-clause-found : goal.put_json-returns-in-String-clause-found
 put_json-returns-in-String-clause-found t c = put_at c.args.json.now _ _ _ _ _ c.in-String.is (data_of-String c.in-String.text) c.put-in-String.ensures.found
@@ -50,8 +50,8 @@ put_json-returns-in-String-clause-found t c = put_at c.args.json.now _ _ _ _ _ c
 pub put_json-returns-in-String-clause-places : goal.put_json-returns-in-String-clause-places
 put_json-returns-in-String-clause-places t c = places_same _ _
 
-pub put_json-returns-in-String-clause-front : goal.put_json-returns-in-String-clause-front
-put_json-returns-in-String-clause-front t c = c.put-in-String.ensures.front
+pub put_json-returns-in-String-clause-prefix : goal.put_json-returns-in-String-clause-prefix
+put_json-returns-in-String-clause-prefix t c = c.put-in-String.ensures.prefix
 
 pub put_json-returns-in-Array-clause-found : goal.put_json-returns-in-Array-clause-found
 put_json-returns-in-Array-clause-found t c = put_array_at c.args.json.now c.in-Array.items _ _ _ _ c.in-Array.is c.as_slice.ensures.value c.put_array.ensures.found
@@ -59,8 +59,8 @@ put_json-returns-in-Array-clause-found t c = put_array_at c.args.json.now c.in-A
 pub put_json-returns-in-Array-clause-places : goal.put_json-returns-in-Array-clause-places
 put_json-returns-in-Array-clause-places t c = c.put_array.ensures.places
 
-pub put_json-returns-in-Array-clause-front : goal.put_json-returns-in-Array-clause-front
-put_json-returns-in-Array-clause-front t c = c.put_array.ensures.front
+pub put_json-returns-in-Array-clause-prefix : goal.put_json-returns-in-Array-clause-prefix
+put_json-returns-in-Array-clause-prefix t c = c.put_array.ensures.prefix
 
 pub put_json-returns-in-Object-clause-found : goal.put_json-returns-in-Object-clause-found
 put_json-returns-in-Object-clause-found t c = put_object_at c.args.json.now c.in-Object.members _ _ _ _ c.in-Object.is c.as_slice-in-Object.ensures.value c.put_object.ensures.found
@@ -68,8 +68,8 @@ put_json-returns-in-Object-clause-found t c = put_object_at c.args.json.now c.in
 pub put_json-returns-in-Object-clause-places : goal.put_json-returns-in-Object-clause-places
 put_json-returns-in-Object-clause-places t c = c.put_object.ensures.places
 
-pub put_json-returns-in-Object-clause-front : goal.put_json-returns-in-Object-clause-front
-put_json-returns-in-Object-clause-front t c = c.put_object.ensures.front
+pub put_json-returns-in-Object-clause-prefix : goal.put_json-returns-in-Object-clause-prefix
+put_json-returns-in-Object-clause-prefix t c = c.put_object.ensures.prefix
 
 -- ---- arrays
 
@@ -104,11 +104,11 @@ put_array-returns-in_err-place-clause-found t c = nothing_put _ _ c.from_residua
 pub put_array-returns-in_err-place-clause-places : goal.put_array-returns-in_err-place-clause-places
 put_array-returns-in_err-place-clause-places t c = nothing_put _ _ c.from_residual.ensures
 
-pub put_array-returns-in_err-place-clause-front : goal.put_array-returns-in_err-place-clause-front
-put_array-returns-in_err-place-clause-front t c = front_then c.args.heap.now.items c.loop-item.heap.items c.put_json.new.heap.items c.loop-item.invariant.2.children.front c.in_err-place.ensures.front
+pub put_array-returns-in_err-place-clause-prefix : goal.put_array-returns-in_err-place-clause-prefix
+put_array-returns-in_err-place-clause-prefix t c = prefix_then c.args.heap.now.items c.loop-item.heap.items c.put_json.new.heap.items c.loop-item.invariant.2.children.prefix c.in_err-place.ensures.prefix
 
-pub put_array-returns-in_default-clause-front : goal.put_array-returns-in_default-clause-front
-put_array-returns-in_default-clause-front t c = front_then c.args.heap.now.items c.loop-item.heap.items c.put_json.new.heap.items c.loop-item.invariant.2.children.front c.in_ok-place.ensures.front
+pub put_array-returns-in_default-clause-prefix : goal.put_array-returns-in_default-clause-prefix
+put_array-returns-in_default-clause-prefix t c = prefix_then c.args.heap.now.items c.loop-item.heap.items c.put_json.new.heap.items c.loop-item.invariant.2.children.prefix c.in_ok-place.ensures.prefix
 
 pub put_array-put_list-requires-clause-fits : goal.put_array-put_list-requires-clause-fits
 put_array-put_list-requires-clause-fits t c = c.loop-item.invariant.2.children.fits
@@ -124,11 +124,11 @@ put_array-returns-in-Ok-put_list-clause-places t c =
     let own_len : c.len-first.result ≡ length c.args.places.now.items = omega (arith, c.args.places.now.ok.0, c.len-first.ensures) in
     c.in-Ok-put_list.ensures.places ∙ (λ i. take (own_len i) (l.invariant.1 i)) ∙ take-append_seam c.args.places.now.items l.invariant.0
 
-pub put_array-returns-in-Ok-put_list-clause-front : goal.put_array-returns-in-Ok-put_list-clause-front
-put_array-returns-in-Ok-put_list-clause-front t c = front_then c.args.heap.now.items c.loop-item.heap.items c.put_list.new.heap.items c.loop-item.invariant.2.children.front (_, c.in-Ok-put_list.ensures.ok.heap)
+pub put_array-returns-in-Ok-put_list-clause-prefix : goal.put_array-returns-in-Ok-put_list-clause-prefix
+put_array-returns-in-Ok-put_list-clause-prefix t c = prefix_then c.args.heap.now.items c.loop-item.heap.items c.put_list.new.heap.items c.loop-item.invariant.2.children.prefix (_, c.in-Ok-put_list.ensures.ok.heap)
 
-pub put_array-returns-in-Err-clause-front : goal.put_array-returns-in-Err-clause-front
-put_array-returns-in-Err-clause-front t c = front_then c.args.heap.now.items c.loop-item.heap.items c.put_list.new.heap.items c.loop-item.invariant.2.children.front c.in-Err.ensures.err.front
+pub put_array-returns-in-Err-clause-prefix : goal.put_array-returns-in-Err-clause-prefix
+put_array-returns-in-Err-clause-prefix t c = prefix_then c.args.heap.now.items c.loop-item.heap.items c.put_list.new.heap.items c.loop-item.invariant.2.children.prefix c.in-Err.ensures.err.prefix
 
 -- ---- objects
 
@@ -158,11 +158,11 @@ put_object-returns-in-Ok-put_list-clause-found t c =
     let own = own_places c.args.places.now.items l.places.items list c.len-first.result l.invariant.1 (omega (arith, c.args.places.now.ok.0, c.len-first.ensures)) in
     object_json members c.args.heap.now.items l.heap.items list c.put_list.new.heap.items _ c.in-Ok-put_list.place all own c.in-Ok-put_list.ensures.ok
 
-pub put_object-returns-in_default-push_place-clause-front : goal.put_object-returns-in_default-push_place-clause-front
-put_object-returns-in_default-push_place-clause-front t c =
+pub put_object-returns-in_default-push_place-clause-prefix : goal.put_object-returns-in_default-push_place-clause-prefix
+put_object-returns-in_default-push_place-clause-prefix t c =
     let l = c.loop-key in
-    let keyed = front_then c.args.heap.now.items l.heap.items c.put.new.heap.items l.invariant.2.children.front c.in_ok-name.ensures.front in
-    front_then c.args.heap.now.items c.put.new.heap.items c.put_json.new.heap.items keyed c.in_ok-place.ensures.front
+    let keyed = prefix_then c.args.heap.now.items l.heap.items c.put.new.heap.items l.invariant.2.children.prefix c.in_ok-name.ensures.prefix in
+    prefix_then c.args.heap.now.items c.put.new.heap.items c.put_json.new.heap.items keyed c.in_ok-place.ensures.prefix
 
 pub put_object-put-requires : goal.put_object-put-requires
 put_object-put-requires t c = c.loop-key.invariant.2.children.fits
@@ -179,14 +179,14 @@ put_object-returns-in_err-place-clause-found t c = nothing_put _ _ c.from_residu
 pub put_object-returns-in_err-place-clause-places : goal.put_object-returns-in_err-place-clause-places
 put_object-returns-in_err-place-clause-places t c = nothing_put _ _ c.from_residual-in_err-place.ensures
 
-pub put_object-returns-in_err-name-clause-front : goal.put_object-returns-in_err-name-clause-front
-put_object-returns-in_err-name-clause-front t c = front_then c.args.heap.now.items c.loop-key.heap.items c.put.new.heap.items c.loop-key.invariant.2.children.front c.in_err-name.ensures.front
+pub put_object-returns-in_err-name-clause-prefix : goal.put_object-returns-in_err-name-clause-prefix
+put_object-returns-in_err-name-clause-prefix t c = prefix_then c.args.heap.now.items c.loop-key.heap.items c.put.new.heap.items c.loop-key.invariant.2.children.prefix c.in_err-name.ensures.prefix
 
-pub put_object-returns-in_default-clause-front : goal.put_object-returns-in_default-clause-front
-put_object-returns-in_default-clause-front t c = front_then c.args.heap.now.items c.loop-key.heap.items c.put.new.heap.items c.loop-key.invariant.2.children.front c.in_ok-name.ensures.front
+pub put_object-returns-in_default-clause-prefix : goal.put_object-returns-in_default-clause-prefix
+put_object-returns-in_default-clause-prefix t c = prefix_then c.args.heap.now.items c.loop-key.heap.items c.put.new.heap.items c.loop-key.invariant.2.children.prefix c.in_ok-name.ensures.prefix
 
-pub put_object-returns-in_err-place-clause-front : goal.put_object-returns-in_err-place-clause-front
-put_object-returns-in_err-place-clause-front t c = front_then c.args.heap.now.items c.put.new.heap.items c.put_json.new.heap.items (front_then c.args.heap.now.items c.loop-key.heap.items c.put.new.heap.items c.loop-key.invariant.2.children.front c.in_ok-name.ensures.front) c.in_err-place.ensures.front
+pub put_object-returns-in_err-place-clause-prefix : goal.put_object-returns-in_err-place-clause-prefix
+put_object-returns-in_err-place-clause-prefix t c = prefix_then c.args.heap.now.items c.put.new.heap.items c.put_json.new.heap.items (prefix_then c.args.heap.now.items c.loop-key.heap.items c.put.new.heap.items c.loop-key.invariant.2.children.prefix c.in_ok-name.ensures.prefix) c.in_err-place.ensures.prefix
 
 pub put_object-put_list-requires-clause-fits : goal.put_object-put_list-requires-clause-fits
 put_object-put_list-requires-clause-fits t c = c.loop-key.invariant.2.children.fits
@@ -202,8 +202,8 @@ put_object-returns-in-Ok-put_list-clause-places t c =
     let own_len : c.len-first.result ≡ length c.args.places.now.items = omega (arith, c.args.places.now.ok.0, c.len-first.ensures) in
     c.in-Ok-put_list.ensures.places ∙ (λ i. take (own_len i) (l.invariant.1 i)) ∙ take-append_seam c.args.places.now.items l.invariant.0
 
-pub put_object-returns-in-Ok-put_list-clause-front : goal.put_object-returns-in-Ok-put_list-clause-front
-put_object-returns-in-Ok-put_list-clause-front t c = front_then c.args.heap.now.items c.loop-key.heap.items c.put_list.new.heap.items c.loop-key.invariant.2.children.front (_, c.in-Ok-put_list.ensures.ok.heap)
+pub put_object-returns-in-Ok-put_list-clause-prefix : goal.put_object-returns-in-Ok-put_list-clause-prefix
+put_object-returns-in-Ok-put_list-clause-prefix t c = prefix_then c.args.heap.now.items c.loop-key.heap.items c.put_list.new.heap.items c.loop-key.invariant.2.children.prefix (_, c.in-Ok-put_list.ensures.ok.heap)
 
-pub put_object-returns-in-Err-clause-front : goal.put_object-returns-in-Err-clause-front
-put_object-returns-in-Err-clause-front t c = front_then c.args.heap.now.items c.loop-key.heap.items c.put_list.new.heap.items c.loop-key.invariant.2.children.front c.in-Err.ensures.err.front
+pub put_object-returns-in-Err-clause-prefix : goal.put_object-returns-in-Err-clause-prefix
+put_object-returns-in-Err-clause-prefix t c = prefix_then c.args.heap.now.items c.loop-key.heap.items c.put_list.new.heap.items c.loop-key.invariant.2.children.prefix c.in-Err.ensures.err.prefix

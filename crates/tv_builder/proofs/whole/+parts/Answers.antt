@@ -10,7 +10,7 @@ use Rattle.tv_value.specs.Size.{size, elements_size}
 use Rattle.tv_heap.proofs.Lists.{place_added}
 use Rattle.tv_builder.specs.Given.{place_bytes}
 use Rattle.tv_builder.proofs.Putting.{array_start, array_step, array_child_not, array_written, array_not_written, object_start, object_step, object_key_not, object_value_not, object_written, object_not_written, memory_not, own_places, put_grows}
-use Rattle.tv_builder.proofs.Giving.{front_then}
+use Rattle.tv_builder.proofs.Giving.{prefix_then}
 use Rattle.tv_builder.proofs.whole.+parts.Goals as goal
 
 places_back : (r : Result Place BuildError) (start places list new : List ℕ) (n : ℕ) → n ≡ length start → places ≡ start ++ list → OnOk r (new ≡ take n places) → OnOk r (new ≡ start)
@@ -54,7 +54,7 @@ put_array-returns-in_err-push_place-clause-err g t c =
     let step = g.met.N.Nested.array_steps _ _ _ c.in-Some.ensures.steps in
     let first = step ∙ ap (λ z. z ∷ g.N.Nested.array_rest c.next.new.self) (sym c.as_nested.ensures) in
     let s = array_step c.args.heap.now.items l.heap.items l.invariant.0 _ _ _ _ _ c.in_ok-place.place l.invariant.2 first c.in_ok-place.ensures.ok in
-    let not = memory_not _ _ (array (elements (g.N.Nested.array_rest c.args.items))) s.children.front in
+    let not = memory_not _ _ (array (elements (g.N.Nested.array_rest c.args.items))) s.children.prefix in
     IfErr-same _ _ _ c.from_residual-in_err-push_place.ensures.1 not
 
 pub put_array-loop-item-preserved : goal.put_array-loop-item-preserved
@@ -112,7 +112,7 @@ put_object-returns-in_err-push_place-2-clause-err g t c =
     let step = g.met.N.Nested.object_steps _ _ _ c.in-Some.ensures.steps in
     let first = step ∙ ap (λ z. z ∷ g.N.Nested.object_rest c.next.new.self) (λ i. (sym c.as_str.ensures i, sym c.as_nested.ensures i)) in
     let s = object_step c.args.heap.now.items l.heap.items l.invariant.0 _ _ _ _ _ _ _ c.in_ok-name.name c.in_ok-place.place l.invariant.2 first c.in_ok-name.ensures.ok c.in_ok-place.ensures.ok in
-    let not = memory_not _ _ (object (entries (g.N.Nested.object_rest c.args.members))) s.children.front in
+    let not = memory_not _ _ (object (entries (g.N.Nested.object_rest c.args.members))) s.children.prefix in
     IfErr-same _ _ _ c.from_residual-in_err-push_place-2.ensures.1 not
 
 pub put_object-loop-key-preserved : goal.put_object-loop-key-preserved
@@ -241,8 +241,8 @@ put_object-returns-in_err-push_place-2-clause-places g t c = OnOk-refused _ _ c.
 pub put_object-returns-in_err-push_place-clause-err : goal.put_object-returns-in_err-push_place-clause-err
 put_object-returns-in_err-push_place-clause-err g t c =
     let l = c.loop-key in
-    let front = front_then c.args.heap.now.items l.heap.items c.put_leaf.new.heap.items l.invariant.2.children.front (put_grows _ _ _ _ c.in_ok-name.ensures.ok) in
-    IfErr-same _ _ _ c.from_residual-in_err-push_place.ensures.1 (memory_not _ _ (object (entries (g.N.Nested.object_rest c.args.members))) front)
+    let prefix = prefix_then c.args.heap.now.items l.heap.items c.put_leaf.new.heap.items l.invariant.2.children.prefix (put_grows _ _ _ _ c.in_ok-name.ensures.ok) in
+    IfErr-same _ _ _ c.from_residual-in_err-push_place.ensures.1 (memory_not _ _ (object (entries (g.N.Nested.object_rest c.args.members))) prefix)
 
 pub put_array-put_tree-requires : goal.put_array-put_tree-requires
 put_array-put_tree-requires g t c = λ κs within.

@@ -3,7 +3,7 @@ use Rattle.tv_value.specs.Lent.{leaf_of}
 use Rattle.tv_heap.specs.LeafBytes.{leaf_bytes}
 use Rattle.tv_heap.proofs.Weights.{leaf_over}
 use Rattle.tv_builder.proofs.Calls.{over}
-use Rattle.tv_builder.proofs.Giving.{front_same}
+use Rattle.tv_builder.proofs.Giving.{prefix_same}
 use Rattle.tv_builder.proofs.whole.put_leaf.Goals as goal
 
 pub returns-then-not-has_value_room-clause-err : goal.returns-then-not-has_value_room-clause-err
@@ -12,4 +12,4 @@ returns-then-not-has_value_room-clause-err c =
     let l = leaf_of c.args.value.now in
     let full : 4294967295 < length heap.items + length (leaf_bytes l) =
     omega (arith, over c.leaf_len.result c.len.result _ c.has_value_room.result c.leaf_len.ensures c.has_value_room.ensures c.if-not-has_value_room.true, c.len.ensures, heap.ok.0) in
-    record { front = front_same _ _ refl; why = (omega (arith, full, length-append heap.items (leaf_bytes l)), leaf_over (length heap.items) c.args.value.now full) }
+    record { prefix = prefix_same _ _ refl; why = (omega (arith, full, length-append heap.items (leaf_bytes l)), leaf_over (length heap.items) c.args.value.now full) }

@@ -1,11 +1,11 @@
 use Rattle.std.proofs.Common.{◌≡◌, rules, true, false, sym, ◌∙◌, subst, arith, append-nil}
 use Rattle.std.proofs.lemmas.Result.{err_from_is_err_and}
-use Rattle.tv_builder.specs.Front.{Spelled}
+use Rattle.tv_builder.specs.Prefix.{Encoded}
 use Rattle.tv_legacy.specs.Legacy.{Legacy}
 use Rattle.tv_reader.specs.Version.{version_of}
 use Rattle.tv_reader.specs.declared.error.DeserializeError.TheVariants.{HeapFull}
-use Rattle.tv_decoder.specs.Front.{parts_read}
-use Rattle.tv_decoder.proofs.AtHand.{none_passed}
+use Rattle.tv_decoder.specs.Prefix.{parts_read}
+use Rattle.tv_decoder.proofs.Buffered.{none_passed}
 use Rattle.tv_decoder.proofs.WholeDocuments.{Goes, step_more, step_fails, step_takes, pairs_more, pairs_fail, all_finished, no_room, too_many, same_refusal}
 use Rattle.tv_decoder.proofs.document.take_rest.Goals as goal
 
@@ -14,7 +14,7 @@ loop-init g c =
     let v = version_of c.args.version in
     let r = c.args.begun in (
       c.requires,
-      none_passed (Goes v r) r (λ bytes p. subst (λ z. Spelled Legacy v z (parts_read r)) (sym (append-nil bytes)) p),
+      none_passed (Goes v r) r (λ bytes p. subst (λ z. Encoded Legacy v z (parts_read r)) (sym (append-nil bytes)) p),
       λ told. omega arith,
     )
 
@@ -31,7 +31,7 @@ returns-in_err-advance-clause-finds g c =
 pub returns-in_err-advance-clause-full : goal.returns-in_err-advance-clause-full
 returns-in_err-advance-clause-full g c =
     let p = err_from_is_err_and c.from_residual.result c.from_residual.ensures.1 in
-    rw (p.1, p.2) (λ told full. no_room (version_of c.args.version) c.args.begun c.loop.reading c.loop.invariant.1 told (c.in_err-advance.ensures.full (c.loop.invariant.1.still_tells told) (same_refusal _ HeapFull full)))
+    rw (p.1, p.2) (λ told full. no_room (version_of c.args.version) c.args.begun c.loop.reading c.loop.invariant.1 told (c.in_err-advance.ensures.full (c.loop.invariant.1.stays_known told) (same_refusal _ HeapFull full)))
 
 pub returns-in_err-reading-clause-finds : goal.returns-in_err-reading-clause-finds
 returns-in_err-reading-clause-finds g c =
@@ -49,7 +49,7 @@ loop-preserved g c =
     let more = step_more v c.args.begun l.reading c.in_ok-advance.field-0 c.advance.new.legacy_seen c.advance.new.self l.invariant.1 step.finds in (
       pairs.sound,
       pairs_more v c.args.begun c.advance.new.self c.in_ok-reading.reading more pairs.finds,
-      λ told. omega (arith, l.invariant.2 told, step_takes v c.args.begun l.reading c.in_ok-advance.field-0 c.advance.new.legacy_seen c.advance.new.self step.finds (l.invariant.1.still_tells told), pairs.finds.rises),
+      λ told. omega (arith, l.invariant.2 told, step_takes v c.args.begun l.reading c.in_ok-advance.field-0 c.advance.new.legacy_seen c.advance.new.self step.finds (l.invariant.1.stays_known told), pairs.finds.rises),
     )
 
 pub returns-clause-finds : goal.returns-clause-finds

@@ -1,14 +1,14 @@
 use Rattle.std.proofs.Common.{◌+◌, ◌≤◌, Ok}
 use Rattle.tv_reader.specs.Finds.{Finds}
 use Rattle.tv_reader.specs.Version.{version_of}
-use Rattle.tv_decoder.specs.AtHand.{Nothing}
-use Rattle.tv_decoder.specs.Front.{IsSound}
+use Rattle.tv_decoder.specs.Buffered.{Nothing}
+use Rattle.tv_decoder.specs.Prefix.{IsSound}
 use Rattle.tv_decoder.proofs.WholeDocuments.{Goes}
 use Rattle.tv_decoder.proofs.document.take_rest.Given as goal
 
--- what was taken spells what has come since, and each part took a byte
+-- what was taken encodes what has come since, and each part took a byte
 abbrev pub invariant-loop : goal.invariant-loop
 invariant-loop g l =
     let source = g.S.ByteSource in
-    IsSound l.reading × Finds source.tells source.left source.faults l.initial.source l.initial.count l.source l.count (Ok l.reading) (Goes (version_of l.version) l.initial.reading) Nothing
-    × (source.tells l.initial.source → l.counter + l.initial.count ≤ l.count)
+    IsSound l.reading × Finds source.is_known source.left source.failures l.initial.source l.initial.count l.source l.count (Ok l.reading) (Goes (version_of l.version) l.initial.reading) Nothing
+    × (source.is_known l.initial.source → l.counter + l.initial.count ≤ l.count)

@@ -4,7 +4,7 @@ use Rattle.tv_value.specs.PreTokenized.{tokens_left}
 use Rattle.tv_value.specs.Short.{short_token}
 use Rattle.tv_heap.proofs.len.tokens_above.Given as goal
 
--- with the spellings of the tokens that are left
+-- with the encodings of the tokens that are left
 abbrev pub invariant-loop-token : goal.invariant-loop-token
 invariant-loop-token l = record {
   fits : l.total < 2 ^ 32;

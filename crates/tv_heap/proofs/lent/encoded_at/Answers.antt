@@ -12,4 +12,4 @@ returns-in-Signed-clause-bytes c = λ l same stands.
 pub returns-in-Text-clause-bytes : goal.returns-in-Text-clause-bytes
 returns-in-Text-clause-bytes c = λ l same stands.
     let formed = form_of_content l ∙ ap form same ∙ sym c.form.ensures ∙ c.in-Text.is in
-    leaf_short c.args.leaf_type l c.store_code-code.result _ same c.store_code-code.ensures (text_bytes c.args.heap.now c.args.address c.spelled_at.result.now c.spelled_at.ensures (content l) formed stands)
+    leaf_short c.args.leaf_type l c.store_code-code.result _ same c.store_code-code.ensures (text_bytes c.args.heap.now c.args.address c.sized_encoding_at.result.now c.sized_encoding_at.ensures (content l) formed stands)

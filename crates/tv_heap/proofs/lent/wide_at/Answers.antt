@@ -4,7 +4,7 @@ use Rattle.tv_heap.proofs.lent.wide_at.Goals as goal
 
 pub returns-in-Some : goal.returns-in-Some
 returns-in-Some c = λ n p.
-    c.from_le_bytes.ensures ∙ wide_is c.args.heap.now c.split_at.result.1.now c.in-Some.front.now c.args.address n p c.split_at.ensures.back c.in-Some.ensures.cases.same
+    c.from_le_bytes.ensures ∙ wide_is c.args.heap.now c.split_at.result.1.now c.in-Some.prefix.now c.args.address n p c.split_at.ensures.back c.in-Some.ensures.cases.same
 
 pub returns-in-None : goal.returns-in-None
 returns-in-None c = λ n p. wide_short c.args.heap.now c.split_at.result.1.now c.args.address n p c.split_at.ensures.back c.in-None.ensures.cases

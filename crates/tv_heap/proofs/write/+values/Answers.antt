@@ -3,7 +3,7 @@ use Rattle.tv_base.specs.Number.{vnum}
 use Rattle.tv_value.specs.Tree.{array, object, elements, entries}
 use Rattle.tv_heap.specs.TypeCode.{type_code}
 use Rattle.tv_heap.proofs.Writes.{leaf_fits}
-use Rattle.tv_heap.proofs.Lists.{array_start, array_step, array_next, array_fits, array_written, object_start, object_step, key_fits, object_next, object_fits, object_written, place_added, places_before, places_within, refused, front_more, front_after}
+use Rattle.tv_heap.proofs.Lists.{array_start, array_step, array_next, array_fits, array_written, object_start, object_step, key_fits, object_next, object_fits, object_written, place_added, places_before, places_within, refused, prefix_more, prefix_after}
 use Rattle.tv_heap.proofs.write.+values.Goals as goal
 
 pub write_array-loop-item-init : goal.write_array-loop-item-init
@@ -20,12 +20,12 @@ write_array-write_tree-requires g t c κs within =
     search (rules, smaller, fits)
 
 pub write_array-returns-in_err-code-clause-err : goal.write_array-returns-in_err-code-clause-err
-write_array-returns-in_err-code-clause-err g t c = refused c.from_residual.result (front_more _ _ _ _ c.loop-item.invariant.2.grows c.in_err-code.ensures.err)
+write_array-returns-in_err-code-clause-err g t c = refused c.from_residual.result (prefix_more _ _ _ _ c.loop-item.invariant.2.grows c.in_err-code.ensures.err)
 
 pub write_array-returns-in_err-push_place-clause-err : goal.write_array-returns-in_err-push_place-clause-err
 write_array-returns-in_err-push_place-clause-err g t c =
     let wrote = c.in_ok-code.ensures.ok in
-    refused c.from_residual-in_err-push_place.result (front_more _ _ _ _ c.loop-item.invariant.2.grows (wrote.added, wrote.grows))
+    refused c.from_residual-in_err-push_place.result (prefix_more _ _ _ _ c.loop-item.invariant.2.grows (wrote.added, wrote.grows))
 
 pub write_array-write_list-requires-clause-first : goal.write_array-write_list-requires-clause-first
 write_array-write_list-requires-clause-first g t c =
@@ -35,7 +35,7 @@ pub write_array-write_list-requires-clause-fits : goal.write_array-write_list-re
 write_array-write_list-requires-clause-fits g t c = array_fits _ _ _ _ _ c.loop-item.invariant.2 c.requires
 
 pub write_array-returns-clause-err : goal.write_array-returns-clause-err
-write_array-returns-clause-err g t c = front_after c.write_list.result _ _ _ _ c.loop-item.invariant.2.grows c.write_list.ensures.err
+write_array-returns-clause-err g t c = prefix_after c.write_list.result _ _ _ _ c.loop-item.invariant.2.grows c.write_list.ensures.err
 
 pub write_array-loop-item-preserved : goal.write_array-loop-item-preserved
 write_array-loop-item-preserved g t c =
@@ -73,16 +73,16 @@ write_object-write_key-requires g t c =
     key_fits c.args.heap.now.items c.loop-key.heap.items c.loop-key.invariant.0 _ _ _ _ _ c.loop-key.invariant.2 (step ∙ first) c.requires
 
 pub write_object-returns-in_err-write_key-clause-err : goal.write_object-returns-in_err-write_key-clause-err
-write_object-returns-in_err-write_key-clause-err g t c = refused c.from_residual.result (front_more _ _ _ _ c.loop-key.invariant.2.grows c.in_err-write_key.ensures.err)
+write_object-returns-in_err-write_key-clause-err g t c = refused c.from_residual.result (prefix_more _ _ _ _ c.loop-key.invariant.2.grows c.in_err-write_key.ensures.err)
 
 pub write_object-returns-in_err-code-clause-err : goal.write_object-returns-in_err-code-clause-err
 write_object-returns-in_err-code-clause-err g t c =
-    refused c.from_residual-in_err-code.result (front_more _ _ _ _ c.loop-key.invariant.2.grows (front_more _ _ _ _ c.in_ok-write_key.ensures.heap c.in_err-code.ensures.err))
+    refused c.from_residual-in_err-code.result (prefix_more _ _ _ _ c.loop-key.invariant.2.grows (prefix_more _ _ _ _ c.in_ok-write_key.ensures.heap c.in_err-code.ensures.err))
 
 pub write_object-returns-in_err-push_place-clause-err : goal.write_object-returns-in_err-push_place-clause-err
 write_object-returns-in_err-push_place-clause-err g t c =
     let wrote = c.in_ok-code.ensures.ok in
-    refused c.from_residual-in_err-push_place.result (front_more _ _ _ _ c.loop-key.invariant.2.grows (front_more _ _ _ _ c.in_ok-write_key.ensures.heap (wrote.added, wrote.grows)))
+    refused c.from_residual-in_err-push_place.result (prefix_more _ _ _ _ c.loop-key.invariant.2.grows (prefix_more _ _ _ _ c.in_ok-write_key.ensures.heap (wrote.added, wrote.grows)))
 
 pub write_object-write_list-requires-clause-first : goal.write_object-write_list-requires-clause-first
 write_object-write_list-requires-clause-first g t c =
@@ -92,7 +92,7 @@ pub write_object-write_list-requires-clause-fits : goal.write_object-write_list-
 write_object-write_list-requires-clause-fits g t c = object_fits _ _ _ _ _ c.loop-key.invariant.2 c.requires
 
 pub write_object-returns-clause-err : goal.write_object-returns-clause-err
-write_object-returns-clause-err g t c = front_after c.write_list.result _ _ _ _ c.loop-key.invariant.2.grows c.write_list.ensures.err
+write_object-returns-clause-err g t c = prefix_after c.write_list.result _ _ _ _ c.loop-key.invariant.2.grows c.write_list.ensures.err
 
 pub write_object-write_tree-requires : goal.write_object-write_tree-requires
 write_object-write_tree-requires g t c κs within =

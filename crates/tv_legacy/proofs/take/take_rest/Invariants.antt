@@ -14,7 +14,7 @@ invariant-loop-scan g l =
       depth : IsDepth l.scan.depth l.slice.items;
       place : place_of l.scan.position ≡ behind l.slice.items;
       bound : l.scan.depth ≤ length l.slice.items;
-      so_far : SoFar (told source.tells) (λ p. source.left p.source) (λ p. p.count) (λ p. source.faults p.source) (record { source = l.initial.source; count = l.initial.count }) (record { source = l.source; count = l.count }) (rest_at l.initial.slice.items) (rest_from l.slice.items);
+      so_far : SoFar (told source.is_known) (λ p. source.left p.source) (λ p. p.count) (λ p. source.failures p.source) (record { source = l.initial.source; count = l.initial.count }) (record { source = l.source; count = l.count }) (rest_at l.initial.slice.items) (rest_from l.slice.items);
     }
 
 abbrev pub decreases-loop-scan : goal.decreases-loop-scan

@@ -7,7 +7,7 @@ returns-in_err-take_line-clause-err g c = λ s k. on_err _ (Answered-breaks (c.l
 
 pub returns-then-not-branch-clause-ok : goal.returns-then-not-branch-clause-ok
 returns-then-not-branch-clause-ok g c = λ s k.
-    Answered-ends (c.lines.invariant.so_far s k) (rw c.if-not-branch.true at c.in_ok-take_line.ensures.takes (c.lines.invariant.source_tells s))
+    Answered-ends (c.lines.invariant.so_far s k) (rw c.if-not-branch.true at c.in_ok-take_line.ensures.takes (c.lines.invariant.source_is_known s))
 
 pub returns-in_err-answer_line-clause-err : goal.returns-in_err-answer_line-clause-err
 returns-in_err-answer_line-clause-err g c = λ s k. on_err _ (Answered-breaks (c.lines.invariant.so_far s k))
@@ -18,13 +18,13 @@ lines-preserved g c =
     record {
       so_far = λ s k.
           Answered-step (before.so_far s k)
-          (rw c.if-not-branch.false at c.in_ok-take_line.ensures.takes (before.source_tells s))
+          (rw c.if-not-branch.false at c.in_ok-take_line.ensures.takes (before.source_is_known s))
           (rw c.as_slice.ensures.value at c.in_ok-answer_line.ensures)
-          (c.in_ok-write_line.ensures.ok (before.sink_tells k) ∙ ap (λ l. g.K.ByteSink.held c.lines.sink ++ l) c.as_slice-in-lines.ensures.value);
-      source_tells = λ s. c.in_ok-take_line.ensures.tells (before.source_tells s);
-      sink_tells = λ k. c.in_ok-write_line.ensures.tells (before.sink_tells k);
-      source_faults = c.in_ok-take_line.ensures.faults ∙ before.source_faults;
-      sink_faults = c.in_ok-write_line.ensures.faults ∙ before.sink_faults;
+          (c.in_ok-write_line.ensures.ok (before.sink_is_known k) ∙ ap (λ l. g.K.ByteSink.held c.lines.sink ++ l) c.as_slice-in-lines.ensures.value);
+      source_is_known = λ s. c.in_ok-take_line.ensures.is_known (before.source_is_known s);
+      sink_is_known = λ k. c.in_ok-write_line.ensures.is_known (before.sink_is_known k);
+      source_failures = c.in_ok-take_line.ensures.failures ∙ before.source_failures;
+      sink_failures = c.in_ok-write_line.ensures.failures ∙ before.sink_failures;
     }
 
 pub returns-in_err-write_line-clause-err : goal.returns-in_err-write_line-clause-err
@@ -32,6 +32,6 @@ returns-in_err-write_line-clause-err g c = λ s k.
     let before = c.lines.invariant in
     on_err _
     (Answered-cut (before.so_far s k)
-    (rw c.if-not-branch.false at c.in_ok-take_line.ensures.takes (before.source_tells s))
+    (rw c.if-not-branch.false at c.in_ok-take_line.ensures.takes (before.source_is_known s))
     (rw c.as_slice.ensures.value at c.in_ok-answer_line.ensures)
-    (rw c.as_slice-in-lines.ensures.value at c.in_err-write_line.ensures.err (before.sink_tells k)))
+    (rw c.as_slice-in-lines.ensures.value at c.in_err-write_line.ensures.err (before.sink_is_known k)))

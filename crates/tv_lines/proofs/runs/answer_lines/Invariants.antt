@@ -8,12 +8,12 @@ invariant-lines g l =
     let source = g.S.ByteSource in
     let sink = g.K.ByteSink in
     record {
-      so_far : source.tells l.initial.source → sink.tells l.initial.sink
+      so_far : source.is_known l.initial.source → sink.is_known l.initial.sink
           → Answered l.schema (unread l.initial.reader ++ source.left l.initial.source) (unread l.reader ++ source.left l.source) (sink.held l.initial.sink) (sink.held l.sink);
-      source_tells : source.tells l.initial.source → source.tells l.source;
-      sink_tells : sink.tells l.initial.sink → sink.tells l.sink;
-      source_faults : source.faults l.source ≡ source.faults l.initial.source;
-      sink_faults : sink.faults l.sink ≡ sink.faults l.initial.sink;
+      source_is_known : source.is_known l.initial.source → source.is_known l.source;
+      sink_is_known : sink.is_known l.initial.sink → sink.is_known l.sink;
+      source_failures : source.failures l.source ≡ source.failures l.initial.source;
+      sink_failures : sink.failures l.sink ≡ sink.failures l.initial.sink;
     }
 
 abbrev pub decreases-lines : goal.decreases-lines

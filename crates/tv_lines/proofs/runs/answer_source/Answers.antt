@@ -12,7 +12,7 @@ pub returns-in_err-answer_lines-in-Ok-clause-err : goal.returns-in_err-answer_li
 returns-in_err-answer_lines-in-Ok-clause-err g c = λ s k.
     on_err _
     (broken_lines _ _ (first_of _ _ _ _ (rw c.in_ok-reader.ensures at c.in_ok-take_line.ensures.takes s)) (rw c.as_slice.ensures.value at c.in-Ok.ensures.ok)
-    (c.in_err-answer_lines-in-Ok.ensures.err (c.in_ok-take_line.ensures.tells s) k))
+    (c.in_err-answer_lines-in-Ok.ensures.err (c.in_ok-take_line.ensures.is_known s) k))
 
 pub returns-in_err-write_line-in-Err-clause-err : goal.returns-in_err-write_line-in-Err-clause-err
 returns-in_err-write_line-in-Err-clause-err g c = λ s k.

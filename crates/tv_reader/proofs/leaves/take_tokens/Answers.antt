@@ -3,7 +3,7 @@ use Rattle.std.proofs.lemmas.List.{map_push}
 use Rattle.std.proofs.lemmas.Result.{err_from_is_err_and}
 use Rattle.tv_base.specs.Take.{read_stop}
 use Rattle.tv_base.specs.declared.read_error.ReadError.TheVariants.{Memory}
-use Rattle.tv_base.proofs.ItemLoop.{with_front, start, next, none}
+use Rattle.tv_base.proofs.ItemLoop.{with_prefix, start, next, none}
 use Rattle.tv_base.proofs.TakeSteps.{SoFar-start, SoFar-step, SoFar-fails, SoFar-returns, SoFar-stops}
 use Rattle.tv_value.specs.HeldTokens.{token_of}
 use Rattle.tv_reader.specs.Leaves.{token_at, tokens_at}
@@ -16,23 +16,23 @@ pub returns-in_err-token-clause-takes : goal.returns-in_err-token-clause-takes
 returns-in_err-token-clause-takes g c =
     let p = err_from_is_err_and c.from_residual.result c.from_residual.ensures.1 in
     let l = c.loop in
-    let front = map token_of l.tokens.items in
-    rw (p.1, p.2) (SoFar-fails _ _ (λ x. with_front (front ++ x.0 ∷ []) (tokens_at (c.args.announced - (l.counter + 1)) x.1)) (next token_at front c.args.announced l.counter c.loop-test.true) l.invariant c.in_err-token.ensures.takes)
+    let prefix = map token_of l.tokens.items in
+    rw (p.1, p.2) (SoFar-fails _ _ (λ x. with_prefix (prefix ++ x.0 ∷ []) (tokens_at (c.args.announced - (l.counter + 1)) x.1)) (next token_at prefix c.args.announced l.counter c.loop-test.true) l.invariant c.in_err-token.ensures.takes)
 
 pub returns-in_err-push-clause-takes : goal.returns-in_err-push-clause-takes
 returns-in_err-push-clause-takes g c =
     let p = err_from_is_err_and c.from_residual-in_err-push.result c.from_residual-in_err-push.ensures.1 in
     let l = c.loop in
-    let front = map token_of l.tokens.items in
-    let step = SoFar-step (λ x. with_front (front ++ x.0 ∷ []) (tokens_at (c.args.announced - (l.counter + 1)) x.1)) (next token_at front c.args.announced l.counter c.loop-test.true) l.invariant c.in_ok-token.ensures.takes in
+    let prefix = map token_of l.tokens.items in
+    let step = SoFar-step (λ x. with_prefix (prefix ++ x.0 ∷ []) (tokens_at (c.args.announced - (l.counter + 1)) x.1)) (next token_at prefix c.args.announced l.counter c.loop-test.true) l.invariant c.in_ok-token.ensures.takes in
     rw (p.1, p.2) (SoFar-stops read_stop _ Memory refl step)
 
 pub loop-preserved : goal.loop-preserved
 loop-preserved g c =
     let l = c.loop in
-    let front = map token_of l.tokens.items in
-    let step = SoFar-step (λ x. with_front (front ++ x.0 ∷ []) (tokens_at (c.args.announced - (l.counter + 1)) x.1)) (next token_at front c.args.announced l.counter c.loop-test.true) l.invariant c.in_ok-token.ensures.takes in
-    let more : map token_of c.push.new.self.items ≡ front ++ token_of c.in_ok-token.token ∷ [] = ap (map token_of) c.in_ok-push.ensures.items ∙ map_push token_of l.tokens.items c.in_ok-token.token in
+    let prefix = map token_of l.tokens.items in
+    let step = SoFar-step (λ x. with_prefix (prefix ++ x.0 ∷ []) (tokens_at (c.args.announced - (l.counter + 1)) x.1)) (next token_at prefix c.args.announced l.counter c.loop-test.true) l.invariant c.in_ok-token.ensures.takes in
+    let more : map token_of c.push.new.self.items ≡ prefix ++ token_of c.in_ok-token.token ∷ [] = ap (map token_of) c.in_ok-push.ensures.items ∙ map_push token_of l.tokens.items c.in_ok-token.token in
     rw more step
 
 pub returns-clause-takes : goal.returns-clause-takes

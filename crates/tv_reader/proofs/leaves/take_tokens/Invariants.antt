@@ -1,6 +1,6 @@
 use Rattle.std.proofs.Common.{◌-◌, map}
 use Rattle.tv_base.specs.Take.{told}
-use Rattle.tv_base.proofs.ItemLoop.{with_front}
+use Rattle.tv_base.proofs.ItemLoop.{with_prefix}
 use Rattle.tv_base.proofs.TakeSteps.{SoFar}
 use Rattle.tv_value.specs.HeldTokens.{token_of}
 use Rattle.tv_reader.specs.Leaves.{tokens_at}
@@ -9,5 +9,5 @@ use Rattle.tv_reader.proofs.leaves.take_tokens.Given as goal
 abbrev pub invariant-loop : goal.invariant-loop
 invariant-loop g l =
     let source = g.S.ByteSource in
-    SoFar (told source.tells) (λ p. source.left p.source) (λ p. p.count) (λ p. source.faults p.source) (record { source = l.initial.source; count = l.initial.count }) (record { source = l.source; count = l.count })
-    (tokens_at l.announced) (λ whole. with_front (map token_of l.tokens.items) (tokens_at (l.announced - l.counter) whole))
+    SoFar (told source.is_known) (λ p. source.left p.source) (λ p. p.count) (λ p. source.failures p.source) (record { source = l.initial.source; count = l.initial.count }) (record { source = l.source; count = l.count })
+    (tokens_at l.announced) (λ whole. with_prefix (map token_of l.tokens.items) (tokens_at (l.announced - l.counter) whole))

@@ -1,6 +1,6 @@
 use Rattle.std.proofs.Common.{refl}
 use Rattle.std.proofs.lemmas.Result.{err_from_is_err_and}
-use Rattle.tv_reader.specs.Trees.{SpellsValue, NoValue, SpellsItems, NoItems, SpellsMembers, NoMembers}
+use Rattle.tv_reader.specs.Trees.{EncodesValue, NoValue, EncodesItems, NoItems, EncodesMembers, NoMembers}
 use Rattle.tv_reader.specs.declared.error.DeserializeError.TheVariants as errors
 use Rattle.tv_reader.specs.Version.{version_of}
 use Rattle.tv_reader.proofs.AgreeKinds.{kind_agrees}
@@ -13,7 +13,7 @@ pub take_tree-returns-in_err-kind-clause-finds : goal.take_tree-returns-in_err-k
 take_tree-returns-in_err-kind-clause-finds g t c =
     let p = err_from_is_err_and c.from_residual.result c.from_residual.ensures.1 in
     let v = version_of c.args.version in
-    rw (p.1, p.2) (finds_part_fails (SpellsValue v) (NoValue v) g.met.S.ByteSource.are_bytes kind_agrees (code_value v) c.in_err-kind.ensures.takes)
+    rw (p.1, p.2) (finds_part_fails (EncodesValue v) (NoValue v) g.met.S.ByteSource.are_bytes kind_agrees (code_value v) c.in_err-kind.ensures.takes)
 
 pub take_tree-returns-clause-finds : goal.take_tree-returns-clause-finds
 take_tree-returns-clause-finds g t c = value_then (version_of c.args.version) g.met.S.ByteSource.are_bytes c.in_ok-kind.ensures.takes c.take_behind.ensures.finds
@@ -77,7 +77,7 @@ pub take_items-returns-in_err-push-clause-finds : goal.take_items-returns-in_err
 take_items-returns-in_err-push-clause-finds g t c =
     let p = err_from_is_err_and c.from_residual-in_err-push.result c.from_residual-in_err-push.ensures.1 in
     let v = version_of c.args.version in
-    rw (p.1, p.2) (finds_short_then errors.Memory (SpellsItems v c.args.announced) (NoItems v c.args.announced) refl c.loop.invariant c.in_ok-item.ensures.finds)
+    rw (p.1, p.2) (finds_short_then errors.Memory (EncodesItems v c.args.announced) (NoItems v c.args.announced) refl c.loop.invariant c.in_ok-item.ensures.finds)
 
 pub take_items-loop-preserved : goal.take_items-loop-preserved
 take_items-loop-preserved g t c = items_more (version_of c.args.version) c.push.new.self c.in_ok-push.ensures.items c.loop.invariant c.in_ok-item.ensures.finds
@@ -104,7 +104,7 @@ pub take_members-returns-in_err-push-clause-finds : goal.take_members-returns-in
 take_members-returns-in_err-push-clause-finds g t c =
     let p = err_from_is_err_and c.from_residual-in_err-push.result c.from_residual-in_err-push.ensures.1 in
     let v = version_of c.args.version in
-    rw (p.1, p.2) (finds_short_then errors.Memory (SpellsMembers v c.args.announced) (NoMembers v c.args.announced) refl c.loop.invariant c.in_ok-member.ensures.finds)
+    rw (p.1, p.2) (finds_short_then errors.Memory (EncodesMembers v c.args.announced) (NoMembers v c.args.announced) refl c.loop.invariant c.in_ok-member.ensures.finds)
 
 pub take_members-loop-preserved : goal.take_members-loop-preserved
 take_members-loop-preserved g t c = members_more c.args.version c.push.new.self c.in_ok-push.ensures.items c.loop.invariant c.in_ok-member.ensures.finds

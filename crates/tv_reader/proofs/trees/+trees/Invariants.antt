@@ -1,6 +1,6 @@
 use Rattle.std.proofs.Common.{◌-◌, ◌+◌, ◌*◌, ◌^◌, Ok}
 use Rattle.tv_reader.specs.Finds.{Finds}
-use Rattle.tv_reader.specs.Trees.{SpellsItems, SpellsMembers}
+use Rattle.tv_reader.specs.Trees.{EncodesItems, EncodesMembers}
 use Rattle.tv_reader.specs.Version.{version_of}
 use Rattle.tv_reader.proofs.trees.+trees.Given as goal
 
@@ -19,14 +19,14 @@ decreases-take_members g l = 4 * (2 ^ 64 - l.count.now) + 2
 abbrev pub decreases-take_behind : goal.decreases-take_behind
 decreases-take_behind g l = 4 * (2 ^ 64 - l.count.now) + 3
 
--- the values so far are spelled by what was taken
+-- the values so far are encoded by what was taken
 abbrev pub invariant-take_items-loop : goal.invariant-take_items-loop
 invariant-take_items-loop g l =
     let source = g.S.ByteSource in
-    Finds source.tells source.left source.faults l.initial.source l.initial.count l.source l.count (Ok l.items) (SpellsItems (version_of l.version) l.counter) (λ w r. ⊥)
+    Finds source.is_known source.left source.failures l.initial.source l.initial.count l.source l.count (Ok l.items) (EncodesItems (version_of l.version) l.counter) (λ w r. ⊥)
 
 -- the keys and values so far are
 abbrev pub invariant-take_members-loop : goal.invariant-take_members-loop
 invariant-take_members-loop g l =
     let source = g.S.ByteSource in
-    Finds source.tells source.left source.faults l.initial.source l.initial.count l.source l.count (Ok l.members) (SpellsMembers (version_of l.version) l.counter) (λ w r. ⊥)
+    Finds source.is_known source.left source.failures l.initial.source l.initial.count l.source l.count (Ok l.members) (EncodesMembers (version_of l.version) l.counter) (λ w r. ⊥)

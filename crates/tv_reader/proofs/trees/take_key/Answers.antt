@@ -1,5 +1,5 @@
 use Rattle.std.proofs.lemmas.Result.{err_from_is_err_and}
-use Rattle.tv_value.specs.Fault.{CodedKeyFault}
+use Rattle.tv_value.specs.InputError.{ErrorInCodedKey}
 use Rattle.tv_reader.specs.Trees.{CodedKey}
 use Rattle.tv_reader.proofs.AgreeKinds.{kind_agrees}
 use Rattle.tv_reader.proofs.BehindKinds.{code_key}
@@ -10,7 +10,7 @@ use Rattle.tv_reader.proofs.trees.take_key.Goals as goal
 pub returns-in_err-kind-clause-finds : goal.returns-in_err-kind-clause-finds
 returns-in_err-kind-clause-finds g c =
     let p = err_from_is_err_and c.from_residual.result c.from_residual.ensures.1 in
-    rw (p.1, p.2) (finds_part_fails CodedKey CodedKeyFault g.met.S.ByteSource.are_bytes kind_agrees code_key c.in_err-kind.ensures.takes)
+    rw (p.1, p.2) (finds_part_fails CodedKey ErrorInCodedKey g.met.S.ByteSource.are_bytes kind_agrees code_key c.in_err-kind.ensures.takes)
 
 pub returns-in_err-key-in-String-clause-finds : goal.returns-in_err-key-in-String-clause-finds
 returns-in_err-key-in-String-clause-finds g c =

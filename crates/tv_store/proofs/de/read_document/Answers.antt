@@ -12,8 +12,8 @@ returns-clause-only g c = λ known.
     let read = c.take_document.ensures.finds in
     only_by (version_of c.args.version) _ _ _ _ (read.found known.0) (c.take_document.ensures.full known.0) (errors_by _ _ _ read.counts) (few_taken known.1 (read.taken known.0))
 
-pub returns-clause-fault : goal.returns-clause-fault
-returns-clause-fault g c = λ known e r is refusal.
+pub returns-clause-error : goal.returns-clause-error
+returns-clause-error g c = λ known e r is refusal.
     let read = c.take_document.ensures.finds in
     (refused_by (version_of c.args.version) _ _ _ _ (few_taken known.1 (read.taken known.0)) (read.found known.0) e r is refusal).stands
 
@@ -26,9 +26,9 @@ returns-clause-shows g c = λ known e r is refusal.
     (refused_by (version_of c.args.version) _ _ _ _ (few_taken known.1 (read.taken known.0)) (read.found known.0) e r is refusal).shows
 
 pub returns-clause-taken : goal.returns-clause-taken
-returns-clause-taken g c = λ told. let t = c.take_document.ensures.finds.taken told in (t.front, t.joined)
+returns-clause-taken g c = λ told. let t = c.take_document.ensures.finds.taken told in (t.prefix, t.joined)
 
 pub returns-clause-too_long : goal.returns-clause-too_long
 returns-clause-too_long g c = λ told e.
     let t = c.take_document.ensures.finds.taken told in
-    (t.front, t.joined, omega (arith, t.counted, c.take_document.ensures.too_long e))
+    (t.prefix, t.joined, omega (arith, t.counted, c.take_document.ensures.too_long e))

@@ -10,6 +10,6 @@ invariant-loop-field g l = record {
   can_next : (goal.iterator-loop-field g).can_next l.field-iterator;
   is_finite : (goal.iterator-loop-field g).is_finite l.field-iterator;
   belongs : Belongs l.schema (pairs_left l.field-iterator);
-  written : Written g.K.ByteSink.tells g.K.ByteSink.held g.K.ByteSink.faults l.initial.sink l.sink
+  written : Written g.K.ByteSink.is_known g.K.ByteSink.held g.K.ByteSink.failures l.initial.sink l.sink
       (written_pairs l.schema (document_of l.document)) (written_pairs l.schema (pairs_left l.field-iterator));
 }

@@ -22,5 +22,5 @@ invariant-write_encoded_items-loop-item g l =
       can_next : (goal.iterator-write_encoded_items-loop-item g).can_next l.item-iterator;
       is_finite : (goal.iterator-write_encoded_items-loop-item g).is_finite l.item-iterator;
       fewer : length rest ≤ length all;
-      written : Written g.K.ByteSink.tells g.K.ByteSink.held g.K.ByteSink.faults l.fn.sink l.sink all rest;
+      written : Written g.K.ByteSink.is_known g.K.ByteSink.held g.K.ByteSink.failures l.fn.sink l.sink all rest;
     }

@@ -23,7 +23,7 @@ invariant-write_items-loop-item g l =
     record {
       valid : AreElements rest;
       smaller : elements_size rest ≤ elements_size all;
-      written : Written g.K.ByteSink.tells g.K.ByteSink.held g.K.ByteSink.faults l.fn.sink l.sink (short_elements V2 all) (short_elements V2 rest);
+      written : Written g.K.ByteSink.is_known g.K.ByteSink.held g.K.ByteSink.failures l.fn.sink l.sink (short_elements V2 all) (short_elements V2 rest);
     }
 
 -- the keys and values that are left are
@@ -34,5 +34,5 @@ invariant-write_members-loop-key g l =
     record {
       valid : AreEntries rest;
       smaller : entries_size rest ≤ entries_size all;
-      written : Written g.K.ByteSink.tells g.K.ByteSink.held g.K.ByteSink.faults l.fn.sink l.sink (short_entries V2 all) (short_entries V2 rest);
+      written : Written g.K.ByteSink.is_known g.K.ByteSink.held g.K.ByteSink.failures l.fn.sink l.sink (short_entries V2 all) (short_entries V2 rest);
     }

@@ -7,4 +7,4 @@ use Rattle.tv_store.proofs.value_writer.write_tokens.Given as goal
 abbrev pub invariant-loop-token : goal.invariant-loop-token
 invariant-loop-token g l =
     let sink = g.K.ByteSink in
-    Written sink.tells sink.held sink.faults l.initial.sink l.sink (flat_map short_token (tokens_left l.initial.token-iterator)) (flat_map short_token (tokens_left l.token-iterator))
+    Written sink.is_known sink.held sink.failures l.initial.sink l.sink (flat_map short_token (tokens_left l.initial.token-iterator)) (flat_map short_token (tokens_left l.token-iterator))

@@ -1,12 +1,12 @@
 use Rattle.std.proofs.Common.{◌≡◌, Ok}
-use Rattle.tv_typed.specs.Lists.{SpellsInto}
-use Rattle.tv_typed.specs.Values.{SpellsAs}
+use Rattle.tv_typed.specs.Lists.{EncodesInto}
+use Rattle.tv_typed.specs.Values.{EncodesAs}
 use Rattle.tv_reader.specs.Version.{version_of}
 use Rattle.tv_typed.specs.Typed.{Deserializes}
 use Rattle.tv_typed.proofs.array.read_elements.Given as goal
 
--- the items so far are spelled by what was taken
+-- the items so far are encoded by what was taken
 abbrev pub invariant-loop : goal.invariant-loop
 invariant-loop g l =
     let source = g.S.ByteSource in
-    Deserializes source.tells source.left l.initial.reader l.reader (Ok l.items) (SpellsInto (λ items xs. items.items ≡ xs) (SpellsAs g.T.ValueDeserialize.is (version_of l.initial.reader.version)) l.counter) (λ w e. ⊥)
+    Deserializes source.is_known source.left l.initial.reader l.reader (Ok l.items) (EncodesInto (λ items xs. items.items ≡ xs) (EncodesAs g.T.ValueDeserialize.is (version_of l.initial.reader.version)) l.counter) (λ w e. ⊥)

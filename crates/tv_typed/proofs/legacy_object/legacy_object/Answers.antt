@@ -18,4 +18,4 @@ returns-in_err-bytes g c =
 pub returns : goal.returns
 returns g c =
     let V = g.V.CodedObject in
-    legacy_then V.is V.refused (version_of c.args.reader.now.version) c.in_ok-tree.ensures.reads c.in_ok-bytes.ensures.ok c.in_ok-bytes.ensures.valid c.of_spelling.ensures
+    legacy_then V.is V.refused (version_of c.args.reader.now.version) c.in_ok-tree.ensures.reads c.in_ok-bytes.ensures.ok c.in_ok-bytes.ensures.valid c.of_encoding.ensures

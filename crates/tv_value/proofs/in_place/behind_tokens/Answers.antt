@@ -1,8 +1,8 @@
 use Rattle.std.proofs.Common.{◌<◌, ◌∷◌, [], ◌++◌, length, arith, length-append}
-use Rattle.tv_value.specs.Spelling.{TokenSpelling}
+use Rattle.tv_value.specs.Encoding.{TokenEncoding}
 use Rattle.tv_value.specs.TokenRef.{ref_of}
 use Rattle.tv_value.proofs.InPlace.{if_none, token_missing}
-use Rattle.tv_value.proofs.Fronts.{begins_item}
+use Rattle.tv_value.proofs.Prefixes.{begins_item}
 use Rattle.tv_value.proofs.in_place.behind_tokens.Goals as goal
 
 pub returns-in_err-_token-clause-none : goal.returns-in_err-_token-clause-none
@@ -19,5 +19,5 @@ loop-i-preserved c =
     record {
       tokens = done.tokens ++ token ∷ [];
       counted = omega (arith, done.counted, length-append done.tokens (token ∷ []));
-      begins = begins_item TokenSpelling done.tokens token c.args.bytes.now c.loop-i.rest.now c.in_ok-_token.behind.now done.begins c.in_ok-_token.ensures.found;
+      begins = begins_item TokenEncoding done.tokens token c.args.bytes.now c.loop-i.rest.now c.in_ok-_token.behind.now done.begins c.in_ok-_token.ensures.found;
     }

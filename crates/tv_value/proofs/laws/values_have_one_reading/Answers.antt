@@ -1,4 +1,4 @@
-use Rattle.tv_value.specs.Spelling.{NoLegacy}
+use Rattle.tv_value.specs.Encoding.{NoLegacy}
 use Rattle.tv_value.proofs.Trees.{one_tree, no_legacy_reads}
 use Rattle.tv_value.proofs.laws.values_have_one_reading.Goals as goal
 

@@ -1,4 +1,4 @@
-use Rattle.tv_value.proofs.Utf8Fronts.{mask_is}
+use Rattle.tv_value.proofs.Utf8Prefixes.{mask_is}
 use Rattle.tv_value.proofs.utf8.mask_of.Goals as goal
 
 pub returns : goal.returns

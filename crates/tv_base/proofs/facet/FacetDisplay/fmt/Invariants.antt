@@ -9,6 +9,6 @@ abbrev pub invariant-loop-place : goal.invariant-loop-place
 invariant-loop-place g l = record {
   in_range : l.start ≤ l.place;
   boundary : 0 < l.start → IsCharBoundary l.encoded l.start;
-  built : IsPlainFormatter l.initial.f → (front : List ℕ) × HasWritten g.W.Write.write_str_gives l.initial.f front l.f
-      × (front ++ slice_range l.encoded l.start l.place ≡ flat_map printed_or_slash (take l.place l.encoded));
+  built : IsPlainFormatter l.initial.f → (prefix : List ℕ) × HasWritten g.W.Write.write_str_gives l.initial.f prefix l.f
+      × (prefix ++ slice_range l.encoded l.start l.place ≡ flat_map printed_or_slash (take l.place l.encoded));
 }

@@ -5,4 +5,4 @@ use Rattle.tv_base.proofs.serializable.BoolBinarySerializable.deserialize.Goals 
 pub returns-clause-reads : goal.returns-clause-reads
 returns-clause-reads g c =
     let source = g.S.ByteSource in
-    by_grammar source.tells source.left source.faults g.met.S.ByteSource.are_bytes _ _ _ _ _ truth_agrees c.take_bool.ensures.takes c.take_bool.ensures.too_long
+    by_grammar source.is_known source.left source.failures g.met.S.ByteSource.are_bytes _ _ _ _ _ truth_agrees c.take_bool.ensures.takes c.take_bool.ensures.too_long

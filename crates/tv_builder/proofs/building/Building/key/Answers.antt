@@ -2,7 +2,7 @@ use Rattle.std.proofs.Common.{◌≡◌, ◌↔◌, IsTrue, ◌++◌, ◌<◌, �
 use Rattle.tv_base.specs.Number.{vnum}
 use Rattle.tv_base.specs.Parts.{short_sized}
 use Rattle.tv_builder.proofs.Calls.{over_bound}
-use Rattle.tv_builder.proofs.Giving.{front_same}
+use Rattle.tv_builder.proofs.Giving.{prefix_same}
 use Rattle.tv_builder.proofs.Keys.{does_key}
 use Rattle.tv_builder.proofs.NoRoom.{key_over}
 use Rattle.tv_builder.specs.Shows.{frames_of}
@@ -34,7 +34,7 @@ returns-then-not-has_room-clause-does c =
     let known : IsTrue c.has_room.result ↔ (c.len.result + (length (vnum (length content)) + length content) ≤ 4294967295) = search (rules, c.has_room.ensures) in
     let full = over_bound c.len.result (length (vnum (length content)) + length content) c.has_room.result known c.if-not-has_room.true in
     let over : 4294967295 < length (b.heap.items ++ short_sized content) = omega (arith, full, c.len.ensures, b.heap.ok.0, length-append b.heap.items (short_sized content), length-append (vnum (length content)) content) in
-    (await, over, front_same _ _ refl, key_over b content await over)
+    (await, over, prefix_same _ _ refl, key_over b content await over)
 
 pub returns-clause-exact : goal.returns-clause-exact
 returns-clause-exact c =

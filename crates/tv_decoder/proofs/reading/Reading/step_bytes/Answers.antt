@@ -2,7 +2,7 @@ use Rattle.std.proofs.Common.{◌++◌, arith, ap, ◌∙◌}
 use Rattle.std.proofs.lemmas.Result.{err_from_is_err_and}
 use Rattle.tv_base.proofs.AgreeWidths.{more_agrees}
 use Rattle.tv_reader.proofs.Finding.{finds_as, finds_part, finds_part_fails}
-use Rattle.tv_decoder.specs.Front.{NoFront}
+use Rattle.tv_decoder.specs.Prefix.{NoPrefix}
 use Rattle.tv_decoder.proofs.Wholes.{Piece, some_missing, piece_ends, bytes_found, bytes_full}
 use Rattle.tv_decoder.proofs.reading.Reading.step_bytes.Goals as goal
 
@@ -11,7 +11,7 @@ returns-in_err-take_pieces-clause-finds g c = λ v.
     let p = err_from_is_err_and c.from_residual.result c.from_residual.ensures.1 in
     let old = c.args.self.now in
     rw (p.1, p.2)
-    (finds_part_fails _ (NoFront v old) g.met.S.ByteSource.are_bytes (more_agrees c.clear.new.self.items c.from.result)
+    (finds_part_fails _ (NoPrefix v old) g.met.S.ByteSource.are_bytes (more_agrees c.clear.new.self.items c.from.result)
     (λ w e f. piece_ends v old c.from.result c.args.missing w e c.requires.awaiting (omega (arith, c.from.ensures, c.min-len.ensures)) f) c.in_err-take_pieces.ensures.takes)
 
 pub returns-clause-finds : goal.returns-clause-finds

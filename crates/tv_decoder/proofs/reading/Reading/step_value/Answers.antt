@@ -4,13 +4,13 @@ use Rattle.tv_base.specs.declared.cause.Cause.TheVariants.{TooLong}
 use Rattle.tv_builder.specs.Parts.{value}
 use Rattle.tv_reader.proofs.Finding.{finds_fails}
 use Rattle.tv_reader.specs.HeadReading.{head_part}
-use Rattle.tv_reader.specs.Heads.{SpellsHead}
+use Rattle.tv_reader.specs.Heads.{EncodesHead}
 use Rattle.tv_reader.specs.Version.{version_of}
 use Rattle.tv_reader.specs.declared.value_type.ValueType.TheVariants.{PreTokStr, JSONObject}
 use Rattle.tv_value.specs.Owned.{owned_tree}
-use Rattle.tv_decoder.specs.Front.{NoFront}
+use Rattle.tv_decoder.specs.Prefix.{NoPrefix}
 use Rattle.tv_decoder.specs.Puts.{head_parts}
-use Rattle.tv_decoder.proofs.Faulting.{value_at_fault}
+use Rattle.tv_decoder.proofs.WithErrors.{value_at_error}
 use Rattle.tv_decoder.proofs.Stepping.{head_is_part, tokenized_part, legacy_part, puts_found, puts_full}
 use Rattle.tv_decoder.proofs.Wholes.{whole_found, whole_fails, sound_of, keeps_of, no_cause, head_parts_are}
 use Rattle.tv_decoder.proofs.reading.Reading.step_value.Goals as goal
@@ -19,51 +19,51 @@ pub returns-in_err-head-clause-finds : goal.returns-in_err-head-clause-finds
 returns-in_err-head-clause-finds g c =
     let p = err_from_is_err_and c.from_residual.result c.from_residual.ensures.1 in
     let v = version_of c.args.version in
-    rw (p.1, p.2) (finds_fails _ (NoFront v c.args.self.now) (λ w e f. value_at_fault v c.args.self.now w e c.requires f) c.in_err-head.ensures.finds)
+    rw (p.1, p.2) (finds_fails _ (NoPrefix v c.args.self.now) (λ w e f. value_at_error v c.args.self.now w e c.requires f) c.in_err-head.ensures.finds)
 
 pub returns-in_err-value-in-Tokenized-clause-finds : goal.returns-in_err-value-in-Tokenized-clause-finds
 returns-in_err-value-in-Tokenized-clause-finds g c =
     let p = err_from_is_err_and c.from_residual-in_err-value-in-Tokenized.result c.from_residual-in_err-value-in-Tokenized.ensures.1 in
     let v = version_of c.args.version in
-    rw (p.1, p.2) (whole_fails v _ c.args.self.now _ PreTokStr c.requires (λ a h. subst (λ z. SpellsHead v a (head_part z)) c.in-Tokenized.is h) c.in_ok-head.ensures.finds c.in_err-value-in-Tokenized.ensures.finds)
+    rw (p.1, p.2) (whole_fails v _ c.args.self.now _ PreTokStr c.requires (λ a h. subst (λ z. EncodesHead v a (head_part z)) c.in-Tokenized.is h) c.in_ok-head.ensures.finds c.in_err-value-in-Tokenized.ensures.finds)
 
 pub returns-in_err-value-in-Legacy-clause-finds : goal.returns-in_err-value-in-Legacy-clause-finds
 returns-in_err-value-in-Legacy-clause-finds g c =
     let p = err_from_is_err_and c.from_residual-in_err-value-in-Legacy.result c.from_residual-in_err-value-in-Legacy.ensures.1 in
     let v = version_of c.args.version in
-    rw (p.1, p.2) (whole_fails v _ c.args.self.now _ JSONObject c.requires (λ a h. subst (λ z. SpellsHead v a (head_part z)) c.in-Legacy.is h) c.in_ok-head.ensures.finds c.in_err-value-in-Legacy.ensures.finds)
+    rw (p.1, p.2) (whole_fails v _ c.args.self.now _ JSONObject c.requires (λ a h. subst (λ z. EncodesHead v a (head_part z)) c.in-Legacy.is h) c.in_ok-head.ensures.finds c.in_err-value-in-Legacy.ensures.finds)
 
 pub returns-in_ok-value-in-Tokenized-clause-finds : goal.returns-in_ok-value-in-Tokenized-clause-finds
 returns-in_ok-value-in-Tokenized-clause-finds g c =
     let v = version_of c.args.version in
     let old = c.args.self.now in
     let t = owned_tree c.in_ok-value-in-Tokenized.value in
-    let w = whole_found v old PreTokStr c.requires (λ a h. subst (λ z. SpellsHead v a (head_part z)) c.in-Tokenized.is h) c.in_ok-head.ensures.finds c.in_ok-value-in-Tokenized.ensures.finds in
-    puts_found v c.args.legacy_seen.now old c.put_owned.new.self (value t ∷ []) c.put_owned.result (λ a h. tokenized_part v c.args.legacy_seen.now old t a (c.requires.field, c.requires.next) h.body h.joined h.spelled) w c.put_owned.ensures.puts
+    let w = whole_found v old PreTokStr c.requires (λ a h. subst (λ z. EncodesHead v a (head_part z)) c.in-Tokenized.is h) c.in_ok-head.ensures.finds c.in_ok-value-in-Tokenized.ensures.finds in
+    puts_found v c.args.legacy_seen.now old c.put_owned.new.self (value t ∷ []) c.put_owned.result (λ a h. tokenized_part v c.args.legacy_seen.now old t a (c.requires.field, c.requires.next) h.body h.joined h.encoded) w c.put_owned.ensures.puts
 
 pub returns-in_ok-value-in-Tokenized-clause-full : goal.returns-in_ok-value-in-Tokenized-clause-full
 returns-in_ok-value-in-Tokenized-clause-full g c = λ told is.
     let v = version_of c.args.version in
     let old = c.args.self.now in
     let t = owned_tree c.in_ok-value-in-Tokenized.value in
-    let w = whole_found v old PreTokStr c.requires (λ a h. subst (λ z. SpellsHead v a (head_part z)) c.in-Tokenized.is h) c.in_ok-head.ensures.finds c.in_ok-value-in-Tokenized.ensures.finds in
-    puts_full v true old c.put_owned.new.self (value t ∷ []) c.put_owned.result (λ a h. tokenized_part v true old t a (c.requires.field, c.requires.next) h.body h.joined h.spelled) w c.put_owned.ensures.puts told is
+    let w = whole_found v old PreTokStr c.requires (λ a h. subst (λ z. EncodesHead v a (head_part z)) c.in-Tokenized.is h) c.in_ok-head.ensures.finds c.in_ok-value-in-Tokenized.ensures.finds in
+    puts_full v true old c.put_owned.new.self (value t ∷ []) c.put_owned.result (λ a h. tokenized_part v true old t a (c.requires.field, c.requires.next) h.body h.joined h.encoded) w c.put_owned.ensures.puts told is
 
 pub returns-in_ok-value-in-Legacy-clause-finds : goal.returns-in_ok-value-in-Legacy-clause-finds
 returns-in_ok-value-in-Legacy-clause-finds g c =
     let v = version_of c.args.version in
     let old = c.args.self.now in
     let t = owned_tree c.in_ok-value-in-Legacy.value in
-    let w = whole_found v old JSONObject c.requires (λ a h. subst (λ z. SpellsHead v a (head_part z)) c.in-Legacy.is h) c.in_ok-head.ensures.finds c.in_ok-value-in-Legacy.ensures.finds in
-    puts_found v true old c.put_owned-in-Legacy.new.self (value t ∷ []) c.put_owned-in-Legacy.result (λ a h. legacy_part v old t a (c.requires.field, c.requires.next) h.body h.joined h.spelled) w c.put_owned-in-Legacy.ensures.puts
+    let w = whole_found v old JSONObject c.requires (λ a h. subst (λ z. EncodesHead v a (head_part z)) c.in-Legacy.is h) c.in_ok-head.ensures.finds c.in_ok-value-in-Legacy.ensures.finds in
+    puts_found v true old c.put_owned-in-Legacy.new.self (value t ∷ []) c.put_owned-in-Legacy.result (λ a h. legacy_part v old t a (c.requires.field, c.requires.next) h.body h.joined h.encoded) w c.put_owned-in-Legacy.ensures.puts
 
 pub returns-in_ok-value-in-Legacy-clause-full : goal.returns-in_ok-value-in-Legacy-clause-full
 returns-in_ok-value-in-Legacy-clause-full g c = λ told is.
     let v = version_of c.args.version in
     let old = c.args.self.now in
     let t = owned_tree c.in_ok-value-in-Legacy.value in
-    let w = whole_found v old JSONObject c.requires (λ a h. subst (λ z. SpellsHead v a (head_part z)) c.in-Legacy.is h) c.in_ok-head.ensures.finds c.in_ok-value-in-Legacy.ensures.finds in
-    puts_full v true old c.put_owned-in-Legacy.new.self (value t ∷ []) c.put_owned-in-Legacy.result (λ a h. legacy_part v old t a (c.requires.field, c.requires.next) h.body h.joined h.spelled) w c.put_owned-in-Legacy.ensures.puts told is
+    let w = whole_found v old JSONObject c.requires (λ a h. subst (λ z. EncodesHead v a (head_part z)) c.in-Legacy.is h) c.in_ok-head.ensures.finds c.in_ok-value-in-Legacy.ensures.finds in
+    puts_full v true old c.put_owned-in-Legacy.new.self (value t ∷ []) c.put_owned-in-Legacy.result (λ a h. legacy_part v old t a (c.requires.field, c.requires.next) h.body h.joined h.encoded) w c.put_owned-in-Legacy.ensures.puts told is
 
 pub returns-in_default : goal.returns-in_default
 returns-in_default g c =

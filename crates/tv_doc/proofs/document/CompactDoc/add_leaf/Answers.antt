@@ -16,7 +16,7 @@ invariant_of-self c =
       field_fits = c.in_ok-small.ensures.small.1;
       tree_fits = room_fits c.leaf_room.result _ _ _ len c.leaf_room.ensures c.in_ok-small.ensures.fits;
       wrote = c.write_leaf-written.ensures.ok;
-      front = c.write_leaf-written.ensures.err;
+      prefix = c.write_leaf-written.ensures.err;
     } in
     let keeping : Keeping old c.write_leaf-written.new.heap.items c.keep_pair.new.heap.items c.keep_pair.new.pairs.items c.len-len.result c.in_ok-small.small c.write_leaf-written.result c.keep_pair.result = record { pair = c.keep_pair.ensures.pair; same_heap = c.keep_pair.ensures.heap; same_pairs = c.keep_pair.ensures.same_pairs; cut = c.keep_pair.ensures.cut; memory = c.keep_pair.ensures.memory } in
     let fields = kept_fields old _ _ _ _ _ _ _ _ _ wrote keeping in
@@ -32,7 +32,7 @@ returns c =
       field_fits = c.in_ok-small.ensures.small.1;
       tree_fits = room_fits c.leaf_room.result _ _ _ len c.leaf_room.ensures c.in_ok-small.ensures.fits;
       wrote = c.write_leaf-written.ensures.ok;
-      front = c.write_leaf-written.ensures.err;
+      prefix = c.write_leaf-written.ensures.err;
     } in
     let keeping : Keeping old c.write_leaf-written.new.heap.items c.keep_pair.new.heap.items c.keep_pair.new.pairs.items c.len-len.result c.in_ok-small.small c.write_leaf-written.result c.keep_pair.result = record { pair = c.keep_pair.ensures.pair; same_heap = c.keep_pair.ensures.heap; same_pairs = c.keep_pair.ensures.same_pairs; cut = c.keep_pair.ensures.cut; memory = c.keep_pair.ensures.memory } in
     kept_adds old _ _ _ _ _ _ _ _ wrote keeping

@@ -6,9 +6,9 @@ pub returns-in_err-code-clause-reads : goal.returns-in_err-code-clause-reads
 returns-in_err-code-clause-reads g c =
     let p = err_from_is_err_and c.from_residual.result c.from_residual.ensures.1 in
     let source = g.S.ByteSource in
-    rw (p.1, p.2) (no_byte_read source.tells source.left source.faults _ _ _ c.in_err-code.ensures.reads)
+    rw (p.1, p.2) (no_byte_read source.is_known source.left source.failures _ _ _ c.in_err-code.ensures.reads)
 
 pub returns-in-None-clause-reads : goal.returns-in-None-clause-reads
 returns-in-None-clause-reads g c =
     let source = g.S.ByteSource in
-    other_byte_read source.tells source.left source.faults _ _ _ c.in-None.ensures.none c.in_ok-code.ensures.reads
+    other_byte_read source.is_known source.left source.failures _ _ _ c.in-None.ensures.none c.in_ok-code.ensures.reads

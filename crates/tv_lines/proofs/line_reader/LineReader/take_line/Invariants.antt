@@ -8,9 +8,9 @@ invariant-pieces g l =
     let source = g.S.ByteSource in
     record {
       whole : IsUnbroken l.line.items;
-      cut : source.tells l.initial.source → unread l.initial.self ++ source.left l.initial.source ≡ l.line.items ++ (unread l.self ++ source.left l.source);
-      still_tells : source.tells l.initial.source → source.tells l.source;
-      same_faults : source.faults l.source ≡ source.faults l.initial.source;
+      cut : source.is_known l.initial.source → unread l.initial.self ++ source.left l.initial.source ≡ l.line.items ++ (unread l.self ++ source.left l.source);
+      stays_known : source.is_known l.initial.source → source.is_known l.source;
+      same_failures : source.failures l.source ≡ source.failures l.initial.source;
       fewer : most_left l.self + length l.line.items ≤ most_left l.initial.self;
     }
 

@@ -24,7 +24,7 @@ returns-in_err-add_value-clause-refused g c =
     let refused = c.in_err-add_value.ensures in
     λ told.
     let so_far = l.invariant told in
-    let next = (given_next D.remaining D.tells D.gives IsTree l.deserializer c.next_field.new.self _ c.in-Some.field c.in-Some.value c.in-Some.is c.in_ok-field.ensures.gives).1 so_far.0 in
+    let next = (given_next D.remaining D.is_known D.gives IsTree l.deserializer c.next_field.new.self _ c.in-Some.field c.in-Some.value c.in-Some.is c.in_ok-field.ensures.gives).1 so_far.0 in
     let given = subst (λ t. D.gives l.deserializer (c.in-Some.field.id, t) c.next_field.new.self) next.1.2 next.1.1 in
     rw (p.1, p.2) (addition_refused D.gives D.refuses c.args.deserializer l.deserializer c.next_field.new.self l.document c.in-Some.field.id (owned_tree c.in-Some.value) refused.0 _ refused.1 so_far.1 given l.document.room refused.2.0)
 
@@ -32,7 +32,7 @@ pub loop-document-smaller : goal.loop-document-smaller
 loop-document-smaller g c =
     let D = g.D.DocumentDeserializer in
     let l = c.loop-document in
-    let next = given_next D.remaining D.tells D.gives IsTree l.deserializer c.next_field.new.self _ c.in-Some.field c.in-Some.value c.in-Some.is c.in_ok-field.ensures.gives in
+    let next = given_next D.remaining D.is_known D.gives IsTree l.deserializer c.next_field.new.self _ c.in-Some.field c.in-Some.value c.in-Some.is c.in_ok-field.ensures.gives in
     omega (arith, next.0)
 
 pub loop-document-preserved : goal.loop-document-preserved
@@ -41,7 +41,7 @@ loop-document-preserved g c =
     let l = c.loop-document in
     λ told.
     let so_far = l.invariant told in
-    let next = (given_next D.remaining D.tells D.gives IsTree l.deserializer c.next_field.new.self _ c.in-Some.field c.in-Some.value c.in-Some.is c.in_ok-field.ensures.gives).1 so_far.0 in
+    let next = (given_next D.remaining D.is_known D.gives IsTree l.deserializer c.next_field.new.self _ c.in-Some.field c.in-Some.value c.in-Some.is c.in_ok-field.ensures.gives).1 so_far.0 in
     let given = subst (λ t. D.gives l.deserializer (c.in-Some.field.id, t) c.next_field.new.self) next.1.2 next.1.1 in (
       next.0,
       subst (λ pairs. GivesAll D.gives c.args.deserializer pairs c.next_field.new.self) (sym c.in_ok-add_value.ensures.2.document)
@@ -52,4 +52,4 @@ pub returns-clause-found : goal.returns-clause-found
 returns-clause-found g c =
     let D = g.D.DocumentDeserializer in
     let l = c.loop-document in
-    λ told. (document_of l.document, refl, (l.deserializer, (l.invariant told).1, none_left D.remaining D.tells D.gives IsTree l.deserializer c.next_field.new.self _ c.in_default.not-Some c.in_ok-field.ensures.gives))
+    λ told. (document_of l.document, refl, (l.deserializer, (l.invariant told).1, none_left D.remaining D.is_known D.gives IsTree l.deserializer c.next_field.new.self _ c.in_default.not-Some c.in_ok-field.ensures.gives))

@@ -1,5 +1,5 @@
 use Rattle.std.proofs.lemmas.Result.{err_from_is_err_and}
-use Rattle.tv_base.proofs.Written.{Writes_then, Writes_front}
+use Rattle.tv_base.proofs.Written.{Writes_then, Writes_prefix}
 use Rattle.tv_store.proofs.Stores.{writes_for}
 use Rattle.tv_store.proofs.se.BinaryDocumentSerializer.serialize_doc.Goals as goal
 
@@ -11,4 +11,4 @@ returns-in_err-write_pairs-clause-writes g c =
 pub returns-in_err-write_vint-clause-writes : goal.returns-in_err-write_vint-clause-writes
 returns-in_err-write_vint-clause-writes g c =
     let p = err_from_is_err_and c.from_residual.result c.from_residual.ensures.1 in
-    rw (p.1, p.2, ← c.stored_count.ensures) (writes_for {T = Unit {0}} (Writes_front _ _ c.in_err-write_vint.ensures))
+    rw (p.1, p.2, ← c.stored_count.ensures) (writes_for {T = Unit {0}} (Writes_prefix _ _ c.in_err-write_vint.ensures))

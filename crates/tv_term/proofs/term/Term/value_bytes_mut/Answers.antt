@@ -11,15 +11,15 @@ lent : (items written : List ℕ) (start len : ℕ) → start ≤ length items �
     → take len (take start items ++ (written ++ drop (length written) (drop start items)) ++ drop (length (take start items ++ (written ++ drop (length written) (drop start items)))) items)
     ≡ take start items ++ overwritten (drop start items) written
 lent items written start len inside len_is =
-    let front = take start items in
+    let prefix = take start items in
     let rest = drop start items in
     let put = written ++ drop (length written) rest in
-    let front_len : length front ≡ start = grind (arith, common_steps) in
+    let prefix_length : length prefix ≡ start = grind (arith, common_steps) in
     let rest_len : start + length rest ≡ len = omega (arith, length-drop start items) in
     let put_len : length rest ≤ length put = omega (arith, length-append written (drop (length written) rest), length-drop (length written) rest) in
-    let whole : len ≤ length (front ++ put) = omega (arith, length-append front put) in
-    let parts : len ≡ length front + length rest = omega arith in
-    take-append-le len (front ++ put) _ whole ∙ ap (λ n. take n (front ++ put)) parts ∙ take-append-add front put (length rest)
+    let whole : len ≤ length (prefix ++ put) = omega (arith, length-append prefix put) in
+    let parts : len ≡ length prefix + length rest = omega arith in
+    take-append-le len (prefix ++ put) _ whole ∙ ap (λ n. take n (prefix ++ put)) parts ∙ take-append-add prefix put (length rest)
 
 tail : (items : List ℕ) (start len : ℕ) → len ≡ length items → slice_range items start len ≡ drop start items
 tail items start len len_is = grind (arith, common_steps)

@@ -1,7 +1,7 @@
 use Rattle.std.proofs.Common.{arith}
 use Rattle.std.proofs.lemmas.Result.{err_from_is_err_and}
 use Rattle.tv_reader.specs.Version.{version_of}
-use Rattle.tv_typed.specs.Values.{SpellsAs, NextRefused}
+use Rattle.tv_typed.specs.Values.{EncodesAs, NextRefused}
 use Rattle.tv_typed.proofs.ItemSteps.{item_fails}
 use Rattle.tv_typed.proofs.array.BinaryArrayDeserializer.next_element.Goals as goal
 
@@ -10,4 +10,4 @@ returns-in_err-value-clause-deserializes g c =
     let p = err_from_is_err_and c.from_residual-in_err-value.result c.from_residual-in_err-value.ensures.1 in
     let V = g.V.ValueDeserialize in
     let v = version_of c.args.self.now.reader.now.version in
-    rw (p.1, p.2) (item_fails (SpellsAs V.is v) (NextRefused V.refused v) c.args.self.now.position c.args.self.now.announced (omega (arith, c)) c.in_err-value.ensures.deserializes)
+    rw (p.1, p.2) (item_fails (EncodesAs V.is v) (NextRefused V.refused v) c.args.self.now.position c.args.self.now.announced (omega (arith, c)) c.in_err-value.ensures.deserializes)

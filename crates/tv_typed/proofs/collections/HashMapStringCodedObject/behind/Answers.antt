@@ -1,7 +1,7 @@
 use Rattle.std.specs.HashMap as hash
-use Rattle.tv_typed.specs.Lists.{GivesLast, MapOf, SpellsEntry, EntryRefused}
+use Rattle.tv_typed.specs.Lists.{GivesLast, MapOf, EncodesEntry, EntryRefused}
 use Rattle.tv_value.specs.Version.{entry_total}
-use Rattle.tv_typed.specs.Values.{SpelledAs}
+use Rattle.tv_typed.specs.Values.{EncodedAs}
 use Rattle.tv_typed.proofs.ItemSteps.{object_then, collection_fails}
 use Rattle.std.proofs.lemmas.Result.{err_from_is_err_and}
 use Rattle.tv_reader.specs.Version.{version_of}
@@ -14,7 +14,7 @@ returns-in_err-announced g c =
     let p = err_from_is_err_and c.from_residual.result c.from_residual.ensures.1 in
     let T = g.T.ValueDeserialize in
     let v = version_of c.args.reader.now.version in
-    rw (p.1, p.2) (collection_fails types.Object (entry_total v) c.args.kind (SpellsEntry T.is v) (EntryRefused T.refused v) (SpelledAs (λ t map. MapOf T.is t (λ key. hash.get_by_text map key)) v c.args.kind) c.in_err-announced.ensures)
+    rw (p.1, p.2) (collection_fails types.Object (entry_total v) c.args.kind (EncodesEntry T.is v) (EntryRefused T.refused v) (EncodedAs (λ t map. MapOf T.is t (λ key. hash.get_by_text map key)) v c.args.kind) c.in_err-announced.ensures)
 
 pub returns : goal.returns
 returns g c =

@@ -1,5 +1,5 @@
 use Rattle.tv_typed.specs.Lists.{ArrayOf, element_total}
-use Rattle.tv_typed.specs.Values.{SpellsAs, SpelledAs, NextRefused}
+use Rattle.tv_typed.specs.Values.{EncodesAs, EncodedAs, NextRefused}
 use Rattle.tv_typed.proofs.ItemSteps.{array_then, collection_fails}
 use Rattle.std.proofs.lemmas.Result.{err_from_is_err_and}
 use Rattle.tv_reader.specs.Version.{version_of}
@@ -12,7 +12,7 @@ returns-in_err-announced-clause-deserializes g c =
     let p = err_from_is_err_and c.from_residual.result c.from_residual.ensures.1 in
     let T = g.T.ValueDeserialize in
     let v = version_of c.args.deserializer.reader.now.version in
-    rw (p.1, p.2) (collection_fails types.Array element_total c.args.deserializer.kind (SpellsAs T.is v) (NextRefused T.refused v) (SpelledAs (λ t list. ArrayOf T.is t list.items) v c.args.deserializer.kind) c.in_err-announced.ensures)
+    rw (p.1, p.2) (collection_fails types.Array element_total c.args.deserializer.kind (EncodesAs T.is v) (NextRefused T.refused v) (EncodedAs (λ t list. ArrayOf T.is t list.items) v c.args.deserializer.kind) c.in_err-announced.ensures)
 
 pub returns-clause-deserializes : goal.returns-clause-deserializes
 returns-clause-deserializes g c =

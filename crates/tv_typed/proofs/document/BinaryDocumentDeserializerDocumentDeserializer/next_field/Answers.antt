@@ -1,7 +1,7 @@
 use Rattle.std.proofs.Common.{arith}
 use Rattle.std.proofs.lemmas.Result.{err_from_is_err_and}
 use Rattle.tv_reader.specs.Version.{version_of}
-use Rattle.tv_typed.specs.Documents.{SpellsField, FieldRefused}
+use Rattle.tv_typed.specs.Documents.{EncodesField, FieldRefused}
 use Rattle.tv_typed.proofs.DocumentSteps.{pair_given, pair_refused, closed_refused}
 use Rattle.tv_typed.proofs.ItemSteps.{item_fails}
 use Rattle.tv_typed.proofs.document.BinaryDocumentDeserializerDocumentDeserializer.next_field.Goals as goal
@@ -26,7 +26,7 @@ returns-in_err-pair-clause-deserializes g c =
     let V = g.V.ValueDeserialize in
     let d = c.args.self.now in
     let v = version_of d.reader.now.version in
-    rw (p.1, p.2) (item_fails (SpellsField V.is v) (FieldRefused V.refused v) d.position d.announced (omega (arith, c)) c.in_err-pair.ensures.deserializes)
+    rw (p.1, p.2) (item_fails (EncodesField V.is v) (FieldRefused V.refused v) d.position d.announced (omega (arith, c)) c.in_err-pair.ensures.deserializes)
 
 pub returns-clause-gives : goal.returns-clause-gives
 returns-clause-gives g c = (omega (arith, c), pair_given g.V.ValueDeserialize.is c.in_ok-go_on.ensures.ok c.in_ok-pair.ensures.deserializes)

@@ -1,7 +1,7 @@
 use Rattle.std.proofs.Common.{arith}
 use Rattle.std.proofs.lemmas.Result.{err_from_is_err_and}
 use Rattle.tv_reader.specs.Version.{version_of}
-use Rattle.tv_typed.specs.Lists.{SpellsEntry, EntryRefused}
+use Rattle.tv_typed.specs.Lists.{EncodesEntry, EntryRefused}
 use Rattle.tv_typed.proofs.ItemSteps.{item_fails}
 use Rattle.tv_typed.proofs.object.BinaryObjectDeserializer.next_entry.Goals as goal
 
@@ -10,4 +10,4 @@ returns-in_err-entry-clause-deserializes g c =
     let p = err_from_is_err_and c.from_residual-in_err-entry.result c.from_residual-in_err-entry.ensures.1 in
     let V = g.V.ValueDeserialize in
     let v = version_of c.args.self.now.reader.now.version in
-    rw (p.1, p.2) (item_fails (SpellsEntry V.is v) (EntryRefused V.refused v) c.args.self.now.position c.args.self.now.announced (omega (arith, c)) c.in_err-entry.ensures.deserializes)
+    rw (p.1, p.2) (item_fails (EncodesEntry V.is v) (EntryRefused V.refused v) c.args.self.now.position c.args.self.now.announced (omega (arith, c)) c.in_err-entry.ensures.deserializes)

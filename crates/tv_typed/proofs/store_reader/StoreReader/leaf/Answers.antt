@@ -31,7 +31,7 @@ returns-clause-reads g c =
     let v = version_of c.args.self.now.version in
     let m = c.marked.ensures in
     let S = g.S.ByteSource in
-    let part = subst (λ z. TakesBy S.tells S.left S.faults c.expect.new.self.source c.expect.new.self.count c.take-answer.new.source c.take-answer.new.count (λ x. leaf (T.make x)) c.take-answer.result (leaf_at (version_of z) T.expected)) e.version c.take-answer.ensures in
+    let part = subst (λ z. TakesBy S.is_known S.left S.failures c.expect.new.self.source c.expect.new.self.count c.take-answer.new.source c.take-answer.new.count (λ x. leaf (T.make x)) c.take-answer.result (leaf_at (version_of z) T.expected)) e.version c.take-answer.ensures in
     leaf_reads c.args.self.now c.expect.new.self c.marked.new.self c.marked.result v c.args.kind T.expected T.make g.met.S.ByteSource.are_bytes (leaf_agrees v T.expected)
     (λ a x h. h) (λ w c f. f) T.typed.0 (subst (λ k. c.args.kind ≡ k) c.value_type.ensures e.ok.2) e.ok.0 e.source e.count e.version part m.source m.count m.version m.marks m.told
 

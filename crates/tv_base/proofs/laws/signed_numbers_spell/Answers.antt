@@ -1,5 +1,0 @@
-use Rattle.tv_base.proofs.Shortest.{signed_bytes_spell}
-use Rattle.tv_base.proofs.laws.signed_numbers_spell.Goals as goal
-
-pub returns : goal.returns
-returns c = signed_bytes_spell

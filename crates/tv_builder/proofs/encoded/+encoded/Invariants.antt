@@ -1,0 +1,24 @@
+use Rattle.std.proofs.Common.{◌≡◌, ◌+◌, ◌*◌, ◌++◌, List, ℕ}
+use Rattle.tv_builder.proofs.Encoding.{ItemsPut, MembersPut}
+use Rattle.tv_builder.proofs.encoded.+encoded.Given as goal
+
+-- each list takes a level
+abbrev pub decreases-put_encoded : goal.decreases-put_encoded
+decreases-put_encoded l = 2 * l.levels + 1
+
+abbrev pub decreases-put_encoded_array : goal.decreases-put_encoded_array
+decreases-put_encoded_array l = 2 * l.levels
+
+abbrev pub decreases-put_encoded_object : goal.decreases-put_encoded_object
+decreases-put_encoded_object l = 2 * l.levels
+
+-- the children's places stand behind those of others
+abbrev pub invariant-put_encoded_array-loop-i : goal.invariant-put_encoded_array-loop-i
+invariant-put_encoded_array-loop-i l =
+    (list : List ℕ) × (l.places.items ≡ l.fn.places.items ++ list)
+    × ItemsPut l.announced l._i l.bytes l.rest l.fn.heap.items l.heap.items list
+
+abbrev pub invariant-put_encoded_object-loop-i : goal.invariant-put_encoded_object-loop-i
+invariant-put_encoded_object-loop-i l =
+    (list : List ℕ) × (l.places.items ≡ l.fn.places.items ++ list)
+    × MembersPut l.total l._i l.bytes l.rest l.fn.heap.items l.heap.items list

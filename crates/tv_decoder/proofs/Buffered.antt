@@ -1,0 +1,129 @@
+-- Whole pairs that a source has at hand.
+use Rattle.std.proofs.Common.{◌≡◌, ℕ, ◌+◌, ◌-◌, ◌≤◌, true, List, [], ◌∷◌, ◌++◌, length, take, Some, None, Ok, refl, sym, ◌∙◌, ap, subst, arith, length-append, take_at, inl, inr}
+use Rattle.std.proofs.lemmas.List.{append-nil, take-append-le}
+use Rattle.tv_base.specs.Lend.{Passes}
+use Rattle.tv_base.specs.Parts.{Each}
+use Rattle.tv_base.specs.Sink.{IsPrefix}
+use Rattle.tv_base.specs.Source.{Failures}
+use Rattle.tv_base.specs.declared.cause.Cause.TheVariants.{UnexpectedEnd}
+use Rattle.tv_builder.specs.Behind.{pairs_parts, document_parts}
+use Rattle.tv_builder.specs.Prefix.{EncodesPart, Encoded}
+use Rattle.tv_builder.specs.Parts.{Part, number, pair}
+use Rattle.tv_builder.proofs.Grammar.{each_append}
+use Rattle.tv_doc.specs.Builder.{built, state_of}
+use Rattle.tv_legacy.specs.Legacy.{Legacy}
+use Rattle.tv_reader.specs.Error.{store_stop}
+use Rattle.tv_reader.specs.Finds.{Finds}
+use Rattle.tv_reader.proofs.Finding.{finds_nothing}
+use Rattle.tv_value.specs.InputError.{corrupted}
+use Rattle.tv_value.specs.Encoding.{Encodes, EncodesElements, EncodesEntries, EncodesPair, NoLegacy}
+use Rattle.tv_value.specs.Tree.{Tree, leaf, array, object, Elements, no_elements, element, Entries, no_entries, entry, Document}
+use Rattle.tv_value.specs.Version.{Version, V2}
+use Rattle.tv_doc.specs.Document.{document_of}
+use Rattle.tv_doc.specs.Encoded.{AddsEncoded}
+use Rattle.tv_doc.specs.declared.document.CompactDoc.{CompactDoc}
+use Rattle.tv_decoder.specs.Buffered.{AddsPairs, Nothing}
+use Rattle.tv_decoder.specs.Prefix.{parts_at, parts_read}
+use Rattle.tv_decoder.specs.Steps.{Advances}
+use Rattle.tv_decoder.specs.declared.reading.Reading.{Reading}
+
+-- ---- what is encoded without legacy objects is encoded
+
+mutual
+  with_legacy : (L : List ℕ → Entries → Type 0) (v : Version) (t : Tree) (b : List ℕ) → Encodes NoLegacy v b t → Encodes L v b t
+  with_legacy L v (leaf l) b p = p
+  with_legacy L v (array ts) b p =
+      let s = p.encoded in
+      record { body = p.body; joined = p.joined; encoded = record { prefix = s.prefix; rest = s.rest; joined = s.joined; first = s.first; second = elements_with_legacy L v ts s.rest s.second } }
+  with_legacy L v (object es) b (inl p) =
+      let s = p.encoded in
+      inl (record { body = p.body; joined = p.joined; encoded = record { prefix = s.prefix; rest = s.rest; joined = s.joined; first = s.first; second = entries_with_legacy L v es s.rest s.second } })
+  with_legacy L v (object es) b (inr p) = absurd p.encoded
+
+  elements_with_legacy : (L : List ℕ → Entries → Type 0) (v : Version) (ts : Elements) (b : List ℕ) → EncodesElements NoLegacy v b ts → EncodesElements L v b ts
+  elements_with_legacy L v no_elements b p = p
+  elements_with_legacy L v (element t ts) b p = record { prefix = p.prefix; rest = p.rest; joined = p.joined; first = with_legacy L v t p.prefix p.first; second = elements_with_legacy L v ts p.rest p.second }
+
+  entries_with_legacy : (L : List ℕ → Entries → Type 0) (v : Version) (es : Entries) (b : List ℕ) → EncodesEntries NoLegacy v b es → EncodesEntries L v b es
+  entries_with_legacy L v no_entries b p = p
+  entries_with_legacy L v (entry k t es) b p =
+      let s = p.second in
+      record { prefix = p.prefix; rest = p.rest; joined = p.joined; first = p.first; second = record { prefix = s.prefix; rest = s.rest; joined = s.joined; first = with_legacy L v t s.prefix s.first; second = entries_with_legacy L v es s.rest s.second } }
+
+pair_with_legacy : (L : List ℕ → Entries → Type 0) (v : Version) (p : ℕ × Tree) (b : List ℕ) → EncodesPair NoLegacy v b p → EncodesPair L v b p
+pair_with_legacy L v p b h =
+    let s = h.parts in
+    record { small = h.small; parts = record { prefix = s.prefix; rest = s.rest; joined = s.joined; first = s.first; second = with_legacy L v p.1 s.rest s.second } }
+
+pub pairs_as_parts : (L : List ℕ → Entries → Type 0) (v : Version) (d : Document) (b : List ℕ) → Each (EncodesPair NoLegacy v) b d → Each (EncodesPart L v) b (pairs_parts d)
+pairs_as_parts L v [] b h = h
+pairs_as_parts L v (p ∷ d) b h = record { prefix = h.prefix; rest = h.rest; joined = h.joined; first = pair_with_legacy L v p h.prefix h.first; second = pairs_as_parts L v d h.rest h.second }
+
+-- ---- more pairs behind the finished ones
+
+pairs_append : (d e : Document) → pairs_parts (d ++ e) ≡ pairs_parts d ++ pairs_parts e
+pairs_append [] e = refl
+pairs_append (p ∷ d) e = ap (λ (z : List Part). pair p.0 p.1 ∷ z) (pairs_append d e)
+
+pairs_behind : (v : Version) (n : ℕ) (d more : Document) (bytes taken : List ℕ) → Each (EncodesPair NoLegacy v) taken more → Encoded Legacy v bytes (document_parts n d) → Encoded Legacy v (bytes ++ taken) (document_parts n (d ++ more))
+pairs_behind v n d more bytes taken h p =
+    subst (λ z. Encoded Legacy v (bytes ++ taken) (number n ∷ z)) (sym (pairs_append d more))
+    (each_append (EncodesPart Legacy v) (document_parts n d) (pairs_parts more) bytes taken p (pairs_as_parts Legacy v more taken h))
+
+parts_of_pairs : (r : Reading) (n : ℕ) → r.announced ≡ Some n → r.field ≡ None → parts_read r ≡ document_parts n (built r.builder)
+parts_of_pairs r n a f = λ i. parts_at (a i) (built r.builder) (f i) (state_of r.builder)
+
+-- these bytes encode the pairs that were added
+extended_goes : (v : Version) (r : Reading) (n : ℕ) (d more : Document) (taken : List ℕ) → r.announced ≡ Some n → r.field ≡ None → d ≡ built r.builder ++ more → Each (EncodesPair NoLegacy v) taken more
+    → (bytes : List ℕ) → Encoded Legacy v bytes (parts_read r) → Encoded Legacy v (bytes ++ taken) (document_parts n d)
+extended_goes v r n d more taken announced none is each bytes p =
+    subst (λ z. Encoded Legacy v (bytes ++ taken) (document_parts n z)) (sym is)
+    (pairs_behind v n (built r.builder) more bytes taken each (subst (λ z. Encoded Legacy v bytes z) (parts_of_pairs r n announced none) p))
+
+-- the bytes before those that are left over
+taken_prefix : (whole prefix rest : List ℕ) → whole ≡ prefix ++ rest → take (length whole - length rest) whole ≡ prefix
+taken_prefix whole prefix rest joined = ap (take (length whole - length rest)) joined ∙ take_at prefix rest (length whole - length rest) (omega (arith, ap length joined, length-append prefix rest))
+
+-- none at all
+pub no_pairs : (v : Version) (d : CompactDoc) → AddsPairs v d d [] 0
+no_pairs v d = record { pairs = []; counted = refl; encoded = refl; document = sym (append-nil (document_of d)) }
+
+-- as many as were added, of the bytes before those that are left over
+pub pairs_taken : (old new : CompactDoc) (whole rest : List ℕ) (n : ℕ) → AddsEncoded old new whole rest n → AddsPairs V2 old new (take (length whole - length rest) whole) n
+pairs_taken old new whole rest n h = record {
+  pairs = h.pairs;
+  counted = h.counted;
+  encoded = subst (λ z. Each (EncodesPair NoLegacy V2) z h.pairs) (sym (taken_prefix whole h.encoded.prefix rest h.encoded.joined)) h.encoded.encoded;
+  document = h.document;
+}
+
+pub pairs_counted : (old new : CompactDoc) (whole rest : List ℕ) (n : ℕ) → AddsEncoded old new whole rest n → length (document_of new) ≡ length (document_of old) + n
+pairs_counted old new whole rest n h = ap length h.document ∙ length-append (document_of old) h.pairs ∙ ap (λ z. length (document_of old) + z) h.counted
+
+-- the reading goes on with them
+pub reading_goes : (v : Version) (r new : Reading) (n m : ℕ) (document more : CompactDoc) (taken : List ℕ) → r.announced ≡ Some n → r.field ≡ None → document_of document ≡ built r.builder → AddsPairs v document more taken m
+    → parts_read new ≡ document_parts n (document_of more) → Advances Legacy v r new taken
+reading_goes v r new n m document more taken announced none is h parts = λ bytes p.
+    subst (λ z. Encoded Legacy v (bytes ++ taken) z) (sym parts)
+    (extended_goes v r n (document_of more) h.pairs taken announced none (h.document ∙ ap (λ z. z ++ h.pairs) is) h.encoded bytes p)
+
+-- ---- and the bytes are passed
+
+-- the bytes that were lent, as many as were passed
+prefix_lent : (old new lent : List ℕ) (n : ℕ) → IsPrefix lent old → n ≤ length lent → (p : (prefix : List ℕ) × (old ≡ prefix ++ new) × (length prefix ≡ n)) → take n lent ≡ p.0
+prefix_lent old new lent n lend within p = sym (take-append-le n lent lend.0 within) ∙ ap (take n) (sym lend.1 ∙ p.1) ∙ take_at p.0 new n p.2
+
+module _ {S X : Type 0} {is_known : S → Type 0} {left : S → List ℕ} {failures : S → Failures} (Encodes : List ℕ → X → Type 0) (x : X) where
+  pub passed_finds : {os ns : S} {i k : ℕ} (lent : List ℕ) (n : ℕ) → (is_known os → IsPrefix lent (left os)) → n ≤ length lent → Encodes (take n lent) x → (is_known os → Passes (left os) (left ns) n true) → (is_known os → is_known ns) → failures ns ≡ failures os → k ≡ i + n
+      → Finds is_known left failures os i ns k (Ok x) Encodes Nothing
+  passed_finds {os = os} {ns = ns} lent n lend within is pass told same counted = record {
+    found = λ t. let p = pass t in record { prefix = p.0; joined = p.1; encoded = subst (λ z. Encodes z x) (prefix_lent (left os) (left ns) lent n (lend t) within p) is };
+    taken = λ t. let p = pass t in record { prefix = p.0; joined = p.1; counted = omega (arith, counted, p.2) };
+    stays_known = told;
+    counts = same;
+    rises = omega (arith, counted);
+  }
+
+  -- or there were none
+  pub none_passed : {p : S} {i : ℕ} → Encodes [] x → Finds is_known left failures p i p i (Ok x) Encodes Nothing
+  none_passed {p = p} {i = i} is = finds_nothing store_stop (corrupted UnexpectedEnd) is_known left failures p i x Encodes Nothing is

@@ -1,0 +1,35 @@
+use Rattle.std.proofs.Common.{◌-◌, length, sym, ap, subst, refl, take, arith}
+use Rattle.tv_reader.specs.Version.{version_of}
+use Rattle.tv_decoder.specs.Buffered.{AddsPairs}
+use Rattle.tv_decoder.proofs.Buffered.{no_pairs, pairs_taken, passed_finds, none_passed}
+use Rattle.tv_decoder.proofs.buffered.take_buffered_pairs.Goals as goal
+
+pub returns-in_default-clause-finds : goal.returns-in_default-clause-finds
+returns-in_default-clause-finds g c =
+    let v = version_of c.args.version in
+    none_passed (λ b n. AddsPairs v c.args.document.now c.args.document.now b n) 0 (no_pairs v c.args.document.now)
+
+pub returns-then-taken-eq0-clause-finds : goal.returns-then-taken-eq0-clause-finds
+returns-then-taken-eq0-clause-finds g c =
+    let v = version_of c.args.version in
+    let old = c.args.document.now in
+    let new = c.add_encoded-added.new.self in
+    let lent = c.buffered-lent.result.now in
+    let rest = c.add_encoded-added.result.0.now in
+    let n = c.add_encoded-added.result.1 in
+    let pairs = pairs_taken old new lent rest n c.add_encoded-added.ensures.added in
+    let here = subst (λ z. AddsPairs z old new (take (length lent - length rest) lent) n) (sym (ap version_of c.in-V2.is)) pairs in
+    none_passed (λ b m. AddsPairs v old new b m) n (subst (λ z. AddsPairs v old new (take z lent) n) c.if-taken-eq0.true here)
+
+pub returns-clause-finds : goal.returns-clause-finds
+returns-clause-finds g c =
+    let v = version_of c.args.version in
+    let old = c.args.document.now in
+    let new = c.add_encoded-added.new.self in
+    let lent = c.buffered-lent.result.now in
+    let rest = c.add_encoded-added.result.0.now in
+    let n = c.add_encoded-added.result.1 in
+    let pairs = pairs_taken old new lent rest n c.add_encoded-added.ensures.added in
+    let here = subst (λ z. AddsPairs z old new (take (length lent - length rest) lent) n) (sym (ap version_of c.in-V2.is)) pairs in
+    let pass = c.if-not-pass.ensures in
+    passed_finds (λ b m. AddsPairs v old new b m) n lent (length lent - length rest) c.buffered-lent.ensures (omega arith) here pass.bytes pass.is_known pass.failures refl

@@ -1,0 +1,20 @@
+-- Whole pairs that are taken of a source at once.
+use Rattle.std.specs.Prelude.{◌≡◌, ℕ, List, ◌++◌, length}
+use Rattle.tv_base.specs.Parts.{Each}
+use Rattle.tv_doc.specs.declared.document.CompactDoc.{CompactDoc}
+use Rattle.tv_doc.specs.Document.{document_of}
+use Rattle.tv_value.specs.InputError.{Refusal}
+use Rattle.tv_value.specs.Encoding.{EncodesPair, NoLegacy}
+use Rattle.tv_value.specs.Tree.{Document}
+use Rattle.tv_value.specs.Version.{Version}
+
+-- what was taken encodes so many pairs, and these are added
+pub record AddsPairs (v : Version) (old new : CompactDoc) (taken : List ℕ) (count : ℕ) : Type 0 where
+  pub pairs : Document
+  pub counted : length pairs ≡ count
+  pub encoded : Each (EncodesPair NoLegacy v) taken pairs
+  pub document : document_of new ≡ document_of old ++ pairs
+
+-- no refusal stands in the bytes
+abbrev pub Nothing : List ℕ → Refusal → Type 0
+Nothing w r = ⊥

@@ -1,0 +1,5 @@
+use Rattle.tv_doc.specs.Encoded.{AddsEncoded}
+use Rattle.tv_doc.proofs.document.CompactDoc.add_encoded.Given as goal
+
+abbrev pub invariant-loop-count : goal.invariant-loop-count
+invariant-loop-count l = AddsEncoded l.fn.self l.self l.fn.bytes l.rest l.count

@@ -1,0 +1,55 @@
+//! Pairs that stand encoded in bytes, added to a document.
+
+ghost use Rattle.std.specs.Prelude.{◌≤◌, IfNone, IfSome};
+ghost use Rattle.tv_doc.specs.Document.{IsUnchanged};
+ghost use Rattle.tv_doc.specs.Encoded.{AddsPair, AddsEncoded};
+
+use crate::document::{CompactDoc, keep_pair};
+use tv_builder::encoded::put_encoded;
+
+// A value with lists nested deeper than so many levels isn't added.
+const LEVELS: u32 = 64;
+
+impl CompactDoc {
+    /// Adds the pairs that these bytes begin with, as version 2 of the store encodes them, up to so many. Gives the bytes behind them,
+    /// and how many they are. (Not in tantivy.)
+    ///
+    /// It stops before a pair that is malformed or not all there, before one that holds an object as older stores hold it or lists nested deeper
+    /// than 64 levels, and where the heap has no room or memory is refused: what it doesn't add may still be a pair.
+    pub fn add_encoded<'a>(&mut self, bytes: &'a [u8], most: u64) -> (&'a [u8], u64)
+        ensures added { AddsEncoded self.old self.new bytes.now result.0.now result.1 }
+        ensures most { result.1 ≤ most }
+    {
+        let mut places = Vec::new(self.alloc);
+        let mut rest = bytes;
+        for count in 0..most {
+            let Some(behind) = self.add_encoded_pair(rest, &mut places) else {
+                return (rest, count);
+            };
+            rest = behind;
+        }
+        (rest, most)
+    }
+
+    // Adds the pair that these bytes begin with, and gives the bytes behind it. `places` is used while a list is written.
+    #[inline(always)]
+    fn add_encoded_pair<'a>(&mut self, bytes: &'a [u8], places: &mut Vec<u8>) -> Option<&'a [u8]>
+        ensures added { IfSome result (λ rest. AddsPair self.old self.new bytes.now rest.now) }
+        ensures none { IfNone result (IsUnchanged self.old self.new) }
+    {
+        let (prefix, value) = bytes.split_first_chunk::<4>()?;
+        let Ok(field) = u16::try_from(u32::from_le_bytes(*prefix)) else {
+            return None;
+        };
+        let len = self.node_data.len();
+        let Some((rest, place)) = put_encoded(value, LEVELS, &mut self.node_data, places) else {
+            self.node_data.truncate(len);
+            return None;
+        };
+        let written = Ok((place.value_type, place.address));
+        match keep_pair(&mut self.node_data, &mut self.pairs, len, field, written) {
+            Ok(()) => Some(rest),
+            Err(_) => None,
+        }
+    }
+}

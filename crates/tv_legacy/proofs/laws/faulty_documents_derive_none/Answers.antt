@@ -1,7 +1,0 @@
-use Rattle.tv_legacy.specs.Legacy.{Legacy, LegacyFault}
-use Rattle.tv_legacy.proofs.Unique.{one_legacy, legacy_excludes}
-use Rattle.tv_legacy.proofs.laws.faulty_documents_derive_none.Goals as goal
-use Rattle.tv_value.proofs.ExcludingTrees.{document_excludes}
-
-pub returns : goal.returns
-returns c = λ v bytes cause d f p. (document_excludes Legacy LegacyFault v one_legacy legacy_excludes d).excludes bytes p.front p.rest cause f p.spelled p.joined

@@ -1,0 +1,123 @@
+//! Whether values have an encoding.
+
+ghost use Rattle.std.specs.Prelude.{◌+◌, ◌<◌, ◌^◌};
+ghost use Rattle.std.specs.Bool.{MatchBool};
+ghost use Rattle.tv_value.specs.LeafParts.{content_of};
+ghost use Rattle.tv_value.specs.Lent.{leaf_of, nested_tree};
+ghost use Rattle.tv_value.specs.PreTokenized.{text_of, tokens_of};
+ghost use Rattle.tv_value.specs.Short.{AreTokens, IsContent, IsLeaf, IsText, IsSized, IsValue};
+ghost use Rattle.std.specs.Int.{w64};
+ghost use Rattle.std.specs.Prelude.{FitsSigned};
+
+use std::convert::AsStr;
+use tv_value::content::LeafContent;
+use tv_value::laws::pre_tokenized_texts_encode;
+use tv_value::leaf::ReferenceValueLeaf;
+use tv_value::nested::{Nested, NestedValue, lend};
+use tv_value::pre_tokenized::PreTokenizedStr;
+use tv_value::value::Value;
+
+// No more bytes, and no more children, have an encoding.
+const MOST: u64 = 9223372036854775807;
+
+// Whether a text is short enough.
+fn is_text(content: &str) -> bool
+    ensures { MatchBool result (IsText content.now) (¬ IsText content.now) }
+{
+    content.len() as u64 <= MOST
+}
+
+// Whether bytes are few enough.
+fn is_sized(content: &[u8]) -> bool
+    ensures { MatchBool result (IsSized content.now) (¬ IsSized content.now) }
+{
+    content.len() as u64 <= MOST
+}
+
+// Each 64-bit number has an encoding.
+fn is_unsigned(number: u64) -> bool
+    ensures { MatchBool result (number < 2 ^ 64) (¬ (number < 2 ^ 64)) }
+{
+    number <= u64::MAX
+}
+
+// Each signed 64-bit number has an encoding.
+fn is_signed(number: i64) -> bool
+    ensures { MatchBool result (FitsSigned w64 number) (¬ FitsSigned w64 number) }
+{
+    number <= i64::MAX
+}
+
+// Each 128-bit number has an encoding.
+fn is_wide(number: u128) -> bool
+    ensures { MatchBool result (number < 2 ^ 128) (¬ (number < 2 ^ 128)) }
+{
+    number <= u128::MAX
+}
+
+// Each text with its tokens has an encoding.
+fn is_tokenized(content: PreTokenizedStr<'_>) -> bool
+    ensures { MatchBool result (IsText (text_of content.entry) × AreTokens (tokens_of content.entry)) (¬ (IsText (text_of content.entry) × AreTokens (tokens_of content.entry))) }
+{
+    pre_tokenized_texts_encode();
+    let _content = content;
+    true
+}
+
+// Whether what a value without children holds has an encoding.
+fn is_content(content: LeafContent<'_>) -> bool
+    ensures { MatchBool result (IsContent (content_of content.entry)) (¬ IsContent (content_of content.entry)) }
+{
+    match content {
+        LeafContent::Nothing | LeafContent::Truth(_) => true,
+        LeafContent::Unsigned(number) => is_unsigned(number),
+        LeafContent::Signed(number) => is_signed(number),
+        LeafContent::Wide(number) => is_wide(number),
+        LeafContent::Text(text) => is_text(text),
+        LeafContent::Bytes(bytes) => is_sized(bytes),
+        LeafContent::Tokens(text) => is_tokenized(text),
+    }
+}
+
+// Whether a value without children has an encoding.
+fn is_leaf(value: ReferenceValueLeaf<'_>) -> bool
+    ensures { MatchBool result (IsLeaf (leaf_of value.entry)) (¬ IsLeaf (leaf_of value.entry)) }
+{
+    is_content(value.content())
+}
+
+// Whether a value and all its children have one.
+fn is_encoded<N: Nested>(value: NestedValue<'_, N>) -> bool
+    ensures { MatchBool result (IsValue (nested_tree N.array_rest N.object_rest value.entry)) (¬ IsValue (nested_tree N.array_rest N.object_rest value.entry)) }
+{
+    match value {
+        NestedValue::Leaf(leaf) => is_leaf(leaf),
+        NestedValue::Array(items) => {
+            let mut count = 0;
+            for item in items {
+                if count == MOST || !is_encoded(item.as_nested()) {
+                    return false;
+                }
+                count += 1;
+            }
+            true
+        }
+        NestedValue::Object(members) => {
+            let mut count = 0;
+            for (key, item) in members {
+                if count == MOST || !is_text(key.as_str()) || !is_encoded(item.as_nested()) {
+                    return false;
+                }
+                count += 1;
+            }
+            true
+        }
+    }
+}
+
+/// Whether a value has an encoding: no array and no object in it has 2^63 children, and no text and no bytes have that length.
+pub fn has_encoding<'a, V: Value<'a>>(value: &V) -> bool
+    ensures { MatchBool result (IsValue (V.tree value.now)) (¬ IsValue (V.tree value.now)) }
+{
+    is_encoded(lend(value))
+}
