@@ -1,8 +1,8 @@
 //! Measures the calls that a document store makes most, on a schema and documents that it is given.
 //!
-//! Standard input holds the schema as JSON on its first line, and a document as JSON on each other line. Standard output is_known how
+//! Standard input holds the schema as JSON on its first line, and a document as JSON on each other line. Standard output says how
 //! many documents were accepted, how many bytes of JSON these have, and how many stored bytes. With the arguments `time N` standard
-//! error is_known for each call how many nanoseconds a document takes: the mean over N rounds, and that of the best round.
+//! error says for each call how many nanoseconds a document takes: the mean over N rounds, and that of the best round.
 #![tactic(auto)]
 
 mod calls;
@@ -50,7 +50,7 @@ fn rounds_wanted(rt: &(impl Env + AllocGlobal)) -> Result<Option<u32>> {
     ))
 }
 
-/// Makes the call for each document, in so many rounds, and is_known what a document takes.
+/// Makes the call for each document, in so many rounds, and says what a document takes.
 fn measure(
     rt: &(impl Clock + Eprint + AllocGlobal),
     workload: &Workload,

@@ -17,7 +17,7 @@ use tv_value::leaf::ReferenceValueLeaf;
 use tv_value::owned_value::OwnedValue;
 use tv_value::value::Value;
 
-/// What calls answer, and the document that they make.
+/// What calls return, and the document that they make.
 pub fn answer(alloc: Global, calls: &[&str]) -> Result<String> {
     let mut answers = String::new(alloc);
     let document = made(alloc, calls, &mut answers)?;

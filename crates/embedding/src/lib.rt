@@ -9,6 +9,3 @@ pub mod packet_source;
 pub use bounded_sink::BoundedSink;
 pub use documents::{fetch_document, store_document};
 pub use packet_source::PacketSource;
-
-#[cfg(test)]
-mod tests;

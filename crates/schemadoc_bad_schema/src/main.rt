@@ -1,4 +1,4 @@
-//! `schemadoc`, run on a schema that is refused: it answers why, and ends with 1.
+//! `schemadoc`, run on a schema that is refused: it prints why, and ends with 1.
 #![tactic(auto)]
 
 use line_program::answer_lines;

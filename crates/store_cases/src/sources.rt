@@ -1,4 +1,4 @@
-//! A source that lends few bytes, and may fail.
+//! A source that buffers few bytes, and may fail.
 
 ghost use Rattle.std.specs.Prelude.{◌<◌, Some};
 ghost use Rattle.tv_base.specs.Source.{AllBytes};

@@ -143,7 +143,7 @@ impl Reading for CountsReading {
     }
 }
 
-/// Tells where the open lists, the finished children and the mark of legacy objects change.
+/// Shows where the open lists, the finished children and the mark of legacy objects change.
 #[derive(Drop)]
 struct ChangesReading(DocStoreVersion);
 

@@ -75,7 +75,7 @@ fn alone(alloc: Global, word: &str) -> Result<String> {
     Ok(hex::encode(alloc, sink.as_slice())?)
 }
 
-/// What the calls that write an array answer, and what is written then.
+/// What the calls that write an array return, and what is written then.
 fn array(alloc: Global, announced: u64, words: &[&str]) -> Result<String> {
     let mut sink = VecSink::new(alloc);
     let mut answers = Vec::new(alloc);
@@ -88,7 +88,7 @@ fn array(alloc: Global, announced: u64, words: &[&str]) -> Result<String> {
     Ok(format!(in alloc; "{answers:?}, {bytes:?}")?)
 }
 
-/// What the calls that write an object answer, and what is written then.
+/// What the calls that write an object return, and what is written then.
 fn object(alloc: Global, announced: u64, words: &[&str]) -> Result<String> {
     let mut sink = VecSink::new(alloc);
     let mut answers = Vec::new(alloc);

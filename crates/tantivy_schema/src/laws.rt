@@ -29,8 +29,8 @@ pub use tv_heap::laws::places_read_as_one_tree;
 /// The laws of legacy objects, and of values and documents that have them.
 pub use tv_legacy::laws as legacy;
 pub use tv_options::laws::{
-    comparisons_of_facet_options_agree, comparisons_of_fields_agree,
-    comparisons_of_flag_lists_agree, comparisons_of_flag_options_agree, comparisons_of_flags_agree,
+    comparisons_of_facet_options_agree, comparisons_of_flag_lists_agree,
+    comparisons_of_flag_options_agree, comparisons_of_flags_agree,
     comparisons_of_text_indexing_agree, comparisons_of_textual_options_agree,
     comparisons_of_types_agree, dates_are_indexed_by_seconds, defaults_are_least,
     facet_options_join_associatively, facet_options_join_idempotently,
@@ -62,7 +62,8 @@ pub use tv_term::laws::{
     terms_are_ordered, terms_compare_as_fields_and_values, written_values_are_read,
 };
 pub use tv_value::laws::{
-    documents_have_one_reading, errors_of_documents_are_unique, errors_of_values_are_unique,
+    comparisons_of_fields_agree, documents_have_one_reading, errors_of_documents_are_unique,
+    errors_of_values_are_unique,
     malformed_documents_derive_none, malformed_values_encode_none, short_documents_encode,
     short_values_encode, values_have_one_reading,
 };

@@ -12,6 +12,3 @@ pub use schema::{TantivyDocument, Term};
 pub use tv_lines::{RunEnd, run};
 pub use tv_value::date_error::DateError;
 pub use tv_value::date_time::DateTime;
-
-#[cfg(test)]
-mod tests;

@@ -1,4 +1,4 @@
--- What a source lends is a prefix of the bytes that it has left.
+-- What is borrowed of a source is a prefix of the bytes that it has left.
 use Rattle.std.proofs.Common.{◌≡◌, ℕ, ◌+◌, ◌-◌, ◌%◌, ◌<◌, ◌≤◌, Bool, true, false, ltb, List, [], ◌∷◌, ◌++◌, length, take, drop, get_or, Some, Ok, refl, sym, ap, subst, ◌∙◌, arith, take_at, take_all, length-append, length-drop, length-take-le}
 use Rattle.std.proofs.lemmas.Bool.{le-ltb}
 use Rattle.std.proofs.lemmas.List.{drop_more, take-append-drop}
@@ -31,7 +31,7 @@ full old new buf n len e =
 pub full_taken : {old new : List ℕ} (buf : List ℕ) {n i k : ℕ} → n ≡ length buf → k ≡ i + n → Fills old new buf true → Taken old new i k
 full_taken buf len counted e = record { prefix = buf; joined = e; counted = omega (arith, len, counted) }
 
--- ---- a number at hand
+-- ---- a buffered number
 
 -- the next group
 pub group_at : (value weight i : ℕ) (bytes : List ℕ) → i < 9 → i < length bytes

@@ -1,4 +1,4 @@
-//! Taking what a source has at hand, without a read.
+//! Taking what a source has buffered, without a read.
 
 ghost use Rattle.std.specs.Prelude.{◌≡◌, ◌≤◌, drop, length, Ok, IfSome};
 ghost use Rattle.tv_base.specs.Lend.{Fills, PassesNumber};
@@ -6,8 +6,8 @@ ghost use Rattle.tv_base.specs.Reading.{vint_at};
 
 use crate::source::ByteSource;
 
-/// Fills `buf` with the next bytes where as many are at hand, and says whether it did. If it didn't, none was taken, and what
-/// `buf` holds is open.
+/// Fills `buf` with the next bytes where as many are buffered, and says whether it did. If it didn't, none was taken, and what
+/// `buf` holds is unspecified.
 #[inline]
 pub(crate) fn fill<S: ByteSource>(source: &mut S, buf: &mut [u8]) -> bool
     ensures bytes { S.is_known source.old → Fills (S.left source.old) (S.left source.new) buf.new result }
@@ -23,7 +23,7 @@ pub(crate) fn fill<S: ByteSource>(source: &mut S, buf: &mut [u8]) -> bool
     source.pass(buf.len())
 }
 
-/// Takes the number of variable length that is at hand, and gives it with the length of its encoding. `None` where none of at most
+/// Takes the number of variable length that is buffered, and gives it with the length of its encoding. `None` where none of at most
 /// nine bytes is, and nothing has changed then.
 #[inline]
 pub(crate) fn pass_number<S: ByteSource>(source: &mut S) -> Option<(u64, usize)>

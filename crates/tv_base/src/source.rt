@@ -23,7 +23,7 @@ pub trait ByteSource {
 
     /// Puts the next bytes into the start of `buf`, and gives their number: at most the length of `buf`, and possibly fewer
     /// than are left. `Ok(0)` for a buffer that isn't empty is the end. An `Err` is counted as a failure of its kind and takes no byte,
-    /// and what `buf` then holds is open.
+    /// and what `buf` then holds is unspecified.
     fn read(&mut self, buf: &mut [u8]) -> Result<usize, io::ErrorKind>
         ensures bound { IfOk result (λ n. n ≤ length buf.new) }
         ensures bytes { is_known self.old → GivesSome (left self.old) (left self.new) result buf.new }
@@ -47,7 +47,7 @@ pub trait ByteSource {
     /// Puts the next bytes behind those of `bytes`, and gives their number: at most `most`, and possibly fewer than are left.
     /// `Ok(0)` where `most` isn't 0 is the end.
     ///
-    /// Errors: `Io` where a read failed, and `Memory`. No byte was taken then, and what `bytes` holds is open.
+    /// Errors: `Io` where a read failed, and `Memory`. No byte was taken then, and what `bytes` holds is unspecified.
     fn append(&mut self, bytes: &mut Vec<u8>, most: usize) -> Result<usize, ReadError>
         requires { most ≤ 4096 }
         ensures bound { IfOk result (λ n. n ≤ most) }
@@ -67,7 +67,7 @@ pub trait ByteSource {
         }
     }
 
-    /// The next bytes, lent without a read: a prefix of those that are left, and possibly none of them. An empty slice doesn't say
+    /// The next bytes that are buffered, borrowed without a read: a prefix of those that are left, and possibly none of them. An empty slice doesn't say
     /// that the source is at its end. (Not in tantivy.)
     fn buffered(&self) -> &[u8]
         ensures { is_known self.now → IsPrefix result.now (left self.now) }
@@ -75,7 +75,7 @@ pub trait ByteSource {
         &[]
     }
 
-    /// Takes so many of the bytes at hand without a read, and says whether it did. If it didn't, nothing has changed. (Not in tantivy.)
+    /// Takes so many of the buffered bytes without a read, and says whether it did. If it didn't, nothing has changed. (Not in tantivy.)
     fn pass(&mut self, len: usize) -> bool
         ensures bytes { is_known self.old → Passes (left self.old) (left self.new) len result }
         ensures is_known { is_known self.old → is_known self.new }

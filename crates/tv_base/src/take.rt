@@ -1,7 +1,7 @@
 //! Reading from a source that is lent, and counting the bytes that are taken of it.
 //!
 //! Each function takes exactly the bytes of its value, and raises `count` by their number. Before `count` would pass
-//! 2^64 - 1 it answers `Corrupted(TooLong)`. After an error `count` has risen by the number of the bytes that were taken up
+//! 2^64 - 1 it returns `Corrupted(TooLong)`. After an error `count` has risen by the number of the bytes that were taken up
 //! to there.
 
 ghost use Rattle.std.specs.Prelude.{◌≡◌, ◌⊎◌, ◌≤◌, ◌+◌, ◌-◌, ◌^◌, [], length, true, false, IfOk, IfErr, IsErrOf, OnOk, OnErr, string_bytes};
@@ -20,10 +20,10 @@ use crate::source::ByteSource;
 use std::alloc::Global;
 use std::mem;
 
-/// Fills `buf` with the next bytes: those at hand, or else in as many reads as it takes.
+/// Fills `buf` with the next bytes: those buffered, or else in as many reads as it takes.
 ///
 /// Errors: `Corrupted(UnexpectedEnd)` where the source ends before, `Corrupted(TooLong)`, and `Io` where a read fails.
-/// What `buf` then holds is open.
+/// What `buf` then holds is unspecified.
 #[inline]
 pub fn take<S: ByteSource>(source: &mut S, count: &mut u64, buf: &mut [u8]) -> Result<(), ReadError>
     ensures takes { TakesBy S.is_known S.left S.failures source.old count.old source.new count.new (λ _. buf.new) result (bytes_at (length buf.old)) }
@@ -226,7 +226,7 @@ const PIECE: u64 = 4096;
 
 /// Takes the next `len` bytes, and puts them behind those that are there. Room is made only as they come.
 ///
-/// Errors: those of [`take`], and `Memory`. After an error what `bytes` holds is open.
+/// Errors: those of [`take`], and `Memory`. After an error what `bytes` holds is unspecified.
 pub fn take_pieces<S: ByteSource>(
     source: &mut S,
     count: &mut u64,
@@ -256,7 +256,7 @@ pub fn take_pieces<S: ByteSource>(
 
 /// Takes bytes behind their length, and puts them in place of those that are there. Room is made only as they come.
 ///
-/// Errors: those of [`take_vint`], and `Memory`. After an error what `bytes` holds is open.
+/// Errors: those of [`take_vint`], and `Memory`. After an error what `bytes` holds is unspecified.
 #[tactic(auto, using(crate::proofs::TakeSteps::Taken_then), unfolding(crate::specs::Reading::sized_at))]
 pub fn take_sized<S: ByteSource>(
     source: &mut S,

@@ -13,7 +13,7 @@ use crate::take::take_vint;
 pub struct VInt(pub u64);
 
 impl VInt {
-    /// The shortest encoding: so many bytes at the start of the array. What stands behind them is open.
+    /// The shortest encoding: so many bytes at the start of the array. What stands behind them is unspecified.
     #[inline]
     pub fn encoding(self) -> ([u8; 10], usize)
         ensures len { result.1 ≤ 10 }

@@ -31,7 +31,7 @@ fn put_number(number: u64, heap: &mut Vec<u8>) -> Option<Place>
 /// Writes a JSON value behind a heap, each kind as itself, and gives its place. (Not in tantivy.)
 ///
 /// `None` where a part would end above 4294967295, and where memory is refused. The old heap is then still a prefix of the new, and what
-/// `places` holds is open. Else `places`, at whose end the places of children stand until their list is written, is afterwards as it was.
+/// `places` holds is unspecified. Else `places`, at whose end the places of children stand until their list is written, is afterwards as it was.
 #[inline(always)]
 #[cycle(json)]
 pub fn put_json(json: &BorrowedJson<'_>, heap: &mut Vec<u8>, places: &mut Vec<u8>) -> Option<Place>

@@ -1,4 +1,4 @@
--- Whole pairs that a source has at hand.
+-- Whole pairs that a source has buffered.
 use Rattle.std.proofs.Common.{◌≡◌, ℕ, ◌+◌, ◌-◌, ◌≤◌, true, List, [], ◌∷◌, ◌++◌, length, take, Some, None, Ok, refl, sym, ◌∙◌, ap, subst, arith, length-append, take_at, inl, inr}
 use Rattle.std.proofs.lemmas.List.{append-nil, take-append-le}
 use Rattle.tv_base.specs.Lend.{Passes}

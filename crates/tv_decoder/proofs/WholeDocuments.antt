@@ -133,7 +133,7 @@ module _ {S : Type 0} {is_known : S → Type 0} {left : S → List ℕ} {failure
       let g = h.taken t in
       omega (arith, f.encoded.some, g.counted, ap length f.joined, ap length g.joined, length-append f.prefix (left new), length-append g.prefix (left new))
 
-  -- pairs at hand behind them
+  -- buffered pairs behind them
   pub pairs_more : {old mid new : S} {i j k : ℕ} (after : Reading) → Finds is_known left failures old i mid j (Ok r) (Goes v begun) Nothing → Finds is_known left failures mid j new k (Ok after) (λ b z. Advances Legacy v r z b) Nothing → Finds is_known left failures old i new k (Ok after) (Goes v begun) Nothing
   pairs_more after p h = finds_then (Goes v begun) Nothing (λ a b z q s. two_steps v begun r z a b q s) (λ a w c q f. f) (λ a f q _ none start byte last. none) p h
 
@@ -164,7 +164,7 @@ module _ {S : Type 0} {is_known : S → Type 0} {left : S → List ℕ} {failure
     rises = omega (arith, p.rises, second);
   }
 
--- ---- the number, and pairs at hand behind it
+-- ---- the number, and buffered pairs behind it
 
 -- behind the number these pairs are finished
 abbrev Begun : Version → ℕ → CompactDoc → List ℕ → ℕ → Type 0

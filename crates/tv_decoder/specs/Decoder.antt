@@ -1,4 +1,4 @@
--- What a decoder answers and leaves.
+-- What a decoder returns and leaves.
 use Rattle.std.specs.Prelude.{◌≡◌, Result}
 use Rattle.tv_reader.specs.declared.error.DeserializeError.{DeserializeError}
 use Rattle.tv_decoder.specs.declared.direct_decoder.DirectDecoder.{DirectDecoder}

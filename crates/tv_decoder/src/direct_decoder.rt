@@ -34,7 +34,7 @@ pub enum Step {
 ///
 /// A step reads the number of the pairs, a field, the head of a key or a value (all of a value of a known width, of a pre-tokenized text
 /// and of an object as older stores hold it), or at most 4096 bytes of a text, a facet, bytes or a key. It is lent the source, so the
-/// decoder holds none. After a refusal each step answers `AlreadyFailed` and reads nothing; the finished pairs stay.
+/// decoder holds none. After a refusal each step returns `AlreadyFailed` and reads nothing; the finished pairs stay.
 #[derive(Debug, Drop)]
 pub struct DirectDecoder {
     alloc: Global,
@@ -71,7 +71,7 @@ impl DirectDecoder {
         }
     }
 
-    /// Reads the next part from the source, and says whether it was the last. Once all pairs are finished it answers `Done` and reads
+    /// Reads the next part from the source, and says whether it was the last. Once all pairs are finished it returns `Done` and reads
     /// nothing.
     ///
     /// Errors: `AlreadyFailed` after a refusal; `CorruptedValue` and `TypeMismatch` with the first error in the bytes; `HeapFull` where

@@ -19,7 +19,7 @@ use tv_reader::{DeserializeError, DocStoreVersion};
 /// The heap of a document has this room at first, in bytes.
 const SHORT_HEAP: usize = 512;
 
-// Takes what is left of a document, part by part, and whole pairs where the source has them at hand.
+// Takes what is left of a document, part by part, and whole pairs where the source has them buffered.
 fn take_rest<S: ByteSource>(
     alloc: Global,
     source: &mut S,

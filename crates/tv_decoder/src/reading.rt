@@ -98,9 +98,9 @@ impl Reading {
         }
     }
 
-    /// Where a pair is awaited, the next pairs that the source has whole at hand, at once, as far as that can be. It may read none.
+    /// Where a pair is awaited, the next pairs that the source has buffered whole, at once, as far as that can be. It may read none.
     ///
-    /// The only error is `Memory`, where a source doesn't give the bytes that it lends.
+    /// The only error is `Memory`, where a source doesn't give the bytes that it has buffered.
     pub(crate) fn with_buffered_pairs<S: ByteSource>(
         self,
         source: &mut S,

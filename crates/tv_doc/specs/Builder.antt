@@ -1,4 +1,4 @@
--- What a tree builder is seen as, and what its calls answer and leave.
+-- What a tree builder is seen as, and what its calls return and leave.
 use Rattle.std.specs.Prelude.{◌≡◌, ℕ, ◌+◌, ◌<◌, ◌≤◌, Bool, true, false, List, [], ◌∷◌, ◌++◌, length, take, Result, Ok, Err}
 use Rattle.tv_base.specs.Sink.{IsPrefix}
 use Rattle.tv_value.specs.Tree.{Tree, Document}

@@ -56,7 +56,7 @@ Refuses d field t (FieldNumber n) = (n ≡ field) × (65535 < field)
 Refuses d field t HeapFull = (field ≤ 65535) × IsFull d t
 Refuses d field t Memory = (field ≤ 65535) × (length (heap_of d) + room t ≤ 4294967295)
 
--- what an addition answers, and what it leaves
+-- what an addition returns, and what it leaves
 abbrev pub Adds : {T : Type 0} → CompactDoc → CompactDoc → ℕ → Tree → Result T AddError → Type 0
 Adds old new field t (Ok x) = (field ≤ 65535) × (length (heap_of old) + room t ≤ 4294967295) × Added old new field t
 Adds old new field t (Err e) = Refuses old field t e × IsUnchanged old new

@@ -1,4 +1,4 @@
--- A JSON object as a document: which values it has for the fields of a schema, and what adding them answers.
+-- A JSON object as a document: which values it has for the fields of a schema, and what adding them returns.
 use Rattle.std.specs.Prelude.{◌≡◌, ℕ, ◌<◌, ◌≤◌, List, [], ◌∷◌, ◌++◌, Option, Some, None, Result, Ok, Err, slice_get, string_bytes}
 use Rattle.std.specs.Fmt.{take_chars}
 use Rattle.serde_json.specs.Data as json
@@ -87,12 +87,12 @@ pub record StopsAt (values : List FieldJson) (there : Document) (e : DocParsingE
 abbrev pub AddsPairs : List FieldJson → CompactDoc → CompactDoc → Type 0
 AddsPairs values old new = (pairs : Document) × Pairs values pairs × (document_of new ≡ document_of old ++ pairs)
 
--- or the first refusal is answered
+-- or the first refusal is returned
 abbrev pub AddsValues : {T : Type 0} → List FieldJson → CompactDoc → CompactDoc → Result T DocParsingError → Type 0
 AddsValues values old new (Ok x) = AddsPairs values old new
 AddsValues values old new (Err e) = StopsAt values (document_of old) e
 
--- the document has just the pairs of these values, or the first refusal is answered
+-- the document has just the pairs of these values, or the first refusal is returned
 abbrev pub MakesDocument : List FieldJson → Result CompactDoc DocParsingError → Type 0
 MakesDocument values (Ok made) = Pairs values (document_of made)
 MakesDocument values (Err e) = StopsAt values [] e

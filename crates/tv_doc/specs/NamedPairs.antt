@@ -1,4 +1,4 @@
--- The pairs of names with values, and what adding them answers.
+-- The pairs of names with values, and what adding them returns.
 use Rattle.std.specs.Prelude.{◌≡◌, ℕ, ◌<◌, ◌≤◌, List, [], ◌∷◌, ◌++◌, map, Option, Some, None, Result, Ok, Err}
 use Rattle.tv_field.specs.Entry.{Entry}
 use Rattle.tv_schema.specs.Schema.{field_named}
@@ -35,12 +35,12 @@ pub record StopsAtPair (pairs there : Document) (e : AddError) : Type 0 where
   pub joined : pairs ≡ before ++ at ∷ behind
   pub refused : RefusesPair (there ++ before) at e
 
--- all pairs are added behind those that were there, or the first refusal is answered
+-- all pairs are added behind those that were there, or the first refusal is returned
 abbrev pub AddsPairs : {T : Type 0} → Document → CompactDoc → CompactDoc → Result T AddError → Type 0
 AddsPairs pairs old new (Ok x) = document_of new ≡ document_of old ++ pairs
 AddsPairs pairs old new (Err e) = StopsAtPair pairs (document_of old) e
 
--- the document has just these pairs, or the first refusal is answered
+-- the document has just these pairs, or the first refusal is returned
 abbrev pub MakesPairs : Document → Result CompactDoc DocParsingError → Type 0
 MakesPairs pairs (Ok made) = document_of made ≡ pairs
 MakesPairs pairs (Err e) = (refused : AddError) × (e ≡ addition_error refused) × StopsAtPair pairs [] refused

@@ -1,4 +1,4 @@
--- What is answered for a JSON value by the table of a field type.
+-- What is returned for a JSON value by the table of a field type.
 use Rattle.std.specs.Prelude.{◌≡◌, ℕ, List, [], Option, Some, None, Result, Ok, Err, IfSome, string_bytes}
 use Rattle.serde_json.specs.Data as json
 use Rattle.serde_json.specs.Data.{Data}

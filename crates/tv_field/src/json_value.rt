@@ -341,7 +341,7 @@ impl JsonRefusal {
 
 impl FieldType {
     /// What a JSON value is to a field of this type, by the table of JSON values, lent from the value or from what is written into
-    /// the scratch. (Not in tantivy.) Errors: what `value_from_json` answers, without the value.
+    /// the scratch. (Not in tantivy.) Errors: what `value_from_json` returns, without the value.
     pub fn lend_json<'a>(
         &self,
         json: &'a Value,

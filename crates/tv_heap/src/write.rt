@@ -64,7 +64,7 @@ fn make_room(bytes: &mut Vec<u8>, room: usize) -> Result<(), AllocError>
 }
 
 /// Adds a child's type and address. (Not in tantivy.) The addresses in a short document have one byte or two. The only error is that memory
-/// was refused; what `places` holds then is open.
+/// was refused; what `places` holds then is unspecified.
 #[inline(always)]
 pub fn push_place(
     places: &mut Vec<u8>,
@@ -176,7 +176,7 @@ fn write_tokenized(heap: &mut Vec<u8>, content: PreTokenizedStr<'_>) -> Result<u
     Ok(at)
 }
 
-// Writes what a value without children holds, and answers its address.
+// Writes what a value without children holds, and returns its address.
 #[inline(always)]
 fn write_content(heap: &mut Vec<u8>, content: LeafContent<'_>) -> Result<u32, AllocError>
     requires { length heap.old.items + length (content_bytes (content_of content)) < 2 ^ 32 }
@@ -198,7 +198,7 @@ fn write_content(heap: &mut Vec<u8>, content: LeafContent<'_>) -> Result<u32, Al
     }
 }
 
-/// Writes a value without children, and answers its type and its address. After an error the old heap is still a prefix of the
+/// Writes a value without children, and returns its type and its address. After an error the old heap is still a prefix of the
 /// new.
 #[inline(always)]
 pub fn write_leaf(
@@ -216,9 +216,9 @@ pub fn write_leaf(
     Ok((ValueType::of_leaf(value.leaf_type()), address))
 }
 
-/// Writes a value behind its children, and answers its type and its address. The places of children whose list is not yet
+/// Writes a value behind its children, and returns its type and its address. The places of children whose list is not yet
 /// written stand at the end of `places`, which is afterwards as it was. After an error the old heap is still a prefix of the
-/// new, and what `places` holds is open.
+/// new, and what `places` holds is unspecified.
 #[inline(always)]
 #[cycle(values)]
 pub fn write_tree<N: Nested>(
@@ -242,8 +242,8 @@ pub fn write_tree<N: Nested>(
     }
 }
 
-/// Writes a list behind its children, whose places are those from `first` on, and answers its address. (Not in tantivy.) The places are taken
-/// off. After an error the old heap is still a prefix of the new, and what `places` holds is open.
+/// Writes a list behind its children, whose places are those from `first` on, and returns its address. (Not in tantivy.) The places are taken
+/// off. After an error the old heap is still a prefix of the new, and what `places` holds is unspecified.
 #[inline]
 pub fn write_list(heap: &mut Vec<u8>, places: &mut Vec<u8>, first: usize) -> Result<u32, AllocError>
     requires first { first ≤ length places.old.items }
@@ -259,7 +259,7 @@ pub fn write_list(heap: &mut Vec<u8>, places: &mut Vec<u8>, first: usize) -> Res
     Ok(at)
 }
 
-// Writes an array behind its values, and answers its address.
+// Writes an array behind its values, and returns its address.
 #[inline(never)]
 #[cycle(values)]
 fn write_array<N: Nested>(
@@ -280,7 +280,7 @@ fn write_array<N: Nested>(
     write_list(heap, places, first)
 }
 
-// Writes an object behind its keys and values, and answers its address.
+// Writes an object behind its keys and values, and returns its address.
 #[inline(never)]
 #[cycle(values)]
 fn write_object<N: Nested>(

@@ -48,7 +48,7 @@ same_members slice m n p q = let e = sym p.1 ∙ q.1 in cc
 some_is : {A : Type 0} (x y : A) → Some x ≡ Some y → x ≡ y
 some_is x y e = cc
 
--- what is answered where the slice reads as an object
+-- what is returned where the slice reads as an object
 pub reads_tree : (slice : List ℕ) (ms : Members) (t : Tree) (answer : Result Tree Cause) → ReadsObject slice ms → json_tree (json.object ms) ≡ Some t → SliceAnswer slice answer → answer ≡ Ok t
 reads_tree slice ms t answer reads e (is_object others u read tree is) =
     is ∙ ap (λ z. Ok z) (some_is u t (sym tree ∙ ap (λ m. json_tree (json.object m)) (same_members slice others ms read reads) ∙ e))

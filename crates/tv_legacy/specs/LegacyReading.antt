@@ -64,7 +64,7 @@ legacy_at bytes = do
   slice ← slice_at bytes
   beside slice.1 (slice_tree slice.0)
 
--- what is answered for a slice
+-- what is returned for a slice
 abbrev pub AnswersSlice : List ℕ → Result OwnedValue ReadError → Type 0
 AnswersSlice slice (Ok value) = slice_tree slice ≡ Ok (owned_tree value)
 AnswersSlice slice (Err (Corrupted c)) = slice_tree slice ≡ Err c

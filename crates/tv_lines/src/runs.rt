@@ -57,7 +57,7 @@ fn answer_lines<S: ByteSource, K: ByteSink>(
     }
 }
 
-/// Answers the lines of the source, or is_known why that breaks off.
+/// Answers the lines of the source, or says why that breaks off.
 fn answer_source<S: ByteSource, K: ByteSink>(
     alloc: Global,
     source: &mut S,

@@ -17,7 +17,6 @@ ghost use Rattle.tv_options.specs.declared.textual_options.TextualOptions.{Textu
 ghost use Rattle.tv_options.specs.declared.types.TypeTag.{TypeTag};
 ghost use Rattle.tv_date.specs.declared.date_time.DateTimePrecision.TheVariants.{Seconds};
 ghost use Rattle.tv_date.specs.declared.date_time.DateTimePrecision.{DateTimePrecision};
-ghost use Rattle.tv_value.specs.declared.field.Field.{Field};
 ghost use Rattle.tv_options.specs.FacetOptions.{join as join_facet, none as no_facet_options};
 ghost use Rattle.tv_options.specs.FastFieldTextOptions.{join_fast};
 ghost use Rattle.tv_options.specs.FlagOptions.{join as join_flags};
@@ -36,8 +35,7 @@ use crate::textual_options::TextualOptions;
 use crate::tokenizer_name::TokenizerName;
 use crate::types::TypeTag;
 use std::hash::Hash;
-use tv_value::date_time::{DATE_TIME_PRECISION_INDEXED, DateTimePrecision};
-use tv_value::field::Field;
+use tv_date::date_time::{DATE_TIME_PRECISION_INDEXED, DateTimePrecision};
 
 /// `|` on options of flags doesn't depend on how it is grouped.
 pub fn flag_options_join_associatively<Part: OwnPart>()
@@ -79,22 +77,22 @@ pub fn fast_text_options_join_idempotently()
     ensures { (a : FastFieldTextOptions) → join_fast a a ≡ a }
 {}
 
-/// `==` on options of flags is_known whether they are the same.
+/// `==` on options of flags returns whether they are the same.
 pub fn comparisons_of_flag_options_agree<Part: OwnPart>()
     ensures { (a b : FlagOptions Part) → IsTrue (⟦<FlagOptions<Part> as PartialEq>⟧.eq a b) ↔ (a ≡ b) }
 {}
 
-/// `==` on options of texts, or of JSON objects, is_known whether they are the same.
+/// `==` on options of texts, or of JSON objects, returns whether they are the same.
 pub fn comparisons_of_textual_options_agree<Part: OwnPart>()
     ensures { (a b : TextualOptions Part) → IsTrue (⟦<TextualOptions<Part> as PartialEq>⟧.eq a b) ↔ (a ≡ b) }
 {}
 
-/// `==` on options of facets is_known whether they are the same.
+/// `==` on options of facets returns whether they are the same.
 pub fn comparisons_of_facet_options_agree()
     ensures { (a b : FacetOptions) → IsTrue (⟦<FacetOptions as PartialEq>⟧.eq a b) ↔ (a ≡ b) }
 {}
 
-/// `==` on what says how texts are indexed is_known whether it is the same; names of tokenizers are compared as texts.
+/// `==` on what says how texts are indexed returns whether it is the same; names of tokenizers are compared as texts.
 pub fn comparisons_of_text_indexing_agree()
     ensures name { (a b : List ℕ) → IsTrue (⟦<TokenizerName as PartialEq>⟧.eq a b) ↔ (a ≡ b) }
     ensures kept { (a b : IndexRecordOption) → IsTrue (⟦<IndexRecordOption as PartialEq>⟧.eq a b) ↔ (a ≡ b) }
@@ -110,7 +108,7 @@ pub fn comparisons_of_flags_agree()
     ensures fast { (a b : FastFlag) → IsTrue (⟦<FastFlag as PartialEq>⟧.eq a b) ↔ (a ≡ b) }
 {}
 
-/// `==` on lists of flags is_known whether they are the same, where it does so on their parts.
+/// `==` on lists of flags returns whether they are the same, where it does so on their parts.
 pub fn comparisons_of_flag_lists_agree<Head: PartialEq, Tail: PartialEq>()
     ensures { ((a b : Head) → IsTrue (Head.eq a b) ↔ (a ≡ b)) → ((a b : Tail) → IsTrue (Tail.eq a b) ↔ (a ≡ b))
         → (a b : SchemaFlagList Head Tail) → IsTrue (⟦<SchemaFlagList<Head, Tail> as PartialEq>⟧.eq a b) ↔ (a ≡ b) }
@@ -141,15 +139,6 @@ pub fn comparisons_of_types_agree()
     ensures eq { (a b : TypeTag) → IsTrue (⟦<TypeTag as PartialEq>⟧.eq a b) ↔ (a ≡ b) }
     ensures ties { (a b : TypeTag) → IsTrue (is_eq (⟦<TypeTag as Ord>⟧.cmp a b)) ↔ (a ≡ b) }
     ensures hash { (a b : TypeTag) → IsTrue (⟦<TypeTag as PartialEq>⟧.eq a b) → ⟦<TypeTag as Hash>⟧.hash_input a ≡ ⟦<TypeTag as Hash>⟧.hash_input b }
-{}
-
-/// Fields are ordered as their numbers. Those that the order calls equal are one field, as `==` says, and equal fields hash
-/// alike.
-pub fn comparisons_of_fields_agree()
-    ensures order { (a b : Field) → ⟦<Field as Ord>⟧.cmp a b ≡ nat_cmp a.id b.id }
-    ensures eq { (a b : Field) → IsTrue (⟦<Field as PartialEq>⟧.eq a b) ↔ (a ≡ b) }
-    ensures ties { (a b : Field) → IsTrue (is_eq (⟦<Field as Ord>⟧.cmp a b)) ↔ (a ≡ b) }
-    ensures hash { (a b : Field) → IsTrue (⟦<Field as PartialEq>⟧.eq a b) → ⟦<Field as Hash>⟧.hash_input a ≡ ⟦<Field as Hash>⟧.hash_input b }
 {}
 
 /// What an index keeps of terms is ordered from the least to the most.

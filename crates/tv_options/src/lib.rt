@@ -32,5 +32,5 @@ pub use own_part::{Coercion, DotExpansion, OfBytes, OfIpAddrs};
 pub use text_options::{FastFieldTextOptions, STRING, TEXT, TextFieldIndexing, TextOptions};
 pub use textual_options::TextualOptions;
 pub use tokenizer_name::TokenizerName;
-pub use tv_value::date_time::{DATE_TIME_PRECISION_INDEXED, DateTimePrecision};
+pub use tv_date::date_time::{DATE_TIME_PRECISION_INDEXED, DateTimePrecision};
 pub use types::{TypeIter, TypeTag as Type};

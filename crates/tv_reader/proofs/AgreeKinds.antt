@@ -30,7 +30,7 @@ unfolding kind_at extension_at u8_at
 known_read types.PreTokStr rest = refl
 known_read _ rest = refl
 
--- a code is_known the type, and where what is behind it begins
+-- a code says the type, and where what is behind it begins
 pub same_coded : (k l : ValueType) (a b : List ℕ) → coded k ++ a ≡ coded l ++ b → (k ≡ l) × (a ≡ b)
 same_coded k l a b e =
     let q = ok_is (Cause × List ℕ) (k, a) (l, b) (sym (known_read k a) ∙ ap kind_at e ∙ known_read l b) in

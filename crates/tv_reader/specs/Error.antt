@@ -36,7 +36,7 @@ store_stop (errors.Custom s) = Never
 store_stop (errors.UnsupportedVersion m n) = Never
 store_stop errors.AlreadyFailed = Never
 
--- The error in the bytes that an error is_known: what is corrupt, or in a key's place a value of another type than a text.
+-- The error in the bytes that an error says: what is corrupt, or in a key's place a value of another type than a text.
 pub data IsRefusal : DeserializeError → Refusal → Type 0 where
   is_corrupted : {c : Cause} → IsRefusal (errors.CorruptedValue c) (corrupted c)
   is_no_text : {actual : ValueType} → IsRefusal (errors.TypeMismatch types.String actual) (no_text_key (type_code actual))

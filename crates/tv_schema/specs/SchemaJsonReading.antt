@@ -1,4 +1,4 @@
--- The schema that a JSON value describes, or why it describes none: the first malformed entry is_known.
+-- The schema that a JSON value describes, or why it describes none: the first malformed entry says.
 use Rattle.std.specs.Prelude.{◌≡◌, ℕ, List, [], ◌∷◌, ◌++◌, length, Option, None, Some, ok_or, Result, Ok, Err, codes, if◌then◌else◌, ⊤}
 use Rattle.std.specs.Str.{bytes_eq}
 use Rattle.serde_json.specs.Data.{Data, Items, no_items, item}

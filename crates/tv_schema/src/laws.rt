@@ -17,7 +17,7 @@ use tv_options::{
     Coercion, DateTimePrecision, DotExpansion, IndexRecordOption, OfBytes, OfIpAddrs,
 };
 
-/// `index_record_option` and `get_index_record_option` answer the same: what an index keeps of each term.
+/// `index_record_option` and `get_index_record_option` return the same: what an index keeps of each term.
 pub fn record_options_agree(
     field_type: &FieldType,
 ) -> (Option<IndexRecordOption>, Option<IndexRecordOption>)

@@ -71,7 +71,7 @@ has_room v old prefix rest d joined encoded full small =
     let within = document_within Legacy v one_legacy full.announced full.finished full.field full.state full.prefix full.rest prefix rest d full.is full.less full.encoded (sym full.joined ∙ joined) encoded in
     omega (arith, full.full, small, within)
 
--- ---- what is encoded is what is answered
+-- ---- what is encoded is what is returned
 
 excluded : (v : Version) (old prefix rest : List ℕ) (d : Document) (r : Refusal) → old ≡ prefix ++ rest → EncodesDocument Legacy v prefix d → NoDocument v old r → ⊥
 excluded v old prefix rest d r joined encoded f = (document_excludes Legacy ErrorInLegacy v one_legacy legacy_excludes d).excludes old prefix rest r f encoded joined

@@ -20,7 +20,7 @@ pub use Rattle.tv_decoder.specs.Prefix.{HasNoRoom}
 abbrev pub BeginsWith : Version → List ℕ → List ℕ → Document → Type 0
 BeginsWith v bytes rest d = Begins (λ prefix. EncodesDocument Legacy v prefix d) bytes rest
 
--- this document is answered and this rest left, unless the source failed or memory was refused
+-- this document is returned and this rest left, unless the source failed or memory was refused
 abbrev pub Answers : Result CompactDoc DeserializeError → Document → List ℕ → List ℕ → Type 0
 Answers (Ok found) d rest left = (document_of found ≡ d) × (left ≡ rest)
 Answers (Err (errors.Io k)) d rest left = Unit {0}

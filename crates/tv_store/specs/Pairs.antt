@@ -1,4 +1,4 @@
--- What the addition of a pair that was read answers, and what it leaves.
+-- What the addition of a pair that was read returns, and what it leaves.
 use Rattle.std.specs.Prelude.{◌≡◌, ℕ, Result, Ok, Err}
 use Rattle.tv_doc.specs.declared.add_error.AddError.{AddError}
 use Rattle.tv_doc.specs.declared.document.CompactDoc.{CompactDoc}

@@ -38,10 +38,10 @@ pub fn read_document<S: ByteSource>(
     source: &mut S,
     version: DocStoreVersion,
 ) -> Result<CompactDoc, DeserializeError>
-    // a prefix of the bytes encodes what is answered, and the rest is left
+    // a prefix of the bytes encodes what is returned, and the rest is left
     ensures found { S.is_known source.old → IfOk result (λ d. BeginsWith (version_of version) (S.left source.old) (S.left source.new) (document_of d)) }
 
-    // wherever a prefix encodes a document that has room, that one is answered
+    // wherever a prefix encodes a document that has room, that one is returned
     ensures only { Known S.is_known S.left source.old → (d : Document) (prefix rest : List ℕ) → S.left source.old ≡ prefix ++ rest → EncodesDocument Legacy (version_of version) prefix d → document_room d ≤ 4294967295 → Answers result d rest (S.left source.new) }
 
     // refusals of the bytes are true of them, and others don't come
@@ -56,7 +56,7 @@ pub fn read_document<S: ByteSource>(
     // so many bytes that no more can be counted were taken
     ensures too_long { S.is_known source.old → IsErrOf result (CorruptedValue TooLong) → TakesMost (S.left source.old) (S.left source.new) }
 
-    // the source failed exactly where its count of failures rose, with the kind that it answered
+    // the source failed exactly where its count of failures rose, with the kind that it returned
     ensures failures { Counts store_stop result (S.failures source.old) (S.failures source.new) }
     ensures stays_known { S.is_known source.old → S.is_known source.new }
 {

@@ -1,4 +1,4 @@
--- What a term becomes that lends bytes for writing.
+-- What a term becomes whose bytes are borrowed for writing.
 use Rattle.std.specs.Prelude.{ℕ, List, ◌++◌, length, take, drop}
 use Rattle.std.specs.Borrow.{Lends, MutBor, Fml, Array, u8}
 use Rattle.tv_term.specs.contracts.term.Term.{the_row}
@@ -7,7 +7,7 @@ use Rattle.tv_term.specs.contracts.term.Term.{the_row}
 abbrev pub overwritten : List ℕ → List ℕ → List ℕ
 overwritten bytes written = take (length bytes) (written ++ drop (length written) bytes)
 
--- the term lends its bytes from this place on
+-- the term's bytes from this place on are borrowed
 abbrev pub LendsFrom : MutBor (List ℕ) → ℕ → MutBor (List ℕ) → Fml
 LendsFrom term start part =
     Lends the_row (Array u8 0) term part (λ written. take start term.now ++ overwritten (drop start term.now) written)

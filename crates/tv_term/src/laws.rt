@@ -232,7 +232,7 @@ pub fn joined_paths_have_no_zero()
     ensures { (expand_dots : Bool) (path : List ℕ) → HasNoZero path → HasNoZero (joined_path expand_dots path) }
 {}
 
-/// What the readers of value bytes answer for the bytes of a value of their type is that value.
+/// What the readers of value bytes return for the bytes of a value of their type is that value.
 pub fn written_values_are_read()
     ensures unsigned { (n : ℕ) → n < 2 ^ 64 → number_of tag.U64 (coded (Unsigned n)) ≡ Some n }
     ensures signed { (z : ℤ) → FitsSigned w64 z → option_map signed_at (number_of tag.I64 (coded (Signed z))) ≡ Some z }

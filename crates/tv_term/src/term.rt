@@ -297,7 +297,7 @@ impl Term {
     }
 
     /// Lends the value bytes from this place among them on for writing: those that `append_bytes` appended, where the place is
-    /// what `len_bytes` answered before. There are as many value bytes.
+    /// what `len_bytes` returned before. There are as many value bytes.
     pub fn value_bytes_mut(&mut self, start: usize) -> &mut [u8]
         requires { 5 + start ≤ length self.old }
         ensures* writes_back { sem 𝓛 (LendsFrom self.entry (5 + start) result) }
@@ -378,7 +378,7 @@ impl Term {
         }
     }
 
-    /// The name of the term's field, and where `get_json_path` answers a path, behind a dot that path. The field is one of the
+    /// The name of the term's field, and where `get_json_path` returns a path, behind a dot that path. The field is one of the
     /// schema, as `has_field` tests.
     ///
     /// Errors: memory was refused.

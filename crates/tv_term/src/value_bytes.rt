@@ -19,7 +19,7 @@ use tv_value::date_time::DateTime;
 /// The bytes of a term's value, at least one: the code of its type, and then its payload. In a term of a JSON field the payload
 /// is a path, U+0000, and then the bytes of the value there.
 ///
-/// Its readers take no memory, but for `as_facet` and `to_owned`, and each answers `None` where the first byte is another code.
+/// Its readers take no memory, but for `as_facet` and `to_owned`, and each returns `None` where the first byte is another code.
 #[derive(Clone, Copy, Debug)]
 pub struct ValueBytes<'a> {
     serialized: &'a [u8],

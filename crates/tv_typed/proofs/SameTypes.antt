@@ -1,4 +1,4 @@
--- Types that a test is_known apart are not the same.
+-- Types that a test says apart are not the same.
 use Rattle.std.proofs.Common.{◌≡◌, ◌≢◌, true, not, refl, sym, ap, ◌∙◌}
 use denote.Enum.Bare.{sameb}
 use Rattle.tv_reader.specs.contracts.value_type.ValueType.{the_type}

@@ -57,7 +57,7 @@ pub record GivesPair {S : Type 0} (left : S → List ℕ) (old : StoreReader S) 
   pub same_version : new.version ≡ old.version
   pub encodes : Begins (λ b. EncodesPair Legacy (version_of old.version) b pair) (left old.source) (left new.source)
 
--- a call that reads a pair may answer this error
+-- a call that reads a pair may return this error
 abbrev pub RefusesPair : {S : Type 0} → (S → Type 0) → (S → List ℕ) → ℕ → ℕ → StoreReader S → (Version → ValueType → List ℕ → DeserializeError → Type 0) → DeserializeError → Type 0
 RefusesPair {S} is_known left position announced old refused e =
     (new : StoreReader S) × Deserializes {X = ℕ} is_known left old new (Err e) (λ b x. ⊥) (NextItemRefused (FieldRefused refused (version_of old.version)) position announced)

@@ -53,7 +53,7 @@ pub data LeafRefused (expected : ValueType) (v : Version) (kind : ValueType) (wh
   other_type : kind ≢ expected → LeafRefused expected v kind whole (errors.TypeMismatch expected kind)
   in_body : {c : Cause} → kind ≡ expected → NoneBehind v kind whole (corrupted c) → LeafRefused expected v kind whole (errors.CorruptedValue c)
 
--- the error is_known what is wrong with the bytes
+-- the error says what is wrong with the bytes
 pub record GivesError (HasError : List ℕ → Refusal → Type 0) (whole : List ℕ) (e : DeserializeError) : Type 0 where
   pub refusal : Refusal
   pub told : IsRefusal e refusal

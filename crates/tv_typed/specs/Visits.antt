@@ -17,7 +17,7 @@ use Rattle.tv_typed.specs.declared.store_reader.StoreReader.{StoreReader}
 
 -- ---- leaves
 
--- what was read is handed on and answered, and a refusal is given as it is
+-- what was read is handed on and returned, and a refusal is given as it is
 abbrev pub Answered : {A X : Type 0} → (A → Result X DeserializeError → Type 0) → Result A DeserializeError → Result X DeserializeError → Type 0
 Answered answers (Ok a) result = answers a result
 Answered answers (Err e) result = result ≡ Err e

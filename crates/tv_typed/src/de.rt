@@ -38,7 +38,7 @@ use tv_value::tokenizer::PreTokenizedString;
 
 /// A value whose code was read. Each call reads the value behind it.
 ///
-/// A call for one type answers `TypeMismatch` where the value is of another type, and nothing more is taken then;
+/// A call for one type returns `TypeMismatch` where the value is of another type, and nothing more is taken then;
 /// `CorruptedValue` where its bytes encode none, and just the bytes that show the cause are taken then; `Io` where the source
 /// failed; `Memory`; and `AlreadyFailed` where an earlier read was refused. A refusal is marked in the reader.
 #[derive(Drop)]
@@ -50,7 +50,7 @@ pub struct BinaryValueDeserializer<'de, S: ByteSource> {
 impl<'de, S: ByteSource> BinaryValueDeserializer<'de, S> {
     ghost use Rattle.tv_typed.specs.contracts.store_reader.StoreReader.{the_row};
 
-    /// Reads the code of the next value, which is_known its type. Errors: `CorruptedValue` where no type has that code, and just the
+    /// Reads the code of the next value, which says its type. Errors: `CorruptedValue` where no type has that code, and just the
     /// bytes that show it were taken then; `Io`; and `AlreadyFailed` where an earlier read was refused. A refusal is marked in the
     /// reader.
     pub fn from_reader(
@@ -195,7 +195,7 @@ pub trait ValueDeserialize: Sized + Drop {
 
 impl<S: ByteSource> StoreReader<S> {
     /// Reads the next value: its code, and what stands behind it. Errors: those of `BinaryValueDeserializer::from_reader` and of
-    /// the type's own `deserialize`. Each is marked, whoever it is of, so that every later read answers `AlreadyFailed`.
+    /// the type's own `deserialize`. Each is marked, whoever it is of, so that every later read returns `AlreadyFailed`.
     pub fn read<V: ValueDeserialize>(&mut self, alloc: Global) -> Result<V, DeserializeError>
         ensures deserializes { Deserializes S.is_known S.left self.old self.new result (EncodesAs V.is (version_of self.old.version)) (NextRefused V.refused (version_of self.old.version)) }
         ensures only { Only S.is_known S.left self.old self.new result V.is (version_of self.old.version) [] }
@@ -416,13 +416,13 @@ impl ValueDeserialize for OwnedValue {
 
 /// What makes a value of whatever stands in a store, by a call for each type.
 ///
-/// A visitor gives each call for a value that isn't an array or an object, and says by `answers` what it answers. Where it takes no
-/// value of a type, it answers `UnsupportedType` of that type. The calls for arrays and objects do so where they aren't given.
+/// A visitor gives each call for a value that isn't an array or an object, and says by `answers` what it returns. Where it takes no
+/// value of a type, it returns `UnsupportedType` of that type. The calls for arrays and objects do so where they aren't given.
 pub trait ValueVisitor {
     /// What is made.
     type Value;
 
-    /// What may be answered for a value that isn't an array or an object.
+    /// What may be returned for a value that isn't an array or an object.
     ghost answers: { Self → Leaf → Result Self.Value DeserializeError → Type 0 };
 
     /// Null stands there.
@@ -468,7 +468,7 @@ pub trait ValueVisitor {
     ) -> Result<Self::Value, DeserializeError>
         ensures { answers self.now (tokenized (string_bytes value.text) (map token_of value.tokens.items)) result };
 
-    /// An array stands there, whose number of values was read. Where a visitor takes none, it answers `UnsupportedType`.
+    /// An array stands there, whose number of values was read. Where a visitor takes none, it returns `UnsupportedType`.
     fn visit_array<S: ByteSource>(
         &self,
         alloc: Global,
@@ -483,7 +483,7 @@ pub trait ValueVisitor {
         Err(DeserializeError::UnsupportedType(ValueType::Array))
     }
 
-    /// An object stands there, whose number of entries was read. Where a visitor takes none, it answers `UnsupportedType`.
+    /// An object stands there, whose number of entries was read. Where a visitor takes none, it returns `UnsupportedType`.
     fn visit_object<S: ByteSource>(
         &self,
         alloc: Global,

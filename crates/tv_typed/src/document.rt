@@ -37,7 +37,7 @@ pub trait DocumentDeserializer: Drop {
     /// Which pair of a field and a tree is given next, and what is left then.
     ghost gives: { Self → ℕ × Tree → Self → Type 0 };
 
-    /// Which error may be answered in place of the next pair, where a value of some type is read, by the refusals of that type.
+    /// Which error may be returned in place of the next pair, where a value of some type is read, by the refusals of that type.
     ghost refuses: { Self → (Version → ValueType → List ℕ → DeserializeError → Type 0) → DeserializeError → Type 0 };
 
     /// How many pairs are announced, however many were given.

@@ -19,7 +19,7 @@ use tv_reader::trees::{take_half, take_key};
 use tv_reader::{DeserializeError, DocStoreVersion, ValueType};
 
 /// A source, the version of what it holds, how many bytes were taken of it, and whether a read was refused. After a refusal
-/// every later read answers `AlreadyFailed` and takes nothing.
+/// every later read returns `AlreadyFailed` and takes nothing.
 #[derive(Drop)]
 pub struct StoreReader<S: ByteSource> {
     pub(crate) source: S,
@@ -82,7 +82,7 @@ impl<S: ByteSource> StoreReader<S> {
         Ok(())
     }
 
-    // Marks a refusal, and is_known it in the words of the store.
+    // Marks a refusal, and says it in the words of the store.
     pub(crate) fn marked<T>(&mut self, answer: Result<T, ReadError>) -> Result<T, DeserializeError>
         ensures source { self.new.source ≡ self.old.source }
         ensures count { self.new.count ≡ self.old.count }

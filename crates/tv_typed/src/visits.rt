@@ -114,7 +114,7 @@ impl<S: ByteSource> StoreReader<S> {
 }
 
 impl<'de, S: ByteSource> BinaryValueDeserializer<'de, S> {
-    /// Hands the value to the visitor's call for its type, and gives what that answers.
+    /// Hands the value to the visitor's call for its type, and gives what that returns.
     ///
     /// Errors: those of the call for a value of this type; for an array or an object `CorruptedValue` where the number of its values
     /// is malformed, with `OddObject` where no object announces it; for a legacy object those of `deserialize_tree`, and then the

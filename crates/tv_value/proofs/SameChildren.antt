@@ -4,7 +4,7 @@ use Rattle.std.specs.Str.{bytes_eq}
 use Rattle.tv_value.specs.Same.{tree_eq, elements_eq, entries_eq}
 use Rattle.tv_value.specs.Tree.{Tree, elements, entries}
 
--- what was answered of two values that are lent is so of the values
+-- what was returned of two values that are lent is so of the values
 pub asked : (x y t u : Tree) (r b : Bool) → x ≡ t → y ≡ u → r ≡ tree_eq x y → r ≡ b → tree_eq t u ≡ b
 asked x y t u r b p q is e = (λ i. tree_eq (sym p i) (sym q i)) ∙ sym is ∙ e
 

@@ -49,7 +49,7 @@ lent_json_tree v = whole_tree (view v)
 abbrev pub lent_json_entries : List (String Global × Value) → List (List ℕ × Tree)
 lent_json_entries = map (λ m. (string_bytes m.0, lent_json_tree m.1))
 
--- what is answered for a JSON value
+-- what is returned for a JSON value
 abbrev pub AnswersJson : Data → Result OwnedValue JsonError → Type 0
 AnswersJson d (Ok made) = json_tree d ≡ Some (owned_tree made)
 AnswersJson d (Err FloatNumber) = json_tree d ≡ None

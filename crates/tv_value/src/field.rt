@@ -32,7 +32,7 @@ impl Field {
     }
 }
 
-/// The number in four bytes, the lowest first. Each 32-bit number is read: a schema is_known which fields it has.
+/// The number in four bytes, the lowest first. Each 32-bit number is read: a schema says which fields it has.
 impl BinarySerializable for Field {
     ghost Seen = { ℕ };
 

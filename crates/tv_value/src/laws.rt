@@ -1,6 +1,7 @@
-//! Laws of the store format, each the contract of a function that does nothing.
+//! Laws of the store format and of fields, each the contract of a function that does nothing.
 
-ghost use Rattle.std.specs.Prelude.{◌≡◌, ℕ, ◌++◌, List};
+ghost use Rattle.std.specs.Prelude.{◌≡◌, ◌↔◌, ℕ, ◌++◌, IsTrue, List};
+ghost use Rattle.std.specs.Ordering.{nat_cmp, is_eq};
 ghost use Rattle.tv_base.specs.Parts.{OneReading};
 ghost use Rattle.tv_value.specs.InputError.{Refusal, ErrorInValue, ErrorInDocument, NoErrorInLegacy};
 ghost use Rattle.tv_value.specs.PreTokenized.{text_of, tokens_of};
@@ -8,7 +9,11 @@ ghost use Rattle.tv_value.specs.Short.{short, short_document, IsText, AreTokens,
 ghost use Rattle.tv_value.specs.Encoding.{Encodes, EncodesDocument, Derives, NoLegacy};
 ghost use Rattle.tv_value.specs.Tree.{Tree, Document};
 ghost use Rattle.tv_value.specs.Version.{Version, IsWritten};
+ghost use Rattle.tv_value.specs.declared.field.Field.{Field};
 ghost use Rattle.tv_value.specs.declared.pre_tokenized.PreTokenizedStr.{PreTokenizedStr};
+
+use crate::field::Field;
+use std::hash::Hash;
 
 /// In each version no encoding of a value begins another, and each encodes one value.
 pub fn values_have_one_reading()
@@ -55,4 +60,13 @@ pub fn errors_of_documents_are_unique()
 /// A text with its tokens has an encoding, however it is kept.
 pub fn pre_tokenized_texts_encode()
     ensures { (s : PreTokenizedStr) → IsText (text_of s) × AreTokens (tokens_of s) }
+{}
+
+/// Fields are ordered as their numbers. Those that the order calls equal are one field, as `==` says, and equal fields hash
+/// alike.
+pub fn comparisons_of_fields_agree()
+    ensures order { (a b : Field) → ⟦<Field as Ord>⟧.cmp a b ≡ nat_cmp a.id b.id }
+    ensures eq { (a b : Field) → IsTrue (⟦<Field as PartialEq>⟧.eq a b) ↔ (a ≡ b) }
+    ensures ties { (a b : Field) → IsTrue (is_eq (⟦<Field as Ord>⟧.cmp a b)) ↔ (a ≡ b) }
+    ensures hash { (a b : Field) → IsTrue (⟦<Field as PartialEq>⟧.eq a b) → ⟦<Field as Hash>⟧.hash_input a ≡ ⟦<Field as Hash>⟧.hash_input b }
 {}

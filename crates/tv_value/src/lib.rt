@@ -3,6 +3,7 @@
 
 pub mod content;
 mod copy;
+pub mod encode;
 pub mod field;
 pub mod in_place;
 pub mod ip_addr;
@@ -15,7 +16,6 @@ pub mod nested;
 pub mod owned_value;
 pub mod pre_tokenized;
 pub mod same;
-pub mod encode;
 pub mod tokenizer;
 pub mod type_codes;
 mod utf8;

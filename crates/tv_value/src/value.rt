@@ -26,7 +26,7 @@ pub enum ReferenceValue<'a, V: Value<'a>> {
     Object(V::ObjectIter),
 }
 
-/// A value that can be lent: a finite tree, of which `as_value` is_known one level.
+/// A value that can be lent: a finite tree, of which `as_value` says one level.
 ///
 /// An implementation gives `as_value`, and says which tree its values are (`tree`) and which trees its iterators have left
 /// (`array_rest`, `object_rest`). Its iterators give the children in order, each once, and end. The calls with a body are final.

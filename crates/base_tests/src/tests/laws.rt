@@ -14,7 +14,7 @@ use tv_term::laws::{
 };
 use tv_value::field::Field;
 
-// What `==` of two options is_known of them, by the law at their type.
+// What `==` of two options says of them, by the law at their type.
 fn same_numbers(one: &NumericOptions, other: &NumericOptions) -> bool
     ensures { IsTrue result ↔ (one.now ≡ other.now) }
 {

@@ -1,4 +1,4 @@
-//! A value that lends the same bytes many times, and takes no memory.
+//! A value whose bytes are borrowed many times, and which takes no memory.
 
 ghost use Rattle.std.specs.Prelude.{[], cond, replicate};
 ghost use Rattle.std.specs.Iterator.{YieldsFirstBy, at_most, item_count};
@@ -12,7 +12,7 @@ use tv_value::field::Field;
 use tv_value::leaf::ReferenceValueLeaf;
 use tv_value::value::{ReferenceValue, Value};
 
-/// Bytes, or an array that lends them so many times.
+/// Bytes, or an array in which they are borrowed so many times.
 #[derive(Clone, Copy)]
 pub struct Repeated<'a> {
     content: &'a [u8],

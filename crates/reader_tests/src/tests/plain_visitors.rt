@@ -10,7 +10,7 @@ use tv_typed::{BinaryValueDeserializer, StoreReader, ValueVisitor};
 use tv_value::date_time::DateTime;
 use tv_value::tokenizer::PreTokenizedString;
 
-/// Takes each leaf, and is_known nothing of it.
+/// Takes each leaf, and says nothing of it.
 struct Leaves;
 
 impl ValueVisitor for Leaves {

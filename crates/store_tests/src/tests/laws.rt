@@ -1,11 +1,11 @@
 //! Laws of calls, in use.
 
-use crate::common::ReadSource;
-use crate::laws::{stored_pairs_are_read_back, written_documents_are_shortest};
-use crate::schema::{CompactDoc, NumericOptions, STORED, Schema, TEXT, Value};
 use std::io;
 use std::io::Read;
 use std::test::Fail;
+use tantivy_schema::common::ReadSource;
+use tantivy_schema::laws::{stored_pairs_are_read_back, written_documents_are_shortest};
+use tantivy_schema::schema::{CompactDoc, NumericOptions, STORED, Schema, TEXT, Value};
 
 /// Gives one byte at a time.
 #[derive(Drop)]

@@ -1,6 +1,6 @@
-//! What no clause says: that a document gets through, and how a full store answers.
+//! A store of one's own: that a document gets through, and what a full store returns.
 
-use crate::{BoundedSink, PacketSource, fetch_document, store_document};
+use embedding::{BoundedSink, PacketSource, fetch_document, store_document};
 use std::io;
 use std::test::Fail;
 use tantivy_schema::schema::document::SerializeError;
