@@ -24,7 +24,8 @@ impl BoundedSink {
     /// A sink that holds no byte, and will hold at most so many. It takes no memory yet.
     pub fn new(alloc: Global, most: usize) -> BoundedSink
         ensures bytes { ⟦<BoundedSink as ByteSink>⟧.held result ≡ [] }
-        ensures failures { ⟦<BoundedSink as ByteSink>⟧.failures result ≡ record { number = 0; last = None } }
+        ensures failures { ⟦<BoundedSink as ByteSink>⟧.failures result
+            ≡ record { number = 0; last = None } }
         ensures limit { result.most ≡ most }
     {
         BoundedSink {
@@ -54,10 +55,14 @@ impl ByteSink for BoundedSink {
     /// refused.
     fn write(&mut self, buf: &[u8]) -> Result<usize, io::ErrorKind>
         ensures bytes { AppendsSome self.old.bytes.items self.new.bytes.items result buf.now }
-        ensures room { IfOk result (λ n. n ≡ min (length buf.now) (self.old.most - length self.old.bytes.items)) }
+        ensures room { IfOk result
+            (λ n. n ≡ min (length buf.now) (self.old.most - length self.old.bytes.items)) }
         ensures some { IfOk result (λ n. n ≡ 0 → length buf.now ≡ 0) }
-        ensures kind { IfErr result (λ kind. (kind ≡ OutOfMemory) ⊎ ((kind ≡ StorageFull) × (length self.old.bytes.items ≡ self.old.most))) }
-        ensures failures { CountsFailure result (⟦<BoundedSink as ByteSink>⟧.failures self.old) (⟦<BoundedSink as ByteSink>⟧.failures self.new) }
+        ensures kind { IfErr result
+            (λ kind. (kind ≡ OutOfMemory)
+                ⊎ ((kind ≡ StorageFull) × (length self.old.bytes.items ≡ self.old.most))) }
+        ensures failures { CountsFailure result (⟦<BoundedSink as ByteSink>⟧.failures self.old)
+            (⟦<BoundedSink as ByteSink>⟧.failures self.new) }
         ensures limit { self.new.most ≡ self.old.most }
     {
         let count = buf.len().min(self.most - self.bytes.len());

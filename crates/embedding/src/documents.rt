@@ -5,7 +5,9 @@ ghost use Rattle.tantivy_schema.specs.Belongs.{Belongs};
 ghost use Rattle.tantivy_schema.specs.CodeTypes.DeserializeError.{DeserializeError};
 ghost use Rattle.tantivy_schema.specs.CodeTypes.DeserializeError.TheVariants.{HeapFull};
 ghost use Rattle.tantivy_schema.specs.Document.{document_of};
-ghost use Rattle.tantivy_schema.specs.Documents.{Answers, NoDocument, HasNoRoom, ShowsRefusal, IsReadingError};
+ghost use Rattle.tantivy_schema.specs.Documents.{
+    Answers, NoDocument, HasNoRoom, ShowsRefusal, IsReadingError,
+};
 ghost use Rattle.tantivy_schema.specs.InputError.{Refusal};
 ghost use Rattle.tantivy_schema.specs.Legacy.{Legacy};
 ghost use Rattle.tantivy_schema.specs.ReadsAs.{Known};
@@ -37,7 +39,8 @@ pub fn store_document<K: ByteSink>(
     document: &TantivyDocument,
 ) -> Result<(), SerializeError>
     requires { Belongs schema.now (document_of document.now) }
-    ensures writes { Writes K.is_known K.held K.failures sink.old sink.new result (Ok (short_document V2 (stored schema.now (document_of document.now)))) }
+    ensures writes { Writes K.is_known K.held K.failures sink.old sink.new result
+        (Ok (short_document V2 (stored schema.now (document_of document.now)))) }
     ensures io { IfErr result IsIo }
 {
     BinaryDocumentSerializer::new(sink, schema).serialize_doc(document)
@@ -51,11 +54,17 @@ pub fn fetch_document<S: ByteSource>(
     alloc: Global,
     source: &mut S,
 ) -> Result<TantivyDocument, DeserializeError>
-    ensures only { Known S.is_known S.left source.old → (d : Document) (prefix rest : List ℕ) → S.left source.old ≡ prefix ++ rest → EncodesDocument Legacy V2 prefix d → document_room d ≤ 4294967295 → Answers result d rest (S.left source.new) }
-    ensures error { Known S.is_known S.left source.old → (e : DeserializeError) (r : Refusal) → IsErrOf result e → IsRefusal e r → NoDocument V2 (S.left source.old) r }
-    ensures full { S.is_known source.old → IsErrOf result HeapFull → HasNoRoom V2 (S.left source.old) }
+    ensures only { Known S.is_known S.left source.old → (d : Document) (prefix rest : List ℕ)
+        → S.left source.old ≡ prefix ++ rest → EncodesDocument Legacy V2 prefix d
+        → document_room d ≤ 4294967295 → Answers result d rest (S.left source.new) }
+    ensures error { Known S.is_known S.left source.old → (e : DeserializeError) (r : Refusal)
+        → IsErrOf result e → IsRefusal e r → NoDocument V2 (S.left source.old) r }
+    ensures full { S.is_known source.old → IsErrOf result HeapFull
+        → HasNoRoom V2 (S.left source.old) }
     ensures errors { IfErr result IsReadingError }
-    ensures shows { Known S.is_known S.left source.old → (e : DeserializeError) (r : Refusal) → IsErrOf result e → IsRefusal e r → ShowsRefusal V2 (S.left source.old) (S.left source.new) r }
+    ensures shows { Known S.is_known S.left source.old → (e : DeserializeError) (r : Refusal)
+        → IsErrOf result e → IsRefusal e r
+        → ShowsRefusal V2 (S.left source.old) (S.left source.new) r }
     ensures failures { Counts store_stop result (S.failures source.old) (S.failures source.new) }
 {
     read_document(alloc, source, DocStoreVersion::V2)

@@ -63,9 +63,8 @@ pub use tv_term::laws::{
 };
 pub use tv_value::laws::{
     comparisons_of_fields_agree, documents_have_one_reading, errors_of_documents_are_unique,
-    errors_of_values_are_unique,
-    malformed_documents_derive_none, malformed_values_encode_none, short_documents_encode,
-    short_values_encode, values_have_one_reading,
+    errors_of_values_are_unique, malformed_documents_derive_none, malformed_values_encode_none,
+    short_documents_encode, short_values_encode, values_have_one_reading,
 };
 
 /// What `serialize_doc` writes of a document is its stored pairs in the shortest encoding: here, in memory.
@@ -77,7 +76,8 @@ pub fn written_documents_are_shortest(
     document: &CompactDoc,
 ) -> Result<Vec<u8>, SerializeError>
     requires { Belongs schema.now (document_of document.now) }
-    ensures bytes { IfOk result (λ bytes. bytes.items ≡ short_document V2 (stored schema.now (document_of document.now))) }
+    ensures bytes { IfOk result
+        (λ bytes. bytes.items ≡ short_document V2 (stored schema.now (document_of document.now))) }
     ensures io { IfErr result IsIo }
 {
     let mut sink = VecSink::new(alloc);
@@ -93,7 +93,11 @@ pub fn stored_pairs_are_read_back<S: ByteSource>(
     schema: &Schema,
     document: &CompactDoc,
 ) -> Result<CompactDoc, DeserializeError>
-    ensures { Known S.is_known S.left source.old → document_room (document_of document.now) ≤ 4294967295 → (rest : List ℕ) → S.left source.old ≡ short_document V2 (stored schema.now (document_of document.now)) ++ rest → Answers result (stored schema.now (document_of document.now)) rest (S.left source.new) }
+    ensures { Known S.is_known S.left source.old
+        → document_room (document_of document.now) ≤ 4294967295 → (rest : List ℕ)
+        → S.left source.old
+            ≡ short_document V2 (stored schema.now (document_of document.now)) ++ rest
+        → Answers result (stored schema.now (document_of document.now)) rest (S.left source.new) }
 {
     let _ = schema;
     let _ = document;

@@ -10,7 +10,8 @@ use crate::source::ByteSource;
 /// `buf` holds is unspecified.
 #[inline]
 pub(crate) fn fill<S: ByteSource>(source: &mut S, buf: &mut [u8]) -> bool
-    ensures bytes { S.is_known source.old → Fills (S.left source.old) (S.left source.new) buf.new result }
+    ensures bytes { S.is_known source.old
+        → Fills (S.left source.old) (S.left source.new) buf.new result }
     ensures is_known { S.is_known source.old → S.is_known source.new }
     ensures failures { S.failures source.new ≡ S.failures source.old }
     ensures length { length buf.new ≡ length buf.old }
@@ -27,7 +28,8 @@ pub(crate) fn fill<S: ByteSource>(source: &mut S, buf: &mut [u8]) -> bool
 /// nine bytes is, and nothing has changed then.
 #[inline]
 pub(crate) fn pass_number<S: ByteSource>(source: &mut S) -> Option<(u64, usize)>
-    ensures bytes { S.is_known source.old → PassesNumber (S.left source.old) (S.left source.new) result }
+    ensures bytes { S.is_known source.old
+        → PassesNumber (S.left source.old) (S.left source.new) result }
     ensures is_known { S.is_known source.old → S.is_known source.new }
     ensures failures { S.failures source.new ≡ S.failures source.old }
     ensures few { IfSome result (λ x. x.1 ≤ 9) }

@@ -1,6 +1,9 @@
 //! Places in a hierarchy.
 
-ghost use Rattle.std.specs.Prelude.{◌≡◌, ◌≢◌, ◌↔◌, ℕ, List, [], ◌∷◌, ◌++◌, map, refl, Some, IfOk, IfErr, IsOk, IsTrue, MatchOption, OnErr, OnOk, IsUtf8, string_bytes, bytes_eq};
+ghost use Rattle.std.specs.Prelude.{
+    ◌≡◌, ◌≢◌, ◌↔◌, ℕ, List, [], ◌∷◌, ◌++◌, map, refl, Some, IfOk, IfErr, IsOk, IsTrue, MatchOption,
+    OnErr, OnOk, IsUtf8, string_bytes, bytes_eq,
+};
 ghost use Rattle.std.specs.List.{join_with_byte};
 ghost use Rattle.std.specs.Ordering.{nat_cmp};
 ghost use Rattle.std.specs.Hash as fed;
@@ -8,8 +11,12 @@ ghost use Rattle.std.specs.Hash.{same_Alike};
 ghost use Rattle.std.proofs.lemmas.Slice.Eq.{bytes_eq-Decides};
 ghost use Rattle.std.specs.String.{from_utf8_error_vec};
 ghost use Rattle.std.specs.Cmp.{partial_equiv_from_equiv};
-ghost use Rattle.std.specs.Cmp.Lexicographic.{slice_cmp, nat_list_eq_equiv, nat_list_cmp_total, texts_ties, texts_po};
-ghost use Rattle.tv_base.specs.Facet.{parse, path, printed, debug_printed, IsParseError, IsEncoded, Descends};
+ghost use Rattle.std.specs.Cmp.Lexicographic.{
+    slice_cmp, nat_list_eq_equiv, nat_list_cmp_total, texts_ties, texts_po,
+};
+ghost use Rattle.tv_base.specs.Facet.{
+    parse, path, printed, debug_printed, IsParseError, IsEncoded, Descends,
+};
 ghost use Rattle.tv_base.specs.Sink.{Begins};
 
 use crate::facet_parse_error::FacetParseError;
@@ -134,15 +141,18 @@ impl Facet {
     /// Adds the text that names the facet with an encoded text to a text (not in tantivy). The only error is that memory was refused, and then a
     /// beginning of it may be added.
     pub fn print_encoded(encoded: &str, text: &mut String) -> Result<(), AllocError>
-        ensures ok { OnOk result (string_bytes text.new ≡ string_bytes text.old ++ printed encoded.now) }
-        ensures err { OnErr result (Begins (string_bytes text.old) (string_bytes text.new) (printed encoded.now)) }
+        ensures ok { OnOk result
+            (string_bytes text.new ≡ string_bytes text.old ++ printed encoded.now) }
+        ensures err { OnErr result
+            (Begins (string_bytes text.old) (string_bytes text.new) (printed encoded.now)) }
     {
         push_printed(encoded, text)
     }
 
     /// The facet that has these steps. No step and one empty step are the root. Errors: memory was refused.
     pub fn from_path(alloc: Global, steps: &[&str]) -> Result<Facet, AllocError>
-        ensures { IfOk result (λ facet. facet ≡ join_with_byte 0 (map (λ step. step.now) steps.now)) }
+        ensures { IfOk result
+            (λ facet. facet ≡ join_with_byte 0 (map (λ step. step.now) steps.now)) }
     {
         let mut encoded = String::new(alloc);
         let Some((first, others)) = steps.split_first() else {
@@ -193,7 +203,8 @@ impl Facet {
 
 // What the list has behind the prefix, where it begins with that.
 fn rest_behind<'a>(whole: &'a [u8], prefix: &[u8]) -> Option<&'a [u8]>
-    ensures { MatchOption result ((rest : List ℕ) → whole.now ≢ prefix.now ++ rest) (λ rest. whole.now ≡ prefix.now ++ rest.now) }
+    ensures { MatchOption result ((rest : List ℕ) → whole.now ≢ prefix.now ++ rest)
+        (λ rest. whole.now ≡ prefix.now ++ rest.now) }
 {
     whole.strip_prefix(prefix)
 }

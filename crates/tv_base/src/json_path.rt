@@ -45,7 +45,8 @@ pub fn join_json_path(
     segments: &[String],
     expand_dots: bool,
 ) -> Result<String, AllocError>
-    ensures { IfOk result (λ text. string_bytes text ≡ joined expand_dots (map string_bytes segments.now)) }
+    ensures { IfOk result
+        (λ text. string_bytes text ≡ joined expand_dots (map string_bytes segments.now)) }
 {
     let rule = Rule::Segment { expand_dots };
     let mut text = String::new(alloc);

@@ -1,11 +1,17 @@
 //! Laws of the encodings of numbers and texts, of escapes, and of facets, each the contract of a function that does nothing.
 
-ghost use Rattle.std.specs.Prelude.{◌≡◌, ◌≢◌, ◌↔◌, ℕ, ℤ, FitsSigned, ◌<◌, ◌≤◌, ◌^◌, List, [], ◌∷◌, ◌++◌, ◌==◌, false, length, Some, IsTrue, IsUtf8};
+ghost use Rattle.std.specs.Prelude.{
+    ◌≡◌, ◌≢◌, ◌↔◌, ℕ, ℤ, FitsSigned, ◌<◌, ◌≤◌, ◌^◌, List, [], ◌∷◌, ◌++◌, ◌==◌, false, length, Some,
+    IsTrue, IsUtf8,
+};
 ghost use Rattle.std.specs.Int.{w64};
 ghost use Rattle.std.specs.List.{AllByRecursion, join_with_byte, list_any};
 ghost use Rattle.std.specs.Ordering.{nat_cmp, is_le, is_lt};
 ghost use Rattle.std.specs.Cmp.Lexicographic.{slice_cmp};
-ghost use Rattle.tv_base.specs.Number.{VNum, vnum, Fixed, one_byte, four_bytes, eight_bytes, sixteen_bytes, Signed, signed_bytes, Truth};
+ghost use Rattle.tv_base.specs.Number.{
+    VNum, vnum, Fixed, one_byte, four_bytes, eight_bytes, sixteen_bytes, Signed, signed_bytes,
+    Truth,
+};
 ghost use Rattle.tv_base.specs.Parts.{OneReading, Sized, Text, short_sized};
 ghost use Rattle.tv_base.specs.Escapes.{without_escapes};
 ghost use Rattle.tv_base.specs.Facet.{parse, path, printed, IsStep, Descends};
@@ -65,7 +71,8 @@ pub fn short_sized_bytes_encode()
 
 /// No encoding of bytes behind their length is shorter.
 pub fn short_sized_bytes_are_shortest()
-    ensures { (content bytes : List ℕ) → Sized bytes content → length (short_sized content) ≤ length bytes }
+    ensures { (content bytes : List ℕ) → Sized bytes content
+        → length (short_sized content) ≤ length bytes }
 {}
 
 /// No encoding of a text begins another, and each encodes one text.
@@ -95,7 +102,8 @@ pub fn printed_facets_are_read()
 
 /// Texts without U+0000, of which there is at least one, are what the facet with these steps is split into.
 pub fn joined_steps_are_split()
-    ensures { (texts : List (List ℕ)) → AllByRecursion IsStep texts → texts ≢ [] → path (join_with_byte 0 texts) ≡ texts }
+    ensures { (texts : List (List ℕ)) → AllByRecursion IsStep texts → texts ≢ []
+        → path (join_with_byte 0 texts) ≡ texts }
 {}
 
 /// Below the root are all other facets.
@@ -105,5 +113,8 @@ pub fn all_facets_descend_from_the_root()
 
 /// Below another facet are those from its text with a U+0000 behind it to before its text with a U+0001 behind it.
 pub fn descendants_are_a_range()
-    ensures { (f g : List ℕ) → f ≢ [] → Descends f g ↔ (IsTrue (is_le (slice_cmp nat_cmp (f ++ 0 ∷ []) g)) × IsTrue (is_lt (slice_cmp nat_cmp g (f ++ 1 ∷ [])))) }
+    ensures { (f g : List ℕ) → f ≢ []
+        → Descends f g
+            ↔ (IsTrue (is_le (slice_cmp nat_cmp (f ++ 0 ∷ []) g))
+                × IsTrue (is_lt (slice_cmp nat_cmp g (f ++ 1 ∷ [])))) }
 {}

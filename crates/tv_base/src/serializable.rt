@@ -4,9 +4,14 @@ ghost use Rattle.std.specs.Prelude.{◌≡◌, ◌-◌, ◌^◌, ℕ, ℤ, Bool,
 ghost use Rattle.tv_base.specs.declared.cause.Cause.{Cause};
 ghost use Rattle.tv_base.specs.declared.cause.Cause.TheVariants.{TooLong};
 ghost use Rattle.tv_base.specs.declared.read_error.ReadError.TheVariants.{Corrupted, Memory};
-ghost use Rattle.tv_base.specs.Number.{VNum, vnum, Fixed, one_byte, four_bytes, eight_bytes, sixteen_bytes, Signed, signed_bytes, Truth, truth_byte};
+ghost use Rattle.tv_base.specs.Number.{
+    VNum, vnum, Fixed, one_byte, four_bytes, eight_bytes, sixteen_bytes, Signed, signed_bytes,
+    Truth, truth_byte,
+};
 ghost use Rattle.tv_base.specs.Parts.{Sized, Text, short_sized};
-ghost use Rattle.tv_base.specs.ErrorInPart.{ErrorInNumber, ErrorInBytes, ErrorInTruth, ErrorInSized, ErrorInText};
+ghost use Rattle.tv_base.specs.ErrorInPart.{
+    ErrorInNumber, ErrorInBytes, ErrorInTruth, ErrorInSized, ErrorInText,
+};
 ghost use Rattle.tv_base.specs.ReadsAs.{ReadsAs};
 ghost use Rattle.tv_base.specs.Reading.{vint_at};
 ghost use Rattle.tv_base.specs.Sink.{Writes};
@@ -48,7 +53,8 @@ pub trait BinarySerializable: Sized {
     /// Writes the shortest encoding. Errors: that of a write that failed. The sink then holds a beginning of the encoding
     /// behind what it held before.
     fn serialize<K: ByteSink>(&self, sink: &mut K) -> Result<(), io::ErrorKind>
-        ensures { Writes K.is_known K.held K.failures sink.old sink.new result (shortest (view self.now)) };
+        ensures { Writes K.is_known K.held K.failures sink.old sink.new result
+            (shortest (view self.now)) };
 
     /// Reads a value, and takes the bytes that encode it and no more.
     ///
@@ -56,7 +62,8 @@ pub trait BinarySerializable: Sized {
     /// `Memory`. At `Corrupted` just the bytes that show the error were taken: without the last of them only an end was to be seen,
     /// and at `UnexpectedEnd` all were taken. `TooLong` comes behind 2^64 - 1 bytes. After each other error some prefix was taken.
     fn deserialize<S: ByteSource>(alloc: Global, source: &mut S) -> Result<Self, ReadError>
-        ensures { ReadsAs S.is_known S.left S.failures source.old source.new view result encodes has_error };
+        ensures { ReadsAs S.is_known S.left S.failures source.old source.new view result encodes
+            has_error };
 }
 
 impl BinarySerializable for VInt {
@@ -75,7 +82,8 @@ impl BinarySerializable for VInt {
     }
 
     fn deserialize<S: ByteSource>(alloc: Global, source: &mut S) -> Result<VInt, ReadError>
-        ensures reads { ReadsAs S.is_known S.left S.failures source.old source.new (λ x. x.0) result VNum ErrorInNumber }
+        ensures reads { ReadsAs S.is_known S.left S.failures source.old source.new (λ x. x.0) result
+            VNum ErrorInNumber }
         ensures spares { ¬ IsErrOf result Memory }
     {
         let mut count = 0;
@@ -84,7 +92,8 @@ impl BinarySerializable for VInt {
 }
 
 fn take_wrapped<S: ByteSource>(source: &mut S, count: &mut u64) -> Result<VInt, ReadError>
-    ensures takes { TakesBy S.is_known S.left S.failures source.old count.old source.new count.new (λ x. x.0) result vint_at }
+    ensures takes { TakesBy S.is_known S.left S.failures source.old count.old source.new count.new
+        (λ x. x.0) result vint_at }
     ensures too_long { IsErrOf result (Corrupted TooLong) → count.new ≡ 2 ^ 64 - 1 }
     ensures spares { ¬ IsErrOf result Memory }
 {
@@ -107,7 +116,8 @@ impl BinarySerializable for u8 {
     }
 
     fn deserialize<S: ByteSource>(alloc: Global, source: &mut S) -> Result<u8, ReadError>
-        ensures reads { ReadsAs S.is_known S.left S.failures source.old source.new (λ n. n) result (Fixed 1) (ErrorInBytes 1) }
+        ensures reads { ReadsAs S.is_known S.left S.failures source.old source.new (λ n. n) result
+            (Fixed 1) (ErrorInBytes 1) }
         ensures spares { ¬ IsErrOf result Memory }
     {
         let mut count = 0;
@@ -131,7 +141,8 @@ impl BinarySerializable for u32 {
     }
 
     fn deserialize<S: ByteSource>(alloc: Global, source: &mut S) -> Result<u32, ReadError>
-        ensures reads { ReadsAs S.is_known S.left S.failures source.old source.new (λ n. n) result (Fixed 4) (ErrorInBytes 4) }
+        ensures reads { ReadsAs S.is_known S.left S.failures source.old source.new (λ n. n) result
+            (Fixed 4) (ErrorInBytes 4) }
         ensures spares { ¬ IsErrOf result Memory }
     {
         let mut count = 0;
@@ -155,7 +166,8 @@ impl BinarySerializable for u64 {
     }
 
     fn deserialize<S: ByteSource>(alloc: Global, source: &mut S) -> Result<u64, ReadError>
-        ensures reads { ReadsAs S.is_known S.left S.failures source.old source.new (λ n. n) result (Fixed 8) (ErrorInBytes 8) }
+        ensures reads { ReadsAs S.is_known S.left S.failures source.old source.new (λ n. n) result
+            (Fixed 8) (ErrorInBytes 8) }
         ensures spares { ¬ IsErrOf result Memory }
     {
         let mut count = 0;
@@ -200,7 +212,8 @@ impl BinarySerializable for u128 {
     }
 
     fn deserialize<S: ByteSource>(alloc: Global, source: &mut S) -> Result<u128, ReadError>
-        ensures reads { ReadsAs S.is_known S.left S.failures source.old source.new (λ n. n) result (Fixed 16) (ErrorInBytes 16) }
+        ensures reads { ReadsAs S.is_known S.left S.failures source.old source.new (λ n. n) result
+            (Fixed 16) (ErrorInBytes 16) }
         ensures spares { ¬ IsErrOf result Memory }
     {
         let mut count = 0;
@@ -224,7 +237,8 @@ impl BinarySerializable for i64 {
     }
 
     fn deserialize<S: ByteSource>(alloc: Global, source: &mut S) -> Result<i64, ReadError>
-        ensures reads { ReadsAs S.is_known S.left S.failures source.old source.new (λ n. n) result Signed (ErrorInBytes 8) }
+        ensures reads { ReadsAs S.is_known S.left S.failures source.old source.new (λ n. n) result
+            Signed (ErrorInBytes 8) }
         ensures spares { ¬ IsErrOf result Memory }
     {
         let mut count = 0;
@@ -248,7 +262,8 @@ impl BinarySerializable for bool {
     }
 
     fn deserialize<S: ByteSource>(alloc: Global, source: &mut S) -> Result<bool, ReadError>
-        ensures reads { ReadsAs S.is_known S.left S.failures source.old source.new (λ truth. truth) result Truth ErrorInTruth }
+        ensures reads { ReadsAs S.is_known S.left S.failures source.old source.new (λ truth. truth)
+            result Truth ErrorInTruth }
         ensures spares { ¬ IsErrOf result Memory }
     {
         let mut count = 0;

@@ -20,7 +20,8 @@ pub trait ByteSink {
     /// Appends some of the first bytes of `buf`, and gives their number: at least one if there is one. An `Err` is counted
     /// as a failure of its kind and appends none.
     fn write(&mut self, buf: &[u8]) -> Result<usize, io::ErrorKind>
-        ensures bytes { is_known self.old → AppendsSome (held self.old) (held self.new) result buf.now }
+        ensures bytes { is_known self.old
+            → AppendsSome (held self.old) (held self.new) result buf.now }
         ensures is_known { is_known self.old → is_known self.new }
         ensures count { IfOk result (λ n. n ≤ length buf.now) }
         ensures some { IfOk result (λ n. n ≡ 0 → length buf.now ≡ 0) }

@@ -26,7 +26,8 @@ pub trait ByteSource {
     /// and what `buf` then holds is unspecified.
     fn read(&mut self, buf: &mut [u8]) -> Result<usize, io::ErrorKind>
         ensures bound { IfOk result (λ n. n ≤ length buf.new) }
-        ensures bytes { is_known self.old → GivesSome (left self.old) (left self.new) result buf.new }
+        ensures bytes { is_known self.old
+            → GivesSome (left self.old) (left self.new) result buf.new }
         ensures is_known { is_known self.old → is_known self.new }
         ensures failures { CountsFailure result (failures self.old) (failures self.new) };
 
@@ -52,7 +53,9 @@ pub trait ByteSource {
         requires { most ≤ 4096 }
         ensures bound { IfOk result (λ n. n ≤ most) }
         ensures longer { IfOk result (λ n. length bytes.new.items ≡ length bytes.old.items + n) }
-        ensures bytes { is_known self.old → AppendsNext (left self.old) (left self.new) bytes.old.items bytes.new.items most result }
+        ensures bytes { is_known self.old
+            → AppendsNext (left self.old) (left self.new) bytes.old.items bytes.new.items most
+                result }
         ensures is_known { is_known self.old → is_known self.new }
         ensures failures { Counts append_stop result (failures self.old) (failures self.new) }
     {

@@ -4,13 +4,20 @@
 //! 2^64 - 1 it returns `Corrupted(TooLong)`. After an error `count` has risen by the number of the bytes that were taken up
 //! to there.
 
-ghost use Rattle.std.specs.Prelude.{◌≡◌, ◌⊎◌, ◌≤◌, ◌+◌, ◌-◌, ◌^◌, [], length, true, false, IfOk, IfErr, IsErrOf, OnOk, OnErr, string_bytes};
+ghost use Rattle.std.specs.Prelude.{
+    ◌≡◌, ◌⊎◌, ◌≤◌, ◌+◌, ◌-◌, ◌^◌, [], length, true, false, IfOk, IfErr, IsErrOf, OnOk, OnErr,
+    string_bytes,
+};
 ghost use Rattle.std.specs.Str.{is_utf8};
 ghost use Rattle.tv_base.specs.declared.cause.Cause.{Cause};
-ghost use Rattle.tv_base.specs.declared.cause.Cause.TheVariants.{UnexpectedEnd, BadNumber, BadBool, NotUtf8, TooLong};
+ghost use Rattle.tv_base.specs.declared.cause.Cause.TheVariants.{
+    UnexpectedEnd, BadNumber, BadBool, NotUtf8, TooLong,
+};
 ghost use Rattle.tv_base.specs.declared.read_error.ReadError.TheVariants.{Corrupted, Memory};
 ghost use Rattle.tv_base.specs.Take.{TakesBy};
-ghost use Rattle.tv_base.specs.Reading.{bytes_at, more_at, u8_at, u32_at, u64_at, u128_at, i64_at, truth_at, vint_at, sized_at, text_at};
+ghost use Rattle.tv_base.specs.Reading.{
+    bytes_at, more_at, u8_at, u32_at, u64_at, u128_at, i64_at, truth_at, vint_at, sized_at, text_at,
+};
 
 use crate::buffered::{fill, pass_number};
 use crate::cause::Cause;
@@ -26,8 +33,10 @@ use std::mem;
 /// What `buf` then holds is unspecified.
 #[inline]
 pub fn take<S: ByteSource>(source: &mut S, count: &mut u64, buf: &mut [u8]) -> Result<(), ReadError>
-    ensures takes { TakesBy S.is_known S.left S.failures source.old count.old source.new count.new (λ _. buf.new) result (bytes_at (length buf.old)) }
-    ensures causes { (cause : Cause) → IsErrOf result (Corrupted cause) → (cause ≡ UnexpectedEnd) ⊎ (cause ≡ TooLong) }
+    ensures takes { TakesBy S.is_known S.left S.failures source.old count.old source.new count.new
+        (λ _. buf.new) result (bytes_at (length buf.old)) }
+    ensures causes { (cause : Cause) → IsErrOf result (Corrupted cause)
+        → (cause ≡ UnexpectedEnd) ⊎ (cause ≡ TooLong) }
     ensures counted { OnOk result (count.new ≡ count.old + length buf.old) }
     ensures too_long { IsErrOf result (Corrupted TooLong) → count.new ≡ 2 ^ 64 - 1 }
     ensures spares { ¬ IsErrOf result Memory }
@@ -49,8 +58,10 @@ fn take_by_reads<S: ByteSource>(
     count: &mut u64,
     buf: &mut [u8],
 ) -> Result<(), ReadError>
-    ensures takes { TakesBy S.is_known S.left S.failures source.old count.old source.new count.new (λ _. buf.new) result (bytes_at (length buf.old)) }
-    ensures causes { (cause : Cause) → IsErrOf result (Corrupted cause) → (cause ≡ UnexpectedEnd) ⊎ (cause ≡ TooLong) }
+    ensures takes { TakesBy S.is_known S.left S.failures source.old count.old source.new count.new
+        (λ _. buf.new) result (bytes_at (length buf.old)) }
+    ensures causes { (cause : Cause) → IsErrOf result (Corrupted cause)
+        → (cause ≡ UnexpectedEnd) ⊎ (cause ≡ TooLong) }
     ensures counted { OnOk result (count.new ≡ count.old + length buf.old) }
     ensures too_long { IsErrOf result (Corrupted TooLong) → count.new ≡ 2 ^ 64 - 1 }
     ensures spares { ¬ IsErrOf result Memory }
@@ -78,8 +89,10 @@ fn take_by_reads<S: ByteSource>(
 #[inline]
 #[tactic(auto, unfolding(crate::specs::Reading::u8_at))]
 pub fn take_u8<S: ByteSource>(source: &mut S, count: &mut u64) -> Result<u8, ReadError>
-    ensures takes { TakesBy S.is_known S.left S.failures source.old count.old source.new count.new (λ x. x) result u8_at }
-    ensures causes { (cause : Cause) → IsErrOf result (Corrupted cause) → (cause ≡ UnexpectedEnd) ⊎ (cause ≡ TooLong) }
+    ensures takes { TakesBy S.is_known S.left S.failures source.old count.old source.new count.new
+        (λ x. x) result u8_at }
+    ensures causes { (cause : Cause) → IsErrOf result (Corrupted cause)
+        → (cause ≡ UnexpectedEnd) ⊎ (cause ≡ TooLong) }
     ensures refused { OnErr result (count.new ≡ count.old) }
     ensures counted { OnOk result (count.new ≡ count.old + 1) }
     ensures too_long { IsErrOf result (Corrupted TooLong) → count.new ≡ 2 ^ 64 - 1 }
@@ -101,7 +114,8 @@ pub fn take_u8<S: ByteSource>(source: &mut S, count: &mut u64) -> Result<u8, Rea
 /// Takes a number in four bytes, the lowest first. Errors: those of [`take`].
 #[tactic(auto, unfolding(crate::specs::Reading::number_at))]
 pub fn take_u32<S: ByteSource>(source: &mut S, count: &mut u64) -> Result<u32, ReadError>
-    ensures takes { TakesBy S.is_known S.left S.failures source.old count.old source.new count.new (λ x. x) result u32_at }
+    ensures takes { TakesBy S.is_known S.left S.failures source.old count.old source.new count.new
+        (λ x. x) result u32_at }
     ensures counted { OnOk result (count.new ≡ count.old + 4) }
     ensures too_long { IsErrOf result (Corrupted TooLong) → count.new ≡ 2 ^ 64 - 1 }
     ensures spares { ¬ IsErrOf result Memory }
@@ -114,7 +128,8 @@ pub fn take_u32<S: ByteSource>(source: &mut S, count: &mut u64) -> Result<u32, R
 /// Takes a number in eight bytes, the lowest first. Errors: those of [`take`].
 #[tactic(auto, unfolding(crate::specs::Reading::number_at))]
 pub fn take_u64<S: ByteSource>(source: &mut S, count: &mut u64) -> Result<u64, ReadError>
-    ensures takes { TakesBy S.is_known S.left S.failures source.old count.old source.new count.new (λ x. x) result u64_at }
+    ensures takes { TakesBy S.is_known S.left S.failures source.old count.old source.new count.new
+        (λ x. x) result u64_at }
     ensures counted { OnOk result (count.new ≡ count.old + 8) }
     ensures too_long { IsErrOf result (Corrupted TooLong) → count.new ≡ 2 ^ 64 - 1 }
     ensures spares { ¬ IsErrOf result Memory }
@@ -127,7 +142,8 @@ pub fn take_u64<S: ByteSource>(source: &mut S, count: &mut u64) -> Result<u64, R
 /// Takes a number in sixteen bytes, the lowest first. Errors: those of [`take`].
 #[tactic(auto, unfolding(crate::specs::Reading::number_at))]
 pub fn take_u128<S: ByteSource>(source: &mut S, count: &mut u64) -> Result<u128, ReadError>
-    ensures takes { TakesBy S.is_known S.left S.failures source.old count.old source.new count.new (λ x. x) result u128_at }
+    ensures takes { TakesBy S.is_known S.left S.failures source.old count.old source.new count.new
+        (λ x. x) result u128_at }
     ensures counted { OnOk result (count.new ≡ count.old + 16) }
     ensures too_long { IsErrOf result (Corrupted TooLong) → count.new ≡ 2 ^ 64 - 1 }
     ensures spares { ¬ IsErrOf result Memory }
@@ -140,7 +156,8 @@ pub fn take_u128<S: ByteSource>(source: &mut S, count: &mut u64) -> Result<u128,
 /// Takes a signed number in eight bytes, the lowest first, in two's complement. Errors: those of [`take`].
 #[tactic(auto, unfolding(crate::specs::Reading::i64_at))]
 pub fn take_i64<S: ByteSource>(source: &mut S, count: &mut u64) -> Result<i64, ReadError>
-    ensures takes { TakesBy S.is_known S.left S.failures source.old count.old source.new count.new (λ x. x) result i64_at }
+    ensures takes { TakesBy S.is_known S.left S.failures source.old count.old source.new count.new
+        (λ x. x) result i64_at }
     ensures counted { OnOk result (count.new ≡ count.old + 8) }
     ensures too_long { IsErrOf result (Corrupted TooLong) → count.new ≡ 2 ^ 64 - 1 }
     ensures spares { ¬ IsErrOf result Memory }
@@ -154,7 +171,8 @@ pub fn take_i64<S: ByteSource>(source: &mut S, count: &mut u64) -> Result<i64, R
 /// Errors: those of [`take`], and `Corrupted(BadBool)` where the byte is neither.
 #[tactic(auto, unfolding(crate::specs::Reading::truth_at))]
 pub fn take_bool<S: ByteSource>(source: &mut S, count: &mut u64) -> Result<bool, ReadError>
-    ensures takes { TakesBy S.is_known S.left S.failures source.old count.old source.new count.new (λ x. x) result truth_at }
+    ensures takes { TakesBy S.is_known S.left S.failures source.old count.old source.new count.new
+        (λ x. x) result truth_at }
     ensures counted { OnOk result (count.new ≡ count.old + 1) }
     ensures too_long { IsErrOf result (Corrupted TooLong) → count.new ≡ 2 ^ 64 - 1 }
     ensures other { IsErrOf result (Corrupted BadBool) → count.new ≡ count.old + 1 }
@@ -175,7 +193,8 @@ const LONGEST_NUMBER: u64 = 10;
 /// Errors: those of [`take`], and `Corrupted(BadNumber)` where the number has more than ten bytes or is 2^64 or more.
 #[inline]
 pub fn take_vint<S: ByteSource>(source: &mut S, count: &mut u64) -> Result<u64, ReadError>
-    ensures takes { TakesBy S.is_known S.left S.failures source.old count.old source.new count.new (λ x. x) result vint_at }
+    ensures takes { TakesBy S.is_known S.left S.failures source.old count.old source.new count.new
+        (λ x. x) result vint_at }
     ensures too_long { IsErrOf result (Corrupted TooLong) → count.new ≡ 2 ^ 64 - 1 }
     ensures spares { ¬ IsErrOf result Memory }
     ensures few { count.new ≤ count.old + 10 }
@@ -198,7 +217,8 @@ const MORE_GROUPS: u32 = 9;
 
 // The same, group by group.
 fn take_groups<S: ByteSource>(source: &mut S, count: &mut u64) -> Result<u64, ReadError>
-    ensures takes { TakesBy S.is_known S.left S.failures source.old count.old source.new count.new (λ x. x) result vint_at }
+    ensures takes { TakesBy S.is_known S.left S.failures source.old count.old source.new count.new
+        (λ x. x) result vint_at }
     ensures too_long { IsErrOf result (Corrupted TooLong) → count.new ≡ 2 ^ 64 - 1 }
     ensures spares { ¬ IsErrOf result Memory }
     ensures few { count.new ≤ count.old + 10 }
@@ -233,7 +253,8 @@ pub fn take_pieces<S: ByteSource>(
     bytes: &mut Vec<u8>,
     len: u64,
 ) -> Result<(), ReadError>
-    ensures takes { TakesBy S.is_known S.left S.failures source.old count.old source.new count.new (λ _. bytes.new.items) result (more_at bytes.old.items len) }
+    ensures takes { TakesBy S.is_known S.left S.failures source.old count.old source.new count.new
+        (λ _. bytes.new.items) result (more_at bytes.old.items len) }
     ensures longer { OnOk result (length bytes.new.items ≡ length bytes.old.items + len) }
     ensures too_long { IsErrOf result (Corrupted TooLong) → count.new ≡ 2 ^ 64 - 1 }
 {
@@ -263,7 +284,8 @@ pub fn take_sized<S: ByteSource>(
     count: &mut u64,
     bytes: &mut Vec<u8>,
 ) -> Result<(), ReadError>
-    ensures takes { TakesBy S.is_known S.left S.failures source.old count.old source.new count.new (λ _. bytes.new.items) result sized_at }
+    ensures takes { TakesBy S.is_known S.left S.failures source.old count.old source.new count.new
+        (λ _. bytes.new.items) result sized_at }
     ensures too_long { IsErrOf result (Corrupted TooLong) → count.new ≡ 2 ^ 64 - 1 }
 {
     let len = take_vint(source, count)?;
@@ -277,7 +299,8 @@ pub fn take_bytes<S: ByteSource>(
     source: &mut S,
     count: &mut u64,
 ) -> Result<Vec<u8>, ReadError>
-    ensures takes { TakesBy S.is_known S.left S.failures source.old count.old source.new count.new (λ bytes. bytes.items) result sized_at }
+    ensures takes { TakesBy S.is_known S.left S.failures source.old count.old source.new count.new
+        (λ bytes. bytes.items) result sized_at }
     ensures too_long { IsErrOf result (Corrupted TooLong) → count.new ≡ 2 ^ 64 - 1 }
 {
     let mut bytes = Vec::new(alloc);
@@ -296,7 +319,8 @@ pub fn take_text<S: ByteSource>(
     count: &mut u64,
     text: &mut String,
 ) -> Result<(), ReadError>
-    ensures takes { TakesBy S.is_known S.left S.failures source.old count.old source.new count.new (λ _. string_bytes text.new) result text_at }
+    ensures takes { TakesBy S.is_known S.left S.failures source.old count.old source.new count.new
+        (λ _. string_bytes text.new) result text_at }
     ensures too_long { IsErrOf result (Corrupted TooLong) → count.new ≡ 2 ^ 64 - 1 }
     ensures empty { OnErr result (string_bytes text.new ≡ []) }
 {
@@ -312,7 +336,8 @@ pub fn take_string<S: ByteSource>(
     source: &mut S,
     count: &mut u64,
 ) -> Result<String, ReadError>
-    ensures takes { TakesBy S.is_known S.left S.failures source.old count.old source.new count.new (λ s. string_bytes s) result text_at }
+    ensures takes { TakesBy S.is_known S.left S.failures source.old count.old source.new count.new
+        (λ s. string_bytes s) result text_at }
     ensures too_long { IsErrOf result (Corrupted TooLong) → count.new ≡ 2 ^ 64 - 1 }
 {
     let mut text = String::new(alloc);
@@ -326,7 +351,8 @@ pub fn take_facet<S: ByteSource>(
     source: &mut S,
     count: &mut u64,
 ) -> Result<Facet, ReadError>
-    ensures takes { TakesBy S.is_known S.left S.failures source.old count.old source.new count.new (λ facet. facet) result text_at }
+    ensures takes { TakesBy S.is_known S.left S.failures source.old count.old source.new count.new
+        (λ facet. facet) result text_at }
     ensures too_long { IsErrOf result (Corrupted TooLong) → count.new ≡ 2 ^ 64 - 1 }
 {
     let encoded = take_string(alloc, source, count)?;

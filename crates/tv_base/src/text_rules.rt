@@ -22,7 +22,8 @@ pub(crate) enum Rule {
 
 /// What stands for a byte of a text, where that isn't the byte itself.
 fn replacement(rule: Rule, is_unescaped: bool, byte: u8) -> Option<&'static str>
-    ensures { MatchOption result (stands_for rule is_unescaped byte ≡ byte ∷ []) (λ text. (text.now ≡ stands_for rule is_unescaped byte) × (byte < 128)) }
+    ensures { MatchOption result (stands_for rule is_unescaped byte ≡ byte ∷ [])
+        (λ text. (text.now ≡ stands_for rule is_unescaped byte) × (byte < 128)) }
 {
     match (rule, byte) {
         (Rule::Facet | Rule::Path { .. }, b'\\') if is_unescaped => Some(""),
@@ -35,7 +36,8 @@ fn replacement(rule: Rule, is_unescaped: bool, byte: u8) -> Option<&'static str>
 
 /// Writes the rewritten text behind what is there. Errors: memory was refused, and then a part of it may be written.
 pub(crate) fn rewrite(rule: Rule, text: &str, out: &mut String) -> Result<(), AllocError>
-    ensures { OnOk result (string_bytes out.new ≡ string_bytes out.old ++ rewritten (stands_for rule) text.now) }
+    ensures { OnOk result
+        (string_bytes out.new ≡ string_bytes out.old ++ rewritten (stands_for rule) text.now) }
 {
     let bytes = text.as_bytes();
     let mut start = 0;
@@ -54,7 +56,8 @@ pub(crate) fn rewrite(rule: Rule, text: &str, out: &mut String) -> Result<(), Al
 
 /// What is printed for a byte of an encoded facet, where that isn't the byte itself.
 pub(crate) fn printed_text(byte: u8) -> Option<&'static str>
-    ensures { MatchOption result (printed_or_slash byte ≡ byte ∷ []) (λ text. (text.now ≡ printed_or_slash byte) × (byte < 128)) }
+    ensures { MatchOption result (printed_or_slash byte ≡ byte ∷ [])
+        (λ text. (text.now ≡ printed_or_slash byte) × (byte < 128)) }
 {
     match byte {
         0 => Some("/"),
@@ -68,7 +71,8 @@ pub(crate) fn printed_text(byte: u8) -> Option<&'static str>
 /// it may be written.
 pub(crate) fn push_printed(encoded: &str, out: &mut String) -> Result<(), AllocError>
     ensures ok { OnOk result (string_bytes out.new ≡ string_bytes out.old ++ printed encoded.now) }
-    ensures err { OnErr result (Begins (string_bytes out.old) (string_bytes out.new) (printed encoded.now)) }
+    ensures err { OnErr result
+        (Begins (string_bytes out.old) (string_bytes out.new) (printed encoded.now)) }
 {
     let bytes = encoded.as_bytes();
     out.push_str("/")?;

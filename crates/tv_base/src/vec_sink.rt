@@ -35,7 +35,8 @@ impl VecSink {
     /// A sink that holds no byte. It takes no memory yet.
     pub fn new(alloc: Global) -> VecSink
         ensures bytes { ⟦<VecSink as ByteSink>⟧.held result ≡ [] }
-        ensures failures { ⟦<VecSink as ByteSink>⟧.failures result ≡ record { number = 0; last = None } }
+        ensures failures { ⟦<VecSink as ByteSink>⟧.failures result
+            ≡ record { number = 0; last = None } }
     {
         VecSink {
             bytes: Vec::new(alloc),
@@ -54,7 +55,8 @@ impl VecSink {
     /// Forgets the bytes that the sink holds, and keeps their memory for those to come. The failures that were counted stay.
     pub fn clear(&mut self)
         ensures bytes { ⟦<VecSink as ByteSink>⟧.held self.new ≡ [] }
-        ensures failures { ⟦<VecSink as ByteSink>⟧.failures self.new ≡ ⟦<VecSink as ByteSink>⟧.failures self.old }
+        ensures failures { ⟦<VecSink as ByteSink>⟧.failures self.new
+            ≡ ⟦<VecSink as ByteSink>⟧.failures self.old }
     {
         self.bytes.clear();
     }
@@ -81,9 +83,11 @@ impl ByteSink for VecSink {
 
     /// Appends all of `buf`. Errors: `OutOfMemory` where memory is refused, and then none of it is appended.
     fn write(&mut self, buf: &[u8]) -> Result<usize, io::ErrorKind>
-        ensures bytes { AppendsSome (⟦<VecSink as ByteSink>⟧.held self.old) (⟦<VecSink as ByteSink>⟧.held self.new) result buf.now }
+        ensures bytes { AppendsSome (⟦<VecSink as ByteSink>⟧.held self.old)
+            (⟦<VecSink as ByteSink>⟧.held self.new) result buf.now }
         ensures all { IfOk result (λ n. n ≡ length buf.now) }
-        ensures failures { CountsFailure result (⟦<VecSink as ByteSink>⟧.failures self.old) (⟦<VecSink as ByteSink>⟧.failures self.new) }
+        ensures failures { CountsFailure result (⟦<VecSink as ByteSink>⟧.failures self.old)
+            (⟦<VecSink as ByteSink>⟧.failures self.new) }
         ensures kind { IfErr result (λ kind. kind ≡ OutOfMemory) }
     {
         match append(&mut self.bytes, buf) {

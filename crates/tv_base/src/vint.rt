@@ -49,8 +49,10 @@ impl VInt {
     /// The number that is encoded at the start of the bytes, padded or not, and the length of its encoding in bytes. `None`
     /// where the bytes end inside a number, or where the number is 2^64 or more or has more than ten bytes.
     pub fn from_slice(bytes: &[u8]) -> Option<(u64, usize)>
-        ensures found { IfSome result (λ x. (x.1 ≤ length bytes.now) × VNum (take x.1 bytes.now) x.0) }
-        ensures only { (n : ℕ) (prefix rest : List ℕ) → bytes.now ≡ prefix ++ rest → VNum prefix n → result ≡ Some (n, length prefix) }
+        ensures found { IfSome result
+            (λ x. (x.1 ≤ length bytes.now) × VNum (take x.1 bytes.now) x.0) }
+        ensures only { (n : ℕ) (prefix rest : List ℕ) → bytes.now ≡ prefix ++ rest → VNum prefix n
+            → result ≡ Some (n, length prefix) }
         ensures none { IfNone result ((cause : Cause) × ErrorInNumber bytes.now cause) }
     {
         let mut source = SliceSource::new(bytes);

@@ -4,7 +4,9 @@
 //! to be written.
 
 ghost use Rattle.std.specs.Prelude.{◌≡◌};
-ghost use Rattle.tv_base.specs.Number.{vnum, one_byte, four_bytes, eight_bytes, sixteen_bytes, signed_bytes, truth_byte};
+ghost use Rattle.tv_base.specs.Number.{
+    vnum, one_byte, four_bytes, eight_bytes, sixteen_bytes, signed_bytes, truth_byte,
+};
 ghost use Rattle.tv_base.specs.Parts.{short_sized};
 ghost use Rattle.tv_base.specs.Sink.{Writes};
 
@@ -98,7 +100,8 @@ pub fn write_vint<K: ByteSink>(sink: &mut K, number: u64) -> Result<(), io::Erro
 #[inline]
 #[tactic(auto, using(crate::proofs::Written::Writes_then, crate::proofs::Written::Writes_prefix))]
 pub fn write_sized<K: ByteSink>(sink: &mut K, content: &[u8]) -> Result<(), io::ErrorKind>
-    ensures { Writes K.is_known K.held K.failures sink.old sink.new result (short_sized content.now) }
+    ensures { Writes K.is_known K.held K.failures sink.old sink.new result
+        (short_sized content.now) }
 {
     write_vint(sink, content.len() as u64)?;
     write_all(sink, content)

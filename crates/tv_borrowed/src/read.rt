@@ -3,7 +3,9 @@
 ghost use Rattle.std.specs.Prelude.{◌≡◌, ◌<◌, length, Some, IfSome, OnSome};
 ghost use Rattle.json.specs.Json.{value, items, members};
 ghost use Rattle.serde_json.specs.Data.{no_members};
-ghost use Rattle.serde_json.specs.Read.{of_json, of_items, of_members, converted, read as read_text};
+ghost use Rattle.serde_json.specs.Read.{
+    of_json, of_items, of_members, converted, read as read_text,
+};
 ghost use Rattle.tv_borrowed.specs.BorrowedData.{data_of, items_data, members_data};
 
 use crate::borrowed::BorrowedJson;
@@ -43,7 +45,8 @@ pub fn read_borrowed<'a>(
 #[cycle(read)]
 #[inline(always)]
 fn read<'a>(alloc: Global, reader: &mut Reader<'a>, depth: usize) -> Option<BorrowedJson<'a>>
-    ensures found { IfSome result (λ json. converted of_json (value depth reader.old) ≡ Some (data_of json, reader.new)) }
+    ensures found { IfSome result
+        (λ json. converted of_json (value depth reader.old) ≡ Some (data_of json, reader.new)) }
     ensures shorter { OnSome result (length reader.new < length reader.old) }
 {
     match reader.next()? {
@@ -71,7 +74,9 @@ fn read_items<'a>(
     reader: &mut Reader<'a>,
     depth: usize,
 ) -> Option<Vec<BorrowedJson<'a>>>
-    ensures found { IfSome result (λ v. converted of_items (items (value depth) (length reader.old) reader.old) ≡ Some (items_data v.items, reader.new)) }
+    ensures found { IfSome result
+        (λ v. converted of_items (items (value depth) (length reader.old) reader.old)
+            ≡ Some (items_data v.items, reader.new)) }
     ensures shorter { OnSome result (length reader.new < length reader.old) }
 {
     let mut found = Vec::new(alloc);
@@ -86,7 +91,10 @@ fn read_items<'a>(
 #[cycle(read)]
 #[inline(never)]
 fn read_members<'a>(alloc: Global, reader: &mut Reader<'a>, depth: usize) -> Option<Members<'a>>
-    ensures found { IfSome result (λ v. converted (λ ms. of_members ms no_members) (members (value depth) (length reader.old) reader.old) ≡ Some (members_data v.items, reader.new)) }
+    ensures found { IfSome result
+        (λ v. converted (λ ms. of_members ms no_members)
+                (members (value depth) (length reader.old) reader.old)
+            ≡ Some (members_data v.items, reader.new)) }
     ensures shorter { OnSome result (length reader.new < length reader.old) }
 {
     let mut found = Vec::new(alloc);

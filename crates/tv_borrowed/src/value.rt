@@ -81,7 +81,8 @@ fn copied_members(members: &[(&str, BorrowedJson<'_>)], alloc: Global) -> Option
 // Whether the key is above the last one, if there is one.
 #[inline(always)]
 fn is_above(key: &str, last: Option<&str>) -> bool
-    ensures { IsTrue result ↔ IfSome last.entry (λ before. slice_cmp nat_cmp before.now key.now ≡ Less) }
+    ensures { IsTrue result
+        ↔ IfSome last.entry (λ before. slice_cmp nat_cmp before.now key.now ≡ Less) }
 {
     match last {
         Some(before) => before.cmp(key) == Ordering::Less,
@@ -92,7 +93,8 @@ fn is_above(key: &str, last: Option<&str>) -> bool
 // Puts a value under a copy of its key.
 #[inline(always)]
 fn insert_copy(made: &mut Map<String, Value>, key: &str, value: Value, alloc: Global) -> Option<()>
-    ensures { OnSome result (members_view made.new.entries ≡ put key.now (view value) (members_view made.old.entries)) }
+    ensures { OnSome result
+        (members_view made.new.entries ≡ put key.now (view value) (members_view made.old.entries)) }
 {
     let name = String::from_str(alloc, key).ok()?;
     drop(made.insert(name, value).ok()?);

@@ -1,6 +1,9 @@
 //! A heap, and a value that is written into it part by part.
 
-ghost use Rattle.std.specs.Prelude.{◌≡◌, ℕ, ◌+◌, ◌-◌, ◌<◌, ◌≤◌, ◌^◌, ◌++◌, [], ◌∷◌, ◌↔◌, length, drop, take, OnOk, OnErr, IfOk, IfErr, IsTrue, IsUtf8};
+ghost use Rattle.std.specs.Prelude.{
+    ◌≡◌, ℕ, ◌+◌, ◌-◌, ◌<◌, ◌≤◌, ◌^◌, ◌++◌, [], ◌∷◌, ◌↔◌, length, drop, take, OnOk, OnErr, IfOk,
+    IfErr, IsTrue, IsUtf8,
+};
 ghost use Rattle.tv_base.specs.Number.{vnum};
 ghost use Rattle.tv_base.specs.Parts.{short_sized};
 ghost use Rattle.tv_base.specs.Sink.{IsPrefix};
@@ -54,12 +57,22 @@ pub struct Building {
 }
 
 impl Building {
-    ghost use Rattle.tv_builder.specs.Called.{held, leaf_called, list_called, key_called, tree_called};
+    ghost use Rattle.tv_builder.specs.Called.{
+        held, leaf_called, list_called, key_called, tree_called,
+    };
     ghost use Rattle.tv_builder.specs.Parts.{IsContent};
-    ghost use Rattle.tv_builder.specs.Moves.{CanGive, Gives, GivesNot, CanGiveKey, GivesKey, Closed, ClosedNot, Does, EndsBytes, LeafHeap, LeafFull, ValueHeap, ValueFull, HeadHeap, HeadFull, KeyHeap, KeyFull, ListHeap, ListFull, AwaitsChunk, last_bytes};
+    ghost use Rattle.tv_builder.specs.Moves.{
+        CanGive, Gives, GivesNot, CanGiveKey, GivesKey, Closed, ClosedNot, Does, EndsBytes,
+        LeafHeap, LeafFull, ValueHeap, ValueFull, HeadHeap, HeadFull, KeyHeap, KeyFull, ListHeap,
+        ListFull, AwaitsChunk, last_bytes,
+    };
     ghost use Rattle.tv_builder.specs.Shows.{Stands, frames_of, awaited_by};
-    ghost use Rattle.tv_builder.specs.State.{and_value, and_list, and_key, and_head, and_bytes, head_awaits};
-    ghost use Rattle.tv_builder.specs.declared.awaits.Awaits.TheVariants.{Value as ValueNext, Key as KeyNext};
+    ghost use Rattle.tv_builder.specs.State.{
+        and_value, and_list, and_key, and_head, and_bytes, head_awaits,
+    };
+    ghost use Rattle.tv_builder.specs.declared.awaits.Awaits.TheVariants.{
+        Value as ValueNext, Key as KeyNext,
+    };
 
     /// Behind this heap, where a value is awaited. It takes no memory.
     pub fn new(alloc: Global, heap: Vec<u8>) -> Building
@@ -118,8 +131,11 @@ impl Building {
     /// A value without children has come.
     pub fn leaf(&mut self, value: &ReferenceValueLeaf<'_>) -> Result<(), BuildError>
         requires { Stands self.old }
-        ensures does { let l = leaf_of value.now in Does self.old self.new (awaited_by self.old ≡ ValueNext) (LeafHeap self.old l) (LeafFull self.old l) (λ s. and_value s (leaf_tree l)) result }
-        ensures exact { OnOk result (held self.new ≡ leaf_called (held self.old) (leaf_of value.now)) }
+        ensures does { let l = leaf_of value.now in Does self.old self.new
+            (awaited_by self.old ≡ ValueNext) (LeafHeap self.old l) (LeafFull self.old l)
+            (λ s. and_value s (leaf_tree l)) result }
+        ensures exact { OnOk result
+            (held self.new ≡ leaf_called (held self.old) (leaf_of value.now)) }
     {
         let Awaits::Value = self.awaits() else {
             return Err(BuildError::OutOfPlace);
@@ -131,8 +147,11 @@ impl Building {
     /// A whole value of any kind has come: what the calls for its parts do.
     pub fn tree<'a, V: Value<'a>>(&mut self, value: &V) -> Result<(), BuildError>
         requires { Stands self.old }
-        ensures does { let t = V.tree value.now in Does self.old self.new (awaited_by self.old ≡ ValueNext) (ValueHeap self.old t) (ValueFull self.old t) (λ s. and_value s t) result }
-        ensures exact { OnOk result (held self.new ≡ tree_called (held self.old) (V.tree value.now)) }
+        ensures does { let t = V.tree value.now in Does self.old self.new
+            (awaited_by self.old ≡ ValueNext) (ValueHeap self.old t) (ValueFull self.old t)
+            (λ s. and_value s t) result }
+        ensures exact { OnOk result
+            (held self.new ≡ tree_called (held self.old) (V.tree value.now)) }
     {
         let Awaits::Value = self.awaits() else {
             return Err(BuildError::OutOfPlace);
@@ -144,7 +163,9 @@ impl Building {
     /// A list has come, of which so many elements or entries are announced. One of none closes at once.
     pub fn open_list(&mut self, kind: ListKind, announced: u64) -> Result<(), BuildError>
         requires { Stands self.old }
-        ensures does { Does self.old self.new (awaited_by self.old ≡ ValueNext) (ListHeap self.old kind announced) (ListFull self.old kind announced) (λ s. and_list s kind announced) result }
+        ensures does { Does self.old self.new (awaited_by self.old ≡ ValueNext)
+            (ListHeap self.old kind announced) (ListFull self.old kind announced)
+            (λ s. and_list s kind announced) result }
         ensures exact { OnOk result (held self.new ≡ list_called (held self.old) kind announced) }
     {
         let Awaits::Value = self.awaits() else {
@@ -167,7 +188,9 @@ impl Building {
     /// A key has come.
     pub fn key(&mut self, content: &str) -> Result<(), BuildError>
         requires { Stands self.old }
-        ensures does { Does self.old self.new (awaited_by self.old ≡ KeyNext) (KeyHeap self.old content.now) (KeyFull self.old content.now) (λ s. and_key s content.now) result }
+        ensures does { Does self.old self.new (awaited_by self.old ≡ KeyNext)
+            (KeyHeap self.old content.now) (KeyFull self.old content.now)
+            (λ s. and_key s content.now) result }
         ensures exact { OnOk result (held self.new ≡ key_called (held self.old) content.now) }
     {
         let Awaits::Key = self.awaits() else {
@@ -184,7 +207,9 @@ impl Building {
     /// The bytes of a value or a key begin, of which so many are announced.
     pub fn begin_bytes(&mut self, kind: BytesKind, announced: u64) -> Result<(), BuildError>
         requires { Stands self.old }
-        ensures { Does self.old self.new (awaited_by self.old ≡ head_awaits kind) (HeadHeap self.old announced) (HeadFull self.old announced) (λ s. and_head s kind announced) result }
+        ensures { Does self.old self.new (awaited_by self.old ≡ head_awaits kind)
+            (HeadHeap self.old announced) (HeadFull self.old announced)
+            (λ s. and_head s kind announced) result }
     {
         if !self.awaits_head(kind) {
             return Err(BuildError::OutOfPlace);
@@ -218,7 +243,9 @@ impl Building {
     /// Some of the announced bytes have come.
     pub fn chunk(&mut self, bytes: &[u8]) -> Result<(), BuildError>
         requires { Stands self.old }
-        ensures { Does self.old self.new (AwaitsChunk self.old.open (length bytes.now)) (λ heap. heap ≡ self.old.heap.items ++ bytes.now) ⊥ (λ s. and_bytes s bytes.now) result }
+        ensures { Does self.old self.new (AwaitsChunk self.old.open (length bytes.now))
+            (λ heap. heap ≡ self.old.heap.items ++ bytes.now) ⊥ (λ s. and_bytes s bytes.now)
+            result }
     {
         let Some(open) = self.open else {
             return Err(BuildError::OutOfPlace);
@@ -263,7 +290,8 @@ impl Building {
     // Whether the bytes that were open are what they are announced to be.
     fn ends_well(&self, open: OpenBytes) -> bool
         requires { open.announced ≤ length self.now.heap.items }
-        ensures { IsTrue result ↔ IsContent open.kind (last_bytes open.announced self.now.heap.items) }
+        ensures { IsTrue result
+            ↔ IsContent open.kind (last_bytes open.announced self.now.heap.items) }
     {
         !open.kind.is_text() || self.ends_in_text(open.announced as usize)
     }
@@ -284,7 +312,8 @@ impl Building {
     fn give_key(&mut self, address: u32) -> Result<(), BuildError>
         requires { CanGiveKey self.old }
         ensures ok { OnOk result (GivesKey self.old address self.new) }
-        ensures err { IfErr result (λ e. (e ≡ BuildError.Memory) × (self.new.heap.items ≡ self.old.heap.items)) }
+        ensures err { IfErr result
+            (λ e. (e ≡ BuildError.Memory) × (self.new.heap.items ≡ self.old.heap.items)) }
     {
         let Some(mut frame) = self.frames.pop() else {
             return Err(BuildError::Memory);

@@ -76,7 +76,9 @@ fn truth_at(bytes: &[u8]) -> Option<(bool, &[u8])>
 
 // The text with its tokens at the start, behind the code of an extension.
 fn tokenized_at(bytes: &[u8]) -> Option<(PreTokenizedStr<'_>, &[u8])>
-    ensures { IfSome result (λ x. Begins (Behind 0 (λ b. Tokenized b (text_of x.0) (tokens_of x.0))) bytes.now x.1.now) }
+    ensures { IfSome result
+        (λ x. Begins (Behind 0 (λ b. Tokenized b (text_of x.0) (tokens_of x.0))) bytes.now
+            x.1.now) }
 {
     let (code, payload) = bytes.split_first()?;
     if *code != TOK_STR_EXT_CODE {
@@ -103,7 +105,9 @@ fn key_at(bytes: &[u8]) -> Option<(&str, &[u8])>
 #[inline(always)]
 fn put_content(heap: &mut Vec<u8>, leaf_type: LeafType, content: LeafContent<'_>) -> Option<Place>
     requires { length heap.old.items ≤ 4294967295 }
-    ensures found { IfSome result (λ place. (l : Leaf) × (leaf_with leaf_type (content_of content.entry) ≡ Some l) × Put heap.old.items (leaf_tree l) heap.new.items place) }
+    ensures found { IfSome result
+        (λ place. (l : Leaf) × (leaf_with leaf_type (content_of content.entry) ≡ Some l)
+            × Put heap.old.items (leaf_tree l) heap.new.items place) }
     ensures prefix { IsPrefix heap.old.items heap.new.items }
 {
     let value = ReferenceValueLeaf::with_content(leaf_type, content)?;
@@ -114,7 +118,8 @@ fn put_content(heap: &mut Vec<u8>, leaf_type: LeafType, content: LeafContent<'_>
 #[inline(always)]
 fn put_encoded_leaf<'a>(code: u8, bytes: &'a [u8], heap: &mut Vec<u8>) -> Option<(&'a [u8], Place)>
     requires { length heap.old.items ≤ 4294967295 }
-    ensures found { IfSome result (λ x. EncodedPut (code ∷ bytes.now) x.0.now heap.old.items heap.new.items x.1) }
+    ensures found { IfSome result
+        (λ x. EncodedPut (code ∷ bytes.now) x.0.now heap.old.items heap.new.items x.1) }
     ensures prefix { IsPrefix heap.old.items heap.new.items }
 {
     let leaf_type = LeafType::from_store_code(code)?;
@@ -176,7 +181,8 @@ pub fn put_encoded<'a>(
     places: &mut Vec<u8>,
 ) -> Option<(&'a [u8], Place)>
     requires { length heap.old.items ≤ 4294967295 }
-    ensures found { IfSome result (λ x. EncodedPut bytes.now x.0.now heap.old.items heap.new.items x.1) }
+    ensures found { IfSome result
+        (λ x. EncodedPut bytes.now x.0.now heap.old.items heap.new.items x.1) }
     ensures places { IfSome result (λ x. places.new.items ≡ places.old.items) }
     ensures prefix { IsPrefix heap.old.items heap.new.items }
 {
@@ -198,7 +204,8 @@ fn put_encoded_array<'a>(
     places: &mut Vec<u8>,
 ) -> Option<(&'a [u8], Place)>
     requires { length heap.old.items ≤ 4294967295 }
-    ensures found { IfSome result (λ x. EncodedPut (12 ∷ bytes.now) x.0.now heap.old.items heap.new.items x.1) }
+    ensures found { IfSome result
+        (λ x. EncodedPut (12 ∷ bytes.now) x.0.now heap.old.items heap.new.items x.1) }
     ensures places { IfSome result (λ x. places.new.items ≡ places.old.items) }
     ensures prefix { IsPrefix heap.old.items heap.new.items }
 {
@@ -231,7 +238,8 @@ fn put_encoded_object<'a>(
     places: &mut Vec<u8>,
 ) -> Option<(&'a [u8], Place)>
     requires { length heap.old.items ≤ 4294967295 }
-    ensures found { IfSome result (λ x. EncodedPut (13 ∷ bytes.now) x.0.now heap.old.items heap.new.items x.1) }
+    ensures found { IfSome result
+        (λ x. EncodedPut (13 ∷ bytes.now) x.0.now heap.old.items heap.new.items x.1) }
     ensures places { IfSome result (λ x. places.new.items ≡ places.old.items) }
     ensures prefix { IsPrefix heap.old.items heap.new.items }
 {

@@ -19,7 +19,8 @@ use tv_value::leaf::ReferenceValueLeaf;
 #[inline(always)]
 fn put_number(number: u64, heap: &mut Vec<u8>) -> Option<Place>
     requires { length heap.old.items ≤ 4294967295 }
-    ensures found { IfSome result (λ place. Put heap.old.items (leaf (number_leaf (unsigned number))) heap.new.items place) }
+    ensures found { IfSome result
+        (λ place. Put heap.old.items (leaf (number_leaf (unsigned number))) heap.new.items place) }
     ensures prefix { IsPrefix heap.old.items heap.new.items }
 {
     match i64::try_from(number) {
@@ -36,7 +37,8 @@ fn put_number(number: u64, heap: &mut Vec<u8>) -> Option<Place>
 #[cycle(json)]
 pub fn put_json(json: &BorrowedJson<'_>, heap: &mut Vec<u8>, places: &mut Vec<u8>) -> Option<Place>
     requires { length heap.old.items ≤ 4294967295 }
-    ensures found { IfSome result (λ place. Put heap.old.items (whole_tree (data_of json.now)) heap.new.items place) }
+    ensures found { IfSome result
+        (λ place. Put heap.old.items (whole_tree (data_of json.now)) heap.new.items place) }
     ensures places { IfSome result (λ place. places.new.items ≡ places.old.items) }
     ensures prefix { IsPrefix heap.old.items heap.new.items }
 {
@@ -56,7 +58,9 @@ pub fn put_json(json: &BorrowedJson<'_>, heap: &mut Vec<u8>, places: &mut Vec<u8
 #[cycle(json)]
 fn put_array(items: &[BorrowedJson<'_>], heap: &mut Vec<u8>, places: &mut Vec<u8>) -> Option<Place>
     requires { length heap.old.items ≤ 4294967295 }
-    ensures found { IfSome result (λ place. Put heap.old.items (array (whole_elements (items_data items.now))) heap.new.items place) }
+    ensures found { IfSome result
+        (λ place. Put heap.old.items (array (whole_elements (items_data items.now))) heap.new.items
+            place) }
     ensures places { IfSome result (λ place. places.new.items ≡ places.old.items) }
     ensures prefix { IsPrefix heap.old.items heap.new.items }
 {
@@ -82,7 +86,9 @@ fn put_object(
     places: &mut Vec<u8>,
 ) -> Option<Place>
     requires { length heap.old.items ≤ 4294967295 }
-    ensures found { IfSome result (λ place. Put heap.old.items (object (whole_entries (members_data members.now))) heap.new.items place) }
+    ensures found { IfSome result
+        (λ place. Put heap.old.items (object (whole_entries (members_data members.now)))
+            heap.new.items place) }
     ensures places { IfSome result (λ place. places.new.items ≡ places.old.items) }
     ensures prefix { IsPrefix heap.old.items heap.new.items }
 {

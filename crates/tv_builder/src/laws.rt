@@ -6,8 +6,13 @@ ghost use Rattle.tv_value.specs.Tree.{Tree, Document};
 ghost use Rattle.tv_value.specs.Version.{Version};
 ghost use Rattle.tv_builder.specs.Behind.{document_parts, open_parts};
 ghost use Rattle.tv_builder.specs.Prefix.{Encoded};
-ghost use Rattle.tv_builder.specs.Parts.{Part, Trades, IsContent, value, key, bytes_head, some_bytes};
-ghost use Rattle.tv_builder.specs.State.{State, OpenList, IsState, HeadNext, in_lists, in_bytes, awaited, and_value, and_list, and_key, and_head, and_bytes, and_end, head_awaits, list_head, parts_of, lists_of, children_of};
+ghost use Rattle.tv_builder.specs.Parts.{
+    Part, Trades, IsContent, value, key, bytes_head, some_bytes,
+};
+ghost use Rattle.tv_builder.specs.State.{
+    State, OpenList, IsState, HeadNext, in_lists, in_bytes, awaited, and_value, and_list, and_key,
+    and_head, and_bytes, and_end, head_awaits, list_head, parts_of, lists_of, children_of,
+};
 ghost use Rattle.tv_builder.specs.Weight.{document_weight, state_weight};
 ghost use Rattle.tv_builder.specs.declared.awaits.Awaits.TheVariants.{Value, Key};
 ghost use Rattle.tv_builder.specs.declared.bytes_kind.BytesKind.{BytesKind};
@@ -15,31 +20,48 @@ ghost use Rattle.tv_builder.specs.declared.frame.ListKind.{ListKind};
 
 /// Bytes that encode some parts encode those for which they are traded.
 pub fn parts_are_traded()
-    ensures { (v : Version) (ps qs : List Part) (b : List ℕ) → Trades ps qs → Encoded NoLegacy v b ps → Encoded NoLegacy v b qs }
+    ensures { (v : Version) (ps qs : List Part) (b : List ℕ) → Trades ps qs
+        → Encoded NoLegacy v b ps → Encoded NoLegacy v b qs }
 {}
 
 /// Open lists and their finished children are paid for by the bytes that encode a state, whatever is announced.
 pub fn lists_are_paid()
-    ensures { (v : Version) (s : State) (b : List ℕ) → Encoded NoLegacy v b (parts_of s) → 2 * length (lists_of s) + children_of (lists_of s) ≤ length b }
+    ensures { (v : Version) (s : State) (b : List ℕ) → Encoded NoLegacy v b (parts_of s)
+        → 2 * length (lists_of s) + children_of (lists_of s) ≤ length b }
 {}
 
 /// What a call does to a state trades its parts, with the call's part behind them, for those of the state that is left.
 pub fn calls_trade()
-    ensures values { (s : State) (t : Tree) → IsState s → awaited s ≡ Value → Trades (parts_of s ++ value t ∷ []) (parts_of (and_value s t)) }
-    ensures lists { (s : State) (kind : ListKind) (n : ℕ) → IsState s → awaited s ≡ Value → Trades (parts_of s ++ list_head kind n ∷ []) (parts_of (and_list s kind n)) }
-    ensures keys { (s : State) (k : List ℕ) → IsState s → awaited s ≡ Key → Trades (parts_of s ++ key k ∷ []) (parts_of (and_key s k)) }
-    ensures heads { (ls : List OpenList) (kind : BytesKind) (n : ℕ) → Trades (parts_of (in_lists ls) ++ bytes_head kind n ∷ []) (parts_of (and_head (in_lists ls) kind n)) }
-    ensures bytes { (ls : List OpenList) (kind : BytesKind) (n : ℕ) (bs more : List ℕ) → Trades (parts_of (in_bytes ls kind n bs) ++ some_bytes more ∷ []) (parts_of (and_bytes (in_bytes ls kind n bs) more)) }
-    ensures ends { (ls : List OpenList) (kind : BytesKind) (bs : List ℕ) → IsState (in_bytes ls kind (length bs) bs) → IsContent kind bs → Trades (parts_of (in_bytes ls kind (length bs) bs)) (parts_of (and_end (in_bytes ls kind (length bs) bs))) }
+    ensures values { (s : State) (t : Tree) → IsState s → awaited s ≡ Value
+        → Trades (parts_of s ++ value t ∷ []) (parts_of (and_value s t)) }
+    ensures lists { (s : State) (kind : ListKind) (n : ℕ) → IsState s → awaited s ≡ Value
+        → Trades (parts_of s ++ list_head kind n ∷ []) (parts_of (and_list s kind n)) }
+    ensures keys { (s : State) (k : List ℕ) → IsState s → awaited s ≡ Key
+        → Trades (parts_of s ++ key k ∷ []) (parts_of (and_key s k)) }
+    ensures heads { (ls : List OpenList) (kind : BytesKind) (n : ℕ)
+        → Trades (parts_of (in_lists ls) ++ bytes_head kind n ∷ [])
+            (parts_of (and_head (in_lists ls) kind n)) }
+    ensures bytes { (ls : List OpenList) (kind : BytesKind) (n : ℕ) (bs more : List ℕ)
+        → Trades (parts_of (in_bytes ls kind n bs) ++ some_bytes more ∷ [])
+            (parts_of (and_bytes (in_bytes ls kind n bs) more)) }
+    ensures ends { (ls : List OpenList) (kind : BytesKind) (bs : List ℕ)
+        → IsState (in_bytes ls kind (length bs) bs) → IsContent kind bs
+        → Trades (parts_of (in_bytes ls kind (length bs) bs))
+            (parts_of (and_end (in_bytes ls kind (length bs) bs))) }
 {}
 
 /// What is written of a document, and of the value that comes next, is at most seven times the bytes that encode it, whatever is announced.
 pub fn what_is_written_is_paid()
-    ensures open { (v : Version) (n : ℕ) (d : Document) (f : ℕ) (s : State) (b : List ℕ) → Encoded NoLegacy v b (open_parts n d f s) → document_weight d + state_weight s ≤ 7 * length b }
-    ensures closed { (v : Version) (n : ℕ) (d : Document) (b : List ℕ) → Encoded NoLegacy v b (document_parts n d) → document_weight d ≤ 7 * length b }
+    ensures open { (v : Version) (n : ℕ) (d : Document) (f : ℕ) (s : State) (b : List ℕ)
+        → Encoded NoLegacy v b (open_parts n d f s)
+        → document_weight d + state_weight s ≤ 7 * length b }
+    ensures closed { (v : Version) (n : ℕ) (d : Document) (b : List ℕ)
+        → Encoded NoLegacy v b (document_parts n d) → document_weight d ≤ 7 * length b }
 {}
 
 /// The same of open lists and of their finished children, behind the finished pairs of a document.
 pub fn open_lists_are_paid()
-    ensures { (v : Version) (n : ℕ) (d : Document) (f : ℕ) (s : State) (b : List ℕ) → Encoded NoLegacy v b (open_parts n d f s) → (2 * length (lists_of s) ≤ length b) × (children_of (lists_of s) ≤ length b) }
+    ensures { (v : Version) (n : ℕ) (d : Document) (f : ℕ) (s : State) (b : List ℕ)
+        → Encoded NoLegacy v b (open_parts n d f s)
+        → (2 * length (lists_of s) ≤ length b) × (children_of (lists_of s) ≤ length b) }
 {}

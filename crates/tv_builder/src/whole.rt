@@ -23,8 +23,10 @@ pub(crate) fn put_leaf(
     value: &ReferenceValueLeaf<'_>,
 ) -> Result<Place, BuildError>
     requires { length heap.old.items ≤ 4294967295 }
-    ensures ok { IfOk result (λ place. Put heap.old.items (leaf_tree (leaf_of value.now)) heap.new.items place) }
-    ensures err { IfErr result (λ e. PutNot heap.old.items (leaf_tree (leaf_of value.now)) heap.new.items e) }
+    ensures ok { IfOk result
+        (λ place. Put heap.old.items (leaf_tree (leaf_of value.now)) heap.new.items place) }
+    ensures err { IfErr result
+        (λ e. PutNot heap.old.items (leaf_tree (leaf_of value.now)) heap.new.items e) }
 {
     if !has_value_room(heap.len(), leaf_len(value)) {
         return Err(BuildError::HeapFull);
@@ -40,7 +42,8 @@ pub(crate) fn put_leaf(
 #[inline(always)]
 pub(crate) fn put(heap: &mut Vec<u8>, value: &ReferenceValueLeaf<'_>) -> Option<Place>
     requires { length heap.old.items ≤ 4294967295 }
-    ensures found { IfSome result (λ place. Put heap.old.items (leaf_tree (leaf_of value.now)) heap.new.items place) }
+    ensures found { IfSome result
+        (λ place. Put heap.old.items (leaf_tree (leaf_of value.now)) heap.new.items place) }
     ensures prefix { IsPrefix heap.old.items heap.new.items }
 {
     match put_leaf(heap, value) {
@@ -59,9 +62,11 @@ pub(crate) fn put_list(
 ) -> Result<Place, BuildError>
     requires fits { length heap.old.items ≤ 4294967295 }
     requires first { first ≤ length places.old.items }
-    ensures ok { IfOk result (λ place. ListPut heap.old.items kind (drop first places.old.items) heap.new.items place) }
+    ensures ok { IfOk result
+        (λ place. ListPut heap.old.items kind (drop first places.old.items) heap.new.items place) }
     ensures places { OnOk result (places.new.items ≡ take first places.old.items) }
-    ensures err { IfErr result (λ e. ListPutNot heap.old.items (drop first places.old.items) heap.new.items e) }
+    ensures err { IfErr result
+        (λ e. ListPutNot heap.old.items (drop first places.old.items) heap.new.items e) }
 {
     let len = places.len() - first;
     if !has_room(heap.len(), len as u64) {
@@ -85,9 +90,13 @@ pub(crate) fn put_tree<N: Nested>(
     value: NestedValue<'_, N>,
 ) -> Result<Place, BuildError>
     requires { length heap.old.items ≤ 4294967295 }
-    ensures ok { IfOk result (λ place. Put heap.old.items (nested_tree N.array_rest N.object_rest value.entry) heap.new.items place) }
+    ensures ok { IfOk result
+        (λ place. Put heap.old.items (nested_tree N.array_rest N.object_rest value.entry)
+            heap.new.items place) }
     ensures places { OnOk result (places.new.items ≡ places.old.items) }
-    ensures err { IfErr result (λ e. PutNot heap.old.items (nested_tree N.array_rest N.object_rest value.entry) heap.new.items e) }
+    ensures err { IfErr result
+        (λ e. PutNot heap.old.items (nested_tree N.array_rest N.object_rest value.entry)
+            heap.new.items e) }
 {
     match value {
         NestedValue::Leaf(single) => put_leaf(heap, &single),
@@ -105,9 +114,11 @@ fn put_array<N: Nested>(
     items: N::ArrayIter,
 ) -> Result<Place, BuildError>
     requires { length heap.old.items ≤ 4294967295 }
-    ensures ok { IfOk result (λ place. Put heap.old.items (array (elements (N.array_rest items))) heap.new.items place) }
+    ensures ok { IfOk result
+        (λ place. Put heap.old.items (array (elements (N.array_rest items))) heap.new.items place) }
     ensures places { OnOk result (places.new.items ≡ places.old.items) }
-    ensures err { IfErr result (λ e. PutNot heap.old.items (array (elements (N.array_rest items))) heap.new.items e) }
+    ensures err { IfErr result
+        (λ e. PutNot heap.old.items (array (elements (N.array_rest items))) heap.new.items e) }
 {
     let first = places.len();
     for item in items {
@@ -126,9 +137,12 @@ fn put_object<N: Nested>(
     members: N::ObjectIter,
 ) -> Result<Place, BuildError>
     requires { length heap.old.items ≤ 4294967295 }
-    ensures ok { IfOk result (λ place. Put heap.old.items (object (entries (N.object_rest members))) heap.new.items place) }
+    ensures ok { IfOk result
+        (λ place. Put heap.old.items (object (entries (N.object_rest members))) heap.new.items
+            place) }
     ensures places { OnOk result (places.new.items ≡ places.old.items) }
-    ensures err { IfErr result (λ e. PutNot heap.old.items (object (entries (N.object_rest members))) heap.new.items e) }
+    ensures err { IfErr result
+        (λ e. PutNot heap.old.items (object (entries (N.object_rest members))) heap.new.items e) }
 {
     let first = places.len();
     for (key, item) in members {

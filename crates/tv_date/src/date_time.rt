@@ -1,6 +1,8 @@
 //! Dates, and to which part of a second they are kept.
 
-ghost use Rattle.std.specs.Prelude.{◌≡◌, ◌++◌, pos, ◌*ℤ◌, FitsSigned, IsSome, MatchOption, IfOk, OnErr, OnOk, string_bytes};
+ghost use Rattle.std.specs.Prelude.{
+    ◌≡◌, ◌++◌, pos, ◌*ℤ◌, FitsSigned, IsSome, MatchOption, IfOk, OnErr, OnOk, string_bytes,
+};
 ghost use Rattle.std.specs.Int.{w64};
 ghost use Rattle.std.specs.Result.{result_map_both};
 ghost use Rattle.tv_date.specs.DateTime.{unit_of, truncated};
@@ -122,7 +124,8 @@ impl DateTime {
     /// Adds the text of `write_rfc3339` to a text (not in tantivy). The only error is that memory was refused, and then the text is as it was.
     pub fn push_rfc3339(self, text: &mut String) -> Result<(), AllocError>
         ensures shown { IsPrinted self.nanoseconds (moment_text self.nanoseconds) }
-        ensures ok { OnOk result (string_bytes text.new ≡ string_bytes text.old ++ moment_text self.nanoseconds) }
+        ensures ok { OnOk result
+            (string_bytes text.new ≡ string_bytes text.old ++ moment_text self.nanoseconds) }
         ensures err { OnErr result (string_bytes text.new ≡ string_bytes text.old) }
     {
         let Ok(moment) = Timestamp::from_nanosecond(self.nanoseconds as i128) else {

@@ -21,8 +21,11 @@ pub(crate) fn take_buffered_pairs<S: ByteSource>(
     version: DocStoreVersion,
     most: u64,
 ) -> Result<u64, DeserializeError>
-    ensures finds { Finds S.is_known S.left S.failures source.old count.old source.new count.new result (λ b added. AddsPairs (version_of version) document.old document.new b added) Nothing }
-    ensures counted { IfOk result (λ added. length (document_of document.new) ≡ length (document_of document.old) + added) }
+    ensures finds { Finds S.is_known S.left S.failures source.old count.old source.new count.new
+        result (λ b added. AddsPairs (version_of version) document.old document.new b added)
+        Nothing }
+    ensures counted { IfOk result
+        (λ added. length (document_of document.new) ≡ length (document_of document.old) + added) }
     ensures most { IfOk result (λ added. added ≤ most) }
     ensures memory { IfErr result (λ e. e ≡ NoMemory) }
 {

@@ -1,6 +1,8 @@
 //! A decoder of documents with a stack of its own, which is lent its source for each step.
 
-ghost use Rattle.std.specs.Prelude.{◌≡◌, ◌↔◌, ◌-◌, ◌^◌, List, ℕ, [], length, true, false, Ok, Err, IfOk, OnOk, OnErr, IsErrOf};
+ghost use Rattle.std.specs.Prelude.{
+    ◌≡◌, ◌↔◌, ◌-◌, ◌^◌, List, ℕ, [], length, true, false, Ok, Err, IfOk, OnOk, OnErr, IsErrOf,
+};
 ghost use Rattle.tv_base.specs.declared.cause.Cause.TheVariants.{TooLong};
 ghost use Rattle.tv_decoder.specs.Prefix.{parts_read, IsSound, IsDone, NoPrefix, NoRoomBehind};
 ghost use Rattle.tv_decoder.specs.Paid.{PaidBy};
@@ -12,7 +14,9 @@ ghost use Rattle.tv_builder.specs.Prefix.{Encoded};
 ghost use Rattle.tv_builder.specs.State.{lists_of, children_of};
 ghost use Rattle.tv_reader.specs.Finds.{Finds};
 ghost use Rattle.tv_reader.specs.Version.{version_of};
-ghost use Rattle.tv_reader.specs.declared.error.DeserializeError.TheVariants.{AlreadyFailed, CorruptedValue, HeapFull};
+ghost use Rattle.tv_reader.specs.declared.error.DeserializeError.TheVariants.{
+    AlreadyFailed, CorruptedValue, HeapFull,
+};
 ghost use Rattle.tv_value.specs.Encoding.{NoLegacy};
 
 use crate::reading::Reading;
@@ -78,19 +82,31 @@ impl DirectDecoder {
     /// what has come needs more room than 4294967295 bytes; `Io` where the source failed; `Memory`.
     pub fn step<S: ByteSource>(&mut self, source: &mut S) -> Result<Step, DeserializeError>
         // after a refusal, and once all is read, nothing happens
-        ensures refused { self.old.failed ≡ true → Rests self.old self.new source.old source.new result (Err AlreadyFailed) }
-        ensures finished { self.old.failed ≡ false → IsDone self.old.reading → Rests self.old self.new source.old source.new result (Ok Step.Done) }
+        ensures refused { self.old.failed ≡ true
+            → Rests self.old self.new source.old source.new result (Err AlreadyFailed) }
+        ensures finished { self.old.failed ≡ false → IsDone self.old.reading
+            → Rests self.old self.new source.old source.new result (Ok Step.Done) }
 
         // what was taken, and what has come then; or what is malformed
-        ensures finds { self.old.failed ≡ false → ¬ IsDone self.old.reading → Finds S.is_known S.left S.failures source.old self.old.count source.new self.new.count result (λ b _. Stepped (version_of self.old.version) self.new.legacy_seen self.old.reading self.new.reading b) (NoPrefix (version_of self.old.version) self.old.reading) }
-        ensures full { S.is_known source.old → IsErrOf result HeapFull → NoRoomBehind (version_of self.old.version) self.old.reading (S.left source.old) }
+        ensures finds { self.old.failed ≡ false → ¬ IsDone self.old.reading
+            → Finds S.is_known S.left S.failures source.old self.old.count source.new self.new.count
+                result
+                (λ b _. Stepped (version_of self.old.version) self.new.legacy_seen self.old.reading
+                    self.new.reading b)
+                (NoPrefix (version_of self.old.version) self.old.reading) }
+        ensures full { S.is_known source.old → IsErrOf result HeapFull
+            → NoRoomBehind (version_of self.old.version) self.old.reading (S.left source.old) }
         ensures done { IfOk result (λ step. SaysDone step ↔ IsDone self.new.reading) }
         ensures live { OnOk result (self.new.failed ≡ false) }
         ensures mark { OnErr result (self.new.failed ≡ true) }
 
         // objects of older stores, and what is paid for by the bytes that were read
-        ensures seen { S.is_known source.old → Sees self.old.reading (S.left source.old) self.old.legacy_seen self.new.legacy_seen }
-        ensures paid { S.is_known source.old → self.old.failed ≡ false → (bytes : List ℕ) → Encoded NoLegacy (version_of self.old.version) bytes (parts_read self.old.reading) → self.old.count ≡ length bytes → self.new.legacy_seen ≡ false → PaidBy self.new.reading.builder self.new.count }
+        ensures seen { S.is_known source.old
+            → Sees self.old.reading (S.left source.old) self.old.legacy_seen self.new.legacy_seen }
+        ensures paid { S.is_known source.old → self.old.failed ≡ false → (bytes : List ℕ)
+            → Encoded NoLegacy (version_of self.old.version) bytes (parts_read self.old.reading)
+            → self.old.count ≡ length bytes → self.new.legacy_seen ≡ false
+            → PaidBy self.new.reading.builder self.new.count }
         ensures version { self.new.version ≡ self.old.version }
     {
         if self.failed {

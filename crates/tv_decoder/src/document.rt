@@ -6,7 +6,9 @@ ghost use Rattle.tv_decoder.specs.Documents.{EncodesRead, EncodesBehind, NoDocum
 ghost use Rattle.tv_decoder.specs.Prefix.{IsSound, NoPrefix, HasNoRoom, NoRoomBehind};
 ghost use Rattle.tv_reader.specs.Finds.{Finds};
 ghost use Rattle.tv_reader.specs.Version.{version_of};
-ghost use Rattle.tv_reader.specs.declared.error.DeserializeError.TheVariants.{CorruptedValue, HeapFull};
+ghost use Rattle.tv_reader.specs.declared.error.DeserializeError.TheVariants.{
+    CorruptedValue, HeapFull,
+};
 
 use crate::buffered::take_buffered_pairs;
 use crate::reading::Reading;
@@ -28,8 +30,10 @@ fn take_rest<S: ByteSource>(
     begun: Reading,
 ) -> Result<CompactDoc, DeserializeError>
     requires { IsSound begun }
-    ensures finds { Finds S.is_known S.left S.failures source.old count.old source.new count.new result (EncodesBehind (version_of version) begun) (NoPrefix (version_of version) begun) }
-    ensures full { S.is_known source.old → IsErrOf result HeapFull → NoRoomBehind (version_of version) begun (S.left source.old) }
+    ensures finds { Finds S.is_known S.left S.failures source.old count.old source.new count.new
+        result (EncodesBehind (version_of version) begun) (NoPrefix (version_of version) begun) }
+    ensures full { S.is_known source.old → IsErrOf result HeapFull
+        → NoRoomBehind (version_of version) begun (S.left source.old) }
     ensures too_long { IsErrOf result (CorruptedValue TooLong) → count.new ≡ 2 ^ 64 - 1 }
 {
     let mut reading = begun;
@@ -59,8 +63,10 @@ pub fn take_document<S: ByteSource>(
     count: &mut u64,
     version: DocStoreVersion,
 ) -> Result<CompactDoc, DeserializeError>
-    ensures finds { Finds S.is_known S.left S.failures source.old count.old source.new count.new result (EncodesRead (version_of version)) (NoDocument (version_of version)) }
-    ensures full { S.is_known source.old → IsErrOf result HeapFull → HasNoRoom (version_of version) (S.left source.old) }
+    ensures finds { Finds S.is_known S.left S.failures source.old count.old source.new count.new
+        result (EncodesRead (version_of version)) (NoDocument (version_of version)) }
+    ensures full { S.is_known source.old → IsErrOf result HeapFull
+        → HasNoRoom (version_of version) (S.left source.old) }
     ensures too_long { IsErrOf result (CorruptedValue TooLong) → count.new ≡ 2 ^ 64 - 1 }
 {
     let announced = take_document_head(source, count)?;

@@ -1,21 +1,35 @@
 //! What has been read of a document, and what its next part does to that.
 
-ghost use Rattle.std.specs.Prelude.{◌≡◌, ◌≢◌, ◌↔◌, ◌-◌, ◌^◌, ◌≤◌, ◌<◌, [], ◌∷◌, length, take, IsTrue, IsErrOf, IfOk, IfErr, OnOk, OnErr, Some, None, false};
+ghost use Rattle.std.specs.Prelude.{
+    ◌≡◌, ◌≢◌, ◌↔◌, ◌-◌, ◌^◌, ◌≤◌, ◌<◌, [], ◌∷◌, length, take, IsTrue, IsErrOf, IfOk, IfErr, OnOk,
+    OnErr, Some, None, false,
+};
 ghost use Rattle.tv_base.specs.declared.cause.Cause.TheVariants.{TooLong};
 ghost use Rattle.tv_builder.specs.Behind.{document_parts};
-ghost use Rattle.tv_builder.specs.Parts.{value as value_part, array_head, object_head, some_bytes, bytes_head};
+ghost use Rattle.tv_builder.specs.Parts.{
+    value as value_part, array_head, object_head, some_bytes, bytes_head,
+};
 ghost use Rattle.tv_builder.specs.State.{awaited, head_awaits, lists_of, children_of};
-ghost use Rattle.tv_builder.specs.declared.awaits.Awaits.TheVariants.{Value as ValueAwaited, Key as KeyAwaited, Bytes as BytesAwaited};
+ghost use Rattle.tv_builder.specs.declared.awaits.Awaits.TheVariants.{
+    Value as ValueAwaited, Key as KeyAwaited, Bytes as BytesAwaited,
+};
 ghost use Rattle.tv_builder.specs.declared.bytes_kind.BytesKind.TheVariants.{Key as KeyKind};
 ghost use Rattle.tv_decoder.specs.Buffered.{Nothing};
-ghost use Rattle.tv_decoder.specs.Prefix.{parts_read, IsSound, IsDone, LacksPair, NoPrefix, NoRoomBehind};
-ghost use Rattle.tv_decoder.specs.Puts.{IsOpen, AtEnd, Awaiting, Puts, PutsEnd, PutsBytes, IsParts, bytes_kind, head_parts, LetGo, KeepsPairs};
+ghost use Rattle.tv_decoder.specs.Prefix.{
+    parts_read, IsSound, IsDone, LacksPair, NoPrefix, NoRoomBehind,
+};
+ghost use Rattle.tv_decoder.specs.Puts.{
+    IsOpen, AtEnd, Awaiting, Puts, PutsEnd, PutsBytes, IsParts, bytes_kind, head_parts, LetGo,
+    KeepsPairs,
+};
 ghost use Rattle.tv_decoder.specs.Steps.{Advances, Stepped, Sees};
 ghost use Rattle.tv_doc.specs.Builder.{built, state_of, heap_so_far};
 ghost use Rattle.tv_doc.specs.Document.{document_of};
 ghost use Rattle.tv_reader.specs.Finds.{Finds};
 ghost use Rattle.tv_reader.specs.HeadReading.{head_part};
-ghost use Rattle.tv_reader.specs.declared.error.DeserializeError.TheVariants.{CorruptedValue, HeapFull, Memory as NoMemory};
+ghost use Rattle.tv_reader.specs.declared.error.DeserializeError.TheVariants.{
+    CorruptedValue, HeapFull, Memory as NoMemory,
+};
 ghost use Rattle.tv_legacy.specs.Legacy.{Legacy};
 ghost use Rattle.tv_reader.specs.Version.{version_of};
 ghost use Rattle.tv_value.specs.Lent.{leaf_of};
@@ -109,7 +123,8 @@ impl Reading {
     ) -> Result<Reading, DeserializeError>
         requires { IsSound self }
         ensures sound { IfOk result IsSound }
-        ensures finds { Finds S.is_known S.left S.failures source.old count.old source.new count.new result (λ b r. Advances Legacy (version_of version) self r b) Nothing }
+        ensures finds { Finds S.is_known S.left S.failures source.old count.old source.new count.new
+            result (λ b r. Advances Legacy (version_of version) self r b) Nothing }
         ensures memory { IfErr result (λ e. e ≡ NoMemory) }
     {
         let (Some(announced), None) = (self.announced, self.field) else {
@@ -189,7 +204,8 @@ impl Reading {
     // A value without children has come.
     fn put_leaf(&mut self, value: ReferenceValueLeaf<'_>) -> Result<(), DeserializeError>
         requires { Awaiting self.old ValueAwaited }
-        ensures puts { Puts self.old self.new (value_part (leaf_tree (leaf_of value.entry)) ∷ []) result }
+        ensures puts { Puts self.old self.new (value_part (leaf_tree (leaf_of value.entry)) ∷ [])
+            result }
         ensures left { OnErr result (LetGo self.old self.new) }
     {
         match self.builder.leaf(value) {
@@ -318,7 +334,9 @@ impl Reading {
         requires none { self.old.announced ≡ None }
         ensures sound { OnOk result (IsSound self.new) }
         ensures left { OnErr result (KeepsPairs self.old self.new) }
-        ensures finds { (v : Version) → Finds S.is_known S.left S.failures source.old count.old source.new count.new result (λ b _. Stepped v false self.old self.new b) (NoPrefix v self.old) }
+        ensures finds { (v : Version)
+            → Finds S.is_known S.left S.failures source.old count.old source.new count.new result
+                (λ b _. Stepped v false self.old self.new b) (NoPrefix v self.old) }
         ensures too_long { IsErrOf result (CorruptedValue TooLong) → count.new ≡ 2 ^ 64 - 1 }
         ensures roomy { ¬ IsErrOf result HeapFull }
     {
@@ -338,7 +356,9 @@ impl Reading {
         requires lacks { LacksPair self.old.announced self.old.finished }
         ensures sound { OnOk result (IsSound self.new) }
         ensures left { OnErr result (KeepsPairs self.old self.new) }
-        ensures finds { (v : Version) → Finds S.is_known S.left S.failures source.old count.old source.new count.new result (λ b _. Stepped v false self.old self.new b) (NoPrefix v self.old) }
+        ensures finds { (v : Version)
+            → Finds S.is_known S.left S.failures source.old count.old source.new count.new result
+                (λ b _. Stepped v false self.old self.new b) (NoPrefix v self.old) }
         ensures too_long { IsErrOf result (CorruptedValue TooLong) → count.new ≡ 2 ^ 64 - 1 }
         ensures roomy { ¬ IsErrOf result HeapFull }
     {
@@ -359,10 +379,14 @@ impl Reading {
         requires { Awaiting self.old ValueAwaited }
         ensures sound { OnOk result (IsSound self.new) }
         ensures left { OnErr result (KeepsPairs self.old self.new) }
-        ensures finds { Finds S.is_known S.left S.failures source.old count.old source.new count.new result (λ b _. Stepped (version_of version) legacy_seen.new self.old self.new b) (NoPrefix (version_of version) self.old) }
-        ensures full { S.is_known source.old → IsErrOf result HeapFull → NoRoomBehind (version_of version) self.old (S.left source.old) }
+        ensures finds { Finds S.is_known S.left S.failures source.old count.old source.new count.new
+            result (λ b _. Stepped (version_of version) legacy_seen.new self.old self.new b)
+            (NoPrefix (version_of version) self.old) }
+        ensures full { S.is_known source.old → IsErrOf result HeapFull
+            → NoRoomBehind (version_of version) self.old (S.left source.old) }
         ensures too_long { IsErrOf result (CorruptedValue TooLong) → count.new ≡ 2 ^ 64 - 1 }
-        ensures seen { S.is_known source.old → Sees self.old (S.left source.old) legacy_seen.old legacy_seen.new }
+        ensures seen { S.is_known source.old
+            → Sees self.old (S.left source.old) legacy_seen.old legacy_seen.new }
     {
         let head = take_head(source, count, version)?;
         match head {
@@ -389,8 +413,11 @@ impl Reading {
         requires { Awaiting self.old KeyAwaited }
         ensures sound { OnOk result (IsSound self.new) }
         ensures left { OnErr result (KeepsPairs self.old self.new) }
-        ensures finds { Finds S.is_known S.left S.failures source.old count.old source.new count.new result (λ b _. Stepped (version_of version) false self.old self.new b) (NoPrefix (version_of version) self.old) }
-        ensures full { S.is_known source.old → IsErrOf result HeapFull → NoRoomBehind (version_of version) self.old (S.left source.old) }
+        ensures finds { Finds S.is_known S.left S.failures source.old count.old source.new count.new
+            result (λ b _. Stepped (version_of version) false self.old self.new b)
+            (NoPrefix (version_of version) self.old) }
+        ensures full { S.is_known source.old → IsErrOf result HeapFull
+            → NoRoomBehind (version_of version) self.old (S.left source.old) }
         ensures too_long { IsErrOf result (CorruptedValue TooLong) → count.new ≡ 2 ^ 64 - 1 }
     {
         let len = take_key_head(source, count, version)?;
@@ -408,8 +435,11 @@ impl Reading {
         requires awaiting { Awaiting self.old (BytesAwaited missing) }
         ensures sound { OnOk result (IsSound self.new) }
         ensures left { OnErr result (KeepsPairs self.old self.new) }
-        ensures finds { (v : Version) → Finds S.is_known S.left S.failures source.old count.old source.new count.new result (λ b _. Stepped v false self.old self.new b) (NoPrefix v self.old) }
-        ensures full { (v : Version) → S.is_known source.old → IsErrOf result HeapFull → NoRoomBehind v self.old (S.left source.old) }
+        ensures finds { (v : Version)
+            → Finds S.is_known S.left S.failures source.old count.old source.new count.new result
+                (λ b _. Stepped v false self.old self.new b) (NoPrefix v self.old) }
+        ensures full { (v : Version) → S.is_known source.old → IsErrOf result HeapFull
+            → NoRoomBehind v self.old (S.left source.old) }
         ensures too_long { IsErrOf result (CorruptedValue TooLong) → count.new ≡ 2 ^ 64 - 1 }
     {
         let len = missing.min(PIECE);
@@ -438,10 +468,14 @@ impl Reading {
         requires more { ¬ IsDone self.old }
         ensures sound { OnOk result (IsSound self.new) }
         ensures left { OnErr result (KeepsPairs self.old self.new) }
-        ensures finds { Finds S.is_known S.left S.failures source.old count.old source.new count.new result (λ b _. Stepped (version_of version) legacy_seen.new self.old self.new b) (NoPrefix (version_of version) self.old) }
-        ensures full { S.is_known source.old → IsErrOf result HeapFull → NoRoomBehind (version_of version) self.old (S.left source.old) }
+        ensures finds { Finds S.is_known S.left S.failures source.old count.old source.new count.new
+            result (λ b _. Stepped (version_of version) legacy_seen.new self.old self.new b)
+            (NoPrefix (version_of version) self.old) }
+        ensures full { S.is_known source.old → IsErrOf result HeapFull
+            → NoRoomBehind (version_of version) self.old (S.left source.old) }
         ensures too_long { IsErrOf result (CorruptedValue TooLong) → count.new ≡ 2 ^ 64 - 1 }
-        ensures seen { S.is_known source.old → Sees self.old (S.left source.old) legacy_seen.old legacy_seen.new }
+        ensures seen { S.is_known source.old
+            → Sees self.old (S.left source.old) legacy_seen.old legacy_seen.new }
     {
         if self.announced.is_none() {
             return self.step_number(source, count);

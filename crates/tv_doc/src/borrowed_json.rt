@@ -32,7 +32,9 @@ fn add_found(
     field: Field,
     found: Result<ReferenceValueLeaf<'_>, JsonRefusal>,
 ) -> Option<()>
-    ensures added { OnSome result (IsOkAnd found.entry (λ single. AddsTree document.old document.new field.id (leaf (leaf_of single)))) }
+    ensures added { OnSome result
+        (IsOkAnd found.entry
+            (λ single. AddsTree document.old document.new field.id (leaf (leaf_of single)))) }
     ensures none { IfNone result (IsUnchanged document.old document.new) }
 {
     match found {
@@ -51,7 +53,8 @@ fn add_plain(
     field_type: &FieldType,
     json: &BorrowedJson<'_>,
 ) -> Option<()>
-    ensures added { OnSome result (AddsRow document.old document.new field.id field_type.now (data_of json.now)) }
+    ensures added { OnSome result
+        (AddsRow document.old document.new field.id field_type.now (data_of json.now)) }
     ensures none { IfNone result (IsUnchanged document.old document.new) }
 {
     match (field_type, json) {
@@ -94,7 +97,13 @@ fn add_one(
     field_type: &FieldType,
     json: &BorrowedJson<'_>,
 ) -> Option<()>
-    ensures { OnSome result (AddsPairs (record { name = name.now; field = field.id; field_type = field_type.now; value = data_of json.now } ∷ []) document.old document.new) }
+    ensures { OnSome result
+        (AddsPairs
+            (record
+                    { name = name.now; field = field.id; field_type = field_type.now; value =
+                        data_of json.now }
+                ∷ [])
+            document.old document.new) }
 {
     if let Some(()) = add_plain(document, scratch, field, field_type, json) {
         return Some(());
@@ -112,7 +121,10 @@ fn add_borrowed(
     name: &str,
     json: &BorrowedJson<'_>,
 ) -> Option<()>
-    ensures { OnSome result (AddsPairs (values_at schema.now name.now (field_named schema.now name.now) (data_of json.now)) document.old document.new) }
+    ensures { OnSome result
+        (AddsPairs
+            (values_at schema.now name.now (field_named schema.now name.now) (data_of json.now))
+            document.old document.new) }
 {
     let Ok(field) = schema.get_field(name) else {
         return Some(());
@@ -134,7 +146,9 @@ impl CompactDoc {
         schema: &Schema,
         members: &[(&str, BorrowedJson<'_>)],
     ) -> Option<CompactDoc>
-        ensures { IfSome result (λ made. Pairs (object_values schema.now (members_data members.now)) (document_of made)) }
+        ensures { IfSome result
+            (λ made. Pairs (object_values schema.now (members_data members.now))
+                (document_of made)) }
     {
         let mut document = CompactDoc::new(alloc);
         let mut scratch = JsonScratch::new(alloc);

@@ -1,6 +1,8 @@
 //! Building the values of a document part by part.
 
-ghost use Rattle.std.specs.Prelude.{◌≡◌, ◌+◌, ◌<◌, ◌≤◌, ◌∷◌, [], ◌++◌, OnOk, OnErr, IfErr, length, take, true, false, None};
+ghost use Rattle.std.specs.Prelude.{
+    ◌≡◌, ◌+◌, ◌<◌, ◌≤◌, ◌∷◌, [], ◌++◌, OnOk, OnErr, IfErr, length, take, true, false, None,
+};
 ghost use Rattle.tv_builder.specs.OneState.{Stands-prop};
 ghost use Rattle.tv_builder.specs.Shows.{Stands};
 ghost use Rattle.tv_builder.specs.State.{written};
@@ -47,8 +49,11 @@ fn keep_tree(
     kept: &mut usize,
     field: Field,
 ) -> Result<(), BuildError>
-    ensures ok { OnOk result (Kept building.old building.new pairs.old.items pairs.new.items kept.new field.id) }
-    ensures err { IfErr result (λ e. KeptNot building.old building.new pairs.old.items pairs.new.items kept.old kept.new field.id e) }
+    ensures ok { OnOk result
+        (Kept building.old building.new pairs.old.items pairs.new.items kept.new field.id) }
+    ensures err { IfErr result
+        (λ e. KeptNot building.old building.new pairs.old.items pairs.new.items kept.old kept.new
+            field.id e) }
 {
     let Some(place) = building.complete else {
         return Err(BuildError::OutOfPlace);
@@ -90,11 +95,21 @@ pub struct TreeBuilder {
 }
 
 impl TreeBuilder {
-    ghost use Rattle.tv_builder.specs.Moves.{LeafHeap, LeafFull, ValueHeap, ValueFull, ListHeap, ListFull, KeyHeap, KeyFull, HeadHeap, HeadFull};
-    ghost use Rattle.tv_builder.specs.State.{and_value, and_list, and_key, and_head, and_bytes, awaited, head_awaits, in_lists, lists_of, children_of};
-    ghost use Rattle.tv_builder.specs.declared.awaits.Awaits.TheVariants.{Value as ValueNext, Key as KeyNext};
+    ghost use Rattle.tv_builder.specs.Moves.{
+        LeafHeap, LeafFull, ValueHeap, ValueFull, ListHeap, ListFull, KeyHeap, KeyFull, HeadHeap,
+        HeadFull,
+    };
+    ghost use Rattle.tv_builder.specs.State.{
+        and_value, and_list, and_key, and_head, and_bytes, awaited, head_awaits, in_lists, lists_of,
+        children_of,
+    };
+    ghost use Rattle.tv_builder.specs.declared.awaits.Awaits.TheVariants.{
+        Value as ValueNext, Key as KeyNext,
+    };
     ghost use Rattle.tv_builder.specs.declared.frame.ListKind.TheVariants.{Array, Object};
-    ghost use Rattle.tv_doc.specs.Builder.{built, state_of, heap_so_far, TakesBytes, Builds, Ends, Finishes};
+    ghost use Rattle.tv_doc.specs.Builder.{
+        built, state_of, heap_so_far, TakesBytes, Builds, Ends, Finishes,
+    };
     ghost use Rattle.tv_doc.specs.Document.{document_of, heap_of};
     ghost use Rattle.tv_value.specs.Lent.{leaf_of};
     ghost use Rattle.tv_value.specs.Tree.{leaf as leaf_tree};
@@ -135,7 +150,8 @@ impl TreeBuilder {
     /// The length of the heap, in bytes: at most what the finished pairs and the value that comes next weigh.
     pub fn heap_len(&self) -> usize
         ensures same { result ≡ length (heap_so_far self.now) }
-        ensures within { result ≤ document_weight (built self.now) + state_weight (state_of self.now) }
+        ensures within { result
+            ≤ document_weight (built self.now) + state_weight (state_of self.now) }
     {
         self.building.heap.len()
     }
@@ -166,7 +182,9 @@ impl TreeBuilder {
     /// `AlreadyFailed` after a refusal; `OutOfPlace` where no value is awaited; `HeapFull` where the value, or a list that it closes, would
     /// end above 4294967295; else `Memory` where memory is refused.
     pub fn leaf(&mut self, value: ReferenceValueLeaf<'_>) -> Result<(), BuildError>
-        ensures { let l = leaf_of value.entry in Builds self.old self.new (awaited (state_of self.old) ≡ ValueNext) (LeafHeap self.old.building l) (LeafFull self.old.building l) (λ s. and_value s (leaf_tree l)) result }
+        ensures { let l = leaf_of value.entry in Builds self.old self.new
+            (awaited (state_of self.old) ≡ ValueNext) (LeafHeap self.old.building l)
+            (LeafFull self.old.building l) (λ s. and_value s (leaf_tree l)) result }
     {
         if self.failed {
             return Err(BuildError::AlreadyFailed);
@@ -180,7 +198,9 @@ impl TreeBuilder {
     /// `AlreadyFailed` after a refusal; `OutOfPlace` where no value is awaited; `HeapFull` where a part of the value, or a list that it
     /// closes, would end above 4294967295; else `Memory` where memory is refused.
     pub fn tree<'a, V: Value<'a>>(&mut self, value: &V) -> Result<(), BuildError>
-        ensures { let t = V.tree value.now in Builds self.old self.new (awaited (state_of self.old) ≡ ValueNext) (ValueHeap self.old.building t) (ValueFull self.old.building t) (λ s. and_value s t) result }
+        ensures { let t = V.tree value.now in Builds self.old self.new
+            (awaited (state_of self.old) ≡ ValueNext) (ValueHeap self.old.building t)
+            (ValueFull self.old.building t) (λ s. and_value s t) result }
     {
         if self.failed {
             return Err(BuildError::AlreadyFailed);
@@ -194,7 +214,9 @@ impl TreeBuilder {
     /// `AlreadyFailed` after a refusal; `OutOfPlace` where no value is awaited; `HeapFull` where the array, or a list that it closes,
     /// would end above 4294967295; else `Memory` where memory is refused.
     pub fn open_array(&mut self, announced: u64) -> Result<(), BuildError>
-        ensures { Builds self.old self.new (awaited (state_of self.old) ≡ ValueNext) (ListHeap self.old.building Array announced) (ListFull self.old.building Array announced) (λ s. and_list s Array announced) result }
+        ensures { Builds self.old self.new (awaited (state_of self.old) ≡ ValueNext)
+            (ListHeap self.old.building Array announced)
+            (ListFull self.old.building Array announced) (λ s. and_list s Array announced) result }
     {
         if self.failed {
             return Err(BuildError::AlreadyFailed);
@@ -206,7 +228,10 @@ impl TreeBuilder {
     /// An object opens, of which so many entries are announced. One of none closes at once. Nothing is reserved. The errors are those
     /// of `open_array`.
     pub fn open_object(&mut self, announced: u64) -> Result<(), BuildError>
-        ensures { Builds self.old self.new (awaited (state_of self.old) ≡ ValueNext) (ListHeap self.old.building Object announced) (ListFull self.old.building Object announced) (λ s. and_list s Object announced) result }
+        ensures { Builds self.old self.new (awaited (state_of self.old) ≡ ValueNext)
+            (ListHeap self.old.building Object announced)
+            (ListFull self.old.building Object announced) (λ s. and_list s Object announced)
+            result }
     {
         if self.failed {
             return Err(BuildError::AlreadyFailed);
@@ -220,7 +245,9 @@ impl TreeBuilder {
     /// `AlreadyFailed` after a refusal; `OutOfPlace` where no key is awaited; `HeapFull` where the key would end above 4294967295; else
     /// `Memory` where memory is refused.
     pub fn key(&mut self, content: &str) -> Result<(), BuildError>
-        ensures { Builds self.old self.new (awaited (state_of self.old) ≡ KeyNext) (KeyHeap self.old.building content.now) (KeyFull self.old.building content.now) (λ s. and_key s content.now) result }
+        ensures { Builds self.old self.new (awaited (state_of self.old) ≡ KeyNext)
+            (KeyHeap self.old.building content.now) (KeyFull self.old.building content.now)
+            (λ s. and_key s content.now) result }
     {
         if self.failed {
             return Err(BuildError::AlreadyFailed);
@@ -234,7 +261,9 @@ impl TreeBuilder {
     /// `AlreadyFailed` after a refusal; `OutOfPlace` where no value, or for a key no key, is awaited; `HeapFull` where the announced
     /// bytes behind their length would end above 4294967295; else `Memory` where memory is refused.
     pub fn begin_bytes(&mut self, kind: BytesKind, announced: u64) -> Result<(), BuildError>
-        ensures { Builds self.old self.new (awaited (state_of self.old) ≡ head_awaits kind) (HeadHeap self.old.building announced) (HeadFull self.old.building announced) (λ s. and_head s kind announced) result }
+        ensures { Builds self.old self.new (awaited (state_of self.old) ≡ head_awaits kind)
+            (HeadHeap self.old.building announced) (HeadFull self.old.building announced)
+            (λ s. and_head s kind announced) result }
     {
         if self.failed {
             return Err(BuildError::AlreadyFailed);
@@ -247,7 +276,9 @@ impl TreeBuilder {
     ///
     /// `AlreadyFailed` after a refusal; `OutOfPlace` where fewer are missing; else `Memory` where memory is refused.
     pub fn chunk(&mut self, bytes: &[u8]) -> Result<(), BuildError>
-        ensures { Builds self.old self.new (TakesBytes (state_of self.old) (length bytes.now)) (λ heap. heap ≡ heap_so_far self.old ++ bytes.now) ⊥ (λ s. and_bytes s bytes.now) result }
+        ensures { Builds self.old self.new (TakesBytes (state_of self.old) (length bytes.now))
+            (λ heap. heap ≡ heap_so_far self.old ++ bytes.now) ⊥ (λ s. and_bytes s bytes.now)
+            result }
     {
         if self.failed {
             return Err(BuildError::AlreadyFailed);

@@ -21,7 +21,8 @@ fn add_values(
     field: Field,
     values: &[OwnedValue],
 ) -> Result<(), AddError>
-    ensures { AddsPairs (map (λ t. (field.id, t)) (map owned_tree values.now)) document.old document.new result }
+    ensures { AddsPairs (map (λ t. (field.id, t)) (map owned_tree values.now)) document.old
+        document.new result }
 {
     for value in values {
         match document.add_field_value(field, &value) {
@@ -39,7 +40,9 @@ fn add_named(
     name: &str,
     values: &Vec<OwnedValue>,
 ) -> Result<(), AddError>
-    ensures { AddsPairs (pairs_of_field (field_named schema.now name.now) (map owned_tree values.now.items)) document.old document.new result }
+    ensures { AddsPairs
+        (pairs_of_field (field_named schema.now name.now) (map owned_tree values.now.items))
+        document.old document.new result }
 {
     match schema.get_field(name) {
         Ok(field) => add_values(document, field, values.as_slice()),

@@ -1,10 +1,15 @@
 //! Documents: pairs of a field and a value, the values in one heap.
 
-ghost use Rattle.std.specs.Prelude.{◌≡◌, ℕ, ◌+◌, ◌<◌, ◌≤◌, ◌^◌, [], ◌∷◌, ◌++◌, ◌↔◌, IsTrue, OnOk, OnErr, IfOk, IfErr, IsErrOf, IsOkAnd, IsSomeAnd, MatchOption, SomeIff, option_map, length, map, slice_get, take};
+ghost use Rattle.std.specs.Prelude.{
+    ◌≡◌, ℕ, ◌+◌, ◌<◌, ◌≤◌, ◌^◌, [], ◌∷◌, ◌++◌, ◌↔◌, IsTrue, OnOk, OnErr, IfOk, IfErr, IsErrOf,
+    IsOkAnd, IsSomeAnd, MatchOption, SomeIff, option_map, length, map, slice_get, take,
+};
 ghost use Rattle.std.specs.Net.Addr.{ipv6_bits};
 ghost use Rattle.std.specs.String.{string_bytes};
 ghost use Rattle.tv_value.specs.HeldTokens.{token_of};
-ghost use Rattle.tv_value.specs.Tree.{leaf, text, unsigned, signed, boolean, date, facet, bytes, ip_address, tokenized};
+ghost use Rattle.tv_value.specs.Tree.{
+    leaf, text, unsigned, signed, boolean, date, facet, bytes, ip_address, tokenized,
+};
 ghost use Rattle.tv_value.specs.Lent.{leaf_of, nested_tree};
 ghost use Rattle.tv_doc.specs.Holds.{Holds, Holds-prop, pair_at};
 ghost use Rattle.tv_heap.specs.Room.{room, document_room};
@@ -61,8 +66,10 @@ fn admit(field: Field, room: Option<u32>, len: usize) -> Result<u16, AddError>
     requires { len ≤ 4294967295 }
     ensures small { IfOk result (λ small. (small ≡ field.id) × (field.id ≤ 65535)) }
     ensures fits { OnOk result (IsSomeAnd room (λ n. len + n ≤ 4294967295)) }
-    ensures number { (n : ℕ) → IsErrOf result (AddError.FieldNumber n) → (n ≡ field.id) × (65535 < field.id) }
-    ensures full { IsErrOf result AddError.HeapFull → (field.id ≤ 65535) × MatchOption room (Unit {0}) (λ n. 4294967295 < len + n) }
+    ensures number { (n : ℕ) → IsErrOf result (AddError.FieldNumber n)
+        → (n ≡ field.id) × (65535 < field.id) }
+    ensures full { IsErrOf result AddError.HeapFull
+        → (field.id ≤ 65535) × MatchOption room (Unit {0}) (λ n. 4294967295 < len + n) }
     ensures spares { ¬ IsErrOf result AddError.Memory }
 {
     let Ok(small) = u16::try_from(field.field_id()) else {
@@ -84,7 +91,8 @@ pub(crate) fn keep_pair(
     field: u16,
     written: Result<(ValueType, u32), AllocError>,
 ) -> Result<(), AddError>
-    ensures pair { OnOk result (IsOkAnd written (λ place. pairs.new.items ≡ pairs.old.items ++ pair_at field place ∷ [])) }
+    ensures pair { OnOk result
+        (IsOkAnd written (λ place. pairs.new.items ≡ pairs.old.items ++ pair_at field place ∷ [])) }
     ensures heap { OnOk result (heap.new.items ≡ heap.old.items) }
     ensures same_pairs { OnErr result (pairs.new.items ≡ pairs.old.items) }
     ensures cut { OnErr result (heap.new.items ≡ take len heap.old.items) }
@@ -120,7 +128,9 @@ pub struct CompactDoc {
 
 impl CompactDoc {
     ghost use Rattle.tv_doc.specs.Belongs.{Belongs};
-    ghost use Rattle.tv_doc.specs.Document.{document_of, heap_of, heap_capacity, pairs_capacity, places_of, Adds, IsUnchanged, ReadsAt};
+    ghost use Rattle.tv_doc.specs.Document.{
+        document_of, heap_of, heap_capacity, pairs_capacity, places_of, Adds, IsUnchanged, ReadsAt,
+    };
     ghost use Rattle.tv_doc.specs.MapValue.{map_tree};
     ghost use Rattle.tv_heap.specs.Value.{tree_of};
     ghost use Rattle.tv_doc.specs.FieldValues.{pairs_left, values_left, values_of};
@@ -279,7 +289,10 @@ impl CompactDoc {
         field: Field,
         content: &PreTokenizedString,
     ) -> Result<(), AddError>
-        ensures { Adds self.old self.new field.id (leaf (tokenized (string_bytes content.now.text) (map token_of content.now.tokens.items))) result }
+        ensures { Adds self.old self.new field.id
+            (leaf
+                (tokenized (string_bytes content.now.text) (map token_of content.now.tokens.items)))
+            result }
     {
         let content = PreTokenizedStr::from_string(content);
         self.add_leaf(field, &ReferenceValueLeaf::PreTokStr(content))
@@ -333,7 +346,8 @@ impl CompactDoc {
 
     /// The value of a field that was added first; `None` where it has none.
     pub fn get_first(&self, field: Field) -> Option<CompactDocValue<'_>>
-        ensures { option_map tree_of result ≡ slice_get (values_of field.id (document_of self.now)) 0 }
+        ensures { option_map tree_of result
+            ≡ slice_get (values_of field.id (document_of self.now)) 0 }
     {
         self.get_all(field).next()
     }
@@ -384,8 +398,10 @@ impl CompactDoc {
         room_found: Option<u32>,
         value: NestedValue<'_, N>,
     ) -> Result<(), AddError>
-        requires { let n = room (nested_tree N.array_rest N.object_rest value) in SomeIff room_found (n < 2 ^ 32) n }
-        ensures { Adds self.old self.new field.id (nested_tree N.array_rest N.object_rest value.entry) result }
+        requires { let n = room (nested_tree N.array_rest N.object_rest value) in SomeIff room_found
+            (n < 2 ^ 32) n }
+        ensures { Adds self.old self.new field.id
+            (nested_tree N.array_rest N.object_rest value.entry) result }
     {
         let len = self.node_data.len();
         let small = admit(field, room_found, len)?;

@@ -23,7 +23,8 @@ fn gathered<'a, D: Document<'a>>(
     alloc: Global,
     document: &'a D,
 ) -> Result<Vec<(Field, D::Value)>, AllocError>
-    ensures { IfOk result (λ gathered. map (pair_seen D.Value.tree) gathered.items ≡ D.pairs document.now) }
+    ensures { IfOk result
+        (λ gathered. map (pair_seen D.Value.tree) gathered.items ≡ D.pairs document.now) }
 {
     let mut pairs = Vec::with_capacity(alloc, FIRST_PAIRS)?;
     for pair in document.iter_fields_and_values() {
@@ -51,16 +52,20 @@ pub trait Document<'a> {
     fn iter_fields_and_values(&'a self) -> Self::FieldsValuesIter
         ensures { pairs_rest result ≡ pairs self.now };
 
-    ghost pairs_walk: { (s : Self.FieldsValuesIter) → Self.FieldsValuesIter.can_next s × IsFinite (Self.FieldsValuesIter.remaining s) };
+    ghost pairs_walk: { (s : Self.FieldsValuesIter)
+        → Self.FieldsValuesIter.can_next s × IsFinite (Self.FieldsValuesIter.remaining s) };
 
-    ghost pairs_steps: { (s t : Self.FieldsValuesIter) (r : Option (Field × Self.Value)) → Self.FieldsValuesIter.next_gives s r t → YieldsFirstBy (pair_seen Self.Value.tree) pairs_rest s r t };
+    ghost pairs_steps: { (s t : Self.FieldsValuesIter) (r : Option (Field × Self.Value))
+        → Self.FieldsValuesIter.next_gives s r t
+        → YieldsFirstBy (pair_seen Self.Value.tree) pairs_rest s r t };
 
     /// The fields that have a value, rising, each once and with its values in order. The only error is that memory was refused.
     final fn get_sorted_field_values(
         &'a self,
         alloc: Global,
     ) -> Result<Vec<(Field, Vec<Self::Value>)>, AllocError>
-        ensures { IfOk result (λ groups. IsGrouped (pairs self.now) (map (group_seen Self.Value.tree) groups.items)) }
+        ensures { IfOk result
+            (λ groups. IsGrouped (pairs self.now) (map (group_seen Self.Value.tree) groups.items)) }
     {
         grouped(alloc, gathered(alloc, self)?)
     }
@@ -72,7 +77,8 @@ pub trait Document<'a> {
         alloc: Global,
         schema: &S,
     ) -> Result<NamedFieldDocument, AllocError>
-        ensures { IfOk result (λ named. IsNamed (S.names schema.now) (pairs self.now) (named_of named)) }
+        ensures { IfOk result
+            (λ named. IsNamed (S.names schema.now) (pairs self.now) (named_of named)) }
     {
         owned_by_name(alloc, schema, self.get_sorted_field_values(alloc)?)
     }
@@ -84,7 +90,8 @@ pub trait Document<'a> {
         alloc: Global,
         schema: &S,
     ) -> Result<String, AllocError>
-        ensures { IfOk result (λ text. IsJsonText (S.names schema.now) (pairs self.now) (string_bytes text)) }
+        ensures { IfOk result
+            (λ text. IsJsonText (S.names schema.now) (pairs self.now) (string_bytes text)) }
     {
         let mut pairs = gathered(alloc, self)?;
         sort_pairs(&mut pairs)?;

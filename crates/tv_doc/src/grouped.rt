@@ -11,7 +11,9 @@ use tv_value::field::Field;
 /// Sorts pairs by their fields. The values of a field stay in order. The only error is that memory was refused.
 pub(crate) fn sort_pairs<V: Drop>(pairs: &mut Vec<(Field, V)>) -> Result<(), AllocError>
     ensures rises { OnOk result (IsNonDecreasingBy (λ pair. pair.0.id) pairs.new.items) }
-    ensures same { (field : ℕ) → values_of field (map numbered pairs.new.items) ≡ values_of field (map numbered pairs.old.items) }
+    ensures same { (field : ℕ)
+        → values_of field (map numbered pairs.new.items)
+            ≡ values_of field (map numbered pairs.old.items) }
 {
     pairs.sort_by_key(|pair| pair.0.field_id())?;
     Ok(())
@@ -23,7 +25,8 @@ fn group_sorted<V: Drop>(
     pairs: Vec<(Field, V)>,
 ) -> Result<Vec<(Field, Vec<V>)>, AllocError>
     requires { IsNonDecreasingBy (λ pair. pair.0.id) pairs.items }
-    ensures { IfOk result (λ groups. IsGrouped (map numbered pairs.items) (map numbered_all groups.items)) }
+    ensures { IfOk result
+        (λ groups. IsGrouped (map numbered pairs.items) (map numbered_all groups.items)) }
 {
     let mut groups = Vec::new(alloc);
     let mut sorted = pairs.into_iter();
@@ -50,7 +53,8 @@ pub fn grouped<V: Drop>(
     alloc: Global,
     mut pairs: Vec<(Field, V)>,
 ) -> Result<Vec<(Field, Vec<V>)>, AllocError>
-    ensures { IfOk result (λ groups. IsGrouped (map numbered pairs.items) (map numbered_all groups.items)) }
+    ensures { IfOk result
+        (λ groups. IsGrouped (map numbered pairs.items) (map numbered_all groups.items)) }
 {
     sort_pairs(&mut pairs)?;
     group_sorted(alloc, pairs)

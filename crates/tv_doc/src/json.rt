@@ -4,7 +4,10 @@ ghost use Rattle.std.specs.Prelude.{◌≡◌, ◌<◌, ◌∷◌, [], IfOk, len
 ghost use Rattle.serde_json.specs.View.{view as data_of, items_view, members_view};
 ghost use Rattle.tv_schema.specs.Schema.{field_named};
 ghost use Rattle.tv_field.specs.JsonAnswer.{lent_tree};
-ghost use Rattle.tv_doc.specs.JsonObject.{FieldJson, item_values, values_for, values_at, object_values, AddsValues, IsInvalidJson, IsValueError, MakesDocument, Parses};
+ghost use Rattle.tv_doc.specs.JsonObject.{
+    FieldJson, item_values, values_for, values_at, object_values, AddsValues, IsInvalidJson,
+    IsValueError, MakesDocument, Parses,
+};
 ghost use Rattle.std.specs.Fmt.{take_chars};
 ghost use Rattle.tv_doc.specs.Document.{Adds};
 
@@ -55,7 +58,12 @@ pub(crate) fn add_value(
     field_type: &FieldType,
     json: Value,
 ) -> Result<(), DocParsingError>
-    ensures { AddsValues (record { name = name.now; field = field.id; field_type = field_type.now; value = data_of json } ∷ []) document.old document.new result }
+    ensures { AddsValues
+        (record
+                { name = name.now; field = field.id; field_type = field_type.now; value = data_of
+                    json }
+            ∷ [])
+        document.old document.new result }
 {
     match field_type.lend_json(&json, scratch) {
         Ok(lent) => match add_lent(document, field, lent) {
@@ -76,7 +84,8 @@ fn add_items(
     field_type: &FieldType,
     items: Vec<Value>,
 ) -> Result<(), DocParsingError>
-    ensures { AddsValues (item_values name.now field.id field_type.now (items_view items.items)) document.old document.new result }
+    ensures { AddsValues (item_values name.now field.id field_type.now (items_view items.items))
+        document.old document.new result }
 {
     for item in items {
         match add_value(alloc, document, scratch, name, field, field_type, item) {
@@ -96,7 +105,9 @@ fn add_member(
     name: &str,
     json: Value,
 ) -> Result<(), DocParsingError>
-    ensures { AddsValues (values_at schema.now name.now (field_named schema.now name.now) (data_of json)) document.old document.new result }
+    ensures { AddsValues
+        (values_at schema.now name.now (field_named schema.now name.now) (data_of json))
+        document.old document.new result }
 {
     let Ok(field) = schema.get_field(name) else {
         return Ok(());

@@ -39,15 +39,21 @@ pub fn heaps_are_within_room()
 /// Of additions to a document, one after the other, refused ones among them, each leaves what its answer says, and all of
 /// them: the accepted pairs stand in order behind those that were there, and what stood in the heap stands there still.
 pub fn additions_are_kept()
-    ensures { (additions : List Addition) (old new : CompactDoc) → Runs additions old new → Keeps (accepted additions) old new }
+    ensures { (additions : List Addition) (old new : CompactDoc) → Runs additions old new
+        → Keeps (accepted additions) old new }
 {}
 
 /// The values by name of a document, as pairs again: each field of the schema has the values that it has in the document, in their order,
 /// and nothing else has a value. So where each pair's field is one of the schema, they are the document's pairs, those of each field in order.
 pub fn named_values_make_the_same_pairs()
-    ensures kept { (schema : List Entry) (d : Pairs) (named : Named) (field : ℕ) → IsSchema schema → IsNamed (field_names schema) d named → field < length schema → values_of field (named_pairs schema named) ≡ values_of field d }
-    ensures others { (schema : List Entry) (named : Named) (field : ℕ) → length schema ≤ field → values_of field (named_pairs schema named) ≡ [] }
-    ensures all { (schema : List Entry) (d : Pairs) (named : Named) (field : ℕ) → IsSchema schema → IsNamed (field_names schema) d named → Belongs schema d → values_of field (named_pairs schema named) ≡ values_of field d }
+    ensures kept { (schema : List Entry) (d : Pairs) (named : Named) (field : ℕ) → IsSchema schema
+        → IsNamed (field_names schema) d named → field < length schema
+        → values_of field (named_pairs schema named) ≡ values_of field d }
+    ensures others { (schema : List Entry) (named : Named) (field : ℕ) → length schema ≤ field
+        → values_of field (named_pairs schema named) ≡ [] }
+    ensures all { (schema : List Entry) (d : Pairs) (named : Named) (field : ℕ) → IsSchema schema
+        → IsNamed (field_names schema) d named → Belongs schema d
+        → values_of field (named_pairs schema named) ≡ values_of field d }
 {
     names_are_of_one_field();
 }
@@ -59,9 +65,13 @@ pub fn named_documents_are_converted_back(
     schema: &Schema,
     document: &CompactDoc,
 ) -> Result<CompactDoc, DocParsingError>
-    ensures kept { IfOk result (λ back. (field : ℕ) → field < length schema.now → values_of field (document_of back) ≡ values_of field (document_of document.now)) }
+    ensures kept { IfOk result
+        (λ back. (field : ℕ) → field < length schema.now
+            → values_of field (document_of back) ≡ values_of field (document_of document.now)) }
     ensures belongs { IfOk result (λ back. Belongs schema.now (document_of back)) }
-    ensures all { IfOk result (λ back. Belongs schema.now (document_of document.now) → (field : ℕ) → values_of field (document_of back) ≡ values_of field (document_of document.now)) }
+    ensures all { IfOk result
+        (λ back. Belongs schema.now (document_of document.now) → (field : ℕ)
+            → values_of field (document_of back) ≡ values_of field (document_of document.now)) }
 {
     names_are_of_one_field();
     let _names_are_distinct = schema.num_fields();
@@ -73,5 +83,6 @@ pub fn named_documents_are_converted_back(
 /// their length's shortest encoding, are the heap's last. The heap takes at most the room of the pairs and of what is written.
 pub fn builders_hold_their_state()
     ensures shown { (b : TreeBuilder) → ∥ Shows b.building (state_of b) ∥₁ }
-    ensures room { (b : TreeBuilder) → length (heap_so_far b) ≤ document_room (built b) + written (state_of b) }
+    ensures room { (b : TreeBuilder)
+        → length (heap_so_far b) ≤ document_room (built b) + written (state_of b) }
 {}

@@ -5,7 +5,9 @@ ghost use Rattle.std.specs.List.Sorted.{IsNonDecreasingBy};
 ghost use Rattle.tv_json.specs.Named.{named_trees};
 ghost use Rattle.tv_value.specs.Owned.{owned_tree};
 ghost use Rattle.tv_doc.specs.Grouped.{group_seen};
-ghost use Rattle.tv_doc.specs.Named.{IsNamed, by_name as named_by, field_names, named_of, put_under};
+ghost use Rattle.tv_doc.specs.Named.{
+    IsNamed, by_name as named_by, field_names, named_of, put_under,
+};
 ghost use Rattle.tv_doc.specs.FieldValues.{pair_seen};
 
 use std::alloc::{AllocError, Global};
@@ -47,7 +49,11 @@ fn put_named<'a, 's, 'p, S: FieldNames, V: Value<'a>>(
     field: Field,
     pairs: &'p [(Field, V)],
 ) -> Result<BTreeMap<&'s str, &'p [(Field, V)]>, AllocError>
-    ensures { IfOk result (λ made. map (named_trees V.tree) made.entries ≡ put_under (slice_get (S.names schema.now) field.id) (map (λ pair. V.tree pair.1) pairs.now) (map (named_trees V.tree) named.entry.entries)) }
+    ensures { IfOk result
+        (λ made. map (named_trees V.tree) made.entries
+            ≡ put_under (slice_get (S.names schema.now) field.id)
+                (map (λ pair. V.tree pair.1) pairs.now)
+                (map (named_trees V.tree) named.entry.entries)) }
 {
     if let Some(name) = schema.name_of(field) {
         drop(named.insert(name, pairs)?);
@@ -63,7 +69,9 @@ pub(crate) fn by_name<'a, 's, 'p, S: FieldNames, V: Value<'a>>(
     pairs: &'p [(Field, V)],
 ) -> Result<BTreeMap<&'s str, &'p [(Field, V)]>, AllocError>
     requires { IsNonDecreasingBy (λ pair. pair.0.id) pairs.now }
-    ensures { IfOk result (λ named. IsNamed (S.names schema.now) (map (pair_seen V.tree) pairs.now) (map (named_trees V.tree) named.entries)) }
+    ensures { IfOk result
+        (λ named. IsNamed (S.names schema.now) (map (pair_seen V.tree) pairs.now)
+            (map (named_trees V.tree) named.entries)) }
 {
     let mut named = BTreeMap::new(alloc);
     let Some((first, _)) = pairs.first() else {
@@ -104,7 +112,9 @@ pub(crate) fn owned_by_name<'a, S: FieldNames, V: Value<'a>>(
     schema: &S,
     groups: Vec<(Field, Vec<V>)>,
 ) -> Result<NamedFieldDocument, AllocError>
-    ensures { IfOk result (λ named. named_of named ≡ named_by (S.names schema.now) (map (group_seen V.tree) groups.items) []) }
+    ensures { IfOk result
+        (λ named. named_of named
+            ≡ named_by (S.names schema.now) (map (group_seen V.tree) groups.items) []) }
 {
     let mut named = BTreeMap::new(alloc);
     for (field, values) in groups {

@@ -12,7 +12,8 @@ use tv_value::field::Field;
 
 // Each value as a text of JSON, beside its field.
 fn texts_of(alloc: Global, document: &CompactDoc) -> Result<Vec<(Field, String)>, AllocError>
-    ensures { IfOk result (λ texts. texts_seen texts.items ≡ field_texts (document_of document.now)) }
+    ensures { IfOk result
+        (λ texts. texts_seen texts.items ≡ field_texts (document_of document.now)) }
 {
     let mut texts = Vec::new(alloc);
     for (field, value) in document.field_values() {
@@ -52,7 +53,8 @@ impl CompactDoc {
     /// of the values, and how often one repeats, doesn't count; nor does the order of the keys of an object. (In place of `==`.) The only
     /// error is that memory was refused.
     pub fn same_as(&self, alloc: Global, other: &CompactDoc) -> Result<bool, AllocError>
-        ensures { IfOk result (λ same. IsTrue same ↔ SameTexts (document_of self.now) (document_of other.now)) }
+        ensures { IfOk result
+            (λ same. IsTrue same ↔ SameTexts (document_of self.now) (document_of other.now)) }
     {
         let texts = texts_of(alloc, self)?;
         let others = texts_of(alloc, other)?;

@@ -16,7 +16,8 @@ impl CompactDoc {
     //
     // `None` where the field's number is above 65535, where the heap has no room, and where memory is refused. The document is then unchanged.
     pub(crate) fn add_whole_json(&mut self, field: Field, json: &BorrowedJson<'_>) -> Option<()>
-        ensures added { OnSome result (AddsTree self.old self.new field.id (whole_tree (data_of json.now))) }
+        ensures added { OnSome result
+            (AddsTree self.old self.new field.id (whole_tree (data_of json.now))) }
         ensures none { IfNone result (IsUnchanged self.old self.new) }
     {
         let Ok(small) = u16::try_from(field.field_id()) else {

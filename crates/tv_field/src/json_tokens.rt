@@ -4,7 +4,10 @@ ghost use Rattle.std.specs.Prelude.{◌≡◌, option_map, option_and_then};
 ghost use Rattle.serde_json.specs.View.{view as data_of, items_view};
 ghost use Rattle.serde_json.specs.Find.{as_array, get};
 ghost use Rattle.tv_value.specs.TokenRef.{ref_of};
-ghost use Rattle.tv_field.specs.JsonTokens.{number_at as number_at_key, text_at as text_at_key, token_in, IsTokenEncoded, AreTokensEncoded, IsTokenizedEncoded};
+ghost use Rattle.tv_field.specs.JsonTokens.{
+    number_at as number_at_key, text_at as text_at_key, token_in, IsTokenEncoded, AreTokensEncoded,
+    IsTokenizedEncoded,
+};
 
 use serde_json::Value;
 use std::alloc::AllocError;
@@ -27,7 +30,8 @@ fn text_at<'a>(json: &'a Value, key: &str) -> Option<&'a str>
 
 // The array at a key.
 fn items_at<'a>(json: &'a Value, key: &str) -> Option<&'a Vec<Value>>
-    ensures { option_map (λ v. items_view v.now.items) result ≡ option_and_then as_array (get key.now (data_of json.now)) }
+    ensures { option_map (λ v. items_view v.now.items) result
+        ≡ option_and_then as_array (get key.now (data_of json.now)) }
 {
     json.get(key)?.as_array()
 }

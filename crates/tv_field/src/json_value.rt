@@ -3,7 +3,11 @@
 ghost use Rattle.std.specs.Prelude.{◌≡◌, codes, string_bytes, IfSome, IfErr, OnOk, OnErr};
 ghost use Rattle.serde_json.specs.View.{view as data_of, number_view};
 ghost use Rattle.serde_json.specs.Data.{string, number};
-ghost use Rattle.tv_field.specs.JsonTable.{Table, str_row, decimal_text, U64Row, I64Row, SignedText, UnsignedText, signed_number, bool_row, boolean_text, date_row, date_text, facet_row, bytes_row, json_row, IpRow, IpText, leaf_or, mismatch};
+ghost use Rattle.tv_field.specs.JsonTable.{
+    Table, str_row, decimal_text, U64Row, I64Row, SignedText, UnsignedText, signed_number, bool_row,
+    boolean_text, date_row, date_text, facet_row, bytes_row, json_row, IpRow, IpText, leaf_or,
+    mismatch,
+};
 ghost use Rattle.tv_field.specs.JsonTokens.{tokenized_in};
 ghost use Rattle.tv_field.specs.JsonAnswer.{Lends, LendsLeaf, Answers};
 
@@ -91,7 +95,8 @@ fn lend_decimal<'a>(
     json: &Number,
     text: &'a mut String,
 ) -> Result<ReferenceValueLeaf<'a>, JsonRefusal>
-    ensures { LendsLeaf (number (number_view json.now)) (λ o. o ≡ decimal_text (number_view json.now)) result }
+    ensures { LendsLeaf (number (number_view json.now))
+        (λ o. o ≡ decimal_text (number_view json.now)) result }
 {
     if let Some(unsigned) = json.as_u64() {
         print_number(unsigned, text)?;
@@ -108,7 +113,8 @@ fn lend_decimal<'a>(
 
 // A number as a signed one.
 fn lend_signed(json: &Number) -> Result<ReferenceValueLeaf<'static>, JsonRefusal>
-    ensures { LendsLeaf (number (number_view json.now)) (λ o. o ≡ signed_number (number_view json.now)) result }
+    ensures { LendsLeaf (number (number_view json.now))
+        (λ o. o ≡ signed_number (number_view json.now)) result }
 {
     match json.as_i64() {
         Some(signed) => Ok(ReferenceValueLeaf::I64(signed)),
@@ -284,7 +290,11 @@ fn lend_tokenized<'a>(
     json: &Value,
     bytes: &'a mut Vec<u8>,
 ) -> Result<ReferenceValueLeaf<'a>, JsonRefusal>
-    ensures { LendsLeaf (data_of json.now) (λ o. o ≡ leaf_or (tokenized_in (data_of json.now)) (mismatch (codes "a string or an pretokenized string") (data_of json.now))) result }
+    ensures { LendsLeaf (data_of json.now)
+        (λ o. o
+            ≡ leaf_or (tokenized_in (data_of json.now))
+                (mismatch (codes "a string or an pretokenized string") (data_of json.now)))
+        result }
 {
     let is_tokenized = encode_tokenized(json, bytes)?;
     if !is_tokenized {

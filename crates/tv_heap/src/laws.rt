@@ -6,5 +6,6 @@ ghost use Rattle.tv_heap.specs.Reads.{Reads};
 
 /// One type and address reads as one tree at most.
 pub fn places_read_as_one_tree()
-    ensures { (heap : List ℕ) (code at : ℕ) (t u : Tree) → Reads heap code at t → Reads heap code at u → t ≡ u }
+    ensures { (heap : List ℕ) (code at : ℕ) (t u : Tree) → Reads heap code at t
+        → Reads heap code at u → t ≡ u }
 {}

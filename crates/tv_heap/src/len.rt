@@ -31,7 +31,8 @@ fn number_len(number: u64) -> u32
 // The length of so many bytes behind their length, above what there is, where the sum fits.
 #[inline(always)]
 fn sized_above(len: usize, base: u32) -> Option<u32>
-    ensures { let total = base + (length (vnum len) + len) in SomeIff result (total < 2 ^ 32) total }
+    ensures { let total = base
+        + (length (vnum len) + len) in SomeIff result (total < 2 ^ 32) total }
 {
     base.checked_add(u32::try_from(len).ok()?)?
         .checked_add(number_len(len as u64))
@@ -39,7 +40,8 @@ fn sized_above(len: usize, base: u32) -> Option<u32>
 
 // The length of the encoding of a token, above what there is, where the sum fits.
 fn token_above(token: TokenRef<'_>, base: u32) -> Option<u32>
-    ensures { let total = base + length (short_token (ref_of token.entry)) in SomeIff result (total < 2 ^ 32) total }
+    ensures { let total = base
+        + length (short_token (ref_of token.entry)) in SomeIff result (total < 2 ^ 32) total }
 {
     sized_above(token.text.len(), base)?
         .checked_add(number_len(token.offset_from as u64))?
@@ -50,7 +52,9 @@ fn token_above(token: TokenRef<'_>, base: u32) -> Option<u32>
 
 // The length of the encodings of tokens, above what there is, where the sum fits.
 fn tokens_above(tokens: TokenIter<'_>, base: u32) -> Option<u32>
-    ensures { let total = base + length (flat_map short_token (tokens_left tokens.entry)) in SomeIff result (total < 2 ^ 32) total }
+    ensures { let total = base
+        + length (flat_map short_token (tokens_left tokens.entry)) in SomeIff result
+            (total < 2 ^ 32) total }
 {
     let mut total = base;
     for token in tokens {
@@ -61,7 +65,8 @@ fn tokens_above(tokens: TokenIter<'_>, base: u32) -> Option<u32>
 
 // The length of a text and its tokens, where it fits.
 fn tokenized_len(content: PreTokenizedStr<'_>) -> Option<u32>
-    ensures { let len = length (short_tokenized (text_of content.entry) (tokens_of content.entry)) in SomeIff result (len < 2 ^ 32) len }
+    ensures { let len = length (short_tokenized (text_of content.entry) (tokens_of content.entry))
+        in SomeIff result (len < 2 ^ 32) len }
 {
     let base = sized_above(content.text().len(), number_len(content.len() as u64))?;
     tokens_above(content.tokens(), base)
@@ -71,7 +76,8 @@ fn tokenized_len(content: PreTokenizedStr<'_>) -> Option<u32>
 #[inline(always)]
 #[tactic(auto, using(crate::proofs::Writes::length_eight, crate::proofs::Writes::length_sixteen))]
 pub fn leaf_len(value: &ReferenceValueLeaf<'_>) -> Option<u32>
-    ensures { let len = length (leaf_bytes (leaf_of value.now)) in SomeIff result (len < 2 ^ 32) len }
+    ensures { let len = length (leaf_bytes (leaf_of value.now)) in SomeIff result (len < 2 ^ 32)
+        len }
 {
     match value.content() {
         LeafContent::Nothing | LeafContent::Truth(_) => Some(0),

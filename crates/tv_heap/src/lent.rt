@@ -1,7 +1,9 @@
 //! Decoding in place. Each call gives what stands at an address, whatever stands elsewhere; where nothing of the kind
 //! stands there it gives some bytes or some number.
 
-ghost use Rattle.std.specs.Prelude.{◌≡◌, ◌↔◌, [], ◌∷◌, ◌++◌, ◌<◌, ◌≤◌, ◌^◌, ℕ, ℤ, List, None, Some, length, option_map};
+ghost use Rattle.std.specs.Prelude.{
+    ◌≡◌, ◌↔◌, [], ◌∷◌, ◌++◌, ◌<◌, ◌≤◌, ◌^◌, ℕ, ℤ, List, None, Some, length, option_map,
+};
 ghost use Rattle.tv_base.specs.Number.{vnum, sixteen_bytes, Fixed, Signed};
 ghost use Rattle.tv_base.specs.Parts.{short_sized};
 ghost use Rattle.tv_value.specs.LeafParts.{content_of};
@@ -14,7 +16,9 @@ ghost use Rattle.tv_value.specs.declared.content.Form.TheVariants as forms;
 ghost use Rattle.tv_heap.specs.declared.value_type.ValueType.{ValueType};
 ghost use Rattle.tv_heap.specs.Encoded.{encoded_bytes, last_bytes, AreTokens, SaysTokenized};
 ghost use Rattle.tv_heap.specs.Lent.{GivesChild, HasText};
-ghost use Rattle.tv_heap.specs.Reads.{Stands, ShortSized, ShortText, ShortTokenized, ContentStands, LeafStands};
+ghost use Rattle.tv_heap.specs.Reads.{
+    Stands, ShortSized, ShortText, ShortTokenized, ContentStands, LeafStands,
+};
 ghost use Rattle.tv_heap.specs.TypeCode.{type_code};
 
 use crate::encoded::Encoded;
@@ -29,7 +33,8 @@ use tv_value::pre_tokenized::PreTokenizedStr;
 #[inline]
 fn short_at(bytes: &[u8]) -> (u64, &[u8])
     ensures behind { length result.1.now ≤ length bytes.now }
-    ensures number { (n : ℕ) (rest : List ℕ) → n < 2 ^ 64 → bytes.now ≡ vnum n ++ rest → (result.0 ≡ n) × (result.1.now ≡ rest) }
+    ensures number { (n : ℕ) (rest : List ℕ) → n < 2 ^ 64 → bytes.now ≡ vnum n ++ rest
+        → (result.0 ≡ n) × (result.1.now ≡ rest) }
 {
     match bytes {
         [last, rest @ ..] if *last >= 128 => (u64::from(*last - 128), rest),
@@ -43,7 +48,8 @@ fn short_at(bytes: &[u8]) -> (u64, &[u8])
 // The same, of any length.
 fn long_at(bytes: &[u8]) -> (u64, &[u8])
     ensures behind { length result.1.now ≤ length bytes.now }
-    ensures number { (n : ℕ) (rest : List ℕ) → n < 2 ^ 64 → bytes.now ≡ vnum n ++ rest → (result.0 ≡ n) × (result.1.now ≡ rest) }
+    ensures number { (n : ℕ) (rest : List ℕ) → n < 2 ^ 64 → bytes.now ≡ vnum n ++ rest
+        → (result.0 ≡ n) × (result.1.now ≡ rest) }
 {
     match VInt::from_slice(bytes) {
         Some((number, len)) => (number, &bytes[len..]),
@@ -72,7 +78,8 @@ pub fn sized_at(heap: &[u8], address: u32) -> &[u8]
 /// The same with the length before them, as it is encoded there.
 #[inline]
 pub fn sized_encoding_at(heap: &[u8], address: u32) -> &[u8]
-    ensures { (s : List ℕ) → Stands heap.now address (λ w. ShortSized s w) → result.now ≡ short_sized s }
+    ensures { (s : List ℕ) → Stands heap.now address (λ w. ShortSized s w)
+        → result.now ≡ short_sized s }
 {
     let at = address as usize;
     if at > heap.len() {
@@ -155,7 +162,8 @@ pub fn sixteen_at(heap: &[u8], address: u32) -> &[u8]
 
 /// The text and the tokens that stand at an address.
 pub fn tokenized_at(heap: &[u8], address: u32) -> Option<PreTokenizedStr<'_>>
-    ensures { (s : List ℕ) (ts : List Token) → Stands heap.now address (λ w. ShortTokenized s ts w) → option_map tokenized_leaf result ≡ Some (tokenized s ts) }
+    ensures { (s : List ℕ) (ts : List Token) → Stands heap.now address (λ w. ShortTokenized s ts w)
+        → option_map tokenized_leaf result ≡ Some (tokenized s ts) }
 {
     let at = address as usize;
     if at > heap.len() {
@@ -168,7 +176,8 @@ pub fn tokenized_at(heap: &[u8], address: u32) -> Option<PreTokenizedStr<'_>>
 
 /// The same, as they are encoded there.
 pub fn encoded_tokens_at(heap: &[u8], address: u32) -> &[u8]
-    ensures { (s : List ℕ) (ts : List Token) → Stands heap.now address (λ w. ShortTokenized s ts w) → result.now ≡ short_tokenized s ts }
+    ensures { (s : List ℕ) (ts : List Token) → Stands heap.now address (λ w. ShortTokenized s ts w)
+        → result.now ≡ short_tokenized s ts }
 {
     let at = address as usize;
     if at > heap.len() {
@@ -185,7 +194,8 @@ pub fn encoded_tokens_at(heap: &[u8], address: u32) -> &[u8]
 // The value of this type that holds this.
 #[inline(always)]
 fn made<'a>(leaf_type: LeafType, held: LeafContent<'a>) -> ReferenceValueLeaf<'a>
-    ensures { (l : Leaf) → type_of l ≡ leaf_type → content_of held.entry ≡ content l → leaf_of result ≡ l }
+    ensures { (l : Leaf) → type_of l ≡ leaf_type → content_of held.entry ≡ content l
+        → leaf_of result ≡ l }
 {
     match ReferenceValueLeaf::with_content(leaf_type, held) {
         Some(value) => value,
@@ -197,7 +207,8 @@ fn made<'a>(leaf_type: LeafType, held: LeafContent<'a>) -> ReferenceValueLeaf<'a
 #[inline(always)]
 pub fn leaf_at(heap: &[u8], leaf_type: LeafType, address: u32) -> ReferenceValueLeaf<'_>
     requires { form leaf_type ≡ forms.Text → HasText heap.now address }
-    ensures { (l : Leaf) → type_of l ≡ leaf_type → LeafStands heap.now address l → leaf_of result ≡ l }
+    ensures { (l : Leaf) → type_of l ≡ leaf_type → LeafStands heap.now address l
+        → leaf_of result ≡ l }
 {
     match leaf_type.form() {
         Form::Nothing => made(leaf_type, LeafContent::Nothing),
@@ -217,8 +228,10 @@ pub fn leaf_at(heap: &[u8], leaf_type: LeafType, address: u32) -> ReferenceValue
 /// What the store's version 2 has for the value without children of this type that stands at an address.
 #[inline(always)]
 pub fn encoded_at(heap: &[u8], leaf_type: LeafType, address: u32) -> Encoded<'_>
-    ensures bytes { (l : Leaf) → type_of l ≡ leaf_type → LeafStands heap.now address l → encoded_bytes result ≡ short_leaf l }
-    ensures tokens { (l : Leaf) → type_of l ≡ leaf_type → SaysTokenized result ↔ AreTokens (content l) }
+    ensures bytes { (l : Leaf) → type_of l ≡ leaf_type → LeafStands heap.now address l
+        → encoded_bytes result ≡ short_leaf l }
+    ensures tokens { (l : Leaf) → type_of l ≡ leaf_type
+        → SaysTokenized result ↔ AreTokens (content l) }
 {
     let code = leaf_type.store_code();
     match leaf_type.form() {
@@ -250,7 +263,8 @@ pub fn children(list: &[u8]) -> u64
 /// The first child's type and address, and the list behind it.
 #[inline]
 pub fn child_at(list: &[u8]) -> Option<(ValueType, u32, &[u8])>
-    ensures first { (t : ValueType) (at : ℕ) (rest : List ℕ) → at < 2 ^ 32 → list.now ≡ type_code t ∷ (vnum at ++ rest) → GivesChild result (type_code t) at rest }
+    ensures first { (t : ValueType) (at : ℕ) (rest : List ℕ) → at < 2 ^ 32
+        → list.now ≡ type_code t ∷ (vnum at ++ rest) → GivesChild result (type_code t) at rest }
     ensures none { list.now ≡ [] → result ≡ None }
 {
     let (code, behind) = list.split_first()?;

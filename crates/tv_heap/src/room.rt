@@ -25,7 +25,8 @@ fn sized_room(len: usize) -> Option<u32>
 // The room of tokens above what there is, where the sum fits.
 #[inline(never)]
 fn tokens_above(tokens: TokenIter<'_>, base: u32) -> Option<u32>
-    ensures { let total = base + sum_by token_room (tokens_left tokens.entry) in SomeIff result (total < 2 ^ 32) total }
+    ensures { let total = base
+        + sum_by token_room (tokens_left tokens.entry) in SomeIff result (total < 2 ^ 32) total }
 {
     let mut total = base;
     for token in tokens {
@@ -38,7 +39,8 @@ fn tokens_above(tokens: TokenIter<'_>, base: u32) -> Option<u32>
 /// The room of a value without children, where it is at most 4294967295.
 #[inline(always)]
 pub fn leaf_room(value: &ReferenceValueLeaf<'_>) -> Option<u32>
-    ensures { SomeIff result (leaf_room (leaf_of value.now) < 2 ^ 32) (leaf_room (leaf_of value.now)) }
+    ensures { SomeIff result (leaf_room (leaf_of value.now) < 2 ^ 32)
+        (leaf_room (leaf_of value.now)) }
 {
     match value.content() {
         LeafContent::Nothing | LeafContent::Truth(_) => Some(0),
@@ -57,7 +59,9 @@ pub fn leaf_room(value: &ReferenceValueLeaf<'_>) -> Option<u32>
 #[inline(always)]
 #[cycle(values)]
 fn value_above<N: Nested>(value: NestedValue<'_, N>, base: u32) -> Option<u32>
-    ensures { let total = base + room (nested_tree N.array_rest N.object_rest value.entry) in SomeIff result (total < 2 ^ 32) total }
+    ensures { let total = base
+        + room (nested_tree N.array_rest N.object_rest value.entry) in SomeIff result
+            (total < 2 ^ 32) total }
 {
     match value {
         NestedValue::Leaf(single) => base.checked_add(leaf_room(&single)?),
@@ -70,7 +74,8 @@ fn value_above<N: Nested>(value: NestedValue<'_, N>, base: u32) -> Option<u32>
 #[inline(never)]
 #[cycle(values)]
 fn items_above<N: Nested>(items: N::ArrayIter, base: u32) -> Option<u32>
-    ensures { let total = base + elements_room (elements (N.array_rest items)) in SomeIff result (total < 2 ^ 32) total }
+    ensures { let total = base
+        + elements_room (elements (N.array_rest items)) in SomeIff result (total < 2 ^ 32) total }
 {
     let mut total = base;
     for item in items {
@@ -85,7 +90,8 @@ fn items_above<N: Nested>(items: N::ArrayIter, base: u32) -> Option<u32>
 #[inline(never)]
 #[cycle(values)]
 fn members_above<N: Nested>(members: N::ObjectIter, base: u32) -> Option<u32>
-    ensures { let total = base + entries_room (entries (N.object_rest members)) in SomeIff result (total < 2 ^ 32) total }
+    ensures { let total = base
+        + entries_room (entries (N.object_rest members)) in SomeIff result (total < 2 ^ 32) total }
 {
     let mut total = base;
     for (key, item) in members {

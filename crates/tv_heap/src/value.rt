@@ -2,7 +2,9 @@
 
 ghost use Rattle.std.specs.Prelude.{◌≡◌, ◌↔◌};
 ghost use Rattle.std.specs.Iterator.{YieldsFirstBy, item_count};
-ghost use Rattle.tv_heap.specs.Held.{Held, Held-prop, HeldElements, HeldElements-prop, HeldEntries, HeldEntries-prop};
+ghost use Rattle.tv_heap.specs.Held.{
+    Held, Held-prop, HeldElements, HeldElements-prop, HeldEntries, HeldEntries-prop,
+};
 ghost use Rattle.tv_heap.specs.TypeCode.{type_code};
 
 use crate::encoded::Encoded;
@@ -46,7 +48,8 @@ impl<'a> CompactDocValue<'a> {
     /// The value of this type that stands at this address of the heap. (Not in tantivy.)
     pub fn new(heap: &'a [u8], value_type: ValueType, address: u32) -> CompactDocValue<'a>
         requires held { Held heap.now (type_code value_type) address }
-        ensures tree { (held : Held heap.now (type_code value_type) address) → tree_of result ≡ held.0 }
+        ensures tree { (held : Held heap.now (type_code value_type) address)
+            → tree_of result ≡ held.0 }
     {
         CompactDocValue {
             heap,

@@ -150,7 +150,8 @@ impl BinarySerializable for ValueType {
     }
 
     fn deserialize<S: ByteSource>(alloc: Global, source: &mut S) -> Result<ValueType, ReadError>
-        ensures reads { ReadsAs S.is_known S.left S.failures source.old source.new (λ t. t) result (λ bytes t. Fixed 1 bytes (type_code t)) ErrorInType }
+        ensures reads { ReadsAs S.is_known S.left S.failures source.old source.new (λ t. t) result
+            (λ bytes t. Fixed 1 bytes (type_code t)) ErrorInType }
         ensures spares { ¬ IsErrOf result Memory }
     {
         let code = u8::deserialize(alloc, source)?;
@@ -176,7 +177,8 @@ impl From<&ReferenceValueLeaf<'_>> for ValueType {
 impl<'a, V: Value<'a>> From<&ReferenceValue<'a, V>> for ValueType {
     ghost use Rattle.tv_heap.specs.TypeCode.{type_code};
 
-    ghost from_gives = { λ value made. type_code made ≡ tree_type (tree_of V.array_rest V.object_rest value.now) };
+    ghost from_gives = { λ value made. type_code made
+        ≡ tree_type (tree_of V.array_rest V.object_rest value.now) };
 
     fn from(value: &ReferenceValue<'a, V>) -> ValueType {
         match value {

@@ -1,6 +1,8 @@
 //! Writing values at the end of a heap.
 
-ghost use Rattle.std.specs.Prelude.{◌≡◌, ◌+◌, ◌<◌, ◌≤◌, ◌^◌, ◌∷◌, ◌++◌, OnOk, OnErr, IfOk, length, take, drop};
+ghost use Rattle.std.specs.Prelude.{
+    ◌≡◌, ◌+◌, ◌<◌, ◌≤◌, ◌^◌, ◌∷◌, ◌++◌, OnOk, OnErr, IfOk, length, take, drop,
+};
 ghost use Rattle.tv_base.specs.Number.{vnum, eight_bytes, sixteen_bytes};
 ghost use Rattle.tv_base.specs.Parts.{short_sized};
 ghost use Rattle.tv_base.specs.Sink.{IsPrefix};
@@ -11,7 +13,9 @@ ghost use Rattle.tv_value.specs.LeafParts.{content_of};
 ghost use Rattle.tv_value.specs.Short.{short_token, short_tokenized, IsContent};
 ghost use Rattle.tv_value.specs.TokenRef.{ref_of};
 ghost use Rattle.tv_value.specs.Tree.{leaf, array, object, elements, entries};
-ghost use Rattle.tv_heap.specs.LeafBytes.{content_bytes, content_address, leaf_bytes, leaf_value_type, leaf_address};
+ghost use Rattle.tv_heap.specs.LeafBytes.{
+    content_bytes, content_address, leaf_bytes, leaf_value_type, leaf_address,
+};
 ghost use Rattle.tv_heap.specs.Room.{room};
 ghost use Rattle.tv_heap.specs.TypeCode.{type_code};
 ghost use Rattle.tv_heap.specs.Wrote.{Wrote};
@@ -71,7 +75,8 @@ pub fn push_place(
     value_type: ValueType,
     address: u32,
 ) -> Result<(), AllocError>
-    ensures { OnOk result (places.new.items ≡ places.old.items ++ (type_code value_type ∷ vnum address)) }
+    ensures { OnOk result
+        (places.new.items ≡ places.old.items ++ (type_code value_type ∷ vnum address)) }
 {
     make_room(places, FIRST_PLACES)?;
     let code = value_type.to_code();
@@ -93,7 +98,8 @@ pub fn push_place(
 fn write_key(heap: &mut Vec<u8>, places: &mut Vec<u8>, key: &str) -> Result<(), AllocError>
     requires { length heap.old.items + (5 + length key.now) < 2 ^ 32 }
     ensures heap { OnOk result (heap.new.items ≡ heap.old.items ++ short_sized key.now) }
-    ensures places { OnOk result (places.new.items ≡ places.old.items ++ (1 ∷ vnum (length heap.old.items))) }
+    ensures places { OnOk result
+        (places.new.items ≡ places.old.items ++ (1 ∷ vnum (length heap.old.items))) }
     ensures err { OnErr result (IsPrefix heap.old.items heap.new.items) }
 {
     make_room(heap, FIRST_ROOM)?;
@@ -140,7 +146,8 @@ fn write_u64(heap: &mut Vec<u8>, number: u64) -> Result<u32, AllocError>
 #[inline(always)]
 fn write_i64(heap: &mut Vec<u8>, number: i64) -> Result<u32, AllocError>
     requires { length heap.old.items + length (eight_bytes (cast_unsigned w64 number)) < 2 ^ 32 }
-    ensures heap { OnOk result (heap.new.items ≡ heap.old.items ++ eight_bytes (cast_unsigned w64 number)) }
+    ensures heap { OnOk result
+        (heap.new.items ≡ heap.old.items ++ eight_bytes (cast_unsigned w64 number)) }
     ensures at { IfOk result (λ at. at ≡ length heap.old.items) }
     ensures err { OnErr result (IsPrefix heap.old.items heap.new.items) }
 {
@@ -162,8 +169,12 @@ fn write_u128(heap: &mut Vec<u8>, number: u128) -> Result<u32, AllocError>
 
 #[inline(never)]
 fn write_tokenized(heap: &mut Vec<u8>, content: PreTokenizedStr<'_>) -> Result<u32, AllocError>
-    requires { length heap.old.items + length (short_tokenized (text_of content) (tokens_of content)) < 2 ^ 32 }
-    ensures heap { OnOk result (heap.new.items ≡ heap.old.items ++ short_tokenized (text_of content.entry) (tokens_of content.entry)) }
+    requires { length heap.old.items
+            + length (short_tokenized (text_of content) (tokens_of content))
+        < 2 ^ 32 }
+    ensures heap { OnOk result
+        (heap.new.items
+            ≡ heap.old.items ++ short_tokenized (text_of content.entry) (tokens_of content.entry)) }
     ensures at { IfOk result (λ at. at ≡ length heap.old.items) }
     ensures err { OnErr result (IsPrefix heap.old.items heap.new.items) }
 {
@@ -180,8 +191,10 @@ fn write_tokenized(heap: &mut Vec<u8>, content: PreTokenizedStr<'_>) -> Result<u
 #[inline(always)]
 fn write_content(heap: &mut Vec<u8>, content: LeafContent<'_>) -> Result<u32, AllocError>
     requires { length heap.old.items + length (content_bytes (content_of content)) < 2 ^ 32 }
-    ensures heap { OnOk result (heap.new.items ≡ heap.old.items ++ content_bytes (content_of content.entry)) }
-    ensures at { IfOk result (λ at. at ≡ content_address (length heap.old.items) (content_of content.entry)) }
+    ensures heap { OnOk result
+        (heap.new.items ≡ heap.old.items ++ content_bytes (content_of content.entry)) }
+    ensures at { IfOk result
+        (λ at. at ≡ content_address (length heap.old.items) (content_of content.entry)) }
     ensures encodes { IsContent (content_of content.entry) }
     ensures err { OnErr result (IsPrefix heap.old.items heap.new.items) }
 {
@@ -207,8 +220,11 @@ pub fn write_leaf(
 ) -> Result<(ValueType, u32), AllocError>
     requires { length heap.old.items + length (leaf_bytes (leaf_of value.now)) < 2 ^ 32 }
     ensures heap { OnOk result (heap.new.items ≡ heap.old.items ++ leaf_bytes (leaf_of value.now)) }
-    ensures place { IfOk result (λ r. (r.0 ≡ leaf_value_type (leaf_of value.now)) × (r.1 ≡ leaf_address (length heap.old.items) (leaf_of value.now))) }
-    ensures ok { IfOk result (λ r. Wrote heap.old.items heap.new.items (type_code r.0) r.1 (leaf (leaf_of value.now))) }
+    ensures place { IfOk result
+        (λ r. (r.0 ≡ leaf_value_type (leaf_of value.now))
+            × (r.1 ≡ leaf_address (length heap.old.items) (leaf_of value.now))) }
+    ensures ok { IfOk result
+        (λ r. Wrote heap.old.items heap.new.items (type_code r.0) r.1 (leaf (leaf_of value.now))) }
     ensures err { OnErr result (IsPrefix heap.old.items heap.new.items) }
 {
     make_room(heap, FIRST_ROOM)?;
@@ -226,8 +242,11 @@ pub fn write_tree<N: Nested>(
     places: &mut Vec<u8>,
     value: NestedValue<'_, N>,
 ) -> Result<(ValueType, u32), AllocError>
-    requires { length heap.old.items + room (nested_tree N.array_rest N.object_rest value) < 2 ^ 32 }
-    ensures ok { IfOk result (λ r. Wrote heap.old.items heap.new.items (type_code r.0) r.1 (nested_tree N.array_rest N.object_rest value.entry)) }
+    requires { length heap.old.items + room (nested_tree N.array_rest N.object_rest value)
+        < 2 ^ 32 }
+    ensures ok { IfOk result
+        (λ r. Wrote heap.old.items heap.new.items (type_code r.0) r.1
+            (nested_tree N.array_rest N.object_rest value.entry)) }
     ensures places { OnOk result (places.new.items ≡ places.old.items) }
     ensures err { OnErr result (IsPrefix heap.old.items heap.new.items) }
 {
@@ -248,7 +267,8 @@ pub fn write_tree<N: Nested>(
 pub fn write_list(heap: &mut Vec<u8>, places: &mut Vec<u8>, first: usize) -> Result<u32, AllocError>
     requires first { first ≤ length places.old.items }
     requires fits { length heap.old.items < 2 ^ 32 }
-    ensures heap { OnOk result (heap.new.items ≡ heap.old.items ++ short_sized (drop first places.old.items)) }
+    ensures heap { OnOk result
+        (heap.new.items ≡ heap.old.items ++ short_sized (drop first places.old.items)) }
     ensures places { OnOk result (places.new.items ≡ take first places.old.items) }
     ensures at { IfOk result (λ at. at ≡ length heap.old.items) }
     ensures err { OnErr result (IsPrefix heap.old.items heap.new.items) }
@@ -268,7 +288,8 @@ fn write_array<N: Nested>(
     items: N::ArrayIter,
 ) -> Result<u32, AllocError>
     requires { length heap.old.items + room (array (elements (N.array_rest items))) < 2 ^ 32 }
-    ensures ok { IfOk result (λ at. Wrote heap.old.items heap.new.items 12 at (array (elements (N.array_rest items)))) }
+    ensures ok { IfOk result
+        (λ at. Wrote heap.old.items heap.new.items 12 at (array (elements (N.array_rest items)))) }
     ensures places { OnOk result (places.new.items ≡ places.old.items) }
     ensures err { OnErr result (IsPrefix heap.old.items heap.new.items) }
 {
@@ -289,7 +310,9 @@ fn write_object<N: Nested>(
     members: N::ObjectIter,
 ) -> Result<u32, AllocError>
     requires { length heap.old.items + room (object (entries (N.object_rest members))) < 2 ^ 32 }
-    ensures ok { IfOk result (λ at. Wrote heap.old.items heap.new.items 11 at (object (entries (N.object_rest members)))) }
+    ensures ok { IfOk result
+        (λ at. Wrote heap.old.items heap.new.items 11 at
+            (object (entries (N.object_rest members)))) }
     ensures places { OnOk result (places.new.items ≡ places.old.items) }
     ensures err { OnErr result (IsPrefix heap.old.items heap.new.items) }
 {

@@ -19,7 +19,8 @@ impl<R: Read> ReadSource<R> {
     /// A source over this reader. Nothing is read yet.
     pub fn new(inner: R) -> ReadSource<R>
         ensures inner { result.inner ≡ inner }
-        ensures failures { ⟦<ReadSource<R> as ByteSource>⟧.failures result ≡ record { number = 0; last = None } }
+        ensures failures { ⟦<ReadSource<R> as ByteSource>⟧.failures result
+            ≡ record { number = 0; last = None } }
     {
         ReadSource {
             inner,
@@ -42,7 +43,8 @@ impl<R: Read> ReadSource<R> {
 }
 
 impl<R: Read> ByteSource for ReadSource<R> {
-    ghost is_known = { λ s. IsSome (R.remaining s.inner) × AllBytes (unwrap_or (R.remaining s.inner) []) };
+    ghost is_known = { λ s. IsSome (R.remaining s.inner)
+        × AllBytes (unwrap_or (R.remaining s.inner) []) };
 
     ghost left = { λ s. unwrap_or (R.remaining s.inner) [] };
 

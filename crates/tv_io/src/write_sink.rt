@@ -20,7 +20,8 @@ impl<W: Write> WriteSink<W> {
     /// A sink over this writer. Nothing is written yet.
     pub fn new(inner: W) -> WriteSink<W>
         ensures inner { result.inner ≡ inner }
-        ensures failures { ⟦<WriteSink<W> as ByteSink>⟧.failures result ≡ record { number = 0; last = None } }
+        ensures failures { ⟦<WriteSink<W> as ByteSink>⟧.failures result
+            ≡ record { number = 0; last = None } }
     {
         WriteSink {
             inner,
@@ -45,7 +46,9 @@ impl<W: Write> WriteSink<W> {
     fn fail(&mut self, kind: io::ErrorKind) -> io::ErrorKind
         ensures inner { self.new.inner ≡ self.old.inner }
         ensures kind { result ≡ kind }
-        ensures failed { HasFailed kind (record { number = self.old.failures; last = self.old.last }) (record { number = self.new.failures; last = self.new.last }) }
+        ensures failed { HasFailed kind
+            (record { number = self.old.failures; last = self.old.last })
+            (record { number = self.new.failures; last = self.new.last }) }
     {
         self.failures = self.failures.saturating_add(1);
         self.last = Some(kind);

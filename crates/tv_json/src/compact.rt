@@ -1,6 +1,8 @@
 //! Values as texts of JSON without spaces, written from where the values are lent.
 
-ghost use Rattle.std.specs.Prelude.{◌≡◌, ◌++◌, ◌∷◌, [], OnOk, OnErr, IsTrue, string_bytes, IfOk, ◌<◌};
+ghost use Rattle.std.specs.Prelude.{
+    ◌≡◌, ◌++◌, ◌∷◌, [], OnOk, OnErr, IsTrue, string_bytes, IfOk, ◌<◌,
+};
 ghost use Rattle.std.specs.List.{AllByRecursion};
 ghost use Rattle.serde_json.specs.Data as Data;
 ghost use Rattle.serde_json.specs.Data.{no_members};
@@ -61,8 +63,13 @@ fn by_key<N: Nested>(
     alloc: Global,
     members: N::ObjectIter,
 ) -> Result<BTreeMap<String, N>, AllocError>
-    ensures members { IfOk result (λ found. pairs_json N.tree found.entries ≡ entries_json (entries (N.object_rest members)) no_members) }
-    ensures smaller { IfOk result (λ found. AllByRecursion (λ pair. size (N.tree pair.1) < entries_size (entries (N.object_rest members))) found.entries) }
+    ensures members { IfOk result
+        (λ found. pairs_json N.tree found.entries
+            ≡ entries_json (entries (N.object_rest members)) no_members) }
+    ensures smaller { IfOk result
+        (λ found. AllByRecursion
+            (λ pair. size (N.tree pair.1) < entries_size (entries (N.object_rest members)))
+            found.entries) }
 {
     let mut found = BTreeMap::new(alloc);
     for (key, value) in members {
@@ -75,7 +82,8 @@ fn by_key<N: Nested>(
 // Writes a value.
 #[cycle(write_value)]
 pub(crate) fn write_value<N: Nested>(json: &mut JsonWriter, value: &N) -> Result<(), AllocError>
-    ensures ok { OnOk result (json.new.out.tokens ≡ json.old.out.tokens ++ data_tokens (json_of (N.tree value.now))) }
+    ensures ok { OnOk result
+        (json.new.out.tokens ≡ json.old.out.tokens ++ data_tokens (json_of (N.tree value.now))) }
     ensures before { json.new.out.before ≡ json.old.out.before }
 {
     match value.as_nested() {
@@ -94,7 +102,10 @@ pub(crate) fn write_value<N: Nested>(json: &mut JsonWriter, value: &N) -> Result
 // Writes values as an array.
 #[cycle(write_value)]
 fn write_array<N: Nested>(json: &mut JsonWriter, items: N::ArrayIter) -> Result<(), AllocError>
-    ensures ok { OnOk result (json.new.out.tokens ≡ json.old.out.tokens ++ data_tokens (json_of (array (elements (N.array_rest items))))) }
+    ensures ok { OnOk result
+        (json.new.out.tokens
+            ≡ json.old.out.tokens
+                ++ data_tokens (json_of (array (elements (N.array_rest items))))) }
     ensures before { json.new.out.before ≡ json.old.out.before }
 {
     json.out.begin_array()?;
@@ -107,7 +118,10 @@ fn write_array<N: Nested>(json: &mut JsonWriter, items: N::ArrayIter) -> Result<
 // Writes keys and values as an object, as they come.
 #[cycle(write_value)]
 fn write_members<N: Nested>(json: &mut JsonWriter, members: N::ObjectIter) -> Result<(), AllocError>
-    ensures ok { OnOk result (json.new.out.tokens ≡ json.old.out.tokens ++ data_tokens (Data.object (listed_json (entries (N.object_rest members))))) }
+    ensures ok { OnOk result
+        (json.new.out.tokens
+            ≡ json.old.out.tokens
+                ++ data_tokens (Data.object (listed_json (entries (N.object_rest members))))) }
     ensures before { json.new.out.before ≡ json.old.out.before }
 {
     json.out.begin_object()?;
@@ -121,7 +135,10 @@ fn write_members<N: Nested>(json: &mut JsonWriter, members: N::ObjectIter) -> Re
 // Writes keys and values as an object, by byte order of the keys, of equal keys the last.
 #[cycle(write_value)]
 fn write_by_key<N: Nested>(json: &mut JsonWriter, members: N::ObjectIter) -> Result<(), AllocError>
-    ensures ok { OnOk result (json.new.out.tokens ≡ json.old.out.tokens ++ data_tokens (json_of (object (entries (N.object_rest members))))) }
+    ensures ok { OnOk result
+        (json.new.out.tokens
+            ≡ json.old.out.tokens
+                ++ data_tokens (json_of (object (entries (N.object_rest members))))) }
     ensures before { json.new.out.before ≡ json.old.out.before }
 {
     json.out.begin_object()?;
@@ -137,7 +154,8 @@ pub(crate) fn write_lent<'a, V: Value<'a>>(
     json: &mut JsonWriter,
     value: &V,
 ) -> Result<(), AllocError>
-    ensures ok { OnOk result (json.new.out.tokens ≡ json.old.out.tokens ++ data_tokens (json_of (V.tree value.now))) }
+    ensures ok { OnOk result
+        (json.new.out.tokens ≡ json.old.out.tokens ++ data_tokens (json_of (V.tree value.now))) }
     ensures before { json.new.out.before ≡ json.old.out.before }
 {
     match lend(value) {
@@ -160,7 +178,8 @@ pub fn push_json<'a, V: Value<'a>>(
     text: &mut String,
     value: V,
 ) -> Result<(), AllocError>
-    ensures ok { OnOk result (string_bytes text.new ≡ string_bytes text.old ++ compact_text (json_of (V.tree value))) }
+    ensures ok { OnOk result
+        (string_bytes text.new ≡ string_bytes text.old ++ compact_text (json_of (V.tree value))) }
     ensures err { OnErr result (string_bytes text.new ≡ string_bytes text.old) }
 {
     let len = text.as_str().len();

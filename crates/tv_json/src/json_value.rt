@@ -3,7 +3,10 @@
 ghost use Rattle.std.specs.Prelude.{◌≡◌, IfOk, OnOk};
 ghost use Rattle.serde_json.specs.Data.{no_members, put};
 ghost use Rattle.serde_json.specs.View.{view as data_of, items_view, members_view};
-ghost use Rattle.tv_json.specs.JsonOf.{json_of, content_json, leaf_json, count_json, token_json, tokens_json, tokenized_json, elements_json, entries_json};
+ghost use Rattle.tv_json.specs.JsonOf.{
+    json_of, content_json, leaf_json, count_json, token_json, tokens_json, tokenized_json,
+    elements_json, entries_json,
+};
 ghost use Rattle.tv_value.specs.LeafParts.{content_of};
 ghost use Rattle.tv_value.specs.Lent.{leaf_of, nested_tree};
 ghost use Rattle.tv_value.specs.PreTokenized.{text_of, tokens_of, tokens_left};
@@ -30,7 +33,9 @@ fn put_member(
     key: &str,
     value: JsonValue,
 ) -> Result<(), AllocError>
-    ensures { OnOk result (members_view members.new.entries ≡ put key.now (data_of value) (members_view members.old.entries)) }
+    ensures { OnOk result
+        (members_view members.new.entries
+            ≡ put key.now (data_of value) (members_view members.old.entries)) }
 {
     let name = String::from_str(alloc, key)?;
     drop(members.insert(name, value)?);
@@ -71,7 +76,8 @@ fn token_value(alloc: Global, token: TokenRef<'_>) -> Result<JsonValue, AllocErr
 }
 
 fn token_values(alloc: Global, tokens: TokenIter<'_>) -> Result<Vec<JsonValue>, AllocError>
-    ensures { IfOk result (λ values. items_view values.items ≡ tokens_json (tokens_left tokens.entry)) }
+    ensures { IfOk result
+        (λ values. items_view values.items ≡ tokens_json (tokens_left tokens.entry)) }
 {
     let mut values = Vec::new(alloc);
     for token in tokens {
@@ -82,7 +88,9 @@ fn token_values(alloc: Global, tokens: TokenIter<'_>) -> Result<Vec<JsonValue>, 
 }
 
 fn tokenized_value(alloc: Global, content: PreTokenizedStr<'_>) -> Result<JsonValue, AllocError>
-    ensures { IfOk result (λ value. data_of value ≡ tokenized_json (text_of content.entry) (tokens_of content.entry)) }
+    ensures { IfOk result
+        (λ value. data_of value
+            ≡ tokenized_json (text_of content.entry) (tokens_of content.entry)) }
 {
     let mut members = Map::new(alloc);
     let text = String::from_str(alloc, content.text())?;
@@ -136,7 +144,8 @@ fn nested_value<N: Nested>(alloc: Global, value: &N) -> Result<JsonValue, AllocE
 
 #[cycle(nested_value)]
 fn item_values<N: Nested>(alloc: Global, items: N::ArrayIter) -> Result<Vec<JsonValue>, AllocError>
-    ensures { IfOk result (λ values. items_view values.items ≡ elements_json (elements (N.array_rest items))) }
+    ensures { IfOk result
+        (λ values. items_view values.items ≡ elements_json (elements (N.array_rest items))) }
 {
     let mut values = Vec::new(alloc);
     for item in items {
@@ -151,7 +160,9 @@ fn member_values<N: Nested>(
     alloc: Global,
     members: N::ObjectIter,
 ) -> Result<Map<String, JsonValue>, AllocError>
-    ensures { IfOk result (λ values. members_view values.entries ≡ entries_json (entries (N.object_rest members)) no_members) }
+    ensures { IfOk result
+        (λ values. members_view values.entries
+            ≡ entries_json (entries (N.object_rest members)) no_members) }
 {
     let mut values = Map::new(alloc);
     for (key, member) in members {

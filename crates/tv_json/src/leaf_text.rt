@@ -17,7 +17,8 @@ use tv_value::date_time::DateTime;
 // The text of a moment, as it is printed by RFC 3339.
 #[inline]
 pub(crate) fn push_date(text: &mut String, date: DateTime) -> Result<(), AllocError>
-    ensures { OnOk result (string_bytes text.new ≡ string_bytes text.old ++ moment_text date.nanoseconds) }
+    ensures { OnOk result
+        (string_bytes text.new ≡ string_bytes text.old ++ moment_text date.nanoseconds) }
 {
     date.push_rfc3339(text)
 }
@@ -32,7 +33,8 @@ pub(crate) fn push_facet(text: &mut String, encoded: &str) -> Result<(), AllocEr
 
 // Bytes by the standard alphabet, with padding.
 pub(crate) fn push_base64(text: &mut String, bytes: &[u8]) -> Result<(), AllocError>
-    ensures { OnOk result (string_bytes text.new ≡ string_bytes text.old ++ encode_of standard bytes.now) }
+    ensures { OnOk result
+        (string_bytes text.new ≡ string_bytes text.old ++ encode_of standard bytes.now) }
 {
     STANDARD.encode_string(bytes, text)
 }
@@ -40,7 +42,8 @@ pub(crate) fn push_base64(text: &mut String, bytes: &[u8]) -> Result<(), AllocEr
 // An address of version 4 by that, another by version 6.
 #[tactic(auto, unfolding(crate::specs::JsonOf::segments_text))]
 pub(crate) fn push_segments(text: &mut String, address: Ipv6Addr) -> Result<(), AllocError>
-    ensures { OnOk result (string_bytes text.new ≡ string_bytes text.old ++ segments_text (ipv6_segments address)) }
+    ensures { OnOk result
+        (string_bytes text.new ≡ string_bytes text.old ++ segments_text (ipv6_segments address)) }
 {
     match address.to_ipv4_mapped() {
         Some(mapped) => write!(text, "{mapped}"),
@@ -49,7 +52,8 @@ pub(crate) fn push_segments(text: &mut String, address: Ipv6Addr) -> Result<(), 
 }
 
 pub(crate) fn push_address(text: &mut String, address: Ipv6Addr) -> Result<(), AllocError>
-    ensures { OnOk result (string_bytes text.new ≡ string_bytes text.old ++ address_text (ipv6_bits address)) }
+    ensures { OnOk result
+        (string_bytes text.new ≡ string_bytes text.old ++ address_text (ipv6_bits address)) }
 {
     let _segments = address.segments();
     push_segments(text, address)

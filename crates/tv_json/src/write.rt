@@ -1,11 +1,18 @@
 //! The tokens of values, written one after the other.
 
-ghost use Rattle.std.specs.Prelude.{◌≡◌, ◌++◌, ◌∷◌, [], OnOk, IsTrue, string_bytes, decimal, length, IsUtf8};
+ghost use Rattle.std.specs.Prelude.{
+    ◌≡◌, ◌++◌, ◌∷◌, [], OnOk, IsTrue, string_bytes, decimal, length, IsUtf8,
+};
 ghost use Rattle.json.specs.Print.{print};
 ghost use Rattle.json.specs.Token as Token;
 ghost use Rattle.serde_json.specs.Data.{no_members};
-ghost use Rattle.tv_json.specs.JsonOf.{json_of, content_json, leaf_json, token_json, tokens_json, tokenized_json, elements_json, entries_json};
-ghost use Rattle.tv_json.specs.Rising.{KeysRise, counts_tokens, data_tokens, rest_of_array, rest_of_object, listed_json};
+ghost use Rattle.tv_json.specs.JsonOf.{
+    json_of, content_json, leaf_json, token_json, tokens_json, tokenized_json, elements_json,
+    entries_json,
+};
+ghost use Rattle.tv_json.specs.Rising.{
+    KeysRise, counts_tokens, data_tokens, rest_of_array, rest_of_object, listed_json,
+};
 ghost use Rattle.tv_value.specs.LeafParts.{content_of};
 ghost use Rattle.tv_value.specs.Lent.{leaf_of};
 ghost use Rattle.tv_value.specs.PreTokenized.{text_of, tokens_of, tokens_left};
@@ -66,7 +73,8 @@ impl JsonWriter {
 
 // A key and a number from 0 on.
 fn write_count(out: &mut Writer, key: &str, count: usize) -> Result<(), AllocError>
-    ensures ok { OnOk result (out.new.tokens ≡ out.old.tokens ++ Token.key key.now ∷ Token.number (decimal count) ∷ []) }
+    ensures ok { OnOk result
+        (out.new.tokens ≡ out.old.tokens ++ Token.key key.now ∷ Token.number (decimal count) ∷ []) }
     ensures before { out.new.before ≡ out.old.before }
 {
     out.key(key)?;
@@ -75,7 +83,8 @@ fn write_count(out: &mut Writer, key: &str, count: usize) -> Result<(), AllocErr
 
 // A key and a text.
 fn write_text(out: &mut Writer, key: &str, text: &str) -> Result<(), AllocError>
-    ensures ok { OnOk result (out.new.tokens ≡ out.old.tokens ++ Token.key key.now ∷ Token.string text.now ∷ []) }
+    ensures ok { OnOk result
+        (out.new.tokens ≡ out.old.tokens ++ Token.key key.now ∷ Token.string text.now ∷ []) }
     ensures before { out.new.before ≡ out.old.before }
 {
     out.key(key)?;
@@ -84,7 +93,8 @@ fn write_text(out: &mut Writer, key: &str, text: &str) -> Result<(), AllocError>
 
 // A key and the begin of an array.
 pub(crate) fn begin_list(out: &mut Writer, key: &str) -> Result<(), AllocError>
-    ensures ok { OnOk result (out.new.tokens ≡ out.old.tokens ++ Token.key key.now ∷ Token.begin_array ∷ []) }
+    ensures ok { OnOk result
+        (out.new.tokens ≡ out.old.tokens ++ Token.key key.now ∷ Token.begin_array ∷ []) }
     ensures before { out.new.before ≡ out.old.before }
 {
     out.key(key)?;
@@ -93,7 +103,8 @@ pub(crate) fn begin_list(out: &mut Writer, key: &str) -> Result<(), AllocError>
 
 // The members of a token that are numbers.
 fn write_counts(out: &mut Writer, token: TokenRef<'_>) -> Result<(), AllocError>
-    ensures ok { OnOk result (out.new.tokens ≡ out.old.tokens ++ counts_tokens (ref_of token.entry)) }
+    ensures ok { OnOk result
+        (out.new.tokens ≡ out.old.tokens ++ counts_tokens (ref_of token.entry)) }
     ensures before { out.new.before ≡ out.old.before }
 {
     write_count(out, "offset_from", token.offset_from)?;
@@ -103,7 +114,8 @@ fn write_counts(out: &mut Writer, token: TokenRef<'_>) -> Result<(), AllocError>
 }
 
 fn write_token(out: &mut Writer, token: TokenRef<'_>) -> Result<(), AllocError>
-    ensures ok { OnOk result (out.new.tokens ≡ out.old.tokens ++ data_tokens (token_json (ref_of token.entry))) }
+    ensures ok { OnOk result
+        (out.new.tokens ≡ out.old.tokens ++ data_tokens (token_json (ref_of token.entry))) }
     ensures before { out.new.before ≡ out.old.before }
 {
     out.begin_object()?;
@@ -114,7 +126,9 @@ fn write_token(out: &mut Writer, token: TokenRef<'_>) -> Result<(), AllocError>
 
 // The tokens, and the end of the array in which they stand.
 fn write_tokens(out: &mut Writer, tokens: TokenIter<'_>) -> Result<(), AllocError>
-    ensures ok { OnOk result (out.new.tokens ≡ out.old.tokens ++ rest_of_array (tokens_json (tokens_left tokens.entry))) }
+    ensures ok { OnOk result
+        (out.new.tokens
+            ≡ out.old.tokens ++ rest_of_array (tokens_json (tokens_left tokens.entry))) }
     ensures before { out.new.before ≡ out.old.before }
 {
     for token in tokens {
@@ -124,7 +138,10 @@ fn write_tokens(out: &mut Writer, tokens: TokenIter<'_>) -> Result<(), AllocErro
 }
 
 fn write_tokenized(out: &mut Writer, content: PreTokenizedStr<'_>) -> Result<(), AllocError>
-    ensures ok { OnOk result (out.new.tokens ≡ out.old.tokens ++ data_tokens (tokenized_json (text_of content.entry) (tokens_of content.entry))) }
+    ensures ok { OnOk result
+        (out.new.tokens
+            ≡ out.old.tokens
+                ++ data_tokens (tokenized_json (text_of content.entry) (tokens_of content.entry))) }
     ensures before { out.new.before ≡ out.old.before }
 {
     out.begin_object()?;
@@ -137,7 +154,9 @@ fn write_tokenized(out: &mut Writer, content: PreTokenizedStr<'_>) -> Result<(),
 // Writes what a value without children holds.
 #[inline(always)]
 fn write_content(json: &mut JsonWriter, content: LeafContent<'_>) -> Result<(), AllocError>
-    ensures ok { OnOk result (json.new.out.tokens ≡ json.old.out.tokens ++ data_tokens (content_json (content_of content.entry))) }
+    ensures ok { OnOk result
+        (json.new.out.tokens
+            ≡ json.old.out.tokens ++ data_tokens (content_json (content_of content.entry))) }
     ensures before { json.new.out.before ≡ json.old.out.before }
 {
     json.scratch.clear();
@@ -159,7 +178,8 @@ pub(crate) fn write_leaf(
     json: &mut JsonWriter,
     leaf: &ReferenceValueLeaf<'_>,
 ) -> Result<(), AllocError>
-    ensures ok { OnOk result (json.new.out.tokens ≡ json.old.out.tokens ++ data_tokens (leaf_json (leaf_of leaf.now))) }
+    ensures ok { OnOk result
+        (json.new.out.tokens ≡ json.old.out.tokens ++ data_tokens (leaf_json (leaf_of leaf.now))) }
     ensures before { json.new.out.before ≡ json.old.out.before }
 {
     json.scratch.clear();

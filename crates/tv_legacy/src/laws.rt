@@ -5,7 +5,9 @@ ghost use Rattle.tv_base.specs.Parts.{OneReading};
 ghost use Rattle.tv_base.specs.Source.{AllBytes};
 ghost use Rattle.tv_base.specs.declared.cause.Cause.{Cause};
 ghost use Rattle.tv_legacy.specs.Legacy.{Legacy, ErrorInLegacy};
-ghost use Rattle.tv_legacy.specs.LegacyLaws.{BeginsLegacy, IsMalformed, BeginsValue, HasErrorInValue, DerivesDocument, HasErrorInDocument};
+ghost use Rattle.tv_legacy.specs.LegacyLaws.{
+    BeginsLegacy, IsMalformed, BeginsValue, HasErrorInValue, DerivesDocument, HasErrorInDocument,
+};
 ghost use Rattle.tv_value.specs.InputError.{Refusal, ErrorInValue, ErrorInDocument};
 ghost use Rattle.tv_value.specs.Short.{short, short_document, IsValue, IsDocument};
 ghost use Rattle.tv_value.specs.Encoding.{Encodes, EncodesDocument, Derives};
@@ -19,12 +21,14 @@ pub fn legacy_objects_have_one_reading()
 
 /// Where bytes are malformed, no prefix of them is a legacy object.
 pub fn malformed_legacy_objects_encode_none()
-    ensures { (prefix rest : List ℕ) (c : Cause) (entries : Entries) → ErrorInLegacy (prefix ++ rest) c → Legacy prefix entries → ⊥ }
+    ensures { (prefix rest : List ℕ) (c : Cause) (entries : Entries)
+        → ErrorInLegacy (prefix ++ rest) c → Legacy prefix entries → ⊥ }
 {}
 
 /// Bytes that begin with no legacy object are malformed in one way only.
 pub fn errors_of_legacy_objects_are_unique()
-    ensures { (bytes : List ℕ) (c d : Cause) → ErrorInLegacy bytes c → ErrorInLegacy bytes d → c ≡ d }
+    ensures { (bytes : List ℕ) (c d : Cause) → ErrorInLegacy bytes c → ErrorInLegacy bytes d
+        → c ≡ d }
 {}
 
 /// Any bytes begin with a legacy object, or are malformed.
@@ -44,18 +48,21 @@ pub fn documents_have_one_reading()
 
 /// The shortest encoding of a value encodes it.
 pub fn short_values_encode()
-    ensures { (v : Version) → IsWritten v → (t : Tree) → IsValue t → Encodes Legacy v (short v t) t }
+    ensures { (v : Version) → IsWritten v → (t : Tree) → IsValue t
+        → Encodes Legacy v (short v t) t }
 {}
 
 /// The same of documents.
 pub fn short_documents_encode()
-    ensures { (v : Version) → IsWritten v → (d : Document) → IsDocument d → EncodesDocument Legacy v (short_document v d) d }
+    ensures { (v : Version) → IsWritten v → (d : Document) → IsDocument d
+        → EncodesDocument Legacy v (short_document v d) d }
 {}
 
 /// Where bytes are malformed, no prefix of them encodes a value.
 pub fn malformed_values_encode_none()
-    ensures { (v : Version) (prefix rest : List ℕ) (refusal : Refusal) (t : Tree) →
-        ErrorInValue Legacy ErrorInLegacy v (prefix ++ rest) refusal → Encodes Legacy v prefix t → ⊥ }
+    ensures { (v : Version) (prefix rest : List ℕ) (refusal : Refusal) (t : Tree)
+        → ErrorInValue Legacy ErrorInLegacy v (prefix ++ rest) refusal → Encodes Legacy v prefix t
+        → ⊥ }
 {}
 
 /// The same of documents.
@@ -66,20 +73,26 @@ pub fn malformed_documents_derive_none()
 
 /// Bytes that encode no value are malformed in one way only.
 pub fn errors_of_values_are_unique()
-    ensures { (v : Version) (bytes : List ℕ) (r s : Refusal) → ErrorInValue Legacy ErrorInLegacy v bytes r → ErrorInValue Legacy ErrorInLegacy v bytes s → r ≡ s }
+    ensures { (v : Version) (bytes : List ℕ) (r s : Refusal)
+        → ErrorInValue Legacy ErrorInLegacy v bytes r → ErrorInValue Legacy ErrorInLegacy v bytes s
+        → r ≡ s }
 {}
 
 /// The same of documents.
 pub fn errors_of_documents_are_unique()
-    ensures { (v : Version) (bytes : List ℕ) (r s : Refusal) → ErrorInDocument Legacy ErrorInLegacy v bytes r → ErrorInDocument Legacy ErrorInLegacy v bytes s → r ≡ s }
+    ensures { (v : Version) (bytes : List ℕ) (r s : Refusal)
+        → ErrorInDocument Legacy ErrorInLegacy v bytes r
+        → ErrorInDocument Legacy ErrorInLegacy v bytes s → r ≡ s }
 {}
 
 /// Any bytes begin with a value, or are malformed. By the laws above not both: in each version exactly one of them holds.
 pub fn bytes_begin_a_value_or_are_malformed()
-    ensures { (v : Version) (bytes : List ℕ) → AllBytes bytes → BeginsValue v bytes ⊎ HasErrorInValue v bytes }
+    ensures { (v : Version) (bytes : List ℕ) → AllBytes bytes
+        → BeginsValue v bytes ⊎ HasErrorInValue v bytes }
 {}
 
 /// The same of documents.
 pub fn bytes_derive_a_document_or_are_malformed()
-    ensures { (v : Version) (bytes : List ℕ) → AllBytes bytes → DerivesDocument v bytes ⊎ HasErrorInDocument v bytes }
+    ensures { (v : Version) (bytes : List ℕ) → AllBytes bytes
+        → DerivesDocument v bytes ⊎ HasErrorInDocument v bytes }
 {}

@@ -60,7 +60,8 @@ impl Scan {
         requires positive { 0 < self.depth }
         requires fits { self.depth + 1 < 2 ^ 64 }
         ensures place { place_of result.position ≡ next (place_of self.position) byte }
-        ensures depth { result.depth + brace_count 125 (place_of self.position) byte ≡ self.depth + brace_count 123 (place_of self.position) byte }
+        ensures depth { result.depth + brace_count 125 (place_of self.position) byte
+            ≡ self.depth + brace_count 123 (place_of self.position) byte }
     {
         let depth = match (self.position, byte) {
             (Position::Outside, b'{') => self.depth + 1,

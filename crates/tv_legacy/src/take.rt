@@ -4,7 +4,9 @@ ghost use Rattle.std.specs.Prelude.{◌≡◌, ◌-◌, ◌^◌, [], ◌∷◌, 
 ghost use Rattle.tv_base.specs.Take.{TakesBy};
 ghost use Rattle.tv_base.specs.declared.cause.Cause.TheVariants.{TooLong};
 ghost use Rattle.tv_base.specs.declared.read_error.ReadError.TheVariants.{Corrupted, Memory};
-ghost use Rattle.tv_legacy.specs.LegacyReading.{is_blank as is_blank_byte, nonblank_at, slice_at, legacy_at, rest_at, AnswersSlice};
+ghost use Rattle.tv_legacy.specs.LegacyReading.{
+    is_blank as is_blank_byte, nonblank_at, slice_at, legacy_at, rest_at, AnswersSlice,
+};
 ghost use Rattle.tv_value.specs.Owned.{owned_tree};
 
 use crate::scan::Scan;
@@ -25,7 +27,8 @@ fn is_blank(byte: u8) -> bool
 
 // The first byte that is no blank.
 fn take_nonblank<S: ByteSource>(source: &mut S, count: &mut u64) -> Result<u8, ReadError>
-    ensures takes { TakesBy S.is_known S.left S.failures source.old count.old source.new count.new (λ x. x) result nonblank_at }
+    ensures takes { TakesBy S.is_known S.left S.failures source.old count.old source.new count.new
+        (λ x. x) result nonblank_at }
     ensures too_long { IsErrOf result (Corrupted TooLong) → count.new ≡ 2 ^ 64 - 1 }
     ensures spares { ¬ IsErrOf result Memory }
 {
@@ -47,7 +50,8 @@ fn take_rest<S: ByteSource>(
     slice: &mut Vec<u8>,
 ) -> Result<(), ReadError>
     requires { slice.old.items ≡ 123 ∷ [] }
-    ensures takes { TakesBy S.is_known S.left S.failures source.old count.old source.new count.new (λ _. slice.new.items) result (rest_at slice.old.items) }
+    ensures takes { TakesBy S.is_known S.left S.failures source.old count.old source.new count.new
+        (λ _. slice.new.items) result (rest_at slice.old.items) }
     ensures too_long { IsErrOf result (Corrupted TooLong) → count.new ≡ 2 ^ 64 - 1 }
 {
     let mut scan = Scan::opened();
@@ -68,7 +72,8 @@ fn take_slice<S: ByteSource>(
     source: &mut S,
     count: &mut u64,
 ) -> Result<Vec<u8>, ReadError>
-    ensures takes { TakesBy S.is_known S.left S.failures source.old count.old source.new count.new (λ slice. slice.items) result slice_at }
+    ensures takes { TakesBy S.is_known S.left S.failures source.old count.old source.new count.new
+        (λ slice. slice.items) result slice_at }
     ensures too_long { IsErrOf result (Corrupted TooLong) → count.new ≡ 2 ^ 64 - 1 }
 {
     let first = take_nonblank(source, count)?;
@@ -117,7 +122,8 @@ pub fn take_legacy<S: ByteSource>(
     source: &mut S,
     count: &mut u64,
 ) -> Result<OwnedValue, ReadError>
-    ensures takes { TakesBy S.is_known S.left S.failures source.old count.old source.new count.new owned_tree result legacy_at }
+    ensures takes { TakesBy S.is_known S.left S.failures source.old count.old source.new count.new
+        owned_tree result legacy_at }
     ensures too_long { IsErrOf result (Corrupted TooLong) → count.new ≡ 2 ^ 64 - 1 }
 {
     let slice = take_slice(alloc, source, count)?;

@@ -68,7 +68,8 @@ fn write_stored(
     bytes: &mut VecSink,
 ) -> Result<(), AllocError>
     requires { Belongs schema.now (document_of document.now) }
-    ensures { OnOk result (bytes.new.bytes.items ≡ short_document V2 (stored schema.now (document_of document.now))) }
+    ensures { OnOk result
+        (bytes.new.bytes.items ≡ short_document V2 (stored schema.now (document_of document.now))) }
 {
     bytes.clear();
     match BinaryDocumentSerializer::new(bytes, schema).serialize_doc(document) {
@@ -87,7 +88,9 @@ fn append_document(
     text: &mut Vec<u8>,
 ) -> Result<(), &'static str>
     requires { Belongs schema.now (document_of document.now) }
-    ensures ok { OnOk result (Leaves (IsDocumentText schema.now (stored schema.now (document_of document.now))) text.old.items text.new.items) }
+    ensures ok { OnOk result
+        (Leaves (IsDocumentText schema.now (stored schema.now (document_of document.now)))
+            text.old.items text.new.items) }
     ensures err { IfErr result (λ answer. IsUnwritten (document_of document.now) answer.now) }
 {
     documents_are_valid();
@@ -111,7 +114,9 @@ fn append_texts(
     bytes: &[u8],
     text: &mut Vec<u8>,
 ) -> Result<(), AllocError>
-    ensures { OnOk result (Leaves (IsTexts schema.now bytes.now (document_of found.now)) text.old.items text.new.items) }
+    ensures { OnOk result
+        (Leaves (IsTexts schema.now bytes.now (document_of found.now)) text.old.items
+            text.new.items) }
 {
     let json = found.to_json(alloc, schema)?;
     append_hex(text, bytes)?;

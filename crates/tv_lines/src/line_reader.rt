@@ -36,8 +36,11 @@ fn read_prefix<S: ByteSource>(
     requires { most ≤ vec_len chunk.old }
     ensures bound { IfOk result (λ count. count ≤ most) }
     ensures len { vec_len chunk.new ≡ vec_len chunk.old }
-    ensures bytes { S.is_known source.old → IfOk result (λ count. S.left source.old ≡ take count chunk.new.items ++ S.left source.new) }
-    ensures end { S.is_known source.old → IfOk result (λ count. count ≡ 0 → 0 < most → S.left source.old ≡ []) }
+    ensures bytes { S.is_known source.old
+        → IfOk result
+            (λ count. S.left source.old ≡ take count chunk.new.items ++ S.left source.new) }
+    ensures end { S.is_known source.old
+        → IfOk result (λ count. count ≡ 0 → 0 < most → S.left source.old ≡ []) }
     ensures is_known { S.is_known source.old → S.is_known source.new }
     ensures failures { OnOk result (S.failures source.new ≡ S.failures source.old) }
 {
@@ -75,7 +78,9 @@ impl LineReader {
     /// Moves the bytes up to the next line feed behind those of the line and passes the line feed, or moves all bytes that were read.
     /// Tells whether there was a line feed. The only error is that memory was refused.
     fn take_unread(&mut self, line: &mut Vec<u8>) -> Result<bool, AllocError>
-        ensures moves { IfOk result (λ ended. Moves (unread self.old) (unread self.new) line.old.items line.new.items ended) }
+        ensures moves { IfOk result
+            (λ ended. Moves (unread self.old) (unread self.new) line.old.items line.new.items
+                ended) }
         ensures count { self.new.count ≡ self.old.count }
     {
         match memchr(b'\n', self.unread()) {
@@ -95,9 +100,12 @@ impl LineReader {
     /// Reads the next piece of the source in the place of the last, of which each byte belongs to a line. Tells whether there was one;
     /// none is the end.
     fn fill<S: ByteSource>(&mut self, source: &mut S) -> Result<bool, Halt>
-        ensures fills { S.is_known source.old → IfOk result (λ more. Fills (S.left source.old) (S.left source.new) (unread self.new) more) }
+        ensures fills { S.is_known source.old
+            → IfOk result
+                (λ more. Fills (S.left source.old) (S.left source.new) (unread self.new) more) }
         ensures most { IfOk result (λ more. most_left self.new ≡ 2 ^ 64 - 1 - self.old.count) }
-        ensures fewer { IfOk result (λ more. more ≡ true → 2 ^ 64 - 1 - self.new.count < 2 ^ 64 - 1 - self.old.count) }
+        ensures fewer { IfOk result
+            (λ more. more ≡ true → 2 ^ 64 - 1 - self.new.count < 2 ^ 64 - 1 - self.old.count) }
         ensures is_known { S.is_known source.old → S.is_known source.new }
         ensures failures { OnOk result (S.failures source.new ≡ S.failures source.old) }
     {
@@ -123,8 +131,12 @@ impl LineReader {
         source: &mut S,
         line: &mut Vec<u8>,
     ) -> Result<bool, Halt>
-        ensures takes { S.is_known source.old → IfOk result (λ more. TakesLine (unread self.old ++ S.left source.old) line.new.items (unread self.new ++ S.left source.new) more) }
-        ensures fewer { IfOk result (λ more. more ≡ true → most_left self.new < most_left self.old) }
+        ensures takes { S.is_known source.old
+            → IfOk result
+                (λ more. TakesLine (unread self.old ++ S.left source.old) line.new.items
+                    (unread self.new ++ S.left source.new) more) }
+        ensures fewer { IfOk result
+            (λ more. more ≡ true → most_left self.new < most_left self.old) }
         ensures is_known { S.is_known source.old → S.is_known source.new }
         ensures failures { OnOk result (S.failures source.new ≡ S.failures source.old) }
     {

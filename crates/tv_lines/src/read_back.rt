@@ -33,8 +33,10 @@ fn unwritten(error: &DeserializeError) -> &'static str
 /// there is.
 pub(crate) fn read_back(alloc: Global, bytes: &[u8]) -> Result<CompactDoc, &'static str>
     requires { (d : Document) × (IsDocument d × (bytes.now ≡ short_document V2 d)) }
-    ensures ok { (d : Document) → IsDocument d → bytes.now ≡ short_document V2 d → IfOk result (λ found. document_of found ≡ d) }
-    ensures err { (d : Document) → IsDocument d → bytes.now ≡ short_document V2 d → IfErr result (λ text. IsUnwritten d text.now) }
+    ensures ok { (d : Document) → IsDocument d → bytes.now ≡ short_document V2 d
+        → IfOk result (λ found. document_of found ≡ d) }
+    ensures err { (d : Document) → IsDocument d → bytes.now ≡ short_document V2 d
+        → IfErr result (λ text. IsUnwritten d text.now) }
 {
     documents_have_one_reading();
     malformed_documents_derive_none();

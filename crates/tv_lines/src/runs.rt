@@ -2,7 +2,9 @@
 
 ghost use Rattle.std.specs.Prelude.{◌≡◌, ◌≢◌, ◌++◌, [], IfErr, IfOk, OnErr, OnOk};
 ghost use Rattle.tv_base.specs.Sink.{IsPrefix};
-ghost use Rattle.tv_lines.specs.Run.{AnswersOf, BadSchemaText, BrokenText, DoneText, EndsWith, PrefixOf, Leaves};
+ghost use Rattle.tv_lines.specs.Run.{
+    AnswersOf, BadSchemaText, BrokenText, DoneText, EndsWith, PrefixOf, Leaves,
+};
 ghost use Rattle.tv_lines.specs.Reader.{unread};
 ghost use Rattle.tv_lines.specs.declared.run_end.RunEnd.TheVariants.{Done, BadSchema, Broken};
 
@@ -19,7 +21,9 @@ use tv_schema::Schema;
 /// Writes a line.
 fn write_line<K: ByteSink>(sink: &mut K, line: &[u8]) -> Result<(), Halt>
     ensures ok { K.is_known sink.old → OnOk result (K.held sink.new ≡ K.held sink.old ++ line.now) }
-    ensures err { K.is_known sink.old → OnErr result (Leaves (λ text. IsPrefix text line.now) (K.held sink.old) (K.held sink.new)) }
+    ensures err { K.is_known sink.old
+        → OnErr result
+            (Leaves (λ text. IsPrefix text line.now) (K.held sink.old) (K.held sink.new)) }
     ensures is_known { K.is_known sink.old → K.is_known sink.new }
     ensures failures { OnOk result (K.failures sink.new ≡ K.failures sink.old) }
 {
@@ -37,8 +41,14 @@ fn answer_lines<S: ByteSource, K: ByteSink>(
     reader: &mut LineReader,
     schema: &Schema,
 ) -> Result<(), Halt>
-    ensures ok { S.is_known source.old → K.is_known sink.old → OnOk result (Leaves (AnswersOf schema.now (unread reader.old ++ S.left source.old)) (K.held sink.old) (K.held sink.new)) }
-    ensures err { S.is_known source.old → K.is_known sink.old → OnErr result (Leaves (PrefixOf (AnswersOf schema.now (unread reader.old ++ S.left source.old))) (K.held sink.old) (K.held sink.new)) }
+    ensures ok { S.is_known source.old → K.is_known sink.old
+        → OnOk result
+            (Leaves (AnswersOf schema.now (unread reader.old ++ S.left source.old))
+                (K.held sink.old) (K.held sink.new)) }
+    ensures err { S.is_known source.old → K.is_known sink.old
+        → OnErr result
+            (Leaves (PrefixOf (AnswersOf schema.now (unread reader.old ++ S.left source.old)))
+                (K.held sink.old) (K.held sink.new)) }
     ensures all { S.is_known source.old → OnOk result (S.left source.new ≡ []) }
     ensures source_is_known { S.is_known source.old → S.is_known source.new }
     ensures sink_is_known { K.is_known sink.old → K.is_known sink.new }
@@ -63,8 +73,12 @@ fn answer_source<S: ByteSource, K: ByteSink>(
     source: &mut S,
     sink: &mut K,
 ) -> Result<RunEnd, Halt>
-    ensures ok { S.is_known source.old → K.is_known sink.old → IfOk result (λ end. EndsWith end (S.left source.old) (K.held sink.old) (K.held sink.new)) }
-    ensures err { S.is_known source.old → K.is_known sink.old → OnErr result (Leaves (BrokenText (S.left source.old)) (K.held sink.old) (K.held sink.new)) }
+    ensures ok { S.is_known source.old → K.is_known sink.old
+        → IfOk result
+            (λ end. EndsWith end (S.left source.old) (K.held sink.old) (K.held sink.new)) }
+    ensures err { S.is_known source.old → K.is_known sink.old
+        → OnErr result
+            (Leaves (BrokenText (S.left source.old)) (K.held sink.old) (K.held sink.new)) }
     ensures all { S.is_known source.old → IfOk result (λ end. end ≡ Done → S.left source.new ≡ []) }
     ensures source_is_known { S.is_known source.old → S.is_known source.new }
     ensures sink_is_known { K.is_known sink.old → K.is_known sink.new }
@@ -96,9 +110,12 @@ fn answer_source<S: ByteSource, K: ByteSink>(
 /// Bytes are read in pieces of 64 KiB, and each answer is written at once. The memory of a line serves the next.
 pub fn run<S: ByteSource, K: ByteSink>(alloc: Global, source: &mut S, sink: &mut K) -> RunEnd
     // what is written behind what the sink held
-    ensures done { S.is_known source.old → K.is_known sink.old → result ≡ Done → Leaves (DoneText (S.left source.old)) (K.held sink.old) (K.held sink.new) }
-    ensures bad_schema { S.is_known source.old → K.is_known sink.old → result ≡ BadSchema → Leaves (BadSchemaText (S.left source.old)) (K.held sink.old) (K.held sink.new) }
-    ensures broken { S.is_known source.old → K.is_known sink.old → result ≡ Broken → Leaves (BrokenText (S.left source.old)) (K.held sink.old) (K.held sink.new) }
+    ensures done { S.is_known source.old → K.is_known sink.old → result ≡ Done
+        → Leaves (DoneText (S.left source.old)) (K.held sink.old) (K.held sink.new) }
+    ensures bad_schema { S.is_known source.old → K.is_known sink.old → result ≡ BadSchema
+        → Leaves (BadSchemaText (S.left source.old)) (K.held sink.old) (K.held sink.new) }
+    ensures broken { S.is_known source.old → K.is_known sink.old → result ≡ Broken
+        → Leaves (BrokenText (S.left source.old)) (K.held sink.old) (K.held sink.new) }
 
     // all of the source was read, and no read or write failed
     ensures all { S.is_known source.old → result ≡ Done → S.left source.new ≡ [] }

@@ -69,7 +69,9 @@ impl From<IndexedFlag> for FacetOptions {
 
 impl<Head: Into<FacetOptions>, Tail: Into<FacetOptions>> From<SchemaFlagList<Head, Tail>>
     for FacetOptions {
-    ghost from_gives = { λ list options. (head : FacetOptions) × (tail : FacetOptions) × Head.converts list.head head × Tail.converts list.tail tail × (options ≡ join head tail) };
+    ghost from_gives = { λ list options. (head : FacetOptions) × (tail : FacetOptions)
+        × Head.converts list.head head × Tail.converts list.tail tail
+        × (options ≡ join head tail) };
 
     /// The options of the first flag, joined with those of the others.
     fn from(list: SchemaFlagList<Head, Tail>) -> FacetOptions {
@@ -82,7 +84,8 @@ impl<Head: Into<FacetOptions>, Tail: Into<FacetOptions>> From<SchemaFlagList<Hea
 impl<T: Into<FacetOptions>> BitOr<T> for FacetOptions {
     type Output = FacetOptions;
 
-    ghost bitor_gives = { λ left right joined. (other : FacetOptions) × T.converts right other × (joined ≡ join left other) };
+    ghost bitor_gives = { λ left right joined. (other : FacetOptions) × T.converts right other
+        × (joined ≡ join left other) };
 
     /// What is set on the left or on the right.
     fn bitor(self, right: T) -> FacetOptions {

@@ -156,7 +156,9 @@ impl<Part: OwnPart> From<FastFlag> for FlagOptions<Part> {
 impl<Part: OwnPart, Head: Into<FlagOptions<Part>>, Tail: Into<FlagOptions<Part>>> From<
     SchemaFlagList<Head, Tail>,
 > for FlagOptions<Part> {
-    ghost from_gives = { λ list options. (head : FlagOptions Part) × (tail : FlagOptions Part) × Head.converts list.head head × Tail.converts list.tail tail × (options ≡ join Part.join head tail) };
+    ghost from_gives = { λ list options. (head : FlagOptions Part) × (tail : FlagOptions Part)
+        × Head.converts list.head head × Tail.converts list.tail tail
+        × (options ≡ join Part.join head tail) };
 
     /// The options of the first flag, joined with those of the others.
     fn from(list: SchemaFlagList<Head, Tail>) -> FlagOptions<Part> {
@@ -169,7 +171,8 @@ impl<Part: OwnPart, Head: Into<FlagOptions<Part>>, Tail: Into<FlagOptions<Part>>
 impl<Part: OwnPart, T: Into<FlagOptions<Part>>> BitOr<T> for FlagOptions<Part> {
     type Output = FlagOptions<Part>;
 
-    ghost bitor_gives = { λ left right joined. (other : FlagOptions Part) × T.converts right other × (joined ≡ join Part.join left other) };
+    ghost bitor_gives = { λ left right joined. (other : FlagOptions Part) × T.converts right other
+        × (joined ≡ join Part.join left other) };
 
     /// What is set on the left or on the right, and the own parts joined.
     fn bitor(self, right: T) -> FlagOptions<Part> {
@@ -187,7 +190,8 @@ impl<Part: OwnPart, T: Into<FlagOptions<Part>>> BitOr<T> for FlagOptions<Part> {
 impl<Part: OwnPart, T: Into<FlagOptions<Part>>> BitOr<FlagOptions<Part>> for SchemaFlagList<T, ()> {
     type Output = FlagOptions<Part>;
 
-    ghost bitor_gives = { λ flag right joined. (left : FlagOptions Part) × T.converts flag.head left × (joined ≡ join Part.join left right) };
+    ghost bitor_gives = { λ flag right joined. (left : FlagOptions Part) × T.converts flag.head left
+        × (joined ≡ join Part.join left right) };
 
     /// The options of the flag, joined with those on the right.
     fn bitor(self, right: FlagOptions<Part>) -> FlagOptions<Part> {

@@ -9,8 +9,12 @@ ghost use Rattle.tv_options.specs.declared.flags.FastFlag.{FastFlag};
 ghost use Rattle.tv_options.specs.declared.flags.IndexedFlag.{IndexedFlag};
 ghost use Rattle.tv_options.specs.declared.flags.SchemaFlagList.{SchemaFlagList};
 ghost use Rattle.tv_options.specs.declared.flags.StoredFlag.{StoredFlag};
-ghost use Rattle.tv_options.specs.declared.index_record_option.IndexRecordOption.TheVariants.{Basic};
-ghost use Rattle.tv_options.specs.declared.index_record_option.IndexRecordOption.{IndexRecordOption};
+ghost use Rattle.tv_options.specs.declared.index_record_option.IndexRecordOption.TheVariants.{
+    Basic,
+};
+ghost use Rattle.tv_options.specs.declared.index_record_option.IndexRecordOption.{
+    IndexRecordOption,
+};
 ghost use Rattle.tv_options.specs.declared.text_options.FastFieldTextOptions.{FastFieldTextOptions};
 ghost use Rattle.tv_options.specs.declared.text_options.TextFieldIndexing.{TextFieldIndexing};
 ghost use Rattle.tv_options.specs.declared.textual_options.TextualOptions.{TextualOptions};
@@ -39,7 +43,9 @@ use tv_date::date_time::{DATE_TIME_PRECISION_INDEXED, DateTimePrecision};
 
 /// `|` on options of flags doesn't depend on how it is grouped.
 pub fn flag_options_join_associatively<Part: OwnPart>()
-    ensures { (a b c : FlagOptions Part) → join_flags Part.join (join_flags Part.join a b) c ≡ join_flags Part.join a (join_flags Part.join b c) }
+    ensures { (a b c : FlagOptions Part)
+        → join_flags Part.join (join_flags Part.join a b) c
+            ≡ join_flags Part.join a (join_flags Part.join b c) }
 {}
 
 /// Options of flags joined with themselves stay as they are.
@@ -49,7 +55,8 @@ pub fn flag_options_join_idempotently<Part: OwnPart>()
 
 /// `|` on `FacetOptions` doesn't depend on how it is grouped.
 pub fn facet_options_join_associatively()
-    ensures { (a b c : FacetOptions) → join_facet (join_facet a b) c ≡ join_facet a (join_facet b c) }
+    ensures { (a b c : FacetOptions)
+        → join_facet (join_facet a b) c ≡ join_facet a (join_facet b c) }
 {}
 
 /// `FacetOptions` joined with themselves stay as they are.
@@ -59,7 +66,9 @@ pub fn facet_options_join_idempotently()
 
 /// `|` on options of texts, or of JSON objects, doesn't depend on how it is grouped.
 pub fn textual_options_join_associatively<Part: OwnPart>()
-    ensures { (a b c : TextualOptions Part) → join_textual Part.join (join_textual Part.join a b) c ≡ join_textual Part.join a (join_textual Part.join b c) }
+    ensures { (a b c : TextualOptions Part)
+        → join_textual Part.join (join_textual Part.join a b) c
+            ≡ join_textual Part.join a (join_textual Part.join b c) }
 {}
 
 /// Options of texts, or of JSON objects, joined with themselves stay as they are.
@@ -69,7 +78,8 @@ pub fn textual_options_join_idempotently<Part: OwnPart>()
 
 /// `|` on `FastFieldTextOptions` doesn't depend on how it is grouped.
 pub fn fast_text_options_join_associatively()
-    ensures { (a b c : FastFieldTextOptions) → join_fast (join_fast a b) c ≡ join_fast a (join_fast b c) }
+    ensures { (a b c : FastFieldTextOptions)
+        → join_fast (join_fast a b) c ≡ join_fast a (join_fast b c) }
 {}
 
 /// `FastFieldTextOptions` joined with themselves stay as they are.
@@ -79,12 +89,14 @@ pub fn fast_text_options_join_idempotently()
 
 /// `==` on options of flags returns whether they are the same.
 pub fn comparisons_of_flag_options_agree<Part: OwnPart>()
-    ensures { (a b : FlagOptions Part) → IsTrue (⟦<FlagOptions<Part> as PartialEq>⟧.eq a b) ↔ (a ≡ b) }
+    ensures { (a b : FlagOptions Part)
+        → IsTrue (⟦<FlagOptions<Part> as PartialEq>⟧.eq a b) ↔ (a ≡ b) }
 {}
 
 /// `==` on options of texts, or of JSON objects, returns whether they are the same.
 pub fn comparisons_of_textual_options_agree<Part: OwnPart>()
-    ensures { (a b : TextualOptions Part) → IsTrue (⟦<TextualOptions<Part> as PartialEq>⟧.eq a b) ↔ (a ≡ b) }
+    ensures { (a b : TextualOptions Part)
+        → IsTrue (⟦<TextualOptions<Part> as PartialEq>⟧.eq a b) ↔ (a ≡ b) }
 {}
 
 /// `==` on options of facets returns whether they are the same.
@@ -95,9 +107,12 @@ pub fn comparisons_of_facet_options_agree()
 /// `==` on what says how texts are indexed returns whether it is the same; names of tokenizers are compared as texts.
 pub fn comparisons_of_text_indexing_agree()
     ensures name { (a b : List ℕ) → IsTrue (⟦<TokenizerName as PartialEq>⟧.eq a b) ↔ (a ≡ b) }
-    ensures kept { (a b : IndexRecordOption) → IsTrue (⟦<IndexRecordOption as PartialEq>⟧.eq a b) ↔ (a ≡ b) }
-    ensures indexing { (a b : TextFieldIndexing) → IsTrue (⟦<TextFieldIndexing as PartialEq>⟧.eq a b) ↔ (a ≡ b) }
-    ensures fast { (a b : FastFieldTextOptions) → IsTrue (⟦<FastFieldTextOptions as PartialEq>⟧.eq a b) ↔ (a ≡ b) }
+    ensures kept { (a b : IndexRecordOption)
+        → IsTrue (⟦<IndexRecordOption as PartialEq>⟧.eq a b) ↔ (a ≡ b) }
+    ensures indexing { (a b : TextFieldIndexing)
+        → IsTrue (⟦<TextFieldIndexing as PartialEq>⟧.eq a b) ↔ (a ≡ b) }
+    ensures fast { (a b : FastFieldTextOptions)
+        → IsTrue (⟦<FastFieldTextOptions as PartialEq>⟧.eq a b) ↔ (a ≡ b) }
 {}
 
 /// `==` on two flags of one kind holds, as there is but one of each.
@@ -110,15 +125,19 @@ pub fn comparisons_of_flags_agree()
 
 /// `==` on lists of flags returns whether they are the same, where it does so on their parts.
 pub fn comparisons_of_flag_lists_agree<Head: PartialEq, Tail: PartialEq>()
-    ensures { ((a b : Head) → IsTrue (Head.eq a b) ↔ (a ≡ b)) → ((a b : Tail) → IsTrue (Tail.eq a b) ↔ (a ≡ b))
-        → (a b : SchemaFlagList Head Tail) → IsTrue (⟦<SchemaFlagList<Head, Tail> as PartialEq>⟧.eq a b) ↔ (a ≡ b) }
+    ensures { ((a b : Head) → IsTrue (Head.eq a b) ↔ (a ≡ b))
+        → ((a b : Tail) → IsTrue (Tail.eq a b) ↔ (a ≡ b)) → (a b : SchemaFlagList Head Tail)
+        → IsTrue (⟦<SchemaFlagList<Head, Tail> as PartialEq>⟧.eq a b) ↔ (a ≡ b) }
 {}
 
 /// By default the least is kept of terms, dates are kept to the second, and facets aren't stored.
 pub fn defaults_are_least()
-    ensures kept { (kept : IndexRecordOption) → ⟦<IndexRecordOption as Default>⟧.is_default kept ↔ (kept ≡ Basic) }
-    ensures precision { (precision : DateTimePrecision) → ⟦<DateTimePrecision as Default>⟧.is_default precision ↔ (precision ≡ Seconds) }
-    ensures facet { (options : FacetOptions) → ⟦<FacetOptions as Default>⟧.is_default options ↔ (options ≡ no_facet_options) }
+    ensures kept { (kept : IndexRecordOption)
+        → ⟦<IndexRecordOption as Default>⟧.is_default kept ↔ (kept ≡ Basic) }
+    ensures precision { (precision : DateTimePrecision)
+        → ⟦<DateTimePrecision as Default>⟧.is_default precision ↔ (precision ≡ Seconds) }
+    ensures facet { (options : FacetOptions)
+        → ⟦<FacetOptions as Default>⟧.is_default options ↔ (options ≡ no_facet_options) }
 {}
 
 /// The code of a type gives the type, and no other byte does.
@@ -138,12 +157,14 @@ pub fn comparisons_of_types_agree()
     ensures order { (a b : TypeTag) → ⟦<TypeTag as Ord>⟧.cmp a b ≡ nat_cmp (code a) (code b) }
     ensures eq { (a b : TypeTag) → IsTrue (⟦<TypeTag as PartialEq>⟧.eq a b) ↔ (a ≡ b) }
     ensures ties { (a b : TypeTag) → IsTrue (is_eq (⟦<TypeTag as Ord>⟧.cmp a b)) ↔ (a ≡ b) }
-    ensures hash { (a b : TypeTag) → IsTrue (⟦<TypeTag as PartialEq>⟧.eq a b) → ⟦<TypeTag as Hash>⟧.hash_input a ≡ ⟦<TypeTag as Hash>⟧.hash_input b }
+    ensures hash { (a b : TypeTag) → IsTrue (⟦<TypeTag as PartialEq>⟧.eq a b)
+        → ⟦<TypeTag as Hash>⟧.hash_input a ≡ ⟦<TypeTag as Hash>⟧.hash_input b }
 {}
 
 /// What an index keeps of terms is ordered from the least to the most.
 pub fn record_options_are_ordered()
-    ensures { (a b : IndexRecordOption) → ⟦<IndexRecordOption as Ord>⟧.cmp a b ≡ nat_cmp (rank a) (rank b) }
+    ensures { (a b : IndexRecordOption)
+        → ⟦<IndexRecordOption as Ord>⟧.cmp a b ≡ nat_cmp (rank a) (rank b) }
 {}
 
 /// `STRING` is indexed as one token (the tokenizer `raw`), of which the documents alone are kept, with field norms.

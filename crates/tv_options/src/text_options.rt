@@ -3,7 +3,9 @@
 ghost use Rattle.std.specs.Prelude.{◌≡◌, true, IfOk, IsOk, None};
 ghost use Rattle.std.specs.Option.{option_copied};
 ghost use Rattle.tv_options.specs.declared.text_options.FastFieldTextOptions.TheVariants as fast_field;
-ghost use Rattle.tv_options.specs.FastFieldTextOptions.{join_fast, is_fast_field, tokenizer_of, fast_by};
+ghost use Rattle.tv_options.specs.FastFieldTextOptions.{
+    join_fast, is_fast_field, tokenizer_of, fast_by,
+};
 ghost use Rattle.tv_options.specs.TextFieldIndexing.{default_indexing};
 ghost use Rattle.tv_options.specs.TextOptions.{only_coerce};
 
@@ -183,7 +185,8 @@ impl TextFieldIndexing {
         alloc: Global,
         tokenizer_name: &str,
     ) -> Result<TextFieldIndexing, AllocError>
-        ensures { IfOk result (λ indexing. indexing ≡ record self { tokenizer = tokenizer_name.now }) }
+        ensures { IfOk result
+            (λ indexing. indexing ≡ record self { tokenizer = tokenizer_name.now }) }
     {
         self.tokenizer = TokenizerName::from_name(alloc, tokenizer_name)?;
         Ok(self)

@@ -92,7 +92,9 @@ impl<Part: OwnPart> TextualOptions<Part> {
         alloc: Global,
         tokenizer_name: Option<&str>,
     ) -> Result<TextualOptions<Part>, AllocError>
-        ensures fast { IfOk result (λ options. options ≡ record self { fast = fast_by (option_copied tokenizer_name.entry) }) }
+        ensures fast { IfOk result
+            (λ options. options
+                ≡ record self { fast = fast_by (option_copied tokenizer_name.entry) }) }
         ensures plain { option_copied tokenizer_name.entry ≡ None → IsOk result }
     {
         self.fast = FastFieldTextOptions::enabled(alloc, tokenizer_name)?;
@@ -151,7 +153,9 @@ impl<Part: OwnPart> From<FastFlag> for TextualOptions<Part> {
 impl<Part: OwnPart, Head: Into<TextualOptions<Part>>, Tail: Into<TextualOptions<Part>>> From<
     SchemaFlagList<Head, Tail>,
 > for TextualOptions<Part> {
-    ghost from_gives = { λ list options. (head : TextualOptions Part) × (tail : TextualOptions Part) × Head.converts list.head head × Tail.converts list.tail tail × (options ≡ join Part.join head tail) };
+    ghost from_gives = { λ list options. (head : TextualOptions Part) × (tail : TextualOptions Part)
+        × Head.converts list.head head × Tail.converts list.tail tail
+        × (options ≡ join Part.join head tail) };
 
     /// The options of the first flag, joined with those of the others.
     fn from(list: SchemaFlagList<Head, Tail>) -> TextualOptions<Part> {
@@ -164,7 +168,8 @@ impl<Part: OwnPart, Head: Into<TextualOptions<Part>>, Tail: Into<TextualOptions<
 impl<Part: OwnPart, T: Into<TextualOptions<Part>>> BitOr<T> for TextualOptions<Part> {
     type Output = TextualOptions<Part>;
 
-    ghost bitor_gives = { λ left right joined. (other : TextualOptions Part) × T.converts right other × (joined ≡ join Part.join left other) };
+    ghost bitor_gives = { λ left right joined. (other : TextualOptions Part)
+        × T.converts right other × (joined ≡ join Part.join left other) };
 
     /// The left indexing, else the right one; the left tokenizer of the fast field, else the right one; and what is set
     /// on the left or on the right.
@@ -183,7 +188,8 @@ impl<Part: OwnPart, T: Into<TextualOptions<Part>>> BitOr<TextualOptions<Part>>
     for SchemaFlagList<T, ()> {
     type Output = TextualOptions<Part>;
 
-    ghost bitor_gives = { λ flag right joined. (left : TextualOptions Part) × T.converts flag.head left × (joined ≡ join Part.join left right) };
+    ghost bitor_gives = { λ flag right joined. (left : TextualOptions Part)
+        × T.converts flag.head left × (joined ≡ join Part.join left right) };
 
     /// The options of the flag, joined with those on the right.
     fn bitor(self, right: TextualOptions<Part>) -> TextualOptions<Part> {

@@ -4,7 +4,9 @@ ghost use Rattle.std.specs.Prelude.{◌≡◌, ◌≤◌, ◌-◌, ◌^◌, IfOk
 ghost use Rattle.tv_base.specs.declared.cause.Cause.TheVariants.{TooLong};
 ghost use Rattle.tv_reader.specs.Error.{TakesBy};
 ghost use Rattle.tv_reader.specs.Fields.{field_at};
-ghost use Rattle.tv_reader.specs.declared.error.DeserializeError.TheVariants.{CorruptedValue, HeapFull};
+ghost use Rattle.tv_reader.specs.declared.error.DeserializeError.TheVariants.{
+    CorruptedValue, HeapFull,
+};
 
 use crate::error::DeserializeError;
 use tv_base::take::take_u32;
@@ -19,7 +21,8 @@ const LARGEST_FIELD: u32 = 65535;
 /// 65535, and `Io`.
 #[tactic(auto, using(tv_base::proofs::TakeSteps::Taken_then), unfolding(crate::specs::Fields::field_at))]
 pub fn take_field<S: ByteSource>(source: &mut S, count: &mut u64) -> Result<u32, DeserializeError>
-    ensures takes { TakesBy S.is_known S.left S.failures source.old count.old source.new count.new (λ x. x) result field_at }
+    ensures takes { TakesBy S.is_known S.left S.failures source.old count.old source.new count.new
+        (λ x. x) result field_at }
     ensures too_long { IsErrOf result (CorruptedValue TooLong) → count.new ≡ 2 ^ 64 - 1 }
     ensures roomy { ¬ IsErrOf result HeapFull }
     ensures small { IfOk result (λ field. field ≤ 65535) }

@@ -9,7 +9,9 @@ ghost use Rattle.tv_reader.specs.Heads.{EncodesHead, EncodesKeyHead, CodedLength
 ghost use Rattle.tv_reader.specs.HeadReading.{head_part};
 ghost use Rattle.tv_reader.specs.Trees.{NoValue};
 ghost use Rattle.tv_reader.specs.Version.{version_of};
-ghost use Rattle.tv_reader.specs.declared.error.DeserializeError.TheVariants.{CorruptedValue, HeapFull, Memory};
+ghost use Rattle.tv_reader.specs.declared.error.DeserializeError.TheVariants.{
+    CorruptedValue, HeapFull, Memory,
+};
 ghost use Rattle.tv_value.specs.InputError.{Corrupt, ErrorInCodedKey, ErrorInKey};
 
 use crate::error::DeserializeError;
@@ -46,7 +48,9 @@ pub fn take_head<S: ByteSource>(
     count: &mut u64,
     version: DocStoreVersion,
 ) -> Result<Head, DeserializeError>
-    ensures finds { Finds S.is_known S.left S.failures source.old count.old source.new count.new result (λ b head. EncodesHead (version_of version) b (head_part head)) (NoValue (version_of version)) }
+    ensures finds { Finds S.is_known S.left S.failures source.old count.old source.new count.new
+        result (λ b head. EncodesHead (version_of version) b (head_part head))
+        (NoValue (version_of version)) }
     ensures too_long { IsErrOf result (CorruptedValue TooLong) → count.new ≡ 2 ^ 64 - 1 }
     ensures roomy { ¬ IsErrOf result HeapFull }
     ensures spares { ¬ IsErrOf result Memory }
@@ -64,7 +68,8 @@ pub fn take_key_head<S: ByteSource>(
     count: &mut u64,
     version: DocStoreVersion,
 ) -> Result<u64, DeserializeError>
-    ensures finds { Finds S.is_known S.left S.failures source.old count.old source.new count.new result (EncodesKeyHead (version_of version)) (ErrorInKey (version_of version)) }
+    ensures finds { Finds S.is_known S.left S.failures source.old count.old source.new count.new
+        result (EncodesKeyHead (version_of version)) (ErrorInKey (version_of version)) }
     ensures too_long { IsErrOf result (CorruptedValue TooLong) → count.new ≡ 2 ^ 64 - 1 }
     ensures roomy { ¬ IsErrOf result HeapFull }
     ensures spares { ¬ IsErrOf result Memory }
@@ -79,7 +84,8 @@ fn take_coded_key_head<S: ByteSource>(
     source: &mut S,
     count: &mut u64,
 ) -> Result<u64, DeserializeError>
-    ensures finds { Finds S.is_known S.left S.failures source.old count.old source.new count.new result CodedLength ErrorInCodedKey }
+    ensures finds { Finds S.is_known S.left S.failures source.old count.old source.new count.new
+        result CodedLength ErrorInCodedKey }
     ensures too_long { IsErrOf result (CorruptedValue TooLong) → count.new ≡ 2 ^ 64 - 1 }
     ensures roomy { ¬ IsErrOf result HeapFull }
     ensures spares { ¬ IsErrOf result Memory }
@@ -104,7 +110,8 @@ pub fn take_document_head<S: ByteSource>(
     source: &mut S,
     count: &mut u64,
 ) -> Result<u64, DeserializeError>
-    ensures finds { Finds S.is_known S.left S.failures source.old count.old source.new count.new result VNum (Corrupt ErrorInNumber) }
+    ensures finds { Finds S.is_known S.left S.failures source.old count.old source.new count.new
+        result VNum (Corrupt ErrorInNumber) }
     ensures too_long { IsErrOf result (CorruptedValue TooLong) → count.new ≡ 2 ^ 64 - 1 }
     ensures roomy { ¬ IsErrOf result HeapFull }
     ensures spares { ¬ IsErrOf result Memory }

@@ -13,7 +13,8 @@ use tv_base::{ByteSource, Cause, ReadError};
 
 #[tactic(auto, unfolding(crate::specs::Kinds::extension_at))]
 fn take_extension<S: ByteSource>(source: &mut S, count: &mut u64) -> Result<ValueType, ReadError>
-    ensures takes { TakesBy S.is_known S.left S.failures source.old count.old source.new count.new (λ x. x) result extension_at }
+    ensures takes { TakesBy S.is_known S.left S.failures source.old count.old source.new count.new
+        (λ x. x) result extension_at }
     ensures rises { OnOk result (count.old < count.new) }
     ensures too_long { IsErrOf result (Corrupted TooLong) → count.new ≡ 2 ^ 64 - 1 }
     ensures spares { ¬ IsErrOf result Memory }
@@ -30,7 +31,8 @@ fn take_extension<S: ByteSource>(source: &mut S, count: &mut u64) -> Result<Valu
 /// above 13, and `Corrupted(UnknownExtCode)` at an extension other than 0.
 #[tactic(auto, using(tv_base::proofs::TakeSteps::Taken_then), unfolding(crate::specs::Kinds::kind_at))]
 pub fn take_kind<S: ByteSource>(source: &mut S, count: &mut u64) -> Result<ValueType, ReadError>
-    ensures takes { TakesBy S.is_known S.left S.failures source.old count.old source.new count.new (λ x. x) result kind_at }
+    ensures takes { TakesBy S.is_known S.left S.failures source.old count.old source.new count.new
+        (λ x. x) result kind_at }
     ensures rises { OnOk result (count.old < count.new) }
     ensures too_long { IsErrOf result (Corrupted TooLong) → count.new ≡ 2 ^ 64 - 1 }
     ensures spares { ¬ IsErrOf result Memory }

@@ -1,12 +1,16 @@
 //! Taking values that hold no others, behind their code.
 
-ghost use Rattle.std.specs.Prelude.{◌≡◌, ◌*ℤ◌, ◌≤ℤ◌, pos, negsuc, ◌-◌, ◌^◌, IsErrOf, string_bytes, map};
+ghost use Rattle.std.specs.Prelude.{
+    ◌≡◌, ◌*ℤ◌, ◌≤ℤ◌, pos, negsuc, ◌-◌, ◌^◌, IsErrOf, string_bytes, map,
+};
 ghost use Rattle.std.specs.Net.Addr.{ipv6_bits};
 ghost use Rattle.tv_base.specs.Reading.{u128_at};
 ghost use Rattle.tv_base.specs.Take.{TakesBy};
 ghost use Rattle.tv_base.specs.declared.cause.Cause.TheVariants.{TooLong};
 ghost use Rattle.tv_base.specs.declared.read_error.ReadError.TheVariants.{Corrupted, Memory};
-ghost use Rattle.tv_reader.specs.Leaves.{date_at, offsets_at, named_at, placed_at, token_at, tokens_at, counted_tokens_at, tokenized_at};
+ghost use Rattle.tv_reader.specs.Leaves.{
+    date_at, offsets_at, named_at, placed_at, token_at, tokens_at, counted_tokens_at, tokenized_at,
+};
 ghost use Rattle.tv_reader.specs.Version.{version_of};
 ghost use Rattle.tv_value.specs.HeldTokens.{token_of};
 
@@ -42,7 +46,8 @@ pub fn take_date<S: ByteSource>(
     count: &mut u64,
     version: DocStoreVersion,
 ) -> Result<DateTime, ReadError>
-    ensures takes { TakesBy S.is_known S.left S.failures source.old count.old source.new count.new (λ d. d.nanoseconds) result (date_at (version_of version)) }
+    ensures takes { TakesBy S.is_known S.left S.failures source.old count.old source.new count.new
+        (λ d. d.nanoseconds) result (date_at (version_of version)) }
     ensures too_long { IsErrOf result (Corrupted TooLong) → count.new ≡ 2 ^ 64 - 1 }
     ensures spares { ¬ IsErrOf result Memory }
 {
@@ -66,7 +71,8 @@ pub fn take_ip_address<S: ByteSource>(
     source: &mut S,
     count: &mut u64,
 ) -> Result<Ipv6Addr, ReadError>
-    ensures takes { TakesBy S.is_known S.left S.failures source.old count.old source.new count.new (λ a. ipv6_bits a) result u128_at }
+    ensures takes { TakesBy S.is_known S.left S.failures source.old count.old source.new count.new
+        (λ a. ipv6_bits a) result u128_at }
     ensures too_long { IsErrOf result (Corrupted TooLong) → count.new ≡ 2 ^ 64 - 1 }
     ensures spares { ¬ IsErrOf result Memory }
 {
@@ -77,7 +83,8 @@ pub fn take_ip_address<S: ByteSource>(
 // Where a token begins and ends, and which one it is.
 #[tactic(auto, using(tv_base::proofs::TakeSteps::Taken_then), unfolding(crate::specs::Leaves::offsets_at))]
 fn take_offsets<S: ByteSource>(source: &mut S, count: &mut u64) -> Result<(u64, u64), ReadError>
-    ensures takes { TakesBy S.is_known S.left S.failures source.old count.old source.new count.new (λ x. x) result offsets_at }
+    ensures takes { TakesBy S.is_known S.left S.failures source.old count.old source.new count.new
+        (λ x. x) result offsets_at }
     ensures too_long { IsErrOf result (Corrupted TooLong) → count.new ≡ 2 ^ 64 - 1 }
     ensures spares { ¬ IsErrOf result Memory }
 {
@@ -93,7 +100,8 @@ fn take_named<S: ByteSource>(
     source: &mut S,
     count: &mut u64,
 ) -> Result<(String, u64), ReadError>
-    ensures takes { TakesBy S.is_known S.left S.failures source.old count.old source.new count.new (λ x. (string_bytes x.0, x.1)) result named_at }
+    ensures takes { TakesBy S.is_known S.left S.failures source.old count.old source.new count.new
+        (λ x. (string_bytes x.0, x.1)) result named_at }
     ensures too_long { IsErrOf result (Corrupted TooLong) → count.new ≡ 2 ^ 64 - 1 }
 {
     let text = take_string(alloc, source, count)?;
@@ -108,7 +116,8 @@ fn take_placed<S: ByteSource>(
     source: &mut S,
     count: &mut u64,
 ) -> Result<(u64, String, u64), ReadError>
-    ensures takes { TakesBy S.is_known S.left S.failures source.old count.old source.new count.new (λ x. (x.0, (string_bytes x.1, x.2))) result placed_at }
+    ensures takes { TakesBy S.is_known S.left S.failures source.old count.old source.new count.new
+        (λ x. (x.0, (string_bytes x.1, x.2))) result placed_at }
     ensures too_long { IsErrOf result (Corrupted TooLong) → count.new ≡ 2 ^ 64 - 1 }
 {
     let position = take_vint(source, count)?;
@@ -122,7 +131,8 @@ fn take_token<S: ByteSource>(
     source: &mut S,
     count: &mut u64,
 ) -> Result<Token, ReadError>
-    ensures takes { TakesBy S.is_known S.left S.failures source.old count.old source.new count.new (λ t. token_of t) result token_at }
+    ensures takes { TakesBy S.is_known S.left S.failures source.old count.old source.new count.new
+        (λ t. token_of t) result token_at }
     ensures too_long { IsErrOf result (Corrupted TooLong) → count.new ≡ 2 ^ 64 - 1 }
 {
     let (offset_from, offset_to) = take_offsets(source, count)?;
@@ -143,7 +153,8 @@ fn take_tokens<S: ByteSource>(
     count: &mut u64,
     announced: u64,
 ) -> Result<Vec<Token>, ReadError>
-    ensures takes { TakesBy S.is_known S.left S.failures source.old count.old source.new count.new (λ ts. map token_of ts.items) result (tokens_at announced) }
+    ensures takes { TakesBy S.is_known S.left S.failures source.old count.old source.new count.new
+        (λ ts. map token_of ts.items) result (tokens_at announced) }
     ensures too_long { IsErrOf result (Corrupted TooLong) → count.new ≡ 2 ^ 64 - 1 }
 {
     let mut tokens = Vec::new(alloc);
@@ -161,7 +172,8 @@ fn take_counted_tokens<S: ByteSource>(
     source: &mut S,
     count: &mut u64,
 ) -> Result<Vec<Token>, ReadError>
-    ensures takes { TakesBy S.is_known S.left S.failures source.old count.old source.new count.new (λ ts. map token_of ts.items) result counted_tokens_at }
+    ensures takes { TakesBy S.is_known S.left S.failures source.old count.old source.new count.new
+        (λ ts. map token_of ts.items) result counted_tokens_at }
     ensures too_long { IsErrOf result (Corrupted TooLong) → count.new ≡ 2 ^ 64 - 1 }
 {
     let announced = take_vint(source, count)?;
@@ -177,7 +189,8 @@ pub fn take_tokenized<S: ByteSource>(
     source: &mut S,
     count: &mut u64,
 ) -> Result<PreTokenizedString, ReadError>
-    ensures takes { TakesBy S.is_known S.left S.failures source.old count.old source.new count.new (λ s. (string_bytes s.text, map token_of s.tokens.items)) result tokenized_at }
+    ensures takes { TakesBy S.is_known S.left S.failures source.old count.old source.new count.new
+        (λ s. (string_bytes s.text, map token_of s.tokens.items)) result tokenized_at }
     ensures too_long { IsErrOf result (Corrupted TooLong) → count.new ≡ 2 ^ 64 - 1 }
 {
     let text = take_string(alloc, source, count)?;

@@ -3,12 +3,19 @@
 ghost use Rattle.std.specs.Prelude.{◌≡◌, ◌-◌, ◌^◌, IsErrOf};
 ghost use Rattle.tv_base.specs.Take as reads;
 ghost use Rattle.tv_base.specs.declared.cause.Cause.TheVariants.{TooLong};
-ghost use Rattle.tv_base.specs.declared.read_error.ReadError.TheVariants.{Corrupted, Memory as NoMemory};
+ghost use Rattle.tv_base.specs.declared.read_error.ReadError.TheVariants.{
+    Corrupted, Memory as NoMemory,
+};
 ghost use Rattle.tv_reader.specs.Counts.{half_at};
 ghost use Rattle.tv_reader.specs.Finds.{Finds};
-ghost use Rattle.tv_reader.specs.Trees.{EncodesValue, NoValue, EncodesBehind, NoneBehind, EncodesItems, NoItems, EncodesMember, NoMember, EncodesMembers, NoMembers, CodedKey};
+ghost use Rattle.tv_reader.specs.Trees.{
+    EncodesValue, NoValue, EncodesBehind, NoneBehind, EncodesItems, NoItems, EncodesMember,
+    NoMember, EncodesMembers, NoMembers, CodedKey,
+};
 ghost use Rattle.tv_reader.specs.Version.{version_of};
-ghost use Rattle.tv_reader.specs.declared.error.DeserializeError.TheVariants.{CorruptedValue, HeapFull};
+ghost use Rattle.tv_reader.specs.declared.error.DeserializeError.TheVariants.{
+    CorruptedValue, HeapFull,
+};
 ghost use Rattle.tv_value.specs.InputError.{ErrorInCodedKey};
 
 use crate::error::{DeserializeError, ValueType};
@@ -26,7 +33,8 @@ use tv_value::owned_value::OwnedValue;
 /// Errors: those of `take_vint`, and `Corrupted(OddObject)` where the number is odd.
 #[tactic(auto, using(tv_base::proofs::TakeSteps::Taken_then), unfolding(crate::specs::Counts::half_at))]
 pub fn take_half<S: ByteSource>(source: &mut S, count: &mut u64) -> Result<u64, ReadError>
-    ensures takes { reads.TakesBy S.is_known S.left S.failures source.old count.old source.new count.new (λ x. x) result half_at }
+    ensures takes { reads.TakesBy S.is_known S.left S.failures source.old count.old source.new
+        count.new (λ x. x) result half_at }
     ensures too_long { IsErrOf result (Corrupted TooLong) → count.new ≡ 2 ^ 64 - 1 }
     ensures spares { ¬ IsErrOf result NoMemory }
 {
@@ -46,7 +54,8 @@ pub fn take_key<S: ByteSource>(
     source: &mut S,
     count: &mut u64,
 ) -> Result<String, DeserializeError>
-    ensures finds { Finds S.is_known S.left S.failures source.old count.old source.new count.new result CodedKey ErrorInCodedKey }
+    ensures finds { Finds S.is_known S.left S.failures source.old count.old source.new count.new
+        result CodedKey ErrorInCodedKey }
     ensures too_long { IsErrOf result (CorruptedValue TooLong) → count.new ≡ 2 ^ 64 - 1 }
     ensures roomy { ¬ IsErrOf result HeapFull }
 {
@@ -74,7 +83,8 @@ pub fn take_tree<S: ByteSource>(
     count: &mut u64,
     version: DocStoreVersion,
 ) -> Result<OwnedValue, DeserializeError>
-    ensures finds { Finds S.is_known S.left S.failures source.old count.old source.new count.new result (EncodesValue (version_of version)) (NoValue (version_of version)) }
+    ensures finds { Finds S.is_known S.left S.failures source.old count.old source.new count.new
+        result (EncodesValue (version_of version)) (NoValue (version_of version)) }
     ensures too_long { IsErrOf result (CorruptedValue TooLong) → count.new ≡ 2 ^ 64 - 1 }
     ensures roomy { ¬ IsErrOf result HeapFull }
 {
@@ -94,7 +104,8 @@ pub fn take_behind<S: ByteSource>(
     version: DocStoreVersion,
     kind: ValueType,
 ) -> Result<OwnedValue, DeserializeError>
-    ensures finds { Finds S.is_known S.left S.failures source.old count.old source.new count.new result (EncodesBehind (version_of version) kind) (NoneBehind (version_of version) kind) }
+    ensures finds { Finds S.is_known S.left S.failures source.old count.old source.new count.new
+        result (EncodesBehind (version_of version) kind) (NoneBehind (version_of version) kind) }
     ensures too_long { IsErrOf result (CorruptedValue TooLong) → count.new ≡ 2 ^ 64 - 1 }
     ensures roomy { ¬ IsErrOf result HeapFull }
 {
@@ -129,7 +140,9 @@ fn take_items<S: ByteSource>(
     version: DocStoreVersion,
     announced: u64,
 ) -> Result<Vec<OwnedValue>, DeserializeError>
-    ensures finds { Finds S.is_known S.left S.failures source.old count.old source.new count.new result (EncodesItems (version_of version) announced) (NoItems (version_of version) announced) }
+    ensures finds { Finds S.is_known S.left S.failures source.old count.old source.new count.new
+        result (EncodesItems (version_of version) announced)
+        (NoItems (version_of version) announced) }
     ensures too_long { IsErrOf result (CorruptedValue TooLong) → count.new ≡ 2 ^ 64 - 1 }
     ensures roomy { ¬ IsErrOf result HeapFull }
 {
@@ -149,7 +162,8 @@ fn take_member<S: ByteSource>(
     count: &mut u64,
     version: DocStoreVersion,
 ) -> Result<(String, OwnedValue), DeserializeError>
-    ensures finds { Finds S.is_known S.left S.failures source.old count.old source.new count.new result (EncodesMember (version_of version)) (NoMember (version_of version)) }
+    ensures finds { Finds S.is_known S.left S.failures source.old count.old source.new count.new
+        result (EncodesMember (version_of version)) (NoMember (version_of version)) }
     ensures too_long { IsErrOf result (CorruptedValue TooLong) → count.new ≡ 2 ^ 64 - 1 }
     ensures roomy { ¬ IsErrOf result HeapFull }
 {
@@ -167,7 +181,9 @@ fn take_members<S: ByteSource>(
     version: DocStoreVersion,
     announced: u64,
 ) -> Result<Vec<(String, OwnedValue)>, DeserializeError>
-    ensures finds { Finds S.is_known S.left S.failures source.old count.old source.new count.new result (EncodesMembers (version_of version) announced) (NoMembers (version_of version) announced) }
+    ensures finds { Finds S.is_known S.left S.failures source.old count.old source.new count.new
+        result (EncodesMembers (version_of version) announced)
+        (NoMembers (version_of version) announced) }
     ensures too_long { IsErrOf result (CorruptedValue TooLong) → count.new ≡ 2 ^ 64 - 1 }
     ensures roomy { ¬ IsErrOf result HeapFull }
 {

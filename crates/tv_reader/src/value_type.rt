@@ -121,7 +121,8 @@ pub(crate) fn take_head_behind<S: ByteSource>(
     version: DocStoreVersion,
     kind: ValueType,
 ) -> Result<Head, ReadError>
-    ensures takes { TakesBy S.is_known S.left S.failures source.old count.old source.new count.new head_part result (head_at (version_of version) kind) }
+    ensures takes { TakesBy S.is_known S.left S.failures source.old count.old source.new count.new
+        head_part result (head_at (version_of version) kind) }
     ensures too_long { IsErrOf result (Corrupted TooLong) → count.new ≡ 2 ^ 64 - 1 }
     ensures spares { ¬ IsErrOf result Memory }
 {
@@ -160,7 +161,8 @@ pub(crate) fn take_leaf<S: ByteSource>(
     kind: ValueType,
 ) -> Result<OwnedValue, ReadError>
     requires { IsTrue (is_leaf_type kind) }
-    ensures takes { TakesBy S.is_known S.left S.failures source.old count.old source.new count.new owned_tree result (leaf_at (version_of version) kind) }
+    ensures takes { TakesBy S.is_known S.left S.failures source.old count.old source.new count.new
+        owned_tree result (leaf_at (version_of version) kind) }
     ensures too_long { IsErrOf result (Corrupted TooLong) → count.new ≡ 2 ^ 64 - 1 }
 {
     match kind {

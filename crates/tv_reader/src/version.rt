@@ -18,7 +18,9 @@ impl DocStoreVersion {
     /// The version of this number. Every number other than 1 and 2 is refused as `UnsupportedVersion`, with itself and the
     /// largest that there is, 2.
     pub fn from_u32(number: u32) -> Result<DocStoreVersion, DeserializeError>
-        ensures { MatchOption (numbered number) (result ≡ Err (DeserializeError.UnsupportedVersion number 2)) (λ version. result ≡ Ok version) }
+        ensures { MatchOption (numbered number)
+            (result ≡ Err (DeserializeError.UnsupportedVersion number 2))
+            (λ version. result ≡ Ok version) }
     {
         match number {
             1 => Ok(DocStoreVersion::V1),

@@ -39,7 +39,8 @@ impl Schema {
     /// so what is refused till then is refused for that alone.
     pub fn from_json_value(alloc: Global, value: &Value) -> Result<Schema, SchemaError>
         ensures ok { IfOk result (λ schema. schema_of (view value.now) ≡ Ok schema) }
-        ensures err { IfErr result (λ error. error ≢ Memory → schema_of (view value.now) ≡ Err error) }
+        ensures err { IfErr result
+            (λ error. error ≢ Memory → schema_of (view value.now) ≡ Err error) }
         ensures early { IfSome (early_error (view value.now)) (λ error. result ≡ Err error) }
     {
         let items = value

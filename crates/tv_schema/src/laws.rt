@@ -1,6 +1,8 @@
 //! Laws of schemas and paths, and over calls on the types of fields.
 
-ghost use Rattle.std.specs.Prelude.{◌≡◌, ◌↔◌, ◌<◌, ◌+◌, ℕ, List, [], length, take, drop, None, Some, IsTrue, IsSomeAnd, slice_get};
+ghost use Rattle.std.specs.Prelude.{
+    ◌≡◌, ◌↔◌, ◌<◌, ◌+◌, ℕ, List, [], length, take, drop, None, Some, IsTrue, IsSomeAnd, slice_get,
+};
 ghost use Rattle.tv_field.specs.Entry.{Entry, record_option};
 ghost use Rattle.tv_schema.specs.Path.{is_splitting_dot, field_of_prefix, find};
 ghost use Rattle.tv_schema.specs.Schema.{IsSchema, field_named};
@@ -32,9 +34,12 @@ pub fn record_options_agree(
 
 /// Types, entries and schemas that `==` calls equal are the same, and it calls the same ones equal.
 pub fn comparisons_of_schemas_agree()
-    ensures types { (one other : FieldType) → IsTrue (⟦<FieldType as PartialEq>⟧.eq one other) ↔ (one ≡ other) }
-    ensures entries { (one other : Entry) → IsTrue (⟦<FieldEntry as PartialEq>⟧.eq one other) ↔ (one ≡ other) }
-    ensures schemas { (one other : List Entry) → IsTrue (⟦<Schema as PartialEq>⟧.eq one other) ↔ (one ≡ other) }
+    ensures types { (one other : FieldType)
+        → IsTrue (⟦<FieldType as PartialEq>⟧.eq one other) ↔ (one ≡ other) }
+    ensures entries { (one other : Entry)
+        → IsTrue (⟦<FieldEntry as PartialEq>⟧.eq one other) ↔ (one ≡ other) }
+    ensures schemas { (one other : List Entry)
+        → IsTrue (⟦<Schema as PartialEq>⟧.eq one other) ↔ (one ≡ other) }
 {
     comparisons_of_flag_options_agree::<Coercion>();
     comparisons_of_flag_options_agree::<DateTimePrecision>();
@@ -47,17 +52,30 @@ pub fn comparisons_of_schemas_agree()
 
 /// Each field is found by its name, and what is found by a name is a field that has it.
 pub fn names_are_of_one_field()
-    ensures found { (schema : List Entry) (number : ℕ) (entry : Entry) → IsSchema schema → slice_get schema number ≡ Some entry → field_named schema entry.name ≡ Some number }
-    ensures named { (schema : List Entry) (name : List ℕ) (number : ℕ) → field_named schema name ≡ Some number → IsSomeAnd (slice_get schema number) (λ entry. entry.name ≡ name) }
+    ensures found { (schema : List Entry) (number : ℕ) (entry : Entry) → IsSchema schema
+        → slice_get schema number ≡ Some entry → field_named schema entry.name ≡ Some number }
+    ensures named { (schema : List Entry) (name : List ℕ) (number : ℕ)
+        → field_named schema name ≡ Some number
+        → IsSomeAnd (slice_get schema number) (λ entry. entry.name ≡ name) }
 {}
 
 /// A path that is a name is that field's, with an empty rest.
 pub fn whole_paths_come_first()
-    ensures { (schema : List Entry) (path : List ℕ) (field : ℕ) → field_named schema path ≡ Some field → find schema path ≡ Some (field, []) }
+    ensures { (schema : List Entry) (path : List ℕ) (field : ℕ)
+        → field_named schema path ≡ Some field → find schema path ≡ Some (field, []) }
 {}
 
 /// Else the last unescaped dot counts whose prefix names a field, and where there is none no field is found.
 pub fn the_last_dot_counts()
-    ensures found { (schema : List Entry) (path : List ℕ) (place field : ℕ) → field_named schema path ≡ None → place < length path → IsTrue (is_splitting_dot path place) → field_of_prefix schema (take place path) ≡ Some field → ((later : ℕ) → place < later → later < length path → IsTrue (is_splitting_dot path later) → field_of_prefix schema (take later path) ≡ None) → find schema path ≡ Some (field, drop (place + 1) path) }
-    ensures none { (schema : List Entry) (path : List ℕ) → field_named schema path ≡ None → ((place : ℕ) → place < length path → IsTrue (is_splitting_dot path place) → field_of_prefix schema (take place path) ≡ None) → find schema path ≡ None }
+    ensures found { (schema : List Entry) (path : List ℕ) (place field : ℕ)
+        → field_named schema path ≡ None → place < length path
+        → IsTrue (is_splitting_dot path place)
+        → field_of_prefix schema (take place path) ≡ Some field
+        → ((later : ℕ) → place < later → later < length path → IsTrue (is_splitting_dot path later)
+            → field_of_prefix schema (take later path) ≡ None)
+        → find schema path ≡ Some (field, drop (place + 1) path) }
+    ensures none { (schema : List Entry) (path : List ℕ) → field_named schema path ≡ None
+        → ((place : ℕ) → place < length path → IsTrue (is_splitting_dot path place)
+            → field_of_prefix schema (take place path) ≡ None)
+        → find schema path ≡ None }
 {}

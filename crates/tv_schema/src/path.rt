@@ -30,7 +30,8 @@ pub(crate) fn find<'a>(table: &FieldTable, path: &'a str) -> Option<(u32, &'a st
 /// The field that the prefix before the place names, and the text behind the place, where an unescaped dot stands there.
 fn parted_at<'a>(table: &FieldTable, path: &'a str, place: usize) -> Option<(u32, &'a str)>
     requires { place < length path.now }
-    ensures found { option_map (λ found. (found.0, found.1.now)) result ≡ parted_at table.now path.now place }
+    ensures found { option_map (λ found. (found.0, found.1.now)) result
+        ≡ parted_at table.now path.now place }
     ensures within { IfSome result (λ found. found.0 < length table.now) }
 {
     let bytes = path.as_bytes();

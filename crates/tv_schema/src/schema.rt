@@ -1,6 +1,9 @@
 //! Schemas, and how they are built.
 
-ghost use Rattle.std.specs.Prelude.{◌≡◌, ◌<◌, ◌+◌, ◌^◌, ◌++◌, ◌∷◌, [], ◌↔◌, length, None, Some, Ok, Err, IfOk, IfSome, OnOk, OnErr, IsTrue, MatchOption, IsOk, IsOkAnd, slice_get};
+ghost use Rattle.std.specs.Prelude.{
+    ◌≡◌, ◌<◌, ◌+◌, ◌^◌, ◌++◌, ◌∷◌, [], ◌↔◌, length, None, Some, Ok, Err, IfOk, IfSome, OnOk, OnErr,
+    IsTrue, MatchOption, IsOk, IsOkAnd, slice_get,
+};
 ghost use Rattle.std.specs.Option.{ForSome, option_map};
 ghost use Rattle.std.specs.List.{enumerate_from};
 ghost use Rattle.tv_schema.specs.Path.{find, find_or};
@@ -54,7 +57,8 @@ impl SchemaBuilder {
     /// field has it already, `TooManyFields` where 4294967295 fields are there, `Memory` where a growth was refused.
     /// After each the builder is as it was.
     pub fn add_text_field(&mut self, name: &str, options: TextOptions) -> Result<Field, SchemaError>
-        ensures { AddsField self.old self.new (record { name = name.now; field_type = FieldType.Str options }) result }
+        ensures { AddsField self.old self.new
+            (record { name = name.now; field_type = FieldType.Str options }) result }
     {
         self.add(name, FieldType::Str(options))
     }
@@ -69,7 +73,8 @@ impl SchemaBuilder {
         name: &str,
         options: NumericOptions,
     ) -> Result<Field, SchemaError>
-        ensures { AddsField self.old self.new (record { name = name.now; field_type = FieldType.U64 options }) result }
+        ensures { AddsField self.old self.new
+            (record { name = name.now; field_type = FieldType.U64 options }) result }
     {
         self.add(name, FieldType::U64(options))
     }
@@ -84,7 +89,8 @@ impl SchemaBuilder {
         name: &str,
         options: NumericOptions,
     ) -> Result<Field, SchemaError>
-        ensures { AddsField self.old self.new (record { name = name.now; field_type = FieldType.I64 options }) result }
+        ensures { AddsField self.old self.new
+            (record { name = name.now; field_type = FieldType.I64 options }) result }
     {
         self.add(name, FieldType::I64(options))
     }
@@ -99,7 +105,8 @@ impl SchemaBuilder {
         name: &str,
         options: NumericOptions,
     ) -> Result<Field, SchemaError>
-        ensures { AddsField self.old self.new (record { name = name.now; field_type = FieldType.Bool options }) result }
+        ensures { AddsField self.old self.new
+            (record { name = name.now; field_type = FieldType.Bool options }) result }
     {
         self.add(name, FieldType::Bool(options))
     }
@@ -110,7 +117,8 @@ impl SchemaBuilder {
     /// field has it already, `TooManyFields` where 4294967295 fields are there, `Memory` where a growth was refused.
     /// After each the builder is as it was.
     pub fn add_date_field(&mut self, name: &str, options: DateOptions) -> Result<Field, SchemaError>
-        ensures { AddsField self.old self.new (record { name = name.now; field_type = FieldType.Date options }) result }
+        ensures { AddsField self.old self.new
+            (record { name = name.now; field_type = FieldType.Date options }) result }
     {
         self.add(name, FieldType::Date(options))
     }
@@ -125,7 +133,8 @@ impl SchemaBuilder {
         name: &str,
         options: IpAddrOptions,
     ) -> Result<Field, SchemaError>
-        ensures { AddsField self.old self.new (record { name = name.now; field_type = FieldType.IpAddr options }) result }
+        ensures { AddsField self.old self.new
+            (record { name = name.now; field_type = FieldType.IpAddr options }) result }
     {
         self.add(name, FieldType::IpAddr(options))
     }
@@ -140,7 +149,8 @@ impl SchemaBuilder {
         name: &str,
         options: FacetOptions,
     ) -> Result<Field, SchemaError>
-        ensures { AddsField self.old self.new (record { name = name.now; field_type = FieldType.Facet options }) result }
+        ensures { AddsField self.old self.new
+            (record { name = name.now; field_type = FieldType.Facet options }) result }
     {
         self.add(name, FieldType::Facet(options))
     }
@@ -155,7 +165,8 @@ impl SchemaBuilder {
         name: &str,
         options: BytesOptions,
     ) -> Result<Field, SchemaError>
-        ensures { AddsField self.old self.new (record { name = name.now; field_type = FieldType.Bytes options }) result }
+        ensures { AddsField self.old self.new
+            (record { name = name.now; field_type = FieldType.Bytes options }) result }
     {
         self.add(name, FieldType::Bytes(options))
     }
@@ -170,7 +181,8 @@ impl SchemaBuilder {
         name: &str,
         options: JsonObjectOptions,
     ) -> Result<Field, SchemaError>
-        ensures { AddsField self.old self.new (record { name = name.now; field_type = FieldType.JsonObject options }) result }
+        ensures { AddsField self.old self.new
+            (record { name = name.now; field_type = FieldType.JsonObject options }) result }
     {
         self.add(name, FieldType::JsonObject(options))
     }
@@ -186,7 +198,8 @@ impl SchemaBuilder {
     }
 
     fn add(&mut self, name: &str, field_type: FieldType) -> Result<Field, SchemaError>
-        ensures { AddsField self.old self.new (record { name = name.now; field_type = field_type }) result }
+        ensures { AddsField self.old self.new (record { name = name.now; field_type = field_type })
+            result }
     {
         check_name(&self.table, name)?;
         let entry = FieldEntry::new(String::from_str(self.alloc, name)?, field_type)?;
@@ -206,7 +219,8 @@ impl SchemaBuilder {
 }
 
 fn check_name(table: &FieldTable, name: &str) -> Result<(), SchemaError>
-    ensures refusal { MatchOption (refusal table.now name.now) (IsOk result) (λ error. result ≡ Err error) }
+    ensures refusal { MatchOption (refusal table.now name.now) (IsOk result)
+        (λ error. result ≡ Err error) }
     ensures room { OnOk result (length table.now + 1 < 2 ^ 32) }
 {
     if !is_valid_field_name(name) {
@@ -248,7 +262,9 @@ impl Clone for Schema {
 
 impl PartialEq for Schema {
     ghost use Rattle.std.specs.Cmp.Lexicographic.{pointwise, lists_per};
-    ghost use Rattle.tv_field.specs.contracts.field_entry.FieldEntryPartialEq.TheImpl.Laws.{laws-law};
+    ghost use Rattle.tv_field.specs.contracts.field_entry.FieldEntryPartialEq.TheImpl.Laws.{
+        laws-law,
+    };
 
     ghost eq = { λ one other. pointwise ⟦<FieldEntry as PartialEq>⟧.eq one other };
 
@@ -309,7 +325,9 @@ impl Schema {
     ///
     /// Errors: `FieldNotFound`, exactly where no field has the name.
     pub fn get_field(&self, name: &str) -> Result<Field, SchemaError>
-        ensures found { MatchOption (field_named self.now name.now) (result ≡ Err SchemaError.FieldNotFound) (λ number. IsOkAnd result (λ field. field.id ≡ number)) }
+        ensures found { MatchOption (field_named self.now name.now)
+            (result ≡ Err SchemaError.FieldNotFound)
+            (λ number. IsOkAnd result (λ field. field.id ≡ number)) }
         ensures within { IfOk result (λ field. field.id < length self.now) }
     {
         match self.table.field_named(name) {
@@ -334,7 +352,8 @@ impl Schema {
     /// It takes no memory. It looks the path up, and then what stands before each such dot from the last on, until one
     /// serves: one lookup each. Only what holds a backslash, and is no name as it stands, is compared with each name too.
     pub fn find_field<'a>(&self, path: &'a str) -> Option<(Field, &'a str)>
-        ensures found { option_map (λ found. (found.0.id, found.1.now)) result ≡ find self.now path.now }
+        ensures found { option_map (λ found. (found.0.id, found.1.now)) result
+            ≡ find self.now path.now }
         ensures within { IfSome result (λ found. found.0.id < length self.now) }
     {
         let (number, rest) = path::find(&self.table, path)?;
@@ -352,7 +371,8 @@ impl Schema {
         default: Option<Field>,
     ) -> Option<(Field, &'a str)>
         requires { ForSome default (λ field. field.id < length self.now) }
-        ensures found { option_map (λ found. (found.0.id, found.1.now)) result ≡ find_or self.now path.now (option_map (λ field. field.id) default) }
+        ensures found { option_map (λ found. (found.0.id, found.1.now)) result
+            ≡ find_or self.now path.now (option_map (λ field. field.id) default) }
         ensures within { IfSome result (λ found. found.0.id < length self.now) }
     {
         let (field, rest) = match self.find_field(path) {

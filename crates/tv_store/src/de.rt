@@ -12,8 +12,12 @@ ghost use Rattle.tv_reader.specs.Error.{store_stop};
 ghost use Rattle.tv_reader.specs.Error.{IsRefusal};
 ghost use Rattle.tv_reader.specs.Version.{version_of};
 ghost use Rattle.tv_reader.specs.declared.error.DeserializeError.{DeserializeError};
-ghost use Rattle.tv_reader.specs.declared.error.DeserializeError.TheVariants.{CorruptedValue, HeapFull};
-ghost use Rattle.tv_store.specs.Documents.{BeginsWith, Answers, NoDocument, ShowsRefusal, IsReadingError};
+ghost use Rattle.tv_reader.specs.declared.error.DeserializeError.TheVariants.{
+    CorruptedValue, HeapFull,
+};
+ghost use Rattle.tv_store.specs.Documents.{
+    BeginsWith, Answers, NoDocument, ShowsRefusal, IsReadingError,
+};
 ghost use Rattle.tv_value.specs.InputError.{Refusal};
 ghost use Rattle.tv_value.specs.Encoding.{EncodesDocument};
 ghost use Rattle.tv_value.specs.Tree.{Document};
@@ -39,22 +43,33 @@ pub fn read_document<S: ByteSource>(
     version: DocStoreVersion,
 ) -> Result<CompactDoc, DeserializeError>
     // a prefix of the bytes encodes what is returned, and the rest is left
-    ensures found { S.is_known source.old → IfOk result (λ d. BeginsWith (version_of version) (S.left source.old) (S.left source.new) (document_of d)) }
+    ensures found { S.is_known source.old
+        → IfOk result
+            (λ d. BeginsWith (version_of version) (S.left source.old) (S.left source.new)
+                (document_of d)) }
 
     // wherever a prefix encodes a document that has room, that one is returned
-    ensures only { Known S.is_known S.left source.old → (d : Document) (prefix rest : List ℕ) → S.left source.old ≡ prefix ++ rest → EncodesDocument Legacy (version_of version) prefix d → document_room d ≤ 4294967295 → Answers result d rest (S.left source.new) }
+    ensures only { Known S.is_known S.left source.old → (d : Document) (prefix rest : List ℕ)
+        → S.left source.old ≡ prefix ++ rest → EncodesDocument Legacy (version_of version) prefix d
+        → document_room d ≤ 4294967295 → Answers result d rest (S.left source.new) }
 
     // refusals of the bytes are true of them, and others don't come
-    ensures error { Known S.is_known S.left source.old → (e : DeserializeError) (r : Refusal) → IsErrOf result e → IsRefusal e r → NoDocument (version_of version) (S.left source.old) r }
-    ensures full { S.is_known source.old → IsErrOf result HeapFull → HasNoRoom (version_of version) (S.left source.old) }
+    ensures error { Known S.is_known S.left source.old → (e : DeserializeError) (r : Refusal)
+        → IsErrOf result e → IsRefusal e r → NoDocument (version_of version) (S.left source.old) r }
+    ensures full { S.is_known source.old → IsErrOf result HeapFull
+        → HasNoRoom (version_of version) (S.left source.old) }
     ensures errors { IfErr result IsReadingError }
 
     // just the bytes that show the error were taken, and after every error a slice of what was left
-    ensures shows { Known S.is_known S.left source.old → (e : DeserializeError) (r : Refusal) → IsErrOf result e → IsRefusal e r → ShowsRefusal (version_of version) (S.left source.old) (S.left source.new) r }
-    ensures taken { S.is_known source.old → (prefix : List ℕ) × (S.left source.old ≡ prefix ++ S.left source.new) }
+    ensures shows { Known S.is_known S.left source.old → (e : DeserializeError) (r : Refusal)
+        → IsErrOf result e → IsRefusal e r
+        → ShowsRefusal (version_of version) (S.left source.old) (S.left source.new) r }
+    ensures taken { S.is_known source.old
+        → (prefix : List ℕ) × (S.left source.old ≡ prefix ++ S.left source.new) }
 
     // so many bytes that no more can be counted were taken
-    ensures too_long { S.is_known source.old → IsErrOf result (CorruptedValue TooLong) → TakesMost (S.left source.old) (S.left source.new) }
+    ensures too_long { S.is_known source.old → IsErrOf result (CorruptedValue TooLong)
+        → TakesMost (S.left source.old) (S.left source.new) }
 
     // the source failed exactly where its count of failures rose, with the kind that it returned
     ensures failures { Counts store_stop result (S.failures source.old) (S.failures source.new) }

@@ -57,7 +57,9 @@ fn is_wide(number: u128) -> bool
 
 // Each text with its tokens has an encoding.
 fn is_tokenized(content: PreTokenizedStr<'_>) -> bool
-    ensures { MatchBool result (IsText (text_of content.entry) × AreTokens (tokens_of content.entry)) (¬ (IsText (text_of content.entry) × AreTokens (tokens_of content.entry))) }
+    ensures { MatchBool result
+        (IsText (text_of content.entry) × AreTokens (tokens_of content.entry))
+        (¬ (IsText (text_of content.entry) × AreTokens (tokens_of content.entry))) }
 {
     pre_tokenized_texts_encode();
     let _content = content;
@@ -66,7 +68,8 @@ fn is_tokenized(content: PreTokenizedStr<'_>) -> bool
 
 // Whether what a value without children holds has an encoding.
 fn is_content(content: LeafContent<'_>) -> bool
-    ensures { MatchBool result (IsContent (content_of content.entry)) (¬ IsContent (content_of content.entry)) }
+    ensures { MatchBool result (IsContent (content_of content.entry))
+        (¬ IsContent (content_of content.entry)) }
 {
     match content {
         LeafContent::Nothing | LeafContent::Truth(_) => true,
@@ -88,7 +91,8 @@ fn is_leaf(value: ReferenceValueLeaf<'_>) -> bool
 
 // Whether a value and all its children have one.
 fn is_encoded<N: Nested>(value: NestedValue<'_, N>) -> bool
-    ensures { MatchBool result (IsValue (nested_tree N.array_rest N.object_rest value.entry)) (¬ IsValue (nested_tree N.array_rest N.object_rest value.entry)) }
+    ensures { MatchBool result (IsValue (nested_tree N.array_rest N.object_rest value.entry))
+        (¬ IsValue (nested_tree N.array_rest N.object_rest value.entry)) }
 {
     match value {
         NestedValue::Leaf(leaf) => is_leaf(leaf),

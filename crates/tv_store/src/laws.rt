@@ -17,10 +17,12 @@ pub fn stored_pairs_are_valid()
 
 /// The stored pairs need no more room than all pairs.
 pub fn stored_pairs_need_no_more_room()
-    ensures { (schema : List Entry) (d : Document) → document_room (stored schema d) ≤ document_room d }
+    ensures { (schema : List Entry) (d : Document)
+        → document_room (stored schema d) ≤ document_room d }
 {}
 
 /// Bytes of a store are refused in one way only.
 pub fn refusals_are_unique()
-    ensures { (v : Version) (bytes : List ℕ) (r s : Refusal) → NoDocument v bytes r → NoDocument v bytes s → r ≡ s }
+    ensures { (v : Version) (bytes : List ℕ) (r s : Refusal) → NoDocument v bytes r
+        → NoDocument v bytes s → r ≡ s }
 {}

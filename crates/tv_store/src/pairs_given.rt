@@ -24,7 +24,10 @@ pub trait DocumentDeserialize: Sized {
         alloc: Global,
         deserializer: D,
     ) -> Result<Self, DeserializeError>
-        ensures found { D.is_known deserializer → IfOk result (λ d. (pairs : Document) × holds d pairs × IsGiven D.gives D.remaining deserializer pairs) };
+        ensures found { D.is_known deserializer
+            → IfOk result
+                (λ d. (pairs : Document) × holds d pairs
+                    × IsGiven D.gives D.remaining deserializer pairs) };
 }
 
 fn add_value(
@@ -51,8 +54,12 @@ impl DocumentDeserialize for CompactDoc {
         alloc: Global,
         mut deserializer: D,
     ) -> Result<CompactDoc, DeserializeError>
-        ensures found { D.is_known deserializer → IfOk result (λ d. (pairs : Document) × (document_of d ≡ pairs) × IsGiven D.gives D.remaining deserializer pairs) }
-        ensures refused { D.is_known deserializer → IfErr result (PairsRefused D.gives D.refuses deserializer) }
+        ensures found { D.is_known deserializer
+            → IfOk result
+                (λ d. (pairs : Document) × (document_of d ≡ pairs)
+                    × IsGiven D.gives D.remaining deserializer pairs) }
+        ensures refused { D.is_known deserializer
+            → IfErr result (PairsRefused D.gives D.refuses deserializer) }
     {
         let mut document = CompactDoc::new(alloc);
         while let Some((field, value)) = deserializer.next_field::<OwnedValue>(alloc)? {

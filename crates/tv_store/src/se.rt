@@ -37,7 +37,8 @@ fn write_field_bytes<K: ByteSink>(
     code: u8,
     content: &[u8],
 ) -> Result<(), io::ErrorKind>
-    ensures { Writes K.is_known K.held K.failures sink.old sink.new result (four_bytes field.id ++ (code ∷ content.now)) }
+    ensures { Writes K.is_known K.held K.failures sink.old sink.new result
+        (four_bytes field.id ++ (code ∷ content.now)) }
 {
     let [a, b, c, d] = field.field_id().to_le_bytes();
     write_all(sink, &[a, b, c, d, code])?;
@@ -52,7 +53,8 @@ fn write_field_u64<K: ByteSink>(
     code: u8,
     number: u64,
 ) -> Result<(), io::ErrorKind>
-    ensures { Writes K.is_known K.held K.failures sink.old sink.new result (four_bytes field.id ++ (code ∷ eight_bytes number)) }
+    ensures { Writes K.is_known K.held K.failures sink.old sink.new result
+        (four_bytes field.id ++ (code ∷ eight_bytes number)) }
 {
     let [a, b, c, d] = field.field_id().to_le_bytes();
     let [e, f, g, h, i, j, k, l] = number.to_le_bytes();
@@ -66,7 +68,8 @@ fn write_field_value<K: ByteSink>(
     field: Field,
     value: CompactDocValue<'_>,
 ) -> Result<(), io::ErrorKind>
-    ensures { Writes K.is_known K.held K.failures sink.old sink.new result (short_pair V2 (field.id, tree_written (tree_of value.entry))) }
+    ensures { Writes K.is_known K.held K.failures sink.old sink.new result
+        (short_pair V2 (field.id, tree_written (tree_of value.entry))) }
 {
     write_u32(sink, field.field_id())?;
     match value.as_value() {
@@ -82,7 +85,8 @@ fn write_pair<K: ByteSink>(
     field: Field,
     value: CompactDocValue<'_>,
 ) -> Result<(), io::ErrorKind>
-    ensures { Writes K.is_known K.held K.failures sink.old sink.new result (short_pair V2 (field.id, tree_written (tree_of value.entry))) }
+    ensures { Writes K.is_known K.held K.failures sink.old sink.new result
+        (short_pair V2 (field.id, tree_written (tree_of value.entry))) }
 {
     match value.encoded() {
         Encoded::Number(code, number) => write_field_u64(sink, field, code, number),
@@ -114,7 +118,8 @@ fn write_if_stored<K: ByteSink>(
     value: CompactDocValue<'_>,
 ) -> Result<(), io::ErrorKind>
     requires { field.id < length schema.now }
-    ensures { Writes K.is_known K.held K.failures sink.old sink.new result (written_pairs schema.now ((field.id, tree_of value.entry) ∷ [])) }
+    ensures { Writes K.is_known K.held K.failures sink.old sink.new result
+        (written_pairs schema.now ((field.id, tree_of value.entry) ∷ [])) }
 {
     if schema.get_field_entry(field).is_stored() {
         write_pair(sink, field, value)
@@ -130,7 +135,8 @@ fn write_pairs<K: ByteSink>(
     document: &CompactDoc,
 ) -> Result<(), io::ErrorKind>
     requires { Belongs schema.now (document_of document.now) }
-    ensures { Writes K.is_known K.held K.failures sink.old sink.new result (written_pairs schema.now (document_of document.now)) }
+    ensures { Writes K.is_known K.held K.failures sink.old sink.new result
+        (written_pairs schema.now (document_of document.now)) }
 {
     for (field, value) in document.field_values() {
         write_if_stored(sink, schema, field, value)?;
@@ -164,7 +170,9 @@ impl<'se, K: ByteSink> BinaryDocumentSerializer<'se, K> {
         requires { Belongs self.old.schema.now (document_of document.now) }
         ensures same_sink { self.new.sink.ghost_name ≡ self.old.sink.ghost_name }
         ensures schema { self.new.schema.now ≡ self.old.schema.now }
-        ensures writes { store.Writes K.is_known K.held K.failures self.old.sink.now self.new.sink.now result (Ok (short_document V2 (stored self.old.schema.now (document_of document.now)))) }
+        ensures writes { store.Writes K.is_known K.held K.failures self.old.sink.now
+            self.new.sink.now result
+            (Ok (short_document V2 (stored self.old.schema.now (document_of document.now)))) }
         ensures io { IfErr result IsIo }
     {
         write_vint(self.sink, stored_count(self.schema, document))?;

@@ -1,6 +1,8 @@
 //! Writing values, arrays and objects one by one, as the store's version 2 has them.
 
-ghost use Rattle.std.specs.Prelude.{◌≡◌, ◌==◌, ◌*◌, ◌<◌, ◌≤◌, ◌^◌, ◌++◌, Ok, Err, IfOk, IfErr, if◌then◌else◌};
+ghost use Rattle.std.specs.Prelude.{
+    ◌≡◌, ◌==◌, ◌*◌, ◌<◌, ◌≤◌, ◌^◌, ◌++◌, Ok, Err, IfOk, IfErr, if◌then◌else◌,
+};
 ghost use Rattle.tv_base.specs.Number.{vnum};
 ghost use Rattle.tv_base.specs.Sink.{Writes};
 ghost use Rattle.tv_store.specs.Error as store;
@@ -32,7 +34,8 @@ fn write_shortest<'a, K: ByteSink, V: Value<'a>>(
     sink: &mut K,
     value: &V,
 ) -> Result<(), SerializeError>
-    ensures { WritesWhere (IsValue (V.tree value.now)) K.is_known K.held K.failures sink.old sink.new result (short V2 (V.tree value.now)) }
+    ensures { WritesWhere (IsValue (V.tree value.now)) K.is_known K.held K.failures sink.old
+        sink.new result (short V2 (V.tree value.now)) }
 {
     if !has_encoding(value) {
         return Err(SerializeError::TooMany);
@@ -49,7 +52,8 @@ fn write_key_and_value<'a, K: ByteSink, V: Value<'a>>(
     value: &V,
 ) -> Result<(), io::ErrorKind>
     requires { IsValue (V.tree value.now) }
-    ensures { Writes K.is_known K.held K.failures sink.old sink.new result (short_key V2 key.now ++ short V2 (V.tree value.now)) }
+    ensures { Writes K.is_known K.held K.failures sink.old sink.new result
+        (short_key V2 key.now ++ short V2 (V.tree value.now)) }
 {
     write_key(sink, key)?;
     write_value(sink, value)
@@ -61,7 +65,8 @@ fn write_entry<'a, K: ByteSink, V: Value<'a>>(
     key: &str,
     value: &V,
 ) -> Result<(), SerializeError>
-    ensures { WritesWhere (IsValue (V.tree value.now)) K.is_known K.held K.failures sink.old sink.new result (short_key V2 key.now ++ short V2 (V.tree value.now)) }
+    ensures { WritesWhere (IsValue (V.tree value.now)) K.is_known K.held K.failures sink.old
+        sink.new result (short_key V2 key.now ++ short V2 (V.tree value.now)) }
 {
     if !has_encoding(value) {
         return Err(SerializeError::TooMany);
@@ -103,7 +108,8 @@ impl<'se, K: ByteSink> BinaryValueSerializer<'se, K> {
     /// value; a later call appends to that.
     pub fn serialize_value<'a, V: Value<'a>>(&mut self, value: &V) -> Result<(), SerializeError>
         ensures same_sink { self.new.sink.ghost_name ≡ self.old.sink.ghost_name }
-        ensures writes { WritesWhere (IsValue (V.tree value.now)) K.is_known K.held K.failures self.old.sink.now self.new.sink.now result (short V2 (V.tree value.now)) }
+        ensures writes { WritesWhere (IsValue (V.tree value.now)) K.is_known K.held K.failures
+            self.old.sink.now self.new.sink.now result (short V2 (V.tree value.now)) }
     {
         write_shortest(self.sink, value)
     }
@@ -134,7 +140,9 @@ impl<'se, K: ByteSink> BinaryArraySerializer<'se, K> {
         sink: &'se mut K,
     ) -> Result<BinaryArraySerializer<'se, K>, SerializeError>
         ensures same_sink { IfOk result (λ made. made.sink.ghost_name ≡ sink.entry.ghost_name) }
-        ensures writes { IfOk result (λ made. store.Writes K.is_known K.held K.failures sink.old made.sink.now result (Ok (vnum count))) }
+        ensures writes { IfOk result
+            (λ made. store.Writes K.is_known K.held K.failures sink.old made.sink.now result
+                (Ok (vnum count))) }
         ensures awaited { IfOk result (λ made. made.awaited ≡ count) }
         ensures io { IfErr result IsIo }
     {
@@ -148,8 +156,11 @@ impl<'se, K: ByteSink> BinaryArraySerializer<'se, K> {
     /// many are awaited as before.
     pub fn serialize_value<'a, V: Value<'a>>(&mut self, value: &V) -> Result<(), SerializeError>
         ensures same_sink { self.new.sink.ghost_name ≡ self.old.sink.ghost_name }
-        ensures full { self.old.awaited ≡ 0 → Refuses SerializeError.WrongCount self.old.sink.now self.new.sink.now result }
-        ensures writes { 0 < self.old.awaited → WritesWhere (IsValue (V.tree value.now)) K.is_known K.held K.failures self.old.sink.now self.new.sink.now result (short V2 (V.tree value.now)) }
+        ensures full { self.old.awaited ≡ 0
+            → Refuses SerializeError.WrongCount self.old.sink.now self.new.sink.now result }
+        ensures writes { 0 < self.old.awaited
+            → WritesWhere (IsValue (V.tree value.now)) K.is_known K.held K.failures
+                self.old.sink.now self.new.sink.now result (short V2 (V.tree value.now)) }
         ensures awaited { self.new.awaited ≡ awaited_after self.old.awaited result }
     {
         let Some(others) = self.awaited.checked_sub(1) else {
@@ -163,7 +174,8 @@ impl<'se, K: ByteSink> BinaryArraySerializer<'se, K> {
     /// Ends the array. Nothing is written. The only error is `WrongCount`, where values are still awaited.
     pub fn end(self) -> Result<(), SerializeError>
         ensures sink { self.exit.0.now ≡ self.entry.sink.now }
-        ensures count { result ≡ (if self.entry.awaited == 0 then Ok tt else Err SerializeError.WrongCount) }
+        ensures count { result
+            ≡ (if self.entry.awaited == 0 then Ok tt else Err SerializeError.WrongCount) }
     {
         ended(self.awaited)
     }
@@ -195,7 +207,9 @@ impl<'se, K: ByteSink> BinaryObjectSerializer<'se, K> {
         sink: &'se mut K,
     ) -> Result<BinaryObjectSerializer<'se, K>, SerializeError>
         ensures same_sink { IfOk result (λ made. made.sink.ghost_name ≡ sink.entry.ghost_name) }
-        ensures writes { IfOk result (λ made. store.Writes K.is_known K.held K.failures sink.old made.sink.now result (Ok (vnum (2 * count)))) }
+        ensures writes { IfOk result
+            (λ made. store.Writes K.is_known K.held K.failures sink.old made.sink.now result
+                (Ok (vnum (2 * count)))) }
         ensures awaited { IfOk result (λ made. made.awaited ≡ count) }
         ensures too_many { 2 ^ 64 ≤ 2 * count → result ≡ Err SerializeError.TooMany }
         ensures io { 2 * count < 2 ^ 64 → IfErr result IsIo }
@@ -217,8 +231,12 @@ impl<'se, K: ByteSink> BinaryObjectSerializer<'se, K> {
         value: &V,
     ) -> Result<(), SerializeError>
         ensures same_sink { self.new.sink.ghost_name ≡ self.old.sink.ghost_name }
-        ensures full { self.old.awaited ≡ 0 → Refuses SerializeError.WrongCount self.old.sink.now self.new.sink.now result }
-        ensures writes { 0 < self.old.awaited → WritesWhere (IsValue (V.tree value.now)) K.is_known K.held K.failures self.old.sink.now self.new.sink.now result (short_key V2 key.now ++ short V2 (V.tree value.now)) }
+        ensures full { self.old.awaited ≡ 0
+            → Refuses SerializeError.WrongCount self.old.sink.now self.new.sink.now result }
+        ensures writes { 0 < self.old.awaited
+            → WritesWhere (IsValue (V.tree value.now)) K.is_known K.held K.failures
+                self.old.sink.now self.new.sink.now result
+                (short_key V2 key.now ++ short V2 (V.tree value.now)) }
         ensures awaited { self.new.awaited ≡ awaited_after self.old.awaited result }
     {
         let Some(others) = self.awaited.checked_sub(1) else {
@@ -232,7 +250,8 @@ impl<'se, K: ByteSink> BinaryObjectSerializer<'se, K> {
     /// Ends the object. Nothing is written. The only error is `WrongCount`, where entries are still awaited.
     pub fn end(self) -> Result<(), SerializeError>
         ensures sink { self.exit.0.now ≡ self.entry.sink.now }
-        ensures count { result ≡ (if self.entry.awaited == 0 then Ok tt else Err SerializeError.WrongCount) }
+        ensures count { result
+            ≡ (if self.entry.awaited == 0 then Ok tt else Err SerializeError.WrongCount) }
     {
         ended(self.awaited)
     }

@@ -14,7 +14,10 @@ ghost use Rattle.tv_store.specs.Stored.{leaf_written, tree_written};
 ghost use Rattle.tv_value.specs.LeafParts.{content_of};
 ghost use Rattle.tv_value.specs.Lent.{leaf_of, nested_tree};
 ghost use Rattle.tv_value.specs.PreTokenized.{text_of, tokens_left, tokens_of};
-ghost use Rattle.tv_value.specs.Short.{short_token, short_tokenized, short_content, short_leaf, short, short_elements, short_entries, IsValue, AreElements, AreEntries};
+ghost use Rattle.tv_value.specs.Short.{
+    short_token, short_tokenized, short_content, short_leaf, short, short_elements, short_entries,
+    IsValue, AreElements, AreEntries,
+};
 ghost use Rattle.tv_value.specs.TokenRef.{ref_of};
 ghost use Rattle.tv_value.specs.Tree.{elements, entries, element_count, entry_count};
 ghost use Rattle.tv_value.specs.Version.{V2};
@@ -52,7 +55,8 @@ pub(crate) fn write_coded_text<K: ByteSink>(
     code: u8,
     text: &str,
 ) -> Result<(), io::ErrorKind>
-    ensures { Writes K.is_known K.held K.failures sink.old sink.new result (code ∷ short_sized text.now) }
+    ensures { Writes K.is_known K.held K.failures sink.old sink.new result
+        (code ∷ short_sized text.now) }
 {
     write_coded_bytes(sink, code, text.as_bytes())
 }
@@ -65,7 +69,8 @@ fn write_coded_bytes<K: ByteSink>(
     code: u8,
     content: &[u8],
 ) -> Result<(), io::ErrorKind>
-    ensures { Writes K.is_known K.held K.failures sink.old sink.new result (code ∷ short_sized content.now) }
+    ensures { Writes K.is_known K.held K.failures sink.old sink.new result
+        (code ∷ short_sized content.now) }
 {
     let len = content.len();
     if len < 128 {
@@ -80,7 +85,8 @@ fn write_coded_bytes<K: ByteSink>(
 #[inline]
 #[tactic(auto, using(crate::proofs::Coded::Coded_then))]
 fn write_coded_u64<K: ByteSink>(sink: &mut K, code: u8, number: u64) -> Result<(), io::ErrorKind>
-    ensures { Writes K.is_known K.held K.failures sink.old sink.new result (code ∷ eight_bytes number) }
+    ensures { Writes K.is_known K.held K.failures sink.old sink.new result
+        (code ∷ eight_bytes number) }
 {
     let [a, b, c, d, e, f, g, h] = number.to_le_bytes();
     write_all(sink, &[code, a, b, c, d, e, f, g, h])
@@ -90,7 +96,8 @@ fn write_coded_u64<K: ByteSink>(sink: &mut K, code: u8, number: u64) -> Result<(
 #[inline]
 #[tactic(auto, using(crate::proofs::Coded::Coded_then))]
 fn write_coded_i64<K: ByteSink>(sink: &mut K, code: u8, number: i64) -> Result<(), io::ErrorKind>
-    ensures { Writes K.is_known K.held K.failures sink.old sink.new result (code ∷ signed_bytes number) }
+    ensures { Writes K.is_known K.held K.failures sink.old sink.new result
+        (code ∷ signed_bytes number) }
 {
     write_coded_u64(sink, code, number.cast_unsigned())
 }
@@ -99,7 +106,8 @@ fn write_coded_i64<K: ByteSink>(sink: &mut K, code: u8, number: i64) -> Result<(
 #[inline]
 #[tactic(auto, using(crate::proofs::Coded::Coded_then))]
 fn write_coded_u128<K: ByteSink>(sink: &mut K, code: u8, number: u128) -> Result<(), io::ErrorKind>
-    ensures { Writes K.is_known K.held K.failures sink.old sink.new result (code ∷ sixteen_bytes number) }
+    ensures { Writes K.is_known K.held K.failures sink.old sink.new result
+        (code ∷ sixteen_bytes number) }
 {
     write_code(sink, code)?;
     write_u128(sink, number)
@@ -109,7 +117,8 @@ fn write_coded_u128<K: ByteSink>(sink: &mut K, code: u8, number: u128) -> Result
 #[inline]
 #[tactic(auto, using(crate::proofs::Coded::Coded_then))]
 fn write_coded_bool<K: ByteSink>(sink: &mut K, code: u8, truth: bool) -> Result<(), io::ErrorKind>
-    ensures { Writes K.is_known K.held K.failures sink.old sink.new result (code ∷ truth_byte truth) }
+    ensures { Writes K.is_known K.held K.failures sink.old sink.new result
+        (code ∷ truth_byte truth) }
 {
     write_code(sink, code)?;
     write_bool(sink, truth)
@@ -128,7 +137,8 @@ fn write_coded_count<K: ByteSink>(sink: &mut K, code: u8, count: u64) -> Result<
 // A token: where it begins and ends, its position, its text, and how many positions it takes.
 #[tactic(auto, using(tv_base::proofs::Written::Writes_then, tv_base::proofs::Written::Writes_prefix))]
 fn write_token<K: ByteSink>(sink: &mut K, token: TokenRef<'_>) -> Result<(), io::ErrorKind>
-    ensures { Writes K.is_known K.held K.failures sink.old sink.new result (short_token (ref_of token.entry)) }
+    ensures { Writes K.is_known K.held K.failures sink.old sink.new result
+        (short_token (ref_of token.entry)) }
 {
     write_vint(sink, token.offset_from as u64)?;
     write_vint(sink, token.offset_to as u64)?;
@@ -139,7 +149,8 @@ fn write_token<K: ByteSink>(sink: &mut K, token: TokenRef<'_>) -> Result<(), io:
 
 // The tokens that are left, in order.
 fn write_tokens<K: ByteSink>(sink: &mut K, tokens: TokenIter<'_>) -> Result<(), io::ErrorKind>
-    ensures { Writes K.is_known K.held K.failures sink.old sink.new result (flat_map short_token (tokens_left tokens.entry)) }
+    ensures { Writes K.is_known K.held K.failures sink.old sink.new result
+        (flat_map short_token (tokens_left tokens.entry)) }
 {
     for token in tokens {
         write_token(sink, token)?;
@@ -153,7 +164,8 @@ fn write_tokenized<K: ByteSink>(
     sink: &mut K,
     text: PreTokenizedStr<'_>,
 ) -> Result<(), io::ErrorKind>
-    ensures { Writes K.is_known K.held K.failures sink.old sink.new result (short_tokenized (text_of text.entry) (tokens_of text.entry)) }
+    ensures { Writes K.is_known K.held K.failures sink.old sink.new result
+        (short_tokenized (text_of text.entry) (tokens_of text.entry)) }
 {
     write_text(sink, text.text())?;
     write_vint(sink, text.len() as u64)?;
@@ -167,7 +179,8 @@ fn write_extension<K: ByteSink>(
     code: u8,
     text: PreTokenizedStr<'_>,
 ) -> Result<(), io::ErrorKind>
-    ensures { Writes K.is_known K.held K.failures sink.old sink.new result (code ∷ 0 ∷ short_tokenized (text_of text.entry) (tokens_of text.entry)) }
+    ensures { Writes K.is_known K.held K.failures sink.old sink.new result
+        (code ∷ 0 ∷ short_tokenized (text_of text.entry) (tokens_of text.entry)) }
 {
     write_code(sink, code)?;
     write_code(sink, TOK_STR_EXT_CODE)?;
@@ -180,7 +193,8 @@ fn write_content<K: ByteSink>(
     code: u8,
     content: LeafContent<'_>,
 ) -> Result<(), io::ErrorKind>
-    ensures { Writes K.is_known K.held K.failures sink.old sink.new result (code ∷ short_content (content_of content.entry)) }
+    ensures { Writes K.is_known K.held K.failures sink.old sink.new result
+        (code ∷ short_content (content_of content.entry)) }
 {
     match content {
         LeafContent::Nothing => write_code(sink, code),
@@ -197,7 +211,8 @@ fn write_content<K: ByteSink>(
 // A value without children. What is commonest is written as it is lent, without standing in memory before.
 #[inline(always)]
 fn write_leaf<K: ByteSink>(sink: &mut K, leaf: &ReferenceValueLeaf<'_>) -> Result<(), io::ErrorKind>
-    ensures { Writes K.is_known K.held K.failures sink.old sink.new result (short_leaf (leaf_of leaf.now)) }
+    ensures { Writes K.is_known K.held K.failures sink.old sink.new result
+        (short_leaf (leaf_of leaf.now)) }
 {
     let code = leaf.leaf_type().store_code();
     match leaf.content() {
@@ -249,7 +264,8 @@ fn children<N: Nested>(value: NestedValue<'_, N>) -> u64
 #[cycle(values)]
 fn write_tree<K: ByteSink, N: Nested>(sink: &mut K, value: &N) -> Result<(), io::ErrorKind>
     requires { IsValue (N.tree value.now) }
-    ensures { Writes K.is_known K.held K.failures sink.old sink.new result (short V2 (N.tree value.now)) }
+    ensures { Writes K.is_known K.held K.failures sink.old sink.new result
+        (short V2 (N.tree value.now)) }
 {
     match value.as_nested() {
         NestedValue::Leaf(leaf) => write_leaf(sink, &leaf),
@@ -271,7 +287,8 @@ fn write_items<K: ByteSink, N: Nested>(
     items: N::ArrayIter,
 ) -> Result<(), io::ErrorKind>
     requires { AreElements (elements (N.array_rest items)) }
-    ensures { Writes K.is_known K.held K.failures sink.old sink.new result (short_elements V2 (elements (N.array_rest items))) }
+    ensures { Writes K.is_known K.held K.failures sink.old sink.new result
+        (short_elements V2 (elements (N.array_rest items))) }
 {
     for item in items {
         write_tree(sink, &item)?;
@@ -286,7 +303,8 @@ fn write_members<K: ByteSink, N: Nested>(
     members: N::ObjectIter,
 ) -> Result<(), io::ErrorKind>
     requires { AreEntries (entries (N.object_rest members)) }
-    ensures { Writes K.is_known K.held K.failures sink.old sink.new result (short_entries V2 (entries (N.object_rest members))) }
+    ensures { Writes K.is_known K.held K.failures sink.old sink.new result
+        (short_entries V2 (entries (N.object_rest members))) }
 {
     for (key, item) in members {
         write_coded_text(sink, TEXT_CODE, key.as_str())?;
@@ -303,7 +321,8 @@ pub(crate) fn write_value<'a, K: ByteSink, V: Value<'a>>(
     value: &V,
 ) -> Result<(), io::ErrorKind>
     requires { IsValue (V.tree value.now) }
-    ensures { Writes K.is_known K.held K.failures sink.old sink.new result (short V2 (V.tree value.now)) }
+    ensures { Writes K.is_known K.held K.failures sink.old sink.new result
+        (short V2 (V.tree value.now)) }
 {
     match lend(value) {
         NestedValue::Leaf(leaf) => write_leaf(sink, &leaf),
@@ -346,7 +365,8 @@ pub(crate) fn write_encoded<K: ByteSink>(
     sink: &mut K,
     value: CompactDocValue<'_>,
 ) -> Result<(), io::ErrorKind>
-    ensures { Writes K.is_known K.held K.failures sink.old sink.new result (short V2 (tree_of value.entry)) }
+    ensures { Writes K.is_known K.held K.failures sink.old sink.new result
+        (short V2 (tree_of value.entry)) }
 {
     match value.encoded() {
         Encoded::Null => write_code(sink, NULL_CODE),
@@ -368,7 +388,8 @@ fn write_encoded_items<K: ByteSink>(
     sink: &mut K,
     items: CompactDocArrayIter<'_>,
 ) -> Result<(), io::ErrorKind>
-    ensures { Writes K.is_known K.held K.failures sink.old sink.new result (short_elements V2 (elements items.entry.held.0)) }
+    ensures { Writes K.is_known K.held K.failures sink.old sink.new result
+        (short_elements V2 (elements items.entry.held.0)) }
 {
     for item in items {
         write_encoded(sink, item)?;
@@ -383,7 +404,8 @@ pub(crate) fn write_stored_leaf<K: ByteSink>(
     sink: &mut K,
     leaf: &ReferenceValueLeaf<'_>,
 ) -> Result<(), io::ErrorKind>
-    ensures { Writes K.is_known K.held K.failures sink.old sink.new result (short_leaf (leaf_written (leaf_of leaf.now))) }
+    ensures { Writes K.is_known K.held K.failures sink.old sink.new result
+        (short_leaf (leaf_written (leaf_of leaf.now))) }
 {
     match leaf {
         ReferenceValueLeaf::PreTokStr(text) => write_coded_text(sink, TEXT_CODE, text.text()),

@@ -5,8 +5,13 @@ ghost use Rattle.std.specs.Ordering.{nat_cmp};
 ghost use Rattle.tv_options.specs.declared.types.TypeTag.{TypeTag};
 ghost use Rattle.tv_options.specs.declared.types.TypeTag.TheVariants as tag;
 ghost use Rattle.tv_term.specs.FastValue.{IsFastType, StandsAs};
-ghost use Rattle.tv_term.specs.FastValueLaws.{from_least-order, from_least-fits, signed_at-from_least, truth_number-order, truth_number-fits, is_true-truth_number, date-again};
-ghost use Rattle.tv_term.specs.Key.{TermValue, Unsigned, Signed, Truth, Date, Fits, from_least, truth_number};
+ghost use Rattle.tv_term.specs.FastValueLaws.{
+    from_least-order, from_least-fits, signed_at-from_least, truth_number-order, truth_number-fits,
+    is_true-truth_number, date-again,
+};
+ghost use Rattle.tv_term.specs.Key.{
+    TermValue, Unsigned, Signed, Truth, Date, Fits, from_least, truth_number,
+};
 ghost use Rattle.tv_term.specs.Reading.{signed_at, is_true};
 
 use tv_options::Type;
@@ -56,7 +61,8 @@ pub trait FastValue: Copy + Ord {
     ghost is_read_back: { (x : Self) → Fits (as_value x) → of_number (as_number x) ≡ x };
 
     /// Values are ordered as their numbers.
-    ghost is_ordered: { (x y : Self) → Fits (as_value x) → Fits (as_value y) → Self.cmp x y ≡ nat_cmp (as_number x) (as_number y) };
+    ghost is_ordered: { (x y : Self) → Fits (as_value x) → Fits (as_value y)
+        → Self.cmp x y ≡ nat_cmp (as_number x) (as_number y) };
 }
 
 /// The number itself.
@@ -176,7 +182,8 @@ impl FastValue for DateTime {
 
     ghost is_read_back = { date-again };
 
-    ghost is_ordered = { λ one other one_fits other_fits. from_least-order one.nanoseconds other.nanoseconds one_fits other_fits };
+    ghost is_ordered = { λ one other one_fits other_fits. from_least-order one.nanoseconds
+        other.nanoseconds one_fits other_fits };
 
     fn to_type() -> Type {
         Type::Date

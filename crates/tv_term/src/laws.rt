@@ -1,6 +1,9 @@
 //! Laws of terms, each the contract of a function that makes the calls of which it speaks, or of one that does nothing.
 
-ghost use Rattle.std.specs.Prelude.{◌≡◌, ◌↔◌, ℕ, ℤ, FitsSigned, Bool, List, [], ◌<◌, ◌^◌, ◌++◌, ◌∷◌, Some, IfOk, IfErr, IsTrue, IsUtf8, option_map, string_bytes};
+ghost use Rattle.std.specs.Prelude.{
+    ◌≡◌, ◌↔◌, ℕ, ℤ, FitsSigned, Bool, List, [], ◌<◌, ◌^◌, ◌++◌, ◌∷◌, Some, IfOk, IfErr, IsTrue,
+    IsUtf8, option_map, string_bytes,
+};
 ghost use Rattle.std.specs.Int.{to_be_bytes, w64, w128};
 ghost use Rattle.std.specs.Net.Addr.{IsIpv6Addr, ipv6_bits, ipv6_segments, segments_of};
 ghost use Rattle.std.specs.Option.{option_copied};
@@ -9,8 +12,13 @@ ghost use Rattle.std.specs.declared.net.ipv6_addr.Ipv6Addr.{Ipv6Addr};
 ghost use Rattle.tv_base.specs.JsonPath.{joined_path};
 ghost use Rattle.tv_options.specs.declared.types.TypeTag.TheVariants as tag;
 ghost use Rattle.tv_term.specs.FastValue.{IsFastType};
-ghost use Rattle.tv_term.specs.Key.{TermValue, Text, Unsigned, Signed, Truth, Date, Facet, Bytes, Address, Json, Fits, HasNoZero, IsTerm, IsJsonTerm, Appends, type_of, coded, term, value_cmp};
-ghost use Rattle.tv_term.specs.Reading.{number_of, address_of, payload_of, signed_at, is_true, json_parts, json_type, json_path};
+ghost use Rattle.tv_term.specs.Key.{
+    TermValue, Text, Unsigned, Signed, Truth, Date, Facet, Bytes, Address, Json, Fits, HasNoZero,
+    IsTerm, IsJsonTerm, Appends, type_of, coded, term, value_cmp,
+};
+ghost use Rattle.tv_term.specs.Reading.{
+    number_of, address_of, payload_of, signed_at, is_true, json_parts, json_type, json_path,
+};
 ghost use Rattle.tv_term.specs.declared.term_error.TermError.TheVariants.{Memory};
 
 use crate::fast_value::FastValue;
@@ -82,7 +90,8 @@ pub fn appended_texts_make_terms(
     text: &str,
 ) -> Result<Term, TermError>
     requires { HasNoZero path.now }
-    ensures made { IfOk result (λ made. IsTerm made field.id (Json (joined_path expand_dots path.now) (Text text.now))) }
+    ensures made { IfOk result
+        (λ made. IsTerm made field.id (Json (joined_path expand_dots path.now) (Text text.now))) }
     ensures memory { IfErr result (λ error. error ≡ Memory) }
 {
     let mut term = Term::from_field_json_path(alloc, field, path, expand_dots)?;
@@ -99,7 +108,9 @@ pub fn appended_fast_values_make_terms<T: FastValue>(
     value: T,
 ) -> Result<Term, TermError>
     requires { HasNoZero path.now }
-    ensures made { IfOk result (λ made. IsTerm made field.id (Json (joined_path expand_dots path.now) (T.as_value value))) }
+    ensures made { IfOk result
+        (λ made. IsTerm made field.id
+            (Json (joined_path expand_dots path.now) (T.as_value value))) }
     ensures memory { IfErr result (λ error. error ≡ Memory) }
 {
     let mut term = Term::from_field_json_path(alloc, field, path, expand_dots)?;
@@ -134,7 +145,8 @@ pub fn json_paths_are_read_back(
     text: &str,
 ) -> Result<Option<String>, TermError>
     requires { HasNoZero path.now }
-    ensures path { IfOk result (λ found. option_map string_bytes found ≡ Some (joined_path expand_dots path.now)) }
+    ensures path { IfOk result
+        (λ found. option_map string_bytes found ≡ Some (joined_path expand_dots path.now)) }
     ensures memory { IfErr result (λ error. error ≡ Memory) }
 {
     let mut term = Term::from_field_json_path(alloc, field, path, expand_dots)?;
@@ -163,7 +175,8 @@ pub fn appended_texts_are_read_back(
 
 // The text behind the path of a JSON term.
 fn text_behind_path(term: &Term) -> Option<&str>
-    ensures { (f : ℕ) (path text : List ℕ) → IsUtf8 text → IsTerm term.now f (Json path (Text text)) → option_copied result ≡ Some text }
+    ensures { (f : ℕ) (path text : List ℕ) → IsUtf8 text → IsTerm term.now f (Json path (Text text))
+        → option_copied result ≡ Some text }
 {
     value_behind_path(term)?.as_str()
 }
@@ -195,7 +208,8 @@ pub fn appended_numbers_are_read_back(
 
 // The number behind the path of a JSON term.
 fn number_behind_path(term: &Term) -> Option<i64>
-    ensures { (f : ℕ) (path : List ℕ) (number : ℤ) → IsTerm term.now f (Json path (Signed number)) → result ≡ Some number }
+    ensures { (f : ℕ) (path : List ℕ) (number : ℤ) → IsTerm term.now f (Json path (Signed number))
+        → result ≡ Some number }
 {
     value_behind_path(term)?.as_i64()
 }
@@ -218,32 +232,43 @@ pub fn equal_terms_have_equal_keys()
 pub fn comparisons_of_terms_agree()
     ensures eq { (a b : List ℕ) → IsTrue (⟦<Term as PartialEq>⟧.eq a b) ↔ (a ≡ b) }
     ensures ties { (a b : List ℕ) → IsTrue (is_eq (⟦<Term as Ord>⟧.cmp a b)) ↔ (a ≡ b) }
-    ensures hash { (a b : List ℕ) → IsTrue (⟦<Term as PartialEq>⟧.eq a b) → ⟦<Term as Hash>⟧.hash_input a ≡ ⟦<Term as Hash>⟧.hash_input b }
+    ensures hash { (a b : List ℕ) → IsTrue (⟦<Term as PartialEq>⟧.eq a b)
+        → ⟦<Term as Hash>⟧.hash_input a ≡ ⟦<Term as Hash>⟧.hash_input b }
 {}
 
 /// What a term of a JSON path without U+0000 becomes by an appended value is the term of the path and the value.
 pub fn appended_values_complete_json_terms()
-    ensures { (old new : List ℕ) (f : ℕ) (path : List ℕ) (value : TermValue) → IsJsonTerm old f path → HasNoZero path →
-        Appends old new value → IsTerm new f (Json path value) }
+    ensures { (old new : List ℕ) (f : ℕ) (path : List ℕ) (value : TermValue) → IsJsonTerm old f path
+        → HasNoZero path → Appends old new value → IsTerm new f (Json path value) }
 {}
 
 /// A path without U+0000 is joined without one.
 pub fn joined_paths_have_no_zero()
-    ensures { (expand_dots : Bool) (path : List ℕ) → HasNoZero path → HasNoZero (joined_path expand_dots path) }
+    ensures { (expand_dots : Bool) (path : List ℕ) → HasNoZero path
+        → HasNoZero (joined_path expand_dots path) }
 {}
 
 /// What the readers of value bytes return for the bytes of a value of their type is that value.
 pub fn written_values_are_read()
     ensures unsigned { (n : ℕ) → n < 2 ^ 64 → number_of tag.U64 (coded (Unsigned n)) ≡ Some n }
-    ensures signed { (z : ℤ) → FitsSigned w64 z → option_map signed_at (number_of tag.I64 (coded (Signed z))) ≡ Some z }
-    ensures truth { (b : Bool) → option_map is_true (number_of tag.Bool (coded (Truth b))) ≡ Some b }
-    ensures date { (z : ℤ) → FitsSigned w64 z → option_map signed_at (number_of tag.Date (coded (Date z))) ≡ Some z }
+    ensures signed { (z : ℤ) → FitsSigned w64 z
+        → option_map signed_at (number_of tag.I64 (coded (Signed z))) ≡ Some z }
+    ensures truth { (b : Bool)
+        → option_map is_true (number_of tag.Bool (coded (Truth b))) ≡ Some b }
+    ensures date { (z : ℤ) → FitsSigned w64 z
+        → option_map signed_at (number_of tag.Date (coded (Date z))) ≡ Some z }
     ensures text { (text : List ℕ) → payload_of tag.Str (coded (Text text)) ≡ Some text }
-    ensures facet { (encoded : List ℕ) → payload_of tag.Facet (coded (Facet encoded)) ≡ Some encoded }
+    ensures facet { (encoded : List ℕ)
+        → payload_of tag.Facet (coded (Facet encoded)) ≡ Some encoded }
     ensures bytes { (bytes : List ℕ) → payload_of tag.Bytes (coded (Bytes bytes)) ≡ Some bytes }
-    ensures address { (a : Ipv6Addr) → IsIpv6Addr a →
-        option_map (λ n. segments_of (to_be_bytes w128 n)) (address_of (coded (Address (ipv6_bits a)))) ≡ Some (ipv6_segments a) }
-    ensures json { (path : List ℕ) (value : TermValue) → HasNoZero path → json_parts (coded (Json path value)) ≡ Some (path ++ 0 ∷ [], coded value) }
-    ensures json_type { (path : List ℕ) (value : TermValue) → HasNoZero path → json_type (coded (Json path value)) ≡ Some (type_of value) }
-    ensures json_path { (path : List ℕ) (value : TermValue) → HasNoZero path → json_path (coded (Json path value)) ≡ Some path }
+    ensures address { (a : Ipv6Addr) → IsIpv6Addr a
+        → option_map (λ n. segments_of (to_be_bytes w128 n))
+                (address_of (coded (Address (ipv6_bits a))))
+            ≡ Some (ipv6_segments a) }
+    ensures json { (path : List ℕ) (value : TermValue) → HasNoZero path
+        → json_parts (coded (Json path value)) ≡ Some (path ++ 0 ∷ [], coded value) }
+    ensures json_type { (path : List ℕ) (value : TermValue) → HasNoZero path
+        → json_type (coded (Json path value)) ≡ Some (type_of value) }
+    ensures json_path { (path : List ℕ) (value : TermValue) → HasNoZero path
+        → json_path (coded (Json path value)) ≡ Some path }
 {}

@@ -1,6 +1,9 @@
 //! Terms.
 
-ghost use Rattle.std.specs.Prelude.{◌≡◌, ◌<◌, ◌≤◌, ◌+◌, ◌^◌, ◌++◌, ◌∷◌, ◌↔◌, [], length, take, drop, IfOk, IfErr, MatchResult, OnOk, OnErr, IsTrue, slice_get, slice_index, option_map, string_bytes, Some};
+ghost use Rattle.std.specs.Prelude.{
+    ◌≡◌, ◌<◌, ◌≤◌, ◌+◌, ◌^◌, ◌++◌, ◌∷◌, ◌↔◌, [], length, take, drop, IfOk, IfErr, MatchResult, OnOk,
+    OnErr, IsTrue, slice_get, slice_index, option_map, string_bytes, Some,
+};
 ghost use Rattle.std.specs.Int.{to_be_bytes, w32};
 ghost use Rattle.std.specs.Net.Addr.{ipv6_bits};
 ghost use Rattle.std.specs.Option.{option_copied};
@@ -9,8 +12,13 @@ ghost use Rattle.tv_options.specs.Types.{code, type_of_code};
 ghost use Rattle.tv_field.specs.Entry.{Entry};
 ghost use Rattle.tv_value.specs.DateTime.{truncated};
 ghost use Rattle.tv_date.specs.declared.date_time.DateTimePrecision.TheVariants.{Seconds};
-ghost use Rattle.tv_term.specs.Key.{IsTerm, IsJsonTerm, Appends, Text, Unsigned, Signed, Truth, Date, Facet as FacetValue, Bytes, Address};
-ghost use Rattle.tv_term.specs.Reading.{field_of, value_of, json_path, ReadsText, IsFullPath, dotted};
+ghost use Rattle.tv_term.specs.Key.{
+    IsTerm, IsJsonTerm, Appends, Text, Unsigned, Signed, Truth, Date, Facet as FacetValue, Bytes,
+    Address,
+};
+ghost use Rattle.tv_term.specs.Reading.{
+    field_of, value_of, json_path, ReadsText, IsFullPath, dotted,
+};
 ghost use Rattle.tv_term.specs.declared.term_error.TermError.TheVariants.{TooShort, Memory};
 
 use crate::fast_value::FastValue;
@@ -96,7 +104,8 @@ impl Term {
         json_path: &str,
         expand_dots: bool,
     ) -> Result<Term, TermError>
-        ensures made { IfOk result (λ made. IsJsonTerm made field.id (joined_path expand_dots json_path.now)) }
+        ensures made { IfOk result
+            (λ made. IsJsonTerm made field.id (joined_path expand_dots json_path.now)) }
         ensures memory { IfErr result (λ error. error ≡ Memory) }
     {
         let mut joined = joined_json_path(alloc, json_path, expand_dots)?;
@@ -143,7 +152,8 @@ impl Term {
         field: Field,
         date: DateTime,
     ) -> Result<Term, TermError>
-        ensures made { IfOk result (λ made. IsTerm made field.id (Date (truncated Seconds date.nanoseconds))) }
+        ensures made { IfOk result
+            (λ made. IsTerm made field.id (Date (truncated Seconds date.nanoseconds))) }
         ensures memory { IfErr result (λ error. error ≡ Memory) }
     {
         Term::from_field_date(alloc, field, date.truncate(DATE_TIME_PRECISION_INDEXED))
@@ -206,7 +216,8 @@ impl Term {
         value_type: Type,
         payload: &[u8],
     ) -> Result<Term, TermError>
-        ensures made { IfOk result (λ made. made ≡ to_be_bytes w32 field.id ++ code value_type ∷ payload.now) }
+        ensures made { IfOk result
+            (λ made. made ≡ to_be_bytes w32 field.id ++ code value_type ∷ payload.now) }
         ensures field { field.id < 2 ^ 32 }
         ensures memory { IfErr result (λ error. error ≡ Memory) }
     {
@@ -370,7 +381,8 @@ impl Term {
     ///
     /// Errors: memory was refused.
     pub fn get_json_path(&self, alloc: Global) -> Result<Option<String>, AllocError>
-        ensures { IfOk result (λ found. ReadsText (json_path (value_of self.now)) (option_map string_bytes found)) }
+        ensures { IfOk result
+            (λ found. ReadsText (json_path (value_of self.now)) (option_map string_bytes found)) }
     {
         match self.value().json_path() {
             Some(path) => Ok(Some(String::from_str(alloc, path)?)),
@@ -384,8 +396,9 @@ impl Term {
     /// Errors: memory was refused.
     pub fn get_full_path(&self, alloc: Global, schema: &Schema) -> Result<String, AllocError>
         requires { field_of self.now < length schema.now }
-        ensures { IfOk result (λ path. (entry : Entry) → slice_get schema.now (field_of self.now) ≡ Some entry
-            → IsFullPath entry.name (value_of self.now) (string_bytes path)) }
+        ensures { IfOk result
+            (λ path. (entry : Entry) → slice_get schema.now (field_of self.now) ≡ Some entry
+                → IsFullPath entry.name (value_of self.now) (string_bytes path)) }
     {
         let name = schema.get_field_entry(self.field()).name();
         dotted(alloc, name, self.value().json_path())
@@ -394,7 +407,8 @@ impl Term {
 
 // The name, and behind a dot the path, if there is one.
 fn dotted(alloc: Global, name: &str, path: Option<&str>) -> Result<String, AllocError>
-    ensures { IfOk result (λ text. string_bytes text ≡ name.now ++ dotted (option_copied path.entry)) }
+    ensures { IfOk result
+        (λ text. string_bytes text ≡ name.now ++ dotted (option_copied path.entry)) }
 {
     let mut text = String::from_str(alloc, name)?;
     if let Some(path) = path {

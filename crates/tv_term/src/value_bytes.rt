@@ -1,11 +1,16 @@
 //! The bytes of a term's value.
 
-ghost use Rattle.std.specs.Prelude.{◌≡◌, ◌<◌, ◌==◌, [], length, position, IfOk, IfSome, MatchResult};
+ghost use Rattle.std.specs.Prelude.{
+    ◌≡◌, ◌<◌, ◌==◌, [], length, position, IfOk, IfSome, MatchResult,
+};
 ghost use Rattle.std.specs.Int.{w128, to_be_bytes};
 ghost use Rattle.std.specs.Net.Addr.{ipv6_segments, segments_of};
 ghost use Rattle.std.specs.Option.{option_and_then, option_copied, option_map};
 ghost use Rattle.tv_options.specs.declared.types.TypeTag.TheVariants as tag;
-ghost use Rattle.tv_term.specs.Reading.{type_at, payload_of, number_of, address_of, signed_at, is_true, json_parts, json_path, json_type, cut_behind_zero, ReadsText};
+ghost use Rattle.tv_term.specs.Reading.{
+    type_at, payload_of, number_of, address_of, signed_at, is_true, json_parts, json_path,
+    json_type, cut_behind_zero, ReadsText,
+};
 ghost use Rattle.tv_term.specs.declared.term_error.TermError.TheVariants.{TooShort};
 
 use crate::fast_value::FastValue;
@@ -31,7 +36,8 @@ impl<'a> ValueBytes<'a> {
     ///
     /// Errors: `TooShort`, exactly where there is no byte.
     pub fn wrap(bytes: &'a [u8]) -> Result<ValueBytes<'a>, TermError>
-        ensures { MatchResult result (λ value. (value.serialized.now ≡ bytes.now) × (0 < length bytes.now))
+        ensures { MatchResult result
+            (λ value. (value.serialized.now ≡ bytes.now) × (0 < length bytes.now))
             (λ error. (error ≡ TooShort) × (bytes.now ≡ [])) }
     {
         if bytes.is_empty() {
@@ -94,7 +100,8 @@ impl<'a> ValueBytes<'a> {
 
     /// The date, exactly where the code is that of dates and eight bytes follow.
     pub fn as_date(&self) -> Option<DateTime>
-        ensures { option_map (λ date. date.nanoseconds) result ≡ option_map signed_at (number_of tag.Date self.now.serialized.now) }
+        ensures { option_map (λ date. date.nanoseconds) result
+            ≡ option_map signed_at (number_of tag.Date self.now.serialized.now) }
     {
         self.fast_value::<DateTime>()
     }
@@ -103,7 +110,8 @@ impl<'a> ValueBytes<'a> {
     /// The address, exactly where the code is that of IP addresses and sixteen bytes follow.
     pub fn as_ip_addr(&self) -> Option<Ipv6Addr>
         ensures { option_map ipv6_segments result
-            ≡ option_map (λ n. segments_of (to_be_bytes w128 n)) (address_of self.now.serialized.now) }
+            ≡ option_map (λ n. segments_of (to_be_bytes w128 n))
+                (address_of self.now.serialized.now) }
     {
         let bytes: &[u8; 16] = self.payload(Type::IpAddr)?.as_array()?;
         Some(Ipv6Addr::from_bits(u128::from_be_bytes(*bytes)))
@@ -146,7 +154,8 @@ impl<'a> ValueBytes<'a> {
     /// The path of a value of a JSON field, up to its first U+0000 and with it, and the bytes behind it. `None` where the code
     /// is another or no byte is U+0000.
     pub fn as_json(&self) -> Option<(&'a [u8], &'a [u8])>
-        ensures { option_map (λ parts. (parts.0.now, parts.1.now)) result ≡ json_parts self.now.serialized.now }
+        ensures { option_map (λ parts. (parts.0.now, parts.1.now)) result
+            ≡ json_parts self.now.serialized.now }
     {
         split_behind_zero(self.payload(Type::Json)?)
     }

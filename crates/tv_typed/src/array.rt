@@ -20,7 +20,11 @@ pub(crate) fn read_elements<T: ValueDeserialize, S: ByteSource>(
     announced: u64,
 ) -> Result<Vec<T>, DeserializeError>
     requires { reader.old.has_failed ≡ false }
-    ensures { Deserializes S.is_known S.left reader.old reader.new result (EncodesInto (λ items xs. items.items ≡ xs) (EncodesAs T.is (version_of reader.old.version)) announced) (InEach (NextRefused T.refused (version_of reader.old.version)) (EncodesAs T.is (version_of reader.old.version)) announced) }
+    ensures { Deserializes S.is_known S.left reader.old reader.new result
+        (EncodesInto (λ items xs. items.items ≡ xs) (EncodesAs T.is (version_of reader.old.version))
+            announced)
+        (InEach (NextRefused T.refused (version_of reader.old.version))
+            (EncodesAs T.is (version_of reader.old.version)) announced) }
 {
     let mut items = Vec::new(alloc);
     for _ in 0..announced {
@@ -55,8 +59,14 @@ impl<'de, S: ByteSource> BinaryArrayDeserializer<'de, S> {
     ) -> Result<Option<V>, DeserializeError>
         ensures same_reader { self.new.reader.ghost_name ≡ self.old.reader.ghost_name }
         ensures announced { self.new.announced ≡ self.old.announced }
-        ensures position { self.new.position ≡ self.old.position + (if gives_some result then 1 else 0) }
-        ensures deserializes { Deserializes S.is_known S.left self.old.reader.now self.new.reader.now result (NextItem (EncodesAs V.is (version_of self.old.reader.now.version)) self.old.position self.old.announced) (NextItemRefused (NextRefused V.refused (version_of self.old.reader.now.version)) self.old.position self.old.announced) }
+        ensures position { self.new.position
+            ≡ self.old.position + (if gives_some result then 1 else 0) }
+        ensures deserializes { Deserializes S.is_known S.left self.old.reader.now
+            self.new.reader.now result
+            (NextItem (EncodesAs V.is (version_of self.old.reader.now.version)) self.old.position
+                self.old.announced)
+            (NextItemRefused (NextRefused V.refused (version_of self.old.reader.now.version))
+                self.old.position self.old.announced) }
         ensures marks { OnErr result (self.new.reader.now.has_failed ≡ true) }
     {
         self.reader.go_on()?;

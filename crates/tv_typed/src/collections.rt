@@ -38,7 +38,12 @@ impl<T: ValueDeserialize> ValueDeserialize for Vec<T> {
         alloc: Global,
         deserializer: BinaryValueDeserializer<'_, S>,
     ) -> Result<Vec<T>, DeserializeError>
-        ensures deserializes { Deserializes S.is_known S.left deserializer.entry.reader.now deserializer.exit.1.0.now result (EncodedAs (λ t list. ArrayOf T.is t list.items) (version_of deserializer.entry.reader.now.version) deserializer.entry.kind) (ArrayRefused T.is T.refused (version_of deserializer.entry.reader.now.version) deserializer.entry.kind) }
+        ensures deserializes { Deserializes S.is_known S.left deserializer.entry.reader.now
+            deserializer.exit.1.0.now result
+            (EncodedAs (λ t list. ArrayOf T.is t list.items)
+                (version_of deserializer.entry.reader.now.version) deserializer.entry.kind)
+            (ArrayRefused T.is T.refused (version_of deserializer.entry.reader.now.version)
+                deserializer.entry.kind) }
         ensures marks { OnErr result (deserializer.exit.1.0.now.has_failed ≡ true) }
     {
         let BinaryValueDeserializer { kind, reader } = deserializer;
@@ -48,7 +53,8 @@ impl<T: ValueDeserialize> ValueDeserialize for Vec<T> {
         answer
     }
 
-    ghost excludes = { λ v kind prefix rest e t list refused encoded is. array_excludes T.is T.refused T.excludes v kind prefix rest e t list.items refused encoded is };
+    ghost excludes = { λ v kind prefix rest e t list refused encoded is. array_excludes T.is
+        T.refused T.excludes v kind prefix rest e t list.items refused encoded is };
 }
 
 impl<T: ValueDeserialize> CodedObject for Vec<(String, T)> {
@@ -61,7 +67,9 @@ impl<T: ValueDeserialize> CodedObject for Vec<(String, T)> {
         kind: ValueType,
         reader: &mut StoreReader<S>,
     ) -> Result<Vec<(String, T)>, DeserializeError>
-        ensures { Deserializes S.is_known S.left reader.old reader.new result (EncodedAs (λ t list. ObjectOf T.is t list.items) (version_of reader.old.version) kind) (ObjectRefused T.is T.refused (version_of reader.old.version) kind) }
+        ensures { Deserializes S.is_known S.left reader.old reader.new result
+            (EncodedAs (λ t list. ObjectOf T.is t list.items) (version_of reader.old.version) kind)
+            (ObjectRefused T.is T.refused (version_of reader.old.version) kind) }
     {
         let announced = reader.object_length(kind)?;
         let answer = read_entries(alloc, reader, announced);
@@ -79,7 +87,12 @@ impl<T: ValueDeserialize> ValueDeserialize for Vec<(String, T)> {
         alloc: Global,
         deserializer: BinaryValueDeserializer<'_, S>,
     ) -> Result<Vec<(String, T)>, DeserializeError>
-        ensures deserializes { Deserializes S.is_known S.left deserializer.entry.reader.now deserializer.exit.1.0.now result (EncodedAs (λ t list. ObjectOf T.is t list.items) (version_of deserializer.entry.reader.now.version) deserializer.entry.kind) (MembersRefused (ObjectRefused T.is T.refused) (version_of deserializer.entry.reader.now.version) deserializer.entry.kind) }
+        ensures deserializes { Deserializes S.is_known S.left deserializer.entry.reader.now
+            deserializer.exit.1.0.now result
+            (EncodedAs (λ t list. ObjectOf T.is t list.items)
+                (version_of deserializer.entry.reader.now.version) deserializer.entry.kind)
+            (MembersRefused (ObjectRefused T.is T.refused)
+                (version_of deserializer.entry.reader.now.version) deserializer.entry.kind) }
         ensures marks { OnErr result (deserializer.exit.1.0.now.has_failed ≡ true) }
     {
         let BinaryValueDeserializer { kind, reader } = deserializer;
@@ -88,7 +101,11 @@ impl<T: ValueDeserialize> ValueDeserialize for Vec<(String, T)> {
         answer
     }
 
-    ghost excludes = { λ v kind prefix rest e t list refused encoded is. members_exclude (ObjectRefused T.is T.refused) v kind prefix rest e t (λ f. object_excludes T.is T.refused T.excludes v kind prefix rest e t list.items f encoded is) refused encoded };
+    ghost excludes = { λ v kind prefix rest e t list refused encoded is. members_exclude
+        (ObjectRefused T.is T.refused) v kind prefix rest e t
+        (λ f. object_excludes T.is T.refused T.excludes v kind prefix rest e t list.items f encoded
+            is)
+        refused encoded };
 }
 
 impl<T: ValueDeserialize> CodedObject for BTreeMap<String, T> {
@@ -101,7 +118,10 @@ impl<T: ValueDeserialize> CodedObject for BTreeMap<String, T> {
         kind: ValueType,
         reader: &mut StoreReader<S>,
     ) -> Result<BTreeMap<String, T>, DeserializeError>
-        ensures { Deserializes S.is_known S.left reader.old reader.new result (EncodedAs (λ t map. MapOf T.is t (λ key. tree.get_by_text map key)) (version_of reader.old.version) kind) (ObjectRefused T.is T.refused (version_of reader.old.version) kind) }
+        ensures { Deserializes S.is_known S.left reader.old reader.new result
+            (EncodedAs (λ t map. MapOf T.is t (λ key. tree.get_by_text map key))
+                (version_of reader.old.version) kind)
+            (ObjectRefused T.is T.refused (version_of reader.old.version) kind) }
     {
         let announced = reader.object_length(kind)?;
         let answer = read_map(alloc, reader, announced);
@@ -119,7 +139,12 @@ impl<T: ValueDeserialize> ValueDeserialize for BTreeMap<String, T> {
         alloc: Global,
         deserializer: BinaryValueDeserializer<'_, S>,
     ) -> Result<BTreeMap<String, T>, DeserializeError>
-        ensures deserializes { Deserializes S.is_known S.left deserializer.entry.reader.now deserializer.exit.1.0.now result (EncodedAs (λ t map. MapOf T.is t (λ key. tree.get_by_text map key)) (version_of deserializer.entry.reader.now.version) deserializer.entry.kind) (MembersRefused (ObjectRefused T.is T.refused) (version_of deserializer.entry.reader.now.version) deserializer.entry.kind) }
+        ensures deserializes { Deserializes S.is_known S.left deserializer.entry.reader.now
+            deserializer.exit.1.0.now result
+            (EncodedAs (λ t map. MapOf T.is t (λ key. tree.get_by_text map key))
+                (version_of deserializer.entry.reader.now.version) deserializer.entry.kind)
+            (MembersRefused (ObjectRefused T.is T.refused)
+                (version_of deserializer.entry.reader.now.version) deserializer.entry.kind) }
         ensures marks { OnErr result (deserializer.exit.1.0.now.has_failed ≡ true) }
     {
         let BinaryValueDeserializer { kind, reader } = deserializer;
@@ -128,7 +153,11 @@ impl<T: ValueDeserialize> ValueDeserialize for BTreeMap<String, T> {
         answer
     }
 
-    ghost excludes = { λ v kind prefix rest e t map refused encoded is. members_exclude (ObjectRefused T.is T.refused) v kind prefix rest e t (λ f. object_excludes T.is T.refused T.excludes v kind prefix rest e t is.pairs f encoded is.read) refused encoded };
+    ghost excludes = { λ v kind prefix rest e t map refused encoded is. members_exclude
+        (ObjectRefused T.is T.refused) v kind prefix rest e t
+        (λ f. object_excludes T.is T.refused T.excludes v kind prefix rest e t is.pairs f encoded
+            is.read)
+        refused encoded };
 }
 
 impl<T: ValueDeserialize> CodedObject for HashMap<String, T> {
@@ -141,7 +170,10 @@ impl<T: ValueDeserialize> CodedObject for HashMap<String, T> {
         kind: ValueType,
         reader: &mut StoreReader<S>,
     ) -> Result<HashMap<String, T>, DeserializeError>
-        ensures { Deserializes S.is_known S.left reader.old reader.new result (EncodedAs (λ t map. MapOf T.is t (λ key. hash.get_by_text map key)) (version_of reader.old.version) kind) (ObjectRefused T.is T.refused (version_of reader.old.version) kind) }
+        ensures { Deserializes S.is_known S.left reader.old reader.new result
+            (EncodedAs (λ t map. MapOf T.is t (λ key. hash.get_by_text map key))
+                (version_of reader.old.version) kind)
+            (ObjectRefused T.is T.refused (version_of reader.old.version) kind) }
     {
         let announced = reader.object_length(kind)?;
         let answer = read_hashed(alloc, reader, announced);
@@ -159,7 +191,12 @@ impl<T: ValueDeserialize> ValueDeserialize for HashMap<String, T> {
         alloc: Global,
         deserializer: BinaryValueDeserializer<'_, S>,
     ) -> Result<HashMap<String, T>, DeserializeError>
-        ensures deserializes { Deserializes S.is_known S.left deserializer.entry.reader.now deserializer.exit.1.0.now result (EncodedAs (λ t map. MapOf T.is t (λ key. hash.get_by_text map key)) (version_of deserializer.entry.reader.now.version) deserializer.entry.kind) (MembersRefused (ObjectRefused T.is T.refused) (version_of deserializer.entry.reader.now.version) deserializer.entry.kind) }
+        ensures deserializes { Deserializes S.is_known S.left deserializer.entry.reader.now
+            deserializer.exit.1.0.now result
+            (EncodedAs (λ t map. MapOf T.is t (λ key. hash.get_by_text map key))
+                (version_of deserializer.entry.reader.now.version) deserializer.entry.kind)
+            (MembersRefused (ObjectRefused T.is T.refused)
+                (version_of deserializer.entry.reader.now.version) deserializer.entry.kind) }
         ensures marks { OnErr result (deserializer.exit.1.0.now.has_failed ≡ true) }
     {
         let BinaryValueDeserializer { kind, reader } = deserializer;
@@ -168,5 +205,9 @@ impl<T: ValueDeserialize> ValueDeserialize for HashMap<String, T> {
         answer
     }
 
-    ghost excludes = { λ v kind prefix rest e t map refused encoded is. members_exclude (ObjectRefused T.is T.refused) v kind prefix rest e t (λ f. object_excludes T.is T.refused T.excludes v kind prefix rest e t is.pairs f encoded is.read) refused encoded };
+    ghost excludes = { λ v kind prefix rest e t map refused encoded is. members_exclude
+        (ObjectRefused T.is T.refused) v kind prefix rest e t
+        (λ f. object_excludes T.is T.refused T.excludes v kind prefix rest e t is.pairs f encoded
+            is.read)
+        refused encoded };
 }

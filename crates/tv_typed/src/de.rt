@@ -2,18 +2,25 @@
 
 #![tactic(auto, using(tv_base::proofs::TakeSteps::Taken_then), unfolding(tv_reader::specs::Leaves::leaf_at))]
 
-ghost use Rattle.std.specs.Prelude.{◌≡◌, Ok, Err, IfOk, IfErr, string_bytes, map, true, List, [], ℕ, OnErr, refl, false, Result};
+ghost use Rattle.std.specs.Prelude.{
+    ◌≡◌, Ok, Err, IfOk, IfErr, string_bytes, map, true, List, [], ℕ, OnErr, refl, false, Result,
+};
 ghost use Rattle.std.specs.Borrow.{sem, RestsIfErr};
 ghost use Rattle.std.specs.Net.Addr.{ipv6_bits};
 ghost use Rattle.tv_reader.specs.ValueType.{coded, IsCoded};
 ghost use Rattle.tv_typed.specs.Typed.{Reads, Deserializes};
-ghost use Rattle.tv_typed.specs.Values.{CodeRefused, IsLeaf, IsTree, EncodesLeaf, LeafRefused, TreeRefused, Only, EncodesAs, EncodedAs, NextRefused, RefusalsExclude};
+ghost use Rattle.tv_typed.specs.Values.{
+    CodeRefused, IsLeaf, IsTree, EncodesLeaf, LeafRefused, TreeRefused, Only, EncodesAs, EncodedAs,
+    NextRefused, RefusalsExclude,
+};
 ghost use Rattle.tv_reader.specs.Trees.{EncodesBehind};
 ghost use Rattle.tv_reader.specs.Version.{version_of};
 ghost use Rattle.tv_reader.specs.declared.value_type.ValueType.{ValueType};
 ghost use Rattle.tv_reader.specs.declared.value_type.ValueType.TheVariants as types;
 ghost use Rattle.tv_value.specs.HeldTokens.{token_of};
-ghost use Rattle.tv_value.specs.Tree.{null, text, unsigned, signed, boolean, date, facet, bytes, ip_address, tokenized, Tree, Leaf};
+ghost use Rattle.tv_value.specs.Tree.{
+    null, text, unsigned, signed, boolean, date, facet, bytes, ip_address, tokenized, Tree, Leaf,
+};
 ghost use Rattle.tv_reader.specs.Leaves.{is_leaf_type};
 ghost use Rattle.tv_typed.specs.Excluding.{leaf_excludes, tree_excludes};
 ghost use Rattle.tv_typed.specs.Lists.{EncodesEntry, EntryRefused};
@@ -56,9 +63,15 @@ impl<'de, S: ByteSource> BinaryValueDeserializer<'de, S> {
     pub fn from_reader(
         reader: &'de mut StoreReader<S>,
     ) -> Result<BinaryValueDeserializer<'de, S>, DeserializeError>
-        ensures* rests { sem 𝓛 (RestsIfErr (the_row S.row) reader.entry (λ d. d.reader.ghost_name) result (λ now. IfErr result (λ e. Reads {X = ValueType} S.is_known S.left S.failures reader.entry.now now (Err e) IsCoded CodeRefused))) }
+        ensures* rests { sem 𝓛
+            (RestsIfErr (the_row S.row) reader.entry (λ d. d.reader.ghost_name) result
+                (λ now. IfErr result
+                    (λ e. Reads {X = ValueType} S.is_known S.left S.failures reader.entry.now now
+                        (Err e) IsCoded CodeRefused))) }
         ensures same_reader { IfOk result (λ d. d.reader.ghost_name ≡ reader.entry.ghost_name) }
-        ensures reads { IfOk result (λ d. Reads S.is_known S.left S.failures reader.entry.now d.reader.now (Ok d.kind) IsCoded CodeRefused) }
+        ensures reads { IfOk result
+            (λ d. Reads S.is_known S.left S.failures reader.entry.now d.reader.now (Ok d.kind)
+                IsCoded CodeRefused) }
     {
         let kind = reader.code()?;
         Ok(BinaryValueDeserializer { kind, reader })
@@ -69,8 +82,11 @@ impl<'de, S: ByteSource> BinaryValueDeserializer<'de, S> {
     /// Errors, the first error in reading order: `CorruptedValue`;
     /// `TypeMismatch` where in a key's place stands a value that isn't a text; `Io`; `Memory`; `AlreadyFailed`.
     pub fn deserialize_tree(self, alloc: Global) -> Result<OwnedValue, DeserializeError>
-        ensures reads { Reads S.is_known S.left S.failures self.entry.reader.now self.exit.1.0.now result (EncodesBehind (version_of self.entry.reader.now.version) self.entry.kind) (TreeRefused (version_of self.entry.reader.now.version) self.entry.kind) }
-        ensures only { Only S.is_known S.left self.entry.reader.now self.exit.1.0.now result IsTree (version_of self.entry.reader.now.version) (coded self.entry.kind) }
+        ensures reads { Reads S.is_known S.left S.failures self.entry.reader.now self.exit.1.0.now
+            result (EncodesBehind (version_of self.entry.reader.now.version) self.entry.kind)
+            (TreeRefused (version_of self.entry.reader.now.version) self.entry.kind) }
+        ensures only { Only S.is_known S.left self.entry.reader.now self.exit.1.0.now result IsTree
+            (version_of self.entry.reader.now.version) (coded self.entry.kind) }
     {
         let BinaryValueDeserializer { kind, reader } = self;
         reader.go_on()?;
@@ -82,8 +98,13 @@ impl<'de, S: ByteSource> BinaryValueDeserializer<'de, S> {
 
     /// Reads null.
     pub fn deserialize_null(self) -> Result<(), DeserializeError>
-        ensures reads { Reads S.is_known S.left S.failures self.entry.reader.now self.exit.1.0.now result (EncodesLeaf (version_of self.entry.reader.now.version) self.entry.kind (λ _. null)) (LeafRefused types.Null (version_of self.entry.reader.now.version) self.entry.kind) }
-        ensures only { Only S.is_known S.left self.entry.reader.now self.exit.1.0.now result (IsLeaf (λ _. null)) (version_of self.entry.reader.now.version) (coded self.entry.kind) }
+        ensures reads { Reads S.is_known S.left S.failures self.entry.reader.now self.exit.1.0.now
+            result
+            (EncodesLeaf (version_of self.entry.reader.now.version) self.entry.kind (λ _. null))
+            (LeafRefused types.Null (version_of self.entry.reader.now.version) self.entry.kind) }
+        ensures only { Only S.is_known S.left self.entry.reader.now self.exit.1.0.now result
+            (IsLeaf (λ _. null)) (version_of self.entry.reader.now.version)
+            (coded self.entry.kind) }
     {
         let BinaryValueDeserializer { kind, reader } = self;
         reader.leaf::<()>((), kind)
@@ -91,8 +112,14 @@ impl<'de, S: ByteSource> BinaryValueDeserializer<'de, S> {
 
     /// Reads a number from 0 to 2^64 - 1.
     pub fn deserialize_u64(self) -> Result<u64, DeserializeError>
-        ensures reads { Reads S.is_known S.left S.failures self.entry.reader.now self.exit.1.0.now result (EncodesLeaf (version_of self.entry.reader.now.version) self.entry.kind (λ n. unsigned n)) (LeafRefused types.U64 (version_of self.entry.reader.now.version) self.entry.kind) }
-        ensures only { Only S.is_known S.left self.entry.reader.now self.exit.1.0.now result (IsLeaf (λ n. unsigned n)) (version_of self.entry.reader.now.version) (coded self.entry.kind) }
+        ensures reads { Reads S.is_known S.left S.failures self.entry.reader.now self.exit.1.0.now
+            result
+            (EncodesLeaf (version_of self.entry.reader.now.version) self.entry.kind
+                (λ n. unsigned n))
+            (LeafRefused types.U64 (version_of self.entry.reader.now.version) self.entry.kind) }
+        ensures only { Only S.is_known S.left self.entry.reader.now self.exit.1.0.now result
+            (IsLeaf (λ n. unsigned n)) (version_of self.entry.reader.now.version)
+            (coded self.entry.kind) }
     {
         let BinaryValueDeserializer { kind, reader } = self;
         reader.leaf::<u64>((), kind)
@@ -100,8 +127,13 @@ impl<'de, S: ByteSource> BinaryValueDeserializer<'de, S> {
 
     /// Reads a number from -2^63 to 2^63 - 1.
     pub fn deserialize_i64(self) -> Result<i64, DeserializeError>
-        ensures reads { Reads S.is_known S.left S.failures self.entry.reader.now self.exit.1.0.now result (EncodesLeaf (version_of self.entry.reader.now.version) self.entry.kind (λ z. signed z)) (LeafRefused types.I64 (version_of self.entry.reader.now.version) self.entry.kind) }
-        ensures only { Only S.is_known S.left self.entry.reader.now self.exit.1.0.now result (IsLeaf (λ z. signed z)) (version_of self.entry.reader.now.version) (coded self.entry.kind) }
+        ensures reads { Reads S.is_known S.left S.failures self.entry.reader.now self.exit.1.0.now
+            result
+            (EncodesLeaf (version_of self.entry.reader.now.version) self.entry.kind (λ z. signed z))
+            (LeafRefused types.I64 (version_of self.entry.reader.now.version) self.entry.kind) }
+        ensures only { Only S.is_known S.left self.entry.reader.now self.exit.1.0.now result
+            (IsLeaf (λ z. signed z)) (version_of self.entry.reader.now.version)
+            (coded self.entry.kind) }
     {
         let BinaryValueDeserializer { kind, reader } = self;
         reader.leaf::<i64>((), kind)
@@ -109,8 +141,14 @@ impl<'de, S: ByteSource> BinaryValueDeserializer<'de, S> {
 
     /// Reads a truth value.
     pub fn deserialize_bool(self) -> Result<bool, DeserializeError>
-        ensures reads { Reads S.is_known S.left S.failures self.entry.reader.now self.exit.1.0.now result (EncodesLeaf (version_of self.entry.reader.now.version) self.entry.kind (λ b. boolean b)) (LeafRefused types.Bool (version_of self.entry.reader.now.version) self.entry.kind) }
-        ensures only { Only S.is_known S.left self.entry.reader.now self.exit.1.0.now result (IsLeaf (λ b. boolean b)) (version_of self.entry.reader.now.version) (coded self.entry.kind) }
+        ensures reads { Reads S.is_known S.left S.failures self.entry.reader.now self.exit.1.0.now
+            result
+            (EncodesLeaf (version_of self.entry.reader.now.version) self.entry.kind
+                (λ b. boolean b))
+            (LeafRefused types.Bool (version_of self.entry.reader.now.version) self.entry.kind) }
+        ensures only { Only S.is_known S.left self.entry.reader.now self.exit.1.0.now result
+            (IsLeaf (λ b. boolean b)) (version_of self.entry.reader.now.version)
+            (coded self.entry.kind) }
     {
         let BinaryValueDeserializer { kind, reader } = self;
         reader.leaf::<bool>((), kind)
@@ -118,8 +156,14 @@ impl<'de, S: ByteSource> BinaryValueDeserializer<'de, S> {
 
     /// Reads a text.
     pub fn deserialize_string(self, alloc: Global) -> Result<String, DeserializeError>
-        ensures reads { Reads S.is_known S.left S.failures self.entry.reader.now self.exit.1.0.now result (EncodesLeaf (version_of self.entry.reader.now.version) self.entry.kind (λ s. text (string_bytes s))) (LeafRefused types.String (version_of self.entry.reader.now.version) self.entry.kind) }
-        ensures only { Only S.is_known S.left self.entry.reader.now self.exit.1.0.now result (IsLeaf (λ s. text (string_bytes s))) (version_of self.entry.reader.now.version) (coded self.entry.kind) }
+        ensures reads { Reads S.is_known S.left S.failures self.entry.reader.now self.exit.1.0.now
+            result
+            (EncodesLeaf (version_of self.entry.reader.now.version) self.entry.kind
+                (λ s. text (string_bytes s)))
+            (LeafRefused types.String (version_of self.entry.reader.now.version) self.entry.kind) }
+        ensures only { Only S.is_known S.left self.entry.reader.now self.exit.1.0.now result
+            (IsLeaf (λ s. text (string_bytes s))) (version_of self.entry.reader.now.version)
+            (coded self.entry.kind) }
     {
         let BinaryValueDeserializer { kind, reader } = self;
         reader.leaf::<String>(alloc, kind)
@@ -127,8 +171,13 @@ impl<'de, S: ByteSource> BinaryValueDeserializer<'de, S> {
 
     /// Reads a facet.
     pub fn deserialize_facet(self, alloc: Global) -> Result<Facet, DeserializeError>
-        ensures reads { Reads S.is_known S.left S.failures self.entry.reader.now self.exit.1.0.now result (EncodesLeaf (version_of self.entry.reader.now.version) self.entry.kind (λ f. facet f)) (LeafRefused types.Facet (version_of self.entry.reader.now.version) self.entry.kind) }
-        ensures only { Only S.is_known S.left self.entry.reader.now self.exit.1.0.now result (IsLeaf (λ f. facet f)) (version_of self.entry.reader.now.version) (coded self.entry.kind) }
+        ensures reads { Reads S.is_known S.left S.failures self.entry.reader.now self.exit.1.0.now
+            result
+            (EncodesLeaf (version_of self.entry.reader.now.version) self.entry.kind (λ f. facet f))
+            (LeafRefused types.Facet (version_of self.entry.reader.now.version) self.entry.kind) }
+        ensures only { Only S.is_known S.left self.entry.reader.now self.exit.1.0.now result
+            (IsLeaf (λ f. facet f)) (version_of self.entry.reader.now.version)
+            (coded self.entry.kind) }
     {
         let BinaryValueDeserializer { kind, reader } = self;
         reader.leaf::<Facet>(alloc, kind)
@@ -136,8 +185,14 @@ impl<'de, S: ByteSource> BinaryValueDeserializer<'de, S> {
 
     /// Reads bytes.
     pub fn deserialize_bytes(self, alloc: Global) -> Result<Vec<u8>, DeserializeError>
-        ensures reads { Reads S.is_known S.left S.failures self.entry.reader.now self.exit.1.0.now result (EncodesLeaf (version_of self.entry.reader.now.version) self.entry.kind (λ v. bytes v.items)) (LeafRefused types.Bytes (version_of self.entry.reader.now.version) self.entry.kind) }
-        ensures only { Only S.is_known S.left self.entry.reader.now self.exit.1.0.now result (IsLeaf (λ v. bytes v.items)) (version_of self.entry.reader.now.version) (coded self.entry.kind) }
+        ensures reads { Reads S.is_known S.left S.failures self.entry.reader.now self.exit.1.0.now
+            result
+            (EncodesLeaf (version_of self.entry.reader.now.version) self.entry.kind
+                (λ v. bytes v.items))
+            (LeafRefused types.Bytes (version_of self.entry.reader.now.version) self.entry.kind) }
+        ensures only { Only S.is_known S.left self.entry.reader.now self.exit.1.0.now result
+            (IsLeaf (λ v. bytes v.items)) (version_of self.entry.reader.now.version)
+            (coded self.entry.kind) }
     {
         let BinaryValueDeserializer { kind, reader } = self;
         reader.leaf::<Vec<u8>>(alloc, kind)
@@ -145,8 +200,15 @@ impl<'de, S: ByteSource> BinaryValueDeserializer<'de, S> {
 
     /// Reads a date: microseconds in version 1, and nanoseconds in version 2.
     pub fn deserialize_datetime(self) -> Result<DateTime, DeserializeError>
-        ensures reads { Reads S.is_known S.left S.failures self.entry.reader.now self.exit.1.0.now result (EncodesLeaf (version_of self.entry.reader.now.version) self.entry.kind (λ d. date d.nanoseconds)) (LeafRefused types.DateTime (version_of self.entry.reader.now.version) self.entry.kind) }
-        ensures only { Only S.is_known S.left self.entry.reader.now self.exit.1.0.now result (IsLeaf (λ d. date d.nanoseconds)) (version_of self.entry.reader.now.version) (coded self.entry.kind) }
+        ensures reads { Reads S.is_known S.left S.failures self.entry.reader.now self.exit.1.0.now
+            result
+            (EncodesLeaf (version_of self.entry.reader.now.version) self.entry.kind
+                (λ d. date d.nanoseconds))
+            (LeafRefused types.DateTime (version_of self.entry.reader.now.version)
+                self.entry.kind) }
+        ensures only { Only S.is_known S.left self.entry.reader.now self.exit.1.0.now result
+            (IsLeaf (λ d. date d.nanoseconds)) (version_of self.entry.reader.now.version)
+            (coded self.entry.kind) }
     {
         let BinaryValueDeserializer { kind, reader } = self;
         reader.leaf::<DateTime>((), kind)
@@ -154,8 +216,14 @@ impl<'de, S: ByteSource> BinaryValueDeserializer<'de, S> {
 
     /// Reads an IP address.
     pub fn deserialize_ip_address(self) -> Result<Ipv6Addr, DeserializeError>
-        ensures reads { Reads S.is_known S.left S.failures self.entry.reader.now self.exit.1.0.now result (EncodesLeaf (version_of self.entry.reader.now.version) self.entry.kind (λ a. ip_address (ipv6_bits a))) (LeafRefused types.IpAddr (version_of self.entry.reader.now.version) self.entry.kind) }
-        ensures only { Only S.is_known S.left self.entry.reader.now self.exit.1.0.now result (IsLeaf (λ a. ip_address (ipv6_bits a))) (version_of self.entry.reader.now.version) (coded self.entry.kind) }
+        ensures reads { Reads S.is_known S.left S.failures self.entry.reader.now self.exit.1.0.now
+            result
+            (EncodesLeaf (version_of self.entry.reader.now.version) self.entry.kind
+                (λ a. ip_address (ipv6_bits a)))
+            (LeafRefused types.IpAddr (version_of self.entry.reader.now.version) self.entry.kind) }
+        ensures only { Only S.is_known S.left self.entry.reader.now self.exit.1.0.now result
+            (IsLeaf (λ a. ip_address (ipv6_bits a))) (version_of self.entry.reader.now.version)
+            (coded self.entry.kind) }
     {
         let BinaryValueDeserializer { kind, reader } = self;
         reader.leaf::<Ipv6Addr>((), kind)
@@ -166,8 +234,15 @@ impl<'de, S: ByteSource> BinaryValueDeserializer<'de, S> {
         self,
         alloc: Global,
     ) -> Result<PreTokenizedString, DeserializeError>
-        ensures reads { Reads S.is_known S.left S.failures self.entry.reader.now self.exit.1.0.now result (EncodesLeaf (version_of self.entry.reader.now.version) self.entry.kind (λ s. tokenized (string_bytes s.text) (map token_of s.tokens.items))) (LeafRefused types.PreTokStr (version_of self.entry.reader.now.version) self.entry.kind) }
-        ensures only { Only S.is_known S.left self.entry.reader.now self.exit.1.0.now result (IsLeaf (λ s. tokenized (string_bytes s.text) (map token_of s.tokens.items))) (version_of self.entry.reader.now.version) (coded self.entry.kind) }
+        ensures reads { Reads S.is_known S.left S.failures self.entry.reader.now self.exit.1.0.now
+            result
+            (EncodesLeaf (version_of self.entry.reader.now.version) self.entry.kind
+                (λ s. tokenized (string_bytes s.text) (map token_of s.tokens.items)))
+            (LeafRefused types.PreTokStr (version_of self.entry.reader.now.version)
+                self.entry.kind) }
+        ensures only { Only S.is_known S.left self.entry.reader.now self.exit.1.0.now result
+            (IsLeaf (λ s. tokenized (string_bytes s.text) (map token_of s.tokens.items)))
+            (version_of self.entry.reader.now.version) (coded self.entry.kind) }
     {
         let BinaryValueDeserializer { kind, reader } = self;
         reader.leaf::<PreTokenizedString>(alloc, kind)
@@ -187,7 +262,11 @@ pub trait ValueDeserialize: Sized + Drop {
         alloc: Global,
         deserializer: BinaryValueDeserializer<'_, S>,
     ) -> Result<Self, DeserializeError>
-        ensures deserializes { Deserializes S.is_known S.left deserializer.entry.reader.now deserializer.exit.1.0.now result (EncodedAs is (version_of deserializer.entry.reader.now.version) deserializer.entry.kind) (refused (version_of deserializer.entry.reader.now.version) deserializer.entry.kind) };
+        ensures deserializes { Deserializes S.is_known S.left deserializer.entry.reader.now
+            deserializer.exit.1.0.now result
+            (EncodedAs is (version_of deserializer.entry.reader.now.version)
+                deserializer.entry.kind)
+            (refused (version_of deserializer.entry.reader.now.version) deserializer.entry.kind) };
 
     /// Where bytes behind the code of a type are refused, no prefix of them encodes a tree of which a value is read.
     ghost excludes: { RefusalsExclude is refused };
@@ -197,8 +276,11 @@ impl<S: ByteSource> StoreReader<S> {
     /// Reads the next value: its code, and what stands behind it. Errors: those of `BinaryValueDeserializer::from_reader` and of
     /// the type's own `deserialize`. Each is marked, whoever it is of, so that every later read returns `AlreadyFailed`.
     pub fn read<V: ValueDeserialize>(&mut self, alloc: Global) -> Result<V, DeserializeError>
-        ensures deserializes { Deserializes S.is_known S.left self.old self.new result (EncodesAs V.is (version_of self.old.version)) (NextRefused V.refused (version_of self.old.version)) }
-        ensures only { Only S.is_known S.left self.old self.new result V.is (version_of self.old.version) [] }
+        ensures deserializes { Deserializes S.is_known S.left self.old self.new result
+            (EncodesAs V.is (version_of self.old.version))
+            (NextRefused V.refused (version_of self.old.version)) }
+        ensures only { Only S.is_known S.left self.old self.new result V.is
+            (version_of self.old.version) [] }
         ensures marks { OnErr result (self.new.has_failed ≡ true) }
     {
         let kind = self.code()?;
@@ -216,7 +298,9 @@ impl<S: ByteSource> StoreReader<S> {
         &mut self,
         alloc: Global,
     ) -> Result<(String, V), DeserializeError>
-        ensures deserializes { Deserializes S.is_known S.left self.old self.new result (EncodesEntry V.is (version_of self.old.version)) (EntryRefused V.refused (version_of self.old.version)) }
+        ensures deserializes { Deserializes S.is_known S.left self.old self.new result
+            (EncodesEntry V.is (version_of self.old.version))
+            (EntryRefused V.refused (version_of self.old.version)) }
         ensures marks { OnErr result (self.new.has_failed ≡ true) }
     {
         let key = self.key(alloc)?;
@@ -234,14 +318,25 @@ impl ValueDeserialize for u64 {
         _alloc: Global,
         deserializer: BinaryValueDeserializer<'_, S>,
     ) -> Result<u64, DeserializeError>
-        ensures deserializes { Deserializes S.is_known S.left deserializer.entry.reader.now deserializer.exit.1.0.now result (EncodedAs (IsLeaf (λ n. unsigned n)) (version_of deserializer.entry.reader.now.version) deserializer.entry.kind) (LeafRefused types.U64 (version_of deserializer.entry.reader.now.version) deserializer.entry.kind) }
-        ensures reads { Reads S.is_known S.left S.failures deserializer.entry.reader.now deserializer.exit.1.0.now result (EncodesLeaf (version_of deserializer.entry.reader.now.version) deserializer.entry.kind (λ n. unsigned n)) (LeafRefused types.U64 (version_of deserializer.entry.reader.now.version) deserializer.entry.kind) }
+        ensures deserializes { Deserializes S.is_known S.left deserializer.entry.reader.now
+            deserializer.exit.1.0.now result
+            (EncodedAs (IsLeaf (λ n. unsigned n)) (version_of deserializer.entry.reader.now.version)
+                deserializer.entry.kind)
+            (LeafRefused types.U64 (version_of deserializer.entry.reader.now.version)
+                deserializer.entry.kind) }
+        ensures reads { Reads S.is_known S.left S.failures deserializer.entry.reader.now
+            deserializer.exit.1.0.now result
+            (EncodesLeaf (version_of deserializer.entry.reader.now.version) deserializer.entry.kind
+                (λ n. unsigned n))
+            (LeafRefused types.U64 (version_of deserializer.entry.reader.now.version)
+                deserializer.entry.kind) }
     {
         let BinaryValueDeserializer { kind, reader } = deserializer;
         reader.leaf::<u64>((), kind)
     }
 
-    ghost excludes = { λ v kind prefix rest e t n refused encoded is. leaf_excludes types.U64 (unsigned n) refl v kind prefix rest e t refused encoded is };
+    ghost excludes = { λ v kind prefix rest e t n refused encoded is. leaf_excludes types.U64
+        (unsigned n) refl v kind prefix rest e t refused encoded is };
 }
 
 impl ValueDeserialize for i64 {
@@ -253,14 +348,25 @@ impl ValueDeserialize for i64 {
         _alloc: Global,
         deserializer: BinaryValueDeserializer<'_, S>,
     ) -> Result<i64, DeserializeError>
-        ensures deserializes { Deserializes S.is_known S.left deserializer.entry.reader.now deserializer.exit.1.0.now result (EncodedAs (IsLeaf (λ z. signed z)) (version_of deserializer.entry.reader.now.version) deserializer.entry.kind) (LeafRefused types.I64 (version_of deserializer.entry.reader.now.version) deserializer.entry.kind) }
-        ensures reads { Reads S.is_known S.left S.failures deserializer.entry.reader.now deserializer.exit.1.0.now result (EncodesLeaf (version_of deserializer.entry.reader.now.version) deserializer.entry.kind (λ z. signed z)) (LeafRefused types.I64 (version_of deserializer.entry.reader.now.version) deserializer.entry.kind) }
+        ensures deserializes { Deserializes S.is_known S.left deserializer.entry.reader.now
+            deserializer.exit.1.0.now result
+            (EncodedAs (IsLeaf (λ z. signed z)) (version_of deserializer.entry.reader.now.version)
+                deserializer.entry.kind)
+            (LeafRefused types.I64 (version_of deserializer.entry.reader.now.version)
+                deserializer.entry.kind) }
+        ensures reads { Reads S.is_known S.left S.failures deserializer.entry.reader.now
+            deserializer.exit.1.0.now result
+            (EncodesLeaf (version_of deserializer.entry.reader.now.version) deserializer.entry.kind
+                (λ z. signed z))
+            (LeafRefused types.I64 (version_of deserializer.entry.reader.now.version)
+                deserializer.entry.kind) }
     {
         let BinaryValueDeserializer { kind, reader } = deserializer;
         reader.leaf::<i64>((), kind)
     }
 
-    ghost excludes = { λ v kind prefix rest e t z refused encoded is. leaf_excludes types.I64 (signed z) refl v kind prefix rest e t refused encoded is };
+    ghost excludes = { λ v kind prefix rest e t z refused encoded is. leaf_excludes types.I64
+        (signed z) refl v kind prefix rest e t refused encoded is };
 }
 
 impl ValueDeserialize for bool {
@@ -272,14 +378,25 @@ impl ValueDeserialize for bool {
         _alloc: Global,
         deserializer: BinaryValueDeserializer<'_, S>,
     ) -> Result<bool, DeserializeError>
-        ensures deserializes { Deserializes S.is_known S.left deserializer.entry.reader.now deserializer.exit.1.0.now result (EncodedAs (IsLeaf (λ b. boolean b)) (version_of deserializer.entry.reader.now.version) deserializer.entry.kind) (LeafRefused types.Bool (version_of deserializer.entry.reader.now.version) deserializer.entry.kind) }
-        ensures reads { Reads S.is_known S.left S.failures deserializer.entry.reader.now deserializer.exit.1.0.now result (EncodesLeaf (version_of deserializer.entry.reader.now.version) deserializer.entry.kind (λ b. boolean b)) (LeafRefused types.Bool (version_of deserializer.entry.reader.now.version) deserializer.entry.kind) }
+        ensures deserializes { Deserializes S.is_known S.left deserializer.entry.reader.now
+            deserializer.exit.1.0.now result
+            (EncodedAs (IsLeaf (λ b. boolean b)) (version_of deserializer.entry.reader.now.version)
+                deserializer.entry.kind)
+            (LeafRefused types.Bool (version_of deserializer.entry.reader.now.version)
+                deserializer.entry.kind) }
+        ensures reads { Reads S.is_known S.left S.failures deserializer.entry.reader.now
+            deserializer.exit.1.0.now result
+            (EncodesLeaf (version_of deserializer.entry.reader.now.version) deserializer.entry.kind
+                (λ b. boolean b))
+            (LeafRefused types.Bool (version_of deserializer.entry.reader.now.version)
+                deserializer.entry.kind) }
     {
         let BinaryValueDeserializer { kind, reader } = deserializer;
         reader.leaf::<bool>((), kind)
     }
 
-    ghost excludes = { λ v kind prefix rest e t b refused encoded is. leaf_excludes types.Bool (boolean b) refl v kind prefix rest e t refused encoded is };
+    ghost excludes = { λ v kind prefix rest e t b refused encoded is. leaf_excludes types.Bool
+        (boolean b) refl v kind prefix rest e t refused encoded is };
 }
 
 impl ValueDeserialize for String {
@@ -291,14 +408,25 @@ impl ValueDeserialize for String {
         alloc: Global,
         deserializer: BinaryValueDeserializer<'_, S>,
     ) -> Result<String, DeserializeError>
-        ensures deserializes { Deserializes S.is_known S.left deserializer.entry.reader.now deserializer.exit.1.0.now result (EncodedAs (IsLeaf (λ s. text (string_bytes s))) (version_of deserializer.entry.reader.now.version) deserializer.entry.kind) (LeafRefused types.String (version_of deserializer.entry.reader.now.version) deserializer.entry.kind) }
-        ensures reads { Reads S.is_known S.left S.failures deserializer.entry.reader.now deserializer.exit.1.0.now result (EncodesLeaf (version_of deserializer.entry.reader.now.version) deserializer.entry.kind (λ s. text (string_bytes s))) (LeafRefused types.String (version_of deserializer.entry.reader.now.version) deserializer.entry.kind) }
+        ensures deserializes { Deserializes S.is_known S.left deserializer.entry.reader.now
+            deserializer.exit.1.0.now result
+            (EncodedAs (IsLeaf (λ s. text (string_bytes s)))
+                (version_of deserializer.entry.reader.now.version) deserializer.entry.kind)
+            (LeafRefused types.String (version_of deserializer.entry.reader.now.version)
+                deserializer.entry.kind) }
+        ensures reads { Reads S.is_known S.left S.failures deserializer.entry.reader.now
+            deserializer.exit.1.0.now result
+            (EncodesLeaf (version_of deserializer.entry.reader.now.version) deserializer.entry.kind
+                (λ s. text (string_bytes s)))
+            (LeafRefused types.String (version_of deserializer.entry.reader.now.version)
+                deserializer.entry.kind) }
     {
         let BinaryValueDeserializer { kind, reader } = deserializer;
         reader.leaf::<String>(alloc, kind)
     }
 
-    ghost excludes = { λ v kind prefix rest e t s refused encoded is. leaf_excludes types.String (text (string_bytes s)) refl v kind prefix rest e t refused encoded is };
+    ghost excludes = { λ v kind prefix rest e t s refused encoded is. leaf_excludes types.String
+        (text (string_bytes s)) refl v kind prefix rest e t refused encoded is };
 }
 
 impl ValueDeserialize for Facet {
@@ -310,14 +438,25 @@ impl ValueDeserialize for Facet {
         alloc: Global,
         deserializer: BinaryValueDeserializer<'_, S>,
     ) -> Result<Facet, DeserializeError>
-        ensures deserializes { Deserializes S.is_known S.left deserializer.entry.reader.now deserializer.exit.1.0.now result (EncodedAs (IsLeaf (λ f. facet f)) (version_of deserializer.entry.reader.now.version) deserializer.entry.kind) (LeafRefused types.Facet (version_of deserializer.entry.reader.now.version) deserializer.entry.kind) }
-        ensures reads { Reads S.is_known S.left S.failures deserializer.entry.reader.now deserializer.exit.1.0.now result (EncodesLeaf (version_of deserializer.entry.reader.now.version) deserializer.entry.kind (λ f. facet f)) (LeafRefused types.Facet (version_of deserializer.entry.reader.now.version) deserializer.entry.kind) }
+        ensures deserializes { Deserializes S.is_known S.left deserializer.entry.reader.now
+            deserializer.exit.1.0.now result
+            (EncodedAs (IsLeaf (λ f. facet f)) (version_of deserializer.entry.reader.now.version)
+                deserializer.entry.kind)
+            (LeafRefused types.Facet (version_of deserializer.entry.reader.now.version)
+                deserializer.entry.kind) }
+        ensures reads { Reads S.is_known S.left S.failures deserializer.entry.reader.now
+            deserializer.exit.1.0.now result
+            (EncodesLeaf (version_of deserializer.entry.reader.now.version) deserializer.entry.kind
+                (λ f. facet f))
+            (LeafRefused types.Facet (version_of deserializer.entry.reader.now.version)
+                deserializer.entry.kind) }
     {
         let BinaryValueDeserializer { kind, reader } = deserializer;
         reader.leaf::<Facet>(alloc, kind)
     }
 
-    ghost excludes = { λ v kind prefix rest e t f refused encoded is. leaf_excludes types.Facet (facet f) refl v kind prefix rest e t refused encoded is };
+    ghost excludes = { λ v kind prefix rest e t f refused encoded is. leaf_excludes types.Facet
+        (facet f) refl v kind prefix rest e t refused encoded is };
 }
 
 impl ValueDeserialize for Vec<u8> {
@@ -329,14 +468,25 @@ impl ValueDeserialize for Vec<u8> {
         alloc: Global,
         deserializer: BinaryValueDeserializer<'_, S>,
     ) -> Result<Vec<u8>, DeserializeError>
-        ensures deserializes { Deserializes S.is_known S.left deserializer.entry.reader.now deserializer.exit.1.0.now result (EncodedAs (IsLeaf (λ v. bytes v.items)) (version_of deserializer.entry.reader.now.version) deserializer.entry.kind) (LeafRefused types.Bytes (version_of deserializer.entry.reader.now.version) deserializer.entry.kind) }
-        ensures reads { Reads S.is_known S.left S.failures deserializer.entry.reader.now deserializer.exit.1.0.now result (EncodesLeaf (version_of deserializer.entry.reader.now.version) deserializer.entry.kind (λ v. bytes v.items)) (LeafRefused types.Bytes (version_of deserializer.entry.reader.now.version) deserializer.entry.kind) }
+        ensures deserializes { Deserializes S.is_known S.left deserializer.entry.reader.now
+            deserializer.exit.1.0.now result
+            (EncodedAs (IsLeaf (λ v. bytes v.items))
+                (version_of deserializer.entry.reader.now.version) deserializer.entry.kind)
+            (LeafRefused types.Bytes (version_of deserializer.entry.reader.now.version)
+                deserializer.entry.kind) }
+        ensures reads { Reads S.is_known S.left S.failures deserializer.entry.reader.now
+            deserializer.exit.1.0.now result
+            (EncodesLeaf (version_of deserializer.entry.reader.now.version) deserializer.entry.kind
+                (λ v. bytes v.items))
+            (LeafRefused types.Bytes (version_of deserializer.entry.reader.now.version)
+                deserializer.entry.kind) }
     {
         let BinaryValueDeserializer { kind, reader } = deserializer;
         reader.leaf::<Vec<u8>>(alloc, kind)
     }
 
-    ghost excludes = { λ v kind prefix rest e t list refused encoded is. leaf_excludes types.Bytes (bytes list.items) refl v kind prefix rest e t refused encoded is };
+    ghost excludes = { λ v kind prefix rest e t list refused encoded is. leaf_excludes types.Bytes
+        (bytes list.items) refl v kind prefix rest e t refused encoded is };
 }
 
 impl ValueDeserialize for DateTime {
@@ -348,14 +498,25 @@ impl ValueDeserialize for DateTime {
         _alloc: Global,
         deserializer: BinaryValueDeserializer<'_, S>,
     ) -> Result<DateTime, DeserializeError>
-        ensures deserializes { Deserializes S.is_known S.left deserializer.entry.reader.now deserializer.exit.1.0.now result (EncodedAs (IsLeaf (λ d. date d.nanoseconds)) (version_of deserializer.entry.reader.now.version) deserializer.entry.kind) (LeafRefused types.DateTime (version_of deserializer.entry.reader.now.version) deserializer.entry.kind) }
-        ensures reads { Reads S.is_known S.left S.failures deserializer.entry.reader.now deserializer.exit.1.0.now result (EncodesLeaf (version_of deserializer.entry.reader.now.version) deserializer.entry.kind (λ d. date d.nanoseconds)) (LeafRefused types.DateTime (version_of deserializer.entry.reader.now.version) deserializer.entry.kind) }
+        ensures deserializes { Deserializes S.is_known S.left deserializer.entry.reader.now
+            deserializer.exit.1.0.now result
+            (EncodedAs (IsLeaf (λ d. date d.nanoseconds))
+                (version_of deserializer.entry.reader.now.version) deserializer.entry.kind)
+            (LeafRefused types.DateTime (version_of deserializer.entry.reader.now.version)
+                deserializer.entry.kind) }
+        ensures reads { Reads S.is_known S.left S.failures deserializer.entry.reader.now
+            deserializer.exit.1.0.now result
+            (EncodesLeaf (version_of deserializer.entry.reader.now.version) deserializer.entry.kind
+                (λ d. date d.nanoseconds))
+            (LeafRefused types.DateTime (version_of deserializer.entry.reader.now.version)
+                deserializer.entry.kind) }
     {
         let BinaryValueDeserializer { kind, reader } = deserializer;
         reader.leaf::<DateTime>((), kind)
     }
 
-    ghost excludes = { λ v kind prefix rest e t d refused encoded is. leaf_excludes types.DateTime (date d.nanoseconds) refl v kind prefix rest e t refused encoded is };
+    ghost excludes = { λ v kind prefix rest e t d refused encoded is. leaf_excludes types.DateTime
+        (date d.nanoseconds) refl v kind prefix rest e t refused encoded is };
 }
 
 impl ValueDeserialize for Ipv6Addr {
@@ -367,14 +528,25 @@ impl ValueDeserialize for Ipv6Addr {
         _alloc: Global,
         deserializer: BinaryValueDeserializer<'_, S>,
     ) -> Result<Ipv6Addr, DeserializeError>
-        ensures deserializes { Deserializes S.is_known S.left deserializer.entry.reader.now deserializer.exit.1.0.now result (EncodedAs (IsLeaf (λ a. ip_address (ipv6_bits a))) (version_of deserializer.entry.reader.now.version) deserializer.entry.kind) (LeafRefused types.IpAddr (version_of deserializer.entry.reader.now.version) deserializer.entry.kind) }
-        ensures reads { Reads S.is_known S.left S.failures deserializer.entry.reader.now deserializer.exit.1.0.now result (EncodesLeaf (version_of deserializer.entry.reader.now.version) deserializer.entry.kind (λ a. ip_address (ipv6_bits a))) (LeafRefused types.IpAddr (version_of deserializer.entry.reader.now.version) deserializer.entry.kind) }
+        ensures deserializes { Deserializes S.is_known S.left deserializer.entry.reader.now
+            deserializer.exit.1.0.now result
+            (EncodedAs (IsLeaf (λ a. ip_address (ipv6_bits a)))
+                (version_of deserializer.entry.reader.now.version) deserializer.entry.kind)
+            (LeafRefused types.IpAddr (version_of deserializer.entry.reader.now.version)
+                deserializer.entry.kind) }
+        ensures reads { Reads S.is_known S.left S.failures deserializer.entry.reader.now
+            deserializer.exit.1.0.now result
+            (EncodesLeaf (version_of deserializer.entry.reader.now.version) deserializer.entry.kind
+                (λ a. ip_address (ipv6_bits a)))
+            (LeafRefused types.IpAddr (version_of deserializer.entry.reader.now.version)
+                deserializer.entry.kind) }
     {
         let BinaryValueDeserializer { kind, reader } = deserializer;
         reader.leaf::<Ipv6Addr>((), kind)
     }
 
-    ghost excludes = { λ v kind prefix rest e t a refused encoded is. leaf_excludes types.IpAddr (ip_address (ipv6_bits a)) refl v kind prefix rest e t refused encoded is };
+    ghost excludes = { λ v kind prefix rest e t a refused encoded is. leaf_excludes types.IpAddr
+        (ip_address (ipv6_bits a)) refl v kind prefix rest e t refused encoded is };
 }
 
 impl ValueDeserialize for PreTokenizedString {
@@ -386,14 +558,26 @@ impl ValueDeserialize for PreTokenizedString {
         alloc: Global,
         deserializer: BinaryValueDeserializer<'_, S>,
     ) -> Result<PreTokenizedString, DeserializeError>
-        ensures deserializes { Deserializes S.is_known S.left deserializer.entry.reader.now deserializer.exit.1.0.now result (EncodedAs (IsLeaf (λ s. tokenized (string_bytes s.text) (map token_of s.tokens.items))) (version_of deserializer.entry.reader.now.version) deserializer.entry.kind) (LeafRefused types.PreTokStr (version_of deserializer.entry.reader.now.version) deserializer.entry.kind) }
-        ensures reads { Reads S.is_known S.left S.failures deserializer.entry.reader.now deserializer.exit.1.0.now result (EncodesLeaf (version_of deserializer.entry.reader.now.version) deserializer.entry.kind (λ s. tokenized (string_bytes s.text) (map token_of s.tokens.items))) (LeafRefused types.PreTokStr (version_of deserializer.entry.reader.now.version) deserializer.entry.kind) }
+        ensures deserializes { Deserializes S.is_known S.left deserializer.entry.reader.now
+            deserializer.exit.1.0.now result
+            (EncodedAs (IsLeaf (λ s. tokenized (string_bytes s.text) (map token_of s.tokens.items)))
+                (version_of deserializer.entry.reader.now.version) deserializer.entry.kind)
+            (LeafRefused types.PreTokStr (version_of deserializer.entry.reader.now.version)
+                deserializer.entry.kind) }
+        ensures reads { Reads S.is_known S.left S.failures deserializer.entry.reader.now
+            deserializer.exit.1.0.now result
+            (EncodesLeaf (version_of deserializer.entry.reader.now.version) deserializer.entry.kind
+                (λ s. tokenized (string_bytes s.text) (map token_of s.tokens.items)))
+            (LeafRefused types.PreTokStr (version_of deserializer.entry.reader.now.version)
+                deserializer.entry.kind) }
     {
         let BinaryValueDeserializer { kind, reader } = deserializer;
         reader.leaf::<PreTokenizedString>(alloc, kind)
     }
 
-    ghost excludes = { λ v kind prefix rest e t s refused encoded is. leaf_excludes types.PreTokStr (tokenized (string_bytes s.text) (map token_of s.tokens.items)) refl v kind prefix rest e t refused encoded is };
+    ghost excludes = { λ v kind prefix rest e t s refused encoded is. leaf_excludes types.PreTokStr
+        (tokenized (string_bytes s.text) (map token_of s.tokens.items)) refl v kind prefix rest e t
+        refused encoded is };
 }
 
 impl ValueDeserialize for OwnedValue {
@@ -405,8 +589,18 @@ impl ValueDeserialize for OwnedValue {
         alloc: Global,
         deserializer: BinaryValueDeserializer<'_, S>,
     ) -> Result<OwnedValue, DeserializeError>
-        ensures deserializes { Deserializes S.is_known S.left deserializer.entry.reader.now deserializer.exit.1.0.now result (EncodedAs IsTree (version_of deserializer.entry.reader.now.version) deserializer.entry.kind) (TreeRefused (version_of deserializer.entry.reader.now.version) deserializer.entry.kind) }
-        ensures reads { Reads S.is_known S.left S.failures deserializer.entry.reader.now deserializer.exit.1.0.now result (EncodesBehind (version_of deserializer.entry.reader.now.version) deserializer.entry.kind) (TreeRefused (version_of deserializer.entry.reader.now.version) deserializer.entry.kind) }
+        ensures deserializes { Deserializes S.is_known S.left deserializer.entry.reader.now
+            deserializer.exit.1.0.now result
+            (EncodedAs IsTree (version_of deserializer.entry.reader.now.version)
+                deserializer.entry.kind)
+            (TreeRefused (version_of deserializer.entry.reader.now.version)
+                deserializer.entry.kind) }
+        ensures reads { Reads S.is_known S.left S.failures deserializer.entry.reader.now
+            deserializer.exit.1.0.now result
+            (EncodesBehind (version_of deserializer.entry.reader.now.version)
+                deserializer.entry.kind)
+            (TreeRefused (version_of deserializer.entry.reader.now.version)
+                deserializer.entry.kind) }
     {
         deserializer.deserialize_tree(alloc)
     }
@@ -466,7 +660,8 @@ pub trait ValueVisitor {
         &self,
         value: PreTokenizedString,
     ) -> Result<Self::Value, DeserializeError>
-        ensures { answers self.now (tokenized (string_bytes value.text) (map token_of value.tokens.items)) result };
+        ensures { answers self.now
+            (tokenized (string_bytes value.text) (map token_of value.tokens.items)) result };
 
     /// An array stands there, whose number of values was read. Where a visitor takes none, it returns `UnsupportedType`.
     fn visit_array<S: ByteSource>(
@@ -777,7 +972,9 @@ impl<S: ByteSource> StoreReader<S> {
         kind: ValueType,
         visitor: &V,
     ) -> Result<V::Value, DeserializeError>
-        ensures { is_leaf_type kind ≡ true → Visits S.is_known S.left S.failures self.old self.new kind (V.answers visitor.now) result }
+        ensures { is_leaf_type kind ≡ true
+            → Visits S.is_known S.left S.failures self.old self.new kind (V.answers visitor.now)
+                result }
     {
         match kind {
             ValueType::Null => self.visit_one::<(), V>((), kind, visitor),

@@ -1,6 +1,8 @@
 //! Documents in a store, whose pairs are read one after the other.
 
-ghost use Rattle.std.specs.Prelude.{◌≡◌, ◌+◌, ◌-◌, List, ℕ, false, true, Ok, Err, OnErr, IfOk, IfErr, if◌then◌else◌};
+ghost use Rattle.std.specs.Prelude.{
+    ◌≡◌, ◌+◌, ◌-◌, List, ℕ, false, true, Ok, Err, OnErr, IfOk, IfErr, if◌then◌else◌,
+};
 ghost use Rattle.std.specs.Borrow.{sem, RestsIfErr};
 ghost use Rattle.tv_base.specs.Number.{VNum};
 ghost use Rattle.tv_reader.specs.Version.{version_of};
@@ -9,7 +11,10 @@ ghost use Rattle.tv_reader.specs.declared.value_type.ValueType.{ValueType};
 ghost use Rattle.tv_value.specs.InputError.{SmallField};
 ghost use Rattle.tv_value.specs.Tree.{Tree};
 ghost use Rattle.tv_value.specs.Version.{Version};
-ghost use Rattle.tv_typed.specs.Documents.{NextField, GivesPair, RefusesPair, EncodesField, FieldRefused, FieldNumberRefused, NumberRefused};
+ghost use Rattle.tv_typed.specs.Documents.{
+    NextField, GivesPair, RefusesPair, EncodesField, FieldRefused, FieldNumberRefused,
+    NumberRefused,
+};
 ghost use Rattle.tv_typed.specs.Lists.{NextItem, NextItemRefused, gives_some};
 ghost use Rattle.tv_typed.specs.Typed.{Reads, Deserializes};
 ghost use Rattle.tv_typed.specs.contracts.store_reader.StoreReader.{the_row};
@@ -38,7 +43,8 @@ pub trait DocumentDeserializer: Drop {
     ghost gives: { Self → ℕ × Tree → Self → Type 0 };
 
     /// Which error may be returned in place of the next pair, where a value of some type is read, by the refusals of that type.
-    ghost refuses: { Self → (Version → ValueType → List ℕ → DeserializeError → Type 0) → DeserializeError → Type 0 };
+    ghost refuses: { Self → (Version → ValueType → List ℕ → DeserializeError → Type 0)
+        → DeserializeError → Type 0 };
 
     /// How many pairs are announced, however many were given.
     fn size_hint(&self) -> usize
@@ -65,7 +71,8 @@ impl<S: ByteSource> StoreReader<S> {
 
     // Takes the field of a pair.
     pub(crate) fn field(&mut self) -> Result<u32, DeserializeError>
-        ensures { Reads S.is_known S.left S.failures self.old self.new result SmallField FieldNumberRefused }
+        ensures { Reads S.is_known S.left S.failures self.old self.new result SmallField
+            FieldNumberRefused }
     {
         self.go_on()?;
         let answer = take_field(&mut self.source, &mut self.count);
@@ -78,7 +85,9 @@ impl<S: ByteSource> StoreReader<S> {
         &mut self,
         alloc: Global,
     ) -> Result<(Field, V), DeserializeError>
-        ensures deserializes { Deserializes S.is_known S.left self.old self.new result (EncodesField V.is (version_of self.old.version)) (FieldRefused V.refused (version_of self.old.version)) }
+        ensures deserializes { Deserializes S.is_known S.left self.old self.new result
+            (EncodesField V.is (version_of self.old.version))
+            (FieldRefused V.refused (version_of self.old.version)) }
         ensures marks { OnErr result (self.new.has_failed ≡ true) }
     {
         let field = self.field()?;
@@ -101,9 +110,15 @@ impl<'de, S: ByteSource> BinaryDocumentDeserializer<'de, S> {
     pub fn from_reader(
         reader: &'de mut StoreReader<S>,
     ) -> Result<BinaryDocumentDeserializer<'de, S>, DeserializeError>
-        ensures* rests { sem 𝓛 (RestsIfErr (the_row S.row) reader.entry (λ d. d.reader.ghost_name) result (λ now. IfErr result (λ e. Reads {X = ℕ} S.is_known S.left S.failures reader.entry.now now (Err e) VNum NumberRefused))) }
+        ensures* rests { sem 𝓛
+            (RestsIfErr (the_row S.row) reader.entry (λ d. d.reader.ghost_name) result
+                (λ now. IfErr result
+                    (λ e. Reads {X = ℕ} S.is_known S.left S.failures reader.entry.now now (Err e)
+                        VNum NumberRefused))) }
         ensures same_reader { IfOk result (λ d. d.reader.ghost_name ≡ reader.entry.ghost_name) }
-        ensures reads { IfOk result (λ d. Reads S.is_known S.left S.failures reader.entry.now d.reader.now (Ok d.announced) VNum NumberRefused) }
+        ensures reads { IfOk result
+            (λ d. Reads S.is_known S.left S.failures reader.entry.now d.reader.now (Ok d.announced)
+                VNum NumberRefused) }
         ensures first { IfOk result (λ d. d.position ≡ 0) }
     {
         let announced = reader.pair_count()?;
@@ -124,7 +139,8 @@ impl<'de, S: ByteSource> DocumentDeserializer for BinaryDocumentDeserializer<'de
 
     ghost gives = { λ old pair new. GivesPair S.left old.reader.now pair new.reader.now };
 
-    ghost refuses = { λ d refused. RefusesPair S.is_known S.left d.position d.announced d.reader.now refused };
+    ghost refuses = { λ d refused. RefusesPair S.is_known S.left d.position d.announced d.reader.now
+        refused };
 
     fn size_hint(&self) -> usize {
         self.announced as usize
@@ -138,12 +154,23 @@ impl<'de, S: ByteSource> DocumentDeserializer for BinaryDocumentDeserializer<'de
         &mut self,
         alloc: Global,
     ) -> Result<Option<(Field, V)>, DeserializeError>
-        ensures gives { IfOk result (NextField (λ d. d.announced - d.position) (λ d. S.is_known d.reader.now.source) (λ old pair new. GivesPair S.left old.reader.now pair new.reader.now) V.is self.old self.new) }
-        ensures refuses { IfErr result (λ e. RefusesPair S.is_known S.left self.old.position self.old.announced self.old.reader.now V.refused e) }
+        ensures gives { IfOk result
+            (NextField (λ d. d.announced - d.position) (λ d. S.is_known d.reader.now.source)
+                (λ old pair new. GivesPair S.left old.reader.now pair new.reader.now) V.is self.old
+                self.new) }
+        ensures refuses { IfErr result
+            (λ e. RefusesPair S.is_known S.left self.old.position self.old.announced
+                self.old.reader.now V.refused e) }
         ensures same_reader { self.new.reader.ghost_name ≡ self.old.reader.ghost_name }
         ensures announced { self.new.announced ≡ self.old.announced }
-        ensures position { self.new.position ≡ self.old.position + (if gives_some result then 1 else 0) }
-        ensures deserializes { Deserializes S.is_known S.left self.old.reader.now self.new.reader.now result (NextItem (EncodesField V.is (version_of self.old.reader.now.version)) self.old.position self.old.announced) (NextItemRefused (FieldRefused V.refused (version_of self.old.reader.now.version)) self.old.position self.old.announced) }
+        ensures position { self.new.position
+            ≡ self.old.position + (if gives_some result then 1 else 0) }
+        ensures deserializes { Deserializes S.is_known S.left self.old.reader.now
+            self.new.reader.now result
+            (NextItem (EncodesField V.is (version_of self.old.reader.now.version)) self.old.position
+                self.old.announced)
+            (NextItemRefused (FieldRefused V.refused (version_of self.old.reader.now.version))
+                self.old.position self.old.announced) }
         ensures marks { OnErr result (self.new.reader.now.has_failed ≡ true) }
     {
         self.reader.go_on()?;

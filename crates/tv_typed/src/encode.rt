@@ -5,7 +5,9 @@ ghost use Rattle.std.specs.Int.{w64};
 ghost use Rattle.tv_base.specs.Number.{eight_bytes, signed_bytes};
 ghost use Rattle.tv_base.specs.Parts.{short_sized};
 ghost use Rattle.tv_value.specs.Owned.{owned_tree, owned_entries};
-ghost use Rattle.tv_value.specs.Short.{short, short_elements, short_entries, IsText, IsValue, AreElements, AreEntries};
+ghost use Rattle.tv_value.specs.Short.{
+    short, short_elements, short_entries, IsText, IsValue, AreElements, AreEntries,
+};
 ghost use Rattle.tv_value.specs.Tree.{elements, entries};
 ghost use Rattle.tv_value.specs.Version.{V2};
 
@@ -53,7 +55,8 @@ fn push_coded_text(bytes: &mut Vec<u8>, text: &str) -> Result<(), AllocError>
 // Adds a value of a kind that JSON has. The only error is that memory was refused, which is told for other kinds too.
 #[cycle(encoded)]
 fn push_value(bytes: &mut Vec<u8>, value: &OwnedValue) -> Result<(), AllocError>
-    ensures ok { OnOk result (bytes.new.items ≡ bytes.old.items ++ short V2 (owned_tree value.now)) }
+    ensures ok { OnOk result
+        (bytes.new.items ≡ bytes.old.items ++ short V2 (owned_tree value.now)) }
     ensures valid { OnOk result (IsValue (owned_tree value.now)) }
 {
     match value {
@@ -81,7 +84,9 @@ fn push_value(bytes: &mut Vec<u8>, value: &OwnedValue) -> Result<(), AllocError>
 // Adds each value of a list.
 #[cycle(encoded)]
 fn push_items(bytes: &mut Vec<u8>, items: &Vec<OwnedValue>) -> Result<(), AllocError>
-    ensures ok { OnOk result (bytes.new.items ≡ bytes.old.items ++ short_elements V2 (elements (map owned_tree items.now.items))) }
+    ensures ok { OnOk result
+        (bytes.new.items
+            ≡ bytes.old.items ++ short_elements V2 (elements (map owned_tree items.now.items))) }
     ensures valid { OnOk result (AreElements (elements (map owned_tree items.now.items))) }
 {
     for item in items {
@@ -93,7 +98,9 @@ fn push_items(bytes: &mut Vec<u8>, items: &Vec<OwnedValue>) -> Result<(), AllocE
 // Adds each key and value of an object.
 #[cycle(encoded)]
 fn push_members(bytes: &mut Vec<u8>, members: &Vec<(String, OwnedValue)>) -> Result<(), AllocError>
-    ensures ok { OnOk result (bytes.new.items ≡ bytes.old.items ++ short_entries V2 (entries (owned_entries members.now.items))) }
+    ensures ok { OnOk result
+        (bytes.new.items
+            ≡ bytes.old.items ++ short_entries V2 (entries (owned_entries members.now.items))) }
     ensures valid { OnOk result (AreEntries (entries (owned_entries members.now.items))) }
 {
     for (key, member) in members {

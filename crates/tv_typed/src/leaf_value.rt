@@ -42,7 +42,8 @@ pub(crate) trait LeafValue: Sized + Drop {
         count: &mut u64,
         version: DocStoreVersion,
     ) -> Result<Self, ReadError>
-        ensures { TakesBy S.is_known S.left S.failures source.old count.old source.new count.new (λ x. leaf (make x)) result (leaf_at (version_of version) expected) };
+        ensures { TakesBy S.is_known S.left S.failures source.old count.old source.new count.new
+            (λ x. leaf (make x)) result (leaf_at (version_of version) expected) };
 
     /// Hands it to a visitor's call for its type.
     fn visit<V: ValueVisitor>(self, visitor: &V) -> Result<V::Value, DeserializeError>
@@ -56,9 +57,14 @@ impl<S: ByteSource> StoreReader<S> {
         alloc: T::Alloc,
         kind: ValueType,
     ) -> Result<T, DeserializeError>
-        ensures reads { Reads S.is_known S.left S.failures self.old self.new result (EncodesLeaf (version_of self.old.version) kind T.make) (LeafRefused T.expected (version_of self.old.version) kind) }
-        ensures only { Only S.is_known S.left self.old self.new result (IsLeaf T.make) (version_of self.old.version) (coded kind) }
-        ensures deserializes { Deserializes S.is_known S.left self.old self.new result (EncodedAs (IsLeaf T.make) (version_of self.old.version) kind) (LeafRefused T.expected (version_of self.old.version) kind) }
+        ensures reads { Reads S.is_known S.left S.failures self.old self.new result
+            (EncodesLeaf (version_of self.old.version) kind T.make)
+            (LeafRefused T.expected (version_of self.old.version) kind) }
+        ensures only { Only S.is_known S.left self.old self.new result (IsLeaf T.make)
+            (version_of self.old.version) (coded kind) }
+        ensures deserializes { Deserializes S.is_known S.left self.old self.new result
+            (EncodedAs (IsLeaf T.make) (version_of self.old.version) kind)
+            (LeafRefused T.expected (version_of self.old.version) kind) }
     {
         self.expect(kind, T::value_type())?;
         let answer = T::take(alloc, &mut self.source, &mut self.count, self.version);
@@ -72,7 +78,9 @@ impl<S: ByteSource> StoreReader<S> {
         kind: ValueType,
         visitor: &V,
     ) -> Result<V::Value, DeserializeError>
-        ensures { kind ≡ T.expected → Visits S.is_known S.left S.failures self.old self.new kind (V.answers visitor.now) result }
+        ensures { kind ≡ T.expected
+            → Visits S.is_known S.left S.failures self.old self.new kind (V.answers visitor.now)
+                result }
     {
         let value = self.leaf::<T>(alloc, kind)?;
         value.visit(visitor)

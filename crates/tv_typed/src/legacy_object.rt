@@ -32,7 +32,9 @@ pub(crate) trait CodedObject: Sized + Drop {
         kind: ValueType,
         reader: &mut StoreReader<S>,
     ) -> Result<Self, DeserializeError>
-        ensures { Deserializes S.is_known S.left reader.old reader.new result (EncodedAs is (version_of reader.old.version) kind) (refused (version_of reader.old.version) kind) };
+        ensures { Deserializes S.is_known S.left reader.old reader.new result
+            (EncodedAs is (version_of reader.old.version) kind)
+            (refused (version_of reader.old.version) kind) };
 }
 
 // The code, and the value behind it.
@@ -40,7 +42,9 @@ fn next_object<V: CodedObject, S: ByteSource>(
     alloc: Global,
     reader: &mut StoreReader<S>,
 ) -> Result<V, DeserializeError>
-    ensures { Deserializes S.is_known S.left reader.old reader.new result (EncodesAs V.is (version_of reader.old.version)) (NextRefused V.refused (version_of reader.old.version)) }
+    ensures { Deserializes S.is_known S.left reader.old reader.new result
+        (EncodesAs V.is (version_of reader.old.version))
+        (NextRefused V.refused (version_of reader.old.version)) }
 {
     let kind = reader.code()?;
     V::behind(alloc, kind, reader)
@@ -75,7 +79,9 @@ fn legacy_object<V: CodedObject, S: ByteSource>(
     alloc: Global,
     reader: &mut StoreReader<S>,
 ) -> Result<V, DeserializeError>
-    ensures { Deserializes S.is_known S.left reader.old reader.new result (EncodedAs V.is (version_of reader.old.version) types.JSONObject) (LegacyRefused V.refused (version_of reader.old.version)) }
+    ensures { Deserializes S.is_known S.left reader.old reader.new result
+        (EncodedAs V.is (version_of reader.old.version) types.JSONObject)
+        (LegacyRefused V.refused (version_of reader.old.version)) }
 {
     let kind = ValueType::JSONObject;
     let tree = BinaryValueDeserializer { kind, reader }.deserialize_tree(alloc)?;
@@ -89,7 +95,9 @@ pub(crate) fn read_object<V: CodedObject, S: ByteSource>(
     kind: ValueType,
     reader: &mut StoreReader<S>,
 ) -> Result<V, DeserializeError>
-    ensures { Deserializes S.is_known S.left reader.old reader.new result (EncodedAs V.is (version_of reader.old.version) kind) (MembersRefused V.refused (version_of reader.old.version) kind) }
+    ensures { Deserializes S.is_known S.left reader.old reader.new result
+        (EncodedAs V.is (version_of reader.old.version) kind)
+        (MembersRefused V.refused (version_of reader.old.version) kind) }
 {
     match kind {
         ValueType::JSONObject => legacy_object(alloc, reader),

@@ -74,7 +74,8 @@ impl<S: ByteSource> StoreReader<S> {
     // Goes on where nothing was refused before.
     pub(crate) fn go_on(&self) -> Result<(), DeserializeError>
         ensures ok { OnOk result (self.now.has_failed ≡ false) }
-        ensures err { IfErr result (λ e. (e ≡ errors.AlreadyFailed) × (self.now.has_failed ≡ true)) }
+        ensures err { IfErr result
+            (λ e. (e ≡ errors.AlreadyFailed) × (self.now.has_failed ≡ true)) }
     {
         if self.has_failed {
             return Err(DeserializeError::AlreadyFailed);
@@ -111,8 +112,10 @@ impl<S: ByteSource> StoreReader<S> {
         ensures source { self.new.source ≡ self.old.source }
         ensures count { self.new.count ≡ self.old.count }
         ensures version { self.new.version ≡ self.old.version }
-        ensures ok { OnOk result ((self.old.has_failed ≡ false) × (self.new.has_failed ≡ false) × (kind ≡ expected)) }
-        ensures err { IfErr result (IsMismatch self.old.has_failed kind expected (errors.TypeMismatch expected kind)) }
+        ensures ok { OnOk result
+            ((self.old.has_failed ≡ false) × (self.new.has_failed ≡ false) × (kind ≡ expected)) }
+        ensures err { IfErr result
+            (IsMismatch self.old.has_failed kind expected (errors.TypeMismatch expected kind)) }
         ensures marks { OnErr result (self.new.has_failed ≡ true) }
     {
         self.go_on()?;
@@ -142,8 +145,10 @@ impl<S: ByteSource> StoreReader<S> {
         ensures source { self.new.source ≡ self.old.source }
         ensures count { self.new.count ≡ self.old.count }
         ensures version { self.new.version ≡ self.old.version }
-        ensures ok { OnOk result ((self.old.has_failed ≡ false) × (self.new.has_failed ≡ false) × (kind ≡ collection)) }
-        ensures err { IfErr result (IsMismatch self.old.has_failed kind collection (errors.UnsupportedType kind)) }
+        ensures ok { OnOk result
+            ((self.old.has_failed ≡ false) × (self.new.has_failed ≡ false) × (kind ≡ collection)) }
+        ensures err { IfErr result
+            (IsMismatch self.old.has_failed kind collection (errors.UnsupportedType kind)) }
         ensures marks { OnErr result (self.new.has_failed ≡ true) }
     {
         self.go_on()?;
@@ -156,7 +161,8 @@ impl<S: ByteSource> StoreReader<S> {
 
     // Takes the number of an array's values, behind its code.
     pub(crate) fn array_length(&mut self, kind: ValueType) -> Result<u64, DeserializeError>
-        ensures { Reads S.is_known S.left S.failures self.old self.new result (Length types.Array element_total kind) (LengthRefused types.Array element_total kind) }
+        ensures { Reads S.is_known S.left S.failures self.old self.new result
+            (Length types.Array element_total kind) (LengthRefused types.Array element_total kind) }
     {
         self.expect_collection(kind, ValueType::Array)?;
         let answer = take_vint(&mut self.source, &mut self.count);
@@ -165,7 +171,9 @@ impl<S: ByteSource> StoreReader<S> {
 
     // Takes the number of an object's entries, behind its code.
     pub(crate) fn object_length(&mut self, kind: ValueType) -> Result<u64, DeserializeError>
-        ensures { Reads S.is_known S.left S.failures self.old self.new result (Length types.Object (entry_total (version_of self.old.version)) kind) (LengthRefused types.Object (entry_total (version_of self.old.version)) kind) }
+        ensures { Reads S.is_known S.left S.failures self.old self.new result
+            (Length types.Object (entry_total (version_of self.old.version)) kind)
+            (LengthRefused types.Object (entry_total (version_of self.old.version)) kind) }
     {
         self.expect_collection(kind, ValueType::Object)?;
         let answer = take_half(&mut self.source, &mut self.count);
@@ -174,7 +182,9 @@ impl<S: ByteSource> StoreReader<S> {
 
     // Takes a key.
     pub(crate) fn key(&mut self, alloc: Global) -> Result<String, DeserializeError>
-        ensures { Reads S.is_known S.left S.failures self.old self.new result (λ b key. Key (version_of self.old.version) b (string_bytes key)) (KeyRefused (version_of self.old.version)) }
+        ensures { Reads S.is_known S.left S.failures self.old self.new result
+            (λ b key. Key (version_of self.old.version) b (string_bytes key))
+            (KeyRefused (version_of self.old.version)) }
     {
         self.go_on()?;
         let answer = take_key(alloc, &mut self.source, &mut self.count);

@@ -25,7 +25,8 @@ impl<S: ByteSource> StoreReader<S> {
         kind: ValueType,
         visitor: &V,
     ) -> Result<V::Value, DeserializeError>
-        ensures { VisitsItems S.is_known S.left S.failures self.old self.new types.Array element_total kind result }
+        ensures { VisitsItems S.is_known S.left S.failures self.old self.new types.Array
+            element_total kind result }
     {
         let announced = self.array_length(kind)?;
         let access = BinaryArrayDeserializer {
@@ -43,7 +44,8 @@ impl<S: ByteSource> StoreReader<S> {
         kind: ValueType,
         visitor: &V,
     ) -> Result<V::Value, DeserializeError>
-        ensures { VisitsItems S.is_known S.left S.failures self.old self.new types.Object (entry_total (version_of self.old.version)) kind result }
+        ensures { VisitsItems S.is_known S.left S.failures self.old self.new types.Object
+            (entry_total (version_of self.old.version)) kind result }
     {
         let announced = self.object_length(kind)?;
         let access = BinaryObjectDeserializer {
@@ -77,10 +79,17 @@ impl<S: ByteSource> StoreReader<S> {
         kind: ValueType,
         visitor: &V,
     ) -> Result<V::Value, DeserializeError>
-        ensures leaf { is_leaf_type kind ≡ true → Visits S.is_known S.left S.failures self.old self.new kind (V.answers visitor.now) result }
-        ensures array { kind ≡ types.Array → VisitsItems S.is_known S.left S.failures self.old self.new types.Array element_total kind result }
-        ensures object { kind ≡ types.Object → VisitsItems S.is_known S.left S.failures self.old self.new types.Object (entry_total (version_of self.old.version)) kind result }
-        ensures legacy { kind ≡ types.JSONObject → VisitsLegacy S.is_known S.left S.failures self.old self.new result }
+        ensures leaf { is_leaf_type kind ≡ true
+            → Visits S.is_known S.left S.failures self.old self.new kind (V.answers visitor.now)
+                result }
+        ensures array { kind ≡ types.Array
+            → VisitsItems S.is_known S.left S.failures self.old self.new types.Array element_total
+                kind result }
+        ensures object { kind ≡ types.Object
+            → VisitsItems S.is_known S.left S.failures self.old self.new types.Object
+                (entry_total (version_of self.old.version)) kind result }
+        ensures legacy { kind ≡ types.JSONObject
+            → VisitsLegacy S.is_known S.left S.failures self.old self.new result }
     {
         match kind {
             ValueType::Array => self.visit_elements(alloc, kind, visitor),
@@ -97,10 +106,17 @@ impl<S: ByteSource> StoreReader<S> {
         kind: ValueType,
         visitor: &V,
     ) -> Result<V::Value, DeserializeError>
-        ensures leaf { is_leaf_type kind ≡ true → Visits S.is_known S.left S.failures self.old self.new kind (V.answers visitor.now) result }
-        ensures array { kind ≡ types.Array → VisitsItems S.is_known S.left S.failures self.old self.new types.Array element_total kind result }
-        ensures object { kind ≡ types.Object → VisitsItems S.is_known S.left S.failures self.old self.new types.Object (entry_total (version_of self.old.version)) kind result }
-        ensures legacy { kind ≡ types.JSONObject → VisitsLegacy S.is_known S.left S.failures self.old self.new result }
+        ensures leaf { is_leaf_type kind ≡ true
+            → Visits S.is_known S.left S.failures self.old self.new kind (V.answers visitor.now)
+                result }
+        ensures array { kind ≡ types.Array
+            → VisitsItems S.is_known S.left S.failures self.old self.new types.Array element_total
+                kind result }
+        ensures object { kind ≡ types.Object
+            → VisitsItems S.is_known S.left S.failures self.old self.new types.Object
+                (entry_total (version_of self.old.version)) kind result }
+        ensures legacy { kind ≡ types.JSONObject
+            → VisitsLegacy S.is_known S.left S.failures self.old self.new result }
         ensures marks { OnErr result (self.new.has_failed ≡ true) }
     {
         match self.visit_kind(alloc, kind, visitor) {
@@ -126,10 +142,19 @@ impl<'de, S: ByteSource> BinaryValueDeserializer<'de, S> {
         alloc: Global,
         visitor: &V,
     ) -> Result<V::Value, DeserializeError>
-        ensures leaf { is_leaf_type self.entry.kind ≡ true → Visits S.is_known S.left S.failures self.entry.reader.now self.exit.1.0.now self.entry.kind (V.answers visitor.now) result }
-        ensures array { self.entry.kind ≡ types.Array → VisitsItems S.is_known S.left S.failures self.entry.reader.now self.exit.1.0.now types.Array element_total self.entry.kind result }
-        ensures object { self.entry.kind ≡ types.Object → VisitsItems S.is_known S.left S.failures self.entry.reader.now self.exit.1.0.now types.Object (entry_total (version_of self.entry.reader.now.version)) self.entry.kind result }
-        ensures legacy { self.entry.kind ≡ types.JSONObject → VisitsLegacy S.is_known S.left S.failures self.entry.reader.now self.exit.1.0.now result }
+        ensures leaf { is_leaf_type self.entry.kind ≡ true
+            → Visits S.is_known S.left S.failures self.entry.reader.now self.exit.1.0.now
+                self.entry.kind (V.answers visitor.now) result }
+        ensures array { self.entry.kind ≡ types.Array
+            → VisitsItems S.is_known S.left S.failures self.entry.reader.now self.exit.1.0.now
+                types.Array element_total self.entry.kind result }
+        ensures object { self.entry.kind ≡ types.Object
+            → VisitsItems S.is_known S.left S.failures self.entry.reader.now self.exit.1.0.now
+                types.Object (entry_total (version_of self.entry.reader.now.version))
+                self.entry.kind result }
+        ensures legacy { self.entry.kind ≡ types.JSONObject
+            → VisitsLegacy S.is_known S.left S.failures self.entry.reader.now self.exit.1.0.now
+                result }
         ensures marks { OnErr result (self.exit.1.0.now.has_failed ≡ true) }
     {
         let BinaryValueDeserializer { kind, reader } = self;

@@ -16,7 +16,8 @@ pub(crate) fn owned_of<N: Nested>(
     alloc: Global,
     value: NestedValue<'_, N>,
 ) -> Result<OwnedValue, AllocError>
-    ensures { IfOk result (λ made. owned_tree made ≡ nested_tree N.array_rest N.object_rest value.entry) }
+    ensures { IfOk result
+        (λ made. owned_tree made ≡ nested_tree N.array_rest N.object_rest value.entry) }
 {
     match value {
         NestedValue::Leaf(leaf) => OwnedValue::from_leaf(alloc, leaf),

@@ -51,7 +51,8 @@ pub fn push_text(bytes: &mut Vec<u8>, text: &str) -> Result<(), AllocError>
 
 /// Adds the shortest encoding of a token. (Not in tantivy.) The error is that of `push_number`.
 pub fn push_token(bytes: &mut Vec<u8>, token: TokenRef<'_>) -> Result<(), AllocError>
-    ensures ok { OnOk result (bytes.new.items ≡ bytes.old.items ++ short_token (ref_of token.entry)) }
+    ensures ok { OnOk result
+        (bytes.new.items ≡ bytes.old.items ++ short_token (ref_of token.entry)) }
     ensures valid { OnOk result (IsToken (ref_of token.entry)) }
     ensures err { OnErr result (IsPrefix bytes.old.items bytes.new.items) }
 {

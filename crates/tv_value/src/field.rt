@@ -49,7 +49,8 @@ impl BinarySerializable for Field {
     }
 
     fn deserialize<S: ByteSource>(alloc: Global, source: &mut S) -> Result<Field, ReadError>
-        ensures reads { ReadsAs S.is_known S.left S.failures source.old source.new (λ field. field.id) result (Fixed 4) (ErrorInBytes 4) }
+        ensures reads { ReadsAs S.is_known S.left S.failures source.old source.new
+            (λ field. field.id) result (Fixed 4) (ErrorInBytes 4) }
         ensures spares { ¬ IsErrOf result Memory }
     {
         match u32::deserialize(alloc, source) {

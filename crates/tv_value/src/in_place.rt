@@ -48,8 +48,10 @@ pub fn text_at(bytes: &[u8]) -> Option<(&str, &[u8])>
 
 /// The token at the start of the bytes, and what follows it. None where no prefix encodes a token.
 pub(crate) fn token_at(bytes: &[u8]) -> Option<(TokenRef<'_>, &[u8])>
-    ensures found { IfSome result (λ x. Begins (λ b. TokenEncoding b (ref_of x.0)) bytes.now x.1.now) }
-    ensures none { IfNone result ((token : Token) → NoPrefix (λ b. TokenEncoding b token) bytes.now) }
+    ensures found { IfSome result
+        (λ x. Begins (λ b. TokenEncoding b (ref_of x.0)) bytes.now x.1.now) }
+    ensures none { IfNone result
+        ((token : Token) → NoPrefix (λ b. TokenEncoding b token) bytes.now) }
 {
     let (offset_from, behind_from) = number_at(bytes)?;
     let (offset_to, behind_to) = number_at(behind_from)?;

@@ -6,7 +6,9 @@ ghost use Rattle.serde_json.specs.View.{view as data_of, number_view, items_view
 ghost use Rattle.serde_json.specs.Find.{is_float};
 ghost use Rattle.tv_value.specs.JsonTree.{number_leaf as number_leaf_of};
 ghost use Rattle.tv_value.specs.Lent.{leaf_of};
-ghost use Rattle.serde_json.specs.Written.{has_float as has_float_in, items_have_float, members_have_float};
+ghost use Rattle.serde_json.specs.Written.{
+    has_float as has_float_in, items_have_float, members_have_float,
+};
 
 use crate::leaf::ReferenceValueLeaf;
 use crate::value::{ReferenceValue, Value};
@@ -87,7 +89,8 @@ impl<'a> Iterator for LentJsonArray<'a> {
 
     type Item = LentJson<'a>;
 
-    ghost next_gives = { YieldsFirstBy (λ x. lent_json_tree x.json.now) (λ s. map lent_json_tree s.items.now) };
+    ghost next_gives = { YieldsFirstBy (λ x. lent_json_tree x.json.now)
+        (λ s. map lent_json_tree s.items.now) };
 
     ghost remaining = { item_count (λ s. s.items.now) };
 
@@ -111,7 +114,8 @@ impl<'a> Iterator for LentJsonObject<'a> {
 
     type Item = (&'a str, LentJson<'a>);
 
-    ghost next_gives = { YieldsFirstBy (entry_of (λ x. lent_json_tree x.json.now)) (λ s. lent_json_entries s.members) };
+    ghost next_gives = { YieldsFirstBy (entry_of (λ x. lent_json_tree x.json.now))
+        (λ s. lent_json_entries s.members) };
 
     ghost remaining = { item_count (λ s. s.members) };
 

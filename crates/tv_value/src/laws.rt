@@ -3,9 +3,13 @@
 ghost use Rattle.std.specs.Prelude.{◌≡◌, ◌↔◌, ℕ, ◌++◌, IsTrue, List};
 ghost use Rattle.std.specs.Ordering.{nat_cmp, is_eq};
 ghost use Rattle.tv_base.specs.Parts.{OneReading};
-ghost use Rattle.tv_value.specs.InputError.{Refusal, ErrorInValue, ErrorInDocument, NoErrorInLegacy};
+ghost use Rattle.tv_value.specs.InputError.{
+    Refusal, ErrorInValue, ErrorInDocument, NoErrorInLegacy,
+};
 ghost use Rattle.tv_value.specs.PreTokenized.{text_of, tokens_of};
-ghost use Rattle.tv_value.specs.Short.{short, short_document, IsText, AreTokens, IsValue, IsDocument};
+ghost use Rattle.tv_value.specs.Short.{
+    short, short_document, IsText, AreTokens, IsValue, IsDocument,
+};
 ghost use Rattle.tv_value.specs.Encoding.{Encodes, EncodesDocument, Derives, NoLegacy};
 ghost use Rattle.tv_value.specs.Tree.{Tree, Document};
 ghost use Rattle.tv_value.specs.Version.{Version, IsWritten};
@@ -27,18 +31,21 @@ pub fn documents_have_one_reading()
 
 /// The shortest encoding of a value encodes it.
 pub fn short_values_encode()
-    ensures { (v : Version) → IsWritten v → (t : Tree) → IsValue t → Encodes NoLegacy v (short v t) t }
+    ensures { (v : Version) → IsWritten v → (t : Tree) → IsValue t
+        → Encodes NoLegacy v (short v t) t }
 {}
 
 /// The same of documents.
 pub fn short_documents_encode()
-    ensures { (v : Version) → IsWritten v → (d : Document) → IsDocument d → EncodesDocument NoLegacy v (short_document v d) d }
+    ensures { (v : Version) → IsWritten v → (d : Document) → IsDocument d
+        → EncodesDocument NoLegacy v (short_document v d) d }
 {}
 
 /// Where bytes are malformed, no prefix of them encodes a value.
 pub fn malformed_values_encode_none()
-    ensures { (v : Version) (prefix rest : List ℕ) (refusal : Refusal) (t : Tree) →
-        ErrorInValue NoLegacy NoErrorInLegacy v (prefix ++ rest) refusal → Encodes NoLegacy v prefix t → ⊥ }
+    ensures { (v : Version) (prefix rest : List ℕ) (refusal : Refusal) (t : Tree)
+        → ErrorInValue NoLegacy NoErrorInLegacy v (prefix ++ rest) refusal
+        → Encodes NoLegacy v prefix t → ⊥ }
 {}
 
 /// The same of documents.
@@ -49,12 +56,16 @@ pub fn malformed_documents_derive_none()
 
 /// Bytes that encode no value are malformed in one way only.
 pub fn errors_of_values_are_unique()
-    ensures { (v : Version) (bytes : List ℕ) (r s : Refusal) → ErrorInValue NoLegacy NoErrorInLegacy v bytes r → ErrorInValue NoLegacy NoErrorInLegacy v bytes s → r ≡ s }
+    ensures { (v : Version) (bytes : List ℕ) (r s : Refusal)
+        → ErrorInValue NoLegacy NoErrorInLegacy v bytes r
+        → ErrorInValue NoLegacy NoErrorInLegacy v bytes s → r ≡ s }
 {}
 
 /// The same of documents.
 pub fn errors_of_documents_are_unique()
-    ensures { (v : Version) (bytes : List ℕ) (r s : Refusal) → ErrorInDocument NoLegacy NoErrorInLegacy v bytes r → ErrorInDocument NoLegacy NoErrorInLegacy v bytes s → r ≡ s }
+    ensures { (v : Version) (bytes : List ℕ) (r s : Refusal)
+        → ErrorInDocument NoLegacy NoErrorInLegacy v bytes r
+        → ErrorInDocument NoLegacy NoErrorInLegacy v bytes s → r ≡ s }
 {}
 
 /// A text with its tokens has an encoding, however it is kept.
@@ -68,5 +79,6 @@ pub fn comparisons_of_fields_agree()
     ensures order { (a b : Field) → ⟦<Field as Ord>⟧.cmp a b ≡ nat_cmp a.id b.id }
     ensures eq { (a b : Field) → IsTrue (⟦<Field as PartialEq>⟧.eq a b) ↔ (a ≡ b) }
     ensures ties { (a b : Field) → IsTrue (is_eq (⟦<Field as Ord>⟧.cmp a b)) ↔ (a ≡ b) }
-    ensures hash { (a b : Field) → IsTrue (⟦<Field as PartialEq>⟧.eq a b) → ⟦<Field as Hash>⟧.hash_input a ≡ ⟦<Field as Hash>⟧.hash_input b }
+    ensures hash { (a b : Field) → IsTrue (⟦<Field as PartialEq>⟧.eq a b)
+        → ⟦<Field as Hash>⟧.hash_input a ≡ ⟦<Field as Hash>⟧.hash_input b }
 {}

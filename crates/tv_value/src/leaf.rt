@@ -3,7 +3,10 @@
 ghost use Rattle.std.specs.Prelude.{◌≡◌, ◌≢◌, ◌↔◌, IsTrue, IfSome, IfNone, option_map};
 ghost use Rattle.std.specs.Net.Addr.{ipv6_bits};
 ghost use Rattle.tv_value.specs.LeafParts.{content_of};
-ghost use Rattle.tv_value.specs.Leaves.{type_of, content, leaf_with, is_null, text_in, unsigned_in, signed_in, boolean_in, date_in, facet_in, bytes_in, ip_address_in, tokenized_in};
+ghost use Rattle.tv_value.specs.Leaves.{
+    type_of, content, leaf_with, is_null, text_in, unsigned_in, signed_in, boolean_in, date_in,
+    facet_in, bytes_in, ip_address_in, tokenized_in,
+};
 ghost use Rattle.tv_value.specs.Lent.{leaf_of};
 ghost use Rattle.tv_value.specs.PreTokenized.{text_of, tokens_of, tokenized_leaf};
 ghost use Rattle.tv_value.specs.Tree.{text, unsigned, signed, boolean, date, bytes, ip_address};
@@ -268,7 +271,8 @@ impl<'a> ReferenceValueLeaf<'a> {
 
     /// The text with its tokens, if it is one. No copy is made.
     pub fn into_pre_tokenized_text(self) -> Option<PreTokenizedStr<'a>>
-        ensures { option_map (λ t. (text_of t, tokens_of t)) result ≡ tokenized_in (leaf_of self.entry) }
+        ensures { option_map (λ t. (text_of t, tokens_of t)) result
+            ≡ tokenized_in (leaf_of self.entry) }
     {
         match self {
             ReferenceValueLeaf::PreTokStr(text) => Some(text),

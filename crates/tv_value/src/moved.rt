@@ -41,7 +41,8 @@ pub(crate) fn moved(alloc: Global, json: JsonValue) -> Result<OwnedValue, AllocE
 
 #[cycle(moved)]
 fn moved_items(alloc: Global, items: Vec<JsonValue>) -> Result<Vec<OwnedValue>, AllocError>
-    ensures { IfOk result (λ made. elements (map owned_tree made.items) ≡ whole_elements (items_view items.items)) }
+    ensures { IfOk result
+        (λ made. elements (map owned_tree made.items) ≡ whole_elements (items_view items.items)) }
 {
     let mut made = Vec::new(alloc);
     for item in items {
@@ -55,7 +56,9 @@ fn moved_members(
     alloc: Global,
     members: Map<String, JsonValue>,
 ) -> Result<Vec<(String, OwnedValue)>, AllocError>
-    ensures { IfOk result (λ made. entries (owned_entries made.items) ≡ whole_entries (members_view members.entries)) }
+    ensures { IfOk result
+        (λ made. entries (owned_entries made.items)
+            ≡ whole_entries (members_view members.entries)) }
 {
     let mut made = Vec::new(alloc);
     for (key, member) in members {

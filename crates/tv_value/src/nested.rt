@@ -42,13 +42,18 @@ pub trait Nested: Drop {
     fn as_nested(&self) -> NestedValue<'_, Self>
         ensures { nested_tree array_rest object_rest result ≡ tree self.now };
 
-    ghost array_walks: { (s : Self.ArrayIter) → Self.ArrayIter.can_next s × IsFinite (Self.ArrayIter.remaining s) };
+    ghost array_walks: { (s : Self.ArrayIter)
+        → Self.ArrayIter.can_next s × IsFinite (Self.ArrayIter.remaining s) };
 
-    ghost object_walks: { (s : Self.ObjectIter) → Self.ObjectIter.can_next s × IsFinite (Self.ObjectIter.remaining s) };
+    ghost object_walks: { (s : Self.ObjectIter)
+        → Self.ObjectIter.can_next s × IsFinite (Self.ObjectIter.remaining s) };
 
-    ghost array_steps: { (s t : Self.ArrayIter) (r : Option Self) → Self.ArrayIter.next_gives s r t → YieldsFirstBy tree array_rest s r t };
+    ghost array_steps: { (s t : Self.ArrayIter) (r : Option Self) → Self.ArrayIter.next_gives s r t
+        → YieldsFirstBy tree array_rest s r t };
 
-    ghost object_steps: { (s t : Self.ObjectIter) (r : Option (Self.Key × Self)) → Self.ObjectIter.next_gives s r t → YieldsFirstBy (nested_entry Self.Key.text tree) object_rest s r t };
+    ghost object_steps: { (s t : Self.ObjectIter) (r : Option (Self.Key × Self))
+        → Self.ObjectIter.next_gives s r t
+        → YieldsFirstBy (nested_entry Self.Key.text tree) object_rest s r t };
 }
 
 /// A value that is lent. (Not in tantivy.)
@@ -134,7 +139,8 @@ impl<'a, V: Value<'a>> Drop for LentObject<'a, V> {
 impl<'a, V: Value<'a>> Iterator for LentObject<'a, V> {
     type Item = (&'a str, Lent<'a, V>);
 
-    ghost next_gives = { YieldsFirstBy (entry_of (λ x. V.tree x.value)) (λ s. V.object_rest s.members) };
+    ghost next_gives = { YieldsFirstBy (entry_of (λ x. V.tree x.value))
+        (λ s. V.object_rest s.members) };
 
     ghost remaining = { λ s. V.ObjectIter.remaining s.members };
 
@@ -187,7 +193,8 @@ impl<'a, V: Value<'a>> Nested for Lent<'a, V> {
 /// What a value is, with its children lent the same way. (Not in tantivy.)
 #[inline(always)]
 pub fn lend<'a, V: Value<'a>>(value: &V) -> NestedValue<'a, Lent<'a, V>>
-    ensures { nested_tree (λ s. V.array_rest s.items) (λ s. V.object_rest s.members) result ≡ V.tree value.now }
+    ensures { nested_tree (λ s. V.array_rest s.items) (λ s. V.object_rest s.members) result
+        ≡ V.tree value.now }
 {
     match value.as_value() {
         ReferenceValue::Leaf(leaf) => NestedValue::Leaf(leaf),

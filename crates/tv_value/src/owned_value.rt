@@ -81,7 +81,8 @@ impl<'a> Iterator for OwnedObjectIter<'a> {
 
     type Item = (&'a str, &'a OwnedValue);
 
-    ghost next_gives = { YieldsFirstBy (entry_of (λ x. owned_tree x.now)) (λ s. owned_entries s.members.now) };
+    ghost next_gives = { YieldsFirstBy (entry_of (λ x. owned_tree x.now))
+        (λ s. owned_entries s.members.now) };
 
     ghost remaining = { item_count (λ s. s.members.now) };
 

@@ -69,7 +69,9 @@ impl<'a> PreTokenizedStr<'a> {
     /// The text and the tokens that a prefix of the bytes encodes as the store does, and how many bytes that prefix has (not in tantivy). None
     /// where no prefix encodes a text and its tokens.
     pub fn from_payload(bytes: &'a [u8]) -> Option<(PreTokenizedStr<'a>, usize)>
-        ensures found { IfSome result (λ x. (x.1 ≤ length bytes.now) × Tokenized (take x.1 bytes.now) (text_of x.0) (tokens_of x.0)) }
+        ensures found { IfSome result
+            (λ x. (x.1 ≤ length bytes.now)
+                × Tokenized (take x.1 bytes.now) (text_of x.0) (tokens_of x.0)) }
         ensures none { IfNone result (NoTokenized bytes.now) }
     {
         let (text, behind_text) = text_at(bytes)?;

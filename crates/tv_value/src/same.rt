@@ -40,7 +40,9 @@ pub(crate) fn same_leaf(one: ReferenceValueLeaf<'_>, other: ReferenceValueLeaf<'
 // Whether two values that are lent are one.
 #[cycle(same)]
 fn same_nested<M: Nested, N: Nested>(one: NestedValue<'_, M>, other: NestedValue<'_, N>) -> bool
-    ensures { result ≡ tree_eq (nested_tree M.array_rest M.object_rest one.entry) (nested_tree N.array_rest N.object_rest other.entry) }
+    ensures { result
+        ≡ tree_eq (nested_tree M.array_rest M.object_rest one.entry)
+            (nested_tree N.array_rest N.object_rest other.entry) }
 {
     match (one, other) {
         (NestedValue::Leaf(s), NestedValue::Leaf(t)) => same_leaf(s, t),
@@ -57,7 +59,8 @@ fn same_nested<M: Nested, N: Nested>(one: NestedValue<'_, M>, other: NestedValue
 // Whether two arrays are one.
 #[cycle(same)]
 fn same_items<M: Nested, N: Nested>(items: M::ArrayIter, others: N::ArrayIter) -> bool
-    ensures { result ≡ elements_eq (elements (M.array_rest items)) (elements (N.array_rest others)) }
+    ensures { result
+        ≡ elements_eq (elements (M.array_rest items)) (elements (N.array_rest others)) }
 {
     let mut others = others;
     for item in items {
@@ -74,7 +77,8 @@ fn same_items<M: Nested, N: Nested>(items: M::ArrayIter, others: N::ArrayIter) -
 // Whether two objects are one.
 #[cycle(same)]
 fn same_members<M: Nested, N: Nested>(members: M::ObjectIter, others: N::ObjectIter) -> bool
-    ensures { result ≡ entries_eq (entries (M.object_rest members)) (entries (N.object_rest others)) }
+    ensures { result
+        ≡ entries_eq (entries (M.object_rest members)) (entries (N.object_rest others)) }
 {
     let mut others = others;
     for (key, value) in members {

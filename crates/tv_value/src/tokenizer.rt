@@ -18,7 +18,8 @@ pub struct Token {
     pub text: String,
     /// How many positions it takes.
     pub position_length: usize,
-    pub ghost fits: { (offset_from < 2 ^ 64) × (offset_to < 2 ^ 64) × (position < 2 ^ 64) × (position_length < 2 ^ 64) },
+    pub ghost fits: { (offset_from < 2 ^ 64) × (offset_to < 2 ^ 64) × (position < 2 ^ 64)
+        × (position_length < 2 ^ 64) },
 }
 
 impl Token {
@@ -55,7 +56,8 @@ impl PreTokenizedString {
     /// A copy. AllocError where memory runs out.
     pub fn try_clone(&self, alloc: Global) -> Result<PreTokenizedString, AllocError>
         ensures text { IfOk result (λ copy. string_bytes copy.text ≡ string_bytes self.now.text) }
-        ensures tokens { IfOk result (λ copy. map token_of copy.tokens.items ≡ map token_of self.now.tokens.items) }
+        ensures tokens { IfOk result
+            (λ copy. map token_of copy.tokens.items ≡ map token_of self.now.tokens.items) }
     {
         PreTokenizedStr::from_string(self).to_owned_string(alloc)
     }

@@ -1,6 +1,8 @@
 //! Whether bytes are UTF-8, where others stand behind them.
 
-ghost use Rattle.std.specs.Prelude.{◌≡◌, ℕ, ◌-◌, ◌<◌, ◌≤◌, ◌↔◌, ◌++◌, length, take, replicate, slice_index, IsTrue};
+ghost use Rattle.std.specs.Prelude.{
+    ◌≡◌, ℕ, ◌-◌, ◌<◌, ◌≤◌, ◌↔◌, ◌++◌, length, take, replicate, slice_index, IsTrue,
+};
 ghost use Rattle.std.specs.Int.Bits.{bit_and};
 ghost use Rattle.std.specs.Str.{IsUtf8};
 
@@ -31,7 +33,8 @@ fn mask_of(len: usize) -> u8x64
 #[inline(always)]
 fn common(a: u8x64, b: u8x64) -> u8x64
     ensures len { length result ≡ 64 }
-    ensures lanes { (i : ℕ) → i < 64 → slice_index result i ≡ bit_and (slice_index a i) (slice_index b i) }
+    ensures lanes { (i : ℕ) → i < 64
+        → slice_index result i ≡ bit_and (slice_index a i) (slice_index b i) }
 {
     a & b
 }

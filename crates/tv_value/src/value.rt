@@ -5,7 +5,10 @@ ghost use Rattle.std.specs.Borrow.{Bor};
 ghost use Rattle.std.specs.Iterator.{IsFinite, YieldsFirstBy};
 ghost use Rattle.std.specs.Net.Addr.{ipv6_bits};
 ghost use Rattle.tv_value.specs.Cases.{leaf_in, elements_in, entries_in, is_null_leaf, in_leaf};
-ghost use Rattle.tv_value.specs.Leaves.{text_in, unsigned_in, signed_in, boolean_in, date_in, facet_in, bytes_in, ip_address_in, tokenized_in};
+ghost use Rattle.tv_value.specs.Leaves.{
+    text_in, unsigned_in, signed_in, boolean_in, date_in, facet_in, bytes_in, ip_address_in,
+    tokenized_in,
+};
 ghost use Rattle.tv_value.specs.Lent.{leaf_of, tree_of, entry_of};
 ghost use Rattle.tv_value.specs.PreTokenized.{text_of, tokens_of};
 ghost use Rattle.tv_value.specs.Tree.{Tree, leaf, elements, entries};
@@ -47,13 +50,17 @@ pub trait Value<'a>: Drop {
     fn as_value(&self) -> ReferenceValue<'a, Self>
         ensures { tree_of array_rest object_rest result ≡ tree self.now };
 
-    ghost array_walks: { (s : Self.ArrayIter) → Self.ArrayIter.can_next s × IsFinite (Self.ArrayIter.remaining s) };
+    ghost array_walks: { (s : Self.ArrayIter)
+        → Self.ArrayIter.can_next s × IsFinite (Self.ArrayIter.remaining s) };
 
-    ghost object_walks: { (s : Self.ObjectIter) → Self.ObjectIter.can_next s × IsFinite (Self.ObjectIter.remaining s) };
+    ghost object_walks: { (s : Self.ObjectIter)
+        → Self.ObjectIter.can_next s × IsFinite (Self.ObjectIter.remaining s) };
 
-    ghost array_steps: { (s t : Self.ArrayIter) (r : Option Self) → Self.ArrayIter.next_gives s r t → YieldsFirstBy tree array_rest s r t };
+    ghost array_steps: { (s t : Self.ArrayIter) (r : Option Self) → Self.ArrayIter.next_gives s r t
+        → YieldsFirstBy tree array_rest s r t };
 
-    ghost object_steps: { (s t : Self.ObjectIter) (r : Option (Bor (List ℕ) × Self)) → Self.ObjectIter.next_gives s r t → YieldsFirstBy (entry_of tree) object_rest s r t };
+    ghost object_steps: { (s t : Self.ObjectIter) (r : Option (Bor (List ℕ) × Self))
+        → Self.ObjectIter.next_gives s r t → YieldsFirstBy (entry_of tree) object_rest s r t };
 
     /// The leaf, if it is one.
     final fn as_leaf(&self) -> Option<ReferenceValueLeaf<'a>>
@@ -116,7 +123,8 @@ pub trait Value<'a>: Drop {
 
     /// The text with its tokens, if it is one. No copy is made.
     final fn as_pre_tokenized_text(&self) -> Option<PreTokenizedStr<'a>>
-        ensures { option_map (λ t. (text_of t, tokens_of t)) result ≡ in_leaf tokenized_in (tree self.now) }
+        ensures { option_map (λ t. (text_of t, tokens_of t)) result
+            ≡ in_leaf tokenized_in (tree self.now) }
     {
         self.as_leaf()?.into_pre_tokenized_text()
     }
@@ -159,7 +167,8 @@ impl<'a, V: Value<'a>> ReferenceValue<'a, V> {
 
     /// The leaf, if it is one, lent.
     pub fn as_leaf(&self) -> Option<&ReferenceValueLeaf<'a>>
-        ensures { option_map (λ l. leaf_of l.now) result ≡ leaf_in (tree_of V.array_rest V.object_rest self.now) }
+        ensures { option_map (λ l. leaf_of l.now) result
+            ≡ leaf_in (tree_of V.array_rest V.object_rest self.now) }
     {
         match self {
             ReferenceValue::Leaf(lent) => Some(lent),
@@ -169,7 +178,8 @@ impl<'a, V: Value<'a>> ReferenceValue<'a, V> {
 
     /// The leaf, if it is one.
     pub fn into_leaf(self) -> Option<ReferenceValueLeaf<'a>>
-        ensures { option_map leaf_of result ≡ leaf_in (tree_of V.array_rest V.object_rest self.entry) }
+        ensures { option_map leaf_of result
+            ≡ leaf_in (tree_of V.array_rest V.object_rest self.entry) }
     {
         match self {
             ReferenceValue::Leaf(single) => Some(single),
@@ -179,7 +189,8 @@ impl<'a, V: Value<'a>> ReferenceValue<'a, V> {
 
     /// The text, if it is one. No copy is made.
     pub fn as_str(&self) -> Option<&'a str>
-        ensures { option_map (λ t. t.now) result ≡ in_leaf text_in (tree_of V.array_rest V.object_rest self.now) }
+        ensures { option_map (λ t. t.now) result
+            ≡ in_leaf text_in (tree_of V.array_rest V.object_rest self.now) }
     {
         self.as_leaf()?.as_str()
     }
@@ -200,14 +211,16 @@ impl<'a, V: Value<'a>> ReferenceValue<'a, V> {
 
     /// The date, if it is one.
     pub fn as_datetime(&self) -> Option<DateTime>
-        ensures { option_map (λ d. d.nanoseconds) result ≡ in_leaf date_in (tree_of V.array_rest V.object_rest self.now) }
+        ensures { option_map (λ d. d.nanoseconds) result
+            ≡ in_leaf date_in (tree_of V.array_rest V.object_rest self.now) }
     {
         self.as_leaf()?.as_datetime()
     }
 
     /// The IP address, if it is one.
     pub fn as_ip_addr(&self) -> Option<Ipv6Addr>
-        ensures { option_map ipv6_bits result ≡ in_leaf ip_address_in (tree_of V.array_rest V.object_rest self.now) }
+        ensures { option_map ipv6_bits result
+            ≡ in_leaf ip_address_in (tree_of V.array_rest V.object_rest self.now) }
     {
         self.as_leaf()?.as_ip_addr()
     }
@@ -221,21 +234,24 @@ impl<'a, V: Value<'a>> ReferenceValue<'a, V> {
 
     /// The bytes, if it is bytes. No copy is made.
     pub fn as_bytes(&self) -> Option<&'a [u8]>
-        ensures { option_map (λ bs. bs.now) result ≡ in_leaf bytes_in (tree_of V.array_rest V.object_rest self.now) }
+        ensures { option_map (λ bs. bs.now) result
+            ≡ in_leaf bytes_in (tree_of V.array_rest V.object_rest self.now) }
     {
         self.as_leaf()?.as_bytes()
     }
 
     /// The text with its tokens, if it is one. No copy is made.
     pub fn into_pre_tokenized_text(self) -> Option<PreTokenizedStr<'a>>
-        ensures { option_map (λ t. (text_of t, tokens_of t)) result ≡ in_leaf tokenized_in (tree_of V.array_rest V.object_rest self.entry) }
+        ensures { option_map (λ t. (text_of t, tokens_of t)) result
+            ≡ in_leaf tokenized_in (tree_of V.array_rest V.object_rest self.entry) }
     {
         self.into_leaf()?.into_pre_tokenized_text()
     }
 
     /// The encoded text of the facet, if it is one. No copy is made.
     pub fn as_facet(&self) -> Option<&'a str>
-        ensures { option_map (λ t. t.now) result ≡ in_leaf facet_in (tree_of V.array_rest V.object_rest self.now) }
+        ensures { option_map (λ t. t.now) result
+            ≡ in_leaf facet_in (tree_of V.array_rest V.object_rest self.now) }
     {
         self.as_leaf()?.as_facet()
     }

@@ -30,7 +30,10 @@ pub struct RepeatedIter<'a> {
 impl<'a> Iterator for RepeatedIter<'a> {
     type Item = Repeated<'a>;
 
-    ghost next_gives = { YieldsFirstBy (λ v. cond v.is_array (array (elements (replicate v.times (leaf (bytes v.content.now))))) (leaf (bytes v.content.now))) (λ s. replicate s.left (leaf (bytes s.content.now))) };
+    ghost next_gives = { YieldsFirstBy
+        (λ v. cond v.is_array (array (elements (replicate v.times (leaf (bytes v.content.now)))))
+            (leaf (bytes v.content.now)))
+        (λ s. replicate s.left (leaf (bytes s.content.now))) };
 
     ghost remaining = { item_count (λ s. replicate s.left (leaf (bytes s.content.now))) };
 
@@ -54,7 +57,12 @@ pub struct NoEntries<'a> {
 impl<'a> Iterator for NoEntries<'a> {
     type Item = (&'a str, Repeated<'a>);
 
-    ghost next_gives = { YieldsFirstBy (entry_of (λ v. cond v.is_array (array (elements (replicate v.times (leaf (bytes v.content.now))))) (leaf (bytes v.content.now)))) (λ s. []) };
+    ghost next_gives = { YieldsFirstBy
+        (entry_of
+            (λ v. cond v.is_array
+                (array (elements (replicate v.times (leaf (bytes v.content.now)))))
+                (leaf (bytes v.content.now))))
+        (λ s. []) };
 
     ghost remaining = { λ s. at_most 0 };
 
@@ -68,7 +76,9 @@ impl<'a> Value<'a> for Repeated<'a> {
 
     type ObjectIter = NoEntries<'a>;
 
-    ghost tree = { λ v. cond v.is_array (array (elements (replicate v.times (leaf (bytes v.content.now))))) (leaf (bytes v.content.now)) };
+    ghost tree = { λ v. cond v.is_array
+        (array (elements (replicate v.times (leaf (bytes v.content.now)))))
+        (leaf (bytes v.content.now)) };
 
     ghost array_rest = { λ s. replicate s.left (leaf (bytes s.content.now)) };
 

@@ -4,7 +4,9 @@ ghost use Rattle.std.specs.Prelude.{◌≡◌, ◌+◌, [], length, Err, IfSome,
 ghost use Rattle.serde_json.specs.View.{view, items_view};
 ghost use Rattle.tv_field.specs.Entry.{Entry};
 ghost use Rattle.tv_schema.specs.SchemaJsonEarly.{head_error, first_error};
-ghost use Rattle.tv_schema.specs.SchemaJsonReading.{Gives, entry_of, with_entry, with_entries, type_named};
+ghost use Rattle.tv_schema.specs.SchemaJsonReading.{
+    Gives, entry_of, with_entry, with_entries, type_named,
+};
 
 use crate::json::members::{required_object, required_text};
 use crate::json::options::options_of;
@@ -38,7 +40,8 @@ fn add_entry(
     description: &Value,
 ) -> Result<(), SchemaError>
     requires { place ≡ length builder.old }
-    ensures added { Gives (λ _. builder.new) (with_entry builder.old (view description.now)) result }
+    ensures added { Gives (λ _. builder.new) (with_entry builder.old (view description.now))
+        result }
     ensures early { IfSome (head_error place (view description.now)) (λ error. result ≡ Err error) }
     ensures one_more { OnOk result (length builder.new ≡ place + 1) }
 {

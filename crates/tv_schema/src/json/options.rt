@@ -2,7 +2,12 @@
 
 ghost use Rattle.std.specs.Prelude.{◌≡◌, IfOk};
 ghost use Rattle.serde_json.specs.View.{view, members_view};
-ghost use Rattle.tv_schema.specs.SchemaJsonOptions.{options_of, text_options_of, numeric_options_of, date_options_of, facet_options_of, bytes_options_of, json_object_options_of, ip_addr_options_of, optional_indexing, indexing_of, fieldnorms_or, fast_field_of, fast_field_or_none, required_fast_field, record_or_basic, precision_or_seconds};
+ghost use Rattle.tv_schema.specs.SchemaJsonOptions.{
+    options_of, text_options_of, numeric_options_of, date_options_of, facet_options_of,
+    bytes_options_of, json_object_options_of, ip_addr_options_of, optional_indexing, indexing_of,
+    fieldnorms_or, fast_field_of, fast_field_or_none, required_fast_field, record_or_basic,
+    precision_or_seconds,
+};
 
 use crate::json::members::{
     Members, bool_or, member, present, required_bool, required_text, text_or,
@@ -24,7 +29,8 @@ pub(super) fn options_of(
     value_type: Type,
     members: &Members,
 ) -> Result<Option<FieldType>, AllocError>
-    ensures { IfOk result (λ found. found ≡ options_of value_type (members_view members.now.entries)) }
+    ensures { IfOk result
+        (λ found. found ≡ options_of value_type (members_view members.now.entries)) }
 {
     match value_type {
         Type::Str => Ok(text_options_of(alloc, members)?.map(FieldType::Str)),
@@ -106,7 +112,8 @@ fn json_object_options_of(
     alloc: Global,
     members: &Members,
 ) -> Result<Option<JsonObjectOptions>, AllocError>
-    ensures { IfOk result (λ found. found ≡ json_object_options_of (members_view members.now.entries)) }
+    ensures { IfOk result
+        (λ found. found ≡ json_object_options_of (members_view members.now.entries)) }
 {
     let Some(stored) = required_bool(members, "stored") else {
         return Ok(None);
@@ -203,7 +210,8 @@ fn required_fast_field(
     alloc: Global,
     members: &Members,
 ) -> Result<Option<FastFieldTextOptions>, AllocError>
-    ensures { IfOk result (λ found. found ≡ required_fast_field (members_view members.now.entries)) }
+    ensures { IfOk result
+        (λ found. found ≡ required_fast_field (members_view members.now.entries)) }
 {
     let Some(found) = member(members, "fast") else {
         return Ok(None);
