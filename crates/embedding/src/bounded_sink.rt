@@ -60,7 +60,7 @@ impl ByteSink for BoundedSink {
         ensures some { IfOk result (λ n. n ≡ 0 → length buf.now ≡ 0) }
         ensures kind { IfErr result
             (λ kind. (kind ≡ OutOfMemory)
-                ⊎ ((kind ≡ StorageFull) × (length self.old.bytes.items ≡ self.old.most))) }
+            ⊎ ((kind ≡ StorageFull) × (length self.old.bytes.items ≡ self.old.most))) }
         ensures failures { CountsFailure result (⟦<BoundedSink as ByteSink>⟧.failures self.old)
             (⟦<BoundedSink as ByteSink>⟧.failures self.new) }
         ensures limit { self.new.most ≡ self.old.most }

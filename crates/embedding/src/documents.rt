@@ -5,9 +5,8 @@ ghost use Rattle.tantivy_schema.specs.Belongs.{Belongs};
 ghost use Rattle.tantivy_schema.specs.CodeTypes.DeserializeError.{DeserializeError};
 ghost use Rattle.tantivy_schema.specs.CodeTypes.DeserializeError.TheVariants.{HeapFull};
 ghost use Rattle.tantivy_schema.specs.Document.{document_of};
-ghost use Rattle.tantivy_schema.specs.Documents.{
-    Answers, NoDocument, HasNoRoom, ShowsRefusal, IsReadingError,
-};
+ghost use Rattle.tantivy_schema.specs.Documents.{Answers, NoDocument, HasNoRoom, ShowsRefusal};
+ghost use Rattle.tantivy_schema.specs.Documents.{IsReadingError};
 ghost use Rattle.tantivy_schema.specs.InputError.{Refusal};
 ghost use Rattle.tantivy_schema.specs.Legacy.{Legacy};
 ghost use Rattle.tantivy_schema.specs.ReadsAs.{Known};

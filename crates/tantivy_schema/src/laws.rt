@@ -96,7 +96,7 @@ pub fn stored_pairs_are_read_back<S: ByteSource>(
     ensures { Known S.is_known S.left source.old
         → document_room (document_of document.now) ≤ 4294967295 → (rest : List ℕ)
         → S.left source.old
-            ≡ short_document V2 (stored schema.now (document_of document.now)) ++ rest
+        ≡ short_document V2 (stored schema.now (document_of document.now)) ++ rest
         → Answers result (stored schema.now (document_of document.now)) rest (S.left source.new) }
 {
     let _ = schema;

@@ -1,9 +1,8 @@
 //! Places in a hierarchy.
 
-ghost use Rattle.std.specs.Prelude.{
-    ◌≡◌, ◌≢◌, ◌↔◌, ℕ, List, [], ◌∷◌, ◌++◌, map, refl, Some, IfOk, IfErr, IsOk, IsTrue, MatchOption,
-    OnErr, OnOk, IsUtf8, string_bytes, bytes_eq,
-};
+ghost use Rattle.std.specs.Prelude.{◌≡◌, ◌≢◌, ◌↔◌, ℕ, List, [], ◌∷◌, ◌++◌, map, refl, Some, IfOk};
+ghost use Rattle.std.specs.Prelude.{IfErr, IsOk, IsTrue, MatchOption, OnErr, OnOk, IsUtf8};
+ghost use Rattle.std.specs.Prelude.{string_bytes, bytes_eq};
 ghost use Rattle.std.specs.List.{join_with_byte};
 ghost use Rattle.std.specs.Ordering.{nat_cmp};
 ghost use Rattle.std.specs.Hash as fed;
@@ -11,12 +10,10 @@ ghost use Rattle.std.specs.Hash.{same_Alike};
 ghost use Rattle.std.proofs.lemmas.Slice.Eq.{bytes_eq-Decides};
 ghost use Rattle.std.specs.String.{from_utf8_error_vec};
 ghost use Rattle.std.specs.Cmp.{partial_equiv_from_equiv};
-ghost use Rattle.std.specs.Cmp.Lexicographic.{
-    slice_cmp, nat_list_eq_equiv, nat_list_cmp_total, texts_ties, texts_po,
-};
-ghost use Rattle.tv_base.specs.Facet.{
-    parse, path, printed, debug_printed, IsParseError, IsEncoded, Descends,
-};
+ghost use Rattle.std.specs.Cmp.Lexicographic.{slice_cmp, nat_list_eq_equiv, nat_list_cmp_total};
+ghost use Rattle.std.specs.Cmp.Lexicographic.{texts_ties, texts_po};
+ghost use Rattle.tv_base.specs.Facet.{parse, path, printed, debug_printed, IsParseError, IsEncoded};
+ghost use Rattle.tv_base.specs.Facet.{Descends};
 ghost use Rattle.tv_base.specs.Sink.{Begins};
 
 use crate::facet_parse_error::FacetParseError;

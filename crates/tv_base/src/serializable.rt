@@ -4,14 +4,11 @@ ghost use Rattle.std.specs.Prelude.{◌≡◌, ◌-◌, ◌^◌, ℕ, ℤ, Bool,
 ghost use Rattle.tv_base.specs.declared.cause.Cause.{Cause};
 ghost use Rattle.tv_base.specs.declared.cause.Cause.TheVariants.{TooLong};
 ghost use Rattle.tv_base.specs.declared.read_error.ReadError.TheVariants.{Corrupted, Memory};
-ghost use Rattle.tv_base.specs.Number.{
-    VNum, vnum, Fixed, one_byte, four_bytes, eight_bytes, sixteen_bytes, Signed, signed_bytes,
-    Truth, truth_byte,
-};
+ghost use Rattle.tv_base.specs.Number.{VNum, vnum, Fixed, one_byte, four_bytes, eight_bytes};
+ghost use Rattle.tv_base.specs.Number.{sixteen_bytes, Signed, signed_bytes, Truth, truth_byte};
 ghost use Rattle.tv_base.specs.Parts.{Sized, Text, short_sized};
-ghost use Rattle.tv_base.specs.ErrorInPart.{
-    ErrorInNumber, ErrorInBytes, ErrorInTruth, ErrorInSized, ErrorInText,
-};
+ghost use Rattle.tv_base.specs.ErrorInPart.{ErrorInNumber, ErrorInBytes, ErrorInTruth};
+ghost use Rattle.tv_base.specs.ErrorInPart.{ErrorInSized, ErrorInText};
 ghost use Rattle.tv_base.specs.ReadsAs.{ReadsAs};
 ghost use Rattle.tv_base.specs.Reading.{vint_at};
 ghost use Rattle.tv_base.specs.Sink.{Writes};

@@ -55,7 +55,7 @@ pub trait ByteSource {
         ensures longer { IfOk result (λ n. length bytes.new.items ≡ length bytes.old.items + n) }
         ensures bytes { is_known self.old
             → AppendsNext (left self.old) (left self.new) bytes.old.items bytes.new.items most
-                result }
+            result }
         ensures is_known { is_known self.old → is_known self.new }
         ensures failures { Counts append_stop result (failures self.old) (failures self.new) }
     {

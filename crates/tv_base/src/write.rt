@@ -4,9 +4,8 @@
 //! to be written.
 
 ghost use Rattle.std.specs.Prelude.{◌≡◌};
-ghost use Rattle.tv_base.specs.Number.{
-    vnum, one_byte, four_bytes, eight_bytes, sixteen_bytes, signed_bytes, truth_byte,
-};
+ghost use Rattle.tv_base.specs.Number.{vnum, one_byte, four_bytes, eight_bytes, sixteen_bytes};
+ghost use Rattle.tv_base.specs.Number.{signed_bytes, truth_byte};
 ghost use Rattle.tv_base.specs.Parts.{short_sized};
 ghost use Rattle.tv_base.specs.Sink.{Writes};
 

@@ -19,7 +19,7 @@ pub(crate) fn put_member<'a>(
 ) -> Option<()>
     ensures { OnSome result
         (members_data members.new.items
-            ≡ put key.now (data_of value.entry) (members_data members.old.items)) }
+        ≡ put key.now (data_of value.entry) (members_data members.old.items)) }
 {
     for i in 0..members.len() {
         match key.cmp(members[i].0) {

@@ -3,9 +3,8 @@
 ghost use Rattle.std.specs.Prelude.{◌≡◌, ◌<◌, length, Some, IfSome, OnSome};
 ghost use Rattle.json.specs.Json.{value, items, members};
 ghost use Rattle.serde_json.specs.Data.{no_members};
-ghost use Rattle.serde_json.specs.Read.{
-    of_json, of_items, of_members, converted, read as read_text,
-};
+ghost use Rattle.serde_json.specs.Read.{of_json, of_items, of_members, converted};
+ghost use Rattle.serde_json.specs.Read.{read as read_text};
 ghost use Rattle.tv_borrowed.specs.BorrowedData.{data_of, items_data, members_data};
 
 use crate::borrowed::BorrowedJson;
@@ -76,7 +75,7 @@ fn read_items<'a>(
 ) -> Option<Vec<BorrowedJson<'a>>>
     ensures found { IfSome result
         (λ v. converted of_items (items (value depth) (length reader.old) reader.old)
-            ≡ Some (items_data v.items, reader.new)) }
+        ≡ Some (items_data v.items, reader.new)) }
     ensures shorter { OnSome result (length reader.new < length reader.old) }
 {
     let mut found = Vec::new(alloc);
@@ -93,8 +92,8 @@ fn read_items<'a>(
 fn read_members<'a>(alloc: Global, reader: &mut Reader<'a>, depth: usize) -> Option<Members<'a>>
     ensures found { IfSome result
         (λ v. converted (λ ms. of_members ms no_members)
-                (members (value depth) (length reader.old) reader.old)
-            ≡ Some (members_data v.items, reader.new)) }
+        (members (value depth) (length reader.old) reader.old)
+        ≡ Some (members_data v.items, reader.new)) }
     ensures shorter { OnSome result (length reader.new < length reader.old) }
 {
     let mut found = Vec::new(alloc);

@@ -1,9 +1,7 @@
 //! A heap, and a value that is written into it part by part.
 
-ghost use Rattle.std.specs.Prelude.{
-    ◌≡◌, ℕ, ◌+◌, ◌-◌, ◌<◌, ◌≤◌, ◌^◌, ◌++◌, [], ◌∷◌, ◌↔◌, length, drop, take, OnOk, OnErr, IfOk,
-    IfErr, IsTrue, IsUtf8,
-};
+ghost use Rattle.std.specs.Prelude.{◌≡◌, ℕ, ◌+◌, ◌-◌, ◌<◌, ◌≤◌, ◌^◌, ◌++◌, [], ◌∷◌, ◌↔◌, length};
+ghost use Rattle.std.specs.Prelude.{drop, take, OnOk, OnErr, IfOk, IfErr, IsTrue, IsUtf8};
 ghost use Rattle.tv_base.specs.Number.{vnum};
 ghost use Rattle.tv_base.specs.Parts.{short_sized};
 ghost use Rattle.tv_base.specs.Sink.{IsPrefix};
@@ -21,9 +19,9 @@ use std::alloc::Global;
 use std::convert::AsStr;
 use tv_heap::value_type::ValueType;
 use tv_heap::write::push_place;
+use tv_value::encode::{push_number, push_sized};
 use tv_value::leaf::ReferenceValueLeaf;
 use tv_value::nested::lend;
-use tv_value::encode::{push_number, push_sized};
 use tv_value::value::Value;
 
 /// The bytes of an open value. (Not in tantivy.)
@@ -57,22 +55,19 @@ pub struct Building {
 }
 
 impl Building {
-    ghost use Rattle.tv_builder.specs.Called.{
-        held, leaf_called, list_called, key_called, tree_called,
-    };
+    ghost use Rattle.tv_builder.specs.Called.{held, leaf_called, list_called, key_called};
+    ghost use Rattle.tv_builder.specs.Called.{tree_called};
     ghost use Rattle.tv_builder.specs.Parts.{IsContent};
-    ghost use Rattle.tv_builder.specs.Moves.{
-        CanGive, Gives, GivesNot, CanGiveKey, GivesKey, Closed, ClosedNot, Does, EndsBytes,
-        LeafHeap, LeafFull, ValueHeap, ValueFull, HeadHeap, HeadFull, KeyHeap, KeyFull, ListHeap,
-        ListFull, AwaitsChunk, last_bytes,
-    };
+    ghost use Rattle.tv_builder.specs.Moves.{CanGive, Gives, GivesNot, CanGiveKey, GivesKey};
+    ghost use Rattle.tv_builder.specs.Moves.{Closed, ClosedNot, Does, EndsBytes, LeafHeap};
+    ghost use Rattle.tv_builder.specs.Moves.{LeafFull, ValueHeap, ValueFull, HeadHeap, HeadFull};
+    ghost use Rattle.tv_builder.specs.Moves.{KeyHeap, KeyFull, ListHeap, ListFull, AwaitsChunk};
+    ghost use Rattle.tv_builder.specs.Moves.{last_bytes};
     ghost use Rattle.tv_builder.specs.Shows.{Stands, frames_of, awaited_by};
-    ghost use Rattle.tv_builder.specs.State.{
-        and_value, and_list, and_key, and_head, and_bytes, head_awaits,
-    };
-    ghost use Rattle.tv_builder.specs.declared.awaits.Awaits.TheVariants.{
-        Value as ValueNext, Key as KeyNext,
-    };
+    ghost use Rattle.tv_builder.specs.State.{and_value, and_list, and_key, and_head, and_bytes};
+    ghost use Rattle.tv_builder.specs.State.{head_awaits};
+    ghost use Rattle.tv_builder.specs.declared.awaits.Awaits.TheVariants.{Value as ValueNext};
+    ghost use Rattle.tv_builder.specs.declared.awaits.Awaits.TheVariants.{Key as KeyNext};
 
     /// Behind this heap, where a value is awaited. It takes no memory.
     pub fn new(alloc: Global, heap: Vec<u8>) -> Building

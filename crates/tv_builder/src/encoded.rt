@@ -78,7 +78,7 @@ fn truth_at(bytes: &[u8]) -> Option<(bool, &[u8])>
 fn tokenized_at(bytes: &[u8]) -> Option<(PreTokenizedStr<'_>, &[u8])>
     ensures { IfSome result
         (λ x. Begins (Behind 0 (λ b. Tokenized b (text_of x.0) (tokens_of x.0))) bytes.now
-            x.1.now) }
+        x.1.now) }
 {
     let (code, payload) = bytes.split_first()?;
     if *code != TOK_STR_EXT_CODE {
@@ -107,7 +107,7 @@ fn put_content(heap: &mut Vec<u8>, leaf_type: LeafType, content: LeafContent<'_>
     requires { length heap.old.items ≤ 4294967295 }
     ensures found { IfSome result
         (λ place. (l : Leaf) × (leaf_with leaf_type (content_of content.entry) ≡ Some l)
-            × Put heap.old.items (leaf_tree l) heap.new.items place) }
+        × Put heap.old.items (leaf_tree l) heap.new.items place) }
     ensures prefix { IsPrefix heap.old.items heap.new.items }
 {
     let value = ReferenceValueLeaf::with_content(leaf_type, content)?;

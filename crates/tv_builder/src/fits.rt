@@ -5,9 +5,7 @@ ghost use Rattle.tv_base.specs.Number.{vnum};
 ghost use Rattle.tv_builder.specs.Moves.{FitsRoom};
 
 use tv_base::vint::VInt;
-
-// The largest length of a heap, so that 32 bits hold each address.
-const MAX_HEAP_LEN: u64 = 4294967295;
+use tv_heap::room::MAX_HEAP_LEN;
 
 // The length of the shortest encoding of a number.
 #[inline(always)]

@@ -60,7 +60,7 @@ fn put_array(items: &[BorrowedJson<'_>], heap: &mut Vec<u8>, places: &mut Vec<u8
     requires { length heap.old.items ≤ 4294967295 }
     ensures found { IfSome result
         (λ place. Put heap.old.items (array (whole_elements (items_data items.now))) heap.new.items
-            place) }
+        place) }
     ensures places { IfSome result (λ place. places.new.items ≡ places.old.items) }
     ensures prefix { IsPrefix heap.old.items heap.new.items }
 {
@@ -88,7 +88,7 @@ fn put_object(
     requires { length heap.old.items ≤ 4294967295 }
     ensures found { IfSome result
         (λ place. Put heap.old.items (object (whole_entries (members_data members.now)))
-            heap.new.items place) }
+        heap.new.items place) }
     ensures places { IfSome result (λ place. places.new.items ≡ places.old.items) }
     ensures prefix { IsPrefix heap.old.items heap.new.items }
 {

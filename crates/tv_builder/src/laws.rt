@@ -6,13 +6,12 @@ ghost use Rattle.tv_value.specs.Tree.{Tree, Document};
 ghost use Rattle.tv_value.specs.Version.{Version};
 ghost use Rattle.tv_builder.specs.Behind.{document_parts, open_parts};
 ghost use Rattle.tv_builder.specs.Prefix.{Encoded};
-ghost use Rattle.tv_builder.specs.Parts.{
-    Part, Trades, IsContent, value, key, bytes_head, some_bytes,
-};
-ghost use Rattle.tv_builder.specs.State.{
-    State, OpenList, IsState, HeadNext, in_lists, in_bytes, awaited, and_value, and_list, and_key,
-    and_head, and_bytes, and_end, head_awaits, list_head, parts_of, lists_of, children_of,
-};
+ghost use Rattle.tv_builder.specs.Parts.{Part, Trades, IsContent, value, key, bytes_head};
+ghost use Rattle.tv_builder.specs.Parts.{some_bytes};
+ghost use Rattle.tv_builder.specs.State.{State, OpenList, IsState, HeadNext, in_lists, in_bytes};
+ghost use Rattle.tv_builder.specs.State.{awaited, and_value, and_list, and_key, and_head};
+ghost use Rattle.tv_builder.specs.State.{and_bytes, and_end, head_awaits, list_head, parts_of};
+ghost use Rattle.tv_builder.specs.State.{lists_of, children_of};
 ghost use Rattle.tv_builder.specs.Weight.{document_weight, state_weight};
 ghost use Rattle.tv_builder.specs.declared.awaits.Awaits.TheVariants.{Value, Key};
 ghost use Rattle.tv_builder.specs.declared.bytes_kind.BytesKind.{BytesKind};
@@ -40,14 +39,14 @@ pub fn calls_trade()
         → Trades (parts_of s ++ key k ∷ []) (parts_of (and_key s k)) }
     ensures heads { (ls : List OpenList) (kind : BytesKind) (n : ℕ)
         → Trades (parts_of (in_lists ls) ++ bytes_head kind n ∷ [])
-            (parts_of (and_head (in_lists ls) kind n)) }
+        (parts_of (and_head (in_lists ls) kind n)) }
     ensures bytes { (ls : List OpenList) (kind : BytesKind) (n : ℕ) (bs more : List ℕ)
         → Trades (parts_of (in_bytes ls kind n bs) ++ some_bytes more ∷ [])
-            (parts_of (and_bytes (in_bytes ls kind n bs) more)) }
+        (parts_of (and_bytes (in_bytes ls kind n bs) more)) }
     ensures ends { (ls : List OpenList) (kind : BytesKind) (bs : List ℕ)
         → IsState (in_bytes ls kind (length bs) bs) → IsContent kind bs
         → Trades (parts_of (in_bytes ls kind (length bs) bs))
-            (parts_of (and_end (in_bytes ls kind (length bs) bs))) }
+        (parts_of (and_end (in_bytes ls kind (length bs) bs))) }
 {}
 
 /// What is written of a document, and of the value that comes next, is at most seven times the bytes that encode it, whatever is announced.

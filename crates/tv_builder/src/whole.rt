@@ -92,11 +92,11 @@ pub(crate) fn put_tree<N: Nested>(
     requires { length heap.old.items ≤ 4294967295 }
     ensures ok { IfOk result
         (λ place. Put heap.old.items (nested_tree N.array_rest N.object_rest value.entry)
-            heap.new.items place) }
+        heap.new.items place) }
     ensures places { OnOk result (places.new.items ≡ places.old.items) }
     ensures err { IfErr result
         (λ e. PutNot heap.old.items (nested_tree N.array_rest N.object_rest value.entry)
-            heap.new.items e) }
+        heap.new.items e) }
 {
     match value {
         NestedValue::Leaf(single) => put_leaf(heap, &single),
@@ -139,7 +139,7 @@ fn put_object<N: Nested>(
     requires { length heap.old.items ≤ 4294967295 }
     ensures ok { IfOk result
         (λ place. Put heap.old.items (object (entries (N.object_rest members))) heap.new.items
-            place) }
+        place) }
     ensures places { OnOk result (places.new.items ≡ places.old.items) }
     ensures err { IfErr result
         (λ e. PutNot heap.old.items (object (entries (N.object_rest members))) heap.new.items e) }

@@ -1,8 +1,7 @@
 //! A decoder of documents with a stack of its own, which is lent its source for each step.
 
-ghost use Rattle.std.specs.Prelude.{
-    ◌≡◌, ◌↔◌, ◌-◌, ◌^◌, List, ℕ, [], length, true, false, Ok, Err, IfOk, OnOk, OnErr, IsErrOf,
-};
+ghost use Rattle.std.specs.Prelude.{◌≡◌, ◌↔◌, ◌-◌, ◌^◌, List, ℕ, [], length, true, false, Ok, Err};
+ghost use Rattle.std.specs.Prelude.{IfOk, OnOk, OnErr, IsErrOf};
 ghost use Rattle.tv_base.specs.declared.cause.Cause.TheVariants.{TooLong};
 ghost use Rattle.tv_decoder.specs.Prefix.{parts_read, IsSound, IsDone, NoPrefix, NoRoomBehind};
 ghost use Rattle.tv_decoder.specs.Paid.{PaidBy};
@@ -14,9 +13,9 @@ ghost use Rattle.tv_builder.specs.Prefix.{Encoded};
 ghost use Rattle.tv_builder.specs.State.{lists_of, children_of};
 ghost use Rattle.tv_reader.specs.Finds.{Finds};
 ghost use Rattle.tv_reader.specs.Version.{version_of};
-ghost use Rattle.tv_reader.specs.declared.error.DeserializeError.TheVariants.{
-    AlreadyFailed, CorruptedValue, HeapFull,
-};
+ghost use Rattle.tv_reader.specs.declared.error.DeserializeError.TheVariants.{AlreadyFailed};
+ghost use Rattle.tv_reader.specs.declared.error.DeserializeError.TheVariants.{CorruptedValue};
+ghost use Rattle.tv_reader.specs.declared.error.DeserializeError.TheVariants.{HeapFull};
 ghost use Rattle.tv_value.specs.Encoding.{NoLegacy};
 
 use crate::reading::Reading;
@@ -90,10 +89,10 @@ impl DirectDecoder {
         // what was taken, and what has come then; or what is malformed
         ensures finds { self.old.failed ≡ false → ¬ IsDone self.old.reading
             → Finds S.is_known S.left S.failures source.old self.old.count source.new self.new.count
-                result
-                (λ b _. Stepped (version_of self.old.version) self.new.legacy_seen self.old.reading
-                    self.new.reading b)
-                (NoPrefix (version_of self.old.version) self.old.reading) }
+            result
+            (λ b _. Stepped (version_of self.old.version) self.new.legacy_seen self.old.reading
+            self.new.reading b)
+            (NoPrefix (version_of self.old.version) self.old.reading) }
         ensures full { S.is_known source.old → IsErrOf result HeapFull
             → NoRoomBehind (version_of self.old.version) self.old.reading (S.left source.old) }
         ensures done { IfOk result (λ step. SaysDone step ↔ IsDone self.new.reading) }

@@ -6,20 +6,17 @@ ghost use Rattle.tv_decoder.specs.Documents.{EncodesRead, EncodesBehind, NoDocum
 ghost use Rattle.tv_decoder.specs.Prefix.{IsSound, NoPrefix, HasNoRoom, NoRoomBehind};
 ghost use Rattle.tv_reader.specs.Finds.{Finds};
 ghost use Rattle.tv_reader.specs.Version.{version_of};
-ghost use Rattle.tv_reader.specs.declared.error.DeserializeError.TheVariants.{
-    CorruptedValue, HeapFull,
-};
+ghost use Rattle.tv_reader.specs.declared.error.DeserializeError.TheVariants.{CorruptedValue};
+ghost use Rattle.tv_reader.specs.declared.error.DeserializeError.TheVariants.{HeapFull};
 
 use crate::buffered::take_buffered_pairs;
 use crate::reading::Reading;
 use std::alloc::Global;
 use tv_base::{ByteSource, Cause};
 use tv_doc::document::CompactDoc;
+use tv_heap::write::FIRST_ROOM;
 use tv_reader::heads::take_document_head;
 use tv_reader::{DeserializeError, DocStoreVersion};
-
-/// The heap of a document has this room at first, in bytes.
-const SHORT_HEAP: usize = 512;
 
 // Takes what is left of a document, part by part, and whole pairs where the source has them buffered.
 fn take_rest<S: ByteSource>(
@@ -70,7 +67,7 @@ pub fn take_document<S: ByteSource>(
     ensures too_long { IsErrOf result (CorruptedValue TooLong) → count.new ≡ 2 ^ 64 - 1 }
 {
     let announced = take_document_head(source, count)?;
-    let mut document = CompactDoc::with_capacity(alloc, SHORT_HEAP)?;
+    let mut document = CompactDoc::with_capacity(alloc, FIRST_ROOM)?;
     let finished = take_buffered_pairs(&mut document, source, count, version, announced)?;
     if finished == announced {
         return Ok(document);

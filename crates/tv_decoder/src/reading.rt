@@ -1,35 +1,29 @@
 //! What has been read of a document, and what its next part does to that.
 
-ghost use Rattle.std.specs.Prelude.{
-    ◌≡◌, ◌≢◌, ◌↔◌, ◌-◌, ◌^◌, ◌≤◌, ◌<◌, [], ◌∷◌, length, take, IsTrue, IsErrOf, IfOk, IfErr, OnOk,
-    OnErr, Some, None, false,
-};
+ghost use Rattle.std.specs.Prelude.{◌≡◌, ◌≢◌, ◌↔◌, ◌-◌, ◌^◌, ◌≤◌, ◌<◌, [], ◌∷◌, length, take};
+ghost use Rattle.std.specs.Prelude.{IsTrue, IsErrOf, IfOk, IfErr, OnOk, OnErr, Some, None, false};
 ghost use Rattle.tv_base.specs.declared.cause.Cause.TheVariants.{TooLong};
 ghost use Rattle.tv_builder.specs.Behind.{document_parts};
-ghost use Rattle.tv_builder.specs.Parts.{
-    value as value_part, array_head, object_head, some_bytes, bytes_head,
-};
+ghost use Rattle.tv_builder.specs.Parts.{value as value_part, array_head, object_head, some_bytes};
+ghost use Rattle.tv_builder.specs.Parts.{bytes_head};
 ghost use Rattle.tv_builder.specs.State.{awaited, head_awaits, lists_of, children_of};
-ghost use Rattle.tv_builder.specs.declared.awaits.Awaits.TheVariants.{
-    Value as ValueAwaited, Key as KeyAwaited, Bytes as BytesAwaited,
-};
+ghost use Rattle.tv_builder.specs.declared.awaits.Awaits.TheVariants.{Value as ValueAwaited};
+ghost use Rattle.tv_builder.specs.declared.awaits.Awaits.TheVariants.{Key as KeyAwaited};
+ghost use Rattle.tv_builder.specs.declared.awaits.Awaits.TheVariants.{Bytes as BytesAwaited};
 ghost use Rattle.tv_builder.specs.declared.bytes_kind.BytesKind.TheVariants.{Key as KeyKind};
 ghost use Rattle.tv_decoder.specs.Buffered.{Nothing};
-ghost use Rattle.tv_decoder.specs.Prefix.{
-    parts_read, IsSound, IsDone, LacksPair, NoPrefix, NoRoomBehind,
-};
-ghost use Rattle.tv_decoder.specs.Puts.{
-    IsOpen, AtEnd, Awaiting, Puts, PutsEnd, PutsBytes, IsParts, bytes_kind, head_parts, LetGo,
-    KeepsPairs,
-};
+ghost use Rattle.tv_decoder.specs.Prefix.{parts_read, IsSound, IsDone, LacksPair, NoPrefix};
+ghost use Rattle.tv_decoder.specs.Prefix.{NoRoomBehind};
+ghost use Rattle.tv_decoder.specs.Puts.{IsOpen, AtEnd, Awaiting, Puts, PutsEnd, PutsBytes, IsParts};
+ghost use Rattle.tv_decoder.specs.Puts.{bytes_kind, head_parts, LetGo, KeepsPairs};
 ghost use Rattle.tv_decoder.specs.Steps.{Advances, Stepped, Sees};
 ghost use Rattle.tv_doc.specs.Builder.{built, state_of, heap_so_far};
 ghost use Rattle.tv_doc.specs.Document.{document_of};
 ghost use Rattle.tv_reader.specs.Finds.{Finds};
 ghost use Rattle.tv_reader.specs.HeadReading.{head_part};
-ghost use Rattle.tv_reader.specs.declared.error.DeserializeError.TheVariants.{
-    CorruptedValue, HeapFull, Memory as NoMemory,
-};
+ghost use Rattle.tv_reader.specs.declared.error.DeserializeError.TheVariants.{CorruptedValue};
+ghost use Rattle.tv_reader.specs.declared.error.DeserializeError.TheVariants.{HeapFull};
+ghost use Rattle.tv_reader.specs.declared.error.DeserializeError.TheVariants.{Memory as NoMemory};
 ghost use Rattle.tv_legacy.specs.Legacy.{Legacy};
 ghost use Rattle.tv_reader.specs.Version.{version_of};
 ghost use Rattle.tv_value.specs.Lent.{leaf_of};
@@ -336,7 +330,7 @@ impl Reading {
         ensures left { OnErr result (KeepsPairs self.old self.new) }
         ensures finds { (v : Version)
             → Finds S.is_known S.left S.failures source.old count.old source.new count.new result
-                (λ b _. Stepped v false self.old self.new b) (NoPrefix v self.old) }
+            (λ b _. Stepped v false self.old self.new b) (NoPrefix v self.old) }
         ensures too_long { IsErrOf result (CorruptedValue TooLong) → count.new ≡ 2 ^ 64 - 1 }
         ensures roomy { ¬ IsErrOf result HeapFull }
     {
@@ -358,7 +352,7 @@ impl Reading {
         ensures left { OnErr result (KeepsPairs self.old self.new) }
         ensures finds { (v : Version)
             → Finds S.is_known S.left S.failures source.old count.old source.new count.new result
-                (λ b _. Stepped v false self.old self.new b) (NoPrefix v self.old) }
+            (λ b _. Stepped v false self.old self.new b) (NoPrefix v self.old) }
         ensures too_long { IsErrOf result (CorruptedValue TooLong) → count.new ≡ 2 ^ 64 - 1 }
         ensures roomy { ¬ IsErrOf result HeapFull }
     {
@@ -437,7 +431,7 @@ impl Reading {
         ensures left { OnErr result (KeepsPairs self.old self.new) }
         ensures finds { (v : Version)
             → Finds S.is_known S.left S.failures source.old count.old source.new count.new result
-                (λ b _. Stepped v false self.old self.new b) (NoPrefix v self.old) }
+            (λ b _. Stepped v false self.old self.new b) (NoPrefix v self.old) }
         ensures full { (v : Version) → S.is_known source.old → IsErrOf result HeapFull
             → NoRoomBehind v self.old (S.left source.old) }
         ensures too_long { IsErrOf result (CorruptedValue TooLong) → count.new ≡ 2 ^ 64 - 1 }

@@ -34,7 +34,7 @@ fn add_found(
 ) -> Option<()>
     ensures added { OnSome result
         (IsOkAnd found.entry
-            (λ single. AddsTree document.old document.new field.id (leaf (leaf_of single)))) }
+        (λ single. AddsTree document.old document.new field.id (leaf (leaf_of single)))) }
     ensures none { IfNone result (IsUnchanged document.old document.new) }
 {
     match found {
@@ -99,11 +99,15 @@ fn add_one(
 ) -> Option<()>
     ensures { OnSome result
         (AddsPairs
-            (record
-                    { name = name.now; field = field.id; field_type = field_type.now; value =
-                        data_of json.now }
-                ∷ [])
-            document.old document.new) }
+        (record {
+          name = name.now;
+          field = field.id;
+          field_type = field_type.now;
+          value =
+              data_of json.now;
+        }
+        ∷ [])
+        document.old document.new) }
 {
     if let Some(()) = add_plain(document, scratch, field, field_type, json) {
         return Some(());
@@ -123,8 +127,8 @@ fn add_borrowed(
 ) -> Option<()>
     ensures { OnSome result
         (AddsPairs
-            (values_at schema.now name.now (field_named schema.now name.now) (data_of json.now))
-            document.old document.new) }
+        (values_at schema.now name.now (field_named schema.now name.now) (data_of json.now))
+        document.old document.new) }
 {
     let Ok(field) = schema.get_field(name) else {
         return Some(());
@@ -148,7 +152,7 @@ impl CompactDoc {
     ) -> Option<CompactDoc>
         ensures { IfSome result
             (λ made. Pairs (object_values schema.now (members_data members.now))
-                (document_of made)) }
+            (document_of made)) }
     {
         let mut document = CompactDoc::new(alloc);
         let mut scratch = JsonScratch::new(alloc);

@@ -1,8 +1,7 @@
 //! Building the values of a document part by part.
 
-ghost use Rattle.std.specs.Prelude.{
-    ◌≡◌, ◌+◌, ◌<◌, ◌≤◌, ◌∷◌, [], ◌++◌, OnOk, OnErr, IfErr, length, take, true, false, None,
-};
+ghost use Rattle.std.specs.Prelude.{◌≡◌, ◌+◌, ◌<◌, ◌≤◌, ◌∷◌, [], ◌++◌, OnOk, OnErr, IfErr, length};
+ghost use Rattle.std.specs.Prelude.{take, true, false, None};
 ghost use Rattle.tv_builder.specs.OneState.{Stands-prop};
 ghost use Rattle.tv_builder.specs.Shows.{Stands};
 ghost use Rattle.tv_builder.specs.State.{written};
@@ -53,7 +52,7 @@ fn keep_tree(
         (Kept building.old building.new pairs.old.items pairs.new.items kept.new field.id) }
     ensures err { IfErr result
         (λ e. KeptNot building.old building.new pairs.old.items pairs.new.items kept.old kept.new
-            field.id e) }
+        field.id e) }
 {
     let Some(place) = building.complete else {
         return Err(BuildError::OutOfPlace);
@@ -95,21 +94,15 @@ pub struct TreeBuilder {
 }
 
 impl TreeBuilder {
-    ghost use Rattle.tv_builder.specs.Moves.{
-        LeafHeap, LeafFull, ValueHeap, ValueFull, ListHeap, ListFull, KeyHeap, KeyFull, HeadHeap,
-        HeadFull,
-    };
-    ghost use Rattle.tv_builder.specs.State.{
-        and_value, and_list, and_key, and_head, and_bytes, awaited, head_awaits, in_lists, lists_of,
-        children_of,
-    };
-    ghost use Rattle.tv_builder.specs.declared.awaits.Awaits.TheVariants.{
-        Value as ValueNext, Key as KeyNext,
-    };
+    ghost use Rattle.tv_builder.specs.Moves.{LeafHeap, LeafFull, ValueHeap, ValueFull, ListHeap};
+    ghost use Rattle.tv_builder.specs.Moves.{ListFull, KeyHeap, KeyFull, HeadHeap, HeadFull};
+    ghost use Rattle.tv_builder.specs.State.{and_value, and_list, and_key, and_head, and_bytes};
+    ghost use Rattle.tv_builder.specs.State.{awaited, head_awaits, in_lists, lists_of, children_of};
+    ghost use Rattle.tv_builder.specs.declared.awaits.Awaits.TheVariants.{Value as ValueNext};
+    ghost use Rattle.tv_builder.specs.declared.awaits.Awaits.TheVariants.{Key as KeyNext};
     ghost use Rattle.tv_builder.specs.declared.frame.ListKind.TheVariants.{Array, Object};
-    ghost use Rattle.tv_doc.specs.Builder.{
-        built, state_of, heap_so_far, TakesBytes, Builds, Ends, Finishes,
-    };
+    ghost use Rattle.tv_doc.specs.Builder.{built, state_of, heap_so_far, TakesBytes, Builds, Ends};
+    ghost use Rattle.tv_doc.specs.Builder.{Finishes};
     ghost use Rattle.tv_doc.specs.Document.{document_of, heap_of};
     ghost use Rattle.tv_value.specs.Lent.{leaf_of};
     ghost use Rattle.tv_value.specs.Tree.{leaf as leaf_tree};

@@ -1,15 +1,13 @@
 //! Documents: pairs of a field and a value, the values in one heap.
 
-ghost use Rattle.std.specs.Prelude.{
-    ◌≡◌, ℕ, ◌+◌, ◌<◌, ◌≤◌, ◌^◌, [], ◌∷◌, ◌++◌, ◌↔◌, IsTrue, OnOk, OnErr, IfOk, IfErr, IsErrOf,
-    IsOkAnd, IsSomeAnd, MatchOption, SomeIff, option_map, length, map, slice_get, take,
-};
+ghost use Rattle.std.specs.Prelude.{◌≡◌, ℕ, ◌+◌, ◌<◌, ◌≤◌, ◌^◌, [], ◌∷◌, ◌++◌, ◌↔◌, IsTrue, OnOk};
+ghost use Rattle.std.specs.Prelude.{OnErr, IfOk, IfErr, IsErrOf, IsOkAnd, IsSomeAnd, MatchOption};
+ghost use Rattle.std.specs.Prelude.{SomeIff, option_map, length, map, slice_get, take};
 ghost use Rattle.std.specs.Net.Addr.{ipv6_bits};
 ghost use Rattle.std.specs.String.{string_bytes};
 ghost use Rattle.tv_value.specs.HeldTokens.{token_of};
-ghost use Rattle.tv_value.specs.Tree.{
-    leaf, text, unsigned, signed, boolean, date, facet, bytes, ip_address, tokenized,
-};
+ghost use Rattle.tv_value.specs.Tree.{leaf, text, unsigned, signed, boolean, date, facet, bytes};
+ghost use Rattle.tv_value.specs.Tree.{ip_address, tokenized};
 ghost use Rattle.tv_value.specs.Lent.{leaf_of, nested_tree};
 ghost use Rattle.tv_doc.specs.Holds.{Holds, Holds-prop, pair_at};
 ghost use Rattle.tv_heap.specs.Room.{room, document_room};
@@ -24,7 +22,7 @@ use std::alloc::{AllocError, Global};
 use std::collections::BTreeMap;
 use std::net::Ipv6Addr;
 use tv_base::Facet;
-use tv_heap::room::{leaf_room, room};
+use tv_heap::room::{MAX_HEAP_LEN, leaf_room, room};
 use tv_heap::value::CompactDocValue;
 use tv_heap::value_type::ValueType;
 use tv_heap::write::{write_leaf, write_tree};
@@ -37,9 +35,6 @@ use tv_value::owned_value::OwnedValue;
 use tv_value::pre_tokenized::PreTokenizedStr;
 use tv_value::tokenizer::PreTokenizedString;
 use tv_value::value::{ReferenceValue, Value};
-
-// The largest length of a heap, so that 32 bits hold each address.
-const MAX_HEAP_LEN: u64 = 4294967295;
 
 // The first pair makes room for so many.
 const FIRST_PAIRS: usize = 16;
@@ -128,9 +123,8 @@ pub struct CompactDoc {
 
 impl CompactDoc {
     ghost use Rattle.tv_doc.specs.Belongs.{Belongs};
-    ghost use Rattle.tv_doc.specs.Document.{
-        document_of, heap_of, heap_capacity, pairs_capacity, places_of, Adds, IsUnchanged, ReadsAt,
-    };
+    ghost use Rattle.tv_doc.specs.Document.{document_of, heap_of, heap_capacity, pairs_capacity};
+    ghost use Rattle.tv_doc.specs.Document.{places_of, Adds, IsUnchanged, ReadsAt};
     ghost use Rattle.tv_doc.specs.MapValue.{map_tree};
     ghost use Rattle.tv_heap.specs.Value.{tree_of};
     ghost use Rattle.tv_doc.specs.FieldValues.{pairs_left, values_left, values_of};
@@ -291,7 +285,7 @@ impl CompactDoc {
     ) -> Result<(), AddError>
         ensures { Adds self.old self.new field.id
             (leaf
-                (tokenized (string_bytes content.now.text) (map token_of content.now.tokens.items)))
+            (tokenized (string_bytes content.now.text) (map token_of content.now.tokens.items)))
             result }
     {
         let content = PreTokenizedStr::from_string(content);

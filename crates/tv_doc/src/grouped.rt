@@ -13,7 +13,7 @@ pub(crate) fn sort_pairs<V: Drop>(pairs: &mut Vec<(Field, V)>) -> Result<(), All
     ensures rises { OnOk result (IsNonDecreasingBy (λ pair. pair.0.id) pairs.new.items) }
     ensures same { (field : ℕ)
         → values_of field (map numbered pairs.new.items)
-            ≡ values_of field (map numbered pairs.old.items) }
+        ≡ values_of field (map numbered pairs.old.items) }
 {
     pairs.sort_by_key(|pair| pair.0.field_id())?;
     Ok(())

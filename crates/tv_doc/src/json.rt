@@ -4,10 +4,9 @@ ghost use Rattle.std.specs.Prelude.{◌≡◌, ◌<◌, ◌∷◌, [], IfOk, len
 ghost use Rattle.serde_json.specs.View.{view as data_of, items_view, members_view};
 ghost use Rattle.tv_schema.specs.Schema.{field_named};
 ghost use Rattle.tv_field.specs.JsonAnswer.{lent_tree};
-ghost use Rattle.tv_doc.specs.JsonObject.{
-    FieldJson, item_values, values_for, values_at, object_values, AddsValues, IsInvalidJson,
-    IsValueError, MakesDocument, Parses,
-};
+ghost use Rattle.tv_doc.specs.JsonObject.{FieldJson, item_values, values_for, values_at};
+ghost use Rattle.tv_doc.specs.JsonObject.{object_values, AddsValues, IsInvalidJson, IsValueError};
+ghost use Rattle.tv_doc.specs.JsonObject.{MakesDocument, Parses};
 ghost use Rattle.std.specs.Fmt.{take_chars};
 ghost use Rattle.tv_doc.specs.Document.{Adds};
 
@@ -59,10 +58,14 @@ pub(crate) fn add_value(
     json: Value,
 ) -> Result<(), DocParsingError>
     ensures { AddsValues
-        (record
-                { name = name.now; field = field.id; field_type = field_type.now; value = data_of
-                    json }
-            ∷ [])
+        (record {
+          name = name.now;
+          field = field.id;
+          field_type = field_type.now;
+          value = data_of
+              json;
+        }
+        ∷ [])
         document.old document.new result }
 {
     match field_type.lend_json(&json, scratch) {

@@ -67,11 +67,11 @@ pub fn named_documents_are_converted_back(
 ) -> Result<CompactDoc, DocParsingError>
     ensures kept { IfOk result
         (λ back. (field : ℕ) → field < length schema.now
-            → values_of field (document_of back) ≡ values_of field (document_of document.now)) }
+        → values_of field (document_of back) ≡ values_of field (document_of document.now)) }
     ensures belongs { IfOk result (λ back. Belongs schema.now (document_of back)) }
     ensures all { IfOk result
         (λ back. Belongs schema.now (document_of document.now) → (field : ℕ)
-            → values_of field (document_of back) ≡ values_of field (document_of document.now)) }
+        → values_of field (document_of back) ≡ values_of field (document_of document.now)) }
 {
     names_are_of_one_field();
     let _names_are_distinct = schema.num_fields();

@@ -5,9 +5,8 @@ ghost use Rattle.std.specs.List.Sorted.{IsNonDecreasingBy};
 ghost use Rattle.tv_json.specs.Named.{named_trees};
 ghost use Rattle.tv_value.specs.Owned.{owned_tree};
 ghost use Rattle.tv_doc.specs.Grouped.{group_seen};
-ghost use Rattle.tv_doc.specs.Named.{
-    IsNamed, by_name as named_by, field_names, named_of, put_under,
-};
+ghost use Rattle.tv_doc.specs.Named.{IsNamed, by_name as named_by, field_names, named_of};
+ghost use Rattle.tv_doc.specs.Named.{put_under};
 ghost use Rattle.tv_doc.specs.FieldValues.{pair_seen};
 
 use std::alloc::{AllocError, Global};
@@ -51,9 +50,9 @@ fn put_named<'a, 's, 'p, S: FieldNames, V: Value<'a>>(
 ) -> Result<BTreeMap<&'s str, &'p [(Field, V)]>, AllocError>
     ensures { IfOk result
         (λ made. map (named_trees V.tree) made.entries
-            ≡ put_under (slice_get (S.names schema.now) field.id)
-                (map (λ pair. V.tree pair.1) pairs.now)
-                (map (named_trees V.tree) named.entry.entries)) }
+        ≡ put_under (slice_get (S.names schema.now) field.id)
+        (map (λ pair. V.tree pair.1) pairs.now)
+        (map (named_trees V.tree) named.entry.entries)) }
 {
     if let Some(name) = schema.name_of(field) {
         drop(named.insert(name, pairs)?);
@@ -71,7 +70,7 @@ pub(crate) fn by_name<'a, 's, 'p, S: FieldNames, V: Value<'a>>(
     requires { IsNonDecreasingBy (λ pair. pair.0.id) pairs.now }
     ensures { IfOk result
         (λ named. IsNamed (S.names schema.now) (map (pair_seen V.tree) pairs.now)
-            (map (named_trees V.tree) named.entries)) }
+        (map (named_trees V.tree) named.entries)) }
 {
     let mut named = BTreeMap::new(alloc);
     let Some((first, _)) = pairs.first() else {
@@ -114,7 +113,7 @@ pub(crate) fn owned_by_name<'a, S: FieldNames, V: Value<'a>>(
 ) -> Result<NamedFieldDocument, AllocError>
     ensures { IfOk result
         (λ named. named_of named
-            ≡ named_by (S.names schema.now) (map (group_seen V.tree) groups.items) []) }
+        ≡ named_by (S.names schema.now) (map (group_seen V.tree) groups.items) []) }
 {
     let mut named = BTreeMap::new(alloc);
     for (field, values) in groups {

@@ -35,8 +35,10 @@ impl Model for FieldEntry {
 
     ghost Value = { Entry };
 
-    ghost view = { λ entry. record { name = string_bytes entry.name; field_type = entry.field_type
-        } };
+    ghost view = { λ entry. record {
+      name = string_bytes entry.name;
+      field_type = entry.field_type;
+    } };
 
     ghost invariant = { λ entry. IsValidName (string_bytes entry.name) };
 }
@@ -44,10 +46,9 @@ impl Model for FieldEntry {
 impl FieldEntry {
     ghost use Rattle.std.specs.String.{string_bytes};
     ghost use Rattle.std.specs.Prelude.{◌≡◌, IfOk};
-    ghost use Rattle.tv_field.specs.Entry.{
-        IsValidName, MakesEntry, is_stored_type, is_indexed_type, is_fast_type, has_fieldnorms_type,
-        expands_dots,
-    };
+    ghost use Rattle.tv_field.specs.Entry.{IsValidName, MakesEntry, is_stored_type};
+    ghost use Rattle.tv_field.specs.Entry.{is_indexed_type, is_fast_type, has_fieldnorms_type};
+    ghost use Rattle.tv_field.specs.Entry.{expands_dots};
     ghost use Rattle.tv_field.specs.declared.field_type.FieldType.TheVariants as types;
 
     /// An entry of this name and type. A name that is empty or begins with `-` is refused as `InvalidName`, and that is
@@ -195,9 +196,7 @@ impl PartialEq for FieldEntry {
     ghost use Rattle.std.specs.Prelude.{nat_eq};
     ghost use Rattle.std.specs.Ordering.{eq_of_both, on};
     ghost use Rattle.tv_field.specs.Entry.{Entry};
-    ghost use Rattle.tv_field.specs.contracts.field_type.FieldTypePartialEq.TheImpl.Laws.{
-        laws-law as field_type_laws,
-    };
+    ghost use Rattle.tv_field.specs.contracts.field_type.FieldTypePartialEq.TheImpl.Laws.{laws-law as field_type_laws};
 
     ghost eq = { eq_of_both (on (λ (entry : Entry). entry.name) (pointwise nat_eq))
         (on (λ (entry : Entry). entry.field_type) ⟦<FieldType as PartialEq>⟧.eq) };
@@ -214,9 +213,7 @@ impl PartialEq for FieldEntry {
 impl Eq for FieldEntry {
     ghost use Rattle.std.specs.Cmp.{and_equiv, on_equiv};
     ghost use Rattle.std.specs.Cmp.Lexicographic.{nat_list_eq_equiv};
-    ghost use Rattle.tv_field.specs.contracts.field_type.FieldTypeEq.TheImpl.Laws.{
-        laws-law as field_type_laws,
-    };
+    ghost use Rattle.tv_field.specs.contracts.field_type.FieldTypeEq.TheImpl.Laws.{laws-law as field_type_laws};
 
     ghost laws = { and_equiv (on_equiv (λ entry. entry.name) nat_list_eq_equiv)
         (on_equiv (λ entry. entry.field_type) field_type_laws) };

@@ -3,11 +3,10 @@
 ghost use Rattle.std.specs.Prelude.{◌≡◌, codes, string_bytes, IfSome, IfErr, OnOk, OnErr};
 ghost use Rattle.serde_json.specs.View.{view as data_of, number_view};
 ghost use Rattle.serde_json.specs.Data.{string, number};
-ghost use Rattle.tv_field.specs.JsonTable.{
-    Table, str_row, decimal_text, U64Row, I64Row, SignedText, UnsignedText, signed_number, bool_row,
-    boolean_text, date_row, date_text, facet_row, bytes_row, json_row, IpRow, IpText, leaf_or,
-    mismatch,
-};
+ghost use Rattle.tv_field.specs.JsonTable.{Table, str_row, decimal_text, U64Row, I64Row};
+ghost use Rattle.tv_field.specs.JsonTable.{SignedText, UnsignedText, signed_number, bool_row};
+ghost use Rattle.tv_field.specs.JsonTable.{boolean_text, date_row, date_text, facet_row, bytes_row};
+ghost use Rattle.tv_field.specs.JsonTable.{json_row, IpRow, IpText, leaf_or, mismatch};
 ghost use Rattle.tv_field.specs.JsonTokens.{tokenized_in};
 ghost use Rattle.tv_field.specs.JsonAnswer.{Lends, LendsLeaf, Answers};
 
@@ -292,8 +291,8 @@ fn lend_tokenized<'a>(
 ) -> Result<ReferenceValueLeaf<'a>, JsonRefusal>
     ensures { LendsLeaf (data_of json.now)
         (λ o. o
-            ≡ leaf_or (tokenized_in (data_of json.now))
-                (mismatch (codes "a string or an pretokenized string") (data_of json.now)))
+        ≡ leaf_or (tokenized_in (data_of json.now))
+        (mismatch (codes "a string or an pretokenized string") (data_of json.now)))
         result }
 {
     let is_tokenized = encode_tokenized(json, bytes)?;

@@ -54,7 +54,7 @@ fn token_above(token: TokenRef<'_>, base: u32) -> Option<u32>
 fn tokens_above(tokens: TokenIter<'_>, base: u32) -> Option<u32>
     ensures { let total = base
         + length (flat_map short_token (tokens_left tokens.entry)) in SomeIff result
-            (total < 2 ^ 32) total }
+        (total < 2 ^ 32) total }
 {
     let mut total = base;
     for token in tokens {

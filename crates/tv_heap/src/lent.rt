@@ -1,9 +1,8 @@
 //! Decoding in place. Each call gives what stands at an address, whatever stands elsewhere; where nothing of the kind
 //! stands there it gives some bytes or some number.
 
-ghost use Rattle.std.specs.Prelude.{
-    ◌≡◌, ◌↔◌, [], ◌∷◌, ◌++◌, ◌<◌, ◌≤◌, ◌^◌, ℕ, ℤ, List, None, Some, length, option_map,
-};
+ghost use Rattle.std.specs.Prelude.{◌≡◌, ◌↔◌, [], ◌∷◌, ◌++◌, ◌<◌, ◌≤◌, ◌^◌, ℕ, ℤ, List, None, Some};
+ghost use Rattle.std.specs.Prelude.{length, option_map};
 ghost use Rattle.tv_base.specs.Number.{vnum, sixteen_bytes, Fixed, Signed};
 ghost use Rattle.tv_base.specs.Parts.{short_sized};
 ghost use Rattle.tv_value.specs.LeafParts.{content_of};
@@ -16,12 +15,12 @@ ghost use Rattle.tv_value.specs.declared.content.Form.TheVariants as forms;
 ghost use Rattle.tv_heap.specs.declared.value_type.ValueType.{ValueType};
 ghost use Rattle.tv_heap.specs.Encoded.{encoded_bytes, last_bytes, AreTokens, SaysTokenized};
 ghost use Rattle.tv_heap.specs.Lent.{GivesChild, HasText};
-ghost use Rattle.tv_heap.specs.Reads.{
-    Stands, ShortSized, ShortText, ShortTokenized, ContentStands, LeafStands,
-};
+ghost use Rattle.tv_heap.specs.Reads.{Stands, ShortSized, ShortText, ShortTokenized, ContentStands};
+ghost use Rattle.tv_heap.specs.Reads.{LeafStands};
 ghost use Rattle.tv_heap.specs.TypeCode.{type_code};
 
 use crate::encoded::Encoded;
+use crate::room::MAX_HEAP_LEN;
 use crate::value_type::ValueType;
 use tv_base::vint::VInt;
 use tv_value::content::{Form, LeafContent};
@@ -269,7 +268,7 @@ pub fn child_at(list: &[u8]) -> Option<(ValueType, u32, &[u8])>
 {
     let (code, behind) = list.split_first()?;
     let (address, rest) = short_at(behind);
-    if address > 4294967295 {
+    if address > MAX_HEAP_LEN {
         return None;
     }
     let value_type = ValueType::from_code(*code)?;

@@ -14,6 +14,9 @@ use tv_value::nested::{Nested, NestedValue, lend};
 use tv_value::pre_tokenized::TokenIter;
 use tv_value::value::Value;
 
+/// The most bytes that a heap has, so that 32 bits hold each address.
+pub const MAX_HEAP_LEN: u64 = 4294967295;
+
 // The room of a text or of bytes of this length.
 #[inline(always)]
 fn sized_room(len: usize) -> Option<u32>
@@ -61,7 +64,7 @@ pub fn leaf_room(value: &ReferenceValueLeaf<'_>) -> Option<u32>
 fn value_above<N: Nested>(value: NestedValue<'_, N>, base: u32) -> Option<u32>
     ensures { let total = base
         + room (nested_tree N.array_rest N.object_rest value.entry) in SomeIff result
-            (total < 2 ^ 32) total }
+        (total < 2 ^ 32) total }
 {
     match value {
         NestedValue::Leaf(single) => base.checked_add(leaf_room(&single)?),

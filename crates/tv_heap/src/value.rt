@@ -2,9 +2,8 @@
 
 ghost use Rattle.std.specs.Prelude.{◌≡◌, ◌↔◌};
 ghost use Rattle.std.specs.Iterator.{YieldsFirstBy, item_count};
-ghost use Rattle.tv_heap.specs.Held.{
-    Held, Held-prop, HeldElements, HeldElements-prop, HeldEntries, HeldEntries-prop,
-};
+ghost use Rattle.tv_heap.specs.Held.{Held, Held-prop, HeldElements, HeldElements-prop, HeldEntries};
+ghost use Rattle.tv_heap.specs.Held.{HeldEntries-prop};
 ghost use Rattle.tv_heap.specs.TypeCode.{type_code};
 
 use crate::encoded::Encoded;

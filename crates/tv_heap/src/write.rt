@@ -1,8 +1,7 @@
 //! Writing values at the end of a heap.
 
-ghost use Rattle.std.specs.Prelude.{
-    ◌≡◌, ◌+◌, ◌<◌, ◌≤◌, ◌^◌, ◌∷◌, ◌++◌, OnOk, OnErr, IfOk, length, take, drop,
-};
+ghost use Rattle.std.specs.Prelude.{◌≡◌, ◌+◌, ◌<◌, ◌≤◌, ◌^◌, ◌∷◌, ◌++◌, OnOk, OnErr, IfOk, length};
+ghost use Rattle.std.specs.Prelude.{take, drop};
 ghost use Rattle.tv_base.specs.Number.{vnum, eight_bytes, sixteen_bytes};
 ghost use Rattle.tv_base.specs.Parts.{short_sized};
 ghost use Rattle.tv_base.specs.Sink.{IsPrefix};
@@ -13,9 +12,8 @@ ghost use Rattle.tv_value.specs.LeafParts.{content_of};
 ghost use Rattle.tv_value.specs.Short.{short_token, short_tokenized, IsContent};
 ghost use Rattle.tv_value.specs.TokenRef.{ref_of};
 ghost use Rattle.tv_value.specs.Tree.{leaf, array, object, elements, entries};
-ghost use Rattle.tv_heap.specs.LeafBytes.{
-    content_bytes, content_address, leaf_bytes, leaf_value_type, leaf_address,
-};
+ghost use Rattle.tv_heap.specs.LeafBytes.{content_bytes, content_address, leaf_bytes};
+ghost use Rattle.tv_heap.specs.LeafBytes.{leaf_value_type, leaf_address};
 ghost use Rattle.tv_heap.specs.Room.{room};
 ghost use Rattle.tv_heap.specs.TypeCode.{type_code};
 ghost use Rattle.tv_heap.specs.Wrote.{Wrote};
@@ -24,11 +22,11 @@ use crate::value_type::ValueType;
 use std::alloc::AllocError;
 use std::convert::AsStr;
 use tv_value::content::LeafContent;
+use tv_value::encode::{push_number, push_sized, push_token};
 use tv_value::laws::pre_tokenized_texts_encode;
 use tv_value::leaf::ReferenceValueLeaf;
 use tv_value::nested::{Nested, NestedValue};
 use tv_value::pre_tokenized::PreTokenizedStr;
-use tv_value::encode::{push_number, push_sized, push_token};
 
 // Adds the eight bytes of a number, the lowest first.
 #[inline(always)]
@@ -49,8 +47,8 @@ fn push_sixteen(heap: &mut Vec<u8>, number: u128) -> Result<(), AllocError>
     heap.extend_from_slice(&number.to_le_bytes())
 }
 
-/// The first addition to a heap makes room for so many bytes: enough for the values of a short document.
-const FIRST_ROOM: usize = 512;
+/// For so many bytes a heap has memory at first: enough for the values of a short document.
+pub const FIRST_ROOM: usize = 512;
 
 // The first place of a child makes room for so many bytes of places.
 const FIRST_PLACES: usize = 128;
@@ -170,11 +168,11 @@ fn write_u128(heap: &mut Vec<u8>, number: u128) -> Result<u32, AllocError>
 #[inline(never)]
 fn write_tokenized(heap: &mut Vec<u8>, content: PreTokenizedStr<'_>) -> Result<u32, AllocError>
     requires { length heap.old.items
-            + length (short_tokenized (text_of content) (tokens_of content))
+        + length (short_tokenized (text_of content) (tokens_of content))
         < 2 ^ 32 }
     ensures heap { OnOk result
         (heap.new.items
-            ≡ heap.old.items ++ short_tokenized (text_of content.entry) (tokens_of content.entry)) }
+        ≡ heap.old.items ++ short_tokenized (text_of content.entry) (tokens_of content.entry)) }
     ensures at { IfOk result (λ at. at ≡ length heap.old.items) }
     ensures err { OnErr result (IsPrefix heap.old.items heap.new.items) }
 {
@@ -222,7 +220,7 @@ pub fn write_leaf(
     ensures heap { OnOk result (heap.new.items ≡ heap.old.items ++ leaf_bytes (leaf_of value.now)) }
     ensures place { IfOk result
         (λ r. (r.0 ≡ leaf_value_type (leaf_of value.now))
-            × (r.1 ≡ leaf_address (length heap.old.items) (leaf_of value.now))) }
+        × (r.1 ≡ leaf_address (length heap.old.items) (leaf_of value.now))) }
     ensures ok { IfOk result
         (λ r. Wrote heap.old.items heap.new.items (type_code r.0) r.1 (leaf (leaf_of value.now))) }
     ensures err { OnErr result (IsPrefix heap.old.items heap.new.items) }
@@ -246,7 +244,7 @@ pub fn write_tree<N: Nested>(
         < 2 ^ 32 }
     ensures ok { IfOk result
         (λ r. Wrote heap.old.items heap.new.items (type_code r.0) r.1
-            (nested_tree N.array_rest N.object_rest value.entry)) }
+        (nested_tree N.array_rest N.object_rest value.entry)) }
     ensures places { OnOk result (places.new.items ≡ places.old.items) }
     ensures err { OnErr result (IsPrefix heap.old.items heap.new.items) }
 {
@@ -312,7 +310,7 @@ fn write_object<N: Nested>(
     requires { length heap.old.items + room (object (entries (N.object_rest members))) < 2 ^ 32 }
     ensures ok { IfOk result
         (λ at. Wrote heap.old.items heap.new.items 11 at
-            (object (entries (N.object_rest members)))) }
+        (object (entries (N.object_rest members)))) }
     ensures places { OnOk result (places.new.items ≡ places.old.items) }
     ensures err { OnErr result (IsPrefix heap.old.items heap.new.items) }
 {

@@ -1,8 +1,7 @@
 //! Values as texts of JSON without spaces, written from where the values are lent.
 
-ghost use Rattle.std.specs.Prelude.{
-    ◌≡◌, ◌++◌, ◌∷◌, [], OnOk, OnErr, IsTrue, string_bytes, IfOk, ◌<◌,
-};
+ghost use Rattle.std.specs.Prelude.{◌≡◌, ◌++◌, ◌∷◌, [], OnOk, OnErr, IsTrue, string_bytes, IfOk};
+ghost use Rattle.std.specs.Prelude.{◌<◌};
 ghost use Rattle.std.specs.List.{AllByRecursion};
 ghost use Rattle.serde_json.specs.Data as Data;
 ghost use Rattle.serde_json.specs.Data.{no_members};
@@ -65,11 +64,11 @@ fn by_key<N: Nested>(
 ) -> Result<BTreeMap<String, N>, AllocError>
     ensures members { IfOk result
         (λ found. pairs_json N.tree found.entries
-            ≡ entries_json (entries (N.object_rest members)) no_members) }
+        ≡ entries_json (entries (N.object_rest members)) no_members) }
     ensures smaller { IfOk result
         (λ found. AllByRecursion
-            (λ pair. size (N.tree pair.1) < entries_size (entries (N.object_rest members)))
-            found.entries) }
+        (λ pair. size (N.tree pair.1) < entries_size (entries (N.object_rest members)))
+        found.entries) }
 {
     let mut found = BTreeMap::new(alloc);
     for (key, value) in members {
@@ -104,8 +103,8 @@ pub(crate) fn write_value<N: Nested>(json: &mut JsonWriter, value: &N) -> Result
 fn write_array<N: Nested>(json: &mut JsonWriter, items: N::ArrayIter) -> Result<(), AllocError>
     ensures ok { OnOk result
         (json.new.out.tokens
-            ≡ json.old.out.tokens
-                ++ data_tokens (json_of (array (elements (N.array_rest items))))) }
+        ≡ json.old.out.tokens
+        ++ data_tokens (json_of (array (elements (N.array_rest items))))) }
     ensures before { json.new.out.before ≡ json.old.out.before }
 {
     json.out.begin_array()?;
@@ -120,8 +119,8 @@ fn write_array<N: Nested>(json: &mut JsonWriter, items: N::ArrayIter) -> Result<
 fn write_members<N: Nested>(json: &mut JsonWriter, members: N::ObjectIter) -> Result<(), AllocError>
     ensures ok { OnOk result
         (json.new.out.tokens
-            ≡ json.old.out.tokens
-                ++ data_tokens (Data.object (listed_json (entries (N.object_rest members))))) }
+        ≡ json.old.out.tokens
+        ++ data_tokens (Data.object (listed_json (entries (N.object_rest members))))) }
     ensures before { json.new.out.before ≡ json.old.out.before }
 {
     json.out.begin_object()?;
@@ -137,8 +136,8 @@ fn write_members<N: Nested>(json: &mut JsonWriter, members: N::ObjectIter) -> Re
 fn write_by_key<N: Nested>(json: &mut JsonWriter, members: N::ObjectIter) -> Result<(), AllocError>
     ensures ok { OnOk result
         (json.new.out.tokens
-            ≡ json.old.out.tokens
-                ++ data_tokens (json_of (object (entries (N.object_rest members))))) }
+        ≡ json.old.out.tokens
+        ++ data_tokens (json_of (object (entries (N.object_rest members))))) }
     ensures before { json.new.out.before ≡ json.old.out.before }
 {
     json.out.begin_object()?;

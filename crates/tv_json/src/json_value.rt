@@ -3,10 +3,8 @@
 ghost use Rattle.std.specs.Prelude.{◌≡◌, IfOk, OnOk};
 ghost use Rattle.serde_json.specs.Data.{no_members, put};
 ghost use Rattle.serde_json.specs.View.{view as data_of, items_view, members_view};
-ghost use Rattle.tv_json.specs.JsonOf.{
-    json_of, content_json, leaf_json, count_json, token_json, tokens_json, tokenized_json,
-    elements_json, entries_json,
-};
+ghost use Rattle.tv_json.specs.JsonOf.{json_of, content_json, leaf_json, count_json, token_json};
+ghost use Rattle.tv_json.specs.JsonOf.{tokens_json, tokenized_json, elements_json, entries_json};
 ghost use Rattle.tv_value.specs.LeafParts.{content_of};
 ghost use Rattle.tv_value.specs.Lent.{leaf_of, nested_tree};
 ghost use Rattle.tv_value.specs.PreTokenized.{text_of, tokens_of, tokens_left};
@@ -35,7 +33,7 @@ fn put_member(
 ) -> Result<(), AllocError>
     ensures { OnOk result
         (members_view members.new.entries
-            ≡ put key.now (data_of value) (members_view members.old.entries)) }
+        ≡ put key.now (data_of value) (members_view members.old.entries)) }
 {
     let name = String::from_str(alloc, key)?;
     drop(members.insert(name, value)?);
@@ -90,7 +88,7 @@ fn token_values(alloc: Global, tokens: TokenIter<'_>) -> Result<Vec<JsonValue>, 
 fn tokenized_value(alloc: Global, content: PreTokenizedStr<'_>) -> Result<JsonValue, AllocError>
     ensures { IfOk result
         (λ value. data_of value
-            ≡ tokenized_json (text_of content.entry) (tokens_of content.entry)) }
+        ≡ tokenized_json (text_of content.entry) (tokens_of content.entry)) }
 {
     let mut members = Map::new(alloc);
     let text = String::from_str(alloc, content.text())?;
@@ -162,7 +160,7 @@ fn member_values<N: Nested>(
 ) -> Result<Map<String, JsonValue>, AllocError>
     ensures { IfOk result
         (λ values. members_view values.entries
-            ≡ entries_json (entries (N.object_rest members)) no_members) }
+        ≡ entries_json (entries (N.object_rest members)) no_members) }
 {
     let mut values = Map::new(alloc);
     for (key, member) in members {

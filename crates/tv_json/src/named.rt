@@ -27,7 +27,7 @@ fn write_list<'a, V: Value<'a>>(
 ) -> Result<(), AllocError>
     ensures ok { OnOk result
         (json.new.out.tokens ≡ json.old.out.tokens ++ Token.key name.now
-            ∷ data_tokens (list_json (map (λ pair. V.tree pair.1) pairs.now))) }
+        ∷ data_tokens (list_json (map (λ pair. V.tree pair.1) pairs.now))) }
     ensures before { json.new.out.before ≡ json.old.out.before }
 {
     begin_list(&mut json.out, name)?;
@@ -44,8 +44,8 @@ fn write_lists<'a, V: Value<'a>>(
 ) -> Result<(), AllocError>
     ensures ok { OnOk result
         (json.new.out.tokens
-            ≡ json.old.out.tokens
-                ++ rest_of_object (named_json (map (named_trees V.tree) named.entry.entries))) }
+        ≡ json.old.out.tokens
+        ++ rest_of_object (named_json (map (named_trees V.tree) named.entry.entries))) }
     ensures before { json.new.out.before ≡ json.old.out.before }
 {
     for (name, pairs) in named {
@@ -62,7 +62,7 @@ pub fn named_to_json<'a, V: Value<'a>>(
 ) -> Result<String, AllocError>
     ensures { IfOk result
         (λ text. string_bytes text
-            ≡ compact_text (object (named_json (map (named_trees V.tree) named.entry.entries)))) }
+        ≡ compact_text (object (named_json (map (named_trees V.tree) named.entry.entries)))) }
 {
     let mut json = JsonWriter::new(alloc, Vec::with_capacity(alloc, FIRST_BYTES)?);
     json.out.begin_object()?;

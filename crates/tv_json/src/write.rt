@@ -1,18 +1,14 @@
 //! The tokens of values, written one after the other.
 
-ghost use Rattle.std.specs.Prelude.{
-    ◌≡◌, ◌++◌, ◌∷◌, [], OnOk, IsTrue, string_bytes, decimal, length, IsUtf8,
-};
+ghost use Rattle.std.specs.Prelude.{◌≡◌, ◌++◌, ◌∷◌, [], OnOk, IsTrue, string_bytes, decimal};
+ghost use Rattle.std.specs.Prelude.{length, IsUtf8};
 ghost use Rattle.json.specs.Print.{print};
 ghost use Rattle.json.specs.Token as Token;
 ghost use Rattle.serde_json.specs.Data.{no_members};
-ghost use Rattle.tv_json.specs.JsonOf.{
-    json_of, content_json, leaf_json, token_json, tokens_json, tokenized_json, elements_json,
-    entries_json,
-};
-ghost use Rattle.tv_json.specs.Rising.{
-    KeysRise, counts_tokens, data_tokens, rest_of_array, rest_of_object, listed_json,
-};
+ghost use Rattle.tv_json.specs.JsonOf.{json_of, content_json, leaf_json, token_json, tokens_json};
+ghost use Rattle.tv_json.specs.JsonOf.{tokenized_json, elements_json, entries_json};
+ghost use Rattle.tv_json.specs.Rising.{KeysRise, counts_tokens, data_tokens, rest_of_array};
+ghost use Rattle.tv_json.specs.Rising.{rest_of_object, listed_json};
 ghost use Rattle.tv_value.specs.LeafParts.{content_of};
 ghost use Rattle.tv_value.specs.Lent.{leaf_of};
 ghost use Rattle.tv_value.specs.PreTokenized.{text_of, tokens_of, tokens_left};
@@ -128,7 +124,7 @@ fn write_token(out: &mut Writer, token: TokenRef<'_>) -> Result<(), AllocError>
 fn write_tokens(out: &mut Writer, tokens: TokenIter<'_>) -> Result<(), AllocError>
     ensures ok { OnOk result
         (out.new.tokens
-            ≡ out.old.tokens ++ rest_of_array (tokens_json (tokens_left tokens.entry))) }
+        ≡ out.old.tokens ++ rest_of_array (tokens_json (tokens_left tokens.entry))) }
     ensures before { out.new.before ≡ out.old.before }
 {
     for token in tokens {
@@ -140,8 +136,8 @@ fn write_tokens(out: &mut Writer, tokens: TokenIter<'_>) -> Result<(), AllocErro
 fn write_tokenized(out: &mut Writer, content: PreTokenizedStr<'_>) -> Result<(), AllocError>
     ensures ok { OnOk result
         (out.new.tokens
-            ≡ out.old.tokens
-                ++ data_tokens (tokenized_json (text_of content.entry) (tokens_of content.entry))) }
+        ≡ out.old.tokens
+        ++ data_tokens (tokenized_json (text_of content.entry) (tokens_of content.entry))) }
     ensures before { out.new.before ≡ out.old.before }
 {
     out.begin_object()?;
@@ -156,7 +152,7 @@ fn write_tokenized(out: &mut Writer, content: PreTokenizedStr<'_>) -> Result<(),
 fn write_content(json: &mut JsonWriter, content: LeafContent<'_>) -> Result<(), AllocError>
     ensures ok { OnOk result
         (json.new.out.tokens
-            ≡ json.old.out.tokens ++ data_tokens (content_json (content_of content.entry))) }
+        ≡ json.old.out.tokens ++ data_tokens (content_json (content_of content.entry))) }
     ensures before { json.new.out.before ≡ json.old.out.before }
 {
     json.scratch.clear();

@@ -5,9 +5,8 @@ ghost use Rattle.tv_base.specs.Parts.{OneReading};
 ghost use Rattle.tv_base.specs.Source.{AllBytes};
 ghost use Rattle.tv_base.specs.declared.cause.Cause.{Cause};
 ghost use Rattle.tv_legacy.specs.Legacy.{Legacy, ErrorInLegacy};
-ghost use Rattle.tv_legacy.specs.LegacyLaws.{
-    BeginsLegacy, IsMalformed, BeginsValue, HasErrorInValue, DerivesDocument, HasErrorInDocument,
-};
+ghost use Rattle.tv_legacy.specs.LegacyLaws.{BeginsLegacy, IsMalformed, BeginsValue};
+ghost use Rattle.tv_legacy.specs.LegacyLaws.{HasErrorInValue, DerivesDocument, HasErrorInDocument};
 ghost use Rattle.tv_value.specs.InputError.{Refusal, ErrorInValue, ErrorInDocument};
 ghost use Rattle.tv_value.specs.Short.{short, short_document, IsValue, IsDocument};
 ghost use Rattle.tv_value.specs.Encoding.{Encodes, EncodesDocument, Derives};

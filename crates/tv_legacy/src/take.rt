@@ -4,9 +4,8 @@ ghost use Rattle.std.specs.Prelude.{◌≡◌, ◌-◌, ◌^◌, [], ◌∷◌, 
 ghost use Rattle.tv_base.specs.Take.{TakesBy};
 ghost use Rattle.tv_base.specs.declared.cause.Cause.TheVariants.{TooLong};
 ghost use Rattle.tv_base.specs.declared.read_error.ReadError.TheVariants.{Corrupted, Memory};
-ghost use Rattle.tv_legacy.specs.LegacyReading.{
-    is_blank as is_blank_byte, nonblank_at, slice_at, legacy_at, rest_at, AnswersSlice,
-};
+ghost use Rattle.tv_legacy.specs.LegacyReading.{is_blank as is_blank_byte, nonblank_at, slice_at};
+ghost use Rattle.tv_legacy.specs.LegacyReading.{legacy_at, rest_at, AnswersSlice};
 ghost use Rattle.tv_value.specs.Owned.{owned_tree};
 
 use crate::scan::Scan;

@@ -90,7 +90,7 @@ fn append_document(
     requires { Belongs schema.now (document_of document.now) }
     ensures ok { OnOk result
         (Leaves (IsDocumentText schema.now (stored schema.now (document_of document.now)))
-            text.old.items text.new.items) }
+        text.old.items text.new.items) }
     ensures err { IfErr result (λ answer. IsUnwritten (document_of document.now) answer.now) }
 {
     documents_are_valid();
@@ -116,7 +116,7 @@ fn append_texts(
 ) -> Result<(), AllocError>
     ensures { OnOk result
         (Leaves (IsTexts schema.now bytes.now (document_of found.now)) text.old.items
-            text.new.items) }
+        text.new.items) }
 {
     let json = found.to_json(alloc, schema)?;
     append_hex(text, bytes)?;

@@ -38,7 +38,7 @@ fn read_prefix<S: ByteSource>(
     ensures len { vec_len chunk.new ≡ vec_len chunk.old }
     ensures bytes { S.is_known source.old
         → IfOk result
-            (λ count. S.left source.old ≡ take count chunk.new.items ++ S.left source.new) }
+        (λ count. S.left source.old ≡ take count chunk.new.items ++ S.left source.new) }
     ensures end { S.is_known source.old
         → IfOk result (λ count. count ≡ 0 → 0 < most → S.left source.old ≡ []) }
     ensures is_known { S.is_known source.old → S.is_known source.new }
@@ -80,7 +80,7 @@ impl LineReader {
     fn take_unread(&mut self, line: &mut Vec<u8>) -> Result<bool, AllocError>
         ensures moves { IfOk result
             (λ ended. Moves (unread self.old) (unread self.new) line.old.items line.new.items
-                ended) }
+            ended) }
         ensures count { self.new.count ≡ self.old.count }
     {
         match memchr(b'\n', self.unread()) {
@@ -102,7 +102,7 @@ impl LineReader {
     fn fill<S: ByteSource>(&mut self, source: &mut S) -> Result<bool, Halt>
         ensures fills { S.is_known source.old
             → IfOk result
-                (λ more. Fills (S.left source.old) (S.left source.new) (unread self.new) more) }
+            (λ more. Fills (S.left source.old) (S.left source.new) (unread self.new) more) }
         ensures most { IfOk result (λ more. most_left self.new ≡ 2 ^ 64 - 1 - self.old.count) }
         ensures fewer { IfOk result
             (λ more. more ≡ true → 2 ^ 64 - 1 - self.new.count < 2 ^ 64 - 1 - self.old.count) }
@@ -133,8 +133,8 @@ impl LineReader {
     ) -> Result<bool, Halt>
         ensures takes { S.is_known source.old
             → IfOk result
-                (λ more. TakesLine (unread self.old ++ S.left source.old) line.new.items
-                    (unread self.new ++ S.left source.new) more) }
+            (λ more. TakesLine (unread self.old ++ S.left source.old) line.new.items
+            (unread self.new ++ S.left source.new) more) }
         ensures fewer { IfOk result
             (λ more. more ≡ true → most_left self.new < most_left self.old) }
         ensures is_known { S.is_known source.old → S.is_known source.new }

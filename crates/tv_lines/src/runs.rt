@@ -2,9 +2,8 @@
 
 ghost use Rattle.std.specs.Prelude.{◌≡◌, ◌≢◌, ◌++◌, [], IfErr, IfOk, OnErr, OnOk};
 ghost use Rattle.tv_base.specs.Sink.{IsPrefix};
-ghost use Rattle.tv_lines.specs.Run.{
-    AnswersOf, BadSchemaText, BrokenText, DoneText, EndsWith, PrefixOf, Leaves,
-};
+ghost use Rattle.tv_lines.specs.Run.{AnswersOf, BadSchemaText, BrokenText, DoneText, EndsWith};
+ghost use Rattle.tv_lines.specs.Run.{PrefixOf, Leaves};
 ghost use Rattle.tv_lines.specs.Reader.{unread};
 ghost use Rattle.tv_lines.specs.declared.run_end.RunEnd.TheVariants.{Done, BadSchema, Broken};
 
@@ -23,7 +22,7 @@ fn write_line<K: ByteSink>(sink: &mut K, line: &[u8]) -> Result<(), Halt>
     ensures ok { K.is_known sink.old → OnOk result (K.held sink.new ≡ K.held sink.old ++ line.now) }
     ensures err { K.is_known sink.old
         → OnErr result
-            (Leaves (λ text. IsPrefix text line.now) (K.held sink.old) (K.held sink.new)) }
+        (Leaves (λ text. IsPrefix text line.now) (K.held sink.old) (K.held sink.new)) }
     ensures is_known { K.is_known sink.old → K.is_known sink.new }
     ensures failures { OnOk result (K.failures sink.new ≡ K.failures sink.old) }
 {
@@ -43,12 +42,12 @@ fn answer_lines<S: ByteSource, K: ByteSink>(
 ) -> Result<(), Halt>
     ensures ok { S.is_known source.old → K.is_known sink.old
         → OnOk result
-            (Leaves (AnswersOf schema.now (unread reader.old ++ S.left source.old))
-                (K.held sink.old) (K.held sink.new)) }
+        (Leaves (AnswersOf schema.now (unread reader.old ++ S.left source.old))
+        (K.held sink.old) (K.held sink.new)) }
     ensures err { S.is_known source.old → K.is_known sink.old
         → OnErr result
-            (Leaves (PrefixOf (AnswersOf schema.now (unread reader.old ++ S.left source.old)))
-                (K.held sink.old) (K.held sink.new)) }
+        (Leaves (PrefixOf (AnswersOf schema.now (unread reader.old ++ S.left source.old)))
+        (K.held sink.old) (K.held sink.new)) }
     ensures all { S.is_known source.old → OnOk result (S.left source.new ≡ []) }
     ensures source_is_known { S.is_known source.old → S.is_known source.new }
     ensures sink_is_known { K.is_known sink.old → K.is_known sink.new }
@@ -75,10 +74,10 @@ fn answer_source<S: ByteSource, K: ByteSink>(
 ) -> Result<RunEnd, Halt>
     ensures ok { S.is_known source.old → K.is_known sink.old
         → IfOk result
-            (λ end. EndsWith end (S.left source.old) (K.held sink.old) (K.held sink.new)) }
+        (λ end. EndsWith end (S.left source.old) (K.held sink.old) (K.held sink.new)) }
     ensures err { S.is_known source.old → K.is_known sink.old
         → OnErr result
-            (Leaves (BrokenText (S.left source.old)) (K.held sink.old) (K.held sink.new)) }
+        (Leaves (BrokenText (S.left source.old)) (K.held sink.old) (K.held sink.new)) }
     ensures all { S.is_known source.old → IfOk result (λ end. end ≡ Done → S.left source.new ≡ []) }
     ensures source_is_known { S.is_known source.old → S.is_known source.new }
     ensures sink_is_known { K.is_known sink.old → K.is_known sink.new }

@@ -9,12 +9,8 @@ ghost use Rattle.tv_options.specs.declared.flags.FastFlag.{FastFlag};
 ghost use Rattle.tv_options.specs.declared.flags.IndexedFlag.{IndexedFlag};
 ghost use Rattle.tv_options.specs.declared.flags.SchemaFlagList.{SchemaFlagList};
 ghost use Rattle.tv_options.specs.declared.flags.StoredFlag.{StoredFlag};
-ghost use Rattle.tv_options.specs.declared.index_record_option.IndexRecordOption.TheVariants.{
-    Basic,
-};
-ghost use Rattle.tv_options.specs.declared.index_record_option.IndexRecordOption.{
-    IndexRecordOption,
-};
+ghost use Rattle.tv_options.specs.declared.index_record_option.IndexRecordOption.TheVariants.{Basic};
+ghost use Rattle.tv_options.specs.declared.index_record_option.IndexRecordOption.{IndexRecordOption};
 ghost use Rattle.tv_options.specs.declared.text_options.FastFieldTextOptions.{FastFieldTextOptions};
 ghost use Rattle.tv_options.specs.declared.text_options.TextFieldIndexing.{TextFieldIndexing};
 ghost use Rattle.tv_options.specs.declared.textual_options.TextualOptions.{TextualOptions};
@@ -45,7 +41,7 @@ use tv_date::date_time::{DATE_TIME_PRECISION_INDEXED, DateTimePrecision};
 pub fn flag_options_join_associatively<Part: OwnPart>()
     ensures { (a b c : FlagOptions Part)
         → join_flags Part.join (join_flags Part.join a b) c
-            ≡ join_flags Part.join a (join_flags Part.join b c) }
+        ≡ join_flags Part.join a (join_flags Part.join b c) }
 {}
 
 /// Options of flags joined with themselves stay as they are.
@@ -68,7 +64,7 @@ pub fn facet_options_join_idempotently()
 pub fn textual_options_join_associatively<Part: OwnPart>()
     ensures { (a b c : TextualOptions Part)
         → join_textual Part.join (join_textual Part.join a b) c
-            ≡ join_textual Part.join a (join_textual Part.join b c) }
+        ≡ join_textual Part.join a (join_textual Part.join b c) }
 {}
 
 /// Options of texts, or of JSON objects, joined with themselves stay as they are.

@@ -70,8 +70,10 @@ impl OwnPart for DotExpansion {
 
     ghost unset = { record { expand_dots_enabled = false } };
 
-    ghost join = { λ left right. record { expand_dots_enabled = left.expand_dots_enabled ||
-        right.expand_dots_enabled } };
+    ghost join = { λ left right. record {
+      expand_dots_enabled = left.expand_dots_enabled ||
+          right.expand_dots_enabled;
+    } };
 
     /// Dots stay as they stand.
     fn unset() -> DotExpansion {

@@ -3,9 +3,8 @@
 ghost use Rattle.std.specs.Prelude.{◌≡◌, true, IfOk, IsOk, None};
 ghost use Rattle.std.specs.Option.{option_copied};
 ghost use Rattle.tv_options.specs.declared.text_options.FastFieldTextOptions.TheVariants as fast_field;
-ghost use Rattle.tv_options.specs.FastFieldTextOptions.{
-    join_fast, is_fast_field, tokenizer_of, fast_by,
-};
+ghost use Rattle.tv_options.specs.FastFieldTextOptions.{join_fast, is_fast_field, tokenizer_of};
+ghost use Rattle.tv_options.specs.FastFieldTextOptions.{fast_by};
 ghost use Rattle.tv_options.specs.TextFieldIndexing.{default_indexing};
 ghost use Rattle.tv_options.specs.TextOptions.{only_coerce};
 

@@ -94,7 +94,7 @@ impl<Part: OwnPart> TextualOptions<Part> {
     ) -> Result<TextualOptions<Part>, AllocError>
         ensures fast { IfOk result
             (λ options. options
-                ≡ record self { fast = fast_by (option_copied tokenizer_name.entry) }) }
+            ≡ record self { fast = fast_by (option_copied tokenizer_name.entry) }) }
         ensures plain { option_copied tokenizer_name.entry ≡ None → IsOk result }
     {
         self.fast = FastFieldTextOptions::enabled(alloc, tokenizer_name)?;

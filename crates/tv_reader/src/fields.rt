@@ -4,9 +4,8 @@ ghost use Rattle.std.specs.Prelude.{◌≡◌, ◌≤◌, ◌-◌, ◌^◌, IfOk
 ghost use Rattle.tv_base.specs.declared.cause.Cause.TheVariants.{TooLong};
 ghost use Rattle.tv_reader.specs.Error.{TakesBy};
 ghost use Rattle.tv_reader.specs.Fields.{field_at};
-ghost use Rattle.tv_reader.specs.declared.error.DeserializeError.TheVariants.{
-    CorruptedValue, HeapFull,
-};
+ghost use Rattle.tv_reader.specs.declared.error.DeserializeError.TheVariants.{CorruptedValue};
+ghost use Rattle.tv_reader.specs.declared.error.DeserializeError.TheVariants.{HeapFull};
 
 use crate::error::DeserializeError;
 use tv_base::take::take_u32;

@@ -9,9 +9,8 @@ ghost use Rattle.tv_reader.specs.Heads.{EncodesHead, EncodesKeyHead, CodedLength
 ghost use Rattle.tv_reader.specs.HeadReading.{head_part};
 ghost use Rattle.tv_reader.specs.Trees.{NoValue};
 ghost use Rattle.tv_reader.specs.Version.{version_of};
-ghost use Rattle.tv_reader.specs.declared.error.DeserializeError.TheVariants.{
-    CorruptedValue, HeapFull, Memory,
-};
+ghost use Rattle.tv_reader.specs.declared.error.DeserializeError.TheVariants.{CorruptedValue};
+ghost use Rattle.tv_reader.specs.declared.error.DeserializeError.TheVariants.{HeapFull, Memory};
 ghost use Rattle.tv_value.specs.InputError.{Corrupt, ErrorInCodedKey, ErrorInKey};
 
 use crate::error::DeserializeError;

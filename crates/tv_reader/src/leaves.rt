@@ -1,16 +1,14 @@
 //! Taking values that hold no others, behind their code.
 
-ghost use Rattle.std.specs.Prelude.{
-    ◌≡◌, ◌*ℤ◌, ◌≤ℤ◌, pos, negsuc, ◌-◌, ◌^◌, IsErrOf, string_bytes, map,
-};
+ghost use Rattle.std.specs.Prelude.{◌≡◌, ◌*ℤ◌, ◌≤ℤ◌, pos, negsuc, ◌-◌, ◌^◌, IsErrOf, string_bytes};
+ghost use Rattle.std.specs.Prelude.{map};
 ghost use Rattle.std.specs.Net.Addr.{ipv6_bits};
 ghost use Rattle.tv_base.specs.Reading.{u128_at};
 ghost use Rattle.tv_base.specs.Take.{TakesBy};
 ghost use Rattle.tv_base.specs.declared.cause.Cause.TheVariants.{TooLong};
 ghost use Rattle.tv_base.specs.declared.read_error.ReadError.TheVariants.{Corrupted, Memory};
-ghost use Rattle.tv_reader.specs.Leaves.{
-    date_at, offsets_at, named_at, placed_at, token_at, tokens_at, counted_tokens_at, tokenized_at,
-};
+ghost use Rattle.tv_reader.specs.Leaves.{date_at, offsets_at, named_at, placed_at, token_at};
+ghost use Rattle.tv_reader.specs.Leaves.{tokens_at, counted_tokens_at, tokenized_at};
 ghost use Rattle.tv_reader.specs.Version.{version_of};
 ghost use Rattle.tv_value.specs.HeldTokens.{token_of};
 

@@ -3,19 +3,16 @@
 ghost use Rattle.std.specs.Prelude.{◌≡◌, ◌-◌, ◌^◌, IsErrOf};
 ghost use Rattle.tv_base.specs.Take as reads;
 ghost use Rattle.tv_base.specs.declared.cause.Cause.TheVariants.{TooLong};
-ghost use Rattle.tv_base.specs.declared.read_error.ReadError.TheVariants.{
-    Corrupted, Memory as NoMemory,
-};
+ghost use Rattle.tv_base.specs.declared.read_error.ReadError.TheVariants.{Corrupted};
+ghost use Rattle.tv_base.specs.declared.read_error.ReadError.TheVariants.{Memory as NoMemory};
 ghost use Rattle.tv_reader.specs.Counts.{half_at};
 ghost use Rattle.tv_reader.specs.Finds.{Finds};
-ghost use Rattle.tv_reader.specs.Trees.{
-    EncodesValue, NoValue, EncodesBehind, NoneBehind, EncodesItems, NoItems, EncodesMember,
-    NoMember, EncodesMembers, NoMembers, CodedKey,
-};
+ghost use Rattle.tv_reader.specs.Trees.{EncodesValue, NoValue, EncodesBehind, NoneBehind};
+ghost use Rattle.tv_reader.specs.Trees.{EncodesItems, NoItems, EncodesMember, NoMember};
+ghost use Rattle.tv_reader.specs.Trees.{EncodesMembers, NoMembers, CodedKey};
 ghost use Rattle.tv_reader.specs.Version.{version_of};
-ghost use Rattle.tv_reader.specs.declared.error.DeserializeError.TheVariants.{
-    CorruptedValue, HeapFull,
-};
+ghost use Rattle.tv_reader.specs.declared.error.DeserializeError.TheVariants.{CorruptedValue};
+ghost use Rattle.tv_reader.specs.declared.error.DeserializeError.TheVariants.{HeapFull};
 ghost use Rattle.tv_value.specs.InputError.{ErrorInCodedKey};
 
 use crate::error::{DeserializeError, ValueType};

@@ -1,8 +1,7 @@
 //! Laws of schemas and paths, and over calls on the types of fields.
 
-ghost use Rattle.std.specs.Prelude.{
-    ◌≡◌, ◌↔◌, ◌<◌, ◌+◌, ℕ, List, [], length, take, drop, None, Some, IsTrue, IsSomeAnd, slice_get,
-};
+ghost use Rattle.std.specs.Prelude.{◌≡◌, ◌↔◌, ◌<◌, ◌+◌, ℕ, List, [], length, take, drop, None};
+ghost use Rattle.std.specs.Prelude.{Some, IsTrue, IsSomeAnd, slice_get};
 ghost use Rattle.tv_field.specs.Entry.{Entry, record_option};
 ghost use Rattle.tv_schema.specs.Path.{is_splitting_dot, field_of_prefix, find};
 ghost use Rattle.tv_schema.specs.Schema.{IsSchema, field_named};
@@ -72,10 +71,10 @@ pub fn the_last_dot_counts()
         → IsTrue (is_splitting_dot path place)
         → field_of_prefix schema (take place path) ≡ Some field
         → ((later : ℕ) → place < later → later < length path → IsTrue (is_splitting_dot path later)
-            → field_of_prefix schema (take later path) ≡ None)
+        → field_of_prefix schema (take later path) ≡ None)
         → find schema path ≡ Some (field, drop (place + 1) path) }
     ensures none { (schema : List Entry) (path : List ℕ) → field_named schema path ≡ None
         → ((place : ℕ) → place < length path → IsTrue (is_splitting_dot path place)
-            → field_of_prefix schema (take place path) ≡ None)
+        → field_of_prefix schema (take place path) ≡ None)
         → find schema path ≡ None }
 {}

@@ -1,9 +1,8 @@
 //! Schemas, and how they are built.
 
-ghost use Rattle.std.specs.Prelude.{
-    ◌≡◌, ◌<◌, ◌+◌, ◌^◌, ◌++◌, ◌∷◌, [], ◌↔◌, length, None, Some, Ok, Err, IfOk, IfSome, OnOk, OnErr,
-    IsTrue, MatchOption, IsOk, IsOkAnd, slice_get,
-};
+ghost use Rattle.std.specs.Prelude.{◌≡◌, ◌<◌, ◌+◌, ◌^◌, ◌++◌, ◌∷◌, [], ◌↔◌, length, None, Some, Ok};
+ghost use Rattle.std.specs.Prelude.{Err, IfOk, IfSome, OnOk, OnErr, IsTrue, MatchOption, IsOk};
+ghost use Rattle.std.specs.Prelude.{IsOkAnd, slice_get};
 ghost use Rattle.std.specs.Option.{ForSome, option_map};
 ghost use Rattle.std.specs.List.{enumerate_from};
 ghost use Rattle.tv_schema.specs.Path.{find, find_or};
@@ -23,6 +22,9 @@ use tv_options::{
     TextOptions,
 };
 use tv_value::field::Field;
+
+// The most fields of a schema, so that 32 bits hold the number of each.
+const MAX_FIELDS: usize = 4294967295;
 
 /// What a schema is made with: the entries so far, in the order of their numbers. Their names are valid and distinct.
 #[derive(Debug, Drop)]
@@ -56,11 +58,16 @@ impl SchemaBuilder {
     /// Errors, the first that holds: `InvalidName` where the name is empty or begins with `-`, `DuplicateName` where a
     /// field has it already, `TooManyFields` where 4294967295 fields are there, `Memory` where a growth was refused.
     /// After each the builder is as it was.
-    pub fn add_text_field(&mut self, name: &str, options: TextOptions) -> Result<Field, SchemaError>
-        ensures { AddsField self.old self.new
-            (record { name = name.now; field_type = FieldType.Str options }) result }
+    pub fn add_text_field<T: Into<TextOptions>>(
+        &mut self,
+        name: &str,
+        options: T,
+    ) -> Result<Field, SchemaError>
+        ensures { (chosen : TextOptions) × T.converts options chosen
+            × AddsField self.old self.new
+            (record { name = name.now; field_type = FieldType.Str chosen }) result }
     {
-        self.add(name, FieldType::Str(options))
+        self.add(name, FieldType::Str(options.into()))
     }
 
     /// Adds a field of whole numbers from 0 to 2^64 - 1. Its number is the count of the fields before it.
@@ -68,15 +75,16 @@ impl SchemaBuilder {
     /// Errors, the first that holds: `InvalidName` where the name is empty or begins with `-`, `DuplicateName` where a
     /// field has it already, `TooManyFields` where 4294967295 fields are there, `Memory` where a growth was refused.
     /// After each the builder is as it was.
-    pub fn add_u64_field(
+    pub fn add_u64_field<T: Into<NumericOptions>>(
         &mut self,
         name: &str,
-        options: NumericOptions,
+        options: T,
     ) -> Result<Field, SchemaError>
-        ensures { AddsField self.old self.new
-            (record { name = name.now; field_type = FieldType.U64 options }) result }
+        ensures { (chosen : NumericOptions) × T.converts options chosen
+            × AddsField self.old self.new
+            (record { name = name.now; field_type = FieldType.U64 chosen }) result }
     {
-        self.add(name, FieldType::U64(options))
+        self.add(name, FieldType::U64(options.into()))
     }
 
     /// Adds a field of whole numbers from -2^63 to 2^63 - 1. Its number is the count of the fields before it.
@@ -84,15 +92,16 @@ impl SchemaBuilder {
     /// Errors, the first that holds: `InvalidName` where the name is empty or begins with `-`, `DuplicateName` where a
     /// field has it already, `TooManyFields` where 4294967295 fields are there, `Memory` where a growth was refused.
     /// After each the builder is as it was.
-    pub fn add_i64_field(
+    pub fn add_i64_field<T: Into<NumericOptions>>(
         &mut self,
         name: &str,
-        options: NumericOptions,
+        options: T,
     ) -> Result<Field, SchemaError>
-        ensures { AddsField self.old self.new
-            (record { name = name.now; field_type = FieldType.I64 options }) result }
+        ensures { (chosen : NumericOptions) × T.converts options chosen
+            × AddsField self.old self.new
+            (record { name = name.now; field_type = FieldType.I64 chosen }) result }
     {
-        self.add(name, FieldType::I64(options))
+        self.add(name, FieldType::I64(options.into()))
     }
 
     /// Adds a field of truth values. Its number is the count of the fields before it.
@@ -100,15 +109,16 @@ impl SchemaBuilder {
     /// Errors, the first that holds: `InvalidName` where the name is empty or begins with `-`, `DuplicateName` where a
     /// field has it already, `TooManyFields` where 4294967295 fields are there, `Memory` where a growth was refused.
     /// After each the builder is as it was.
-    pub fn add_bool_field(
+    pub fn add_bool_field<T: Into<NumericOptions>>(
         &mut self,
         name: &str,
-        options: NumericOptions,
+        options: T,
     ) -> Result<Field, SchemaError>
-        ensures { AddsField self.old self.new
-            (record { name = name.now; field_type = FieldType.Bool options }) result }
+        ensures { (chosen : NumericOptions) × T.converts options chosen
+            × AddsField self.old self.new
+            (record { name = name.now; field_type = FieldType.Bool chosen }) result }
     {
-        self.add(name, FieldType::Bool(options))
+        self.add(name, FieldType::Bool(options.into()))
     }
 
     /// Adds a field of dates. Its number is the count of the fields before it.
@@ -116,11 +126,16 @@ impl SchemaBuilder {
     /// Errors, the first that holds: `InvalidName` where the name is empty or begins with `-`, `DuplicateName` where a
     /// field has it already, `TooManyFields` where 4294967295 fields are there, `Memory` where a growth was refused.
     /// After each the builder is as it was.
-    pub fn add_date_field(&mut self, name: &str, options: DateOptions) -> Result<Field, SchemaError>
-        ensures { AddsField self.old self.new
-            (record { name = name.now; field_type = FieldType.Date options }) result }
+    pub fn add_date_field<T: Into<DateOptions>>(
+        &mut self,
+        name: &str,
+        options: T,
+    ) -> Result<Field, SchemaError>
+        ensures { (chosen : DateOptions) × T.converts options chosen
+            × AddsField self.old self.new
+            (record { name = name.now; field_type = FieldType.Date chosen }) result }
     {
-        self.add(name, FieldType::Date(options))
+        self.add(name, FieldType::Date(options.into()))
     }
 
     /// Adds a field of IP addresses. Its number is the count of the fields before it.
@@ -128,15 +143,16 @@ impl SchemaBuilder {
     /// Errors, the first that holds: `InvalidName` where the name is empty or begins with `-`, `DuplicateName` where a
     /// field has it already, `TooManyFields` where 4294967295 fields are there, `Memory` where a growth was refused.
     /// After each the builder is as it was.
-    pub fn add_ip_addr_field(
+    pub fn add_ip_addr_field<T: Into<IpAddrOptions>>(
         &mut self,
         name: &str,
-        options: IpAddrOptions,
+        options: T,
     ) -> Result<Field, SchemaError>
-        ensures { AddsField self.old self.new
-            (record { name = name.now; field_type = FieldType.IpAddr options }) result }
+        ensures { (chosen : IpAddrOptions) × T.converts options chosen
+            × AddsField self.old self.new
+            (record { name = name.now; field_type = FieldType.IpAddr chosen }) result }
     {
-        self.add(name, FieldType::IpAddr(options))
+        self.add(name, FieldType::IpAddr(options.into()))
     }
 
     /// Adds a field of facets. Its number is the count of the fields before it.
@@ -144,15 +160,16 @@ impl SchemaBuilder {
     /// Errors, the first that holds: `InvalidName` where the name is empty or begins with `-`, `DuplicateName` where a
     /// field has it already, `TooManyFields` where 4294967295 fields are there, `Memory` where a growth was refused.
     /// After each the builder is as it was.
-    pub fn add_facet_field(
+    pub fn add_facet_field<T: Into<FacetOptions>>(
         &mut self,
         name: &str,
-        options: FacetOptions,
+        options: T,
     ) -> Result<Field, SchemaError>
-        ensures { AddsField self.old self.new
-            (record { name = name.now; field_type = FieldType.Facet options }) result }
+        ensures { (chosen : FacetOptions) × T.converts options chosen
+            × AddsField self.old self.new
+            (record { name = name.now; field_type = FieldType.Facet chosen }) result }
     {
-        self.add(name, FieldType::Facet(options))
+        self.add(name, FieldType::Facet(options.into()))
     }
 
     /// Adds a field of bytes. Its number is the count of the fields before it.
@@ -160,15 +177,16 @@ impl SchemaBuilder {
     /// Errors, the first that holds: `InvalidName` where the name is empty or begins with `-`, `DuplicateName` where a
     /// field has it already, `TooManyFields` where 4294967295 fields are there, `Memory` where a growth was refused.
     /// After each the builder is as it was.
-    pub fn add_bytes_field(
+    pub fn add_bytes_field<T: Into<BytesOptions>>(
         &mut self,
         name: &str,
-        options: BytesOptions,
+        options: T,
     ) -> Result<Field, SchemaError>
-        ensures { AddsField self.old self.new
-            (record { name = name.now; field_type = FieldType.Bytes options }) result }
+        ensures { (chosen : BytesOptions) × T.converts options chosen
+            × AddsField self.old self.new
+            (record { name = name.now; field_type = FieldType.Bytes chosen }) result }
     {
-        self.add(name, FieldType::Bytes(options))
+        self.add(name, FieldType::Bytes(options.into()))
     }
 
     /// Adds a field of JSON objects. Its number is the count of the fields before it.
@@ -176,15 +194,16 @@ impl SchemaBuilder {
     /// Errors, the first that holds: `InvalidName` where the name is empty or begins with `-`, `DuplicateName` where a
     /// field has it already, `TooManyFields` where 4294967295 fields are there, `Memory` where a growth was refused.
     /// After each the builder is as it was.
-    pub fn add_json_field(
+    pub fn add_json_field<T: Into<JsonObjectOptions>>(
         &mut self,
         name: &str,
-        options: JsonObjectOptions,
+        options: T,
     ) -> Result<Field, SchemaError>
-        ensures { AddsField self.old self.new
-            (record { name = name.now; field_type = FieldType.JsonObject options }) result }
+        ensures { (chosen : JsonObjectOptions) × T.converts options chosen
+            × AddsField self.old self.new
+            (record { name = name.now; field_type = FieldType.JsonObject chosen }) result }
     {
-        self.add(name, FieldType::JsonObject(options))
+        self.add(name, FieldType::JsonObject(options.into()))
     }
 
     /// Adds an entry, as `add_text_field` adds a field of texts; the entry has a valid name. Where it is refused it is
@@ -227,7 +246,7 @@ fn check_name(table: &FieldTable, name: &str) -> Result<(), SchemaError>
         Err(SchemaError::InvalidName)
     } else if table.field_named(name).is_some() {
         Err(SchemaError::DuplicateName)
-    } else if table.len() == 4294967295 {
+    } else if table.len() == MAX_FIELDS {
         Err(SchemaError::TooManyFields)
     } else {
         Ok(())
@@ -262,9 +281,7 @@ impl Clone for Schema {
 
 impl PartialEq for Schema {
     ghost use Rattle.std.specs.Cmp.Lexicographic.{pointwise, lists_per};
-    ghost use Rattle.tv_field.specs.contracts.field_entry.FieldEntryPartialEq.TheImpl.Laws.{
-        laws-law,
-    };
+    ghost use Rattle.tv_field.specs.contracts.field_entry.FieldEntryPartialEq.TheImpl.Laws.{laws-law};
 
     ghost eq = { λ one other. pointwise ⟦<FieldEntry as PartialEq>⟧.eq one other };
 

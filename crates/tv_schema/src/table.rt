@@ -1,9 +1,7 @@
 //! The entries of a schema, and their numbers by name.
 
-ghost use Rattle.std.specs.Prelude.{
-    ◌≡◌, ◌<◌, ◌+◌, ◌^◌, ◌++◌, ◌∷◌, [], length, None, Some, IfOk, IfSome, OnOk, OnErr, slice_get,
-    vec_len,
-};
+ghost use Rattle.std.specs.Prelude.{◌≡◌, ◌<◌, ◌+◌, ◌^◌, ◌++◌, ◌∷◌, [], length, None, Some, IfOk};
+ghost use Rattle.std.specs.Prelude.{IfSome, OnOk, OnErr, slice_get, vec_len};
 ghost use Rattle.tv_field.specs.Entry.{IsValidName};
 ghost use Rattle.tv_schema.specs.Schema.{IsSchema, field_named};
 

@@ -12,12 +12,10 @@ ghost use Rattle.tv_reader.specs.Error.{store_stop};
 ghost use Rattle.tv_reader.specs.Error.{IsRefusal};
 ghost use Rattle.tv_reader.specs.Version.{version_of};
 ghost use Rattle.tv_reader.specs.declared.error.DeserializeError.{DeserializeError};
-ghost use Rattle.tv_reader.specs.declared.error.DeserializeError.TheVariants.{
-    CorruptedValue, HeapFull,
-};
-ghost use Rattle.tv_store.specs.Documents.{
-    BeginsWith, Answers, NoDocument, ShowsRefusal, IsReadingError,
-};
+ghost use Rattle.tv_reader.specs.declared.error.DeserializeError.TheVariants.{CorruptedValue};
+ghost use Rattle.tv_reader.specs.declared.error.DeserializeError.TheVariants.{HeapFull};
+ghost use Rattle.tv_store.specs.Documents.{BeginsWith, Answers, NoDocument, ShowsRefusal};
+ghost use Rattle.tv_store.specs.Documents.{IsReadingError};
 ghost use Rattle.tv_value.specs.InputError.{Refusal};
 ghost use Rattle.tv_value.specs.Encoding.{EncodesDocument};
 ghost use Rattle.tv_value.specs.Tree.{Document};
@@ -45,8 +43,8 @@ pub fn read_document<S: ByteSource>(
     // a prefix of the bytes encodes what is returned, and the rest is left
     ensures found { S.is_known source.old
         → IfOk result
-            (λ d. BeginsWith (version_of version) (S.left source.old) (S.left source.new)
-                (document_of d)) }
+        (λ d. BeginsWith (version_of version) (S.left source.old) (S.left source.new)
+        (document_of d)) }
 
     // wherever a prefix encodes a document that has room, that one is returned
     ensures only { Known S.is_known S.left source.old → (d : Document) (prefix rest : List ℕ)

@@ -2,12 +2,12 @@
 #![tactic(auto)]
 
 pub mod de;
+mod encoding;
 pub mod error;
 pub mod laws;
 pub mod pairs_given;
 pub mod se;
 mod serializers;
-mod encoding;
 mod value_writer;
 
 pub use de::{DirectDecoder, DocStoreVersion, Step, read_document};

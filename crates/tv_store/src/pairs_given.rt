@@ -26,8 +26,8 @@ pub trait DocumentDeserialize: Sized {
     ) -> Result<Self, DeserializeError>
         ensures found { D.is_known deserializer
             → IfOk result
-                (λ d. (pairs : Document) × holds d pairs
-                    × IsGiven D.gives D.remaining deserializer pairs) };
+            (λ d. (pairs : Document) × holds d pairs
+            × IsGiven D.gives D.remaining deserializer pairs) };
 }
 
 fn add_value(
@@ -56,8 +56,8 @@ impl DocumentDeserialize for CompactDoc {
     ) -> Result<CompactDoc, DeserializeError>
         ensures found { D.is_known deserializer
             → IfOk result
-                (λ d. (pairs : Document) × (document_of d ≡ pairs)
-                    × IsGiven D.gives D.remaining deserializer pairs) }
+            (λ d. (pairs : Document) × (document_of d ≡ pairs)
+            × IsGiven D.gives D.remaining deserializer pairs) }
         ensures refused { D.is_known deserializer
             → IfErr result (PairsRefused D.gives D.refuses deserializer) }
     {

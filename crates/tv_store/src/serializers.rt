@@ -1,8 +1,7 @@
 //! Writing values, arrays and objects one by one, as the store's version 2 has them.
 
-ghost use Rattle.std.specs.Prelude.{
-    ◌≡◌, ◌==◌, ◌*◌, ◌<◌, ◌≤◌, ◌^◌, ◌++◌, Ok, Err, IfOk, IfErr, if◌then◌else◌,
-};
+ghost use Rattle.std.specs.Prelude.{◌≡◌, ◌==◌, ◌*◌, ◌<◌, ◌≤◌, ◌^◌, ◌++◌, Ok, Err, IfOk, IfErr};
+ghost use Rattle.std.specs.Prelude.{if◌then◌else◌};
 ghost use Rattle.tv_base.specs.Number.{vnum};
 ghost use Rattle.tv_base.specs.Sink.{Writes};
 ghost use Rattle.tv_store.specs.Error as store;
@@ -11,8 +10,8 @@ ghost use Rattle.tv_store.specs.Serialized.{Refuses, WritesWhere, awaited_after}
 ghost use Rattle.tv_value.specs.Short.{short, short_key, IsValue};
 ghost use Rattle.tv_value.specs.Version.{V2};
 
-use crate::error::SerializeError;
 use crate::encoding::has_encoding;
+use crate::error::SerializeError;
 use crate::type_codes::TEXT_CODE;
 use crate::value_writer::write_value;
 use std::io;
@@ -142,7 +141,7 @@ impl<'se, K: ByteSink> BinaryArraySerializer<'se, K> {
         ensures same_sink { IfOk result (λ made. made.sink.ghost_name ≡ sink.entry.ghost_name) }
         ensures writes { IfOk result
             (λ made. store.Writes K.is_known K.held K.failures sink.old made.sink.now result
-                (Ok (vnum count))) }
+            (Ok (vnum count))) }
         ensures awaited { IfOk result (λ made. made.awaited ≡ count) }
         ensures io { IfErr result IsIo }
     {
@@ -160,7 +159,7 @@ impl<'se, K: ByteSink> BinaryArraySerializer<'se, K> {
             → Refuses SerializeError.WrongCount self.old.sink.now self.new.sink.now result }
         ensures writes { 0 < self.old.awaited
             → WritesWhere (IsValue (V.tree value.now)) K.is_known K.held K.failures
-                self.old.sink.now self.new.sink.now result (short V2 (V.tree value.now)) }
+            self.old.sink.now self.new.sink.now result (short V2 (V.tree value.now)) }
         ensures awaited { self.new.awaited ≡ awaited_after self.old.awaited result }
     {
         let Some(others) = self.awaited.checked_sub(1) else {
@@ -209,7 +208,7 @@ impl<'se, K: ByteSink> BinaryObjectSerializer<'se, K> {
         ensures same_sink { IfOk result (λ made. made.sink.ghost_name ≡ sink.entry.ghost_name) }
         ensures writes { IfOk result
             (λ made. store.Writes K.is_known K.held K.failures sink.old made.sink.now result
-                (Ok (vnum (2 * count)))) }
+            (Ok (vnum (2 * count)))) }
         ensures awaited { IfOk result (λ made. made.awaited ≡ count) }
         ensures too_many { 2 ^ 64 ≤ 2 * count → result ≡ Err SerializeError.TooMany }
         ensures io { 2 * count < 2 ^ 64 → IfErr result IsIo }
@@ -235,8 +234,8 @@ impl<'se, K: ByteSink> BinaryObjectSerializer<'se, K> {
             → Refuses SerializeError.WrongCount self.old.sink.now self.new.sink.now result }
         ensures writes { 0 < self.old.awaited
             → WritesWhere (IsValue (V.tree value.now)) K.is_known K.held K.failures
-                self.old.sink.now self.new.sink.now result
-                (short_key V2 key.now ++ short V2 (V.tree value.now)) }
+            self.old.sink.now self.new.sink.now result
+            (short_key V2 key.now ++ short V2 (V.tree value.now)) }
         ensures awaited { self.new.awaited ≡ awaited_after self.old.awaited result }
     {
         let Some(others) = self.awaited.checked_sub(1) else {

@@ -14,10 +14,9 @@ ghost use Rattle.tv_store.specs.Stored.{leaf_written, tree_written};
 ghost use Rattle.tv_value.specs.LeafParts.{content_of};
 ghost use Rattle.tv_value.specs.Lent.{leaf_of, nested_tree};
 ghost use Rattle.tv_value.specs.PreTokenized.{text_of, tokens_left, tokens_of};
-ghost use Rattle.tv_value.specs.Short.{
-    short_token, short_tokenized, short_content, short_leaf, short, short_elements, short_entries,
-    IsValue, AreElements, AreEntries,
-};
+ghost use Rattle.tv_value.specs.Short.{short_token, short_tokenized, short_content, short_leaf};
+ghost use Rattle.tv_value.specs.Short.{short, short_elements, short_entries, IsValue, AreElements};
+ghost use Rattle.tv_value.specs.Short.{AreEntries};
 ghost use Rattle.tv_value.specs.TokenRef.{ref_of};
 ghost use Rattle.tv_value.specs.Tree.{elements, entries, element_count, entry_count};
 ghost use Rattle.tv_value.specs.Version.{V2};

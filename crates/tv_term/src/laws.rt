@@ -1,9 +1,8 @@
 //! Laws of terms, each the contract of a function that makes the calls of which it speaks, or of one that does nothing.
 
-ghost use Rattle.std.specs.Prelude.{
-    ◌≡◌, ◌↔◌, ℕ, ℤ, FitsSigned, Bool, List, [], ◌<◌, ◌^◌, ◌++◌, ◌∷◌, Some, IfOk, IfErr, IsTrue,
-    IsUtf8, option_map, string_bytes,
-};
+ghost use Rattle.std.specs.Prelude.{◌≡◌, ◌↔◌, ℕ, ℤ, FitsSigned, Bool, List, [], ◌<◌, ◌^◌, ◌++◌};
+ghost use Rattle.std.specs.Prelude.{◌∷◌, Some, IfOk, IfErr, IsTrue, IsUtf8, option_map};
+ghost use Rattle.std.specs.Prelude.{string_bytes};
 ghost use Rattle.std.specs.Int.{to_be_bytes, w64, w128};
 ghost use Rattle.std.specs.Net.Addr.{IsIpv6Addr, ipv6_bits, ipv6_segments, segments_of};
 ghost use Rattle.std.specs.Option.{option_copied};
@@ -12,13 +11,11 @@ ghost use Rattle.std.specs.declared.net.ipv6_addr.Ipv6Addr.{Ipv6Addr};
 ghost use Rattle.tv_base.specs.JsonPath.{joined_path};
 ghost use Rattle.tv_options.specs.declared.types.TypeTag.TheVariants as tag;
 ghost use Rattle.tv_term.specs.FastValue.{IsFastType};
-ghost use Rattle.tv_term.specs.Key.{
-    TermValue, Text, Unsigned, Signed, Truth, Date, Facet, Bytes, Address, Json, Fits, HasNoZero,
-    IsTerm, IsJsonTerm, Appends, type_of, coded, term, value_cmp,
-};
-ghost use Rattle.tv_term.specs.Reading.{
-    number_of, address_of, payload_of, signed_at, is_true, json_parts, json_type, json_path,
-};
+ghost use Rattle.tv_term.specs.Key.{TermValue, Text, Unsigned, Signed, Truth, Date, Facet, Bytes};
+ghost use Rattle.tv_term.specs.Key.{Address, Json, Fits, HasNoZero, IsTerm, IsJsonTerm, Appends};
+ghost use Rattle.tv_term.specs.Key.{type_of, coded, term, value_cmp};
+ghost use Rattle.tv_term.specs.Reading.{number_of, address_of, payload_of, signed_at, is_true};
+ghost use Rattle.tv_term.specs.Reading.{json_parts, json_type, json_path};
 ghost use Rattle.tv_term.specs.declared.term_error.TermError.TheVariants.{Memory};
 
 use crate::fast_value::FastValue;
@@ -110,7 +107,7 @@ pub fn appended_fast_values_make_terms<T: FastValue>(
     requires { HasNoZero path.now }
     ensures made { IfOk result
         (λ made. IsTerm made field.id
-            (Json (joined_path expand_dots path.now) (T.as_value value))) }
+        (Json (joined_path expand_dots path.now) (T.as_value value))) }
     ensures memory { IfErr result (λ error. error ≡ Memory) }
 {
     let mut term = Term::from_field_json_path(alloc, field, path, expand_dots)?;
@@ -263,8 +260,8 @@ pub fn written_values_are_read()
     ensures bytes { (bytes : List ℕ) → payload_of tag.Bytes (coded (Bytes bytes)) ≡ Some bytes }
     ensures address { (a : Ipv6Addr) → IsIpv6Addr a
         → option_map (λ n. segments_of (to_be_bytes w128 n))
-                (address_of (coded (Address (ipv6_bits a))))
-            ≡ Some (ipv6_segments a) }
+        (address_of (coded (Address (ipv6_bits a))))
+        ≡ Some (ipv6_segments a) }
     ensures json { (path : List ℕ) (value : TermValue) → HasNoZero path
         → json_parts (coded (Json path value)) ≡ Some (path ++ 0 ∷ [], coded value) }
     ensures json_type { (path : List ℕ) (value : TermValue) → HasNoZero path

@@ -1,9 +1,8 @@
 //! Terms.
 
-ghost use Rattle.std.specs.Prelude.{
-    ◌≡◌, ◌<◌, ◌≤◌, ◌+◌, ◌^◌, ◌++◌, ◌∷◌, ◌↔◌, [], length, take, drop, IfOk, IfErr, MatchResult, OnOk,
-    OnErr, IsTrue, slice_get, slice_index, option_map, string_bytes, Some,
-};
+ghost use Rattle.std.specs.Prelude.{◌≡◌, ◌<◌, ◌≤◌, ◌+◌, ◌^◌, ◌++◌, ◌∷◌, ◌↔◌, [], length, take};
+ghost use Rattle.std.specs.Prelude.{drop, IfOk, IfErr, MatchResult, OnOk, OnErr, IsTrue, slice_get};
+ghost use Rattle.std.specs.Prelude.{slice_index, option_map, string_bytes, Some};
 ghost use Rattle.std.specs.Int.{to_be_bytes, w32};
 ghost use Rattle.std.specs.Net.Addr.{ipv6_bits};
 ghost use Rattle.std.specs.Option.{option_copied};
@@ -12,13 +11,10 @@ ghost use Rattle.tv_options.specs.Types.{code, type_of_code};
 ghost use Rattle.tv_field.specs.Entry.{Entry};
 ghost use Rattle.tv_value.specs.DateTime.{truncated};
 ghost use Rattle.tv_date.specs.declared.date_time.DateTimePrecision.TheVariants.{Seconds};
-ghost use Rattle.tv_term.specs.Key.{
-    IsTerm, IsJsonTerm, Appends, Text, Unsigned, Signed, Truth, Date, Facet as FacetValue, Bytes,
-    Address,
-};
-ghost use Rattle.tv_term.specs.Reading.{
-    field_of, value_of, json_path, ReadsText, IsFullPath, dotted,
-};
+ghost use Rattle.tv_term.specs.Key.{IsTerm, IsJsonTerm, Appends, Text, Unsigned, Signed, Truth};
+ghost use Rattle.tv_term.specs.Key.{Date, Facet as FacetValue, Bytes, Address};
+ghost use Rattle.tv_term.specs.Reading.{field_of, value_of, json_path, ReadsText, IsFullPath};
+ghost use Rattle.tv_term.specs.Reading.{dotted};
 ghost use Rattle.tv_term.specs.declared.term_error.TermError.TheVariants.{TooShort, Memory};
 
 use crate::fast_value::FastValue;
@@ -398,7 +394,7 @@ impl Term {
         requires { field_of self.now < length schema.now }
         ensures { IfOk result
             (λ path. (entry : Entry) → slice_get schema.now (field_of self.now) ≡ Some entry
-                → IsFullPath entry.name (value_of self.now) (string_bytes path)) }
+            → IsFullPath entry.name (value_of self.now) (string_bytes path)) }
     {
         let name = schema.get_field_entry(self.field()).name();
         dotted(alloc, name, self.value().json_path())

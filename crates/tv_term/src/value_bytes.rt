@@ -1,16 +1,14 @@
 //! The bytes of a term's value.
 
-ghost use Rattle.std.specs.Prelude.{
-    ◌≡◌, ◌<◌, ◌==◌, [], length, position, IfOk, IfSome, MatchResult,
-};
+ghost use Rattle.std.specs.Prelude.{◌≡◌, ◌<◌, ◌==◌, [], length, position, IfOk, IfSome};
+ghost use Rattle.std.specs.Prelude.{MatchResult};
 ghost use Rattle.std.specs.Int.{w128, to_be_bytes};
 ghost use Rattle.std.specs.Net.Addr.{ipv6_segments, segments_of};
 ghost use Rattle.std.specs.Option.{option_and_then, option_copied, option_map};
 ghost use Rattle.tv_options.specs.declared.types.TypeTag.TheVariants as tag;
-ghost use Rattle.tv_term.specs.Reading.{
-    type_at, payload_of, number_of, address_of, signed_at, is_true, json_parts, json_path,
-    json_type, cut_behind_zero, ReadsText,
-};
+ghost use Rattle.tv_term.specs.Reading.{type_at, payload_of, number_of, address_of, signed_at};
+ghost use Rattle.tv_term.specs.Reading.{is_true, json_parts, json_path, json_type, cut_behind_zero};
+ghost use Rattle.tv_term.specs.Reading.{ReadsText};
 ghost use Rattle.tv_term.specs.declared.term_error.TermError.TheVariants.{TooShort};
 
 use crate::fast_value::FastValue;
@@ -111,7 +109,7 @@ impl<'a> ValueBytes<'a> {
     pub fn as_ip_addr(&self) -> Option<Ipv6Addr>
         ensures { option_map ipv6_segments result
             ≡ option_map (λ n. segments_of (to_be_bytes w128 n))
-                (address_of self.now.serialized.now) }
+            (address_of self.now.serialized.now) }
     {
         let bytes: &[u8; 16] = self.payload(Type::IpAddr)?.as_array()?;
         Some(Ipv6Addr::from_bits(u128::from_be_bytes(*bytes)))

@@ -22,9 +22,9 @@ pub(crate) fn read_elements<T: ValueDeserialize, S: ByteSource>(
     requires { reader.old.has_failed ≡ false }
     ensures { Deserializes S.is_known S.left reader.old reader.new result
         (EncodesInto (λ items xs. items.items ≡ xs) (EncodesAs T.is (version_of reader.old.version))
-            announced)
+        announced)
         (InEach (NextRefused T.refused (version_of reader.old.version))
-            (EncodesAs T.is (version_of reader.old.version)) announced) }
+        (EncodesAs T.is (version_of reader.old.version)) announced) }
 {
     let mut items = Vec::new(alloc);
     for _ in 0..announced {
@@ -64,9 +64,9 @@ impl<'de, S: ByteSource> BinaryArrayDeserializer<'de, S> {
         ensures deserializes { Deserializes S.is_known S.left self.old.reader.now
             self.new.reader.now result
             (NextItem (EncodesAs V.is (version_of self.old.reader.now.version)) self.old.position
-                self.old.announced)
+            self.old.announced)
             (NextItemRefused (NextRefused V.refused (version_of self.old.reader.now.version))
-                self.old.position self.old.announced) }
+            self.old.position self.old.announced) }
         ensures marks { OnErr result (self.new.reader.now.has_failed ≡ true) }
     {
         self.reader.go_on()?;

@@ -41,9 +41,9 @@ impl<T: ValueDeserialize> ValueDeserialize for Vec<T> {
         ensures deserializes { Deserializes S.is_known S.left deserializer.entry.reader.now
             deserializer.exit.1.0.now result
             (EncodedAs (λ t list. ArrayOf T.is t list.items)
-                (version_of deserializer.entry.reader.now.version) deserializer.entry.kind)
+            (version_of deserializer.entry.reader.now.version) deserializer.entry.kind)
             (ArrayRefused T.is T.refused (version_of deserializer.entry.reader.now.version)
-                deserializer.entry.kind) }
+            deserializer.entry.kind) }
         ensures marks { OnErr result (deserializer.exit.1.0.now.has_failed ≡ true) }
     {
         let BinaryValueDeserializer { kind, reader } = deserializer;
@@ -90,9 +90,9 @@ impl<T: ValueDeserialize> ValueDeserialize for Vec<(String, T)> {
         ensures deserializes { Deserializes S.is_known S.left deserializer.entry.reader.now
             deserializer.exit.1.0.now result
             (EncodedAs (λ t list. ObjectOf T.is t list.items)
-                (version_of deserializer.entry.reader.now.version) deserializer.entry.kind)
+            (version_of deserializer.entry.reader.now.version) deserializer.entry.kind)
             (MembersRefused (ObjectRefused T.is T.refused)
-                (version_of deserializer.entry.reader.now.version) deserializer.entry.kind) }
+            (version_of deserializer.entry.reader.now.version) deserializer.entry.kind) }
         ensures marks { OnErr result (deserializer.exit.1.0.now.has_failed ≡ true) }
     {
         let BinaryValueDeserializer { kind, reader } = deserializer;
@@ -104,7 +104,7 @@ impl<T: ValueDeserialize> ValueDeserialize for Vec<(String, T)> {
     ghost excludes = { λ v kind prefix rest e t list refused encoded is. members_exclude
         (ObjectRefused T.is T.refused) v kind prefix rest e t
         (λ f. object_excludes T.is T.refused T.excludes v kind prefix rest e t list.items f encoded
-            is)
+        is)
         refused encoded };
 }
 
@@ -120,7 +120,7 @@ impl<T: ValueDeserialize> CodedObject for BTreeMap<String, T> {
     ) -> Result<BTreeMap<String, T>, DeserializeError>
         ensures { Deserializes S.is_known S.left reader.old reader.new result
             (EncodedAs (λ t map. MapOf T.is t (λ key. tree.get_by_text map key))
-                (version_of reader.old.version) kind)
+            (version_of reader.old.version) kind)
             (ObjectRefused T.is T.refused (version_of reader.old.version) kind) }
     {
         let announced = reader.object_length(kind)?;
@@ -142,9 +142,9 @@ impl<T: ValueDeserialize> ValueDeserialize for BTreeMap<String, T> {
         ensures deserializes { Deserializes S.is_known S.left deserializer.entry.reader.now
             deserializer.exit.1.0.now result
             (EncodedAs (λ t map. MapOf T.is t (λ key. tree.get_by_text map key))
-                (version_of deserializer.entry.reader.now.version) deserializer.entry.kind)
+            (version_of deserializer.entry.reader.now.version) deserializer.entry.kind)
             (MembersRefused (ObjectRefused T.is T.refused)
-                (version_of deserializer.entry.reader.now.version) deserializer.entry.kind) }
+            (version_of deserializer.entry.reader.now.version) deserializer.entry.kind) }
         ensures marks { OnErr result (deserializer.exit.1.0.now.has_failed ≡ true) }
     {
         let BinaryValueDeserializer { kind, reader } = deserializer;
@@ -156,7 +156,7 @@ impl<T: ValueDeserialize> ValueDeserialize for BTreeMap<String, T> {
     ghost excludes = { λ v kind prefix rest e t map refused encoded is. members_exclude
         (ObjectRefused T.is T.refused) v kind prefix rest e t
         (λ f. object_excludes T.is T.refused T.excludes v kind prefix rest e t is.pairs f encoded
-            is.read)
+        is.read)
         refused encoded };
 }
 
@@ -172,7 +172,7 @@ impl<T: ValueDeserialize> CodedObject for HashMap<String, T> {
     ) -> Result<HashMap<String, T>, DeserializeError>
         ensures { Deserializes S.is_known S.left reader.old reader.new result
             (EncodedAs (λ t map. MapOf T.is t (λ key. hash.get_by_text map key))
-                (version_of reader.old.version) kind)
+            (version_of reader.old.version) kind)
             (ObjectRefused T.is T.refused (version_of reader.old.version) kind) }
     {
         let announced = reader.object_length(kind)?;
@@ -194,9 +194,9 @@ impl<T: ValueDeserialize> ValueDeserialize for HashMap<String, T> {
         ensures deserializes { Deserializes S.is_known S.left deserializer.entry.reader.now
             deserializer.exit.1.0.now result
             (EncodedAs (λ t map. MapOf T.is t (λ key. hash.get_by_text map key))
-                (version_of deserializer.entry.reader.now.version) deserializer.entry.kind)
+            (version_of deserializer.entry.reader.now.version) deserializer.entry.kind)
             (MembersRefused (ObjectRefused T.is T.refused)
-                (version_of deserializer.entry.reader.now.version) deserializer.entry.kind) }
+            (version_of deserializer.entry.reader.now.version) deserializer.entry.kind) }
         ensures marks { OnErr result (deserializer.exit.1.0.now.has_failed ≡ true) }
     {
         let BinaryValueDeserializer { kind, reader } = deserializer;
@@ -208,6 +208,6 @@ impl<T: ValueDeserialize> ValueDeserialize for HashMap<String, T> {
     ghost excludes = { λ v kind prefix rest e t map refused encoded is. members_exclude
         (ObjectRefused T.is T.refused) v kind prefix rest e t
         (λ f. object_excludes T.is T.refused T.excludes v kind prefix rest e t is.pairs f encoded
-            is.read)
+        is.read)
         refused encoded };
 }

@@ -2,25 +2,22 @@
 
 #![tactic(auto, using(tv_base::proofs::TakeSteps::Taken_then), unfolding(tv_reader::specs::Leaves::leaf_at))]
 
-ghost use Rattle.std.specs.Prelude.{
-    ◌≡◌, Ok, Err, IfOk, IfErr, string_bytes, map, true, List, [], ℕ, OnErr, refl, false, Result,
-};
+ghost use Rattle.std.specs.Prelude.{◌≡◌, Ok, Err, IfOk, IfErr, string_bytes, map, true, List, []};
+ghost use Rattle.std.specs.Prelude.{ℕ, OnErr, refl, false, Result};
 ghost use Rattle.std.specs.Borrow.{sem, RestsIfErr};
 ghost use Rattle.std.specs.Net.Addr.{ipv6_bits};
 ghost use Rattle.tv_reader.specs.ValueType.{coded, IsCoded};
 ghost use Rattle.tv_typed.specs.Typed.{Reads, Deserializes};
-ghost use Rattle.tv_typed.specs.Values.{
-    CodeRefused, IsLeaf, IsTree, EncodesLeaf, LeafRefused, TreeRefused, Only, EncodesAs, EncodedAs,
-    NextRefused, RefusalsExclude,
-};
+ghost use Rattle.tv_typed.specs.Values.{CodeRefused, IsLeaf, IsTree, EncodesLeaf, LeafRefused};
+ghost use Rattle.tv_typed.specs.Values.{TreeRefused, Only, EncodesAs, EncodedAs, NextRefused};
+ghost use Rattle.tv_typed.specs.Values.{RefusalsExclude};
 ghost use Rattle.tv_reader.specs.Trees.{EncodesBehind};
 ghost use Rattle.tv_reader.specs.Version.{version_of};
 ghost use Rattle.tv_reader.specs.declared.value_type.ValueType.{ValueType};
 ghost use Rattle.tv_reader.specs.declared.value_type.ValueType.TheVariants as types;
 ghost use Rattle.tv_value.specs.HeldTokens.{token_of};
-ghost use Rattle.tv_value.specs.Tree.{
-    null, text, unsigned, signed, boolean, date, facet, bytes, ip_address, tokenized, Tree, Leaf,
-};
+ghost use Rattle.tv_value.specs.Tree.{null, text, unsigned, signed, boolean, date, facet, bytes};
+ghost use Rattle.tv_value.specs.Tree.{ip_address, tokenized, Tree, Leaf};
 ghost use Rattle.tv_reader.specs.Leaves.{is_leaf_type};
 ghost use Rattle.tv_typed.specs.Excluding.{leaf_excludes, tree_excludes};
 ghost use Rattle.tv_typed.specs.Lists.{EncodesEntry, EntryRefused};
@@ -65,13 +62,13 @@ impl<'de, S: ByteSource> BinaryValueDeserializer<'de, S> {
     ) -> Result<BinaryValueDeserializer<'de, S>, DeserializeError>
         ensures* rests { sem 𝓛
             (RestsIfErr (the_row S.row) reader.entry (λ d. d.reader.ghost_name) result
-                (λ now. IfErr result
-                    (λ e. Reads {X = ValueType} S.is_known S.left S.failures reader.entry.now now
-                        (Err e) IsCoded CodeRefused))) }
+            (λ now. IfErr result
+            (λ e. Reads {X = ValueType} S.is_known S.left S.failures reader.entry.now now
+            (Err e) IsCoded CodeRefused))) }
         ensures same_reader { IfOk result (λ d. d.reader.ghost_name ≡ reader.entry.ghost_name) }
         ensures reads { IfOk result
             (λ d. Reads S.is_known S.left S.failures reader.entry.now d.reader.now (Ok d.kind)
-                IsCoded CodeRefused) }
+            IsCoded CodeRefused) }
     {
         let kind = reader.code()?;
         Ok(BinaryValueDeserializer { kind, reader })
@@ -115,7 +112,7 @@ impl<'de, S: ByteSource> BinaryValueDeserializer<'de, S> {
         ensures reads { Reads S.is_known S.left S.failures self.entry.reader.now self.exit.1.0.now
             result
             (EncodesLeaf (version_of self.entry.reader.now.version) self.entry.kind
-                (λ n. unsigned n))
+            (λ n. unsigned n))
             (LeafRefused types.U64 (version_of self.entry.reader.now.version) self.entry.kind) }
         ensures only { Only S.is_known S.left self.entry.reader.now self.exit.1.0.now result
             (IsLeaf (λ n. unsigned n)) (version_of self.entry.reader.now.version)
@@ -144,7 +141,7 @@ impl<'de, S: ByteSource> BinaryValueDeserializer<'de, S> {
         ensures reads { Reads S.is_known S.left S.failures self.entry.reader.now self.exit.1.0.now
             result
             (EncodesLeaf (version_of self.entry.reader.now.version) self.entry.kind
-                (λ b. boolean b))
+            (λ b. boolean b))
             (LeafRefused types.Bool (version_of self.entry.reader.now.version) self.entry.kind) }
         ensures only { Only S.is_known S.left self.entry.reader.now self.exit.1.0.now result
             (IsLeaf (λ b. boolean b)) (version_of self.entry.reader.now.version)
@@ -159,7 +156,7 @@ impl<'de, S: ByteSource> BinaryValueDeserializer<'de, S> {
         ensures reads { Reads S.is_known S.left S.failures self.entry.reader.now self.exit.1.0.now
             result
             (EncodesLeaf (version_of self.entry.reader.now.version) self.entry.kind
-                (λ s. text (string_bytes s)))
+            (λ s. text (string_bytes s)))
             (LeafRefused types.String (version_of self.entry.reader.now.version) self.entry.kind) }
         ensures only { Only S.is_known S.left self.entry.reader.now self.exit.1.0.now result
             (IsLeaf (λ s. text (string_bytes s))) (version_of self.entry.reader.now.version)
@@ -188,7 +185,7 @@ impl<'de, S: ByteSource> BinaryValueDeserializer<'de, S> {
         ensures reads { Reads S.is_known S.left S.failures self.entry.reader.now self.exit.1.0.now
             result
             (EncodesLeaf (version_of self.entry.reader.now.version) self.entry.kind
-                (λ v. bytes v.items))
+            (λ v. bytes v.items))
             (LeafRefused types.Bytes (version_of self.entry.reader.now.version) self.entry.kind) }
         ensures only { Only S.is_known S.left self.entry.reader.now self.exit.1.0.now result
             (IsLeaf (λ v. bytes v.items)) (version_of self.entry.reader.now.version)
@@ -203,9 +200,9 @@ impl<'de, S: ByteSource> BinaryValueDeserializer<'de, S> {
         ensures reads { Reads S.is_known S.left S.failures self.entry.reader.now self.exit.1.0.now
             result
             (EncodesLeaf (version_of self.entry.reader.now.version) self.entry.kind
-                (λ d. date d.nanoseconds))
+            (λ d. date d.nanoseconds))
             (LeafRefused types.DateTime (version_of self.entry.reader.now.version)
-                self.entry.kind) }
+            self.entry.kind) }
         ensures only { Only S.is_known S.left self.entry.reader.now self.exit.1.0.now result
             (IsLeaf (λ d. date d.nanoseconds)) (version_of self.entry.reader.now.version)
             (coded self.entry.kind) }
@@ -219,7 +216,7 @@ impl<'de, S: ByteSource> BinaryValueDeserializer<'de, S> {
         ensures reads { Reads S.is_known S.left S.failures self.entry.reader.now self.exit.1.0.now
             result
             (EncodesLeaf (version_of self.entry.reader.now.version) self.entry.kind
-                (λ a. ip_address (ipv6_bits a)))
+            (λ a. ip_address (ipv6_bits a)))
             (LeafRefused types.IpAddr (version_of self.entry.reader.now.version) self.entry.kind) }
         ensures only { Only S.is_known S.left self.entry.reader.now self.exit.1.0.now result
             (IsLeaf (λ a. ip_address (ipv6_bits a))) (version_of self.entry.reader.now.version)
@@ -237,9 +234,9 @@ impl<'de, S: ByteSource> BinaryValueDeserializer<'de, S> {
         ensures reads { Reads S.is_known S.left S.failures self.entry.reader.now self.exit.1.0.now
             result
             (EncodesLeaf (version_of self.entry.reader.now.version) self.entry.kind
-                (λ s. tokenized (string_bytes s.text) (map token_of s.tokens.items)))
+            (λ s. tokenized (string_bytes s.text) (map token_of s.tokens.items)))
             (LeafRefused types.PreTokStr (version_of self.entry.reader.now.version)
-                self.entry.kind) }
+            self.entry.kind) }
         ensures only { Only S.is_known S.left self.entry.reader.now self.exit.1.0.now result
             (IsLeaf (λ s. tokenized (string_bytes s.text) (map token_of s.tokens.items)))
             (version_of self.entry.reader.now.version) (coded self.entry.kind) }
@@ -265,7 +262,7 @@ pub trait ValueDeserialize: Sized + Drop {
         ensures deserializes { Deserializes S.is_known S.left deserializer.entry.reader.now
             deserializer.exit.1.0.now result
             (EncodedAs is (version_of deserializer.entry.reader.now.version)
-                deserializer.entry.kind)
+            deserializer.entry.kind)
             (refused (version_of deserializer.entry.reader.now.version) deserializer.entry.kind) };
 
     /// Where bytes behind the code of a type are refused, no prefix of them encodes a tree of which a value is read.
@@ -321,15 +318,15 @@ impl ValueDeserialize for u64 {
         ensures deserializes { Deserializes S.is_known S.left deserializer.entry.reader.now
             deserializer.exit.1.0.now result
             (EncodedAs (IsLeaf (λ n. unsigned n)) (version_of deserializer.entry.reader.now.version)
-                deserializer.entry.kind)
+            deserializer.entry.kind)
             (LeafRefused types.U64 (version_of deserializer.entry.reader.now.version)
-                deserializer.entry.kind) }
+            deserializer.entry.kind) }
         ensures reads { Reads S.is_known S.left S.failures deserializer.entry.reader.now
             deserializer.exit.1.0.now result
             (EncodesLeaf (version_of deserializer.entry.reader.now.version) deserializer.entry.kind
-                (λ n. unsigned n))
+            (λ n. unsigned n))
             (LeafRefused types.U64 (version_of deserializer.entry.reader.now.version)
-                deserializer.entry.kind) }
+            deserializer.entry.kind) }
     {
         let BinaryValueDeserializer { kind, reader } = deserializer;
         reader.leaf::<u64>((), kind)
@@ -351,15 +348,15 @@ impl ValueDeserialize for i64 {
         ensures deserializes { Deserializes S.is_known S.left deserializer.entry.reader.now
             deserializer.exit.1.0.now result
             (EncodedAs (IsLeaf (λ z. signed z)) (version_of deserializer.entry.reader.now.version)
-                deserializer.entry.kind)
+            deserializer.entry.kind)
             (LeafRefused types.I64 (version_of deserializer.entry.reader.now.version)
-                deserializer.entry.kind) }
+            deserializer.entry.kind) }
         ensures reads { Reads S.is_known S.left S.failures deserializer.entry.reader.now
             deserializer.exit.1.0.now result
             (EncodesLeaf (version_of deserializer.entry.reader.now.version) deserializer.entry.kind
-                (λ z. signed z))
+            (λ z. signed z))
             (LeafRefused types.I64 (version_of deserializer.entry.reader.now.version)
-                deserializer.entry.kind) }
+            deserializer.entry.kind) }
     {
         let BinaryValueDeserializer { kind, reader } = deserializer;
         reader.leaf::<i64>((), kind)
@@ -381,15 +378,15 @@ impl ValueDeserialize for bool {
         ensures deserializes { Deserializes S.is_known S.left deserializer.entry.reader.now
             deserializer.exit.1.0.now result
             (EncodedAs (IsLeaf (λ b. boolean b)) (version_of deserializer.entry.reader.now.version)
-                deserializer.entry.kind)
+            deserializer.entry.kind)
             (LeafRefused types.Bool (version_of deserializer.entry.reader.now.version)
-                deserializer.entry.kind) }
+            deserializer.entry.kind) }
         ensures reads { Reads S.is_known S.left S.failures deserializer.entry.reader.now
             deserializer.exit.1.0.now result
             (EncodesLeaf (version_of deserializer.entry.reader.now.version) deserializer.entry.kind
-                (λ b. boolean b))
+            (λ b. boolean b))
             (LeafRefused types.Bool (version_of deserializer.entry.reader.now.version)
-                deserializer.entry.kind) }
+            deserializer.entry.kind) }
     {
         let BinaryValueDeserializer { kind, reader } = deserializer;
         reader.leaf::<bool>((), kind)
@@ -411,15 +408,15 @@ impl ValueDeserialize for String {
         ensures deserializes { Deserializes S.is_known S.left deserializer.entry.reader.now
             deserializer.exit.1.0.now result
             (EncodedAs (IsLeaf (λ s. text (string_bytes s)))
-                (version_of deserializer.entry.reader.now.version) deserializer.entry.kind)
+            (version_of deserializer.entry.reader.now.version) deserializer.entry.kind)
             (LeafRefused types.String (version_of deserializer.entry.reader.now.version)
-                deserializer.entry.kind) }
+            deserializer.entry.kind) }
         ensures reads { Reads S.is_known S.left S.failures deserializer.entry.reader.now
             deserializer.exit.1.0.now result
             (EncodesLeaf (version_of deserializer.entry.reader.now.version) deserializer.entry.kind
-                (λ s. text (string_bytes s)))
+            (λ s. text (string_bytes s)))
             (LeafRefused types.String (version_of deserializer.entry.reader.now.version)
-                deserializer.entry.kind) }
+            deserializer.entry.kind) }
     {
         let BinaryValueDeserializer { kind, reader } = deserializer;
         reader.leaf::<String>(alloc, kind)
@@ -441,15 +438,15 @@ impl ValueDeserialize for Facet {
         ensures deserializes { Deserializes S.is_known S.left deserializer.entry.reader.now
             deserializer.exit.1.0.now result
             (EncodedAs (IsLeaf (λ f. facet f)) (version_of deserializer.entry.reader.now.version)
-                deserializer.entry.kind)
+            deserializer.entry.kind)
             (LeafRefused types.Facet (version_of deserializer.entry.reader.now.version)
-                deserializer.entry.kind) }
+            deserializer.entry.kind) }
         ensures reads { Reads S.is_known S.left S.failures deserializer.entry.reader.now
             deserializer.exit.1.0.now result
             (EncodesLeaf (version_of deserializer.entry.reader.now.version) deserializer.entry.kind
-                (λ f. facet f))
+            (λ f. facet f))
             (LeafRefused types.Facet (version_of deserializer.entry.reader.now.version)
-                deserializer.entry.kind) }
+            deserializer.entry.kind) }
     {
         let BinaryValueDeserializer { kind, reader } = deserializer;
         reader.leaf::<Facet>(alloc, kind)
@@ -471,15 +468,15 @@ impl ValueDeserialize for Vec<u8> {
         ensures deserializes { Deserializes S.is_known S.left deserializer.entry.reader.now
             deserializer.exit.1.0.now result
             (EncodedAs (IsLeaf (λ v. bytes v.items))
-                (version_of deserializer.entry.reader.now.version) deserializer.entry.kind)
+            (version_of deserializer.entry.reader.now.version) deserializer.entry.kind)
             (LeafRefused types.Bytes (version_of deserializer.entry.reader.now.version)
-                deserializer.entry.kind) }
+            deserializer.entry.kind) }
         ensures reads { Reads S.is_known S.left S.failures deserializer.entry.reader.now
             deserializer.exit.1.0.now result
             (EncodesLeaf (version_of deserializer.entry.reader.now.version) deserializer.entry.kind
-                (λ v. bytes v.items))
+            (λ v. bytes v.items))
             (LeafRefused types.Bytes (version_of deserializer.entry.reader.now.version)
-                deserializer.entry.kind) }
+            deserializer.entry.kind) }
     {
         let BinaryValueDeserializer { kind, reader } = deserializer;
         reader.leaf::<Vec<u8>>(alloc, kind)
@@ -501,15 +498,15 @@ impl ValueDeserialize for DateTime {
         ensures deserializes { Deserializes S.is_known S.left deserializer.entry.reader.now
             deserializer.exit.1.0.now result
             (EncodedAs (IsLeaf (λ d. date d.nanoseconds))
-                (version_of deserializer.entry.reader.now.version) deserializer.entry.kind)
+            (version_of deserializer.entry.reader.now.version) deserializer.entry.kind)
             (LeafRefused types.DateTime (version_of deserializer.entry.reader.now.version)
-                deserializer.entry.kind) }
+            deserializer.entry.kind) }
         ensures reads { Reads S.is_known S.left S.failures deserializer.entry.reader.now
             deserializer.exit.1.0.now result
             (EncodesLeaf (version_of deserializer.entry.reader.now.version) deserializer.entry.kind
-                (λ d. date d.nanoseconds))
+            (λ d. date d.nanoseconds))
             (LeafRefused types.DateTime (version_of deserializer.entry.reader.now.version)
-                deserializer.entry.kind) }
+            deserializer.entry.kind) }
     {
         let BinaryValueDeserializer { kind, reader } = deserializer;
         reader.leaf::<DateTime>((), kind)
@@ -531,15 +528,15 @@ impl ValueDeserialize for Ipv6Addr {
         ensures deserializes { Deserializes S.is_known S.left deserializer.entry.reader.now
             deserializer.exit.1.0.now result
             (EncodedAs (IsLeaf (λ a. ip_address (ipv6_bits a)))
-                (version_of deserializer.entry.reader.now.version) deserializer.entry.kind)
+            (version_of deserializer.entry.reader.now.version) deserializer.entry.kind)
             (LeafRefused types.IpAddr (version_of deserializer.entry.reader.now.version)
-                deserializer.entry.kind) }
+            deserializer.entry.kind) }
         ensures reads { Reads S.is_known S.left S.failures deserializer.entry.reader.now
             deserializer.exit.1.0.now result
             (EncodesLeaf (version_of deserializer.entry.reader.now.version) deserializer.entry.kind
-                (λ a. ip_address (ipv6_bits a)))
+            (λ a. ip_address (ipv6_bits a)))
             (LeafRefused types.IpAddr (version_of deserializer.entry.reader.now.version)
-                deserializer.entry.kind) }
+            deserializer.entry.kind) }
     {
         let BinaryValueDeserializer { kind, reader } = deserializer;
         reader.leaf::<Ipv6Addr>((), kind)
@@ -561,15 +558,15 @@ impl ValueDeserialize for PreTokenizedString {
         ensures deserializes { Deserializes S.is_known S.left deserializer.entry.reader.now
             deserializer.exit.1.0.now result
             (EncodedAs (IsLeaf (λ s. tokenized (string_bytes s.text) (map token_of s.tokens.items)))
-                (version_of deserializer.entry.reader.now.version) deserializer.entry.kind)
+            (version_of deserializer.entry.reader.now.version) deserializer.entry.kind)
             (LeafRefused types.PreTokStr (version_of deserializer.entry.reader.now.version)
-                deserializer.entry.kind) }
+            deserializer.entry.kind) }
         ensures reads { Reads S.is_known S.left S.failures deserializer.entry.reader.now
             deserializer.exit.1.0.now result
             (EncodesLeaf (version_of deserializer.entry.reader.now.version) deserializer.entry.kind
-                (λ s. tokenized (string_bytes s.text) (map token_of s.tokens.items)))
+            (λ s. tokenized (string_bytes s.text) (map token_of s.tokens.items)))
             (LeafRefused types.PreTokStr (version_of deserializer.entry.reader.now.version)
-                deserializer.entry.kind) }
+            deserializer.entry.kind) }
     {
         let BinaryValueDeserializer { kind, reader } = deserializer;
         reader.leaf::<PreTokenizedString>(alloc, kind)
@@ -592,15 +589,15 @@ impl ValueDeserialize for OwnedValue {
         ensures deserializes { Deserializes S.is_known S.left deserializer.entry.reader.now
             deserializer.exit.1.0.now result
             (EncodedAs IsTree (version_of deserializer.entry.reader.now.version)
-                deserializer.entry.kind)
+            deserializer.entry.kind)
             (TreeRefused (version_of deserializer.entry.reader.now.version)
-                deserializer.entry.kind) }
+            deserializer.entry.kind) }
         ensures reads { Reads S.is_known S.left S.failures deserializer.entry.reader.now
             deserializer.exit.1.0.now result
             (EncodesBehind (version_of deserializer.entry.reader.now.version)
-                deserializer.entry.kind)
+            deserializer.entry.kind)
             (TreeRefused (version_of deserializer.entry.reader.now.version)
-                deserializer.entry.kind) }
+            deserializer.entry.kind) }
     {
         deserializer.deserialize_tree(alloc)
     }
@@ -974,7 +971,7 @@ impl<S: ByteSource> StoreReader<S> {
     ) -> Result<V::Value, DeserializeError>
         ensures { is_leaf_type kind ≡ true
             → Visits S.is_known S.left S.failures self.old self.new kind (V.answers visitor.now)
-                result }
+            result }
     {
         match kind {
             ValueType::Null => self.visit_one::<(), V>((), kind, visitor),

@@ -1,8 +1,7 @@
 //! Documents in a store, whose pairs are read one after the other.
 
-ghost use Rattle.std.specs.Prelude.{
-    ◌≡◌, ◌+◌, ◌-◌, List, ℕ, false, true, Ok, Err, OnErr, IfOk, IfErr, if◌then◌else◌,
-};
+ghost use Rattle.std.specs.Prelude.{◌≡◌, ◌+◌, ◌-◌, List, ℕ, false, true, Ok, Err, OnErr, IfOk};
+ghost use Rattle.std.specs.Prelude.{IfErr, if◌then◌else◌};
 ghost use Rattle.std.specs.Borrow.{sem, RestsIfErr};
 ghost use Rattle.tv_base.specs.Number.{VNum};
 ghost use Rattle.tv_reader.specs.Version.{version_of};
@@ -11,10 +10,8 @@ ghost use Rattle.tv_reader.specs.declared.value_type.ValueType.{ValueType};
 ghost use Rattle.tv_value.specs.InputError.{SmallField};
 ghost use Rattle.tv_value.specs.Tree.{Tree};
 ghost use Rattle.tv_value.specs.Version.{Version};
-ghost use Rattle.tv_typed.specs.Documents.{
-    NextField, GivesPair, RefusesPair, EncodesField, FieldRefused, FieldNumberRefused,
-    NumberRefused,
-};
+ghost use Rattle.tv_typed.specs.Documents.{NextField, GivesPair, RefusesPair, EncodesField};
+ghost use Rattle.tv_typed.specs.Documents.{FieldRefused, FieldNumberRefused, NumberRefused};
 ghost use Rattle.tv_typed.specs.Lists.{NextItem, NextItemRefused, gives_some};
 ghost use Rattle.tv_typed.specs.Typed.{Reads, Deserializes};
 ghost use Rattle.tv_typed.specs.contracts.store_reader.StoreReader.{the_row};
@@ -112,13 +109,13 @@ impl<'de, S: ByteSource> BinaryDocumentDeserializer<'de, S> {
     ) -> Result<BinaryDocumentDeserializer<'de, S>, DeserializeError>
         ensures* rests { sem 𝓛
             (RestsIfErr (the_row S.row) reader.entry (λ d. d.reader.ghost_name) result
-                (λ now. IfErr result
-                    (λ e. Reads {X = ℕ} S.is_known S.left S.failures reader.entry.now now (Err e)
-                        VNum NumberRefused))) }
+            (λ now. IfErr result
+            (λ e. Reads {X = ℕ} S.is_known S.left S.failures reader.entry.now now (Err e)
+            VNum NumberRefused))) }
         ensures same_reader { IfOk result (λ d. d.reader.ghost_name ≡ reader.entry.ghost_name) }
         ensures reads { IfOk result
             (λ d. Reads S.is_known S.left S.failures reader.entry.now d.reader.now (Ok d.announced)
-                VNum NumberRefused) }
+            VNum NumberRefused) }
         ensures first { IfOk result (λ d. d.position ≡ 0) }
     {
         let announced = reader.pair_count()?;
@@ -156,11 +153,11 @@ impl<'de, S: ByteSource> DocumentDeserializer for BinaryDocumentDeserializer<'de
     ) -> Result<Option<(Field, V)>, DeserializeError>
         ensures gives { IfOk result
             (NextField (λ d. d.announced - d.position) (λ d. S.is_known d.reader.now.source)
-                (λ old pair new. GivesPair S.left old.reader.now pair new.reader.now) V.is self.old
-                self.new) }
+            (λ old pair new. GivesPair S.left old.reader.now pair new.reader.now) V.is self.old
+            self.new) }
         ensures refuses { IfErr result
             (λ e. RefusesPair S.is_known S.left self.old.position self.old.announced
-                self.old.reader.now V.refused e) }
+            self.old.reader.now V.refused e) }
         ensures same_reader { self.new.reader.ghost_name ≡ self.old.reader.ghost_name }
         ensures announced { self.new.announced ≡ self.old.announced }
         ensures position { self.new.position
@@ -168,9 +165,9 @@ impl<'de, S: ByteSource> DocumentDeserializer for BinaryDocumentDeserializer<'de
         ensures deserializes { Deserializes S.is_known S.left self.old.reader.now
             self.new.reader.now result
             (NextItem (EncodesField V.is (version_of self.old.reader.now.version)) self.old.position
-                self.old.announced)
+            self.old.announced)
             (NextItemRefused (FieldRefused V.refused (version_of self.old.reader.now.version))
-                self.old.position self.old.announced) }
+            self.old.position self.old.announced) }
         ensures marks { OnErr result (self.new.reader.now.has_failed ≡ true) }
     {
         self.reader.go_on()?;

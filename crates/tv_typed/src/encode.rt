@@ -5,9 +5,8 @@ ghost use Rattle.std.specs.Int.{w64};
 ghost use Rattle.tv_base.specs.Number.{eight_bytes, signed_bytes};
 ghost use Rattle.tv_base.specs.Parts.{short_sized};
 ghost use Rattle.tv_value.specs.Owned.{owned_tree, owned_entries};
-ghost use Rattle.tv_value.specs.Short.{
-    short, short_elements, short_entries, IsText, IsValue, AreElements, AreEntries,
-};
+ghost use Rattle.tv_value.specs.Short.{short, short_elements, short_entries, IsText, IsValue};
+ghost use Rattle.tv_value.specs.Short.{AreElements, AreEntries};
 ghost use Rattle.tv_value.specs.Tree.{elements, entries};
 ghost use Rattle.tv_value.specs.Version.{V2};
 
@@ -15,8 +14,8 @@ use std::alloc::{AllocError, Global};
 use tv_reader::type_codes::{
     ARRAY_CODE, BOOL_CODE, I64_CODE, NULL_CODE, OBJECT_CODE, TEXT_CODE, U64_CODE,
 };
-use tv_value::owned_value::OwnedValue;
 use tv_value::encode::{push_number, push_text};
+use tv_value::owned_value::OwnedValue;
 
 // Adds the eight bytes of a number, the lowest first.
 fn push_eight(bytes: &mut Vec<u8>, number: u64) -> Result<(), AllocError>
@@ -86,7 +85,7 @@ fn push_value(bytes: &mut Vec<u8>, value: &OwnedValue) -> Result<(), AllocError>
 fn push_items(bytes: &mut Vec<u8>, items: &Vec<OwnedValue>) -> Result<(), AllocError>
     ensures ok { OnOk result
         (bytes.new.items
-            ≡ bytes.old.items ++ short_elements V2 (elements (map owned_tree items.now.items))) }
+        ≡ bytes.old.items ++ short_elements V2 (elements (map owned_tree items.now.items))) }
     ensures valid { OnOk result (AreElements (elements (map owned_tree items.now.items))) }
 {
     for item in items {
@@ -100,7 +99,7 @@ fn push_items(bytes: &mut Vec<u8>, items: &Vec<OwnedValue>) -> Result<(), AllocE
 fn push_members(bytes: &mut Vec<u8>, members: &Vec<(String, OwnedValue)>) -> Result<(), AllocError>
     ensures ok { OnOk result
         (bytes.new.items
-            ≡ bytes.old.items ++ short_entries V2 (entries (owned_entries members.now.items))) }
+        ≡ bytes.old.items ++ short_entries V2 (entries (owned_entries members.now.items))) }
     ensures valid { OnOk result (AreEntries (entries (owned_entries members.now.items))) }
 {
     for (key, member) in members {

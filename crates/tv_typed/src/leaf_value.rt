@@ -80,7 +80,7 @@ impl<S: ByteSource> StoreReader<S> {
     ) -> Result<V::Value, DeserializeError>
         ensures { kind ≡ T.expected
             → Visits S.is_known S.left S.failures self.old self.new kind (V.answers visitor.now)
-                result }
+            result }
     {
         let value = self.leaf::<T>(alloc, kind)?;
         value.visit(visitor)

@@ -5,10 +5,10 @@ pub mod array;
 pub mod collections;
 pub mod de;
 pub mod document;
+mod encode;
 mod leaf_value;
 mod legacy_object;
 pub mod object;
-mod encode;
 pub mod store_reader;
 mod visits;
 

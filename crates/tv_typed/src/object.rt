@@ -1,16 +1,14 @@
 //! Objects in a store.
 
-ghost use Rattle.std.specs.Prelude.{
-    ◌≡◌, ◌+◌, false, true, Some, List, ℕ, OnOk, OnErr, IfErr, string_bytes, bytes_eq, if◌then◌else◌,
-};
+ghost use Rattle.std.specs.Prelude.{◌≡◌, ◌+◌, false, true, Some, List, ℕ, OnOk, OnErr, IfErr};
+ghost use Rattle.std.specs.Prelude.{string_bytes, bytes_eq, if◌then◌else◌};
 ghost use Rattle.std.specs.BTreeMap as tree;
 ghost use Rattle.std.specs.HashMap as hash;
 ghost use Rattle.tv_base.specs.ErrorInPart.{InEach};
 ghost use Rattle.tv_reader.specs.Version.{version_of};
 ghost use Rattle.tv_reader.specs.declared.error.DeserializeError.TheVariants as errors;
-ghost use Rattle.tv_typed.specs.Lists.{
-    EncodesInto, EncodesEntry, EntryRefused, GivesLast, NextItem, NextItemRefused, gives_some,
-};
+ghost use Rattle.tv_typed.specs.Lists.{EncodesInto, EncodesEntry, EntryRefused, GivesLast};
+ghost use Rattle.tv_typed.specs.Lists.{NextItem, NextItemRefused, gives_some};
 ghost use Rattle.tv_typed.specs.Typed.{Deserializes};
 
 use crate::de::ValueDeserialize;
@@ -29,9 +27,9 @@ pub(crate) fn read_entries<T: ValueDeserialize, S: ByteSource>(
     requires { reader.old.has_failed ≡ false }
     ensures { Deserializes S.is_known S.left reader.old reader.new result
         (EncodesInto (λ items xs. items.items ≡ xs)
-            (EncodesEntry T.is (version_of reader.old.version)) announced)
+        (EncodesEntry T.is (version_of reader.old.version)) announced)
         (InEach (EntryRefused T.refused (version_of reader.old.version))
-            (EncodesEntry T.is (version_of reader.old.version)) announced) }
+        (EncodesEntry T.is (version_of reader.old.version)) announced) }
 {
     let mut items = Vec::new(alloc);
     for _ in 0..announced {
@@ -49,9 +47,9 @@ fn put<T: Drop>(
 ) -> Result<(), DeserializeError>
     ensures put { OnOk result
         ((q : List ℕ)
-            → tree.get_by_text map.new q
-                ≡ (if bytes_eq q (string_bytes key) then Some value else tree.get_by_text map.old
-                    q)) }
+        → tree.get_by_text map.new q
+        ≡ (if bytes_eq q (string_bytes key) then Some value else tree.get_by_text map.old
+        q)) }
     ensures err { IfErr result (λ e. e ≡ errors.Memory) }
 {
     match map.insert(key, value) {
@@ -69,9 +67,9 @@ pub(crate) fn read_map<T: ValueDeserialize, S: ByteSource>(
     requires { reader.old.has_failed ≡ false }
     ensures { Deserializes S.is_known S.left reader.old reader.new result
         (EncodesInto (λ map xs. GivesLast (λ key. tree.get_by_text map key) xs)
-            (EncodesEntry T.is (version_of reader.old.version)) announced)
+        (EncodesEntry T.is (version_of reader.old.version)) announced)
         (InEach (EntryRefused T.refused (version_of reader.old.version))
-            (EncodesEntry T.is (version_of reader.old.version)) announced) }
+        (EncodesEntry T.is (version_of reader.old.version)) announced) }
 {
     let mut map = BTreeMap::new(alloc);
     for _ in 0..announced {
@@ -89,9 +87,9 @@ fn put_hashed<T: Drop>(
 ) -> Result<(), DeserializeError>
     ensures put { OnOk result
         ((q : List ℕ)
-            → hash.get_by_text map.new q
-                ≡ (if bytes_eq q (string_bytes key) then Some value else hash.get_by_text map.old
-                    q)) }
+        → hash.get_by_text map.new q
+        ≡ (if bytes_eq q (string_bytes key) then Some value else hash.get_by_text map.old
+        q)) }
     ensures err { IfErr result (λ e. e ≡ errors.Memory) }
 {
     match map.insert(key, value) {
@@ -108,9 +106,9 @@ pub(crate) fn read_hashed<T: ValueDeserialize, S: ByteSource>(
     requires { reader.old.has_failed ≡ false }
     ensures { Deserializes S.is_known S.left reader.old reader.new result
         (EncodesInto (λ map xs. GivesLast (λ key. hash.get_by_text map key) xs)
-            (EncodesEntry T.is (version_of reader.old.version)) announced)
+        (EncodesEntry T.is (version_of reader.old.version)) announced)
         (InEach (EntryRefused T.refused (version_of reader.old.version))
-            (EncodesEntry T.is (version_of reader.old.version)) announced) }
+        (EncodesEntry T.is (version_of reader.old.version)) announced) }
 {
     let mut map = HashMap::new(alloc);
     for _ in 0..announced {
@@ -151,9 +149,9 @@ impl<'de, S: ByteSource> BinaryObjectDeserializer<'de, S> {
         ensures deserializes { Deserializes S.is_known S.left self.old.reader.now
             self.new.reader.now result
             (NextItem (EncodesEntry V.is (version_of self.old.reader.now.version)) self.old.position
-                self.old.announced)
+            self.old.announced)
             (NextItemRefused (EntryRefused V.refused (version_of self.old.reader.now.version))
-                self.old.position self.old.announced) }
+            self.old.position self.old.announced) }
         ensures marks { OnErr result (self.new.reader.now.has_failed ≡ true) }
     {
         self.reader.go_on()?;

@@ -10,8 +10,8 @@ ghost use Rattle.tv_value.specs.Version.{entry_total};
 
 use crate::array::BinaryArrayDeserializer;
 use crate::de::{BinaryValueDeserializer, ValueVisitor};
-use crate::object::BinaryObjectDeserializer;
 use crate::encode::encoded;
+use crate::object::BinaryObjectDeserializer;
 use crate::store_reader::StoreReader;
 use std::alloc::Global;
 use tv_base::{ByteSource, SliceSource};
@@ -81,13 +81,13 @@ impl<S: ByteSource> StoreReader<S> {
     ) -> Result<V::Value, DeserializeError>
         ensures leaf { is_leaf_type kind ≡ true
             → Visits S.is_known S.left S.failures self.old self.new kind (V.answers visitor.now)
-                result }
+            result }
         ensures array { kind ≡ types.Array
             → VisitsItems S.is_known S.left S.failures self.old self.new types.Array element_total
-                kind result }
+            kind result }
         ensures object { kind ≡ types.Object
             → VisitsItems S.is_known S.left S.failures self.old self.new types.Object
-                (entry_total (version_of self.old.version)) kind result }
+            (entry_total (version_of self.old.version)) kind result }
         ensures legacy { kind ≡ types.JSONObject
             → VisitsLegacy S.is_known S.left S.failures self.old self.new result }
     {
@@ -108,13 +108,13 @@ impl<S: ByteSource> StoreReader<S> {
     ) -> Result<V::Value, DeserializeError>
         ensures leaf { is_leaf_type kind ≡ true
             → Visits S.is_known S.left S.failures self.old self.new kind (V.answers visitor.now)
-                result }
+            result }
         ensures array { kind ≡ types.Array
             → VisitsItems S.is_known S.left S.failures self.old self.new types.Array element_total
-                kind result }
+            kind result }
         ensures object { kind ≡ types.Object
             → VisitsItems S.is_known S.left S.failures self.old self.new types.Object
-                (entry_total (version_of self.old.version)) kind result }
+            (entry_total (version_of self.old.version)) kind result }
         ensures legacy { kind ≡ types.JSONObject
             → VisitsLegacy S.is_known S.left S.failures self.old self.new result }
         ensures marks { OnErr result (self.new.has_failed ≡ true) }
@@ -144,17 +144,17 @@ impl<'de, S: ByteSource> BinaryValueDeserializer<'de, S> {
     ) -> Result<V::Value, DeserializeError>
         ensures leaf { is_leaf_type self.entry.kind ≡ true
             → Visits S.is_known S.left S.failures self.entry.reader.now self.exit.1.0.now
-                self.entry.kind (V.answers visitor.now) result }
+            self.entry.kind (V.answers visitor.now) result }
         ensures array { self.entry.kind ≡ types.Array
             → VisitsItems S.is_known S.left S.failures self.entry.reader.now self.exit.1.0.now
-                types.Array element_total self.entry.kind result }
+            types.Array element_total self.entry.kind result }
         ensures object { self.entry.kind ≡ types.Object
             → VisitsItems S.is_known S.left S.failures self.entry.reader.now self.exit.1.0.now
-                types.Object (entry_total (version_of self.entry.reader.now.version))
-                self.entry.kind result }
+            types.Object (entry_total (version_of self.entry.reader.now.version))
+            self.entry.kind result }
         ensures legacy { self.entry.kind ≡ types.JSONObject
             → VisitsLegacy S.is_known S.left S.failures self.entry.reader.now self.exit.1.0.now
-                result }
+            result }
         ensures marks { OnErr result (self.exit.1.0.now.has_failed ≡ true) }
     {
         let BinaryValueDeserializer { kind, reader } = self;

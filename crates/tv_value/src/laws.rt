@@ -3,13 +3,11 @@
 ghost use Rattle.std.specs.Prelude.{◌≡◌, ◌↔◌, ℕ, ◌++◌, IsTrue, List};
 ghost use Rattle.std.specs.Ordering.{nat_cmp, is_eq};
 ghost use Rattle.tv_base.specs.Parts.{OneReading};
-ghost use Rattle.tv_value.specs.InputError.{
-    Refusal, ErrorInValue, ErrorInDocument, NoErrorInLegacy,
-};
+ghost use Rattle.tv_value.specs.InputError.{Refusal, ErrorInValue, ErrorInDocument};
+ghost use Rattle.tv_value.specs.InputError.{NoErrorInLegacy};
 ghost use Rattle.tv_value.specs.PreTokenized.{text_of, tokens_of};
-ghost use Rattle.tv_value.specs.Short.{
-    short, short_document, IsText, AreTokens, IsValue, IsDocument,
-};
+ghost use Rattle.tv_value.specs.Short.{short, short_document, IsText, AreTokens, IsValue};
+ghost use Rattle.tv_value.specs.Short.{IsDocument};
 ghost use Rattle.tv_value.specs.Encoding.{Encodes, EncodesDocument, Derives, NoLegacy};
 ghost use Rattle.tv_value.specs.Tree.{Tree, Document};
 ghost use Rattle.tv_value.specs.Version.{Version, IsWritten};

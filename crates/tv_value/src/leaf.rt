@@ -3,10 +3,9 @@
 ghost use Rattle.std.specs.Prelude.{◌≡◌, ◌≢◌, ◌↔◌, IsTrue, IfSome, IfNone, option_map};
 ghost use Rattle.std.specs.Net.Addr.{ipv6_bits};
 ghost use Rattle.tv_value.specs.LeafParts.{content_of};
-ghost use Rattle.tv_value.specs.Leaves.{
-    type_of, content, leaf_with, is_null, text_in, unsigned_in, signed_in, boolean_in, date_in,
-    facet_in, bytes_in, ip_address_in, tokenized_in,
-};
+ghost use Rattle.tv_value.specs.Leaves.{type_of, content, leaf_with, is_null, text_in, unsigned_in};
+ghost use Rattle.tv_value.specs.Leaves.{signed_in, boolean_in, date_in, facet_in, bytes_in};
+ghost use Rattle.tv_value.specs.Leaves.{ip_address_in, tokenized_in};
 ghost use Rattle.tv_value.specs.Lent.{leaf_of};
 ghost use Rattle.tv_value.specs.PreTokenized.{text_of, tokens_of, tokenized_leaf};
 ghost use Rattle.tv_value.specs.Tree.{text, unsigned, signed, boolean, date, bytes, ip_address};

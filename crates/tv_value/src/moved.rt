@@ -58,7 +58,7 @@ fn moved_members(
 ) -> Result<Vec<(String, OwnedValue)>, AllocError>
     ensures { IfOk result
         (λ made. entries (owned_entries made.items)
-            ≡ whole_entries (members_view members.entries)) }
+        ≡ whole_entries (members_view members.entries)) }
 {
     let mut made = Vec::new(alloc);
     for (key, member) in members {

@@ -71,7 +71,7 @@ impl<'a> PreTokenizedStr<'a> {
     pub fn from_payload(bytes: &'a [u8]) -> Option<(PreTokenizedStr<'a>, usize)>
         ensures found { IfSome result
             (λ x. (x.1 ≤ length bytes.now)
-                × Tokenized (take x.1 bytes.now) (text_of x.0) (tokens_of x.0)) }
+            × Tokenized (take x.1 bytes.now) (text_of x.0) (tokens_of x.0)) }
         ensures none { IfNone result (NoTokenized bytes.now) }
     {
         let (text, behind_text) = text_at(bytes)?;

@@ -42,7 +42,7 @@ pub(crate) fn same_leaf(one: ReferenceValueLeaf<'_>, other: ReferenceValueLeaf<'
 fn same_nested<M: Nested, N: Nested>(one: NestedValue<'_, M>, other: NestedValue<'_, N>) -> bool
     ensures { result
         ≡ tree_eq (nested_tree M.array_rest M.object_rest one.entry)
-            (nested_tree N.array_rest N.object_rest other.entry) }
+        (nested_tree N.array_rest N.object_rest other.entry) }
 {
     match (one, other) {
         (NestedValue::Leaf(s), NestedValue::Leaf(t)) => same_leaf(s, t),

@@ -32,7 +32,7 @@ impl<'a> Iterator for RepeatedIter<'a> {
 
     ghost next_gives = { YieldsFirstBy
         (λ v. cond v.is_array (array (elements (replicate v.times (leaf (bytes v.content.now)))))
-            (leaf (bytes v.content.now)))
+        (leaf (bytes v.content.now)))
         (λ s. replicate s.left (leaf (bytes s.content.now))) };
 
     ghost remaining = { item_count (λ s. replicate s.left (leaf (bytes s.content.now))) };
@@ -59,9 +59,9 @@ impl<'a> Iterator for NoEntries<'a> {
 
     ghost next_gives = { YieldsFirstBy
         (entry_of
-            (λ v. cond v.is_array
-                (array (elements (replicate v.times (leaf (bytes v.content.now)))))
-                (leaf (bytes v.content.now))))
+        (λ v. cond v.is_array
+        (array (elements (replicate v.times (leaf (bytes v.content.now)))))
+        (leaf (bytes v.content.now))))
         (λ s. []) };
 
     ghost remaining = { λ s. at_most 0 };

@@ -4,9 +4,8 @@ ghost use Rattle.std.specs.Prelude.{◌≡◌, ◌+◌, [], length, Err, IfSome,
 ghost use Rattle.serde_json.specs.View.{view, items_view};
 ghost use Rattle.tv_field.specs.Entry.{Entry};
 ghost use Rattle.tv_schema.specs.SchemaJsonEarly.{head_error, first_error};
-ghost use Rattle.tv_schema.specs.SchemaJsonReading.{
-    Gives, entry_of, with_entry, with_entries, type_named,
-};
+ghost use Rattle.tv_schema.specs.SchemaJsonReading.{Gives, entry_of, with_entry, with_entries};
+ghost use Rattle.tv_schema.specs.SchemaJsonReading.{type_named};
 
 use crate::json::members::{required_object, required_text};
 use crate::json::options::options_of;

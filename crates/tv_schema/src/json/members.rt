@@ -3,9 +3,8 @@
 ghost use Rattle.std.specs.Prelude.{◌≡◌, option_map};
 ghost use Rattle.serde_json.specs.Find.{get_member};
 ghost use Rattle.serde_json.specs.View.{view, members_view};
-ghost use Rattle.tv_schema.specs.SchemaJsonOptions.{
-    required_bool, required_text, required_object, bool_or, text_or, unless_null,
-};
+ghost use Rattle.tv_schema.specs.SchemaJsonOptions.{required_bool, required_text, required_object};
+ghost use Rattle.tv_schema.specs.SchemaJsonOptions.{bool_or, text_or, unless_null};
 
 use serde_json::{Map, Value};
 

@@ -2,12 +2,14 @@
 
 ghost use Rattle.std.specs.Prelude.{◌≡◌, IfOk};
 ghost use Rattle.serde_json.specs.View.{view, members_view};
-ghost use Rattle.tv_schema.specs.SchemaJsonOptions.{
-    options_of, text_options_of, numeric_options_of, date_options_of, facet_options_of,
-    bytes_options_of, json_object_options_of, ip_addr_options_of, optional_indexing, indexing_of,
-    fieldnorms_or, fast_field_of, fast_field_or_none, required_fast_field, record_or_basic,
-    precision_or_seconds,
-};
+ghost use Rattle.tv_schema.specs.SchemaJsonOptions.{options_of, text_options_of};
+ghost use Rattle.tv_schema.specs.SchemaJsonOptions.{numeric_options_of, date_options_of};
+ghost use Rattle.tv_schema.specs.SchemaJsonOptions.{facet_options_of, bytes_options_of};
+ghost use Rattle.tv_schema.specs.SchemaJsonOptions.{json_object_options_of, ip_addr_options_of};
+ghost use Rattle.tv_schema.specs.SchemaJsonOptions.{optional_indexing, indexing_of, fieldnorms_or};
+ghost use Rattle.tv_schema.specs.SchemaJsonOptions.{fast_field_of, fast_field_or_none};
+ghost use Rattle.tv_schema.specs.SchemaJsonOptions.{required_fast_field, record_or_basic};
+ghost use Rattle.tv_schema.specs.SchemaJsonOptions.{precision_or_seconds};
 
 use crate::json::members::{
     Members, bool_or, member, present, required_bool, required_text, text_or,

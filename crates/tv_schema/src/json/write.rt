@@ -3,10 +3,10 @@
 ghost use Rattle.std.specs.Prelude.{◌≡◌, IfOk, OnOk, codes, option_map};
 ghost use Rattle.std.specs.Option.{option_copied};
 ghost use Rattle.serde_json.specs.View.{view, members_view};
-ghost use Rattle.tv_schema.specs.SchemaJson.{
-    schema_json, entry_json, options_json, text_json, numeric_json, date_json, facet_json,
-    bytes_json, json_object_json, ip_addr_json, indexing_json, fast_json, put_some, put_true,
-};
+ghost use Rattle.tv_schema.specs.SchemaJson.{schema_json, entry_json, options_json, text_json};
+ghost use Rattle.tv_schema.specs.SchemaJson.{numeric_json, date_json, facet_json, bytes_json};
+ghost use Rattle.tv_schema.specs.SchemaJson.{json_object_json, ip_addr_json, indexing_json};
+ghost use Rattle.tv_schema.specs.SchemaJson.{fast_json, put_some, put_true};
 
 use crate::json::words::{precision_word, record_word, type_word};
 use serde_json::{Map, Value, json, put};
@@ -90,8 +90,8 @@ fn put_indexing(
 ) -> Result<(), AllocError>
     ensures { OnOk result
         (members_view members.new.entries
-            ≡ put_some (codes "indexing") (option_map indexing_json (option_copied indexing.entry))
-                (members_view members.old.entries)) }
+        ≡ put_some (codes "indexing") (option_map indexing_json (option_copied indexing.entry))
+        (members_view members.old.entries)) }
 {
     match indexing {
         Some(indexing) => put(members, alloc, "indexing", indexing_json(alloc, indexing)?),
@@ -108,7 +108,7 @@ fn put_true(
 ) -> Result<(), AllocError>
     ensures { OnOk result
         (members_view members.new.entries
-            ≡ put_true key.now is_so (members_view members.old.entries)) }
+        ≡ put_true key.now is_so (members_view members.old.entries)) }
 {
     if is_so {
         put(members, alloc, key, Value::Bool(true))
