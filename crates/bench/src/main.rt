@@ -31,7 +31,7 @@ fn main(rt: HostRuntime) -> Result<()> {
     Ok(())
 }
 
-/// How many rounds the arguments `time N` ask for.
+// How many rounds the arguments `time N` ask for.
 fn rounds_wanted(rt: &(impl Env + AllocGlobal)) -> Result<Option<u32>> {
     let mut words = env::args(rt)?.skip(1);
     let Some(first) = words.next() else {
@@ -50,7 +50,7 @@ fn rounds_wanted(rt: &(impl Env + AllocGlobal)) -> Result<Option<u32>> {
     ))
 }
 
-/// Makes the call for each document, in so many rounds, and says what a document takes.
+// Makes the call for each document, in so many rounds, and says what a document takes.
 fn measure(
     rt: &(impl Clock + Eprint + AllocGlobal),
     workload: &Workload,

@@ -26,7 +26,7 @@ pub fn leaf(alloc: Global, kind: &str, value: &str) -> Result<OwnedValue> {
     })
 }
 
-/// The address of 32 hexadecimal digits.
+// The address of 32 hexadecimal digits.
 fn address(digits: &str) -> Result<Ipv6Addr> {
     let bits = u128::from_str_radix(digits, 16);
     Ok(Ipv6Addr::from_bits(bits.ok().context("an address")?))

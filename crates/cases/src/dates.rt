@@ -32,13 +32,13 @@ pub fn answer(alloc: Global, call: &[&str]) -> Result<String> {
     }
 }
 
-/// How many nanoseconds after 1970 a date is.
+// How many nanoseconds after 1970 a date is.
 fn shown(alloc: Global, date: DateTime) -> Result<String> {
     let nanoseconds = date.into_timestamp_nanos();
     Ok(format!(in alloc; "{nanoseconds}")?)
 }
 
-/// The text of a date. It is the same behind another text.
+// The text of a date. It is the same behind another text.
 fn printed(alloc: Global, date: DateTime) -> Result<String> {
     let text = date.write_rfc3339(alloc)?;
     let mut behind = String::from_str(alloc, "on ")?;
@@ -50,7 +50,7 @@ fn printed(alloc: Global, date: DateTime) -> Result<String> {
     words::quoted(alloc, text.as_str())
 }
 
-/// The precision of a name.
+// The precision of a name.
 fn precision_named(name: &str) -> Result<DateTimePrecision> {
     match name {
         "seconds" => Ok(DateTimePrecision::Seconds),

@@ -33,14 +33,14 @@ pub fn answer(alloc: Global, call: &[&str]) -> Result<String> {
     }
 }
 
-/// The facet of a JSON array of steps.
+// The facet of a JSON array of steps.
 fn of_steps(alloc: Global, word: &str) -> Result<Facet> {
     let texts = words::texts(alloc, word)?;
     let steps: Vec<&str> = texts.iter().map(|step| step.as_str()).collect(alloc)?;
     Ok(Facet::from_path(alloc, &steps)?)
 }
 
-/// The encoded text of a facet, the printed text, the steps, and whether it is the root.
+// The encoded text of a facet, the printed text, the steps, and whether it is the root.
 fn shown(alloc: Global, facet: &Facet) -> Result<String> {
     let printed = facet.to_path_string(alloc)?;
     ensure!(
@@ -62,7 +62,7 @@ fn shown(alloc: Global, facet: &Facet) -> Result<String> {
     Ok(answer)
 }
 
-/// Whether all ways to print a facet give this text.
+// Whether all ways to print a facet give this text.
 fn is_printed(alloc: Global, facet: &Facet, printed: &str) -> Result<bool> {
     let mut encoded = String::new(alloc);
     Facet::print_encoded(facet.encoded_str(), &mut encoded)?;
@@ -74,7 +74,7 @@ fn is_printed(alloc: Global, facet: &Facet, printed: &str) -> Result<bool> {
     )
 }
 
-/// Whether the facet is read again from what is printed and from what is written, and a copy is equal and has the same hash.
+// Whether the facet is read again from what is printed and from what is written, and a copy is equal and has the same hash.
 fn is_kept(alloc: Global, facet: &Facet, printed: &str) -> Result<bool> {
     let read = Facet::from_text(alloc, printed)?;
     let copy = facet.try_clone(alloc)?;
@@ -86,7 +86,7 @@ fn is_kept(alloc: Global, facet: &Facet, printed: &str) -> Result<bool> {
     )
 }
 
-/// Whether the facet is read again from what is written.
+// Whether the facet is read again from what is written.
 fn is_read_back(alloc: Global, facet: &Facet) -> Result<bool> {
     let mut sink = VecSink::new(alloc);
     if facet.serialize(&mut sink).is_err() {

@@ -31,7 +31,7 @@ pub fn answer(alloc: Global, call: &[&str]) -> Result<String> {
     }
 }
 
-/// Gives so many of its bytes, and then fails with errors of this kind.
+// Gives so many of its bytes, and then fails with errors of this kind.
 #[derive(Drop)]
 struct FailingReader<'a> {
     rest: &'a [u8],
@@ -52,7 +52,7 @@ impl<'a> Read for FailingReader<'a> {
     }
 }
 
-/// The kind of a failure.
+// The kind of a failure.
 fn error_kind(word: &str) -> Result<io::ErrorKind> {
     match word {
         "Interrupted" => Ok(io::ErrorKind::Interrupted),
@@ -61,7 +61,7 @@ fn error_kind(word: &str) -> Result<io::ErrorKind> {
     }
 }
 
-/// What a source of these bytes reads as values of these kinds, and the bytes that it has left.
+// What a source of these bytes reads as values of these kinds, and the bytes that it has left.
 fn read(alloc: Global, source: &[&str], kinds: &str, bytes: &[u8]) -> Result<String> {
     let (values, rest) = match source {
         ["whole"] => {
@@ -87,7 +87,7 @@ fn read(alloc: Global, source: &[&str], kinds: &str, bytes: &[u8]) -> Result<Str
     Ok(format!(in alloc; "{values}left {rest}")?)
 }
 
-/// What values of these kinds are read, one after the other.
+// What values of these kinds are read, one after the other.
 fn read_all<S: ByteSource>(alloc: Global, source: &mut S, kinds: &str) -> Result<String> {
     let mut values = String::new(alloc);
     for kind in kinds.split(' ') {
@@ -97,7 +97,7 @@ fn read_all<S: ByteSource>(alloc: Global, source: &mut S, kinds: &str) -> Result
     Ok(values)
 }
 
-/// What is read as a value of this kind.
+// What is read as a value of this kind.
 fn read_one<S: ByteSource>(alloc: Global, source: &mut S, kind: &str) -> Result<String> {
     match kind {
         "vint" => shown(
@@ -114,7 +114,7 @@ fn read_one<S: ByteSource>(alloc: Global, source: &mut S, kind: &str) -> Result<
     }
 }
 
-/// A value that was read, or why none was.
+// A value that was read, or why none was.
 fn shown<T: Display + Drop>(alloc: Global, value: Result<T, ReadError>) -> Result<String> {
     match value {
         Ok(value) => Ok(format!(in alloc; "{value}")?),
@@ -122,7 +122,7 @@ fn shown<T: Display + Drop>(alloc: Global, value: Result<T, ReadError>) -> Resul
     }
 }
 
-/// What is read as a text, as a byte string or as a facet.
+// What is read as a text, as a byte string or as a facet.
 fn read_bytes<S: ByteSource>(alloc: Global, source: &mut S, kind: &str) -> Result<String> {
     match kind {
         "text" => match String::deserialize(alloc, source) {
@@ -141,7 +141,7 @@ fn read_bytes<S: ByteSource>(alloc: Global, source: &mut S, kind: &str) -> Resul
     }
 }
 
-/// The bytes that a sink holds when these values, each behind its kind, are written to it, and why it took no more.
+// The bytes that a sink holds when these values, each behind its kind, are written to it, and why it took no more.
 fn write(alloc: Global, sink: &str, values: &[&str]) -> Result<String> {
     match sink {
         "memory" => {
@@ -165,7 +165,7 @@ fn write(alloc: Global, sink: &str, values: &[&str]) -> Result<String> {
     }
 }
 
-/// Bytes that were written, and why no more were.
+// Bytes that were written, and why no more were.
 fn written(alloc: Global, bytes: &[u8], failure: Option<io::ErrorKind>) -> Result<String> {
     let digits = words::digits(alloc, bytes)?;
     match failure {
@@ -174,7 +174,7 @@ fn written(alloc: Global, bytes: &[u8], failure: Option<io::ErrorKind>) -> Resul
     }
 }
 
-/// Writes values, each behind its kind, and returns why the sink took no more.
+// Writes values, each behind its kind, and returns why the sink took no more.
 fn write_all<K: ByteSink>(
     alloc: Global,
     sink: &mut K,
@@ -190,7 +190,7 @@ fn write_all<K: ByteSink>(
     Ok(None)
 }
 
-/// Writes a value of this kind, and returns what the sink answered.
+// Writes a value of this kind, and returns what the sink answered.
 fn write_one<K: ByteSink>(
     alloc: Global,
     sink: &mut K,

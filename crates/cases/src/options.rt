@@ -67,7 +67,7 @@ pub fn answer_types(alloc: Global, call: &[&str]) -> Result<String> {
     }
 }
 
-/// The record option of a name.
+// The record option of a name.
 fn record_named(name: &str) -> Result<IndexRecordOption> {
     match name {
         "Basic" => Ok(IndexRecordOption::Basic),
@@ -77,7 +77,7 @@ fn record_named(name: &str) -> Result<IndexRecordOption> {
     }
 }
 
-/// A type of fields with its default options.
+// A type of fields with its default options.
 fn unset(kind: &str) -> Result<FieldType> {
     match kind {
         "text" => Ok(FieldType::Str(TextOptions::default())),
@@ -91,8 +91,8 @@ fn unset(kind: &str) -> Result<FieldType> {
     }
 }
 
-/// The type of fields with its options changed by one step: by a setter, or by `|` with what stands behind it or before it.
-/// The name of a tokenizer stands behind `=`.
+// The type of fields with its options changed by one step: by a setter, or by `|` with what stands behind it or before it.
+// The name of a tokenizer stands behind `=`.
 fn changed(alloc: Global, field_type: FieldType, step: &str) -> Result<FieldType> {
     let (step, name) = match step.split_once('=') {
         Some((step, name)) => (step, Some(name)),
@@ -126,7 +126,7 @@ fn changed(alloc: Global, field_type: FieldType, step: &str) -> Result<FieldType
     })
 }
 
-/// The options of numbers, changed by one step.
+// The options of numbers, changed by one step.
 fn changed_number(options: NumericOptions, step: &str) -> Result<NumericOptions> {
     match step {
         "fieldnorm" => Ok(options.set_fieldnorm()),
@@ -141,7 +141,7 @@ fn changed_number(options: NumericOptions, step: &str) -> Result<NumericOptions>
     }
 }
 
-/// The options of byte strings, changed by one step.
+// The options of byte strings, changed by one step.
 fn changed_bytes(options: BytesOptions, step: &str) -> Result<BytesOptions> {
     match step {
         "default" => Ok(options),
@@ -160,7 +160,7 @@ fn changed_bytes(options: BytesOptions, step: &str) -> Result<BytesOptions> {
     }
 }
 
-/// The options of texts, changed by one step, which may name a tokenizer.
+// The options of texts, changed by one step, which may name a tokenizer.
 fn changed_text(
     alloc: Global,
     options: TextOptions,
@@ -183,7 +183,7 @@ fn changed_text(
     }
 }
 
-/// The options of JSON objects, changed by one step, which may name a tokenizer.
+// The options of JSON objects, changed by one step, which may name a tokenizer.
 fn changed_json(
     alloc: Global,
     options: JsonObjectOptions,
@@ -205,7 +205,7 @@ fn changed_json(
     }
 }
 
-/// Indexing by the tokenizer of this name, of documents and frequencies, without field norms.
+// Indexing by the tokenizer of this name, of documents and frequencies, without field norms.
 fn frequencies(alloc: Global, tokenizer_name: Option<&str>) -> Result<TextFieldIndexing> {
     let name = tokenizer_name.context("the name of a tokenizer")?;
     let indexing = TextFieldIndexing::default().set_tokenizer(alloc, name)?;
@@ -216,7 +216,7 @@ fn frequencies(alloc: Global, tokenizer_name: Option<&str>) -> Result<TextFieldI
     )
 }
 
-/// The options as JSON, and which queries of the field's type hold.
+// The options as JSON, and which queries of the field's type hold.
 fn shown(alloc: Global, field_type: FieldType) -> Result<String> {
     ensure!(
         field_type.try_clone(alloc)? == field_type,

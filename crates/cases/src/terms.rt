@@ -51,7 +51,7 @@ pub fn answer(alloc: Global, call: &[&str]) -> Result<String> {
     }
 }
 
-/// The term of these bytes, and the fresh term where there is none.
+// The term of these bytes, and the fresh term where there is none.
 fn wrapped(alloc: Global, digits: &str) -> Result<Term> {
     match digits {
         "new" => Ok(Term::with_capacity(alloc, 8)?),
@@ -59,7 +59,7 @@ fn wrapped(alloc: Global, digits: &str) -> Result<Term> {
     }
 }
 
-/// The term of a field and a value.
+// The term of a field and a value.
 fn term_of(alloc: Global, field: Field, value: &OwnedValue) -> Result<Term> {
     let made = match value {
         OwnedValue::Str(text) => Term::from_field_text(alloc, field, text.as_str()),
@@ -75,13 +75,13 @@ fn term_of(alloc: Global, field: Field, value: &OwnedValue) -> Result<Term> {
     Ok(made?)
 }
 
-/// The term of a field and a path.
+// The term of a field and a path.
 fn json_term(alloc: Global, field: &str, path: &str, dots: &str) -> Result<Term> {
     let (field, path) = (words::field(field)?, words::text(alloc, path)?);
     Ok(Term::from_field_json_path(alloc, field, path.as_str(), dots == "expanded")?)
 }
 
-/// Appends a value of this kind to a term.
+// Appends a value of this kind to a term.
 fn append(alloc: Global, term: &mut Term, kind: &str, value: &str) -> Result<()> {
     let appended = match leaves::leaf(alloc, kind, value)? {
         OwnedValue::Str(text) => term.append_type_and_str(text.as_str()),
@@ -94,7 +94,7 @@ fn append(alloc: Global, term: &mut Term, kind: &str, value: &str) -> Result<()>
     Ok(appended?)
 }
 
-/// The bytes of a term, its field, and the value that is read back from a copy.
+// The bytes of a term, its field, and the value that is read back from a copy.
 fn shown(alloc: Global, term: &Term) -> Result<String> {
     ensure!(
         is_consistent(alloc, term)?,
@@ -111,7 +111,7 @@ fn shown(alloc: Global, term: &Term) -> Result<String> {
     Ok(answer)
 }
 
-/// Whether the parts of a term are those of its bytes, and a copy is equal and has the same hash.
+// Whether the parts of a term are those of its bytes, and a copy is equal and has the same hash.
 fn is_consistent(alloc: Global, term: &Term) -> Result<bool> {
     let (bytes, value_bytes) = (term.serialized_term(), term.serialized_value_bytes());
     let copy = term.try_clone(alloc)?;
@@ -126,7 +126,7 @@ fn is_consistent(alloc: Global, term: &Term) -> Result<bool> {
     )
 }
 
-/// The type of a value, and the name and the answer of each reader that has one.
+// The type of a value, and the name and the answer of each reader that has one.
 fn shown_value(alloc: Global, value: &ValueBytes<'_>) -> Result<String> {
     let name = value.typ().map_or("none", |value_type| value_type.name());
     let mut answer = String::from_str(alloc, name)?;
@@ -145,7 +145,7 @@ fn shown_value(alloc: Global, value: &ValueBytes<'_>) -> Result<String> {
     Ok(answer)
 }
 
-/// Appends the path of a value of a JSON field, what stands behind it, and the type of that.
+// Appends the path of a value of a JSON field, what stands behind it, and the type of that.
 fn push_path(alloc: Global, answer: &mut String, value: &ValueBytes<'_>) -> Result<()> {
     if let Some((path, rest)) = value.as_json() {
         let (path, rest) = (words::digits(alloc, path)?, words::digits(alloc, rest)?);
@@ -155,7 +155,7 @@ fn push_path(alloc: Global, answer: &mut String, value: &ValueBytes<'_>) -> Resu
     words::push_named(answer, "of", path_type)
 }
 
-/// The name of a term's field in a schema, and the term's path.
+// The name of a term's field in a schema, and the term's path.
 fn full_path(alloc: Global, schema: &str, term: &Term) -> Result<String> {
     let json = serde_json::Value::from_str(alloc, schema)?;
     let schema = Schema::from_json_value(alloc, &json)?;
@@ -163,7 +163,7 @@ fn full_path(alloc: Global, schema: &str, term: &Term) -> Result<String> {
     words::quoted(alloc, term.get_full_path(alloc, &schema)?.as_str())
 }
 
-/// What is left of a term after these steps.
+// What is left of a term after these steps.
 fn edited(alloc: Global, start: &str, steps: &[&str]) -> Result<String> {
     let mut term = wrapped(alloc, start)?;
     for step in steps {
@@ -173,7 +173,7 @@ fn edited(alloc: Global, start: &str, steps: &[&str]) -> Result<String> {
     shown(alloc, &term)
 }
 
-/// Changes a term by one step.
+// Changes a term by one step.
 fn edit(alloc: Global, term: &mut Term, step: &[&str]) -> Result<()> {
     match step {
         ["field", field, code] => {
@@ -197,7 +197,7 @@ fn edit(alloc: Global, term: &mut Term, step: &[&str]) -> Result<()> {
     Ok(())
 }
 
-/// The type of two fast values, their numbers, and how the values and the numbers compare.
+// The type of two fast values, their numbers, and how the values and the numbers compare.
 fn fast_values(alloc: Global, kind: &str, one: &str, other: &str) -> Result<String> {
     let (one, other) = (
         leaves::leaf(alloc, kind, one)?,
@@ -212,7 +212,7 @@ fn fast_values(alloc: Global, kind: &str, one: &str, other: &str) -> Result<Stri
     }
 }
 
-/// The type of two fast values, their numbers, and how the values and the numbers compare.
+// The type of two fast values, their numbers, and how the values and the numbers compare.
 fn compared<T: FastValue>(alloc: Global, one: T, other: T) -> Result<String> {
     let value_type = fast_types_are_of_eight_bytes::<T>().name();
     let (number, same) = fast_values_are_read_back(one);

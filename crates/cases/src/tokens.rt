@@ -24,7 +24,7 @@ pub fn answer(alloc: Global, call: &[&str]) -> Result<String> {
     }
 }
 
-/// Whether a text is equal to the one that the bytes encode, and that one to it. Copies of both are equal just then.
+// Whether a text is equal to the one that the bytes encode, and that one to it. Copies of both are equal just then.
 fn same(alloc: Global, kept: &PreTokenizedString, digits: &str) -> Result<String> {
     let bytes = words::bytes(alloc, digits)?;
     let (encoded, _) = PreTokenizedStr::from_payload(&bytes).context("a payload")?;
@@ -39,7 +39,7 @@ fn same(alloc: Global, kept: &PreTokenizedString, digits: &str) -> Result<String
     Ok(format!(in alloc; "{one_way} {other_way}")?)
 }
 
-/// How many bytes encode a text, how many tokens it has, whether it has none, and the text with its tokens.
+// How many bytes encode a text, how many tokens it has, whether it has none, and the text with its tokens.
 fn shown(alloc: Global, text: PreTokenizedStr<'_>, length: usize) -> Result<String> {
     let kept = text.to_owned_string(alloc)?;
     ensure!(

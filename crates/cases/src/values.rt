@@ -22,7 +22,7 @@ pub fn answer(alloc: Global, call: &[&str]) -> Result<String> {
     }
 }
 
-/// The name and the answer of each accessor that has one.
+// The name and the answer of each accessor that has one.
 fn shown(alloc: Global, value: &OwnedValue) -> Result<String> {
     ensure!(is_copied(alloc, value)?, "a copy is not equal");
     let mut answer = String::from_str(alloc, "is")?;
@@ -43,7 +43,7 @@ fn shown(alloc: Global, value: &OwnedValue) -> Result<String> {
     Ok(answer)
 }
 
-/// Whether copies are equal to the value that they copy.
+// Whether copies are equal to the value that they copy.
 fn is_copied(alloc: Global, value: &OwnedValue) -> Result<bool> {
     let copy = OwnedValue::from_value(alloc, &value)?;
     Ok(copy == *value && is_same(&&copy, &value) && value.try_clone(alloc)? == *value)

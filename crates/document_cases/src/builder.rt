@@ -33,7 +33,7 @@ pub fn document(alloc: Global, calls: &[&str]) -> Result<CompactDoc> {
     Ok(document)
 }
 
-/// The document that calls make. Puts refusals and states behind the answers.
+// The document that calls make. Puts refusals and states behind the answers.
 fn made(alloc: Global, calls: &[&str], answers: &mut String) -> Result<CompactDoc> {
     let mut builder = TreeBuilder::new(CompactDoc::new(alloc));
     for word in calls {
@@ -55,7 +55,7 @@ fn made(alloc: Global, calls: &[&str], answers: &mut String) -> Result<CompactDo
     Ok(builder.into_doc())
 }
 
-/// Puts the refusal of a call behind the answers.
+// Puts the refusal of a call behind the answers.
 fn note<E: Debug + Drop>(answers: &mut String, outcome: Result<(), E>) -> Result<()> {
     if let Err(error) = outcome {
         write!(answers, "error {error:?}\t")?;
@@ -63,7 +63,7 @@ fn note<E: Debug + Drop>(answers: &mut String, outcome: Result<(), E>) -> Result
     Ok(())
 }
 
-/// Puts the length of the heap, how many children and lists are open, and what is awaited behind the answers.
+// Puts the length of the heap, how many children and lists are open, and what is awaited behind the answers.
 fn push_state(answers: &mut String, builder: &TreeBuilder) -> Result<()> {
     let length = builder.heap_len();
     let pending = builder.pending();
@@ -76,7 +76,7 @@ fn push_state(answers: &mut String, builder: &TreeBuilder) -> Result<()> {
     Ok(())
 }
 
-/// Makes a call on a tree builder.
+// Makes a call on a tree builder.
 fn build(
     alloc: Global,
     builder: &mut TreeBuilder,
@@ -110,7 +110,7 @@ pub fn value(alloc: Global, word: &str) -> Result<OwnedValue> {
     }
 }
 
-/// Begins bytes of a kind and a length.
+// Begins bytes of a kind and a length.
 fn begin(builder: &mut TreeBuilder, content: &str) -> Result<Result<(), BuildError>> {
     let (kind, length) = words::parted(content);
     let kind = match kind {
@@ -123,7 +123,7 @@ fn begin(builder: &mut TreeBuilder, content: &str) -> Result<Result<(), BuildErr
     Ok(builder.begin_bytes(kind, words::number(length)?))
 }
 
-/// Adds a value to a field by the call of its type.
+// Adds a value to a field by the call of its type.
 fn add(alloc: Global, document: &mut CompactDoc, content: &str) -> Result<Result<(), AddError>> {
     let (number, content) = words::parted(content);
     let field = words::field(number)?;
@@ -139,7 +139,7 @@ fn add(alloc: Global, document: &mut CompactDoc, content: &str) -> Result<Result
     Ok(add_typed(document, field, value(alloc, content)?))
 }
 
-/// Adds a value by the call of its type.
+// Adds a value by the call of its type.
 fn add_typed(document: &mut CompactDoc, field: Field, value: OwnedValue) -> Result<(), AddError> {
     match value {
         OwnedValue::Null => document.add_leaf_field_value(field, ReferenceValueLeaf::Null),
@@ -156,7 +156,7 @@ fn add_typed(document: &mut CompactDoc, field: Field, value: OwnedValue) -> Resu
     }
 }
 
-/// The members of a JSON object.
+// The members of a JSON object.
 fn members(alloc: Global, json: &str) -> Result<BTreeMap<String, OwnedValue>> {
     let json = JsonValue::from_str(alloc, json)?;
     let OwnedValue::Object(entries) = OwnedValue::from_json(alloc, json)? else {

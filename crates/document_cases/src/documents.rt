@@ -52,7 +52,7 @@ pub fn shown(alloc: Global, document: &CompactDoc) -> Result<String> {
     Ok(text)
 }
 
-/// The document of a JSON object, or of calls.
+// The document of a JSON object, or of calls.
 fn document_of(alloc: Global, schema: &Schema, words: &[&str]) -> Result<CompactDoc> {
     match words {
         [json] if json.starts_with('{') => Ok(CompactDoc::parse_json(alloc, schema, json)?),
@@ -60,13 +60,13 @@ fn document_of(alloc: Global, schema: &Schema, words: &[&str]) -> Result<Compact
     }
 }
 
-/// The JSON of the document of a JSON object, or of calls.
+// The JSON of the document of a JSON object, or of calls.
 fn print(alloc: Global, description: &str, words: &[&str]) -> Result<String> {
     let schema = schemas::schema(alloc, description)?;
     Ok(document_of(alloc, &schema, words)?.to_json(alloc, &schema)?)
 }
 
-/// The document of a JSON object, or its refusal.
+// The document of a JSON object, or its refusal.
 fn parse(alloc: Global, description: &str, json: &str) -> Result<String> {
     match CompactDoc::parse_json(alloc, &schemas::schema(alloc, description)?, json) {
         Ok(document) => parsed(alloc, &document),
@@ -74,7 +74,7 @@ fn parse(alloc: Global, description: &str, json: &str) -> Result<String> {
     }
 }
 
-/// The document, which has to be the same where its values come part by part.
+// The document, which has to be the same where its values come part by part.
 fn parsed(alloc: Global, document: &CompactDoc) -> Result<String> {
     let text = shown(alloc, document)?;
     for cut in 0..parts::MOST_BYTES {
@@ -87,7 +87,7 @@ fn parsed(alloc: Global, document: &CompactDoc) -> Result<String> {
     Ok(text)
 }
 
-/// Why there is no document of a JSON object.
+// Why there is no document of a JSON object.
 fn refusal(alloc: Global, error: &DocParsingError) -> Result<String> {
     match error {
         DocParsingError::InvalidJson(start) => {
@@ -95,19 +95,22 @@ fn refusal(alloc: Global, error: &DocParsingError) -> Result<String> {
             Ok(format!(in alloc; "error InvalidJson {start}")?)
         }
         DocParsingError::ValueError(name, error) => refused_value(alloc, name.as_str(), error),
-        DocParsingError::Add(error) => Ok(format!(in alloc; "error Add {error:?}")?),
+        DocParsingError::FieldNumber(number) => {
+            Ok(format!(in alloc; "error FieldNumber({number})")?)
+        }
+        DocParsingError::HeapFull => Ok(String::from_str(alloc, "error HeapFull")?),
         DocParsingError::Memory => Ok(String::from_str(alloc, "error Memory")?),
     }
 }
 
-/// The name of a field, and why its value is refused.
+// The name of a field, and why its value is refused.
 fn refused_value(alloc: Global, name: &str, error: &ValueParsingError) -> Result<String> {
     let name = words::quoted(alloc, name)?;
     let reason = json_values::refusal(alloc, error)?;
     Ok(format!(in alloc; "error ValueError {name} {reason}")?)
 }
 
-/// The values of a document by the names of one schema, and the document that these names make with another.
+// The values of a document by the names of one schema, and the document that these names make with another.
 fn named(alloc: Global, from: &str, to: &str, calls: &[&str]) -> Result<String> {
     let (from, to) = (schemas::schema(alloc, from)?, schemas::schema(alloc, to)?);
     let document = builder::document(alloc, calls)?;
@@ -121,7 +124,7 @@ fn named(alloc: Global, from: &str, to: &str, calls: &[&str]) -> Result<String> 
     Ok(format!(in alloc; "{:?}\t{made}", names.0)?)
 }
 
-/// Whether two documents are the same by the JSON of their values. The word `and` stands between their calls.
+// Whether two documents are the same by the JSON of their values. The word `and` stands between their calls.
 fn same(alloc: Global, calls: &[&str]) -> Result<String> {
     let place = calls.iter().position(|word| *word == "and");
     let (one, other) = calls.split_at(place.context("two documents")?);
@@ -135,7 +138,7 @@ fn same(alloc: Global, calls: &[&str]) -> Result<String> {
     Ok(format!(in alloc; "{is_same}")?)
 }
 
-/// A copy of a document. Its values have to be equal to those of the document, whose memory is shrunk.
+// A copy of a document. Its values have to be equal to those of the document, whose memory is shrunk.
 fn copy(alloc: Global, calls: &[&str]) -> Result<String> {
     let mut document = builder::document(alloc, calls)?;
     let copy = document.try_clone(alloc)?;
@@ -149,12 +152,12 @@ fn copy(alloc: Global, calls: &[&str]) -> Result<String> {
     shown(alloc, &copy)
 }
 
-/// A value with its type.
+// A value with its type.
 fn typed<'a, V: Value<'a>>(alloc: Global, value: &V) -> Result<String> {
     Ok(format!(in alloc; "{:?}", OwnedValue::from_value(alloc, value)?)?)
 }
 
-/// The first value of a field, and all of its values.
+// The first value of a field, and all of its values.
 fn get(alloc: Global, field: &str, calls: &[&str]) -> Result<String> {
     let field = words::field(field)?;
     let document = builder::document(alloc, calls)?;
@@ -169,7 +172,7 @@ fn get(alloc: Global, field: &str, calls: &[&str]) -> Result<String> {
     Ok(text)
 }
 
-/// The values of a document by their fields, which rise.
+// The values of a document by their fields, which rise.
 fn sorted(alloc: Global, calls: &[&str]) -> Result<String> {
     let document = builder::document(alloc, calls)?;
     let groups = document.get_sorted_field_values(alloc)?;
@@ -184,7 +187,7 @@ fn sorted(alloc: Global, calls: &[&str]) -> Result<String> {
     Ok(text)
 }
 
-/// The field of each pair, and its value with its type and as JSON.
+// The field of each pair, and its value with its type and as JSON.
 fn values(alloc: Global, calls: &[&str]) -> Result<String> {
     let document = builder::document(alloc, calls)?;
     let mut text = format!(in alloc; "{}", document.len())?;

@@ -14,7 +14,7 @@ use tv_heap::len::leaf_len;
 use tv_heap::value_type::ValueType;
 use tv_value::value::Value;
 
-/// What stands at the places of lists that are open.
+// What stands at the places of lists that are open.
 const OPEN: &[u8] = b"\x09\x81";
 
 /// What a call about heaps returns.
@@ -38,7 +38,7 @@ pub fn answer(alloc: Global, call: &[&str]) -> Result<String> {
     }
 }
 
-/// The heap behind which the value that bytes encode is written, its type's code and its address, and the bytes behind it.
+// The heap behind which the value that bytes encode is written, its type's code and its address, and the bytes behind it.
 fn encoded(alloc: Global, before: &str, levels: u32, bytes: &[u8]) -> Result<String> {
     let before = words::bytes(alloc, before)?;
     let mut heap = before.as_slice().to_vec(alloc)?;
@@ -57,7 +57,7 @@ fn encoded(alloc: Global, before: &str, levels: u32, bytes: &[u8]) -> Result<Str
     Ok(format!(in alloc; "{placed}\t{rest}")?)
 }
 
-/// The heap behind which a JSON value is written, its type's code and its address.
+// The heap behind which a JSON value is written, its type's code and its address.
 fn json_value(alloc: Global, before: &str, json: &str) -> Result<String> {
     let mut heap = words::bytes(alloc, before)?;
     let mut places = OPEN.to_vec(alloc)?;
@@ -74,7 +74,7 @@ fn json_value(alloc: Global, before: &str, json: &str) -> Result<String> {
     }
 }
 
-/// A heap, and the place of a value in it. The places of open lists have to be as they were.
+// A heap, and the place of a value in it. The places of open lists have to be as they were.
 fn placed(alloc: Global, heap: &[u8], place: Place, places: &[u8]) -> Result<String> {
     ensure!(places == OPEN, "the places of open lists have changed");
     let heap = hex::encode(alloc, heap)?;
@@ -83,7 +83,7 @@ fn placed(alloc: Global, heap: &[u8], place: Place, places: &[u8]) -> Result<Str
     Ok(format!(in alloc; "{heap}\t{code}:{address}")?)
 }
 
-/// The type of a value without children in a heap, and how many bytes it takes there.
+// The type of a value without children in a heap, and how many bytes it takes there.
 fn leaf(alloc: Global, word: &str) -> Result<String> {
     let value = builder::value(alloc, word)?;
     let leaf = (&value).as_leaf().context("a value without children")?;
@@ -92,7 +92,7 @@ fn leaf(alloc: Global, word: &str) -> Result<String> {
     Ok(format!(in alloc; "{value_type:?} {length}")?)
 }
 
-/// A type, its code, and the byte that is written of it.
+// A type, its code, and the byte that is written of it.
 fn value_type(alloc: Global, value_type: ValueType) -> Result<String> {
     let code = value_type.to_code();
     let of_code = ValueType::from_code(code);

@@ -8,14 +8,14 @@ use tv_heap::value::CompactDocValue;
 use tv_value::leaf::ReferenceValueLeaf;
 use tv_value::value::{ReferenceValue, Value};
 
-/// A part of a value that is still to come.
+// A part of a value that is still to come.
 #[derive(Clone, Copy)]
 enum Part<'a> {
     Key(&'a str),
     Value(CompactDocValue<'a>),
 }
 
-/// More than the parts of any value.
+// More than the parts of any value.
 const MOST_PARTS: usize = 2000;
 
 /// More than the bytes of most texts.
@@ -31,7 +31,7 @@ pub fn rebuilt(alloc: Global, document: &CompactDoc, cut: usize) -> Result<Compa
     Ok(builder.into_doc())
 }
 
-/// Makes the calls for a value.
+// Makes the calls for a value.
 fn build_value(
     alloc: Global,
     builder: &mut TreeBuilder,
@@ -50,7 +50,7 @@ fn build_value(
     Err(anyhow!("a value has too many parts"))
 }
 
-/// Makes the call for a leaf or for a list, whose children are still to come.
+// Makes the call for a leaf or for a list, whose children are still to come.
 fn build_part<'a>(
     alloc: Global,
     builder: &mut TreeBuilder,
@@ -84,7 +84,7 @@ fn build_part<'a>(
     Err(anyhow!("a list has too many children"))
 }
 
-/// Makes the calls for a leaf.
+// Makes the calls for a leaf.
 fn build_leaf(
     builder: &mut TreeBuilder,
     leaf: ReferenceValueLeaf<'_>,
@@ -102,7 +102,7 @@ fn build_leaf(
     }
 }
 
-/// Makes the calls for bytes in two chunks.
+// Makes the calls for bytes in two chunks.
 fn build_bytes(
     builder: &mut TreeBuilder,
     kind: BytesKind,

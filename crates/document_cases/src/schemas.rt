@@ -12,7 +12,7 @@ use tv_schema::laws::record_options_agree;
 use tv_schema::{Schema, SchemaBuilder};
 use tv_value::field::Field;
 
-/// The schema that the word `types` stands for: a field of each type, and some that coerce.
+// The schema that the word `types` stands for: a field of each type, and some that coerce.
 const TYPES: &str =
     r#"[{"name":"s","type":"text","options":{"stored":true}},{"name":"sc","type":"text","options":{"stored":true,"coerce":true}},{"name":"u","type":"u64","options":{"indexed":false,"stored":true}},{"name":"uc","type":"u64","options":{"indexed":false,"stored":true,"coerce":true}},{"name":"i","type":"i64","options":{"indexed":false,"stored":true}},{"name":"ic","type":"i64","options":{"indexed":false,"stored":true,"coerce":true}},{"name":"b","type":"bool","options":{"indexed":false,"stored":true}},{"name":"bc","type":"bool","options":{"indexed":false,"stored":true,"coerce":true}},{"name":"d","type":"date","options":{"indexed":false,"fieldnorms":false,"stored":true}},{"name":"f","type":"facet","options":{"stored":true}},{"name":"y","type":"bytes","options":{"indexed":false,"fast":false,"stored":true}},{"name":"j","type":"json_object","options":{"stored":true,"fast":false}},{"name":"p","type":"ip_addr","options":{"indexed":false,"fieldnorms":false,"fast":false,"stored":true}},{"name":"n","type":"u64","options":{"indexed":true,"stored":false}}]"#;
 
@@ -44,7 +44,7 @@ pub fn schema(alloc: Global, word: &str) -> Result<Schema> {
     Ok(Schema::from_json_value(alloc, &json)?)
 }
 
-/// The schema of fields of texts with these names.
+// The schema of fields of texts with these names.
 fn schema_of_texts(alloc: Global, names: &Value) -> Result<Schema> {
     let mut builder = Schema::builder(alloc);
     for name in names.as_array().context("a list of names")? {
@@ -53,13 +53,13 @@ fn schema_of_texts(alloc: Global, names: &Value) -> Result<Schema> {
     Ok(builder.build()?)
 }
 
-/// The description that a word stands for: that of a field of each type for `types`, and else the word itself.
+// The description that a word stands for: that of a field of each type for `types`, and else the word itself.
 fn description_of(word: &str) -> &str {
     if word == "types" { TYPES } else { word }
 }
 
-/// The JSON of the schema that a description describes, or the refusal. The schema that is read from this JSON has to be the same, and so
-/// has the one whose fields are added by the calls of their types.
+// The JSON of the schema that a description describes, or the refusal. The schema that is read from this JSON has to be the same, and so
+// has the one whose fields are added by the calls of their types.
 fn described(alloc: Global, word: &str) -> Result<String> {
     let description = Value::from_str(alloc, description_of(word))?;
     let schema = match Schema::from_json_value(alloc, &description) {
@@ -77,12 +77,12 @@ fn described(alloc: Global, word: &str) -> Result<String> {
     printed(alloc, &schema)
 }
 
-/// The JSON of a schema.
+// The JSON of a schema.
 fn printed(alloc: Global, schema: &Schema) -> Result<String> {
     Ok(schema.to_json_value(alloc)?.to_string(alloc)?)
 }
 
-/// The schema whose fields are added by the calls of their types.
+// The schema whose fields are added by the calls of their types.
 fn added_again(alloc: Global, schema: &Schema) -> Result<Schema> {
     let mut builder = Schema::builder(alloc);
     for (_, entry) in schema.fields() {
@@ -99,7 +99,7 @@ fn added_again(alloc: Global, schema: &Schema) -> Result<Schema> {
     Ok(builder.build()?)
 }
 
-/// Adds a field by the call of its type.
+// Adds a field by the call of its type.
 fn add_field(
     builder: &mut SchemaBuilder,
     name: &str,
@@ -118,7 +118,7 @@ fn add_field(
     }
 }
 
-/// An entry, made by the call of its type.
+// An entry, made by the call of its type.
 fn new_entry(name: String, field_type: FieldType) -> Result<FieldEntry, SchemaError> {
     match field_type {
         FieldType::Str(options) => FieldEntry::new_text(name, options),
@@ -133,7 +133,7 @@ fn new_entry(name: String, field_type: FieldType) -> Result<FieldEntry, SchemaEr
     }
 }
 
-/// How many fields there are, and the number, the name, the type and the queries of each.
+// How many fields there are, and the number, the name, the type and the queries of each.
 fn fields(alloc: Global, description: &str) -> Result<String> {
     let schema = schema(alloc, description)?;
     let mut answer = format!(in alloc; "{}", schema.num_fields())?;
@@ -147,7 +147,7 @@ fn fields(alloc: Global, description: &str) -> Result<String> {
     Ok(answer)
 }
 
-/// Appends the number, the name, the type and the queries of a field.
+// Appends the number, the name, the type and the queries of a field.
 fn push_entry(alloc: Global, answer: &mut String, field: Field, entry: &FieldEntry) -> Result<()> {
     let number = field.field_id();
     let value_type = entry.field_type().value_type();
@@ -157,7 +157,7 @@ fn push_entry(alloc: Global, answer: &mut String, field: Field, entry: &FieldEnt
     push_queries(answer, entry)
 }
 
-/// Appends the queries about a type that hold.
+// Appends the queries about a type that hold.
 fn push_kinds(answer: &mut String, field_type: &FieldType) -> Result<()> {
     words::push_flag(answer, "is_str", field_type.is_str())?;
     words::push_flag(answer, "is_json", field_type.is_json())?;
@@ -166,7 +166,7 @@ fn push_kinds(answer: &mut String, field_type: &FieldType) -> Result<()> {
     words::push_flag(answer, "is_ip_addr", field_type.is_ip_addr())
 }
 
-/// Appends the queries about an entry that hold, and what an index keeps of each term.
+// Appends the queries about an entry that hold, and what an index keeps of each term.
 fn push_queries(answer: &mut String, entry: &FieldEntry) -> Result<()> {
     words::push_flag(answer, "stored", entry.is_stored())?;
     words::push_flag(answer, "indexed", entry.is_indexed())?;
@@ -184,7 +184,7 @@ fn push_queries(answer: &mut String, entry: &FieldEntry) -> Result<()> {
     Ok(())
 }
 
-/// Whether the schema has the field by its number, and by its name.
+// Whether the schema has the field by its number, and by its name.
 fn is_found(schema: &Schema, field: Field, entry: &FieldEntry) -> bool {
     schema.has_field(field)
         && schema.get_field(entry.name()) == Ok(field)
@@ -192,7 +192,7 @@ fn is_found(schema: &Schema, field: Field, entry: &FieldEntry) -> bool {
         && *schema.get_field_entry(field) == *entry
 }
 
-/// The number of the field with a name, or the name of the field with a number.
+// The number of the field with a name, or the name of the field with a number.
 fn field(alloc: Global, description: &str, word: &str) -> Result<String> {
     let schema = schema(alloc, description)?;
     if word.starts_with('"') {
@@ -205,7 +205,7 @@ fn field(alloc: Global, description: &str, word: &str) -> Result<String> {
     words::quoted(alloc, schema.get_field_name(field))
 }
 
-/// The number of the field with a name, or the refusal.
+// The number of the field with a name, or the refusal.
 fn field_named(alloc: Global, schema: &Schema, name: &str) -> Result<String> {
     match schema.get_field(name) {
         Ok(field) => Ok(format!(in alloc; "{}", field.field_id())?),
@@ -213,14 +213,14 @@ fn field_named(alloc: Global, schema: &Schema, name: &str) -> Result<String> {
     }
 }
 
-/// The field that a path names, and the rest of the path.
+// The field that a path names, and the rest of the path.
 fn find(alloc: Global, description: &str, path: &str) -> Result<String> {
     let schema = schema(alloc, description)?;
     let path = words::text(alloc, path)?;
     found(alloc, schema.find_field(path.as_str()))
 }
 
-/// The field that a path names, and the rest of the path, where there is a default field.
+// The field that a path names, and the rest of the path, where there is a default field.
 fn find_with_default(
     alloc: Global,
     description: &str,
@@ -237,7 +237,7 @@ fn find_with_default(
     )
 }
 
-/// The number of a field and the rest of a path, or `none`.
+// The number of a field and the rest of a path, or `none`.
 fn found(alloc: Global, field_and_rest: Option<(Field, &str)>) -> Result<String> {
     match field_and_rest {
         Some((field, rest)) => {
@@ -248,7 +248,7 @@ fn found(alloc: Global, field_and_rest: Option<(Field, &str)>) -> Result<String>
     }
 }
 
-/// The numbers or the refusals of fields of texts that are added, and the JSON of the schema that they make.
+// The numbers or the refusals of fields of texts that are added, and the JSON of the schema that they make.
 fn add(alloc: Global, names: &[&str]) -> Result<String> {
     let mut builder = Schema::builder(alloc);
     let mut text = String::new(alloc);
@@ -265,7 +265,7 @@ fn add(alloc: Global, names: &[&str]) -> Result<String> {
     Ok(text)
 }
 
-/// Whether a name is valid, and the refusal of an entry of this name.
+// Whether a name is valid, and the refusal of an entry of this name.
 fn name_answer(alloc: Global, word: &str) -> Result<String> {
     let name = words::text(alloc, word)?;
     let is_valid = is_valid_field_name(name.as_str());
@@ -276,7 +276,7 @@ fn name_answer(alloc: Global, word: &str) -> Result<String> {
     Ok(answer?)
 }
 
-/// Whether two schemas are equal. A copy has to be equal.
+// Whether two schemas are equal. A copy has to be equal.
 fn equal(alloc: Global, one: &str, other: &str) -> Result<String> {
     let (one, other) = (schema(alloc, one)?, schema(alloc, other)?);
     ensure!(one.clone()? == one, "a copy is not equal");

@@ -32,7 +32,7 @@ pub fn answer(alloc: Global, call: &[&str]) -> Result<String> {
     Ok(text)
 }
 
-/// The bytes of a JSON string, or of hexadecimal digits.
+// The bytes of a JSON string, or of hexadecimal digits.
 fn bytes(alloc: Global, word: &str) -> Result<Vec<u8>> {
     if word.starts_with('"') {
         return Ok(words::text(alloc, word)?.as_bytes().to_vec(alloc)?);
@@ -40,7 +40,7 @@ fn bytes(alloc: Global, word: &str) -> Result<Vec<u8>> {
     words::bytes(alloc, word)
 }
 
-/// The run over a source, into a sink that has room for all bytes or for so many.
+// The run over a source, into a sink that has room for all bytes or for so many.
 fn ran<S: ByteSource>(alloc: Global, source: &mut S, room: &str) -> Result<String> {
     let mut held = VecSink::new(alloc);
     if room == "all" {
@@ -58,14 +58,14 @@ fn ran<S: ByteSource>(alloc: Global, source: &mut S, room: &str) -> Result<Strin
     ended(alloc, end, sink.held.as_slice())
 }
 
-/// How a run has ended, and what it has written.
+// How a run has ended, and what it has written.
 fn ended(alloc: Global, end: RunEnd, output: &[u8]) -> Result<String> {
     let output = str::from_utf8(output).ok().context("a text")?;
     let output = words::quoted(alloc, output)?;
     Ok(format!(in alloc; "{end:?} {output}")?)
 }
 
-/// A source that gives one byte at a time, and fails where so many bytes are left.
+// A source that gives one byte at a time, and fails where so many bytes are left.
 #[derive(Drop)]
 struct FailingSource<'a> {
     rest: &'a [u8],
@@ -75,7 +75,7 @@ struct FailingSource<'a> {
 }
 
 impl<'a> FailingSource<'a> {
-    /// A source of these bytes that fails where so many of them are left.
+    // A source of these bytes that fails where so many of them are left.
     fn new(bytes: &'a [u8], left: usize) -> FailingSource<'a> {
         FailingSource {
             rest: bytes,
@@ -106,7 +106,7 @@ impl<'a> ByteSource for FailingSource<'a> {
     ghost are_bytes = { λ s told. s.are_bytes };
 }
 
-/// A sink that takes one byte at a time, and fails where it has no room left.
+// A sink that takes one byte at a time, and fails where it has no room left.
 #[derive(Drop)]
 struct SmallSink {
     held: VecSink,

@@ -23,7 +23,7 @@ fn main(rt: HostRuntime) -> Result<()> {
     Ok(())
 }
 
-/// What the call of a line returns. The first word of a line names what it is about.
+// What the call of a line returns. The first word of a line names what it is about.
 fn answer(alloc: Global, line: &str) -> Result<String> {
     let words: Vec<&str> = line.split('\t').collect(alloc)?;
     match words.as_slice() {

@@ -7,7 +7,7 @@ use std::io::{BufWriter, Read, Write};
 use tantivy_schema::common::{ReadSource, WriteSink};
 use tantivy_schema::{RunEnd, run};
 
-/// So many bytes of answers are collected before they are written.
+// So many bytes of answers are collected before they are written.
 const BUFFERED: usize = 65536;
 
 /// Answers the lines of a reader on a writer, and gives the exit status of a program that does only that: `RunEnd::status` of how the
@@ -19,7 +19,7 @@ pub fn answer_lines(alloc: Global, reader: impl Read + Drop, writer: impl Write 
     }
 }
 
-/// Answers the lines of a reader, and writes out what was collected.
+// Answers the lines of a reader, and writes out what was collected.
 fn answer(
     alloc: Global,
     reader: impl Read + Drop,

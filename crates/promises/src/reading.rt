@@ -62,7 +62,7 @@ pub fn encoded_documents_are_returned<S: ByteSource>(
     }
 }
 
-/// What the first value of a document is, if there is one.
+// What the first value of a document is, if there is one.
 enum FirstValue {
     Array,
     Object,

@@ -26,7 +26,7 @@ pub fn entries_of_equal_keys_are_kept<S: ByteSource>(
     }
 }
 
-/// Whether these are two entries that have one key.
+// Whether these are two entries that have one key.
 fn are_two_of_one_key(entries: &Vec<(String, u64)>) -> bool {
     match entries.as_slice() {
         [(first, _), (second, _)] => first.as_str() == second.as_str(),

@@ -6,7 +6,7 @@ use std::io;
 use std::io::Read;
 use std::process::ExitCode;
 
-/// A reader that gives what another one gives, once, and then fails.
+// A reader that gives what another one gives, once, and then fails.
 #[derive(Drop)]
 struct FailingReader<R: Read> {
     inner: R,

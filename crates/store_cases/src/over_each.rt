@@ -9,7 +9,7 @@ use std::alloc::Global;
 use std::io;
 use tantivy_schema::common::{ByteSource, ReadSource, SliceSource};
 
-/// How many bytes the sources lend at once.
+// How many bytes the sources lend at once.
 const WINDOWS: [usize; 6] = [0, 1, 2, 5, 16, 64];
 
 /// How a reading ends: its answer, how many bytes it counted, and the source as it is left.
@@ -27,7 +27,7 @@ pub trait Reading {
 }
 
 impl<S: ByteSource + Drop> Ending<S> {
-    /// The answer, and how many bytes are left of the whole. A false count is told too.
+    // The answer, and how many bytes are left of the whole. A false count is told too.
     fn told(&self, alloc: Global, whole: usize, left: usize) -> Result<String> {
         let answer = self.answer.as_str();
         let taken = whole.saturating_sub(left) as u64;
@@ -53,7 +53,7 @@ pub fn once(alloc: Global, answers: &[String]) -> Result<String> {
     Ok(text)
 }
 
-/// How the reading ends over a source that gives at most so many bytes at once.
+// How the reading ends over a source that gives at most so many bytes at once.
 fn in_packets<R: Reading>(alloc: Global, bytes: &[u8], packet: usize, reading: &R) -> Result<String>
     requires { 0 < packet }
 {
@@ -61,7 +61,7 @@ fn in_packets<R: Reading>(alloc: Global, bytes: &[u8], packet: usize, reading: &
     ending.told(alloc, bytes.len(), ending.source.rest().len())
 }
 
-/// How the reading ends through a reader of std.
+// How the reading ends through a reader of std.
 fn through_reader<R: Reading>(alloc: Global, bytes: &[u8], reading: &R) -> Result<String> {
     let ending = reading.read(alloc, ReadSource::new(bytes))?;
     let Ending {

@@ -24,7 +24,7 @@ pub enum Form<'a> {
     Written(&'a Schema),
 }
 
-/// Reads a document, by one call or step by step.
+// Reads a document, by one call or step by step.
 #[derive(Drop)]
 struct DocumentReading<'a> {
     version: DocStoreVersion,
@@ -67,7 +67,7 @@ pub fn shown(
     }
 }
 
-/// The pairs of a document, with the types of their values.
+// The pairs of a document, with the types of their values.
 fn pairs(alloc: Global, document: &TantivyDocument) -> Result<String> {
     let mut pairs = Vec::new(alloc);
     for (field, value) in document.field_values() {
@@ -76,7 +76,7 @@ fn pairs(alloc: Global, document: &TantivyDocument) -> Result<String> {
     Ok(format!(in alloc; "{pairs:?}")?)
 }
 
-/// The heap of a document, and the field, the type and the address of each of its values.
+// The heap of a document, and the field, the type and the address of each of its values.
 fn heap(alloc: Global, document: &TantivyDocument) -> Result<String> {
     let mut places = Vec::new(alloc);
     let mut place: usize = 0;
@@ -109,7 +109,7 @@ pub fn document(
     once(alloc, answers.as_slice())
 }
 
-/// What reading each strict prefix of the bytes gives.
+// What reading each strict prefix of the bytes gives.
 fn prefixes(alloc: Global, version: DocStoreVersion, bytes: &[u8]) -> Result<String> {
     let mut answers = Vec::new(alloc);
     for length in 0..bytes.len() {
@@ -118,7 +118,7 @@ fn prefixes(alloc: Global, version: DocStoreVersion, bytes: &[u8]) -> Result<Str
     once(alloc, answers.as_slice())
 }
 
-/// What reading a document gives where a read fails.
+// What reading a document gives where a read fails.
 fn failing(
     alloc: Global,
     kind: io::ErrorKind,

@@ -10,8 +10,8 @@ use tantivy_schema::schema::TantivyDocument;
 use tantivy_schema::schema::document::DeserializeError;
 use tantivy_schema::store::{DirectDecoder, DocStoreVersion, Step};
 
-/// The counts of a decoder: the bytes that were read, the length of the heap, the finished children, the open lists, and whether a
-/// legacy object was met.
+// The counts of a decoder: the bytes that were read, the length of the heap, the finished children, the open lists, and whether a
+// legacy object was met.
 type DecoderCounts = (u64, usize, usize, usize, bool);
 
 fn counts(decoder: &DirectDecoder) -> DecoderCounts {
@@ -24,7 +24,7 @@ fn counts(decoder: &DirectDecoder) -> DecoderCounts {
     )
 }
 
-/// Whether what a decoder holds is paid for by the bytes that it read. Legacy objects may take more.
+// Whether what a decoder holds is paid for by the bytes that it read. Legacy objects may take more.
 fn is_paid(counts: DecoderCounts) -> bool {
     let (read, heap, pending, frames, legacy_seen) = counts;
     let is_within = heap as u64 <= read.saturating_mul(7)
@@ -33,7 +33,7 @@ fn is_paid(counts: DecoderCounts) -> bool {
     legacy_seen || is_within
 }
 
-/// How a document was read step by step.
+// How a document was read step by step.
 #[derive(Drop)]
 struct Outcome {
     /// What the last step refused.
@@ -50,7 +50,7 @@ struct Outcome {
     document: TantivyDocument,
 }
 
-/// Whether one more step answers that all is done or that an earlier step was refused, and changes nothing.
+// Whether one more step answers that all is done or that an earlier step was refused, and changes nothing.
 fn rests<S: ByteSource>(decoder: &mut DirectDecoder, source: &mut S, is_refused: bool) -> bool {
     let before = counts(decoder);
     let answer = decoder.step(source);
@@ -61,7 +61,7 @@ fn rests<S: ByteSource>(decoder: &mut DirectDecoder, source: &mut S, is_refused:
     is_told && before == counts(decoder)
 }
 
-/// Reads a document step by step.
+// Reads a document step by step.
 fn read_steps<S: ByteSource>(alloc: Global, source: &mut S, version: DocStoreVersion) -> Outcome {
     let mut decoder = DirectDecoder::new(alloc, version);
     let mut is_right = counts(&decoder) == (0, 0, 0, 0, false);
@@ -120,7 +120,7 @@ pub fn document<S: ByteSource>(
     Ok((answer, Some(counts.0)))
 }
 
-/// Tells what was counted.
+// Tells what was counted.
 #[derive(Drop)]
 struct CountsReading(DocStoreVersion);
 
@@ -143,7 +143,7 @@ impl Reading for CountsReading {
     }
 }
 
-/// Shows where the open lists, the finished children and the mark of legacy objects change.
+// Shows where the open lists, the finished children and the mark of legacy objects change.
 #[derive(Drop)]
 struct ChangesReading(DocStoreVersion);
 
@@ -174,7 +174,7 @@ impl Reading for ChangesReading {
     }
 }
 
-/// The document of the pairs that are finished after so many steps, and whether the last step says that there is more.
+// The document of the pairs that are finished after so many steps, and whether the last step says that there is more.
 fn after(alloc: Global, steps: usize, version: DocStoreVersion, bytes: &[u8]) -> Result<String> {
     let mut source = SliceSource::new(bytes);
     let mut decoder = DirectDecoder::new(alloc, version);

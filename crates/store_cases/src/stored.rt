@@ -15,7 +15,7 @@ use tantivy_schema::schema::{
 };
 use tantivy_schema::store::DocStoreVersion;
 
-/// The bytes that are written of a document.
+// The bytes that are written of a document.
 fn written(alloc: Global, document: &TantivyDocument, schema: &Schema) -> Result<String> {
     if !document.fits(schema) {
         return Err(anyhow!("a field is not the schema's"));
@@ -32,27 +32,27 @@ pub fn written_again(alloc: Global, document: &TantivyDocument, schema: &Schema)
     Ok(format!(in alloc; "{json}, {bytes}")?)
 }
 
-/// The schema of its JSON.
+// The schema of its JSON.
 fn schema(alloc: Global, word: &str) -> Result<Schema> {
     let json = serde_json::Value::from_str(alloc, word)?;
     Ok(Schema::from_json_value(alloc, &json)?)
 }
 
-/// The value that the bytes encode, read into a type.
+// The value that the bytes encode, read into a type.
 fn value<V: ValueDeserialize>(alloc: Global, word: &str) -> Result<V> {
     let bytes = reads::bytes(alloc, word)?;
     let mut reader = StoreReader::new(SliceSource::new(&bytes), DocStoreVersion::V2);
     Ok(reader.read::<V>(alloc)?)
 }
 
-/// A schema of one stored field of JSON objects, and its field.
+// A schema of one stored field of JSON objects, and its field.
 fn one_field(alloc: Global) -> Result<(Schema, Field)> {
     let mut builder = Schema::builder(alloc);
     let field = builder.add_json_field("j", JsonObjectOptions::from(STORED))?;
     Ok((builder.build()?, field))
 }
 
-/// What is written of a document with this value.
+// What is written of a document with this value.
 fn kept(alloc: Global, word: &str) -> Result<String> {
     let (schema, field) = one_field(alloc)?;
     let mut document = TantivyDocument::new(alloc);
@@ -60,7 +60,7 @@ fn kept(alloc: Global, word: &str) -> Result<String> {
     written(alloc, &document, &schema)
 }
 
-/// What is written of a document with the map of an object's entries.
+// What is written of a document with the map of an object's entries.
 fn map(alloc: Global, word: &str) -> Result<String> {
     let (schema, field) = one_field(alloc)?;
     let mut document = TantivyDocument::new(alloc);
@@ -68,14 +68,14 @@ fn map(alloc: Global, word: &str) -> Result<String> {
     written(alloc, &document, &schema)
 }
 
-/// What is written of a value alone.
+// What is written of a value alone.
 fn alone(alloc: Global, word: &str) -> Result<String> {
     let mut sink = VecSink::new(alloc);
     BinaryValueSerializer::new(&mut sink).serialize_value(&&value::<OwnedValue>(alloc, word)?)?;
     Ok(hex::encode(alloc, sink.as_slice())?)
 }
 
-/// What the calls that write an array return, and what is written then.
+// What the calls that write an array return, and what is written then.
 fn array(alloc: Global, announced: u64, words: &[&str]) -> Result<String> {
     let mut sink = VecSink::new(alloc);
     let mut answers = Vec::new(alloc);
@@ -88,7 +88,7 @@ fn array(alloc: Global, announced: u64, words: &[&str]) -> Result<String> {
     Ok(format!(in alloc; "{answers:?}, {bytes:?}")?)
 }
 
-/// What the calls that write an object return, and what is written then.
+// What the calls that write an object return, and what is written then.
 fn object(alloc: Global, announced: u64, words: &[&str]) -> Result<String> {
     let mut sink = VecSink::new(alloc);
     let mut answers = Vec::new(alloc);

@@ -17,7 +17,7 @@ use tantivy_schema::store::DocStoreVersion;
 use tv_reader::heads::{take_document_head, take_head, take_key_head};
 use tv_reader::trees::take_tree;
 
-/// Reads a value into a type, and reads once more where it is refused.
+// Reads a value into a type, and reads once more where it is refused.
 #[derive(Drop)]
 struct TypedReading<V> {
     version: DocStoreVersion,
@@ -41,7 +41,7 @@ impl<V: ValueDeserialize + Debug> Reading for TypedReading<V> {
     }
 }
 
-/// What reading the bytes into a type gives.
+// What reading the bytes into a type gives.
 fn typed<V: ValueDeserialize + Debug>(
     alloc: Global,
     version: DocStoreVersion,
@@ -54,7 +54,7 @@ fn typed<V: ValueDeserialize + Debug>(
     over_each(alloc, bytes, &reading)
 }
 
-/// What reading the bytes into the type of this name gives.
+// What reading the bytes into the type of this name gives.
 fn typed_by_name(
     alloc: Global,
     name: &str,
@@ -81,7 +81,7 @@ fn typed_by_name(
     }
 }
 
-/// Reads a value of any type, without a reader of a store.
+// Reads a value of any type, without a reader of a store.
 #[derive(Drop)]
 struct TreeReading(DocStoreVersion);
 
@@ -98,7 +98,7 @@ impl Reading for TreeReading {
     }
 }
 
-/// What stands at the beginning.
+// What stands at the beginning.
 #[derive(Clone, Copy)]
 enum Part {
     Value,
@@ -106,7 +106,7 @@ enum Part {
     Document,
 }
 
-/// Reads what a value, a key or a document begins with.
+// Reads what a value, a key or a document begins with.
 #[derive(Drop)]
 struct HeadReading {
     part: Part,
@@ -131,7 +131,7 @@ impl Reading for HeadReading {
     }
 }
 
-/// Reads a document of the pairs that a reader of a store gives.
+// Reads a document of the pairs that a reader of a store gives.
 #[derive(Drop)]
 struct PairsReading(DocStoreVersion);
 
@@ -152,7 +152,7 @@ impl Reading for PairsReading {
     }
 }
 
-/// Reads a value by a grammar of its own, without a code.
+// Reads a value by a grammar of its own, without a code.
 #[derive(Drop)]
 struct PlainReading<T> {
     value: PhantomData<T>,
@@ -170,7 +170,7 @@ impl<T: BinarySerializable + Debug + Drop> Reading for PlainReading<T> {
     }
 }
 
-/// What reading a value without its code gives.
+// What reading a value without its code gives.
 fn plain(alloc: Global, name: &str, bytes: &[u8]) -> Result<String> {
     match name {
         "bytes" => over_each(
@@ -184,7 +184,7 @@ fn plain(alloc: Global, name: &str, bytes: &[u8]) -> Result<String> {
     }
 }
 
-/// What reading the beginning of a value, a key or a document gives.
+// What reading the beginning of a value, a key or a document gives.
 fn head(alloc: Global, name: &str, version: DocStoreVersion, bytes: &[u8]) -> Result<String> {
     let part = match name {
         "value" => Part::Value,

@@ -3,7 +3,10 @@
 pub mod document;
 
 pub use tv_base::{FACET_SEP_BYTE, FACET_SEP_CHAR, Facet, FacetParseError};
+pub use tv_doc::doc_parsing_error::DocParsingError;
 pub use tv_doc::document::{CompactDoc, CompactDoc as TantivyDocument};
+pub use tv_doc::document_trait::Document;
+pub use tv_doc::named::NamedFieldDocument;
 pub use tv_field::{
     FieldEntry, FieldType, ParseCause, SchemaError, ValueParsingError, is_valid_field_name,
 };

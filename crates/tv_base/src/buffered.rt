@@ -6,8 +6,8 @@ ghost use Rattle.tv_base.specs.Reading.{vint_at};
 
 use crate::source::ByteSource;
 
-/// Fills `buf` with the next bytes where as many are buffered, and says whether it did. If it didn't, none was taken, and what
-/// `buf` holds is unspecified.
+// Fills `buf` with the next bytes where as many are buffered, and says whether it did. If it didn't, none was taken, and what
+// `buf` holds is unspecified.
 #[inline]
 pub(crate) fn fill<S: ByteSource>(source: &mut S, buf: &mut [u8]) -> bool
     ensures bytes { S.is_known source.old
@@ -24,8 +24,8 @@ pub(crate) fn fill<S: ByteSource>(source: &mut S, buf: &mut [u8]) -> bool
     source.pass(buf.len())
 }
 
-/// Takes the number of variable length that is buffered, and gives it with the length of its encoding. `None` where none of at most
-/// nine bytes is, and nothing has changed then.
+// Takes the number of variable length that is buffered, and gives it with the length of its encoding. `None` where none of at most
+// nine bytes is, and nothing has changed then.
 #[inline]
 pub(crate) fn pass_number<S: ByteSource>(source: &mut S) -> Option<(u64, usize)>
     ensures bytes { S.is_known source.old
@@ -56,7 +56,7 @@ fn number_at(bytes: &[u8]) -> Option<(u64, usize)>
     long_number_at(bytes)
 }
 
-/// Nine groups of seven bits fit 64.
+// Nine groups of seven bits fit 64.
 const GROUPS: usize = 9;
 
 // The same, group by group.

@@ -36,7 +36,7 @@ pub enum Cause {
 }
 
 impl Cause {
-    /// What is wrong, up to the number that it is told with, if any.
+    // What is wrong, up to the number that it is told with, if any.
     fn words(&self) -> &'static str {
         match self {
             Cause::UnexpectedEnd => "the bytes end inside a value",
@@ -55,7 +55,7 @@ impl Cause {
         }
     }
 
-    /// The number that shows what is wrong.
+    // The number that shows what is wrong.
     fn number(&self) -> Option<u32> {
         match *self {
             Cause::UnknownTypeCode(code) | Cause::UnknownExtCode(code) => Some(u32::from(code)),

@@ -181,7 +181,7 @@ pub fn take_bool<S: ByteSource>(source: &mut S, count: &mut u64) -> Result<bool,
     }
 }
 
-/// A number of variable length has at most so many bytes.
+// A number of variable length has at most so many bytes.
 const LONGEST_NUMBER: u64 = 10;
 
 /// Takes a number of variable length. No byte is taken behind the first error.
@@ -208,7 +208,7 @@ pub fn take_vint<S: ByteSource>(source: &mut S, count: &mut u64) -> Result<u64, 
     }
 }
 
-/// Nine groups of seven bits may come before the last.
+// Nine groups of seven bits may come before the last.
 const MORE_GROUPS: u32 = 9;
 
 // The same, group by group.
@@ -237,7 +237,7 @@ fn take_groups<S: ByteSource>(source: &mut S, count: &mut u64) -> Result<u64, Re
     Ok(value + u64::from(last % 128) * weight)
 }
 
-/// No more than this is made room for before it is read.
+// No more than this is made room for before it is read.
 const PIECE: u64 = 4096;
 
 /// Takes the next `len` bytes, and puts them behind those that are there. Room is made only as they come.

@@ -9,7 +9,7 @@ ghost use Rattle.tv_base.specs.Sink.{Begins};
 
 use std::alloc::AllocError;
 
-/// Which bytes of a text are replaced, and by what.
+// Which bytes of a text are replaced, and by what.
 #[derive(Clone, Copy)]
 pub(crate) enum Rule {
     // The text that names a facet, into its encoded text.
@@ -20,7 +20,7 @@ pub(crate) enum Rule {
     Segment { expand_dots: bool },
 }
 
-/// What stands for a byte of a text, where that isn't the byte itself.
+// What stands for a byte of a text, where that isn't the byte itself.
 fn replacement(rule: Rule, is_unescaped: bool, byte: u8) -> Option<&'static str>
     ensures { MatchOption result (stands_for rule is_unescaped byte ≡ byte ∷ [])
         (λ text. (text.now ≡ stands_for rule is_unescaped byte) × (byte < 128)) }
@@ -34,7 +34,7 @@ fn replacement(rule: Rule, is_unescaped: bool, byte: u8) -> Option<&'static str>
     }
 }
 
-/// Writes the rewritten text behind what is there. Errors: memory was refused, and then a part of it may be written.
+// Writes the rewritten text behind what is there. Errors: memory was refused, and then a part of it may be written.
 pub(crate) fn rewrite(rule: Rule, text: &str, out: &mut String) -> Result<(), AllocError>
     ensures { OnOk result
         (string_bytes out.new ≡ string_bytes out.old ++ rewritten (stands_for rule) text.now) }
@@ -54,7 +54,7 @@ pub(crate) fn rewrite(rule: Rule, text: &str, out: &mut String) -> Result<(), Al
     out.push_str(&text[start..])
 }
 
-/// What is printed for a byte of an encoded facet, where that isn't the byte itself.
+// What is printed for a byte of an encoded facet, where that isn't the byte itself.
 pub(crate) fn printed_text(byte: u8) -> Option<&'static str>
     ensures { MatchOption result (printed_or_slash byte ≡ byte ∷ [])
         (λ text. (text.now ≡ printed_or_slash byte) × (byte < 128)) }
@@ -67,8 +67,8 @@ pub(crate) fn printed_text(byte: u8) -> Option<&'static str>
     }
 }
 
-/// Writes the text that names the facet with an encoded text, behind what is there. Errors: memory was refused, and then a beginning of
-/// it may be written.
+// Writes the text that names the facet with an encoded text, behind what is there. Errors: memory was refused, and then a beginning of
+// it may be written.
 pub(crate) fn push_printed(encoded: &str, out: &mut String) -> Result<(), AllocError>
     ensures ok { OnOk result (string_bytes out.new ≡ string_bytes out.old ++ printed encoded.now) }
     ensures err { OnErr result

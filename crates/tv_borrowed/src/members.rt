@@ -7,11 +7,11 @@ ghost use Rattle.tv_borrowed.specs.BorrowedData.{data_of, members_data};
 use crate::borrowed::BorrowedJson;
 use std::cmp::Ordering;
 
-/// The members of an object that is being read.
+// The members of an object that is being read.
 pub(crate) type Members<'a> = Vec<(&'a str, BorrowedJson<'a>)>;
 
-/// Puts a member where its key belongs, in place of the one that has the key already. `None` where memory is
-/// refused.
+// Puts a member where its key belongs, in place of the one that has the key already. `None` where memory is
+// refused.
 pub(crate) fn put_member<'a>(
     members: &mut Members<'a>,
     key: &'a str,

@@ -8,7 +8,7 @@ ghost use Rattle.tv_borrowed.specs.BorrowedData.{data_of};
 use crate::borrowed::BorrowedJson;
 use fast_float::Numeral;
 
-/// The number that a token of JSON writes. `None` where it isn't whole, or doesn't fit 64 bits.
+// The number that a token of JSON writes. `None` where it isn't whole, or doesn't fit 64 bits.
 #[inline(always)]
 pub(crate) fn whole_number<'a>(text: &str) -> Option<BorrowedJson<'a>>
     ensures { IfSome result (λ v. option_map number (number_of text.now) ≡ Some (data_of v)) }

@@ -20,7 +20,7 @@ fn encoded_len(number: u64) -> u64
     len as u64
 }
 
-/// Whether so many bytes behind their length fit behind a heap of this length.
+// Whether so many bytes behind their length fit behind a heap of this length.
 #[inline(always)]
 pub(crate) fn has_room(len: usize, content: u64) -> bool
     requires { len ≤ 4294967295 }
@@ -29,7 +29,7 @@ pub(crate) fn has_room(len: usize, content: u64) -> bool
     content <= MAX_HEAP_LEN && len as u64 + (encoded_len(content) + content) <= MAX_HEAP_LEN
 }
 
-/// Whether a value of this room fits behind a heap of this length.
+// Whether a value of this room fits behind a heap of this length.
 #[inline(always)]
 pub(crate) fn has_value_room(len: usize, room: Option<u32>) -> bool
     requires { len ≤ 4294967295 }

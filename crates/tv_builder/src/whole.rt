@@ -16,7 +16,7 @@ use tv_heap::write::{push_place, write_leaf, write_list};
 use tv_value::leaf::ReferenceValueLeaf;
 use tv_value::nested::{Nested, NestedValue};
 
-/// Writes a value without children, and returns its place. After an error the old heap is still a prefix of the new.
+// Writes a value without children, and returns its place. After an error the old heap is still a prefix of the new.
 #[inline(always)]
 pub(crate) fn put_leaf(
     heap: &mut Vec<u8>,
@@ -38,7 +38,7 @@ pub(crate) fn put_leaf(
     })
 }
 
-/// The same, where the reason of a refusal isn't asked for. After `None` the old heap is still a prefix of the new.
+// The same, where the reason of a refusal isn't asked for. After `None` the old heap is still a prefix of the new.
 #[inline(always)]
 pub(crate) fn put(heap: &mut Vec<u8>, value: &ReferenceValueLeaf<'_>) -> Option<Place>
     requires { length heap.old.items ≤ 4294967295 }
@@ -52,8 +52,8 @@ pub(crate) fn put(heap: &mut Vec<u8>, value: &ReferenceValueLeaf<'_>) -> Option<
     }
 }
 
-/// Writes a list behind its children, whose places are those from `first` on, takes these off, and returns its own place. After an
-/// error the old heap is still a prefix of the new, and what `places` holds is unspecified.
+// Writes a list behind its children, whose places are those from `first` on, takes these off, and returns its own place. After an
+// error the old heap is still a prefix of the new, and what `places` holds is unspecified.
 pub(crate) fn put_list(
     heap: &mut Vec<u8>,
     places: &mut Vec<u8>,
@@ -79,9 +79,9 @@ pub(crate) fn put_list(
     })
 }
 
-/// Writes a value behind its children, and returns its place. The places of children whose list is not yet written stand at the
-/// end of `places`, which is afterwards as it was. After an error the old heap is still a prefix of the new, and what `places` holds
-/// is unspecified.
+// Writes a value behind its children, and returns its place. The places of children whose list is not yet written stand at the
+// end of `places`, which is afterwards as it was. After an error the old heap is still a prefix of the new, and what `places` holds
+// is unspecified.
 #[inline(always)]
 #[cycle(parts)]
 pub(crate) fn put_tree<N: Nested>(

@@ -11,9 +11,9 @@ use tv_base::ByteSource;
 use tv_doc::document::CompactDoc;
 use tv_reader::{DeserializeError, DocStoreVersion};
 
-/// Adds the next pairs that the source has buffered whole, at once, up to so many, and says how many they are. It may add none.
-///
-/// The only error is `Memory`, where a source doesn't give the bytes that it has buffered.
+// Adds the next pairs that the source has buffered whole, at once, up to so many, and says how many they are. It may add none.
+//
+// The only error is `Memory`, where a source doesn't give the bytes that it has buffered.
 pub(crate) fn take_buffered_pairs<S: ByteSource>(
     document: &mut CompactDoc,
     source: &mut S,

@@ -48,7 +48,7 @@ use tv_value::owned_value::OwnedValue;
 use tv_value::pre_tokenized::PreTokenizedStr;
 use tv_value::value::Value;
 
-/// No more than this is read of open bytes at once.
+// No more than this is read of open bytes at once.
 const PIECE: u32 = 4096;
 
 // What a text, a facet or bytes are while they are read.
@@ -90,7 +90,7 @@ impl Reading {
         }
     }
 
-    /// So many of the announced pairs are finished, and of the next one nothing has come.
+    // So many of the announced pairs are finished, and of the next one nothing has come.
     pub(crate) fn between_pairs(announced: u64, finished: u64, document: CompactDoc) -> Reading
         requires counted { finished ≡ length (document_of document) }
         requires within { finished ≤ announced }
@@ -106,9 +106,9 @@ impl Reading {
         }
     }
 
-    /// Where a pair is awaited, the next pairs that the source has buffered whole, at once, as far as that can be. It may read none.
-    ///
-    /// The only error is `Memory`, where a source doesn't give the bytes that it has buffered.
+    // Where a pair is awaited, the next pairs that the source has buffered whole, at once, as far as that can be. It may read none.
+    //
+    // The only error is `Memory`, where a source doesn't give the bytes that it has buffered.
     pub(crate) fn with_buffered_pairs<S: ByteSource>(
         self,
         source: &mut S,

@@ -33,7 +33,8 @@ pub refused_value : (v : FieldJson) (there : Document) (r : JsonRefusal) (e : Do
     → IfSome (refusal_of v.value r) (λ x. Table v.field_type v.value (Err x)) → IsRefused v there e
 refused_value v there r (error.ValueError copy e) (refusal, named, is, for) h =
     (refusal, named, is, subst (λ o. IfSome o (λ x. Table v.field_type v.value (Err x))) for h)
-refused_value v there r (error.Add e) wrong h = absurd wrong
+refused_value v there r (error.FieldNumber n) wrong h = absurd wrong
+refused_value v there r error.HeapFull wrong h = absurd wrong
 refused_value v there r (error.InvalidJson text) wrong h = absurd wrong
 refused_value v there r error.Memory right h = tt
 
@@ -102,5 +103,6 @@ pub parses_object : (schema : List Entry) (text : List ℕ) (ms : Members) (r : 
 parses_object schema text ms (Ok made) is h = (ms, is, h)
 parses_object schema text ms (Err (error.InvalidJson start)) is h = absurd h.refused
 parses_object schema text ms (Err (error.ValueError name e)) is h = (ms, is, h)
-parses_object schema text ms (Err (error.Add e)) is h = (ms, is, h)
+parses_object schema text ms (Err (error.FieldNumber n)) is h = (ms, is, h)
+parses_object schema text ms (Err error.HeapFull) is h = (ms, is, h)
 parses_object schema text ms (Err error.Memory) is h = tt

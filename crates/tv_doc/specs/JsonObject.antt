@@ -13,7 +13,6 @@ use Rattle.tv_field.specs.declared.json_value.JsonRefusal.{JsonRefusal}
 use Rattle.tv_value.specs.Tree.{Tree, Document}
 use Rattle.tv_doc.specs.Document.{document_of}
 use Rattle.tv_heap.specs.Room.{document_room}
-use Rattle.tv_doc.specs.declared.add_error.AddError.TheVariants as add_error
 use Rattle.tv_doc.specs.declared.doc_parsing_error.DocParsingError.{DocParsingError}
 use Rattle.tv_doc.specs.declared.doc_parsing_error.DocParsingError.TheVariants as error
 use Rattle.tv_doc.specs.declared.document.CompactDoc.{CompactDoc}
@@ -60,10 +59,9 @@ Pairs (v ∷ vs) pairs =
 abbrev pub IsRefused : FieldJson → Document → DocParsingError → Type 0
 IsRefused v pairs (error.ValueError name e) =
     (refusal : Refusal) × (string_bytes name ≡ v.name) × (error_of e ≡ Some refusal) × Table v.field_type v.value (Err refusal)
-IsRefused v pairs (error.Add (add_error.FieldNumber n)) = (tree : Tree) × Table v.field_type v.value (Ok tree) × (65535 < v.field) × (n ≡ v.field)
-IsRefused v pairs (error.Add add_error.HeapFull) =
+IsRefused v pairs (error.FieldNumber n) = (tree : Tree) × Table v.field_type v.value (Ok tree) × (65535 < v.field) × (n ≡ v.field)
+IsRefused v pairs error.HeapFull =
     (tree : Tree) × Table v.field_type v.value (Ok tree) × (v.field ≤ 65535) × (4294967295 < document_room (pairs ++ (v.field, tree) ∷ []))
-IsRefused v pairs (error.Add add_error.Memory) = ⊥
 IsRefused v pairs (error.InvalidJson text) = ⊥
 IsRefused v pairs error.Memory = Unit {0}
 

@@ -52,8 +52,8 @@ fn add_named(
 
 impl CompactDoc {
     /// The document of values by name: for each name that is a field's, in byte order, its values in order. Other names are skipped.
-    /// Errors, for the first value that is refused: `Add` where the field's number is above 65535, or where the values need more
-    /// room than a document has; `Memory` where memory was refused.
+    /// Errors, for the first value that is refused: `FieldNumber` where the field's number is above 65535; `HeapFull` where the
+    /// values need more room than a document has; `Memory` where memory was refused.
     pub fn convert_named_doc(
         alloc: Global,
         schema: &Schema,

@@ -8,7 +8,7 @@ ghost use Rattle.tv_doc.specs.FieldValues.{values_of};
 use std::alloc::{AllocError, Global};
 use tv_value::field::Field;
 
-/// Sorts pairs by their fields. The values of a field stay in order. The only error is that memory was refused.
+// Sorts pairs by their fields. The values of a field stay in order. The only error is that memory was refused.
 pub(crate) fn sort_pairs<V: Drop>(pairs: &mut Vec<(Field, V)>) -> Result<(), AllocError>
     ensures rises { OnOk result (IsNonDecreasingBy (λ pair. pair.0.id) pairs.new.items) }
     ensures same { (field : ℕ)

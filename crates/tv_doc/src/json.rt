@@ -172,7 +172,8 @@ impl CompactDoc {
     /// is to the field's type, or the values of its items where it is an array. Other keys are skipped. Errors, for the first value
     /// that is refused:
     /// - `ValueError` with the field's name: the field's type refuses it, see `FieldType::value_from_json`,
-    /// - `Add`: the field's number is above 65535, or the values need more room than a document has,
+    /// - `FieldNumber`: the field's number is above 65535,
+    /// - `HeapFull`: the values need more room than a document has,
     /// - `Memory`: memory was refused.
     pub fn from_json_object(
         alloc: Global,

@@ -60,8 +60,8 @@ fn put_named<'a, 's, 'p, S: FieldNames, V: Value<'a>>(
     Ok(named)
 }
 
-/// The pairs of each field in place, under the names of the fields. Those of a field without a name are left out. The pairs are sorted
-/// by their fields. The only error is that memory was refused.
+// The pairs of each field in place, under the names of the fields. Those of a field without a name are left out. The pairs are sorted
+// by their fields. The only error is that memory was refused.
 pub(crate) fn by_name<'a, 's, 'p, S: FieldNames, V: Value<'a>>(
     alloc: Global,
     schema: &'s S,
@@ -104,8 +104,8 @@ fn owned_values<'a, V: Value<'a>>(
     Ok(owned)
 }
 
-/// Copies of values by the names of their fields. Those of a field without a name are left out. The only error is that memory was
-/// refused.
+// Copies of values by the names of their fields. Those of a field without a name are left out. The only error is that memory was
+// refused.
 pub(crate) fn owned_by_name<'a, S: FieldNames, V: Value<'a>>(
     alloc: Global,
     schema: &S,

@@ -195,7 +195,7 @@ impl FieldType {
     }
 }
 
-/// What is kept by this indexing.
+// What is kept by this indexing.
 fn record_of(indexing: Option<&TextFieldIndexing>) -> Option<IndexRecordOption>
     ensures { result ≡ record_of (option_copied indexing.entry) }
 {
@@ -205,7 +205,7 @@ fn record_of(indexing: Option<&TextFieldIndexing>) -> Option<IndexRecordOption>
     }
 }
 
-/// The documents alone, where the field is indexed.
+// The documents alone, where the field is indexed.
 fn basic_where(is_indexed: bool) -> Option<IndexRecordOption>
     ensures { result ≡ basic_where is_indexed }
 {

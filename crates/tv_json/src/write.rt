@@ -24,7 +24,7 @@ use tv_value::leaf::ReferenceValueLeaf;
 use tv_value::nested::{Nested, NestedValue};
 use tv_value::pre_tokenized::{PreTokenizedStr, TokenIter, TokenRef};
 
-/// Where JSON is written, and room for the text of a leaf, which is used for each anew.
+// Where JSON is written, and room for the text of a leaf, which is used for each anew.
 #[derive(Drop)]
 pub(crate) struct JsonWriter {
     pub(crate) out: Writer,
@@ -33,7 +33,7 @@ pub(crate) struct JsonWriter {
 }
 
 impl JsonWriter {
-    /// Writes behind these bytes.
+    // Writes behind these bytes.
     pub(crate) fn new(alloc: Global, bytes: Vec<u8>) -> JsonWriter
         ensures before { result.out.before ≡ bytes.items }
         ensures tokens { result.out.tokens ≡ [] }
@@ -45,7 +45,7 @@ impl JsonWriter {
         }
     }
 
-    /// What was there, and the text of what was written.
+    // What was there, and the text of what was written.
     pub(crate) fn into_text(self) -> String
         requires { IsUtf8 self.out.before }
         ensures { string_bytes result ≡ self.out.before ++ print self.out.tokens }
@@ -54,7 +54,7 @@ impl JsonWriter {
         unsafe { String::from_utf8_unchecked(out.into_inner()) }
     }
 
-    /// What was there, of this length.
+    // What was there, of this length.
     pub(crate) fn into_start(self, len: usize) -> String
         requires text { IsUtf8 self.out.before }
         requires len { len ≡ length self.out.before }
@@ -169,7 +169,7 @@ fn write_content(json: &mut JsonWriter, content: LeafContent<'_>) -> Result<(), 
     json.out.string(json.scratch.as_str())
 }
 
-/// Writes a value without children.
+// Writes a value without children.
 pub(crate) fn write_leaf(
     json: &mut JsonWriter,
     leaf: &ReferenceValueLeaf<'_>,

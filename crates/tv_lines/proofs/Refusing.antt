@@ -5,7 +5,6 @@ use lib.Chars.{codes}
 use Rattle.std.proofs.lemmas.List.{append-nil}
 use Rattle.tv_doc.specs.Document.{document_of}
 use Rattle.tv_doc.specs.JsonObject.{FieldJson, object_values, Pairs, Parses}
-use Rattle.tv_doc.specs.declared.add_error.AddError.TheVariants as adds
 use Rattle.tv_doc.specs.declared.doc_parsing_error.DocParsingError.{DocParsingError}
 use Rattle.tv_doc.specs.declared.doc_parsing_error.DocParsingError.TheVariants as errors
 use Rattle.tv_doc.specs.declared.document.CompactDoc.{CompactDoc}
@@ -53,16 +52,15 @@ refusal_answers schema line (errors.ValueError name e) utf8 h =
     let stop = h.2 in
     let why = stop.refused in
     answered (refused h.0 stop.before stop.behind stop.at stop.pairs (utf8, h.1) stop.joined stop.added (by_table why.0 why.3 (named_by e why.0 why.2)))
-refusal_answers schema line (errors.Add (adds.FieldNumber n)) utf8 h =
+refusal_answers schema line (errors.FieldNumber n) utf8 h =
     let stop = h.2 in
     let why = stop.refused in
     answered (refused h.0 stop.before stop.behind stop.at stop.pairs (utf8, h.1) stop.joined stop.added (by_number why.0 why.1 why.2 refl))
-refusal_answers schema line (errors.Add adds.HeapFull) utf8 h =
+refusal_answers schema line errors.HeapFull utf8 h =
     let stop = h.2 in
     let why = stop.refused in
     no_room h.0 (stop.before ++ stop.at ∷ []) stop.behind (stop.pairs ++ (stop.at.field, why.0) ∷ []) (utf8, h.1)
     (stop.joined ∙ sym (append_assoc stop.before (stop.at ∷ []) stop.behind)) (pairs-snoc stop.before stop.at why.0 stop.pairs stop.added why.1 why.2) why.3 refl
-refusal_answers schema line (errors.Add adds.Memory) utf8 h = no_memory refl
 refusal_answers schema line errors.Memory utf8 h = no_memory refl
 
 -- ---- the answer for a document

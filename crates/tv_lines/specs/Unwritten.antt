@@ -5,7 +5,6 @@ use Rattle.hex.specs.Hex.{encode_lower}
 use Rattle.tv_doc.specs.Named.{IsJsonText, field_names}
 use Rattle.tv_field.specs.Entry.{Entry}
 use Rattle.tv_heap.specs.Room.{document_room}
-use Rattle.tv_doc.specs.declared.add_error.AddError.TheVariants as adds
 use Rattle.tv_doc.specs.declared.doc_parsing_error.DocParsingError.{DocParsingError}
 use Rattle.tv_doc.specs.declared.doc_parsing_error.DocParsingError.TheVariants as errors
 use Rattle.tv_field.specs.declared.value_parsing_error.ValueParsingError.{ValueParsingError}
@@ -23,9 +22,8 @@ value_error_text values.Memory = codes "error Memory"
 abbrev pub error_text : DocParsingError → List ℕ
 error_text (errors.InvalidJson start) = codes "error InvalidJson"
 error_text (errors.ValueError name error) = value_error_text error
-error_text (errors.Add (adds.FieldNumber n)) = codes "error FieldNumber"
-error_text (errors.Add adds.HeapFull) = codes "error HeapFull"
-error_text (errors.Add adds.Memory) = codes "error Memory"
+error_text (errors.FieldNumber n) = codes "error FieldNumber"
+error_text errors.HeapFull = codes "error HeapFull"
 error_text errors.Memory = codes "error Memory"
 
 -- memory was refused, or the pairs have no room

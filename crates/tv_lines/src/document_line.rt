@@ -14,7 +14,6 @@ use crate::hex_text::append_hex;
 use crate::read_back::read_back;
 use std::alloc::{AllocError, Global};
 use tv_base::VecSink;
-use tv_doc::add_error::AddError;
 use tv_doc::doc_parsing_error::DocParsingError;
 use tv_doc::document::CompactDoc;
 use tv_doc::document_trait::Document;
@@ -24,10 +23,10 @@ use tv_schema::Schema;
 use tv_store::BinaryDocumentSerializer;
 use tv_store::laws::{stored_pairs_are_valid, stored_pairs_need_no_more_room};
 
-/// What is answered where memory was refused.
+// What is answered where memory was refused.
 const NO_MEMORY: &str = "error Memory";
 
-/// What is answered where a field's type refuses a value.
+// What is answered where a field's type refuses a value.
 fn value_refusal(error: &ValueParsingError) -> &'static str
     ensures { result.now ≡ value_error_text error.now }
 {
@@ -47,21 +46,20 @@ fn value_refusal(error: &ValueParsingError) -> &'static str
     }
 }
 
-/// What is answered where there is no document of a line.
+// What is answered where there is no document of a line.
 fn refusal(error: &DocParsingError) -> &'static str
     ensures { result.now ≡ error_text error.now }
 {
     match error {
         DocParsingError::InvalidJson(_) => "error InvalidJson",
         DocParsingError::ValueError(_, error) => value_refusal(error),
-        DocParsingError::Add(AddError::FieldNumber(_)) => "error FieldNumber",
-        DocParsingError::Add(AddError::HeapFull) => "error HeapFull",
-        DocParsingError::Add(AddError::Memory) => "error Memory",
+        DocParsingError::FieldNumber(_) => "error FieldNumber",
+        DocParsingError::HeapFull => "error HeapFull",
         DocParsingError::Memory => "error Memory",
     }
 }
 
-/// Puts the stored bytes of a document in the place of what `bytes` holds. The only error is that memory was refused.
+// Puts the stored bytes of a document in the place of what `bytes` holds. The only error is that memory was refused.
 fn write_stored(
     schema: &Schema,
     document: &CompactDoc,
@@ -78,8 +76,8 @@ fn write_stored(
     }
 }
 
-/// Appends the stored bytes in hexadecimal, a space, and the text of JSON of what is read back from them. Else it gives what is
-/// answered.
+// Appends the stored bytes in hexadecimal, a space, and the text of JSON of what is read back from them. Else it gives what is
+// answered.
 fn append_document(
     alloc: Global,
     schema: &Schema,
@@ -106,7 +104,7 @@ fn append_document(
     }
 }
 
-/// Appends these bytes in hexadecimal, a space, and the document's text of JSON. The only error is that memory was refused.
+// Appends these bytes in hexadecimal, a space, and the document's text of JSON. The only error is that memory was refused.
 fn append_texts(
     alloc: Global,
     schema: &Schema,
@@ -124,7 +122,7 @@ fn append_texts(
     text.extend_from_slice(json.as_bytes())
 }
 
-/// Appends what is answered for the line where there is a document of it. Else it gives what is answered.
+// Appends what is answered for the line where there is a document of it. Else it gives what is answered.
 fn append_answer(
     alloc: Global,
     schema: &Schema,
@@ -144,7 +142,7 @@ fn append_answer(
     }
 }
 
-/// Puts an answer and a line feed in the place of what `text` holds. The only error is that memory was refused.
+// Puts an answer and a line feed in the place of what `text` holds. The only error is that memory was refused.
 fn put_line(text: &mut Vec<u8>, answer: &str) -> Result<(), AllocError>
     ensures { OnOk result (text.new.items ≡ answer.now ++ 10 ∷ []) }
 {
@@ -154,8 +152,8 @@ fn put_line(text: &mut Vec<u8>, answer: &str) -> Result<(), AllocError>
     Ok(())
 }
 
-/// Puts what is answered for a document's line, with a line feed, in the place of what `text` holds. `bytes` is for what is stored.
-/// The only error is that memory was refused.
+// Puts what is answered for a document's line, with a line feed, in the place of what `text` holds. `bytes` is for what is stored.
+// The only error is that memory was refused.
 pub(crate) fn answer_line(
     alloc: Global,
     schema: &Schema,

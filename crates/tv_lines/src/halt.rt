@@ -5,7 +5,7 @@ ghost use Rattle.tv_lines.specs.declared.halt.Halt.TheVariants.{Memory};
 
 use std::alloc::AllocError;
 
-/// Why a run breaks off.
+// Why a run breaks off.
 #[derive(Clone, Copy, Drop)]
 pub(crate) enum Halt {
     /// A read failed.

@@ -8,10 +8,10 @@ use std::alloc::{AllocError, Global};
 use std::io;
 use tv_base::ByteSource;
 
-/// So many bytes are asked for in a read.
+// So many bytes are asked for in a read.
 const CHUNK: usize = 65536;
 
-/// Reads a source in large pieces, and gives it line by line.
+// Reads a source in large pieces, and gives it line by line.
 #[derive(Drop)]
 pub(crate) struct LineReader {
     /// Where the pieces go.
@@ -27,7 +27,7 @@ pub(crate) struct LineReader {
     ghost has_room: { 0 < vec_len chunk },
 }
 
-/// Reads into the start of the piece, at most so many bytes.
+// Reads into the start of the piece, at most so many bytes.
 fn read_prefix<S: ByteSource>(
     source: &mut S,
     chunk: &mut Vec<u8>,
@@ -54,7 +54,7 @@ impl LineReader {
     ghost use Rattle.std.specs.Prelude.{◌-◌, ◌^◌, true};
     ghost use Rattle.tv_lines.specs.Reader.{unread, most_left, Moves, Fills, TakesLine};
 
-    /// A reader that has taken nothing yet. The only error is that memory was refused.
+    // A reader that has taken nothing yet. The only error is that memory was refused.
     pub(crate) fn new(alloc: Global) -> Result<LineReader, AllocError>
         ensures { IfOk result (λ reader. unread reader ≡ []) }
     {
@@ -68,15 +68,15 @@ impl LineReader {
         })
     }
 
-    /// The bytes that were read and belong to no line yet.
+    // The bytes that were read and belong to no line yet.
     fn unread(&self) -> &[u8]
         ensures { result.now ≡ unread self.now }
     {
         &self.chunk[self.from..self.to]
     }
 
-    /// Moves the bytes up to the next line feed behind those of the line and passes the line feed, or moves all bytes that were read.
-    /// Tells whether there was a line feed. The only error is that memory was refused.
+    // Moves the bytes up to the next line feed behind those of the line and passes the line feed, or moves all bytes that were read.
+    // Tells whether there was a line feed. The only error is that memory was refused.
     fn take_unread(&mut self, line: &mut Vec<u8>) -> Result<bool, AllocError>
         ensures moves { IfOk result
             (λ ended. Moves (unread self.old) (unread self.new) line.old.items line.new.items
@@ -97,8 +97,8 @@ impl LineReader {
         }
     }
 
-    /// Reads the next piece of the source in the place of the last, of which each byte belongs to a line. Tells whether there was one;
-    /// none is the end.
+    // Reads the next piece of the source in the place of the last, of which each byte belongs to a line. Tells whether there was one;
+    // none is the end.
     fn fill<S: ByteSource>(&mut self, source: &mut S) -> Result<bool, Halt>
         ensures fills { S.is_known source.old
             → IfOk result
@@ -125,7 +125,7 @@ impl LineReader {
         }
     }
 
-    /// Takes the next line, without its line feed, in the place of what `line` holds. Tells whether there was one.
+    // Takes the next line, without its line feed, in the place of what `line` holds. Tells whether there was one.
     pub(crate) fn take_line<S: ByteSource>(
         &mut self,
         source: &mut S,

@@ -16,7 +16,7 @@ use tv_legacy::laws::{
 };
 use tv_store::{DeserializeError, DocStoreVersion, read_document};
 
-/// What is answered where there is no memory or no room for a document.
+// What is answered where there is no memory or no room for a document.
 fn unwritten(error: &DeserializeError) -> &'static str
     requires { (error.now ≡ Memory) ⊎ (error.now ≡ HeapFull) }
     ensures memory { error.now ≡ Memory → result.now ≡ codes "error Memory" }
@@ -29,8 +29,8 @@ fn unwritten(error: &DeserializeError) -> &'static str
     }
 }
 
-/// Reads back a document from its shortest encoding, or gives the text that is answered where that takes more memory or room than
-/// there is.
+// Reads back a document from its shortest encoding, or gives the text that is answered where that takes more memory or room than
+// there is.
 pub(crate) fn read_back(alloc: Global, bytes: &[u8]) -> Result<CompactDoc, &'static str>
     requires { (d : Document) × (IsDocument d × (bytes.now ≡ short_document V2 d)) }
     ensures ok { (d : Document) → IsDocument d → bytes.now ≡ short_document V2 d

@@ -17,7 +17,7 @@ use tv_base::write::write_all;
 use tv_base::{ByteSink, ByteSource, VecSink};
 use tv_schema::Schema;
 
-/// Writes a line.
+// Writes a line.
 fn write_line<K: ByteSink>(sink: &mut K, line: &[u8]) -> Result<(), Halt>
     ensures ok { K.is_known sink.old → OnOk result (K.held sink.new ≡ K.held sink.old ++ line.now) }
     ensures err { K.is_known sink.old
@@ -32,7 +32,7 @@ fn write_line<K: ByteSink>(sink: &mut K, line: &[u8]) -> Result<(), Halt>
     }
 }
 
-/// Answers each line that the reader has left.
+// Answers each line that the reader has left.
 fn answer_lines<S: ByteSource, K: ByteSink>(
     alloc: Global,
     source: &mut S,
@@ -66,7 +66,7 @@ fn answer_lines<S: ByteSource, K: ByteSink>(
     }
 }
 
-/// Answers the lines of the source, or says why that breaks off.
+// Answers the lines of the source, or says why that breaks off.
 fn answer_source<S: ByteSource, K: ByteSink>(
     alloc: Global,
     source: &mut S,

@@ -9,7 +9,7 @@ use std::alloc::Global;
 use tv_field::SchemaError;
 use tv_schema::Schema;
 
-/// The line that is answered for this error.
+// The line that is answered for this error.
 fn error_line(error: SchemaError) -> &'static str
     ensures { result.now ≡ codes "error " ++ schema_error_name error ++ 10 ∷ [] }
 {
@@ -24,7 +24,7 @@ fn error_line(error: SchemaError) -> &'static str
     }
 }
 
-/// The schema that the line describes, or the line that is answered.
+// The schema that the line describes, or the line that is answered.
 pub(crate) fn schema_of_line(alloc: Global, line: &[u8]) -> Result<Schema, &'static str>
     ensures ok { IfOk result (λ schema. ReadsSchema line.now schema) }
     ensures err { IfErr result (λ text. IsEnded (SchemaRefusal line.now) text.now) }

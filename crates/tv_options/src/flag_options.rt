@@ -92,7 +92,7 @@ impl<Part: OwnPart> FlagOptions<Part> {
         self
     }
 
-    /// The same options, with field norms.
+    // The same options, with field norms.
     #[must_use]
     pub(crate) fn with_fieldnorms(mut self) -> FlagOptions<Part>
         ensures { result ≡ record self { fieldnorms = true } }

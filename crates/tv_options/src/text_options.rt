@@ -58,7 +58,7 @@ impl FastFieldTextOptions {
         }
     }
 
-    /// Whether there is a fast field.
+    // Whether there is a fast field.
     pub(crate) fn is_fast(&self) -> bool
         ensures { result ≡ is_fast_field self.now }
     {
@@ -68,7 +68,7 @@ impl FastFieldTextOptions {
         }
     }
 
-    /// The tokenizer's name, where there is one.
+    // The tokenizer's name, where there is one.
     pub(crate) fn tokenizer_name(&self) -> Option<&str>
         ensures { option_copied result ≡ tokenizer_of self.now }
     {
@@ -80,7 +80,7 @@ impl FastFieldTextOptions {
         }
     }
 
-    /// A fast field by this tokenizer, or of whole texts. The only error is that memory is refused for the name.
+    // A fast field by this tokenizer, or of whole texts. The only error is that memory is refused for the name.
     pub(crate) fn enabled(
         alloc: Global,
         tokenizer_name: Option<&str>,

@@ -11,7 +11,7 @@ use crate::error::DeserializeError;
 use tv_base::take::take_u32;
 use tv_base::{ByteSource, Cause};
 
-/// The largest field number in a document.
+// The largest field number in a document.
 const LARGEST_FIELD: u32 = 65535;
 
 /// Takes a field number.

@@ -21,7 +21,7 @@ use tv_value::date_time::DateTime;
 use tv_value::ip_addr::address_of;
 use tv_value::tokenizer::{PreTokenizedString, Token};
 
-/// The least and the largest number of microseconds whose nanoseconds fit 64 bits.
+// The least and the largest number of microseconds whose nanoseconds fit 64 bits.
 const LEAST_MICROSECONDS: i64 = -9223372036854775;
 
 const MOST_MICROSECONDS: i64 = 9223372036854775;

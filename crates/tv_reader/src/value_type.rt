@@ -111,9 +111,9 @@ impl ValueType {
     }
 }
 
-/// Takes what the head of a value has behind its code: a value of a known width, a length or a number.
-///
-/// Errors: those of the part that it has.
+// Takes what the head of a value has behind its code: a value of a known width, a length or a number.
+//
+// Errors: those of the part that it has.
 #[tactic(auto, using(tv_base::proofs::TakeSteps::Taken_then), unfolding(crate::specs::HeadReading::head_at))]
 pub(crate) fn take_head_behind<S: ByteSource>(
     source: &mut S,
@@ -149,9 +149,9 @@ pub(crate) fn take_head_behind<S: ByteSource>(
     }
 }
 
-/// Takes a value of a type whose values hold no others, behind its code.
-///
-/// Errors: those of the parts that it has.
+// Takes a value of a type whose values hold no others, behind its code.
+//
+// Errors: those of the parts that it has.
 #[tactic(auto, using(tv_base::proofs::TakeSteps::Taken_then), unfolding(crate::specs::Leaves::leaf_at))]
 pub(crate) fn take_leaf<S: ByteSource>(
     alloc: Global,

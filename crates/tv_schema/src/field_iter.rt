@@ -27,7 +27,7 @@ impl<'a> Model for FieldIter<'a> {
 }
 
 impl<'a> FieldIter<'a> {
-    /// These entries, from number 0 on.
+    // These entries, from number 0 on.
     pub(crate) fn over(entries: &'a [FieldEntry]) -> FieldIter<'a>
         requires { length entries.now < 2 ^ 32 }
         ensures { result ≡ enumerate_from 0 entries.now }

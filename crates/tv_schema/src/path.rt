@@ -11,7 +11,7 @@ use crate::table::FieldTable;
 use tv_base::escapes::{is_unescaped_at, unescapes_to};
 use tv_base::laws::texts_without_backslashes_have_no_escapes;
 
-/// The field that the path names, and the rest of the path.
+// The field that the path names, and the rest of the path.
 pub(crate) fn find<'a>(table: &FieldTable, path: &'a str) -> Option<(u32, &'a str)>
     ensures found { option_map (λ found. (found.0, found.1.now)) result ≡ find table.now path.now }
     ensures within { IfSome result (λ found. found.0 < length table.now) }
@@ -27,7 +27,7 @@ pub(crate) fn find<'a>(table: &FieldTable, path: &'a str) -> Option<(u32, &'a st
     None
 }
 
-/// The field that the prefix before the place names, and the text behind the place, where an unescaped dot stands there.
+// The field that the prefix before the place names, and the text behind the place, where an unescaped dot stands there.
 fn parted_at<'a>(table: &FieldTable, path: &'a str, place: usize) -> Option<(u32, &'a str)>
     requires { place < length path.now }
     ensures found { option_map (λ found. (found.0, found.1.now)) result
@@ -43,7 +43,7 @@ fn parted_at<'a>(table: &FieldTable, path: &'a str, place: usize) -> Option<(u32
     }
 }
 
-/// The field whose name is the prefix, or else the prefix without its escapes.
+// The field whose name is the prefix, or else the prefix without its escapes.
 fn field_of_prefix(table: &FieldTable, prefix: &str) -> Option<u32>
     ensures number { result ≡ field_of_prefix table.now prefix.now }
     ensures within { IfSome result (λ number. number < length table.now) }
@@ -58,7 +58,7 @@ fn field_of_prefix(table: &FieldTable, prefix: &str) -> Option<u32>
     }
 }
 
-/// The field whose name is the prefix without its escapes. It compares the prefix with each name, so that it takes no memory.
+// The field whose name is the prefix without its escapes. It compares the prefix with each name, so that it takes no memory.
 fn field_unescaped(table: &FieldTable, prefix: &str) -> Option<u32>
     ensures number { result ≡ field_named table.now (without_escapes prefix.now) }
     ensures within { IfSome result (λ number. number < length table.now) }

@@ -10,7 +10,7 @@ use std::collections::HashMap;
 use std::marker::Model;
 use tv_field::field_entry::FieldEntry;
 
-/// The entries, and the number of each name.
+// The entries, and the number of each name.
 #[derive(Debug, Drop)]
 pub(crate) struct FieldTable {
     entries: Vec<FieldEntry>,
@@ -68,7 +68,7 @@ impl FieldTable {
         self.numbers.get(name).copied()
     }
 
-    /// Adds an entry, or leaves the table as it is where there is no memory.
+    // Adds an entry, or leaves the table as it is where there is no memory.
     pub(crate) fn push(&mut self, entry: FieldEntry) -> Result<u32, AllocError>
         requires valid { IsValidName entry.name }
         requires is_new { field_named self.old entry.name ≡ None }

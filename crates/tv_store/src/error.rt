@@ -32,7 +32,7 @@ impl From<io::ErrorKind> for SerializeError {
     }
 }
 
-/// The error of a reader whose document had no room for a value, or no memory.
+// The error of a reader whose document had no room for a value, or no memory.
 pub(crate) fn addition_error(error: AddError) -> DeserializeError
     ensures { result ≡ add_error error }
 {

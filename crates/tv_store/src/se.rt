@@ -28,7 +28,7 @@ use tv_schema::Schema;
 use tv_value::field::Field;
 use tv_value::value::{ReferenceValue, Value};
 
-/// Writes a field and bytes behind their code.
+// Writes a field and bytes behind their code.
 #[inline]
 #[tactic(auto, using(tv_base::proofs::Written::Writes_then, tv_base::proofs::Written::Writes_prefix))]
 fn write_field_bytes<K: ByteSink>(
@@ -45,7 +45,7 @@ fn write_field_bytes<K: ByteSink>(
     write_all(sink, content)
 }
 
-/// Writes a field and a number in eight bytes, with the code of its type, at once.
+// Writes a field and a number in eight bytes, with the code of its type, at once.
 #[inline]
 fn write_field_u64<K: ByteSink>(
     sink: &mut K,
@@ -61,7 +61,7 @@ fn write_field_u64<K: ByteSink>(
     write_all(sink, &[a, b, c, d, code, e, f, g, h, i, j, k, l])
 }
 
-/// Writes a field and a value of any kind. A pre-tokenised text is written as its text.
+// Writes a field and a value of any kind. A pre-tokenised text is written as its text.
 #[tactic(auto, using(tv_base::proofs::Written::Writes_then, tv_base::proofs::Written::Writes_prefix))]
 fn write_field_value<K: ByteSink>(
     sink: &mut K,
@@ -79,7 +79,7 @@ fn write_field_value<K: ByteSink>(
     }
 }
 
-/// Writes a pair: its field, and its value. The commonest values are written as they stand in the heap.
+// Writes a pair: its field, and its value. The commonest values are written as they stand in the heap.
 fn write_pair<K: ByteSink>(
     sink: &mut K,
     field: Field,
@@ -95,7 +95,7 @@ fn write_pair<K: ByteSink>(
     }
 }
 
-/// How many pairs have a stored field.
+// How many pairs have a stored field.
 fn stored_count(schema: &Schema, document: &CompactDoc) -> u64
     requires { Belongs schema.now (document_of document.now) }
     ensures { result ≡ length (stored schema.now (document_of document.now)) }
@@ -110,7 +110,7 @@ fn stored_count(schema: &Schema, document: &CompactDoc) -> u64
     count
 }
 
-/// Writes the pair, if its field is stored.
+// Writes the pair, if its field is stored.
 fn write_if_stored<K: ByteSink>(
     sink: &mut K,
     schema: &Schema,
@@ -128,7 +128,7 @@ fn write_if_stored<K: ByteSink>(
     }
 }
 
-/// Writes the stored pairs, in order.
+// Writes the stored pairs, in order.
 fn write_pairs<K: ByteSink>(
     sink: &mut K,
     schema: &Schema,

@@ -312,9 +312,9 @@ fn write_members<K: ByteSink, N: Nested>(
     Ok(())
 }
 
-/// Writes a value of any kind: its code, and what it holds. It takes no memory of its own.
-///
-/// The only error is the kind with which a write failed. The sink then holds what it held before, and a beginning of the value.
+// Writes a value of any kind: its code, and what it holds. It takes no memory of its own.
+//
+// The only error is the kind with which a write failed. The sink then holds what it held before, and a beginning of the value.
 pub(crate) fn write_value<'a, K: ByteSink, V: Value<'a>>(
     sink: &mut K,
     value: &V,
@@ -355,9 +355,9 @@ fn write_encoded_tokens<K: ByteSink>(sink: &mut K, content: &[u8]) -> Result<(),
     write_all(sink, content)
 }
 
-/// Writes a value of a document as it stands in the heap. It takes no memory of its own.
-///
-/// The only error is the kind with which a write failed. The sink then holds what it held before, and a beginning of the value.
+// Writes a value of a document as it stands in the heap. It takes no memory of its own.
+//
+// The only error is the kind with which a write failed. The sink then holds what it held before, and a beginning of the value.
 #[inline(always)]
 #[cycle(encoded)]
 pub(crate) fn write_encoded<K: ByteSink>(
@@ -396,9 +396,9 @@ fn write_encoded_items<K: ByteSink>(
     Ok(())
 }
 
-/// Writes a value without children as a pair has it: of a text with tokens the text alone.
-///
-/// The only error is the kind with which a write failed. The sink then holds what it held before, and a beginning of the value.
+// Writes a value without children as a pair has it: of a text with tokens the text alone.
+//
+// The only error is the kind with which a write failed. The sink then holds what it held before, and a beginning of the value.
 pub(crate) fn write_stored_leaf<K: ByteSink>(
     sink: &mut K,
     leaf: &ReferenceValueLeaf<'_>,

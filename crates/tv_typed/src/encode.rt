@@ -109,8 +109,8 @@ fn push_members(bytes: &mut Vec<u8>, members: &Vec<(String, OwnedValue)>) -> Res
     Ok(())
 }
 
-/// The shortest encoding of a value of a kind that JSON has. The only error is that memory was refused, which is told for other
-/// kinds too.
+// The shortest encoding of a value of a kind that JSON has. The only error is that memory was refused, which is told for other
+// kinds too.
 pub(crate) fn encoded(alloc: Global, value: &OwnedValue) -> Result<Vec<u8>, AllocError>
     ensures ok { IfOk result (λ bytes. bytes.items ≡ short V2 (owned_tree value.now)) }
     ensures valid { OnOk result (IsValue (owned_tree value.now)) }

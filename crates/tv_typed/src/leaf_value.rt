@@ -17,7 +17,7 @@ use crate::store_reader::StoreReader;
 use tv_base::{ByteSource, ReadError};
 use tv_reader::{DeserializeError, DocStoreVersion, ValueType};
 
-/// What is read of one type of values that hold no others.
+// What is read of one type of values that hold no others.
 pub(crate) trait LeafValue: Sized + Drop {
     /// What its memory comes from, where it takes any.
     type Alloc: Copy;

@@ -18,7 +18,7 @@ use std::alloc::Global;
 use tv_base::{ByteSource, Cause, SliceSource};
 use tv_reader::{DeserializeError, DocStoreVersion, ValueType};
 
-/// What is read of an object that isn't a legacy one, behind the code of its type.
+// What is read of an object that isn't a legacy one, behind the code of its type.
 pub(crate) trait CodedObject: Sized + Drop {
     /// Which values are read of which trees.
     ghost is: { Tree → Self → Type 0 };
@@ -89,7 +89,7 @@ fn legacy_object<V: CodedObject, S: ByteSource>(
     of_encoding(alloc, &bytes)
 }
 
-/// Reads a value behind its code, of a legacy object too.
+// Reads a value behind its code, of a legacy object too.
 pub(crate) fn read_object<V: CodedObject, S: ByteSource>(
     alloc: Global,
     kind: ValueType,

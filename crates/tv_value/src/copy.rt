@@ -10,7 +10,7 @@ use crate::owned_value::OwnedValue;
 use std::alloc::{AllocError, Global};
 use std::convert::AsStr;
 
-/// A copy of a value and of all below it.
+// A copy of a value and of all below it.
 #[cycle(copies)]
 pub(crate) fn owned_of<N: Nested>(
     alloc: Global,

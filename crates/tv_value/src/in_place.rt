@@ -46,7 +46,7 @@ pub fn text_at(bytes: &[u8]) -> Option<(&str, &[u8])>
     Some((text, rest))
 }
 
-/// The token at the start of the bytes, and what follows it. None where no prefix encodes a token.
+// The token at the start of the bytes, and what follows it. None where no prefix encodes a token.
 pub(crate) fn token_at(bytes: &[u8]) -> Option<(TokenRef<'_>, &[u8])>
     ensures found { IfSome result
         (λ x. Begins (λ b. TokenEncoding b (ref_of x.0)) bytes.now x.1.now) }
@@ -68,7 +68,7 @@ pub(crate) fn token_at(bytes: &[u8]) -> Option<(TokenRef<'_>, &[u8])>
     Some((token, rest))
 }
 
-/// What follows so many tokens at the start of the bytes. None where no prefix encodes so many.
+// What follows so many tokens at the start of the bytes. None where no prefix encodes so many.
 pub(crate) fn behind_tokens(count: u64, bytes: &[u8]) -> Option<&[u8]>
     ensures found { IfSome result (λ rest. BeginsTokens count bytes.now rest.now) }
     ensures none { IfNone result (NoTokens count bytes.now) }

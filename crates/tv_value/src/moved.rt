@@ -23,8 +23,8 @@ fn number_of(number: &Number) -> OwnedValue
     }
 }
 
-/// The value that a JSON value is, where its numbers are whole. Room is made for the lists alone. The only error is that memory
-/// was refused.
+// The value that a JSON value is, where its numbers are whole. Room is made for the lists alone. The only error is that memory
+// was refused.
 #[cycle(moved)]
 pub(crate) fn moved(alloc: Global, json: JsonValue) -> Result<OwnedValue, AllocError>
     ensures { IfOk result (λ made. owned_tree made ≡ whole_tree (data_of json)) }

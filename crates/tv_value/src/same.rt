@@ -29,7 +29,7 @@ fn same_content(one: LeafContent<'_>, other: LeafContent<'_>) -> bool
     }
 }
 
-/// Whether two leaves are one: of one type, with the same content. It takes no memory.
+// Whether two leaves are one: of one type, with the same content. It takes no memory.
 pub(crate) fn same_leaf(one: ReferenceValueLeaf<'_>, other: ReferenceValueLeaf<'_>) -> bool
     ensures { result ≡ leaf_eq (leaf_of one.entry) (leaf_of other.entry) }
 {

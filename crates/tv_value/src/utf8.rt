@@ -47,8 +47,8 @@ fn prefix_of(block: u8x64, len: usize) -> u8x64
     common(block, mask_of(len))
 }
 
-/// Whether the first `len` bytes are UTF-8. (Not in tantivy.) Their last block is read where it stands, without a copy, if with what stands behind
-/// them it has 64 bytes.
+// Whether the first `len` bytes are UTF-8. (Not in tantivy.) Their last block is read where it stands, without a copy, if with what stands behind
+// them it has 64 bytes.
 #[inline]
 pub(crate) fn is_utf8_prefix(bytes: &[u8], len: usize) -> bool
     requires { len ≤ length bytes.now }

@@ -28,7 +28,7 @@ fn no_more_is_counted_than_fits(rt: HostRuntime) {
     }
 }
 
-/// One pair, of field 3 and a truth value.
+// One pair, of field 3 and a truth value.
 const ONE_PAIR: &[u8] = b"\x81\x03\0\0\0\x09\x01";
 
 #[test]

@@ -8,7 +8,7 @@ use std::io;
 use tv_base::take::take_text;
 use tv_base::{ByteSource, ReadError};
 
-/// Gives one byte at a time, and fails where three bytes are left.
+// Gives one byte at a time, and fails where three bytes are left.
 #[derive(Drop)]
 struct FailingSource<'a> {
     rest: &'a [u8],

@@ -10,7 +10,7 @@ use tv_typed::{BinaryValueDeserializer, StoreReader, ValueVisitor};
 use tv_value::date_time::DateTime;
 use tv_value::tokenizer::PreTokenizedString;
 
-/// Takes each leaf, and says nothing of it.
+// Takes each leaf, and says nothing of it.
 struct Leaves;
 
 impl ValueVisitor for Leaves {
@@ -62,7 +62,7 @@ impl ValueVisitor for Leaves {
     }
 }
 
-/// How handing on the value ends which these bytes begin with.
+// How handing on the value ends which these bytes begin with.
 fn ending(alloc: Global, bytes: &[u8]) -> Result<(), DeserializeError> {
     let mut reader = StoreReader::new(SliceSource::new(bytes), DocStoreVersion::V2);
     BinaryValueDeserializer::from_reader(&mut reader)?.deserialize_any(alloc, &Leaves)

@@ -13,7 +13,7 @@ use tv_typed::{
 use tv_value::date_time::DateTime;
 use tv_value::tokenizer::PreTokenizedString;
 
-/// Tells a number for what stands there: of an array or an object how many values or entries are announced. It takes no date.
+// Tells a number for what stands there: of an array or an object how many values or entries are announced. It takes no date.
 struct Numbers;
 
 impl ValueVisitor for Numbers {
@@ -81,7 +81,7 @@ impl ValueVisitor for Numbers {
     }
 }
 
-/// The number that is told for the value which these bytes begin with, and whether the reader is marked then.
+// The number that is told for the value which these bytes begin with, and whether the reader is marked then.
 fn told(alloc: Global, bytes: &[u8]) -> (Result<u64, DeserializeError>, bool) {
     let mut reader = StoreReader::new(SliceSource::new(bytes), DocStoreVersion::V2);
     let answer = match BinaryValueDeserializer::from_reader(&mut reader) {

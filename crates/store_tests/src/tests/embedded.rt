@@ -6,7 +6,7 @@ use std::test::Fail;
 use tantivy_schema::schema::document::SerializeError;
 use tantivy_schema::schema::{STORED, Schema, TEXT, TantivyDocument, Value};
 
-/// The text `ChillFish8` in field 0.
+// The text `ChillFish8` in field 0.
 const ONE_PAIR: &[u8] = b"\x81\x00\x00\x00\x00\x00\x8aChillFish8";
 
 #[test]

@@ -7,7 +7,7 @@ use tantivy_schema::common::ReadSource;
 use tantivy_schema::laws::{stored_pairs_are_read_back, written_documents_are_shortest};
 use tantivy_schema::schema::{CompactDoc, NumericOptions, STORED, Schema, TEXT, Value};
 
-/// Gives one byte at a time.
+// Gives one byte at a time.
 #[derive(Drop)]
 struct SingleBytes<'a> {
     rest: &'a [u8],

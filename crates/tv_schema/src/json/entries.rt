@@ -18,7 +18,7 @@ use tv_field::field_type::FieldType;
 use tv_field::schema_error::SchemaError;
 use tv_options::Type;
 
-/// A builder with the entries that the JSON values describe.
+// A builder with the entries that the JSON values describe.
 pub(super) fn builder_of(alloc: Global, items: &[Value]) -> Result<SchemaBuilder, SchemaError>
     ensures built { Gives (λ builder. builder) (with_entries [] (items_view items.now)) result }
     ensures early { IfSome (first_error (items_view items.now)) (λ error. result ≡ Err error) }
@@ -30,7 +30,7 @@ pub(super) fn builder_of(alloc: Global, items: &[Value]) -> Result<SchemaBuilder
     Ok(builder)
 }
 
-/// Adds the entry that the JSON value describes. Its place is the number of the entries before it.
+// Adds the entry that the JSON value describes. Its place is the number of the entries before it.
 #[tactic(auto, unfolding(crate::specs::SchemaJsonReading::with_entry))]
 fn add_entry(
     alloc: Global,
@@ -49,7 +49,7 @@ fn add_entry(
     Ok(())
 }
 
-/// The name and the type of the entry that the JSON value describes.
+// The name and the type of the entry that the JSON value describes.
 #[tactic(auto, unfolding(crate::specs::SchemaJsonReading::entry_of, crate::specs::SchemaJsonEarly::opened))]
 fn entry_of(
     alloc: Global,
@@ -70,7 +70,7 @@ fn entry_of(
     Ok((String::from_str(alloc, name)?, field_type))
 }
 
-/// The type of the word; `f64` is a type that this library doesn't have.
+// The type of the word; `f64` is a type that this library doesn't have.
 #[tactic(auto, unfolding(crate::specs::SchemaJsonReading::type_named))]
 fn type_named(place: usize, word: &str) -> Result<Type, SchemaError>
     ensures { result ≡ type_named place word.now }

@@ -8,10 +8,10 @@ ghost use Rattle.tv_schema.specs.SchemaJsonOptions.{bool_or, text_or, unless_nul
 
 use serde_json::{Map, Value};
 
-/// The members of an object, by their keys.
+// The members of an object, by their keys.
 pub(super) type Members = Map<String, Value>;
 
-/// The value at the key, where there is one.
+// The value at the key, where there is one.
 pub(super) fn member<'a>(members: &'a Members, key: &str) -> Option<&'a Value>
     ensures { option_map (λ found. view found.now) result
         ≡ get_member key.now (members_view members.now.entries) }
@@ -19,7 +19,7 @@ pub(super) fn member<'a>(members: &'a Members, key: &str) -> Option<&'a Value>
     members.get(key)
 }
 
-/// The value at the key, where there is one that isn't null.
+// The value at the key, where there is one that isn't null.
 pub(super) fn present<'a>(members: &'a Members, key: &str) -> Option<&'a Value>
     ensures { option_map (λ found. view found.now) result
         ≡ unless_null (get_member key.now (members_view members.now.entries)) }
@@ -30,7 +30,7 @@ pub(super) fn present<'a>(members: &'a Members, key: &str) -> Option<&'a Value>
     }
 }
 
-/// The truth value at the key; `None` where the key isn't there or a value of another kind is.
+// The truth value at the key; `None` where the key isn't there or a value of another kind is.
 #[tactic(auto, unfolding(crate::specs::SchemaJsonOptions::required_bool))]
 pub(super) fn required_bool(members: &Members, key: &str) -> Option<bool>
     ensures { result ≡ required_bool key.now (members_view members.now.entries) }
@@ -38,7 +38,7 @@ pub(super) fn required_bool(members: &Members, key: &str) -> Option<bool>
     member(members, key)?.as_bool()
 }
 
-/// The text at the key; `None` where the key isn't there or a value of another kind is.
+// The text at the key; `None` where the key isn't there or a value of another kind is.
 #[tactic(auto, unfolding(crate::specs::SchemaJsonOptions::required_text))]
 pub(super) fn required_text<'a>(members: &'a Members, key: &str) -> Option<&'a str>
     ensures { option_map (λ text. text.now) result
@@ -47,7 +47,7 @@ pub(super) fn required_text<'a>(members: &'a Members, key: &str) -> Option<&'a s
     member(members, key)?.as_str()
 }
 
-/// The members of the object at the key; `None` where the key isn't there or a value of another kind is.
+// The members of the object at the key; `None` where the key isn't there or a value of another kind is.
 #[tactic(auto, unfolding(crate::specs::SchemaJsonOptions::required_object))]
 pub(super) fn required_object<'a>(members: &'a Members, key: &str) -> Option<&'a Members>
     ensures { option_map (λ inner. members_view inner.now.entries) result
@@ -56,7 +56,7 @@ pub(super) fn required_object<'a>(members: &'a Members, key: &str) -> Option<&'a
     member(members, key)?.as_object()
 }
 
-/// The truth value at the key, or the default where the key isn't there; `None` for a value of another kind.
+// The truth value at the key, or the default where the key isn't there; `None` for a value of another kind.
 #[tactic(auto, unfolding(crate::specs::SchemaJsonOptions::bool_or))]
 pub(super) fn bool_or(members: &Members, key: &str, default: bool) -> Option<bool>
     ensures { result ≡ bool_or default key.now (members_view members.now.entries) }
@@ -67,7 +67,7 @@ pub(super) fn bool_or(members: &Members, key: &str, default: bool) -> Option<boo
     }
 }
 
-/// The text at the key, or the default where the key isn't there; `None` for a value of another kind.
+// The text at the key, or the default where the key isn't there; `None` for a value of another kind.
 #[tactic(auto, unfolding(crate::specs::SchemaJsonOptions::text_or))]
 pub(super) fn text_or<'a>(members: &'a Members, key: &str, default: &'a str) -> Option<&'a str>
     ensures { option_map (λ text. text.now) result

@@ -24,7 +24,7 @@ use tv_options::{
     TextOptions, TokenizerName, Type,
 };
 
-/// The type with the options that the members tell, or `None` where they are not the type's options.
+// The type with the options that the members tell, or `None` where they are not the type's options.
 #[tactic(auto, unfolding(crate::specs::SchemaJsonOptions::options_of))]
 pub(super) fn options_of(
     alloc: Global,
@@ -143,7 +143,7 @@ fn ip_addr_options_of(members: &Members) -> Option<IpAddrOptions>
     Some(IpAddrOptions::from_parts(indexed, fieldnorms, fast, stored))
 }
 
-/// The truth value at the key `fieldnorms`, as `indexed` where the key isn't there or null stands there.
+// The truth value at the key `fieldnorms`, as `indexed` where the key isn't there or null stands there.
 #[tactic(auto, unfolding(crate::specs::SchemaJsonOptions::fieldnorms_or))]
 fn fieldnorms_or(members: &Members, indexed: bool) -> Option<bool>
     ensures { result ≡ fieldnorms_or indexed (members_view members.now.entries) }
@@ -154,7 +154,7 @@ fn fieldnorms_or(members: &Members, indexed: bool) -> Option<bool>
     }
 }
 
-/// The indexing at the key `indexing`, `Some(None)` where the key isn't there or null stands there.
+// The indexing at the key `indexing`, `Some(None)` where the key isn't there or null stands there.
 #[tactic(auto, unfolding(crate::specs::SchemaJsonOptions::optional_indexing))]
 fn optional_indexing(
     alloc: Global,
@@ -192,7 +192,7 @@ fn indexing_of(alloc: Global, members: &Members) -> Result<Option<TextFieldIndex
     Ok(Some(indexing))
 }
 
-/// The fast field at the key `fast`, none where the key isn't there.
+// The fast field at the key `fast`, none where the key isn't there.
 #[tactic(auto, unfolding(crate::specs::SchemaJsonOptions::fast_field_or_none))]
 fn fast_field_or_none(
     alloc: Global,
@@ -206,7 +206,7 @@ fn fast_field_or_none(
     }
 }
 
-/// The fast field at the key `fast`, which must be there.
+// The fast field at the key `fast`, which must be there.
 #[tactic(auto, unfolding(crate::specs::SchemaJsonOptions::required_fast_field))]
 fn required_fast_field(
     alloc: Global,
@@ -237,7 +237,7 @@ fn fast_field_of(alloc: Global, found: &Value) -> Result<Option<FastFieldTextOpt
     }
 }
 
-/// What is kept of each term: the word at the key `record`, the least where the key isn't there.
+// What is kept of each term: the word at the key `record`, the least where the key isn't there.
 #[tactic(auto, unfolding(crate::specs::SchemaJsonOptions::record_or_basic))]
 fn record_or_basic(members: &Members) -> Option<IndexRecordOption>
     ensures { result ≡ record_or_basic (members_view members.now.entries) }
@@ -248,7 +248,7 @@ fn record_or_basic(members: &Members) -> Option<IndexRecordOption>
     }
 }
 
-/// The precision of dates: the word at the key `precision`, seconds where the key isn't there.
+// The precision of dates: the word at the key `precision`, seconds where the key isn't there.
 #[tactic(auto, unfolding(crate::specs::SchemaJsonOptions::precision_or_seconds))]
 fn precision_or_seconds(members: &Members) -> Option<DateTimePrecision>
     ensures { result ≡ precision_or_seconds (members_view members.now.entries) }

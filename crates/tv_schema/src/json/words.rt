@@ -7,7 +7,7 @@ ghost use Rattle.tv_schema.specs.SchemaJsonOptions.{precision_of_word};
 
 use tv_options::{DateTimePrecision, IndexRecordOption, Type};
 
-/// The word of a type.
+// The word of a type.
 pub(super) fn type_word(value_type: Type) -> &'static str
     ensures { result.now ≡ type_word value_type }
 {
@@ -24,7 +24,7 @@ pub(super) fn type_word(value_type: Type) -> &'static str
     }
 }
 
-/// The word for what an index keeps of each term.
+// The word for what an index keeps of each term.
 pub(super) fn record_word(option: IndexRecordOption) -> &'static str
     ensures { result.now ≡ record_word option }
 {
@@ -35,7 +35,7 @@ pub(super) fn record_word(option: IndexRecordOption) -> &'static str
     }
 }
 
-/// The word of a precision.
+// The word of a precision.
 pub(super) fn precision_word(precision: DateTimePrecision) -> &'static str
     ensures { result.now ≡ precision_word precision }
 {
@@ -47,7 +47,7 @@ pub(super) fn precision_word(precision: DateTimePrecision) -> &'static str
     }
 }
 
-/// The type of a word.
+// The type of a word.
 #[tactic(auto, unfolding(crate::specs::SchemaJsonOptions::type_of_word))]
 pub(super) fn type_of_word(word: &str) -> Option<Type>
     ensures { result ≡ type_of_word word.now }
@@ -66,7 +66,7 @@ pub(super) fn type_of_word(word: &str) -> Option<Type>
     }
 }
 
-/// What an index keeps of each term, by its word.
+// What an index keeps of each term, by its word.
 #[tactic(auto, unfolding(crate::specs::SchemaJsonOptions::record_of_word))]
 pub(super) fn record_of_word(word: &str) -> Option<IndexRecordOption>
     ensures { result ≡ record_of_word word.now }
@@ -79,7 +79,7 @@ pub(super) fn record_of_word(word: &str) -> Option<IndexRecordOption>
     }
 }
 
-/// The precision of a word.
+// The precision of a word.
 #[tactic(auto, unfolding(crate::specs::SchemaJsonOptions::precision_of_word))]
 pub(super) fn precision_of_word(word: &str) -> Option<DateTimePrecision>
     ensures { result ≡ precision_of_word word.now }

@@ -18,7 +18,7 @@ use tv_options::{
     TextFieldIndexing, TextOptions,
 };
 
-/// The entries of a schema, in order.
+// The entries of a schema, in order.
 pub(super) fn schema_json(alloc: Global, entries: &[FieldEntry]) -> Result<Value, AllocError>
     ensures { IfOk result (λ value. view value ≡ schema_json entries.now) }
 {
@@ -29,7 +29,7 @@ pub(super) fn schema_json(alloc: Global, entries: &[FieldEntry]) -> Result<Value
     Ok(Value::Array(items))
 }
 
-/// An entry: its name, its options and the word of its type.
+// An entry: its name, its options and the word of its type.
 fn entry_json(alloc: Global, entry: &FieldEntry) -> Result<Value, AllocError>
     ensures { IfOk result (λ value. view value ≡ entry_json entry.now) }
 {
@@ -82,7 +82,7 @@ fn text_json(alloc: Global, texts: &TextOptions) -> Result<Value, AllocError>
     Ok(Value::Object(members))
 }
 
-/// Puts the indexing at its key, where there is one.
+// Puts the indexing at its key, where there is one.
 fn put_indexing(
     members: &mut Map<String, Value>,
     alloc: Global,
@@ -99,7 +99,7 @@ fn put_indexing(
     }
 }
 
-/// Puts `true` at the key, where it is so.
+// Puts `true` at the key, where it is so.
 fn put_true(
     members: &mut Map<String, Value>,
     alloc: Global,
@@ -209,7 +209,7 @@ fn indexing_json(alloc: Global, indexing: &TextFieldIndexing) -> Result<Value, A
     })
 }
 
-/// A fast field's tokenizer, or else whether there is a fast field.
+// A fast field's tokenizer, or else whether there is a fast field.
 fn fast_json(
     alloc: Global,
     is_fast: bool,
