@@ -2,15 +2,15 @@
 
 use anyhow::{Result, anyhow};
 use tantivy_schema::common::{SliceSource, VecSink};
-use tantivy_schema::schema::document::{BinaryDocumentSerializer, Document};
-use tantivy_schema::schema::{INDEXED, NumericOptions, STORED, Schema, TEXT, TantivyDocument};
+use tantivy_schema::schema::document::BinaryDocumentSerializer;
+use tantivy_schema::schema::{Document, INDEXED, STORED, Schema, TEXT, TantivyDocument};
 use tantivy_schema::store::{DocStoreVersion, read_document};
 
 fn main(rt: HostRuntime) -> Result<()> {
     let alloc = rt.alloc();
     let mut builder = Schema::builder(alloc);
     let name = builder.add_text_field("name", TEXT | STORED)?;
-    let age = builder.add_u64_field("age", NumericOptions::from(INDEXED | STORED))?;
+    let age = builder.add_u64_field("age", INDEXED | STORED)?;
     let schema = builder.build()?;
 
     let mut document = TantivyDocument::new(alloc);

@@ -1,4 +1,17 @@
 //! Schemas, their fields, and the options of these.
+//!
+//! A schema is made by a builder, field by field:
+//!
+//! ```
+//! pub fn people(alloc: Global) -> Result<Schema> {
+//!     let mut builder = Schema::builder(alloc);
+//!     builder.add_text_field("name", TEXT | STORED)?;
+//!     builder.add_u64_field("age", INDEXED | STORED)?;
+//!     builder.add_facet_field("group", STORED)?;
+//!     builder.add_json_field("more", STORED)?;
+//!     Ok(builder.build()?)
+//! }
+//! ```
 
 pub mod document;
 

@@ -33,6 +33,16 @@ pub const FACET_SEP_CHAR: char = '\u{0}';
 
 /// A place in a hierarchy: the steps down to it from the root. It is kept and compared as its encoded text: the steps with
 /// U+0000 between each two of them.
+///
+/// ```
+/// pub fn is_within(alloc: Global, upper: &str, lower: &str) -> Result<bool> {
+///     let (upper, lower) = (
+///         Facet::from_text(alloc, upper)?,
+///         Facet::from_text(alloc, lower)?,
+///     );
+///     Ok(upper.is_prefix_of(&lower))
+/// }
+/// ```
 #[derive(Drop)]
 pub struct Facet {
     encoded: String,

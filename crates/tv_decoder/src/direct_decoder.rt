@@ -38,6 +38,19 @@ pub enum Step {
 /// A step reads the number of the pairs, a field, the head of a key or a value (all of a value of a known width, of a pre-tokenized text
 /// and of an object as older stores hold it), or at most 4096 bytes of a text, a facet, bytes or a key. It is lent the source, so the
 /// decoder holds none. After a refusal each step returns `AlreadyFailed` and reads nothing; the finished pairs stay.
+///
+/// ```
+/// pub fn stepwise(alloc: Global, bytes: &[u8]) -> Result<TantivyDocument> {
+///     let mut source = SliceSource::new(bytes);
+///     let mut decoder = DirectDecoder::new(alloc, DocStoreVersion::V2);
+///     for _ in 0..u64::MAX {
+///         if decoder.step(&mut source)? == Step::Done {
+///             break;
+///         }
+///     }
+///     Ok(decoder.into_doc())
+/// }
+/// ```
 #[derive(Debug, Drop)]
 pub struct DirectDecoder {
     alloc: Global,

@@ -77,6 +77,20 @@ fn keep_tree(
 /// last child. The complete value becomes a pair by `finish`. After any refusal nothing is open and every call that can refuse answers
 /// `AlreadyFailed`; the finished pairs stay. No call's time grows with the number of open lists or of finished pairs; what closes a
 /// list takes as long as its own bytes.
+///
+/// ```
+/// pub fn built(alloc: Global, field: Field) -> Result<TantivyDocument> {
+///     let mut builder = TreeBuilder::new(TantivyDocument::new(alloc));
+///     builder.open_object(2)?;
+///     builder.key("tags")?;
+///     builder.open_array(1)?;
+///     builder.leaf(ReferenceValueLeaf::Str("new"))?;
+///     builder.key("size")?;
+///     builder.leaf(ReferenceValueLeaf::U64(3))?;
+///     builder.finish(field)?;
+///     Ok(builder.into_doc())
+/// }
+/// ```
 #[derive(Debug, Drop)]
 pub struct TreeBuilder {
     alloc: Global,

@@ -110,6 +110,17 @@ pub(crate) fn keep_pair(
 }
 
 /// Pairs of a field and a value, in order. The values stand in one heap of bytes, in which each addition is kept apart.
+///
+/// ```
+/// pub fn added(alloc: Global, schema: &Schema) -> Result<TantivyDocument> {
+///     let mut document = TantivyDocument::new(alloc);
+///     document.add_text(schema.get_field("name")?, "Ada")?;
+///     document.add_u64(schema.get_field("age")?, 36)?;
+///     let group = Facet::from_text(alloc, "/staff/research")?;
+///     document.add_facet(schema.get_field("group")?, &group)?;
+///     Ok(document)
+/// }
+/// ```
 #[derive(Debug, Drop)]
 pub struct CompactDoc {
     pub(crate) alloc: Global,
@@ -332,6 +343,18 @@ impl CompactDoc {
     }
 
     /// The values of a field, in the order in which they were added.
+    ///
+    /// ```
+    /// pub fn texts(alloc: Global, document: &TantivyDocument, field: Field) -> Result<Vec<String>> {
+    ///     let mut texts = Vec::new(alloc);
+    ///     for value in document.get_all(field) {
+    ///         if let Some(text) = value.as_str() {
+    ///             texts.push(String::from_str(alloc, text)?)?;
+    ///         }
+    ///     }
+    ///     Ok(texts)
+    /// }
+    /// ```
     pub fn get_all(&self, field: Field) -> GetAllIter<'_>
         ensures { values_left result ≡ values_of field.id (document_of self.now) }
     {

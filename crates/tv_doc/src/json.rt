@@ -144,6 +144,12 @@ fn invalid_json(alloc: Global, text: &str) -> DocParsingError
 impl CompactDoc {
     /// The document of the JSON object that the text encodes, see `from_json_object`. Errors: `InvalidJson` with the text's first 20
     /// characters where it isn't JSON or no object, or lists in it nest deeper than 127; else those of `from_json_object`.
+    ///
+    /// ```
+    /// pub fn parsed(alloc: Global, schema: &Schema, json: &str) -> Result<TantivyDocument> {
+    ///     Ok(TantivyDocument::parse_json(alloc, schema, json)?)
+    /// }
+    /// ```
     pub fn parse_json(
         alloc: Global,
         schema: &Schema,

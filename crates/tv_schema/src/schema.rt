@@ -27,6 +27,17 @@ use tv_value::field::Field;
 const MAX_FIELDS: usize = 4294967295;
 
 /// What a schema is made with: the entries so far, in the order of their numbers. Their names are valid and distinct.
+///
+/// ```
+/// pub fn people(alloc: Global) -> Result<Schema> {
+///     let mut builder = Schema::builder(alloc);
+///     builder.add_text_field("name", TEXT | STORED)?;
+///     builder.add_u64_field("age", INDEXED | STORED)?;
+///     builder.add_facet_field("group", STORED)?;
+///     builder.add_json_field("more", STORED)?;
+///     Ok(builder.build()?)
+/// }
+/// ```
 #[derive(Debug, Drop)]
 pub struct SchemaBuilder {
     table: FieldTable,
@@ -254,6 +265,17 @@ fn check_name(table: &FieldTable, name: &str) -> Result<(), SchemaError>
 }
 
 /// A schema: entries with distinct valid names, where field `i` is entry `i`. Its clones share them.
+///
+/// ```
+/// pub fn printed(alloc: Global, schema: &Schema) -> Result<String> {
+///     Ok(schema.to_json_value(alloc)?.to_string(alloc)?)
+/// }
+///
+/// pub fn parsed(alloc: Global, text: &str) -> Result<Schema> {
+///     let json = serde_json::Value::from_str(alloc, text)?;
+///     Ok(Schema::from_json_value(alloc, &json)?)
+/// }
+/// ```
 #[derive(Debug, Drop)]
 pub struct Schema {
     pub(crate) table: Rc<FieldTable>,
@@ -368,6 +390,12 @@ impl Schema {
     ///
     /// It takes no memory. It looks the path up, and then what stands before each such dot from the last on, until one
     /// serves: one lookup each. Only what holds a backslash, and is no name as it stands, is compared with each name too.
+    ///
+    /// ```
+    /// pub fn found<'p>(schema: &Schema, path: &'p str) -> Option<(Field, &'p str)> {
+    ///     schema.find_field(path)
+    /// }
+    /// ```
     pub fn find_field<'a>(&self, path: &'a str) -> Option<(Field, &'a str)>
         ensures found { option_map (λ found. (found.0.id, found.1.now)) result
             ≡ find self.now path.now }

@@ -35,6 +35,17 @@ pub use tv_reader::version::DocStoreVersion;
 /// place stands a value that isn't a text, `HeapFull` where what has come so far needs more room than 4294967295 bytes, `Io` where
 /// the source failed, `Memory` where memory was refused, or the source doesn't let bytes pass that it lent. After `CorruptedValue` and
 /// `TypeMismatch` just the bytes that show the error were taken.
+///
+/// ```
+/// pub fn documents_of(alloc: Global, bytes: &[u8], count: usize) -> Result<Vec<TantivyDocument>> {
+///     let mut source = SliceSource::new(bytes);
+///     let mut documents = Vec::new(alloc);
+///     for _ in 0..count {
+///         documents.push(read_document(alloc, &mut source, DocStoreVersion::V2)?)?;
+///     }
+///     Ok(documents)
+/// }
+/// ```
 pub fn read_document<S: ByteSource>(
     alloc: Global,
     source: &mut S,

@@ -166,6 +166,16 @@ impl<'se, K: ByteSink> BinaryDocumentSerializer<'se, K> {
     ///
     /// The only error is `Io`, where the sink failed. The sink then holds what it held before, and a beginning of what was to
     /// be written; a later call appends to that.
+    ///
+    /// ```
+    /// fn append(sink: &mut VecSink, schema: &Schema, document: &TantivyDocument) -> Result<()> {
+    ///     if !document.fits(schema) {
+    ///         return Err(anyhow!("a field is not the schema's"));
+    ///     }
+    ///     BinaryDocumentSerializer::new(sink, schema).serialize_doc(document)?;
+    ///     Ok(())
+    /// }
+    /// ```
     pub fn serialize_doc(&mut self, document: &CompactDoc) -> Result<(), SerializeError>
         requires { Belongs self.old.schema.now (document_of document.now) }
         ensures same_sink { self.new.sink.ghost_name ≡ self.old.sink.ghost_name }

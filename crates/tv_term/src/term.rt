@@ -36,6 +36,14 @@ use tv_value::field::Field;
 /// value's payload. Terms are compared as these bytes, and so by field, then by type, then by value.
 ///
 /// The value bytes are what stands behind the type's code.
+///
+/// ```
+/// pub fn of_path(alloc: Global, field: Field, path: &str, text: &str) -> Result<Term> {
+///     let mut term = Term::from_field_json_path(alloc, field, path, false)?;
+///     term.append_type_and_str(text)?;
+///     Ok(term)
+/// }
+/// ```
 #[derive(Debug, Drop)]
 pub struct Term {
     bytes: Vec<u8>,

@@ -20,6 +20,13 @@ use tv_reader::{DeserializeError, DocStoreVersion, ValueType};
 
 /// A source, the version of what it holds, how many bytes were taken of it, and whether a read was refused. After a refusal
 /// every later read returns `AlreadyFailed` and takes nothing.
+///
+/// ```
+/// pub fn scores(alloc: Global, bytes: &[u8]) -> Result<BTreeMap<String, u64>> {
+///     let mut reader = StoreReader::new(SliceSource::new(bytes), DocStoreVersion::V2);
+///     Ok(reader.read::<BTreeMap<String, u64>>(alloc)?)
+/// }
+/// ```
 #[derive(Drop)]
 pub struct StoreReader<S: ByteSource> {
     pub(crate) source: S,

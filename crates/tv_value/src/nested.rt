@@ -191,6 +191,39 @@ impl<'a, V: Value<'a>> Nested for Lent<'a, V> {
 }
 
 /// What a value is, with its children lent the same way. (Not in tantivy.)
+///
+/// ```
+/// pub fn leaves<'a, V: Value<'a>>(value: &V) -> u64 {
+///     leaves_of(lend(value))
+/// }
+///
+/// #[cycle(leaves)]
+/// fn leaves_of<N: Nested>(value: NestedValue<'_, N>) -> u64 {
+///     match value {
+///         NestedValue::Leaf(_) => 1,
+///         NestedValue::Array(items) => leaves_of_items::<N>(items),
+///         NestedValue::Object(members) => leaves_of_members::<N>(members),
+///     }
+/// }
+///
+/// #[cycle(leaves)]
+/// fn leaves_of_items<N: Nested>(items: N::ArrayIter) -> u64 {
+///     let mut count: u64 = 0;
+///     for item in items {
+///         count = count.saturating_add(leaves_of(item.as_nested()));
+///     }
+///     count
+/// }
+///
+/// #[cycle(leaves)]
+/// fn leaves_of_members<N: Nested>(members: N::ObjectIter) -> u64 {
+///     let mut count: u64 = 0;
+///     for (_, item) in members {
+///         count = count.saturating_add(leaves_of(item.as_nested()));
+///     }
+///     count
+/// }
+/// ```
 #[inline(always)]
 pub fn lend<'a, V: Value<'a>>(value: &V) -> NestedValue<'a, Lent<'a, V>>
     ensures { nested_tree (λ s. V.array_rest s.items) (λ s. V.object_rest s.members) result

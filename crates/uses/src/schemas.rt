@@ -2,17 +2,15 @@
 
 use anyhow::Result;
 use std::alloc::Global;
-use tantivy_schema::schema::{
-    FacetOptions, Field, INDEXED, JsonObjectOptions, NumericOptions, STORED, Schema, TEXT,
-};
+use tantivy_schema::schema::{Field, INDEXED, STORED, Schema, TEXT};
 
 /// A schema of people.
 pub fn people(alloc: Global) -> Result<Schema> {
     let mut builder = Schema::builder(alloc);
     builder.add_text_field("name", TEXT | STORED)?;
-    builder.add_u64_field("age", NumericOptions::from(INDEXED | STORED))?;
-    builder.add_facet_field("group", FacetOptions::from(STORED))?;
-    builder.add_json_field("more", JsonObjectOptions::from(STORED))?;
+    builder.add_u64_field("age", INDEXED | STORED)?;
+    builder.add_facet_field("group", STORED)?;
+    builder.add_json_field("more", STORED)?;
     Ok(builder.build()?)
 }
 

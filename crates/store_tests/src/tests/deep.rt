@@ -5,7 +5,7 @@ use std::test::Fail;
 use tv_base::VecSink;
 use tv_doc::document::CompactDoc;
 use tv_field::SchemaError;
-use tv_options::{JsonObjectOptions, STORED};
+use tv_options::STORED;
 use tv_schema::{Schema, SchemaBuilder};
 use tv_store::BinaryDocumentSerializer;
 use tv_value::field::Field;
@@ -19,7 +19,7 @@ fn field(number: u32) -> Field {
 // The schema of one field, which is stored.
 fn schema(alloc: Global) -> Result<Schema, SchemaError> {
     let mut builder = SchemaBuilder::new(alloc);
-    let _field = builder.add_json_field("j", JsonObjectOptions::from(STORED))?;
+    let _field = builder.add_json_field("j", STORED)?;
     Ok(builder.build()?)
 }
 

@@ -5,7 +5,7 @@ use std::io::Read;
 use std::test::Fail;
 use tantivy_schema::common::ReadSource;
 use tantivy_schema::laws::{stored_pairs_are_read_back, written_documents_are_shortest};
-use tantivy_schema::schema::{CompactDoc, NumericOptions, STORED, Schema, TEXT, Value};
+use tantivy_schema::schema::{CompactDoc, STORED, Schema, TEXT, Value};
 
 // Gives one byte at a time.
 #[derive(Drop)]
@@ -27,7 +27,7 @@ fn laws_of_calls_in_memory(rt: HostRuntime) -> Result<(), Fail> {
     let alloc = rt.alloc();
     let mut builder = Schema::builder(alloc);
     let name = builder.add_text_field("name", TEXT | STORED)?;
-    let age = builder.add_u64_field("age", NumericOptions::from(STORED))?;
+    let age = builder.add_u64_field("age", STORED)?;
     let schema = builder.build()?;
     let mut document = CompactDoc::new(alloc);
     document.add_text(name, "ChillFish8")?;

@@ -1,4 +1,34 @@
 //! Documents, and their form in the store.
+//!
+//! A document is a list of pairs of a field and a value, and it is written and read back:
+//!
+//! ```
+//! pub fn added(alloc: Global, schema: &Schema) -> Result<TantivyDocument> {
+//!     let mut document = TantivyDocument::new(alloc);
+//!     document.add_text(schema.get_field("name")?, "Ada")?;
+//!     document.add_u64(schema.get_field("age")?, 36)?;
+//!     let group = Facet::from_text(alloc, "/staff/research")?;
+//!     document.add_facet(schema.get_field("group")?, &group)?;
+//!     Ok(document)
+//! }
+//!
+//! fn append(sink: &mut VecSink, schema: &Schema, document: &TantivyDocument) -> Result<()> {
+//!     if !document.fits(schema) {
+//!         return Err(anyhow!("a field is not the schema's"));
+//!     }
+//!     BinaryDocumentSerializer::new(sink, schema).serialize_doc(document)?;
+//!     Ok(())
+//! }
+//!
+//! pub fn documents_of(alloc: Global, bytes: &[u8], count: usize) -> Result<Vec<TantivyDocument>> {
+//!     let mut source = SliceSource::new(bytes);
+//!     let mut documents = Vec::new(alloc);
+//!     for _ in 0..count {
+//!         documents.push(read_document(alloc, &mut source, DocStoreVersion::V2)?)?;
+//!     }
+//!     Ok(documents)
+//! }
+//! ```
 
 pub use tv_doc::add_error::AddError;
 pub use tv_doc::builder::{Awaits, BuildError, BytesKind, TreeBuilder};
