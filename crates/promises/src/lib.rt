@@ -8,7 +8,6 @@
 pub mod adding;
 pub mod facets;
 pub mod numbers;
-pub mod reading;
 pub mod schemas;
 pub mod steps;
 pub mod terms;

@@ -9,7 +9,7 @@ use simdutf8::Checker;
 use std::simd::prelude::*;
 
 // From place 64 - n on, n bytes with every bit and then bytes with none.
-const FRONTS: [u8; 128] = [
+const PREFIXES: [u8; 128] = [
     255, 255, 255, 255, 255, 255, 255, 255, 255, 255, 255, 255, 255, 255, 255, 255, 255, 255, 255,
     255, 255, 255, 255, 255, 255, 255, 255, 255, 255, 255, 255, 255, 255, 255, 255, 255, 255, 255,
     255, 255, 255, 255, 255, 255, 255, 255, 255, 255, 255, 255, 255, 255, 255, 255, 255, 255, 255,
@@ -24,7 +24,7 @@ fn mask_of(len: usize) -> u8x64
     requires { len ≤ 64 }
     ensures { result ≡ replicate len 255 ++ replicate (64 - len) 0 }
 {
-    let prefixes: &[u8] = &FRONTS;
+    let prefixes: &[u8] = &PREFIXES;
     u8x64::from_slice(&prefixes[64 - len..])
 }
 
