@@ -27,6 +27,10 @@ pub use Rattle.tv_value.specs.declared.json_error.JsonError
 -- what schemas are made of
 pub use Rattle.tv_options.specs.declared.facet_options.FacetOptions
 pub use Rattle.tv_options.specs.declared.flag_options.FlagOptions
+pub use Rattle.tv_options.specs.declared.flags.CoerceFlag
+pub use Rattle.tv_options.specs.declared.flags.FastFlag
+pub use Rattle.tv_options.specs.declared.flags.IndexedFlag
+pub use Rattle.tv_options.specs.declared.flags.StoredFlag
 pub use Rattle.tv_options.specs.declared.index_record_option.IndexRecordOption
 pub use Rattle.tv_options.specs.declared.own_part.Coercion
 pub use Rattle.tv_options.specs.declared.own_part.DotExpansion
@@ -40,6 +44,7 @@ pub use Rattle.tv_field.specs.declared.json_value.LentFieldValue
 pub use Rattle.tv_doc.specs.declared.document.CompactDoc
 pub use Rattle.tv_doc.specs.declared.field_values.FieldValueIterRef
 pub use Rattle.tv_heap.specs.declared.value.CompactDocValue
+pub use Rattle.tv_heap.specs.declared.value_type.ValueType as HeapValueType
 pub use Rattle.tv_reader.specs.declared.version.DocStoreVersion
 pub use Rattle.tv_date.specs.declared.date_time.DateTimePrecision
 pub use Rattle.tv_value.specs.declared.field.Field
@@ -57,3 +62,5 @@ pub use Rattle.tv_typed.specs.declared.de.BinaryValueDeserializer
 pub use Rattle.tv_typed.specs.declared.array.BinaryArrayDeserializer
 pub use Rattle.tv_typed.specs.declared.object.BinaryObjectDeserializer
 pub use Rattle.tv_typed.specs.declared.document.BinaryDocumentDeserializer
+-- how a run over lines ends
+pub use Rattle.tv_lines.specs.declared.run_end.RunEnd

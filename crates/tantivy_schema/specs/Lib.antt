@@ -2,6 +2,7 @@
 
 -- sources and sinks of bytes, and what was read or written
 pub use Rattle.tv_base.specs.Source
+pub use Rattle.tv_base.specs.Lend
 pub use Rattle.tv_base.specs.Sink
 pub use Rattle.tv_base.specs.Stop
 pub use Rattle.tv_base.specs.Take
@@ -26,6 +27,8 @@ pub use Rattle.tv_date.specs.Shape as DateShape
 pub use Rattle.tv_date.specs.Printed as DatePrinted
 pub use Rattle.tv_value.specs.Cases
 pub use Rattle.tv_value.specs.Content
+pub use Rattle.tv_value.specs.InPlace
+pub use Rattle.tv_value.specs.LeafParts
 pub use Rattle.tv_value.specs.Leaves
 pub use Rattle.tv_value.specs.IpAddress
 pub use Rattle.tv_value.specs.JsonTree
@@ -75,16 +78,23 @@ pub use Rattle.tv_doc.specs.Additions
 pub use Rattle.tv_doc.specs.Belongs
 pub use Rattle.tv_doc.specs.Builder
 pub use Rattle.tv_doc.specs.Document
+pub use Rattle.tv_doc.specs.Encoded as EncodedPairs
+pub use Rattle.tv_doc.specs.FieldValues
+pub use Rattle.tv_doc.specs.Grouped
+pub use Rattle.tv_heap.specs.Encoded as EncodedInHeap
 pub use Rattle.tv_heap.specs.Held
 pub use Rattle.tv_doc.specs.JsonObject
+pub use Rattle.tv_doc.specs.MapValue
 pub use Rattle.tv_doc.specs.Named
 pub use Rattle.tv_doc.specs.NamedPairs
+pub use Rattle.tv_doc.specs.SameTexts
 pub use Rattle.tv_heap.specs.Reads
 pub use Rattle.tv_heap.specs.Room
 pub use Rattle.tv_heap.specs.TypeCode
 pub use Rattle.tv_heap.specs.Value
 pub use Rattle.tv_heap.specs.Weight
 -- values that come part by part
+pub use Rattle.tv_builder.specs.Behind
 pub use Rattle.tv_builder.specs.Called
 pub use Rattle.tv_builder.specs.Prefix
 pub use Rattle.tv_builder.specs.Given
@@ -104,9 +114,12 @@ pub use Rattle.tv_decoder.specs.Prefix as DecoderPrefix
 pub use Rattle.tv_decoder.specs.Paid
 pub use Rattle.tv_decoder.specs.Steps
 pub use Rattle.tv_store.specs.PairsGiven
+pub use Rattle.tv_store.specs.Serialized
 pub use Rattle.tv_store.specs.Stored
 pub use Rattle.tv_reader.specs.Error as ReaderError
 pub use Rattle.tv_reader.specs.Finds
+pub use Rattle.tv_reader.specs.HeadReading
+pub use Rattle.tv_reader.specs.Leaves as LeafReading
 pub use Rattle.tv_reader.specs.Trees
 pub use Rattle.tv_reader.specs.Version as StoreVersion
 pub use Rattle.tv_reader.specs.ValueType

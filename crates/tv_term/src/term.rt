@@ -9,7 +9,7 @@ ghost use Rattle.std.specs.Option.{option_copied};
 ghost use Rattle.tv_base.specs.JsonPath.{joined_path};
 ghost use Rattle.tv_options.specs.Types.{code, type_of_code};
 ghost use Rattle.tv_field.specs.Entry.{Entry};
-ghost use Rattle.tv_value.specs.DateTime.{truncated};
+ghost use Rattle.tv_date.specs.DateTime.{truncated};
 ghost use Rattle.tv_date.specs.declared.date_time.DateTimePrecision.TheVariants.{Seconds};
 ghost use Rattle.tv_term.specs.Key.{IsTerm, IsJsonTerm, Appends, Text, Unsigned, Signed, Truth};
 ghost use Rattle.tv_term.specs.Key.{Date, Facet as FacetValue, Bytes, Address};
