@@ -23,6 +23,6 @@ returns-clause-found c =
     let content = c.split_at.result.0.now in
     let rest = c.split_at.result.1.now in
     let sized =
-    sized_found c.args.bytes.now c.in_ok-len.behind_len.now content rest c.in_ok-len.len c.in_ok-len.ensures.found c.if-behind_len-len.false c.split_at.ensures.prefix c.split_at.ensures.back in
-    let says : IsUtf8 content = subst IsUtf8 (sym c.split_at.ensures.prefix) (c.is_utf8_prefix.ensures.0 c.if-not-is_utf8_prefix.false) in
+    sized_found c.args.bytes.now c.in_ok-len.behind_len.now content rest c.in_ok-len.len c.in_ok-len.ensures.found c.if-behind_len-len.false c.split_at.ensures.front c.split_at.ensures.back in
+    let says : IsUtf8 content = subst IsUtf8 (sym c.split_at.ensures.front) (c.is_utf8_prefix.ensures.0 c.if-not-is_utf8_prefix.false) in
     subst (λ z. Begins (λ b. Text b z) c.args.bytes.now rest) (sym c.from_utf8_unchecked-text.ensures) (text_found c.args.bytes.now rest content sized says)
