@@ -1,7 +1,12 @@
 //! A source over a slice.
 
-ghost use Rattle.std.specs.Prelude.{◌≡◌, None};
-ghost use Rattle.tv_base.specs.Source.{AllBytes};
+ghost use Rattle.std.specs.Prelude.{◌≡◌, ◌≤◌, ◌+◌, ◌↔◌, None, Ok, IsOk, IfOk, IfErr, IsTrue, length, min};
+ghost use Rattle.tv_base.specs.declared.read_error.ReadError.TheVariants.{Memory};
+ghost use Rattle.tv_base.specs.Append.{AppendsNext, append_stop};
+ghost use Rattle.tv_base.specs.Lend.{Passes};
+ghost use Rattle.tv_base.specs.Sink.{IsPrefix};
+ghost use Rattle.tv_base.specs.Source.{AllBytes, GivesSome, GivesFirst, CountsFailure};
+ghost use Rattle.tv_base.specs.Stop.{Counts};
 
 use crate::read_error::ReadError;
 use crate::source::ByteSource;
@@ -37,14 +42,28 @@ impl<'a> ByteSource for SliceSource<'a> {
 
     ghost failures = { λ _. record { number = 0; last = None } };
 
-    fn read(&mut self, buf: &mut [u8]) -> Result<usize, io::ErrorKind> {
+    /// Reads as many bytes as there are and have a place in `buf`.
+    fn read(&mut self, buf: &mut [u8]) -> Result<usize, io::ErrorKind>
+        ensures count { result ≡ Ok (min (length self.old.rest.now) (length buf.old)) }
+        ensures bound { IfOk result (λ n. n ≤ length buf.new) }
+        ensures bytes { GivesSome self.old.rest.now self.new.rest.now result buf.new }
+        ensures failures { CountsFailure result
+            (⟦<SliceSource<'a> as ByteSource>⟧.failures self.old)
+            (⟦<SliceSource<'a> as ByteSource>⟧.failures self.new) }
+    {
         let count = self.rest.len().min(buf.len());
         buf[..count].copy_from_slice(&self.rest[..count]);
         self.rest = &self.rest[count..];
         Ok(count)
     }
 
-    fn next_byte(&mut self) -> Result<Option<u8>, io::ErrorKind> {
+    fn next_byte(&mut self) -> Result<Option<u8>, io::ErrorKind>
+        ensures ok { IsOk result }
+        ensures bytes { GivesFirst self.old.rest.now self.new.rest.now result }
+        ensures failures { CountsFailure result
+            (⟦<SliceSource<'a> as ByteSource>⟧.failures self.old)
+            (⟦<SliceSource<'a> as ByteSource>⟧.failures self.new) }
+    {
         match self.rest.split_first() {
             Some((first, rest)) => {
                 self.rest = rest;
@@ -54,18 +73,37 @@ impl<'a> ByteSource for SliceSource<'a> {
         }
     }
 
-    fn append(&mut self, bytes: &mut Vec<u8>, most: usize) -> Result<usize, ReadError> {
+    /// Appends as many bytes as there are, and at most `most`. The only error is `Memory`.
+    fn append(&mut self, bytes: &mut Vec<u8>, most: usize) -> Result<usize, ReadError>
+        ensures count { IfOk result (λ n. n ≡ min (length self.old.rest.now) most) }
+        ensures bound { IfOk result (λ n. n ≤ most) }
+        ensures longer { IfOk result (λ n. length bytes.new.items ≡ length bytes.old.items + n) }
+        ensures bytes { AppendsNext self.old.rest.now self.new.rest.now bytes.old.items
+            bytes.new.items most result }
+        ensures error { IfErr result (λ error. error ≡ Memory) }
+        ensures failures { Counts append_stop result
+            (⟦<SliceSource<'a> as ByteSource>⟧.failures self.old)
+            (⟦<SliceSource<'a> as ByteSource>⟧.failures self.new) }
+    {
         let moved = self.rest.len().min(most);
         bytes.extend_from_slice(&self.rest[..moved])?;
         self.rest = &self.rest[moved..];
         Ok(moved)
     }
 
-    fn buffered(&self) -> &[u8] {
+    /// All bytes that are left.
+    fn buffered(&self) -> &[u8]
+        ensures all { result.now ≡ self.now.rest.now }
+        ensures prefix { IsPrefix result.now self.now.rest.now }
+    {
         self.rest
     }
 
-    fn pass(&mut self, len: usize) -> bool {
+    /// Takes so many bytes where there are as many.
+    fn pass(&mut self, len: usize) -> bool
+        ensures passed { IsTrue result ↔ (len ≤ length self.old.rest.now) }
+        ensures bytes { Passes self.old.rest.now self.new.rest.now len result }
+    {
         if len > self.rest.len() {
             return false;
         }

@@ -1,6 +1,7 @@
 //! A sink in memory.
 
-ghost use Rattle.std.specs.Prelude.{◌≡◌, [], ◌++◌, length, IfOk, IfErr, OnOk, OnErr, None};
+ghost use Rattle.std.specs.Prelude.{◌≡◌, ◌+◌, ◌-◌, ◌^◌, [], ◌++◌, length, min, IfOk, IfErr, OnOk, OnErr};
+ghost use Rattle.std.specs.Prelude.{None};
 ghost use Rattle.std.specs.declared.io.ErrorKind.TheVariants.{OutOfMemory};
 ghost use Rattle.tv_base.specs.Source.{CountsFailure};
 ghost use Rattle.tv_base.specs.Sink.{AppendsSome};
@@ -89,6 +90,8 @@ impl ByteSink for VecSink {
         ensures failures { CountsFailure result (⟦<VecSink as ByteSink>⟧.failures self.old)
             (⟦<VecSink as ByteSink>⟧.failures self.new) }
         ensures kind { IfErr result (λ kind. kind ≡ OutOfMemory) }
+        ensures counted { OnErr result
+            (self.new.failures ≡ min (self.old.failures + 1) (2 ^ 64 - 1)) }
     {
         match append(&mut self.bytes, buf) {
             Ok(()) => Ok(buf.len()),

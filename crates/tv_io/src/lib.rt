@@ -1,6 +1,7 @@
 //! Byte sources and sinks over the readers and writers of std.
 #![tactic(auto)]
 
+mod failures;
 pub mod read_source;
 pub mod write_sink;
 

@@ -2,7 +2,9 @@
 
 ghost use Rattle.std.specs.Prelude.{◌≡◌, [], None, IsSome, unwrap_or};
 ghost use Rattle.tv_base.specs.Source.{AllBytes};
+ghost use Rattle.tv_io.specs.Calls.{failures_of};
 
+use crate::failures::{CountedFailures, read_by_kind};
 use std::io;
 use std::io::Read;
 use tv_base::ByteSource;
@@ -11,8 +13,7 @@ use tv_base::ByteSource;
 #[derive(Drop)]
 pub struct ReadSource<R: Read> {
     inner: R,
-    failures: u64,
-    last: Option<io::ErrorKind>,
+    failures: CountedFailures,
 }
 
 impl<R: Read> ReadSource<R> {
@@ -24,8 +25,7 @@ impl<R: Read> ReadSource<R> {
     {
         ReadSource {
             inner,
-            failures: 0,
-            last: None,
+            failures: CountedFailures::none(),
         }
     }
 
@@ -33,11 +33,7 @@ impl<R: Read> ReadSource<R> {
     pub fn into_inner(self) -> R
         ensures { result ≡ self.inner }
     {
-        let ReadSource {
-            inner,
-            failures: _,
-            last: _,
-        } = self;
+        let ReadSource { inner, failures: _ } = self;
         inner
     }
 }
@@ -48,18 +44,12 @@ impl<R: Read> ByteSource for ReadSource<R> {
 
     ghost left = { λ s. unwrap_or (R.remaining s.inner) [] };
 
-    ghost failures = { λ s. record { number = s.failures; last = s.last } };
+    ghost failures = { λ s. failures_of s.failures };
 
+    /// Calls the reader once, and returns what it returned, with the kind of its error.
     fn read(&mut self, buf: &mut [u8]) -> Result<usize, io::ErrorKind> {
-        match self.inner.read(buf) {
-            Ok(count) => Ok(count),
-            Err(error) => {
-                let kind = error.kind();
-                self.failures = self.failures.saturating_add(1);
-                self.last = Some(kind);
-                Err(kind)
-            }
-        }
+        let call = read_by_kind(self.inner.read(buf));
+        self.failures.count(call)
     }
 
     ghost are_bytes = { λ s told. told.1 };

@@ -1,8 +1,9 @@
 //! A sink over a writer of std.
 
 ghost use Rattle.std.specs.Prelude.{◌≡◌, [], None, IsSome, unwrap_or};
-ghost use Rattle.tv_base.specs.Source.{HasFailed};
+ghost use Rattle.tv_io.specs.Calls.{failures_of};
 
+use crate::failures::{CountedFailures, written_by_kind};
 use std::io;
 use std::io::Write;
 use tv_base::ByteSink;
@@ -12,8 +13,7 @@ use tv_base::ByteSink;
 #[derive(Drop)]
 pub struct WriteSink<W: Write> {
     inner: W,
-    failures: u64,
-    last: Option<io::ErrorKind>,
+    failures: CountedFailures,
 }
 
 impl<W: Write> WriteSink<W> {
@@ -25,8 +25,7 @@ impl<W: Write> WriteSink<W> {
     {
         WriteSink {
             inner,
-            failures: 0,
-            last: None,
+            failures: CountedFailures::none(),
         }
     }
 
@@ -34,25 +33,8 @@ impl<W: Write> WriteSink<W> {
     pub fn into_inner(self) -> W
         ensures { result ≡ self.inner }
     {
-        let WriteSink {
-            inner,
-            failures: _,
-            last: _,
-        } = self;
+        let WriteSink { inner, failures: _ } = self;
         inner
-    }
-
-    // Counts a failed write.
-    fn fail(&mut self, kind: io::ErrorKind) -> io::ErrorKind
-        ensures inner { self.new.inner ≡ self.old.inner }
-        ensures kind { result ≡ kind }
-        ensures failed { HasFailed kind
-            (record { number = self.old.failures; last = self.old.last })
-            (record { number = self.new.failures; last = self.new.last }) }
-    {
-        self.failures = self.failures.saturating_add(1);
-        self.last = Some(kind);
-        kind
     }
 }
 
@@ -61,13 +43,11 @@ impl<W: Write> ByteSink for WriteSink<W> {
 
     ghost held = { λ s. unwrap_or (W.contents s.inner) [] };
 
-    ghost failures = { λ s. record { number = s.failures; last = s.last } };
+    ghost failures = { λ s. failures_of s.failures };
 
+    /// Calls the writer once, and returns what it returned, with the kind of its error.
     fn write(&mut self, buf: &[u8]) -> Result<usize, io::ErrorKind> {
-        match self.inner.write(buf) {
-            Ok(0) if !buf.is_empty() => Err(self.fail(io::ErrorKind::WriteZero)),
-            Ok(count) => Ok(count),
-            Err(error) => Err(self.fail(error.kind())),
-        }
+        let call = written_by_kind(buf, self.inner.write(buf));
+        self.failures.count(call)
     }
 }
