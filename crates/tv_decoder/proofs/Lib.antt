@@ -8,6 +8,6 @@ pub mod RoomWithin
 pub mod Calls
 pub mod OpenBytes
 pub mod Wholes
-pub mod Buffered
+pub mod BufferedPairs
 pub mod WholeDocuments
 pub mod Paying

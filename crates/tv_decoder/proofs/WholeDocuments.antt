@@ -33,7 +33,7 @@ use Rattle.tv_decoder.specs.Documents.{EncodesRead, EncodesBehind, NoDocument}
 use Rattle.tv_decoder.specs.Prefix.{parts_at, parts_read, Lacks, IsPlace, IsSound, AllFinished, IsDone, LacksPair, HasField, NoPrefix, HasNoRoom, NoRoomBehind}
 use Rattle.tv_decoder.specs.Steps.{Advances, Stepped}
 use Rattle.tv_decoder.specs.declared.reading.Reading.{Reading}
-use Rattle.tv_decoder.proofs.Buffered.{pairs_as_parts}
+use Rattle.tv_decoder.proofs.BufferedPairs.{pairs_as_parts}
 use Rattle.tv_decoder.proofs.WithErrors.{number_at_error, field_at_error, value_at_error, key_at_error, end_at_error}
 
 abbrev end : Refusal

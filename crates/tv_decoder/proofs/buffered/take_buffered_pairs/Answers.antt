@@ -1,7 +1,7 @@
 use Rattle.std.proofs.Common.{◌-◌, length, sym, ap, subst, refl, take, arith}
 use Rattle.tv_reader.specs.Version.{version_of}
 use Rattle.tv_decoder.specs.Buffered.{AddsPairs}
-use Rattle.tv_decoder.proofs.Buffered.{no_pairs, pairs_taken, passed_finds, none_passed}
+use Rattle.tv_decoder.proofs.BufferedPairs.{no_pairs, pairs_taken, passed_finds, none_passed}
 use Rattle.tv_decoder.proofs.buffered.take_buffered_pairs.Goals as goal
 
 pub returns-in_default-clause-finds : goal.returns-in_default-clause-finds

@@ -5,7 +5,7 @@ use Rattle.tv_legacy.specs.Legacy.{Legacy}
 use Rattle.tv_reader.specs.Version.{version_of}
 use Rattle.tv_reader.specs.declared.error.DeserializeError.TheVariants.{HeapFull}
 use Rattle.tv_decoder.specs.Prefix.{parts_read}
-use Rattle.tv_decoder.proofs.Buffered.{none_passed}
+use Rattle.tv_decoder.proofs.BufferedPairs.{none_passed}
 use Rattle.tv_decoder.proofs.WholeDocuments.{Goes, step_more, step_fails, step_takes, pairs_more, pairs_fail, all_finished, no_room, too_many, same_refusal}
 use Rattle.tv_decoder.proofs.document.take_rest.Goals as goal
 

@@ -7,7 +7,7 @@ use Rattle.tv_reader.specs.Version.{version_of}
 use Rattle.tv_decoder.specs.Buffered.{Nothing}
 use Rattle.tv_decoder.specs.Prefix.{parts_read}
 use Rattle.tv_decoder.specs.Steps.{Advances}
-use Rattle.tv_decoder.proofs.Buffered.{reading_goes, none_passed}
+use Rattle.tv_decoder.proofs.BufferedPairs.{reading_goes, none_passed}
 use Rattle.tv_decoder.proofs.reading.Reading.with_buffered_pairs.Goals as goal
 
 pub returns-in_default-clause-finds : goal.returns-in_default-clause-finds
