@@ -2,9 +2,11 @@
 
 ghost use Rattle.std.specs.Prelude.{◌≡◌, ◌≤◌, ◌++◌, List, ℕ, IfOk, IfErr};
 ghost use Rattle.tv_base.specs.ReadsAs.{Known};
+ghost use Rattle.tv_base.specs.Stop.{Counts};
 ghost use Rattle.tv_doc.specs.Belongs.{Belongs};
 ghost use Rattle.tv_doc.specs.Document.{document_of};
 ghost use Rattle.tv_heap.specs.Room.{document_room};
+ghost use Rattle.tv_reader.specs.Error.{store_stop};
 ghost use Rattle.tv_store.specs.Documents.{Answers};
 ghost use Rattle.tv_store.specs.Error.{IsIo};
 ghost use Rattle.tv_store.specs.Stored.{stored};
@@ -13,8 +15,9 @@ ghost use Rattle.tv_value.specs.Version.{V2};
 
 use std::alloc::Global;
 pub use tv_base::laws::{
-    all_facets_descend_from_the_root, descendants_are_a_range, numbers_have_one_reading,
-    printed_facets_are_read, short_numbers_are_shortest, short_numbers_encode,
+    all_facets_descend_from_the_root, comparisons_of_facets_agree, descendants_are_a_range,
+    numbers_have_one_reading, printed_facets_are_read, short_numbers_are_shortest,
+    short_numbers_encode,
 };
 use tv_base::{ByteSource, VecSink};
 pub use tv_builder::laws::{
@@ -86,18 +89,19 @@ pub fn written_documents_are_shortest(
 }
 
 /// What `serialize_doc` writes of a document is read back as its stored pairs, whatever follows it and however the source
-/// cuts it, where the source's bytes are known and the document's values have room.
+/// cuts it, where the source's bytes are known and the document's values have room. `Io` comes only where the source failed.
 pub fn stored_pairs_are_read_back<S: ByteSource>(
     alloc: Global,
     source: &mut S,
     schema: &Schema,
     document: &CompactDoc,
 ) -> Result<CompactDoc, DeserializeError>
-    ensures { Known S.is_known S.left source.old
+    ensures read { Known S.is_known S.left source.old
         → document_room (document_of document.now) ≤ 4294967295 → (rest : List ℕ)
         → S.left source.old
         ≡ short_document V2 (stored schema.now (document_of document.now)) ++ rest
         → Answers result (stored schema.now (document_of document.now)) rest (S.left source.new) }
+    ensures failures { Counts store_stop result (S.failures source.old) (S.failures source.new) }
 {
     let _ = schema;
     let _ = document;

@@ -4,13 +4,16 @@ ghost use Rattle.std.specs.Prelude.{◌≡◌, ◌≢◌, ◌↔◌, ℕ, ℤ, F
 ghost use Rattle.std.specs.Prelude.{◌++◌, ◌==◌, false, length, Some, IsTrue, IsUtf8};
 ghost use Rattle.std.specs.Int.{w64};
 ghost use Rattle.std.specs.List.{AllByRecursion, join_with_byte, list_any};
-ghost use Rattle.std.specs.Ordering.{nat_cmp, is_le, is_lt};
+ghost use Rattle.std.specs.Ordering.{nat_cmp, is_eq, is_le, is_lt};
 ghost use Rattle.std.specs.Cmp.Lexicographic.{slice_cmp};
 ghost use Rattle.tv_base.specs.Number.{VNum, vnum, Fixed, one_byte, four_bytes, eight_bytes};
 ghost use Rattle.tv_base.specs.Number.{sixteen_bytes, Signed, signed_bytes, Truth};
 ghost use Rattle.tv_base.specs.Parts.{OneReading, Sized, Text, short_sized};
 ghost use Rattle.tv_base.specs.Escapes.{without_escapes};
 ghost use Rattle.tv_base.specs.Facet.{parse, path, printed, IsStep, Descends};
+
+use crate::facet::Facet;
+use std::hash::Hash;
 
 /// No encoding of a number begins another, and each encodes one number.
 pub fn numbers_have_one_reading()
@@ -113,4 +116,14 @@ pub fn descendants_are_a_range()
         → Descends f g
         ↔ (IsTrue (is_le (slice_cmp nat_cmp (f ++ 0 ∷ []) g))
         × IsTrue (is_lt (slice_cmp nat_cmp g (f ++ 1 ∷ [])))) }
+{}
+
+/// Facets are ordered as the bytes of their encoded texts. Those that the order calls equal are one facet, as `==` says, and equal
+/// facets hash alike.
+pub fn comparisons_of_facets_agree()
+    ensures order { (f g : List ℕ) → ⟦<Facet as Ord>⟧.cmp f g ≡ slice_cmp nat_cmp f g }
+    ensures eq { (f g : List ℕ) → IsTrue (⟦<Facet as PartialEq>⟧.eq f g) ↔ (f ≡ g) }
+    ensures ties { (f g : List ℕ) → IsTrue (is_eq (⟦<Facet as Ord>⟧.cmp f g)) ↔ (f ≡ g) }
+    ensures hash { (f g : List ℕ) → IsTrue (⟦<Facet as PartialEq>⟧.eq f g)
+        → ⟦<Facet as Hash>⟧.hash_input f ≡ ⟦<Facet as Hash>⟧.hash_input g }
 {}

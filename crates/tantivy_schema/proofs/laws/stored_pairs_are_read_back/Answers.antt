@@ -4,8 +4,8 @@ use Rattle.tv_store.specs.Stored.{stored}
 use Rattle.tv_value.specs.Version.{V2}
 use Rattle.tantivy_schema.proofs.laws.stored_pairs_are_read_back.Goals as goal
 
-pub returns : goal.returns
-returns g c = λ known small rest e.
+pub returns-clause-read : goal.returns-clause-read
+returns-clause-read g c = λ known small rest e.
     let schema = c.args.schema.now in
     let document = c.args.document.now in
     let pairs = stored schema (document_of document) in
