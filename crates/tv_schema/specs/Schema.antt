@@ -3,6 +3,7 @@ use Rattle.std.specs.Prelude.{ℕ, ◌+◌, ◌<◌, ◌^◌, ◌≢◌, if◌th
 use Rattle.std.specs.Str.{bytes_eq}
 use Rattle.tv_field.specs.Entry.{Entry, IsValidName, is_valid_name}
 use Rattle.tv_value.specs.declared.field.Field.{Field}
+use Rattle.tv_field.specs.declared.field_type.FieldType.{FieldType}
 use Rattle.tv_field.specs.declared.schema_error.SchemaError.{SchemaError}
 use Rattle.tv_field.specs.declared.schema_error.SchemaError.TheVariants.{InvalidName, DuplicateName, TooManyFields, Memory}
 
@@ -34,3 +35,8 @@ abbrev pub AddsField : List Entry → List Entry → Entry → Result Field Sche
 AddsField old new entry (Ok field) = (refusal old entry.name ≡ None) × (field.id ≡ length old) × (new ≡ old ++ entry ∷ [])
 AddsField old new entry (Err Memory) = (refusal old entry.name ≡ None) × (new ≡ old)
 AddsField old new entry (Err error) = (refusal old entry.name ≡ Some error) × (new ≡ old)
+
+-- the same of an entry of this name, whose type has options that the given ones convert into
+abbrev pub AddsWith : {T O : Type 0} → (T → O → Type 0) → T → (O → FieldType) → List Entry → List Entry → List ℕ → Result Field SchemaError → Type 0
+AddsWith {O = O} converts given type_of old new name result =
+    (options : O) × converts given options × AddsField old new (record { name = name; field_type = type_of options }) result

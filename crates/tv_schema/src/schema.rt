@@ -6,7 +6,7 @@ ghost use Rattle.std.specs.Prelude.{IsOkAnd, slice_get};
 ghost use Rattle.std.specs.Option.{ForSome, option_map};
 ghost use Rattle.std.specs.List.{enumerate_from};
 ghost use Rattle.tv_schema.specs.Path.{find, find_or};
-ghost use Rattle.tv_schema.specs.Schema.{IsSchema, AddsField, refusal, field_named};
+ghost use Rattle.tv_schema.specs.Schema.{IsSchema, AddsField, AddsWith, refusal, field_named};
 
 use crate::field_iter::FieldIter;
 use crate::path;
@@ -74,9 +74,7 @@ impl SchemaBuilder {
         name: &str,
         options: T,
     ) -> Result<Field, SchemaError>
-        ensures { (chosen : TextOptions) × T.converts options chosen
-            × AddsField self.old self.new
-            (record { name = name.now; field_type = FieldType.Str chosen }) result }
+        ensures { AddsWith T.converts options FieldType.Str self.old self.new name.now result }
     {
         self.add(name, FieldType::Str(options.into()))
     }
@@ -91,9 +89,7 @@ impl SchemaBuilder {
         name: &str,
         options: T,
     ) -> Result<Field, SchemaError>
-        ensures { (chosen : NumericOptions) × T.converts options chosen
-            × AddsField self.old self.new
-            (record { name = name.now; field_type = FieldType.U64 chosen }) result }
+        ensures { AddsWith T.converts options FieldType.U64 self.old self.new name.now result }
     {
         self.add(name, FieldType::U64(options.into()))
     }
@@ -108,9 +104,7 @@ impl SchemaBuilder {
         name: &str,
         options: T,
     ) -> Result<Field, SchemaError>
-        ensures { (chosen : NumericOptions) × T.converts options chosen
-            × AddsField self.old self.new
-            (record { name = name.now; field_type = FieldType.I64 chosen }) result }
+        ensures { AddsWith T.converts options FieldType.I64 self.old self.new name.now result }
     {
         self.add(name, FieldType::I64(options.into()))
     }
@@ -125,9 +119,7 @@ impl SchemaBuilder {
         name: &str,
         options: T,
     ) -> Result<Field, SchemaError>
-        ensures { (chosen : NumericOptions) × T.converts options chosen
-            × AddsField self.old self.new
-            (record { name = name.now; field_type = FieldType.Bool chosen }) result }
+        ensures { AddsWith T.converts options FieldType.Bool self.old self.new name.now result }
     {
         self.add(name, FieldType::Bool(options.into()))
     }
@@ -142,9 +134,7 @@ impl SchemaBuilder {
         name: &str,
         options: T,
     ) -> Result<Field, SchemaError>
-        ensures { (chosen : DateOptions) × T.converts options chosen
-            × AddsField self.old self.new
-            (record { name = name.now; field_type = FieldType.Date chosen }) result }
+        ensures { AddsWith T.converts options FieldType.Date self.old self.new name.now result }
     {
         self.add(name, FieldType::Date(options.into()))
     }
@@ -159,9 +149,7 @@ impl SchemaBuilder {
         name: &str,
         options: T,
     ) -> Result<Field, SchemaError>
-        ensures { (chosen : IpAddrOptions) × T.converts options chosen
-            × AddsField self.old self.new
-            (record { name = name.now; field_type = FieldType.IpAddr chosen }) result }
+        ensures { AddsWith T.converts options FieldType.IpAddr self.old self.new name.now result }
     {
         self.add(name, FieldType::IpAddr(options.into()))
     }
@@ -176,9 +164,7 @@ impl SchemaBuilder {
         name: &str,
         options: T,
     ) -> Result<Field, SchemaError>
-        ensures { (chosen : FacetOptions) × T.converts options chosen
-            × AddsField self.old self.new
-            (record { name = name.now; field_type = FieldType.Facet chosen }) result }
+        ensures { AddsWith T.converts options FieldType.Facet self.old self.new name.now result }
     {
         self.add(name, FieldType::Facet(options.into()))
     }
@@ -193,9 +179,7 @@ impl SchemaBuilder {
         name: &str,
         options: T,
     ) -> Result<Field, SchemaError>
-        ensures { (chosen : BytesOptions) × T.converts options chosen
-            × AddsField self.old self.new
-            (record { name = name.now; field_type = FieldType.Bytes chosen }) result }
+        ensures { AddsWith T.converts options FieldType.Bytes self.old self.new name.now result }
     {
         self.add(name, FieldType::Bytes(options.into()))
     }
@@ -210,9 +194,7 @@ impl SchemaBuilder {
         name: &str,
         options: T,
     ) -> Result<Field, SchemaError>
-        ensures { (chosen : JsonObjectOptions) × T.converts options chosen
-            × AddsField self.old self.new
-            (record { name = name.now; field_type = FieldType.JsonObject chosen }) result }
+        ensures { AddsWith T.converts options FieldType.JsonObject self.old self.new name.now result }
     {
         self.add(name, FieldType::JsonObject(options.into()))
     }
