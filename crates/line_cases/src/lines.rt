@@ -11,8 +11,14 @@ use std::io;
 use tv_base::{ByteSink, ByteSource, SliceSource, VecSink};
 use tv_lines::{RunEnd, run};
 
+// A schema of one field of texts, which are stored.
+const ONE_TEXT: &str = r#"[{"name":"t","type":"text","options":{"stored":true}}]"#;
+
 /// How a run over an input ends, and what it has written.
 pub fn answer(alloc: Global, call: &[&str]) -> Result<String> {
+    if let ["long", count] = call {
+        return long(alloc, words::number(count)?);
+    }
     let [source, room, input] = call else {
         return Err(anyhow!("an unknown call about lines"));
     };
@@ -30,6 +36,22 @@ pub fn answer(alloc: Global, call: &[&str]) -> Result<String> {
     let text = ran(alloc, &mut source, room)?;
     ensure!(source.failures == 1, "one read fails");
     Ok(text)
+}
+
+// How a run over a document with a text of so many letters ends, and the digits of what is stored before these. It is checked that
+// the letters follow, and that they are read back.
+fn long(alloc: Global, count: usize) -> Result<String> {
+    let letters = "a".repeat(alloc, count)?;
+    let input = format!(in alloc; "{ONE_TEXT}\n{{\"t\":\"{letters}\"}}\n")?;
+    let mut held = VecSink::new(alloc);
+    let end = run(alloc, &mut SliceSource::new(input.as_bytes()), &mut held);
+    let output = str::from_utf8(held.as_slice()).ok().context("a text")?;
+    let (stored, json) = output.split_once(' ').context("an answer")?;
+    let digits = "61".repeat(alloc, count)?;
+    let head = stored.strip_suffix(digits.as_str()).context("the letters")?;
+    let expected = format!(in alloc; "{{\"t\":[\"{letters}\"]}}\n")?;
+    ensure!(json == expected.as_str(), "the letters are read back");
+    Ok(format!(in alloc; "{end:?} {head}")?)
 }
 
 // The bytes of a JSON string, or of hexadecimal digits.
