@@ -1,3 +1,4 @@
 pub mod Behind
 pub mod InOrder
 pub mod ItemsBefore
+mod WrittenParts
