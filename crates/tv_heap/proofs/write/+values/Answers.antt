@@ -1,10 +1,28 @@
-use Rattle.std.proofs.Common.{◌++◌, ◌∷◌, [], length, refl, ap, sym, ◌∙◌, arith, rules, append-nil}
+use Rattle.std.proofs.Common.{◌≡◌, ℕ, List, ◌++◌, ◌∷◌, [], length, Result, Ok, Err, IfOk, OnOk, IsErr, refl, ap, sym, subst, ◌∙◌, arith, rules, append-nil}
+use Rattle.std.specs.declared.alloc.AllocError.{AllocError}
+use Rattle.std.proofs.lemmas.Bool.{false≢true}
 use Rattle.tv_base.specs.Number.{vnum}
+use Rattle.tv_value.specs.Lent.{nested_tree}
 use Rattle.tv_value.specs.Tree.{array, object, elements, entries}
 use Rattle.tv_heap.specs.TypeCode.{type_code}
+use Rattle.tv_heap.specs.Wrote.{Wrote}
 use Rattle.tv_heap.proofs.Writes.{leaf_fits}
 use Rattle.tv_heap.proofs.Lists.{array_start, array_step, array_next, array_fits, array_written, object_start, object_step, key_fits, object_next, object_fits, object_written, place_added, places_before, places_within, refused, prefix_more, prefix_after}
 use Rattle.tv_heap.proofs.write.+values.Goals as goal
+
+-- a refusal gives no value
+no_value : {T : Type 0} (r : Result T AllocError) (P : T → Type 0) → IsErr r → IfOk r P
+no_value (Ok x) P h = absurd (false≢true h)
+no_value (Err x) P h = tt
+
+not_done : {T : Type 0} (r : Result T AllocError) (P : Type 0) → IsErr r → OnOk r P
+not_done (Ok x) P h = absurd (false≢true h)
+not_done (Err x) P h = tt
+
+-- what is as it was is so after any result
+kept : {T : Type 0} (r : Result T AllocError) (xs : List ℕ) → OnOk r (xs ≡ xs)
+kept (Ok x) xs = refl
+kept (Err x) xs = tt
 
 pub write_array-loop-item-init : goal.write_array-loop-item-init
 write_array-loop-item-init g t c =
@@ -134,3 +152,75 @@ write_object-returns-clause-places g t c =
 
 pub write_tree-write_leaf-requires : goal.write_tree-write_leaf-requires
 write_tree-write_leaf-requires g t c = leaf_fits (length c.args.heap.now.items) c.in-Leaf.single (search (rules, c.requires))
+
+pub write_array-returns-in_err-code-clause-ok : goal.write_array-returns-in_err-code-clause-ok
+write_array-returns-in_err-code-clause-ok g t c = no_value c.from_residual.result _ c.from_residual.ensures.0
+
+pub write_array-returns-in_err-code-clause-places : goal.write_array-returns-in_err-code-clause-places
+write_array-returns-in_err-code-clause-places g t c = not_done c.from_residual.result _ c.from_residual.ensures.0
+
+pub write_array-returns-in_err-push_place-clause-ok : goal.write_array-returns-in_err-push_place-clause-ok
+write_array-returns-in_err-push_place-clause-ok g t c = no_value c.from_residual-in_err-push_place.result _ c.from_residual-in_err-push_place.ensures.0
+
+pub write_array-returns-in_err-push_place-clause-places : goal.write_array-returns-in_err-push_place-clause-places
+write_array-returns-in_err-push_place-clause-places g t c = not_done c.from_residual-in_err-push_place.result _ c.from_residual-in_err-push_place.ensures.0
+
+pub write_object-returns-in_err-write_key-clause-ok : goal.write_object-returns-in_err-write_key-clause-ok
+write_object-returns-in_err-write_key-clause-ok g t c = no_value c.from_residual.result _ c.from_residual.ensures.0
+
+pub write_object-returns-in_err-write_key-clause-places : goal.write_object-returns-in_err-write_key-clause-places
+write_object-returns-in_err-write_key-clause-places g t c = not_done c.from_residual.result _ c.from_residual.ensures.0
+
+pub write_object-returns-in_err-code-clause-ok : goal.write_object-returns-in_err-code-clause-ok
+write_object-returns-in_err-code-clause-ok g t c = no_value c.from_residual-in_err-code.result _ c.from_residual-in_err-code.ensures.0
+
+pub write_object-returns-in_err-code-clause-places : goal.write_object-returns-in_err-code-clause-places
+write_object-returns-in_err-code-clause-places g t c = not_done c.from_residual-in_err-code.result _ c.from_residual-in_err-code.ensures.0
+
+pub write_object-returns-in_err-push_place-clause-ok : goal.write_object-returns-in_err-push_place-clause-ok
+write_object-returns-in_err-push_place-clause-ok g t c = no_value c.from_residual-in_err-push_place.result _ c.from_residual-in_err-push_place.ensures.0
+
+pub write_object-returns-in_err-push_place-clause-places : goal.write_object-returns-in_err-push_place-clause-places
+write_object-returns-in_err-push_place-clause-places g t c = not_done c.from_residual-in_err-push_place.result _ c.from_residual-in_err-push_place.ensures.0
+
+pub write_tree-returns-in-Leaf-clause-ok : goal.write_tree-returns-in-Leaf-clause-ok
+write_tree-returns-in-Leaf-clause-ok g t c =
+    subst (λ z. IfOk c.write_leaf.result (λ r. Wrote c.args.heap.now.items c.write_leaf.new.heap.items (type_code r.0) r.1 (nested_tree g.N.Nested.array_rest g.N.Nested.object_rest z))) (sym c.in-Leaf.is) c.write_leaf.ensures.ok
+
+pub write_tree-returns-in-Leaf-clause-places : goal.write_tree-returns-in-Leaf-clause-places
+write_tree-returns-in-Leaf-clause-places g t c = kept c.write_leaf.result _
+
+pub write_tree-returns-in-Leaf-clause-err : goal.write_tree-returns-in-Leaf-clause-err
+write_tree-returns-in-Leaf-clause-err g t c = c.write_leaf.ensures.err
+
+pub write_tree-returns-in_ok-write_array-in-Array-clause-ok : goal.write_tree-returns-in_ok-write_array-in-Array-clause-ok
+write_tree-returns-in_ok-write_array-in-Array-clause-ok g t c =
+    subst (λ z. Wrote c.args.heap.now.items c.write_array.new.heap.items 12 c.in_ok-write_array-in-Array.field-0 (nested_tree g.N.Nested.array_rest g.N.Nested.object_rest z)) (sym c.in-Array.is) c.in_ok-write_array-in-Array.ensures.ok
+
+pub write_tree-returns-in_ok-write_array-in-Array-clause-places : goal.write_tree-returns-in_ok-write_array-in-Array-clause-places
+write_tree-returns-in_ok-write_array-in-Array-clause-places g t c = c.in_ok-write_array-in-Array.ensures.places
+
+pub write_tree-returns-in_err-write_array-in-Array-clause-ok : goal.write_tree-returns-in_err-write_array-in-Array-clause-ok
+write_tree-returns-in_err-write_array-in-Array-clause-ok g t c = no_value c.from_residual.result _ c.from_residual.ensures.0
+
+pub write_tree-returns-in_err-write_array-in-Array-clause-places : goal.write_tree-returns-in_err-write_array-in-Array-clause-places
+write_tree-returns-in_err-write_array-in-Array-clause-places g t c = not_done c.from_residual.result _ c.from_residual.ensures.0
+
+pub write_tree-returns-in_err-write_array-in-Array-clause-err : goal.write_tree-returns-in_err-write_array-in-Array-clause-err
+write_tree-returns-in_err-write_array-in-Array-clause-err g t c = refused c.from_residual.result c.in_err-write_array-in-Array.ensures.err
+
+pub write_tree-returns-in_ok-write_object-in-Object-clause-ok : goal.write_tree-returns-in_ok-write_object-in-Object-clause-ok
+write_tree-returns-in_ok-write_object-in-Object-clause-ok g t c =
+    subst (λ z. Wrote c.args.heap.now.items c.write_object.new.heap.items 11 c.in_ok-write_object-in-Object.field-0 (nested_tree g.N.Nested.array_rest g.N.Nested.object_rest z)) (sym c.in-Object.is) c.in_ok-write_object-in-Object.ensures.ok
+
+pub write_tree-returns-in_ok-write_object-in-Object-clause-places : goal.write_tree-returns-in_ok-write_object-in-Object-clause-places
+write_tree-returns-in_ok-write_object-in-Object-clause-places g t c = c.in_ok-write_object-in-Object.ensures.places
+
+pub write_tree-returns-in_err-write_object-in-Object-clause-ok : goal.write_tree-returns-in_err-write_object-in-Object-clause-ok
+write_tree-returns-in_err-write_object-in-Object-clause-ok g t c = no_value c.from_residual-in_err-write_object-in-Object.result _ c.from_residual-in_err-write_object-in-Object.ensures.0
+
+pub write_tree-returns-in_err-write_object-in-Object-clause-places : goal.write_tree-returns-in_err-write_object-in-Object-clause-places
+write_tree-returns-in_err-write_object-in-Object-clause-places g t c = not_done c.from_residual-in_err-write_object-in-Object.result _ c.from_residual-in_err-write_object-in-Object.ensures.0
+
+pub write_tree-returns-in_err-write_object-in-Object-clause-err : goal.write_tree-returns-in_err-write_object-in-Object-clause-err
+write_tree-returns-in_err-write_object-in-Object-clause-err g t c = refused c.from_residual-in_err-write_object-in-Object.result c.in_err-write_object-in-Object.ensures.err
