@@ -50,7 +50,7 @@ struct Outcome {
     document: TantivyDocument,
 }
 
-// Whether one more step answers that all is done or that an earlier step was refused, and changes nothing.
+// Whether one more step returns that all is done, or that an earlier step was refused, and changes nothing.
 fn rests<S: ByteSource>(decoder: &mut DirectDecoder, source: &mut S, is_refused: bool) -> bool {
     let before = counts(decoder);
     let answer = decoder.step(source);

@@ -74,8 +74,8 @@ fn keep_tree(
 /// A document, and a value of any depth that is written into its heap as its parts arrive. (Not in tantivy.)
 ///
 /// A value comes by one call, or as a list whose children come by as many calls, or as bytes in chunks. A list closes itself with its
-/// last child. The complete value becomes a pair by `finish`. After any refusal nothing is open and every call that can refuse answers
-/// `AlreadyFailed`; the finished pairs stay. No call's time grows with the number of open lists or of finished pairs; what closes a
+/// last child. The complete value becomes a pair by `finish`. After any refusal nothing is open, and every call that can refuse
+/// returns `AlreadyFailed`; the finished pairs stay. No call's time grows with the number of open lists or of finished pairs; what closes a
 /// list takes as long as its own bytes.
 ///
 /// ```

@@ -1,4 +1,5 @@
 //! Laws of terms, each the contract of a function that makes the calls of which it speaks, or of one that does nothing.
+//! Where a law has a `Result` and says nothing of errors, its error is `Memory`.
 
 ghost use Rattle.std.specs.Prelude.{◌≡◌, ◌↔◌, ℕ, ℤ, FitsSigned, Bool, List, [], ◌<◌, ◌^◌, ◌++◌};
 ghost use Rattle.std.specs.Prelude.{◌∷◌, Some, IfOk, IfErr, IsTrue, IsUtf8, option_map};
@@ -63,7 +64,7 @@ pub fn terms_compare_as_fields_and_values(one: &Term, other: &Term) -> Ordering
     one.cmp(other)
 }
 
-/// Two terms of numbers with a sign of one field compare as the numbers. Errors: `Memory` alone.
+/// Two terms of numbers with a sign of one field compare as the numbers.
 pub fn signed_terms_compare_as_numbers(
     alloc: Global,
     field: Field,
@@ -78,7 +79,7 @@ pub fn signed_terms_compare_as_numbers(
     Ok(one.cmp(&other))
 }
 
-/// A JSON term to which a text was appended is the term of the path and the text. Errors: `Memory` alone.
+/// A JSON term to which a text was appended is the term of the path and the text.
 pub fn appended_texts_make_terms(
     alloc: Global,
     field: Field,
@@ -96,7 +97,7 @@ pub fn appended_texts_make_terms(
     Ok(term)
 }
 
-/// A JSON term to which a fast value was appended is the term of the path and the value. Errors: `Memory` alone.
+/// A JSON term to which a fast value was appended is the term of the path and the value.
 pub fn appended_fast_values_make_terms<T: FastValue>(
     alloc: Global,
     field: Field,
@@ -115,7 +116,7 @@ pub fn appended_fast_values_make_terms<T: FastValue>(
     Ok(term)
 }
 
-/// Fast values behind one path compare as the values. Errors: `Memory` alone.
+/// Fast values behind one path compare as the values.
 pub fn appended_fast_values_compare_as_values<T: FastValue>(
     alloc: Global,
     field: Field,
@@ -133,7 +134,7 @@ pub fn appended_fast_values_compare_as_values<T: FastValue>(
     Ok(one.cmp(&other))
 }
 
-/// The path of a JSON term with a value is read back. Errors: `Memory` alone.
+/// The path of a JSON term with a value is read back.
 pub fn json_paths_are_read_back(
     alloc: Global,
     field: Field,
@@ -151,7 +152,7 @@ pub fn json_paths_are_read_back(
     Ok(term.get_json_path(alloc)?)
 }
 
-/// A text that was appended to a JSON term is read back. Errors: `Memory` alone.
+/// A text that was appended to a JSON term is read back.
 pub fn appended_texts_are_read_back(
     alloc: Global,
     field: Field,
@@ -187,7 +188,7 @@ fn value_behind_path(term: &Term) -> Option<ValueBytes<'_>>
     ValueBytes::wrap(value).ok()
 }
 
-/// A number that was appended to a JSON term is read back. Errors: `Memory` alone.
+/// A number that was appended to a JSON term is read back.
 pub fn appended_numbers_are_read_back(
     alloc: Global,
     field: Field,

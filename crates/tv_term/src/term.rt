@@ -35,7 +35,8 @@ use tv_value::field::Field;
 /// A field, and a value of it: the field's number in four bytes, the highest first, the code of the value's type, and the
 /// value's payload. Terms are compared as these bytes, and so by field, then by type, then by value.
 ///
-/// The value bytes are what stands behind the type's code.
+/// The value bytes are what stands behind the type's code. Where a call says nothing of errors and has a `Result`, its error is
+/// `Memory`.
 ///
 /// ```
 /// pub fn of_path(alloc: Global, field: Field, path: &str, text: &str) -> Result<Term> {
@@ -86,8 +87,6 @@ impl Term {
     }
 
     /// A term of field 0 with the type's code 0, which is no type's, and no value bytes, with room for as many value bytes.
-    ///
-    /// Errors: `Memory` alone.
     pub fn with_capacity(alloc: Global, capacity: usize) -> Result<Term, TermError>
         ensures made { IfOk result (λ made. made ≡ 0 ∷ 0 ∷ 0 ∷ 0 ∷ 0 ∷ []) }
         ensures memory { IfErr result (λ error. error ≡ Memory) }
@@ -100,8 +99,6 @@ impl Term {
     /// The term of a path into a field of JSON objects: the path's segments with U+0001 between each two of them, and U+0000.
     /// Dots separate segments; a backslash goes and keeps the character behind it; where dots are expanded, a dot that it
     /// keeps separates too. A value there is appended by `append_type_and_fast_value` or `append_type_and_str`.
-    ///
-    /// Errors: `Memory` alone.
     pub fn from_field_json_path(
         alloc: Global,
         field: Field,
@@ -117,7 +114,7 @@ impl Term {
         Term::from_payload(alloc, field, Type::Json, joined.as_bytes())
     }
 
-    /// The term of a whole number without a sign. Errors: `Memory` alone.
+    /// The term of a whole number without a sign.
     pub fn from_field_u64(alloc: Global, field: Field, unsigned: u64) -> Result<Term, TermError>
         ensures made { IfOk result (λ made. IsTerm made field.id (Unsigned unsigned)) }
         ensures memory { IfErr result (λ error. error ≡ Memory) }
@@ -125,7 +122,7 @@ impl Term {
         Term::from_fast_value(alloc, field, unsigned)
     }
 
-    /// The term of a whole number with a sign. Errors: `Memory` alone.
+    /// The term of a whole number with a sign.
     pub fn from_field_i64(alloc: Global, field: Field, signed: i64) -> Result<Term, TermError>
         ensures made { IfOk result (λ made. IsTerm made field.id (Signed signed)) }
         ensures memory { IfErr result (λ error. error ≡ Memory) }
@@ -133,7 +130,7 @@ impl Term {
         Term::from_fast_value(alloc, field, signed)
     }
 
-    /// The term of a truth value. Errors: `Memory` alone.
+    /// The term of a truth value.
     pub fn from_field_bool(alloc: Global, field: Field, truth: bool) -> Result<Term, TermError>
         ensures made { IfOk result (λ made. IsTerm made field.id (Truth truth)) }
         ensures memory { IfErr result (λ error. error ≡ Memory) }
@@ -142,7 +139,7 @@ impl Term {
     }
 
     /// The term of a date, to the nanosecond. Dates are indexed to the second alone: a term that searches is
-    /// `from_field_date_for_search`'s. Errors: `Memory` alone.
+    /// `from_field_date_for_search`'s.
     pub fn from_field_date(alloc: Global, field: Field, date: DateTime) -> Result<Term, TermError>
         ensures made { IfOk result (λ made. IsTerm made field.id (Date date.nanoseconds)) }
         ensures memory { IfErr result (λ error. error ≡ Memory) }
@@ -150,7 +147,7 @@ impl Term {
         Term::from_fast_value(alloc, field, date)
     }
 
-    /// The term of a date as it is indexed: cut to the second, towards 1970. Errors: `Memory` alone.
+    /// The term of a date as it is indexed: cut to the second, towards 1970.
     pub fn from_field_date_for_search(
         alloc: Global,
         field: Field,
@@ -163,7 +160,7 @@ impl Term {
         Term::from_field_date(alloc, field, date.truncate(DATE_TIME_PRECISION_INDEXED))
     }
 
-    /// The term of an IP address. Errors: `Memory` alone.
+    /// The term of an IP address.
     pub fn from_field_ip_addr(
         alloc: Global,
         field: Field,
@@ -176,7 +173,7 @@ impl Term {
         Term::from_payload(alloc, field, Type::IpAddr, &number.to_be_bytes())
     }
 
-    /// The term of a facet: its encoded text. Errors: `Memory` alone.
+    /// The term of a facet: its encoded text.
     pub fn from_facet(alloc: Global, field: Field, facet: &Facet) -> Result<Term, TermError>
         ensures made { IfOk result (λ made. IsTerm made field.id (FacetValue facet.now)) }
         ensures memory { IfErr result (λ error. error ≡ Memory) }
@@ -185,7 +182,7 @@ impl Term {
         Term::from_payload(alloc, field, Type::Facet, encoded)
     }
 
-    /// The term of a text. Errors: `Memory` alone.
+    /// The term of a text.
     pub fn from_field_text(alloc: Global, field: Field, text: &str) -> Result<Term, TermError>
         ensures made { IfOk result (λ made. IsTerm made field.id (Text text.now)) }
         ensures memory { IfErr result (λ error. error ≡ Memory) }
@@ -193,7 +190,7 @@ impl Term {
         Term::from_payload(alloc, field, Type::Str, text.as_bytes())
     }
 
-    /// The term of bytes. Errors: `Memory` alone.
+    /// The term of bytes.
     pub fn from_field_bytes(alloc: Global, field: Field, bytes: &[u8]) -> Result<Term, TermError>
         ensures made { IfOk result (λ made. IsTerm made field.id (Bytes bytes.now)) }
         ensures memory { IfErr result (λ error. error ≡ Memory) }
@@ -232,7 +229,7 @@ impl Term {
         Ok(Term { bytes })
     }
 
-    /// The same term, in memory of its own. Errors: `Memory` alone.
+    /// The same term, in memory of its own.
     pub fn try_clone(&self, alloc: Global) -> Result<Term, TermError>
         ensures made { IfOk result (λ made. made ≡ self.now) }
         ensures memory { IfErr result (λ error. error ≡ Memory) }

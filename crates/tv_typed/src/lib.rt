@@ -7,6 +7,7 @@ pub mod de;
 pub mod document;
 mod encode;
 mod leaf_value;
+mod leaf_values;
 mod legacy_object;
 pub mod object;
 pub mod store_reader;
