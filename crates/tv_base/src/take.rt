@@ -34,6 +34,7 @@ pub fn take<S: ByteSource>(source: &mut S, count: &mut u64, buf: &mut [u8]) -> R
     ensures causes { (cause : Cause) → IsErrOf result (Corrupted cause)
         → (cause ≡ UnexpectedEnd) ⊎ (cause ≡ TooLong) }
     ensures counted { OnOk result (count.new ≡ count.old + length buf.old) }
+    ensures few { count.new ≤ count.old + length buf.old }
     ensures too_long { IsErrOf result (Corrupted TooLong) → count.new ≡ 2 ^ 64 - 1 }
     ensures spares { ¬ IsErrOf result Memory }
 {
@@ -59,6 +60,7 @@ fn take_by_reads<S: ByteSource>(
     ensures causes { (cause : Cause) → IsErrOf result (Corrupted cause)
         → (cause ≡ UnexpectedEnd) ⊎ (cause ≡ TooLong) }
     ensures counted { OnOk result (count.new ≡ count.old + length buf.old) }
+    ensures few { count.new ≤ count.old + length buf.old }
     ensures too_long { IsErrOf result (Corrupted TooLong) → count.new ≡ 2 ^ 64 - 1 }
     ensures spares { ¬ IsErrOf result Memory }
 {
@@ -113,6 +115,7 @@ pub fn take_u32<S: ByteSource>(source: &mut S, count: &mut u64) -> Result<u32, R
     ensures takes { TakesBy S.is_known S.left S.failures source.old count.old source.new count.new
         (λ x. x) result u32_at }
     ensures counted { OnOk result (count.new ≡ count.old + 4) }
+    ensures few { count.new ≤ count.old + 4 }
     ensures too_long { IsErrOf result (Corrupted TooLong) → count.new ≡ 2 ^ 64 - 1 }
     ensures spares { ¬ IsErrOf result Memory }
 {
@@ -127,6 +130,7 @@ pub fn take_u64<S: ByteSource>(source: &mut S, count: &mut u64) -> Result<u64, R
     ensures takes { TakesBy S.is_known S.left S.failures source.old count.old source.new count.new
         (λ x. x) result u64_at }
     ensures counted { OnOk result (count.new ≡ count.old + 8) }
+    ensures few { count.new ≤ count.old + 8 }
     ensures too_long { IsErrOf result (Corrupted TooLong) → count.new ≡ 2 ^ 64 - 1 }
     ensures spares { ¬ IsErrOf result Memory }
 {
@@ -141,6 +145,7 @@ pub fn take_u128<S: ByteSource>(source: &mut S, count: &mut u64) -> Result<u128,
     ensures takes { TakesBy S.is_known S.left S.failures source.old count.old source.new count.new
         (λ x. x) result u128_at }
     ensures counted { OnOk result (count.new ≡ count.old + 16) }
+    ensures few { count.new ≤ count.old + 16 }
     ensures too_long { IsErrOf result (Corrupted TooLong) → count.new ≡ 2 ^ 64 - 1 }
     ensures spares { ¬ IsErrOf result Memory }
 {
@@ -155,6 +160,7 @@ pub fn take_i64<S: ByteSource>(source: &mut S, count: &mut u64) -> Result<i64, R
     ensures takes { TakesBy S.is_known S.left S.failures source.old count.old source.new count.new
         (λ x. x) result i64_at }
     ensures counted { OnOk result (count.new ≡ count.old + 8) }
+    ensures few { count.new ≤ count.old + 8 }
     ensures too_long { IsErrOf result (Corrupted TooLong) → count.new ≡ 2 ^ 64 - 1 }
     ensures spares { ¬ IsErrOf result Memory }
 {
@@ -171,6 +177,7 @@ pub fn take_bool<S: ByteSource>(source: &mut S, count: &mut u64) -> Result<bool,
         (λ x. x) result truth_at }
     ensures counted { OnOk result (count.new ≡ count.old + 1) }
     ensures too_long { IsErrOf result (Corrupted TooLong) → count.new ≡ 2 ^ 64 - 1 }
+    ensures few { count.new ≤ count.old + 1 }
     ensures other { IsErrOf result (Corrupted BadBool) → count.new ≡ count.old + 1 }
     ensures spares { ¬ IsErrOf result Memory }
 {
@@ -252,6 +259,7 @@ pub fn take_pieces<S: ByteSource>(
     ensures takes { TakesBy S.is_known S.left S.failures source.old count.old source.new count.new
         (λ _. bytes.new.items) result (more_at bytes.old.items len) }
     ensures longer { OnOk result (length bytes.new.items ≡ length bytes.old.items + len) }
+    ensures few { count.new ≤ count.old + len }
     ensures too_long { IsErrOf result (Corrupted TooLong) → count.new ≡ 2 ^ 64 - 1 }
 {
     let mut missing = len;

@@ -10,3 +10,4 @@ pub mod Counts
 pub mod Fields
 pub mod Heads
 pub mod HeadReading
+pub mod EncodedTokens

@@ -1,6 +1,6 @@
 //! Taking the field of a pair from a source that is lent, with the count of the bytes that were taken of it.
 
-ghost use Rattle.std.specs.Prelude.{◌≡◌, ◌≤◌, ◌-◌, ◌^◌, IfOk, IsErrOf};
+ghost use Rattle.std.specs.Prelude.{◌≡◌, ◌≤◌, ◌+◌, ◌-◌, ◌^◌, IfOk, IsErrOf};
 ghost use Rattle.tv_base.specs.declared.cause.Cause.TheVariants.{TooLong};
 ghost use Rattle.tv_reader.specs.Error.{TakesBy};
 ghost use Rattle.tv_reader.specs.Fields.{field_at};
@@ -23,6 +23,7 @@ pub fn take_field<S: ByteSource>(source: &mut S, count: &mut u64) -> Result<u32,
     ensures takes { TakesBy S.is_known S.left S.failures source.old count.old source.new count.new
         (λ x. x) result field_at }
     ensures too_long { IsErrOf result (CorruptedValue TooLong) → count.new ≡ 2 ^ 64 - 1 }
+    ensures few { count.new ≤ count.old + 4 }
     ensures roomy { ¬ IsErrOf result HeapFull }
     ensures small { IfOk result (λ field. field ≤ 65535) }
 {

@@ -1,6 +1,6 @@
 //! Taking the head of a value from a source that is lent: as much of it as is taken at once, without memory.
 
-ghost use Rattle.std.specs.Prelude.{◌≡◌, ◌-◌, ◌^◌, IsErrOf};
+ghost use Rattle.std.specs.Prelude.{◌≡◌, ◌≤◌, ◌+◌, ◌-◌, ◌^◌, IsErrOf};
 ghost use Rattle.tv_base.specs.Number.{VNum};
 ghost use Rattle.tv_base.specs.ErrorInPart.{ErrorInNumber};
 ghost use Rattle.tv_base.specs.declared.cause.Cause.TheVariants.{TooLong};
@@ -52,6 +52,7 @@ pub fn take_head<S: ByteSource>(
         (NoValue (version_of version)) }
     ensures too_long { IsErrOf result (CorruptedValue TooLong) → count.new ≡ 2 ^ 64 - 1 }
     ensures roomy { ¬ IsErrOf result HeapFull }
+    ensures few { count.new ≤ count.old + 18 }
     ensures spares { ¬ IsErrOf result Memory }
 {
     let kind = take_kind(source, count)?;
@@ -71,6 +72,7 @@ pub fn take_key_head<S: ByteSource>(
         result (EncodesKeyHead (version_of version)) (ErrorInKey (version_of version)) }
     ensures too_long { IsErrOf result (CorruptedValue TooLong) → count.new ≡ 2 ^ 64 - 1 }
     ensures roomy { ¬ IsErrOf result HeapFull }
+    ensures few { count.new ≤ count.old + 12 }
     ensures spares { ¬ IsErrOf result Memory }
 {
     match version {
@@ -87,6 +89,7 @@ fn take_coded_key_head<S: ByteSource>(
         result CodedLength ErrorInCodedKey }
     ensures too_long { IsErrOf result (CorruptedValue TooLong) → count.new ≡ 2 ^ 64 - 1 }
     ensures roomy { ¬ IsErrOf result HeapFull }
+    ensures few { count.new ≤ count.old + 12 }
     ensures spares { ¬ IsErrOf result Memory }
 {
     let kind = take_kind(source, count)?;
@@ -113,6 +116,7 @@ pub fn take_document_head<S: ByteSource>(
         result VNum (Corrupt ErrorInNumber) }
     ensures too_long { IsErrOf result (CorruptedValue TooLong) → count.new ≡ 2 ^ 64 - 1 }
     ensures roomy { ¬ IsErrOf result HeapFull }
+    ensures few { count.new ≤ count.old + 10 }
     ensures spares { ¬ IsErrOf result Memory }
 {
     let number = take_vint(source, count)?;

@@ -1,6 +1,6 @@
 //! Taking the type of a value from a source that is lent, with the count of the bytes that were taken of it.
 
-ghost use Rattle.std.specs.Prelude.{◌≡◌, ◌<◌, ◌-◌, ◌^◌, OnOk, IsErrOf};
+ghost use Rattle.std.specs.Prelude.{◌≡◌, ◌<◌, ◌≤◌, ◌+◌, ◌-◌, ◌^◌, OnOk, IsErrOf};
 ghost use Rattle.tv_base.specs.Take.{TakesBy};
 ghost use Rattle.tv_base.specs.declared.cause.Cause.TheVariants.{TooLong};
 ghost use Rattle.tv_base.specs.declared.read_error.ReadError.TheVariants.{Corrupted, Memory};
@@ -17,6 +17,7 @@ fn take_extension<S: ByteSource>(source: &mut S, count: &mut u64) -> Result<Valu
         (λ x. x) result extension_at }
     ensures rises { OnOk result (count.old < count.new) }
     ensures too_long { IsErrOf result (Corrupted TooLong) → count.new ≡ 2 ^ 64 - 1 }
+    ensures few { count.new ≤ count.old + 1 }
     ensures spares { ¬ IsErrOf result Memory }
 {
     match take_u8(source, count)? {
@@ -35,6 +36,7 @@ pub fn take_kind<S: ByteSource>(source: &mut S, count: &mut u64) -> Result<Value
         (λ x. x) result kind_at }
     ensures rises { OnOk result (count.old < count.new) }
     ensures too_long { IsErrOf result (Corrupted TooLong) → count.new ≡ 2 ^ 64 - 1 }
+    ensures few { count.new ≤ count.old + 2 }
     ensures spares { ¬ IsErrOf result Memory }
 {
     match take_u8(source, count)? {

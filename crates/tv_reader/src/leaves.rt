@@ -1,7 +1,7 @@
 //! Taking values that hold no others, behind their code.
 
 ghost use Rattle.std.specs.Prelude.{◌≡◌, ◌*ℤ◌, ◌≤ℤ◌, pos, negsuc, ◌-◌, ◌^◌, IsErrOf, string_bytes};
-ghost use Rattle.std.specs.Prelude.{map};
+ghost use Rattle.std.specs.Prelude.{◌≤◌, ◌+◌, map};
 ghost use Rattle.std.specs.Net.Addr.{ipv6_bits};
 ghost use Rattle.tv_base.specs.Reading.{u128_at};
 ghost use Rattle.tv_base.specs.Take.{TakesBy};
@@ -47,6 +47,7 @@ pub fn take_date<S: ByteSource>(
     ensures takes { TakesBy S.is_known S.left S.failures source.old count.old source.new count.new
         (λ d. d.nanoseconds) result (date_at (version_of version)) }
     ensures too_long { IsErrOf result (Corrupted TooLong) → count.new ≡ 2 ^ 64 - 1 }
+    ensures few { count.new ≤ count.old + 8 }
     ensures spares { ¬ IsErrOf result Memory }
 {
     let number = take_i64(source, count)?;
@@ -72,6 +73,7 @@ pub fn take_ip_address<S: ByteSource>(
     ensures takes { TakesBy S.is_known S.left S.failures source.old count.old source.new count.new
         (λ a. ipv6_bits a) result u128_at }
     ensures too_long { IsErrOf result (Corrupted TooLong) → count.new ≡ 2 ^ 64 - 1 }
+    ensures few { count.new ≤ count.old + 16 }
     ensures spares { ¬ IsErrOf result Memory }
 {
     let bits = take_u128(source, count)?;
@@ -80,7 +82,10 @@ pub fn take_ip_address<S: ByteSource>(
 
 // Where a token begins and ends, and which one it is.
 #[tactic(auto, using(tv_base::proofs::TakeSteps::Taken_then), unfolding(crate::specs::Leaves::offsets_at))]
-fn take_offsets<S: ByteSource>(source: &mut S, count: &mut u64) -> Result<(u64, u64), ReadError>
+pub(crate) fn take_offsets<S: ByteSource>(
+    source: &mut S,
+    count: &mut u64,
+) -> Result<(u64, u64), ReadError>
     ensures takes { TakesBy S.is_known S.left S.failures source.old count.old source.new count.new
         (λ x. x) result offsets_at }
     ensures too_long { IsErrOf result (Corrupted TooLong) → count.new ≡ 2 ^ 64 - 1 }

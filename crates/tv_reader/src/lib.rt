@@ -1,6 +1,7 @@
 //! Reading the parts and the trees of values in the document store.
 #![tactic(auto)]
 
+pub mod encoded_tokens;
 pub mod error;
 pub mod fields;
 pub mod heads;

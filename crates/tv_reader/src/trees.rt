@@ -1,6 +1,6 @@
 //! Taking values of every type from a source that is lent, with the count of the bytes that were taken of it.
 
-ghost use Rattle.std.specs.Prelude.{◌≡◌, ◌-◌, ◌^◌, IsErrOf};
+ghost use Rattle.std.specs.Prelude.{◌≡◌, ◌≤◌, ◌+◌, ◌-◌, ◌^◌, IsErrOf};
 ghost use Rattle.tv_base.specs.Take as reads;
 ghost use Rattle.tv_base.specs.declared.cause.Cause.TheVariants.{TooLong};
 ghost use Rattle.tv_base.specs.declared.read_error.ReadError.TheVariants.{Corrupted};
@@ -33,6 +33,7 @@ pub fn take_half<S: ByteSource>(source: &mut S, count: &mut u64) -> Result<u64, 
     ensures takes { reads.TakesBy S.is_known S.left S.failures source.old count.old source.new
         count.new (λ x. x) result half_at }
     ensures too_long { IsErrOf result (Corrupted TooLong) → count.new ≡ 2 ^ 64 - 1 }
+    ensures few { count.new ≤ count.old + 10 }
     ensures spares { ¬ IsErrOf result NoMemory }
 {
     let number = take_vint(source, count)?;

@@ -1,6 +1,6 @@
 //! The types of values in the store, and what is done by type.
 
-ghost use Rattle.std.specs.Prelude.{◌≡◌, ◌-◌, ◌^◌, IsTrue, IsErrOf};
+ghost use Rattle.std.specs.Prelude.{◌≡◌, ◌≤◌, ◌+◌, ◌-◌, ◌^◌, IsTrue, IsErrOf};
 ghost use Rattle.tv_base.specs.Take.{TakesBy};
 ghost use Rattle.tv_base.specs.declared.cause.Cause.TheVariants.{TooLong};
 ghost use Rattle.tv_base.specs.declared.read_error.ReadError.TheVariants.{Corrupted, Memory};
@@ -124,6 +124,7 @@ pub(crate) fn take_head_behind<S: ByteSource>(
     ensures takes { TakesBy S.is_known S.left S.failures source.old count.old source.new count.new
         head_part result (head_at (version_of version) kind) }
     ensures too_long { IsErrOf result (Corrupted TooLong) → count.new ≡ 2 ^ 64 - 1 }
+    ensures few { count.new ≤ count.old + 16 }
     ensures spares { ¬ IsErrOf result Memory }
 {
     match kind {

@@ -15,6 +15,7 @@ pub mod Kept
 pub mod InPlace
 pub mod TokenSteps
 pub mod Payloads
+pub mod GatheredTokens
 pub mod LentJson
 pub mod MovedJson
 pub mod Utf8Prefixes

@@ -63,8 +63,11 @@ each_of : {A : Type 0} (R : List ℕ → A → Type 0) (P : A → Type 0) (f : A
 each_of R P f h [] p = refl
 each_of R P f h (x ∷ xs) p = then _ _ (h x p.0) (each_of R P f h xs p.1)
 
+pub tokens_of : (ts : List Token) → AllByRecursion IsToken ts → Each TokenEncoding (flat_map short_token ts) ts
+tokens_of ts p = each_of TokenEncoding IsToken short_token token ts p
+
 pub tokenized_of : (t : List ℕ) (ts : List Token) → IsText t → AreTokens ts → Tokenized (short_tokenized t ts) t ts
-tokenized_of t ts p q = then _ _ (text_of t p) (then _ _ (vnum_encodes (length ts) (omega (arith, q.count))) (each_of TokenEncoding IsToken short_token token ts q.each))
+tokenized_of t ts p q = then _ _ (text_of t p) (then _ _ (vnum_encodes (length ts) (omega (arith, q.count))) (tokens_of ts q.each))
 
 -- in the versions that are written each number stands for itself
 written_scale : (v : Version) → IsWritten v → (t : LeafType) → scale v t ≡ plain

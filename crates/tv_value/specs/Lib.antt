@@ -22,6 +22,7 @@ pub mod HeldTokens
 pub mod TokenRef
 pub mod InPlace
 pub mod PreTokenized
+pub mod EncodedTokens
 pub mod SameTokens
 pub mod SameTokensLaws
 pub mod JsonTree

@@ -4,6 +4,7 @@
 pub mod content;
 mod copy;
 pub mod encode;
+pub mod encoded_tokens;
 pub mod field;
 pub mod in_place;
 pub mod ip_addr;

@@ -6,6 +6,7 @@ ghost use Rattle.tv_value.specs.Short.{IsText};
 ghost use Rattle.tv_value.specs.ShortLaws.{IsText-prop};
 ghost use Rattle.tv_value.specs.TokenRef.{ref_of};
 
+use crate::encoded_tokens::EncodedTokens;
 use crate::in_place::{behind_tokens, number_at, text_at, token_at};
 use crate::tokenizer::{PreTokenizedString, Token};
 use std::alloc::{AllocError, Global};
@@ -49,6 +50,7 @@ impl<'a> PreTokenizedStr<'a> {
     ghost use Rattle.tv_value.specs.InPlace.{NoTokenized};
     ghost use Rattle.tv_value.specs.PreTokenized.{text_of, tokens_left, tokens_of};
     ghost use Rattle.tv_value.specs.Encoding.{Tokenized};
+    ghost use Rattle.tv_value.specs.EncodedTokens.{gathered};
 
     /// The text and the tokens of the string.
     pub fn from_string(string: &'a PreTokenizedString) -> PreTokenizedStr<'a>
@@ -84,6 +86,19 @@ impl<'a> PreTokenizedStr<'a> {
         };
         let len = bytes.len() - rest.len();
         Some((PreTokenizedStr { text, tokens }, len))
+    }
+
+    // The text with these tokens.
+    pub(crate) fn of_encoded(text: &'a str, tokens: &'a EncodedTokens) -> PreTokenizedStr<'a>
+        ensures text { text_of result ≡ text.now }
+        ensures tokens { tokens_of result ≡ gathered tokens.now }
+    {
+        let tokens = TokenIter {
+            kept: &[],
+            encoded: tokens.bytes.as_slice(),
+            count: tokens.count,
+        };
+        PreTokenizedStr { text, tokens }
     }
 
     /// The text.

@@ -6,7 +6,7 @@ use Rattle.tv_base.proofs.Appending.{piece_taken, piece_ends}
 use Rattle.tv_base.proofs.take.take_pieces.Goals as goal
 
 pub loop-missing-init : goal.loop-missing-init
-loop-missing-init g c = record { so_far = SoFar-start _ _ _ _ _ _ _ (λ bytes. refl); longer = refl }
+loop-missing-init g c = record { so_far = SoFar-start _ _ _ _ _ _ _ (λ bytes. refl); longer = refl; few = omega arith }
 
 pub returns-then-more-eq0-clause-takes : goal.returns-then-more-eq0-clause-takes
 returns-then-more-eq0-clause-takes g c =
@@ -19,6 +19,7 @@ loop-missing-preserved g c =
     record {
       so_far = piece_taken l.bytes.items _ l.missing _ c.in_ok-more.more (omega (arith, c.in_ok-more.ensures.bound)) l.invariant.so_far c.in_ok-more.ensures.bytes c.in_ok-more.ensures.is_known c.in_ok-more.ensures.failures refl;
       longer = omega (arith, l.invariant.longer, c.in_ok-more.ensures.longer, c.in_ok-more.ensures.bound);
+      few = omega (arith, l.invariant.few, c.in_ok-more.ensures.bound);
     }
 
 pub returns-clause-takes : goal.returns-clause-takes

@@ -1,0 +1,171 @@
+//! Taking texts with their tokens, which are gathered in their shortest encoding and not owned one by one.
+
+ghost use Rattle.std.specs.Prelude.{◌≡◌, ◌-◌, ◌^◌, IsErrOf, string_bytes};
+ghost use Rattle.tv_base.specs.Take.{TakesBy};
+ghost use Rattle.tv_base.specs.declared.cause.Cause.TheVariants.{TooLong};
+ghost use Rattle.tv_base.specs.declared.read_error.ReadError.TheVariants.{Corrupted};
+ghost use Rattle.tv_reader.specs.EncodedTokens.{tokenized_tree, EncodesTokenized};
+ghost use Rattle.tv_reader.specs.Finds.{Finds};
+ghost use Rattle.tv_reader.specs.Leaves.{leaf_at, named_at, placed_at, token_at, tokens_at};
+ghost use Rattle.tv_reader.specs.Leaves.{counted_tokens_at, tokenized_at};
+ghost use Rattle.tv_reader.specs.Trees.{NoneBehind};
+ghost use Rattle.tv_reader.specs.Version.{version_of};
+ghost use Rattle.tv_reader.specs.declared.error.DeserializeError.TheVariants.{CorruptedValue};
+ghost use Rattle.tv_reader.specs.declared.error.DeserializeError.TheVariants.{HeapFull};
+ghost use Rattle.tv_reader.specs.declared.value_type.ValueType.TheVariants as types;
+ghost use Rattle.tv_value.specs.EncodedTokens.{gathered};
+ghost use Rattle.tv_value.specs.TokenRef.{ref_of};
+
+use crate::error::DeserializeError;
+use crate::leaves::take_offsets;
+use crate::version::DocStoreVersion;
+use std::alloc::Global;
+use tv_base::take::{take_string, take_text, take_vint};
+use tv_base::{ByteSource, ReadError};
+use tv_value::encoded_tokens::EncodedTokens;
+use tv_value::pre_tokenized::TokenRef;
+
+// A token's own text, in the place of what `text` holds, and how many positions it takes.
+#[tactic(auto, using(tv_base::proofs::TakeSteps::Taken_then), unfolding(crate::specs::Leaves::named_at))]
+fn take_named_into<S: ByteSource>(
+    alloc: Global,
+    source: &mut S,
+    count: &mut u64,
+    text: &mut String,
+) -> Result<u64, ReadError>
+    ensures takes { TakesBy S.is_known S.left S.failures source.old count.old source.new count.new
+        (λ positions. (string_bytes text.new, positions)) result named_at }
+    ensures too_long { IsErrOf result (Corrupted TooLong) → count.new ≡ 2 ^ 64 - 1 }
+{
+    take_text(alloc, source, count, text)?;
+    let position_length = take_vint(source, count)?;
+    Ok(position_length)
+}
+
+// Which token it is, and what follows that.
+#[tactic(auto, using(tv_base::proofs::TakeSteps::Taken_then), unfolding(crate::specs::Leaves::placed_at))]
+fn take_placed_into<S: ByteSource>(
+    alloc: Global,
+    source: &mut S,
+    count: &mut u64,
+    text: &mut String,
+) -> Result<(u64, u64), ReadError>
+    ensures takes { TakesBy S.is_known S.left S.failures source.old count.old source.new count.new
+        (λ x. (x.0, (string_bytes text.new, x.1))) result placed_at }
+    ensures too_long { IsErrOf result (Corrupted TooLong) → count.new ≡ 2 ^ 64 - 1 }
+{
+    let position = take_vint(source, count)?;
+    let position_length = take_named_into(alloc, source, count, text)?;
+    Ok((position, position_length))
+}
+
+// A token, whose text is put in the place of what `text` holds, and lent from there.
+#[tactic(auto, using(tv_base::proofs::TakeSteps::Taken_then), unfolding(crate::specs::Leaves::token_at))]
+fn take_lent_token<'t, S: ByteSource>(
+    alloc: Global,
+    source: &mut S,
+    count: &mut u64,
+    text: &'t mut String,
+) -> Result<TokenRef<'t>, ReadError>
+    ensures takes { TakesBy S.is_known S.left S.failures source.old count.old source.new count.new
+        (λ token. ref_of token) result token_at }
+    ensures too_long { IsErrOf result (Corrupted TooLong) → count.new ≡ 2 ^ 64 - 1 }
+{
+    let (offset_from, offset_to) = take_offsets(source, count)?;
+    let (position, position_length) = take_placed_into(alloc, source, count, text)?;
+    Ok(TokenRef {
+        offset_from: offset_from as usize,
+        offset_to: offset_to as usize,
+        position: position as usize,
+        text: text.as_str(),
+        position_length: position_length as usize,
+    })
+}
+
+// So many tokens. Nothing is reserved from their number.
+fn gather_tokens<S: ByteSource>(
+    alloc: Global,
+    source: &mut S,
+    count: &mut u64,
+    announced: u64,
+) -> Result<EncodedTokens, ReadError>
+    ensures takes { TakesBy S.is_known S.left S.failures source.old count.old source.new count.new
+        (λ tokens. gathered tokens) result (tokens_at announced) }
+    ensures too_long { IsErrOf result (Corrupted TooLong) → count.new ≡ 2 ^ 64 - 1 }
+{
+    let mut tokens = EncodedTokens::new(alloc);
+    let mut text = String::new(alloc);
+    for _ in 0..announced {
+        let token = take_lent_token(alloc, source, count, &mut text)?;
+        tokens.push(token)?;
+    }
+    Ok(tokens)
+}
+
+// The number of the tokens, and each.
+#[tactic(auto, using(tv_base::proofs::TakeSteps::Taken_then), unfolding(crate::specs::Leaves::counted_tokens_at))]
+fn gather_counted_tokens<S: ByteSource>(
+    alloc: Global,
+    source: &mut S,
+    count: &mut u64,
+) -> Result<EncodedTokens, ReadError>
+    ensures takes { TakesBy S.is_known S.left S.failures source.old count.old source.new count.new
+        (λ tokens. gathered tokens) result counted_tokens_at }
+    ensures too_long { IsErrOf result (Corrupted TooLong) → count.new ≡ 2 ^ 64 - 1 }
+{
+    let announced = take_vint(source, count)?;
+    gather_tokens(alloc, source, count, announced)
+}
+
+// A text and its tokens.
+#[tactic(auto, using(tv_base::proofs::TakeSteps::Taken_then), unfolding(crate::specs::Leaves::tokenized_at))]
+fn gather_tokenized<S: ByteSource>(
+    alloc: Global,
+    source: &mut S,
+    count: &mut u64,
+) -> Result<(String, EncodedTokens), ReadError>
+    ensures takes { TakesBy S.is_known S.left S.failures source.old count.old source.new count.new
+        (λ x. (string_bytes x.0, gathered x.1)) result tokenized_at }
+    ensures too_long { IsErrOf result (Corrupted TooLong) → count.new ≡ 2 ^ 64 - 1 }
+{
+    let text = take_string(alloc, source, count)?;
+    let tokens = gather_counted_tokens(alloc, source, count)?;
+    Ok((text, tokens))
+}
+
+// The same, as the leaf that it is.
+#[tactic(auto, using(tv_base::proofs::TakeSteps::Taken_then), unfolding(crate::specs::Leaves::leaf_at))]
+fn gather_leaf<S: ByteSource>(
+    alloc: Global,
+    source: &mut S,
+    count: &mut u64,
+    version: DocStoreVersion,
+) -> Result<(String, EncodedTokens), ReadError>
+    ensures takes { TakesBy S.is_known S.left S.failures source.old count.old source.new count.new
+        tokenized_tree result (leaf_at (version_of version) types.PreTokStr) }
+    ensures too_long { IsErrOf result (Corrupted TooLong) → count.new ≡ 2 ^ 64 - 1 }
+{
+    let _ = version;
+    let (text, tokens) = gather_tokenized(alloc, source, count)?;
+    Ok((text, tokens))
+}
+
+/// Takes a text and its tokens behind their codes. The tokens are gathered in their shortest encoding, so that no more memory is taken
+/// than for the bytes that are read. Nothing is reserved from the number of the tokens. (Not in tantivy.)
+///
+/// Errors: those of `take_string`, and `Memory`.
+pub fn take_gathered<S: ByteSource>(
+    alloc: Global,
+    source: &mut S,
+    count: &mut u64,
+    version: DocStoreVersion,
+) -> Result<(String, EncodedTokens), DeserializeError>
+    ensures finds { Finds S.is_known S.left S.failures source.old count.old source.new count.new
+        result (EncodesTokenized (version_of version))
+        (NoneBehind (version_of version) types.PreTokStr) }
+    ensures too_long { IsErrOf result (CorruptedValue TooLong) → count.new ≡ 2 ^ 64 - 1 }
+    ensures roomy { ¬ IsErrOf result HeapFull }
+{
+    let tokenized = gather_leaf(alloc, source, count, version)?;
+    Ok(tokenized)
+}
