@@ -147,6 +147,7 @@ goes_on old new mid after live l s kept pairs =
     record {
       live = s.live ∙ live;
       document = built_same old new (ap (λ z. take z new.building.heap.items) kept ∙ prefix.0) pairs;
+      kept = kept;
       state = same_state new.building new.state (moved_stands old.building mid new.building after old.state l.moves s.ok);
       grows = (grows.0, ap (λ (b : Building). b.heap.items) s.ok ∙ grows.1);
     }
@@ -159,6 +160,7 @@ fails_now old new mid after e l s kept pairs =
     record {
       failed = s.mark;
       document = built_same old new (ap (λ z. take z new.building.heap.items) kept ∙ prefix.0) pairs;
+      kept = kept;
       state = same_state new.building new.state (cleared_stands mid new.building old.kept (omega (arith, small, old.kept_within)) s.err);
       heap = cut_heap old.building mid new.building old.kept after e old.kept_within l s.err;
     }

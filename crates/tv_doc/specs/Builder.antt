@@ -36,10 +36,11 @@ abbrev pub HasContent : State → Type 0
 HasContent (in_bytes ls kind n bs) = IsContent kind bs
 HasContent _ = ⊥
 
--- a call that goes on to this state
+-- A call that goes on to this state. `kept` stays at the end of the last finished pair.
 pub record Goes (old new : TreeBuilder) (after : State) : Type 0 where
   pub live : new.failed ≡ false
   pub document : built new ≡ built old
+  pub kept : new.kept ≡ old.kept
   pub state : state_of new ≡ after
   pub grows : IsPrefix (heap_so_far old) (heap_so_far new)
 
@@ -47,6 +48,7 @@ pub record Goes (old new : TreeBuilder) (after : State) : Type 0 where
 pub record Fails (old new : TreeBuilder) : Type 0 where
   pub failed : new.failed ≡ true
   pub document : built new ≡ built old
+  pub kept : new.kept ≡ old.kept
   pub state : state_of new ≡ in_lists []
   pub heap : heap_so_far new ≡ take old.kept (heap_so_far old)
 

@@ -125,6 +125,7 @@ impl TreeBuilder {
     pub fn new(doc: CompactDoc) -> TreeBuilder
         ensures document { built result ≡ document_of doc }
         ensures heap { heap_so_far result ≡ heap_of doc }
+        ensures kept { result.kept ≡ length (heap_of doc) }
         ensures state { state_of result ≡ in_lists [] }
         ensures live { result.failed ≡ false }
     {
