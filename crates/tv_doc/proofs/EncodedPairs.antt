@@ -1,6 +1,8 @@
 -- A pair that stands encoded in bytes, and is added to a document.
 use Rattle.std.proofs.Common.{◌≡◌, ℕ, ◌+◌, ◌≤◌, ◌<◌, List, [], ◌∷◌, ◌++◌, length, take, drop, get_or, Ok, refl, sym, ◌∙◌, ap, subst, append_assoc, length-append, arith}
 use Rattle.std.proofs.lemmas.List.{append-nil, length-take-le}
+use Rattle.std.proofs.lemmas.List.Sums.{sum_by_push}
+use Rattle.std.proofs.Math.Seq.{take-append_seam}
 use Rattle.std.specs.Int.{w32, from_le_bytes}
 use Rattle.tv_base.specs.Number.{Fixed}
 use Rattle.tv_base.specs.Parts.{Begins}
@@ -9,12 +11,17 @@ use Rattle.tv_value.specs.Encoding.{Encodes, EncodesPair, NoLegacy}
 use Rattle.tv_value.specs.Tree.{Tree}
 use Rattle.tv_value.specs.Version.{V2}
 use Rattle.tv_value.proofs.Prefixes.{begins_nothing, begins_cut, begins_then, begins_item, small_take}
+use Rattle.tv_heap.specs.Room.{room}
 use Rattle.tv_builder.specs.EncodedPut.{EncodedPut}
 use Rattle.tv_builder.specs.declared.place.Place.{Place}
+use Rattle.tv_builder.proofs.Giving.{prefix_then}
 use Rattle.tv_doc.specs.declared.document.CompactDoc.{CompactDoc}
-use Rattle.tv_doc.specs.Document.{document_of, heap_of, IsUnchanged}
-use Rattle.tv_doc.specs.Encoded.{AddsPair, AddsEncoded}
-use Rattle.tv_doc.proofs.Kept.{Keeping}
+use Rattle.tv_doc.specs.declared.place.FieldValueAddr.{FieldValueAddr}
+use Rattle.tv_doc.specs.Document.{document_of, heap_of, Added, IsUnchanged}
+use Rattle.tv_doc.specs.Encoded.{IsStart, AddsPair, AddsEncoded, StoodIn}
+use Rattle.tv_doc.specs.Holds.{pair_at}
+use Rattle.tv_doc.proofs.Documents.{unchanged, restored, document_length}
+use Rattle.tv_doc.proofs.Kept.{Keeping, Fields, same_fields}
 use Rattle.tv_doc.proofs.PutPairs.{PairPut, put_added}
 
 -- ---- one pair
@@ -43,22 +50,75 @@ pair_added old new whole prefix value rest mid len small at x s f w k =
     record {
       pair = (small, s.tree);
       encoded = begins_pair whole prefix value rest small s.tree f w.small_fits s.encoded;
-      document = more.document;
+      added = more;
+      start = record { heap = (more.added, more.heap); later = pair_at small (at.value_type, at.address) ∷ []; pairs = k.pair };
     }
 
 -- ---- as many as there are
 
+start_here : (d : CompactDoc) → IsStart d d
+start_here d = record { heap = ([], sym (append-nil (heap_of d))); later = []; pairs = sym (append-nil d.pairs.items) }
+
+start_then : (old mid new : CompactDoc) → IsStart old mid → IsStart mid new → IsStart old new
+start_then old mid new a b = record {
+  heap = prefix_then (heap_of old) (heap_of mid) (heap_of new) a.heap b.heap;
+  later = a.later ++ b.later;
+  pairs = b.pairs ∙ ap (λ z. z ++ b.later) a.pairs ∙ append_assoc old.pairs.items a.later b.later;
+}
+
+-- nothing more was added
+start_same : (old mid new : CompactDoc) → IsStart old mid → heap_of new ≡ heap_of mid → new.pairs.items ≡ mid.pairs.items → IsStart old new
+start_same old mid new a heap pairs = record { heap = (a.heap.0, heap ∙ a.heap.1); later = a.later; pairs = pairs ∙ a.pairs }
+
 pub none_encoded : (d : CompactDoc) (whole : List ℕ) → AddsEncoded d d whole whole 0
-none_encoded d whole = record { pairs = []; counted = refl; encoded = begins_nothing whole refl; document = sym (append-nil (document_of d)) }
+none_encoded d whole = record {
+  pairs = [];
+  counted = refl;
+  encoded = begins_nothing whole refl;
+  document = sym (append-nil (document_of d));
+  start = start_here d;
+  within = omega arith;
+  none = λ e. unchanged d d refl refl;
+}
 
 pub one_more : (old mid new : CompactDoc) (whole rest after : List ℕ) (n : ℕ) → AddsEncoded old mid whole rest n → AddsPair mid new rest after → AddsEncoded old new whole after (n + 1)
 one_more old mid new whole rest after n a p = record {
   pairs = a.pairs ++ p.pair ∷ [];
   counted = omega (arith, a.counted, length-append a.pairs (p.pair ∷ []));
   encoded = begins_item (EncodesPair NoLegacy V2) a.pairs p.pair whole rest after a.encoded p.encoded;
-  document = p.document ∙ ap (λ z. z ++ p.pair ∷ []) a.document ∙ append_assoc (document_of old) a.pairs (p.pair ∷ []);
+  document = more.document ∙ ap (λ z. z ++ p.pair ∷ []) a.document ∙ append_assoc (document_of old) a.pairs (p.pair ∷ []);
+  start = start_then old mid new a.start p.start;
+  within = omega (arith, a.within, more.within, ap length more.heap, length-append (heap_of mid) more.added, sum_by_push (λ (x : ℕ × Tree). room x.1) a.pairs p.pair);
+  none = λ e. absurd (let f : n + 1 ≡ 0 = e in omega (arith, f));
 }
+  where
+    more : Added mid new p.pair.0 p.pair.1
+    more = p.added
 
 -- and then none
-pub no_more : (old mid new : CompactDoc) (whole rest : List ℕ) (n : ℕ) → AddsEncoded old mid whole rest n → IsUnchanged mid new → AddsEncoded old new whole rest n
-no_more old mid new whole rest n a u = record { pairs = a.pairs; counted = a.counted; encoded = a.encoded; document = u.document ∙ a.document }
+pub no_more : (old mid new : CompactDoc) (whole rest : List ℕ) (n : ℕ) → AddsEncoded old mid whole rest n → IsUnchanged mid new → new.pairs.items ≡ mid.pairs.items → AddsEncoded old new whole rest n
+no_more old mid new whole rest n a u same_pairs = record {
+  pairs = a.pairs;
+  counted = a.counted;
+  encoded = a.encoded;
+  document = u.document ∙ a.document;
+  start = start_same old mid new a.start u.heap same_pairs;
+  within = omega (arith, a.within, ap length u.heap);
+  none = λ e. let v = a.none e in record { document = u.document ∙ v.document; heap = u.heap ∙ v.heap; places = u.places ∙ v.places };
+}
+
+-- ---- what was added is taken back
+
+-- the heap and the pairs are cut
+pub cut_back : (old now : CompactDoc) (pairs heap : ℕ) → StoodIn old now pairs heap → (take heap (heap_of now) ≡ heap_of old) × (take pairs now.pairs.items ≡ old.pairs.items)
+cut_back old now pairs heap s =
+    let counted : pairs ≡ length old.pairs.items = omega (arith, s.counted, document_length old) in (
+      restored (heap_of old) (heap_of now) heap s.start.heap (sym s.heap_length),
+      (λ i. take (counted i) (s.start.pairs i)) ∙ take-append_seam old.pairs.items s.start.later,
+    )
+
+pub back_fields : (old now : CompactDoc) (pairs heap : ℕ) (bytes : List ℕ) (ps : List FieldValueAddr) → StoodIn old now pairs heap → bytes ≡ take heap (heap_of now) → ps ≡ take pairs now.pairs.items → Fields bytes ps
+back_fields old now pairs heap bytes ps s e f = same_fields old bytes ps (e ∙ (cut_back old now pairs heap s).0) (f ∙ (cut_back old now pairs heap s).1)
+
+pub back_unchanged : (old now new : CompactDoc) (pairs heap : ℕ) → StoodIn old now pairs heap → heap_of new ≡ take heap (heap_of now) → new.pairs.items ≡ take pairs now.pairs.items → IsUnchanged old new
+back_unchanged old now new pairs heap s e f = unchanged old new (e ∙ (cut_back old now pairs heap s).0) (f ∙ (cut_back old now pairs heap s).1)

@@ -50,11 +50,14 @@ prefix_of : (old : CompactDoc) (mid : List ℕ) (len small field : ℕ) (t : Tre
 prefix_of old mid len small field t (Ok r) w = (w.wrote.added, w.wrote.grows)
 prefix_of old mid len small field t (Err e) w = w.prefix
 
+-- neither the heap nor the pairs changed
+pub same_fields : (old : CompactDoc) (heap : List ℕ) (ps : List FieldValueAddr) → heap ≡ heap_of old → ps ≡ old.pairs.items → Fields heap ps
+same_fields old heap ps same same_pairs =
+    record { document = kept old heap ps same same_pairs; room = kept_room old heap ps same same_pairs; weight = kept_weight old heap ps same same_pairs; fits = kept_fits old heap same }
+
 -- what was written is cut off again
 pub cut_fields : (old : CompactDoc) (mid heap : List ℕ) (ps : List FieldValueAddr) (len : ℕ) → IsPrefix (heap_of old) mid → len ≡ length (heap_of old) → heap ≡ take len mid → ps ≡ old.pairs.items → Fields heap ps
-cut_fields old mid heap ps len prefix len_is cut same_pairs =
-    let same : heap ≡ heap_of old = cut ∙ restored (heap_of old) mid len prefix len_is in
-    record { document = kept old heap ps same same_pairs; room = kept_room old heap ps same same_pairs; weight = kept_weight old heap ps same same_pairs; fits = kept_fits old heap same }
+cut_fields old mid heap ps len prefix len_is cut same_pairs = same_fields old heap ps (cut ∙ restored (heap_of old) mid len prefix len_is) same_pairs
 
 -- there is one pair more
 pub pushed_fields : (old : CompactDoc) (heap : List ℕ) (ps : List FieldValueAddr) (p : FieldValueAddr) (field : ℕ) (t : Tree) → p.field ≡ field → field ≤ 65535

@@ -1,8 +1,9 @@
 //! Pairs that stand encoded in bytes, added to a document.
 
-ghost use Rattle.std.specs.Prelude.{◌≤◌, IfNone, IfSome};
+ghost use Rattle.std.specs.Prelude.{◌≡◌, ◌≤◌, IfNone, IfSome};
 ghost use Rattle.tv_doc.specs.Document.{IsUnchanged};
-ghost use Rattle.tv_doc.specs.Encoded.{AddsPair, AddsEncoded};
+ghost use Rattle.tv_doc.specs.Encoded.{AddsPair, AddsEncoded, StoodIn};
+ghost use Rattle.tv_doc.specs.declared.document.CompactDoc.{CompactDoc};
 
 use crate::document::{CompactDoc, keep_pair};
 use tv_builder::encoded::put_encoded;
@@ -12,7 +13,7 @@ const LEVELS: u32 = 64;
 
 impl CompactDoc {
     /// Adds the pairs that these bytes begin with, as version 2 of the store encodes them, up to so many. Gives the bytes behind them,
-    /// and how many they are. (Not in tantivy.)
+    /// and how many they are. The old heap is a prefix of the new one, and the old pairs come first, at the same places. (Not in tantivy.)
     ///
     /// It stops before a pair that is malformed or not all there, before one that holds an object as older stores hold it or lists nested deeper
     /// than 64 levels, and where the heap has no room or memory is refused: what it doesn't add may still be a pair.
@@ -31,11 +32,21 @@ impl CompactDoc {
         (rest, most)
     }
 
+    /// Takes back what was added since the document had so many pairs and so long a heap. It is then as it was. (Not in tantivy.)
+    pub fn take_back(&mut self, pairs: usize, heap: usize)
+        requires { (old : CompactDoc) × StoodIn old self.old pairs heap }
+        ensures { (old : CompactDoc) → StoodIn old self.old pairs heap → IsUnchanged old self.new }
+    {
+        self.pairs.truncate(pairs);
+        self.node_data.truncate(heap);
+    }
+
     // Adds the pair that these bytes begin with, and gives the bytes behind it. `places` is used while a list is written.
     #[inline(always)]
     fn add_encoded_pair<'a>(&mut self, bytes: &'a [u8], places: &mut Vec<u8>) -> Option<&'a [u8]>
         ensures added { IfSome result (λ rest. AddsPair self.old self.new bytes.now rest.now) }
         ensures none { IfNone result (IsUnchanged self.old self.new) }
+        ensures same_pairs { IfNone result (self.new.pairs.items ≡ self.old.pairs.items) }
     {
         let (prefix, value) = bytes.split_first_chunk::<4>()?;
         let Ok(field) = u16::try_from(u32::from_le_bytes(*prefix)) else {

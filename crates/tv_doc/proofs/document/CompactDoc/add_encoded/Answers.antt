@@ -8,4 +8,4 @@ pub loop-count-preserved : goal.loop-count-preserved
 loop-count-preserved c = one_more c.args.self.now c.loop-count.self c.add_encoded_pair.new.self c.args.bytes.now c.loop-count.rest.now c.in-Some.behind.now c.loop-count.count c.loop-count.invariant c.in-Some.ensures.added
 
 pub returns-in_default-clause-added : goal.returns-in_default-clause-added
-returns-in_default-clause-added c = no_more c.args.self.now c.loop-count.self c.add_encoded_pair.new.self c.args.bytes.now c.loop-count.rest.now c.loop-count.count c.loop-count.invariant c.in_default.ensures.none
+returns-in_default-clause-added c = no_more c.args.self.now c.loop-count.self c.add_encoded_pair.new.self c.args.bytes.now c.loop-count.rest.now c.loop-count.count c.loop-count.invariant c.in_default.ensures.none c.in_default.ensures.same_pairs
