@@ -91,6 +91,8 @@ pub fn over_each<R: Reading>(alloc: Global, bytes: &[u8], reading: &R) -> Result
         let ending = reading.read(alloc, LimitedSource::lending(bytes, window))?;
         answers.push(ending.told(alloc, whole, ending.source.rest.len())?)?;
     }
+    let ending = reading.read(alloc, LimitedSource::keeping(bytes))?;
+    answers.push(ending.told(alloc, whole, ending.source.rest.len())?)?;
     answers.push(through_reader(alloc, bytes, reading)?)?;
     once(alloc, answers.as_slice())
 }

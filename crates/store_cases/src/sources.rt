@@ -6,11 +6,13 @@ ghost use Rattle.tv_base.specs.Source.{AllBytes};
 use std::io;
 use tantivy_schema::common::ByteSource;
 
-/// Lends at most `window` bytes at once, and reads at most `packet` at once. Where `fails_at` says how many bytes are left, a read fails.
+/// Lends at most `window` bytes at once, which pass only where it `passes`, and reads at most `packet` at once. Where `fails_at` says how many
+/// bytes are left, a read fails.
 #[derive(Drop)]
 pub struct LimitedSource<'a> {
     pub rest: &'a [u8],
     pub window: usize,
+    pub passes: bool,
     pub packet: usize,
     pub fails_at: Option<usize>,
     pub kind: io::ErrorKind,
@@ -25,6 +27,20 @@ impl<'a> LimitedSource<'a> {
         LimitedSource {
             rest: bytes,
             window,
+            passes: true,
+            packet: usize::MAX,
+            fails_at: None,
+            kind: io::ErrorKind::Other,
+            failures: 0,
+        }
+    }
+
+    /// Lends all bytes and lets none pass. No read fails.
+    pub fn keeping(bytes: &'a [u8]) -> LimitedSource<'a> {
+        LimitedSource {
+            rest: bytes,
+            window: usize::MAX,
+            passes: false,
             packet: usize::MAX,
             fails_at: None,
             kind: io::ErrorKind::Other,
@@ -37,6 +53,7 @@ impl<'a> LimitedSource<'a> {
         LimitedSource {
             rest: bytes,
             window: 0,
+            passes: true,
             packet: 1,
             fails_at: Some(left),
             kind,
@@ -68,7 +85,7 @@ impl<'a> ByteSource for LimitedSource<'a> {
     }
 
     fn pass(&mut self, len: usize) -> bool {
-        if len > self.rest.len().min(self.window) {
+        if !self.passes || len > self.rest.len().min(self.window) {
             return false;
         }
         self.rest = &self.rest[len..];

@@ -19,8 +19,8 @@ use Rattle.tv_value.specs.InputError.{corrupted}
 use Rattle.tv_value.specs.Encoding.{Encodes, EncodesElements, EncodesEntries, EncodesPair, NoLegacy}
 use Rattle.tv_value.specs.Tree.{Tree, leaf, array, object, Elements, no_elements, element, Entries, no_entries, entry, Document}
 use Rattle.tv_value.specs.Version.{Version, V2}
-use Rattle.tv_doc.specs.Document.{document_of}
-use Rattle.tv_doc.specs.Encoded.{AddsEncoded}
+use Rattle.tv_doc.specs.Document.{document_of, heap_of, IsUnchanged}
+use Rattle.tv_doc.specs.Encoded.{AddsEncoded, StoodIn}
 use Rattle.tv_doc.specs.declared.document.CompactDoc.{CompactDoc}
 use Rattle.tv_decoder.specs.Buffered.{AddsPairs, Nothing}
 use Rattle.tv_decoder.specs.Prefix.{parts_at, parts_read}
@@ -88,6 +88,14 @@ taken_prefix whole prefix rest joined = ap (take (length whole - length rest)) j
 pub no_pairs : (v : Version) (d : CompactDoc) → AddsPairs v d d [] 0
 no_pairs v d = record { pairs = []; counted = refl; encoded = refl; document = sym (append-nil (document_of d)) }
 
+-- what the document was before, by what was added since
+pub stood_in : {whole rest : List ℕ} {n : ℕ} (old now : CompactDoc) (pairs heap : ℕ) → AddsEncoded old now whole rest n → pairs ≡ length (document_of old) → heap ≡ length (heap_of old) → StoodIn old now pairs heap
+stood_in old now pairs heap h p q = record { counted = sym p; heap_length = sym q; start = h.start }
+
+-- or they were taken back
+pub none_kept : (v : Version) (old new : CompactDoc) → IsUnchanged old new → AddsPairs v old new [] 0
+none_kept v old new u = record { pairs = []; counted = refl; encoded = refl; document = u.document ∙ sym (append-nil (document_of old)) }
+
 -- as many as were added, of the bytes before those that are left over
 pub pairs_taken : (old new : CompactDoc) (whole rest : List ℕ) (n : ℕ) → AddsEncoded old new whole rest n → AddsPairs V2 old new (take (length whole - length rest) whole) n
 pairs_taken old new whole rest n h = record {
@@ -122,6 +130,16 @@ module _ {S X : Type 0} {is_known : S → Type 0} {left : S → List ℕ} {failu
     stays_known = told;
     counts = same;
     rises = omega (arith, counted);
+  }
+
+  -- or they weren't, and nothing was
+  pub not_passed : {os ns : S} {i : ℕ} → Encodes [] x → (is_known os → left ns ≡ left os) → (is_known os → is_known ns) → failures ns ≡ failures os → Finds is_known left failures os i ns i (Ok x) Encodes Nothing
+  not_passed {i = i} is pass told same = record {
+    found = λ t. record { prefix = []; joined = sym (pass t); encoded = is };
+    taken = λ t. record { prefix = []; joined = sym (pass t); counted = omega arith };
+    stays_known = told;
+    counts = same;
+    rises = omega arith;
   }
 
   -- or there were none

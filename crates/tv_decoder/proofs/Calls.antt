@@ -1,5 +1,5 @@
 -- A call of the builder, as it leaves what is read.
-use Rattle.std.proofs.Common.{◌≡◌, ℕ, ◌+◌, ◌-◌, ◌<◌, nat_eq, List, [], ◌∷◌, ◌++◌, length, Option, Some, None, Result, Ok, Err, OnErr, sym, ◌∙◌, subst, length-append, arith, inl, inr}
+use Rattle.std.proofs.Common.{◌≡◌, ℕ, ◌+◌, ◌-◌, ◌<◌, ◌≤◌, nat_eq, List, [], ◌∷◌, ◌++◌, length, Option, Some, None, Result, Ok, Err, OnErr, sym, ◌∙◌, subst, length-append, arith, inl, inr}
 use Rattle.std.proofs.lemmas.Bool.{cond-true, cond-false}
 use Rattle.std.proofs.lemmas.Bool.Decides.{eqb_tells}
 use Rattle.tv_builder.specs.declared.awaits.Awaits.{Awaits}
@@ -26,7 +26,7 @@ use Rattle.tv_decoder.specs.Prefix.{parts_at, parts_read, IsPlace, IsSound, HasF
 use Rattle.tv_decoder.specs.Puts.{MayStand, IsOpen, Awaiting, Fills, Puts, LetGo}
 use Rattle.tv_decoder.specs.declared.reading.Reading.{Reading}
 use Rattle.tv_decoder.proofs.Building.{Called, called}
-use Rattle.tv_decoder.proofs.Putting.{with_builder, trades_at, opened, call_trades, puts_on}
+use Rattle.tv_decoder.proofs.Putting.{with_builder, trades_at, opened, Leads, call_leads, goes_let_go, puts_on}
 
 -- ---- the state that is left, or would be
 
@@ -88,6 +88,7 @@ pub record FillsAt (a f : Option ℕ) (d : Document) (old : State) (ps : List Pa
   pub field : ℕ
   pub state : State
   pub less : length d < announced
+  pub small : field ≤ 65535
   pub is : IsState state
   pub trades : Trades (parts_at a d f old ++ ps) (open_parts announced d field state)
   pub full : 4294967295 < document_room d + state_room state
@@ -96,12 +97,12 @@ pub fills_at : (a f : Option ℕ) (d : Document) (old new : State) (ps : List Pa
 fills_at None None d old new ps has h is t full = absurd has
 fills_at None (Some f) d old new ps has h is t full = absurd h
 fills_at (Some n) None d old new ps has h is t full = absurd has
-fills_at (Some n) (Some f) d old new ps has h is t full = record { announced = n; field = f; state = new; less = h.0; is = is; trades = trades_at (Some n) (Some f) d old new ps has h t; full = full }
+fills_at (Some n) (Some f) d old new ps has h is t full = record { announced = n; field = f; state = new; less = h.0; small = h.1; is = is; trades = trades_at (Some n) (Some f) d old new ps has h t; full = full }
 
 pub fills : (r : Reading) (s : State) (ps : List Part) → IsSound r → HasField r.field → IsState s → Trades (parts_of (state_of r.builder) ++ ps) (parts_of s) → Overfull r.builder s → Fills r ps
 fills r s ps sound has is t full =
     let k = fills_at r.announced r.field (built r.builder) (state_of r.builder) s ps has sound.place is t full in
-    record { announced = k.announced; finished = built r.builder; field = k.field; state = k.state; less = k.less; is = k.is; trades = k.trades; full = k.full }
+    record { announced = k.announced; finished = built r.builder; field = k.field; state = k.state; less = k.less; small = k.small; is = k.is; trades = k.trades; full = k.full }
 
 -- ---- the call, and what it answers
 
@@ -109,16 +110,16 @@ module _ (r : Reading) (b : TreeBuilder) (what : Awaits) (in_place full : Type 0
   pub call_opens : (x : Unit {0}) → Awaiting r what → in_place → Builds r.builder b in_place heaps full after (Ok x) → MayStand (after (state_of r.builder)) → IsOpen (with_builder r b)
   call_opens x h here c stands = opened r b (after (state_of r.builder)) h.sound h.field (called r.builder b in_place full heaps after (Ok x) h.sound.live here c) stands
 
-  pub call_trade : (x : Unit {0}) → Awaiting r what → in_place → Builds r.builder b in_place heaps full after (Ok x) → Trades (parts_of (state_of r.builder) ++ ps) (parts_of (after (state_of r.builder))) → Trades (parts_read r ++ ps) (parts_read (with_builder r b))
-  call_trade x h here c t = call_trades r b (after (state_of r.builder)) ps h.sound h.field (called r.builder b in_place full heaps after (Ok x) h.sound.live here c) t
+  pub call_lead : (x : Unit {0}) → Awaiting r what → in_place → Builds r.builder b in_place heaps full after (Ok x) → Trades (parts_of (state_of r.builder) ++ ps) (parts_of (after (state_of r.builder))) → Leads r (with_builder r b) ps
+  call_lead x h here c t = call_leads r b (after (state_of r.builder)) ps h.sound h.field (called r.builder b in_place full heaps after (Ok x) h.sound.live here c) t
 
   pub call_puts : (x : Unit {0}) (new : Reading) (result : Result (Unit {0}) DeserializeError) → Awaiting r what → in_place → Builds r.builder b in_place heaps full after (Ok x) → Trades (parts_of (state_of r.builder) ++ ps) (parts_of (after (state_of r.builder)))
       → Puts (with_builder r b) new [] result → Puts r new ps result
-  call_puts x new result h here c t p = puts_on r (with_builder r b) new ps result (call_trade x h here c t) p
+  call_puts x new result h here c t p = puts_on r (with_builder r b) new ps result (call_lead x h here c t) p
 
   pub call_left : (x : Unit {0}) (new : Reading) (result : Result (Unit {0}) DeserializeError) → Awaiting r what → in_place → Builds r.builder b in_place heaps full after (Ok x) → OnErr result (LetGo (with_builder r b) new) → OnErr result (LetGo r new)
   call_left x new (Ok y) h here c l = tt
-  call_left x new (Err e) h here c l = record { document = l.document ∙ (called r.builder b in_place full heaps after (Ok x) h.sound.live here c).document; state = l.state }
+  call_left x new (Err e) h here c l = goes_let_go r b (after (state_of r.builder)) new (called r.builder b in_place full heaps after (Ok x) h.sound.live here c) l
 
   pub call_refused : (e : BuildError) (new : Reading) → Awaiting r what → in_place → Builds r.builder b in_place heaps full after (Err e) → IsState (after (state_of r.builder)) → Trades (parts_of (state_of r.builder) ++ ps) (parts_of (after (state_of r.builder)))
       → Puts r new ps (Err (build_error e))

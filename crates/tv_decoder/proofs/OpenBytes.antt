@@ -1,5 +1,5 @@
 -- What open bytes leave: their head, some of them, and their end.
-use Rattle.std.proofs.Common.{◌≡◌, ◌≢◌, ℕ, ◌+◌, ◌-◌, ◌<◌, ◌≤◌, false, List, [], ◌∷◌, ◌++◌, length, Option, Some, None, Result, Ok, Err, IsUtf8, sym, ◌∙◌, ap, subst, length-append, arith}
+use Rattle.std.proofs.Common.{◌≡◌, ◌≢◌, ℕ, ◌+◌, ◌-◌, ◌<◌, ◌≤◌, false, List, [], ◌∷◌, ◌++◌, length, Option, Some, None, Result, Ok, Err, OnErr, IsUtf8, sym, ◌∙◌, ap, subst, length-append, arith}
 use Rattle.std.proofs.lemmas.List.{append-nil}
 use Rattle.std.proofs.lemmas.Str.{IsUtf8-nil}
 use Rattle.tv_base.specs.declared.cause.Cause.{Cause}
@@ -22,11 +22,11 @@ use Rattle.tv_reader.specs.declared.error.DeserializeError.TheVariants as errors
 use Rattle.tv_value.specs.Tree.{Document}
 use Rattle.tv_decoder.specs.Errors.{build_error}
 use Rattle.tv_decoder.specs.Prefix.{parts_at, parts_read, IsPlace, IsSound, HasField}
-use Rattle.tv_decoder.specs.Puts.{MayStand, IsWithin, IsOpen, IsEnding, AtEnd, Puts, NoContent, PutsEnd, EndNoText, NoText, PutsBytes}
+use Rattle.tv_decoder.specs.Puts.{MayStand, IsWithin, IsOpen, IsEnding, AtEnd, Puts, NoContent, PutsEnd, EndNoText, NoText, PutsBytes, LetGo}
 use Rattle.tv_decoder.specs.declared.reading.Reading.{Reading}
 use Rattle.tv_decoder.proofs.Building.{CalledEnd, ended}
 use Rattle.tv_decoder.proofs.Calls.{not_finish, not_bytes, FillsAt, and_end_is}
-use Rattle.tv_decoder.proofs.Putting.{with_builder, puts_on, and_end_stands}
+use Rattle.tv_decoder.proofs.Putting.{with_builder, Leads, leads, goes_let_go, puts_on, and_end_stands}
 use Rattle.tv_decoder.proofs.States.{is_state, no_bytes_next}
 use Rattle.tv_decoder.proofs.Trading.{open_trades}
 
@@ -131,8 +131,8 @@ ends_all r h = all_bytes r.announced r.field (built r.builder) (state_of r.build
 
 pub record EndOpens (r : Reading) (b : TreeBuilder) : Type 0 where
   pub open_is : IsOpen (with_builder r b)
-  pub trades : Trades (parts_read r ++ []) (parts_read (with_builder r b))
-  pub document : built b ≡ built r.builder
+  pub goes : Goes r.builder b (and_end (state_of r.builder))
+  pub leads : Leads r (with_builder r b) []
 
 pub end_opens : (r : Reading) (b : TreeBuilder) (x : Unit {0}) → AtEnd r → Ends r.builder b (Ok x) → EndOpens r b
 end_opens r b x h c =
@@ -148,15 +148,20 @@ end_opens r b x h c =
         counted = h.counted ∙ ap length (sym g.document);
         within = subst (λ z. IsWithin r.announced z r.field (state_of b)) (sym g.document) (subst (λ z. IsWithin r.announced (built r.builder) r.field z) (sym g.state) e.within);
       };
-      trades = trades_as _ now e.trades;
-      document = g.document;
+      goes = g;
+      leads = leads r b (and_end (state_of r.builder)) [] g (trades_as _ now e.trades);
     }
+
+-- what is let go of when a pair can't be finished
+pub end_left : (r : Reading) (b : TreeBuilder) (new : Reading) (result : Result (Unit {0}) DeserializeError) → EndOpens r b → OnErr result (LetGo (with_builder r b) new) → OnErr result (LetGo r new)
+end_left r b new (Ok x) o l = tt
+end_left r b new (Err e) o l = goes_let_go r b (and_end (state_of r.builder)) new o.goes l
 
 -- the heap has no room for what is closed
 end_fills_at : (a f : Option ℕ) (d : Document) (s : State) (finished : ℕ) → IsEnding a d f s → IsState (and_end s) → Trades (parts_of s ++ []) (parts_of (and_end s)) → 4294967295 < document_room d + state_room (and_end s) → FillsAt a f d s []
 end_fills_at None f d s finished h is t full = absurd h
 end_fills_at (Some n) None d s finished h is t full = absurd h
-end_fills_at (Some n) (Some f) d s finished h is t full = record { announced = n; field = f; state = and_end s; less = h.0; is = is; trades = open_trades n d f s (and_end s) [] t; full = full }
+end_fills_at (Some n) (Some f) d s finished h is t full = record { announced = n; field = f; state = and_end s; less = h.0; small = h.1; is = is; trades = open_trades n d f s (and_end s) [] t; full = full }
 
 pub end_refused : (r new : Reading) (b : TreeBuilder) (e : BuildError) → AtEnd r → Ends r.builder b (Err e) → PutsEnd r new (Err (build_error e))
 end_refused r new b e h c = refused e c (ended r.builder b (Err e) h.live (ends_all r h) c)
@@ -167,7 +172,7 @@ end_refused r new b e h c = refused e c (ended r.builder b (Err e) h.live (ends_
     refused : (e : BuildError) → Ends r.builder b (Err e) → CalledEnd r.builder b (Err e) → PutsEnd r new (Err (build_error e))
     refused HeapFull c k =
         let f = end_fills_at r.announced r.field (built r.builder) s 0 h.ending (and_end_is s (is_state r.builder)) (end_trades s (is_state r.builder) (ends_all r h) k.0) k.1 in
-        record { announced = f.announced; finished = built r.builder; field = f.field; state = f.state; less = f.less; is = f.is; trades = f.trades; full = f.full }
+        record { announced = f.announced; finished = built r.builder; field = f.field; state = f.state; less = f.less; small = f.small; is = f.is; trades = f.trades; full = f.full }
     refused Memory c k = tt
     refused NotUtf8 c k = k
     refused AlreadyFailed c k = absurd k
@@ -176,7 +181,7 @@ end_refused r new b e h c = refused e c (ended r.builder b (Err e) h.live (ends_
 
 -- ---- together
 
-pub puts_end : (r mid new : Reading) (result : Result (Unit {0}) DeserializeError) → Trades (parts_read r ++ []) (parts_read mid) → Puts mid new [] result → PutsEnd r new result
+pub puts_end : (r mid new : Reading) (result : Result (Unit {0}) DeserializeError) → Leads r mid [] → Puts mid new [] result → PutsEnd r new result
 puts_end r mid new (Ok x) t h = puts_on r mid new [] (Ok x) t h
 puts_end r mid new (Err errors.HeapFull) t h = puts_on r mid new [] (Err errors.HeapFull) t h
 puts_end r mid new (Err errors.Memory) t h = tt
@@ -192,7 +197,7 @@ content_there : (c : Cause) (s : State) → HasContent s → NoContent c s → �
 content_there causes.NotUtf8 s h none = none h
 content_there _ s h none = none
 
-pub puts_from_end : (r mid new : Reading) (ps : List Part) (result : Result (Unit {0}) DeserializeError) → Trades (parts_read r ++ ps) (parts_read mid) → HasContent (state_of mid.builder) → PutsEnd mid new result → Puts r new ps result
+pub puts_from_end : (r mid new : Reading) (ps : List Part) (result : Result (Unit {0}) DeserializeError) → Leads r mid ps → HasContent (state_of mid.builder) → PutsEnd mid new result → Puts r new ps result
 puts_from_end r mid new ps (Ok x) t content h = puts_on r mid new ps (Ok x) t h
 puts_from_end r mid new ps (Err errors.HeapFull) t content h = puts_on r mid new ps (Err errors.HeapFull) t h
 puts_from_end r mid new ps (Err errors.Memory) t content h = tt
@@ -208,7 +213,7 @@ text_or : (c : Cause) (s after : State) (more : List ℕ) → (¬ HasContent aft
 text_or causes.NotUtf8 s after more map none = map none
 text_or _ s after more map none = none
 
-pub bytes_from_end : (r mid new : Reading) (more : List ℕ) (ps : List Part) (result : Result (Unit {0}) DeserializeError) → Trades (parts_read r ++ ps) (parts_read mid) → (¬ HasContent (state_of mid.builder) → EndNoText (state_of r.builder) more)
+pub bytes_from_end : (r mid new : Reading) (more : List ℕ) (ps : List Part) (result : Result (Unit {0}) DeserializeError) → Leads r mid ps → (¬ HasContent (state_of mid.builder) → EndNoText (state_of r.builder) more)
     → PutsEnd mid new result → PutsBytes r new more ps result
 bytes_from_end r mid new more ps (Ok x) t map h = puts_on r mid new ps (Ok x) t h
 bytes_from_end r mid new more ps (Err errors.HeapFull) t map h = puts_on r mid new ps (Err errors.HeapFull) t h

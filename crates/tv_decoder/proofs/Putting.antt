@@ -1,6 +1,6 @@
 -- What a part that has come leaves.
-use Rattle.std.proofs.Common.{◌≡◌, ◌≢◌, ℕ, ◌+◌, ◌<◌, ◌≤◌, true, false, Bool, cond, nat_eq, List, [], ◌∷◌, ◌++◌, length, Option, Some, None, Result, Ok, Err, refl, sym, ◌∙◌, ap, subst, length-append, arith}
-use Rattle.std.proofs.lemmas.List.{append-nil}
+use Rattle.std.proofs.Common.{◌≡◌, ◌≢◌, ℕ, ◌+◌, ◌<◌, ◌≤◌, true, false, Bool, cond, nat_eq, List, [], ◌∷◌, ◌++◌, length, take, Option, Some, None, Result, Ok, Err, refl, sym, ◌∙◌, ap, subst, length-append, arith, inl, inr}
+use Rattle.std.proofs.lemmas.List.{append-nil, take-append-le}
 use Rattle.tv_builder.specs.declared.awaits.Awaits.TheVariants as awaits
 use Rattle.tv_builder.specs.declared.bytes_kind.BytesKind.{BytesKind}
 use Rattle.tv_builder.specs.declared.bytes_kind.BytesKind.TheVariants as kinds
@@ -10,12 +10,14 @@ use Rattle.tv_builder.specs.Parts.{Part, Trades, same}
 use Rattle.tv_builder.specs.State.{OpenList, State, complete, in_lists, in_bytes, awaited, lacks_more, with_child, list_tree, with_value, with_key, with_content, and_value, and_list, and_end, parts_of}
 use Rattle.tv_builder.proofs.Trading.{trades_as, trades_from, trades_then}
 use Rattle.tv_doc.specs.declared.builder.TreeBuilder.{TreeBuilder}
-use Rattle.tv_doc.specs.Builder.{built, state_of, Goes, HasAllBytes, IsComplete, Finished}
+use Rattle.tv_base.specs.Sink.{IsPrefix}
+use Rattle.tv_builder.proofs.Giving.{prefix_then}
+use Rattle.tv_doc.specs.Builder.{built, state_of, heap_so_far, Goes, HasAllBytes, IsComplete, Finished}
 use Rattle.tv_reader.specs.declared.error.DeserializeError.{DeserializeError}
 use Rattle.tv_reader.specs.declared.error.DeserializeError.TheVariants as errors
 use Rattle.tv_value.specs.Tree.{Tree, Document}
 use Rattle.tv_decoder.specs.Prefix.{parts_at, parts_read, Lacks, IsPlace, IsSound, HasField}
-use Rattle.tv_decoder.specs.Puts.{MayStand, IsWithin, IsOpen, Put, Puts}
+use Rattle.tv_decoder.specs.Puts.{MayStand, IsWithin, IsOpen, Grows, Put, Puts, LetGo}
 use Rattle.tv_decoder.specs.declared.reading.Reading.{Reading}
 use Rattle.tv_decoder.proofs.States.{no_finish_next}
 use Rattle.tv_decoder.proofs.Trading.{open_trades, pair_trades}
@@ -51,6 +53,7 @@ closed r new f h is g announced finished field =
             (subst (λ z. IsPlace r.announced (built r.builder ++ (f, g.tree) ∷ []) z (state_of new.builder)) (sym field)
             (subst (λ z. IsPlace r.announced (built r.builder ++ (f, g.tree) ∷ []) None z) (sym g.state) k.place)));
       };
+      grows = record { heap = ([], g.heap ∙ sym (append-nil (heap_so_far r.builder))); ends = inr ((f, g.tree), g.document, g.kept ∙ ap length (sym g.heap)) };
       trades = trades_from _ (ap (λ z. parts_at r.announced (built r.builder) z (state_of r.builder) ++ []) is) (trades_as _ now k.trades);
     }
 
@@ -72,9 +75,14 @@ place_at (Some n) d (Some f) s other h = (h.0, h.1, lacks_at s other h.2)
 place_at (Some n) d None s other h = absurd h
 place_at None d f s other h = absurd h
 
+-- the same builder
+pub same_grows : (r new : Reading) → new.builder ≡ r.builder → Grows r new
+same_grows r new e = record { heap = ([], ap heap_so_far e ∙ sym (append-nil (heap_so_far r.builder))); ends = inl (ap built e, ap (λ (b : TreeBuilder). b.kept) e) }
+
 pub stays : (r : Reading) → IsOpen r → awaited (state_of r.builder) ≢ awaits.Finish → Put r r []
 stays r h other = record {
   sound = record { live = h.live; counted = h.counted; place = place_at r.announced (built r.builder) r.field (state_of r.builder) other h.within };
+  grows = same_grows r r refl;
   trades = trades_from _ (append-nil (parts_read r)) same;
 }
 
@@ -131,14 +139,42 @@ opened r b s h has g stands = record {
       (subst (λ z. IsWithin r.announced (built r.builder) r.field z) (sym g.state) (within_at r.announced r.field (built r.builder) (state_of r.builder) s has h.place stands));
 }
 
-pub call_trades : (r : Reading) (b : TreeBuilder) (s : State) (ps : List Part) → IsSound r → HasField r.field → Goes r.builder b s → Trades (parts_of (state_of r.builder) ++ ps) (parts_of s) → Trades (parts_read r ++ ps) (parts_read (with_builder r b))
-call_trades r b s ps h has g t =
-    let now : parts_at r.announced (built r.builder) r.field s ≡ parts_read (with_builder r b) = λ i. parts_at r.announced (sym g.document i) r.field (sym g.state i) in
-    trades_as _ now (trades_at r.announced r.field (built r.builder) (state_of r.builder) s ps has h.place t)
+-- what a call leads to, before what it completes is closed
+pub record Leads (r mid : Reading) (ps : List Part) : Type 0 where
+  pub trades : Trades (parts_read r ++ ps) (parts_read mid)
+  pub heap : IsPrefix (heap_so_far r.builder) (heap_so_far mid.builder)
+  pub document : built mid.builder ≡ built r.builder
+  pub kept : mid.builder.kept ≡ r.builder.kept
 
-pub puts_on : (r mid new : Reading) (ps : List Part) (result : Result (Unit {0}) DeserializeError) → Trades (parts_read r ++ ps) (parts_read mid) → Puts mid new [] result → Puts r new ps result
-puts_on r mid new ps (Ok x) t h = record { sound = h.sound; trades = trades_then t (trades_from _ (sym (append-nil (parts_read mid))) h.trades) }
-puts_on r mid new ps (Err errors.HeapFull) t h = record { announced = h.announced; finished = h.finished; field = h.field; state = h.state; less = h.less; is = h.is; trades = trades_then t (trades_from _ (sym (append-nil (parts_read mid))) h.trades); full = h.full }
+pub leads : (r : Reading) (b : TreeBuilder) (s : State) (ps : List Part) → Goes r.builder b s → Trades (parts_read r ++ ps) (parts_read (with_builder r b)) → Leads r (with_builder r b) ps
+leads r b s ps g t = record { trades = t; heap = g.grows; document = g.document; kept = g.kept }
+
+pub call_leads : (r : Reading) (b : TreeBuilder) (s : State) (ps : List Part) → IsSound r → HasField r.field → Goes r.builder b s → Trades (parts_of (state_of r.builder) ++ ps) (parts_of s) → Leads r (with_builder r b) ps
+call_leads r b s ps h has g t =
+    let now : parts_at r.announced (built r.builder) r.field s ≡ parts_read (with_builder r b) = λ i. parts_at r.announced (sym g.document i) r.field (sym g.state i) in
+    leads r b s ps g (trades_as _ now (trades_at r.announced r.field (built r.builder) (state_of r.builder) s ps has h.place t))
+
+grows_on : (r mid new : Reading) (ps : List Part) → Leads r mid ps → Grows mid new → Grows r new
+grows_on r mid new ps l g = record {
+  heap = prefix_then (heap_so_far r.builder) (heap_so_far mid.builder) (heap_so_far new.builder) l.heap g.heap;
+  ends = elim g.ends [
+    | inl p ↦ inl (p.0 ∙ l.document, p.1 ∙ l.kept)
+    | inr p ↦ inr (p.0, p.1 ∙ ap (λ z. z ++ p.0 ∷ []) l.document, p.2)
+  ];
+}
+
+-- and what is let go of then
+pub goes_let_go : (r : Reading) (b : TreeBuilder) (s : State) (new : Reading) → Goes r.builder b s → LetGo (with_builder r b) new → LetGo r new
+goes_let_go r b s new g l = record {
+  document = l.document ∙ g.document;
+  kept = l.kept ∙ g.kept;
+  heap = l.heap ∙ ap (λ n. take n (heap_so_far b)) g.kept ∙ ap (λ z. take r.builder.kept z) g.grows.1 ∙ take-append-le r.builder.kept (heap_so_far r.builder) g.grows.0 r.builder.kept_within;
+  state = l.state;
+}
+
+pub puts_on : (r mid new : Reading) (ps : List Part) (result : Result (Unit {0}) DeserializeError) → Leads r mid ps → Puts mid new [] result → Puts r new ps result
+puts_on r mid new ps (Ok x) l h = record { sound = h.sound; grows = grows_on r mid new ps l h.grows; trades = trades_then l.trades (trades_from _ (sym (append-nil (parts_read mid))) h.trades) }
+puts_on r mid new ps (Err errors.HeapFull) l h = record { announced = h.announced; finished = h.finished; field = h.field; state = h.state; less = h.less; small = h.small; is = h.is; trades = trades_then l.trades (trades_from _ (sym (append-nil (parts_read mid))) h.trades); full = h.full }
 puts_on r mid new ps (Err errors.Memory) t h = tt
 puts_on r mid new ps (Err (errors.CorruptedValue c)) t h = absurd h
 puts_on r mid new ps (Err (errors.UnsupportedType k)) t h = absurd h

@@ -30,6 +30,7 @@ use Rattle.tv_value.specs.Tree.{Tree, leaf, array, object, Entries}
 use Rattle.tv_value.specs.Version.{Version, V1, V2, V3, Scale, Scaled}
 use Rattle.tv_value.specs.Version as scales
 use Rattle.tv_value.specs.declared.leaf.LeafType.TheVariants as leaves
+use Rattle.tv_decoder.proofs.Putting.{same_grows}
 use Rattle.tv_decoder.specs.Prefix.{parts_at, parts_read, Lacks, IsPlace, IsSound, LacksPair, NoPrefix, NoRoomBehind, ValueNext}
 use Rattle.tv_decoder.specs.Puts.{Put, Fills, Puts, IsParts, head_parts}
 use Rattle.tv_decoder.specs.Steps.{Advances, BeginsWith, IsTakenWhole, Stepped}
@@ -76,6 +77,7 @@ number_put r new n sound none announced finished field_is builder =
             (subst (λ z. IsPlace (Some n) (built r.builder) z (state_of new.builder)) (sym field_is)
             (subst (λ z. IsPlace (Some n) (built r.builder) r.field z) (sym state) k.0)));
       };
+      grows = same_grows r new builder;
       trades = trades_from _ (ap (λ z. z ++ number n ∷ []) before) (trades_as _ after same);
     }
   where
@@ -102,6 +104,7 @@ field_put r new f sound none lacks small announced finished field_is builder =
             (subst (λ z. IsPlace r.announced (built r.builder) z (state_of new.builder)) (sym field_is)
             (subst (λ z. IsPlace r.announced (built r.builder) (Some f) z) (sym state) k.0)));
       };
+      grows = same_grows r new builder;
       trades = trades_from _ before (trades_as _ after same);
     }
   where
@@ -149,6 +152,7 @@ no_room v old ps whole rest taken joined encoded f = λ bytes p. record {
   rest = rest;
   joined = ap (λ (z : List ℕ). bytes ++ z) joined ∙ sym (append_assoc bytes taken rest);
   less = f.less;
+  small = f.small;
   is = f.is;
   encoded = trades_sound Legacy v (parts_read old ++ ps) (open_parts f.announced f.finished f.field f.state) (bytes ++ taken) f.trades (each_append (EncodesPart Legacy v) (parts_read old) ps bytes taken p encoded);
   full = f.full;

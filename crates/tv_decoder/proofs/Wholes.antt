@@ -14,7 +14,7 @@ use Rattle.tv_legacy.specs.Legacy.{Legacy}
 use Rattle.tv_reader.specs.Finds.{Refuses, Found, Finds}
 use Rattle.tv_reader.specs.HeadReading.{head_part}
 use Rattle.tv_reader.specs.Heads.{EncodesHead}
-use Rattle.tv_reader.specs.Trees.{EncodesValue, NoValue, EncodesBehind, NoneBehind}
+use Rattle.tv_reader.specs.Trees.{NoValue, NoneBehind}
 use Rattle.tv_reader.specs.Error.{store_stop}
 use Rattle.tv_reader.specs.ValueType.{coded}
 use Rattle.tv_reader.specs.declared.error.DeserializeError.{DeserializeError}
@@ -26,12 +26,19 @@ use Rattle.tv_reader.proofs.BehindKinds.{kind_edge, held_error}
 use Rattle.tv_value.specs.declared.leaf.LeafType.TheVariants as leaves
 use Rattle.tv_reader.proofs.Finding.{finds_then, finds_as, finds_fails, finds_short}
 use Rattle.tv_value.specs.InputError.{Refusal, corrupted, value_ends, no_extension}
-use Rattle.tv_value.specs.Encoding.{NoLegacy}
-use Rattle.tv_value.specs.Tree.{Document}
+use Rattle.tv_value.specs.Encoding.{Encodes, NoLegacy}
+use Rattle.tv_value.specs.EncodedTokens.{gathered}
+use Rattle.tv_value.specs.PreTokenized.{text_of, tokens_of, tokenized_leaf}
+use Rattle.tv_value.specs.Tree.{Tree, leaf, tokenized, Document}
+use Rattle.tv_value.specs.declared.encoded_tokens.EncodedTokens.{EncodedTokens}
+use Rattle.tv_value.specs.declared.pre_tokenized.PreTokenizedStr.{PreTokenizedStr}
+use Rattle.tv_reader.specs.EncodedTokens.{tokenized_tree}
+use Rattle.std.specs.String.{string_bytes}
+use Rattle.std.specs.declared.alloc.Global.{Global}
+use Rattle.std.specs.declared.string.String.{String}
 use Rattle.tv_value.specs.Version.{Version}
-use Rattle.tv_value.specs.declared.owned_value.OwnedValue.{OwnedValue}
 use Rattle.tv_decoder.specs.Prefix.{IsPlace, IsSound, HasField, NoPrefix, NoRoomBehind}
-use Rattle.tv_decoder.specs.Puts.{Awaiting, Fills, Puts, EndNoText, NoText, PutsBytes, IsParts, LetGo, KeepsPairs}
+use Rattle.tv_decoder.specs.Puts.{Awaiting, Fills, Puts, EndNoText, NoText, PutsBytes, IsParts, Grows, LetGo, KeepsPairs}
 use Rattle.tv_decoder.specs.Steps.{Stepped}
 use Rattle.tv_decoder.specs.declared.reading.Reading.{Reading}
 use Rattle.tv_decoder.proofs.WithErrors.{value_at_error, end_at_error, text_at_error}
@@ -46,6 +53,14 @@ end = corrupted causes.UnexpectedEnd
 pub sound_of : (old new : Reading) (ps : List Part) (result : Result (Unit {0}) DeserializeError) → Puts old new ps result → OnOk result (IsSound new)
 sound_of old new ps (Ok x) h = h.sound
 sound_of old new ps (Err e) h = tt
+
+pub grows_of : (old new : Reading) (ps : List Part) (result : Result (Unit {0}) DeserializeError) → Puts old new ps result → OnOk result (Grows old new)
+grows_of old new ps (Ok x) h = h.grows
+grows_of old new ps (Err e) h = tt
+
+pub bytes_grow : (old new : Reading) (more : List ℕ) (ps : List Part) (result : Result (Unit {0}) DeserializeError) → PutsBytes old new more ps result → OnOk result (Grows old new)
+bytes_grow old new more ps (Ok x) h = h.grows
+bytes_grow old new more ps (Err e) h = tt
 
 pub bytes_sound : (old new : Reading) (more : List ℕ) (ps : List Part) (result : Result (Unit {0}) DeserializeError) → PutsBytes old new more ps result → OnOk result (IsSound new)
 bytes_sound old new more ps (Ok x) h = h.sound
@@ -75,26 +90,26 @@ finds_seen {left = left} {os = os} {ns = ns} {k = k} {result = result} v legacy 
 
 -- ---- a value behind its codes
 
-pub record IsBehind (v : Version) (kind : ValueType) (a : List ℕ) (value : OwnedValue) : Type 0 where
+pub record IsBehind {X : Type 0} (view : X → Tree) (v : Version) (kind : ValueType) (a : List ℕ) (x : X) : Type 0 where
   pub body : List ℕ
   pub joined : a ≡ coded kind ++ body
-  pub encoded : EncodesValue v a value
+  pub encoded : Encodes Legacy v a (view x)
 
 value_edge : (v : Version) (old : Reading) (kind : ValueType) → Awaiting old awaits.Value → (a start : List ℕ) (byte : ℕ) → a ≡ coded kind → a ≡ start ++ byte ∷ [] → NoPrefix v old start end
 value_edge v old kind h a start byte is last = kind_edge end (NoPrefix v old) (value_at_error v old [] end h value_ends) (value_at_error v old (7 ∷ []) end h (held_error leaves.PreTokStr (no_extension refl))) kind start byte (sym is ∙ last)
 
-pub whole_found : {S : Type 0} {is_known : S → Type 0} {left : S → List ℕ} {failures : S → Failures} {os ms ns : S} {i j k : ℕ} {head : Head} {value : OwnedValue} {I : List ℕ → Refusal → Type 0} (v : Version) (old : Reading) (kind : ValueType) → Awaiting old awaits.Value
-    → ((a : List ℕ) → EncodesHead v a (head_part head) → a ≡ coded kind) → Finds is_known left failures os i ms j (Ok head) (λ b x. EncodesHead v b (head_part x)) I → Finds is_known left failures ms j ns k (Ok value) (EncodesBehind v kind) (NoneBehind v kind)
-    → Finds is_known left failures os i ns k (Ok value) (IsBehind v kind) (NoPrefix v old)
-whole_found {head = head} v old kind h is p q =
-    finds_then (IsBehind v kind) (NoPrefix v old)
-    (λ a b y r s. record { body = b; joined = ap (λ (z : List ℕ). z ++ b) r; encoded = subst (λ z. EncodesValue v (z ++ b) y) (sym r) s })
+pub whole_found : {S X : Type 0} {is_known : S → Type 0} {left : S → List ℕ} {failures : S → Failures} {os ms ns : S} {i j k : ℕ} {head : Head} {x : X} {I : List ℕ → Refusal → Type 0} (view : X → Tree) (v : Version) (old : Reading) (kind : ValueType) → Awaiting old awaits.Value
+    → ((a : List ℕ) → EncodesHead v a (head_part head) → a ≡ coded kind) → Finds is_known left failures os i ms j (Ok head) (λ b x. EncodesHead v b (head_part x)) I → Finds is_known left failures ms j ns k (Ok x) (λ b y. Encodes Legacy v (coded kind ++ b) (view y)) (NoneBehind v kind)
+    → Finds is_known left failures os i ns k (Ok x) (IsBehind view v kind) (NoPrefix v old)
+whole_found {head = head} view v old kind h is p q =
+    finds_then (IsBehind view v kind) (NoPrefix v old)
+    (λ a b y r s. record { body = b; joined = ap (λ (z : List ℕ). z ++ b) r; encoded = subst (λ z. Encodes Legacy v (z ++ b) (view y)) (sym r) s })
     (λ a w c r f. value_at_error v old (a ++ w) c h (subst (λ z. NoValue v (z ++ w) c) (sym r) f))
     (λ a f r other _ start byte last. value_edge v old kind h a start byte r last)
     (finds_as head (λ a _. a ≡ coded kind) (λ w r. Unit {0}) is p) q
 
-pub whole_fails : {S : Type 0} {is_known : S → Type 0} {left : S → List ℕ} {failures : S → Failures} {os ms ns : S} {i j k : ℕ} {head : Head} {e : DeserializeError} {I : List ℕ → Refusal → Type 0} (v : Version) (legacy : Bool) (old new : Reading) (kind : ValueType) → Awaiting old awaits.Value
-    → ((a : List ℕ) → EncodesHead v a (head_part head) → a ≡ coded kind) → Finds is_known left failures os i ms j (Ok head) (λ b x. EncodesHead v b (head_part x)) I → Finds {X = OwnedValue} is_known left failures ms j ns k (Err e) (EncodesBehind v kind) (NoneBehind v kind)
+pub whole_fails : {S X : Type 0} {A : List ℕ → X → Type 0} {is_known : S → Type 0} {left : S → List ℕ} {failures : S → Failures} {os ms ns : S} {i j k : ℕ} {head : Head} {e : DeserializeError} {I : List ℕ → Refusal → Type 0} (v : Version) (legacy : Bool) (old new : Reading) (kind : ValueType) → Awaiting old awaits.Value
+    → ((a : List ℕ) → EncodesHead v a (head_part head) → a ≡ coded kind) → Finds is_known left failures os i ms j (Ok head) (λ b x. EncodesHead v b (head_part x)) I → Finds {X = X} is_known left failures ms j ns k (Err e) A (NoneBehind v kind)
     → Finds {X = Unit {0}} is_known left failures os i ns k (Err e) (λ b _. Stepped v legacy old new b) (NoPrefix v old)
 whole_fails {head = head} v legacy old new kind h is p q =
     finds_then (λ b _. Stepped v legacy old new b) (NoPrefix v old)
@@ -102,6 +117,10 @@ whole_fails {head = head} v legacy old new kind h is p q =
     (λ a w c r f. value_at_error v old (a ++ w) c h (subst (λ z. NoValue v (z ++ w) c) (sym r) f))
     (λ a f r other _ start byte last. value_edge v old kind h a start byte r last)
     (finds_as head (λ a _. a ≡ coded kind) (λ w r. Unit {0}) is p) (finds_fails (λ b z. ⊥) (NoneBehind v kind) (λ w c f. f) q)
+
+-- a text with its tokens, lent out of what was gathered
+pub lent_is : (s : PreTokenizedStr) (content : String Global) (tokens : EncodedTokens) → text_of s ≡ string_bytes content → tokens_of s ≡ gathered tokens → leaf (tokenized_leaf s) ≡ tokenized_tree (content, tokens)
+lent_is s content tokens e f = λ i. leaf (tokenized (e i) (f i))
 
 -- ---- some of the announced bytes
 

@@ -71,6 +71,7 @@ pub record HasNoRoom (v : Version) (whole : List ℕ) : Type 0 where
   pub rest : List ℕ
   pub joined : whole ≡ prefix ++ rest
   pub less : length finished < announced
+  pub small : field ≤ 65535
   pub is : IsState state
   pub encoded : Encoded Legacy v prefix (open_parts announced finished field state)
   pub full : 4294967295 < document_room finished + state_room state

@@ -1,5 +1,5 @@
 -- What a part that has come does to what is read.
-use Rattle.std.specs.Prelude.{◌⊎◌, false, ◌≡◌, ℕ, ◌+◌, ◌<◌, ◌≤◌, List, [], ◌∷◌, ◌++◌, length, Option, Some, Result, Ok, Err, IsUtf8}
+use Rattle.std.specs.Prelude.{◌⊎◌, false, ◌≡◌, ℕ, ◌+◌, ◌<◌, ◌≤◌, List, [], ◌∷◌, ◌++◌, length, take, Option, Some, Result, Ok, Err, IsUtf8}
 use Rattle.tv_base.specs.declared.cause.Cause.{Cause}
 use Rattle.tv_base.specs.declared.cause.Cause.TheVariants as causes
 use Rattle.tv_builder.specs.Behind.{open_parts}
@@ -9,12 +9,13 @@ use Rattle.tv_builder.specs.State.{State, complete, in_lists, in_bytes, IsState,
 use Rattle.tv_builder.specs.declared.awaits.Awaits.{Awaits}
 use Rattle.tv_builder.specs.declared.bytes_kind.BytesKind.{BytesKind}
 use Rattle.tv_builder.specs.declared.bytes_kind.BytesKind.TheVariants as kinds
-use Rattle.tv_doc.specs.Builder.{built, state_of, HasAllBytes, HasContent}
+use Rattle.tv_base.specs.Sink.{IsPrefix}
+use Rattle.tv_doc.specs.Builder.{built, state_of, heap_so_far, HasAllBytes, HasContent}
 use Rattle.tv_heap.specs.Room.{document_room}
 use Rattle.tv_reader.specs.Heads.{HeadPart, leaf_head, length_head, array_head as array_number, object_head as object_number, tokenized_head, legacy_head}
 use Rattle.tv_reader.specs.declared.error.DeserializeError.{DeserializeError}
 use Rattle.tv_reader.specs.declared.error.DeserializeError.TheVariants as errors
-use Rattle.tv_value.specs.Tree.{Document, leaf}
+use Rattle.tv_value.specs.Tree.{Tree, Document, leaf}
 use Rattle.tv_value.specs.declared.leaf.LeafType.{LeafType}
 use Rattle.tv_value.specs.declared.leaf.LeafType.TheVariants as leaves
 use Rattle.tv_decoder.specs.Prefix.{parts_read, IsSound, HasField}
@@ -55,9 +56,21 @@ pub record Awaiting (r : Reading) (what : Awaits) : Type 0 where
 
 -- ---- what a call leaves
 
+-- Where the finished pairs end in the heap: where they ended before, or at its end, where a pair more is finished.
+abbrev pub EndsPairs : Reading → Reading → Type 0
+EndsPairs old new =
+    ((built new.builder ≡ built old.builder) × (new.builder.kept ≡ old.builder.kept))
+    ⊎ ((pair : ℕ × Tree) × (built new.builder ≡ built old.builder ++ pair ∷ []) × (new.builder.kept ≡ length (heap_so_far new.builder)))
+
+-- the heap grows at its end
+pub record Grows (old new : Reading) : Type 0 where
+  pub heap : IsPrefix (heap_so_far old.builder) (heap_so_far new.builder)
+  pub ends : EndsPairs old new
+
 -- Whatever encodes what had come, with the part behind it, encodes what has come now.
 pub record Put (old new : Reading) (ps : List Part) : Type 0 where
   pub sound : IsSound new
+  pub grows : Grows old new
   pub trades : Trades (parts_read old ++ ps) (parts_read new)
 
 -- it encodes what has no room
@@ -67,6 +80,7 @@ pub record Fills (old : Reading) (ps : List Part) : Type 0 where
   pub field : ℕ
   pub state : State
   pub less : length finished < announced
+  pub small : field ≤ 65535
   pub is : IsState state
   pub trades : Trades (parts_read old ++ ps) (open_parts announced finished field state)
   pub full : 4294967295 < document_room finished + state_room state
@@ -130,9 +144,11 @@ head_parts legacy_head = []
 
 -- ---- after a refusal
 
--- what isn't finished was let go of
+-- what isn't finished was let go of, and the heap ends behind the finished pairs
 pub record LetGo (old new : Reading) : Type 0 where
   pub document : built new.builder ≡ built old.builder
+  pub kept : new.builder.kept ≡ old.builder.kept
+  pub heap : heap_so_far new.builder ≡ take old.builder.kept (heap_so_far old.builder)
   pub state : state_of new.builder ≡ in_lists []
 
 -- or nothing has changed

@@ -1,5 +1,5 @@
 -- What a step of a reader takes, and what has come then.
-use Rattle.std.specs.Prelude.{◌≡◌, ℕ, ◌<◌, ◌≤◌, ◌⊎◌, Bool, true, false, List, [], ◌∷◌, ◌++◌, length}
+use Rattle.std.specs.Prelude.{◌≡◌, ℕ, ◌+◌, ◌<◌, ◌≤◌, ◌⊎◌, Bool, true, false, List, [], ◌∷◌, ◌++◌, length}
 use Rattle.tv_builder.specs.Prefix.{Encoded}
 use Rattle.tv_legacy.specs.Legacy.{Legacy}
 use Rattle.tv_value.specs.Encoding.{NoLegacy}
@@ -19,6 +19,10 @@ BeginsWith code (b ∷ bytes) = b ≡ code
 -- a pre-tokenized text, or an object as older stores hold it
 abbrev pub IsTakenWhole : Reading → List ℕ → Type 0
 IsTakenWhole r bytes = ValueNext r × (BeginsWith 7 bytes ⊎ BeginsWith 8 bytes)
+
+-- so many bytes of those that were left were taken, whatever came of them: at most 4096, unless a value is taken whole
+abbrev pub IsFew : Reading → List ℕ → ℕ → ℕ → Type 0
+IsFew old left before after = (after ≤ before + 4096) ⊎ IsTakenWhole old left
 
 -- A step took these bytes: one at least, and at most 4096 unless a value was taken whole. Where no object of an older store was seen, none
 -- is encoded by them.

@@ -1,14 +1,15 @@
 //! A decoder of documents with a stack of its own, which is lent its source for each step.
 
-ghost use Rattle.std.specs.Prelude.{◌≡◌, ◌↔◌, ◌-◌, ◌^◌, List, ℕ, [], length, true, false, Ok, Err};
+ghost use Rattle.std.specs.Prelude.{◌≡◌, ◌↔◌, ◌-◌, ◌^◌, List, ℕ, [], length, take, true, false, Ok, Err};
 ghost use Rattle.std.specs.Prelude.{IfOk, OnOk, OnErr, IsErrOf};
 ghost use Rattle.tv_base.specs.declared.cause.Cause.TheVariants.{TooLong};
 ghost use Rattle.tv_decoder.specs.Prefix.{parts_read, IsSound, IsDone, NoPrefix, NoRoomBehind};
 ghost use Rattle.tv_decoder.specs.Paid.{PaidBy};
+ghost use Rattle.tv_decoder.specs.Puts.{Grows, KeepsPairs};
 ghost use Rattle.tv_decoder.specs.Sound.{SoundUnless-prop};
-ghost use Rattle.tv_decoder.specs.Steps.{Stepped, Sees};
+ghost use Rattle.tv_decoder.specs.Steps.{Stepped, Sees, IsFew};
 ghost use Rattle.tv_doc.specs.Builder.{built, state_of, heap_so_far};
-ghost use Rattle.tv_doc.specs.Document.{document_of};
+ghost use Rattle.tv_doc.specs.Document.{document_of, heap_of};
 ghost use Rattle.tv_builder.specs.Prefix.{Encoded};
 ghost use Rattle.tv_builder.specs.State.{lists_of, children_of};
 ghost use Rattle.tv_reader.specs.Finds.{Finds};
@@ -112,6 +113,14 @@ impl DirectDecoder {
         ensures live { OnOk result (self.new.failed ≡ false) }
         ensures mark { OnErr result (self.new.failed ≡ true) }
 
+        // at most 4096 bytes were taken, also where they are refused, unless a value is taken whole
+        ensures few { S.is_known source.old
+            → IsFew self.old.reading (S.left source.old) self.old.count self.new.count }
+
+        // the heap grows at its end, and ends behind the finished pairs after a refusal; these are kept
+        ensures grows { OnOk result (Grows self.old.reading self.new.reading) }
+        ensures kept { OnErr result (KeepsPairs self.old.reading self.new.reading) }
+
         // objects of older stores, and what is paid for by the bytes that were read
         ensures seen { S.is_known source.old
             → Sees self.old.reading (S.left source.old) self.old.legacy_seen self.new.legacy_seen }
@@ -148,7 +157,9 @@ impl DirectDecoder {
 
     /// The document of the finished pairs, at any time, also after a refusal. Its heap ends behind the last of their values.
     pub fn into_doc(self) -> CompactDoc
-        ensures { document_of result ≡ built self.reading.builder }
+        ensures document { document_of result ≡ built self.reading.builder }
+        ensures heap { heap_of result
+            ≡ take self.reading.builder.kept (heap_so_far self.reading.builder) }
     {
         self.reading.into_doc()
     }

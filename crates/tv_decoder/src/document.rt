@@ -42,7 +42,7 @@ fn take_rest<S: ByteSource>(
             return Ok(reading.into_doc());
         }
         reading.advance(alloc, source, count, version, &mut legacy_seen, &mut bytes)?;
-        reading = reading.with_buffered_pairs(source, count, version)?;
+        reading = reading.with_buffered_pairs(source, count, version);
     }
     let _taken = *count;
     *count = u64::MAX;
@@ -53,7 +53,7 @@ fn take_rest<S: ByteSource>(
 /// announced numbers, and no byte behind the document is taken.
 ///
 /// Errors: `CorruptedValue` and `TypeMismatch` with the first error in the bytes; `HeapFull` where what has come needs more room than
-/// 4294967295 bytes; `Io` where the source failed; `Memory` where memory was refused, or the source doesn't let bytes pass that it lent.
+/// 4294967295 bytes; `Io` where the source failed; `Memory`.
 pub fn take_document<S: ByteSource>(
     alloc: Global,
     source: &mut S,
@@ -68,7 +68,7 @@ pub fn take_document<S: ByteSource>(
 {
     let announced = take_document_head(source, count)?;
     let mut document = CompactDoc::with_capacity(alloc, FIRST_ROOM)?;
-    let finished = take_buffered_pairs(&mut document, source, count, version, announced)?;
+    let finished = take_buffered_pairs(&mut document, source, count, version, announced);
     if finished == announced {
         return Ok(document);
     }

@@ -1,7 +1,7 @@
 //! What has been read of a document, and what its next part does to that.
 
-ghost use Rattle.std.specs.Prelude.{◌≡◌, ◌≢◌, ◌↔◌, ◌-◌, ◌^◌, ◌≤◌, ◌<◌, [], ◌∷◌, length, take};
-ghost use Rattle.std.specs.Prelude.{IsTrue, IsErrOf, IfOk, IfErr, OnOk, OnErr, Some, None, false};
+ghost use Rattle.std.specs.Prelude.{◌≡◌, ◌≢◌, ◌↔◌, ◌-◌, ◌^◌, ◌≤◌, ◌<◌, [], ◌∷◌, ◌+◌, length, take};
+ghost use Rattle.std.specs.Prelude.{IsTrue, IsErrOf, Ok, OnOk, OnErr, Some, None, false};
 ghost use Rattle.tv_base.specs.declared.cause.Cause.TheVariants.{TooLong};
 ghost use Rattle.tv_builder.specs.Behind.{document_parts};
 ghost use Rattle.tv_builder.specs.Parts.{value as value_part, array_head, object_head, some_bytes};
@@ -15,19 +15,17 @@ ghost use Rattle.tv_decoder.specs.Buffered.{Nothing};
 ghost use Rattle.tv_decoder.specs.Prefix.{parts_read, IsSound, IsDone, LacksPair, NoPrefix};
 ghost use Rattle.tv_decoder.specs.Prefix.{NoRoomBehind};
 ghost use Rattle.tv_decoder.specs.Puts.{IsOpen, AtEnd, Awaiting, Puts, PutsEnd, PutsBytes, IsParts};
-ghost use Rattle.tv_decoder.specs.Puts.{bytes_kind, head_parts, LetGo, KeepsPairs};
-ghost use Rattle.tv_decoder.specs.Steps.{Advances, Stepped, Sees};
+ghost use Rattle.tv_decoder.specs.Puts.{bytes_kind, head_parts, Grows, LetGo, KeepsPairs};
+ghost use Rattle.tv_decoder.specs.Steps.{Advances, Stepped, Sees, IsFew};
 ghost use Rattle.tv_doc.specs.Builder.{built, state_of, heap_so_far};
-ghost use Rattle.tv_doc.specs.Document.{document_of};
+ghost use Rattle.tv_doc.specs.Document.{document_of, heap_of};
 ghost use Rattle.tv_reader.specs.Finds.{Finds};
 ghost use Rattle.tv_reader.specs.HeadReading.{head_part};
 ghost use Rattle.tv_reader.specs.declared.error.DeserializeError.TheVariants.{CorruptedValue};
 ghost use Rattle.tv_reader.specs.declared.error.DeserializeError.TheVariants.{HeapFull};
-ghost use Rattle.tv_reader.specs.declared.error.DeserializeError.TheVariants.{Memory as NoMemory};
 ghost use Rattle.tv_legacy.specs.Legacy.{Legacy};
 ghost use Rattle.tv_reader.specs.Version.{version_of};
 ghost use Rattle.tv_value.specs.Lent.{leaf_of};
-ghost use Rattle.tv_value.specs.Owned.{owned_tree};
 ghost use Rattle.tv_value.specs.Tree.{leaf as leaf_tree};
 ghost use Rattle.tv_value.specs.Version.{Version, V2};
 
@@ -38,14 +36,13 @@ use tv_base::ByteSource;
 use tv_base::take::take_pieces;
 use tv_doc::builder::{Awaits, BuildError, BytesKind, TreeBuilder};
 use tv_doc::document::CompactDoc;
+use tv_reader::encoded_tokens::take_gathered;
 use tv_reader::fields::take_field;
 use tv_reader::heads::{Head, take_document_head, take_head, take_key_head};
 use tv_reader::trees::take_behind;
 use tv_reader::{DeserializeError, DocStoreVersion, ValueType};
 use tv_value::field::Field;
 use tv_value::leaf::{LeafType, ReferenceValueLeaf};
-use tv_value::owned_value::OwnedValue;
-use tv_value::pre_tokenized::PreTokenizedStr;
 use tv_value::value::Value;
 
 // No more than this is read of open bytes at once.
@@ -107,36 +104,34 @@ impl Reading {
     }
 
     // Where a pair is awaited, the next pairs that the source has buffered whole, at once, as far as that can be. It may read none.
-    //
-    // The only error is `Memory`, where a source doesn't give the bytes that it has buffered.
     pub(crate) fn with_buffered_pairs<S: ByteSource>(
         self,
         source: &mut S,
         count: &mut u64,
         version: DocStoreVersion,
-    ) -> Result<Reading, DeserializeError>
+    ) -> Reading
         requires { IsSound self }
-        ensures sound { IfOk result IsSound }
+        ensures sound { IsSound result }
         ensures finds { Finds S.is_known S.left S.failures source.old count.old source.new count.new
-            result (λ b r. Advances Legacy (version_of version) self r b) Nothing }
-        ensures memory { IfErr result (λ e. e ≡ NoMemory) }
+            (Ok result) (λ b r. Advances Legacy (version_of version) self r b) Nothing }
     {
         let (Some(announced), None) = (self.announced, self.field) else {
-            return Ok(self);
+            return self;
         };
         if source.buffered().is_empty() {
-            return Ok(self);
+            return self;
         }
         let finished = self.finished;
         let mut document = self.builder.into_doc();
         let most = announced - finished;
-        let more = take_buffered_pairs(&mut document, source, count, version, most)?;
-        Ok(Reading::between_pairs(announced, finished + more, document))
+        let more = take_buffered_pairs(&mut document, source, count, version, most);
+        Reading::between_pairs(announced, finished + more, document)
     }
 
     /// The document of the finished pairs. Its heap ends behind the last of their values.
     pub fn into_doc(self) -> CompactDoc
-        ensures { document_of result ≡ built self.builder }
+        ensures document { document_of result ≡ built self.builder }
+        ensures heap { heap_of result ≡ take self.builder.kept (heap_so_far self.builder) }
     {
         self.builder.into_doc()
     }
@@ -303,21 +298,6 @@ impl Reading {
         }
     }
 
-    // A whole value has come, which owns what it holds.
-    fn put_owned(&mut self, value: &OwnedValue) -> Result<(), DeserializeError>
-        requires { Awaiting self.old ValueAwaited }
-        ensures puts { Puts self.old self.new (value_part (owned_tree value.now) ∷ []) result }
-        ensures left { OnErr result (LetGo self.old self.new) }
-    {
-        match value {
-            OwnedValue::PreTokStr(text) => {
-                let text = PreTokenizedStr::from_string(text);
-                self.put_leaf(ReferenceValueLeaf::PreTokStr(text))
-            }
-            other => self.put_tree(&other),
-        }
-    }
-
     // Reads how many pairs there are.
     fn step_number<S: ByteSource>(
         &mut self,
@@ -327,12 +307,14 @@ impl Reading {
         requires sound { IsSound self.old }
         requires none { self.old.announced ≡ None }
         ensures sound { OnOk result (IsSound self.new) }
+        ensures grows { OnOk result (Grows self.old self.new) }
         ensures left { OnErr result (KeepsPairs self.old self.new) }
         ensures finds { (v : Version)
             → Finds S.is_known S.left S.failures source.old count.old source.new count.new result
             (λ b _. Stepped v false self.old self.new b) (NoPrefix v self.old) }
         ensures too_long { IsErrOf result (CorruptedValue TooLong) → count.new ≡ 2 ^ 64 - 1 }
         ensures roomy { ¬ IsErrOf result HeapFull }
+        ensures few { count.new ≤ count.old + 4096 }
     {
         let announced = take_document_head(source, count)?;
         self.announced = Some(announced);
@@ -349,12 +331,14 @@ impl Reading {
         requires none { self.old.field ≡ None }
         requires lacks { LacksPair self.old.announced self.old.finished }
         ensures sound { OnOk result (IsSound self.new) }
+        ensures grows { OnOk result (Grows self.old self.new) }
         ensures left { OnErr result (KeepsPairs self.old self.new) }
         ensures finds { (v : Version)
             → Finds S.is_known S.left S.failures source.old count.old source.new count.new result
             (λ b _. Stepped v false self.old self.new b) (NoPrefix v self.old) }
         ensures too_long { IsErrOf result (CorruptedValue TooLong) → count.new ≡ 2 ^ 64 - 1 }
         ensures roomy { ¬ IsErrOf result HeapFull }
+        ensures few { count.new ≤ count.old + 4096 }
     {
         let field = take_field(source, count)?;
         self.field = Some(field);
@@ -372,6 +356,7 @@ impl Reading {
     ) -> Result<(), DeserializeError>
         requires { Awaiting self.old ValueAwaited }
         ensures sound { OnOk result (IsSound self.new) }
+        ensures grows { OnOk result (Grows self.old self.new) }
         ensures left { OnErr result (KeepsPairs self.old self.new) }
         ensures finds { Finds S.is_known S.left S.failures source.old count.old source.new count.new
             result (λ b _. Stepped (version_of version) legacy_seen.new self.old self.new b)
@@ -381,17 +366,19 @@ impl Reading {
         ensures too_long { IsErrOf result (CorruptedValue TooLong) → count.new ≡ 2 ^ 64 - 1 }
         ensures seen { S.is_known source.old
             → Sees self.old (S.left source.old) legacy_seen.old legacy_seen.new }
+        ensures few { S.is_known source.old
+            → IsFew self.old (S.left source.old) count.old count.new }
     {
         let head = take_head(source, count, version)?;
         match head {
             Head::Tokenized => {
-                let value = take_behind(alloc, source, count, version, ValueType::PreTokStr)?;
-                self.put_owned(&value)
+                let (text, tokens) = take_gathered(alloc, source, count, version)?;
+                self.put_leaf(ReferenceValueLeaf::PreTokStr(tokens.with_text(text.as_str())))
             }
             Head::Legacy => {
                 *legacy_seen = true;
                 let value = take_behind(alloc, source, count, version, ValueType::JSONObject)?;
-                self.put_owned(&value)
+                self.put_tree(&&value)
             }
             head => self.put_head(head),
         }
@@ -406,6 +393,7 @@ impl Reading {
     ) -> Result<(), DeserializeError>
         requires { Awaiting self.old KeyAwaited }
         ensures sound { OnOk result (IsSound self.new) }
+        ensures grows { OnOk result (Grows self.old self.new) }
         ensures left { OnErr result (KeepsPairs self.old self.new) }
         ensures finds { Finds S.is_known S.left S.failures source.old count.old source.new count.new
             result (λ b _. Stepped (version_of version) false self.old self.new b)
@@ -413,6 +401,7 @@ impl Reading {
         ensures full { S.is_known source.old → IsErrOf result HeapFull
             → NoRoomBehind (version_of version) self.old (S.left source.old) }
         ensures too_long { IsErrOf result (CorruptedValue TooLong) → count.new ≡ 2 ^ 64 - 1 }
+        ensures few { count.new ≤ count.old + 4096 }
     {
         let len = take_key_head(source, count, version)?;
         self.put_bytes_head(BytesKind::Key, len)
@@ -428,6 +417,7 @@ impl Reading {
     ) -> Result<(), DeserializeError>
         requires awaiting { Awaiting self.old (BytesAwaited missing) }
         ensures sound { OnOk result (IsSound self.new) }
+        ensures grows { OnOk result (Grows self.old self.new) }
         ensures left { OnErr result (KeepsPairs self.old self.new) }
         ensures finds { (v : Version)
             → Finds S.is_known S.left S.failures source.old count.old source.new count.new result
@@ -435,6 +425,7 @@ impl Reading {
         ensures full { (v : Version) → S.is_known source.old → IsErrOf result HeapFull
             → NoRoomBehind v self.old (S.left source.old) }
         ensures too_long { IsErrOf result (CorruptedValue TooLong) → count.new ≡ 2 ^ 64 - 1 }
+        ensures few { count.new ≤ count.old + 4096 }
     {
         let len = missing.min(PIECE);
         bytes.clear();
@@ -461,6 +452,7 @@ impl Reading {
         requires sound { IsSound self.old }
         requires more { ¬ IsDone self.old }
         ensures sound { OnOk result (IsSound self.new) }
+        ensures grows { OnOk result (Grows self.old self.new) }
         ensures left { OnErr result (KeepsPairs self.old self.new) }
         ensures finds { Finds S.is_known S.left S.failures source.old count.old source.new count.new
             result (λ b _. Stepped (version_of version) legacy_seen.new self.old self.new b)
@@ -470,6 +462,8 @@ impl Reading {
         ensures too_long { IsErrOf result (CorruptedValue TooLong) → count.new ≡ 2 ^ 64 - 1 }
         ensures seen { S.is_known source.old
             → Sees self.old (S.left source.old) legacy_seen.old legacy_seen.new }
+        ensures few { S.is_known source.old
+            → IsFew self.old (S.left source.old) count.old count.new }
     {
         if self.announced.is_none() {
             return self.step_number(source, count);

@@ -33,8 +33,7 @@ pub use tv_reader::version::DocStoreVersion;
 ///
 /// Errors, the first error in reading order: `CorruptedValue` where the bytes encode no document, `TypeMismatch` where in a key's
 /// place stands a value that isn't a text, `HeapFull` where what has come so far needs more room than 4294967295 bytes, `Io` where
-/// the source failed, `Memory` where memory was refused, or the source doesn't let bytes pass that it lent. After `CorruptedValue` and
-/// `TypeMismatch` just the bytes that show the error were taken.
+/// the source failed, `Memory`. After `CorruptedValue` and `TypeMismatch` just the bytes that show the error were taken.
 ///
 /// ```
 /// pub fn documents_of(alloc: Global, bytes: &[u8], count: usize) -> Result<Vec<TantivyDocument>> {

@@ -1,7 +1,7 @@
 use Rattle.std.proofs.Common.{◌-◌, length, sym, ap, subst, refl, take, arith}
 use Rattle.tv_reader.specs.Version.{version_of}
 use Rattle.tv_decoder.specs.Buffered.{AddsPairs}
-use Rattle.tv_decoder.proofs.BufferedPairs.{no_pairs, pairs_taken, passed_finds, none_passed}
+use Rattle.tv_decoder.proofs.BufferedPairs.{no_pairs, pairs_taken, stood_in, none_kept, passed_finds, not_passed, none_passed}
 use Rattle.tv_decoder.proofs.buffered.take_buffered_pairs.Goals as goal
 
 pub returns-in_default-clause-finds : goal.returns-in_default-clause-finds
@@ -20,6 +20,19 @@ returns-then-taken-eq0-clause-finds g c =
     let pairs = pairs_taken old new lent rest n c.add_encoded-added.ensures.added in
     let here = subst (λ z. AddsPairs z old new (take (length lent - length rest) lent) n) (sym (ap version_of c.in-V2.is)) pairs in
     none_passed (λ b m. AddsPairs v old new b m) n (subst (λ z. AddsPairs v old new (take z lent) n) c.if-taken-eq0.true here)
+
+pub take_back-requires : goal.take_back-requires
+take_back-requires g c = (c.args.document.now, stood_in c.args.document.now c.add_encoded-added.new.self _ _ c.add_encoded-added.ensures.added c.len-pairs.ensures (ap length c.node_data-heap.ensures))
+
+pub returns-then-not-pass-clause-finds : goal.returns-then-not-pass-clause-finds
+returns-then-not-pass-clause-finds g c =
+    let v = version_of c.args.version in
+    let old = c.args.document.now in
+    let new = c.take_back.new.self in
+    let stood = stood_in old c.add_encoded-added.new.self _ _ c.add_encoded-added.ensures.added c.len-pairs.ensures (ap length c.node_data-heap.ensures) in
+    let back = none_kept v old new (c.take_back.ensures old stood) in
+    let pass = c.if-not-pass.ensures in
+    not_passed (λ b m. AddsPairs v old new b m) 0 back pass.bytes pass.is_known pass.failures
 
 pub returns-clause-finds : goal.returns-clause-finds
 returns-clause-finds g c =

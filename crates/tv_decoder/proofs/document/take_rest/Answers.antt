@@ -6,7 +6,7 @@ use Rattle.tv_reader.specs.Version.{version_of}
 use Rattle.tv_reader.specs.declared.error.DeserializeError.TheVariants.{HeapFull}
 use Rattle.tv_decoder.specs.Prefix.{parts_read}
 use Rattle.tv_decoder.proofs.BufferedPairs.{none_passed}
-use Rattle.tv_decoder.proofs.WholeDocuments.{Goes, step_more, step_fails, step_takes, pairs_more, pairs_fail, all_finished, no_room, too_many, same_refusal}
+use Rattle.tv_decoder.proofs.WholeDocuments.{Goes, step_more, step_fails, step_takes, pairs_more, all_finished, no_room, too_many, same_refusal}
 use Rattle.tv_decoder.proofs.document.take_rest.Goals as goal
 
 pub loop-init : goal.loop-init
@@ -20,7 +20,7 @@ loop-init g c =
 
 pub returns-then-is_done-clause-finds : goal.returns-then-is_done-clause-finds
 returns-then-is_done-clause-finds g c =
-    all_finished (version_of c.args.version) c.args.begun c.loop.reading c.into_doc.result c.loop.invariant.0 (c.is_done.ensures.0 c.if-is_done.true) c.into_doc.ensures c.loop.invariant.1
+    all_finished (version_of c.args.version) c.args.begun c.loop.reading c.into_doc.result c.loop.invariant.0 (c.is_done.ensures.0 c.if-is_done.true) c.into_doc.ensures.document c.loop.invariant.1
 
 pub returns-in_err-advance-clause-finds : goal.returns-in_err-advance-clause-finds
 returns-in_err-advance-clause-finds g c =
@@ -33,22 +33,15 @@ returns-in_err-advance-clause-full g c =
     let p = err_from_is_err_and c.from_residual.result c.from_residual.ensures.1 in
     rw (p.1, p.2) (λ told full. no_room (version_of c.args.version) c.args.begun c.loop.reading c.loop.invariant.1 told (c.in_err-advance.ensures.full (c.loop.invariant.1.stays_known told) (same_refusal _ HeapFull full)))
 
-pub returns-in_err-reading-clause-finds : goal.returns-in_err-reading-clause-finds
-returns-in_err-reading-clause-finds g c =
-    let p = err_from_is_err_and c.from_residual-in_err-reading.result c.from_residual-in_err-reading.ensures.1 in
-    let v = version_of c.args.version in
-    let more = step_more v c.args.begun c.loop.reading c.in_ok-advance.field-0 c.advance.new.legacy_seen c.advance.new.self c.loop.invariant.1 c.in_ok-advance.ensures.finds in
-    rw (p.1, p.2) (pairs_fail v c.args.begun c.advance.new.self _ more c.in_err-reading.ensures.finds)
-
 pub loop-preserved : goal.loop-preserved
 loop-preserved g c =
     let v = version_of c.args.version in
     let l = c.loop in
     let step = c.in_ok-advance.ensures in
-    let pairs = c.in_ok-reading.ensures in
+    let pairs = c.with_buffered_pairs-reading.ensures in
     let more = step_more v c.args.begun l.reading c.in_ok-advance.field-0 c.advance.new.legacy_seen c.advance.new.self l.invariant.1 step.finds in (
       pairs.sound,
-      pairs_more v c.args.begun c.advance.new.self c.in_ok-reading.reading more pairs.finds,
+      pairs_more v c.args.begun c.advance.new.self c.with_buffered_pairs-reading.result more pairs.finds,
       λ told. omega (arith, l.invariant.2 told, step_takes v c.args.begun l.reading c.in_ok-advance.field-0 c.advance.new.legacy_seen c.advance.new.self step.finds (l.invariant.1.stays_known told), pairs.finds.rises),
     )
 

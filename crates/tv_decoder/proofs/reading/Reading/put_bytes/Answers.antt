@@ -3,7 +3,7 @@ use Rattle.tv_builder.specs.Parts.{some_bytes}
 use Rattle.tv_builder.specs.State.{and_bytes}
 use Rattle.tv_doc.specs.Builder.{state_of, HasAllBytes}
 use Rattle.tv_decoder.proofs.Building.{called}
-use Rattle.tv_decoder.proofs.Calls.{call_opens, call_trade, call_puts, call_left}
+use Rattle.tv_decoder.proofs.Calls.{call_opens, call_lead, call_puts, call_left}
 use Rattle.tv_decoder.proofs.OpenBytes.{takes_bytes, bytes_trades, bytes_stand, bytes_await_more, bytes_all, end_no_text, at_end, bytes_from_end, bytes_refused}
 use Rattle.tv_decoder.proofs.Putting.{with_builder, stays}
 use Rattle.tv_decoder.proofs.States.{is_state}
@@ -56,7 +56,7 @@ returns-clause-puts c =
     let g = called r.builder b _ _ _ (λ s. and_bytes s bytes) (Ok c.in_default.field-0) w.sound.live takes c.in_default.ensures in
     let all = subst HasAllBytes (sym g.state) (bytes_all s bytes c.args.missing (is_state r.builder) w.next takes c.if-bytes-missing.false) in
     bytes_from_end r (with_builder r b) c.put_end.new.self bytes (some_bytes bytes ∷ []) c.put_end.result
-    (call_trade r b _ _ _ _ (λ s. and_bytes s bytes) (some_bytes bytes ∷ []) c.in_default.field-0 w takes c.in_default.ensures (bytes_trades s bytes takes))
+    (call_lead r b _ _ _ _ (λ s. and_bytes s bytes) (some_bytes bytes ∷ []) c.in_default.field-0 w takes c.in_default.ensures (bytes_trades s bytes takes))
     (λ none. end_no_text s (state_of b) bytes takes all g.state none) c.put_end.ensures.puts
 
 pub returns-clause-left : goal.returns-clause-left

@@ -3,7 +3,7 @@ use Rattle.tv_builder.specs.Parts.{bytes_head}
 use Rattle.tv_builder.specs.State.{and_head}
 use Rattle.tv_doc.specs.Builder.{state_of, HasContent}
 use Rattle.tv_decoder.proofs.Building.{called}
-use Rattle.tv_decoder.proofs.Calls.{call_opens, call_trade, call_puts, call_left, call_refused, and_head_is}
+use Rattle.tv_decoder.proofs.Calls.{call_opens, call_lead, call_puts, call_left, call_refused, and_head_is}
 use Rattle.tv_decoder.proofs.OpenBytes.{head_trades, head_stands, head_awaits_more, head_all, head_content, at_end, puts_from_end}
 use Rattle.tv_decoder.proofs.Putting.{with_builder, stays}
 use Rattle.tv_decoder.proofs.States.{is_state}
@@ -51,7 +51,7 @@ returns-clause-puts c =
     let g = called r.builder b _ _ _ (λ s. and_head s c.args.kind c.args.announced) (Ok c.in_default.field-0) c.requires.sound.live e c.in_default.ensures in
     let content = subst HasContent (sym g.state) (head_content s c.args.kind c.args.announced e) in
     puts_from_end r (with_builder r b) c.put_end.new.self (bytes_head c.args.kind c.args.announced ∷ []) c.put_end.result
-    (call_trade r b _ _ _ _ (λ s. and_head s c.args.kind c.args.announced) (bytes_head c.args.kind c.args.announced ∷ []) c.in_default.field-0 c.requires e c.in_default.ensures (head_trades s c.args.kind c.args.announced e)) content c.put_end.ensures.puts
+    (call_lead r b _ _ _ _ (λ s. and_head s c.args.kind c.args.announced) (bytes_head c.args.kind c.args.announced ∷ []) c.in_default.field-0 c.requires e c.in_default.ensures (head_trades s c.args.kind c.args.announced e)) content c.put_end.ensures.puts
 
 pub returns-clause-left : goal.returns-clause-left
 returns-clause-left c =

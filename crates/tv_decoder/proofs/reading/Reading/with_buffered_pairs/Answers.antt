@@ -1,8 +1,7 @@
 use Rattle.std.proofs.Common.{sym, subst, append-nil}
-use Rattle.std.proofs.lemmas.Result.{err_from_is_err_and}
 use Rattle.tv_builder.specs.Prefix.{Encoded}
 use Rattle.tv_legacy.specs.Legacy.{Legacy}
-use Rattle.tv_reader.proofs.Finding.{finds_as, finds_fails}
+use Rattle.tv_reader.proofs.Finding.{finds_as}
 use Rattle.tv_reader.specs.Version.{version_of}
 use Rattle.tv_decoder.specs.Buffered.{Nothing}
 use Rattle.tv_decoder.specs.Prefix.{parts_read}
@@ -20,16 +19,11 @@ returns-then-is_empty-clause-finds g c =
     let v = version_of c.args.version in
     none_passed (λ b r. Advances Legacy v c.args.self r b) c.args.self (λ bytes p. subst (λ z. Encoded Legacy v z (parts_read c.args.self)) (sym (append-nil bytes)) p)
 
-pub returns-in_err-more-clause-finds : goal.returns-in_err-more-clause-finds
-returns-in_err-more-clause-finds g c =
-    let p = err_from_is_err_and c.from_residual.result c.from_residual.ensures.1 in
-    rw (p.1, p.2) (finds_fails _ Nothing (λ w e f. f) c.in_err-more.ensures.finds)
-
 pub returns-clause-finds : goal.returns-clause-finds
 returns-clause-finds g c =
     let v = version_of c.args.version in
     let r = c.args.self in
     let new = c.between_pairs.result in
     finds_as new (λ b z. Advances Legacy v r z b) Nothing
-    (λ a h. reading_goes v r new c.in-Some-None.announced _ c.into_doc-document.result c.take_buffered_pairs.new.document a c.in-Some-None.is-0 c.in-Some-None.is-1 c.into_doc-document.ensures.document h c.between_pairs.ensures.parts)
-    c.in_ok-more.ensures.finds
+    (λ a h. reading_goes v r new c.in-Some-None.announced _ c.into_doc-document.result c.take_buffered_pairs-more.new.document a c.in-Some-None.is-0 c.in-Some-None.is-1 c.into_doc-document.ensures.document h c.between_pairs.ensures.parts)
+    c.take_buffered_pairs-more.ensures.finds
