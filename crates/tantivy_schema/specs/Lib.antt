@@ -42,6 +42,7 @@ pub use Rattle.tv_value.specs.SameLaws
 pub use Rattle.tv_value.specs.HeldTokens
 pub use Rattle.tv_value.specs.TokenRef
 pub use Rattle.tv_value.specs.PreTokenized
+pub use Rattle.tv_value.specs.EncodedTokens
 pub use Rattle.tv_value.specs.SameTokens
 pub use Rattle.tv_legacy.specs.Legacy
 pub use Rattle.tv_legacy.specs.LegacyLaws
@@ -113,6 +114,7 @@ pub use Rattle.tv_decoder.specs.Documents as DecodedDocuments
 pub use Rattle.tv_decoder.specs.Prefix as DecoderPrefix
 pub use Rattle.tv_decoder.specs.Paid
 pub use Rattle.tv_decoder.specs.Steps
+pub use Rattle.tv_decoder.specs.Kept as DecoderKept
 pub use Rattle.tv_store.specs.PairsGiven
 pub use Rattle.tv_store.specs.Serialized
 pub use Rattle.tv_store.specs.Stored

@@ -23,7 +23,8 @@ use Rattle.tv_reader.specs.declared.error.DeserializeError.{DeserializeError}
 use Rattle.tv_value.specs.Tree.{Tree, leaf, text, Document}
 use Rattle.tv_decoder.specs.Errors.{build_error}
 use Rattle.tv_decoder.specs.Prefix.{parts_at, parts_read, IsPlace, IsSound, HasField}
-use Rattle.tv_decoder.specs.Puts.{MayStand, IsOpen, Awaiting, Fills, Puts, LetGo}
+use Rattle.tv_decoder.specs.Puts.{MayStand, IsOpen, Awaiting, Fills, Puts}
+use Rattle.tv_decoder.specs.Kept.{LetGo}
 use Rattle.tv_decoder.specs.declared.reading.Reading.{Reading}
 use Rattle.tv_decoder.proofs.Building.{Called, called}
 use Rattle.tv_decoder.proofs.Putting.{with_builder, trades_at, opened, Leads, call_leads, goes_let_go, puts_on}

@@ -22,7 +22,8 @@ use Rattle.tv_reader.specs.declared.error.DeserializeError.TheVariants as errors
 use Rattle.tv_value.specs.Tree.{Document}
 use Rattle.tv_decoder.specs.Errors.{build_error}
 use Rattle.tv_decoder.specs.Prefix.{parts_at, parts_read, IsPlace, IsSound, HasField}
-use Rattle.tv_decoder.specs.Puts.{MayStand, IsWithin, IsOpen, IsEnding, AtEnd, Puts, NoContent, PutsEnd, EndNoText, NoText, PutsBytes, LetGo}
+use Rattle.tv_decoder.specs.Puts.{MayStand, IsWithin, IsOpen, IsEnding, AtEnd, Puts, NoContent, PutsEnd, EndNoText, NoText, PutsBytes}
+use Rattle.tv_decoder.specs.Kept.{LetGo}
 use Rattle.tv_decoder.specs.declared.reading.Reading.{Reading}
 use Rattle.tv_decoder.proofs.Building.{CalledEnd, ended}
 use Rattle.tv_decoder.proofs.Calls.{not_finish, not_bytes, FillsAt, and_end_is}

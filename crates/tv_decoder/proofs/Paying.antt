@@ -14,7 +14,7 @@ use Rattle.tv_value.specs.Tree.{Document}
 use Rattle.tv_value.specs.Version.{Version}
 use Rattle.tv_decoder.specs.Prefix.{parts_at, parts_read, IsPlace, IsSound, NoPrefix}
 use Rattle.tv_decoder.specs.Paid.{PaidBy}
-use Rattle.tv_decoder.specs.Puts.{KeepsPairs}
+use Rattle.tv_decoder.specs.Kept.{KeepsPairs}
 use Rattle.tv_decoder.specs.Steps.{Stepped}
 use Rattle.tv_decoder.specs.declared.reading.Reading.{Reading}
 

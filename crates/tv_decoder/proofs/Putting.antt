@@ -17,7 +17,8 @@ use Rattle.tv_reader.specs.declared.error.DeserializeError.{DeserializeError}
 use Rattle.tv_reader.specs.declared.error.DeserializeError.TheVariants as errors
 use Rattle.tv_value.specs.Tree.{Tree, Document}
 use Rattle.tv_decoder.specs.Prefix.{parts_at, parts_read, Lacks, IsPlace, IsSound, HasField}
-use Rattle.tv_decoder.specs.Puts.{MayStand, IsWithin, IsOpen, Grows, Put, Puts, LetGo}
+use Rattle.tv_decoder.specs.Puts.{MayStand, IsWithin, IsOpen, Put, Puts}
+use Rattle.tv_decoder.specs.Kept.{Grows, LetGo}
 use Rattle.tv_decoder.specs.declared.reading.Reading.{Reading}
 use Rattle.tv_decoder.proofs.States.{no_finish_next}
 use Rattle.tv_decoder.proofs.Trading.{open_trades, pair_trades}

@@ -38,7 +38,8 @@ use Rattle.std.specs.declared.alloc.Global.{Global}
 use Rattle.std.specs.declared.string.String.{String}
 use Rattle.tv_value.specs.Version.{Version}
 use Rattle.tv_decoder.specs.Prefix.{IsPlace, IsSound, HasField, NoPrefix, NoRoomBehind}
-use Rattle.tv_decoder.specs.Puts.{Awaiting, Fills, Puts, EndNoText, NoText, PutsBytes, IsParts, Grows, LetGo, KeepsPairs}
+use Rattle.tv_decoder.specs.Puts.{Awaiting, Fills, Puts, EndNoText, NoText, PutsBytes, IsParts}
+use Rattle.tv_decoder.specs.Kept.{Grows, LetGo, KeepsPairs}
 use Rattle.tv_decoder.specs.Steps.{Stepped}
 use Rattle.tv_decoder.specs.declared.reading.Reading.{Reading}
 use Rattle.tv_decoder.proofs.WithErrors.{value_at_error, end_at_error, text_at_error}

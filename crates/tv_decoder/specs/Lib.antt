@@ -1,5 +1,6 @@
 pub mod Errors
 pub mod Prefix
+pub mod Kept
 pub mod Puts
 pub mod Steps
 pub mod Sound

@@ -1,5 +1,5 @@
 -- What a part that has come does to what is read.
-use Rattle.std.specs.Prelude.{◌⊎◌, false, ◌≡◌, ℕ, ◌+◌, ◌<◌, ◌≤◌, List, [], ◌∷◌, ◌++◌, length, take, Option, Some, Result, Ok, Err, IsUtf8}
+use Rattle.std.specs.Prelude.{◌⊎◌, false, ◌≡◌, ℕ, ◌+◌, ◌<◌, ◌≤◌, List, [], ◌∷◌, ◌++◌, length, Option, Some, Result, Ok, Err, IsUtf8}
 use Rattle.tv_base.specs.declared.cause.Cause.{Cause}
 use Rattle.tv_base.specs.declared.cause.Cause.TheVariants as causes
 use Rattle.tv_builder.specs.Behind.{open_parts}
@@ -9,15 +9,15 @@ use Rattle.tv_builder.specs.State.{State, complete, in_lists, in_bytes, IsState,
 use Rattle.tv_builder.specs.declared.awaits.Awaits.{Awaits}
 use Rattle.tv_builder.specs.declared.bytes_kind.BytesKind.{BytesKind}
 use Rattle.tv_builder.specs.declared.bytes_kind.BytesKind.TheVariants as kinds
-use Rattle.tv_base.specs.Sink.{IsPrefix}
-use Rattle.tv_doc.specs.Builder.{built, state_of, heap_so_far, HasAllBytes, HasContent}
+use Rattle.tv_doc.specs.Builder.{built, state_of, HasAllBytes, HasContent}
 use Rattle.tv_heap.specs.Room.{document_room}
 use Rattle.tv_reader.specs.Heads.{HeadPart, leaf_head, length_head, array_head as array_number, object_head as object_number, tokenized_head, legacy_head}
 use Rattle.tv_reader.specs.declared.error.DeserializeError.{DeserializeError}
 use Rattle.tv_reader.specs.declared.error.DeserializeError.TheVariants as errors
-use Rattle.tv_value.specs.Tree.{Tree, Document, leaf}
+use Rattle.tv_value.specs.Tree.{Document, leaf}
 use Rattle.tv_value.specs.declared.leaf.LeafType.{LeafType}
 use Rattle.tv_value.specs.declared.leaf.LeafType.TheVariants as leaves
+use Rattle.tv_decoder.specs.Kept.{Grows}
 use Rattle.tv_decoder.specs.Prefix.{parts_read, IsSound, HasField}
 use Rattle.tv_decoder.specs.declared.reading.Reading.{Reading}
 
@@ -55,17 +55,6 @@ pub record Awaiting (r : Reading) (what : Awaits) : Type 0 where
   pub next : awaited (state_of r.builder) ≡ what
 
 -- ---- what a call leaves
-
--- Where the finished pairs end in the heap: where they ended before, or at its end, where a pair more is finished.
-abbrev pub EndsPairs : Reading → Reading → Type 0
-EndsPairs old new =
-    ((built new.builder ≡ built old.builder) × (new.builder.kept ≡ old.builder.kept))
-    ⊎ ((pair : ℕ × Tree) × (built new.builder ≡ built old.builder ++ pair ∷ []) × (new.builder.kept ≡ length (heap_so_far new.builder)))
-
--- the heap grows at its end
-pub record Grows (old new : Reading) : Type 0 where
-  pub heap : IsPrefix (heap_so_far old.builder) (heap_so_far new.builder)
-  pub ends : EndsPairs old new
 
 -- Whatever encodes what had come, with the part behind it, encodes what has come now.
 pub record Put (old new : Reading) (ps : List Part) : Type 0 where
@@ -141,16 +130,3 @@ head_parts (array_number n) = array_head n ∷ []
 head_parts (object_number n) = object_head n ∷ []
 head_parts tokenized_head = []
 head_parts legacy_head = []
-
--- ---- after a refusal
-
--- what isn't finished was let go of, and the heap ends behind the finished pairs
-pub record LetGo (old new : Reading) : Type 0 where
-  pub document : built new.builder ≡ built old.builder
-  pub kept : new.builder.kept ≡ old.builder.kept
-  pub heap : heap_so_far new.builder ≡ take old.builder.kept (heap_so_far old.builder)
-  pub state : state_of new.builder ≡ in_lists []
-
--- or nothing has changed
-abbrev pub KeepsPairs : Reading → Reading → Type 0
-KeepsPairs old new = LetGo old new ⊎ (new ≡ old)

@@ -5,7 +5,7 @@ ghost use Rattle.std.specs.Prelude.{IfOk, OnOk, OnErr, IsErrOf};
 ghost use Rattle.tv_base.specs.declared.cause.Cause.TheVariants.{TooLong};
 ghost use Rattle.tv_decoder.specs.Prefix.{parts_read, IsSound, IsDone, NoPrefix, NoRoomBehind};
 ghost use Rattle.tv_decoder.specs.Paid.{PaidBy};
-ghost use Rattle.tv_decoder.specs.Puts.{Grows, KeepsPairs};
+ghost use Rattle.tv_decoder.specs.Kept.{Grows, KeepsPairs};
 ghost use Rattle.tv_decoder.specs.Sound.{SoundUnless-prop};
 ghost use Rattle.tv_decoder.specs.Steps.{Stepped, Sees, IsFew};
 ghost use Rattle.tv_doc.specs.Builder.{built, state_of, heap_so_far};
