@@ -1,7 +1,7 @@
 //! Values that come part by part.
 
 ghost use Rattle.std.specs.Prelude.{◌≡◌, ◌++◌, length};
-ghost use Rattle.tv_builder.specs.Moves.{AwaitsChunk, Does, ListFull, ListHeap};
+ghost use Rattle.tv_builder.specs.Moves.{AwaitsChunk, Does, ListFits, ListFull, ListHeap};
 ghost use Rattle.tv_builder.specs.Shows.{Stands, awaited_by};
 ghost use Rattle.tv_builder.specs.State.{and_bytes, and_list};
 ghost use Rattle.tv_builder.specs.declared.awaits.Awaits.TheVariants.{Value};
@@ -22,8 +22,8 @@ pub fn bytes_stand_in_the_heap_at_once(
 ) -> Result<(), BuildError>
     requires { Stands building.old }
     ensures { Does building.old building.new (AwaitsChunk building.old.open (length bytes.now))
-        (λ heap. heap ≡ building.old.heap.items ++ bytes.now) ⊥ (λ s. and_bytes s bytes.now)
-        result }
+        (λ heap. heap ≡ building.old.heap.items ++ bytes.now) ⊥ (Unit {0})
+        (λ s. and_bytes s bytes.now) result }
 {
     let is_kept = later.extend_from_slice(bytes).is_ok();
     match building.awaits() {
@@ -40,7 +40,7 @@ pub fn announced_elements_take_nothing(
     requires { Stands building.old }
     ensures { Does building.old building.new (awaited_by building.old ≡ Value)
         (ListHeap building.old Array announced) (ListFull building.old Array announced)
-        (λ s. and_list s Array announced) result }
+        (ListFits building.old announced) (λ s. and_list s Array announced) result }
 {
     match building.open_list(ListKind::Array, announced) {
         Ok(()) => Ok(()),

@@ -1,5 +1,5 @@
 -- What the calls leave.
-use Rattle.std.proofs.Common.{◌≡◌, ℕ, ◌+◌, ◌-◌, ◌^◌, ◌<◌, ◌≤◌, Bool, true, false, List, ◌++◌, length, Option, Some, None, Result, Ok, Err, OnOk, IfErr, SomeIff, sym, ◌∙◌, ap, subst, length-append, arith, inl, inr}
+use Rattle.std.proofs.Common.{◌≡◌, ℕ, ◌+◌, ◌-◌, ◌^◌, ◌<◌, ◌≤◌, Bool, true, false, List, ◌++◌, length, Option, Some, None, Result, Ok, Err, OnOk, IfErr, SomeIff, refl, sym, ◌∙◌, ap, subst, length-append, arith, inl, inr}
 use Rattle.std.proofs.lemmas.Bool.{cases_lt}
 use Rattle.tv_base.specs.Sink.{IsPrefix}
 use Rattle.tv_value.specs.Tree.{Tree}
@@ -72,46 +72,47 @@ value_moves old mid new p t more await grows small frames places bytes placed g 
         (r.0, omega (arith, r.1, small, ap length grows, length-append old.heap.items more))
 
 -- what handing it over answers
-pub does_give : (old mid new : Building) (p : Place) (in_place full : Type 0) (heaps : List ℕ → Type 0) (after : State → State) (r : Result (Unit {0}) BuildError) → in_place
-    → (Gives mid p new → heaps new.heap.items) → (4294967295 < length (given_to mid p).heap → full) → (4294967295 < length (given_to mid p).heap → HasNoRoom old after) → IsPrefix old.heap.items mid.heap.items → (Gives mid p new → Moves old new after)
-    → OnOk r (Gives mid p new) → IfErr r (λ e. GivesNot mid p new e) → Does old new in_place heaps full after r
-does_give old mid new p in_place full heaps after (Ok x) here is over no_room prefix moves ok err = (here, is ok, moves ok)
-does_give old mid new p in_place full heaps after (Err HeapFull) here is over no_room prefix moves ok err = (here, over err.why, prefix_then old.heap.items mid.heap.items new.heap.items prefix err.prefix, no_room err.why)
-does_give old mid new p in_place full heaps after (Err Memory) here is over no_room prefix moves ok err = (here, prefix_then old.heap.items mid.heap.items new.heap.items prefix err.prefix)
-does_give old mid new p in_place full heaps after (Err AlreadyFailed) here is over no_room prefix moves ok err = absurd err.why
-does_give old mid new p in_place full heaps after (Err OutOfPlace) here is over no_room prefix moves ok err = absurd err.why
-does_give old mid new p in_place full heaps after (Err (FieldNumber n)) here is over no_room prefix moves ok err = absurd err.why
-does_give old mid new p in_place full heaps after (Err NotUtf8) here is over no_room prefix moves ok err = absurd err.why
+pub does_give : (old mid new : Building) (p : Place) (in_place full fits : Type 0) (heaps : List ℕ → Type 0) (after : State → State) (r : Result (Unit {0}) BuildError) → in_place
+    → (Gives mid p new → heaps new.heap.items) → (4294967295 < length (given_to mid p).heap → full) → (4294967295 < length (given_to mid p).heap → HasNoRoom old after) → fits → IsPrefix old.heap.items mid.heap.items → (Gives mid p new → Moves old new after)
+    → OnOk r (Gives mid p new) → IfErr r (λ e. GivesNot mid p new e) → Does old new in_place heaps full fits after r
+does_give old mid new p in_place full fits heaps after (Ok x) here is over no_room holds prefix moves ok err = (here, is ok, moves ok)
+does_give old mid new p in_place full fits heaps after (Err HeapFull) here is over no_room holds prefix moves ok err = (here, over err.why, prefix_then old.heap.items mid.heap.items new.heap.items prefix err.prefix, no_room err.why)
+does_give old mid new p in_place full fits heaps after (Err Memory) here is over no_room holds prefix moves ok err = (here, holds, prefix_then old.heap.items mid.heap.items new.heap.items prefix err.prefix)
+does_give old mid new p in_place full fits heaps after (Err AlreadyFailed) here is over no_room holds prefix moves ok err = absurd err.why
+does_give old mid new p in_place full fits heaps after (Err OutOfPlace) here is over no_room holds prefix moves ok err = absurd err.why
+does_give old mid new p in_place full fits heaps after (Err (FieldNumber n)) here is over no_room holds prefix moves ok err = absurd err.why
+does_give old mid new p in_place full fits heaps after (Err NotUtf8) here is over no_room holds prefix moves ok err = absurd err.why
 
 -- ---- a whole value
 
 pub wrote_placed : (old new : List ℕ) (p : Place) (t : Tree) → Wrote old new (type_code p.value_type) p.address t → Placed new p t
 wrote_placed old new p t w = record { reads = w.reads; below = w.below; fits = w.fits }
 
-pub does_value : (old mid new : Building) (p : Place) (t : Tree) (r : Result (Unit {0}) BuildError) → awaited_by old ≡ awaits.Value → Put old.heap.items t mid.heap.items p → frames_of mid ≡ frames_of old → mid.places.items ≡ old.places.items
-    → mid.open ≡ old.open → OnOk r (Gives mid p new) → IfErr r (λ e. GivesNot mid p new e) → Does old new (awaited_by old ≡ awaits.Value) (ValueHeap old t) (ValueFull old t) (λ s. and_value s t) r
-does_value old mid new p t r await w frames places bytes ok err =
+pub does_value : (old mid new : Building) (p : Place) (t : Tree) (fits : Type 0) (r : Result (Unit {0}) BuildError) → awaited_by old ≡ awaits.Value → fits → Put old.heap.items t mid.heap.items p → frames_of mid ≡ frames_of old → mid.places.items ≡ old.places.items
+    → mid.open ≡ old.open → OnOk r (Gives mid p new) → IfErr r (λ e. GivesNot mid p new e) → Does old new (awaited_by old ≡ awaits.Value) (ValueHeap old t) (ValueFull old t) fits (λ s. and_value s t) r
+does_value old mid new p t fits r await holds w frames places bytes ok err =
     let as_given : (given_to mid p).heap ≡ value_heap old t = λ i. (given (w.heap i) (places i) (frames i) (w.place i)).heap in
     let f = tree_prefix old.heap.items t in
     let grows : mid.heap.items ≡ old.heap.items ++ f.0 = w.heap ∙ f.1 in
     let small : length f.0 ≤ tree_weight t = omega (arith, w.weighed, longer old.heap.items mid.heap.items f.0 grows) in
-    does_give old mid new p (awaited_by old ≡ awaits.Value) (ValueFull old t) (ValueHeap old t) (λ s. and_value s t) r await (λ g. g.heap ∙ as_given) (λ h. subst (λ z. 4294967295 < length z) as_given h)
-    (value_no_room old mid p t f.0 await grows small w.fits frames places w.placed) (f.0, grows) (λ g. value_moves old mid new p t f.0 await grows small frames places bytes w.placed g) ok err
+    does_give old mid new p (awaited_by old ≡ awaits.Value) (ValueFull old t) fits (ValueHeap old t) (λ s. and_value s t) r await (λ g. g.heap ∙ as_given) (λ h. subst (λ z. 4294967295 < length z) as_given h)
+    (value_no_room old mid p t f.0 await grows small w.fits frames places w.placed) holds (f.0, grows) (λ g. value_moves old mid new p t f.0 await grows small frames places bytes w.placed g) ok err
 
 -- it isn't written
-pub value_not : (old new : Building) (t : Tree) (e : BuildError) → awaited_by old ≡ awaits.Value → PutNot old.heap.items t new.heap.items e → Does old new (awaited_by old ≡ awaits.Value) (ValueHeap old t) (ValueFull old t) (λ s. and_value s t) (Err e)
-value_not old new t e await w = answer e w.why
+pub value_not : (old new : Building) (t : Tree) (fits : Type 0) (e : BuildError) → awaited_by old ≡ awaits.Value → (e ≡ Memory → fits) → PutNot old.heap.items t new.heap.items e
+    → Does old new (awaited_by old ≡ awaits.Value) (ValueHeap old t) (ValueFull old t) fits (λ s. and_value s t) (Err e)
+value_not old new t fits e await holds w = answer e holds w.why
   where
     more : length (tree_heap old.heap.items t) ≤ length (value_heap old t)
     more = prefix_length _ _ (given_prefix (frames_of old) (tree_heap old.heap.items t) old.places.items (tree_place old.heap.items t))
 
-    answer : (x : BuildError) → WhyNoTree old.heap.items t x → Does old new (awaited_by old ≡ awaits.Value) (ValueHeap old t) (ValueFull old t) (λ s. and_value s t) (Err x)
-    answer HeapFull h = (await, omega (arith, h.0, more), w.prefix, value_over old t await h.1)
-    answer Memory h = (await, w.prefix)
-    answer AlreadyFailed h = absurd h
-    answer OutOfPlace h = absurd h
-    answer (FieldNumber n) h = absurd h
-    answer NotUtf8 h = absurd h
+    answer : (x : BuildError) → (x ≡ Memory → fits) → WhyNoTree old.heap.items t x → Does old new (awaited_by old ≡ awaits.Value) (ValueHeap old t) (ValueFull old t) fits (λ s. and_value s t) (Err x)
+    answer HeapFull k h = (await, omega (arith, h.0, more), w.prefix, value_over old t await h.1)
+    answer Memory k h = (await, k refl, w.prefix)
+    answer AlreadyFailed k h = absurd h
+    answer OutOfPlace k h = absurd h
+    answer (FieldNumber n) k h = absurd h
+    answer NotUtf8 k h = absurd h
 
 -- whether what was found fits
 pub over_bound : (len m : ℕ) (fits : Bool) → FitsRoom (Some m) len fits → fits ≡ false → 4294967295 < len + m

@@ -105,10 +105,11 @@ key_moves old mid new content at await utf8 at_is grows fits frames places pendi
 
 pub does_key : (old mid new : Building) (content : List ℕ) (at : ℕ) (r : Result (Unit {0}) BuildError) → awaited_by old ≡ awaits.Key → IsUtf8 content → at ≡ length old.heap.items → mid.heap.items ≡ old.heap.items ++ short_sized content
     → length mid.heap.items ≤ 4294967295 → frames_of mid ≡ frames_of old → mid.places.items ≡ old.places.items → mid.pending ≡ old.pending → mid.complete ≡ old.complete → mid.open ≡ old.open
-    → OnOk r (GivesKey mid at new) → IfErr r (λ e. (e ≡ Memory) × (new.heap.items ≡ mid.heap.items)) → Does old new (awaited_by old ≡ awaits.Key) (KeyHeap old content) (KeyFull old content) (λ s. and_key s content) r
+    → OnOk r (GivesKey mid at new) → IfErr r (λ e. (e ≡ Memory) × (new.heap.items ≡ mid.heap.items)) → Does old new (awaited_by old ≡ awaits.Key) (KeyHeap old content) (KeyFull old content) (¬ KeyFull old content) (λ s. and_key s content) r
 does_key old mid new content at (Ok x) await utf8 at_is grows fits frames places pending whole open_is ok err =
     (await, ok.heap ∙ grows, key_moves old mid new content at await utf8 at_is grows fits frames places pending whole open_is ok)
-does_key old mid new content at (Err Memory) await utf8 at_is grows fits frames places pending whole open_is ok err = (await, (short_sized content, err.1 ∙ grows))
+does_key old mid new content at (Err Memory) await utf8 at_is grows fits frames places pending whole open_is ok err =
+    (await, (λ full. omega (arith, full, fits, ap length grows)), (short_sized content, err.1 ∙ grows))
 does_key old mid new content at (Err AlreadyFailed) await utf8 at_is grows fits frames places pending whole open_is ok err = absurd (let e = err.0 in cc)
 does_key old mid new content at (Err OutOfPlace) await utf8 at_is grows fits frames places pending whole open_is ok err = absurd (let e = err.0 in cc)
 does_key old mid new content at (Err (FieldNumber n)) await utf8 at_is grows fits frames places pending whole open_is ok err = absurd (let e = err.0 in cc)

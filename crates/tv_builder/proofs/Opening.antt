@@ -20,7 +20,7 @@ use Rattle.tv_builder.specs.declared.frame.ListKind.TheVariants.{Array, Object}
 use Rattle.tv_builder.specs.declared.place.Place.{Place}
 use Rattle.tv_builder.specs.Given.{given, pending_in}
 use Rattle.tv_builder.specs.Kinds.{list_type, total}
-use Rattle.tv_builder.specs.Moves.{given_to, Gives, GivesNot, WhyNot, Closed, ClosedNot, Moves, HasNoRoom, Does, list_heap, ListHeap, ListFull, HeadHeap, HeadFull, AwaitsChunk}
+use Rattle.tv_builder.specs.Moves.{given_to, Gives, GivesNot, WhyNot, Closed, ClosedNot, Moves, HasNoRoom, Does, list_heap, ListHeap, ListFull, ListFits, HeadHeap, HeadFull, AwaitsChunk}
 use Rattle.tv_builder.specs.Shows.{Placed, ShowsList, ShowsLists, Shows, frames_of, awaited_by}
 use Rattle.tv_builder.specs.State.{OpenList, State, complete, in_lists, in_bytes, next_in, and_value, with_list, and_list, and_head, and_bytes, head_awaits, HeadNext, list_tree, OthersAwait, AreChildren, written}
 use Rattle.tv_builder.proofs.Calls.{does_give, value_moves}
@@ -82,27 +82,27 @@ empty_heap : Building → ListKind → List ℕ
 empty_heap old kind = (given (old.heap.items ++ short_sized []) old.places.items (frames_of old) (record { value_type = list_type kind; address = length old.heap.items })).heap
 
 empty_does_at : (old mid new : Building) (kind : ListKind) (p : Place) (r : Result (Unit {0}) BuildError) → awaited_by old ≡ awaits.Value → EmptyClosed old mid kind p
-    → OnOk r (Gives mid p new) → IfErr r (λ e. GivesNot mid p new e) → Does old new (awaited_by old ≡ awaits.Value) (ListHeap old kind 0) (ListFull old kind 0) (λ s. and_list s kind 0) r
+    → OnOk r (Gives mid p new) → IfErr r (λ e. GivesNot mid p new e) → Does old new (awaited_by old ≡ awaits.Value) (ListHeap old kind 0) (ListFull old kind 0) (ListFits old 0) (λ s. and_list s kind 0) r
 empty_does_at old mid new kind p r await c ok err =
     let as_given : (given_to mid p).heap ≡ list_heap old kind 0 = λ i. (given (c.heap i) (c.places i) (c.frames i) (c.place i)).heap in
     let t = list_tree kind [] in
     let placed : Placed mid.heap.items p t = subst (λ z. Placed mid.heap.items z t) (sym c.place) (list_placed kind 0 old.heap.items mid.heap.items [] [] (no_total kind) (no_children kind) refl c.heap c.fits) in
     let within = list_within kind 0 old.heap.items mid.heap.items [] [] (no_total kind) (no_children kind) refl c.heap c.fits in
     let small : length (short_sized []) ≤ tree_weight t = omega (arith, within, longer old.heap.items mid.heap.items (short_sized []) c.heap) in
-    does_give old mid new p (awaited_by old ≡ awaits.Value) (ListFull old kind 0) (ListHeap old kind 0) (λ s. and_list s kind 0) r await (λ g. g.heap ∙ as_given) (λ h. omega (arith, h, ap length as_given))
-    (λ h. no_room_as old _ _ (and_empty kind) (value_no_room old mid p t (short_sized []) await c.heap small c.fits c.frames c.places placed h)) (_, c.heap)
+    does_give old mid new p (awaited_by old ≡ awaits.Value) (ListFull old kind 0) (ListFits old 0) (ListHeap old kind 0) (λ s. and_list s kind 0) r await (λ g. g.heap ∙ as_given) (λ h. omega (arith, h, ap length as_given))
+    (λ h. no_room_as old _ _ (and_empty kind) (value_no_room old mid p t (short_sized []) await c.heap small c.fits c.frames c.places placed h)) (λ e. omega (arith, c.fits, ap length c.heap)) (_, c.heap)
     (λ g. moves_as old new _ _ (and_empty kind) (value_moves old mid new p t (short_sized []) await c.heap small c.frames c.places c.same_bytes placed g)) ok err
 
 pub empty_does : (old mid new : Building) (kind : ListKind) (n : ℕ) (p : Place) (r : Result (Unit {0}) BuildError) → n ≡ 0 → awaited_by old ≡ awaits.Value → EmptyClosed old mid kind p
-    → OnOk r (Gives mid p new) → IfErr r (λ e. GivesNot mid p new e) → Does old new (awaited_by old ≡ awaits.Value) (ListHeap old kind n) (ListFull old kind n) (λ s. and_list s kind n) r
+    → OnOk r (Gives mid p new) → IfErr r (λ e. GivesNot mid p new e) → Does old new (awaited_by old ≡ awaits.Value) (ListHeap old kind n) (ListFull old kind n) (ListFits old n) (λ s. and_list s kind n) r
 empty_does old mid new kind n p r e await c ok err =
-    subst (λ m. Does old new (awaited_by old ≡ awaits.Value) (ListHeap old kind m) (ListFull old kind m) (λ s. and_list s kind m) r) (sym e) (empty_does_at old mid new kind p r await c ok err)
+    subst (λ m. Does old new (awaited_by old ≡ awaits.Value) (ListHeap old kind m) (ListFull old kind m) (ListFits old m) (λ s. and_list s kind m) r) (sym e) (empty_does_at old mid new kind p r await c ok err)
 
 -- it isn't written
 pub empty_not : (old new : Building) (f : Frame) (n : ℕ) (e : BuildError) → n ≡ 0 → f.first ≡ length old.places.items → awaited_by old ≡ awaits.Value → ClosedNot old f new e
-    → Does old new (awaited_by old ≡ awaits.Value) (ListHeap old f.kind n) (ListFull old f.kind n) (λ s. and_list s f.kind n) (Err e)
+    → Does old new (awaited_by old ≡ awaits.Value) (ListHeap old f.kind n) (ListFull old f.kind n) (ListFits old n) (λ s. and_list s f.kind n) (Err e)
 empty_not old new f n e none first await c =
-    subst (λ m. Does old new (awaited_by old ≡ awaits.Value) (ListHeap old f.kind m) (ListFull old f.kind m) (λ s. and_list s f.kind m) (Err e)) (sym none) (answer e c.why)
+    subst (λ m. Does old new (awaited_by old ≡ awaits.Value) (ListHeap old f.kind m) (ListFull old f.kind m) (ListFits old m) (λ s. and_list s f.kind m) (Err e)) (sym none) (answer e c.memory c.why)
   where
     same_heap : old.heap.items ++ short_sized (drop f.first old.places.items) ≡ old.heap.items ++ short_sized []
     same_heap = ap (λ z. old.heap.items ++ short_sized z) (drop_all f.first old.places.items (omega (arith, first)))
@@ -110,13 +110,13 @@ empty_not old new f n e none first await c =
     more : length (old.heap.items ++ short_sized []) ≤ length (list_heap old f.kind 0)
     more = prefix_length _ _ (given_prefix (frames_of old) (old.heap.items ++ short_sized []) old.places.items (record { value_type = list_type f.kind; address = length old.heap.items }))
 
-    answer : (x : BuildError) → WhyNot (old.heap.items ++ short_sized (drop f.first old.places.items)) x → Does old new (awaited_by old ≡ awaits.Value) (ListHeap old f.kind 0) (ListFull old f.kind 0) (λ s. and_list s f.kind 0) (Err x)
-    answer HeapFull h = (await, omega (arith, h, ap length same_heap, more), c.prefix, no_room_as old _ _ (and_empty f.kind) (value_over old (list_tree f.kind []) await (empty_over f.kind (length old.heap.items) (omega (arith, h, ap length same_heap, length-append old.heap.items (short_sized []))))))
-    answer Memory h = (await, c.prefix)
-    answer AlreadyFailed h = absurd h
-    answer OutOfPlace h = absurd h
-    answer (FieldNumber m) h = absurd h
-    answer NotUtf8 h = absurd h
+    answer : (x : BuildError) → (x ≡ Memory → length (old.heap.items ++ short_sized (drop f.first old.places.items)) ≤ 4294967295) → WhyNot (old.heap.items ++ short_sized (drop f.first old.places.items)) x → Does old new (awaited_by old ≡ awaits.Value) (ListHeap old f.kind 0) (ListFull old f.kind 0) (ListFits old 0) (λ s. and_list s f.kind 0) (Err x)
+    answer HeapFull k h = (await, omega (arith, h, ap length same_heap, more), c.prefix, no_room_as old _ _ (and_empty f.kind) (value_over old (list_tree f.kind []) await (empty_over f.kind (length old.heap.items) (omega (arith, h, ap length same_heap, length-append old.heap.items (short_sized []))))))
+    answer Memory k h = (await, (λ e. omega (arith, k refl, ap length same_heap)), c.prefix)
+    answer AlreadyFailed k h = absurd h
+    answer OutOfPlace k h = absurd h
+    answer (FieldNumber m) k h = absurd h
+    answer NotUtf8 k h = absurd h
 
 -- ---- a list of which some child is awaited
 
@@ -126,7 +126,7 @@ some_total Object n h = omega (arith, h)
 
 pub opens_list : (old new : Building) (kind : ListKind) (n : ℕ) (f : Frame) → 0 < n → f ≡ record { kind = kind; announced = n; finished = 0; first = length old.places.items } → awaited_by old ≡ awaits.Value → new.heap.items ≡ old.heap.items
     → new.places.items ≡ old.places.items → new.pending ≡ old.pending → new.frames.items ≡ old.frames.items ++ f ∷ [] → new.complete ≡ old.complete → new.open ≡ old.open
-    → Does old new (awaited_by old ≡ awaits.Value) (ListHeap old kind n) (ListFull old kind n) (λ s. and_list s kind n) (Ok tt)
+    → Does old new (awaited_by old ≡ awaits.Value) (ListHeap old kind n) (ListFull old kind n) (ListFits old n) (λ s. and_list s kind n) (Ok tt)
 opens_list old new kind n f some is await heap places pending frames whole closed = (
   await,
   heap ∙ sym (cond-false (nat_eq n 0) _ _ test),
@@ -203,7 +203,7 @@ begins_over old kind n await over = head_over old kind n await lists over
 
 pub begins_bytes : (old new : Building) (kind : BytesKind) (n : ℕ) (o : OpenBytes) → awaited_by old ≡ head_awaits kind → length old.heap.items + (length (vnum n) + n) ≤ 4294967295
     → o ≡ record { kind = kind; address = length old.heap.items; announced = n; missing = n } → new.heap.items ≡ old.heap.items ++ vnum n → new.places.items ≡ old.places.items → new.pending ≡ old.pending → new.frames.items ≡ old.frames.items
-    → new.complete ≡ old.complete → new.open ≡ Some o → Does old new (awaited_by old ≡ head_awaits kind) (HeadHeap old n) (HeadFull old n) (λ s. and_head s kind n) (Ok tt)
+    → new.complete ≡ old.complete → new.open ≡ Some o → Does old new (awaited_by old ≡ head_awaits kind) (HeadHeap old n) (HeadFull old n) (¬ HeadFull old n) (λ s. and_head s kind n) (Ok tt)
 begins_bytes old new kind n o await room_is is heap places pending frames whole open_is = (
   await,
   (heap, room_is),
@@ -247,7 +247,7 @@ begins_bytes old new kind n o await room_is is heap places pending frames whole 
 pub chunk_comes : (old new : Building) (o : OpenBytes) (more : List ℕ) (m : ℕ) → old.open ≡ Some o → length more ≤ o.missing → m + length more ≡ o.missing
     → new.heap.items ≡ old.heap.items ++ more → new.places.items ≡ old.places.items → new.pending ≡ old.pending → new.frames.items ≡ old.frames.items → new.complete ≡ old.complete
     → new.open ≡ Some (record { kind = o.kind; address = o.address; announced = o.announced; missing = m })
-    → Does old new (AwaitsChunk old.open (length more)) (λ heap. heap ≡ old.heap.items ++ more) ⊥ (λ s. and_bytes s more) (Ok tt)
+    → Does old new (AwaitsChunk old.open (length more)) (λ heap. heap ≡ old.heap.items ++ more) ⊥ (Unit {0}) (λ s. and_bytes s more) (Ok tt)
 chunk_comes old new o more m was small left heap places pending frames whole open_is = (
   subst (λ z. AwaitsChunk z (length more)) (sym was) small,
   heap,

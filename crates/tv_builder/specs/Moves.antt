@@ -86,6 +86,7 @@ pub record Closed (old : Building) (f : Frame) (p : Place) (new : Building) : Ty
 pub record ClosedNot (old : Building) (f : Frame) (new : Building) (e : BuildError) : Type 0 where
   pub prefix : IsPrefix old.heap.items new.heap.items
   pub why : WhyNot (old.heap.items ++ short_sized (drop f.first old.places.items)) e
+  pub memory : e ≡ Memory → length (old.heap.items ++ short_sized (drop f.first old.places.items)) ≤ 4294967295
 
 -- ---- the calls
 
@@ -105,13 +106,13 @@ abbrev pub HasNoRoom : Building → (State → State) → Type 0
 HasNoRoom old after = (s : State) → Shows old s → 4294967295 + written s < length old.heap.items + state_room (after s)
 
 -- A call that belongs `in_place`, and for which the heap that it leaves is `heaps`, whatever its length, and is too long where it is
--- `full`. After a refusal what stood in the heap still stands before it.
-abbrev pub Does : Building → Building → Type 0 → (List ℕ → Type 0) → Type 0 → (State → State) → Result (Unit {0}) BuildError → Type 0
-Does old new in_place heaps full after (Ok x) = in_place × heaps new.heap.items × Moves old new after
-Does old new in_place heaps full after (Err OutOfPlace) = ¬ in_place × IsPrefix old.heap.items new.heap.items
-Does old new in_place heaps full after (Err HeapFull) = in_place × full × IsPrefix old.heap.items new.heap.items × HasNoRoom old after
-Does old new in_place heaps full after (Err Memory) = in_place × IsPrefix old.heap.items new.heap.items
-Does old new in_place heaps full after (Err _) = ⊥
+-- `full`. Memory is refused only where `fits` holds. After a refusal what stood in the heap still stands before it.
+abbrev pub Does : Building → Building → Type 0 → (List ℕ → Type 0) → Type 0 → Type 0 → (State → State) → Result (Unit {0}) BuildError → Type 0
+Does old new in_place heaps full fits after (Ok x) = in_place × heaps new.heap.items × Moves old new after
+Does old new in_place heaps full fits after (Err OutOfPlace) = ¬ in_place × IsPrefix old.heap.items new.heap.items
+Does old new in_place heaps full fits after (Err HeapFull) = in_place × full × IsPrefix old.heap.items new.heap.items × HasNoRoom old after
+Does old new in_place heaps full fits after (Err Memory) = in_place × fits × IsPrefix old.heap.items new.heap.items
+Does old new in_place heaps full fits after (Err _) = ⊥
 
 -- a leaf is written, and then the lists that it closes
 abbrev pub leaf_heap : Building → Leaf → List ℕ
@@ -122,6 +123,10 @@ LeafHeap old l heap = heap ≡ leaf_heap old l
 
 abbrev pub LeafFull : Building → Leaf → Type 0
 LeafFull old l = 4294967295 < length (leaf_heap old l)
+
+-- the leaf itself fits, whether or not the lists that it closes do
+abbrev pub LeafFits : Building → Leaf → Type 0
+LeafFits old l = length (old.heap.items ++ leaf_bytes l) ≤ 4294967295
 
 -- a whole value is written part by part, and then the lists that it closes
 abbrev pub value_heap : Building → Tree → List ℕ
@@ -145,6 +150,10 @@ ListHeap old kind n heap = heap ≡ list_heap old kind n
 
 abbrev pub ListFull : Building → ListKind → ℕ → Type 0
 ListFull old kind n = 4294967295 < length (list_heap old kind n)
+
+-- a list of none itself fits, whether or not the lists that it closes do
+abbrev pub ListFits : Building → ℕ → Type 0
+ListFits old n = n ≡ 0 → length (old.heap.items ++ short_sized []) ≤ 4294967295
 
 abbrev pub KeyHeap : Building → List ℕ → List ℕ → Type 0
 KeyHeap old content heap = heap ≡ old.heap.items ++ short_sized content

@@ -41,3 +41,4 @@ pub record ListPut (old : List ℕ) (kind : ListKind) (own new : List ℕ) (p : 
 pub record ListPutNot (old own new : List ℕ) (e : BuildError) : Type 0 where
   pub prefix : IsPrefix old new
   pub why : WhyNot (old ++ short_sized own) e
+  pub memory : e ≡ Memory → length (old ++ short_sized own) ≤ 4294967295

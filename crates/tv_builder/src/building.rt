@@ -60,9 +60,9 @@ impl Building {
     ghost use Rattle.tv_builder.specs.Parts.{IsContent};
     ghost use Rattle.tv_builder.specs.Moves.{CanGive, Gives, GivesNot, CanGiveKey, GivesKey};
     ghost use Rattle.tv_builder.specs.Moves.{Closed, ClosedNot, Does, EndsBytes, LeafHeap};
-    ghost use Rattle.tv_builder.specs.Moves.{LeafFull, ValueHeap, ValueFull, HeadHeap, HeadFull};
-    ghost use Rattle.tv_builder.specs.Moves.{KeyHeap, KeyFull, ListHeap, ListFull, AwaitsChunk};
-    ghost use Rattle.tv_builder.specs.Moves.{last_bytes};
+    ghost use Rattle.tv_builder.specs.Moves.{LeafFull, LeafFits, ValueHeap, ValueFull, HeadHeap};
+    ghost use Rattle.tv_builder.specs.Moves.{HeadFull, KeyHeap, KeyFull, ListHeap, ListFull};
+    ghost use Rattle.tv_builder.specs.Moves.{ListFits, AwaitsChunk, last_bytes};
     ghost use Rattle.tv_builder.specs.Shows.{Stands, frames_of, awaited_by};
     ghost use Rattle.tv_builder.specs.State.{and_value, and_list, and_key, and_head, and_bytes};
     ghost use Rattle.tv_builder.specs.State.{head_awaits};
@@ -128,7 +128,7 @@ impl Building {
         requires { Stands self.old }
         ensures does { let l = leaf_of value.now in Does self.old self.new
             (awaited_by self.old ≡ ValueNext) (LeafHeap self.old l) (LeafFull self.old l)
-            (λ s. and_value s (leaf_tree l)) result }
+            (LeafFits self.old l) (λ s. and_value s (leaf_tree l)) result }
         ensures exact { OnOk result
             (held self.new ≡ leaf_called (held self.old) (leaf_of value.now)) }
     {
@@ -144,7 +144,7 @@ impl Building {
         requires { Stands self.old }
         ensures does { let t = V.tree value.now in Does self.old self.new
             (awaited_by self.old ≡ ValueNext) (ValueHeap self.old t) (ValueFull self.old t)
-            (λ s. and_value s t) result }
+            (Unit {0}) (λ s. and_value s t) result }
         ensures exact { OnOk result
             (held self.new ≡ tree_called (held self.old) (V.tree value.now)) }
     {
@@ -160,7 +160,7 @@ impl Building {
         requires { Stands self.old }
         ensures does { Does self.old self.new (awaited_by self.old ≡ ValueNext)
             (ListHeap self.old kind announced) (ListFull self.old kind announced)
-            (λ s. and_list s kind announced) result }
+            (ListFits self.old announced) (λ s. and_list s kind announced) result }
         ensures exact { OnOk result (held self.new ≡ list_called (held self.old) kind announced) }
     {
         let Awaits::Value = self.awaits() else {
@@ -185,7 +185,7 @@ impl Building {
         requires { Stands self.old }
         ensures does { Does self.old self.new (awaited_by self.old ≡ KeyNext)
             (KeyHeap self.old content.now) (KeyFull self.old content.now)
-            (λ s. and_key s content.now) result }
+            (¬ KeyFull self.old content.now) (λ s. and_key s content.now) result }
         ensures exact { OnOk result (held self.new ≡ key_called (held self.old) content.now) }
     {
         let Awaits::Key = self.awaits() else {
@@ -204,7 +204,7 @@ impl Building {
         requires { Stands self.old }
         ensures { Does self.old self.new (awaited_by self.old ≡ head_awaits kind)
             (HeadHeap self.old announced) (HeadFull self.old announced)
-            (λ s. and_head s kind announced) result }
+            (¬ HeadFull self.old announced) (λ s. and_head s kind announced) result }
     {
         if !self.awaits_head(kind) {
             return Err(BuildError::OutOfPlace);
@@ -239,8 +239,8 @@ impl Building {
     pub fn chunk(&mut self, bytes: &[u8]) -> Result<(), BuildError>
         requires { Stands self.old }
         ensures { Does self.old self.new (AwaitsChunk self.old.open (length bytes.now))
-            (λ heap. heap ≡ self.old.heap.items ++ bytes.now) ⊥ (λ s. and_bytes s bytes.now)
-            result }
+            (λ heap. heap ≡ self.old.heap.items ++ bytes.now) ⊥ (Unit {0})
+            (λ s. and_bytes s bytes.now) result }
     {
         let Some(open) = self.open else {
             return Err(BuildError::OutOfPlace);

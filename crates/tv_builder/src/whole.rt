@@ -2,6 +2,7 @@
 
 ghost use Rattle.std.specs.Prelude.{◌≡◌, ◌≤◌, ◌++◌, length, take, drop, OnOk, IfOk, IfErr, IfSome};
 ghost use Rattle.tv_base.specs.Sink.{IsPrefix};
+ghost use Rattle.tv_heap.specs.LeafBytes.{leaf_bytes};
 ghost use Rattle.tv_value.specs.Lent.{leaf_of, nested_tree};
 ghost use Rattle.tv_value.specs.Tree.{leaf as leaf_tree, array, object, elements, entries};
 ghost use Rattle.tv_builder.specs.Whole.{Put, PutNot, ListPut, ListPutNot};
@@ -27,6 +28,9 @@ pub(crate) fn put_leaf(
         (λ place. Put heap.old.items (leaf_tree (leaf_of value.now)) heap.new.items place) }
     ensures err { IfErr result
         (λ e. PutNot heap.old.items (leaf_tree (leaf_of value.now)) heap.new.items e) }
+    ensures memory { IfErr result
+        (λ e. e ≡ BuildError.Memory
+        → length (heap.old.items ++ leaf_bytes (leaf_of value.now)) ≤ 4294967295) }
 {
     if !has_value_room(heap.len(), leaf_len(value)) {
         return Err(BuildError::HeapFull);

@@ -12,17 +12,17 @@ Called old new after (Err HeapFull) = Overfull old after
 Called old new after (Err Memory) = Unit {0}
 Called old new after (Err _) = ⊥
 
-called_live : (old new : TreeBuilder) (in_place full : Type 0) (heaps : List ℕ → Type 0) (after : State → State) (r : Result (Unit {0}) BuildError) → in_place → BuildsIf false old new in_place heaps full after r → Called old new (after (state_of old)) r
-called_live old new in_place full heaps after (Ok x) here h = h.2
-called_live old new in_place full heaps after (Err AlreadyFailed) here h = absurd h
-called_live old new in_place full heaps after (Err OutOfPlace) here h = absurd (h.0 here)
-called_live old new in_place full heaps after (Err (FieldNumber n)) here h = absurd h
-called_live old new in_place full heaps after (Err NotUtf8) here h = absurd h
-called_live old new in_place full heaps after (Err HeapFull) here h = h.3
-called_live old new in_place full heaps after (Err Memory) here h = tt
+called_live : (old new : TreeBuilder) (in_place full fits : Type 0) (heaps : List ℕ → Type 0) (after : State → State) (r : Result (Unit {0}) BuildError) → in_place → BuildsIf false old new in_place heaps full fits after r → Called old new (after (state_of old)) r
+called_live old new in_place full fits heaps after (Ok x) here h = h.2
+called_live old new in_place full fits heaps after (Err AlreadyFailed) here h = absurd h
+called_live old new in_place full fits heaps after (Err OutOfPlace) here h = absurd (h.0 here)
+called_live old new in_place full fits heaps after (Err (FieldNumber n)) here h = absurd h
+called_live old new in_place full fits heaps after (Err NotUtf8) here h = absurd h
+called_live old new in_place full fits heaps after (Err HeapFull) here h = h.3
+called_live old new in_place full fits heaps after (Err Memory) here h = tt
 
-pub called : (old new : TreeBuilder) (in_place full : Type 0) (heaps : List ℕ → Type 0) (after : State → State) (r : Result (Unit {0}) BuildError) → old.failed ≡ false → in_place → Builds old new in_place heaps full after r → Called old new (after (state_of old)) r
-called old new in_place full heaps after r live here h = called_live old new in_place full heaps after r here (subst (λ z. BuildsIf z old new in_place heaps full after r) live h)
+pub called : (old new : TreeBuilder) (in_place full fits : Type 0) (heaps : List ℕ → Type 0) (after : State → State) (r : Result (Unit {0}) BuildError) → old.failed ≡ false → in_place → Builds old new in_place heaps full fits after r → Called old new (after (state_of old)) r
+called old new in_place full fits heaps after r live here h = called_live old new in_place full fits heaps after r here (subst (λ z. BuildsIf z old new in_place heaps full fits after r) live h)
 
 -- at the end of open bytes
 abbrev pub CalledEnd : TreeBuilder → TreeBuilder → Result (Unit {0}) BuildError → Type 0

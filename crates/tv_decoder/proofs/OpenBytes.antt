@@ -228,11 +228,11 @@ bytes_from_end r mid new more ps (Err (errors.Io k)) t map h = absurd h
 bytes_from_end r mid new more ps (Err errors.AlreadyFailed) t map h = absurd h
 
 -- some bytes were refused: for want of memory alone
-pub bytes_refused : (r new : Reading) (b : TreeBuilder) (in_place : Type 0) (heaps : List ℕ → Type 0) (after : State → State) (more : List ℕ) (ps : List Part) (e : BuildError) → r.builder.failed ≡ false → in_place → Builds r.builder b in_place heaps ⊥ after (Err e)
+pub bytes_refused : (r new : Reading) (b : TreeBuilder) (in_place fits : Type 0) (heaps : List ℕ → Type 0) (after : State → State) (more : List ℕ) (ps : List Part) (e : BuildError) → r.builder.failed ≡ false → in_place → Builds r.builder b in_place heaps ⊥ fits after (Err e)
     → PutsBytes r new more ps (Err (build_error e))
-bytes_refused r new b in_place heaps after more ps e live here c = refused e (subst (λ z. BuildsIf z r.builder b in_place heaps ⊥ after (Err e)) live c)
+bytes_refused r new b in_place fits heaps after more ps e live here c = refused e (subst (λ z. BuildsIf z r.builder b in_place heaps ⊥ fits after (Err e)) live c)
   where
-    refused : (e : BuildError) → BuildsIf false r.builder b in_place heaps ⊥ after (Err e) → PutsBytes r new more ps (Err (build_error e))
+    refused : (e : BuildError) → BuildsIf false r.builder b in_place heaps ⊥ fits after (Err e) → PutsBytes r new more ps (Err (build_error e))
     refused HeapFull k = absurd k.1
     refused Memory k = tt
     refused NotUtf8 k = absurd k

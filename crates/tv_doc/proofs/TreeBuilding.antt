@@ -52,14 +52,14 @@ pub record Left (old mid : Building) (after : State → State) (r : Answer) : Ty
   pub moves : OnOk r (Moves old mid after)
   pub prefix : OnErr r (IsPrefix old.heap.items mid.heap.items)
 
-pub does_left : (old mid : Building) (in_place : Type 0) (heaps : List ℕ → Type 0) (full : Type 0) (after : State → State) (r : Answer) → Does old mid in_place heaps full after r → Left old mid after r
-does_left old mid in_place heaps full after (Ok x) h = record { moves = h.2; prefix = tt }
-does_left old mid in_place heaps full after (Err OutOfPlace) h = record { moves = tt; prefix = h.1 }
-does_left old mid in_place heaps full after (Err HeapFull) h = record { moves = tt; prefix = h.2 }
-does_left old mid in_place heaps full after (Err Memory) h = record { moves = tt; prefix = h.1 }
-does_left old mid in_place heaps full after (Err AlreadyFailed) h = absurd h
-does_left old mid in_place heaps full after (Err (FieldNumber n)) h = absurd h
-does_left old mid in_place heaps full after (Err NotUtf8) h = absurd h
+pub does_left : (old mid : Building) (in_place : Type 0) (heaps : List ℕ → Type 0) (full fits : Type 0) (after : State → State) (r : Answer) → Does old mid in_place heaps full fits after r → Left old mid after r
+does_left old mid in_place heaps full fits after (Ok x) h = record { moves = h.2; prefix = tt }
+does_left old mid in_place heaps full fits after (Err OutOfPlace) h = record { moves = tt; prefix = h.1 }
+does_left old mid in_place heaps full fits after (Err HeapFull) h = record { moves = tt; prefix = h.2 }
+does_left old mid in_place heaps full fits after (Err Memory) h = record { moves = tt; prefix = h.2 }
+does_left old mid in_place heaps full fits after (Err AlreadyFailed) h = absurd h
+does_left old mid in_place heaps full fits after (Err (FieldNumber n)) h = absurd h
+does_left old mid in_place heaps full fits after (Err NotUtf8) h = absurd h
 
 pub ends_left : (old mid : Building) (r : Answer) → EndsBytes old mid r → Left old mid and_end r
 ends_left old mid (Ok x) h = record { moves = h.3; prefix = tt }
@@ -174,38 +174,38 @@ overfull old after none =
     let over : 4294967296 ≤ document_room (built old) + state_room (after (state_of old)) = ∥∥₁_elim old.state.1 le_prop (λ s. omega (arith, none old.state.0 s, old.written, old.room)) in
     omega (arith, over)
 
-builds_live : (old new : TreeBuilder) (mid : Building) (in_place : Type 0) (heaps : List ℕ → Type 0) (full : Type 0) (after : State → State) (r : Answer) → old.failed ≡ false → Does old.building mid in_place heaps full after r
-    → Settled mid new.building old.kept old.failed new.failed r → new.kept ≡ old.kept → new.pairs.items ≡ old.pairs.items → BuildsIf false old new in_place heaps full after r
-builds_live old new mid in_place heaps full after (Ok x) live d s kept pairs =
-    (d.0, heap_settled mid new.building heaps s.ok d.1, goes_on old new mid after live (does_left old.building mid in_place heaps full after (Ok x) d) s kept pairs)
-builds_live old new mid in_place heaps full after (Err OutOfPlace) live d s kept pairs = (d.0, fails_now old new mid after OutOfPlace (does_left old.building mid in_place heaps full after (Err OutOfPlace) d) s kept pairs)
-builds_live old new mid in_place heaps full after (Err HeapFull) live d s kept pairs = (d.0, d.1, fails_now old new mid after HeapFull (does_left old.building mid in_place heaps full after (Err HeapFull) d) s kept pairs, overfull old after d.3)
-builds_live old new mid in_place heaps full after (Err Memory) live d s kept pairs = (d.0, fails_now old new mid after Memory (does_left old.building mid in_place heaps full after (Err Memory) d) s kept pairs)
-builds_live old new mid in_place heaps full after (Err AlreadyFailed) live d s kept pairs = absurd d
-builds_live old new mid in_place heaps full after (Err (FieldNumber n)) live d s kept pairs = absurd d
-builds_live old new mid in_place heaps full after (Err NotUtf8) live d s kept pairs = absurd d
+builds_live : (old new : TreeBuilder) (mid : Building) (in_place : Type 0) (heaps : List ℕ → Type 0) (full fits : Type 0) (after : State → State) (r : Answer) → old.failed ≡ false → Does old.building mid in_place heaps full fits after r
+    → Settled mid new.building old.kept old.failed new.failed r → new.kept ≡ old.kept → new.pairs.items ≡ old.pairs.items → BuildsIf false old new in_place heaps full fits after r
+builds_live old new mid in_place heaps full fits after (Ok x) live d s kept pairs =
+    (d.0, heap_settled mid new.building heaps s.ok d.1, goes_on old new mid after live (does_left old.building mid in_place heaps full fits after (Ok x) d) s kept pairs)
+builds_live old new mid in_place heaps full fits after (Err OutOfPlace) live d s kept pairs = (d.0, fails_now old new mid after OutOfPlace (does_left old.building mid in_place heaps full fits after (Err OutOfPlace) d) s kept pairs)
+builds_live old new mid in_place heaps full fits after (Err HeapFull) live d s kept pairs = (d.0, d.1, fails_now old new mid after HeapFull (does_left old.building mid in_place heaps full fits after (Err HeapFull) d) s kept pairs, overfull old after d.3)
+builds_live old new mid in_place heaps full fits after (Err Memory) live d s kept pairs = (d.0, d.1, fails_now old new mid after Memory (does_left old.building mid in_place heaps full fits after (Err Memory) d) s kept pairs)
+builds_live old new mid in_place heaps full fits after (Err AlreadyFailed) live d s kept pairs = absurd d
+builds_live old new mid in_place heaps full fits after (Err (FieldNumber n)) live d s kept pairs = absurd d
+builds_live old new mid in_place heaps full fits after (Err NotUtf8) live d s kept pairs = absurd d
 
-builds : (old new : TreeBuilder) (mid : Building) (in_place : Type 0) (heaps : List ℕ → Type 0) (full : Type 0) (after : State → State) (r t : Answer) → old.failed ≡ false → Does old.building mid in_place heaps full after r
-    → Settled mid new.building old.kept old.failed new.failed r → new.kept ≡ old.kept → new.pairs.items ≡ old.pairs.items → t ≡ r → Builds old new in_place heaps full after t
-builds old new mid in_place heaps full after r t live d s kept pairs e =
-    subst (λ z. BuildsIf z old new in_place heaps full after t) (sym live) (subst (λ z. BuildsIf false old new in_place heaps full after z) (sym e) (builds_live old new mid in_place heaps full after r live d s kept pairs))
+builds : (old new : TreeBuilder) (mid : Building) (in_place : Type 0) (heaps : List ℕ → Type 0) (full fits : Type 0) (after : State → State) (r t : Answer) → old.failed ≡ false → Does old.building mid in_place heaps full fits after r
+    → Settled mid new.building old.kept old.failed new.failed r → new.kept ≡ old.kept → new.pairs.items ≡ old.pairs.items → t ≡ r → Builds old new in_place heaps full fits after t
+builds old new mid in_place heaps full fits after r t live d s kept pairs e =
+    subst (λ z. BuildsIf z old new in_place heaps full fits after t) (sym live) (subst (λ z. BuildsIf false old new in_place heaps full fits after z) (sym e) (builds_live old new mid in_place heaps full fits after r live d s kept pairs))
 
 -- a call that belongs where something of this kind comes next
-pub builds_next : (old new : TreeBuilder) (mid : Building) (next : Awaits) (heaps : List ℕ → Type 0) (full : Type 0) (after : State → State) (r t : Answer) → old.failed ≡ false
-    → Does old.building mid (awaited_by old.building ≡ next) heaps full after r → Settled mid new.building old.kept old.failed new.failed r → new.kept ≡ old.kept → new.pairs.items ≡ old.pairs.items → t ≡ r
-    → Builds old new (awaited (state_of old) ≡ next) heaps full after t
-builds_next old new mid next heaps full after r t live d s kept pairs e =
+pub builds_next : (old new : TreeBuilder) (mid : Building) (next : Awaits) (heaps : List ℕ → Type 0) (full fits : Type 0) (after : State → State) (r t : Answer) → old.failed ≡ false
+    → Does old.building mid (awaited_by old.building ≡ next) heaps full fits after r → Settled mid new.building old.kept old.failed new.failed r → new.kept ≡ old.kept → new.pairs.items ≡ old.pairs.items → t ≡ r
+    → Builds old new (awaited (state_of old) ≡ next) heaps full fits after t
+builds_next old new mid next heaps full fits after r t live d s kept pairs e =
     let same_next = awaited_is old.building old.state in
-    builds old new mid (awaited (state_of old) ≡ next) heaps full after r t live
-    (does_as old.building mid (awaited_by old.building ≡ next) (awaited (state_of old) ≡ next) heaps full after r (λ p. sym same_next ∙ p) (λ p. same_next ∙ p) d) s kept pairs e
+    builds old new mid (awaited (state_of old) ≡ next) heaps full fits after r t live
+    (does_as old.building mid (awaited_by old.building ≡ next) (awaited (state_of old) ≡ next) heaps full fits after r (λ p. sym same_next ∙ p) (λ p. same_next ∙ p) d) s kept pairs e
 
 -- a call that belongs where so many bytes are missing
-pub builds_chunk : (old new : TreeBuilder) (mid : Building) (n : ℕ) (heaps : List ℕ → Type 0) (full : Type 0) (after : State → State) (r t : Answer) → old.failed ≡ false
-    → Does old.building mid (AwaitsChunk old.building.open n) heaps full after r → Settled mid new.building old.kept old.failed new.failed r → new.kept ≡ old.kept → new.pairs.items ≡ old.pairs.items → t ≡ r
-    → Builds old new (TakesBytes (state_of old) n) heaps full after t
-builds_chunk old new mid n heaps full after r t live d s kept pairs e =
-    builds old new mid (TakesBytes (state_of old) n) heaps full after r t live
-    (does_as old.building mid (AwaitsChunk old.building.open n) (TakesBytes (state_of old) n) heaps full after r (takes_bytes old.building old.state.0 n old.state.1) (takes_chunk old.building old.state.0 n old.state.1) d) s kept pairs e
+pub builds_chunk : (old new : TreeBuilder) (mid : Building) (n : ℕ) (heaps : List ℕ → Type 0) (full fits : Type 0) (after : State → State) (r t : Answer) → old.failed ≡ false
+    → Does old.building mid (AwaitsChunk old.building.open n) heaps full fits after r → Settled mid new.building old.kept old.failed new.failed r → new.kept ≡ old.kept → new.pairs.items ≡ old.pairs.items → t ≡ r
+    → Builds old new (TakesBytes (state_of old) n) heaps full fits after t
+builds_chunk old new mid n heaps full fits after r t live d s kept pairs e =
+    builds old new mid (TakesBytes (state_of old) n) heaps full fits after r t live
+    (does_as old.building mid (AwaitsChunk old.building.open n) (TakesBytes (state_of old) n) heaps full fits after r (takes_bytes old.building old.state.0 n old.state.1) (takes_chunk old.building old.state.0 n old.state.1) d) s kept pairs e
 
 all_of : (old : TreeBuilder) → AwaitsEnd old.building.open → HasAllBytes (state_of old)
 all_of old h = has_all old.building old.state.0 old.state.1 h

@@ -57,16 +57,17 @@ abbrev pub Overfull : TreeBuilder → State → Type 0
 Overfull old s = 4294967295 < document_room (built old) + state_room s
 
 -- A call that belongs `in_place`, for which the heap that it leaves is `heaps`, whatever its length, and is too long where it is `full`.
-abbrev pub BuildsIf : Bool → TreeBuilder → TreeBuilder → Type 0 → (List ℕ → Type 0) → Type 0 → (State → State) → Result (Unit {0}) BuildError → Type 0
-BuildsIf true old new in_place heaps full after r = (r ≡ Err AlreadyFailed) × (new ≡ old)
-BuildsIf false old new in_place heaps full after (Ok x) = in_place × heaps (heap_so_far new) × Goes old new (after (state_of old))
-BuildsIf false old new in_place heaps full after (Err OutOfPlace) = ¬ in_place × Fails old new
-BuildsIf false old new in_place heaps full after (Err HeapFull) = in_place × full × Fails old new × Overfull old (after (state_of old))
-BuildsIf false old new in_place heaps full after (Err Memory) = in_place × Fails old new
-BuildsIf false old new in_place heaps full after (Err _) = ⊥
+-- Memory is refused only where `fits` holds.
+abbrev pub BuildsIf : Bool → TreeBuilder → TreeBuilder → Type 0 → (List ℕ → Type 0) → Type 0 → Type 0 → (State → State) → Result (Unit {0}) BuildError → Type 0
+BuildsIf true old new in_place heaps full fits after r = (r ≡ Err AlreadyFailed) × (new ≡ old)
+BuildsIf false old new in_place heaps full fits after (Ok x) = in_place × heaps (heap_so_far new) × Goes old new (after (state_of old))
+BuildsIf false old new in_place heaps full fits after (Err OutOfPlace) = ¬ in_place × Fails old new
+BuildsIf false old new in_place heaps full fits after (Err HeapFull) = in_place × full × Fails old new × Overfull old (after (state_of old))
+BuildsIf false old new in_place heaps full fits after (Err Memory) = in_place × fits × Fails old new
+BuildsIf false old new in_place heaps full fits after (Err _) = ⊥
 
-abbrev pub Builds : TreeBuilder → TreeBuilder → Type 0 → (List ℕ → Type 0) → Type 0 → (State → State) → Result (Unit {0}) BuildError → Type 0
-Builds old new in_place heaps full after r = BuildsIf old.failed old new in_place heaps full after r
+abbrev pub Builds : TreeBuilder → TreeBuilder → Type 0 → (List ℕ → Type 0) → Type 0 → Type 0 → (State → State) → Result (Unit {0}) BuildError → Type 0
+Builds old new in_place heaps full fits after r = BuildsIf old.failed old new in_place heaps full fits after r
 
 -- the call at the end of open bytes
 abbrev pub EndsIf : Bool → TreeBuilder → TreeBuilder → Result (Unit {0}) BuildError → Type 0

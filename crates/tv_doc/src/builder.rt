@@ -108,8 +108,9 @@ pub struct TreeBuilder {
 }
 
 impl TreeBuilder {
-    ghost use Rattle.tv_builder.specs.Moves.{LeafHeap, LeafFull, ValueHeap, ValueFull, ListHeap};
-    ghost use Rattle.tv_builder.specs.Moves.{ListFull, KeyHeap, KeyFull, HeadHeap, HeadFull};
+    ghost use Rattle.tv_builder.specs.Moves.{LeafHeap, LeafFull, LeafFits, ValueHeap, ValueFull};
+    ghost use Rattle.tv_builder.specs.Moves.{ListHeap, ListFull, ListFits, KeyHeap, KeyFull};
+    ghost use Rattle.tv_builder.specs.Moves.{HeadHeap, HeadFull};
     ghost use Rattle.tv_builder.specs.State.{and_value, and_list, and_key, and_head, and_bytes};
     ghost use Rattle.tv_builder.specs.State.{awaited, head_awaits, in_lists, lists_of, children_of};
     ghost use Rattle.tv_builder.specs.declared.awaits.Awaits.TheVariants.{Value as ValueNext};
@@ -188,11 +189,13 @@ impl TreeBuilder {
     /// A value without children.
     ///
     /// `AlreadyFailed` after a refusal; `OutOfPlace` where no value is awaited; `HeapFull` where the value, or a list that it closes, would
-    /// end above 4294967295; else `Memory` where memory is refused.
+    /// end above 4294967295; `Memory` where memory is refused. `Memory` comes only where the value itself fits; it may come before the
+    /// `HeapFull` of a list that the value closes.
     pub fn leaf(&mut self, value: ReferenceValueLeaf<'_>) -> Result<(), BuildError>
         ensures { let l = leaf_of value.entry in Builds self.old self.new
             (awaited (state_of self.old) ≡ ValueNext) (LeafHeap self.old.building l)
-            (LeafFull self.old.building l) (λ s. and_value s (leaf_tree l)) result }
+            (LeafFull self.old.building l) (LeafFits self.old.building l)
+            (λ s. and_value s (leaf_tree l)) result }
     {
         if self.failed {
             return Err(BuildError::AlreadyFailed);
@@ -204,11 +207,12 @@ impl TreeBuilder {
     /// A whole value of any kind: what the calls for its parts do.
     ///
     /// `AlreadyFailed` after a refusal; `OutOfPlace` where no value is awaited; `HeapFull` where a part of the value, or a list that it
-    /// closes, would end above 4294967295; else `Memory` where memory is refused.
+    /// closes, would end above 4294967295; `Memory` where memory is refused, which may come before the `HeapFull` of a later part of the
+    /// value, or of a list that it closes.
     pub fn tree<'a, V: Value<'a>>(&mut self, value: &V) -> Result<(), BuildError>
         ensures { let t = V.tree value.now in Builds self.old self.new
             (awaited (state_of self.old) ≡ ValueNext) (ValueHeap self.old.building t)
-            (ValueFull self.old.building t) (λ s. and_value s t) result }
+            (ValueFull self.old.building t) (Unit {0}) (λ s. and_value s t) result }
     {
         if self.failed {
             return Err(BuildError::AlreadyFailed);
@@ -220,11 +224,13 @@ impl TreeBuilder {
     /// An array opens, of which so many elements are announced. One of none closes at once. Nothing is reserved.
     ///
     /// `AlreadyFailed` after a refusal; `OutOfPlace` where no value is awaited; `HeapFull` where the array, or a list that it closes,
-    /// would end above 4294967295; else `Memory` where memory is refused.
+    /// would end above 4294967295; `Memory` where memory is refused. `Memory` comes only where an array of none itself fits; it may come
+    /// before the `HeapFull` of a list that the array closes.
     pub fn open_array(&mut self, announced: u64) -> Result<(), BuildError>
         ensures { Builds self.old self.new (awaited (state_of self.old) ≡ ValueNext)
             (ListHeap self.old.building Array announced)
-            (ListFull self.old.building Array announced) (λ s. and_list s Array announced) result }
+            (ListFull self.old.building Array announced) (ListFits self.old.building announced)
+            (λ s. and_list s Array announced) result }
     {
         if self.failed {
             return Err(BuildError::AlreadyFailed);
@@ -238,8 +244,8 @@ impl TreeBuilder {
     pub fn open_object(&mut self, announced: u64) -> Result<(), BuildError>
         ensures { Builds self.old self.new (awaited (state_of self.old) ≡ ValueNext)
             (ListHeap self.old.building Object announced)
-            (ListFull self.old.building Object announced) (λ s. and_list s Object announced)
-            result }
+            (ListFull self.old.building Object announced) (ListFits self.old.building announced)
+            (λ s. and_list s Object announced) result }
     {
         if self.failed {
             return Err(BuildError::AlreadyFailed);
@@ -251,11 +257,11 @@ impl TreeBuilder {
     /// A key of the innermost object.
     ///
     /// `AlreadyFailed` after a refusal; `OutOfPlace` where no key is awaited; `HeapFull` where the key would end above 4294967295; else
-    /// `Memory` where memory is refused.
+    /// `Memory` where memory is refused. `Memory` comes only where the key fits.
     pub fn key(&mut self, content: &str) -> Result<(), BuildError>
         ensures { Builds self.old self.new (awaited (state_of self.old) ≡ KeyNext)
             (KeyHeap self.old.building content.now) (KeyFull self.old.building content.now)
-            (λ s. and_key s content.now) result }
+            (¬ KeyFull self.old.building content.now) (λ s. and_key s content.now) result }
     {
         if self.failed {
             return Err(BuildError::AlreadyFailed);
@@ -267,11 +273,11 @@ impl TreeBuilder {
     /// The bytes of a value or of a key begin, of which so many are announced. Nothing is reserved.
     ///
     /// `AlreadyFailed` after a refusal; `OutOfPlace` where no value, or for a key no key, is awaited; `HeapFull` where the announced
-    /// bytes behind their length would end above 4294967295; else `Memory` where memory is refused.
+    /// bytes behind their length would end above 4294967295; else `Memory` where memory is refused. `Memory` comes only where they fit.
     pub fn begin_bytes(&mut self, kind: BytesKind, announced: u64) -> Result<(), BuildError>
         ensures { Builds self.old self.new (awaited (state_of self.old) ≡ head_awaits kind)
             (HeadHeap self.old.building announced) (HeadFull self.old.building announced)
-            (λ s. and_head s kind announced) result }
+            (¬ HeadFull self.old.building announced) (λ s. and_head s kind announced) result }
     {
         if self.failed {
             return Err(BuildError::AlreadyFailed);
@@ -285,8 +291,8 @@ impl TreeBuilder {
     /// `AlreadyFailed` after a refusal; `OutOfPlace` where fewer are missing; else `Memory` where memory is refused.
     pub fn chunk(&mut self, bytes: &[u8]) -> Result<(), BuildError>
         ensures { Builds self.old self.new (TakesBytes (state_of self.old) (length bytes.now))
-            (λ heap. heap ≡ heap_so_far self.old ++ bytes.now) ⊥ (λ s. and_bytes s bytes.now)
-            result }
+            (λ heap. heap ≡ heap_so_far self.old ++ bytes.now) ⊥ (Unit {0})
+            (λ s. and_bytes s bytes.now) result }
     {
         if self.failed {
             return Err(BuildError::AlreadyFailed);
@@ -298,8 +304,8 @@ impl TreeBuilder {
     /// All announced bytes have come, and are a finished value or key.
     ///
     /// `AlreadyFailed` after a refusal; `OutOfPlace` where no bytes are open, or some are missing; `NotUtf8` where they should be a text,
-    /// a facet or a key and aren't UTF-8; `HeapFull` where a list that the value closes would end above 4294967295; else `Memory` where
-    /// memory is refused.
+    /// a facet or a key and aren't UTF-8; `HeapFull` where a list that the value closes would end above 4294967295; `Memory` where memory is
+    /// refused, which may come before that `HeapFull`.
     pub fn end_bytes(&mut self) -> Result<(), BuildError>
         ensures { Ends self.old self.new result }
     {

@@ -14,7 +14,7 @@ give-requires g c = can_give c.args.self.now _ c.requires (sym c.in-Value.ensure
 pub returns-in_err-place-clause-does : goal.returns-in_err-place-clause-does
 returns-in_err-place-clause-does g c =
     let b = c.args.self.now in
-    let not = value_not b (record b { heap = c.put_tree.new.heap; places = c.put_tree.new.places }) (g.V.Value.tree c.args.value.now) c.in_err-place.field-0.0 (sym c.in-Value.ensures)
+    let not = value_not b (record b { heap = c.put_tree.new.heap; places = c.put_tree.new.places }) (g.V.Value.tree c.args.value.now) (Unit {0}) c.in_err-place.field-0.0 (sym c.in-Value.ensures) (λ e. tt)
     (subst (λ t. PutNot b.heap.items t c.put_tree.new.heap.items c.in_err-place.field-0.0) c.lend.ensures c.in_err-place.ensures.err) in
     search (rules, not)
 
@@ -22,7 +22,7 @@ pub returns-clause-does : goal.returns-clause-does
 returns-clause-does g c =
     let b = c.args.self.now in
     let wrote = subst (λ t. Put b.heap.items t c.put_tree.new.heap.items c.in_ok-place.place) c.lend.ensures c.in_ok-place.ensures.ok in
-    does_value b _ c.give.new.self c.in_ok-place.place (g.V.Value.tree c.args.value.now) c.give.result (sym c.in-Value.ensures) wrote refl c.in_ok-place.ensures.places refl c.give.ensures.ok c.give.ensures.err
+    does_value b _ c.give.new.self c.in_ok-place.place (g.V.Value.tree c.args.value.now) (Unit {0}) c.give.result (sym c.in-Value.ensures) tt wrote refl c.in_ok-place.ensures.places refl c.give.ensures.ok c.give.ensures.err
 
 pub returns-clause-exact : goal.returns-clause-exact
 returns-clause-exact g c =
