@@ -6,7 +6,7 @@ ghost use Rattle.tv_base.specs.Number.{vnum};
 ghost use Rattle.tv_base.specs.Sink.{Writes};
 ghost use Rattle.tv_store.specs.Error as store;
 ghost use Rattle.tv_store.specs.Error.{IsIo};
-ghost use Rattle.tv_store.specs.Serialized.{Refuses, WritesWhere, awaited_after};
+ghost use Rattle.tv_store.specs.Serialized.{FailsToWrite, Refuses, WritesWhere, awaited_after};
 ghost use Rattle.tv_value.specs.Short.{short, short_key, IsValue};
 ghost use Rattle.tv_value.specs.Version.{V2};
 
@@ -132,8 +132,9 @@ impl<'se, K: ByteSink> BinaryArraySerializer<'se, K> {
 
     /// Appends the number of values, all of which are then awaited. It takes no memory.
     ///
-    /// The only error is `Io`, where the sink failed. The sink then holds what it held before, and a beginning of the number, of
-    /// which no clause speaks: a contract can't say how a borrow of a sink of any type ends that the answer may keep.
+    /// The only error is `Io`, where the sink failed. The sink then holds what it held before, and a beginning of the number. Its
+    /// clause says that a failed write leaves a sink so, and not that it is this one: a contract can't say how a borrow of a sink of
+    /// any type ends that the answer may keep.
     pub fn begin(
         count: u64,
         sink: &'se mut K,
@@ -144,6 +145,8 @@ impl<'se, K: ByteSink> BinaryArraySerializer<'se, K> {
             (Ok (vnum count))) }
         ensures awaited { IfOk result (λ made. made.awaited ≡ count) }
         ensures io { IfErr result IsIo }
+        ensures fails { IfErr result
+            (λ e. FailsToWrite K.is_known K.held K.failures sink.old e (vnum count)) }
     {
         write_vint(sink, count)?;
         Ok(BinaryArraySerializer::awaiting(sink, count))
@@ -199,8 +202,8 @@ impl<'se, K: ByteSink> BinaryObjectSerializer<'se, K> {
     /// Appends twice the number of entries, all of which are then awaited. It takes no memory.
     ///
     /// Errors: `TooMany` where twice the number is above 2^64 - 1, and nothing is written; else `Io` where the sink failed. The
-    /// sink then holds what it held before, and a beginning of the number. Of the sink after an error no clause speaks: a
-    /// contract can't say how a borrow of a sink of any type ends that the answer may keep.
+    /// sink then holds what it held before, and a beginning of the number. Its clause says that a failed write leaves a sink so,
+    /// and not that it is this one: a contract can't say how a borrow of a sink of any type ends that the answer may keep.
     pub fn begin(
         count: u64,
         sink: &'se mut K,
@@ -212,6 +215,8 @@ impl<'se, K: ByteSink> BinaryObjectSerializer<'se, K> {
         ensures awaited { IfOk result (λ made. made.awaited ≡ count) }
         ensures too_many { 2 ^ 64 ≤ 2 * count → result ≡ Err SerializeError.TooMany }
         ensures io { 2 * count < 2 ^ 64 → IfErr result IsIo }
+        ensures fails { 2 * count < 2 ^ 64 → IfErr result
+            (λ e. FailsToWrite K.is_known K.held K.failures sink.old e (vnum (2 * count))) }
     {
         let Some(doubled) = count.checked_mul(2) else {
             return Err(SerializeError::TooMany);
