@@ -139,7 +139,7 @@ impl Reading for PairsReading {
     fn read<S: ByteSource + Drop>(&self, alloc: Global, source: S) -> Result<Ending<S>> {
         let mut reader = StoreReader::new(source, self.0);
         let document = match BinaryDocumentDeserializer::from_reader(&mut reader) {
-            Ok(pairs) => TantivyDocument::deserialize(alloc, pairs),
+            Ok(mut pairs) => TantivyDocument::deserialize(alloc, &mut pairs),
             Err(error) => Err(error),
         };
         let answer = reads::shown(alloc, document, Form::Pairs)?;

@@ -5,7 +5,7 @@ ghost use Rattle.tv_base.specs.declared.cause.Cause.TheVariants.{TooLong};
 ghost use Rattle.tv_reader.specs.Error.{TakesBy};
 ghost use Rattle.tv_reader.specs.Fields.{field_at};
 ghost use Rattle.tv_reader.specs.declared.error.DeserializeError.TheVariants.{CorruptedValue};
-ghost use Rattle.tv_reader.specs.declared.error.DeserializeError.TheVariants.{HeapFull};
+ghost use Rattle.tv_reader.specs.declared.error.DeserializeError.TheVariants.{HeapFull, Memory};
 
 use crate::error::DeserializeError;
 use tv_base::take::take_u32;
@@ -25,6 +25,7 @@ pub fn take_field<S: ByteSource>(source: &mut S, count: &mut u64) -> Result<u32,
     ensures too_long { IsErrOf result (CorruptedValue TooLong) → count.new ≡ 2 ^ 64 - 1 }
     ensures few { count.new ≤ count.old + 4 }
     ensures roomy { ¬ IsErrOf result HeapFull }
+    ensures spares { ¬ IsErrOf result Memory }
     ensures small { IfOk result (λ field. field ≤ 65535) }
 {
     let field = take_u32(source, count)?;

@@ -1,6 +1,9 @@
 -- Pairs that are given, one after the other.
-use Rattle.std.proofs.Common.{◌≡◌, ℕ, suc, Option, Some, None, ◌+◌, ◌≤◌, List, [], ◌∷◌, ◌++◌, length, refl, sym, ◌∙◌, ap, subst, arith, zero-add}
+use Rattle.std.proofs.Common.{◌≡◌, ℕ, suc, Bool, true, false, Option, Some, None, Ok, Err, ◌+◌, ◌≤◌, List, [], ◌∷◌, ◌++◌, length, refl, sym, ◌∙◌, ap, subst, arith, zero-add}
 use Rattle.std.proofs.lemmas.List.Sums.{sum_by-append}
+use Rattle.std.specs.Prelude.{IsErrOf}
+use Rattle.tv_base.specs.Source.{Failures}
+use Rattle.tv_base.specs.Stop.{CountsStop}
 use Rattle.tv_base.specs.declared.cause.Cause.TheVariants.{FieldNumber}
 use Rattle.tv_doc.specs.declared.add_error.AddError.{AddError}
 use Rattle.tv_doc.specs.declared.add_error.AddError.TheVariants as adds
@@ -13,9 +16,10 @@ use Rattle.tv_reader.specs.declared.error.DeserializeError.{DeserializeError}
 use Rattle.tv_reader.specs.declared.error.DeserializeError.TheVariants as errors
 use Rattle.tv_reader.specs.declared.value_type.ValueType.{ValueType}
 use Rattle.tv_store.specs.Error.{add_error}
-use Rattle.tv_store.specs.PairsGiven.{PairsRefused, large_field, no_room, no_memory}
+use Rattle.tv_store.specs.PairsGiven.{IsGiven, document_stop, PairsRefused, large_field, no_room, no_memory}
 use Rattle.tv_value.specs.declared.field.Field.{Field}
 use Rattle.tv_typed.specs.Documents.{NextField, GivesAll}
+use Rattle.tv_typed.specs.Typed.{typed_stop}
 
 -- one pair more needs its value's room
 document_room-push : (d : Document) (p : ℕ × Tree) → document_room (d ++ p ∷ []) ≡ document_room d + room p.1
@@ -44,6 +48,45 @@ pub given_next : {D X : Type 0} (remaining : D → ℕ) (is_known : D → Type 0
     → (remaining old ≡ suc (remaining new)) × (is_known old → is_known new × ((t : Tree) × gives old (field.id, t) new × is t value))
 given_next remaining is_known gives is old new result field value same h = subst (NextField remaining is_known gives is old new) same h
 
-pub none_left : {D X : Type 0} (remaining : D → ℕ) (is_known : D → Type 0) (gives : D → ℕ × Tree → D → Type 0) (is : Tree → X → Type 0) (old new : D) (result : Option (Field × X)) → ((p : Field × X) → result ≡ Some p → ⊥) → NextField remaining is_known gives is old new result → remaining old ≡ 0
+pub none_left : {D X : Type 0} (remaining : D → ℕ) (is_known : D → Type 0) (gives : D → ℕ × Tree → D → Type 0) (is : Tree → X → Type 0) (old new : D) (result : Option (Field × X)) → ((p : Field × X) → result ≡ Some p → ⊥) → NextField remaining is_known gives is old new result → (remaining old ≡ 0) × (new ≡ old)
 none_left remaining is_known gives is old new None none h = h
 none_left remaining is_known gives is old new (Some p) none h = absurd (none p refl)
+
+-- all were given, and nothing has changed then
+pub all_given : {D X : Type 0} (remaining : D → ℕ) (is_known : D → Type 0) (gives : D → ℕ × Tree → D → Type 0) (is : Tree → X → Type 0) (first old new : D) (pairs : Document) (result : Option (Field × X)) → ((p : Field × X) → result ≡ Some p → ⊥) → NextField remaining is_known gives is old new result
+    → GivesAll gives first pairs old → IsGiven gives remaining first pairs new
+all_given remaining is_known gives is first old new pairs result none h given = let e = none_left remaining is_known gives is old new result none h in subst (λ last. GivesAll gives first pairs last × (remaining last ≡ 0)) (sym e.1) (given, e.0)
+
+-- ---- refusals and failures
+
+-- a pair was read, so that nothing was refused before
+pub was_open : {X T : Type 0} (has_failed : Bool) (x : X) → (has_failed ≡ true → IsErrOf {T = X} (Ok x) errors.AlreadyFailed × T) → has_failed ≡ false
+was_open false x closed = refl
+was_open true x closed = let e = (closed refl).0 in absurd cc
+
+pub both : false ≡ true → ⊥
+both e = absurd cc
+
+pub err_for : {A B : Type 0} (e d : DeserializeError) → IsErrOf {T = A} (Err e) d → IsErrOf {T = B} (Err e) d
+err_for e d is = let same : e ≡ d = cc in ap (λ (z : DeserializeError). Err z) same
+
+-- a refusal of a pair is one of the document
+pub document_counts : (e : DeserializeError) (old new : Failures) → CountsStop (typed_stop e) old new → CountsStop (document_stop e) old new
+document_counts (errors.CorruptedValue c) old new h = h
+document_counts (errors.TypeMismatch expected actual) old new h = h
+document_counts (errors.UnsupportedType t) old new h = h
+document_counts (errors.Custom s) old new h = h
+document_counts (errors.Io k) old new h = h
+document_counts errors.Memory old new h = h
+document_counts errors.HeapFull old new h = absurd h
+document_counts (errors.UnsupportedVersion m n) old new h = h
+document_counts errors.AlreadyFailed old new h = h
+
+-- an addition reads nothing
+addition_counted : (error : AddError) (old new : Failures) → new ≡ old → CountsStop (document_stop (add_error error)) old new
+addition_counted (adds.FieldNumber n) old new same = same
+addition_counted adds.HeapFull old new same = same
+addition_counted adds.Memory old new same = same
+
+pub addition_counts : (error : AddError) (e : DeserializeError) (old new : Failures) → e ≡ add_error error → new ≡ old → CountsStop (document_stop e) old new
+addition_counts error e old new is same = subst (λ z. CountsStop (document_stop z) old new) (sym is) (addition_counted error old new same)

@@ -1,6 +1,8 @@
 -- Documents that are read of the pairs that something gives.
 use Rattle.std.specs.Prelude.{◌≡◌, ◌<◌, ℕ, List, [], ◌∷◌, ◌++◌}
 use Rattle.tv_base.specs.declared.cause.Cause.TheVariants.{FieldNumber}
+use Rattle.tv_base.specs.Stop.{Stop}
+use Rattle.tv_base.specs.Stop.Stop.{Short}
 use Rattle.tv_heap.specs.Room.{document_room}
 use Rattle.tv_value.specs.Tree.{Tree, Document}
 use Rattle.tv_value.specs.Version.{Version}
@@ -8,11 +10,17 @@ use Rattle.tv_reader.specs.declared.error.DeserializeError.{DeserializeError}
 use Rattle.tv_reader.specs.declared.error.DeserializeError.TheVariants as errors
 use Rattle.tv_reader.specs.declared.value_type.ValueType.{ValueType}
 use Rattle.tv_typed.specs.Documents.{GivesAll}
+use Rattle.tv_typed.specs.Typed.{typed_stop}
 use Rattle.tv_typed.specs.Values.{TreeRefused}
 
 -- these pairs are given, and then no more
-abbrev pub IsGiven : {D : Type 0} → (D → ℕ × Tree → D → Type 0) → (D → ℕ) → D → Document → Type 0
-IsGiven {D} gives remaining first pairs = (last : D) × GivesAll gives first pairs last × (remaining last ≡ 0)
+abbrev pub IsGiven : {D : Type 0} → (D → ℕ × Tree → D → Type 0) → (D → ℕ) → D → Document → D → Type 0
+IsGiven gives remaining first pairs last = GivesAll gives first pairs last × (remaining last ≡ 0)
+
+-- Why no document was read of pairs that are given: as of one value, but that the pairs may have no room.
+abbrev pub document_stop : DeserializeError → Stop DeserializeError
+document_stop errors.HeapFull = Short
+document_stop e = typed_stop e
 
 -- No document is read: some pairs are given, and the next is refused, or has a field above 65535, or no room beside them in a heap. Or
 -- memory was refused.

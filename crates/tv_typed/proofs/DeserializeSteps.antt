@@ -1,11 +1,10 @@
 -- Calls that read values through a reader, one after the other, whoever wrote them.
-use Rattle.std.proofs.Common.{◌≡◌, ◌≢◌, ℕ, ◌+◌, ◌-◌, ◌^◌, ◌<◌, Bool, true, false, List, [], ◌∷◌, ◌++◌, length, Result, Ok, Err, refl, sym, ap, subst, ◌∙◌, arith, append_assoc, length-append, inl, inr}
+use Rattle.std.proofs.Common.{◌≡◌, ◌≢◌, ℕ, ◌+◌, ◌-◌, ◌^◌, ◌<◌, Bool, false, List, [], ◌∷◌, ◌++◌, length, Result, Ok, Err, refl, sym, ap, subst, ◌∙◌, arith, append_assoc, length-append, inl, inr}
 use Rattle.std.specs.Prelude.{is_err, OnOk, IsErrOf}
 use Rattle.std.proofs.lemmas.List.{append_cancel_left}
 use Rattle.tv_base.specs.declared.cause.Cause.TheVariants.{UnexpectedEnd}
-use Rattle.tv_base.specs.Parts.{Begins}
 use Rattle.tv_base.specs.Source.{Failures}
-use Rattle.tv_base.specs.Stop.{Stop, Taken}
+use Rattle.tv_base.specs.Stop.{Stop, Counts, Taken}
 use Rattle.tv_base.specs.Stop.Stop.{InputError, Failed, Short, Never}
 use Rattle.tv_base.proofs.TakeSteps.{Taken_then}
 use Rattle.tv_legacy.specs.Legacy.{Legacy}
@@ -46,13 +45,14 @@ found_map B C Q (Err e) old new count map h = h
 
 -- what is promised of a call that anyone writes, in the words of its type
 pub deserializes : {S X : Type 0} {is_known : S → Type 0} {left : S → List ℕ} {failures : S → Failures} {old new : StoreReader S} {result : Result X DeserializeError} {B : List ℕ → X → Type 0} {Q : List ℕ → DeserializeError → Type 0} (C : List ℕ → X → Type 0)
-    → ((b : List ℕ) (x : X) → B b x → C b x) → Reads is_known left failures old new result B Q → Deserializes is_known left old new result C Q
+    → ((b : List ℕ) (x : X) → B b x → C b x) → Reads is_known left failures old new result B Q → Deserializes is_known left failures old new result C Q
 deserializes {left = left} {old = old} {new = new} {result = result} {B = B} {Q = Q} C map h = record {
   closed = h.closed;
   unmarked = unmarked_by result _ h.marks;
   found = λ is_open t. found_map B C Q result (left old.source) (left new.source) new.count map ((h.finds is_open).found t);
   taken = λ is_open. (h.finds is_open).taken;
   stays_known = λ is_open. (h.finds is_open).stays_known;
+  counts = λ is_open. (h.finds is_open).counts;
   same_version = h.same_version;
 }
 
@@ -64,53 +64,57 @@ not_ok x e = absurd cc
 err_for : {A B : Type 0} (e d : DeserializeError) → IsErrOf {T = A} (Err e) d → IsErrOf {T = B} (Err e) d
 err_for e d is = let same : e ≡ d = cc in ap (λ (z : DeserializeError). Err z) same
 
-pub goes_then : {S X Y : Type 0} {is_known : S → Type 0} {left : S → List ℕ} {old mid new : StoreReader S} {x : X} {result : Result Y DeserializeError} {R : List ℕ → X → Type 0} {I : List ℕ → DeserializeError → Type 0} {A : List ℕ → Y → Type 0} {P : List ℕ → DeserializeError → Type 0}
+pub goes_then : {S X Y : Type 0} {is_known : S → Type 0} {left : S → List ℕ} {failures : S → Failures} {old mid new : StoreReader S} {x : X} {result : Result Y DeserializeError} {R : List ℕ → X → Type 0} {I : List ℕ → DeserializeError → Type 0} {A : List ℕ → Y → Type 0} {P : List ℕ → DeserializeError → Type 0}
     (B : List ℕ → Y → Type 0) (Q : List ℕ → DeserializeError → Type 0)
     → ((a b : List ℕ) (y : Y) → R a x → A b y → B (a ++ b) y) → ((a w : List ℕ) (c : DeserializeError) → R a x → P w c → Q (a ++ w) c)
     → ((a : List ℕ) (f : DeserializeError) → R a x → f ≢ end → P [] f → (start : List ℕ) (byte : ℕ) → a ≡ start ++ byte ∷ [] → Q start end)
-    → Deserializes is_known left old mid (Ok x) R I → Deserializes is_known left mid new result A P → Deserializes is_known left old new result B Q
-goes_then {left = left} {old = old} {mid = mid} {new = new} {x = x} {result = result} {R = R} {A = A} {P = P} B Q join behind edge p h = record {
+    → Deserializes is_known left failures old mid (Ok x) R I → Deserializes is_known left failures mid new result A P → Deserializes is_known left failures old new result B Q
+goes_then {left = left} {failures = failures} {old = old} {mid = mid} {new = new} {x = x} {result = result} {R = R} {A = A} {P = P} B Q join behind edge p h = record {
   closed = λ failed. absurd (not_ok x (p.closed failed).0);
   unmarked = h.unmarked;
   found = λ is_open t. found_behind typed_stop end R P Q A B x result (left old.source) (left mid.source) (left new.source) new.count join behind edge (p.found is_open t) (h.found p.unmarked (p.stays_known is_open t));
   taken = λ is_open t. Taken_then (p.taken is_open t) (h.taken p.unmarked (p.stays_known is_open t));
   stays_known = λ is_open t. h.stays_known p.unmarked (p.stays_known is_open t);
+  counts = λ is_open. subst (λ z. Counts typed_stop result z (failures new.source)) (p.counts is_open) (h.counts p.unmarked);
   same_version = h.same_version ∙ p.same_version;
 }
 
 -- the same of what is read, in other words
-pub goes_as : {S X Y : Type 0} {is_known : S → Type 0} {left : S → List ℕ} {old new : StoreReader S} {x : X} {R : List ℕ → X → Type 0} {I : List ℕ → DeserializeError → Type 0} (y : Y) (B : List ℕ → Y → Type 0) (Q : List ℕ → DeserializeError → Type 0)
-    → ((a : List ℕ) → R a x → B a y) → Deserializes is_known left old new (Ok x) R I → Deserializes is_known left old new (Ok y) B Q
+pub goes_as : {S X Y : Type 0} {is_known : S → Type 0} {left : S → List ℕ} {failures : S → Failures} {old new : StoreReader S} {x : X} {R : List ℕ → X → Type 0} {I : List ℕ → DeserializeError → Type 0} (y : Y) (B : List ℕ → Y → Type 0) (Q : List ℕ → DeserializeError → Type 0)
+    → ((a : List ℕ) → R a x → B a y) → Deserializes is_known left failures old new (Ok x) R I → Deserializes is_known left failures old new (Ok y) B Q
 goes_as {x = x} y B Q map p = record {
   closed = λ failed. absurd (not_ok x (p.closed failed).0);
   unmarked = p.unmarked;
   found = λ is_open t. let h = p.found is_open t in record { prefix = h.prefix; joined = h.joined; encoded = map h.prefix h.encoded };
   taken = p.taken;
   stays_known = p.stays_known;
+  counts = p.counts;
   same_version = p.same_version;
 }
 
 -- a refusal of a part is one of the whole
-pub goes_fails : {S X Y : Type 0} {is_known : S → Type 0} {left : S → List ℕ} {old new : StoreReader S} {e : DeserializeError} {R : List ℕ → X → Type 0} {P : List ℕ → DeserializeError → Type 0} (B : List ℕ → Y → Type 0) (Q : List ℕ → DeserializeError → Type 0)
-    → ((w : List ℕ) (c : DeserializeError) → P w c → Q w c) → Deserializes {X = X} is_known left old new (Err e) R P → Deserializes {X = Y} is_known left old new (Err e) B Q
+pub goes_fails : {S X Y : Type 0} {is_known : S → Type 0} {left : S → List ℕ} {failures : S → Failures} {old new : StoreReader S} {e : DeserializeError} {R : List ℕ → X → Type 0} {P : List ℕ → DeserializeError → Type 0} (B : List ℕ → Y → Type 0) (Q : List ℕ → DeserializeError → Type 0)
+    → ((w : List ℕ) (c : DeserializeError) → P w c → Q w c) → Deserializes {X = X} is_known left failures old new (Err e) R P → Deserializes {X = Y} is_known left failures old new (Err e) B Q
 goes_fails {left = left} {old = old} {new = new} {e = e} {P = P} B Q map p = record {
   closed = λ failed. let c = p.closed failed in (err_for e errors.AlreadyFailed c.0, c.1, c.2);
   unmarked = tt;
   found = λ is_open t. stop_map end P Q (typed_stop e) (left old.source) (left new.source) new.count map (p.found is_open t);
   taken = p.taken;
   stays_known = p.stays_known;
+  counts = p.counts;
   same_version = p.same_version;
 }
 
 -- what was read can't be kept, for want of memory
-pub goes_short : {S X Y : Type 0} {is_known : S → Type 0} {left : S → List ℕ} {old new : StoreReader S} {x : X} {R : List ℕ → X → Type 0} {I : List ℕ → DeserializeError → Type 0} (B : List ℕ → Y → Type 0) (Q : List ℕ → DeserializeError → Type 0)
-    → Deserializes is_known left old new (Ok x) R I → Deserializes {X = Y} is_known left old new (Err errors.Memory) B Q
+pub goes_short : {S X Y : Type 0} {is_known : S → Type 0} {left : S → List ℕ} {failures : S → Failures} {old new : StoreReader S} {x : X} {R : List ℕ → X → Type 0} {I : List ℕ → DeserializeError → Type 0} (B : List ℕ → Y → Type 0) (Q : List ℕ → DeserializeError → Type 0)
+    → Deserializes is_known left failures old new (Ok x) R I → Deserializes {X = Y} is_known left failures old new (Err errors.Memory) B Q
 goes_short {x = x} B Q p = record {
   closed = λ failed. absurd (not_ok x (p.closed failed).0);
   unmarked = tt;
   found = λ is_open t. tt;
   taken = p.taken;
   stays_known = p.stays_known;
+  counts = p.counts;
   same_version = p.same_version;
 }
 
@@ -119,26 +123,28 @@ kept b c (Ok x) p q = q ∙ p
 kept b c (Err e) p q = tt
 
 -- a refusal was marked
-pub goes_marked : {S X : Type 0} {is_known : S → Type 0} {left : S → List ℕ} {old new : StoreReader S} {result : Result X DeserializeError} {B : List ℕ → X → Type 0} {Q : List ℕ → DeserializeError → Type 0} (has_failed : Bool) → OnOk result (has_failed ≡ new.has_failed)
-    → Deserializes is_known left old new result B Q → Deserializes is_known left old (record new { has_failed = has_failed }) result B Q
+pub goes_marked : {S X : Type 0} {is_known : S → Type 0} {left : S → List ℕ} {failures : S → Failures} {old new : StoreReader S} {result : Result X DeserializeError} {B : List ℕ → X → Type 0} {Q : List ℕ → DeserializeError → Type 0} (has_failed : Bool) → OnOk result (has_failed ≡ new.has_failed)
+    → Deserializes is_known left failures old new result B Q → Deserializes is_known left failures old (record new { has_failed = has_failed }) result B Q
 goes_marked {new = new} {result = result} has_failed keeps p = record {
   closed = p.closed;
   unmarked = kept new.has_failed has_failed result p.unmarked keeps;
   found = p.found;
   taken = p.taken;
   stays_known = p.stays_known;
+  counts = p.counts;
   same_version = p.same_version;
 }
 
 -- whether there was a refusal was marked
-pub goes_told : {S X : Type 0} {is_known : S → Type 0} {left : S → List ℕ} {old new : StoreReader S} {result : Result X DeserializeError} {B : List ℕ → X → Type 0} {Q : List ℕ → DeserializeError → Type 0} (has_failed : Bool) → has_failed ≡ is_err result
-    → Deserializes is_known left old new result B Q → Deserializes is_known left old (record new { has_failed = has_failed }) result B Q
+pub goes_told : {S X : Type 0} {is_known : S → Type 0} {left : S → List ℕ} {failures : S → Failures} {old new : StoreReader S} {result : Result X DeserializeError} {B : List ℕ → X → Type 0} {Q : List ℕ → DeserializeError → Type 0} (has_failed : Bool) → has_failed ≡ is_err result
+    → Deserializes is_known left failures old new result B Q → Deserializes is_known left failures old (record new { has_failed = has_failed }) result B Q
 goes_told {result = result} has_failed marks p = record {
   closed = p.closed;
   unmarked = unmarked_by result has_failed marks;
   found = p.found;
   taken = p.taken;
   stays_known = p.stays_known;
+  counts = p.counts;
   same_version = p.same_version;
 }
 
@@ -150,11 +156,11 @@ no_cons b rest e = absurd cc
 -- its code was taken, and then what stands behind it
 pub next_then : {S X : Type 0} {is_known : S → Type 0} {left : S → List ℕ} {failures : S → Failures} {old mid new : StoreReader S} {kind : ValueType} {result : Result X DeserializeError}
     (is : Tree → X → Type 0) (refused : Version → ValueType → List ℕ → DeserializeError → Type 0)
-    → Reads is_known left failures old mid (Ok kind) IsCoded CodeRefused → Deserializes is_known left mid new result (EncodedAs is (version_of mid.version) kind) (refused (version_of mid.version) kind)
-    → Deserializes is_known left old new result (EncodesAs is (version_of old.version)) (NextRefused refused (version_of old.version))
-next_then {is_known = is_known} {left = left} {old = old} {mid = mid} {new = new} {kind = kind} {result = result} is refused p g =
+    → Reads is_known left failures old mid (Ok kind) IsCoded CodeRefused → Deserializes is_known left failures mid new result (EncodedAs is (version_of mid.version) kind) (refused (version_of mid.version) kind)
+    → Deserializes is_known left failures old new result (EncodesAs is (version_of old.version)) (NextRefused refused (version_of old.version))
+next_then {is_known = is_known} {left = left} {failures = failures} {old = old} {mid = mid} {new = new} {kind = kind} {result = result} is refused p g =
     let v = version_of old.version in
-    let h = subst (λ z. Deserializes is_known left mid new result (EncodedAs is (version_of z) kind) (refused (version_of z) kind)) p.same_version g in
+    let h = subst (λ z. Deserializes is_known left failures mid new result (EncodedAs is (version_of z) kind) (refused (version_of z) kind)) p.same_version g in
     goes_then (EncodesAs is v) (NextRefused refused v)
     (λ a b x code s. (s.0, subst (λ w. Encodes Legacy v (w ++ b) s.0) (sym code) s.1, s.2))
     (λ a w c code f. inr (kind, record { prefix = a; rest = w; joined = refl; first = code; second = f }))
@@ -186,16 +192,16 @@ read_of is v code Q (Err e) old new count few excludes h t x prefix rest joined 
 few_more : (old new : List ℕ) (count now : ℕ) → Taken old new count now → count + length old < 2 ^ 64 - 1 → now < 2 ^ 64 - 1
 few_more old new count now t few = omega (arith, t.counted, ap length t.joined, length-append t.prefix new, few)
 
-pub only_by : {S X : Type 0} {is_known : S → Type 0} {left : S → List ℕ} {old new : StoreReader S} {result : Result X DeserializeError} (is : Tree → X → Type 0) (v : Version) (code : List ℕ) (Q : List ℕ → DeserializeError → Type 0)
+pub only_by : {S X : Type 0} {is_known : S → Type 0} {left : S → List ℕ} {failures : S → Failures} {old new : StoreReader S} {result : Result X DeserializeError} (is : Tree → X → Type 0) (v : Version) (code : List ℕ) (Q : List ℕ → DeserializeError → Type 0)
     → ((prefix rest : List ℕ) (e : DeserializeError) (t : Tree) (x : X) → Q (prefix ++ rest) e → Encodes NoLegacy v (code ++ prefix) t → is t x → ⊥)
-    → Deserializes is_known left old new result (λ b x. EncodesAs is v (code ++ b) x) Q → Only is_known left old new result is v code
+    → Deserializes is_known left failures old new result (λ b x. EncodesAs is v (code ++ b) x) Q → Only is_known left old new result is v code
 only_by {left = left} {old = old} {new = new} {result = result} is v code Q excludes h =
     λ is_open told few t x prefix rest joined encoded same.
     read_of is v code Q result (left old.source) (left new.source) new.count (few_more (left old.source) (left new.source) old.count new.count (h.taken is_open told) few) excludes (h.found is_open told) t x prefix rest joined encoded same
 
 -- a leaf behind the code of its type
 pub leaf_deserializes : {S X : Type 0} {is_known : S → Type 0} {left : S → List ℕ} {failures : S → Failures} {old new : StoreReader S} {result : Result X DeserializeError} {Q : List ℕ → DeserializeError → Type 0} (make : X → Leaf) (v : Version) (kind : ValueType)
-    → Reads is_known left failures old new result (EncodesLeaf v kind make) Q → Deserializes is_known left old new result (EncodedAs (IsLeaf make) v kind) Q
+    → Reads is_known left failures old new result (EncodesLeaf v kind make) Q → Deserializes is_known left failures old new result (EncodedAs (IsLeaf make) v kind) Q
 leaf_deserializes make v kind h = deserializes (EncodedAs (IsLeaf make) v kind) (λ b x p. (leaf (make x), p, refl)) h
 
 pub leaf_only : {S X : Type 0} {is_known : S → Type 0} {left : S → List ℕ} {failures : S → Failures} {old new : StoreReader S} {result : Result X DeserializeError} (expected : ValueType) (make : X → Leaf) → ((x : X) → leaf_type (make x) ≡ expected) → (v : Version) (kind : ValueType)
@@ -205,7 +211,7 @@ leaf_only expected make is v kind h =
 
 -- a value of any type behind its code
 pub tree_deserializes : {S : Type 0} {is_known : S → Type 0} {left : S → List ℕ} {failures : S → Failures} {old new : StoreReader S} {result : Result OwnedValue DeserializeError} {Q : List ℕ → DeserializeError → Type 0} (v : Version) (kind : ValueType)
-    → Reads is_known left failures old new result (EncodesBehind v kind) Q → Deserializes is_known left old new result (EncodedAs IsTree v kind) Q
+    → Reads is_known left failures old new result (EncodesBehind v kind) Q → Deserializes is_known left failures old new result (EncodedAs IsTree v kind) Q
 tree_deserializes v kind h = deserializes (EncodedAs IsTree v kind) (λ b x p. (owned_tree x, p, refl)) h
 
 pub tree_only : {S : Type 0} {is_known : S → Type 0} {left : S → List ℕ} {failures : S → Failures} {old new : StoreReader S} {result : Result OwnedValue DeserializeError} (v : Version) (kind : ValueType)
@@ -214,9 +220,9 @@ tree_only v kind h = only_by IsTree v (coded kind) (TreeRefused v kind) (λ pref
 
 -- the next value
 pub next_code_fails : {S X : Type 0} {is_known : S → Type 0} {left : S → List ℕ} {failures : S → Failures} {old new : StoreReader S} {e : DeserializeError} (is : Tree → X → Type 0) (refused : Version → ValueType → List ℕ → DeserializeError → Type 0) (v : Version)
-    → Reads {X = ValueType} is_known left failures old new (Err e) IsCoded CodeRefused → Deserializes {X = X} is_known left old new (Err e) (EncodesAs is v) (NextRefused refused v)
+    → Reads {X = ValueType} is_known left failures old new (Err e) IsCoded CodeRefused → Deserializes {X = X} is_known left failures old new (Err e) (EncodesAs is v) (NextRefused refused v)
 next_code_fails is refused v p = goes_fails (EncodesAs is v) (NextRefused refused v) (λ w c f. inl f) (deserializes IsCoded (λ b k c. c) p)
 
-pub next_only : {S X : Type 0} {is_known : S → Type 0} {left : S → List ℕ} {old new : StoreReader S} {result : Result X DeserializeError} (is : Tree → X → Type 0) (refused : Version → ValueType → List ℕ → DeserializeError → Type 0) → RefusalsExclude is refused → (v : Version)
-    → Deserializes is_known left old new result (EncodesAs is v) (NextRefused refused v) → Only is_known left old new result is v []
+pub next_only : {S X : Type 0} {is_known : S → Type 0} {left : S → List ℕ} {failures : S → Failures} {old new : StoreReader S} {result : Result X DeserializeError} (is : Tree → X → Type 0) (refused : Version → ValueType → List ℕ → DeserializeError → Type 0) → RefusalsExclude is refused → (v : Version)
+    → Deserializes is_known left failures old new result (EncodesAs is v) (NextRefused refused v) → Only is_known left old new result is v []
 next_only is refused excludes v h = only_by is v [] (NextRefused refused v) (λ prefix rest e t x r p same. next_excludes is refused excludes v (prefix ++ rest) prefix rest e t x r refl p same) h

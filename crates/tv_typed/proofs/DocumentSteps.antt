@@ -1,5 +1,5 @@
 -- Pairs of a document by their parts.
-use Rattle.std.proofs.Common.{◌≡◌, ℕ, ◌<◌, Bool, true, false, List, [], ◌∷◌, ◌++◌, Option, Result, Ok, Err, refl, sym, subst, ◌∙◌, inl, inr}
+use Rattle.std.proofs.Common.{◌≡◌, ℕ, ◌<◌, true, false, List, Result, Ok, Err, refl, sym, subst, ◌∙◌, inl, inr}
 use Rattle.std.specs.Prelude.{is_err, IsErrOf}
 use Rattle.tv_base.specs.Source.{AllBytes, Failures}
 use Rattle.tv_value.specs.InputError.{Corrupt, ErrorInField, SmallField}
@@ -39,8 +39,8 @@ field_reads old new result are_bytes is_open h roomy source count version marks 
 -- ---- pairs
 
 pub pair_found : {S X : Type 0} {is_known : S → Type 0} {left : S → List ℕ} {failures : S → Failures} {old mid new : StoreReader S} {n : ℕ} {value : X} (is : Tree → X → Type 0) (refused : Version → ValueType → List ℕ → DeserializeError → Type 0) (field : Field) → field.id ≡ n
-    → Reads is_known left failures old mid (Ok n) SmallField FieldNumberRefused → Deserializes is_known left mid new (Ok value) (EncodesAs is (version_of mid.version)) (NextRefused refused (version_of mid.version))
-    → Deserializes is_known left old new (Ok (field, value)) (EncodesField is (version_of old.version)) (FieldRefused refused (version_of old.version))
+    → Reads is_known left failures old mid (Ok n) SmallField FieldNumberRefused → Deserializes is_known left failures mid new (Ok value) (EncodesAs is (version_of mid.version)) (NextRefused refused (version_of mid.version))
+    → Deserializes is_known left failures old new (Ok (field, value)) (EncodesField is (version_of old.version)) (FieldRefused refused (version_of old.version))
 pair_found {old = old} {value = value} is refused field same p h =
     let v = version_of old.version in
     goes_as (field, value) (EncodesField is v) (FieldRefused refused v) (λ a s. s)
@@ -48,12 +48,12 @@ pair_found {old = old} {value = value} is refused field same p h =
     (deserializes SmallField (λ b x q. q) p) (at_version (EncodesAs is) (NextRefused refused) old.version p.same_version h))
 
 pub pair_field_fails : {S X : Type 0} {is_known : S → Type 0} {left : S → List ℕ} {failures : S → Failures} {old new : StoreReader S} {e : DeserializeError} (is : Tree → X → Type 0) (refused : Version → ValueType → List ℕ → DeserializeError → Type 0) (v : Version)
-    → Reads {X = ℕ} is_known left failures old new (Err e) SmallField FieldNumberRefused → Deserializes {X = Field × X} is_known left old new (Err e) (EncodesField is v) (FieldRefused refused v)
+    → Reads {X = ℕ} is_known left failures old new (Err e) SmallField FieldNumberRefused → Deserializes {X = Field × X} is_known left failures old new (Err e) (EncodesField is v) (FieldRefused refused v)
 pair_field_fails is refused v p = goes_fails (EncodesField is v) (FieldRefused refused v) (λ w c f. inl f) (deserializes SmallField (λ b x q. q) p)
 
 pub pair_value_fails : {S X : Type 0} {is_known : S → Type 0} {left : S → List ℕ} {failures : S → Failures} {old mid new : StoreReader S} {n : ℕ} {e : DeserializeError} (is : Tree → X → Type 0) (refused : Version → ValueType → List ℕ → DeserializeError → Type 0)
-    → Reads is_known left failures old mid (Ok n) SmallField FieldNumberRefused → Deserializes {X = X} is_known left mid new (Err e) (EncodesAs is (version_of mid.version)) (NextRefused refused (version_of mid.version))
-    → Deserializes {X = Field × X} is_known left old new (Err e) (EncodesField is (version_of old.version)) (FieldRefused refused (version_of old.version))
+    → Reads is_known left failures old mid (Ok n) SmallField FieldNumberRefused → Deserializes {X = X} is_known left failures mid new (Err e) (EncodesAs is (version_of mid.version)) (NextRefused refused (version_of mid.version))
+    → Deserializes {X = Field × X} is_known left failures old new (Err e) (EncodesField is (version_of old.version)) (FieldRefused refused (version_of old.version))
 pair_value_fails {old = old} {n = n} is refused p h =
     let v = version_of old.version in
     goes_then (EncodesField is v) (FieldRefused refused v) (λ a b x r s. absurd s)
@@ -63,7 +63,7 @@ pair_value_fails {old = old} {n = n} is refused p h =
 
 -- ---- what gives pairs
 
-pub pair_given : {S X : Type 0} {is_known : S → Type 0} {left : S → List ℕ} {old new : StoreReader S} {p : Field × X} {Q : List ℕ → DeserializeError → Type 0} (is : Tree → X → Type 0) → old.has_failed ≡ false → Deserializes is_known left old new (Ok p) (EncodesField is (version_of old.version)) Q
+pub pair_given : {S X : Type 0} {is_known : S → Type 0} {left : S → List ℕ} {failures : S → Failures} {old new : StoreReader S} {p : Field × X} {Q : List ℕ → DeserializeError → Type 0} (is : Tree → X → Type 0) → old.has_failed ≡ false → Deserializes is_known left failures old new (Ok p) (EncodesField is (version_of old.version)) Q
     → is_known old.source → is_known new.source × ((t : Tree) × GivesPair left old (p.0.id, t) new × is t p.1)
 pair_given is is_open h told =
     let b = h.found is_open told in
@@ -81,15 +81,15 @@ pair_given is is_open h told =
       ),
     )
 
-pub pair_refused : {S X : Type 0} {is_known : S → Type 0} {left : S → List ℕ} {old new : StoreReader S} {e : DeserializeError} (is : Tree → X → Type 0) (refused : Version → ValueType → List ℕ → DeserializeError → Type 0) (position announced : ℕ) → position < announced
-    → Deserializes {X = Field × X} is_known left old new (Err e) (EncodesField is (version_of old.version)) (FieldRefused refused (version_of old.version)) → RefusesPair is_known left position announced old refused e
+pub pair_refused : {S X : Type 0} {is_known : S → Type 0} {left : S → List ℕ} {failures : S → Failures} {old new : StoreReader S} {e : DeserializeError} (is : Tree → X → Type 0) (refused : Version → ValueType → List ℕ → DeserializeError → Type 0) (position announced : ℕ) → position < announced
+    → Deserializes {X = Field × X} is_known left failures old new (Err e) (EncodesField is (version_of old.version)) (FieldRefused refused (version_of old.version)) → RefusesPair is_known left failures position announced old refused e
 pair_refused {old = old} {new = new} is refused position announced fewer h = (new, goes_fails (λ b x. ⊥) (NextItemRefused (FieldRefused refused (version_of old.version)) position announced) (λ w c f. (fewer, f)) h)
 
 both : false ≡ true → ⊥
 both e = absurd cc
 
-pub closed_refused : {S : Type 0} (is_known : S → Type 0) (left : S → List ℕ) (old : StoreReader S) (refused : Version → ValueType → List ℕ → DeserializeError → Type 0) (position announced : ℕ) → old.has_failed ≡ true → RefusesPair is_known left position announced old refused errors.AlreadyFailed
-closed_refused is_known left old refused position announced failed = (
+pub closed_refused : {S : Type 0} (is_known : S → Type 0) (left : S → List ℕ) (failures : S → Failures) (old : StoreReader S) (refused : Version → ValueType → List ℕ → DeserializeError → Type 0) (position announced : ℕ) → old.has_failed ≡ true → RefusesPair is_known left failures position announced old refused errors.AlreadyFailed
+closed_refused is_known left failures old refused position announced failed = (
   old,
   record {
     closed = λ _. (refl, refl, refl);
@@ -97,6 +97,7 @@ closed_refused is_known left old refused position announced failed = (
     found = λ is_open t. absurd (both (sym is_open ∙ failed));
     taken = λ is_open t. absurd (both (sym is_open ∙ failed));
     stays_known = λ is_open t. t;
+    counts = λ is_open. absurd (both (sym is_open ∙ failed));
     same_version = refl;
   },
 )

@@ -1,11 +1,12 @@
 -- Legacy objects as lists and maps: a code and the object behind it are read, and then the encoding of its tree.
-use Rattle.std.proofs.Common.{◌≡◌, ◌≢◌, ℕ, ◌-◌, ◌^◌, ◌<◌, Bool, true, false, List, [], ◌∷◌, ◌++◌, Result, Ok, Err, refl, sym, ap, subst, ◌∙◌, append_assoc, length, length-append, arith, inl, inr}
+use Rattle.std.proofs.Common.{◌≡◌, ◌≢◌, ℕ, ◌-◌, ◌^◌, ◌<◌, Bool, true, false, List, [], ◌∷◌, ◌++◌, Some, None, Result, Ok, Err, refl, sym, ap, subst, ◌∙◌, append_assoc, length, length-append, arith, inl, inr}
 use Rattle.std.specs.Prelude.{OnOk}
 use Rattle.std.specs.List.{AllByRecursion}
+use Rattle.std.specs.declared.io.ErrorKind.{ErrorKind}
 use Rattle.std.proofs.lemmas.List.{append-nil}
 use Rattle.tv_base.specs.declared.cause.Cause.TheVariants.{UnexpectedEnd}
 use Rattle.tv_base.specs.Source.{Failures}
-use Rattle.tv_base.specs.Stop.{Stop, Taken}
+use Rattle.tv_base.specs.Stop.{Stop, CountsStop, Counts, Taken}
 use Rattle.tv_base.specs.Stop.Stop.{InputError, Failed, Short, Never}
 use Rattle.tv_base.proofs.TakeSteps.{Taken_none}
 use Rattle.tv_legacy.specs.Legacy.{IsBlank, IsClosed, Legacy, ErrorInLegacy, only_blanks, not_closed}
@@ -79,26 +80,33 @@ cut_object v a (object es) (inr p) start byte last =
 
 -- ---- what an encoding gives
 
+-- no read of one fails
+abbrev pub no_failures : Failures
+no_failures = record { number = 0; last = None }
+
+no_io : (e : DeserializeError) (kind : ErrorKind) → CountsStop (typed_stop e) no_failures no_failures → e ≢ errors.Io kind
+no_io e kind h is = let f = subst (λ z. CountsStop (typed_stop z) no_failures no_failures) is h in let last : None ≡ Some kind = f.kept in absurd cc
+
 -- a refusal, retold
-of_told : (Q : List ℕ → DeserializeError → Type 0) (e told : DeserializeError) (old new : List ℕ) (count : ℕ) → Retold e told → count < 2 ^ 64 - 1 → GivesStop end Q old new count (typed_stop e) → ToldOf Q old (typed_stop told)
-of_told Q (errors.CorruptedValue c) _ old new count (as_it_is other) few h = (errors.CorruptedValue c, (h few).stands, as_it_is other)
-of_told Q (errors.TypeMismatch expected actual) _ old new count (as_it_is other) few h = (errors.TypeMismatch expected actual, (h few).stands, as_it_is other)
-of_told Q (errors.UnsupportedType t) _ old new count (as_it_is other) few h = (errors.UnsupportedType t, (h few).stands, as_it_is other)
-of_told Q (errors.Custom s) _ old new count (as_it_is other) few h = (errors.Custom s, (h few).stands, as_it_is other)
-of_told Q (errors.Io k) _ old new count (as_it_is other) few h = tt
-of_told Q errors.Memory _ old new count (as_it_is other) few h = tt
-of_told Q errors.HeapFull _ old new count (as_it_is other) few h = h
-of_told Q (errors.UnsupportedVersion m n) _ old new count (as_it_is other) few h = h
-of_told Q errors.AlreadyFailed _ old new count (as_it_is other) few h = h
-of_told Q e _ old new count (past_the_end same) few h =
+of_told : (Q : List ℕ → DeserializeError → Type 0) (e told : DeserializeError) (old new : List ℕ) (count : ℕ) → ((kind : ErrorKind) → e ≢ errors.Io kind) → Retold e told → count < 2 ^ 64 - 1 → GivesStop end Q old new count (typed_stop e) → ToldOf Q old (typed_stop told)
+of_told Q (errors.CorruptedValue c) _ old new count calm (as_it_is other) few h = (errors.CorruptedValue c, (h few).stands, as_it_is other)
+of_told Q (errors.TypeMismatch expected actual) _ old new count calm (as_it_is other) few h = (errors.TypeMismatch expected actual, (h few).stands, as_it_is other)
+of_told Q (errors.UnsupportedType t) _ old new count calm (as_it_is other) few h = (errors.UnsupportedType t, (h few).stands, as_it_is other)
+of_told Q (errors.Custom s) _ old new count calm (as_it_is other) few h = (errors.Custom s, (h few).stands, as_it_is other)
+of_told Q (errors.Io k) _ old new count calm (as_it_is other) few h = absurd (calm k refl)
+of_told Q errors.Memory _ old new count calm (as_it_is other) few h = tt
+of_told Q errors.HeapFull _ old new count calm (as_it_is other) few h = h
+of_told Q (errors.UnsupportedVersion m n) _ old new count calm (as_it_is other) few h = h
+of_told Q errors.AlreadyFailed _ old new count calm (as_it_is other) few h = h
+of_told Q e _ old new count calm (past_the_end same) few h =
     let at_end : GivesStop end Q old new count (typed_stop end) = subst (λ z. GivesStop end Q old new count (typed_stop z)) same h in
     (end, (at_end few).stands, past_the_end refl)
 
-pub encoding_refused : {X : Type 0} (is : Tree → X → Type 0) (Q : Version → List ℕ → DeserializeError → Type 0) (version : DocStoreVersion) (e told : DeserializeError) (content old new : List ℕ) (count : ℕ) → version ≡ stores.V2 → old ≡ content → Retold e told → count < 2 ^ 64 - 1
+pub encoding_refused : {X : Type 0} (is : Tree → X → Type 0) (Q : Version → List ℕ → DeserializeError → Type 0) (version : DocStoreVersion) (e told : DeserializeError) (content old new : List ℕ) (count : ℕ) → version ≡ stores.V2 → old ≡ content → Retold e told → count < 2 ^ 64 - 1 → CountsStop (typed_stop e) no_failures no_failures
     → Found {X = X} typed_stop end (EncodesAs is (version_of version)) (Q (version_of version)) old new count (Err e) → OfEncoding {X = X} is (Q V2) content (Err told)
-encoding_refused is Q version e told content old new count second same retold few h =
+encoding_refused is Q version e told content old new count second same retold few counted h =
     subst (λ (l : List ℕ). ToldOf (Q V2) l (typed_stop told)) same
-    (of_told (Q V2) e told old new count retold few (subst (λ z. GivesStop end (Q (version_of z)) old new count (typed_stop e)) second h))
+    (of_told (Q V2) e told old new count (λ kind. no_io e kind counted) retold few (subst (λ z. GivesStop end (Q (version_of z)) old new count (typed_stop e)) second h))
 
 -- fewer bytes are taken than are counted
 pub few_taken : (old new : List ℕ) (count now : ℕ) → Taken old new count now → count ≡ 0 → length old < 2 ^ 63 → now < 2 ^ 64 - 1
@@ -122,7 +130,7 @@ stop_here Q t content left count (InputError told) same h =
       stands = refused;
       shows = record { taken = []; joined = refl; shown = refused; all = λ at_end. absurd (not_end h.0 told h.2 at_end); early = λ other start byte last. absurd (no_last start byte last) };
     }
-stop_here Q t content left count (Failed kind) same h = tt
+stop_here Q t content left count (Failed kind) same h = absurd h
 stop_here Q t content left count Short same h = tt
 stop_here Q t content left count Never same h = h
 
@@ -138,6 +146,17 @@ found_here : {X : Type 0} (is : Tree → X → Type 0) (Q : List ℕ → Deseria
 found_here is Q t content left count (Ok x) same valid h = record { prefix = []; joined = refl; encoded = (refl, of_tree is t x content h.0 h.1.prefix same valid h.1.joined h.1.encoded) }
 found_here is Q t content left count (Err told) same valid h = stop_here Q t content left count (typed_stop told) same h
 
+-- no read fails
+stop_counts : (Q : List ℕ → DeserializeError → Type 0) (content : List ℕ) (s : Stop DeserializeError) (f : Failures) → ToldOf Q content s → CountsStop s f f
+stop_counts Q content (InputError told) f h = refl
+stop_counts Q content (Failed kind) f h = absurd h
+stop_counts Q content Short f h = refl
+stop_counts Q content Never f h = absurd h
+
+counts_here : {X : Type 0} (is : Tree → X → Type 0) (Q : List ℕ → DeserializeError → Type 0) (content : List ℕ) (result : Result X DeserializeError) (f : Failures) → OfEncoding is Q content result → Counts typed_stop result f f
+counts_here is Q content (Ok x) f h = refl
+counts_here is Q content (Err told) f h = stop_counts Q content (typed_stop told) f h
+
 both : false ≡ true → ⊥
 both e = absurd cc
 
@@ -147,8 +166,8 @@ still_open (Err e) b h = tt
 
 pub legacy_then : {S X : Type 0} {is_known : S → Type 0} {left : S → List ℕ} {failures : S → Failures} {old new : StoreReader S} {tree : OwnedValue} {content : List ℕ} {result : Result X DeserializeError} (is : Tree → X → Type 0) (refused : Version → ValueType → List ℕ → DeserializeError → Type 0) (v : Version)
     → Reads is_known left failures old new (Ok tree) (EncodesBehind v types.JSONObject) (TreeRefused v types.JSONObject) → content ≡ short V2 (owned_tree tree) → IsValue (owned_tree tree) → OfEncoding is (NextRefused refused V2) content result
-    → Deserializes is_known left old new result (EncodedAs is v types.JSONObject) (LegacyRefused refused v)
-legacy_then {is_known = is_known} {left = left} {new = new} {tree = tree} {content = content} {result = result} is refused v p same valid h =
+    → Deserializes is_known left failures old new result (EncodedAs is v types.JSONObject) (LegacyRefused refused v)
+legacy_then {is_known = is_known} {left = left} {failures = failures} {new = new} {tree = tree} {content = content} {result = result} is refused v p same valid h =
     let t = owned_tree tree in
     goes_then {A = λ b x. (b ≡ []) × is t x} {P = λ w told. EncodingRefused (NextRefused refused V2) t told} (EncodedAs is v types.JSONObject) (LegacyRefused refused v)
     (λ a b x r s. (t, subst (λ (l : List ℕ). Encodes Legacy v (8 ∷ l) t) (sym (ap (λ (l : List ℕ). a ++ l) s.0 ∙ append-nil a)) r, s.1))
@@ -161,15 +180,16 @@ legacy_then {is_known = is_known} {left = left} {new = new} {tree = tree} {conte
       found = λ _ told. found_here is (NextRefused refused V2) t content (left new.source) new.count result same valid h;
       taken = λ _ told. Taken_none (left new.source) new.count;
       stays_known = λ _ told. told;
+      counts = λ _. counts_here is (NextRefused refused V2) content result (failures new.source) h;
       same_version = refl;
     })
 
 pub legacy_fails : {S X : Type 0} {is_known : S → Type 0} {left : S → List ℕ} {failures : S → Failures} {old new : StoreReader S} {e : DeserializeError} (is : Tree → X → Type 0) (refused : Version → ValueType → List ℕ → DeserializeError → Type 0) (v : Version)
-    → Reads {X = OwnedValue} is_known left failures old new (Err e) (EncodesBehind v types.JSONObject) (TreeRefused v types.JSONObject) → Deserializes {X = X} is_known left old new (Err e) (EncodedAs is v types.JSONObject) (LegacyRefused refused v)
+    → Reads {X = OwnedValue} is_known left failures old new (Err e) (EncodesBehind v types.JSONObject) (TreeRefused v types.JSONObject) → Deserializes {X = X} is_known left failures old new (Err e) (EncodedAs is v types.JSONObject) (LegacyRefused refused v)
 legacy_fails is refused v p = goes_fails (EncodedAs is v types.JSONObject) (LegacyRefused refused v) (λ w c f. inl f) (deserializes (EncodesBehind v types.JSONObject) (λ b x q. q) p)
 
 pub legacy_short : {S X : Type 0} {is_known : S → Type 0} {left : S → List ℕ} {failures : S → Failures} {old new : StoreReader S} {tree : OwnedValue} (is : Tree → X → Type 0) (refused : Version → ValueType → List ℕ → DeserializeError → Type 0) (v : Version)
-    → Reads is_known left failures old new (Ok tree) (EncodesBehind v types.JSONObject) (TreeRefused v types.JSONObject) → Deserializes {X = X} is_known left old new (Err errors.Memory) (EncodedAs is v types.JSONObject) (LegacyRefused refused v)
+    → Reads is_known left failures old new (Ok tree) (EncodesBehind v types.JSONObject) (TreeRefused v types.JSONObject) → Deserializes {X = X} is_known left failures old new (Err errors.Memory) (EncodedAs is v types.JSONObject) (LegacyRefused refused v)
 legacy_short is refused v p = goes_short (EncodedAs is v types.JSONObject) (LegacyRefused refused v) (deserializes (EncodesBehind v types.JSONObject) (λ b x q. q) p)
 
 -- ---- legacy objects among others
@@ -178,22 +198,23 @@ found_more : {X : Type 0} (A : List ℕ → X → Type 0) (P Q : List ℕ → De
 found_more A P Q (Ok x) old new count map h = h
 found_more A P Q (Err e) old new count map h = stop_map end P Q (typed_stop e) old new count map h
 
-goes_more : {S X : Type 0} {is_known : S → Type 0} {left : S → List ℕ} {old new : StoreReader S} {result : Result X DeserializeError} {A : List ℕ → X → Type 0} {P : List ℕ → DeserializeError → Type 0} (Q : List ℕ → DeserializeError → Type 0)
-    → ((w : List ℕ) (c : DeserializeError) → P w c → Q w c) → Deserializes is_known left old new result A P → Deserializes is_known left old new result A Q
+goes_more : {S X : Type 0} {is_known : S → Type 0} {left : S → List ℕ} {failures : S → Failures} {old new : StoreReader S} {result : Result X DeserializeError} {A : List ℕ → X → Type 0} {P : List ℕ → DeserializeError → Type 0} (Q : List ℕ → DeserializeError → Type 0)
+    → ((w : List ℕ) (c : DeserializeError) → P w c → Q w c) → Deserializes is_known left failures old new result A P → Deserializes is_known left failures old new result A Q
 goes_more {left = left} {old = old} {new = new} {result = result} {A = A} {P = P} Q map p = record {
   closed = p.closed;
   unmarked = p.unmarked;
   found = λ is_open t. found_more A P Q result (left old.source) (left new.source) new.count map (p.found is_open t);
   taken = p.taken;
   stays_known = p.stays_known;
+  counts = p.counts;
   same_version = p.same_version;
 }
 
-pub legacy_among : {S X : Type 0} {is_known : S → Type 0} {left : S → List ℕ} {old new : StoreReader S} {result : Result X DeserializeError} (is : Tree → X → Type 0) (refused : Version → ValueType → List ℕ → DeserializeError → Type 0) (v : Version) (kind : ValueType) → kind ≡ types.JSONObject
-    → Deserializes is_known left old new result (EncodedAs is v types.JSONObject) (LegacyRefused refused v) → Deserializes is_known left old new result (EncodedAs is v kind) (MembersRefused refused v kind)
-legacy_among {is_known = is_known} {left = left} {old = old} {new = new} {result = result} is refused v kind same p =
-    goes_more (MembersRefused refused v kind) (λ w c f. in_legacy_object same f) (subst (λ k. Deserializes is_known left old new result (EncodedAs is v k) (LegacyRefused refused v)) (sym same) p)
+pub legacy_among : {S X : Type 0} {is_known : S → Type 0} {left : S → List ℕ} {failures : S → Failures} {old new : StoreReader S} {result : Result X DeserializeError} (is : Tree → X → Type 0) (refused : Version → ValueType → List ℕ → DeserializeError → Type 0) (v : Version) (kind : ValueType) → kind ≡ types.JSONObject
+    → Deserializes is_known left failures old new result (EncodedAs is v types.JSONObject) (LegacyRefused refused v) → Deserializes is_known left failures old new result (EncodedAs is v kind) (MembersRefused refused v kind)
+legacy_among {is_known = is_known} {left = left} {failures = failures} {old = old} {new = new} {result = result} is refused v kind same p =
+    goes_more (MembersRefused refused v kind) (λ w c f. in_legacy_object same f) (subst (λ k. Deserializes is_known left failures old new result (EncodedAs is v k) (LegacyRefused refused v)) (sym same) p)
 
-pub other_among : {S X : Type 0} {is_known : S → Type 0} {left : S → List ℕ} {old new : StoreReader S} {result : Result X DeserializeError} (is : Tree → X → Type 0) (refused : Version → ValueType → List ℕ → DeserializeError → Type 0) (v : Version) (kind : ValueType) → kind ≢ types.JSONObject
-    → Deserializes is_known left old new result (EncodedAs is v kind) (refused v kind) → Deserializes is_known left old new result (EncodedAs is v kind) (MembersRefused refused v kind)
+pub other_among : {S X : Type 0} {is_known : S → Type 0} {left : S → List ℕ} {failures : S → Failures} {old new : StoreReader S} {result : Result X DeserializeError} (is : Tree → X → Type 0) (refused : Version → ValueType → List ℕ → DeserializeError → Type 0) (v : Version) (kind : ValueType) → kind ≢ types.JSONObject
+    → Deserializes is_known left failures old new result (EncodedAs is v kind) (refused v kind) → Deserializes is_known left failures old new result (EncodedAs is v kind) (MembersRefused refused v kind)
 other_among is refused v kind other p = goes_more (MembersRefused refused v kind) (λ w c f. in_other other f) p

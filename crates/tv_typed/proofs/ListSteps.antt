@@ -101,13 +101,13 @@ next_ended refused v e (inr p) = absurd (coded_some p.0 p.1.rest (p.1.joined ∙
 -- ---- entries
 
 -- what a call promises in the version that the reader had before
-pub at_version : {S X : Type 0} {is_known : S → Type 0} {left : S → List ℕ} {mid new : StoreReader S} {result : Result X DeserializeError} (Item : Version → List ℕ → X → Type 0) (Refused : Version → List ℕ → DeserializeError → Type 0) (version : DocStoreVersion) → mid.version ≡ version
-    → Deserializes is_known left mid new result (Item (version_of mid.version)) (Refused (version_of mid.version)) → Deserializes is_known left mid new result (Item (version_of version)) (Refused (version_of version))
-at_version {is_known = is_known} {left = left} {mid = mid} {new = new} {result = result} Item Refused version same h = subst (λ z. Deserializes is_known left mid new result (Item (version_of z)) (Refused (version_of z))) same h
+pub at_version : {S X : Type 0} {is_known : S → Type 0} {left : S → List ℕ} {failures : S → Failures} {mid new : StoreReader S} {result : Result X DeserializeError} (Item : Version → List ℕ → X → Type 0) (Refused : Version → List ℕ → DeserializeError → Type 0) (version : DocStoreVersion) → mid.version ≡ version
+    → Deserializes is_known left failures mid new result (Item (version_of mid.version)) (Refused (version_of mid.version)) → Deserializes is_known left failures mid new result (Item (version_of version)) (Refused (version_of version))
+at_version {is_known = is_known} {left = left} {failures = failures} {mid = mid} {new = new} {result = result} Item Refused version same h = subst (λ z. Deserializes is_known left failures mid new result (Item (version_of z)) (Refused (version_of z))) same h
 
 pub entry_found : {S X : Type 0} {is_known : S → Type 0} {left : S → List ℕ} {failures : S → Failures} {old mid new : StoreReader S} {key : String Global} {value : X} (is : Tree → X → Type 0) (refused : Version → ValueType → List ℕ → DeserializeError → Type 0)
-    → Reads is_known left failures old mid (Ok key) (λ b key. Key (version_of old.version) b (string_bytes key)) (KeyRefused (version_of old.version)) → Deserializes is_known left mid new (Ok value) (EncodesAs is (version_of mid.version)) (NextRefused refused (version_of mid.version))
-    → Deserializes is_known left old new (Ok (key, value)) (EncodesEntry is (version_of old.version)) (EntryRefused refused (version_of old.version))
+    → Reads is_known left failures old mid (Ok key) (λ b key. Key (version_of old.version) b (string_bytes key)) (KeyRefused (version_of old.version)) → Deserializes is_known left failures mid new (Ok value) (EncodesAs is (version_of mid.version)) (NextRefused refused (version_of mid.version))
+    → Deserializes is_known left failures old new (Ok (key, value)) (EncodesEntry is (version_of old.version)) (EntryRefused refused (version_of old.version))
 entry_found {old = old} {key = key} {value = value} is refused p h =
     let v = version_of old.version in
     goes_as (key, value) (EncodesEntry is v) (EntryRefused refused v) (λ a s. s)
@@ -116,14 +116,14 @@ entry_found {old = old} {key = key} {value = value} is refused p h =
 
 pub entry_key_fails : {S X : Type 0} {is_known : S → Type 0} {left : S → List ℕ} {failures : S → Failures} {old new : StoreReader S} {e : DeserializeError} (is : Tree → X → Type 0) (refused : Version → ValueType → List ℕ → DeserializeError → Type 0)
     → Reads {X = String Global} is_known left failures old new (Err e) (λ b key. Key (version_of old.version) b (string_bytes key)) (KeyRefused (version_of old.version))
-    → Deserializes {X = String Global × X} is_known left old new (Err e) (EncodesEntry is (version_of old.version)) (EntryRefused refused (version_of old.version))
+    → Deserializes {X = String Global × X} is_known left failures old new (Err e) (EncodesEntry is (version_of old.version)) (EntryRefused refused (version_of old.version))
 entry_key_fails {old = old} is refused p =
     let v = version_of old.version in
     goes_fails (EncodesEntry is v) (EntryRefused refused v) (λ w c f. inl f) (deserializes (λ b key. Key v b (string_bytes key)) (λ b x q. q) p)
 
 pub entry_value_fails : {S X : Type 0} {is_known : S → Type 0} {left : S → List ℕ} {failures : S → Failures} {old mid new : StoreReader S} {key : String Global} {e : DeserializeError} (is : Tree → X → Type 0) (refused : Version → ValueType → List ℕ → DeserializeError → Type 0)
-    → Reads is_known left failures old mid (Ok key) (λ b key. Key (version_of old.version) b (string_bytes key)) (KeyRefused (version_of old.version)) → Deserializes {X = X} is_known left mid new (Err e) (EncodesAs is (version_of mid.version)) (NextRefused refused (version_of mid.version))
-    → Deserializes {X = String Global × X} is_known left old new (Err e) (EncodesEntry is (version_of old.version)) (EntryRefused refused (version_of old.version))
+    → Reads is_known left failures old mid (Ok key) (λ b key. Key (version_of old.version) b (string_bytes key)) (KeyRefused (version_of old.version)) → Deserializes {X = X} is_known left failures mid new (Err e) (EncodesAs is (version_of mid.version)) (NextRefused refused (version_of mid.version))
+    → Deserializes {X = String Global × X} is_known left failures old new (Err e) (EncodesEntry is (version_of old.version)) (EntryRefused refused (version_of old.version))
 entry_value_fails {old = old} {key = key} is refused p h =
     let v = version_of old.version in
     goes_then (EncodesEntry is v) (EntryRefused refused v) (λ a b x r s. absurd s)

@@ -219,3 +219,17 @@ told_reads {is_known = is_known} {left = left} {failures = failures} {s = s} {k 
   marks = marks;
   same_version = version;
 }
+
+-- ---- calls that are given no memory
+
+-- what was taken without memory is told without it
+pub raised_spares : {X : Type 0} (answer : Result X ReadError) (result : Result X DeserializeError) → result ≡ raised answer → (IsErrOf answer reads.Memory → ⊥) → IsErrOf result errors.Memory → ⊥
+raised_spares (Ok x) result told none is = let e = sym told ∙ is in absurd cc
+raised_spares (Err (reads.Corrupted c)) result told none is = let e = sym told ∙ is in absurd cc
+raised_spares (Err (reads.Io kind)) result told none is = let e = sym told ∙ is in absurd cc
+raised_spares (Err reads.Memory) result told none is = none refl
+
+-- the reader was refused before, or the type is another than that which is expected
+pub mismatch_spares : {X Kind : Type 0} {has_failed : Bool} {kind expected : Kind} {refusal e : DeserializeError} → refusal ≢ errors.Memory → IsMismatch has_failed kind expected refusal e → IsErrOf {T = X} (Err e) errors.Memory → ⊥
+mismatch_spares other (failed_before failed) is = absurd cc
+mismatch_spares other (mismatched is_open apart) is = other cc

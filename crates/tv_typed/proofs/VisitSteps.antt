@@ -1,9 +1,9 @@
 -- Values that are handed to visitors.
-use Rattle.std.proofs.Common.{◌≡◌, ℕ, true, List, ◌++◌, Result, Ok, Err, refl, sym, ap, subst, ◌∙◌}
-use Rattle.std.specs.Prelude.{is_err, IsErrOf}
+use Rattle.std.proofs.Common.{◌≡◌, ℕ, Bool, true, false, List, ◌++◌, Result, Ok, Err, refl, sym, ap, subst, ◌∙◌}
+use Rattle.std.specs.Prelude.{is_err, IsErrOf, OnOk}
 use Rattle.tv_base.specs.Source.{Failures}
 use Rattle.tv_value.specs.Encoding.{Encodes, NoLegacy}
-use Rattle.tv_value.specs.Tree.{Leaf, Tree, leaf}
+use Rattle.tv_value.specs.Tree.{Leaf, Tree}
 use Rattle.tv_value.specs.Version.{Version}
 use Rattle.tv_value.specs.declared.owned_value.OwnedValue.{OwnedValue}
 use Rattle.tv_reader.specs.Trees.{EncodesBehind}
@@ -29,15 +29,20 @@ any_excluded v kind prefix rest e t (other_type other) p = absurd (other refl)
 any_excluded v kind prefix rest e t (in_body {c} same f) p = malformed_behind v kind prefix rest _ t f p
 
 visits : {S X : Type 0} {is_known : S → Type 0} {left : S → List ℕ} {failures : S → Failures} (old new : StoreReader S) (kind : ValueType) (answers : Leaf → Result X DeserializeError → Type 0) (result : Result X DeserializeError) (read : Result Leaf DeserializeError)
-    → Reads is_known left failures old (record new { has_failed = is_err read }) read (EncodesLeaf (version_of old.version) kind (λ l. l)) (LeafRefused kind (version_of old.version) kind) → Answered answers read result → Visits is_known left failures old new kind answers result
-visits old new kind answers result read h a =
+    → Reads is_known left failures old (record new { has_failed = is_err read }) read (EncodesLeaf (version_of old.version) kind (λ l. l)) (LeafRefused kind (version_of old.version) kind) → Answered answers read result → OnOk result (new.has_failed ≡ false) → Visits is_known left failures old new kind answers result
+visits old new kind answers result read h a unmarked =
     let v = version_of old.version in
     record {
       read = read;
       reads = h;
       only = only_by (IsLeaf (λ l. l)) v (coded kind) (LeafRefused kind v kind) (λ prefix rest e t x r p same. any_excluded v kind prefix rest e t r p) (leaf_deserializes (λ l. l) v kind h);
       answered = a;
+      unmarked = unmarked;
     }
+
+unmarked_still : {X : Type 0} (result : Result X DeserializeError) (b : Bool) → b ≡ false → OnOk result (b ≡ false)
+unmarked_still (Ok x) b e = e
+unmarked_still (Err e) b h = tt
 
 not_ok : {X : Type 0} (x : X) → IsErrOf {T = X} (Ok x) errors.AlreadyFailed → ⊥
 not_ok x e = absurd cc
@@ -63,6 +68,7 @@ leaf_answered old new kind expected make a l answers result is h same answered =
       same_version = h.same_version;
     })
     answered
+    (unmarked_still result new.has_failed h.marks)
 
 -- none was read
 pub leaf_refused : {S A X : Type 0} {is_known : S → Type 0} {left : S → List ℕ} {failures : S → Failures} (old new : StoreReader S) (kind expected : ValueType) (make : A → Leaf) (answers : Leaf → Result X DeserializeError → Type 0) (e : DeserializeError)
@@ -83,6 +89,7 @@ leaf_refused {left = left} old new kind expected make answers e is h =
       same_version = h.same_version;
     })
     refl
+    tt
 
 -- ---- arrays and objects
 
@@ -92,9 +99,9 @@ pub items_refused : {S X : Type 0} {is_known : S → Type 0} {left : S → List 
 items_refused {new = new} e h = record { behind_number = new; announced = Err e; reads = h; handed = (refl, refl) }
 
 -- what the visitor refused was marked
-pub visits_marked : {S X : Type 0} {is_known : S → Type 0} {left : S → List ℕ} {failures : S → Failures} {old new : StoreReader S} {kind : ValueType} {answers : Leaf → Result X DeserializeError → Type 0} {result : Result X DeserializeError}
-    → Visits is_known left failures old new kind answers result → Visits is_known left failures old (record new { has_failed = true }) kind answers result
-visits_marked h = record { read = h.read; reads = h.reads; only = h.only; answered = h.answered }
+pub visits_marked : {S X : Type 0} {is_known : S → Type 0} {left : S → List ℕ} {failures : S → Failures} {old new : StoreReader S} {kind : ValueType} {answers : Leaf → Result X DeserializeError → Type 0} {e : DeserializeError}
+    → Visits is_known left failures old new kind answers (Err e) → Visits is_known left failures old (record new { has_failed = true }) kind answers (Err e)
+visits_marked h = record { read = h.read; reads = h.reads; only = h.only; answered = h.answered; unmarked = tt }
 
 handed_marked : {S X : Type 0} (is_known : S → Type 0) (left : S → List ℕ) (mid new : StoreReader S) (announced : Result ℕ DeserializeError) (result : Result X DeserializeError)
     → mid.has_failed ≡ is_err announced → Handed is_known left mid new announced result → Handed is_known left mid (record new { has_failed = true }) announced result
@@ -108,15 +115,15 @@ items_marked {is_known = is_known} {left = left} {new = new} {result = result} h
 -- ---- legacy objects
 
 -- what the visitor refused was marked
-pub legacy_marked : {S X : Type 0} {is_known : S → Type 0} {left : S → List ℕ} {failures : S → Failures} {old new : StoreReader S} {result : Result X DeserializeError} → VisitsLegacy is_known left failures old new result → VisitsLegacy is_known left failures old (record new { has_failed = true }) result
-legacy_marked h = record { behind_object = h.behind_object; read = h.read; reads = h.reads; gives = h.gives; same_source = h.same_source; same_count = h.same_count; same_version = h.same_version }
+pub legacy_marked : {S X : Type 0} {is_known : S → Type 0} {left : S → List ℕ} {failures : S → Failures} {old new : StoreReader S} {e : DeserializeError} → VisitsLegacy {X = X} is_known left failures old new (Err e) → VisitsLegacy {X = X} is_known left failures old (record new { has_failed = true }) (Err e)
+legacy_marked h = record { behind_object = h.behind_object; read = h.read; reads = h.reads; gives = h.gives; same_source = h.same_source; same_count = h.same_count; unmarked = tt; same_version = h.same_version }
 
 -- the object was refused
 pub legacy_refused : {S X : Type 0} {is_known : S → Type 0} {left : S → List ℕ} {failures : S → Failures} {old new : StoreReader S} (e : DeserializeError)
     → Reads {X = OwnedValue} is_known left failures old new (Err e) (EncodesBehind (version_of old.version) types.JSONObject) (TreeRefused (version_of old.version) types.JSONObject) → VisitsLegacy {X = X} is_known left failures old new (Err e)
-legacy_refused {new = new} e h = record { behind_object = new; read = Err e; reads = h; gives = refl; same_source = refl; same_count = refl; same_version = refl }
+legacy_refused {new = new} e h = record { behind_object = new; read = Err e; reads = h; gives = refl; same_source = refl; same_count = refl; unmarked = tt; same_version = refl }
 
 -- it was read
 pub legacy_visited : {S X : Type 0} {is_known : S → Type 0} {left : S → List ℕ} {failures : S → Failures} {old new : StoreReader S} (tree : OwnedValue) (result : Result X DeserializeError)
     → Reads is_known left failures old new (Ok tree) (EncodesBehind (version_of old.version) types.JSONObject) (TreeRefused (version_of old.version) types.JSONObject) → VisitsLegacy is_known left failures old new result
-legacy_visited {new = new} tree result h = record { behind_object = new; read = Ok tree; reads = h; gives = tt; same_source = refl; same_count = refl; same_version = refl }
+legacy_visited {new = new} tree result h = record { behind_object = new; read = Ok tree; reads = h; gives = tt; same_source = refl; same_count = refl; unmarked = unmarked_still result new.has_failed h.marks; same_version = refl }

@@ -1,7 +1,8 @@
 -- Documents whose pairs are read one after the other.
-use Rattle.std.specs.Prelude.{◌≡◌, ℕ, suc, false, List, [], ◌∷◌, Option, Some, None, Result, Err}
+use Rattle.std.specs.Prelude.{◌≡◌, ℕ, suc, false, List, [], ◌∷◌, Option, Some, None, Err}
 use Rattle.tv_base.specs.declared.cause.Cause.{Cause}
 use Rattle.tv_base.specs.Parts.{Begins, Then}
+use Rattle.tv_base.specs.Source.{Failures}
 use Rattle.tv_base.specs.ErrorInPart.{InThen, ErrorInNumber}
 use Rattle.tv_legacy.specs.Legacy.{Legacy}
 use Rattle.tv_value.specs.InputError.{Corrupt, ErrorInField, SmallField}
@@ -38,9 +39,9 @@ FieldRefused refused v = InThen FieldNumberRefused SmallField (λ _. NextRefused
 
 -- ---- what gives pairs
 
--- None where all were given, else a pair. Where its pairs are known, the value is read of the tree of the pair that is given next.
+-- None where all were given, and nothing changes then; else a pair. Where its pairs are known, the value is read of the tree of the pair that is given next.
 abbrev pub NextField : {D X : Type 0} → (D → ℕ) → (D → Type 0) → (D → ℕ × Tree → D → Type 0) → (Tree → X → Type 0) → D → D → Option (Field × X) → Type 0
-NextField remaining is_known gives is old new None = remaining old ≡ 0
+NextField remaining is_known gives is old new None = (remaining old ≡ 0) × (new ≡ old)
 NextField remaining is_known gives is old new (Some p) = (remaining old ≡ suc (remaining new)) × (is_known old → is_known new × ((t : Tree) × gives old (p.0.id, t) new × is t p.1))
 
 -- these pairs in turn
@@ -58,6 +59,6 @@ pub record GivesPair {S : Type 0} (left : S → List ℕ) (old : StoreReader S) 
   pub encodes : Begins (λ b. EncodesPair Legacy (version_of old.version) b pair) (left old.source) (left new.source)
 
 -- a call that reads a pair may return this error
-abbrev pub RefusesPair : {S : Type 0} → (S → Type 0) → (S → List ℕ) → ℕ → ℕ → StoreReader S → (Version → ValueType → List ℕ → DeserializeError → Type 0) → DeserializeError → Type 0
-RefusesPair {S} is_known left position announced old refused e =
-    (new : StoreReader S) × Deserializes {X = ℕ} is_known left old new (Err e) (λ b x. ⊥) (NextItemRefused (FieldRefused refused (version_of old.version)) position announced)
+abbrev pub RefusesPair : {S : Type 0} → (S → Type 0) → (S → List ℕ) → (S → Failures) → ℕ → ℕ → StoreReader S → (Version → ValueType → List ℕ → DeserializeError → Type 0) → DeserializeError → Type 0
+RefusesPair {S} is_known left failures position announced old refused e =
+    (new : StoreReader S) × Deserializes {X = ℕ} is_known left failures old new (Err e) (λ b x. ⊥) (NextItemRefused (FieldRefused refused (version_of old.version)) position announced)

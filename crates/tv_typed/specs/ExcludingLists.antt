@@ -12,7 +12,7 @@ use Rattle.tv_base.proofs.Numbers.{one_number}
 use Rattle.tv_legacy.specs.Legacy.{Legacy}
 use Rattle.tv_legacy.proofs.Unique.{one_legacy}
 use Rattle.tv_value.specs.Encoding.{Key, Encodes, EncodesElements, EncodesEntries, NoLegacy}
-use Rattle.tv_value.specs.Tree.{Tree, array, object, elements, element_count, Entries, entries, entry_count}
+use Rattle.tv_value.specs.Tree.{Tree, object, elements, Entries, entries}
 use Rattle.tv_value.specs.Version.{Version, entry_total}
 use Rattle.tv_value.proofs.ExcludingLeaves.{key_excludes}
 use Rattle.tv_value.proofs.Leaves.{agree_key, total_same}

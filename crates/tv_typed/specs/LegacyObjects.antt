@@ -37,10 +37,10 @@ pub data MembersRefused (refused : Version → ValueType → List ℕ → Deseri
   in_other : kind ≢ types.JSONObject → refused v kind whole e → MembersRefused refused v kind whole e
   in_legacy_object : kind ≡ types.JSONObject → LegacyRefused refused v whole e → MembersRefused refused v kind whole e
 
--- why an encoding is refused, as it is told
+-- Why an encoding is refused, as it is told. No read of it fails.
 abbrev pub ToldOf : (List ℕ → DeserializeError → Type 0) → List ℕ → Stop DeserializeError → Type 0
 ToldOf Refused bytes (InputError told) = (e : DeserializeError) × Refused bytes e × Retold e told
-ToldOf Refused bytes (Failed kind) = Unit {0}
+ToldOf Refused bytes (Failed kind) = ⊥
 ToldOf Refused bytes Short = Unit {0}
 ToldOf Refused bytes Never = ⊥
 

@@ -1,10 +1,9 @@
 -- What a read through a reader of a store returns and does.
-use Rattle.std.specs.Prelude.{◌≡◌, ◌≢◌, ℕ, Bool, true, false, is_err, List, ◌++◌, Result, Ok, Err, OnOk, IsErrOf}
-use Rattle.tv_base.specs.declared.cause.Cause.{Cause}
+use Rattle.std.specs.Prelude.{◌≡◌, ◌≢◌, ℕ, Bool, true, false, is_err, List, Result, Ok, Err, OnOk, IsErrOf}
 use Rattle.tv_base.specs.declared.cause.Cause.TheVariants.{UnexpectedEnd}
 use Rattle.tv_base.specs.declared.read_error.ReadError.{ReadError}
 use Rattle.tv_base.specs.Source.{Failures}
-use Rattle.tv_base.specs.Stop.{Stop, Taken}
+use Rattle.tv_base.specs.Stop.{Stop, Counts, Taken}
 use Rattle.tv_base.specs.Stop.Stop.{InputError, Failed, Short, Never}
 use Rattle.tv_reader.specs.Error.{read_error}
 use Rattle.tv_reader.specs.Finds.{Found, FindsBy}
@@ -33,13 +32,14 @@ pub record Reads {S X : Type 0} (is_known : S → Type 0) (left : S → List ℕ
   pub same_version : new.version ≡ old.version
 
 -- What a call that reads a value of a type through a reader promises, whoever wrote it: as `Reads`, but that a refusal may be left
--- unmarked, and that a failure of the source may be told in other words.
-pub record Deserializes {S X : Type 0} (is_known : S → Type 0) (left : S → List ℕ) (old new : StoreReader S) (result : Result X DeserializeError) (Encodes : List ℕ → X → Type 0) (HasError : List ℕ → DeserializeError → Type 0) : Type 0 where
+-- unmarked.
+pub record Deserializes {S X : Type 0} (is_known : S → Type 0) (left : S → List ℕ) (failures : S → Failures) (old new : StoreReader S) (result : Result X DeserializeError) (Encodes : List ℕ → X → Type 0) (HasError : List ℕ → DeserializeError → Type 0) : Type 0 where
   pub closed : old.has_failed ≡ true → IsErrOf result errors.AlreadyFailed × (new.source ≡ old.source) × (new.count ≡ old.count)
   pub unmarked : OnOk result (new.has_failed ≡ false)
   pub found : old.has_failed ≡ false → is_known old.source → Found typed_stop (errors.CorruptedValue UnexpectedEnd) Encodes HasError (left old.source) (left new.source) new.count result
   pub taken : old.has_failed ≡ false → is_known old.source → Taken (left old.source) (left new.source) old.count new.count
   pub stays_known : old.has_failed ≡ false → is_known old.source → is_known new.source
+  pub counts : old.has_failed ≡ false → Counts typed_stop result (failures old.source) (failures new.source)
   pub same_version : new.version ≡ old.version
 
 -- a result of a lower layer

@@ -1,5 +1,5 @@
 -- What a visitor is handed, and what is done through a reader then.
-use Rattle.std.specs.Prelude.{◌≡◌, ℕ, true, is_err, List, Result, Ok, Err}
+use Rattle.std.specs.Prelude.{◌≡◌, ℕ, true, false, is_err, List, Result, Ok, Err, OnOk}
 use Rattle.tv_base.specs.Source.{Failures}
 use Rattle.tv_base.specs.Stop.{Taken}
 use Rattle.tv_reader.specs.Trees.{EncodesBehind}
@@ -23,12 +23,13 @@ Answered answers (Ok a) result = answers a result
 Answered answers (Err e) result = result ≡ Err e
 
 -- The leaf behind the code of its type was read, and the answer to it is given. Where none was read, its refusal is. The reader is
--- as reading has left it, but that its mark may also tell of the answer.
+-- as reading has left it, but that its mark may also tell of an answer that is an error.
 pub record Visits {S X : Type 0} (is_known : S → Type 0) (left : S → List ℕ) (failures : S → Failures) (old new : StoreReader S) (kind : ValueType) (answers : Leaf → Result X DeserializeError → Type 0) (result : Result X DeserializeError) : Type 0 where
   pub read : Result Leaf DeserializeError
   pub reads : Reads is_known left failures old (record new { has_failed = is_err read }) read (EncodesLeaf (version_of old.version) kind (λ l. l)) (LeafRefused kind (version_of old.version) kind)
   pub only : Only is_known left old (record new { has_failed = is_err read }) read (IsLeaf (λ l. l)) (version_of old.version) (coded kind)
   pub answered : Answered answers read result
+  pub unmarked : OnOk result (new.has_failed ≡ false)
 
 -- ---- arrays and objects
 
@@ -59,7 +60,7 @@ GivesRefusal (Ok tree) result = Unit {0}
 GivesRefusal (Err e) result = result ≡ Err e
 
 -- A legacy object was read whole behind its code, and then the entries that its tree encodes were handed on, or its refusal is given. Nothing more is taken
--- through the reader, whose mark may also tell of the answer.
+-- through the reader, whose mark may also tell of an answer that is an error.
 pub record VisitsLegacy {S X : Type 0} (is_known : S → Type 0) (left : S → List ℕ) (failures : S → Failures) (old new : StoreReader S) (result : Result X DeserializeError) : Type 0 where
   pub behind_object : StoreReader S
   pub read : Result OwnedValue DeserializeError
@@ -67,4 +68,5 @@ pub record VisitsLegacy {S X : Type 0} (is_known : S → Type 0) (left : S → L
   pub gives : GivesRefusal read result
   pub same_source : new.source ≡ behind_object.source
   pub same_count : new.count ≡ behind_object.count
+  pub unmarked : OnOk result (new.has_failed ≡ false)
   pub same_version : new.version ≡ behind_object.version

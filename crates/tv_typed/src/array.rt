@@ -20,7 +20,7 @@ pub(crate) fn read_elements<T: ValueDeserialize, S: ByteSource>(
     announced: u64,
 ) -> Result<Vec<T>, DeserializeError>
     requires { reader.old.has_failed ≡ false }
-    ensures { Deserializes S.is_known S.left reader.old reader.new result
+    ensures { Deserializes S.is_known S.left S.failures reader.old reader.new result
         (EncodesInto (λ items xs. items.items ≡ xs) (EncodesAs T.is (version_of reader.old.version))
         announced)
         (InEach (NextRefused T.refused (version_of reader.old.version))
@@ -61,7 +61,7 @@ impl<'de, S: ByteSource> BinaryArrayDeserializer<'de, S> {
         ensures announced { self.new.announced ≡ self.old.announced }
         ensures position { self.new.position
             ≡ self.old.position + (if gives_some result then 1 else 0) }
-        ensures deserializes { Deserializes S.is_known S.left self.old.reader.now
+        ensures deserializes { Deserializes S.is_known S.left S.failures self.old.reader.now
             self.new.reader.now result
             (NextItem (EncodesAs V.is (version_of self.old.reader.now.version)) self.old.position
             self.old.announced)

@@ -38,8 +38,8 @@ impl<T: ValueDeserialize> ValueDeserialize for Vec<T> {
         alloc: Global,
         deserializer: BinaryValueDeserializer<'_, S>,
     ) -> Result<Vec<T>, DeserializeError>
-        ensures deserializes { Deserializes S.is_known S.left deserializer.entry.reader.now
-            deserializer.exit.1.0.now result
+        ensures deserializes { Deserializes S.is_known S.left S.failures
+            deserializer.entry.reader.now deserializer.exit.1.0.now result
             (EncodedAs (λ t list. ArrayOf T.is t list.items)
             (version_of deserializer.entry.reader.now.version) deserializer.entry.kind)
             (ArrayRefused T.is T.refused (version_of deserializer.entry.reader.now.version)
@@ -67,7 +67,7 @@ impl<T: ValueDeserialize> CodedObject for Vec<(String, T)> {
         kind: ValueType,
         reader: &mut StoreReader<S>,
     ) -> Result<Vec<(String, T)>, DeserializeError>
-        ensures { Deserializes S.is_known S.left reader.old reader.new result
+        ensures { Deserializes S.is_known S.left S.failures reader.old reader.new result
             (EncodedAs (λ t list. ObjectOf T.is t list.items) (version_of reader.old.version) kind)
             (ObjectRefused T.is T.refused (version_of reader.old.version) kind) }
     {
@@ -87,8 +87,8 @@ impl<T: ValueDeserialize> ValueDeserialize for Vec<(String, T)> {
         alloc: Global,
         deserializer: BinaryValueDeserializer<'_, S>,
     ) -> Result<Vec<(String, T)>, DeserializeError>
-        ensures deserializes { Deserializes S.is_known S.left deserializer.entry.reader.now
-            deserializer.exit.1.0.now result
+        ensures deserializes { Deserializes S.is_known S.left S.failures
+            deserializer.entry.reader.now deserializer.exit.1.0.now result
             (EncodedAs (λ t list. ObjectOf T.is t list.items)
             (version_of deserializer.entry.reader.now.version) deserializer.entry.kind)
             (MembersRefused (ObjectRefused T.is T.refused)
@@ -118,7 +118,7 @@ impl<T: ValueDeserialize> CodedObject for BTreeMap<String, T> {
         kind: ValueType,
         reader: &mut StoreReader<S>,
     ) -> Result<BTreeMap<String, T>, DeserializeError>
-        ensures { Deserializes S.is_known S.left reader.old reader.new result
+        ensures { Deserializes S.is_known S.left S.failures reader.old reader.new result
             (EncodedAs (λ t map. MapOf T.is t (λ key. tree.get_by_text map key))
             (version_of reader.old.version) kind)
             (ObjectRefused T.is T.refused (version_of reader.old.version) kind) }
@@ -139,8 +139,8 @@ impl<T: ValueDeserialize> ValueDeserialize for BTreeMap<String, T> {
         alloc: Global,
         deserializer: BinaryValueDeserializer<'_, S>,
     ) -> Result<BTreeMap<String, T>, DeserializeError>
-        ensures deserializes { Deserializes S.is_known S.left deserializer.entry.reader.now
-            deserializer.exit.1.0.now result
+        ensures deserializes { Deserializes S.is_known S.left S.failures
+            deserializer.entry.reader.now deserializer.exit.1.0.now result
             (EncodedAs (λ t map. MapOf T.is t (λ key. tree.get_by_text map key))
             (version_of deserializer.entry.reader.now.version) deserializer.entry.kind)
             (MembersRefused (ObjectRefused T.is T.refused)
@@ -170,7 +170,7 @@ impl<T: ValueDeserialize> CodedObject for HashMap<String, T> {
         kind: ValueType,
         reader: &mut StoreReader<S>,
     ) -> Result<HashMap<String, T>, DeserializeError>
-        ensures { Deserializes S.is_known S.left reader.old reader.new result
+        ensures { Deserializes S.is_known S.left S.failures reader.old reader.new result
             (EncodedAs (λ t map. MapOf T.is t (λ key. hash.get_by_text map key))
             (version_of reader.old.version) kind)
             (ObjectRefused T.is T.refused (version_of reader.old.version) kind) }
@@ -191,8 +191,8 @@ impl<T: ValueDeserialize> ValueDeserialize for HashMap<String, T> {
         alloc: Global,
         deserializer: BinaryValueDeserializer<'_, S>,
     ) -> Result<HashMap<String, T>, DeserializeError>
-        ensures deserializes { Deserializes S.is_known S.left deserializer.entry.reader.now
-            deserializer.exit.1.0.now result
+        ensures deserializes { Deserializes S.is_known S.left S.failures
+            deserializer.entry.reader.now deserializer.exit.1.0.now result
             (EncodedAs (λ t map. MapOf T.is t (λ key. hash.get_by_text map key))
             (version_of deserializer.entry.reader.now.version) deserializer.entry.kind)
             (MembersRefused (ObjectRefused T.is T.refused)

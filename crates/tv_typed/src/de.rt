@@ -3,7 +3,7 @@
 #![tactic(auto, using(tv_base::proofs::TakeSteps::Taken_then), unfolding(tv_reader::specs::Leaves::leaf_at))]
 
 ghost use Rattle.std.specs.Prelude.{◌≡◌, Ok, Err, IfOk, IfErr, string_bytes, map, true, List, []};
-ghost use Rattle.std.specs.Prelude.{ℕ, OnErr, refl, false, Result};
+ghost use Rattle.std.specs.Prelude.{ℕ, OnErr, IsErrOf, refl, false, Result};
 ghost use Rattle.std.specs.Borrow.{sem, RestsIfErr};
 ghost use Rattle.std.specs.Net.Addr.{ipv6_bits};
 ghost use Rattle.tv_reader.specs.ValueType.{coded, IsCoded};
@@ -21,6 +21,7 @@ ghost use Rattle.tv_value.specs.Tree.{ip_address, tokenized, Tree, Leaf};
 ghost use Rattle.tv_typed.specs.Excluding.{leaf_excludes, tree_excludes};
 ghost use Rattle.tv_typed.specs.Lists.{EncodesEntry, EntryRefused};
 ghost use Rattle.tv_reader.specs.declared.error.DeserializeError.{DeserializeError};
+ghost use Rattle.tv_reader.specs.declared.error.DeserializeError.TheVariants as errors;
 ghost use Rattle.tv_value.specs.Version.{Version};
 ghost use Rattle.tv_typed.specs.Visits.{Visits, TakesSome};
 
@@ -65,6 +66,7 @@ impl<'de, S: ByteSource> BinaryValueDeserializer<'de, S> {
         ensures reads { IfOk result
             (λ d. Reads S.is_known S.left S.failures reader.entry.now d.reader.now (Ok d.kind)
             IsCoded CodeRefused) }
+        ensures spares { ¬ IsErrOf result errors.Memory }
     {
         let kind = reader.code()?;
         Ok(BinaryValueDeserializer { kind, reader })
@@ -98,6 +100,7 @@ impl<'de, S: ByteSource> BinaryValueDeserializer<'de, S> {
         ensures only { Only S.is_known S.left self.entry.reader.now self.exit.1.0.now result
             (IsLeaf (λ _. null)) (version_of self.entry.reader.now.version)
             (coded self.entry.kind) }
+        ensures spares { ¬ IsErrOf result errors.Memory }
     {
         let BinaryValueDeserializer { kind, reader } = self;
         reader.leaf::<()>((), kind)
@@ -113,6 +116,7 @@ impl<'de, S: ByteSource> BinaryValueDeserializer<'de, S> {
         ensures only { Only S.is_known S.left self.entry.reader.now self.exit.1.0.now result
             (IsLeaf (λ n. unsigned n)) (version_of self.entry.reader.now.version)
             (coded self.entry.kind) }
+        ensures spares { ¬ IsErrOf result errors.Memory }
     {
         let BinaryValueDeserializer { kind, reader } = self;
         reader.leaf::<u64>((), kind)
@@ -127,6 +131,7 @@ impl<'de, S: ByteSource> BinaryValueDeserializer<'de, S> {
         ensures only { Only S.is_known S.left self.entry.reader.now self.exit.1.0.now result
             (IsLeaf (λ z. signed z)) (version_of self.entry.reader.now.version)
             (coded self.entry.kind) }
+        ensures spares { ¬ IsErrOf result errors.Memory }
     {
         let BinaryValueDeserializer { kind, reader } = self;
         reader.leaf::<i64>((), kind)
@@ -142,6 +147,7 @@ impl<'de, S: ByteSource> BinaryValueDeserializer<'de, S> {
         ensures only { Only S.is_known S.left self.entry.reader.now self.exit.1.0.now result
             (IsLeaf (λ b. boolean b)) (version_of self.entry.reader.now.version)
             (coded self.entry.kind) }
+        ensures spares { ¬ IsErrOf result errors.Memory }
     {
         let BinaryValueDeserializer { kind, reader } = self;
         reader.leaf::<bool>((), kind)
@@ -202,6 +208,7 @@ impl<'de, S: ByteSource> BinaryValueDeserializer<'de, S> {
         ensures only { Only S.is_known S.left self.entry.reader.now self.exit.1.0.now result
             (IsLeaf (λ d. date d.nanoseconds)) (version_of self.entry.reader.now.version)
             (coded self.entry.kind) }
+        ensures spares { ¬ IsErrOf result errors.Memory }
     {
         let BinaryValueDeserializer { kind, reader } = self;
         reader.leaf::<DateTime>((), kind)
@@ -217,6 +224,7 @@ impl<'de, S: ByteSource> BinaryValueDeserializer<'de, S> {
         ensures only { Only S.is_known S.left self.entry.reader.now self.exit.1.0.now result
             (IsLeaf (λ a. ip_address (ipv6_bits a))) (version_of self.entry.reader.now.version)
             (coded self.entry.kind) }
+        ensures spares { ¬ IsErrOf result errors.Memory }
     {
         let BinaryValueDeserializer { kind, reader } = self;
         reader.leaf::<Ipv6Addr>((), kind)
@@ -255,8 +263,8 @@ pub trait ValueDeserialize: Sized + Drop {
         alloc: Global,
         deserializer: BinaryValueDeserializer<'_, S>,
     ) -> Result<Self, DeserializeError>
-        ensures deserializes { Deserializes S.is_known S.left deserializer.entry.reader.now
-            deserializer.exit.1.0.now result
+        ensures deserializes { Deserializes S.is_known S.left S.failures
+            deserializer.entry.reader.now deserializer.exit.1.0.now result
             (EncodedAs is (version_of deserializer.entry.reader.now.version)
             deserializer.entry.kind)
             (refused (version_of deserializer.entry.reader.now.version) deserializer.entry.kind) };
@@ -269,7 +277,7 @@ impl<S: ByteSource> StoreReader<S> {
     /// Reads the next value: its code, and what stands behind it. Errors: those of `BinaryValueDeserializer::from_reader` and of
     /// the type's own `deserialize`. Each is marked, whoever it is of, so that every later read returns `AlreadyFailed`.
     pub fn read<V: ValueDeserialize>(&mut self, alloc: Global) -> Result<V, DeserializeError>
-        ensures deserializes { Deserializes S.is_known S.left self.old self.new result
+        ensures deserializes { Deserializes S.is_known S.left S.failures self.old self.new result
             (EncodesAs V.is (version_of self.old.version))
             (NextRefused V.refused (version_of self.old.version)) }
         ensures only { Only S.is_known S.left self.old self.new result V.is
@@ -291,7 +299,7 @@ impl<S: ByteSource> StoreReader<S> {
         &mut self,
         alloc: Global,
     ) -> Result<(String, V), DeserializeError>
-        ensures deserializes { Deserializes S.is_known S.left self.old self.new result
+        ensures deserializes { Deserializes S.is_known S.left S.failures self.old self.new result
             (EncodesEntry V.is (version_of self.old.version))
             (EntryRefused V.refused (version_of self.old.version)) }
         ensures marks { OnErr result (self.new.has_failed ≡ true) }
@@ -311,8 +319,8 @@ impl ValueDeserialize for u64 {
         _alloc: Global,
         deserializer: BinaryValueDeserializer<'_, S>,
     ) -> Result<u64, DeserializeError>
-        ensures deserializes { Deserializes S.is_known S.left deserializer.entry.reader.now
-            deserializer.exit.1.0.now result
+        ensures deserializes { Deserializes S.is_known S.left S.failures
+            deserializer.entry.reader.now deserializer.exit.1.0.now result
             (EncodedAs (IsLeaf (λ n. unsigned n)) (version_of deserializer.entry.reader.now.version)
             deserializer.entry.kind)
             (LeafRefused types.U64 (version_of deserializer.entry.reader.now.version)
@@ -341,8 +349,8 @@ impl ValueDeserialize for i64 {
         _alloc: Global,
         deserializer: BinaryValueDeserializer<'_, S>,
     ) -> Result<i64, DeserializeError>
-        ensures deserializes { Deserializes S.is_known S.left deserializer.entry.reader.now
-            deserializer.exit.1.0.now result
+        ensures deserializes { Deserializes S.is_known S.left S.failures
+            deserializer.entry.reader.now deserializer.exit.1.0.now result
             (EncodedAs (IsLeaf (λ z. signed z)) (version_of deserializer.entry.reader.now.version)
             deserializer.entry.kind)
             (LeafRefused types.I64 (version_of deserializer.entry.reader.now.version)
@@ -371,8 +379,8 @@ impl ValueDeserialize for bool {
         _alloc: Global,
         deserializer: BinaryValueDeserializer<'_, S>,
     ) -> Result<bool, DeserializeError>
-        ensures deserializes { Deserializes S.is_known S.left deserializer.entry.reader.now
-            deserializer.exit.1.0.now result
+        ensures deserializes { Deserializes S.is_known S.left S.failures
+            deserializer.entry.reader.now deserializer.exit.1.0.now result
             (EncodedAs (IsLeaf (λ b. boolean b)) (version_of deserializer.entry.reader.now.version)
             deserializer.entry.kind)
             (LeafRefused types.Bool (version_of deserializer.entry.reader.now.version)
@@ -401,8 +409,8 @@ impl ValueDeserialize for String {
         alloc: Global,
         deserializer: BinaryValueDeserializer<'_, S>,
     ) -> Result<String, DeserializeError>
-        ensures deserializes { Deserializes S.is_known S.left deserializer.entry.reader.now
-            deserializer.exit.1.0.now result
+        ensures deserializes { Deserializes S.is_known S.left S.failures
+            deserializer.entry.reader.now deserializer.exit.1.0.now result
             (EncodedAs (IsLeaf (λ s. text (string_bytes s)))
             (version_of deserializer.entry.reader.now.version) deserializer.entry.kind)
             (LeafRefused types.String (version_of deserializer.entry.reader.now.version)
@@ -431,8 +439,8 @@ impl ValueDeserialize for Facet {
         alloc: Global,
         deserializer: BinaryValueDeserializer<'_, S>,
     ) -> Result<Facet, DeserializeError>
-        ensures deserializes { Deserializes S.is_known S.left deserializer.entry.reader.now
-            deserializer.exit.1.0.now result
+        ensures deserializes { Deserializes S.is_known S.left S.failures
+            deserializer.entry.reader.now deserializer.exit.1.0.now result
             (EncodedAs (IsLeaf (λ f. facet f)) (version_of deserializer.entry.reader.now.version)
             deserializer.entry.kind)
             (LeafRefused types.Facet (version_of deserializer.entry.reader.now.version)
@@ -461,8 +469,8 @@ impl ValueDeserialize for Vec<u8> {
         alloc: Global,
         deserializer: BinaryValueDeserializer<'_, S>,
     ) -> Result<Vec<u8>, DeserializeError>
-        ensures deserializes { Deserializes S.is_known S.left deserializer.entry.reader.now
-            deserializer.exit.1.0.now result
+        ensures deserializes { Deserializes S.is_known S.left S.failures
+            deserializer.entry.reader.now deserializer.exit.1.0.now result
             (EncodedAs (IsLeaf (λ v. bytes v.items))
             (version_of deserializer.entry.reader.now.version) deserializer.entry.kind)
             (LeafRefused types.Bytes (version_of deserializer.entry.reader.now.version)
@@ -491,8 +499,8 @@ impl ValueDeserialize for DateTime {
         _alloc: Global,
         deserializer: BinaryValueDeserializer<'_, S>,
     ) -> Result<DateTime, DeserializeError>
-        ensures deserializes { Deserializes S.is_known S.left deserializer.entry.reader.now
-            deserializer.exit.1.0.now result
+        ensures deserializes { Deserializes S.is_known S.left S.failures
+            deserializer.entry.reader.now deserializer.exit.1.0.now result
             (EncodedAs (IsLeaf (λ d. date d.nanoseconds))
             (version_of deserializer.entry.reader.now.version) deserializer.entry.kind)
             (LeafRefused types.DateTime (version_of deserializer.entry.reader.now.version)
@@ -521,8 +529,8 @@ impl ValueDeserialize for Ipv6Addr {
         _alloc: Global,
         deserializer: BinaryValueDeserializer<'_, S>,
     ) -> Result<Ipv6Addr, DeserializeError>
-        ensures deserializes { Deserializes S.is_known S.left deserializer.entry.reader.now
-            deserializer.exit.1.0.now result
+        ensures deserializes { Deserializes S.is_known S.left S.failures
+            deserializer.entry.reader.now deserializer.exit.1.0.now result
             (EncodedAs (IsLeaf (λ a. ip_address (ipv6_bits a)))
             (version_of deserializer.entry.reader.now.version) deserializer.entry.kind)
             (LeafRefused types.IpAddr (version_of deserializer.entry.reader.now.version)
@@ -551,8 +559,8 @@ impl ValueDeserialize for PreTokenizedString {
         alloc: Global,
         deserializer: BinaryValueDeserializer<'_, S>,
     ) -> Result<PreTokenizedString, DeserializeError>
-        ensures deserializes { Deserializes S.is_known S.left deserializer.entry.reader.now
-            deserializer.exit.1.0.now result
+        ensures deserializes { Deserializes S.is_known S.left S.failures
+            deserializer.entry.reader.now deserializer.exit.1.0.now result
             (EncodedAs (IsLeaf (λ s. tokenized (string_bytes s.text) (map token_of s.tokens.items)))
             (version_of deserializer.entry.reader.now.version) deserializer.entry.kind)
             (LeafRefused types.PreTokStr (version_of deserializer.entry.reader.now.version)
@@ -582,8 +590,8 @@ impl ValueDeserialize for OwnedValue {
         alloc: Global,
         deserializer: BinaryValueDeserializer<'_, S>,
     ) -> Result<OwnedValue, DeserializeError>
-        ensures deserializes { Deserializes S.is_known S.left deserializer.entry.reader.now
-            deserializer.exit.1.0.now result
+        ensures deserializes { Deserializes S.is_known S.left S.failures
+            deserializer.entry.reader.now deserializer.exit.1.0.now result
             (EncodedAs IsTree (version_of deserializer.entry.reader.now.version)
             deserializer.entry.kind)
             (TreeRefused (version_of deserializer.entry.reader.now.version)

@@ -1,11 +1,14 @@
 //! Documents in a store, whose pairs are read one after the other.
 
-ghost use Rattle.std.specs.Prelude.{◌≡◌, ◌+◌, ◌-◌, List, ℕ, false, true, Ok, Err, OnErr, IfOk};
-ghost use Rattle.std.specs.Prelude.{IfErr, if◌then◌else◌};
+ghost use Rattle.std.specs.Prelude.{◌≡◌, ◌+◌, ◌-◌, List, ℕ, Bool, false, true, Ok, Err, OnErr};
+ghost use Rattle.std.specs.Prelude.{is_err, IfOk, IfErr, IsErrOf, if◌then◌else◌};
 ghost use Rattle.std.specs.Borrow.{sem, RestsIfErr};
 ghost use Rattle.tv_base.specs.Number.{VNum};
+ghost use Rattle.tv_base.specs.Source.{Failures};
+ghost use Rattle.tv_base.specs.Stop.{Counts};
 ghost use Rattle.tv_reader.specs.Version.{version_of};
 ghost use Rattle.tv_reader.specs.declared.error.DeserializeError.{DeserializeError};
+ghost use Rattle.tv_reader.specs.declared.error.DeserializeError.TheVariants as errors;
 ghost use Rattle.tv_reader.specs.declared.value_type.ValueType.{ValueType};
 ghost use Rattle.tv_value.specs.InputError.{SmallField};
 ghost use Rattle.tv_value.specs.Tree.{Tree};
@@ -13,7 +16,7 @@ ghost use Rattle.tv_value.specs.Version.{Version};
 ghost use Rattle.tv_typed.specs.Documents.{NextField, GivesPair, RefusesPair, EncodesField};
 ghost use Rattle.tv_typed.specs.Documents.{FieldRefused, FieldNumberRefused, NumberRefused};
 ghost use Rattle.tv_typed.specs.Lists.{NextItem, NextItemRefused, gives_some};
-ghost use Rattle.tv_typed.specs.Typed.{Reads, Deserializes};
+ghost use Rattle.tv_typed.specs.Typed.{typed_stop, Reads, Deserializes};
 ghost use Rattle.tv_typed.specs.contracts.store_reader.StoreReader.{the_row};
 
 use crate::de::ValueDeserialize;
@@ -43,23 +46,47 @@ pub trait DocumentDeserializer: Drop {
     ghost refuses: { Self → (Version → ValueType → List ℕ → DeserializeError → Type 0)
         → DeserializeError → Type 0 };
 
+    /// Whether a read through it was refused, so that each later one returns `AlreadyFailed`.
+    ghost has_failed: { Self → Bool };
+
+    /// How many reads of what it reads from have failed, and of what kind the last failure was.
+    ghost failures: { Self → Failures };
+
+    /// The ghost name of what it borrows to read from. Where it borrows nothing, any number.
+    ghost borrow_name: { Self → ℕ };
+
     /// How many pairs are announced, however many were given.
     fn size_hint(&self) -> usize
         ensures { result ≡ announced self.now };
 
-    /// Reads the next pair, its value as one of this type. None where all were given. The errors are those that `refuses` allows.
+    /// Reads the next pair, its value as one of this type. None where all were given. The errors are those that `refuses` allows. Each is
+    /// marked.
     fn next_field<V: ValueDeserialize>(
         &mut self,
         alloc: Global,
     ) -> Result<Option<(Field, V)>, DeserializeError>
         ensures gives { IfOk result (NextField remaining is_known gives V.is self.old self.new) }
-        ensures refuses { IfErr result (λ e. refuses self.old V.refused e) };
+        ensures refuses { IfErr result (λ e. refuses self.old V.refused e) }
+        ensures marks { has_failed self.new ≡ is_err result }
+        ensures counts { has_failed self.old ≡ false
+            → Counts typed_stop result (failures self.old) (failures self.new) }
+        ensures closed { has_failed self.old ≡ true
+            → IsErrOf result errors.AlreadyFailed × (failures self.new ≡ failures self.old) }
+        ensures same_reader { borrow_name self.new ≡ borrow_name self.old };
+
+    /// Marks what it reads from as refused: the pair that it gave last can't be kept.
+    fn refuse(&mut self)
+        ensures marks { has_failed self.new ≡ true }
+        ensures counts { failures self.new ≡ failures self.old }
+        ensures same_reader { borrow_name self.new ≡ borrow_name self.old };
 }
 
 impl<S: ByteSource> StoreReader<S> {
     // Takes the number of a document's pairs.
     pub(crate) fn pair_count(&mut self) -> Result<u64, DeserializeError>
-        ensures { Reads S.is_known S.left S.failures self.old self.new result VNum NumberRefused }
+        ensures reads { Reads S.is_known S.left S.failures self.old self.new result VNum
+            NumberRefused }
+        ensures spares { ¬ IsErrOf result errors.Memory }
     {
         self.go_on()?;
         let answer = take_vint(&mut self.source, &mut self.count);
@@ -68,8 +95,9 @@ impl<S: ByteSource> StoreReader<S> {
 
     // Takes the field of a pair.
     pub(crate) fn field(&mut self) -> Result<u32, DeserializeError>
-        ensures { Reads S.is_known S.left S.failures self.old self.new result SmallField
+        ensures reads { Reads S.is_known S.left S.failures self.old self.new result SmallField
             FieldNumberRefused }
+        ensures spares { ¬ IsErrOf result errors.Memory }
     {
         self.go_on()?;
         let answer = take_field(&mut self.source, &mut self.count);
@@ -82,7 +110,7 @@ impl<S: ByteSource> StoreReader<S> {
         &mut self,
         alloc: Global,
     ) -> Result<(Field, V), DeserializeError>
-        ensures deserializes { Deserializes S.is_known S.left self.old self.new result
+        ensures deserializes { Deserializes S.is_known S.left S.failures self.old self.new result
             (EncodesField V.is (version_of self.old.version))
             (FieldRefused V.refused (version_of self.old.version)) }
         ensures marks { OnErr result (self.new.has_failed ≡ true) }
@@ -117,6 +145,7 @@ impl<'de, S: ByteSource> BinaryDocumentDeserializer<'de, S> {
             (λ d. Reads S.is_known S.left S.failures reader.entry.now d.reader.now (Ok d.announced)
             VNum NumberRefused) }
         ensures first { IfOk result (λ d. d.position ≡ 0) }
+        ensures spares { ¬ IsErrOf result errors.Memory }
     {
         let announced = reader.pair_count()?;
         Ok(BinaryDocumentDeserializer {
@@ -136,8 +165,14 @@ impl<'de, S: ByteSource> DocumentDeserializer for BinaryDocumentDeserializer<'de
 
     ghost gives = { λ old pair new. GivesPair S.left old.reader.now pair new.reader.now };
 
-    ghost refuses = { λ d refused. RefusesPair S.is_known S.left d.position d.announced d.reader.now
-        refused };
+    ghost refuses = { λ d refused. RefusesPair S.is_known S.left S.failures d.position d.announced
+        d.reader.now refused };
+
+    ghost has_failed = { λ d. d.reader.now.has_failed };
+
+    ghost failures = { λ d. S.failures d.reader.now.source };
+
+    ghost borrow_name = { λ d. d.reader.ghost_name };
 
     fn size_hint(&self) -> usize {
         self.announced as usize
@@ -156,19 +191,25 @@ impl<'de, S: ByteSource> DocumentDeserializer for BinaryDocumentDeserializer<'de
             (λ old pair new. GivesPair S.left old.reader.now pair new.reader.now) V.is self.old
             self.new) }
         ensures refuses { IfErr result
-            (λ e. RefusesPair S.is_known S.left self.old.position self.old.announced
+            (λ e. RefusesPair S.is_known S.left S.failures self.old.position self.old.announced
             self.old.reader.now V.refused e) }
         ensures same_reader { self.new.reader.ghost_name ≡ self.old.reader.ghost_name }
         ensures announced { self.new.announced ≡ self.old.announced }
         ensures position { self.new.position
             ≡ self.old.position + (if gives_some result then 1 else 0) }
-        ensures deserializes { Deserializes S.is_known S.left self.old.reader.now
+        ensures deserializes { Deserializes S.is_known S.left S.failures self.old.reader.now
             self.new.reader.now result
             (NextItem (EncodesField V.is (version_of self.old.reader.now.version)) self.old.position
             self.old.announced)
             (NextItemRefused (FieldRefused V.refused (version_of self.old.reader.now.version))
             self.old.position self.old.announced) }
-        ensures marks { OnErr result (self.new.reader.now.has_failed ≡ true) }
+        ensures marks { self.new.reader.now.has_failed ≡ is_err result }
+        ensures counts { self.old.reader.now.has_failed ≡ false
+            → Counts typed_stop result (S.failures self.old.reader.now.source)
+            (S.failures self.new.reader.now.source) }
+        ensures closed { self.old.reader.now.has_failed ≡ true
+            → IsErrOf result errors.AlreadyFailed
+            × (S.failures self.new.reader.now.source ≡ S.failures self.old.reader.now.source) }
     {
         self.reader.go_on()?;
         if self.position >= self.announced {
@@ -177,5 +218,18 @@ impl<'de, S: ByteSource> DocumentDeserializer for BinaryDocumentDeserializer<'de
         let pair = self.reader.pair::<V>(alloc)?;
         self.position += 1;
         Ok(Some(pair))
+    }
+
+    /// Marks the reader as refused. Nothing is taken.
+    fn refuse(&mut self)
+        ensures same_reader { self.new.reader.ghost_name ≡ self.old.reader.ghost_name }
+        ensures announced { self.new.announced ≡ self.old.announced }
+        ensures position { self.new.position ≡ self.old.position }
+        ensures marks { self.new.reader.now.has_failed ≡ true }
+        ensures counts { S.failures self.new.reader.now.source
+            ≡ S.failures self.old.reader.now.source }
+        ensures rest { self.new.reader.now ≡ record self.old.reader.now { has_failed = true } }
+    {
+        self.reader.has_failed = true;
     }
 }

@@ -1,10 +1,12 @@
 //! What is read and handed on of one type of values, in the same way for each.
 
-ghost use Rattle.std.specs.Prelude.{◌≡◌, true};
+ghost use Rattle.std.specs.Prelude.{◌≡◌, Bool, true, false, IsErrOf};
 ghost use Rattle.tv_base.specs.Take.{TakesBy};
+ghost use Rattle.tv_base.specs.declared.read_error.ReadError.TheVariants as reads;
 ghost use Rattle.tv_reader.specs.Leaves.{is_leaf_type, leaf_at};
 ghost use Rattle.tv_reader.specs.ValueType.{coded};
 ghost use Rattle.tv_reader.specs.Version.{version_of};
+ghost use Rattle.tv_reader.specs.declared.error.DeserializeError.TheVariants as errors;
 ghost use Rattle.tv_reader.specs.declared.value_type.ValueType.{ValueType};
 ghost use Rattle.tv_typed.specs.Excluding.{leaf_type};
 ghost use Rattle.tv_typed.specs.Typed.{Reads, Deserializes};
@@ -21,6 +23,9 @@ use tv_reader::{DeserializeError, DocStoreVersion, ValueType};
 pub(crate) trait LeafValue: Sized + Drop {
     /// What its memory comes from, where it takes any.
     type Alloc: Copy;
+
+    /// Whether any is taken.
+    ghost takes_memory: { Bool };
 
     /// The type of the values.
     ghost expected: { ValueType };
@@ -42,8 +47,9 @@ pub(crate) trait LeafValue: Sized + Drop {
         count: &mut u64,
         version: DocStoreVersion,
     ) -> Result<Self, ReadError>
-        ensures { TakesBy S.is_known S.left S.failures source.old count.old source.new count.new
-            (λ x. leaf (make x)) result (leaf_at (version_of version) expected) };
+        ensures takes { TakesBy S.is_known S.left S.failures source.old count.old source.new
+            count.new (λ x. leaf (make x)) result (leaf_at (version_of version) expected) }
+        ensures spares { takes_memory ≡ false → ¬ IsErrOf result reads.Memory };
 
     /// Hands it to a visitor's call for its type.
     fn visit<V: ValueVisitor>(self, visitor: &V) -> Result<V::Value, DeserializeError>
@@ -62,9 +68,10 @@ impl<S: ByteSource> StoreReader<S> {
             (LeafRefused T.expected (version_of self.old.version) kind) }
         ensures only { Only S.is_known S.left self.old self.new result (IsLeaf T.make)
             (version_of self.old.version) (coded kind) }
-        ensures deserializes { Deserializes S.is_known S.left self.old self.new result
+        ensures deserializes { Deserializes S.is_known S.left S.failures self.old self.new result
             (EncodedAs (IsLeaf T.make) (version_of self.old.version) kind)
             (LeafRefused T.expected (version_of self.old.version) kind) }
+        ensures spares { T.takes_memory ≡ false → ¬ IsErrOf result errors.Memory }
     {
         self.expect(kind, T::value_type())?;
         let answer = T::take(alloc, &mut self.source, &mut self.count, self.version);

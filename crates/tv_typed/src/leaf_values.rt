@@ -2,7 +2,7 @@
 
 #![tactic(auto, using(tv_base::proofs::TakeSteps::Taken_then), unfolding(tv_reader::specs::Leaves::leaf_at))]
 
-ghost use Rattle.std.specs.Prelude.{◌≡◌, string_bytes, map, true, refl};
+ghost use Rattle.std.specs.Prelude.{◌≡◌, string_bytes, map, true, false, refl};
 ghost use Rattle.std.specs.Net.Addr.{ipv6_bits};
 ghost use Rattle.tv_reader.specs.Leaves.{is_leaf_type};
 ghost use Rattle.tv_reader.specs.declared.value_type.ValueType.TheVariants as types;
@@ -25,6 +25,8 @@ use tv_value::tokenizer::PreTokenizedString;
 
 impl LeafValue for () {
     type Alloc = ();
+
+    ghost takes_memory = { false };
 
     ghost expected = { types.Null };
 
@@ -53,6 +55,8 @@ impl LeafValue for () {
 impl LeafValue for u64 {
     type Alloc = ();
 
+    ghost takes_memory = { false };
+
     ghost expected = { types.U64 };
 
     ghost make = { λ n. unsigned n };
@@ -79,6 +83,8 @@ impl LeafValue for u64 {
 
 impl LeafValue for i64 {
     type Alloc = ();
+
+    ghost takes_memory = { false };
 
     ghost expected = { types.I64 };
 
@@ -107,6 +113,8 @@ impl LeafValue for i64 {
 impl LeafValue for bool {
     type Alloc = ();
 
+    ghost takes_memory = { false };
+
     ghost expected = { types.Bool };
 
     ghost make = { λ b. boolean b };
@@ -133,6 +141,8 @@ impl LeafValue for bool {
 
 impl LeafValue for String {
     type Alloc = Global;
+
+    ghost takes_memory = { true };
 
     ghost expected = { types.String };
 
@@ -161,6 +171,8 @@ impl LeafValue for String {
 impl LeafValue for Facet {
     type Alloc = Global;
 
+    ghost takes_memory = { true };
+
     ghost expected = { types.Facet };
 
     ghost make = { λ f. facet f };
@@ -187,6 +199,8 @@ impl LeafValue for Facet {
 
 impl LeafValue for Vec<u8> {
     type Alloc = Global;
+
+    ghost takes_memory = { true };
 
     ghost expected = { types.Bytes };
 
@@ -215,6 +229,8 @@ impl LeafValue for Vec<u8> {
 impl LeafValue for DateTime {
     type Alloc = ();
 
+    ghost takes_memory = { false };
+
     ghost expected = { types.DateTime };
 
     ghost make = { λ d. date d.nanoseconds };
@@ -242,6 +258,8 @@ impl LeafValue for DateTime {
 impl LeafValue for Ipv6Addr {
     type Alloc = ();
 
+    ghost takes_memory = { false };
+
     ghost expected = { types.IpAddr };
 
     ghost make = { λ a. ip_address (ipv6_bits a) };
@@ -268,6 +286,8 @@ impl LeafValue for Ipv6Addr {
 
 impl LeafValue for PreTokenizedString {
     type Alloc = Global;
+
+    ghost takes_memory = { true };
 
     ghost expected = { types.PreTokStr };
 

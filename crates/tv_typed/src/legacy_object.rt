@@ -32,7 +32,7 @@ pub(crate) trait CodedObject: Sized + Drop {
         kind: ValueType,
         reader: &mut StoreReader<S>,
     ) -> Result<Self, DeserializeError>
-        ensures { Deserializes S.is_known S.left reader.old reader.new result
+        ensures { Deserializes S.is_known S.left S.failures reader.old reader.new result
             (EncodedAs is (version_of reader.old.version) kind)
             (refused (version_of reader.old.version) kind) };
 }
@@ -42,7 +42,7 @@ fn next_object<V: CodedObject, S: ByteSource>(
     alloc: Global,
     reader: &mut StoreReader<S>,
 ) -> Result<V, DeserializeError>
-    ensures { Deserializes S.is_known S.left reader.old reader.new result
+    ensures { Deserializes S.is_known S.left S.failures reader.old reader.new result
         (EncodesAs V.is (version_of reader.old.version))
         (NextRefused V.refused (version_of reader.old.version)) }
 {
@@ -79,7 +79,7 @@ fn legacy_object<V: CodedObject, S: ByteSource>(
     alloc: Global,
     reader: &mut StoreReader<S>,
 ) -> Result<V, DeserializeError>
-    ensures { Deserializes S.is_known S.left reader.old reader.new result
+    ensures { Deserializes S.is_known S.left S.failures reader.old reader.new result
         (EncodedAs V.is (version_of reader.old.version) types.JSONObject)
         (LegacyRefused V.refused (version_of reader.old.version)) }
 {
@@ -95,7 +95,7 @@ pub(crate) fn read_object<V: CodedObject, S: ByteSource>(
     kind: ValueType,
     reader: &mut StoreReader<S>,
 ) -> Result<V, DeserializeError>
-    ensures { Deserializes S.is_known S.left reader.old reader.new result
+    ensures { Deserializes S.is_known S.left S.failures reader.old reader.new result
         (EncodedAs V.is (version_of reader.old.version) kind)
         (MembersRefused V.refused (version_of reader.old.version) kind) }
 {

@@ -25,7 +25,7 @@ pub(crate) fn read_entries<T: ValueDeserialize, S: ByteSource>(
     announced: u64,
 ) -> Result<Vec<(String, T)>, DeserializeError>
     requires { reader.old.has_failed ≡ false }
-    ensures { Deserializes S.is_known S.left reader.old reader.new result
+    ensures { Deserializes S.is_known S.left S.failures reader.old reader.new result
         (EncodesInto (λ items xs. items.items ≡ xs)
         (EncodesEntry T.is (version_of reader.old.version)) announced)
         (InEach (EntryRefused T.refused (version_of reader.old.version))
@@ -65,7 +65,7 @@ pub(crate) fn read_map<T: ValueDeserialize, S: ByteSource>(
     announced: u64,
 ) -> Result<BTreeMap<String, T>, DeserializeError>
     requires { reader.old.has_failed ≡ false }
-    ensures { Deserializes S.is_known S.left reader.old reader.new result
+    ensures { Deserializes S.is_known S.left S.failures reader.old reader.new result
         (EncodesInto (λ map xs. GivesLast (λ key. tree.get_by_text map key) xs)
         (EncodesEntry T.is (version_of reader.old.version)) announced)
         (InEach (EntryRefused T.refused (version_of reader.old.version))
@@ -104,7 +104,7 @@ pub(crate) fn read_hashed<T: ValueDeserialize, S: ByteSource>(
     announced: u64,
 ) -> Result<HashMap<String, T>, DeserializeError>
     requires { reader.old.has_failed ≡ false }
-    ensures { Deserializes S.is_known S.left reader.old reader.new result
+    ensures { Deserializes S.is_known S.left S.failures reader.old reader.new result
         (EncodesInto (λ map xs. GivesLast (λ key. hash.get_by_text map key) xs)
         (EncodesEntry T.is (version_of reader.old.version)) announced)
         (InEach (EntryRefused T.refused (version_of reader.old.version))
@@ -146,7 +146,7 @@ impl<'de, S: ByteSource> BinaryObjectDeserializer<'de, S> {
         ensures announced { self.new.announced ≡ self.old.announced }
         ensures position { self.new.position
             ≡ self.old.position + (if gives_some result then 1 else 0) }
-        ensures deserializes { Deserializes S.is_known S.left self.old.reader.now
+        ensures deserializes { Deserializes S.is_known S.left S.failures self.old.reader.now
             self.new.reader.now result
             (NextItem (EncodesEntry V.is (version_of self.old.reader.now.version)) self.old.position
             self.old.announced)

@@ -1,6 +1,7 @@
 //! A source that is read as a store of one version.
 
-ghost use Rattle.std.specs.Prelude.{◌≡◌, true, false, is_err, IfErr, OnOk, OnErr, string_bytes};
+ghost use Rattle.std.specs.Prelude.{◌≡◌, true, false, is_err, IfErr, IsErrOf, OnOk, OnErr};
+ghost use Rattle.std.specs.Prelude.{string_bytes};
 ghost use Rattle.tv_reader.specs.ValueType.{IsCoded};
 ghost use Rattle.tv_reader.specs.Version.{version_of};
 ghost use Rattle.tv_reader.specs.declared.value_type.ValueType.TheVariants as types;
@@ -136,7 +137,9 @@ impl<S: ByteSource> StoreReader<S> {
 
     // Takes all that stands before the next value.
     pub(crate) fn code(&mut self) -> Result<ValueType, DeserializeError>
-        ensures { Reads S.is_known S.left S.failures self.old self.new result IsCoded CodeRefused }
+        ensures reads { Reads S.is_known S.left S.failures self.old self.new result IsCoded
+            CodeRefused }
+        ensures spares { ¬ IsErrOf result errors.Memory }
     {
         self.go_on()?;
         let answer = take_kind(&mut self.source, &mut self.count);
@@ -168,8 +171,9 @@ impl<S: ByteSource> StoreReader<S> {
 
     // Takes the number of an array's values, behind its code.
     pub(crate) fn array_length(&mut self, kind: ValueType) -> Result<u64, DeserializeError>
-        ensures { Reads S.is_known S.left S.failures self.old self.new result
+        ensures reads { Reads S.is_known S.left S.failures self.old self.new result
             (Length types.Array element_total kind) (LengthRefused types.Array element_total kind) }
+        ensures spares { ¬ IsErrOf result errors.Memory }
     {
         self.expect_collection(kind, ValueType::Array)?;
         let answer = take_vint(&mut self.source, &mut self.count);
@@ -178,9 +182,10 @@ impl<S: ByteSource> StoreReader<S> {
 
     // Takes the number of an object's entries, behind its code.
     pub(crate) fn object_length(&mut self, kind: ValueType) -> Result<u64, DeserializeError>
-        ensures { Reads S.is_known S.left S.failures self.old self.new result
+        ensures reads { Reads S.is_known S.left S.failures self.old self.new result
             (Length types.Object (entry_total (version_of self.old.version)) kind)
             (LengthRefused types.Object (entry_total (version_of self.old.version)) kind) }
+        ensures spares { ¬ IsErrOf result errors.Memory }
     {
         self.expect_collection(kind, ValueType::Object)?;
         let answer = take_half(&mut self.source, &mut self.count);

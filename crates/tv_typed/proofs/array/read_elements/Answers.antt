@@ -7,7 +7,7 @@ use Rattle.tv_typed.proofs.ListSteps.{at_version, next_ended}
 use Rattle.tv_typed.proofs.array.read_elements.Goals as goal
 
 pub loop-init : goal.loop-init
-loop-init g c = into_none _ _ c.args.reader.now _ (λ items xs. items.items ≡ xs) (EncodesAs g.T.ValueDeserialize.is (version_of c.args.reader.now.version)) c.requires c.new-items.ensures.items
+loop-init g c = into_none _ _ _ c.args.reader.now _ (λ items xs. items.items ≡ xs) (EncodesAs g.T.ValueDeserialize.is (version_of c.args.reader.now.version)) c.requires c.new-items.ensures.items
 
 pub returns-in_err-item : goal.returns-in_err-item
 returns-in_err-item g c =

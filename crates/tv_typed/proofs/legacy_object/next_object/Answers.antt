@@ -7,9 +7,9 @@ pub returns-in_err-kind : goal.returns-in_err-kind
 returns-in_err-kind g c =
     let p = err_from_is_err_and c.from_residual.result c.from_residual.ensures.1 in
     let V = g.V.CodedObject in
-    rw (p.1, p.2) (next_code_fails V.is V.refused (version_of c.args.reader.now.version) c.in_err-kind.ensures)
+    rw (p.1, p.2) (next_code_fails V.is V.refused (version_of c.args.reader.now.version) c.in_err-kind.ensures.reads)
 
 pub returns : goal.returns
 returns g c =
     let V = g.V.CodedObject in
-    next_then V.is V.refused c.in_ok-kind.ensures c.behind.ensures
+    next_then V.is V.refused c.in_ok-kind.ensures.reads c.behind.ensures

@@ -8,7 +8,7 @@ use Rattle.tv_typed.proofs.ListSteps.{at_version, entry_ended}
 use Rattle.tv_typed.proofs.object.read_hashed.Goals as goal
 
 pub loop-init : goal.loop-init
-loop-init g c = into_none _ _ c.args.reader.now _ (λ map xs. GivesLast (λ key. hash.get_by_text map key) xs) (EncodesEntry g.T.ValueDeserialize.is (version_of c.args.reader.now.version)) c.requires (λ key. rw c.new-map.ensures.empty refl)
+loop-init g c = into_none _ _ _ c.args.reader.now _ (λ map xs. GivesLast (λ key. hash.get_by_text map key) xs) (EncodesEntry g.T.ValueDeserialize.is (version_of c.args.reader.now.version)) c.requires (λ key. rw c.new-map.ensures.empty refl)
 
 pub returns-in_err-key : goal.returns-in_err-key
 returns-in_err-key g c =

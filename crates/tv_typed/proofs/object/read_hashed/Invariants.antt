@@ -9,4 +9,4 @@ use Rattle.tv_typed.proofs.object.read_hashed.Given as goal
 abbrev pub invariant-loop : goal.invariant-loop
 invariant-loop g l =
     let source = g.S.ByteSource in
-    Deserializes source.is_known source.left l.initial.reader l.reader (Ok l.map) (EncodesInto (λ map xs. GivesLast (λ key. hash.get_by_text map key) xs) (EncodesEntry g.T.ValueDeserialize.is (version_of l.initial.reader.version)) l.counter) (λ w e. ⊥)
+    Deserializes source.is_known source.left source.failures l.initial.reader l.reader (Ok l.map) (EncodesInto (λ map xs. GivesLast (λ key. hash.get_by_text map key) xs) (EncodesEntry g.T.ValueDeserialize.is (version_of l.initial.reader.version)) l.counter) (λ w e. ⊥)

@@ -14,9 +14,9 @@ returns-in_err-announced g c =
     let p = err_from_is_err_and c.from_residual.result c.from_residual.ensures.1 in
     let T = g.T.ValueDeserialize in
     let v = version_of c.args.reader.now.version in
-    rw (p.1, p.2) (collection_fails types.Object (entry_total v) c.args.kind (EncodesEntry T.is v) (EntryRefused T.refused v) (EncodedAs (λ t map. MapOf T.is t (λ key. tree.get_by_text map key)) v c.args.kind) c.in_err-announced.ensures)
+    rw (p.1, p.2) (collection_fails types.Object (entry_total v) c.args.kind (EncodesEntry T.is v) (EntryRefused T.refused v) (EncodedAs (λ t map. MapOf T.is t (λ key. tree.get_by_text map key)) v c.args.kind) c.in_err-announced.ensures.reads)
 
 pub returns : goal.returns
 returns g c =
     let T = g.T.ValueDeserialize in
-    goes_told c.is_err-reader.result c.is_err-reader.ensures.value (object_then T.is T.refused (λ t map. MapOf T.is t (λ key. tree.get_by_text map key)) (λ map xs. GivesLast (λ key. tree.get_by_text map key) xs) (λ t map xs last o. record { pairs = xs; read = o; last = last }) c.args.kind c.in_ok-announced.ensures c.read_map-answer.ensures)
+    goes_told c.is_err-reader.result c.is_err-reader.ensures.value (object_then T.is T.refused (λ t map. MapOf T.is t (λ key. tree.get_by_text map key)) (λ map xs. GivesLast (λ key. tree.get_by_text map key) xs) (λ t map xs last o. record { pairs = xs; read = o; last = last }) c.args.kind c.in_ok-announced.ensures.reads c.read_map-answer.ensures)

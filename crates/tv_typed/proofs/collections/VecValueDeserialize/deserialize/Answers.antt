@@ -12,9 +12,9 @@ returns-in_err-announced-clause-deserializes g c =
     let p = err_from_is_err_and c.from_residual.result c.from_residual.ensures.1 in
     let T = g.T.ValueDeserialize in
     let v = version_of c.args.deserializer.reader.now.version in
-    rw (p.1, p.2) (collection_fails types.Array element_total c.args.deserializer.kind (EncodesAs T.is v) (NextRefused T.refused v) (EncodedAs (λ t list. ArrayOf T.is t list.items) v c.args.deserializer.kind) c.in_err-announced.ensures)
+    rw (p.1, p.2) (collection_fails types.Array element_total c.args.deserializer.kind (EncodesAs T.is v) (NextRefused T.refused v) (EncodedAs (λ t list. ArrayOf T.is t list.items) v c.args.deserializer.kind) c.in_err-announced.ensures.reads)
 
 pub returns-clause-deserializes : goal.returns-clause-deserializes
 returns-clause-deserializes g c =
     let T = g.T.ValueDeserialize in
-    goes_told c.is_err-reader.result c.is_err-reader.ensures.value (array_then T.is T.refused c.args.deserializer.kind c.in_ok-announced.ensures c.read_elements-answer.ensures)
+    goes_told c.is_err-reader.result c.is_err-reader.ensures.value (array_then T.is T.refused c.args.deserializer.kind c.in_ok-announced.ensures.reads c.read_elements-answer.ensures)

@@ -11,7 +11,7 @@ returns-in_err-go_on-clause-refuses g c =
     let p = err_from_is_err_and c.from_residual.result c.from_residual.ensures.1 in
     let d = c.args.self.now in
     let e = c.in_err-go_on.ensures.err in
-    rw (p.1, p.2, e.0) (closed_refused _ _ d.reader.now g.V.ValueDeserialize.refused d.position d.announced e.1)
+    rw (p.1, p.2, e.0) (closed_refused _ _ _ d.reader.now g.V.ValueDeserialize.refused d.position d.announced e.1)
 
 pub returns-in_err-pair-clause-refuses : goal.returns-in_err-pair-clause-refuses
 returns-in_err-pair-clause-refuses g c =

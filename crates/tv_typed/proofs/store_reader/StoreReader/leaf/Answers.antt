@@ -9,7 +9,7 @@ use Rattle.tv_reader.specs.declared.value_type.ValueType.{ValueType}
 use Rattle.tv_reader.proofs.AgreeLeaves.{leaf_agrees}
 use Rattle.tv_value.specs.Tree.{leaf}
 use Rattle.tv_typed.specs.Typed.{IsMismatch}
-use Rattle.tv_typed.proofs.TypedSteps.{leaf_reads, leaf_mismatch}
+use Rattle.tv_typed.proofs.TypedSteps.{leaf_reads, leaf_mismatch, raised_spares, mismatch_spares}
 use Rattle.tv_typed.proofs.DeserializeSteps.{leaf_deserializes, leaf_only}
 use Rattle.tv_typed.proofs.store_reader.StoreReader.leaf.Goals as goal
 
@@ -31,7 +31,7 @@ returns-clause-reads g c =
     let v = version_of c.args.self.now.version in
     let m = c.marked.ensures in
     let S = g.S.ByteSource in
-    let part = subst (λ z. TakesBy S.is_known S.left S.failures c.expect.new.self.source c.expect.new.self.count c.take-answer.new.source c.take-answer.new.count (λ x. leaf (T.make x)) c.take-answer.result (leaf_at (version_of z) T.expected)) e.version c.take-answer.ensures in
+    let part = subst (λ z. TakesBy S.is_known S.left S.failures c.expect.new.self.source c.expect.new.self.count c.take-answer.new.source c.take-answer.new.count (λ x. leaf (T.make x)) c.take-answer.result (leaf_at (version_of z) T.expected)) e.version c.take-answer.ensures.takes in
     leaf_reads c.args.self.now c.expect.new.self c.marked.new.self c.marked.result v c.args.kind T.expected T.make g.met.S.ByteSource.are_bytes (leaf_agrees v T.expected)
     (λ a x h. h) (λ w c f. f) T.typed.0 (subst (λ k. c.args.kind ≡ k) c.value_type.ensures e.ok.2) e.ok.0 e.source e.count e.version part m.source m.count m.version m.marks m.told
 
@@ -46,3 +46,11 @@ returns-in_err-expect-clause-deserializes g c = leaf_deserializes g.T.LeafValue.
 
 pub returns-clause-deserializes : goal.returns-clause-deserializes
 returns-clause-deserializes g c = leaf_deserializes g.T.LeafValue.make (version_of c.args.self.now.version) c.args.kind (returns-clause-reads g c)
+
+pub returns-in_err-expect-clause-spares : goal.returns-in_err-expect-clause-spares
+returns-in_err-expect-clause-spares g c =
+    let p = err_from_is_err_and c.from_residual.result c.from_residual.ensures.1 in
+    λ spared. rw (p.1, p.2) (mismatch_spares (λ same. cc) c.in_err-expect.ensures.err)
+
+pub returns-clause-spares : goal.returns-clause-spares
+returns-clause-spares g c = λ spared. raised_spares c.take-answer.result c.marked.result c.marked.ensures.told (c.take-answer.ensures.spares spared)

@@ -8,17 +8,17 @@ pub returns-in_err-kind-clause-deserializes : goal.returns-in_err-kind-clause-de
 returns-in_err-kind-clause-deserializes g c =
     let p = err_from_is_err_and c.from_residual.result c.from_residual.ensures.1 in
     let V = g.V.ValueDeserialize in
-    rw (p.1, p.2) (next_code_fails V.is V.refused (version_of c.args.self.now.version) c.in_err-kind.ensures)
+    rw (p.1, p.2) (next_code_fails V.is V.refused (version_of c.args.self.now.version) c.in_err-kind.ensures.reads)
 
 pub returns-in-Ok-clause-deserializes : goal.returns-in-Ok-clause-deserializes
 returns-in-Ok-clause-deserializes g c =
     let V = g.V.ValueDeserialize in
-    next_then V.is V.refused c.in_ok-kind.ensures c.in-Ok.ensures.deserializes
+    next_then V.is V.refused c.in_ok-kind.ensures.reads c.in-Ok.ensures.deserializes
 
 pub returns-in-Err-clause-deserializes : goal.returns-in-Err-clause-deserializes
 returns-in-Err-clause-deserializes g c =
     let V = g.V.ValueDeserialize in
-    goes_marked true tt (next_then V.is V.refused c.in_ok-kind.ensures c.in-Err.ensures.deserializes)
+    goes_marked true tt (next_then V.is V.refused c.in_ok-kind.ensures.reads c.in-Err.ensures.deserializes)
 
 pub returns-in_err-kind-clause-only : goal.returns-in_err-kind-clause-only
 returns-in_err-kind-clause-only g c = next_only g.V.ValueDeserialize.is g.V.ValueDeserialize.refused g.met.V.ValueDeserialize.excludes (version_of c.args.self.now.version) (returns-in_err-kind-clause-deserializes g c)

@@ -5,4 +5,4 @@ use Rattle.tv_typed.proofs.store_reader.StoreReader.visit_entries.Goals as goal
 pub returns-in_err-announced : goal.returns-in_err-announced
 returns-in_err-announced g c =
     let p = err_from_is_err_and c.from_residual.result c.from_residual.ensures.1 in
-    rw (p.1, p.2) (items_refused _ c.in_err-announced.ensures)
+    rw (p.1, p.2) (items_refused _ c.in_err-announced.ensures.reads)
