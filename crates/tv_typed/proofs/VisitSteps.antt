@@ -1,7 +1,9 @@
 -- Values that are handed to visitors.
-use Rattle.std.proofs.Common.{◌≡◌, ℕ, Bool, true, false, List, ◌++◌, Result, Ok, Err, refl, sym, ap, subst, ◌∙◌}
+use Rattle.std.proofs.Common.{◌≡◌, ℕ, Bool, true, false, List, ◌++◌, Some, None, Result, Ok, Err, refl, sym, ap, subst, ◌∙◌}
 use Rattle.std.specs.Prelude.{is_err, IsErrOf, OnOk}
 use Rattle.tv_base.specs.Source.{Failures}
+use Rattle.tv_base.specs.Stop.{Stop, CountsStop, Counts}
+use Rattle.tv_base.specs.Stop.Stop.{InputError, Failed, Short, Never}
 use Rattle.tv_value.specs.Encoding.{Encodes, NoLegacy}
 use Rattle.tv_value.specs.Tree.{Leaf, Tree}
 use Rattle.tv_value.specs.Version.{Version}
@@ -17,9 +19,10 @@ use Rattle.tv_typed.specs.Excluding.{malformed_behind}
 use Rattle.tv_typed.specs.Typed.{typed_stop, Reads}
 use Rattle.tv_typed.specs.Values.{IsLeaf, EncodesLeaf, LeafRefused, other_type, in_body, TreeRefused}
 use Rattle.tv_typed.specs.Lists.{Length, LengthRefused}
-use Rattle.tv_typed.specs.Visits.{Answered, Visits, Handed, VisitsItems, VisitsLegacy}
+use Rattle.tv_typed.specs.Visits.{Answered, Visits, Handed, VisitsItems, TellsNoFailure, VisitsLegacy}
 use Rattle.tv_typed.specs.declared.store_reader.StoreReader.{StoreReader}
 use Rattle.tv_typed.proofs.DeserializeSteps.{end, only_by, leaf_deserializes}
+use Rattle.tv_typed.proofs.LegacySteps.{no_failures}
 use Rattle.tv_reader.specs.Finds.{GivesStop}
 
 -- ---- leaves
@@ -103,16 +106,41 @@ pub visits_marked : {S X : Type 0} {is_known : S → Type 0} {left : S → List 
     → Visits is_known left failures old new kind answers (Err e) → Visits is_known left failures old (record new { has_failed = true }) kind answers (Err e)
 visits_marked h = record { read = h.read; reads = h.reads; only = h.only; answered = h.answered; unmarked = tt }
 
-handed_marked : {S X : Type 0} (is_known : S → Type 0) (left : S → List ℕ) (mid new : StoreReader S) (announced : Result ℕ DeserializeError) (result : Result X DeserializeError)
-    → mid.has_failed ≡ is_err announced → Handed is_known left mid new announced result → Handed is_known left mid (record new { has_failed = true }) announced result
-handed_marked is_known left mid new (Ok n) result marks h = record { closed = λ failed. let c = h.closed failed in (refl, c.1, c.2); taken = h.taken; stays_known = h.stays_known; same_version = h.same_version }
-handed_marked {S} is_known left mid new (Err e) result marks h = (h.0, ap (λ (r : StoreReader S). record r { has_failed = true }) h.1 ∙ ap (λ b. record mid { has_failed = b }) (sym marks))
+handed_marked : {S X : Type 0} (is_known : S → Type 0) (left : S → List ℕ) (failures : S → Failures) (mid new : StoreReader S) (announced : Result ℕ DeserializeError) (result : Result X DeserializeError)
+    → mid.has_failed ≡ is_err announced → Handed is_known left failures mid new announced result → Handed is_known left failures mid (record new { has_failed = true }) announced result
+handed_marked is_known left failures mid new (Ok n) result marks h =
+    let t = h.0 in
+    (record { closed = λ failed. let c = t.closed failed in (refl, c.1, c.2); taken = t.taken; stays_known = t.stays_known; same_version = t.same_version }, h.1)
+handed_marked {S} is_known left failures mid new (Err e) result marks h = (h.0, ap (λ (r : StoreReader S). record r { has_failed = true }) h.1 ∙ ap (λ b. record mid { has_failed = b }) (sym marks))
 
 pub items_marked : {S X : Type 0} {is_known : S → Type 0} {left : S → List ℕ} {failures : S → Failures} {old new : StoreReader S} {collection : ValueType} {total : ℕ → ℕ} {kind : ValueType} {result : Result X DeserializeError}
     → VisitsItems is_known left failures old new collection total kind result → VisitsItems is_known left failures old (record new { has_failed = true }) collection total kind result
-items_marked {is_known = is_known} {left = left} {new = new} {result = result} h = record { behind_number = h.behind_number; announced = h.announced; reads = h.reads; handed = handed_marked is_known left h.behind_number new h.announced result h.reads.marks h.handed }
+items_marked {is_known = is_known} {left = left} {failures = failures} {new = new} {result = result} h = record { behind_number = h.behind_number; announced = h.announced; reads = h.reads; handed = handed_marked is_known left failures h.behind_number new h.announced result h.reads.marks h.handed }
 
 -- ---- legacy objects
+
+-- no read of an encoding fails
+stop_calm : (s : Stop DeserializeError) (f : Failures) → CountsStop s no_failures no_failures → CountsStop s f f
+stop_calm (InputError e) f h = refl
+stop_calm (Failed kind) f h = let last : None ≡ Some kind = h.kept in absurd cc
+stop_calm Short f h = refl
+stop_calm Never f h = absurd h
+
+pub error_calm : (e : DeserializeError) → CountsStop (typed_stop e) no_failures no_failures → (f : Failures) → CountsStop (typed_stop e) f f
+error_calm e h f = stop_calm (typed_stop e) f h
+
+calm : {X : Type 0} (result : Result X DeserializeError) → Counts typed_stop result no_failures no_failures → TellsNoFailure result
+calm (Ok x) h f = refl
+calm (Err e) h f = error_calm e h f
+
+handed_calm : {S X : Type 0} (is_known : S → Type 0) (left : S → List ℕ) (mid new : StoreReader S) (announced : Result ℕ DeserializeError) (result : Result X DeserializeError)
+    → Counts typed_stop announced no_failures no_failures → Handed is_known left (λ s. no_failures) mid new announced result → TellsNoFailure result
+handed_calm is_known left mid new (Ok n) result counts h = calm result h.1
+handed_calm is_known left mid new (Err e) result counts h = subst (λ r. TellsNoFailure r) (sym h.0) (error_calm e counts)
+
+pub items_calm : {S X : Type 0} {is_known : S → Type 0} {left : S → List ℕ} {old new : StoreReader S} {collection : ValueType} {total : ℕ → ℕ} {kind : ValueType} {result : Result X DeserializeError}
+    → old.has_failed ≡ false → VisitsItems is_known left (λ s. no_failures) old new collection total kind result → TellsNoFailure result
+items_calm {is_known = is_known} {left = left} {new = new} {result = result} is_open h = handed_calm is_known left h.behind_number new h.announced result (h.reads.finds is_open).counts h.handed
 
 -- what the visitor refused was marked
 pub legacy_marked : {S X : Type 0} {is_known : S → Type 0} {left : S → List ℕ} {failures : S → Failures} {old new : StoreReader S} {e : DeserializeError} → VisitsLegacy {X = X} is_known left failures old new (Err e) → VisitsLegacy {X = X} is_known left failures old (record new { has_failed = true }) (Err e)
@@ -125,5 +153,5 @@ legacy_refused {new = new} e h = record { behind_object = new; read = Err e; rea
 
 -- it was read
 pub legacy_visited : {S X : Type 0} {is_known : S → Type 0} {left : S → List ℕ} {failures : S → Failures} {old new : StoreReader S} (tree : OwnedValue) (result : Result X DeserializeError)
-    → Reads is_known left failures old new (Ok tree) (EncodesBehind (version_of old.version) types.JSONObject) (TreeRefused (version_of old.version) types.JSONObject) → VisitsLegacy is_known left failures old new result
-legacy_visited {new = new} tree result h = record { behind_object = new; read = Ok tree; reads = h; gives = tt; same_source = refl; same_count = refl; unmarked = unmarked_still result new.has_failed h.marks; same_version = refl }
+    → Reads is_known left failures old new (Ok tree) (EncodesBehind (version_of old.version) types.JSONObject) (TreeRefused (version_of old.version) types.JSONObject) → TellsNoFailure result → VisitsLegacy is_known left failures old new result
+legacy_visited {new = new} tree result h none = record { behind_object = new; read = Ok tree; reads = h; gives = none; same_source = refl; same_count = refl; unmarked = unmarked_still result new.has_failed h.marks; same_version = refl }

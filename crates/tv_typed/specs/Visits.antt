@@ -1,7 +1,7 @@
 -- What a visitor is handed, and what is done through a reader then.
 use Rattle.std.specs.Prelude.{◌≡◌, ℕ, true, false, is_err, List, Result, Ok, Err, OnOk}
 use Rattle.tv_base.specs.Source.{Failures}
-use Rattle.tv_base.specs.Stop.{Taken}
+use Rattle.tv_base.specs.Stop.{Counts, Taken}
 use Rattle.tv_reader.specs.Trees.{EncodesBehind}
 use Rattle.tv_reader.specs.ValueType.{coded}
 use Rattle.tv_reader.specs.Version.{version_of}
@@ -11,7 +11,7 @@ use Rattle.tv_reader.specs.declared.value_type.ValueType.TheVariants as types
 use Rattle.tv_value.specs.Tree.{Leaf}
 use Rattle.tv_value.specs.declared.owned_value.OwnedValue.{OwnedValue}
 use Rattle.tv_typed.specs.Lists.{Length, LengthRefused}
-use Rattle.tv_typed.specs.Typed.{Reads}
+use Rattle.tv_typed.specs.Typed.{typed_stop, Reads}
 use Rattle.tv_typed.specs.Values.{IsLeaf, EncodesLeaf, LeafRefused, TreeRefused, Only}
 use Rattle.tv_typed.specs.declared.store_reader.StoreReader.{StoreReader}
 
@@ -40,23 +40,28 @@ pub record TakesSome {S : Type 0} (is_known : S → Type 0) (left : S → List �
   pub stays_known : is_known old.source → is_known new.source
   pub same_version : new.version ≡ old.version
 
--- What was done with so many values: behind their number some bytes were taken. Where no number was read, nothing was done, and its refusal is given.
-abbrev pub Handed : {S X : Type 0} (is_known : S → Type 0) (left : S → List ℕ) (mid new : StoreReader S) → Result ℕ DeserializeError → Result X DeserializeError → Type 0
-Handed is_known left mid new (Ok n) result = TakesSome is_known left mid new
-Handed is_known left mid new (Err e) result = (result ≡ Err e) × (new ≡ mid)
+-- What was done with so many values: behind their number some bytes were taken, and a failed read is told. Where no number was read, nothing was done, and its
+-- refusal is given.
+abbrev pub Handed : {S X : Type 0} (is_known : S → Type 0) (left : S → List ℕ) (failures : S → Failures) (mid new : StoreReader S) → Result ℕ DeserializeError → Result X DeserializeError → Type 0
+Handed is_known left failures mid new (Ok n) result = TakesSome is_known left mid new × Counts typed_stop result (failures mid.source) (failures new.source)
+Handed is_known left failures mid new (Err e) result = (result ≡ Err e) × (new ≡ mid)
 
 -- The number of the values was read behind the code, and then they were handed on.
 pub record VisitsItems {S X : Type 0} (is_known : S → Type 0) (left : S → List ℕ) (failures : S → Failures) (old new : StoreReader S) (collection : ValueType) (total : ℕ → ℕ) (kind : ValueType) (result : Result X DeserializeError) : Type 0 where
   pub behind_number : StoreReader S
   pub announced : Result ℕ DeserializeError
   pub reads : Reads is_known left failures old behind_number announced (Length collection total kind) (LengthRefused collection total kind)
-  pub handed : Handed is_known left behind_number new announced result
+  pub handed : Handed is_known left failures behind_number new announced result
 
 -- ---- legacy objects
 
--- where a legacy object was refused, that is given
+-- no failed read is told
+abbrev pub TellsNoFailure : {X : Type 0} → Result X DeserializeError → Type 0
+TellsNoFailure result = (f : Failures) → Counts typed_stop result f f
+
+-- Where a legacy object was refused, that is given. What is read of the encoding of its tree tells of no failed read.
 abbrev pub GivesRefusal : {X : Type 0} → Result OwnedValue DeserializeError → Result X DeserializeError → Type 0
-GivesRefusal (Ok tree) result = Unit {0}
+GivesRefusal (Ok tree) result = TellsNoFailure result
 GivesRefusal (Err e) result = result ≡ Err e
 
 -- A legacy object was read whole behind its code, and then the entries that its tree encodes were handed on, or its refusal is given. Nothing more is taken

@@ -6,8 +6,9 @@ ghost use Rattle.std.specs.Prelude.{◌≡◌, Ok, Err, IfOk, IfErr, string_byte
 ghost use Rattle.std.specs.Prelude.{ℕ, OnErr, IsErrOf, refl, false, Result};
 ghost use Rattle.std.specs.Borrow.{sem, RestsIfErr};
 ghost use Rattle.std.specs.Net.Addr.{ipv6_bits};
+ghost use Rattle.tv_base.specs.Stop.{Counts};
 ghost use Rattle.tv_reader.specs.ValueType.{coded, IsCoded};
-ghost use Rattle.tv_typed.specs.Typed.{Reads, Deserializes};
+ghost use Rattle.tv_typed.specs.Typed.{typed_stop, Reads, Deserializes};
 ghost use Rattle.tv_typed.specs.Values.{CodeRefused, IsLeaf, IsTree, EncodesLeaf, LeafRefused};
 ghost use Rattle.tv_typed.specs.Values.{TreeRefused, Only, EncodesAs, EncodedAs, NextRefused};
 ghost use Rattle.tv_typed.specs.Values.{RefusalsExclude};
@@ -664,7 +665,8 @@ pub trait ValueVisitor {
         ensures { answers self.now
             (tokenized (string_bytes value.text) (map token_of value.tokens.items)) result };
 
-    /// An array stands there, whose number of values was read. Where a visitor takes none, it returns `UnsupportedType`.
+    /// An array stands there, whose number of values was read. Where a visitor takes none, it returns `UnsupportedType`. It returns `Io`
+    /// exactly where a read failed, with its kind, and none of `HeapFull`, `UnsupportedVersion` and `AlreadyFailed`.
     fn visit_array<S: ByteSource>(
         &self,
         alloc: Global,
@@ -672,14 +674,18 @@ pub trait ValueVisitor {
     ) -> Result<Self::Value, DeserializeError>
         requires first { access.position ≡ 0 }
         requires open { access.reader.now.has_failed ≡ false }
-        ensures { TakesSome S.is_known S.left access.entry.reader.now access.exit.1.1.0.now }
+        ensures takes { TakesSome S.is_known S.left access.entry.reader.now
+            access.exit.1.1.0.now }
+        ensures counts { Counts typed_stop result (S.failures access.entry.reader.now.source)
+            (S.failures access.exit.1.1.0.now.source) }
     {
         let _ = alloc;
         let _ = access;
         Err(DeserializeError::UnsupportedType(ValueType::Array))
     }
 
-    /// An object stands there, whose number of entries was read. Where a visitor takes none, it returns `UnsupportedType`.
+    /// An object stands there, whose number of entries was read. Where a visitor takes none, it returns `UnsupportedType`. It returns `Io`
+    /// exactly where a read failed, with its kind, and none of `HeapFull`, `UnsupportedVersion` and `AlreadyFailed`.
     fn visit_object<S: ByteSource>(
         &self,
         alloc: Global,
@@ -687,7 +693,10 @@ pub trait ValueVisitor {
     ) -> Result<Self::Value, DeserializeError>
         requires first { access.position ≡ 0 }
         requires open { access.reader.now.has_failed ≡ false }
-        ensures { TakesSome S.is_known S.left access.entry.reader.now access.exit.1.1.0.now }
+        ensures takes { TakesSome S.is_known S.left access.entry.reader.now
+            access.exit.1.1.0.now }
+        ensures counts { Counts typed_stop result (S.failures access.entry.reader.now.source)
+            (S.failures access.exit.1.1.0.now.source) }
     {
         let _ = alloc;
         let _ = access;
