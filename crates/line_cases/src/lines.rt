@@ -51,7 +51,8 @@ fn long(alloc: Global, count: usize) -> Result<String> {
     let head = stored.strip_suffix(digits.as_str()).context("the letters")?;
     let expected = format!(in alloc; "{{\"t\":[\"{letters}\"]}}\n")?;
     ensure!(json == expected.as_str(), "the letters are read back");
-    Ok(format!(in alloc; "{end:?} {head}")?)
+    let end = name(end);
+    Ok(format!(in alloc; "{end} {head}")?)
 }
 
 // The bytes of a JSON string, or of hexadecimal digits.
@@ -80,11 +81,21 @@ fn ran<S: ByteSource>(alloc: Global, source: &mut S, room: &str) -> Result<Strin
     ended(alloc, end, sink.held.as_slice())
 }
 
+// The name of an end, without its reason.
+fn name(end: RunEnd) -> &'static str {
+    match end {
+        RunEnd::Done => "Done",
+        RunEnd::BadSchema => "BadSchema",
+        RunEnd::Broken(_) => "Broken",
+    }
+}
+
 // How a run has ended, and what it has written.
 fn ended(alloc: Global, end: RunEnd, output: &[u8]) -> Result<String> {
+    let end = name(end);
     let output = str::from_utf8(output).ok().context("a text")?;
     let output = words::quoted(alloc, output)?;
-    Ok(format!(in alloc; "{end:?} {output}")?)
+    Ok(format!(in alloc; "{end} {output}")?)
 }
 
 // A source that gives one byte at a time, and fails where so many bytes are left.

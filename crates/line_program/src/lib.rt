@@ -5,7 +5,7 @@ use std::alloc::Global;
 use std::io;
 use std::io::{BufWriter, Read, Write};
 use tantivy_schema::common::{ReadSource, WriteSink};
-use tantivy_schema::{RunEnd, run};
+use tantivy_schema::{Halt, RunEnd, run};
 
 // So many bytes of answers are collected before they are written.
 const BUFFERED: usize = 65536;
@@ -15,7 +15,7 @@ const BUFFERED: usize = 65536;
 pub fn answer_lines(alloc: Global, reader: impl Read + Drop, writer: impl Write + Drop) -> u8 {
     match answer(alloc, reader, writer) {
         Ok(end) => end.status(),
-        Err(_) => RunEnd::Broken.status(),
+        Err(error) => RunEnd::Broken(Halt::Write(error.kind())).status(),
     }
 }
 

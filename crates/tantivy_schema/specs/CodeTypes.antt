@@ -63,4 +63,5 @@ pub use Rattle.tv_typed.specs.declared.array.BinaryArrayDeserializer
 pub use Rattle.tv_typed.specs.declared.object.BinaryObjectDeserializer
 pub use Rattle.tv_typed.specs.declared.document.BinaryDocumentDeserializer
 -- how a run over lines ends
+pub use Rattle.tv_lines.specs.declared.halt.Halt
 pub use Rattle.tv_lines.specs.declared.run_end.RunEnd

@@ -1,6 +1,7 @@
 //! What is proved above single calls: laws of the definitions, and of what calls leave.
 
 ghost use Rattle.std.specs.Prelude.{◌≡◌, ◌≤◌, ◌++◌, List, ℕ, IfOk, IfErr};
+ghost use Rattle.std.specs.declared.io.ErrorKind.TheVariants.{OutOfMemory};
 ghost use Rattle.tv_base.specs.ReadsAs.{Known};
 ghost use Rattle.tv_base.specs.Stop.{Counts};
 ghost use Rattle.tv_doc.specs.Belongs.{Belongs};
@@ -8,8 +9,8 @@ ghost use Rattle.tv_doc.specs.Document.{document_of};
 ghost use Rattle.tv_heap.specs.Room.{document_room};
 ghost use Rattle.tv_reader.specs.Error.{store_stop};
 ghost use Rattle.tv_store.specs.Documents.{Answers};
-ghost use Rattle.tv_store.specs.Error.{IsIo};
 ghost use Rattle.tv_store.specs.Stored.{stored};
+ghost use Rattle.tv_store.specs.declared.error.SerializeError.TheVariants.{Io};
 ghost use Rattle.tv_value.specs.Short.{short_document};
 ghost use Rattle.tv_value.specs.Version.{V2};
 
@@ -72,7 +73,8 @@ pub use tv_value::laws::{
 
 /// What `serialize_doc` writes of a document is its stored pairs in the shortest encoding: here, in memory.
 ///
-/// The fields are those of the schema, as `fits` tests. The only error is `Io`, where memory was refused.
+/// The fields are those of the schema, as `fits` tests. The only error is `Io` of the kind `OutOfMemory`, with which the sink in memory
+/// says that memory was refused.
 pub fn written_documents_are_shortest(
     alloc: Global,
     schema: &Schema,
@@ -81,7 +83,7 @@ pub fn written_documents_are_shortest(
     requires { Belongs schema.now (document_of document.now) }
     ensures bytes { IfOk result
         (λ bytes. bytes.items ≡ short_document V2 (stored schema.now (document_of document.now))) }
-    ensures io { IfErr result IsIo }
+    ensures memory { IfErr result (λ error. error ≡ Io OutOfMemory) }
 {
     let mut sink = VecSink::new(alloc);
     BinaryDocumentSerializer::new(&mut sink, schema).serialize_doc(document)?;
@@ -89,7 +91,10 @@ pub fn written_documents_are_shortest(
 }
 
 /// What `serialize_doc` writes of a document is read back as its stored pairs, whatever follows it and however the source
-/// cuts it, where the source's bytes are known and the document's values have room. `Io` comes only where the source failed.
+/// cuts it, where the source's bytes are known and the document's values have room.
+///
+/// The only errors are then `Memory`, and `Io` where the source failed: `Answers` excludes all others, and by `failures` the source's count
+/// of failures rose where `Io` is returned, with its kind, and else not.
 pub fn stored_pairs_are_read_back<S: ByteSource>(
     alloc: Global,
     source: &mut S,

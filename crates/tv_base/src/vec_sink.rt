@@ -2,6 +2,7 @@
 
 ghost use Rattle.std.specs.Prelude.{◌≡◌, ◌+◌, ◌-◌, ◌^◌, [], ◌++◌, length, min, IfOk, IfErr, OnOk, OnErr};
 ghost use Rattle.std.specs.Prelude.{None};
+ghost use Rattle.std.specs.Option.{ForSome};
 ghost use Rattle.std.specs.declared.io.ErrorKind.TheVariants.{OutOfMemory};
 ghost use Rattle.tv_base.specs.Source.{CountsFailure};
 ghost use Rattle.tv_base.specs.Sink.{AppendsSome};
@@ -30,6 +31,7 @@ pub struct VecSink {
     bytes: Vec<u8>,
     failures: u64,
     last: Option<io::ErrorKind>,
+    pub ghost memory: { ForSome last (λ kind. kind ≡ OutOfMemory) },
 }
 
 impl VecSink {

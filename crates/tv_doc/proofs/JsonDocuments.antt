@@ -1,107 +1,136 @@
 -- Values that are added one after the other.
-use Rattle.std.proofs.Common.{◌≡◌, ℕ, List, [], ◌∷◌, ◌++◌, Some, Result, Ok, Err, subst, refl, sym, ap, ◌∙◌, arith, append_assoc, append-nil}
+use Rattle.std.proofs.Common.{◌≡◌, ℕ, ◌<◌, List, [], ◌∷◌, ◌++◌, Option, Some, Result, Ok, Err, subst, refl, sym, ap, ◌∙◌, append_assoc, append-nil}
+use Rattle.std.specs.Prelude.{OnSome}
+use Rattle.std.specs.Result.{result_ok}
 use Rattle.std.specs.Option.{IfSome}
-use Rattle.std.proofs.lemmas.List.Sums.{sum_by_push}
 use Rattle.serde_json.specs.Data.{Members, object}
 use Rattle.serde_json.specs.Read.{read}
 use Rattle.tv_field.specs.Entry.{Entry}
-use Rattle.tv_field.specs.JsonAnswer.{refusal_of}
+use Rattle.tv_field.specs.JsonAnswer.{refusal_of, TakesMemory}
 use Rattle.tv_field.specs.declared.json_value.JsonRefusal.{JsonRefusal}
-use Rattle.tv_field.specs.JsonTable.{Table}
+use Rattle.tv_field.specs.declared.json_value.JsonRefusal.TheVariants as refusal
+use Rattle.tv_field.specs.JsonTable.{Refusal, Table}
 use Rattle.tv_value.specs.Tree.{Tree, Document}
 use Rattle.tv_doc.specs.AdditionError.{addition_error}
+use Rattle.tv_doc.specs.Additions.{Accepts, IsEmpty}
 use Rattle.tv_doc.specs.AddsRow.{AddsRow}
-use Rattle.tv_doc.specs.Document.{document_of, Refuses}
-use Rattle.tv_doc.specs.JsonObject.{FieldJson, Pairs, IsRefused, StopsAt, IsValueError, MakesDocument, Parses, AddsPairs, object_values}
-use Rattle.tv_heap.specs.Room.{room}
+use Rattle.tv_doc.specs.Document.{document_of, IsUnchanged, Refuses}
+use Rattle.tv_doc.specs.JsonObject.{FieldJson, Pairs, IsRefused, StopsAt, IsValueError, MakesDocument, Parses, AddsPairs, AddsValues, object_values}
+use Rattle.tv_doc.specs.JsonObject.IsShort.{for_pair, for_value, for_error}
 use Rattle.tv_doc.specs.declared.add_error.AddError.{AddError}
 use Rattle.tv_doc.specs.declared.add_error.AddError.TheVariants.{FieldNumber, HeapFull, Memory}
 use Rattle.tv_doc.specs.declared.doc_parsing_error.DocParsingError.{DocParsingError}
 use Rattle.tv_doc.specs.declared.doc_parsing_error.DocParsingError.TheVariants as error
 use Rattle.tv_doc.specs.declared.document.CompactDoc.{CompactDoc}
+use Rattle.tv_doc.proofs.Additions.{unchanged_same, each_from, each_append, each_one, from_empty, made_of}
 
 -- an addition that a document refuses
-pub refused_addition : (v : FieldJson) (d : CompactDoc) (t : Tree) (e : AddError) → Table v.field_type v.value (Ok t) → Refuses d v.field t e → IsRefused v (document_of d) (addition_error e)
-refused_addition v d t (FieldNumber n) table why = (t, table, why.1, why.0)
-refused_addition v d t HeapFull table why =
-    let within = d.room in
-    (t, table, why.0, omega (arith, sum_by_push (λ (pair : ℕ × Tree). room pair.1) (document_of d) (v.field, t), why.1))
-refused_addition v d t Memory table why = tt
+pub refused_addition : (v : FieldJson) (d : CompactDoc) (t : Tree) (e : AddError) → Table v.field_type v.value (Ok t) → Refuses d v.field t e → IsRefused v d (addition_error e)
+refused_addition v d t (FieldNumber n) table why = (t, table, why)
+refused_addition v d t HeapFull table why = (t, table, why)
+refused_addition v d t Memory table why = for_pair t table why
 
--- a value that its field's type refuses
-pub refused_value : (v : FieldJson) (there : Document) (r : JsonRefusal) (e : DocParsingError) → IsValueError v.name v.value r e
-    → IfSome (refusal_of v.value r) (λ x. Table v.field_type v.value (Err x)) → IsRefused v there e
-refused_value v there r (error.ValueError copy e) (refusal, named, is, for) h =
+-- a value that its field's type refuses, or for which memory is refused
+short_value : (v : FieldJson) (d : CompactDoc) (r : JsonRefusal) → IfSome (refusal_of v.value r) (λ x. Table v.field_type v.value (Err x))
+    → (r ≡ refusal.Memory → TakesMemory v.field_type v.value) → IsRefused v d error.Memory
+short_value v d (refusal.Overflow expected) h short = for_error _ h
+short_value v d (refusal.Mismatch expected) h short = for_error _ h
+short_value v d (refusal.Parse cause) h short = for_error _ h
+short_value v d refusal.InvalidBase64 h short = for_error _ h
+short_value v d refusal.FloatNumber h short = for_error _ h
+short_value v d refusal.Memory h short = for_value (short refl)
+
+pub refused_value : (v : FieldJson) (d : CompactDoc) (r : JsonRefusal) (e : DocParsingError) → IsValueError v.name v.value r e
+    → IfSome (refusal_of v.value r) (λ x. Table v.field_type v.value (Err x)) → (r ≡ refusal.Memory → TakesMemory v.field_type v.value) → IsRefused v d e
+refused_value v d r (error.ValueError copy e) (refusal, named, is, for) h short =
     (refusal, named, is, subst (λ o. IfSome o (λ x. Table v.field_type v.value (Err x))) for h)
-refused_value v there r (error.FieldNumber n) wrong h = absurd wrong
-refused_value v there r error.HeapFull wrong h = absurd wrong
-refused_value v there r (error.InvalidJson text) wrong h = absurd wrong
-refused_value v there r error.Memory right h = tt
+refused_value v d r (error.FieldNumber n) wrong h short = absurd wrong
+refused_value v d r error.HeapFull wrong h short = absurd wrong
+refused_value v d r (error.InvalidJson text) wrong h short = absurd wrong
+refused_value v d r error.Memory right h short = short_value v d r h short
+
+none_added : (d : CompactDoc) → AddsPairs [] d d
+none_added d = record { pairs = []; by_table = refl; adds = unchanged_same d }
 
 -- a value alone that is refused
-pub stops_at_one : (v : FieldJson) (there : Document) (e : DocParsingError) → IsRefused v there e → StopsAt (v ∷ []) there e
-stops_at_one v there e h = record {
-  before = [];
-  at = v;
-  behind = [];
-  joined = refl;
-  pairs = [];
-  added = refl;
-  refused = subst (λ pairs. IsRefused v pairs e) (sym (append-nil there)) h;
-}
+pub stops_at_one : (v : FieldJson) (old : CompactDoc) (e : DocParsingError) → IsRefused v old e → StopsAt (v ∷ []) old e
+stops_at_one v old e h = record { before = []; at = v; behind = []; joined = refl; mid = old; added = none_added old; refused = h }
 
 -- a value alone whose pair is added
-pub one_pair : (v : FieldJson) (old new : CompactDoc) → AddsRow old new v.field v.field_type v.value → AddsPairs (v ∷ []) old new
-one_pair v old new h = ((v.field, h.0) ∷ [], (h.0, [], h.1, h.2.0, refl, refl), h.2.1.document)
+pub one_added : (v : FieldJson) (old new : CompactDoc) (t : Tree) → Table v.field_type v.value (Ok t) → Accepts old new v.field t → AddsPairs (v ∷ []) old new
+one_added v old new t table adds =
+    record { pairs = (v.field, t) ∷ []; by_table = (t, [], table, adds.0, refl, refl); adds = each_one v.field t old new adds }
 
-pub Pairs-append : (vs ws : List FieldJson) (ps qs : Document) → Pairs vs ps → Pairs ws qs → Pairs (vs ++ ws) (ps ++ qs)
+pub one_pair : (v : FieldJson) (old new : CompactDoc) → AddsRow old new v.field v.field_type v.value → AddsPairs (v ∷ []) old new
+one_pair v old new h = one_added v old new h.0 h.1 h.2
+
+Pairs-append : (vs ws : List FieldJson) (ps qs : Document) → Pairs vs ps → Pairs ws qs → Pairs (vs ++ ws) (ps ++ qs)
 Pairs-append [] ws ps qs none h = subst (λ prefix. Pairs ws (prefix ++ qs)) (sym none) h
 Pairs-append (v ∷ vs) ws ps qs (tree, rest, table, small, joined, others) h =
     (tree, rest ++ qs, table, small, ap (λ prefix. prefix ++ qs) joined, Pairs-append vs ws rest qs others h)
 
--- the pairs of these values are added, and then come the rest
-pub record SoFar (all rest : List FieldJson) (there now : Document) : Type 0 where
-  pub done : List FieldJson
-  pub joined : all ≡ done ++ rest
-  pub pairs : Document
-  pub added : Pairs done pairs
-  pub document : now ≡ there ++ pairs
-
-pub none_so_far : (all : List FieldJson) (there : Document) → SoFar all all there there
-none_so_far all there = record { done = []; joined = refl; pairs = []; added = refl; document = sym (append-nil there) }
-
-pub more_so_far : (all rest values others : List FieldJson) (there now next ps : Document) → SoFar all rest there now → rest ≡ values ++ others → Pairs values ps → next ≡ now ++ ps
-    → SoFar all others there next
-more_so_far all rest values others there now next ps s parted h grown = record {
-  done = s.done ++ values;
-  joined = s.joined ∙ ap (λ vs. s.done ++ vs) parted ∙ sym (append_assoc s.done values others);
-  pairs = s.pairs ++ ps;
-  added = Pairs-append s.done values s.pairs ps s.added h;
-  document = grown ∙ ap (λ d. d ++ ps) s.document ∙ append_assoc there s.pairs ps;
+both_added : (vs ws : List FieldJson) (a b c : CompactDoc) → AddsPairs vs a b → AddsPairs ws b c → AddsPairs (vs ++ ws) a c
+both_added vs ws a b c h k = record {
+  pairs = h.pairs ++ k.pairs;
+  by_table = Pairs-append vs ws h.pairs k.pairs h.by_table k.by_table;
+  adds = each_append h.pairs k.pairs a b c h.adds k.adds;
 }
 
-pub all_so_far : (all rest : List FieldJson) (there now : Document) → SoFar all rest there now → rest ≡ [] → (pairs : Document) × Pairs all pairs × (now ≡ there ++ pairs)
-all_so_far all rest there now s none =
-    let whole : s.done ≡ all = sym (s.joined ∙ ap (λ vs. s.done ++ vs) none ∙ append-nil s.done) in
-    (s.pairs, subst (λ vs. Pairs vs s.pairs) whole s.added, s.document)
+-- the additions that `ok` keeps, to what an unchanged document became
+pub ok_added : {T : Type 0} (vs ws : List FieldJson) (old mid new : CompactDoc) (r : Result T DocParsingError) (o : Option T) → o ≡ result_ok r → IsUnchanged old mid → vs ≡ ws → AddsValues vs mid new r
+    → OnSome o (AddsPairs ws old new)
+ok_added vs ws old mid new (Ok x) o e same is h =
+    let added : AddsPairs vs old new = record { pairs = h.pairs; by_table = h.by_table; adds = each_from h.pairs old mid new same h.adds } in
+    subst (λ z. OnSome z (AddsPairs ws old new)) (sym e) (subst (λ xs. AddsPairs xs old new) is added)
+ok_added vs ws old mid new (Err x) o e same is h = subst (λ z. OnSome z (AddsPairs ws old new)) (sym e) tt
 
-pub stops_later : (all rest values others : List FieldJson) (there now : Document) (e : DocParsingError) → SoFar all rest there now → rest ≡ values ++ others → StopsAt values now e
-    → StopsAt all there e
-stops_later all rest values others there now e s parted h = record {
+-- the pairs of these values are added, and then come the rest
+pub record SoFar (all rest : List FieldJson) (old now : CompactDoc) : Type 0 where
+  pub done : List FieldJson
+  pub joined : all ≡ done ++ rest
+  pub added : AddsPairs done old now
+
+pub none_so_far : (all : List FieldJson) (old : CompactDoc) → SoFar all all old old
+none_so_far all old = record { done = []; joined = refl; added = none_added old }
+
+pub more_so_far : (all rest values others : List FieldJson) (old now next : CompactDoc) → SoFar all rest old now → rest ≡ values ++ others → AddsPairs values now next → SoFar all others old next
+more_so_far all rest values others old now next s parted h = record {
+  done = s.done ++ values;
+  joined = s.joined ∙ ap (λ vs. s.done ++ vs) parted ∙ sym (append_assoc s.done values others);
+  added = both_added s.done values old now next s.added h;
+}
+
+pub all_so_far : (all rest : List FieldJson) (old now : CompactDoc) → SoFar all rest old now → rest ≡ [] → AddsPairs all old now
+all_so_far all rest old now s none =
+    let whole : s.done ≡ all = sym (s.joined ∙ ap (λ vs. s.done ++ vs) none ∙ append-nil s.done) in
+    subst (λ vs. AddsPairs vs old now) whole s.added
+
+pub stops_later : (all rest values others : List FieldJson) (old now : CompactDoc) (e : DocParsingError) → SoFar all rest old now → rest ≡ values ++ others → StopsAt values now e
+    → StopsAt all old e
+stops_later all rest values others old now e s parted h = record {
   before = s.done ++ h.before;
   at = h.at;
   behind = h.behind ++ others;
   joined = s.joined ∙ ap (λ vs. s.done ++ vs) (parted ∙ ap (λ vs. vs ++ others) h.joined ∙ append_assoc h.before (h.at ∷ h.behind) others) ∙ sym (append_assoc s.done h.before (h.at ∷ (h.behind ++ others)));
-  pairs = s.pairs ++ h.pairs;
-  added = Pairs-append s.done h.before s.pairs h.pairs s.added h.added;
-  refused = subst (λ ps. IsRefused h.at ps e) (ap (λ d. d ++ h.pairs) s.document ∙ append_assoc there s.pairs h.pairs) h.refused;
+  mid = h.mid;
+  added = both_added s.done h.before old now h.mid s.added h.added;
+  refused = h.refused;
 }
+
+-- ---- whole documents
+
+pub makes_document : (values : List FieldJson) (start made : CompactDoc) → IsEmpty start → AddsPairs values start made → MakesDocument values (Ok made)
+makes_document values start made none h =
+    (subst (λ d. Pairs values d) (sym (from_empty h.pairs start made none h.adds)) h.by_table, made_of h.pairs start made none h.adds)
+
+pub made_from : (values rest : List FieldJson) (start made : CompactDoc) → IsEmpty start → SoFar values rest start made → rest ≡ [] → MakesDocument values (Ok made)
+made_from values rest start made none s end = makes_document values start made none (all_so_far values rest start made s end)
 
 -- an object that is read, and the document that is made of it
 pub parses_object : (schema : List Entry) (text : List ℕ) (ms : Members) (r : Result CompactDoc DocParsingError) → read text ≡ Some (object ms) → MakesDocument (object_values schema ms) r
     → Parses schema text r
 parses_object schema text ms (Ok made) is h = (ms, is, h)
-parses_object schema text ms (Err (error.InvalidJson start)) is h = absurd h.refused
+parses_object schema text ms (Err (error.InvalidJson start)) is h = absurd h.2.refused
 parses_object schema text ms (Err (error.ValueError name e)) is h = (ms, is, h)
 parses_object schema text ms (Err (error.FieldNumber n)) is h = (ms, is, h)
 parses_object schema text ms (Err error.HeapFull) is h = (ms, is, h)

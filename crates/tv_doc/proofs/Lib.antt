@@ -16,3 +16,6 @@ pub mod Spans
 pub mod CallPlaces
 pub mod TreeBuilding
 pub mod Finishing
+pub mod Belonging
+pub mod WholeRoom
+pub mod NamedErrors

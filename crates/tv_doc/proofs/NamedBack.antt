@@ -43,7 +43,7 @@ same_text a b e = (bytes_eq-Decides a b).0 (sym (is_eq-slice_cmp a b) ∙ ap is_
 
 -- ---- the values of a field among the pairs of names
 
-values_append : (f : ℕ) (a b : Document) → values_of f (a ++ b) ≡ values_of f a ++ values_of f b
+pub values_append : (f : ℕ) (a b : Document) → values_of f (a ++ b) ≡ values_of f a ++ values_of f b
 values_append f a b =
     let test : ℕ × Tree → Bool = λ p. nat_eq p.0 f in
     let value : ℕ × Tree → Tree = λ p. p.1 in
@@ -218,6 +218,12 @@ names_keep_all schema d named found names n all f = by_place (within_or f (lengt
     by_place : (f < length schema) ⊎ (length schema ≤ f) → values_of f (named_pairs schema named) ≡ values_of f d
     by_place (inl within) = names_keep_values schema d named f found n within
     by_place (inr past) = no_other_fields schema named f names past ∙ sym (belongs_none schema d f all past)
+
+-- each field has its values, or none
+pub names_keep_some : (schema : List Entry) (d : Document) (named : Named) → FoundByName schema → NamesField schema → IsNamed (field_names schema) d named
+    → (f : ℕ) → (values_of f (named_pairs schema named) ≡ []) ⊎ (values_of f (named_pairs schema named) ≡ values_of f d)
+names_keep_some schema d named found names n f =
+    elim (within_or f (length schema)) [ inl within ↦ inr (names_keep_values schema d named f found n within) | inr past ↦ inl (no_other_fields schema named f names past) ]
 
 -- ---- all pairs are of the schema
 

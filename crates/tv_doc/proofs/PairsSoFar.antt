@@ -1,55 +1,50 @@
 -- Pairs that are added one after the other.
-use Rattle.std.proofs.Common.{◌≡◌, ℕ, [], ◌∷◌, ◌++◌, subst, refl, sym, ap, ◌∙◌, arith, append_assoc, append-nil}
-use Rattle.std.proofs.lemmas.List.Sums.{sum_by_push}
+use Rattle.std.proofs.Common.{◌≡◌, ℕ, [], ◌∷◌, ◌++◌, Ok, subst, refl, sym, ap, ◌∙◌, append_assoc, append-nil}
 use Rattle.tv_value.specs.Tree.{Tree, Document}
-use Rattle.tv_doc.specs.Document.{document_of, Refuses}
-use Rattle.tv_doc.specs.NamedPairs.{RefusesPair, StopsAtPair}
-use Rattle.tv_heap.specs.Room.{room}
+use Rattle.tv_doc.specs.Additions.{AddsEach, IsEmpty}
+use Rattle.tv_doc.specs.Document.{Refuses}
+use Rattle.tv_doc.specs.NamedPairs.{StopsAtPair, MakesPairs}
 use Rattle.tv_doc.specs.declared.add_error.AddError.{AddError}
-use Rattle.tv_doc.specs.declared.add_error.AddError.TheVariants.{FieldNumber, HeapFull, Memory}
 use Rattle.tv_doc.specs.declared.document.CompactDoc.{CompactDoc}
-
-refused_pair : (d : CompactDoc) (field : ℕ) (t : Tree) (e : AddError) → Refuses d field t e → RefusesPair (document_of d) (field, t) e
-refused_pair d field t (FieldNumber n) why = (why.1, why.0)
-refused_pair d field t HeapFull why =
-    let within = d.room in
-    (why.0, omega (arith, sum_by_push (λ (pair : ℕ × Tree). room pair.1) (document_of d) (field, t), why.1))
-refused_pair d field t Memory why = tt
+use Rattle.tv_doc.proofs.Additions.{unchanged_same, each_append, from_empty, made_of}
 
 -- a pair alone that is refused
-pub stops_at_pair : (d : CompactDoc) (field : ℕ) (t : Tree) (e : AddError) → Refuses d field t e → StopsAtPair ((field, t) ∷ []) (document_of d) e
-stops_at_pair d field t e h = record {
-  before = [];
-  at = (field, t);
-  behind = [];
-  joined = refl;
-  refused = subst (λ pairs. RefusesPair pairs (field, t) e) (sym (append-nil (document_of d))) (refused_pair d field t e h);
-}
+pub stops_at_pair : (d : CompactDoc) (field : ℕ) (t : Tree) (e : AddError) → Refuses d field t e → StopsAtPair ((field, t) ∷ []) d e
+stops_at_pair d field t e h = record { before = []; at = (field, t); behind = []; joined = refl; mid = d; added = unchanged_same d; refused = h }
 
 -- some pairs are added, and then come the rest
-pub record PairsSoFar (all rest there now : Document) : Type 0 where
+pub record PairsSoFar (all rest : Document) (old now : CompactDoc) : Type 0 where
   pub done : Document
   pub joined : all ≡ done ++ rest
-  pub document : now ≡ there ++ done
+  pub adds : AddsEach done old now
 
-pub no_pair_so_far : (all there : Document) → PairsSoFar all all there there
-no_pair_so_far all there = record { done = []; joined = refl; document = sym (append-nil there) }
+pub no_pair_so_far : (all : Document) (old : CompactDoc) → PairsSoFar all all old old
+no_pair_so_far all old = record { done = []; joined = refl; adds = unchanged_same old }
 
-pub more_pairs : (all rest ps others there now next : Document) → PairsSoFar all rest there now → rest ≡ ps ++ others → next ≡ now ++ ps → PairsSoFar all others there next
-more_pairs all rest ps others there now next s parted grown = record {
+pub more_pairs : (all rest ps others : Document) (old now next : CompactDoc) → PairsSoFar all rest old now → rest ≡ ps ++ others → AddsEach ps now next → PairsSoFar all others old next
+more_pairs all rest ps others old now next s parted h = record {
   done = s.done ++ ps;
   joined = s.joined ∙ ap (λ z. s.done ++ z) parted ∙ sym (append_assoc s.done ps others);
-  document = grown ∙ ap (λ d. d ++ ps) s.document ∙ append_assoc there s.done ps;
+  adds = each_append s.done ps old now next s.adds h;
 }
 
-pub all_pairs : (all rest there now : Document) → PairsSoFar all rest there now → rest ≡ [] → now ≡ there ++ all
-all_pairs all rest there now s none = s.document ∙ ap (λ z. there ++ z) (sym (s.joined ∙ ap (λ z. s.done ++ z) none ∙ append-nil s.done))
+pub all_pairs : (all rest : Document) (old now : CompactDoc) → PairsSoFar all rest old now → rest ≡ [] → AddsEach all old now
+all_pairs all rest old now s none =
+    let whole : s.done ≡ all = sym (s.joined ∙ ap (λ z. s.done ++ z) none ∙ append-nil s.done) in
+    subst (λ ps. AddsEach ps old now) whole s.adds
 
-pub stops_behind : (all rest ps others there now : Document) (e : AddError) → PairsSoFar all rest there now → rest ≡ ps ++ others → StopsAtPair ps now e → StopsAtPair all there e
-stops_behind all rest ps others there now e s parted h = record {
+pub stops_behind : (all rest ps others : Document) (old now : CompactDoc) (e : AddError) → PairsSoFar all rest old now → rest ≡ ps ++ others → StopsAtPair ps now e → StopsAtPair all old e
+stops_behind all rest ps others old now e s parted h = record {
   before = s.done ++ h.before;
   at = h.at;
   behind = h.behind ++ others;
   joined = s.joined ∙ ap (λ z. s.done ++ z) (parted ∙ ap (λ z. z ++ others) h.joined ∙ append_assoc h.before (h.at ∷ h.behind) others) ∙ sym (append_assoc s.done h.before (h.at ∷ (h.behind ++ others)));
-  refused = subst (λ ps. RefusesPair ps h.at e) (ap (λ d. d ++ h.before) s.document ∙ append_assoc there s.done h.before) h.refused;
+  mid = h.mid;
+  added = each_append s.done h.before old now h.mid s.adds h.added;
+  refused = h.refused;
 }
+
+pub made_of_pairs : (all rest : Document) (start made : CompactDoc) → IsEmpty start → PairsSoFar all rest start made → rest ≡ [] → MakesPairs all (Ok made)
+made_of_pairs all rest start made none s end =
+    let adds = all_pairs all rest start made s end in
+    (from_empty all start made none adds, made_of all start made none adds)

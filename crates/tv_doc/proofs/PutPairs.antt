@@ -1,8 +1,9 @@
 -- A value that was written whole behind a document's heap, and the pair of a field and its place.
-use Rattle.std.proofs.Common.{◌≡◌, ◌≢◌, ℕ, ◌≤◌, List, ◌++◌, length, Result, Ok, Err, refl, sym, ◌∙◌, ap, subst, length-append, arith}
+use Rattle.std.proofs.Common.{◌≡◌, ◌≢◌, ℕ, ◌+◌, ◌≤◌, List, ◌++◌, length, Result, Ok, Err, refl, sym, ◌∙◌, ap, subst, length-append, arith}
 use Rattle.tv_base.specs.Parts.{short_sized}
 use Rattle.tv_base.specs.Sink.{IsPrefix}
 use Rattle.tv_value.specs.Tree.{Leaf, null, boolean, Tree, leaf, array, object, Elements, no_elements, element, Entries, no_entries, entry}
+use Rattle.tv_heap.specs.Room.{room}
 use Rattle.tv_heap.specs.TypeCode.{type_code}
 use Rattle.tv_heap.specs.Weight.{tree_weight}
 use Rattle.tv_heap.specs.Wrote.{Wrote}
@@ -15,7 +16,7 @@ use Rattle.tv_builder.proofs.Putting.{tree_prefix}
 use Rattle.tv_doc.specs.declared.add_error.AddError.{AddError}
 use Rattle.tv_doc.specs.declared.document.CompactDoc.{CompactDoc}
 use Rattle.tv_doc.specs.declared.place.FieldValueAddr.{FieldValueAddr}
-use Rattle.tv_doc.specs.AddsRow.{AddsTree}
+use Rattle.tv_doc.specs.Additions.{Accepts}
 use Rattle.tv_doc.specs.Document.{heap_of, Added, IsUnchanged}
 use Rattle.tv_doc.specs.Holds.{pair_at}
 use Rattle.tv_doc.proofs.Documents.{unchanged, added, restored}
@@ -90,6 +91,6 @@ put_added old new mid len small t at x w k =
     added old new (pair_at small (at.value_type, at.address)) small t refl w.small_fits (wrote_at old mid (heap_of new) len small t at w k.same_heap) k.pair
 
 -- as an addition of the field with this number
-pub put_tree : (old new : CompactDoc) (mid : List ℕ) (len small field : ℕ) (t : Tree) (at : Place) (x : Unit {0}) → small ≡ field → PairPut old mid len small t at
-    → Keeping old mid (heap_of new) new.pairs.items len small (Ok (at.value_type, at.address)) (Ok x) → AddsTree old new field t
-put_tree old new mid len small field t at x is w k = subst (λ n. AddsTree old new n t) is (w.small_fits, put_added old new mid len small t at x w k)
+pub put_tree : (old new : CompactDoc) (mid : List ℕ) (len small field : ℕ) (t : Tree) (at : Place) (x : Unit {0}) → small ≡ field → length (heap_of old) + room t ≤ 4294967295
+    → PairPut old mid len small t at → Keeping old mid (heap_of new) new.pairs.items len small (Ok (at.value_type, at.address)) (Ok x) → Accepts old new field t
+put_tree old new mid len small field t at x is fits w k = subst (λ n. Accepts old new n t) is (w.small_fits, fits, put_added old new mid len small t at x w k)

@@ -33,3 +33,21 @@ pub record Keeps (pairs : Document) (old new : CompactDoc) : Type 0 where
   pub heap : IsPrefix (heap_of old) (heap_of new)
   pub added_places : List (ℕ × ℕ)
   pub places : places_of new ≡ places_of old ++ added_places
+
+-- the addition is accepted
+abbrev pub Accepts : CompactDoc → CompactDoc → ℕ → Tree → Type 0
+Accepts old new field t = Adds old new field t (Ok (tt {0}))
+
+-- each of these pairs is added, one after the other
+abbrev pub AddsEach : Document → CompactDoc → CompactDoc → Type 0
+AddsEach [] old new = IsUnchanged old new
+AddsEach (pair ∷ pairs) old new = (mid : CompactDoc) × Accepts old mid pair.0 pair.1 × AddsEach pairs mid new
+
+-- no pair, and no byte in the heap
+pub record IsEmpty (d : CompactDoc) : Type 0 where
+  pub document : document_of d ≡ []
+  pub heap : heap_of d ≡ []
+
+-- its pairs were added, one after the other, to an empty document
+abbrev pub IsMade : CompactDoc → Type 0
+IsMade made = (start : CompactDoc) × IsEmpty start × AddsEach (document_of made) start made

@@ -1,18 +1,20 @@
 -- A JSON object as a document: which values it has for the fields of a schema, and what adding them returns.
-use Rattle.std.specs.Prelude.{◌≡◌, ℕ, ◌<◌, ◌≤◌, List, [], ◌∷◌, ◌++◌, Option, Some, None, Result, Ok, Err, slice_get, string_bytes}
+use Rattle.std.specs.Prelude.{◌≡◌, ℕ, ◌≤◌, List, [], ◌∷◌, ◌++◌, Option, Some, None, Result, Ok, Err, slice_get, string_bytes}
 use Rattle.std.specs.Fmt.{take_chars}
 use Rattle.serde_json.specs.Data as json
 use Rattle.serde_json.specs.Data.{Data, Items, Members}
 use Rattle.serde_json.specs.Read.{read}
 use Rattle.tv_field.specs.Entry.{Entry}
-use Rattle.tv_field.specs.JsonAnswer.{error_of, refusal_of}
+use Rattle.tv_field.specs.JsonAnswer.{error_of, refusal_of, TakesMemory}
 use Rattle.tv_field.specs.JsonTable.{Refusal, Table}
 use Rattle.tv_schema.specs.Schema.{field_named}
 use Rattle.tv_field.specs.declared.field_type.FieldType.{FieldType}
 use Rattle.tv_field.specs.declared.json_value.JsonRefusal.{JsonRefusal}
 use Rattle.tv_value.specs.Tree.{Tree, Document}
-use Rattle.tv_doc.specs.Document.{document_of}
-use Rattle.tv_heap.specs.Room.{document_room}
+use Rattle.tv_doc.specs.Additions.{AddsEach, IsEmpty, IsMade}
+use Rattle.tv_doc.specs.Document.{document_of, Refuses}
+use Rattle.tv_doc.specs.declared.add_error.AddError.{AddError}
+use Rattle.tv_doc.specs.declared.add_error.AddError.TheVariants as add_error
 use Rattle.tv_doc.specs.declared.doc_parsing_error.DocParsingError.{DocParsingError}
 use Rattle.tv_doc.specs.declared.doc_parsing_error.DocParsingError.TheVariants as error
 use Rattle.tv_doc.specs.declared.document.CompactDoc.{CompactDoc}
@@ -54,16 +56,25 @@ Pairs [] pairs = pairs ≡ []
 Pairs (v ∷ vs) pairs =
     (tree : Tree) × (rest : Document) × Table v.field_type v.value (Ok tree) × (v.field ≤ 65535) × (pairs ≡ (v.field, tree) ∷ rest) × Pairs vs rest
 
--- why a value is refused behind these pairs: by the table, for its field's number, or because the pairs and the value together need
--- more room than a heap has
-abbrev pub IsRefused : FieldJson → Document → DocParsingError → Type 0
-IsRefused v pairs (error.ValueError name e) =
+-- Where memory is refused for a value: for its pair, for which the heap has room; for what the field's type makes of it before, see
+-- `TakesMemory`; or for the error of a value that the type refuses, which has a copy of the field's name.
+pub data IsShort (v : FieldJson) (d : CompactDoc) : Type 0 where
+  for_pair : (tree : Tree) → Table v.field_type v.value (Ok tree) → Refuses d v.field tree add_error.Memory → IsShort v d
+  for_value : TakesMemory v.field_type v.value → IsShort v d
+  for_error : (refusal : Refusal) → Table v.field_type v.value (Err refusal) → IsShort v d
+
+-- the tree that the table has for the value is refused by this document
+abbrev pub RefusesRow : FieldJson → CompactDoc → AddError → Type 0
+RefusesRow v d e = (tree : Tree) × Table v.field_type v.value (Ok tree) × Refuses d v.field tree e
+
+-- Why a value is refused: by the table, or by the document that holds what was added before.
+abbrev pub IsRefused : FieldJson → CompactDoc → DocParsingError → Type 0
+IsRefused v d (error.ValueError name e) =
     (refusal : Refusal) × (string_bytes name ≡ v.name) × (error_of e ≡ Some refusal) × Table v.field_type v.value (Err refusal)
-IsRefused v pairs (error.FieldNumber n) = (tree : Tree) × Table v.field_type v.value (Ok tree) × (65535 < v.field) × (n ≡ v.field)
-IsRefused v pairs error.HeapFull =
-    (tree : Tree) × Table v.field_type v.value (Ok tree) × (v.field ≤ 65535) × (4294967295 < document_room (pairs ++ (v.field, tree) ∷ []))
-IsRefused v pairs (error.InvalidJson text) = ⊥
-IsRefused v pairs error.Memory = Unit {0}
+IsRefused v d (error.FieldNumber n) = RefusesRow v d (add_error.FieldNumber n)
+IsRefused v d error.HeapFull = RefusesRow v d add_error.HeapFull
+IsRefused v d (error.InvalidJson text) = ⊥
+IsRefused v d error.Memory = IsShort v d
 
 -- the error for a value that the type of the field with this name refuses for this
 abbrev pub IsValueError : List ℕ → Data → JsonRefusal → DocParsingError → Type 0
@@ -71,29 +82,35 @@ IsValueError name d r (error.ValueError copy e) = (refusal : Refusal) × (string
 IsValueError name d r error.Memory = Unit {0}
 IsValueError name d r e = ⊥
 
--- the first of these values that is refused, where the pairs of those before it are added behind those that were there
-pub record StopsAt (values : List FieldJson) (there : Document) (e : DocParsingError) : Type 0 where
+-- the trees that the table has for these values are added, one after the other
+pub record AddsPairs (values : List FieldJson) (old new : CompactDoc) : Type 0 where
+  pub pairs : Document
+  pub by_table : Pairs values pairs
+  pub adds : AddsEach pairs old new
+
+-- The first of these values that is refused, by the document to which those before it were added.
+pub record StopsAt (values : List FieldJson) (old : CompactDoc) (e : DocParsingError) : Type 0 where
   pub before : List FieldJson
   pub at : FieldJson
   pub behind : List FieldJson
   pub joined : values ≡ before ++ at ∷ behind
-  pub pairs : Document
-  pub added : Pairs before pairs
-  pub refused : IsRefused at (there ++ pairs) e
+  pub mid : CompactDoc
+  pub added : AddsPairs before old mid
+  pub refused : IsRefused at mid e
 
--- the pairs of all these values are added behind those that were there
-abbrev pub AddsPairs : List FieldJson → CompactDoc → CompactDoc → Type 0
-AddsPairs values old new = (pairs : Document) × Pairs values pairs × (document_of new ≡ document_of old ++ pairs)
-
--- or the first refusal is returned
+-- all are added, or the first refusal is returned
 abbrev pub AddsValues : {T : Type 0} → List FieldJson → CompactDoc → CompactDoc → Result T DocParsingError → Type 0
 AddsValues values old new (Ok x) = AddsPairs values old new
-AddsValues values old new (Err e) = StopsAt values (document_of old) e
+AddsValues values old new (Err e) = StopsAt values old e
 
--- the document has just the pairs of these values, or the first refusal is returned
+-- the first refusal of these values by a document that was empty
+abbrev pub StopsEarly : List FieldJson → DocParsingError → Type 0
+StopsEarly values e = (start : CompactDoc) × IsEmpty start × StopsAt values start e
+
+-- the document has just the pairs of these values, which were added to an empty one, or the first refusal is returned
 abbrev pub MakesDocument : List FieldJson → Result CompactDoc DocParsingError → Type 0
-MakesDocument values (Ok made) = Pairs values (document_of made)
-MakesDocument values (Err e) = StopsAt values [] e
+MakesDocument values (Ok made) = Pairs values (document_of made) × IsMade made
+MakesDocument values (Err e) = StopsEarly values e
 
 -- the error for a text that is no JSON object
 abbrev pub IsInvalidJson : List ℕ → DocParsingError → Type 0
@@ -105,9 +122,11 @@ IsInvalidJson text e = ⊥
 abbrev pub IsNoObject : List ℕ → Type 0
 IsNoObject text = (members : Members) → ¬ (read text ≡ Some (json.object members))
 
--- the document is that of the object that the text encodes, or the text is refused with its first 20 characters
+-- The document is that of the object that the text encodes, or the text is refused with its first 20 characters. Where memory is
+-- refused, that may be as the text is read.
 abbrev pub Parses : List Entry → List ℕ → Result CompactDoc DocParsingError → Type 0
-Parses schema text (Ok made) = (members : Members) × (read text ≡ Some (json.object members)) × Pairs (object_values schema members) (document_of made)
+Parses schema text (Ok made) =
+    (members : Members) × (read text ≡ Some (json.object members)) × MakesDocument (object_values schema members) (Ok made)
 Parses schema text (Err (error.InvalidJson start)) = IsNoObject text × (string_bytes start ≡ take_chars 20 text)
 Parses schema text (Err error.Memory) = Unit {0}
-Parses schema text (Err e) = (members : Members) × (read text ≡ Some (json.object members)) × StopsAt (object_values schema members) [] e
+Parses schema text (Err e) = (members : Members) × (read text ≡ Some (json.object members)) × StopsEarly (object_values schema members) e

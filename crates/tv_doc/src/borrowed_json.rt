@@ -4,9 +4,10 @@ ghost use Rattle.std.specs.Prelude.{◌∷◌, [], Some, Ok, IfSome, IfNone, OnS
 ghost use Rattle.serde_json.specs.Data.{object};
 ghost use Rattle.serde_json.specs.Read.{read as read_text};
 ghost use Rattle.tv_borrowed.specs.BorrowedData.{data_of, members_data};
-ghost use Rattle.tv_doc.specs.AddsRow.{AddsTree, AddsRow};
-ghost use Rattle.tv_doc.specs.Document.{document_of, IsUnchanged};
-ghost use Rattle.tv_doc.specs.JsonObject.{AddsPairs, Pairs, Parses, object_values, values_at};
+ghost use Rattle.tv_doc.specs.AddsRow.{AddsRow};
+ghost use Rattle.tv_doc.specs.Additions.{Accepts};
+ghost use Rattle.tv_doc.specs.Document.{IsUnchanged};
+ghost use Rattle.tv_doc.specs.JsonObject.{AddsPairs, MakesDocument, Parses, object_values, values_at};
 ghost use Rattle.tv_schema.specs.Schema.{field_named};
 ghost use Rattle.tv_value.specs.Lent.{leaf_of};
 ghost use Rattle.tv_value.specs.Tree.{leaf};
@@ -34,7 +35,7 @@ fn add_found(
 ) -> Option<()>
     ensures added { OnSome result
         (IsOkAnd found.entry
-        (λ single. AddsTree document.old document.new field.id (leaf (leaf_of single)))) }
+        (λ single. Accepts document.old document.new field.id (leaf (leaf_of single)))) }
     ensures none { IfNone result (IsUnchanged document.old document.new) }
 {
     match found {
@@ -151,8 +152,8 @@ impl CompactDoc {
         members: &[(&str, BorrowedJson<'_>)],
     ) -> Option<CompactDoc>
         ensures { IfSome result
-            (λ made. Pairs (object_values schema.now (members_data members.now))
-            (document_of made)) }
+            (λ made. MakesDocument (object_values schema.now (members_data members.now))
+            (Ok made)) }
     {
         let mut document = CompactDoc::new(alloc);
         let mut scratch = JsonScratch::new(alloc);

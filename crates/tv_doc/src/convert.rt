@@ -1,8 +1,10 @@
 //! Documents of values by name.
 
-ghost use Rattle.std.specs.Prelude.{map};
+ghost use Rattle.std.specs.Prelude.{map, IfOk};
 ghost use Rattle.tv_value.specs.Owned.{owned_tree};
 ghost use Rattle.tv_schema.specs.Schema.{field_named};
+ghost use Rattle.tv_doc.specs.Belongs.{Belongs};
+ghost use Rattle.tv_doc.specs.Document.{document_of};
 ghost use Rattle.tv_doc.specs.Named.{named_of};
 ghost use Rattle.tv_doc.specs.NamedPairs.{AddsPairs, MakesPairs, named_pairs, pairs_of_field};
 
@@ -12,6 +14,7 @@ use crate::document::CompactDoc;
 use crate::named::NamedFieldDocument;
 use std::alloc::Global;
 use tv_schema::Schema;
+use tv_schema::laws::names_are_of_one_field;
 use tv_value::field::Field;
 use tv_value::owned_value::OwnedValue;
 
@@ -52,15 +55,18 @@ fn add_named(
 
 impl CompactDoc {
     /// The document of values by name: for each name that is a field's, in byte order, its values in order. Other names are skipped.
-    /// Errors, for the first value that is refused: `FieldNumber` where the field's number is above 65535; `HeapFull` where the
-    /// values need more room than a document has; `Memory` where memory was refused.
+    /// They are added one after the other. Errors, for the first value that is refused, are those of `add_field_value`: `FieldNumber` where
+    /// the field's number is above 65535; `HeapFull` where the length of the heap so far and the value's room are together above 4294967295;
+    /// `Memory` where memory was refused.
     pub fn convert_named_doc(
         alloc: Global,
         schema: &Schema,
         named: &NamedFieldDocument,
     ) -> Result<CompactDoc, DocParsingError>
-        ensures { MakesPairs (named_pairs schema.now (named_of named.now)) result }
+        ensures makes { MakesPairs (named_pairs schema.now (named_of named.now)) result }
+        ensures belongs { IfOk result (λ made. Belongs schema.now (document_of made)) }
     {
+        names_are_of_one_field();
         let mut document = CompactDoc::new(alloc);
         for (name, values) in named.0.iter() {
             match add_named(&mut document, schema, name.as_str(), values) {

@@ -8,7 +8,8 @@ ghost use Rattle.tv_doc.specs.JsonObject.{FieldJson, item_values, values_for, va
 ghost use Rattle.tv_doc.specs.JsonObject.{object_values, AddsValues, IsInvalidJson, IsValueError};
 ghost use Rattle.tv_doc.specs.JsonObject.{MakesDocument, Parses};
 ghost use Rattle.std.specs.Fmt.{take_chars};
-ghost use Rattle.tv_doc.specs.Document.{Adds};
+ghost use Rattle.tv_doc.specs.Belongs.{Belongs};
+ghost use Rattle.tv_doc.specs.Document.{Adds, document_of};
 
 use crate::add_error::AddError;
 use crate::doc_parsing_error::DocParsingError;
@@ -155,7 +156,8 @@ impl CompactDoc {
         schema: &Schema,
         text: &str,
     ) -> Result<CompactDoc, DocParsingError>
-        ensures { Parses schema.now text.now result }
+        ensures parses { Parses schema.now text.now result }
+        ensures belongs { IfOk result (λ made. Belongs schema.now (document_of made)) }
     {
         if let Some(made) = CompactDoc::parse_borrowed(alloc, schema, text) {
             return Ok(made);
@@ -175,18 +177,20 @@ impl CompactDoc {
     }
 
     /// The document of a JSON object: for each key that is a field's name, in byte order of the keys, the value that its JSON value
-    /// is to the field's type, or the values of its items where it is an array. Other keys are skipped. Errors, for the first value
-    /// that is refused:
+    /// is to the field's type, or the values of its items where it is an array. Other keys are skipped. The values are added one after the
+    /// other. Errors, for the first value that is refused:
     /// - `ValueError` with the field's name: the field's type refuses it, see `FieldType::value_from_json`,
     /// - `FieldNumber`: the field's number is above 65535,
-    /// - `HeapFull`: the values need more room than a document has,
-    /// - `Memory`: memory was refused.
+    /// - `HeapFull`: the length of the heap so far and the value's room are together above 4294967295, see `add_text`,
+    /// - `Memory`: memory was refused, for the pair, for what the type makes of the value before, or for the field's name in `ValueError`.
     pub fn from_json_object(
         alloc: Global,
         schema: &Schema,
         object: Map<String, Value>,
     ) -> Result<CompactDoc, DocParsingError>
-        ensures { MakesDocument (object_values schema.now (members_view object.entries)) result }
+        ensures makes { MakesDocument (object_values schema.now (members_view object.entries))
+            result }
+        ensures belongs { IfOk result (λ made. Belongs schema.now (document_of made)) }
     {
         let mut document = CompactDoc::new(alloc);
         let mut scratch = JsonScratch::new(alloc);

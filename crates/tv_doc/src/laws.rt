@@ -1,6 +1,6 @@
 //! Laws of documents, each the contract of a function that does nothing.
 
-ghost use Rattle.std.specs.Prelude.{◌≡◌, ◌+◌, ◌<◌, ◌≤◌, ℕ, List, [], length, IfOk};
+ghost use Rattle.std.specs.Prelude.{◌≡◌, ◌+◌, ◌<◌, ◌≤◌, ℕ, List, [], length, IfOk, IfErr};
 ghost use Rattle.tv_field.specs.Entry.{Entry};
 ghost use Rattle.tv_schema.specs.Schema.{IsSchema};
 ghost use Rattle.tv_value.specs.Short.{IsDocument};
@@ -14,7 +14,7 @@ ghost use Rattle.tv_doc.specs.Additions.{Addition, Runs, Keeps, accepted};
 ghost use Rattle.tv_doc.specs.Belongs.{Belongs};
 ghost use Rattle.tv_doc.specs.Document.{document_of, heap_of};
 ghost use Rattle.tv_doc.specs.Named.{IsNamed, Named, field_names};
-ghost use Rattle.tv_doc.specs.NamedPairs.{named_pairs};
+ghost use Rattle.tv_doc.specs.NamedPairs.{IsBackError, named_pairs};
 ghost use Rattle.tv_heap.specs.Reads.{Reads};
 ghost use Rattle.tv_heap.specs.Room.{document_room};
 ghost use Rattle.tv_doc.specs.FieldValues.{values_of};
@@ -59,7 +59,8 @@ pub fn named_values_make_the_same_pairs()
 }
 
 /// What `convert_named_doc` makes of what `to_named_doc` makes of a document: each field of the schema has its values in their order, and
-/// each pair's field is one of the schema. The errors are those of `convert_named_doc`.
+/// each pair's field is one of the schema. Errors: `HeapFull` only where the document's own values need more room than 4294967295 bytes, and
+/// `Memory` where memory was refused.
 pub fn named_documents_are_converted_back(
     alloc: Global,
     schema: &Schema,
@@ -72,7 +73,9 @@ pub fn named_documents_are_converted_back(
     ensures all { IfOk result
         (λ back. Belongs schema.now (document_of document.now) → (field : ℕ)
         → values_of field (document_of back) ≡ values_of field (document_of document.now)) }
+    ensures errors { IfErr result (IsBackError (document_of document.now)) }
 {
+    documents_are_valid();
     names_are_of_one_field();
     let _names_are_distinct = schema.num_fields();
     let named = document.to_named_doc(alloc, schema)?;

@@ -10,6 +10,8 @@ use Rattle.tv_value.specs.Tree.{Tree, leaf}
 use Rattle.tv_value.specs.declared.leaf.ReferenceValueLeaf.{ReferenceValueLeaf}
 use Rattle.tv_value.specs.declared.owned_value.OwnedValue.{OwnedValue}
 use Rattle.tv_field.specs.JsonTable.{Refusal, overflow, mismatch, bad_text, bad_base64, float_number, Outcome}
+use Rattle.tv_field.specs.declared.field_type.FieldType.{FieldType}
+use Rattle.tv_field.specs.declared.field_type.FieldType.TheVariants as types
 use Rattle.tv_field.specs.declared.json_value.JsonRefusal.{JsonRefusal}
 use Rattle.tv_field.specs.declared.json_value.JsonRefusal.TheVariants as refusal
 use Rattle.tv_field.specs.declared.json_value.LentFieldValue.{LentFieldValue}
@@ -63,3 +65,33 @@ LendsLeaf d P (Err e) = IfSome (refusal_of d e) (λ r. P (Err r))
 -- the error says what the refusal says of the value
 abbrev pub Refuses : Data → JsonRefusal → ValueParsingError → Type 0
 Refuses d r e = error_of e ≡ refusal_of d r
+
+-- a text; and what a field of texts prints, or reads with its tokens
+abbrev pub IsText : Data → Type 0
+IsText (json.string s) = Unit {0}
+IsText json.null = ⊥
+IsText (json.boolean b) = ⊥
+IsText (json.number n) = ⊥
+IsText (json.array ds) = ⊥
+IsText (json.object ms) = ⊥
+
+abbrev pub IsNumberOrObject : Data → Type 0
+IsNumberOrObject (json.number n) = Unit {0}
+IsNumberOrObject (json.object ms) = Unit {0}
+IsNumberOrObject json.null = ⊥
+IsNumberOrObject (json.boolean b) = ⊥
+IsNumberOrObject (json.string s) = ⊥
+IsNumberOrObject (json.array ds) = ⊥
+
+-- The values for which a field of this type takes memory: numbers and objects for a field of texts, and texts for a field of facets or
+-- of bytes.
+abbrev pub TakesMemory : FieldType → Data → Type 0
+TakesMemory (types.Str options) d = IsNumberOrObject d
+TakesMemory (types.Facet options) d = IsText d
+TakesMemory (types.Bytes options) d = IsText d
+TakesMemory (types.U64 options) d = ⊥
+TakesMemory (types.I64 options) d = ⊥
+TakesMemory (types.Bool options) d = ⊥
+TakesMemory (types.Date options) d = ⊥
+TakesMemory (types.JsonObject options) d = ⊥
+TakesMemory (types.IpAddr options) d = ⊥

@@ -1,6 +1,6 @@
 //! JSON values as values of a field, by the field's type: lent without copies, or owned.
 
-ghost use Rattle.std.specs.Prelude.{◌≡◌, codes, string_bytes, IfSome, IfErr, OnOk, OnErr};
+ghost use Rattle.std.specs.Prelude.{◌≡◌, codes, string_bytes, IfSome, IfErr, IsErrOf, OnOk, OnErr};
 ghost use Rattle.serde_json.specs.View.{view as data_of, number_view};
 ghost use Rattle.serde_json.specs.Data.{string, number};
 ghost use Rattle.tv_field.specs.JsonTable.{Table, str_row, decimal_text, U64Row, I64Row};
@@ -8,7 +8,8 @@ ghost use Rattle.tv_field.specs.JsonTable.{SignedText, UnsignedText, signed_numb
 ghost use Rattle.tv_field.specs.JsonTable.{boolean_text, date_row, date_text, facet_row, bytes_row};
 ghost use Rattle.tv_field.specs.JsonTable.{json_row, IpRow, IpText, leaf_or, mismatch};
 ghost use Rattle.tv_field.specs.JsonTokens.{tokenized_in};
-ghost use Rattle.tv_field.specs.JsonAnswer.{Lends, LendsLeaf, Answers};
+ghost use Rattle.tv_field.specs.JsonAnswer.{Lends, LendsLeaf, Answers, TakesMemory, IsText};
+ghost use Rattle.tv_field.specs.JsonAnswer.{IsNumberOrObject};
 
 use crate::field_type::FieldType;
 use crate::json_tokens::encode_tokenized;
@@ -112,8 +113,9 @@ fn lend_decimal<'a>(
 
 // A number as a signed one.
 fn lend_signed(json: &Number) -> Result<ReferenceValueLeaf<'static>, JsonRefusal>
-    ensures { LendsLeaf (number (number_view json.now))
+    ensures row { LendsLeaf (number (number_view json.now))
         (λ o. o ≡ signed_number (number_view json.now)) result }
+    ensures spares { ¬ IsErrOf result JsonRefusal.Memory }
 {
     match json.as_i64() {
         Some(signed) => Ok(ReferenceValueLeaf::I64(signed)),
@@ -123,7 +125,8 @@ fn lend_signed(json: &Number) -> Result<ReferenceValueLeaf<'static>, JsonRefusal
 
 // A value of a field of numbers from 0 to 2^64 - 1.
 fn lend_u64(coerce: bool, json: &Value) -> Result<ReferenceValueLeaf<'static>, JsonRefusal>
-    ensures { LendsLeaf (data_of json.now) (U64Row coerce (data_of json.now)) result }
+    ensures row { LendsLeaf (data_of json.now) (U64Row coerce (data_of json.now)) result }
+    ensures spares { ¬ IsErrOf result JsonRefusal.Memory }
 {
     match json {
         Value::String(_) if !coerce => Err(JsonRefusal::Mismatch("a u64")),
@@ -141,7 +144,8 @@ fn lend_u64(coerce: bool, json: &Value) -> Result<ReferenceValueLeaf<'static>, J
 
 // A value of a field of numbers from -2^63 to 2^63 - 1.
 fn lend_i64(coerce: bool, json: &Value) -> Result<ReferenceValueLeaf<'static>, JsonRefusal>
-    ensures { LendsLeaf (data_of json.now) (I64Row coerce (data_of json.now)) result }
+    ensures row { LendsLeaf (data_of json.now) (I64Row coerce (data_of json.now)) result }
+    ensures spares { ¬ IsErrOf result JsonRefusal.Memory }
 {
     match json {
         Value::String(_) if !coerce => Err(JsonRefusal::Mismatch("a i64")),
@@ -156,7 +160,8 @@ fn lend_i64(coerce: bool, json: &Value) -> Result<ReferenceValueLeaf<'static>, J
 
 // A value of a field of truth values.
 fn lend_bool(coerce: bool, json: &Value) -> Result<ReferenceValueLeaf<'static>, JsonRefusal>
-    ensures { LendsLeaf (data_of json.now) (λ o. o ≡ bool_row coerce (data_of json.now)) result }
+    ensures row { LendsLeaf (data_of json.now) (λ o. o ≡ bool_row coerce (data_of json.now)) result }
+    ensures spares { ¬ IsErrOf result JsonRefusal.Memory }
 {
     match json {
         Value::Bool(truth) => Ok(ReferenceValueLeaf::Bool(*truth)),
@@ -172,7 +177,8 @@ fn lend_bool(coerce: bool, json: &Value) -> Result<ReferenceValueLeaf<'static>, 
 /// The date that a text of JSON is to a field of dates. (Not in tantivy.) Errors: those of `lend_json`.
 #[inline(always)]
 pub fn lend_date_text(text: &str) -> Result<ReferenceValueLeaf<'static>, JsonRefusal>
-    ensures { LendsLeaf (string text.now) (λ o. o ≡ date_row (string text.now)) result }
+    ensures row { LendsLeaf (string text.now) (λ o. o ≡ date_row (string text.now)) result }
+    ensures spares { ¬ IsErrOf result JsonRefusal.Memory }
 {
     match DateTime::from_rfc3339(text) {
         Ok(date) => Ok(ReferenceValueLeaf::Date(date)),
@@ -183,7 +189,8 @@ pub fn lend_date_text(text: &str) -> Result<ReferenceValueLeaf<'static>, JsonRef
 
 // A value of a field of dates: a whole number is a signed number, and no date.
 fn lend_date(json: &Value) -> Result<ReferenceValueLeaf<'static>, JsonRefusal>
-    ensures { LendsLeaf (data_of json.now) (λ o. o ≡ date_row (data_of json.now)) result }
+    ensures row { LendsLeaf (data_of json.now) (λ o. o ≡ date_row (data_of json.now)) result }
+    ensures spares { ¬ IsErrOf result JsonRefusal.Memory }
 {
     match json {
         Value::String(text) => lend_date_text(text.as_str()),
@@ -211,7 +218,8 @@ fn lend_facet<'a>(
     json: &Value,
     scratch: &'a mut JsonScratch,
 ) -> Result<ReferenceValueLeaf<'a>, JsonRefusal>
-    ensures { LendsLeaf (data_of json.now) (λ o. o ≡ facet_row (data_of json.now)) result }
+    ensures row { LendsLeaf (data_of json.now) (λ o. o ≡ facet_row (data_of json.now)) result }
+    ensures memory { IsErrOf result JsonRefusal.Memory → IsText (data_of json.now) }
 {
     match json {
         Value::String(path) => lend_facet_text(path.as_str(), scratch),
@@ -241,7 +249,8 @@ fn lend_bytes<'a>(
     json: &Value,
     scratch: &'a mut JsonScratch,
 ) -> Result<ReferenceValueLeaf<'a>, JsonRefusal>
-    ensures { LendsLeaf (data_of json.now) (λ o. o ≡ bytes_row (data_of json.now)) result }
+    ensures row { LendsLeaf (data_of json.now) (λ o. o ≡ bytes_row (data_of json.now)) result }
+    ensures memory { IsErrOf result JsonRefusal.Memory → IsText (data_of json.now) }
 {
     match json {
         Value::String(text) => lend_bytes_text(text.as_str(), scratch),
@@ -253,7 +262,8 @@ fn lend_bytes<'a>(
 /// The address that a text of JSON is to a field of IP addresses. (Not in tantivy.) Errors: those of `lend_json`.
 #[inline(always)]
 pub fn lend_ip_addr_text(text: &str) -> Result<ReferenceValueLeaf<'static>, JsonRefusal>
-    ensures { LendsLeaf (string text.now) (IpRow (string text.now)) result }
+    ensures row { LendsLeaf (string text.now) (IpRow (string text.now)) result }
+    ensures spares { ¬ IsErrOf result JsonRefusal.Memory }
 {
     match text.parse::<IpAddr>() {
         Ok(address) => Ok(ReferenceValueLeaf::IpAddr(address.into_ipv6_addr())),
@@ -263,7 +273,8 @@ pub fn lend_ip_addr_text(text: &str) -> Result<ReferenceValueLeaf<'static>, Json
 
 // A value of a field of IP addresses.
 fn lend_ip_addr(json: &Value) -> Result<ReferenceValueLeaf<'static>, JsonRefusal>
-    ensures { LendsLeaf (data_of json.now) (IpRow (data_of json.now)) result }
+    ensures row { LendsLeaf (data_of json.now) (IpRow (data_of json.now)) result }
+    ensures spares { ¬ IsErrOf result JsonRefusal.Memory }
 {
     match json {
         Value::String(text) => lend_ip_addr_text(text.as_str()),
@@ -274,7 +285,8 @@ fn lend_ip_addr(json: &Value) -> Result<ReferenceValueLeaf<'static>, JsonRefusal
 
 // A value of a field of JSON objects.
 fn lend_object(json: &Value) -> Result<LentFieldValue<'_>, JsonRefusal>
-    ensures { Lends (data_of json.now) (λ o. o ≡ json_row (data_of json.now)) result }
+    ensures row { Lends (data_of json.now) (λ o. o ≡ json_row (data_of json.now)) result }
+    ensures spares { ¬ IsErrOf result JsonRefusal.Memory }
 {
     match json {
         Value::Object(_) if has_float(json) => Err(JsonRefusal::FloatNumber),
@@ -311,7 +323,8 @@ fn lend_str<'a>(
     json: &'a Value,
     scratch: &'a mut JsonScratch,
 ) -> Result<ReferenceValueLeaf<'a>, JsonRefusal>
-    ensures { LendsLeaf (data_of json.now) (λ o. o ≡ str_row coerce (data_of json.now)) result }
+    ensures row { LendsLeaf (data_of json.now) (λ o. o ≡ str_row coerce (data_of json.now)) result }
+    ensures memory { IsErrOf result JsonRefusal.Memory → IsNumberOrObject (data_of json.now) }
 {
     match json {
         Value::String(text) => Ok(ReferenceValueLeaf::Str(text.as_str())),
@@ -350,13 +363,16 @@ impl JsonRefusal {
 
 impl FieldType {
     /// What a JSON value is to a field of this type, by the table of JSON values, lent from the value or from what is written into
-    /// the scratch. (Not in tantivy.) Errors: what `value_from_json` returns, without the value.
+    /// the scratch. (Not in tantivy.) Errors: what `value_from_json` returns, without the value. `Memory` comes only for a number or an object
+    /// of a field of texts, and for a text of a field of facets or of bytes.
     pub fn lend_json<'a>(
         &self,
         json: &'a Value,
         scratch: &'a mut JsonScratch,
     ) -> Result<LentFieldValue<'a>, JsonRefusal>
-        ensures { Lends (data_of json.now) (Table self.now (data_of json.now)) result }
+        ensures row { Lends (data_of json.now) (Table self.now (data_of json.now)) result }
+        ensures memory { IsErrOf result JsonRefusal.Memory
+            → TakesMemory self.now (data_of json.now) }
     {
         let leaf = match self {
             FieldType::Str(options) => lend_str(options.should_coerce(), json, scratch)?,

@@ -1,9 +1,13 @@
 -- The texts of refusals are answers.
-use Rattle.std.proofs.Common.{◌≡◌, ℕ, ◌≤◌, inl, inr, List, [], ◌∷◌, ◌++◌, Result, Ok, Err, Some, refl, sym, ap, ◌∙◌, append_assoc}
+use Rattle.std.proofs.Common.{◌≡◌, ℕ, ◌≤◌, ◌<◌, arith, inl, inr, List, [], ◌∷◌, ◌++◌, Result, Ok, Err, Some, refl, sym, ap, ◌∙◌, append_assoc}
 use Rattle.std.specs.Prelude.{IsUtf8, OnOk, IfErr}
 use lib.Chars.{codes}
 use Rattle.std.proofs.lemmas.List.{append-nil}
-use Rattle.tv_doc.specs.Document.{document_of}
+use Rattle.std.proofs.lemmas.List.Sums.{sum_by_push}
+use Rattle.tv_heap.specs.Room.{room, document_room}
+use Rattle.tv_doc.specs.Additions.{AddsEach, IsEmpty}
+use Rattle.tv_doc.proofs.Additions.{from_empty}
+use Rattle.tv_doc.specs.Document.{document_of, IsFull}
 use Rattle.tv_doc.specs.JsonObject.{FieldJson, object_values, Pairs, Parses}
 use Rattle.tv_doc.specs.declared.doc_parsing_error.DocParsingError.{DocParsingError}
 use Rattle.tv_doc.specs.declared.doc_parsing_error.DocParsingError.TheVariants as errors
@@ -44,35 +48,43 @@ pairs-snoc [] at tree pairs made row small = (tree, [], row, small, ap (λ (d : 
 pairs-snoc (v ∷ vs) at tree pairs made row small =
     (made.0, made.1 ++ (at.field, tree) ∷ [], made.2, made.3, ap (λ (d : Document). d ++ (at.field, tree) ∷ []) made.4, pairs-snoc vs at tree made.1 made.5 row small)
 
+-- the heap has no room, so the pairs have none
+full_room : (pairs : Document) (start mid : CompactDoc) (field : ℕ) (t : Tree) → IsEmpty start → AddsEach pairs start mid → IsFull mid t → 4294967295 < document_room (pairs ++ (field, t) ∷ [])
+full_room pairs start mid field t none adds full =
+    let within = mid.room in
+    omega (arith, full, within, ap document_room (from_empty pairs start mid none adds), sum_by_push (λ (pair : ℕ × Tree). room pair.1) pairs (field, t))
+
 -- ---- the answer for an error
 
 pub refusal_answers : (schema : List Entry) (line : List ℕ) (error : DocParsingError) → IsUtf8 line → Parses schema line (Err error) → Answer schema line (error_text error)
 refusal_answers schema line (errors.InvalidJson start) utf8 h = answered (no_object (λ members is. h.0 members is.1) refl)
 refusal_answers schema line (errors.ValueError name e) utf8 h =
-    let stop = h.2 in
+    let stop = h.2.2 in
     let why = stop.refused in
-    answered (refused h.0 stop.before stop.behind stop.at stop.pairs (utf8, h.1) stop.joined stop.added (by_table why.0 why.3 (named_by e why.0 why.2)))
+    answered (refused h.0 stop.before stop.behind stop.at stop.added.pairs (utf8, h.1) stop.joined stop.added.by_table (by_table why.0 why.3 (named_by e why.0 why.2)))
 refusal_answers schema line (errors.FieldNumber n) utf8 h =
-    let stop = h.2 in
+    let stop = h.2.2 in
     let why = stop.refused in
-    answered (refused h.0 stop.before stop.behind stop.at stop.pairs (utf8, h.1) stop.joined stop.added (by_number why.0 why.1 why.2 refl))
+    answered (refused h.0 stop.before stop.behind stop.at stop.added.pairs (utf8, h.1) stop.joined stop.added.by_table (by_number why.0 why.1 why.2.1 refl))
 refusal_answers schema line errors.HeapFull utf8 h =
-    let stop = h.2 in
+    let stop = h.2.2 in
     let why = stop.refused in
-    no_room h.0 (stop.before ++ stop.at ∷ []) stop.behind (stop.pairs ++ (stop.at.field, why.0) ∷ []) (utf8, h.1)
-    (stop.joined ∙ sym (append_assoc stop.before (stop.at ∷ []) stop.behind)) (pairs-snoc stop.before stop.at why.0 stop.pairs stop.added why.1 why.2) why.3 refl
+    let pairs = stop.added.pairs in
+    no_room h.0 (stop.before ++ stop.at ∷ []) stop.behind (pairs ++ (stop.at.field, why.0) ∷ []) (utf8, h.1)
+    (stop.joined ∙ sym (append_assoc stop.before (stop.at ∷ []) stop.behind)) (pairs-snoc stop.before stop.at why.0 pairs stop.added.by_table why.1 why.2.0)
+    (full_room pairs h.2.0 stop.mid stop.at.field why.0 h.2.1 stop.added.adds why.2.1) refl
 refusal_answers schema line errors.Memory utf8 h = no_memory refl
 
 -- ---- the answer for a document
 
 pub document_answers : (schema : List Entry) (line old new : List ℕ) (made : CompactDoc) → IsUtf8 line → Parses schema line (Ok made)
     → Leaves (IsDocumentText schema (stored schema (document_of made))) old new → Leaves (Answer schema line) old new
-document_answers schema line old new made utf8 h leaves = (leaves.0, answered (written h.0 (document_of made) (utf8, h.1) h.2 leaves.1), leaves.2)
+document_answers schema line old new made utf8 h leaves = (leaves.0, answered (written h.0 (document_of made) (utf8, h.1) h.2.0 leaves.1), leaves.2)
 
 pub unwritten_answers : (schema : List Entry) (line text : List ℕ) (made : CompactDoc) → IsUtf8 line → Parses schema line (Ok made)
     → IsUnwritten (document_of made) text → Answer schema line text
 unwritten_answers schema line text made utf8 h why =
-    elim why [ inl e ↦ no_memory e | inr full ↦ no_room h.0 (object_values schema h.0) [] (document_of made) (utf8, h.1) (sym (append-nil (object_values schema h.0))) h.2 full.0 full.1 ]
+    elim why [ inl e ↦ no_memory e | inr full ↦ no_room h.0 (object_values schema h.0) [] (document_of made) (utf8, h.1) (sym (append-nil (object_values schema h.0))) h.2.0 full.0 full.1 ]
 
 -- ---- clauses of results
 

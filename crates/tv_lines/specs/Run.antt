@@ -1,8 +1,13 @@
 -- What a run over an input writes.
 use Rattle.std.specs.Prelude.{◌≡◌, ◌⊎◌, ℕ, List, [], ◌∷◌, ◌++◌}
 use Rattle.tv_base.specs.Sink.{IsPrefix}
+use Rattle.tv_base.specs.Source.{Failures}
+use Rattle.tv_base.specs.Stop.{Stop, CountsStop}
+use Rattle.tv_base.specs.Stop.Stop.{Failed, Short}
 use Rattle.tv_lines.specs.Answers.{ReadsSchema, SchemaRefusal, Answers}
 use Rattle.tv_lines.specs.Lines.{FirstLine, Lines}
+use Rattle.tv_lines.specs.declared.halt.Halt.{Halt}
+use Rattle.tv_lines.specs.declared.halt.Halt.TheVariants.{Read, Write, Memory, TooLong}
 use Rattle.tv_lines.specs.declared.run_end.RunEnd.{RunEnd}
 use Rattle.tv_lines.specs.declared.run_end.RunEnd.TheVariants.{Done, BadSchema, Broken}
 use Rattle.tv_field.specs.Entry.{Entry}
@@ -47,4 +52,28 @@ Leaves P old new = (text : List ℕ) × P text × (new ≡ old ++ text)
 abbrev pub EndsWith : RunEnd → List ℕ → List ℕ → List ℕ → Type 0
 EndsWith Done input old new = Leaves (DoneText input) old new
 EndsWith BadSchema input old new = Leaves (BadSchemaText input) old new
-EndsWith Broken input old new = ⊥
+EndsWith (Broken halt) input old new = ⊥
+
+abbrev pub IsWhole : RunEnd → Type 0
+IsWhole Done = Unit {0}
+IsWhole BadSchema = Unit {0}
+IsWhole (Broken halt) = ⊥
+
+-- Why a run broke off, seen from the source and from the sink: a read or a write failed with this kind, or none did.
+abbrev pub source_stop : Halt → Stop ⊥
+source_stop (Read kind) = Failed kind
+source_stop (Write kind) = Short
+source_stop Memory = Short
+source_stop TooLong = Short
+
+abbrev pub sink_stop : Halt → Stop ⊥
+sink_stop (Read kind) = Short
+sink_stop (Write kind) = Failed kind
+sink_stop Memory = Short
+sink_stop TooLong = Short
+
+-- a failure of a read or a write is told with its kind, and only where there was one
+abbrev pub CountsEnd : (Halt → Stop ⊥) → RunEnd → Failures → Failures → Type 0
+CountsEnd stop Done old new = new ≡ old
+CountsEnd stop BadSchema old new = new ≡ old
+CountsEnd stop (Broken halt) old new = CountsStop (stop halt) old new

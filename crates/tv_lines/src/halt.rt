@@ -4,17 +4,18 @@ ghost use Rattle.std.specs.Prelude.{◌≡◌};
 ghost use Rattle.tv_lines.specs.declared.halt.Halt.TheVariants.{Memory};
 
 use std::alloc::AllocError;
+use std::io;
 
-// Why a run breaks off.
-#[derive(Clone, Copy, Drop)]
-pub(crate) enum Halt {
-    /// A read failed.
-    Read,
-    /// A write failed.
-    Write,
-    /// Memory was refused.
+/// Why a run breaks off.
+#[derive(Clone, Copy, Debug, PartialEq, Eq, Drop)]
+pub enum Halt {
+    /// A read failed, with this kind.
+    Read(io::ErrorKind),
+    /// A write failed, with this kind.
+    Write(io::ErrorKind),
+    /// Memory was refused: for the pieces that are read, for a line, or for its answer.
     Memory,
-    /// The source gives more than 2^64 - 2 bytes.
+    /// 2^64 - 1 bytes of the source were read, and no more are counted.
     TooLong,
 }
 

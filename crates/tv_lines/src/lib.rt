@@ -2,7 +2,7 @@
 #![tactic(auto)]
 
 mod document_line;
-mod halt;
+pub mod halt;
 mod hex_text;
 mod line_reader;
 mod read_back;
@@ -10,5 +10,6 @@ pub mod run_end;
 pub mod runs;
 mod schema_line;
 
+pub use halt::Halt;
 pub use run_end::RunEnd;
 pub use runs::run;

@@ -1,6 +1,7 @@
 //! Lines of a source.
 
-ghost use Rattle.std.specs.Prelude.{◌≡◌, ◌<◌, ◌≤◌, ◌++◌, [], take, vec_len, IfOk, OnOk};
+ghost use Rattle.std.specs.Prelude.{◌≡◌, ◌<◌, ◌≤◌, ◌++◌, [], take, vec_len, IfOk, OnErr};
+ghost use Rattle.tv_base.specs.Source.{CountsFailure};
 
 use crate::halt::Halt;
 use memchr::memchr;
@@ -41,8 +42,9 @@ fn read_prefix<S: ByteSource>(
         (λ count. S.left source.old ≡ take count chunk.new.items ++ S.left source.new) }
     ensures end { S.is_known source.old
         → IfOk result (λ count. count ≡ 0 → 0 < most → S.left source.old ≡ []) }
+    ensures kept { S.is_known source.old → OnErr result (S.left source.new ≡ S.left source.old) }
     ensures is_known { S.is_known source.old → S.is_known source.new }
-    ensures failures { OnOk result (S.failures source.new ≡ S.failures source.old) }
+    ensures failures { CountsFailure result (S.failures source.old) (S.failures source.new) }
 {
     match source.read(&mut chunk[0..most]) {
         Ok(count) => Ok(count),
@@ -51,12 +53,17 @@ fn read_prefix<S: ByteSource>(
 }
 
 impl LineReader {
-    ghost use Rattle.std.specs.Prelude.{◌-◌, ◌^◌, true};
+    ghost use Rattle.std.specs.Prelude.{◌-◌, ◌^◌, true, IsErrOf};
+    ghost use Rattle.std.specs.declared.io.ErrorKind.{ErrorKind};
+    ghost use Rattle.tv_base.specs.Stop.{Counts, Taken};
+    ghost use Rattle.tv_lines.specs.Run.{source_stop};
+    ghost use Rattle.tv_lines.specs.declared.halt.Halt.TheVariants.{TooLong};
     ghost use Rattle.tv_lines.specs.Reader.{unread, most_left, Moves, Fills, TakesLine};
 
     // A reader that has taken nothing yet. The only error is that memory was refused.
     pub(crate) fn new(alloc: Global) -> Result<LineReader, AllocError>
-        ensures { IfOk result (λ reader. unread reader ≡ []) }
+        ensures unread { IfOk result (λ reader. unread reader ≡ []) }
+        ensures count { IfOk result (λ reader. reader.count ≡ 0) }
     {
         let mut chunk = Vec::new(alloc);
         chunk.resize(CHUNK, 0)?;
@@ -106,8 +113,12 @@ impl LineReader {
         ensures most { IfOk result (λ more. most_left self.new ≡ 2 ^ 64 - 1 - self.old.count) }
         ensures fewer { IfOk result
             (λ more. more ≡ true → 2 ^ 64 - 1 - self.new.count < 2 ^ 64 - 1 - self.old.count) }
+        ensures taken { S.is_known source.old
+            → Taken (S.left source.old) (S.left source.new) self.old.count self.new.count }
+        ensures too_long { IsErrOf result TooLong → self.new.count ≡ 2 ^ 64 - 1 }
+        ensures reads { (kind : ErrorKind) → ¬ IsErrOf result (Halt.Write kind) }
         ensures is_known { S.is_known source.old → S.is_known source.new }
-        ensures failures { OnOk result (S.failures source.new ≡ S.failures source.old) }
+        ensures failures { Counts source_stop result (S.failures source.old) (S.failures source.new) }
     {
         let room = u64::MAX - self.count;
         if room == 0 {
@@ -121,7 +132,7 @@ impl LineReader {
                 self.count += count as u64;
                 Ok(count > 0)
             }
-            Err(_) => Err(Halt::Read),
+            Err(kind) => Err(Halt::Read(kind)),
         }
     }
 
@@ -137,8 +148,12 @@ impl LineReader {
             (unread self.new ++ S.left source.new) more) }
         ensures fewer { IfOk result
             (λ more. more ≡ true → most_left self.new < most_left self.old) }
+        ensures taken { S.is_known source.old
+            → Taken (S.left source.old) (S.left source.new) self.old.count self.new.count }
+        ensures too_long { IsErrOf result TooLong → self.new.count ≡ 2 ^ 64 - 1 }
+        ensures reads { (kind : ErrorKind) → ¬ IsErrOf result (Halt.Write kind) }
         ensures is_known { S.is_known source.old → S.is_known source.new }
-        ensures failures { OnOk result (S.failures source.new ≡ S.failures source.old) }
+        ensures failures { Counts source_stop result (S.failures source.old) (S.failures source.new) }
     {
         line.clear();
         'pieces: loop {

@@ -3,6 +3,8 @@
 ghost use Rattle.std.specs.Prelude.{◌≡◌};
 ghost use Rattle.tv_lines.specs.Status.{status_of};
 
+use crate::halt::Halt;
+
 /// How a run over lines ended.
 #[derive(Clone, Copy, Debug, PartialEq, Eq, Drop)]
 pub enum RunEnd {
@@ -10,8 +12,8 @@ pub enum RunEnd {
     Done,
     /// The first line describes no schema, or memory was refused as it was read. This was answered for it.
     BadSchema,
-    /// A read or a write failed, memory for a line was refused, or the source gave more bytes than are counted.
-    Broken,
+    /// The run broke off, for this reason.
+    Broken(Halt),
 }
 
 impl RunEnd {
@@ -22,7 +24,7 @@ impl RunEnd {
         match self {
             RunEnd::Done => 0,
             RunEnd::BadSchema => 1,
-            RunEnd::Broken => 2,
+            RunEnd::Broken(_) => 2,
         }
     }
 }

@@ -1,9 +1,15 @@
 //! A run over the lines of a source.
 
-ghost use Rattle.std.specs.Prelude.{◌≡◌, ◌≢◌, ◌++◌, [], IfErr, IfOk, OnErr, OnOk};
+ghost use Rattle.std.specs.Prelude.{◌≡◌, ◌-◌, ◌^◌, ◌++◌, [], IfOk, IsErrOf, OnErr, OnOk};
+ghost use Rattle.tv_base.specs.ReadsAs.{TakesMost};
+ghost use Rattle.tv_base.specs.Source.{CountsFailure};
+ghost use Rattle.tv_base.specs.Stop.{Counts, Taken};
 ghost use Rattle.tv_base.specs.Sink.{IsPrefix};
 ghost use Rattle.tv_lines.specs.Run.{AnswersOf, BadSchemaText, BrokenText, DoneText, EndsWith};
-ghost use Rattle.tv_lines.specs.Run.{PrefixOf, Leaves};
+ghost use Rattle.tv_lines.specs.Run.{PrefixOf, Leaves, CountsEnd, IsWhole};
+ghost use Rattle.tv_lines.specs.Run.{source_stop, sink_stop};
+ghost use Rattle.tv_lines.specs.declared.halt.Halt.{Halt};
+ghost use Rattle.tv_lines.specs.declared.halt.Halt.TheVariants.{TooLong};
 ghost use Rattle.tv_lines.specs.Reader.{unread};
 ghost use Rattle.tv_lines.specs.declared.run_end.RunEnd.TheVariants.{Done, BadSchema, Broken};
 
@@ -13,23 +19,21 @@ use crate::line_reader::LineReader;
 use crate::run_end::RunEnd;
 use crate::schema_line::schema_of_line;
 use std::alloc::Global;
+use std::io;
 use tv_base::write::write_all;
 use tv_base::{ByteSink, ByteSource, VecSink};
 use tv_schema::Schema;
 
 // Writes a line.
-fn write_line<K: ByteSink>(sink: &mut K, line: &[u8]) -> Result<(), Halt>
+fn write_line<K: ByteSink>(sink: &mut K, line: &[u8]) -> Result<(), io::ErrorKind>
     ensures ok { K.is_known sink.old → OnOk result (K.held sink.new ≡ K.held sink.old ++ line.now) }
     ensures err { K.is_known sink.old
         → OnErr result
         (Leaves (λ text. IsPrefix text line.now) (K.held sink.old) (K.held sink.new)) }
     ensures is_known { K.is_known sink.old → K.is_known sink.new }
-    ensures failures { OnOk result (K.failures sink.new ≡ K.failures sink.old) }
+    ensures failures { CountsFailure result (K.failures sink.old) (K.failures sink.new) }
 {
-    match write_all(sink, line) {
-        Ok(()) => Ok(()),
-        Err(_) => Err(Halt::Write),
-    }
+    write_all(sink, line)
 }
 
 // Answers each line that the reader has left.
@@ -51,8 +55,12 @@ fn answer_lines<S: ByteSource, K: ByteSink>(
     ensures all { S.is_known source.old → OnOk result (S.left source.new ≡ []) }
     ensures source_is_known { S.is_known source.old → S.is_known source.new }
     ensures sink_is_known { K.is_known sink.old → K.is_known sink.new }
-    ensures source_failures { OnOk result (S.failures source.new ≡ S.failures source.old) }
-    ensures sink_failures { OnOk result (K.failures sink.new ≡ K.failures sink.old) }
+    ensures source_failures { Counts source_stop result (S.failures source.old)
+        (S.failures source.new) }
+    ensures sink_failures { Counts sink_stop result (K.failures sink.old) (K.failures sink.new) }
+    ensures taken { S.is_known source.old
+        → Taken (S.left source.old) (S.left source.new) reader.old.count reader.new.count }
+    ensures too_long { IsErrOf result TooLong → reader.new.count ≡ 2 ^ 64 - 1 }
 {
     let mut line = Vec::new(alloc);
     let mut bytes = VecSink::new(alloc);
@@ -62,7 +70,10 @@ fn answer_lines<S: ByteSource, K: ByteSink>(
             return Ok(());
         }
         answer_line(alloc, schema, line.as_slice(), &mut bytes, &mut text)?;
-        write_line(sink, text.as_slice())?;
+        match write_line(sink, text.as_slice()) {
+            Ok(()) => {}
+            Err(kind) => return Err(Halt::Write(kind)),
+        }
     }
 }
 
@@ -78,11 +89,15 @@ fn answer_source<S: ByteSource, K: ByteSink>(
     ensures err { S.is_known source.old → K.is_known sink.old
         → OnErr result
         (Leaves (BrokenText (S.left source.old)) (K.held sink.old) (K.held sink.new)) }
+    ensures whole { IfOk result IsWhole }
     ensures all { S.is_known source.old → IfOk result (λ end. end ≡ Done → S.left source.new ≡ []) }
     ensures source_is_known { S.is_known source.old → S.is_known source.new }
     ensures sink_is_known { K.is_known sink.old → K.is_known sink.new }
-    ensures source_failures { OnOk result (S.failures source.new ≡ S.failures source.old) }
-    ensures sink_failures { OnOk result (K.failures sink.new ≡ K.failures sink.old) }
+    ensures source_failures { Counts source_stop result (S.failures source.old)
+        (S.failures source.new) }
+    ensures sink_failures { Counts sink_stop result (K.failures sink.old) (K.failures sink.new) }
+    ensures too_long { S.is_known source.old → IsErrOf result TooLong
+        → TakesMost (S.left source.old) (S.left source.new) }
 {
     let mut reader = LineReader::new(alloc)?;
     let mut line = Vec::new(alloc);
@@ -93,8 +108,10 @@ fn answer_source<S: ByteSource, K: ByteSink>(
             Ok(RunEnd::Done)
         }
         Err(text) => {
-            write_line(sink, text.as_bytes())?;
-            Ok(RunEnd::BadSchema)
+            match write_line(sink, text.as_bytes()) {
+                Ok(()) => Ok(RunEnd::BadSchema),
+                Err(kind) => Err(Halt::Write(kind)),
+            }
         }
     }
 }
@@ -107,24 +124,34 @@ fn answer_source<S: ByteSource, K: ByteSink>(
 /// `error ValueError TypeError`, and the next line follows. A schema that is refused is answered alike, and ends the run.
 ///
 /// Bytes are read in pieces of 64 KiB, and each answer is written at once. The memory of a line serves the next.
+///
+/// `Broken` says why the run broke off: `Read` and `Write` only where the source's or the sink's count of failures rose, with the kind of
+/// the failure, `TooLong` only behind 2^64 - 1 bytes, and else `Memory`, where memory was refused and neither count has changed.
 pub fn run<S: ByteSource, K: ByteSink>(alloc: Global, source: &mut S, sink: &mut K) -> RunEnd
     // what is written behind what the sink held
     ensures done { S.is_known source.old → K.is_known sink.old → result ≡ Done
         → Leaves (DoneText (S.left source.old)) (K.held sink.old) (K.held sink.new) }
     ensures bad_schema { S.is_known source.old → K.is_known sink.old → result ≡ BadSchema
         → Leaves (BadSchemaText (S.left source.old)) (K.held sink.old) (K.held sink.new) }
-    ensures broken { S.is_known source.old → K.is_known sink.old → result ≡ Broken
+    ensures broken { S.is_known source.old → K.is_known sink.old → (halt : Halt)
+        → result ≡ Broken halt
         → Leaves (BrokenText (S.left source.old)) (K.held sink.old) (K.held sink.new) }
 
-    // all of the source was read, and no read or write failed
+    // all of the source was read
     ensures all { S.is_known source.old → result ≡ Done → S.left source.new ≡ [] }
-    ensures source_failures { result ≢ Broken → S.failures source.new ≡ S.failures source.old }
-    ensures sink_failures { result ≢ Broken → K.failures sink.new ≡ K.failures sink.old }
+
+    // a read or a write failed exactly where that is returned, with its kind; `TooLong` comes behind the most bytes that are counted
+    ensures source_failures { CountsEnd source_stop result (S.failures source.old)
+        (S.failures source.new) }
+    ensures sink_failures { CountsEnd sink_stop result (K.failures sink.old)
+        (K.failures sink.new) }
+    ensures too_long { S.is_known source.old → result ≡ Broken TooLong
+        → TakesMost (S.left source.old) (S.left source.new) }
     ensures source_is_known { S.is_known source.old → S.is_known source.new }
     ensures sink_is_known { K.is_known sink.old → K.is_known sink.new }
 {
     match answer_source(alloc, source, sink) {
         Ok(end) => end,
-        Err(_) => RunEnd::Broken,
+        Err(halt) => RunEnd::Broken(halt),
     }
 }

@@ -4,7 +4,6 @@ use Rattle.tv_borrowed.proofs.Levels.{data_of-Array}
 use Rattle.tv_borrowed.specs.BorrowedData.{data_of, items_data}
 use Rattle.tv_borrowed.specs.declared.borrowed.BorrowedJson.{BorrowedJson}
 use Rattle.tv_schema.specs.Schema.{field_named}
-use Rattle.tv_doc.specs.Document.{document_of}
 use Rattle.tv_doc.specs.JsonObject.{FieldJson, AddsPairs, item_values}
 use Rattle.tv_doc.proofs.PlainValues.{values_of_items}
 use Rattle.tv_doc.proofs.JsonDocuments.{more_so_far, all_so_far}
@@ -21,8 +20,8 @@ loop-item-preserved c =
     let v : FieldJson = record { name = a.name.now; field = c.in-Ok.field.id; field_type = field_type; value = data_of item } in
     let added = c.in_ok-add_one.ensures in
     let step = drop_more items l.item-index item (omega (arith, c.loop-item-test.true)) ∙ ap (λ z. z ∷ drop (l.item-index + 1) items) (sym c.item-item.is) in
-    more_so_far _ (values (drop l.item-index items)) (v ∷ []) (values (drop (l.item-index + 1) items)) (document_of a.document.now) (document_of l.document)
-    (document_of c.add_one-in-loop-item.new.document) added.0 l.invariant (ap values step) added.1 added.2
+    more_so_far _ (values (drop l.item-index items)) (v ∷ []) (values (drop (l.item-index + 1) items)) a.document.now l.document
+    c.add_one-in-loop-item.new.document l.invariant (ap values step) added
 
 pub returns : goal.returns
 returns c =
@@ -31,7 +30,7 @@ returns c =
     let items = c.deref-item-items.result.now in
     let values : List BorrowedJson → List FieldJson = λ xs. item_values a.name.now c.in-Ok.field.id c.field_type-field_type.result.now (items_data xs) in
     let done : drop l.item-index items ≡ [] = drop_all l.item-index items (omega (arith, c.loop-item-test.false)) in
-    let all = all_so_far (values items) (values (drop l.item-index items)) (document_of a.document.now) (document_of l.document) l.invariant (ap values done) in
+    let all = all_so_far (values items) (values (drop l.item-index items)) a.document.now l.document l.invariant (ap values done) in
     let named : field_named a.schema.now a.name.now ≡ Some c.in-Ok.field.id = search rules in
     let says = ap data_of c.in-Array.is ∙ data_of-Array c.in-Array.items in
     let same = ap (item_values a.name.now c.in-Ok.field.id c.field_type-field_type.result.now) (ap items_data c.deref-item-items.ensures.value) in

@@ -2,7 +2,6 @@ use Rattle.std.proofs.Common.{◌∷◌, [], ap, List}
 use Rattle.std.specs.Vec.Iter.{into_iter_items}
 use Rattle.serde_json.specs.View.{view as data_of, items_view}
 use Rattle.serde_json.specs.declared.value.Value.{Value}
-use Rattle.tv_doc.specs.Document.{document_of}
 use Rattle.tv_doc.specs.JsonObject.{FieldJson, item_values}
 use Rattle.tv_doc.proofs.JsonDocuments.{more_so_far, stops_later}
 use Rattle.tv_doc.proofs.json.add_items.Goals as goal
@@ -12,13 +11,13 @@ loop-item-preserved c =
     let a = c.args in
     let values : List Value → List FieldJson = λ xs. item_values a.name.now a.field.id a.field_type.now (items_view xs) in
     let v : FieldJson = record { name = a.name.now; field = a.field.id; field_type = a.field_type.now; value = data_of c.in-Some.item } in
-    more_so_far _ (values (into_iter_items c.loop-item.item-iterator)) (v ∷ []) (values (into_iter_items c.next.new.self)) (document_of a.document.now) (document_of c.loop-item.document)
-    (document_of c.add_value.new.document) c.in-Ok.ensures.0 c.loop-item.invariant (ap values c.in-Some.ensures.steps.0) c.in-Ok.ensures.1 c.in-Ok.ensures.2
+    more_so_far _ (values (into_iter_items c.loop-item.item-iterator)) (v ∷ []) (values (into_iter_items c.next.new.self)) a.document.now c.loop-item.document
+    c.add_value.new.document c.loop-item.invariant (ap values c.in-Some.ensures.steps.0) c.in-Ok.ensures
 
 pub returns-in-Err : goal.returns-in-Err
 returns-in-Err c =
     let a = c.args in
     let values : List Value → List FieldJson = λ xs. item_values a.name.now a.field.id a.field_type.now (items_view xs) in
     let v : FieldJson = record { name = a.name.now; field = a.field.id; field_type = a.field_type.now; value = data_of c.in-Some.item } in
-    stops_later _ (values (into_iter_items c.loop-item.item-iterator)) (v ∷ []) (values (into_iter_items c.next.new.self)) (document_of a.document.now) (document_of c.loop-item.document)
+    stops_later _ (values (into_iter_items c.loop-item.item-iterator)) (v ∷ []) (values (into_iter_items c.next.new.self)) a.document.now c.loop-item.document
     c.in-Err.error c.loop-item.invariant (ap values c.in-Some.ensures.steps.0) c.in-Err.ensures

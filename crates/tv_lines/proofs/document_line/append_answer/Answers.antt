@@ -1,25 +1,23 @@
 use Rattle.std.proofs.Common.{subst, List, ℕ, Err}
 use Rattle.tv_doc.specs.JsonObject.{Parses}
-use Rattle.tv_lines.proofs.Belonging.{object_belongs}
 use Rattle.tv_lines.proofs.Refusing.{refusal_answers, document_answers, unwritten_answers, ok_maps, err_maps}
 use Rattle.tv_lines.proofs.document_line.append_answer.Goals as goal
 
 pub append_document-requires : goal.append_document-requires
 append_document-requires c =
-    let made = c.in-Ok-parse_json.ensures in
-    object_belongs c.args.schema.now made.0 _ made.2
+    c.in-Ok-parse_json.ensures.belongs
 
 pub returns-in-Ok-parse_json-clause-ok : goal.returns-in-Ok-parse_json-clause-ok
 returns-in-Ok-parse_json-clause-ok c =
     let text = c.in-Ok.ensures.cases in
-    ok_maps c.append_document.result (λ leaves. document_answers _ _ _ _ c.in-Ok-parse_json.document text.1 (rw text.0 at c.in-Ok-parse_json.ensures) leaves) c.append_document.ensures.ok
+    ok_maps c.append_document.result (λ leaves. document_answers _ _ _ _ c.in-Ok-parse_json.document text.1 (rw text.0 at c.in-Ok-parse_json.ensures.parses) leaves) c.append_document.ensures.ok
 
 pub returns-in-Ok-parse_json-clause-err : goal.returns-in-Ok-parse_json-clause-err
 returns-in-Ok-parse_json-clause-err c =
     let text = c.in-Ok.ensures.cases in
-    err_maps c.append_document.result (λ answer why. unwritten_answers _ _ _ c.in-Ok-parse_json.document text.1 (rw text.0 at c.in-Ok-parse_json.ensures) why) c.append_document.ensures.err
+    err_maps c.append_document.result (λ answer why. unwritten_answers _ _ _ c.in-Ok-parse_json.document text.1 (rw text.0 at c.in-Ok-parse_json.ensures.parses) why) c.append_document.ensures.err
 
 pub returns-in-Err-clause-err : goal.returns-in-Err-clause-err
 returns-in-Err-clause-err c =
     let text = c.in-Ok.ensures.cases in
-    rw c.refusal.ensures (refusal_answers c.args.schema.now c.args.line.now c.in-Err.error text.1 (subst (λ (l : List ℕ). Parses c.args.schema.now l (Err c.in-Err.error)) text.0 c.in-Err.ensures))
+    rw c.refusal.ensures (refusal_answers c.args.schema.now c.args.line.now c.in-Err.error text.1 (subst (λ (l : List ℕ). Parses c.args.schema.now l (Err c.in-Err.error)) text.0 c.in-Err.ensures.parses))

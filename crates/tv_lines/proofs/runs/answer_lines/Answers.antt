@@ -1,4 +1,5 @@
 use Rattle.std.proofs.Common.{◌++◌, ap, ◌∙◌}
+use Rattle.tv_lines.proofs.Halting.{taken_more}
 use Rattle.tv_lines.proofs.Progress.{Answered-step, Answered-ends, Answered-breaks, Answered-cut, on_err}
 use Rattle.tv_lines.proofs.runs.answer_lines.Goals as goal
 
@@ -20,18 +21,33 @@ lines-preserved g c =
           Answered-step (before.so_far s k)
           (rw c.if-not-branch.false at c.in_ok-take_line.ensures.takes (before.source_is_known s))
           (rw c.as_slice.ensures.value at c.in_ok-answer_line.ensures)
-          (c.in_ok-write_line.ensures.ok (before.sink_is_known k) ∙ ap (λ l. g.K.ByteSink.held c.lines.sink ++ l) c.as_slice-in-lines.ensures.value);
+          (c.in-Ok.ensures.ok (before.sink_is_known k) ∙ ap (λ l. g.K.ByteSink.held c.lines.sink ++ l) c.as_slice-in-lines.ensures.value);
       source_is_known = λ s. c.in_ok-take_line.ensures.is_known (before.source_is_known s);
-      sink_is_known = λ k. c.in_ok-write_line.ensures.is_known (before.sink_is_known k);
+      sink_is_known = λ k. c.in-Ok.ensures.is_known (before.sink_is_known k);
       source_failures = c.in_ok-take_line.ensures.failures ∙ before.source_failures;
-      sink_failures = c.in_ok-write_line.ensures.failures ∙ before.sink_failures;
+      sink_failures = c.in-Ok.ensures.failures ∙ before.sink_failures;
+      taken = λ s. taken_more _ _ _ _ _ _ (before.taken s) (c.in_ok-take_line.ensures.taken (before.source_is_known s));
     }
 
-pub returns-in_err-write_line-clause-err : goal.returns-in_err-write_line-clause-err
-returns-in_err-write_line-clause-err g c = λ s k.
+pub returns-in-Err-clause-err : goal.returns-in-Err-clause-err
+returns-in-Err-clause-err g c = λ s k.
     let before = c.lines.invariant in
-    on_err _
-    (Answered-cut (before.so_far s k)
+    Answered-cut (before.so_far s k)
     (rw c.if-not-branch.false at c.in_ok-take_line.ensures.takes (before.source_is_known s))
     (rw c.as_slice.ensures.value at c.in_ok-answer_line.ensures)
-    (rw c.as_slice-in-lines.ensures.value at c.in_err-write_line.ensures.err (before.sink_is_known k)))
+    (rw c.as_slice-in-lines.ensures.value at c.in-Err.ensures.err (before.sink_is_known k))
+
+pub returns-in_err-take_line-clause-taken : goal.returns-in_err-take_line-clause-taken
+returns-in_err-take_line-clause-taken g c = λ s.
+    let before = c.lines.invariant in
+    taken_more _ _ _ _ _ _ (before.taken s) (c.in_err-take_line.ensures.taken (before.source_is_known s))
+
+pub returns-in_err-answer_line-clause-taken : goal.returns-in_err-answer_line-clause-taken
+returns-in_err-answer_line-clause-taken g c = λ s.
+    let before = c.lines.invariant in
+    taken_more _ _ _ _ _ _ (before.taken s) (c.in_ok-take_line.ensures.taken (before.source_is_known s))
+
+pub returns-in-Err-clause-taken : goal.returns-in-Err-clause-taken
+returns-in-Err-clause-taken g c = λ s.
+    let before = c.lines.invariant in
+    taken_more _ _ _ _ _ _ (before.taken s) (c.in_ok-take_line.ensures.taken (before.source_is_known s))

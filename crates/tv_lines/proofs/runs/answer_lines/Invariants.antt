@@ -1,5 +1,6 @@
 use Rattle.std.proofs.Common.{◌≡◌, ◌++◌}
 use Rattle.tv_lines.specs.Reader.{unread, most_left}
+use Rattle.tv_base.specs.Stop.{Taken}
 use Rattle.tv_lines.proofs.Progress.{Answered}
 use Rattle.tv_lines.proofs.runs.answer_lines.Given as goal
 
@@ -14,6 +15,7 @@ invariant-lines g l =
       sink_is_known : sink.is_known l.initial.sink → sink.is_known l.sink;
       source_failures : source.failures l.source ≡ source.failures l.initial.source;
       sink_failures : sink.failures l.sink ≡ sink.failures l.initial.sink;
+      taken : source.is_known l.initial.source → Taken (source.left l.initial.source) (source.left l.source) l.initial.reader.count l.reader.count;
     }
 
 abbrev pub decreases-lines : goal.decreases-lines

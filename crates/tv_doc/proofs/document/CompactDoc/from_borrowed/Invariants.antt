@@ -1,9 +1,12 @@
-use Rattle.std.specs.Prelude.{[], drop}
+use Rattle.std.specs.Prelude.{drop}
 use Rattle.tv_borrowed.specs.BorrowedData.{members_data}
-use Rattle.tv_doc.specs.Document.{document_of}
+use Rattle.tv_doc.specs.Additions.{IsEmpty}
 use Rattle.tv_doc.specs.JsonObject.{object_values}
+use Rattle.tv_doc.specs.declared.document.CompactDoc.{CompactDoc}
 use Rattle.tv_doc.proofs.JsonDocuments.{SoFar}
 use Rattle.tv_doc.proofs.document.CompactDoc.from_borrowed.Given as goal
 
 abbrev pub invariant-loop-key : goal.invariant-loop-key
-invariant-loop-key l = SoFar (object_values l.schema (members_data l.members)) (object_values l.schema (members_data (drop l.key-index l.members))) [] (document_of l.document)
+invariant-loop-key l =
+    (start : CompactDoc) × IsEmpty start
+    × SoFar (object_values l.schema (members_data l.members)) (object_values l.schema (members_data (drop l.key-index l.members))) start l.document

@@ -1,0 +1,136 @@
+-- Why values by name aren't converted back.
+use Rattle.std.proofs.Common.{◌≡◌, ◌≢◌, ◌⊎◌, ℕ, ◌+◌, ◌<◌, ◌≤◌, Bool, true, false, List, [], ◌∷◌, ◌++◌, length, Err, refl, sym, ap, subst, ◌∙◌, arith, inl, inr}
+use Rattle.std.specs.Prelude.{nat_eq}
+use Rattle.std.specs.List.{AllByRecursion}
+use Rattle.std.proofs.lemmas.Bool.Decides.{Decides-eqb}
+use Rattle.std.proofs.lemmas.List.Sums.{sum_by-cons, sum_by-append}
+use Rattle.tv_heap.specs.Room.{room, document_room}
+use Rattle.tv_value.specs.Short.{IsPair, IsDocument}
+use Rattle.tv_value.specs.Tree.{Tree, Document}
+use Rattle.tv_doc.specs.AdditionError.{addition_error}
+use Rattle.tv_doc.specs.Additions.{IsEmpty}
+use Rattle.tv_doc.specs.Document.{document_of, heap_of}
+use Rattle.tv_doc.specs.FieldValues.{values_of}
+use Rattle.tv_doc.specs.NamedPairs.{StopsAtPair, MakesPairs, IsBackError}
+use Rattle.tv_doc.specs.declared.add_error.AddError.{AddError}
+use Rattle.tv_doc.specs.declared.add_error.AddError.TheVariants.{FieldNumber, HeapFull, Memory}
+use Rattle.tv_doc.specs.declared.doc_parsing_error.DocParsingError.{DocParsingError}
+use Rattle.tv_doc.specs.declared.document.CompactDoc.{CompactDoc}
+use Rattle.tv_doc.proofs.Additions.{from_empty}
+use Rattle.tv_doc.proofs.NamedBack.{values_append}
+use Rattle.tv_doc.proofs.Pairs.{value_first, other_first}
+
+room-cons : (p : ℕ × Tree) (d : Document) → document_room (p ∷ d) ≡ room p.1 + document_room d
+room-cons p d = sum_by-cons (λ (pair : ℕ × Tree). room pair.1) p d
+
+-- a document without the first value of a field
+record Without (f : ℕ) (t : Tree) (ts : List Tree) (d : Document) : Type 0 where
+  rest : Document
+  fills : document_room d ≡ room t + document_room rest
+  own : values_of f rest ≡ ts
+  others : (g : ℕ) → nat_eq f g ≡ false → values_of g rest ≡ values_of g d
+
+same_behind : (g h : ℕ) (u : Tree) (d e : Document) → values_of h d ≡ values_of h e → values_of h ((g, u) ∷ d) ≡ values_of h ((g, u) ∷ e)
+same_behind g h u d e same = by_test (nat_eq g h) refl
+  where
+    by_test : (b : Bool) → nat_eq g h ≡ b → values_of h ((g, u) ∷ d) ≡ values_of h ((g, u) ∷ e)
+    by_test true test = value_first h g u _ d refl test ∙ ap (λ l. u ∷ l) same ∙ sym (value_first h g u _ e refl test)
+    by_test false test = other_first h g u _ d refl test ∙ same ∙ sym (other_first h g u _ e refl test)
+
+head_is : {A : Type 0} {x y : A} {xs ys : List A} → x ∷ xs ≡ y ∷ ys → x ≡ y
+head_is e = cc
+
+tail_is : {A : Type 0} {x y : A} {xs ys : List A} → x ∷ xs ≡ y ∷ ys → xs ≡ ys
+tail_is e = cc
+
+without : (f : ℕ) (t : Tree) (ts : List Tree) (d : Document) → values_of f d ≡ t ∷ ts → Without f t ts d
+without f t ts [] e = absurd (cc)
+without f t ts ((g, u) ∷ d) e = by_test (nat_eq g f) refl (without f t ts d)
+  where
+    by_test : (b : Bool) → nat_eq g f ≡ b → (values_of f d ≡ t ∷ ts → Without f t ts d) → Without f t ts ((g, u) ∷ d)
+    by_test true test again =
+        let both : u ∷ values_of f d ≡ t ∷ ts = sym (value_first f g u _ d refl test) ∙ e in
+        let field : g ≡ f = (Decides-eqb g f).0 test in
+        record {
+          rest = d;
+          fills = room-cons (g, u) d ∙ ap (λ x. room x + document_room d) (head_is both);
+          own = tail_is both;
+          others = λ h no. sym (other_first h g u _ d refl (ap (λ n. nat_eq n h) field ∙ no));
+        }
+    by_test false test again =
+        let r = again (sym (other_first f g u _ d refl test) ∙ e) in
+        record {
+          rest = (g, u) ∷ r.rest;
+          fills = omega (arith, room-cons (g, u) d, room-cons (g, u) r.rest, r.fills);
+          own = other_first f g u _ r.rest refl test ∙ r.own;
+          others = λ h no. same_behind g h u r.rest d (r.others h no);
+        }
+
+-- the one has of each field the other's values, or none
+abbrev Parts : Document → Document → Type 0
+Parts a d = (f : ℕ) → (values_of f a ≡ []) ⊎ (values_of f a ≡ values_of f d)
+
+own_first : (f : ℕ) (t : Tree) (a : Document) → values_of f ((f, t) ∷ a) ≡ t ∷ values_of f a
+own_first f t a = value_first f f t _ a refl ((Decides-eqb f f).1 refl)
+
+not_none : {A : Type 0} {x : A} {xs : List A} → x ∷ xs ≢ []
+not_none e = cc
+
+parts_first : (f : ℕ) (t : Tree) (a d : Document) → Parts ((f, t) ∷ a) d → values_of f d ≡ t ∷ values_of f a
+parts_first f t a d h = elim (h f) [ inl none ↦ absurd (not_none (sym (own_first f t a) ∙ none)) | inr same ↦ sym same ∙ own_first f t a ]
+
+parts_rest : (f : ℕ) (t : Tree) (a d : Document) → Parts ((f, t) ∷ a) d → (w : Without f t (values_of f a) d) → Parts a w.rest
+parts_rest f t a d h w g = by_test (nat_eq f g) refl
+  where
+    by_test : (b : Bool) → nat_eq f g ≡ b → (values_of g a ≡ []) ⊎ (values_of g a ≡ values_of g w.rest)
+    by_test true test = let field : f ≡ g = (Decides-eqb f g).0 test in inr (subst (λ n. values_of n a ≡ values_of n w.rest) field (sym w.own))
+    by_test false test =
+        let first : values_of g ((f, t) ∷ a) ≡ values_of g a = other_first g f t _ a refl test in
+        elim (h g) [ inl none ↦ inl (sym first ∙ none) | inr same ↦ inr (sym first ∙ same ∙ sym (w.others g test)) ]
+
+room_within : (a d : Document) → Parts a d → document_room a ≤ document_room d
+room_within [] d h = omega arith
+room_within ((f, t) ∷ a) d h =
+    let w = without f t (values_of f a) d (parts_first f t a d h) in
+    omega (arith, room-cons (f, t) a, w.fills, room_within a w.rest (parts_rest f t a d h w))
+
+-- a field of a document is a number up to 65535
+field_fits : (f : ℕ) (t : Tree) (ts : List Tree) (d : Document) → AllByRecursion IsPair d → values_of f d ≡ t ∷ ts → f ≤ 65535
+field_fits f t ts [] valid e = absurd (cc)
+field_fits f t ts ((g, u) ∷ d) valid e = by_test (nat_eq g f) refl (field_fits f t ts d valid.1)
+  where
+    by_test : (b : Bool) → nat_eq g f ≡ b → (values_of f d ≡ t ∷ ts → f ≤ 65535) → f ≤ 65535
+    by_test true test again = subst (λ n. n ≤ 65535) ((Decides-eqb g f).0 test) valid.0.field
+    by_test false test again = again (sym (other_first f g u _ d refl test) ∙ e)
+
+-- what stands in the middle
+stands_first : (f : ℕ) (t : Tree) (before behind : Document) → (ts : List Tree) × (u : Tree) × (values_of f (before ++ (f, t) ∷ behind) ≡ u ∷ ts)
+stands_first f t before behind = by_front (values_of f before) refl
+  where
+    all : values_of f (before ++ (f, t) ∷ behind) ≡ values_of f before ++ t ∷ values_of f behind
+    all = values_append f before ((f, t) ∷ behind) ∙ ap (λ l. values_of f before ++ l) (own_first f t behind)
+
+    by_front : (front : List Tree) → values_of f before ≡ front → (ts : List Tree) × (u : Tree) × (values_of f (before ++ (f, t) ∷ behind) ≡ u ∷ ts)
+    by_front [] e = (values_of f behind, t, all ∙ ap (λ l. l ++ t ∷ values_of f behind) e)
+    by_front (u ∷ us) e = (us ++ t ∷ values_of f behind, u, all ∙ ap (λ l. l ++ t ∷ values_of f behind) e)
+
+middle_fits : (f : ℕ) (t : Tree) (before behind d : Document) → IsDocument d → Parts (before ++ (f, t) ∷ behind) d → f ≤ 65535
+middle_fits f t before behind d valid h =
+    let s = stands_first f t before behind in
+    elim (h f) [ inl none ↦ absurd (not_none (sym s.2 ∙ none)) | inr same ↦ field_fits f s.1 s.0 d valid.each (sym same ∙ s.2) ]
+
+middle_room : (p : ℕ × Tree) (before behind : Document) → document_room before + room p.1 ≤ document_room (before ++ p ∷ behind)
+middle_room p before behind = omega (arith, sum_by-append (λ (pair : ℕ × Tree). room pair.1) before (p ∷ behind), room-cons p behind)
+
+refusal_back : (pairs d : Document) (start : CompactDoc) (r : AddError) → IsDocument d → Parts pairs d → IsEmpty start → StopsAtPair pairs start r → IsBackError d (addition_error r)
+refusal_back pairs d start (FieldNumber n) valid h none s =
+    let fits = middle_fits s.at.0 s.at.1 s.before s.behind d valid (subst (λ ps. Parts ps d) s.joined h) in
+    absurd (omega (arith, fits, s.refused.1))
+refusal_back pairs d start HeapFull valid h none s =
+    let mid = s.mid in
+    let within = mid.room in
+    omega (arith, s.refused.1, within, ap document_room (from_empty s.before start mid none s.added), middle_room s.at s.before s.behind, ap document_room s.joined, room_within pairs d h)
+refusal_back pairs d start Memory valid h none s = tt
+
+pub convert_error : (pairs d : Document) (e : DocParsingError) → IsDocument d → Parts pairs d → MakesPairs pairs (Err e) → IsBackError d e
+convert_error pairs d e valid h made = subst (IsBackError d) (sym made.1) (refusal_back pairs d made.2.0 made.0 valid h made.2.1 made.2.2)

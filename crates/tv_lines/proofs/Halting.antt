@@ -1,0 +1,52 @@
+-- How often reads and writes failed, and how many bytes were taken, where a run breaks off.
+use Rattle.std.proofs.Common.{◌≡◌, ℕ, ◌+◌, ◌-◌, ◌^◌, List, [], ◌++◌, length, refl, sym, subst, ap, ◌∙◌, append_assoc, Result, arith}
+use Rattle.std.proofs.lemmas.List.{length-append}
+use Rattle.std.specs.declared.io.ErrorKind.{ErrorKind}
+use Rattle.tv_base.specs.Source.{Failures}
+use Rattle.tv_base.specs.Stop.{Stop, Counts, CountsStop, Taken}
+use Rattle.tv_base.specs.ReadsAs.{TakesMost}
+use Rattle.tv_lines.specs.Run.{source_stop, sink_stop, CountsEnd, IsWhole}
+use Rattle.tv_lines.specs.declared.run_end.RunEnd.{RunEnd}
+use Rattle.tv_lines.specs.declared.run_end.RunEnd.TheVariants.{Done, BadSchema, Broken}
+use Rattle.tv_lines.specs.declared.halt.Halt.{Halt}
+use Rattle.tv_lines.specs.declared.halt.Halt.TheVariants.{Read, Write, Memory, TooLong}
+
+pub taken_none : (a : List ℕ) (n : ℕ) → Taken a a n n
+taken_none a n = record { prefix = []; joined = refl; counted = omega arith }
+
+pub taken_more : (a b c : List ℕ) (m n k : ℕ) → Taken a b m n → Taken b c n k → Taken a c m k
+taken_more a b c m n k s t = record {
+  prefix = s.prefix ++ t.prefix;
+  joined = s.joined ∙ ap (λ l. s.prefix ++ l) t.joined ∙ sym (append_assoc s.prefix t.prefix c);
+  counted = omega (arith, s.counted, t.counted, length-append s.prefix t.prefix);
+}
+
+-- nothing failed before
+pub stop_later : (stop : Stop ⊥) (f g h : Failures) → g ≡ f → CountsStop stop g h → CountsStop stop f h
+stop_later stop f g h e c = subst (λ x. CountsStop stop x h) e c
+
+-- no write failed
+pub sink_rests : (e : Halt) (f g : Failures) → ((kind : ErrorKind) → e ≡ Write kind → ⊥) → g ≡ f → CountsStop (sink_stop e) f g
+sink_rests (Read kind) f g none same = same
+sink_rests (Write kind) f g none same = absurd (none kind refl)
+sink_rests Memory f g none same = same
+sink_rests TooLong f g none same = same
+
+-- ---- whole runs
+
+pub whole_counts : (stop : Halt → Stop ⊥) (end : RunEnd) (f g : Failures) → IsWhole end → g ≡ f → CountsEnd stop end f g
+whole_counts stop Done f g whole same = same
+whole_counts stop BadSchema f g whole same = same
+whole_counts stop (Broken halt) f g whole same = absurd whole
+
+pub not_broken : {P : Type 0} (end : RunEnd) (halt : Halt) → IsWhole end → end ≡ Broken halt → P
+not_broken Done halt whole e = absurd (cc)
+not_broken BadSchema halt whole e = absurd (cc)
+not_broken (Broken h) halt whole e = absurd whole
+
+pub taken_again : (a b c : List ℕ) (m n i k : ℕ) → Taken a b m n → i ≡ n → Taken b c i k → Taken a c m k
+taken_again a b c m n i k s e t = taken_more a b c m n k s (subst (λ j. Taken b c j k) e t)
+
+-- all bytes that are counted were taken
+pub most_taken : (a b : List ℕ) (m n : ℕ) → Taken a b m n → m ≡ 0 → n ≡ 2 ^ 64 - 1 → TakesMost a b
+most_taken a b m n t start full = (t.prefix, t.joined, omega (arith, t.counted, start, full))
