@@ -1,13 +1,17 @@
 //! Values read into types.
 
-ghost use Rattle.std.specs.Prelude.{[]};
+ghost use Rattle.std.specs.Prelude.{◌≡◌, [], true, OnErr};
 ghost use Rattle.tantivy_schema.specs.StoreVersion.{version_of};
 ghost use Rattle.tantivy_schema.specs.Typed.{Deserializes};
 ghost use Rattle.tantivy_schema.specs.Values.{EncodesAs, NextRefused};
 
 use std::alloc::Global;
 use tantivy_schema::common::ByteSource;
-use tantivy_schema::schema::document::{DeserializeError, StoreReader, ValueDeserialize};
+use tantivy_schema::schema::TantivyDocument;
+use tantivy_schema::schema::document::{
+    BinaryDocumentDeserializer, DeserializeError, DocumentDeserialize, StoreReader,
+    ValueDeserialize,
+};
 
 /// A list of keys and values has each entry of the object in order, those of equal keys too.
 pub fn entries_of_equal_keys_are_kept<S: ByteSource>(
@@ -32,4 +36,15 @@ fn are_two_of_one_key(entries: &Vec<(String, u64)>) -> bool {
         [(first, _), (second, _)] => first.as_str() == second.as_str(),
         _ => false,
     }
+}
+
+/// A reader is marked once a document was refused, also where it had no room or no memory, so that nothing is read behind it.
+pub fn refused_documents_are_marked<S: ByteSource>(
+    alloc: Global,
+    reader: &mut StoreReader<S>,
+) -> Result<TantivyDocument, DeserializeError>
+    ensures { OnErr result (reader.new.has_failed ≡ true) }
+{
+    let mut pairs = BinaryDocumentDeserializer::from_reader(reader)?;
+    TantivyDocument::deserialize(alloc, &mut pairs)
 }
