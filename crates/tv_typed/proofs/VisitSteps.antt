@@ -32,18 +32,18 @@ any_excluded v kind prefix rest e t (other_type other) p = absurd (other refl)
 any_excluded v kind prefix rest e t (in_body {c} same f) p = malformed_behind v kind prefix rest _ t f p
 
 visits : {S X : Type 0} {is_known : S → Type 0} {left : S → List ℕ} {failures : S → Failures} (old new : StoreReader S) (kind : ValueType) (answers : Leaf → Result X DeserializeError → Type 0) (result : Result X DeserializeError) (read : Result Leaf DeserializeError)
-    → Reads is_known left failures old (record new { has_failed = is_err read }) read (EncodesLeaf (version_of old.version) kind (λ l. l)) (LeafRefused kind (version_of old.version) kind) → Answered answers read result → OnOk result (new.has_failed ≡ false) → Visits is_known left failures old new kind answers result
-visits old new kind answers result read h a unmarked =
+    → Reads is_known left failures old (record new { has_failed = is_err read }) read (EncodesLeaf (version_of old.version) kind (λ l. l)) (LeafRefused kind (version_of old.version) kind) → Answered answers read result → Visits is_known left failures old new kind answers result
+visits old new kind answers result read h a =
     let v = version_of old.version in
     record {
       read = read;
       reads = h;
       only = only_by (IsLeaf (λ l. l)) v (coded kind) (LeafRefused kind v kind) (λ prefix rest e t x r p same. any_excluded v kind prefix rest e t r p) (leaf_deserializes (λ l. l) v kind h);
       answered = a;
-      unmarked = unmarked;
     }
 
-unmarked_still : {X : Type 0} (result : Result X DeserializeError) (b : Bool) → b ≡ false → OnOk result (b ≡ false)
+-- what is read of another source, or returned by a visitor, changes no mark
+pub unmarked_still : {X : Type 0} (result : Result X DeserializeError) (b : Bool) → b ≡ false → OnOk result (b ≡ false)
 unmarked_still (Ok x) b e = e
 unmarked_still (Err e) b h = tt
 
@@ -71,7 +71,6 @@ leaf_answered old new kind expected make a l answers result is h same answered =
       same_version = h.same_version;
     })
     answered
-    (unmarked_still result new.has_failed h.marks)
 
 -- none was read
 pub leaf_refused : {S A X : Type 0} {is_known : S → Type 0} {left : S → List ℕ} {failures : S → Failures} (old new : StoreReader S) (kind expected : ValueType) (make : A → Leaf) (answers : Leaf → Result X DeserializeError → Type 0) (e : DeserializeError)
@@ -92,7 +91,6 @@ leaf_refused {left = left} old new kind expected make answers e is h =
       same_version = h.same_version;
     })
     refl
-    tt
 
 -- ---- arrays and objects
 
@@ -102,9 +100,9 @@ pub items_refused : {S X : Type 0} {is_known : S → Type 0} {left : S → List 
 items_refused {new = new} e h = record { behind_number = new; announced = Err e; reads = h; handed = (refl, refl) }
 
 -- what the visitor refused was marked
-pub visits_marked : {S X : Type 0} {is_known : S → Type 0} {left : S → List ℕ} {failures : S → Failures} {old new : StoreReader S} {kind : ValueType} {answers : Leaf → Result X DeserializeError → Type 0} {e : DeserializeError}
-    → Visits is_known left failures old new kind answers (Err e) → Visits is_known left failures old (record new { has_failed = true }) kind answers (Err e)
-visits_marked h = record { read = h.read; reads = h.reads; only = h.only; answered = h.answered; unmarked = tt }
+pub visits_marked : {S X : Type 0} {is_known : S → Type 0} {left : S → List ℕ} {failures : S → Failures} {old new : StoreReader S} {kind : ValueType} {answers : Leaf → Result X DeserializeError → Type 0} {result : Result X DeserializeError}
+    → Visits is_known left failures old new kind answers result → Visits is_known left failures old (record new { has_failed = true }) kind answers result
+visits_marked h = record { read = h.read; reads = h.reads; only = h.only; answered = h.answered }
 
 handed_marked : {S X : Type 0} (is_known : S → Type 0) (left : S → List ℕ) (failures : S → Failures) (mid new : StoreReader S) (announced : Result ℕ DeserializeError) (result : Result X DeserializeError)
     → mid.has_failed ≡ is_err announced → Handed is_known left failures mid new announced result → Handed is_known left failures mid (record new { has_failed = true }) announced result
@@ -143,15 +141,15 @@ pub items_calm : {S X : Type 0} {is_known : S → Type 0} {left : S → List ℕ
 items_calm {is_known = is_known} {left = left} {new = new} {result = result} is_open h = handed_calm is_known left h.behind_number new h.announced result (h.reads.finds is_open).counts h.handed
 
 -- what the visitor refused was marked
-pub legacy_marked : {S X : Type 0} {is_known : S → Type 0} {left : S → List ℕ} {failures : S → Failures} {old new : StoreReader S} {e : DeserializeError} → VisitsLegacy {X = X} is_known left failures old new (Err e) → VisitsLegacy {X = X} is_known left failures old (record new { has_failed = true }) (Err e)
-legacy_marked h = record { behind_object = h.behind_object; read = h.read; reads = h.reads; gives = h.gives; same_source = h.same_source; same_count = h.same_count; unmarked = tt; same_version = h.same_version }
+pub legacy_marked : {S X : Type 0} {is_known : S → Type 0} {left : S → List ℕ} {failures : S → Failures} {old new : StoreReader S} {result : Result X DeserializeError} → VisitsLegacy is_known left failures old new result → VisitsLegacy is_known left failures old (record new { has_failed = true }) result
+legacy_marked h = record { behind_object = h.behind_object; read = h.read; reads = h.reads; gives = h.gives; same_source = h.same_source; same_count = h.same_count; same_version = h.same_version }
 
 -- the object was refused
 pub legacy_refused : {S X : Type 0} {is_known : S → Type 0} {left : S → List ℕ} {failures : S → Failures} {old new : StoreReader S} (e : DeserializeError)
     → Reads {X = OwnedValue} is_known left failures old new (Err e) (EncodesBehind (version_of old.version) types.JSONObject) (TreeRefused (version_of old.version) types.JSONObject) → VisitsLegacy {X = X} is_known left failures old new (Err e)
-legacy_refused {new = new} e h = record { behind_object = new; read = Err e; reads = h; gives = refl; same_source = refl; same_count = refl; unmarked = tt; same_version = refl }
+legacy_refused {new = new} e h = record { behind_object = new; read = Err e; reads = h; gives = refl; same_source = refl; same_count = refl; same_version = refl }
 
 -- it was read
 pub legacy_visited : {S X : Type 0} {is_known : S → Type 0} {left : S → List ℕ} {failures : S → Failures} {old new : StoreReader S} (tree : OwnedValue) (result : Result X DeserializeError)
     → Reads is_known left failures old new (Ok tree) (EncodesBehind (version_of old.version) types.JSONObject) (TreeRefused (version_of old.version) types.JSONObject) → TellsNoFailure result → VisitsLegacy is_known left failures old new result
-legacy_visited {new = new} tree result h none = record { behind_object = new; read = Ok tree; reads = h; gives = none; same_source = refl; same_count = refl; unmarked = unmarked_still result new.has_failed h.marks; same_version = refl }
+legacy_visited {new = new} tree result h none = record { behind_object = new; read = Ok tree; reads = h; gives = none; same_source = refl; same_count = refl; same_version = refl }

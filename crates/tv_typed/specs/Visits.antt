@@ -1,5 +1,5 @@
 -- What a visitor is handed, and what is done through a reader then.
-use Rattle.std.specs.Prelude.{◌≡◌, ℕ, true, false, is_err, List, Result, Ok, Err, OnOk}
+use Rattle.std.specs.Prelude.{◌≡◌, ℕ, true, is_err, List, Result, Ok, Err}
 use Rattle.tv_base.specs.Source.{Failures}
 use Rattle.tv_base.specs.Stop.{Counts, Taken}
 use Rattle.tv_reader.specs.Trees.{EncodesBehind}
@@ -29,7 +29,6 @@ pub record Visits {S X : Type 0} (is_known : S → Type 0) (left : S → List �
   pub reads : Reads is_known left failures old (record new { has_failed = is_err read }) read (EncodesLeaf (version_of old.version) kind (λ l. l)) (LeafRefused kind (version_of old.version) kind)
   pub only : Only is_known left old (record new { has_failed = is_err read }) read (IsLeaf (λ l. l)) (version_of old.version) (coded kind)
   pub answered : Answered answers read result
-  pub unmarked : OnOk result (new.has_failed ≡ false)
 
 -- ---- arrays and objects
 
@@ -73,5 +72,4 @@ pub record VisitsLegacy {S X : Type 0} (is_known : S → Type 0) (left : S → L
   pub gives : GivesRefusal read result
   pub same_source : new.source ≡ behind_object.source
   pub same_count : new.count ≡ behind_object.count
-  pub unmarked : OnOk result (new.has_failed ≡ false)
   pub same_version : new.version ≡ behind_object.version

@@ -3,7 +3,7 @@
 #![tactic(auto, using(tv_base::proofs::TakeSteps::Taken_then), unfolding(tv_reader::specs::Leaves::leaf_at))]
 
 ghost use Rattle.std.specs.Prelude.{◌≡◌, Ok, Err, IfOk, IfErr, string_bytes, map, true, List, []};
-ghost use Rattle.std.specs.Prelude.{ℕ, OnErr, IsErrOf, refl, false, Result};
+ghost use Rattle.std.specs.Prelude.{ℕ, OnOk, OnErr, IsErrOf, refl, false, Result};
 ghost use Rattle.std.specs.Borrow.{sem, RestsIfErr};
 ghost use Rattle.std.specs.Net.Addr.{ipv6_bits};
 ghost use Rattle.tv_base.specs.Stop.{Counts};
@@ -666,7 +666,8 @@ pub trait ValueVisitor {
             (tokenized (string_bytes value.text) (map token_of value.tokens.items)) result };
 
     /// An array stands there, whose number of values was read. Where a visitor takes none, it returns `UnsupportedType`. It returns `Io`
-    /// exactly where a read failed, with its kind, and none of `HeapFull`, `UnsupportedVersion` and `AlreadyFailed`.
+    /// exactly where a read failed, with its kind, and none of `HeapFull`, `UnsupportedVersion` and `AlreadyFailed`. After a read that was
+    /// refused it returns an error.
     fn visit_array<S: ByteSource>(
         &self,
         alloc: Global,
@@ -678,6 +679,7 @@ pub trait ValueVisitor {
             access.exit.1.1.0.now }
         ensures counts { Counts typed_stop result (S.failures access.entry.reader.now.source)
             (S.failures access.exit.1.1.0.now.source) }
+        ensures unmarked { OnOk result (access.exit.1.1.0.now.has_failed ≡ false) }
     {
         let _ = alloc;
         let _ = access;
@@ -685,7 +687,8 @@ pub trait ValueVisitor {
     }
 
     /// An object stands there, whose number of entries was read. Where a visitor takes none, it returns `UnsupportedType`. It returns `Io`
-    /// exactly where a read failed, with its kind, and none of `HeapFull`, `UnsupportedVersion` and `AlreadyFailed`.
+    /// exactly where a read failed, with its kind, and none of `HeapFull`, `UnsupportedVersion` and `AlreadyFailed`. After a read that was
+    /// refused it returns an error.
     fn visit_object<S: ByteSource>(
         &self,
         alloc: Global,
@@ -697,6 +700,7 @@ pub trait ValueVisitor {
             access.exit.1.1.0.now }
         ensures counts { Counts typed_stop result (S.failures access.entry.reader.now.source)
             (S.failures access.exit.1.1.0.now.source) }
+        ensures unmarked { OnOk result (access.exit.1.1.0.now.has_failed ≡ false) }
     {
         let _ = alloc;
         let _ = access;

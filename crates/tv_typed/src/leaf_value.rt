@@ -1,6 +1,6 @@
 //! What is read and handed on of one type of values, in the same way for each.
 
-ghost use Rattle.std.specs.Prelude.{◌≡◌, Bool, true, false, IsErrOf};
+ghost use Rattle.std.specs.Prelude.{◌≡◌, Bool, true, false, OnOk, IsErrOf};
 ghost use Rattle.tv_base.specs.Take.{TakesBy};
 ghost use Rattle.tv_base.specs.declared.read_error.ReadError.TheVariants as reads;
 ghost use Rattle.tv_reader.specs.Leaves.{is_leaf_type, leaf_at};
@@ -85,9 +85,10 @@ impl<S: ByteSource> StoreReader<S> {
         kind: ValueType,
         visitor: &V,
     ) -> Result<V::Value, DeserializeError>
-        ensures { kind ≡ T.expected
+        ensures visits { kind ≡ T.expected
             → Visits S.is_known S.left S.failures self.old self.new kind (V.answers visitor.now)
             result }
+        ensures unmarked { OnOk result (self.new.has_failed ≡ false) }
     {
         let value = self.leaf::<T>(alloc, kind)?;
         value.visit(visitor)

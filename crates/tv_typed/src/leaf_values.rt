@@ -2,7 +2,7 @@
 
 #![tactic(auto, using(tv_base::proofs::TakeSteps::Taken_then), unfolding(tv_reader::specs::Leaves::leaf_at))]
 
-ghost use Rattle.std.specs.Prelude.{◌≡◌, string_bytes, map, true, false, refl};
+ghost use Rattle.std.specs.Prelude.{◌≡◌, string_bytes, map, true, false, OnOk, refl};
 ghost use Rattle.std.specs.Net.Addr.{ipv6_bits};
 ghost use Rattle.tv_reader.specs.Leaves.{is_leaf_type};
 ghost use Rattle.tv_reader.specs.declared.value_type.ValueType.TheVariants as types;
@@ -321,9 +321,10 @@ impl<S: ByteSource> StoreReader<S> {
         kind: ValueType,
         visitor: &V,
     ) -> Result<V::Value, DeserializeError>
-        ensures { is_leaf_type kind ≡ true
+        ensures visits { is_leaf_type kind ≡ true
             → Visits S.is_known S.left S.failures self.old self.new kind (V.answers visitor.now)
             result }
+        ensures unmarked { OnOk result (self.new.has_failed ≡ false) }
     {
         match kind {
             ValueType::Null => self.visit_one::<(), V>((), kind, visitor),

@@ -1,6 +1,6 @@
 //! Handing what stands in a store to a visitor.
 
-ghost use Rattle.std.specs.Prelude.{◌≡◌, true, OnErr};
+ghost use Rattle.std.specs.Prelude.{◌≡◌, true, false, is_err, OnOk};
 ghost use Rattle.tv_reader.specs.Leaves.{is_leaf_type};
 ghost use Rattle.tv_reader.specs.Version.{version_of};
 ghost use Rattle.tv_reader.specs.declared.value_type.ValueType.TheVariants as types;
@@ -25,8 +25,9 @@ impl<S: ByteSource> StoreReader<S> {
         kind: ValueType,
         visitor: &V,
     ) -> Result<V::Value, DeserializeError>
-        ensures { VisitsItems S.is_known S.left S.failures self.old self.new types.Array
+        ensures visits { VisitsItems S.is_known S.left S.failures self.old self.new types.Array
             element_total kind result }
+        ensures unmarked { OnOk result (self.new.has_failed ≡ false) }
     {
         let announced = self.array_length(kind)?;
         let access = BinaryArrayDeserializer {
@@ -44,8 +45,9 @@ impl<S: ByteSource> StoreReader<S> {
         kind: ValueType,
         visitor: &V,
     ) -> Result<V::Value, DeserializeError>
-        ensures { VisitsItems S.is_known S.left S.failures self.old self.new types.Object
+        ensures visits { VisitsItems S.is_known S.left S.failures self.old self.new types.Object
             (entry_total (version_of self.old.version)) kind result }
+        ensures unmarked { OnOk result (self.new.has_failed ≡ false) }
     {
         let announced = self.object_length(kind)?;
         let access = BinaryObjectDeserializer {
@@ -62,7 +64,8 @@ impl<S: ByteSource> StoreReader<S> {
         alloc: Global,
         visitor: &V,
     ) -> Result<V::Value, DeserializeError>
-        ensures { VisitsLegacy S.is_known S.left S.failures self.old self.new result }
+        ensures visits { VisitsLegacy S.is_known S.left S.failures self.old self.new result }
+        ensures unmarked { OnOk result (self.new.has_failed ≡ false) }
     {
         let kind = ValueType::JSONObject;
         let tree = BinaryValueDeserializer { kind, reader: self }.deserialize_tree(alloc)?;
@@ -90,6 +93,7 @@ impl<S: ByteSource> StoreReader<S> {
             (entry_total (version_of self.old.version)) kind result }
         ensures legacy { kind ≡ types.JSONObject
             → VisitsLegacy S.is_known S.left S.failures self.old self.new result }
+        ensures unmarked { OnOk result (self.new.has_failed ≡ false) }
     {
         match kind {
             ValueType::Array => self.visit_elements(alloc, kind, visitor),
@@ -117,7 +121,7 @@ impl<S: ByteSource> StoreReader<S> {
             (entry_total (version_of self.old.version)) kind result }
         ensures legacy { kind ≡ types.JSONObject
             → VisitsLegacy S.is_known S.left S.failures self.old self.new result }
-        ensures marks { OnErr result (self.new.has_failed ≡ true) }
+        ensures marks { self.new.has_failed ≡ is_err result }
     {
         match self.visit_kind(alloc, kind, visitor) {
             Ok(value) => Ok(value),
@@ -136,7 +140,7 @@ impl<'de, S: ByteSource> BinaryValueDeserializer<'de, S> {
     /// is malformed, with `OddObject` where no object announces it; for a legacy object those of `deserialize_tree`, and then the
     /// visitor's call for objects is handed the entries of an encoding of its tree, which is made in memory; `Io`; `Memory`;
     /// `AlreadyFailed` where an earlier read was refused; and what the visitor refuses. The visitor isn't called after another refusal.
-    /// Each is marked in the reader.
+    /// Each is marked in the reader, which else isn't marked.
     pub fn deserialize_any<V: ValueVisitor>(
         self,
         alloc: Global,
@@ -155,7 +159,7 @@ impl<'de, S: ByteSource> BinaryValueDeserializer<'de, S> {
         ensures legacy { self.entry.kind ≡ types.JSONObject
             → VisitsLegacy S.is_known S.left S.failures self.entry.reader.now self.exit.1.0.now
             result }
-        ensures marks { OnErr result (self.exit.1.0.now.has_failed ≡ true) }
+        ensures marks { self.exit.1.0.now.has_failed ≡ is_err result }
     {
         let BinaryValueDeserializer { kind, reader } = self;
         reader.visit(alloc, kind, visitor)
