@@ -116,6 +116,7 @@ pub use Rattle.tv_decoder.specs.Paid
 pub use Rattle.tv_decoder.specs.Steps
 pub use Rattle.tv_decoder.specs.Kept as DecoderKept
 pub use Rattle.tv_store.specs.PairsGiven
+pub use Rattle.tv_store.specs.RoundTrip
 pub use Rattle.tv_store.specs.Serialized
 pub use Rattle.tv_store.specs.Stored
 pub use Rattle.tv_reader.specs.Error as ReaderError

@@ -54,6 +54,7 @@ pub use tv_schema::laws::{
 pub use tv_store::laws::{
     refusals_are_unique, stored_pairs_are_valid, stored_pairs_need_no_more_room,
 };
+pub use tv_store::round_trip::{RoundTrip, RoundTripError, additions_are_stored_and_read_back};
 use tv_store::{
     BinaryDocumentSerializer, DeserializeError, DocStoreVersion, SerializeError, read_document,
 };

@@ -40,10 +40,10 @@ runs_keep (a ∷ rest) old new run =
 pub unchanged_same : (d : CompactDoc) → IsUnchanged d d
 unchanged_same d = record { document = refl; heap = refl; places = refl }
 
-unchanged_from : (a b c : CompactDoc) → IsUnchanged a b → IsUnchanged b c → IsUnchanged a c
+pub unchanged_from : (a b c : CompactDoc) → IsUnchanged a b → IsUnchanged b c → IsUnchanged a c
 unchanged_from a b c u v = record { document = v.document ∙ u.document; heap = v.heap ∙ u.heap; places = v.places ∙ u.places }
 
-adds_from : (field : ℕ) (t : Tree) (a b c : CompactDoc) → IsUnchanged a b → Accepts b c field t → Accepts a c field t
+pub adds_from : (field : ℕ) (t : Tree) (a b c : CompactDoc) → IsUnchanged a b → Accepts b c field t → Accepts a c field t
 adds_from field t a b c u h =
     let same = ap length u.heap in
     let k = h.2 in (

@@ -6,3 +6,4 @@ pub mod Stores
 pub mod StoredLaws
 pub mod Coded
 pub mod WriterSteps
+pub mod RoundTrips

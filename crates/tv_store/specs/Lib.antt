@@ -5,3 +5,4 @@ pub mod Documents
 pub mod Pairs
 pub mod PairsGiven
 pub mod Children
+pub mod RoundTrip

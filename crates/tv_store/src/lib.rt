@@ -6,6 +6,7 @@ mod encoding;
 pub mod error;
 pub mod laws;
 pub mod pairs_given;
+pub mod round_trip;
 pub mod se;
 mod serializers;
 mod value_writer;

@@ -1,0 +1,164 @@
+-- What is kept of values that are added one after the other, and what reading back can return.
+use Rattle.std.proofs.Common.{◌≡◌, ◌⊎◌, inl, inr, ℕ, zero, suc, ◌+◌, ◌<◌, ◌≤◌, List, [], ◌∷◌, ◌++◌, length, map, Option, Result, Ok, Err, Some, None, refl, sym, ◌∙◌, ap, subst, append_assoc, append-nil, arith}
+use Rattle.std.specs.Prelude.{slice_get}
+use Rattle.std.specs.List.{AllByRecursion}
+use Rattle.std.proofs.lemmas.List.{map-append, length-append}
+use Rattle.std.proofs.lemmas.List.Sums.{sum_by-cons}
+use Rattle.tv_base.specs.Source.{Failures}
+use Rattle.tv_base.specs.Stop.{CountsStop}
+use Rattle.tv_doc.specs.Additions.{Addition, Runs, accepted, pair_of, IsEmpty}
+use Rattle.tv_doc.specs.Belongs.{Belongs}
+use Rattle.tv_doc.specs.Document.{document_of, heap_of, places_of, Adds, Refuses, IsUnchanged, ReadsAt}
+use Rattle.tv_doc.specs.declared.add_error.AddError.{AddError}
+use Rattle.tv_doc.specs.declared.add_error.AddError.TheVariants as adds
+use Rattle.tv_doc.specs.declared.document.CompactDoc.{CompactDoc}
+use Rattle.tv_doc.specs.declared.place.FieldValueAddr.{FieldValueAddr}
+use Rattle.tv_doc.proofs.Additions.{runs_keep, unchanged_same, unchanged_from, adds_from}
+use Rattle.tv_doc.proofs.Documents.{read_at, none_at, place_at, no_place}
+use Rattle.tv_field.specs.Entry.{Entry}
+use Rattle.tv_heap.specs.Room.{room, document_room}
+use Rattle.tv_reader.specs.Error.{store_stop, IsRefusal}
+use Rattle.tv_reader.specs.Error.IsRefusal.{is_corrupted, is_no_text}
+use Rattle.tv_reader.specs.ValueType.{type_code}
+use Rattle.tv_reader.specs.declared.error.DeserializeError.{DeserializeError}
+use Rattle.tv_reader.specs.declared.error.DeserializeError.TheVariants as errors
+use Rattle.tv_reader.specs.declared.value_type.ValueType.{ValueType}
+use Rattle.tv_store.specs.Documents.{Answers, IsReadingError}
+use Rattle.tv_store.specs.RoundTrip.{asked, given, IsCalled, IsKept}
+use Rattle.tv_value.specs.InputError.{Refusal, corrupted, no_text_key}
+use Rattle.tv_value.specs.Tree.{Tree, Document}
+use Rattle.tv_value.specs.declared.field.Field.{Field}
+use Rattle.tv_value.specs.declared.owned_value.OwnedValue.{OwnedValue}
+
+-- ---- additions, one after the other
+
+answer_from : (field : ℕ) (t : Tree) (answer : Result (Unit {0}) AddError) (a b c : CompactDoc) → IsUnchanged a b → Adds b c field t answer → Adds a c field t answer
+answer_from field t (Ok x) a b c u h = adds_from field t a b c u h
+answer_from field t (Err (adds.FieldNumber n)) a b c u h = (h.0, unchanged_from a b c u h.1)
+answer_from field t (Err adds.HeapFull) a b c u h = ((h.0.0, omega (arith, ap length u.heap, h.0.1)), unchanged_from a b c u h.1)
+answer_from field t (Err adds.Memory) a b c u h = ((h.0.0, omega (arith, ap length u.heap, h.0.1)), unchanged_from a b c u h.1)
+
+runs_push : (additions : List Addition) (a : Addition) (old mid new : CompactDoc) → Runs additions old mid → Adds mid new a.field a.tree a.answer → Runs (additions ++ a ∷ []) old new
+runs_push [] a old mid new same h = (new, answer_from a.field a.tree a.answer old mid new same h, unchanged_same new)
+runs_push (b ∷ bs) a old mid new run h = (run.0, run.1, runs_push bs a run.0 mid new run.2 h)
+
+-- some values were added, and the rest are to come
+pub record CalledSoFar (values rest : List (Field × OwnedValue)) (old now : CompactDoc) : Type 0 where
+  pub additions : List Addition
+  pub asked_for : map asked additions ++ map given rest ≡ map given values
+  pub runs : Runs additions old now
+
+pub none_called : (values : List (Field × OwnedValue)) (old : CompactDoc) → CalledSoFar values values old old
+none_called values old = record { additions = []; asked_for = refl; runs = unchanged_same old }
+
+pub one_called : (values rest others : List (Field × OwnedValue)) (value : Field × OwnedValue) (old now next : CompactDoc) (answer : Result (Unit {0}) AddError) → CalledSoFar values rest old now → rest ≡ value ∷ others
+    → Adds now next value.0.id (given value).1 answer → CalledSoFar values others old next
+one_called values rest others value old now next answer s parted h =
+    let a : Addition = record { field = (given value).0; tree = (given value).1; answer = answer } in
+    record {
+      additions = s.additions ++ a ∷ [];
+      asked_for =
+          ap (λ l. l ++ map given others) (map-append asked s.additions (a ∷ [])) ∙ append_assoc (map asked s.additions) (given value ∷ []) (map given others)
+          ∙ ap (λ l. map asked s.additions ++ map given l) (sym parted) ∙ s.asked_for;
+      runs = runs_push s.additions a old now next s.runs h;
+    }
+
+pub all_called : (values rest : List (Field × OwnedValue)) (old now : CompactDoc) → CalledSoFar values rest old now → rest ≡ [] → IsCalled values old now
+all_called values rest old now s none =
+    (s.additions, sym (append-nil (map asked s.additions)) ∙ ap (λ l. map asked s.additions ++ map given l) (sym none) ∙ s.asked_for, s.runs)
+
+pub kept_of : (values : List (Field × OwnedValue)) (start new : CompactDoc) → IsEmpty start → IsCalled values start new → IsKept values new
+kept_of values start new none h = record {
+  additions = h.0;
+  called = h.1;
+  start = start;
+  empty = none;
+  runs = h.2;
+  document = (runs_keep h.0 start new h.2).document ∙ ap (λ d. d ++ accepted h.0) none.document;
+}
+
+-- ---- each pair is read at its place
+
+none_within : {A : Type 0} (xs : List A) (i : ℕ) → slice_get xs i ≡ None → length xs ≤ i
+none_within [] i e = omega arith
+none_within (x ∷ xs) zero e = absurd (cc)
+none_within (x ∷ xs) (suc i) e = omega (arith, none_within xs i e)
+
+pub each_read : (d : CompactDoc) (i : ℕ) → ReadsAt d i (slice_get (places_of d) i)
+each_read d i = by_pair (slice_get d.pairs.items i) refl
+  where
+    by_pair : (found : Option FieldValueAddr) → slice_get d.pairs.items i ≡ found → ReadsAt d i (slice_get (places_of d) i)
+    by_pair (Some p) e = subst (ReadsAt d i) (sym (place_at d.pairs.items i p e)) (read_at d i p e)
+    by_pair None e =
+        let past = none_within d.pairs.items i e in
+        subst (ReadsAt d i) (sym (no_place d.pairs.items i past)) (none_at d i past)
+
+-- ---- the accepted pairs are some of those that were asked for
+
+room-cons : (p : ℕ × Tree) (d : Document) → document_room (p ∷ d) ≡ room p.1 + document_room d
+room-cons p d = sum_by-cons (λ (pair : ℕ × Tree). room pair.1) p d
+
+pair_room : (answer : Result (Unit {0}) AddError) (field : ℕ) (t : Tree) (d : Document) → document_room (pair_of answer field t ++ d) ≤ room t + document_room d
+pair_room (Ok x) field t d = omega (arith, room-cons (field, t) d)
+pair_room (Err e) field t d = omega arith
+
+accepted_room : (additions : List Addition) → document_room (accepted additions) ≤ document_room (map asked additions)
+accepted_room [] = omega arith
+accepted_room (a ∷ rest) = omega (arith, pair_room a.answer a.field a.tree (accepted rest), accepted_room rest, room-cons (asked a) (map asked rest))
+
+pub kept_room : (values : List (Field × OwnedValue)) (new : CompactDoc) → IsKept values new → document_room (document_of new) ≤ document_room (map given values)
+kept_room values new k = omega (arith, accepted_room k.additions, ap document_room k.document, ap document_room k.called)
+
+pair_belongs : (schema : List Entry) (answer : Result (Unit {0}) AddError) (field : ℕ) (t : Tree) (d : Document) → field < length schema → Belongs schema d → Belongs schema (pair_of answer field t ++ d)
+pair_belongs schema (Ok x) field t d within h = (within, h)
+pair_belongs schema (Err e) field t d within h = h
+
+accepted_belongs : (schema : List Entry) (additions : List Addition) → Belongs schema (map asked additions) → Belongs schema (accepted additions)
+accepted_belongs schema [] h = tt
+accepted_belongs schema (a ∷ rest) h = pair_belongs schema a.answer a.field a.tree (accepted rest) h.0 (accepted_belongs schema rest h.1)
+
+given_belong : (schema : List Entry) (values : List (Field × OwnedValue)) → AllByRecursion (λ value. value.0.id < length schema) values → Belongs schema (map given values)
+given_belong schema [] h = tt
+given_belong schema (v ∷ vs) h = (h.0, given_belong schema vs h.1)
+
+pub kept_belongs : (schema : List Entry) (values : List (Field × OwnedValue)) (new : CompactDoc) → AllByRecursion (λ value. value.0.id < length schema) values → IsKept values new → Belongs schema (document_of new)
+kept_belongs schema values new h k =
+    subst (Belongs schema) (sym k.document) (accepted_belongs schema k.additions (subst (Belongs schema) (sym k.called) (given_belong schema values h)))
+
+-- ---- what reading back returns
+
+-- where the bytes aren't refused and no read fails, only memory and room are left
+pub only_short : (e : DeserializeError) (f g : Failures) → ((r : Refusal) → IsRefusal e r → ⊥) → IsReadingError e → g.last ≡ None → CountsStop (store_stop e) f g
+    → (e ≡ errors.Memory) ⊎ (e ≡ errors.HeapFull)
+only_short (errors.CorruptedValue c) f g error reading last counts = absurd (error (corrupted c) is_corrupted)
+only_short (errors.TypeMismatch expected actual) f g error reading last counts =
+    absurd (error (no_text_key (type_code actual)) (subst (λ (t : ValueType). IsRefusal (errors.TypeMismatch t actual) (no_text_key (type_code actual))) (sym reading) is_no_text))
+only_short errors.HeapFull f g error reading last counts = inr refl
+only_short (errors.Io k) f g error reading last counts = absurd (none_is (sym last ∙ counts.kept))
+  where
+    none_is : {A : Type 0} {x : A} → None ≡ Some x → ⊥
+    none_is e = cc
+only_short errors.Memory f g error reading last counts = inl refl
+only_short (errors.UnsupportedType t) f g error reading last counts = absurd reading
+only_short (errors.Custom s) f g error reading last counts = absurd reading
+only_short (errors.UnsupportedVersion m n) f g error reading last counts = absurd reading
+only_short errors.AlreadyFailed f g error reading last counts = absurd reading
+
+pub above : (n m : ℕ) → (n ≤ m → ⊥) → m < n
+above n m not = omega (arith, not)
+
+pub full_answers_none : (e : DeserializeError) (d : Document) (rest left : List ℕ) → e ≡ errors.HeapFull → Answers (Err e) d rest left → ⊥
+full_answers_none e d rest left f h = subst (λ (x : DeserializeError). Answers (Err x) d rest left) f h
+
+pub left_behind : (a b x y : List ℕ) → a ≡ b → a ++ x ≡ b ++ y → x ≡ y
+left_behind a b x y same joined = cancel a (joined ∙ ap (λ l. l ++ y) (sym same))
+  where
+    tail_is : {m n : ℕ} {xs ys : List ℕ} → m ∷ xs ≡ n ∷ ys → xs ≡ ys
+    tail_is e = cc
+
+    cancel : (c : List ℕ) → c ++ x ≡ c ++ y → x ≡ y
+    cancel [] e = e
+    cancel (n ∷ c) e = cancel c (tail_is e)
+
+pub err_is : {T E : Type 0} (r : Result T E) (x y : E) → r ≡ Err x → r ≡ Err y → x ≡ y
+err_is r x y e f = cc
