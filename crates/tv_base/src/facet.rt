@@ -130,7 +130,7 @@ impl Facet {
         Err(FacetParseError::FacetParseError(copy))
     }
 
-    /// Writes the encoded text of the facet that a text names, in place of what is there (not in tantivy). Answers whether the text names one:
+    /// Writes the encoded text of the facet that a text names, in place of what is there (not in tantivy). Returns whether the text names one:
     /// whether it begins with `/`. Errors: memory was refused.
     pub fn encode_text(text: &str, encoded: &mut String) -> Result<bool, AllocError>
         ensures { IsEncoded text.now (string_bytes encoded.new) result }

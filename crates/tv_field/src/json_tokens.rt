@@ -49,7 +49,7 @@ fn token_at(json: &Value) -> Option<TokenRef<'_>>
     })
 }
 
-// Adds the encoding of a token. Answers whether the value is one.
+// Adds the encoding of a token. Returns whether the value is one.
 fn push_json_token(bytes: &mut Vec<u8>, json: &Value) -> Result<bool, AllocError>
     ensures { IsTokenEncoded (data_of json.now) bytes.old.items bytes.new.items result }
 {
@@ -75,7 +75,7 @@ fn push_json_tokens(bytes: &mut Vec<u8>, items: &Vec<Value>) -> Result<bool, All
     Ok(true)
 }
 
-/// Writes the encoding of a text with its tokens, in place of what is there. Answers whether the value is one. Errors: memory was
+/// Writes the encoding of a text with its tokens, in place of what is there. Returns whether the value is one. Errors: memory was
 /// refused.
 #[tactic(auto, unfolding(crate::specs::JsonTokens::tokenized_in))]
 pub fn encode_tokenized(json: &Value, bytes: &mut Vec<u8>) -> Result<bool, AllocError>
