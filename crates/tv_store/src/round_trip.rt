@@ -17,6 +17,7 @@ use crate::error::{DeserializeError, SerializeError};
 use crate::laws::{stored_pairs_are_valid, stored_pairs_need_no_more_room};
 use crate::se::BinaryDocumentSerializer;
 use std::alloc::{AllocError, Global};
+use thiserror::Error;
 use tv_base::{SliceSource, VecSink};
 use tv_doc::document::CompactDoc;
 use tv_doc::laws::documents_are_valid;
@@ -41,11 +42,13 @@ pub struct RoundTrip {
 }
 
 /// Why a document isn't stored and read back. (Not in tantivy.)
-#[derive(Clone, Copy, Debug, PartialEq, Eq, Drop)]
+#[derive(Clone, Copy, Debug, PartialEq, Eq, Error)]
 pub enum RoundTripError {
     /// The values need more room than 4294967295 bytes.
+    #[error("the values need more room than a heap has")]
     HeapFull,
     /// Memory was refused.
+    #[error("memory was refused")]
     Memory,
 }
 

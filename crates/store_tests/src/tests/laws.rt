@@ -4,8 +4,10 @@ use std::io;
 use std::io::Read;
 use std::test::Fail;
 use tantivy_schema::common::ReadSource;
-use tantivy_schema::laws::{stored_pairs_are_read_back, written_documents_are_shortest};
-use tantivy_schema::schema::{CompactDoc, STORED, Schema, TEXT, Value};
+use tantivy_schema::laws::{
+    additions_are_stored_and_read_back, stored_pairs_are_read_back, written_documents_are_shortest,
+};
+use tantivy_schema::schema::{CompactDoc, OwnedValue, STORED, Schema, TEXT, Value};
 
 // Gives one byte at a time.
 #[derive(Drop)]
@@ -40,6 +42,38 @@ fn laws_of_calls_in_memory(rt: HostRuntime) -> Result<(), Fail> {
     let mut source = ReadSource::new(SingleBytes { rest });
     let read = stored_pairs_are_read_back(alloc, &mut source, &schema, &document)?;
     let mut pairs = read.field_values();
+    let (field, value) = pairs.next().ok_or("a pair")?;
+    assert_eq!(rt; (field, value.as_str()), (name, Some("ChillFish8")));
+    let (field, value) = pairs.next().ok_or("a second pair")?;
+    assert_eq!(rt; (field, value.as_u64()), (age, Some(20)));
+    assert!(rt; pairs.next().is_none());
+    Ok(())
+}
+
+#[test]
+fn additions_in_memory(rt: HostRuntime) -> Result<(), Fail> {
+    let alloc = rt.alloc();
+    let mut builder = Schema::builder(alloc);
+    let name = builder.add_text_field("name", TEXT | STORED)?;
+    let age = builder.add_u64_field("age", STORED)?;
+    let note = builder.add_text_field("note", TEXT)?;
+    let schema = builder.build()?;
+    let mut values = Vec::new(alloc);
+    values.push((
+        name,
+        OwnedValue::Str(String::from_str(alloc, "ChillFish8")?),
+    ))?;
+    values.push((
+        note,
+        OwnedValue::Str(String::from_str(alloc, "not stored")?),
+    ))?;
+    values.push((age, OwnedValue::U64(20)))?;
+    let trip = additions_are_stored_and_read_back(alloc, &schema, values.as_slice(), b"rest")?;
+    assert_eq!(rt; trip.added.len(), 3);
+    let expected = b"\x82\0\0\0\0\0\x8aChillFish8\x01\0\0\0\x01\x14\0\0\0\0\0\0\0";
+    assert_eq!(rt; trip.written.as_slice(), expected.as_slice());
+    assert_eq!(rt; trip.left.as_slice(), b"rest".as_slice());
+    let mut pairs = trip.back.field_values();
     let (field, value) = pairs.next().ok_or("a pair")?;
     assert_eq!(rt; (field, value.as_str()), (name, Some("ChillFish8")));
     let (field, value) = pairs.next().ok_or("a second pair")?;
