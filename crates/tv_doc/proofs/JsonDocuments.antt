@@ -9,12 +9,12 @@ use Rattle.tv_field.specs.Entry.{Entry}
 use Rattle.tv_field.specs.JsonAnswer.{refusal_of, TakesMemory}
 use Rattle.tv_field.specs.declared.json_value.JsonRefusal.{JsonRefusal}
 use Rattle.tv_field.specs.declared.json_value.JsonRefusal.TheVariants as refusal
-use Rattle.tv_field.specs.JsonTable.{Refusal, Table}
+use Rattle.tv_field.specs.JsonTable.{Table}
 use Rattle.tv_value.specs.Tree.{Tree, Document}
 use Rattle.tv_doc.specs.AdditionError.{addition_error}
 use Rattle.tv_doc.specs.Additions.{Accepts, IsEmpty}
 use Rattle.tv_doc.specs.AddsRow.{AddsRow}
-use Rattle.tv_doc.specs.Document.{document_of, IsUnchanged, Refuses}
+use Rattle.tv_doc.specs.Document.{IsUnchanged, Refuses}
 use Rattle.tv_doc.specs.JsonObject.{FieldJson, Pairs, IsRefused, StopsAt, IsValueError, MakesDocument, Parses, AddsPairs, AddsValues, object_values}
 use Rattle.tv_doc.specs.JsonObject.IsShort.{for_pair, for_value, for_error}
 use Rattle.tv_doc.specs.declared.add_error.AddError.{AddError}

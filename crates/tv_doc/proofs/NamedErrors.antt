@@ -1,5 +1,5 @@
 -- Why values by name aren't converted back.
-use Rattle.std.proofs.Common.{◌≡◌, ◌≢◌, ◌⊎◌, ℕ, ◌+◌, ◌<◌, ◌≤◌, Bool, true, false, List, [], ◌∷◌, ◌++◌, length, Err, refl, sym, ap, subst, ◌∙◌, arith, inl, inr}
+use Rattle.std.proofs.Common.{◌≡◌, ◌≢◌, ◌⊎◌, ℕ, ◌+◌, ◌<◌, ◌≤◌, Bool, true, false, List, [], ◌∷◌, ◌++◌, Err, refl, sym, ap, subst, ◌∙◌, arith, inl, inr}
 use Rattle.std.specs.Prelude.{nat_eq}
 use Rattle.std.specs.List.{AllByRecursion}
 use Rattle.std.proofs.lemmas.Bool.Decides.{Decides-eqb}
@@ -9,7 +9,6 @@ use Rattle.tv_value.specs.Short.{IsPair, IsDocument}
 use Rattle.tv_value.specs.Tree.{Tree, Document}
 use Rattle.tv_doc.specs.AdditionError.{addition_error}
 use Rattle.tv_doc.specs.Additions.{IsEmpty}
-use Rattle.tv_doc.specs.Document.{document_of, heap_of}
 use Rattle.tv_doc.specs.FieldValues.{values_of}
 use Rattle.tv_doc.specs.NamedPairs.{StopsAtPair, MakesPairs, IsBackError}
 use Rattle.tv_doc.specs.declared.add_error.AddError.{AddError}

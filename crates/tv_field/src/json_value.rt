@@ -160,7 +160,8 @@ fn lend_i64(coerce: bool, json: &Value) -> Result<ReferenceValueLeaf<'static>, J
 
 // A value of a field of truth values.
 fn lend_bool(coerce: bool, json: &Value) -> Result<ReferenceValueLeaf<'static>, JsonRefusal>
-    ensures row { LendsLeaf (data_of json.now) (λ o. o ≡ bool_row coerce (data_of json.now)) result }
+    ensures row { LendsLeaf (data_of json.now)
+        (λ o. o ≡ bool_row coerce (data_of json.now)) result }
     ensures spares { ¬ IsErrOf result JsonRefusal.Memory }
 {
     match json {

@@ -1,11 +1,11 @@
 -- How often reads and writes failed, and how many bytes were taken, where a run breaks off.
-use Rattle.std.proofs.Common.{◌≡◌, ℕ, ◌+◌, ◌-◌, ◌^◌, List, [], ◌++◌, length, refl, sym, subst, ap, ◌∙◌, append_assoc, Result, arith}
+use Rattle.std.proofs.Common.{◌≡◌, ℕ, ◌+◌, ◌-◌, ◌^◌, List, [], ◌++◌, length, refl, sym, subst, ap, ◌∙◌, append_assoc, arith}
 use Rattle.std.proofs.lemmas.List.{length-append}
 use Rattle.std.specs.declared.io.ErrorKind.{ErrorKind}
 use Rattle.tv_base.specs.Source.{Failures}
-use Rattle.tv_base.specs.Stop.{Stop, Counts, CountsStop, Taken}
+use Rattle.tv_base.specs.Stop.{Stop, CountsStop, Taken}
 use Rattle.tv_base.specs.ReadsAs.{TakesMost}
-use Rattle.tv_lines.specs.Run.{source_stop, sink_stop, CountsEnd, IsWhole}
+use Rattle.tv_lines.specs.Run.{sink_stop, CountsEnd, IsWhole}
 use Rattle.tv_lines.specs.declared.run_end.RunEnd.{RunEnd}
 use Rattle.tv_lines.specs.declared.run_end.RunEnd.TheVariants.{Done, BadSchema, Broken}
 use Rattle.tv_lines.specs.declared.halt.Halt.{Halt}

@@ -118,7 +118,8 @@ impl LineReader {
         ensures too_long { IsErrOf result TooLong → self.new.count ≡ 2 ^ 64 - 1 }
         ensures reads { (kind : ErrorKind) → ¬ IsErrOf result (Halt.Write kind) }
         ensures is_known { S.is_known source.old → S.is_known source.new }
-        ensures failures { Counts source_stop result (S.failures source.old) (S.failures source.new) }
+        ensures failures { Counts source_stop result (S.failures source.old)
+            (S.failures source.new) }
     {
         let room = u64::MAX - self.count;
         if room == 0 {
@@ -153,7 +154,8 @@ impl LineReader {
         ensures too_long { IsErrOf result TooLong → self.new.count ≡ 2 ^ 64 - 1 }
         ensures reads { (kind : ErrorKind) → ¬ IsErrOf result (Halt.Write kind) }
         ensures is_known { S.is_known source.old → S.is_known source.new }
-        ensures failures { Counts source_stop result (S.failures source.old) (S.failures source.new) }
+        ensures failures { Counts source_stop result (S.failures source.old)
+            (S.failures source.new) }
     {
         line.clear();
         'pieces: loop {

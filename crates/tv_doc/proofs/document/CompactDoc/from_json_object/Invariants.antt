@@ -1,4 +1,3 @@
-use Rattle.std.proofs.Common.{ℕ}
 use Rattle.serde_json.specs.View.{members_view}
 use Rattle.tv_doc.specs.Additions.{IsEmpty}
 use Rattle.tv_doc.specs.JsonObject.{object_values}
