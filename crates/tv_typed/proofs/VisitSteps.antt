@@ -19,7 +19,7 @@ use Rattle.tv_typed.specs.Excluding.{malformed_behind}
 use Rattle.tv_typed.specs.Typed.{typed_stop, Reads}
 use Rattle.tv_typed.specs.Values.{IsLeaf, EncodesLeaf, LeafRefused, other_type, in_body, TreeRefused}
 use Rattle.tv_typed.specs.Lists.{Length, LengthRefused}
-use Rattle.tv_typed.specs.Visits.{Answered, Visits, Handed, VisitsItems, TellsNoFailure, VisitsLegacy}
+use Rattle.tv_typed.specs.Visits.{Answered, Visits, Handed, VisitsItems, TellsNoFailure, GivesRefusal, VisitsLegacy}
 use Rattle.tv_typed.specs.declared.store_reader.StoreReader.{StoreReader}
 use Rattle.tv_typed.proofs.DeserializeSteps.{end, only_by, leaf_deserializes}
 use Rattle.tv_typed.proofs.LegacySteps.{no_failures}
@@ -153,3 +153,37 @@ legacy_refused {new = new} e h = record { behind_object = new; read = Err e; rea
 pub legacy_visited : {S X : Type 0} {is_known : S → Type 0} {left : S → List ℕ} {failures : S → Failures} {old new : StoreReader S} (tree : OwnedValue) (result : Result X DeserializeError)
     → Reads is_known left failures old new (Ok tree) (EncodesBehind (version_of old.version) types.JSONObject) (TreeRefused (version_of old.version) types.JSONObject) → TellsNoFailure result → VisitsLegacy is_known left failures old new result
 legacy_visited {new = new} tree result h none = record { behind_object = new; read = Ok tree; reads = h; gives = none; same_source = refl; same_count = refl; same_version = refl }
+
+-- ---- failed reads
+
+-- an error that is told in the same words
+told_as : {X : Type 0} (e : DeserializeError) (result : Result X DeserializeError) (f g : Failures) → CountsStop (typed_stop e) f g → result ≡ Err e → Counts typed_stop result f g
+told_as e result f g h is = subst (λ r. Counts typed_stop r f g) (sym is) h
+
+leaf_counts : {X : Type 0} (answers : Leaf → Result X DeserializeError → Type 0) (read : Result Leaf DeserializeError) (result : Result X DeserializeError) (f g : Failures) → ((l : Leaf) (r : Result X DeserializeError) → answers l r → TellsNoFailure r)
+    → Counts typed_stop read f g → Answered answers read result → Counts typed_stop result f g
+leaf_counts answers (Ok l) result f g calm h a = subst (λ z. Counts typed_stop result f z) (sym h) (calm l result a f)
+leaf_counts answers (Err e) result f g calm h a = told_as e result f g h a
+
+pub visits_count : {S X : Type 0} {is_known : S → Type 0} {left : S → List ℕ} {failures : S → Failures} {old new : StoreReader S} {kind : ValueType} {answers : Leaf → Result X DeserializeError → Type 0} {result : Result X DeserializeError}
+    → ((l : Leaf) (r : Result X DeserializeError) → answers l r → TellsNoFailure r) → old.has_failed ≡ false → Visits is_known left failures old new kind answers result → Counts typed_stop result (failures old.source) (failures new.source)
+visits_count {failures = failures} {old = old} {new = new} {answers = answers} {result = result} calm is_open h = leaf_counts answers h.read result (failures old.source) (failures new.source) calm (h.reads.finds is_open).counts h.answered
+
+handed_counts : {S X : Type 0} (is_known : S → Type 0) (left : S → List ℕ) (failures : S → Failures) (old mid new : StoreReader S) (announced : Result ℕ DeserializeError) (result : Result X DeserializeError)
+    → Counts typed_stop announced (failures old.source) (failures mid.source) → Handed is_known left failures mid new announced result → Counts typed_stop result (failures old.source) (failures new.source)
+handed_counts is_known left failures old mid new (Ok n) result counts h = subst (λ f. Counts typed_stop result f (failures new.source)) counts h.1
+handed_counts {S} is_known left failures old mid new (Err e) result counts h =
+    subst (λ (r : StoreReader S). Counts typed_stop result (failures old.source) (failures r.source)) (sym h.1) (told_as e result (failures old.source) (failures mid.source) counts h.0)
+
+pub items_count : {S X : Type 0} {is_known : S → Type 0} {left : S → List ℕ} {failures : S → Failures} {old new : StoreReader S} {collection : ValueType} {total : ℕ → ℕ} {kind : ValueType} {result : Result X DeserializeError}
+    → old.has_failed ≡ false → VisitsItems is_known left failures old new collection total kind result → Counts typed_stop result (failures old.source) (failures new.source)
+items_count {is_known = is_known} {left = left} {failures = failures} {old = old} {new = new} {result = result} is_open h = handed_counts is_known left failures old h.behind_number new h.announced result (h.reads.finds is_open).counts h.handed
+
+legacy_counts : {X : Type 0} (read : Result OwnedValue DeserializeError) (result : Result X DeserializeError) (f g : Failures) → Counts typed_stop read f g → GivesRefusal read result → Counts typed_stop result f g
+legacy_counts (Ok tree) result f g h none = subst (λ z. Counts typed_stop result f z) (sym h) (none f)
+legacy_counts (Err e) result f g h is = told_as e result f g h is
+
+pub legacy_count : {S X : Type 0} {is_known : S → Type 0} {left : S → List ℕ} {failures : S → Failures} {old new : StoreReader S} {result : Result X DeserializeError}
+    → old.has_failed ≡ false → VisitsLegacy is_known left failures old new result → Counts typed_stop result (failures old.source) (failures new.source)
+legacy_count {failures = failures} {old = old} {new = new} {result = result} is_open h =
+    subst (λ z. Counts typed_stop result (failures old.source) (failures z)) (sym h.same_source) (legacy_counts h.read result (failures old.source) (failures h.behind_object.source) (h.reads.finds is_open).counts h.gives)

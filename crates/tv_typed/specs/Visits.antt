@@ -17,6 +17,10 @@ use Rattle.tv_typed.specs.declared.store_reader.StoreReader.{StoreReader}
 
 -- ---- leaves
 
+-- no failed read is told
+abbrev pub TellsNoFailure : {X : Type 0} → Result X DeserializeError → Type 0
+TellsNoFailure result = (f : Failures) → Counts typed_stop result f f
+
 -- what was read is handed on and returned, and a refusal is given as it is
 abbrev pub Answered : {A X : Type 0} → (A → Result X DeserializeError → Type 0) → Result A DeserializeError → Result X DeserializeError → Type 0
 Answered answers (Ok a) result = answers a result
@@ -53,10 +57,6 @@ pub record VisitsItems {S X : Type 0} (is_known : S → Type 0) (left : S → Li
   pub handed : Handed is_known left failures behind_number new announced result
 
 -- ---- legacy objects
-
--- no failed read is told
-abbrev pub TellsNoFailure : {X : Type 0} → Result X DeserializeError → Type 0
-TellsNoFailure result = (f : Failures) → Counts typed_stop result f f
 
 -- Where a legacy object was refused, that is given. What is read of the encoding of its tree tells of no failed read.
 abbrev pub GivesRefusal : {X : Type 0} → Result OwnedValue DeserializeError → Result X DeserializeError → Type 0

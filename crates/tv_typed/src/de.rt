@@ -24,7 +24,7 @@ ghost use Rattle.tv_typed.specs.Lists.{EncodesEntry, EntryRefused};
 ghost use Rattle.tv_reader.specs.declared.error.DeserializeError.{DeserializeError};
 ghost use Rattle.tv_reader.specs.declared.error.DeserializeError.TheVariants as errors;
 ghost use Rattle.tv_value.specs.Version.{Version};
-ghost use Rattle.tv_typed.specs.Visits.{Visits, TakesSome};
+ghost use Rattle.tv_typed.specs.Visits.{Visits, TakesSome, TellsNoFailure};
 
 use crate::array::BinaryArrayDeserializer;
 use crate::object::BinaryObjectDeserializer;
@@ -620,6 +620,11 @@ pub trait ValueVisitor {
 
     /// What may be returned for a value that isn't an array or an object.
     ghost answers: { Self → Leaf → Result Self.Value DeserializeError → Type 0 };
+
+    /// None of it tells of a failed read, nor of what only a reader refuses.
+    ghost tells_no_failure: { (visitor : Self) (leaf : Leaf)
+        (result : Result Self.Value DeserializeError) → answers visitor leaf result
+        → TellsNoFailure result };
 
     /// Null stands there.
     fn visit_null(&self, value: ()) -> Result<Self::Value, DeserializeError>

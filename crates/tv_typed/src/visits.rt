@@ -1,10 +1,12 @@
 //! Handing what stands in a store to a visitor.
 
 ghost use Rattle.std.specs.Prelude.{◌≡◌, true, false, is_err, OnOk};
+ghost use Rattle.tv_base.specs.Stop.{Counts};
 ghost use Rattle.tv_reader.specs.Leaves.{is_leaf_type};
 ghost use Rattle.tv_reader.specs.Version.{version_of};
 ghost use Rattle.tv_reader.specs.declared.value_type.ValueType.TheVariants as types;
 ghost use Rattle.tv_typed.specs.Lists.{element_total};
+ghost use Rattle.tv_typed.specs.Typed.{typed_stop};
 ghost use Rattle.tv_typed.specs.Visits.{Visits, VisitsItems, VisitsLegacy};
 ghost use Rattle.tv_value.specs.Version.{entry_total};
 
@@ -93,6 +95,8 @@ impl<S: ByteSource> StoreReader<S> {
             (entry_total (version_of self.old.version)) kind result }
         ensures legacy { kind ≡ types.JSONObject
             → VisitsLegacy S.is_known S.left S.failures self.old self.new result }
+        ensures counts { self.old.has_failed ≡ false
+            → Counts typed_stop result (S.failures self.old.source) (S.failures self.new.source) }
         ensures unmarked { OnOk result (self.new.has_failed ≡ false) }
     {
         match kind {
@@ -121,6 +125,8 @@ impl<S: ByteSource> StoreReader<S> {
             (entry_total (version_of self.old.version)) kind result }
         ensures legacy { kind ≡ types.JSONObject
             → VisitsLegacy S.is_known S.left S.failures self.old self.new result }
+        ensures counts { self.old.has_failed ≡ false
+            → Counts typed_stop result (S.failures self.old.source) (S.failures self.new.source) }
         ensures marks { self.new.has_failed ≡ is_err result }
     {
         match self.visit_kind(alloc, kind, visitor) {
@@ -159,6 +165,9 @@ impl<'de, S: ByteSource> BinaryValueDeserializer<'de, S> {
         ensures legacy { self.entry.kind ≡ types.JSONObject
             → VisitsLegacy S.is_known S.left S.failures self.entry.reader.now self.exit.1.0.now
             result }
+        ensures counts { self.entry.reader.now.has_failed ≡ false
+            → Counts typed_stop result (S.failures self.entry.reader.now.source)
+            (S.failures self.exit.1.0.now.source) }
         ensures marks { self.exit.1.0.now.has_failed ≡ is_err result }
     {
         let BinaryValueDeserializer { kind, reader } = self;

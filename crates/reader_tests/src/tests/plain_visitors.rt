@@ -1,6 +1,7 @@
 //! A visitor that takes no arrays and no objects.
 
 ghost use Rattle.std.specs.Prelude.{Result};
+ghost use Rattle.tv_typed.specs.Visits.{TellsNoFailure};
 
 use std::alloc::Global;
 use std::net::Ipv6Addr;
@@ -16,7 +17,9 @@ struct Leaves;
 impl ValueVisitor for Leaves {
     type Value = ();
 
-    ghost answers = { λ v l result. Unit {0} };
+    ghost answers = { λ v l result. TellsNoFailure result };
+
+    ghost tells_no_failure = { λ v l result h. h };
 
     fn visit_null(&self, _value: ()) -> Result<(), DeserializeError> {
         Ok(())

@@ -1,6 +1,7 @@
 //! Values that are handed to visitors.
 
 ghost use Rattle.std.specs.Prelude.{Result};
+ghost use Rattle.tv_typed.specs.Visits.{TellsNoFailure};
 
 use std::alloc::Global;
 use std::net::Ipv6Addr;
@@ -19,7 +20,9 @@ struct Numbers;
 impl ValueVisitor for Numbers {
     type Value = u64;
 
-    ghost answers = { λ v l result. Unit {0} };
+    ghost answers = { λ v l result. TellsNoFailure result };
+
+    ghost tells_no_failure = { λ v l result h. h };
 
     fn visit_null(&self, _value: ()) -> Result<u64, DeserializeError> {
         Ok(11)
