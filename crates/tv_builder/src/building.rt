@@ -283,12 +283,12 @@ impl Building {
     }
 
     // Whether the bytes that were open are what they are announced to be.
-    fn ends_well(&self, open: OpenBytes) -> bool
-        requires { open.announced ≤ length self.now.heap.items }
+    fn ends_well(&self, ended: OpenBytes) -> bool
+        requires { ended.announced ≤ length self.now.heap.items }
         ensures { IsTrue result
-            ↔ IsContent open.kind (last_bytes open.announced self.now.heap.items) }
+            ↔ IsContent ended.kind (last_bytes ended.announced self.now.heap.items) }
     {
-        !open.kind.is_text() || self.ends_in_text(open.announced as usize)
+        !ended.kind.is_text() || self.ends_in_text(ended.announced as usize)
     }
 
     // Whether the last so many bytes of the heap are UTF-8.
