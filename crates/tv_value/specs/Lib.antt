@@ -27,3 +27,4 @@ pub mod SameTokens
 pub mod SameTokensLaws
 pub mod JsonTree
 pub mod IpAddress
+pub mod WriteVersion

@@ -21,5 +21,6 @@ pub mod tokenizer;
 pub mod type_codes;
 mod utf8;
 pub mod value;
+pub mod version;
 
 pub use tv_date::{date_error, date_time};
