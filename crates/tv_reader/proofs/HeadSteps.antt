@@ -13,16 +13,16 @@ use Rattle.tv_base.proofs.AgreeNumbers.{vint_agrees}
 use Rattle.tv_base.proofs.AgreeTruth.{truth_agrees}
 use Rattle.tv_base.proofs.AgreeWidths.{u64_agrees, u128_agrees}
 use Rattle.tv_value.specs.Content.{no_content, truth_content, unsigned_content, signed_content, wide_content}
-use Rattle.tv_value.specs.InputError.{Refusal, corrupted, no_text_key, ErrorInContent, no_extension, ErrorInCodedKey, key_ends, key_no_extension, in_key, value_ends, in_count}
+use Rattle.tv_value.specs.InputError.{Refusal, corrupted, no_text_key, ErrorInContent, no_extension, ErrorInCodedKey, ErrorInKey, corrupt, key_ends, key_no_extension, in_key, value_ends, in_count}
 use Rattle.tv_value.specs.Leaves.{form, scale}
-use Rattle.tv_value.specs.Version.{Version, Scaled}
+use Rattle.tv_value.specs.Version.{Version, V3, Scaled}
 use Rattle.tv_reader.specs.Error.{read_error, store_stop}
 use Rattle.tv_reader.specs.Finds.{Finds}
 use Rattle.tv_reader.specs.HeadReading.{head_part, form_head_at, type_head_at, head_at}
 use Rattle.tv_reader.specs.Heads.{HeadPart, leaf_head, length_head, array_head, object_head, tokenized_head, legacy_head, EncodesHead, CodedLength}
 use Rattle.tv_reader.specs.Kinds.{kind_at}
 use Rattle.tv_reader.specs.Leaves.{leaf_holding}
-use Rattle.tv_reader.specs.Trees.{NoValue, EncodesTwice, ErrorInTwice}
+use Rattle.tv_reader.specs.Trees.{NoValue, EncodesEntryCount, ErrorInEntryCount}
 use Rattle.tv_reader.specs.ValueType.{leaf_type, type_code, coded}
 use Rattle.tv_reader.specs.Version.{version_of}
 use Rattle.tv_reader.specs.declared.error.DeserializeError.TheVariants as errors
@@ -37,7 +37,7 @@ use Rattle.tv_value.specs.declared.leaf.LeafType.TheVariants as leaves
 use Rattle.tv_reader.proofs.AgreeLeaves.{number_agrees}
 use Rattle.tv_reader.proofs.BehindKinds.{finds_behind, other_key, held_error, type_or_text}
 use Rattle.tv_reader.proofs.Finding.{finds_as, finds_part, finds_part_fails, finds_refused}
-use Rattle.tv_reader.proofs.TreeSteps.{half_agrees, twice_refused, total}
+use Rattle.tv_reader.proofs.TreeSteps.{entry_count_agrees, entry_count_refused}
 
 abbrev end : Refusal
 end = corrupted UnexpectedEnd
@@ -91,18 +91,18 @@ type_head_agrees v None = nothing_read UnexpectedEnd legacy_head
 
 abbrev Body : Version → ValueType → List ℕ → HeadPart → Type 0
 Body v types.Array = HeadOf VNum array_head
-Body v types.Object = HeadOf EncodesTwice object_head
+Body v types.Object = HeadOf (EncodesEntryCount v) object_head
 Body v kind = TypeHead v (leaf_type kind)
 
 abbrev ErrorInBody : Version → ValueType → List ℕ → Cause → Type 0
 ErrorInBody v types.Array = ErrorInNumber
-ErrorInBody v types.Object = ErrorInTwice
+ErrorInBody v types.Object = ErrorInEntryCount v
 ErrorInBody v kind = ErrorInTypeHead v (leaf_type kind)
 
 pub head_agrees : (v : Version) (kind : ValueType) → Agrees UnexpectedEnd (head_at v kind) (Body v kind) (ErrorInBody v kind)
 unfolding head_at
 head_agrees v types.Array = made array_head vint_agrees
-head_agrees v types.Object = made object_head half_agrees
+head_agrees v types.Object = made object_head (entry_count_agrees v)
 head_agrees v kind = type_head_agrees v (leaf_type kind)
 
 -- ---- with the code
@@ -113,7 +113,7 @@ head_encoded version types.JSONObject a h p = subst (EncodesHead (version_of ver
 head_encoded version types.Null a h p = subst (EncodesHead (version_of version) (11 ∷ a)) (sym p.1) (tt, record { body = a; joined = refl; encoded = p.0 })
 head_encoded version types.Array a h p = subst (EncodesHead (version_of version) (12 ∷ a)) (sym p.2) (record { body = a; joined = refl; encoded = p.1 })
 head_encoded version types.Object a h p =
-    subst (EncodesHead (version_of version) (13 ∷ a)) (sym p.2) (record { body = a; joined = refl; encoded = subst (λ n. VNum a n) (sym (total version p.0)) p.1 })
+    subst (EncodesHead (version_of version) (13 ∷ a)) (sym p.2) (record { body = a; joined = refl; encoded = p.1 })
 head_encoded version kind a h p = subst (EncodesHead (version_of version) (coded kind ++ a)) (sym p.2) (tt, record { body = a; joined = refl; encoded = p.1 })
 
 -- an error in the head of a leaf is one in what it holds
@@ -127,7 +127,7 @@ head_refused : (version : DocStoreVersion) (kind : ValueType) (w : List ℕ) (c 
 head_refused version types.PreTokStr w c h = absurd h
 head_refused version types.JSONObject w c h = absurd h
 head_refused version types.Array w c h = in_count h
-head_refused version types.Object w c h = twice_refused version w c h
+head_refused version types.Object w c h = entry_count_refused version w c h
 head_refused version kind w c h = let t = type_or_text (leaf_type kind) in held_error t (in_content (version_of version) t (form t) w c h)
 
 -- ---- heads
@@ -171,3 +171,13 @@ pub key_length_refused : {S : Type 0} {is_known : S → Type 0} {left : S → Li
 key_length_refused {is_known = is_known} {left = left} {failures = failures} {mid = mid} {j = j} {kind = kind} are_bytes other part =
     finds_behind CodedLength ErrorInCodedKey are_bytes key_ends key_no_extension part
     (finds_refused store_stop end is_known left failures mid j (errors.TypeMismatch types.String kind) (no_text_key (type_code kind)) _ _ refl (λ e. cc) (λ w. other_key kind w other))
+
+-- without a code
+pub plain_length_fails : {S : Type 0} {is_known : S → Type 0} {left : S → List ℕ} {failures : S → Failures} {old new : S} {i k : ℕ} {e : ReadError}
+    → ((source : S) → is_known source → AllBytes (left source)) → reads.TakesBy {X = ℕ} is_known left failures old i new k (λ x. x) (Err e) vint_at
+    → Finds {X = ℕ} is_known left failures old i new k (Err (read_error e)) VNum (ErrorInKey V3)
+plain_length_fails are_bytes h = finds_part_fails _ _ are_bytes vint_agrees (λ w c f. corrupt (in_sized (inl f))) h
+
+pub plain_length_found : {S : Type 0} {is_known : S → Type 0} {left : S → List ℕ} {failures : S → Failures} {old new : S} {i k n : ℕ}
+    → ((source : S) → is_known source → AllBytes (left source)) → reads.TakesBy is_known left failures old i new k (λ x. x) (Ok n) vint_at → Finds is_known left failures old i new k (Ok n) VNum (ErrorInKey V3)
+plain_length_found {n = n} are_bytes h = finds_as n _ _ (λ a t. t) (finds_part are_bytes vint_agrees h)

@@ -8,7 +8,7 @@ use Rattle.tv_base.specs.declared.cause.Cause.{Cause}
 use Rattle.tv_base.specs.declared.cause.Cause.TheVariants.{UnexpectedEnd, OddObject}
 use Rattle.tv_base.specs.declared.read_error.ReadError.{ReadError}
 use Rattle.tv_base.specs.Number.{VNum}
-use Rattle.tv_base.specs.ErrorInPart.{InThen, ErrorInNumber}
+use Rattle.tv_base.specs.ErrorInPart.{InThen, ErrorInNumber, number_ends, in_sized}
 use Rattle.tv_base.specs.Reading.{text_at, vint_at}
 use Rattle.tv_base.specs.Source.{AllBytes, Failures}
 use Rattle.tv_base.specs.Take as reads
@@ -19,21 +19,22 @@ use Rattle.tv_base.proofs.EarlyNumbers.{number_early}
 use Rattle.tv_legacy.specs.Legacy.{Legacy}
 use Rattle.tv_legacy.specs.LegacyReading.{legacy_at}
 use Rattle.tv_legacy.proofs.Agrees.{LegacyTree, legacy_agrees}
-use Rattle.tv_value.specs.InputError.{Refusal, corrupted, no_text_key, ErrorInCodedKey, key_ends, key_no_extension, in_key, ErrorInKey, value_ends, no_extension, in_legacy, in_count, in_element, in_entry_count, odd_count, in_entry_key, in_entry}
+use Rattle.tv_value.specs.InputError.{Refusal, corrupted, no_text_key, ErrorInCodedKey, key_ends, key_no_extension, in_key, ErrorInKey, corrupt, value_ends, no_extension, in_legacy, in_count, in_element, in_entry_count, odd_count, in_entry_key, in_entry}
 use Rattle.tv_value.specs.ErrorInList.{in_next_key, in_next_value}
 use Rattle.tv_value.specs.Lent.{key_and}
 use Rattle.tv_value.specs.Owned.{owned_tree, owned_entries}
 use Rattle.tv_value.specs.Encoding.{Key, Encodes, EncodesElements, EncodesEntries}
 use Rattle.tv_value.specs.Tree.{Tree, array, object, elements, element_count, entries, entry_count}
-use Rattle.tv_value.specs.Version.{Version, entry_total}
+use Rattle.tv_value.specs.Version.{Version, V1, V2, V3, entry_total}
 use Rattle.tv_value.specs.declared.owned_value.OwnedValue.{OwnedValue, Array, Object, the_lemmas}
+use Rattle.tv_value.proofs.SingleLeaves.{key_single}
 use Rattle.tv_value.proofs.Lists.{elements-length, entries-length, encodes_push, entries_push}
-use Rattle.tv_reader.specs.Counts.{half_of, half_at}
+use Rattle.tv_reader.specs.Counts.{half_of, half_at, entry_count_at}
 use Rattle.tv_reader.specs.Error.{read_error, store_stop}
 use Rattle.tv_reader.specs.Finds.{Finds}
 use Rattle.tv_reader.specs.Kinds.{kind_at}
 use Rattle.tv_reader.specs.Leaves.{is_leaf_type, leaf_at}
-use Rattle.tv_reader.specs.Trees.{EncodesValue, NoValue, EncodesBehind, NoneBehind, EncodesItems, NoItems, EncodesMember, NoMember, EncodesMembers, NoMembers, CodedKey, EncodesTwice, ErrorInTwice, in_number, odd_number}
+use Rattle.tv_reader.specs.Trees.{EncodesValue, NoValue, EncodesBehind, NoneBehind, EncodesItems, NoItems, EncodesMember, NoMember, EncodesMembers, NoMembers, CodedKey, EncodesTwice, ErrorInTwice, in_number, odd_number, EncodesEntryCount, ErrorInEntryCount, in_count_number, odd_count_number}
 use Rattle.tv_reader.specs.ValueType.{type_code, coded}
 use Rattle.tv_reader.specs.Version.{version_of}
 use Rattle.tv_reader.specs.declared.error.DeserializeError.{DeserializeError}
@@ -41,9 +42,8 @@ use Rattle.tv_reader.specs.declared.error.DeserializeError.TheVariants as errors
 use Rattle.tv_reader.specs.declared.value_type.ValueType.{ValueType}
 use Rattle.tv_reader.specs.declared.value_type.ValueType.TheVariants as types
 use Rattle.tv_reader.specs.declared.version.DocStoreVersion.{DocStoreVersion}
-use Rattle.tv_reader.specs.declared.version.DocStoreVersion.TheVariants as stores
 use Rattle.tv_reader.proofs.AgreeLeaves.{leaf_agrees}
-use Rattle.tv_reader.proofs.BehindKinds.{finds_behind, other_key, leaf_encoded, leaf_refused, value_ended, key_ended, held_error}
+use Rattle.tv_reader.proofs.BehindKinds.{finds_behind, other_key, leaf_encoded, leaf_refused, value_ended, held_error}
 use Rattle.tv_value.specs.declared.leaf.LeafType.TheVariants as leaves
 use Rattle.tv_reader.proofs.Finding.{finds_then, finds_as, finds_fails, finds_part, finds_part_fails, finds_refused}
 
@@ -73,22 +73,28 @@ key_refused {is_known = is_known} {left = left} {failures = failures} {mid = mid
     finds_behind CodedKey ErrorInCodedKey are_bytes key_ends key_no_extension part
     (finds_refused store_stop end is_known left failures mid j (errors.TypeMismatch types.String kind) (no_text_key (type_code kind)) _ _ refl (λ e. cc) (λ w. other_key kind w other))
 
--- a key of the versions that are read
-pub key_at : (version : DocStoreVersion) (b : List ℕ) (key : String Global) → CodedKey b key → Key (version_of version) b (string_bytes key)
-key_at stores.V1 b key h = h
-key_at stores.V2 b key h = h
+-- a key as a text that owns its bytes
+abbrev pub KeyEncoded : Version → List ℕ → String Global → Type 0
+KeyEncoded v b key = Key v b (string_bytes key)
 
-pub key_error_at : (version : DocStoreVersion) (w : List ℕ) (r : Refusal) → ErrorInCodedKey w r → ErrorInKey (version_of version) w r
-key_error_at stores.V1 w r h = h
-key_error_at stores.V2 w r h = h
+-- without a code
+pub plain_key_found : {S : Type 0} {is_known : S → Type 0} {left : S → List ℕ} {failures : S → Failures} {old new : S} {i k : ℕ} {key : String Global}
+    → ((source : S) → is_known source → AllBytes (left source)) → reads.TakesBy is_known left failures old i new k (λ s. string_bytes s) (Ok key) text_at → Finds is_known left failures old i new k (Ok key) (KeyEncoded V3) (ErrorInKey V3)
+plain_key_found {key = key} are_bytes h = finds_as key _ _ (λ a t. t) (finds_part are_bytes text_agrees h)
 
-pub key_error_ended : (version : DocStoreVersion) (w : List ℕ) (r : Refusal) → w ≡ [] → ErrorInKey (version_of version) w r → r ≡ end
-key_error_ended stores.V1 w r e h = key_ended e h
-key_error_ended stores.V2 w r e h = key_ended e h
+pub plain_key_fails : {S : Type 0} {is_known : S → Type 0} {left : S → List ℕ} {failures : S → Failures} {old new : S} {i k : ℕ} {e : ReadError}
+    → ((source : S) → is_known source → AllBytes (left source)) → reads.TakesBy {X = String Global} is_known left failures old i new k (λ s. string_bytes s) (Err e) text_at
+    → Finds {X = String Global} is_known left failures old i new k (Err (read_error e)) (KeyEncoded V3) (ErrorInKey V3)
+plain_key_fails are_bytes h = finds_part_fails _ _ are_bytes text_agrees (λ w c f. corrupt f) h
 
-pub total : (version : DocStoreVersion) (n : ℕ) → entry_total (version_of version) n ≡ 2 * n
-total stores.V1 n = refl
-total stores.V2 n = refl
+-- where there are no bytes, their end is the error
+no_key : (v : Version) → ErrorInKey v [] end
+no_key V1 = key_ends
+no_key V2 = key_ends
+no_key V3 = corrupt (in_sized (inl (number_ends (omega arith) tt)))
+
+pub key_error_ended : (v : Version) (w : List ℕ) (r : Refusal) → w ≡ [] → ErrorInKey v w r → r ≡ end
+key_error_ended v w r e h = key_single v w r end h (subst (λ z. ErrorInKey v z end) (sym e) (no_key v))
 
 -- ---- twice a number
 
@@ -133,6 +139,19 @@ pub half_agrees : Agrees UnexpectedEnd half_at EncodesTwice ErrorInTwice
 unfolding half_at
 half_agrees = agrees_too (λ whole. refl) half_to half_from half_errors
     (in_turn {b = half_of} vint_agrees (λ n. chosen (eqb (n % 2) 0) (nothing_read UnexpectedEnd (n / 2)) (nothing_stands OddObject (λ e. cc))))
+
+-- ---- the number of entries
+
+-- where it is announced twice over
+twice_announced : (v : Version) → ((m : ℕ) → entry_total v m ≡ 2 * m) → (whole : List ℕ) (c : Cause) → ErrorInTwice whole c → ErrorInEntryCount v whole c
+twice_announced v twice whole c (in_number f) = in_count_number f
+twice_announced v twice whole _ (odd_number n prefix rest joined number none) = odd_count_number n prefix rest joined number (λ m e. none m (sym (twice m) ∙ e))
+
+pub entry_count_agrees : (v : Version) → Agrees UnexpectedEnd (entry_count_at v) (EncodesEntryCount v) (ErrorInEntryCount v)
+unfolding entry_count_at
+entry_count_agrees V1 = agrees_too (λ whole. refl) (λ whole n small h. h) (λ whole n h. h) (λ whole c small f. twice_announced V1 (λ m. refl) whole c f) half_agrees
+entry_count_agrees V2 = agrees_too (λ whole. refl) (λ whole n small h. h) (λ whole n h. h) (λ whole c small f. twice_announced V2 (λ m. refl) whole c f) half_agrees
+entry_count_agrees V3 = agrees_too (λ whole. refl) (λ whole n small h. h) (λ whole n h. h) (λ whole c small f. in_count_number f) vint_agrees
 
 -- ---- leaves
 
@@ -252,68 +271,68 @@ items_fail {m = m} {n = n} {items = items} v less p q =
 
 -- ---- objects
 
-object_of : (version : DocStoreVersion) (n : ℕ) (a b : List ℕ) (xs : Vec (String Global × OwnedValue) Global) → EncodesTwice a n → EncodesMembers (version_of version) n b xs
+object_of : (version : DocStoreVersion) (n : ℕ) (a b : List ℕ) (xs : Vec (String Global × OwnedValue) Global) → EncodesEntryCount (version_of version) a n → EncodesMembers (version_of version) n b xs
     → Encodes Legacy (version_of version) (13 ∷ (a ++ b)) (object (entries (owned_entries xs.items)))
 object_of version n a b xs r s =
     let v = version_of version in
     let count : length (owned_entries xs.items) ≡ n = length-map (map (λ m. (m.0, owned_tree m.1)) xs.items) key_and ∙ length-map xs.items (λ m. (m.0, owned_tree m.1)) ∙ s.many in
-    let many : 2 * n ≡ entry_total v (entry_count (entries (owned_entries xs.items))) = sym (total version n) ∙ ap (entry_total v) (sym (entries-length (owned_entries xs.items) ∙ count)) in
+    let many : entry_total v n ≡ entry_total v (entry_count (entries (owned_entries xs.items))) = ap (entry_total v) (sym (entries-length (owned_entries xs.items) ∙ count)) in
     inl (record { body = a ++ b; joined = refl; encoded = record { prefix = a; rest = b; joined = refl; first = subst (λ m. VNum a m) many r; second = s.encoded } })
 
-object_refused : (version : DocStoreVersion) (n : ℕ) (a w : List ℕ) (r : Refusal) → EncodesTwice a n → NoMembers (version_of version) n w r → NoValue (version_of version) (13 ∷ (a ++ w)) r
+object_refused : (version : DocStoreVersion) (n : ℕ) (a w : List ℕ) (r : Refusal) → EncodesEntryCount (version_of version) a n → NoMembers (version_of version) n w r → NoValue (version_of version) (13 ∷ (a ++ w)) r
 object_refused version n a w r number (in_next_key es prefix rest joined encoded fewer f) =
-    in_entry_key n es a prefix rest (ap (λ (l : List ℕ). a ++ l) joined) (subst (λ m. VNum a m) (sym (total version n)) number) encoded fewer f
+    in_entry_key n es a prefix rest (ap (λ (l : List ℕ). a ++ l) joined) number encoded fewer f
 object_refused version n a w r number (in_next_value es k prefix key rest joined encoded fewer keyed f) =
-    in_entry n es k a prefix key rest (ap (λ (l : List ℕ). a ++ l) joined) (subst (λ m. VNum a m) (sym (total version n)) number) encoded fewer keyed f
+    in_entry n es k a prefix key rest (ap (λ (l : List ℕ). a ++ l) joined) number encoded fewer keyed f
 
-pub twice_refused : (version : DocStoreVersion) (w : List ℕ) (c : Cause) → ErrorInTwice w c → NoValue (version_of version) (13 ∷ w) (corrupted c)
-twice_refused version w c (in_number f) = in_entry_count f
-twice_refused version w _ (odd_number n prefix rest joined number none) = odd_count n prefix rest joined number (λ m e. none m (sym (total version m) ∙ e))
+pub entry_count_refused : (version : DocStoreVersion) (w : List ℕ) (c : Cause) → ErrorInEntryCount (version_of version) w c → NoValue (version_of version) (13 ∷ w) (corrupted c)
+entry_count_refused version w c (in_count_number f) = in_entry_count f
+entry_count_refused version w _ (odd_count_number n prefix rest joined number none) = odd_count n prefix rest joined number none
 
 pub object_found : {S : Type 0} {is_known : S → Type 0} {left : S → List ℕ} {failures : S → Failures} {old mid new : S} {i j k n : ℕ} {members : Vec (String Global × OwnedValue) Global} (version : DocStoreVersion)
-    → ((source : S) → is_known source → AllBytes (left source)) → reads.TakesBy is_known left failures old i mid j (λ x. x) (Ok n) half_at
+    → ((source : S) → is_known source → AllBytes (left source)) → reads.TakesBy is_known left failures old i mid j (λ x. x) (Ok n) (entry_count_at (version_of version))
     → Finds is_known left failures mid j new k (Ok members) (EncodesMembers (version_of version) n) (NoMembers (version_of version) n)
     → Finds is_known left failures old i new k (Ok (Object members)) (EncodesBehind (version_of version) types.Object) (NoneBehind (version_of version) types.Object)
 object_found {n = n} {members = members} version are_bytes part h =
     finds_as (Object members) _ _ (λ a s. subst (Encodes Legacy (version_of version) (13 ∷ a)) (sym (owned-Object members)) s)
     (finds_then (λ b xs. Encodes Legacy (version_of version) (13 ∷ b) (object (entries (owned_entries xs.items)))) (λ w r. NoValue (version_of version) (13 ∷ w) r)
-    (λ a b xs r s. object_of version n a b xs r s) (λ a w c r f. object_refused version n a w c r f) (λ a f r _ _ start byte last. in_entry_count (number_early a (2 * n) r start byte last))
-    (finds_part are_bytes half_agrees part) h)
+    (λ a b xs r s. object_of version n a b xs r s) (λ a w c r f. object_refused version n a w c r f) (λ a f r _ _ start byte last. in_entry_count (number_early a (entry_total (version_of version) n) r start byte last))
+    (finds_part are_bytes (entry_count_agrees (version_of version)) part) h)
 
 pub object_fails : {S : Type 0} {is_known : S → Type 0} {left : S → List ℕ} {failures : S → Failures} {old mid new : S} {i j k n : ℕ} {e : DeserializeError} (version : DocStoreVersion)
-    → ((source : S) → is_known source → AllBytes (left source)) → reads.TakesBy is_known left failures old i mid j (λ x. x) (Ok n) half_at
+    → ((source : S) → is_known source → AllBytes (left source)) → reads.TakesBy is_known left failures old i mid j (λ x. x) (Ok n) (entry_count_at (version_of version))
     → Finds {X = Vec (String Global × OwnedValue) Global} is_known left failures mid j new k (Err e) (EncodesMembers (version_of version) n) (NoMembers (version_of version) n)
     → Finds is_known left failures old i new k (Err e) (EncodesBehind (version_of version) types.Object) (NoneBehind (version_of version) types.Object)
 object_fails {n = n} version are_bytes part h =
     finds_then (EncodesBehind (version_of version) types.Object) (NoneBehind (version_of version) types.Object)
-    (λ a b y r s. absurd s) (λ a w c r f. object_refused version n a w c r f) (λ a f r _ _ start byte last. in_entry_count (number_early a (2 * n) r start byte last))
-    (finds_part are_bytes half_agrees part) (finds_fails (λ b y. ⊥) (NoMembers (version_of version) n) (λ w c f. f) h)
+    (λ a b y r s. absurd s) (λ a w c r f. object_refused version n a w c r f) (λ a f r _ _ start byte last. in_entry_count (number_early a (entry_total (version_of version) n) r start byte last))
+    (finds_part are_bytes (entry_count_agrees (version_of version)) part) (finds_fails (λ b y. ⊥) (NoMembers (version_of version) n) (λ w c f. f) h)
 
 pub object_count_fails : {S : Type 0} {is_known : S → Type 0} {left : S → List ℕ} {failures : S → Failures} {old new : S} {i k : ℕ} {e : ReadError} (version : DocStoreVersion)
-    → ((source : S) → is_known source → AllBytes (left source)) → reads.TakesBy is_known left failures old i new k (λ x. x) (Err e) half_at
+    → ((source : S) → is_known source → AllBytes (left source)) → reads.TakesBy is_known left failures old i new k (λ x. x) (Err e) (entry_count_at (version_of version))
     → Finds is_known left failures old i new k (Err (read_error e)) (EncodesBehind (version_of version) types.Object) (NoneBehind (version_of version) types.Object)
-object_count_fails version are_bytes h = finds_part_fails _ _ are_bytes half_agrees (twice_refused version) h
+object_count_fails version are_bytes h = finds_part_fails _ _ are_bytes (entry_count_agrees (version_of version)) (entry_count_refused version) h
 
 -- ---- members
 
 pub member_found : {S : Type 0} {is_known : S → Type 0} {left : S → List ℕ} {failures : S → Failures} {old mid new : S} {i j k : ℕ} {key : String Global} {value : OwnedValue} (version : DocStoreVersion)
-    → Finds is_known left failures old i mid j (Ok key) CodedKey ErrorInCodedKey → Finds is_known left failures mid j new k (Ok value) (EncodesValue (version_of version)) (NoValue (version_of version))
+    → Finds is_known left failures old i mid j (Ok key) (KeyEncoded (version_of version)) (ErrorInKey (version_of version)) → Finds is_known left failures mid j new k (Ok value) (EncodesValue (version_of version)) (NoValue (version_of version))
     → Finds is_known left failures old i new k (Ok (key, value)) (EncodesMember (version_of version)) (NoMember (version_of version))
 member_found {key = key} {value = value} version p q =
     finds_as (key, value) _ _ (λ a s. s)
     (finds_then (λ b x. EncodesMember (version_of version) b (key, x)) (λ w r. Unit {0})
-    (λ a b x r s. record { prefix = a; rest = b; joined = refl; first = key_at version a key r; second = s }) (λ a w c r f. tt) (λ a f r _ _ start byte last. tt) p q)
+    (λ a b x r s. record { prefix = a; rest = b; joined = refl; first = r; second = s }) (λ a w c r f. tt) (λ a f r _ _ start byte last. tt) p q)
 
 pub member_key_fails : {S : Type 0} {is_known : S → Type 0} {left : S → List ℕ} {failures : S → Failures} {old new : S} {i k : ℕ} {e : DeserializeError} (version : DocStoreVersion)
-    → Finds {X = String Global} is_known left failures old i new k (Err e) CodedKey ErrorInCodedKey → Finds {X = String Global × OwnedValue} is_known left failures old i new k (Err e) (EncodesMember (version_of version)) (NoMember (version_of version))
-member_key_fails version p = finds_fails _ _ (λ w c f. inl (key_error_at version w c f)) p
+    → Finds {X = String Global} is_known left failures old i new k (Err e) (KeyEncoded (version_of version)) (ErrorInKey (version_of version)) → Finds {X = String Global × OwnedValue} is_known left failures old i new k (Err e) (EncodesMember (version_of version)) (NoMember (version_of version))
+member_key_fails version p = finds_fails _ _ (λ w c f. inl f) p
 
 pub member_value_fails : {S : Type 0} {is_known : S → Type 0} {left : S → List ℕ} {failures : S → Failures} {old mid new : S} {i j k : ℕ} {key : String Global} {e : DeserializeError} (version : DocStoreVersion)
-    → Finds is_known left failures old i mid j (Ok key) CodedKey ErrorInCodedKey → Finds {X = OwnedValue} is_known left failures mid j new k (Err e) (EncodesValue (version_of version)) (NoValue (version_of version))
+    → Finds is_known left failures old i mid j (Ok key) (KeyEncoded (version_of version)) (ErrorInKey (version_of version)) → Finds {X = OwnedValue} is_known left failures mid j new k (Err e) (EncodesValue (version_of version)) (NoValue (version_of version))
     → Finds {X = String Global × OwnedValue} is_known left failures old i new k (Err e) (EncodesMember (version_of version)) (NoMember (version_of version))
 member_value_fails {key = key} version p q =
     finds_then (EncodesMember (version_of version)) (NoMember (version_of version)) (λ a b x r s. absurd s)
-    (λ a w c r f. inr (string_bytes key, record { prefix = a; rest = w; joined = refl; first = key_at version a key r; second = f }))
+    (λ a w c r f. inr (string_bytes key, record { prefix = a; rest = w; joined = refl; first = r; second = f }))
     (λ a f r other nothing start byte last. absurd (other (value_ended refl nothing)))
     p (finds_fails (λ b z. ⊥) (NoValue (version_of version)) (λ w c f. f) q)
 
@@ -323,7 +342,7 @@ no_rest (b ∷ prefix) rest e = absurd cc
 
 member_ended : (version : DocStoreVersion) (r : Refusal) → NoMember (version_of version) [] r → r ≡ end
 member_ended version r p = elim p [
-  | inl f ↦ key_error_ended version [] r refl f
+  | inl f ↦ key_error_ended (version_of version) [] r refl f
   | inr q ↦ value_ended (no_rest q.1.prefix q.1.rest q.1.joined) q.1.second
 ]
 

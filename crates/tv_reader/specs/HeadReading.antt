@@ -10,7 +10,7 @@ use Rattle.tv_value.specs.Version.{Version}
 use Rattle.tv_value.specs.declared.content.Form.{Form}
 use Rattle.tv_value.specs.declared.content.Form.TheVariants as forms
 use Rattle.tv_value.specs.declared.leaf.LeafType.{LeafType}
-use Rattle.tv_reader.specs.Counts.{half_at}
+use Rattle.tv_reader.specs.Counts.{entry_count_at}
 use Rattle.tv_reader.specs.Heads.{HeadPart, leaf_head, length_head, array_head, object_head, tokenized_head, legacy_head}
 use Rattle.tv_reader.specs.Leaves.{leaf_holding, number_at}
 use Rattle.tv_reader.specs.ValueType.{leaf_type}
@@ -45,5 +45,5 @@ type_head_at v None whole = Ok (legacy_head, whole)
 -- the head of a value whose type was read
 unfoldable pub head_at : Version → ValueType → List ℕ → Result (HeadPart × List ℕ) (Cause × List ℕ)
 head_at v types.Array whole = vint_at whole >>= λ x. Ok (array_head x.0, x.1)
-head_at v types.Object whole = half_at whole >>= λ x. Ok (object_head x.0, x.1)
+head_at v types.Object whole = entry_count_at v whole >>= λ x. Ok (object_head x.0, x.1)
 head_at v kind whole = type_head_at v (leaf_type kind) whole

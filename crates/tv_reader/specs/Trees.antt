@@ -12,7 +12,7 @@ use Rattle.tv_value.specs.ErrorInList.{ErrorInElements, ErrorInEntries}
 use Rattle.tv_value.specs.Owned.{owned_tree, owned_entries}
 use Rattle.tv_value.specs.Encoding.{Key, Encodes, EncodesElements, EncodesEntries}
 use Rattle.tv_value.specs.Tree.{elements, entries}
-use Rattle.tv_value.specs.Version.{Version}
+use Rattle.tv_value.specs.Version.{Version, entry_total}
 use Rattle.tv_value.specs.declared.owned_value.OwnedValue.{OwnedValue}
 use Rattle.tv_reader.specs.ValueType.{coded}
 use Rattle.tv_reader.specs.declared.value_type.ValueType.{ValueType}
@@ -65,3 +65,11 @@ EncodesTwice b n = VNum b (2 * n)
 pub data ErrorInTwice (whole : List ℕ) : Cause → Type 0 where
   in_number : {c : Cause} → ErrorInNumber whole c → ErrorInTwice whole c
   odd_number : (n : ℕ) (prefix rest : List ℕ) → whole ≡ prefix ++ rest → VNum prefix n → ((m : ℕ) → 2 * m ≢ n) → ErrorInTwice whole OddObject
+
+-- what an object of so many entries announces
+abbrev pub EncodesEntryCount : Version → List ℕ → ℕ → Type 0
+EncodesEntryCount v b n = VNum b (entry_total v n)
+
+pub data ErrorInEntryCount (v : Version) (whole : List ℕ) : Cause → Type 0 where
+  in_count_number : {c : Cause} → ErrorInNumber whole c → ErrorInEntryCount v whole c
+  odd_count_number : (n : ℕ) (prefix rest : List ℕ) → whole ≡ prefix ++ rest → VNum prefix n → ((m : ℕ) → entry_total v m ≢ n) → ErrorInEntryCount v whole OddObject

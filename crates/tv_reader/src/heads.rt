@@ -60,9 +60,10 @@ pub fn take_head<S: ByteSource>(
     Ok(head)
 }
 
-/// Takes the head of a key: its code, and its length in bytes. None of these bytes is taken.
+/// Takes the head of a key: its length in bytes, in versions 1 and 2 behind its code. None of these bytes is taken.
 ///
-/// Errors: `CorruptedValue` with the first error in the head, `TypeMismatch` where a value of another type stands there, and `Io`.
+/// Errors: `CorruptedValue` with the first error in the head, `Io`, and in versions 1 and 2 `TypeMismatch` where a value of another type
+/// stands there.
 pub fn take_key_head<S: ByteSource>(
     source: &mut S,
     count: &mut u64,
@@ -77,6 +78,10 @@ pub fn take_key_head<S: ByteSource>(
 {
     match version {
         DocStoreVersion::V1 | DocStoreVersion::V2 => take_coded_key_head(source, count),
+        DocStoreVersion::V3 => {
+            let len = take_vint(source, count)?;
+            Ok(len)
+        }
     }
 }
 

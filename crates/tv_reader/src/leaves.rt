@@ -35,7 +35,7 @@ fn nanoseconds(microseconds: i64) -> i64
     microseconds * 1000
 }
 
-/// Takes a date: microseconds in version 1, and nanoseconds in version 2.
+/// Takes a date: microseconds in version 1, and nanoseconds in the others.
 ///
 /// Errors: those of `take_i64`, and in version 1 `Corrupted(DateRange)` where the nanoseconds don't fit 64 bits.
 #[tactic(auto, using(tv_base::proofs::TakeSteps::Taken_then), unfolding(crate::specs::Leaves::date_at))]
@@ -61,7 +61,7 @@ pub fn take_date<S: ByteSource>(
             }
             Ok(DateTime::from_timestamp_nanos(nanoseconds(number)))
         }
-        DocStoreVersion::V2 => Ok(DateTime::from_timestamp_nanos(number)),
+        DocStoreVersion::V2 | DocStoreVersion::V3 => Ok(DateTime::from_timestamp_nanos(number)),
     }
 }
 

@@ -1,11 +1,11 @@
 //! Taking values of every type from a source that is lent, with the count of the bytes that were taken of it.
 
-ghost use Rattle.std.specs.Prelude.{◌≡◌, ◌≤◌, ◌+◌, ◌-◌, ◌^◌, IsErrOf};
+ghost use Rattle.std.specs.Prelude.{◌≡◌, ◌≤◌, ◌+◌, ◌-◌, ◌^◌, IsErrOf, string_bytes};
 ghost use Rattle.tv_base.specs.Take as reads;
 ghost use Rattle.tv_base.specs.declared.cause.Cause.TheVariants.{TooLong};
 ghost use Rattle.tv_base.specs.declared.read_error.ReadError.TheVariants.{Corrupted};
 ghost use Rattle.tv_base.specs.declared.read_error.ReadError.TheVariants.{Memory as NoMemory};
-ghost use Rattle.tv_reader.specs.Counts.{half_at};
+ghost use Rattle.tv_reader.specs.Counts.{half_at, entry_count_at};
 ghost use Rattle.tv_reader.specs.Finds.{Finds};
 ghost use Rattle.tv_reader.specs.Trees.{EncodesValue, NoValue, EncodesBehind, NoneBehind};
 ghost use Rattle.tv_reader.specs.Trees.{EncodesItems, NoItems, EncodesMember, NoMember};
@@ -13,7 +13,8 @@ ghost use Rattle.tv_reader.specs.Trees.{EncodesMembers, NoMembers, CodedKey};
 ghost use Rattle.tv_reader.specs.Version.{version_of};
 ghost use Rattle.tv_reader.specs.declared.error.DeserializeError.TheVariants.{CorruptedValue};
 ghost use Rattle.tv_reader.specs.declared.error.DeserializeError.TheVariants.{HeapFull};
-ghost use Rattle.tv_value.specs.InputError.{ErrorInCodedKey};
+ghost use Rattle.tv_value.specs.Encoding.{Key};
+ghost use Rattle.tv_value.specs.InputError.{ErrorInCodedKey, ErrorInKey};
 
 use crate::error::{DeserializeError, ValueType};
 use crate::kinds::take_kind;
@@ -25,11 +26,11 @@ use tv_base::{ByteSource, Cause, ReadError};
 use tv_legacy::take::take_legacy;
 use tv_value::owned_value::OwnedValue;
 
-/// Takes the number of an object's entries, which is announced twice over.
-///
-/// Errors: those of `take_vint`, and `Corrupted(OddObject)` where the number is odd.
+// Half of a number.
+//
+// Errors: those of `take_vint`, and `Corrupted(OddObject)` where the number is odd.
 #[tactic(auto, using(tv_base::proofs::TakeSteps::Taken_then), unfolding(crate::specs::Counts::half_at))]
-pub fn take_half<S: ByteSource>(source: &mut S, count: &mut u64) -> Result<u64, ReadError>
+fn take_half<S: ByteSource>(source: &mut S, count: &mut u64) -> Result<u64, ReadError>
     ensures takes { reads.TakesBy S.is_known S.left S.failures source.old count.old source.new
         count.new (λ x. x) result half_at }
     ensures too_long { IsErrOf result (Corrupted TooLong) → count.new ≡ 2 ^ 64 - 1 }
@@ -44,10 +45,56 @@ pub fn take_half<S: ByteSource>(source: &mut S, count: &mut u64) -> Result<u64, 
     }
 }
 
-/// Takes a key: a text behind its code.
+/// Takes the number of an object's entries. Versions 1 and 2 announce twice that number.
 ///
-/// Errors: those of `take_kind` and of `take_string`, and `TypeMismatch` where a value of another type stands there.
+/// Errors: those of `take_vint`, and in versions 1 and 2 `Corrupted(OddObject)` where the number is odd.
+#[tactic(auto, unfolding(crate::specs::Counts::entry_count_at))]
+pub fn take_entry_count<S: ByteSource>(
+    source: &mut S,
+    count: &mut u64,
+    version: DocStoreVersion,
+) -> Result<u64, ReadError>
+    ensures takes { reads.TakesBy S.is_known S.left S.failures source.old count.old source.new
+        count.new (λ x. x) result (entry_count_at (version_of version)) }
+    ensures too_long { IsErrOf result (Corrupted TooLong) → count.new ≡ 2 ^ 64 - 1 }
+    ensures few { count.new ≤ count.old + 10 }
+    ensures spares { ¬ IsErrOf result NoMemory }
+{
+    match version {
+        DocStoreVersion::V1 | DocStoreVersion::V2 => take_half(source, count),
+        DocStoreVersion::V3 => take_vint(source, count),
+    }
+}
+
+/// Takes a key: a text, which in versions 1 and 2 stands behind its code.
+///
+/// Errors: those of `take_string`, and in versions 1 and 2 also those of `take_kind`, and `TypeMismatch` where a value of another
+/// type stands there.
 pub fn take_key<S: ByteSource>(
+    alloc: Global,
+    source: &mut S,
+    count: &mut u64,
+    version: DocStoreVersion,
+) -> Result<String, DeserializeError>
+    ensures finds { Finds S.is_known S.left S.failures source.old count.old source.new count.new
+        result (λ b key. Key (version_of version) b (string_bytes key))
+        (ErrorInKey (version_of version)) }
+    ensures too_long { IsErrOf result (CorruptedValue TooLong) → count.new ≡ 2 ^ 64 - 1 }
+    ensures roomy { ¬ IsErrOf result HeapFull }
+{
+    match version {
+        DocStoreVersion::V1 | DocStoreVersion::V2 => take_coded_key(alloc, source, count),
+        DocStoreVersion::V3 => {
+            let key = take_string(alloc, source, count)?;
+            Ok(key)
+        }
+    }
+}
+
+// A text behind its code.
+//
+// Errors: those of `take_kind` and of `take_string`, and `TypeMismatch` where a value of another type stands there.
+fn take_coded_key<S: ByteSource>(
     alloc: Global,
     source: &mut S,
     count: &mut u64,
@@ -114,7 +161,7 @@ pub fn take_behind<S: ByteSource>(
             Ok(OwnedValue::Array(items))
         }
         ValueType::Object => {
-            let announced = take_half(source, count)?;
+            let announced = take_entry_count(source, count, version)?;
             let members = take_members(alloc, source, count, version, announced)?;
             Ok(OwnedValue::Object(members))
         }
@@ -165,7 +212,7 @@ fn take_member<S: ByteSource>(
     ensures too_long { IsErrOf result (CorruptedValue TooLong) → count.new ≡ 2 ^ 64 - 1 }
     ensures roomy { ¬ IsErrOf result HeapFull }
 {
-    let key = take_key(alloc, source, count)?;
+    let key = take_key(alloc, source, count, version)?;
     let value = take_tree(alloc, source, count, version)?;
     Ok((key, value))
 }

@@ -12,7 +12,7 @@ ghost use Rattle.tv_value.specs.Owned.{owned_tree};
 
 use crate::heads::Head;
 use crate::leaves::{take_date, take_ip_address, take_tokenized};
-use crate::trees::take_half;
+use crate::trees::take_entry_count;
 use crate::type_codes::{ARRAY_CODE, JSON_OBJ_CODE, OBJECT_CODE};
 use crate::version::DocStoreVersion;
 use std::alloc::Global;
@@ -132,7 +132,7 @@ pub(crate) fn take_head_behind<S: ByteSource>(
         ValueType::Facet => Ok(Head::Length(LeafType::Facet, take_vint(source, count)?)),
         ValueType::Bytes => Ok(Head::Length(LeafType::Bytes, take_vint(source, count)?)),
         ValueType::Array => Ok(Head::Array(take_vint(source, count)?)),
-        ValueType::Object => Ok(Head::Object(take_half(source, count)?)),
+        ValueType::Object => Ok(Head::Object(take_entry_count(source, count, version)?)),
         ValueType::PreTokStr => Ok(Head::Tokenized),
         ValueType::JSONObject => Ok(Head::Legacy),
         ValueType::Null => Ok(Head::Leaf(ReferenceValueLeaf::Null)),

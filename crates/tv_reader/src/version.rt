@@ -12,20 +12,23 @@ pub enum DocStoreVersion {
     V1 = 1,
     /// Dates are nanoseconds since 1970.
     V2 = 2,
+    /// As version 2, but that an object announces the number of its entries, and that its keys have no code.
+    V3 = 3,
 }
 
 impl DocStoreVersion {
-    /// The version of this number. Every number other than 1 and 2 is refused as `UnsupportedVersion`, with itself and the
-    /// largest that there is, 2.
+    /// The version of this number. Every number other than 1, 2 and 3 is refused as `UnsupportedVersion`, with itself and the
+    /// largest that there is, 3.
     pub fn from_u32(number: u32) -> Result<DocStoreVersion, DeserializeError>
         ensures { MatchOption (numbered number)
-            (result ≡ Err (DeserializeError.UnsupportedVersion number 2))
+            (result ≡ Err (DeserializeError.UnsupportedVersion number 3))
             (λ version. result ≡ Ok version) }
     {
         match number {
             1 => Ok(DocStoreVersion::V1),
             2 => Ok(DocStoreVersion::V2),
-            _ => Err(DeserializeError::UnsupportedVersion(number, 2)),
+            3 => Ok(DocStoreVersion::V3),
+            _ => Err(DeserializeError::UnsupportedVersion(number, 3)),
         }
     }
 }
