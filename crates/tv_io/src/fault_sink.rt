@@ -31,7 +31,7 @@ pub struct FaultSink<K: ByteSink> {
 }
 
 impl<K: ByteSink> FaultSink<K> {
-    /// A sink over this one. So many calls pass, and the next one fails with an error of this kind. Nothing is written yet.
+    /// A sink over this one. `passes` calls pass, and the next one fails with an error of this kind. Nothing is written yet.
     pub fn new(inner: K, passes: u64, kind: io::ErrorKind) -> FaultSink<K>
         ensures inner { result.inner ≡ inner }
         ensures plan { result.plan ≡ record { fails_at = Some passes; kind = kind; calls = 0 } }
@@ -89,7 +89,7 @@ impl<K: ByteSink> ByteSink for FaultSink<K> {
         // the call that fails
         ensures fails { IsFailing (length buf.now) self.old.plan
             → result ≡ Err self.old.plan.kind }
-        ensures inner { IsFailing (length buf.now) self.old.plan
+        ensures unwritten { IsFailing (length buf.now) self.old.plan
             → self.new.inner ≡ self.old.inner }
 
         // any other call is one of the inner sink, with one byte at most

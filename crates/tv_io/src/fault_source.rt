@@ -33,7 +33,7 @@ pub struct FaultSource<S: ByteSource> {
 }
 
 impl<S: ByteSource> FaultSource<S> {
-    /// A source over this one. So many calls pass, and the next one fails with an error of this kind. Nothing is read yet.
+    /// A source over this one. `passes` calls pass, and the next one fails with an error of this kind. Nothing is read yet.
     pub fn new(inner: S, passes: u64, kind: io::ErrorKind) -> FaultSource<S>
         ensures inner { result.inner ≡ inner }
         ensures plan { result.plan ≡ record { fails_at = Some passes; kind = kind; calls = 0 } }
@@ -91,9 +91,9 @@ impl<S: ByteSource> ByteSource for FaultSource<S> {
         // the call that fails
         ensures fails { IsFailing (length buf.old) self.old.plan
             → result ≡ Err self.old.plan.kind }
-        ensures inner { IsFailing (length buf.old) self.old.plan
+        ensures unread { IsFailing (length buf.old) self.old.plan
             → self.new.inner ≡ self.old.inner }
-        ensures buf { IsFailing (length buf.old) self.old.plan → buf.new ≡ buf.old }
+        ensures unchanged { IsFailing (length buf.old) self.old.plan → buf.new ≡ buf.old }
 
         // any other call is one of the inner source, for one byte at most
         ensures passes { ¬ IsFailing (length buf.old) self.old.plan
