@@ -1,3 +1,4 @@
 mod bytes;
+mod failing_calls;
 mod laws;
 mod owned_values;

@@ -13,6 +13,11 @@ failures_of counted = record { number = counted.number; last = counted.last }
 abbrev pub with_failure : ErrorKind → Failures → Failures
 with_failure kind old = record { number = min (old.number + 1) (2 ^ 64 - 1); last = Some kind }
 
+-- the failures once a call has returned this
+abbrev pub failures_after : Result ℕ ErrorKind → Failures → Failures
+failures_after (Ok n) old = old
+failures_after (Err kind) old = with_failure kind old
+
 -- what a read returned, with the kind of its error
 abbrev pub of_read : {E : Type 0} → (E → ErrorKind) → Result ℕ E → Result ℕ ErrorKind
 of_read kind (Ok n) = Ok n

@@ -1,9 +1,14 @@
-//! Byte sources and sinks over the readers and writers of std.
+//! Byte sources and sinks over the readers and writers of std, and others of which one call fails.
 #![tactic(auto)]
 
 mod failures;
+pub mod fault_sink;
+pub mod fault_source;
+mod planned_failure;
 pub mod read_source;
 pub mod write_sink;
 
+pub use fault_sink::FaultSink;
+pub use fault_source::FaultSource;
 pub use read_source::ReadSource;
 pub use write_sink::WriteSink;

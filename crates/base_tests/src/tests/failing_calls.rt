@@ -1,0 +1,137 @@
+//! Sources and sinks of which one call fails: which call that is, and what is read or written around it.
+
+use std::alloc::Global;
+use std::io;
+use std::test::Fail;
+use tv_base::take::{take_text, take_u32, take_vint};
+use tv_base::write::{write_text, write_u32, write_vint};
+use tv_base::{BinarySerializable, ByteSink, ByteSource, ReadError, SliceSource, VecSink};
+use tv_io::{FaultSink, FaultSource};
+
+#[test]
+fn one_read_fails(rt: HostRuntime) {
+    let mut source = FaultSource::new(SliceSource::new(b"abc"), 1, io::ErrorKind::TimedOut);
+    let mut buf = [0; 8];
+    assert_eq!(rt; source.read(&mut []), Ok(0));
+    assert_eq!(rt; source.calls(), 0);
+    assert!(rt; source.buffered().is_empty() && !source.pass(1));
+    let failed = Err(io::ErrorKind::TimedOut);
+    for (calls, answer) in [Ok(1), failed, Ok(1), Ok(1), Ok(0)].iter().enumerate() {
+        assert_eq!(rt; source.calls(), calls as u64);
+        assert_eq!(rt; source.read(&mut buf), *answer);
+        assert_eq!(rt; source.read(&mut []), Ok(0));
+    }
+    assert_eq!(rt; source.calls(), 5);
+    assert_eq!(rt; buf, *b"c\0\0\0\0\0\0\0");
+    assert!(rt; source.into_inner().rest().is_empty());
+}
+
+#[test]
+fn one_write_fails(rt: HostRuntime) {
+    let kind = io::ErrorKind::StorageFull;
+    let mut sink = FaultSink::new(VecSink::new(rt.alloc()), 2, kind);
+    assert_eq!(rt; sink.write(&[]), Ok(0));
+    for (calls, answer) in [Ok(1), Ok(1), Err(kind), Ok(1)].iter().enumerate() {
+        assert_eq!(rt; sink.calls(), calls as u64);
+        assert_eq!(rt; sink.write(b"abc"), *answer);
+        assert_eq!(rt; sink.write(&[]), Ok(0));
+    }
+    assert_eq!(rt; sink.calls(), 4);
+    assert_eq!(rt; sink.into_inner().as_slice(), b"aaa".as_slice());
+}
+
+// The kinds of the errors.
+const KINDS: [io::ErrorKind; 3] = [
+    io::ErrorKind::TimedOut,
+    io::ErrorKind::Interrupted,
+    io::ErrorKind::Other,
+];
+
+// The numbers 128 and 65535, and a text.
+const PARTS: &[u8] = b"\0\x81\xff\xff\0\0\x8aChillFish8";
+
+fn write_parts<K: ByteSink>(sink: &mut K) -> Result<(), io::ErrorKind> {
+    write_vint(sink, 128)?;
+    write_u32(sink, 65535)?;
+    write_text(sink, "ChillFish8")
+}
+
+// Whether these parts are read.
+fn reads_parts<S: ByteSource>(
+    alloc: Global,
+    source: &mut S,
+    count: &mut u64,
+) -> Result<bool, ReadError> {
+    let mut text = String::new(alloc);
+    let numbers = (take_vint(source, count)?, take_u32(source, count)?);
+    take_text(alloc, source, count, &mut text)?;
+    Ok(numbers == (128, 65535) && text.as_str() == "ChillFish8")
+}
+
+#[test]
+fn parts_are_read_up_to_the_call_that_fails(rt: HostRuntime) {
+    for kind in KINDS {
+        for place in 0..=PARTS.len() {
+            let mut source = FaultSource::new(SliceSource::new(PARTS), place as u64, kind);
+            let mut count = 0;
+            let answer = reads_parts(rt.alloc(), &mut source, &mut count);
+            let is_whole = place == PARTS.len();
+            let expected = if is_whole {
+                Ok(true)
+            } else {
+                Err(ReadError::Io(kind))
+            };
+            assert_eq!(rt; answer, expected, "at {place}");
+            assert_eq!(rt; count, place as u64);
+            assert_eq!(rt; source.calls(), place as u64 + u64::from(!is_whole));
+            assert!(rt; Some(source.into_inner().rest()) == PARTS.get(place..));
+        }
+    }
+}
+
+#[test]
+fn parts_are_written_up_to_the_call_that_fails(rt: HostRuntime) {
+    for kind in KINDS {
+        for place in 0..=PARTS.len() {
+            let mut sink = FaultSink::new(VecSink::new(rt.alloc()), place as u64, kind);
+            let answer = write_parts(&mut sink);
+            let is_whole = place == PARTS.len();
+            assert_eq!(rt;
+                answer,
+                if is_whole { Ok(()) } else { Err(kind) },
+                "at {place}"
+            );
+            assert_eq!(rt; sink.calls(), place as u64 + u64::from(!is_whole));
+            assert!(rt; Some(sink.into_inner().as_slice()) == PARTS.get(..place));
+        }
+    }
+}
+
+// The number that the bytes encode, where one read fails.
+fn read_failing(alloc: Global, bytes: &[u8], passes: u64) -> Result<u64, ReadError> {
+    let source = SliceSource::new(bytes);
+    u64::deserialize(
+        alloc,
+        &mut FaultSource::new(source, passes, io::ErrorKind::TimedOut),
+    )
+}
+
+// What is written of a number, where one write fails.
+fn write_failing(alloc: Global, passes: u64) -> (Result<(), io::ErrorKind>, VecSink) {
+    let mut sink = FaultSink::new(VecSink::new(alloc), passes, io::ErrorKind::StorageFull);
+    let written = 20u64.serialize(&mut sink);
+    (written, sink.into_inner())
+}
+
+#[test]
+fn numbers_fail_with_their_call(rt: HostRuntime) -> Result<(), Fail> {
+    let (written, sink) = write_failing(rt.alloc(), 3);
+    assert_eq!(rt; written, Err(io::ErrorKind::StorageFull));
+    assert_eq!(rt; sink.as_slice(), [20, 0, 0].as_slice());
+    let (written, sink) = write_failing(rt.alloc(), 8);
+    assert_eq!(rt; written, Ok(()));
+    let failed = read_failing(rt.alloc(), sink.as_slice(), 3);
+    assert_eq!(rt; failed, Err(ReadError::Io(io::ErrorKind::TimedOut)));
+    assert_eq!(rt; read_failing(rt.alloc(), sink.as_slice(), 8)?, 20);
+    Ok(())
+}

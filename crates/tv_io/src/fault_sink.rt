@@ -1,0 +1,111 @@
+//! A sink of which one write fails.
+
+ghost use Rattle.std.specs.Prelude.{◌≡◌, ◌≤◌, length, Some, None, Err, IfOk};
+ghost use Rattle.tv_base.specs.Sink.{AppendsSome};
+ghost use Rattle.tv_base.specs.Source.{CountsFailure};
+ghost use Rattle.tv_io.specs.Calls.{failures_of, failures_after};
+ghost use Rattle.tv_io.specs.Planned.{IsFailing, CountsCall};
+
+use crate::failures::CountedFailures;
+use crate::planned_failure::PlannedFailure;
+use std::io;
+use tv_base::ByteSink;
+
+/// Writes to another sink, at most one byte a call, and fails once: so many calls pass, the next one fails with an error of a chosen kind,
+/// and all later ones pass. So a test sees what a writer does where any one of its writes fails. (Not in tantivy.)
+///
+/// A call whose buffer is empty passes, and isn't counted.
+///
+/// ```
+/// fn write_failing(alloc: Global, passes: u64) -> (Result<(), io::ErrorKind>, VecSink) {
+///     let mut sink = FaultSink::new(VecSink::new(alloc), passes, io::ErrorKind::StorageFull);
+///     let written = 20u64.serialize(&mut sink);
+///     (written, sink.into_inner())
+/// }
+/// ```
+#[derive(Drop)]
+pub struct FaultSink<K: ByteSink> {
+    inner: K,
+    plan: PlannedFailure,
+    failures: CountedFailures,
+}
+
+impl<K: ByteSink> FaultSink<K> {
+    /// A sink over this one. `passes` calls pass, and the next one fails with an error of this kind. Nothing is written yet.
+    pub fn new(inner: K, passes: u64, kind: io::ErrorKind) -> FaultSink<K>
+        ensures inner { result.inner ≡ inner }
+        ensures plan { result.plan ≡ record { fails_at = Some passes; kind = kind; calls = 0 } }
+        ensures failures { ⟦<FaultSink<K> as ByteSink>⟧.failures result
+            ≡ record { number = 0; last = None } }
+    {
+        FaultSink {
+            inner,
+            plan: PlannedFailure::new(passes, kind),
+            failures: CountedFailures::none(),
+        }
+    }
+
+    /// How many calls were counted, the one that failed among them. At 2^64 - 1 the count stays.
+    pub fn calls(&self) -> u64
+        ensures { result ≡ self.now.plan.calls }
+    {
+        self.plan.calls
+    }
+
+    /// The inner sink, taken out. It holds what was written.
+    pub fn into_inner(self) -> K
+        ensures { result ≡ self.inner }
+    {
+        let FaultSink {
+            inner,
+            plan: _,
+            failures: _,
+        } = self;
+        inner
+    }
+}
+
+impl<K: ByteSink> ByteSink for FaultSink<K> {
+    ghost is_known = { λ s. K.is_known s.inner };
+
+    ghost held = { λ s. K.held s.inner };
+
+    ghost failures = { λ s. failures_of s.failures };
+
+    /// Writes to the inner sink once, at most one byte, unless this is the call that fails.
+    ///
+    /// Errors: the chosen kind at the call that fails, and then nothing is written to the inner sink; else the kind with which that failed.
+    /// Each is counted as a failure.
+    fn write(&mut self, buf: &[u8]) -> Result<usize, io::ErrorKind>
+        // the trait's clauses
+        ensures bytes { K.is_known self.old.inner
+            → AppendsSome (K.held self.old.inner) (K.held self.new.inner) result buf.now }
+        ensures is_known { K.is_known self.old.inner → K.is_known self.new.inner }
+        ensures count { IfOk result (λ n. n ≤ length buf.now) }
+        ensures some { IfOk result (λ n. n ≡ 0 → length buf.now ≡ 0) }
+        ensures failures { CountsFailure result (⟦<FaultSink<K> as ByteSink>⟧.failures self.old)
+            (⟦<FaultSink<K> as ByteSink>⟧.failures self.new) }
+
+        // the call that fails
+        ensures fails { IsFailing (length buf.now) self.old.plan
+            → result ≡ Err self.old.plan.kind }
+        ensures unwritten { IsFailing (length buf.now) self.old.plan
+            → self.new.inner ≡ self.old.inner }
+
+        // any other call is one of the inner sink, with one byte at most
+        ensures passes { ¬ IsFailing (length buf.now) self.old.plan
+            → CountsFailure result (K.failures self.old.inner) (K.failures self.new.inner) }
+        ensures one { IfOk result (λ n. n ≤ 1) }
+
+        // which calls and which failures are counted
+        ensures calls { CountsCall (length buf.now) self.old.plan self.new.plan }
+        ensures counted { failures_of self.new.failures
+            ≡ failures_after result (failures_of self.old.failures) }
+    {
+        let call = match self.plan.count_call(buf.len()) {
+            Some(kind) => Err(kind),
+            None => self.inner.write(&buf[..buf.len().min(1)]),
+        };
+        self.failures.count(call)
+    }
+}
