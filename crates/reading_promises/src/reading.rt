@@ -34,6 +34,7 @@ pub fn returned_documents_are_encoded<S: ByteSource>(
 {
     let format = match version {
         DocStoreVersion::V1 => DocStoreVersion::V1,
+        DocStoreVersion::V3 => DocStoreVersion::V3,
         other => other,
     };
     match read_document(alloc, source, format) {

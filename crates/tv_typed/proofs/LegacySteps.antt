@@ -102,9 +102,9 @@ of_told Q e _ old new count calm (past_the_end same) few h =
     let at_end : GivesStop end Q old new count (typed_stop end) = subst (λ z. GivesStop end Q old new count (typed_stop z)) same h in
     (end, (at_end few).stands, past_the_end refl)
 
-pub encoding_refused : {X : Type 0} (is : Tree → X → Type 0) (Q : Version → List ℕ → DeserializeError → Type 0) (version : DocStoreVersion) (e told : DeserializeError) (content old new : List ℕ) (count : ℕ) → version ≡ stores.V2 → old ≡ content → Retold e told → count < 2 ^ 64 - 1 → CountsStop (typed_stop e) no_failures no_failures
-    → Found {X = X} typed_stop end (EncodesAs is (version_of version)) (Q (version_of version)) old new count (Err e) → OfEncoding {X = X} is (Q V2) content (Err told)
-encoding_refused is Q version e told content old new count second same retold few counted h =
+pub encoding_refused : {X : Type 0} (Made : Version → List ℕ → X → Type 0) (Q : Version → List ℕ → DeserializeError → Type 0) (version : DocStoreVersion) (e told : DeserializeError) (content old new : List ℕ) (count : ℕ) → version ≡ stores.V2 → old ≡ content → Retold e told → count < 2 ^ 64 - 1 → CountsStop (typed_stop e) no_failures no_failures
+    → Found {X = X} typed_stop end (Made (version_of version)) (Q (version_of version)) old new count (Err e) → OfEncoding {X = X} (Made V2) (Q V2) content (Err told)
+encoding_refused Made Q version e told content old new count second same retold few counted h =
     subst (λ (l : List ℕ). ToldOf (Q V2) l (typed_stop told)) same
     (of_told (Q V2) e told old new count (λ kind. no_io e kind counted) retold few (subst (λ z. GivesStop end (Q (version_of z)) old new count (typed_stop e)) second h))
 
@@ -141,7 +141,7 @@ of_tree is t x content rest prefix same valid joined s =
     let one = one_tree Legacy V2 one_legacy (short V2 t) prefix [] rest t s.0 (short_encodes Legacy V2 tt t valid) s.1 whole in
     subst (λ z. is z x) (sym one.1) s.2
 
-found_here : {X : Type 0} (is : Tree → X → Type 0) (Q : List ℕ → DeserializeError → Type 0) (t : Tree) (content left : List ℕ) (count : ℕ) (result : Result X DeserializeError) → content ≡ short V2 t → IsValue t → OfEncoding is Q content result
+found_here : {X : Type 0} (is : Tree → X → Type 0) (Q : List ℕ → DeserializeError → Type 0) (t : Tree) (content left : List ℕ) (count : ℕ) (result : Result X DeserializeError) → content ≡ short V2 t → IsValue t → OfEncoding (EncodesAs is V2) Q content result
     → Found typed_stop end (λ b x. (b ≡ []) × is t x) (λ w told. EncodingRefused Q t told) left left count result
 found_here is Q t content left count (Ok x) same valid h = record { prefix = []; joined = refl; encoded = (refl, of_tree is t x content h.0 h.1.prefix same valid h.1.joined h.1.encoded) }
 found_here is Q t content left count (Err told) same valid h = stop_here Q t content left count (typed_stop told) same h
@@ -153,9 +153,9 @@ stop_counts Q content (Failed kind) f h = absurd h
 stop_counts Q content Short f h = refl
 stop_counts Q content Never f h = absurd h
 
-counts_here : {X : Type 0} (is : Tree → X → Type 0) (Q : List ℕ → DeserializeError → Type 0) (content : List ℕ) (result : Result X DeserializeError) (f : Failures) → OfEncoding is Q content result → Counts typed_stop result f f
-counts_here is Q content (Ok x) f h = refl
-counts_here is Q content (Err told) f h = stop_counts Q content (typed_stop told) f h
+pub counts_here : {X : Type 0} (Made : List ℕ → X → Type 0) (Q : List ℕ → DeserializeError → Type 0) (content : List ℕ) (result : Result X DeserializeError) (f : Failures) → OfEncoding Made Q content result → Counts typed_stop result f f
+counts_here Made Q content (Ok x) f h = refl
+counts_here Made Q content (Err told) f h = stop_counts Q content (typed_stop told) f h
 
 both : false ≡ true → ⊥
 both e = absurd cc
@@ -165,7 +165,7 @@ still_open (Ok x) b e = e
 still_open (Err e) b h = tt
 
 pub legacy_then : {S X : Type 0} {is_known : S → Type 0} {left : S → List ℕ} {failures : S → Failures} {old new : StoreReader S} {tree : OwnedValue} {content : List ℕ} {result : Result X DeserializeError} (is : Tree → X → Type 0) (refused : Version → ValueType → List ℕ → DeserializeError → Type 0) (v : Version)
-    → Reads is_known left failures old new (Ok tree) (EncodesBehind v types.JSONObject) (TreeRefused v types.JSONObject) → content ≡ short V2 (owned_tree tree) → IsValue (owned_tree tree) → OfEncoding is (NextRefused refused V2) content result
+    → Reads is_known left failures old new (Ok tree) (EncodesBehind v types.JSONObject) (TreeRefused v types.JSONObject) → content ≡ short V2 (owned_tree tree) → IsValue (owned_tree tree) → OfEncoding (EncodesAs is V2) (NextRefused refused V2) content result
     → Deserializes is_known left failures old new result (EncodedAs is v types.JSONObject) (LegacyRefused refused v)
 legacy_then {is_known = is_known} {left = left} {failures = failures} {new = new} {tree = tree} {content = content} {result = result} is refused v p same valid h =
     let t = owned_tree tree in
@@ -180,7 +180,7 @@ legacy_then {is_known = is_known} {left = left} {failures = failures} {new = new
       found = λ _ told. found_here is (NextRefused refused V2) t content (left new.source) new.count result same valid h;
       taken = λ _ told. Taken_none (left new.source) new.count;
       stays_known = λ _ told. told;
-      counts = λ _. counts_here is (NextRefused refused V2) content result (failures new.source) h;
+      counts = λ _. counts_here (EncodesAs is V2) (NextRefused refused V2) content result (failures new.source) h;
       same_version = refl;
     })
 

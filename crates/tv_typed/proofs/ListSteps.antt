@@ -5,20 +5,19 @@ use Rattle.std.specs.declared.alloc.Global.{Global}
 use Rattle.tv_base.specs.declared.cause.Cause.{Cause}
 use Rattle.tv_base.specs.declared.cause.Cause.TheVariants.{UnexpectedEnd}
 use Rattle.tv_base.specs.declared.read_error.ReadError.{ReadError}
-use Rattle.tv_base.specs.Number.{VNum}
 use Rattle.tv_base.specs.Reading.{vint_at}
 use Rattle.tv_base.specs.Source.{AllBytes, Failures}
 use Rattle.tv_base.specs.Take.{TakesBy}
 use Rattle.tv_base.proofs.Agrees.{no_last}
 use Rattle.tv_base.proofs.AgreeNumbers.{vint_agrees}
-use Rattle.tv_value.specs.InputError.{Refusal, corrupted, ErrorInCodedKey, ErrorInKey}
+use Rattle.tv_value.specs.InputError.{Refusal, corrupted, ErrorInKey}
 use Rattle.tv_value.specs.Encoding.{Key}
 use Rattle.tv_value.specs.Tree.{Tree}
 use Rattle.tv_value.specs.Version.{Version, entry_total}
-use Rattle.tv_reader.specs.Counts.{half_at}
+use Rattle.tv_reader.specs.Counts.{entry_count_at}
 use Rattle.tv_reader.specs.Error.{IsRefusal, is_corrupted, is_no_text}
 use Rattle.tv_reader.specs.Finds.{Finds}
-use Rattle.tv_reader.specs.Trees.{CodedKey, ErrorInTwice, in_number, odd_number}
+use Rattle.tv_reader.specs.Trees.{ErrorInEntryCount, in_count_number, odd_count_number}
 use Rattle.tv_reader.specs.ValueType.{coded, ErrorInCode, no_code, unknown_type, float_type, no_extension_code, unknown_extension}
 use Rattle.tv_reader.specs.Version.{version_of}
 use Rattle.tv_reader.specs.declared.error.DeserializeError.{DeserializeError}
@@ -27,8 +26,7 @@ use Rattle.tv_reader.specs.declared.value_type.ValueType.{ValueType}
 use Rattle.tv_reader.specs.declared.value_type.ValueType.TheVariants as types
 use Rattle.tv_reader.specs.declared.version.DocStoreVersion.{DocStoreVersion}
 use Rattle.tv_reader.proofs.AgreeKinds.{same_coded}
-use Rattle.tv_reader.proofs.Finding.{finds_as, finds_fails}
-use Rattle.tv_reader.proofs.TreeSteps.{half_agrees, key_at, key_error_at, key_error_ended, total}
+use Rattle.tv_reader.proofs.TreeSteps.{entry_count_agrees, key_error_ended}
 use Rattle.tv_typed.specs.Typed.{raised, Reads, Deserializes, IsMismatch}
 use Rattle.tv_typed.specs.Values.{EncodesAs, in_code, NextRefused}
 use Rattle.tv_typed.specs.Lists.{Length, element_total, EncodesEntry, LengthRefused, other_collection, in_length, no_total, KeyRefused, EntryRefused}
@@ -52,31 +50,27 @@ elements_read old mid new result kind are_bytes is is_open source count version 
     reads_then old mid new result (Length types.Array element_total kind) (LengthRefused types.Array element_total kind) are_bytes vint_agrees (λ a x h. (is, h)) (λ w c f. in_length is f)
     is_open source count version part source_new count_new version_new marks told
 
-twice_refused : (version : DocStoreVersion) (kind : ValueType) (w : List ℕ) (c : Cause) → kind ≡ types.Object → ErrorInTwice w c → LengthRefused types.Object (entry_total (version_of version)) kind w (errors.CorruptedValue c)
-twice_refused version kind w c is (in_number f) = in_length is f
-twice_refused version kind w _ is (odd_number n prefix rest joined number none) = no_total n prefix rest is joined number (λ m e. none m (sym (total version m) ∙ e))
+count_refused : (v : Version) (kind : ValueType) (w : List ℕ) (c : Cause) → kind ≡ types.Object → ErrorInEntryCount v w c → LengthRefused types.Object (entry_total v) kind w (errors.CorruptedValue c)
+count_refused v kind w c is (in_count_number f) = in_length is f
+count_refused v kind w _ is (odd_count_number n prefix rest joined number none) = no_total n prefix rest is joined number none
 
 pub entries_read : {S : Type 0} {is_known : S → Type 0} {left : S → List ℕ} {failures : S → Failures} {s : S} {k : ℕ} {answer : Result ℕ ReadError} (old mid new : StoreReader S) (result : Result ℕ DeserializeError) (kind : ValueType)
     → ((source : S) → is_known source → AllBytes (left source)) → kind ≡ types.Object → old.has_failed ≡ false → mid.source ≡ old.source → mid.count ≡ old.count → mid.version ≡ old.version
-    → TakesBy is_known left failures mid.source mid.count s k (λ x. x) answer half_at → new.source ≡ s → new.count ≡ k → new.version ≡ mid.version → new.has_failed ≡ is_err result → result ≡ raised answer
+    → TakesBy is_known left failures mid.source mid.count s k (λ x. x) answer (entry_count_at (version_of mid.version)) → new.source ≡ s → new.count ≡ k → new.version ≡ mid.version → new.has_failed ≡ is_err result → result ≡ raised answer
     → Reads is_known left failures old new result (Length types.Object (entry_total (version_of old.version)) kind) (LengthRefused types.Object (entry_total (version_of old.version)) kind)
-entries_read old mid new result kind are_bytes is is_open source count version part source_new count_new version_new marks told =
-    reads_then old mid new result (Length types.Object (entry_total (version_of old.version)) kind) (LengthRefused types.Object (entry_total (version_of old.version)) kind) are_bytes half_agrees
-    (λ a x h. (is, subst (VNum a) (sym (total old.version x)) h)) (λ w c f. twice_refused old.version kind w c is f)
-    is_open source count version part source_new count_new version_new marks told
+entries_read {is_known = is_known} {left = left} {failures = failures} {s = s} {k = k} {answer = answer} old mid new result kind are_bytes is is_open source count version part source_new count_new version_new marks told =
+    let v = version_of old.version in
+    reads_then old mid new result (Length types.Object (entry_total v) kind) (LengthRefused types.Object (entry_total v) kind) are_bytes (entry_count_agrees v)
+    (λ a x h. (is, h)) (λ w c f. count_refused v kind w c is f)
+    is_open source count version (subst (λ z. TakesBy is_known left failures mid.source mid.count s k (λ x. x) answer (entry_count_at (version_of z))) version part) source_new count_new version_new marks told
 
 -- ---- keys
 
-key_found : {S : Type 0} {is_known : S → Type 0} {left : S → List ℕ} {failures : S → Failures} {old new : S} {i k : ℕ} (version : DocStoreVersion) (result : Result (String Global) DeserializeError)
-    → Finds is_known left failures old i new k result CodedKey ErrorInCodedKey → Finds is_known left failures old i new k result (λ b key. Key (version_of version) b (string_bytes key)) (ErrorInKey (version_of version))
-key_found version (Ok key) h = finds_as key _ _ (λ a p. key_at version a key p) h
-key_found version (Err e) h = finds_fails _ _ (λ w r f. key_error_at version w r f) h
-
 pub key_reads : {S : Type 0} {is_known : S → Type 0} {left : S → List ℕ} {failures : S → Failures} {s : S} {k : ℕ} (old new : StoreReader S) (result : Result (String Global) DeserializeError)
-    → old.has_failed ≡ false → Finds is_known left failures old.source old.count s k result CodedKey ErrorInCodedKey → (IsErrOf result errors.HeapFull → ⊥) → new.source ≡ s → new.count ≡ k → new.version ≡ old.version → new.has_failed ≡ is_err result
+    → old.has_failed ≡ false → Finds is_known left failures old.source old.count s k result (λ b key. Key (version_of old.version) b (string_bytes key)) (ErrorInKey (version_of old.version)) → (IsErrOf result errors.HeapFull → ⊥) → new.source ≡ s → new.count ≡ k → new.version ≡ old.version → new.has_failed ≡ is_err result
     → Reads is_known left failures old new result (λ b key. Key (version_of old.version) b (string_bytes key)) (KeyRefused (version_of old.version))
 key_reads old new result is_open h roomy source count version marks =
-    told_reads old new result (λ b key. Key (version_of old.version) b (string_bytes key)) (ErrorInKey (version_of old.version)) is_open (key_found old.version result h) roomy source count version marks
+    told_reads old new result (λ b key. Key (version_of old.version) b (string_bytes key)) (ErrorInKey (version_of old.version)) is_open h roomy source count version marks
 
 -- ---- no bytes
 
@@ -140,5 +134,5 @@ told_ended _ _ is_corrupted is = cc
 told_ended _ _ is_no_text is = cc
 
 pub entry_ended : (refused : Version → ValueType → List ℕ → DeserializeError → Type 0) (version : DocStoreVersion) (e : DeserializeError) → EntryRefused refused (version_of version) [] e → e ≡ end
-entry_ended refused version e (inl f) = told_ended e f.refusal f.told (key_error_ended version [] f.refusal refl f.error)
+entry_ended refused version e (inl f) = told_ended e f.refusal f.told (key_error_ended (version_of version) [] f.refusal refl f.error)
 entry_ended refused version e (inr f) = next_ended refused (version_of version) e (subst (λ w. NextRefused refused (version_of version) w e) (no_bytes f.1.prefix f.1.rest f.1.joined) f.1.second)

@@ -1,28 +1,34 @@
 -- Values that are handed to visitors.
-use Rattle.std.proofs.Common.{◌≡◌, ℕ, Bool, true, false, List, ◌++◌, Some, None, Result, Ok, Err, refl, sym, ap, subst, ◌∙◌}
+use Rattle.std.proofs.Common.{◌≡◌, ℕ, Bool, true, false, List, ◌++◌, Result, Ok, Err, refl, sym, ap, subst, ◌∙◌, inl, inr}
 use Rattle.std.specs.Prelude.{is_err, IsErrOf, OnOk}
 use Rattle.tv_base.specs.Source.{Failures}
-use Rattle.tv_base.specs.Stop.{Stop, CountsStop, Counts}
-use Rattle.tv_base.specs.Stop.Stop.{InputError, Failed, Short, Never}
+use Rattle.tv_base.specs.Stop.{CountsStop, Counts}
+use Rattle.tv_base.proofs.EarlyNumbers.{number_early}
 use Rattle.tv_value.specs.Encoding.{Encodes, NoLegacy}
+use Rattle.tv_value.specs.Owned.{owned_tree}
+use Rattle.tv_value.specs.Short.{short}
 use Rattle.tv_value.specs.Tree.{Leaf, Tree}
-use Rattle.tv_value.specs.Version.{Version}
+use Rattle.tv_value.specs.Version.{Version, V2, entry_total}
 use Rattle.tv_value.specs.declared.owned_value.OwnedValue.{OwnedValue}
 use Rattle.tv_reader.specs.Trees.{EncodesBehind}
-use Rattle.tv_reader.specs.ValueType.{coded}
+use Rattle.tv_reader.specs.ValueType.{coded, IsCoded, no_code, no_extension_code}
 use Rattle.tv_reader.specs.Version.{version_of}
 use Rattle.tv_reader.specs.declared.error.DeserializeError.{DeserializeError}
 use Rattle.tv_reader.specs.declared.error.DeserializeError.TheVariants as errors
 use Rattle.tv_reader.specs.declared.value_type.ValueType.{ValueType}
 use Rattle.tv_reader.specs.declared.value_type.ValueType.TheVariants as types
+use Rattle.tv_reader.specs.declared.version.DocStoreVersion.TheVariants as stores
+use Rattle.tv_reader.proofs.BehindKinds.{kind_edge}
 use Rattle.tv_typed.specs.Excluding.{malformed_behind}
-use Rattle.tv_typed.specs.Typed.{typed_stop, Reads}
-use Rattle.tv_typed.specs.Values.{IsLeaf, EncodesLeaf, LeafRefused, other_type, in_body, TreeRefused}
-use Rattle.tv_typed.specs.Lists.{Length, LengthRefused}
-use Rattle.tv_typed.specs.Visits.{Answered, Visits, Handed, VisitsItems, TellsNoFailure, GivesRefusal, VisitsLegacy}
+use Rattle.tv_typed.specs.LegacyObjects.{OfEncoding}
+use Rattle.tv_typed.specs.Typed.{typed_stop, Reads, Deserializes}
+use Rattle.tv_typed.specs.Values.{CodeRefused, in_code, IsLeaf, EncodesLeaf, LeafRefused, other_type, in_body, TreeRefused}
+use Rattle.tv_typed.specs.Lists.{Length, LengthRefused, in_length}
+use Rattle.tv_typed.specs.Visits.{Answered, Visits, EncodesVisited, VisitRefused, Handed, VisitsItems, EncodesNextVisited, NextVisitRefused, GivesEntries, TellsNoFailure, VisitsLegacy}
 use Rattle.tv_typed.specs.declared.store_reader.StoreReader.{StoreReader}
-use Rattle.tv_typed.proofs.DeserializeSteps.{end, only_by, leaf_deserializes}
-use Rattle.tv_typed.proofs.LegacySteps.{no_failures}
+use Rattle.tv_typed.proofs.DeserializeSteps.{end, deserializes, goes_then, goes_fails, goes_marked, only_by, leaf_deserializes}
+use Rattle.tv_typed.proofs.LegacySteps.{counts_here}
+use Rattle.tv_typed.proofs.ListSteps.{at_version}
 use Rattle.tv_reader.specs.Finds.{GivesStop}
 
 -- ---- leaves
@@ -95,64 +101,83 @@ leaf_refused {left = left} old new kind expected make answers e is h =
 -- ---- arrays and objects
 
 -- their number is refused
-pub items_refused : {S X : Type 0} {is_known : S → Type 0} {left : S → List ℕ} {failures : S → Failures} {old new : StoreReader S} {collection : ValueType} {total : ℕ → ℕ} {kind : ValueType} (e : DeserializeError)
-    → Reads {X = ℕ} is_known left failures old new (Err e) (Length collection total kind) (LengthRefused collection total kind) → VisitsItems {X = X} is_known left failures old new collection total kind (Err e)
+pub items_refused : {S X : Type 0} {is_known : S → Type 0} {left : S → List ℕ} {failures : S → Failures} {old new : StoreReader S} {collection : ValueType} {total : ℕ → ℕ} {Made : ℕ → List ℕ → X → Type 0} {Refused : ℕ → List ℕ → DeserializeError → Type 0} {kind : ValueType} (e : DeserializeError)
+    → Reads {X = ℕ} is_known left failures old new (Err e) (Length collection total kind) (LengthRefused collection total kind) → VisitsItems is_known left failures old new collection total Made Refused kind (Err e)
 items_refused {new = new} e h = record { behind_number = new; announced = Err e; reads = h; handed = (refl, refl) }
+
+-- it was read, and so many values were handed on
+pub items_visited : {S X : Type 0} {is_known : S → Type 0} {left : S → List ℕ} {failures : S → Failures} {old mid new : StoreReader S} {collection : ValueType} {total : ℕ → ℕ} {n : ℕ} {kind : ValueType} {result : Result X DeserializeError} (Made : Version → ℕ → List ℕ → X → Type 0) (Refused : Version → ℕ → List ℕ → DeserializeError → Type 0)
+    → Reads is_known left failures old mid (Ok n) (Length collection total kind) (LengthRefused collection total kind) → Deserializes is_known left failures mid new result (Made (version_of mid.version) n) (Refused (version_of mid.version) n)
+    → VisitsItems is_known left failures old new collection total (Made (version_of old.version)) (Refused (version_of old.version)) kind result
+items_visited {old = old} {mid = mid} {n = n} Made Refused h handed =
+    record { behind_number = mid; announced = Ok n; reads = h; handed = at_version (λ v. Made v n) (λ v. Refused v n) old.version h.same_version handed }
 
 -- what the visitor refused was marked
 pub visits_marked : {S X : Type 0} {is_known : S → Type 0} {left : S → List ℕ} {failures : S → Failures} {old new : StoreReader S} {kind : ValueType} {answers : Leaf → Result X DeserializeError → Type 0} {result : Result X DeserializeError}
     → Visits is_known left failures old new kind answers result → Visits is_known left failures old (record new { has_failed = true }) kind answers result
 visits_marked h = record { read = h.read; reads = h.reads; only = h.only; answered = h.answered }
 
-handed_marked : {S X : Type 0} (is_known : S → Type 0) (left : S → List ℕ) (failures : S → Failures) (mid new : StoreReader S) (announced : Result ℕ DeserializeError) (result : Result X DeserializeError)
-    → mid.has_failed ≡ is_err announced → Handed is_known left failures mid new announced result → Handed is_known left failures mid (record new { has_failed = true }) announced result
-handed_marked is_known left failures mid new (Ok n) result marks h =
-    let t = h.0 in
-    (record { closed = λ failed. let c = t.closed failed in (refl, c.1, c.2); taken = t.taken; stays_known = t.stays_known; same_version = t.same_version }, h.1)
-handed_marked {S} is_known left failures mid new (Err e) result marks h = (h.0, ap (λ (r : StoreReader S). record r { has_failed = true }) h.1 ∙ ap (λ b. record mid { has_failed = b }) (sym marks))
+handed_marked : {S X : Type 0} (is_known : S → Type 0) (left : S → List ℕ) (failures : S → Failures) (mid new : StoreReader S) (Made : ℕ → List ℕ → X → Type 0) (Refused : ℕ → List ℕ → DeserializeError → Type 0) (announced : Result ℕ DeserializeError) (e : DeserializeError)
+    → mid.has_failed ≡ is_err announced → Handed is_known left failures mid new Made Refused announced (Err e) → Handed is_known left failures mid (record new { has_failed = true }) Made Refused announced (Err e)
+handed_marked is_known left failures mid new Made Refused (Ok n) e marks h = goes_marked true tt h
+handed_marked {S} is_known left failures mid new Made Refused (Err d) e marks h = (h.0, ap (λ (r : StoreReader S). record r { has_failed = true }) h.1 ∙ ap (λ b. record mid { has_failed = b }) (sym marks))
 
-pub items_marked : {S X : Type 0} {is_known : S → Type 0} {left : S → List ℕ} {failures : S → Failures} {old new : StoreReader S} {collection : ValueType} {total : ℕ → ℕ} {kind : ValueType} {result : Result X DeserializeError}
-    → VisitsItems is_known left failures old new collection total kind result → VisitsItems is_known left failures old (record new { has_failed = true }) collection total kind result
-items_marked {is_known = is_known} {left = left} {failures = failures} {new = new} {result = result} h = record { behind_number = h.behind_number; announced = h.announced; reads = h.reads; handed = handed_marked is_known left failures h.behind_number new h.announced result h.reads.marks h.handed }
+pub items_marked : {S X : Type 0} {is_known : S → Type 0} {left : S → List ℕ} {failures : S → Failures} {old new : StoreReader S} {collection : ValueType} {total : ℕ → ℕ} {Made : ℕ → List ℕ → X → Type 0} {Refused : ℕ → List ℕ → DeserializeError → Type 0} {kind : ValueType} {e : DeserializeError}
+    → VisitsItems is_known left failures old new collection total Made Refused kind (Err e) → VisitsItems is_known left failures old (record new { has_failed = true }) collection total Made Refused kind (Err e)
+items_marked {is_known = is_known} {left = left} {failures = failures} {new = new} {Made = Made} {Refused = Refused} {e = e} h =
+    record { behind_number = h.behind_number; announced = h.announced; reads = h.reads; handed = handed_marked is_known left failures h.behind_number new Made Refused h.announced e h.reads.marks h.handed }
+
+-- the number, and what was made of the values, as one
+handed_deserialize : {S X : Type 0} (is_known : S → Type 0) (left : S → List ℕ) (failures : S → Failures) (old mid new : StoreReader S) (collection : ValueType) (total : ℕ → ℕ) (Made : ℕ → List ℕ → X → Type 0) (Refused : ℕ → List ℕ → DeserializeError → Type 0) (kind : ValueType) (announced : Result ℕ DeserializeError) (result : Result X DeserializeError)
+    → Reads is_known left failures old mid announced (Length collection total kind) (LengthRefused collection total kind) → Handed is_known left failures mid new Made Refused announced result
+    → Deserializes is_known left failures old new result (EncodesVisited collection total Made kind) (VisitRefused collection total Refused kind)
+handed_deserialize is_known left failures old mid new collection total Made Refused kind (Ok n) result p h =
+    goes_then (EncodesVisited collection total Made kind) (VisitRefused collection total Refused kind) (λ a b x r s. (n, record { prefix = a; rest = b; joined = refl; first = r; second = s }))
+    (λ a w e r f. inr (n, record { prefix = a; rest = w; joined = refl; first = r; second = f }))
+    (λ a f r _ _ start byte last. inl (in_length r.0 (number_early a (total n) r.1 start byte last)))
+    (deserializes (Length collection total kind) (λ b k q. q) p) h
+handed_deserialize {S} is_known left failures old mid new collection total Made Refused kind (Err e) result p h =
+    subst (λ r. Deserializes is_known left failures old new r (EncodesVisited collection total Made kind) (VisitRefused collection total Refused kind)) (sym h.0)
+    (subst (λ (m : StoreReader S). Deserializes is_known left failures old m (Err e) (EncodesVisited collection total Made kind) (VisitRefused collection total Refused kind)) (sym h.1)
+    (goes_fails (EncodesVisited collection total Made kind) (VisitRefused collection total Refused kind) (λ w c f. inl f) (deserializes (Length collection total kind) (λ b k q. q) p)))
+
+pub items_deserialize : {S X : Type 0} {is_known : S → Type 0} {left : S → List ℕ} {failures : S → Failures} {old new : StoreReader S} {collection : ValueType} {total : ℕ → ℕ} {Made : ℕ → List ℕ → X → Type 0} {Refused : ℕ → List ℕ → DeserializeError → Type 0} {kind : ValueType} {result : Result X DeserializeError}
+    → VisitsItems is_known left failures old new collection total Made Refused kind result → Deserializes is_known left failures old new result (EncodesVisited collection total Made kind) (VisitRefused collection total Refused kind)
+items_deserialize {is_known = is_known} {left = left} {failures = failures} {old = old} {new = new} {collection = collection} {total = total} {Made = Made} {Refused = Refused} {kind = kind} {result = result} h =
+    handed_deserialize is_known left failures old h.behind_number new collection total Made Refused kind h.announced result h.reads h.handed
 
 -- ---- legacy objects
 
--- no read of an encoding fails
-stop_calm : (s : Stop DeserializeError) (f : Failures) → CountsStop s no_failures no_failures → CountsStop s f f
-stop_calm (InputError e) f h = refl
-stop_calm (Failed kind) f h = let last : None ≡ Some kind = h.kept in absurd cc
-stop_calm Short f h = refl
-stop_calm Never f h = absurd h
+-- the code of an object in an encoding, and its entries
+pub next_visited : {S X : Type 0} {is_known : S → Type 0} {left : S → List ℕ} {failures : S → Failures} {old mid new : StoreReader S} {kind : ValueType} {result : Result X DeserializeError} (Made : Version → ℕ → List ℕ → X → Type 0) (Refused : Version → ℕ → List ℕ → DeserializeError → Type 0) → old.version ≡ stores.V2
+    → Reads is_known left failures old mid (Ok kind) IsCoded CodeRefused → VisitsItems is_known left failures mid new types.Object (entry_total (version_of mid.version)) (Made (version_of mid.version)) (Refused (version_of mid.version)) kind result
+    → Deserializes is_known left failures old new result (EncodesNextVisited (Made V2)) (NextVisitRefused (Refused V2))
+next_visited {is_known = is_known} {left = left} {failures = failures} {mid = mid} {new = new} {kind = kind} {result = result} Made Refused second p h =
+    goes_then (EncodesNextVisited (Made V2)) (NextVisitRefused (Refused V2)) (λ a b x r s. (kind, record { prefix = a; rest = b; joined = refl; first = r; second = s }))
+    (λ a w c r f. inr (kind, record { prefix = a; rest = w; joined = refl; first = r; second = f }))
+    (λ a f code _ _ start byte last. kind_edge end (NextVisitRefused (Refused V2)) (inl (in_code no_code)) (inl (in_code no_extension_code)) kind start byte (sym code ∙ last))
+    (deserializes IsCoded (λ b k c. c) p)
+    (subst (λ z. Deserializes is_known left failures mid new result (EncodesVisited types.Object (entry_total (version_of z)) (Made (version_of z)) kind) (VisitRefused types.Object (entry_total (version_of z)) (Refused (version_of z)) kind)) (p.same_version ∙ second) (items_deserialize h))
 
-pub error_calm : (e : DeserializeError) → CountsStop (typed_stop e) no_failures no_failures → (f : Failures) → CountsStop (typed_stop e) f f
-error_calm e h f = stop_calm (typed_stop e) f h
-
-calm : {X : Type 0} (result : Result X DeserializeError) → Counts typed_stop result no_failures no_failures → TellsNoFailure result
-calm (Ok x) h f = refl
-calm (Err e) h f = error_calm e h f
-
-handed_calm : {S X : Type 0} (is_known : S → Type 0) (left : S → List ℕ) (mid new : StoreReader S) (announced : Result ℕ DeserializeError) (result : Result X DeserializeError)
-    → Counts typed_stop announced no_failures no_failures → Handed is_known left (λ s. no_failures) mid new announced result → TellsNoFailure result
-handed_calm is_known left mid new (Ok n) result counts h = calm result h.1
-handed_calm is_known left mid new (Err e) result counts h = subst (λ r. TellsNoFailure r) (sym h.0) (error_calm e counts)
-
-pub items_calm : {S X : Type 0} {is_known : S → Type 0} {left : S → List ℕ} {old new : StoreReader S} {collection : ValueType} {total : ℕ → ℕ} {kind : ValueType} {result : Result X DeserializeError}
-    → old.has_failed ≡ false → VisitsItems is_known left (λ s. no_failures) old new collection total kind result → TellsNoFailure result
-items_calm {is_known = is_known} {left = left} {new = new} {result = result} is_open h = handed_calm is_known left h.behind_number new h.announced result (h.reads.finds is_open).counts h.handed
+pub next_visit_fails : {S X : Type 0} {is_known : S → Type 0} {left : S → List ℕ} {failures : S → Failures} {old new : StoreReader S} {e : DeserializeError} (Made : ℕ → List ℕ → X → Type 0) (Refused : ℕ → List ℕ → DeserializeError → Type 0)
+    → Reads {X = ValueType} is_known left failures old new (Err e) IsCoded CodeRefused → Deserializes {X = X} is_known left failures old new (Err e) (EncodesNextVisited Made) (NextVisitRefused Refused)
+next_visit_fails Made Refused p = goes_fails (EncodesNextVisited Made) (NextVisitRefused Refused) (λ w c f. inl f) (deserializes IsCoded (λ b k c. c) p)
 
 -- what the visitor refused was marked
-pub legacy_marked : {S X : Type 0} {is_known : S → Type 0} {left : S → List ℕ} {failures : S → Failures} {old new : StoreReader S} {result : Result X DeserializeError} → VisitsLegacy is_known left failures old new result → VisitsLegacy is_known left failures old (record new { has_failed = true }) result
+pub legacy_marked : {S X : Type 0} {is_known : S → Type 0} {left : S → List ℕ} {failures : S → Failures} {old new : StoreReader S} {Made : ℕ → List ℕ → X → Type 0} {Refused : ℕ → List ℕ → DeserializeError → Type 0} {result : Result X DeserializeError}
+    → VisitsLegacy is_known left failures old new Made Refused result → VisitsLegacy is_known left failures old (record new { has_failed = true }) Made Refused result
 legacy_marked h = record { behind_object = h.behind_object; read = h.read; reads = h.reads; gives = h.gives; same_source = h.same_source; same_count = h.same_count; same_version = h.same_version }
 
 -- the object was refused
-pub legacy_refused : {S X : Type 0} {is_known : S → Type 0} {left : S → List ℕ} {failures : S → Failures} {old new : StoreReader S} (e : DeserializeError)
-    → Reads {X = OwnedValue} is_known left failures old new (Err e) (EncodesBehind (version_of old.version) types.JSONObject) (TreeRefused (version_of old.version) types.JSONObject) → VisitsLegacy {X = X} is_known left failures old new (Err e)
+pub legacy_refused : {S X : Type 0} {is_known : S → Type 0} {left : S → List ℕ} {failures : S → Failures} {old new : StoreReader S} {Made : ℕ → List ℕ → X → Type 0} {Refused : ℕ → List ℕ → DeserializeError → Type 0} (e : DeserializeError)
+    → Reads {X = OwnedValue} is_known left failures old new (Err e) (EncodesBehind (version_of old.version) types.JSONObject) (TreeRefused (version_of old.version) types.JSONObject) → VisitsLegacy is_known left failures old new Made Refused (Err e)
 legacy_refused {new = new} e h = record { behind_object = new; read = Err e; reads = h; gives = refl; same_source = refl; same_count = refl; same_version = refl }
 
 -- it was read
-pub legacy_visited : {S X : Type 0} {is_known : S → Type 0} {left : S → List ℕ} {failures : S → Failures} {old new : StoreReader S} (tree : OwnedValue) (result : Result X DeserializeError)
-    → Reads is_known left failures old new (Ok tree) (EncodesBehind (version_of old.version) types.JSONObject) (TreeRefused (version_of old.version) types.JSONObject) → TellsNoFailure result → VisitsLegacy is_known left failures old new result
-legacy_visited {new = new} tree result h none = record { behind_object = new; read = Ok tree; reads = h; gives = none; same_source = refl; same_count = refl; same_version = refl }
+pub legacy_visited : {S X : Type 0} {is_known : S → Type 0} {left : S → List ℕ} {failures : S → Failures} {old new : StoreReader S} {Made : ℕ → List ℕ → X → Type 0} {Refused : ℕ → List ℕ → DeserializeError → Type 0} (tree : OwnedValue) (result : Result X DeserializeError)
+    → Reads is_known left failures old new (Ok tree) (EncodesBehind (version_of old.version) types.JSONObject) (TreeRefused (version_of old.version) types.JSONObject) → OfEncoding (EncodesNextVisited Made) (NextVisitRefused Refused) (short V2 (owned_tree tree)) result
+    → VisitsLegacy is_known left failures old new Made Refused result
+legacy_visited {new = new} tree result h made = record { behind_object = new; read = Ok tree; reads = h; gives = made; same_source = refl; same_count = refl; same_version = refl }
 
 -- ---- failed reads
 
@@ -169,21 +194,23 @@ pub visits_count : {S X : Type 0} {is_known : S → Type 0} {left : S → List �
     → ((l : Leaf) (r : Result X DeserializeError) → answers l r → TellsNoFailure r) → old.has_failed ≡ false → Visits is_known left failures old new kind answers result → Counts typed_stop result (failures old.source) (failures new.source)
 visits_count {failures = failures} {old = old} {new = new} {answers = answers} {result = result} calm is_open h = leaf_counts answers h.read result (failures old.source) (failures new.source) calm (h.reads.finds is_open).counts h.answered
 
-handed_counts : {S X : Type 0} (is_known : S → Type 0) (left : S → List ℕ) (failures : S → Failures) (old mid new : StoreReader S) (announced : Result ℕ DeserializeError) (result : Result X DeserializeError)
-    → Counts typed_stop announced (failures old.source) (failures mid.source) → Handed is_known left failures mid new announced result → Counts typed_stop result (failures old.source) (failures new.source)
-handed_counts is_known left failures old mid new (Ok n) result counts h = subst (λ f. Counts typed_stop result f (failures new.source)) counts h.1
-handed_counts {S} is_known left failures old mid new (Err e) result counts h =
+handed_counts : {S X : Type 0} (is_known : S → Type 0) (left : S → List ℕ) (failures : S → Failures) (old mid new : StoreReader S) (Made : ℕ → List ℕ → X → Type 0) (Refused : ℕ → List ℕ → DeserializeError → Type 0) (announced : Result ℕ DeserializeError) (result : Result X DeserializeError)
+    → mid.has_failed ≡ is_err announced → Counts typed_stop announced (failures old.source) (failures mid.source) → Handed is_known left failures mid new Made Refused announced result → Counts typed_stop result (failures old.source) (failures new.source)
+handed_counts is_known left failures old mid new Made Refused (Ok n) result is_open counts h = subst (λ f. Counts typed_stop result f (failures new.source)) counts (h.counts is_open)
+handed_counts {S} is_known left failures old mid new Made Refused (Err e) result is_open counts h =
     subst (λ (r : StoreReader S). Counts typed_stop result (failures old.source) (failures r.source)) (sym h.1) (told_as e result (failures old.source) (failures mid.source) counts h.0)
 
-pub items_count : {S X : Type 0} {is_known : S → Type 0} {left : S → List ℕ} {failures : S → Failures} {old new : StoreReader S} {collection : ValueType} {total : ℕ → ℕ} {kind : ValueType} {result : Result X DeserializeError}
-    → old.has_failed ≡ false → VisitsItems is_known left failures old new collection total kind result → Counts typed_stop result (failures old.source) (failures new.source)
-items_count {is_known = is_known} {left = left} {failures = failures} {old = old} {new = new} {result = result} is_open h = handed_counts is_known left failures old h.behind_number new h.announced result (h.reads.finds is_open).counts h.handed
+pub items_count : {S X : Type 0} {is_known : S → Type 0} {left : S → List ℕ} {failures : S → Failures} {old new : StoreReader S} {collection : ValueType} {total : ℕ → ℕ} {Made : ℕ → List ℕ → X → Type 0} {Refused : ℕ → List ℕ → DeserializeError → Type 0} {kind : ValueType} {result : Result X DeserializeError}
+    → old.has_failed ≡ false → VisitsItems is_known left failures old new collection total Made Refused kind result → Counts typed_stop result (failures old.source) (failures new.source)
+items_count {is_known = is_known} {left = left} {failures = failures} {old = old} {new = new} {Made = Made} {Refused = Refused} {result = result} is_open h =
+    handed_counts is_known left failures old h.behind_number new Made Refused h.announced result h.reads.marks (h.reads.finds is_open).counts h.handed
 
-legacy_counts : {X : Type 0} (read : Result OwnedValue DeserializeError) (result : Result X DeserializeError) (f g : Failures) → Counts typed_stop read f g → GivesRefusal read result → Counts typed_stop result f g
-legacy_counts (Ok tree) result f g h none = subst (λ z. Counts typed_stop result f z) (sym h) (none f)
-legacy_counts (Err e) result f g h is = told_as e result f g h is
+legacy_counts : {X : Type 0} (Made : ℕ → List ℕ → X → Type 0) (Refused : ℕ → List ℕ → DeserializeError → Type 0) (read : Result OwnedValue DeserializeError) (result : Result X DeserializeError) (f g : Failures) → Counts typed_stop read f g → GivesEntries Made Refused read result → Counts typed_stop result f g
+legacy_counts Made Refused (Ok tree) result f g h made =
+    subst (λ z. Counts typed_stop result f z) (sym h) (counts_here (EncodesNextVisited Made) (NextVisitRefused Refused) (short V2 (owned_tree tree)) result f made)
+legacy_counts Made Refused (Err e) result f g h is = told_as e result f g h is
 
-pub legacy_count : {S X : Type 0} {is_known : S → Type 0} {left : S → List ℕ} {failures : S → Failures} {old new : StoreReader S} {result : Result X DeserializeError}
-    → old.has_failed ≡ false → VisitsLegacy is_known left failures old new result → Counts typed_stop result (failures old.source) (failures new.source)
-legacy_count {failures = failures} {old = old} {new = new} {result = result} is_open h =
-    subst (λ z. Counts typed_stop result (failures old.source) (failures z)) (sym h.same_source) (legacy_counts h.read result (failures old.source) (failures h.behind_object.source) (h.reads.finds is_open).counts h.gives)
+pub legacy_count : {S X : Type 0} {is_known : S → Type 0} {left : S → List ℕ} {failures : S → Failures} {old new : StoreReader S} {Made : ℕ → List ℕ → X → Type 0} {Refused : ℕ → List ℕ → DeserializeError → Type 0} {result : Result X DeserializeError}
+    → old.has_failed ≡ false → VisitsLegacy is_known left failures old new Made Refused result → Counts typed_stop result (failures old.source) (failures new.source)
+legacy_count {failures = failures} {old = old} {new = new} {Made = Made} {Refused = Refused} {result = result} is_open h =
+    subst (λ z. Counts typed_stop result (failures old.source) (failures z)) (sym h.same_source) (legacy_counts Made Refused h.read result (failures old.source) (failures h.behind_object.source) (h.reads.finds is_open).counts h.gives)

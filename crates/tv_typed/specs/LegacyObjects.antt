@@ -16,7 +16,7 @@ use Rattle.tv_reader.specs.declared.error.DeserializeError.TheVariants as errors
 use Rattle.tv_reader.specs.declared.value_type.ValueType.{ValueType}
 use Rattle.tv_reader.specs.declared.value_type.ValueType.TheVariants as types
 use Rattle.tv_typed.specs.Typed.{typed_stop}
-use Rattle.tv_typed.specs.Values.{EncodesAs, TreeRefused, NextRefused}
+use Rattle.tv_typed.specs.Values.{TreeRefused, NextRefused}
 
 -- A refusal of what a legacy object's tree encodes is told as it is. To read past the end of that encoding is to ask for what isn't there.
 pub data Retold (e : DeserializeError) : DeserializeError → Type 0 where
@@ -44,7 +44,7 @@ ToldOf Refused bytes (Failed kind) = ⊥
 ToldOf Refused bytes Short = Unit {0}
 ToldOf Refused bytes Never = ⊥
 
--- A prefix of the bytes encodes a tree of which this is read, or they are refused.
-abbrev pub OfEncoding : {X : Type 0} → (Tree → X → Type 0) → (List ℕ → DeserializeError → Type 0) → List ℕ → Result X DeserializeError → Type 0
-OfEncoding is Refused bytes (Ok x) = (rest : List ℕ) × Begins (λ b. EncodesAs is V2 b x) bytes rest
-OfEncoding is Refused bytes (Err told) = ToldOf Refused bytes (typed_stop told)
+-- A prefix of the bytes encodes that of which this is made, or they are refused.
+abbrev pub OfEncoding : {X : Type 0} → (List ℕ → X → Type 0) → (List ℕ → DeserializeError → Type 0) → List ℕ → Result X DeserializeError → Type 0
+OfEncoding Made Refused bytes (Ok x) = (rest : List ℕ) × Begins (λ b. Made b x) bytes rest
+OfEncoding Made Refused bytes (Err told) = ToldOf Refused bytes (typed_stop told)

@@ -1,18 +1,24 @@
 -- What a visitor is handed, and what is done through a reader then.
-use Rattle.std.specs.Prelude.{◌≡◌, ℕ, true, is_err, List, Result, Ok, Err}
+use Rattle.std.specs.Prelude.{◌≡◌, ℕ, is_err, List, Result, Ok, Err}
+use Rattle.tv_base.specs.ErrorInPart.{InThen}
+use Rattle.tv_base.specs.Parts.{Then}
 use Rattle.tv_base.specs.Source.{Failures}
-use Rattle.tv_base.specs.Stop.{Counts, Taken}
+use Rattle.tv_base.specs.Stop.{Counts}
 use Rattle.tv_reader.specs.Trees.{EncodesBehind}
-use Rattle.tv_reader.specs.ValueType.{coded}
+use Rattle.tv_reader.specs.ValueType.{coded, IsCoded}
 use Rattle.tv_reader.specs.Version.{version_of}
 use Rattle.tv_reader.specs.declared.error.DeserializeError.{DeserializeError}
 use Rattle.tv_reader.specs.declared.value_type.ValueType.{ValueType}
 use Rattle.tv_reader.specs.declared.value_type.ValueType.TheVariants as types
+use Rattle.tv_value.specs.Owned.{owned_tree}
+use Rattle.tv_value.specs.Short.{short}
 use Rattle.tv_value.specs.Tree.{Leaf}
+use Rattle.tv_value.specs.Version.{V2, entry_total}
 use Rattle.tv_value.specs.declared.owned_value.OwnedValue.{OwnedValue}
+use Rattle.tv_typed.specs.LegacyObjects.{OfEncoding}
 use Rattle.tv_typed.specs.Lists.{Length, LengthRefused}
-use Rattle.tv_typed.specs.Typed.{typed_stop, Reads}
-use Rattle.tv_typed.specs.Values.{IsLeaf, EncodesLeaf, LeafRefused, TreeRefused, Only}
+use Rattle.tv_typed.specs.Typed.{typed_stop, Reads, Deserializes}
+use Rattle.tv_typed.specs.Values.{CodeRefused, IsLeaf, EncodesLeaf, LeafRefused, TreeRefused, Only}
 use Rattle.tv_typed.specs.declared.store_reader.StoreReader.{StoreReader}
 
 -- ---- leaves
@@ -36,40 +42,48 @@ pub record Visits {S X : Type 0} (is_known : S → Type 0) (left : S → List �
 
 -- ---- arrays and objects
 
--- Some bytes were taken through a reader, or none, whoever took them.
-pub record TakesSome {S : Type 0} (is_known : S → Type 0) (left : S → List ℕ) (old new : StoreReader S) : Type 0 where
-  pub closed : old.has_failed ≡ true → (new.has_failed ≡ true) × (new.source ≡ old.source) × (new.count ≡ old.count)
-  pub taken : is_known old.source → Taken (left old.source) (left new.source) old.count new.count
-  pub stays_known : is_known old.source → is_known new.source
-  pub same_version : new.version ≡ old.version
+-- The number of the values, and so many of them, of which this is made.
+abbrev pub EncodesVisited : {X : Type 0} → ValueType → (ℕ → ℕ) → (ℕ → List ℕ → X → Type 0) → ValueType → List ℕ → X → Type 0
+EncodesVisited collection total Made kind b x = (n : ℕ) × Then (λ w. Length collection total kind w n) (λ w. Made n w x) b
 
--- What was done with so many values: behind their number some bytes were taken, and a failed read is told. Where no number was read, nothing was done, and its
--- refusal is given.
-abbrev pub Handed : {S X : Type 0} (is_known : S → Type 0) (left : S → List ℕ) (failures : S → Failures) (mid new : StoreReader S) → Result ℕ DeserializeError → Result X DeserializeError → Type 0
-Handed is_known left failures mid new (Ok n) result = TakesSome is_known left mid new × Counts typed_stop result (failures mid.source) (failures new.source)
-Handed is_known left failures mid new (Err e) result = (result ≡ Err e) × (new ≡ mid)
+-- The number of the values is refused, or they are.
+abbrev pub VisitRefused : ValueType → (ℕ → ℕ) → (ℕ → List ℕ → DeserializeError → Type 0) → ValueType → List ℕ → DeserializeError → Type 0
+VisitRefused collection total Refused kind = InThen (LengthRefused collection total kind) (Length collection total kind) Refused
+
+-- What was made of so many values, as it is said by who made it. Where no number was read, nothing was done, and its refusal is given.
+abbrev pub Handed : {S X : Type 0} (is_known : S → Type 0) (left : S → List ℕ) (failures : S → Failures) (mid new : StoreReader S) → (ℕ → List ℕ → X → Type 0) → (ℕ → List ℕ → DeserializeError → Type 0) → Result ℕ DeserializeError → Result X DeserializeError → Type 0
+Handed is_known left failures mid new Made Refused (Ok n) result = Deserializes is_known left failures mid new result (Made n) (Refused n)
+Handed is_known left failures mid new Made Refused (Err e) result = (result ≡ Err e) × (new ≡ mid)
 
 -- The number of the values was read behind the code, and then they were handed on.
-pub record VisitsItems {S X : Type 0} (is_known : S → Type 0) (left : S → List ℕ) (failures : S → Failures) (old new : StoreReader S) (collection : ValueType) (total : ℕ → ℕ) (kind : ValueType) (result : Result X DeserializeError) : Type 0 where
+pub record VisitsItems {S X : Type 0} (is_known : S → Type 0) (left : S → List ℕ) (failures : S → Failures) (old new : StoreReader S) (collection : ValueType) (total : ℕ → ℕ) (Made : ℕ → List ℕ → X → Type 0) (Refused : ℕ → List ℕ → DeserializeError → Type 0) (kind : ValueType) (result : Result X DeserializeError) : Type 0 where
   pub behind_number : StoreReader S
   pub announced : Result ℕ DeserializeError
   pub reads : Reads is_known left failures old behind_number announced (Length collection total kind) (LengthRefused collection total kind)
-  pub handed : Handed is_known left failures behind_number new announced result
+  pub handed : Handed is_known left failures behind_number new Made Refused announced result
 
 -- ---- legacy objects
 
--- Where a legacy object was refused, that is given. What is read of the encoding of its tree tells of no failed read.
-abbrev pub GivesRefusal : {X : Type 0} → Result OwnedValue DeserializeError → Result X DeserializeError → Type 0
-GivesRefusal (Ok tree) result = TellsNoFailure result
-GivesRefusal (Err e) result = result ≡ Err e
+-- An object behind its code, in version 2: so many entries, of which this is made.
+abbrev pub EncodesNextVisited : {X : Type 0} → (ℕ → List ℕ → X → Type 0) → List ℕ → X → Type 0
+EncodesNextVisited Made b x = (kind : ValueType) × Then (λ w. IsCoded w kind) (λ w. EncodesVisited types.Object (entry_total V2) Made kind w x) b
+
+-- The code is malformed, or the entries behind it are refused.
+abbrev pub NextVisitRefused : (ℕ → List ℕ → DeserializeError → Type 0) → List ℕ → DeserializeError → Type 0
+NextVisitRefused Refused = InThen CodeRefused IsCoded (λ kind. VisitRefused types.Object (entry_total V2) Refused kind)
+
+-- What was made of the encoding of a legacy object's tree. Where the object was refused, that is given.
+abbrev pub GivesEntries : {X : Type 0} → (ℕ → List ℕ → X → Type 0) → (ℕ → List ℕ → DeserializeError → Type 0) → Result OwnedValue DeserializeError → Result X DeserializeError → Type 0
+GivesEntries Made Refused (Ok tree) result = OfEncoding (EncodesNextVisited Made) (NextVisitRefused Refused) (short V2 (owned_tree tree)) result
+GivesEntries Made Refused (Err e) result = result ≡ Err e
 
 -- A legacy object was read whole behind its code, and then the entries that its tree encodes were handed on, or its refusal is given. Nothing more is taken
 -- through the reader, whose mark may also tell of an answer that is an error.
-pub record VisitsLegacy {S X : Type 0} (is_known : S → Type 0) (left : S → List ℕ) (failures : S → Failures) (old new : StoreReader S) (result : Result X DeserializeError) : Type 0 where
+pub record VisitsLegacy {S X : Type 0} (is_known : S → Type 0) (left : S → List ℕ) (failures : S → Failures) (old new : StoreReader S) (Made : ℕ → List ℕ → X → Type 0) (Refused : ℕ → List ℕ → DeserializeError → Type 0) (result : Result X DeserializeError) : Type 0 where
   pub behind_object : StoreReader S
   pub read : Result OwnedValue DeserializeError
   pub reads : Reads is_known left failures old behind_object read (EncodesBehind (version_of old.version) types.JSONObject) (TreeRefused (version_of old.version) types.JSONObject)
-  pub gives : GivesRefusal read result
+  pub gives : GivesEntries Made Refused read result
   pub same_source : new.source ≡ behind_object.source
   pub same_count : new.count ≡ behind_object.count
   pub same_version : new.version ≡ behind_object.version

@@ -1,8 +1,10 @@
 //! Arrays in a store.
 
-ghost use Rattle.std.specs.Prelude.{◌≡◌, ◌+◌, false, true, OnErr, if◌then◌else◌};
+ghost use Rattle.std.specs.Prelude.{◌≡◌, ◌+◌, ◌-◌, false, true, OnErr, if◌then◌else◌};
 ghost use Rattle.tv_base.specs.ErrorInPart.{InEach};
 ghost use Rattle.tv_reader.specs.Version.{version_of};
+ghost use Rattle.tv_reader.specs.declared.error.DeserializeError.TheVariants as errors;
+ghost use Rattle.tv_reader.specs.declared.value_type.ValueType.TheVariants as types;
 ghost use Rattle.tv_typed.specs.Lists.{EncodesInto, NextItem, NextItemRefused, gives_some};
 ghost use Rattle.tv_typed.specs.Typed.{Deserializes};
 ghost use Rattle.tv_typed.specs.Values.{EncodesAs, NextRefused};
@@ -11,7 +13,7 @@ use crate::de::ValueDeserialize;
 use crate::store_reader::StoreReader;
 use std::alloc::Global;
 use tv_base::ByteSource;
-use tv_reader::DeserializeError;
+use tv_reader::{DeserializeError, ValueType};
 
 // Reads so many values. Nothing is reserved from their number. That memory was refused isn't marked yet.
 pub(crate) fn read_elements<T: ValueDeserialize, S: ByteSource>(
@@ -48,6 +50,33 @@ impl<'de, S: ByteSource> BinaryArrayDeserializer<'de, S> {
         ensures { result ≡ self.now.announced }
     {
         self.announced as usize
+    }
+
+    /// Refuses the array: reads nothing, and returns `UnsupportedType(Array)`. (Not in tantivy.)
+    pub fn unsupported<T>(self) -> Result<T, DeserializeError>
+        requires { self.reader.now.has_failed ≡ false }
+        ensures { Deserializes S.is_known S.left S.failures self.entry.reader.now
+            self.exit.1.1.0.now result (λ b x. ⊥) (λ w e. e ≡ errors.UnsupportedType types.Array) }
+    {
+        Err(DeserializeError::UnsupportedType(ValueType::Array))
+    }
+
+    /// Reads all values that are left, in order. Nothing is reserved from their number. (Not in tantivy.)
+    ///
+    /// Errors: those of `next_element`, and `Memory` where the list can't grow, which isn't marked in the reader.
+    pub fn read_all<V: ValueDeserialize>(self, alloc: Global) -> Result<Vec<V>, DeserializeError>
+        requires { self.reader.now.has_failed ≡ false }
+        ensures { Deserializes S.is_known S.left S.failures self.entry.reader.now
+            self.exit.1.1.0.now result
+            (EncodesInto (λ items xs. items.items ≡ xs)
+            (EncodesAs V.is (version_of self.entry.reader.now.version))
+            (self.entry.announced - self.entry.position))
+            (InEach (NextRefused V.refused (version_of self.entry.reader.now.version))
+            (EncodesAs V.is (version_of self.entry.reader.now.version))
+            (self.entry.announced - self.entry.position)) }
+    {
+        let rest = self.announced.saturating_sub(self.position);
+        read_elements(alloc, self.reader, rest)
     }
 
     /// Reads the next value. None where as many were read as are announced.

@@ -24,7 +24,7 @@ ghost use Rattle.tv_typed.specs.Lists.{EncodesEntry, EntryRefused};
 ghost use Rattle.tv_reader.specs.declared.error.DeserializeError.{DeserializeError};
 ghost use Rattle.tv_reader.specs.declared.error.DeserializeError.TheVariants as errors;
 ghost use Rattle.tv_value.specs.Version.{Version};
-ghost use Rattle.tv_typed.specs.Visits.{Visits, TakesSome, TellsNoFailure};
+ghost use Rattle.tv_typed.specs.Visits.{Visits, TellsNoFailure};
 
 use crate::array::BinaryArrayDeserializer;
 use crate::object::BinaryObjectDeserializer;
@@ -198,7 +198,7 @@ impl<'de, S: ByteSource> BinaryValueDeserializer<'de, S> {
         reader.leaf::<Vec<u8>>(alloc, kind)
     }
 
-    /// Reads a date: microseconds in version 1, and nanoseconds in version 2.
+    /// Reads a date: microseconds in version 1, and nanoseconds in the others.
     pub fn deserialize_datetime(self) -> Result<DateTime, DeserializeError>
         ensures reads { Reads S.is_known S.left S.failures self.entry.reader.now self.exit.1.0.now
             result
@@ -612,8 +612,9 @@ impl ValueDeserialize for OwnedValue {
 
 /// What makes a value of whatever stands in a store, by a call for each type.
 ///
-/// A visitor gives each call for a value that isn't an array or an object, and says by `answers` what it returns. Where it takes no
-/// value of a type, it returns `UnsupportedType` of that type. The calls for arrays and objects do so where they aren't given.
+/// A visitor gives each call, and says what it returns: by `answers` for a value that isn't an array or an object, and for arrays and
+/// objects by the bytes that it reads. Where it takes no value of a type, it returns `UnsupportedType` of that type; for arrays and
+/// objects `unsupported` does so.
 pub trait ValueVisitor {
     /// What is made.
     type Value;
@@ -625,6 +626,18 @@ pub trait ValueVisitor {
     ghost tells_no_failure: { (visitor : Self) (leaf : Leaf)
         (result : Result Self.Value DeserializeError) → answers visitor leaf result
         → TellsNoFailure result };
+
+    /// What is made of an array, by how many values it announces and the bytes behind their number that are read.
+    ghost of_array: { Self → Version → ℕ → List ℕ → Self.Value → Type 0 };
+
+    /// Which refusal bytes behind the number of an array's values have.
+    ghost array_refused: { Self → Version → ℕ → List ℕ → DeserializeError → Type 0 };
+
+    /// What is made of an object, by how many entries it has and the bytes behind their number that are read.
+    ghost of_object: { Self → Version → ℕ → List ℕ → Self.Value → Type 0 };
+
+    /// Which refusal bytes behind the number of an object's entries have.
+    ghost object_refused: { Self → Version → ℕ → List ℕ → DeserializeError → Type 0 };
 
     /// Null stands there.
     fn visit_null(&self, value: ()) -> Result<Self::Value, DeserializeError>
@@ -670,9 +683,9 @@ pub trait ValueVisitor {
         ensures { answers self.now
             (tokenized (string_bytes value.text) (map token_of value.tokens.items)) result };
 
-    /// An array stands there, whose number of values was read. Where a visitor takes none, it returns `UnsupportedType`. It returns `Io`
-    /// exactly where a read failed, with its kind, and none of `HeapFull`, `UnsupportedVersion` and `AlreadyFailed`. After a read that was
-    /// refused it returns an error.
+    /// An array stands there, whose number of values was read. The errors are those of its values, what the visitor refuses, and
+    /// `Memory`. It returns `Io` exactly where a read failed, with its kind, and none of `HeapFull`, `UnsupportedVersion` and
+    /// `AlreadyFailed`. After a read that was refused it returns an error.
     fn visit_array<S: ByteSource>(
         &self,
         alloc: Global,
@@ -680,20 +693,15 @@ pub trait ValueVisitor {
     ) -> Result<Self::Value, DeserializeError>
         requires first { access.position ≡ 0 }
         requires open { access.reader.now.has_failed ≡ false }
-        ensures takes { TakesSome S.is_known S.left access.entry.reader.now
-            access.exit.1.1.0.now }
-        ensures counts { Counts typed_stop result (S.failures access.entry.reader.now.source)
-            (S.failures access.exit.1.1.0.now.source) }
-        ensures unmarked { OnOk result (access.exit.1.1.0.now.has_failed ≡ false) }
-    {
-        let _ = alloc;
-        let _ = access;
-        Err(DeserializeError::UnsupportedType(ValueType::Array))
-    }
+        ensures { Deserializes S.is_known S.left S.failures access.entry.reader.now
+            access.exit.1.1.0.now result
+            (of_array self.now (version_of access.entry.reader.now.version) access.entry.announced)
+            (array_refused self.now (version_of access.entry.reader.now.version)
+            access.entry.announced) };
 
-    /// An object stands there, whose number of entries was read. Where a visitor takes none, it returns `UnsupportedType`. It returns `Io`
-    /// exactly where a read failed, with its kind, and none of `HeapFull`, `UnsupportedVersion` and `AlreadyFailed`. After a read that was
-    /// refused it returns an error.
+    /// An object stands there, whose number of entries was read. The errors are those of its entries, what the visitor refuses, and
+    /// `Memory`. It returns `Io` exactly where a read failed, with its kind, and none of `HeapFull`, `UnsupportedVersion` and
+    /// `AlreadyFailed`. After a read that was refused it returns an error.
     fn visit_object<S: ByteSource>(
         &self,
         alloc: Global,
@@ -701,14 +709,9 @@ pub trait ValueVisitor {
     ) -> Result<Self::Value, DeserializeError>
         requires first { access.position ≡ 0 }
         requires open { access.reader.now.has_failed ≡ false }
-        ensures takes { TakesSome S.is_known S.left access.entry.reader.now
-            access.exit.1.1.0.now }
-        ensures counts { Counts typed_stop result (S.failures access.entry.reader.now.source)
-            (S.failures access.exit.1.1.0.now.source) }
-        ensures unmarked { OnOk result (access.exit.1.1.0.now.has_failed ≡ false) }
-    {
-        let _ = alloc;
-        let _ = access;
-        Err(DeserializeError::UnsupportedType(ValueType::Object))
-    }
+        ensures { Deserializes S.is_known S.left S.failures access.entry.reader.now
+            access.exit.1.1.0.now result
+            (of_object self.now (version_of access.entry.reader.now.version) access.entry.announced)
+            (object_refused self.now (version_of access.entry.reader.now.version)
+            access.entry.announced) };
 }

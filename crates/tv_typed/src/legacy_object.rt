@@ -51,7 +51,7 @@ fn next_object<V: CodedObject, S: ByteSource>(
 }
 
 // How a refusal of what was encoded is told.
-fn retold(error: DeserializeError) -> DeserializeError
+pub(crate) fn retold(error: DeserializeError) -> DeserializeError
     ensures { Retold error result }
 {
     match error {
@@ -65,7 +65,7 @@ fn retold(error: DeserializeError) -> DeserializeError
 
 // What is read of the shortest encoding of a tree.
 fn of_encoding<V: CodedObject>(alloc: Global, bytes: &Vec<u8>) -> Result<V, DeserializeError>
-    ensures { OfEncoding V.is (NextRefused V.refused V2) bytes.now.items result }
+    ensures { OfEncoding (EncodesAs V.is V2) (NextRefused V.refused V2) bytes.now.items result }
 {
     let mut reader = StoreReader::new(SliceSource::new(bytes), DocStoreVersion::V2);
     match next_object::<V, SliceSource<'_>>(alloc, &mut reader) {

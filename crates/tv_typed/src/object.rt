@@ -1,12 +1,13 @@
 //! Objects in a store.
 
-ghost use Rattle.std.specs.Prelude.{◌≡◌, ◌+◌, false, true, Some, List, ℕ, OnOk, OnErr, IfErr};
+ghost use Rattle.std.specs.Prelude.{◌≡◌, ◌+◌, ◌-◌, false, true, Some, List, ℕ, OnOk, OnErr, IfErr};
 ghost use Rattle.std.specs.Prelude.{string_bytes, bytes_eq, if◌then◌else◌};
 ghost use Rattle.std.specs.BTreeMap as tree;
 ghost use Rattle.std.specs.HashMap as hash;
 ghost use Rattle.tv_base.specs.ErrorInPart.{InEach};
 ghost use Rattle.tv_reader.specs.Version.{version_of};
 ghost use Rattle.tv_reader.specs.declared.error.DeserializeError.TheVariants as errors;
+ghost use Rattle.tv_reader.specs.declared.value_type.ValueType.TheVariants as types;
 ghost use Rattle.tv_typed.specs.Lists.{EncodesInto, EncodesEntry, EntryRefused, GivesLast};
 ghost use Rattle.tv_typed.specs.Lists.{NextItem, NextItemRefused, gives_some};
 ghost use Rattle.tv_typed.specs.Typed.{Deserializes};
@@ -16,7 +17,7 @@ use crate::store_reader::StoreReader;
 use std::alloc::Global;
 use std::collections::{BTreeMap, HashMap};
 use tv_base::ByteSource;
-use tv_reader::DeserializeError;
+use tv_reader::{DeserializeError, ValueType};
 
 // Reads so many keys with values, in order. Nothing is reserved from their number. That memory was refused isn't marked yet.
 pub(crate) fn read_entries<T: ValueDeserialize, S: ByteSource>(
@@ -127,11 +128,41 @@ pub struct BinaryObjectDeserializer<'de, S: ByteSource> {
 }
 
 impl<'de, S: ByteSource> BinaryObjectDeserializer<'de, S> {
-    /// How many entries the object has, however many were read: half of what it announces.
+    /// How many entries the object has, however many were read: what it announces, and in versions 1 and 2 half of that.
     pub fn size_hint(&self) -> usize
         ensures { result ≡ self.now.announced }
     {
         self.announced as usize
+    }
+
+    /// Refuses the object: reads nothing, and returns `UnsupportedType(Object)`. (Not in tantivy.)
+    pub fn unsupported<T>(self) -> Result<T, DeserializeError>
+        requires { self.reader.now.has_failed ≡ false }
+        ensures { Deserializes S.is_known S.left S.failures self.entry.reader.now
+            self.exit.1.1.0.now result (λ b x. ⊥) (λ w e. e ≡ errors.UnsupportedType types.Object) }
+    {
+        Err(DeserializeError::UnsupportedType(ValueType::Object))
+    }
+
+    /// Reads all keys with values that are left, in order, equal keys too. Nothing is reserved from their number. (Not in tantivy.)
+    ///
+    /// Errors: those of `next_entry`, and `Memory` where the list can't grow, which isn't marked in the reader.
+    pub fn read_all<V: ValueDeserialize>(
+        self,
+        alloc: Global,
+    ) -> Result<Vec<(String, V)>, DeserializeError>
+        requires { self.reader.now.has_failed ≡ false }
+        ensures { Deserializes S.is_known S.left S.failures self.entry.reader.now
+            self.exit.1.1.0.now result
+            (EncodesInto (λ items xs. items.items ≡ xs)
+            (EncodesEntry V.is (version_of self.entry.reader.now.version))
+            (self.entry.announced - self.entry.position))
+            (InEach (EntryRefused V.refused (version_of self.entry.reader.now.version))
+            (EncodesEntry V.is (version_of self.entry.reader.now.version))
+            (self.entry.announced - self.entry.position)) }
+    {
+        let rest = self.announced.saturating_sub(self.position);
+        read_entries(alloc, self.reader, rest)
     }
 
     /// Reads the next key with its value. None where as many were read as there are.

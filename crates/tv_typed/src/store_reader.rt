@@ -16,7 +16,7 @@ use std::alloc::Global;
 use tv_base::take::take_vint;
 use tv_base::{ByteSource, ReadError};
 use tv_reader::kinds::take_kind;
-use tv_reader::trees::{take_half, take_key};
+use tv_reader::trees::{take_entry_count, take_key};
 use tv_reader::{DeserializeError, DocStoreVersion, ValueType};
 
 /// A source, the version of what it holds, how many bytes were taken of it, and whether a read was refused. After a refusal
@@ -188,7 +188,8 @@ impl<S: ByteSource> StoreReader<S> {
         ensures spares { ¬ IsErrOf result errors.Memory }
     {
         self.expect_collection(kind, ValueType::Object)?;
-        let answer = take_half(&mut self.source, &mut self.count);
+        let version = self.version;
+        let answer = take_entry_count(&mut self.source, &mut self.count, version);
         self.marked(answer)
     }
 
@@ -199,7 +200,8 @@ impl<S: ByteSource> StoreReader<S> {
             (KeyRefused (version_of self.old.version)) }
     {
         self.go_on()?;
-        let answer = take_key(alloc, &mut self.source, &mut self.count);
+        let version = self.version;
+        let answer = take_key(alloc, &mut self.source, &mut self.count, version);
         self.has_failed = answer.is_err();
         answer
     }

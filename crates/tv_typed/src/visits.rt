@@ -5,19 +5,39 @@ ghost use Rattle.tv_base.specs.Stop.{Counts};
 ghost use Rattle.tv_reader.specs.Leaves.{is_leaf_type};
 ghost use Rattle.tv_reader.specs.Version.{version_of};
 ghost use Rattle.tv_reader.specs.declared.value_type.ValueType.TheVariants as types;
+ghost use Rattle.tv_reader.specs.declared.version.DocStoreVersion.TheVariants as stores;
+ghost use Rattle.tv_typed.specs.LegacyObjects.{OfEncoding};
 ghost use Rattle.tv_typed.specs.Lists.{element_total};
-ghost use Rattle.tv_typed.specs.Typed.{typed_stop};
+ghost use Rattle.tv_typed.specs.Typed.{typed_stop, Deserializes};
 ghost use Rattle.tv_typed.specs.Visits.{Visits, VisitsItems, VisitsLegacy};
-ghost use Rattle.tv_value.specs.Version.{entry_total};
+ghost use Rattle.tv_typed.specs.Visits.{EncodesNextVisited, NextVisitRefused};
+ghost use Rattle.tv_value.specs.Version.{V2, entry_total};
 
 use crate::array::BinaryArrayDeserializer;
 use crate::de::{BinaryValueDeserializer, ValueVisitor};
 use crate::encode::encoded;
+use crate::legacy_object::retold;
 use crate::object::BinaryObjectDeserializer;
 use crate::store_reader::StoreReader;
 use std::alloc::Global;
 use tv_base::{ByteSource, SliceSource};
 use tv_reader::{DeserializeError, DocStoreVersion, ValueType};
+
+// Hands the visitor the entries of an object whose encoding stands in memory.
+fn visit_encoding<V: ValueVisitor>(
+    alloc: Global,
+    bytes: &Vec<u8>,
+    visitor: &V,
+) -> Result<V::Value, DeserializeError>
+    ensures { OfEncoding (EncodesNextVisited (V.of_object visitor.now V2))
+        (NextVisitRefused (V.object_refused visitor.now V2)) bytes.now.items result }
+{
+    let mut reader = StoreReader::new(SliceSource::new(bytes), DocStoreVersion::V2);
+    match reader.visit_next_object(alloc, visitor) {
+        Ok(value) => Ok(value),
+        Err(error) => Err(retold(error)),
+    }
+}
 
 impl<S: ByteSource> StoreReader<S> {
     // Hands the visitor the values of an array, once their number is read. What it refuses isn't marked yet.
@@ -28,7 +48,8 @@ impl<S: ByteSource> StoreReader<S> {
         visitor: &V,
     ) -> Result<V::Value, DeserializeError>
         ensures visits { VisitsItems S.is_known S.left S.failures self.old self.new types.Array
-            element_total kind result }
+            element_total (V.of_array visitor.now (version_of self.old.version))
+            (V.array_refused visitor.now (version_of self.old.version)) kind result }
         ensures unmarked { OnOk result (self.new.has_failed ≡ false) }
     {
         let announced = self.array_length(kind)?;
@@ -48,7 +69,9 @@ impl<S: ByteSource> StoreReader<S> {
         visitor: &V,
     ) -> Result<V::Value, DeserializeError>
         ensures visits { VisitsItems S.is_known S.left S.failures self.old self.new types.Object
-            (entry_total (version_of self.old.version)) kind result }
+            (entry_total (version_of self.old.version))
+            (V.of_object visitor.now (version_of self.old.version))
+            (V.object_refused visitor.now (version_of self.old.version)) kind result }
         ensures unmarked { OnOk result (self.new.has_failed ≡ false) }
     {
         let announced = self.object_length(kind)?;
@@ -60,21 +83,35 @@ impl<S: ByteSource> StoreReader<S> {
         visitor.visit_object(alloc, access)
     }
 
+    // Hands the visitor the entries of the object that comes next, with its code. What it refuses isn't marked yet.
+    fn visit_next_object<V: ValueVisitor>(
+        &mut self,
+        alloc: Global,
+        visitor: &V,
+    ) -> Result<V::Value, DeserializeError>
+        requires { self.old.version ≡ stores.V2 }
+        ensures { Deserializes S.is_known S.left S.failures self.old self.new result
+            (EncodesNextVisited (V.of_object visitor.now V2))
+            (NextVisitRefused (V.object_refused visitor.now V2)) }
+    {
+        let kind = self.code()?;
+        self.visit_entries(alloc, kind, visitor)
+    }
+
     // Hands the visitor the entries of a legacy object, out of the encoding of its tree. What it refuses isn't marked yet.
     fn visit_legacy<V: ValueVisitor>(
         &mut self,
         alloc: Global,
         visitor: &V,
     ) -> Result<V::Value, DeserializeError>
-        ensures visits { VisitsLegacy S.is_known S.left S.failures self.old self.new result }
+        ensures visits { VisitsLegacy S.is_known S.left S.failures self.old self.new
+            (V.of_object visitor.now V2) (V.object_refused visitor.now V2) result }
         ensures unmarked { OnOk result (self.new.has_failed ≡ false) }
     {
         let kind = ValueType::JSONObject;
         let tree = BinaryValueDeserializer { kind, reader: self }.deserialize_tree(alloc)?;
         let bytes = encoded(alloc, &tree)?;
-        let mut encoding = StoreReader::new(SliceSource::new(&bytes), DocStoreVersion::V2);
-        let kind = encoding.code()?;
-        encoding.visit_entries(alloc, kind, visitor)
+        visit_encoding(alloc, &bytes, visitor)
     }
 
     // Hands the visitor what stands behind the code of a type. What it refuses isn't marked yet.
@@ -89,12 +126,16 @@ impl<S: ByteSource> StoreReader<S> {
             result }
         ensures array { kind ≡ types.Array
             → VisitsItems S.is_known S.left S.failures self.old self.new types.Array element_total
-            kind result }
+            (V.of_array visitor.now (version_of self.old.version))
+            (V.array_refused visitor.now (version_of self.old.version)) kind result }
         ensures object { kind ≡ types.Object
             → VisitsItems S.is_known S.left S.failures self.old self.new types.Object
-            (entry_total (version_of self.old.version)) kind result }
+            (entry_total (version_of self.old.version))
+            (V.of_object visitor.now (version_of self.old.version))
+            (V.object_refused visitor.now (version_of self.old.version)) kind result }
         ensures legacy { kind ≡ types.JSONObject
-            → VisitsLegacy S.is_known S.left S.failures self.old self.new result }
+            → VisitsLegacy S.is_known S.left S.failures self.old self.new
+            (V.of_object visitor.now V2) (V.object_refused visitor.now V2) result }
         ensures counts { self.old.has_failed ≡ false
             → Counts typed_stop result (S.failures self.old.source) (S.failures self.new.source) }
         ensures unmarked { OnOk result (self.new.has_failed ≡ false) }
@@ -119,12 +160,16 @@ impl<S: ByteSource> StoreReader<S> {
             result }
         ensures array { kind ≡ types.Array
             → VisitsItems S.is_known S.left S.failures self.old self.new types.Array element_total
-            kind result }
+            (V.of_array visitor.now (version_of self.old.version))
+            (V.array_refused visitor.now (version_of self.old.version)) kind result }
         ensures object { kind ≡ types.Object
             → VisitsItems S.is_known S.left S.failures self.old self.new types.Object
-            (entry_total (version_of self.old.version)) kind result }
+            (entry_total (version_of self.old.version))
+            (V.of_object visitor.now (version_of self.old.version))
+            (V.object_refused visitor.now (version_of self.old.version)) kind result }
         ensures legacy { kind ≡ types.JSONObject
-            → VisitsLegacy S.is_known S.left S.failures self.old self.new result }
+            → VisitsLegacy S.is_known S.left S.failures self.old self.new
+            (V.of_object visitor.now V2) (V.object_refused visitor.now V2) result }
         ensures counts { self.old.has_failed ≡ false
             → Counts typed_stop result (S.failures self.old.source) (S.failures self.new.source) }
         ensures marks { self.new.has_failed ≡ is_err result }
@@ -144,8 +189,9 @@ impl<'de, S: ByteSource> BinaryValueDeserializer<'de, S> {
     ///
     /// Errors: those of the call for a value of this type; for an array or an object `CorruptedValue` where the number of its values
     /// is malformed, with `OddObject` where no object announces it; for a legacy object those of `deserialize_tree`, and then the
-    /// visitor's call for objects is handed the entries of an encoding of its tree, which is made in memory; `Io`; `Memory`;
-    /// `AlreadyFailed` where an earlier read was refused; and what the visitor refuses. The visitor isn't called after another refusal.
+    /// visitor's call for objects is handed the entries of an encoding of its tree, which is made in memory, with
+    /// `UnsupportedType(JSONObject)` where it reads past the end of that; `Io`; `Memory`; `AlreadyFailed` where an earlier read was
+    /// refused; and what the visitor refuses. The visitor isn't called after another refusal.
     /// Each is marked in the reader, which else isn't marked.
     pub fn deserialize_any<V: ValueVisitor>(
         self,
@@ -157,14 +203,19 @@ impl<'de, S: ByteSource> BinaryValueDeserializer<'de, S> {
             self.entry.kind (V.answers visitor.now) result }
         ensures array { self.entry.kind ≡ types.Array
             → VisitsItems S.is_known S.left S.failures self.entry.reader.now self.exit.1.0.now
-            types.Array element_total self.entry.kind result }
+            types.Array element_total
+            (V.of_array visitor.now (version_of self.entry.reader.now.version))
+            (V.array_refused visitor.now (version_of self.entry.reader.now.version))
+            self.entry.kind result }
         ensures object { self.entry.kind ≡ types.Object
             → VisitsItems S.is_known S.left S.failures self.entry.reader.now self.exit.1.0.now
             types.Object (entry_total (version_of self.entry.reader.now.version))
+            (V.of_object visitor.now (version_of self.entry.reader.now.version))
+            (V.object_refused visitor.now (version_of self.entry.reader.now.version))
             self.entry.kind result }
         ensures legacy { self.entry.kind ≡ types.JSONObject
             → VisitsLegacy S.is_known S.left S.failures self.entry.reader.now self.exit.1.0.now
-            result }
+            (V.of_object visitor.now V2) (V.object_refused visitor.now V2) result }
         ensures counts { self.entry.reader.now.has_failed ≡ false
             → Counts typed_stop result (S.failures self.entry.reader.now.source)
             (S.failures self.exit.1.0.now.source) }

@@ -1,13 +1,18 @@
 //! A visitor that takes no arrays and no objects.
 
-ghost use Rattle.std.specs.Prelude.{Result};
+ghost use Rattle.std.specs.Prelude.{◌≡◌, Result};
+ghost use Rattle.tv_reader.specs.declared.error.DeserializeError.TheVariants as errors;
+ghost use Rattle.tv_reader.specs.declared.value_type.ValueType.TheVariants as types;
 ghost use Rattle.tv_typed.specs.Visits.{TellsNoFailure};
 
 use std::alloc::Global;
 use std::net::Ipv6Addr;
-use tv_base::{Facet, SliceSource};
+use tv_base::{ByteSource, Facet, SliceSource};
 use tv_reader::{DeserializeError, DocStoreVersion, ValueType};
-use tv_typed::{BinaryValueDeserializer, StoreReader, ValueVisitor};
+use tv_typed::{
+    BinaryArrayDeserializer, BinaryObjectDeserializer, BinaryValueDeserializer, StoreReader,
+    ValueVisitor,
+};
 use tv_value::date_time::DateTime;
 use tv_value::tokenizer::PreTokenizedString;
 
@@ -20,6 +25,14 @@ impl ValueVisitor for Leaves {
     ghost answers = { λ v l result. TellsNoFailure result };
 
     ghost tells_no_failure = { λ v l result h. h };
+
+    ghost of_array = { λ visitor v n bytes x. ⊥ };
+
+    ghost array_refused = { λ visitor v n bytes e. e ≡ errors.UnsupportedType types.Array };
+
+    ghost of_object = { λ visitor v n bytes x. ⊥ };
+
+    ghost object_refused = { λ visitor v n bytes e. e ≡ errors.UnsupportedType types.Object };
 
     fn visit_null(&self, _value: ()) -> Result<(), DeserializeError> {
         Ok(())
@@ -62,6 +75,22 @@ impl ValueVisitor for Leaves {
         _value: PreTokenizedString,
     ) -> Result<(), DeserializeError> {
         Ok(())
+    }
+
+    fn visit_array<S: ByteSource>(
+        &self,
+        _alloc: Global,
+        access: BinaryArrayDeserializer<'_, S>,
+    ) -> Result<(), DeserializeError> {
+        access.unsupported()
+    }
+
+    fn visit_object<S: ByteSource>(
+        &self,
+        _alloc: Global,
+        access: BinaryObjectDeserializer<'_, S>,
+    ) -> Result<(), DeserializeError> {
+        access.unsupported()
     }
 }
 

@@ -1,6 +1,6 @@
 //! Values that are handed to visitors.
 
-ghost use Rattle.std.specs.Prelude.{Result};
+ghost use Rattle.std.specs.Prelude.{◌≡◌, [], Result};
 ghost use Rattle.tv_typed.specs.Visits.{TellsNoFailure};
 
 use std::alloc::Global;
@@ -23,6 +23,14 @@ impl ValueVisitor for Numbers {
     ghost answers = { λ v l result. TellsNoFailure result };
 
     ghost tells_no_failure = { λ v l result h. h };
+
+    ghost of_array = { λ visitor v n bytes x. (bytes ≡ []) × (x ≡ n) };
+
+    ghost array_refused = { λ visitor v n bytes e. ⊥ };
+
+    ghost of_object = { λ visitor v n bytes x. (bytes ≡ []) × (x ≡ n) };
+
+    ghost object_refused = { λ visitor v n bytes e. ⊥ };
 
     fn visit_null(&self, _value: ()) -> Result<u64, DeserializeError> {
         Ok(11)

@@ -1,5 +1,5 @@
 use Rattle.std.proofs.Common.{ap, ◌∙◌, arith, length}
-use Rattle.tv_typed.specs.Values.{NextRefused}
+use Rattle.tv_typed.specs.Values.{EncodesAs, NextRefused}
 use Rattle.tv_typed.proofs.LegacySteps.{encoding_refused, few_taken}
 use Rattle.tv_typed.proofs.legacy_object.of_encoding.Goals as goal
 
@@ -11,4 +11,4 @@ returns-in-Err g c =
     let content = c.args.bytes.now in
     let sizes = ap length same in
     let few = few_taken _ _ _ _ (c.in-Err.ensures.taken fresh tt) c.new-reader.ensures.count (omega (arith, sizes, content.ok.0, content.ok.1, content.small)) in
-    encoding_refused V.is (NextRefused V.refused) c.new-reader.result.version c.in-Err.error c.retold.result content.items _ _ _ c.new-reader.ensures.version same c.retold.ensures few (c.in-Err.ensures.counts fresh) (c.in-Err.ensures.found fresh tt)
+    encoding_refused (EncodesAs V.is) (NextRefused V.refused) c.new-reader.result.version c.in-Err.error c.retold.result content.items _ _ _ c.new-reader.ensures.version same c.retold.ensures few (c.in-Err.ensures.counts fresh) (c.in-Err.ensures.found fresh tt)

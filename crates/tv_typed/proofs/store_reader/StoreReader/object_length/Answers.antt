@@ -16,7 +16,7 @@ pub returns-clause-reads : goal.returns-clause-reads
 returns-clause-reads g c =
     let e = c.in_ok-expect_collection.ensures in
     let m = c.marked.ensures in
-    entries_read c.args.self.now c.expect_collection.new.self c.marked.new.self c.marked.result c.args.kind g.met.S.ByteSource.are_bytes e.ok.2 e.ok.0 e.source e.count e.version c.take_half-answer.ensures.takes m.source m.count m.version m.marks m.told
+    entries_read c.args.self.now c.expect_collection.new.self c.marked.new.self c.marked.result c.args.kind g.met.S.ByteSource.are_bytes e.ok.2 e.ok.0 e.source e.count e.version c.take_entry_count-answer.ensures.takes m.source m.count m.version m.marks m.told
 
 pub returns-in_err-expect_collection-clause-spares : goal.returns-in_err-expect_collection-clause-spares
 returns-in_err-expect_collection-clause-spares g c =
@@ -24,4 +24,4 @@ returns-in_err-expect_collection-clause-spares g c =
     rw (p.1, p.2) (mismatch_spares (λ same. cc) c.in_err-expect_collection.ensures.err)
 
 pub returns-clause-spares : goal.returns-clause-spares
-returns-clause-spares g c = raised_spares c.take_half-answer.result c.marked.result c.marked.ensures.told c.take_half-answer.ensures.spares
+returns-clause-spares g c = raised_spares c.take_entry_count-answer.result c.marked.result c.marked.ensures.told c.take_entry_count-answer.ensures.spares

@@ -1,6 +1,5 @@
-use Rattle.std.proofs.Common.{Ok}
 use Rattle.std.proofs.lemmas.Result.{err_from_is_err_and}
-use Rattle.tv_typed.proofs.VisitSteps.{items_refused}
+use Rattle.tv_typed.proofs.VisitSteps.{items_refused, items_visited}
 use Rattle.tv_typed.proofs.store_reader.StoreReader.visit_entries.Goals as goal
 
 pub returns-in_err-announced-clause-visits : goal.returns-in_err-announced-clause-visits
@@ -9,4 +8,4 @@ returns-in_err-announced-clause-visits g c =
     rw (p.1, p.2) (items_refused _ c.in_err-announced.ensures.reads)
 
 pub returns-clause-visits : goal.returns-clause-visits
-returns-clause-visits g c = record { behind_number = c.object_length.new.self; announced = Ok c.in_ok-announced.announced; reads = c.in_ok-announced.ensures.reads; handed = (c.visit_object.ensures.takes, c.visit_object.ensures.counts) }
+returns-clause-visits g c = let V = g.V.ValueVisitor in items_visited (V.of_object c.args.visitor.now) (V.object_refused c.args.visitor.now) c.in_ok-announced.ensures.reads c.visit_object.ensures
