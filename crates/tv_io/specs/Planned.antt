@@ -11,7 +11,7 @@ abbrev pub calls_after : ℕ → ℕ → ℕ
 calls_after zero calls = calls
 calls_after (suc len) calls = min (calls + 1) (2 ^ 64 - 1)
 
--- what a call with a buffer of this length does: it is counted, and only one ever fails
+-- A call with a buffer of this length is counted. Once one has failed, none is to fail.
 pub record CountsCall (len : ℕ) (old new : PlannedFailure) : Type 0 where
   pub counted : new.calls ≡ calls_after len old.calls
   pub failed : IsFailing len old → new.fails_at ≡ None

@@ -19,10 +19,8 @@ use tv_base::ByteSource;
 /// ```
 /// fn read_failing(alloc: Global, bytes: &[u8], passes: u64) -> Result<u64, ReadError> {
 ///     let source = SliceSource::new(bytes);
-///     u64::deserialize(
-///         alloc,
-///         &mut FaultSource::new(source, passes, io::ErrorKind::TimedOut),
-///     )
+///     let mut source = FaultSource::new(source, passes, io::ErrorKind::TimedOut);
+///     u64::deserialize(alloc, &mut source)
 /// }
 /// ```
 #[derive(Drop)]

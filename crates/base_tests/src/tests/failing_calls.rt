@@ -1,5 +1,7 @@
 //! Sources and sinks of which one call fails: which call that is, and what is read or written around it.
 
+ghost use Rattle.std.specs.Prelude.{◌≡◌, Err};
+
 use std::alloc::Global;
 use std::io;
 use std::test::Fail;
@@ -7,6 +9,43 @@ use tv_base::take::{take_text, take_u32, take_vint};
 use tv_base::write::{write_text, write_u32, write_vint};
 use tv_base::{BinarySerializable, ByteSink, ByteSource, ReadError, SliceSource, VecSink};
 use tv_io::{FaultSink, FaultSource};
+
+// The first read fails, whatever the source inside, and reads nothing of it.
+fn first_read_fails<S: ByteSource>(
+    inner: S,
+    kind: io::ErrorKind,
+) -> (Result<usize, io::ErrorKind>, S)
+    ensures answer { result.0 ≡ Err kind }
+    ensures inner { result.1 ≡ inner }
+{
+    let mut source = FaultSource::new(inner, 0, kind);
+    let answer = source.read(&mut [0; 4]);
+    (answer, source.into_inner())
+}
+
+// The first write fails, whatever the sink inside, and writes nothing to it.
+fn first_write_fails<K: ByteSink>(
+    inner: K,
+    kind: io::ErrorKind,
+) -> (Result<usize, io::ErrorKind>, K)
+    ensures answer { result.0 ≡ Err kind }
+    ensures inner { result.1 ≡ inner }
+{
+    let mut sink = FaultSink::new(inner, 0, kind);
+    let answer = sink.write(&[7]);
+    (answer, sink.into_inner())
+}
+
+#[test]
+fn first_calls_fail(rt: HostRuntime) {
+    let kind = io::ErrorKind::PermissionDenied;
+    let (answer, source) = first_read_fails(SliceSource::new(b"abc"), kind);
+    assert_eq!(rt; answer, Err(kind));
+    assert_eq!(rt; source.rest(), b"abc".as_slice());
+    let (answer, sink) = first_write_fails(VecSink::new(rt.alloc()), kind);
+    assert_eq!(rt; answer, Err(kind));
+    assert!(rt; sink.as_slice().is_empty());
+}
 
 #[test]
 fn one_read_fails(rt: HostRuntime) {
@@ -110,10 +149,8 @@ fn parts_are_written_up_to_the_call_that_fails(rt: HostRuntime) {
 // The number that the bytes encode, where one read fails.
 fn read_failing(alloc: Global, bytes: &[u8], passes: u64) -> Result<u64, ReadError> {
     let source = SliceSource::new(bytes);
-    u64::deserialize(
-        alloc,
-        &mut FaultSource::new(source, passes, io::ErrorKind::TimedOut),
-    )
+    let mut source = FaultSource::new(source, passes, io::ErrorKind::TimedOut);
+    u64::deserialize(alloc, &mut source)
 }
 
 // What is written of a number, where one write fails.
