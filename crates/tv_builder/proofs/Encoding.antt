@@ -1,5 +1,5 @@
 -- How values that stand encoded in bytes are written.
-use Rattle.std.proofs.Common.{◌≡◌, ℕ, ◌+◌, ◌*◌, ◌<◌, ◌≤◌, List, [], ◌∷◌, ◌++◌, length, take, drop, get_or, refl, sym, ◌∙◌, ap, subst, append_assoc, length-append, arith, inl}
+use Rattle.std.proofs.Common.{◌≡◌, ℕ, ◌+◌, ◌<◌, ◌≤◌, List, [], ◌∷◌, ◌++◌, length, take, drop, get_or, refl, sym, ◌∙◌, ap, subst, append_assoc, length-append, arith, inl}
 use Rattle.std.proofs.lemmas.List.{append-nil, length-take-le}
 use Rattle.std.specs.Int.{w64, w128, from_le_bytes, cast_signed}
 use Rattle.std.specs.Prelude.{ℤ, Some}
@@ -16,7 +16,10 @@ use Rattle.tv_value.specs.declared.leaf.LeafType.{LeafType}
 use Rattle.tv_value.specs.declared.leaf.LeafType.TheVariants as types
 use Rattle.tv_value.specs.Encoding.{NoLegacy, Key, ContentBody, LeafBody, Tokenized, leaf_code, Encodes, EncodesElements, EncodesEntries}
 use Rattle.tv_value.specs.Tree.{Leaf, Token, text, Tree, leaf, array, object, elements, entries, element_count, entry_count}
-use Rattle.tv_value.specs.Version.{V2, plain}
+use Rattle.tv_value.specs.Version.{Version, plain, entry_total}
+use Rattle.tv_value.specs.WriteVersion.{written_version}
+use Rattle.tv_value.specs.declared.version.WriteVersion.{WriteVersion}
+use Rattle.tv_value.specs.declared.version.WriteVersion.TheVariants as versions
 use Rattle.tv_value.proofs.Prefixes.{begins_behind, begins_then, begins_nothing, begins_cut, begins_item, small_take}
 use Rattle.tv_builder.specs.declared.frame.ListKind.TheVariants.{Array, Object}
 use Rattle.tv_builder.specs.declared.place.Place.{Place}
@@ -49,45 +52,51 @@ pub tokenized_found : (bytes payload rest : List ℕ) (n : ℕ) (t : List ℕ) (
 tokenized_found bytes payload rest n t ts e after h =
     subst (λ z. Begins (Behind 0 (λ b. Tokenized b t ts)) z rest) (sym e) (begins_behind 0 payload rest (begins_cut (λ b. Tokenized b t ts) n payload (take n payload) rest refl after h))
 
-pub key_found : (bytes behind rest k : List ℕ) → bytes ≡ 0 ∷ behind → Begins (λ b. Text b k) behind rest → Begins (λ b. Key V2 b k) bytes rest
-key_found bytes behind rest k e h = subst (λ z. Begins (λ b. Key V2 b k) z rest) (sym e) (begins_behind 0 behind rest h)
+pub coded_found : (bytes behind rest k : List ℕ) → bytes ≡ 0 ∷ behind → Begins (λ b. Text b k) behind rest → Begins (Behind 0 (λ b. Text b k)) bytes rest
+coded_found bytes behind rest k e h = subst (λ z. Begins (Behind 0 (λ b. Text b k)) z rest) (sym e) (begins_behind 0 behind rest h)
+
+pub number_as : (bytes rest : List ℕ) (m n : ℕ) → m ≡ n → Begins (λ b. VNum b m) bytes rest → Begins (λ b. VNum b n) bytes rest
+number_as bytes rest m n e h = subst (λ k. Begins (λ b. VNum b k) bytes rest) e h
 
 -- ---- a leaf
 
--- version 2 has no scale
-no_scale : (t : LeafType) → scale V2 t ≡ plain
-no_scale types.Date = refl
-no_scale _ = refl
+-- the versions that are written have no scale
+no_scale : (version : WriteVersion) (t : LeafType) → scale (written_version version) t ≡ plain
+no_scale versions.V2 types.Date = refl
+no_scale versions.V3 types.Date = refl
+no_scale versions.V2 _ = refl
+no_scale versions.V3 _ = refl
 
 -- the leaf of a type that holds this was written
 abbrev PutWith : LeafType → Content → List ℕ → List ℕ → Place → Type 0
 PutWith t c old new p = (l : Leaf) × (leaf_with t c ≡ Some l) × Put old (leaf l) new p
 
-pub leaf_encoded : (t : LeafType) (c : Content) (code : ℕ) (bytes rest old new : List ℕ) (p : Place) → store_code t ≡ code → form_of c ≡ form t → Begins (λ b. ContentBody plain b c) bytes rest → PutWith t c old new p → EncodedPut (code ∷ bytes) rest old new p
-leaf_encoded t c code bytes rest old new p is formed begins w =
+pub leaf_encoded : (version : WriteVersion) (t : LeafType) (c : Content) (code : ℕ) (bytes rest old new : List ℕ) (p : Place) → store_code t ≡ code → form_of c ≡ form t → Begins (λ b. ContentBody plain b c) bytes rest → PutWith t c old new p → EncodedPut (written_version version) (code ∷ bytes) rest old new p
+leaf_encoded version t c code bytes rest old new p is formed begins w =
     let l = w.0 in
+    let v = written_version version in
     let m = making t c formed in
     let same : l ≡ m.made = same_Some l m.made (sym w.1 ∙ m.is) in
     let typed : type_of l ≡ t = ap type_of same ∙ m.typed in
     let holds : content l ≡ c = ap content same ∙ m.holds in
-    let body : Begins (λ b. LeafBody V2 b l) bytes rest = subst (λ s. Begins (λ b. ContentBody s b (content l)) bytes rest) (sym (no_scale (type_of l))) (subst (λ k. Begins (λ b. ContentBody plain b k) bytes rest) (sym holds) begins) in
+    let body : Begins (λ b. LeafBody v b l) bytes rest = subst (λ s. Begins (λ b. ContentBody s b (content l)) bytes rest) (sym (no_scale version (type_of l))) (subst (λ k. Begins (λ b. ContentBody plain b k) bytes rest) (sym holds) begins) in
     record {
       tree = leaf l;
-      encoded = subst (λ z. Begins (λ b. Encodes NoLegacy V2 b (leaf l)) (z ∷ bytes) rest) (ap store_code typed ∙ is) (begins_behind (leaf_code l) bytes rest body);
+      encoded = subst (λ z. Begins (λ b. Encodes NoLegacy v b (leaf l)) (z ∷ bytes) rest) (ap store_code typed ∙ is) (begins_behind (leaf_code l) bytes rest body);
       put = w.2;
     }
 
-pub encoded_grows : (whole rest old new : List ℕ) (p : Place) → EncodedPut whole rest old new p → IsPrefix old new
-encoded_grows whole rest old new p s = put_grows old s.tree new p s.put
+pub encoded_grows : (v : Version) (whole rest old new : List ℕ) (p : Place) → EncodedPut v whole rest old new p → IsPrefix old new
+encoded_grows v whole rest old new p s = put_grows old s.tree new p s.put
 
 -- ---- arrays
 
-abbrev pub Item : List ℕ → Tree → Type 0
-Item b t = Encodes NoLegacy V2 b t
+abbrev pub Item : Version → List ℕ → Tree → Type 0
+Item v b t = Encodes NoLegacy v b t
 
-items_encode : (ts : List Tree) (b : List ℕ) → Each Item b ts → EncodesElements NoLegacy V2 b (elements ts)
-items_encode [] b p = p
-items_encode (t ∷ ts) b p = record { prefix = p.prefix; rest = p.rest; joined = p.joined; first = p.first; second = items_encode ts p.rest p.second }
+items_encode : (v : Version) (ts : List Tree) (b : List ℕ) → Each (Item v) b ts → EncodesElements NoLegacy v b (elements ts)
+items_encode v [] b p = p
+items_encode v (t ∷ ts) b p = record { prefix = p.prefix; rest = p.rest; joined = p.joined; first = p.first; second = items_encode v ts p.rest p.second }
 
 elements_heap_more : (heap : List ℕ) (ts : List Tree) (t : Tree) → elements_heap heap (elements (ts ++ t ∷ [])) ≡ tree_heap (elements_heap heap (elements ts)) t
 elements_heap_more heap [] t = refl
@@ -100,39 +109,39 @@ elements_places_more heap (u ∷ ts) t =
     ap (λ z. first ++ z) (elements_places_more (tree_heap heap u) ts t) ∙ sym (append_assoc first (elements_places (tree_heap heap u) (elements ts)) (place_bytes (tree_place (elements_heap (tree_heap heap u) (elements ts)) t)))
 
 -- So many elements of those that are announced were read behind their number, and written.
-pub record ItemsPut (announced count : ℕ) (bytes rest old heap list : List ℕ) : Type 0 where
+pub record ItemsPut (v : Version) (announced count : ℕ) (bytes rest old heap list : List ℕ) : Type 0 where
   pub behind : List ℕ
   pub number : Begins (λ b. VNum b announced) bytes behind
   pub done : List Tree
   pub counted : length done ≡ count
-  pub encoded : Begins (λ b. Each Item b done) behind rest
+  pub encoded : Begins (λ b. Each (Item v) b done) behind rest
   pub children : Children old heap list done
   pub heap_is : elements_heap old (elements done) ≡ heap
   pub places_are : elements_places old (elements done) ≡ list
 
-pub no_items : (announced : ℕ) (bytes behind heap : List ℕ) → length heap ≤ 4294967295 → Begins (λ b. VNum b announced) bytes behind → ItemsPut announced 0 bytes behind heap heap []
-no_items announced bytes behind heap fits number = record { behind = behind; number = number; done = []; counted = refl; encoded = begins_nothing behind refl; children = no_children heap fits; heap_is = refl; places_are = refl }
+pub no_items : (v : Version) (announced : ℕ) (bytes behind heap : List ℕ) → length heap ≤ 4294967295 → Begins (λ b. VNum b announced) bytes behind → ItemsPut v announced 0 bytes behind heap heap []
+no_items v announced bytes behind heap fits number = record { behind = behind; number = number; done = []; counted = refl; encoded = begins_nothing behind refl; children = no_children heap fits; heap_is = refl; places_are = refl }
 
-pub one_item : (announced n : ℕ) (bytes rest after old heap list new : List ℕ) (p : Place) → ItemsPut announced n bytes rest old heap list → EncodedPut rest after heap new p → ItemsPut announced (n + 1) bytes after old new (list ++ place_bytes p)
-one_item announced n bytes rest after old heap list new p s w =
+pub one_item : (v : Version) (announced n : ℕ) (bytes rest after old heap list new : List ℕ) (p : Place) → ItemsPut v announced n bytes rest old heap list → EncodedPut v rest after heap new p → ItemsPut v announced (n + 1) bytes after old new (list ++ place_bytes p)
+one_item v announced n bytes rest after old heap list new p s w =
     let t = w.tree in
     record {
       behind = s.behind;
       number = s.number;
       done = s.done ++ t ∷ [];
       counted = omega (arith, s.counted, length-append s.done (t ∷ []));
-      encoded = begins_item Item s.done t s.behind rest after s.encoded w.encoded;
+      encoded = begins_item (Item v) s.done t s.behind rest after s.encoded w.encoded;
       children = children_push old heap list new s.done t p s.children w.put;
       heap_is = elements_heap_more old s.done t ∙ ap (λ z. tree_heap z t) s.heap_is ∙ sym w.put.heap;
       places_are = elements_places_more old s.done t ∙ (λ i. s.places_are i ++ place_bytes (tree_place (s.heap_is i) t)) ∙ ap (λ q. list ++ place_bytes q) (sym w.put.place);
     }
 
-pub array_encoded : (announced n : ℕ) (bytes rest old heap list new own : List ℕ) (p : Place) → announced ≡ n → ItemsPut announced n bytes rest old heap list → own ≡ list → ListPut heap Array own new p → EncodedPut (12 ∷ bytes) rest old new p
-array_encoded announced n bytes rest old heap list new own p all_read s is written =
+pub array_encoded : (v : Version) (announced n : ℕ) (bytes rest old heap list new own : List ℕ) (p : Place) → announced ≡ n → ItemsPut v announced n bytes rest old heap list → own ≡ list → ListPut heap Array own new p → EncodedPut v (12 ∷ bytes) rest old new p
+array_encoded v announced n bytes rest old heap list new own p all_read s is written =
     let w = subst (λ z. ListPut heap Array z new p) is written in
-    let many : announced ≡ element_count (elements s.done) = all_read ∙ sym s.counted ∙ sym (elements_counted NoLegacy V2 s.done) in
+    let many : announced ≡ element_count (elements s.done) = all_read ∙ sym s.counted ∙ sym (elements_counted NoLegacy v s.done) in
     let all : ArrayPut old heap list [] s.done = record { done = s.done; whole = append-nil s.done; children = s.children; heap_is = s.heap_is; places_are = s.places_are ∙ sym (append-nil list); smaller = omega arith } in
-    let items : Begins (λ b. EncodesElements NoLegacy V2 b (elements s.done)) s.behind rest = record { prefix = s.encoded.prefix; joined = s.encoded.joined; encoded = items_encode s.done s.encoded.prefix s.encoded.encoded } in
+    let items : Begins (λ b. EncodesElements NoLegacy v b (elements s.done)) s.behind rest = record { prefix = s.encoded.prefix; joined = s.encoded.joined; encoded = items_encode v s.done s.encoded.prefix s.encoded.encoded } in
     record {
       tree = array (elements s.done);
       encoded = begins_behind 12 bytes rest (begins_then bytes s.behind rest (subst (λ m. Begins (λ b. VNum b m) bytes s.behind) many s.number) items);
@@ -141,19 +150,19 @@ array_encoded announced n bytes rest old heap list new own p all_read s is writt
 
 -- ---- objects
 
-abbrev pub Member : List ℕ → List ℕ × Tree → Type 0
-Member b e = Then (λ k. Key V2 k e.0) (λ s. Encodes NoLegacy V2 s e.1) b
+abbrev pub Member : Version → List ℕ → List ℕ × Tree → Type 0
+Member v b e = Then (λ k. Key v k e.0) (λ s. Encodes NoLegacy v s e.1) b
 
-members_encode : (es : List (List ℕ × Tree)) (b : List ℕ) → Each Member b es → EncodesEntries NoLegacy V2 b (entries es)
-members_encode [] b p = p
-members_encode (e ∷ es) b p =
+members_encode : (v : Version) (es : List (List ℕ × Tree)) (b : List ℕ) → Each (Member v) b es → EncodesEntries NoLegacy v b (entries es)
+members_encode v [] b p = p
+members_encode v (e ∷ es) b p =
     let m = p.first in
     record {
       prefix = m.prefix;
       rest = m.rest ++ p.rest;
       joined = p.joined ∙ ap (λ z. z ++ p.rest) m.joined ∙ append_assoc m.prefix m.rest p.rest;
       first = m.first;
-      second = record { prefix = m.rest; rest = p.rest; joined = refl; first = m.second; second = members_encode es p.rest p.second };
+      second = record { prefix = m.rest; rest = p.rest; joined = refl; first = m.second; second = members_encode v es p.rest p.second };
     }
 
 entries_heap_more : (heap : List ℕ) (es : List (List ℕ × Tree)) (k : List ℕ) (t : Tree) → entries_heap heap (entries (es ++ (k, t) ∷ [])) ≡ tree_heap (entries_heap heap (entries es) ++ short_sized k) t
@@ -174,25 +183,25 @@ entries_places_more heap (e ∷ es) k t =
     let last = entry_places (entries_heap next (entries es)) k t in
     ap (λ z. name ++ (first ++ z)) (entries_places_more next es k t) ∙ ap (λ z. name ++ z) (sym (append_assoc first others last)) ∙ sym (append_assoc name (first ++ others) last)
 
--- So many entries of those that are announced, twice over, were read behind their number, and written.
-pub record MembersPut (total count : ℕ) (bytes rest old heap list : List ℕ) : Type 0 where
+-- So many entries of those that are announced were read behind their number, and written.
+pub record MembersPut (v : Version) (announced count : ℕ) (bytes rest old heap list : List ℕ) : Type 0 where
   pub behind : List ℕ
-  pub number : Begins (λ b. VNum b total) bytes behind
+  pub number : Begins (λ b. VNum b (entry_total v announced)) bytes behind
   pub done : List (List ℕ × Tree)
   pub counted : length done ≡ count
-  pub encoded : Begins (λ b. Each Member b done) behind rest
+  pub encoded : Begins (λ b. Each (Member v) b done) behind rest
   pub children : Children old heap list (flat done)
   pub heap_is : entries_heap old (entries done) ≡ heap
   pub places_are : entries_places old (entries done) ≡ list
 
-pub no_members : (total : ℕ) (bytes behind heap : List ℕ) → length heap ≤ 4294967295 → Begins (λ b. VNum b total) bytes behind → MembersPut total 0 bytes behind heap heap []
-no_members total bytes behind heap fits number = record { behind = behind; number = number; done = []; counted = refl; encoded = begins_nothing behind refl; children = no_children heap fits; heap_is = refl; places_are = refl }
+pub no_members : (v : Version) (announced : ℕ) (bytes behind heap : List ℕ) → length heap ≤ 4294967295 → Begins (λ b. VNum b (entry_total v announced)) bytes behind → MembersPut v announced 0 bytes behind heap heap []
+no_members v announced bytes behind heap fits number = record { behind = behind; number = number; done = []; counted = refl; encoded = begins_nothing behind refl; children = no_children heap fits; heap_is = refl; places_are = refl }
 
-pub one_member : (total n : ℕ) (bytes rest between after old heap list mid new k : List ℕ) (q p : Place) → MembersPut total n bytes rest old heap list → Begins (λ b. Key V2 b k) rest between → Put heap (leaf (text k)) mid q
-    → EncodedPut between after mid new p → MembersPut total (n + 1) bytes after old new ((list ++ place_bytes q) ++ place_bytes p)
-one_member total n bytes rest between after old heap list mid new k q p s key v w =
+pub one_member : (v : Version) (announced n : ℕ) (bytes rest between after old heap list mid new k : List ℕ) (q p : Place) → MembersPut v announced n bytes rest old heap list → Begins (λ b. Key v b k) rest between → Put heap (leaf (text k)) mid q
+    → EncodedPut v between after mid new p → MembersPut v announced (n + 1) bytes after old new ((list ++ place_bytes q) ++ place_bytes p)
+one_member v announced n bytes rest between after old heap list mid new k q p s key named w =
     let t = w.tree in
-    let keyed = children_push old heap list mid (flat s.done) (leaf (text k)) q s.children v in
+    let keyed = children_push old heap list mid (flat s.done) (leaf (text k)) q s.children named in
     let both = children_push old mid (list ++ place_bytes q) new (flat s.done ++ leaf (text k) ∷ []) t p keyed w.put in
     let same_done : (flat s.done ++ leaf (text k) ∷ []) ++ t ∷ [] ≡ flat (s.done ++ (k, t) ∷ []) = append_assoc (flat s.done) (leaf (text k) ∷ []) (t ∷ []) ∙ sym (flat_append s.done ((k, t) ∷ [])) in
     record {
@@ -200,19 +209,19 @@ one_member total n bytes rest between after old heap list mid new k q p s key v 
       number = s.number;
       done = s.done ++ (k, t) ∷ [];
       counted = omega (arith, s.counted, length-append s.done ((k, t) ∷ []));
-      encoded = begins_item Member s.done (k, t) s.behind rest after s.encoded (begins_then rest between after key w.encoded);
+      encoded = begins_item (Member v) s.done (k, t) s.behind rest after s.encoded (begins_then rest between after key w.encoded);
       children = subst (Children old new ((list ++ place_bytes q) ++ place_bytes p)) same_done both;
-      heap_is = entries_heap_more old s.done k t ∙ ap (λ z. tree_heap (z ++ short_sized k) t) s.heap_is ∙ ap (λ z. tree_heap z t) (sym v.heap) ∙ sym w.put.heap;
-      places_are = entries_places_more old s.done k t ∙ (λ i. s.places_are i ++ entry_places (s.heap_is i) k t) ∙ (λ i. list ++ (place_bytes (sym v.place i) ++ place_bytes (tree_place (sym v.heap i) t))) ∙
+      heap_is = entries_heap_more old s.done k t ∙ ap (λ z. tree_heap (z ++ short_sized k) t) s.heap_is ∙ ap (λ z. tree_heap z t) (sym named.heap) ∙ sym w.put.heap;
+      places_are = entries_places_more old s.done k t ∙ (λ i. s.places_are i ++ entry_places (s.heap_is i) k t) ∙ (λ i. list ++ (place_bytes (sym named.place i) ++ place_bytes (tree_place (sym named.heap i) t))) ∙
           ap (λ z. list ++ (place_bytes q ++ place_bytes z)) (sym w.put.place) ∙ sym (append_assoc list (place_bytes q) (place_bytes p));
     }
 
-pub object_encoded : (total n : ℕ) (bytes rest old heap list new own : List ℕ) (p : Place) → total ≡ 2 * n → MembersPut total n bytes rest old heap list → own ≡ list → ListPut heap Object own new p → EncodedPut (13 ∷ bytes) rest old new p
-object_encoded total n bytes rest old heap list new own p twice s is written =
+pub object_encoded : (v : Version) (announced n : ℕ) (bytes rest old heap list new own : List ℕ) (p : Place) → announced ≡ n → MembersPut v announced n bytes rest old heap list → own ≡ list → ListPut heap Object own new p → EncodedPut v (13 ∷ bytes) rest old new p
+object_encoded v announced n bytes rest old heap list new own p all_read s is written =
     let w = subst (λ z. ListPut heap Object z new p) is written in
-    let many : total ≡ 2 * entry_count (entries s.done) = twice ∙ ap (λ z. 2 * z) (sym s.counted ∙ sym (entries_counted NoLegacy V2 s.done)) in
+    let many : entry_total v announced ≡ entry_total v (entry_count (entries s.done)) = ap (entry_total v) (all_read ∙ sym s.counted ∙ sym (entries_counted NoLegacy v s.done)) in
     let all : ObjectPut old heap list [] s.done = record { done = s.done; whole = append-nil s.done; children = s.children; heap_is = s.heap_is; places_are = s.places_are ∙ sym (append-nil list); smaller = omega arith } in
-    let members : Begins (λ b. EncodesEntries NoLegacy V2 b (entries s.done)) s.behind rest = record { prefix = s.encoded.prefix; joined = s.encoded.joined; encoded = members_encode s.done s.encoded.prefix s.encoded.encoded } in
+    let members : Begins (λ b. EncodesEntries NoLegacy v b (entries s.done)) s.behind rest = record { prefix = s.encoded.prefix; joined = s.encoded.joined; encoded = members_encode v s.done s.encoded.prefix s.encoded.encoded } in
     let own_bytes = begins_behind 13 bytes rest (begins_then bytes s.behind rest (subst (λ m. Begins (λ b. VNum b m) bytes s.behind) many s.number) members) in
     record {
       tree = object (entries s.done);

@@ -3,11 +3,11 @@ use Rattle.std.specs.Prelude.{ℕ, List}
 use Rattle.tv_base.specs.Parts.{Begins}
 use Rattle.tv_value.specs.Encoding.{Encodes, NoLegacy}
 use Rattle.tv_value.specs.Tree.{Tree}
-use Rattle.tv_value.specs.Version.{V2}
+use Rattle.tv_value.specs.Version.{Version}
 use Rattle.tv_builder.specs.Whole.{Put}
 use Rattle.tv_builder.specs.declared.place.Place.{Place}
 
-pub record EncodedPut (whole rest old new : List ℕ) (p : Place) : Type 0 where
+pub record EncodedPut (v : Version) (whole rest old new : List ℕ) (p : Place) : Type 0 where
   pub tree : Tree
-  pub encoded : Begins (λ b. Encodes NoLegacy V2 b tree) whole rest
+  pub encoded : Begins (λ b. Encodes NoLegacy v b tree) whole rest
   pub put : Put old tree new p

@@ -1,8 +1,8 @@
 //! Values that stand encoded in bytes, written behind a heap.
 
 ghost use Rattle.std.specs.Prelude.{◌≡◌, ◌≤◌, ◌∷◌, length, IfSome, Some};
-ghost use Rattle.tv_base.specs.Number.{Fixed, Signed, Truth};
-ghost use Rattle.tv_base.specs.Parts.{Begins, Behind, Sized};
+ghost use Rattle.tv_base.specs.Number.{VNum, Fixed, Signed, Truth};
+ghost use Rattle.tv_base.specs.Parts.{Begins, Behind, Sized, Text};
 ghost use Rattle.tv_base.specs.Sink.{IsPrefix};
 ghost use Rattle.tv_builder.specs.EncodedPut.{EncodedPut};
 ghost use Rattle.tv_builder.specs.Whole.{Put};
@@ -11,7 +11,9 @@ ghost use Rattle.tv_value.specs.Leaves.{leaf_with};
 ghost use Rattle.tv_value.specs.PreTokenized.{text_of, tokens_of};
 ghost use Rattle.tv_value.specs.Encoding.{Key, Tokenized};
 ghost use Rattle.tv_value.specs.Tree.{Leaf, leaf as leaf_tree};
-ghost use Rattle.tv_value.specs.Version.{V2};
+ghost use Rattle.tv_value.specs.Version.{entry_total};
+ghost use Rattle.tv_value.specs.WriteVersion.{written_version};
+ghost use Rattle.tv_value.specs.declared.version.WriteVersion.{WriteVersion};
 
 use crate::frame::ListKind;
 use crate::place::Place;
@@ -22,6 +24,7 @@ use tv_value::in_place::{number_at, text_at};
 use tv_value::leaf::{LeafType, ReferenceValueLeaf};
 use tv_value::pre_tokenized::PreTokenizedStr;
 use tv_value::type_codes::{ARRAY_CODE, OBJECT_CODE, TEXT_CODE, TOK_STR_EXT_CODE};
+use tv_value::version::WriteVersion;
 
 // The bytes behind their length at the start.
 fn sized_at(bytes: &[u8]) -> Option<(&[u8], &[u8])>
@@ -88,10 +91,11 @@ fn tokenized_at(bytes: &[u8]) -> Option<(PreTokenizedStr<'_>, &[u8])>
     Some((content, &payload[len..]))
 }
 
-// The key at the start.
+// The text at the start, behind its code.
 #[inline(always)]
-fn key_at(bytes: &[u8]) -> Option<(&str, &[u8])>
-    ensures { IfSome result (λ x. Begins (λ b. Key V2 b x.0.now) bytes.now x.1.now) }
+fn coded_text_at(bytes: &[u8]) -> Option<(&str, &[u8])>
+    ensures { IfSome result
+        (λ x. Begins (Behind 0 (λ b. Text b x.0.now)) bytes.now x.1.now) }
 {
     let (code, behind_code) = bytes.split_first()?;
     if *code != TEXT_CODE {
@@ -99,6 +103,37 @@ fn key_at(bytes: &[u8]) -> Option<(&str, &[u8])>
     }
     let (key, rest) = text_at(behind_code)?;
     Some((key, rest))
+}
+
+// The key at the start.
+#[inline(always)]
+fn key_at(bytes: &[u8], version: WriteVersion) -> Option<(&str, &[u8])>
+    ensures { IfSome result
+        (λ x. Begins (λ b. Key (written_version version) b x.0.now) bytes.now x.1.now) }
+{
+    match version {
+        WriteVersion::V2 => coded_text_at(bytes),
+        WriteVersion::V3 => text_at(bytes),
+    }
+}
+
+// The number of an object's entries at the start.
+#[inline(always)]
+fn entry_count_at(bytes: &[u8], version: WriteVersion) -> Option<(u64, &[u8])>
+    ensures { IfSome result
+        (λ x. Begins (λ b. VNum b (entry_total (written_version version) x.0)) bytes.now
+        x.1.now) }
+{
+    let (number, rest) = number_at(bytes)?;
+    match version {
+        WriteVersion::V2 => {
+            if number % 2 != 0 {
+                return None;
+            }
+            Some((number / 2, rest))
+        }
+        WriteVersion::V3 => Some((number, rest)),
+    }
 }
 
 // Writes the value of this type that holds this.
@@ -114,12 +149,13 @@ fn put_content(heap: &mut Vec<u8>, leaf_type: LeafType, content: LeafContent<'_>
     put(heap, &value)
 }
 
-// Writes the value without children that stands behind this code.
+// Writes the value without children that stands behind this code. It is encoded alike in all versions that are written.
 #[inline(always)]
 fn put_encoded_leaf<'a>(code: u8, bytes: &'a [u8], heap: &mut Vec<u8>) -> Option<(&'a [u8], Place)>
     requires { length heap.old.items ≤ 4294967295 }
     ensures found { IfSome result
-        (λ x. EncodedPut (code ∷ bytes.now) x.0.now heap.old.items heap.new.items x.1) }
+        (λ x. (version : WriteVersion) → EncodedPut (written_version version) (code ∷ bytes.now)
+        x.0.now heap.old.items heap.new.items x.1) }
     ensures prefix { IsPrefix heap.old.items heap.new.items }
 {
     let leaf_type = LeafType::from_store_code(code)?;
@@ -166,7 +202,7 @@ fn put_encoded_leaf<'a>(code: u8, bytes: &'a [u8], heap: &mut Vec<u8>) -> Option
     }
 }
 
-/// Writes the value that these bytes begin with, as version 2 of the store encodes it, behind a heap: what the calls for its parts would
+/// Writes the value that these bytes begin with, as this version of the store encodes it, behind a heap: what the calls for its parts would
 /// write. Gives the bytes behind it, and its place. (Not in tantivy.)
 ///
 /// `None` where they begin with no value, or with an object as older stores hold it; where lists are nested deeper than so many levels; where
@@ -176,20 +212,22 @@ fn put_encoded_leaf<'a>(code: u8, bytes: &'a [u8], heap: &mut Vec<u8>) -> Option
 #[cycle(encoded)]
 pub fn put_encoded<'a>(
     bytes: &'a [u8],
+    version: WriteVersion,
     levels: u32,
     heap: &mut Vec<u8>,
     places: &mut Vec<u8>,
 ) -> Option<(&'a [u8], Place)>
     requires { length heap.old.items ≤ 4294967295 }
     ensures found { IfSome result
-        (λ x. EncodedPut bytes.now x.0.now heap.old.items heap.new.items x.1) }
+        (λ x. EncodedPut (written_version version) bytes.now x.0.now heap.old.items heap.new.items
+        x.1) }
     ensures places { IfSome result (λ x. places.new.items ≡ places.old.items) }
     ensures prefix { IsPrefix heap.old.items heap.new.items }
 {
     let (code, behind) = bytes.split_first()?;
     match *code {
-        ARRAY_CODE => put_encoded_array(behind, levels, heap, places),
-        OBJECT_CODE => put_encoded_object(behind, levels, heap, places),
+        ARRAY_CODE => put_encoded_array(behind, version, levels, heap, places),
+        OBJECT_CODE => put_encoded_object(behind, version, levels, heap, places),
         code => put_encoded_leaf(code, behind, heap),
     }
 }
@@ -199,13 +237,15 @@ pub fn put_encoded<'a>(
 #[cycle(encoded)]
 fn put_encoded_array<'a>(
     bytes: &'a [u8],
+    version: WriteVersion,
     levels: u32,
     heap: &mut Vec<u8>,
     places: &mut Vec<u8>,
 ) -> Option<(&'a [u8], Place)>
     requires { length heap.old.items ≤ 4294967295 }
     ensures found { IfSome result
-        (λ x. EncodedPut (12 ∷ bytes.now) x.0.now heap.old.items heap.new.items x.1) }
+        (λ x. EncodedPut (written_version version) (12 ∷ bytes.now) x.0.now heap.old.items
+        heap.new.items x.1) }
     ensures places { IfSome result (λ x. places.new.items ≡ places.old.items) }
     ensures prefix { IsPrefix heap.old.items heap.new.items }
 {
@@ -216,7 +256,7 @@ fn put_encoded_array<'a>(
     let first = places.len();
     let mut rest = behind;
     for _i in 0..announced {
-        let (after, place) = put_encoded(rest, levels - 1, heap, places)?;
+        let (after, place) = put_encoded(rest, version, levels - 1, heap, places)?;
         let Ok(()) = push_place(places, place.value_type, place.address) else {
             return None;
         };
@@ -233,32 +273,31 @@ fn put_encoded_array<'a>(
 #[cycle(encoded)]
 fn put_encoded_object<'a>(
     bytes: &'a [u8],
+    version: WriteVersion,
     levels: u32,
     heap: &mut Vec<u8>,
     places: &mut Vec<u8>,
 ) -> Option<(&'a [u8], Place)>
     requires { length heap.old.items ≤ 4294967295 }
     ensures found { IfSome result
-        (λ x. EncodedPut (13 ∷ bytes.now) x.0.now heap.old.items heap.new.items x.1) }
+        (λ x. EncodedPut (written_version version) (13 ∷ bytes.now) x.0.now heap.old.items
+        heap.new.items x.1) }
     ensures places { IfSome result (λ x. places.new.items ≡ places.old.items) }
     ensures prefix { IsPrefix heap.old.items heap.new.items }
 {
     if levels == 0 {
         return None;
     }
-    let (total, behind) = number_at(bytes)?;
-    if total % 2 != 0 {
-        return None;
-    }
+    let (announced, behind) = entry_count_at(bytes, version)?;
     let first = places.len();
     let mut rest = behind;
-    for _i in 0..total / 2 {
-        let (key, behind_key) = key_at(rest)?;
+    for _i in 0..announced {
+        let (key, behind_key) = key_at(rest, version)?;
         let name = put(heap, &ReferenceValueLeaf::Str(key))?;
         let Ok(()) = push_place(places, name.value_type, name.address) else {
             return None;
         };
-        let (after, place) = put_encoded(behind_key, levels - 1, heap, places)?;
+        let (after, place) = put_encoded(behind_key, version, levels - 1, heap, places)?;
         let Ok(()) = push_place(places, place.value_type, place.address) else {
             return None;
         };

@@ -6,7 +6,7 @@ use Rattle.tv_base.specs.Source.{AllBytes, Failures}
 use Rattle.tv_base.specs.Take as reads
 use Rattle.tv_base.proofs.Agrees.{same_start}
 use Rattle.tv_legacy.specs.Legacy.{Legacy}
-use Rattle.tv_value.specs.InputError.{Refusal, corrupted, no_text_key, no_extension, other_extension, in_tokenized, ErrorInBody, ErrorInCodedKey, key_ends, key_unknown, key_float, key_other, key_no_extension, key_tokenized, key_other_extension, value_ends, unknown_code, float_code, in_leaf, in_legacy, in_count, in_element, in_entry_count, odd_count, in_entry_key, in_entry, in_key}
+use Rattle.tv_value.specs.InputError.{Refusal, corrupted, no_text_key, no_extension, other_extension, in_tokenized, ErrorInBody, ErrorInCodedKey, key_ends, key_unknown, key_float, key_other, key_no_extension, key_tokenized, key_other_extension, value_ends, unknown_code, float_code, in_leaf, in_legacy, in_count, in_element, in_entry_count, odd_count, in_entry_key, in_entry}
 use Rattle.tv_value.specs.Leaves.{store_code}
 use Rattle.tv_value.specs.Encoding.{Encodes}
 use Rattle.tv_value.specs.Tree.{Tree}
@@ -119,13 +119,3 @@ value_ended e (in_entry_count h) = absurd (no_cons e)
 value_ended e (odd_count n count rest joined number none) = absurd (no_cons e)
 value_ended e (in_entry_key n es count prefix rest joined number encoded fewer h) = absurd (no_cons e)
 value_ended e (in_entry n es k count prefix key rest joined number encoded fewer keyed h) = absurd (no_cons e)
-
-pub key_ended : {w : List ℕ} {r : Refusal} → w ≡ [] → ErrorInCodedKey w r → r ≡ end
-key_ended e key_ends = refl
-key_ended e (key_unknown h) = absurd (no_cons e)
-key_ended e key_float = absurd (no_cons e)
-key_ended e (key_other a b c d) = absurd (no_cons e)
-key_ended e key_no_extension = absurd (no_cons e)
-key_ended e key_tokenized = absurd (no_cons e)
-key_ended e (key_other_extension h) = absurd (no_cons e)
-key_ended e (in_key h) = absurd (no_cons e)

@@ -2,6 +2,7 @@ use Rattle.std.proofs.Common.{◌≡◌, ◌++◌, [], ◌∷◌, length, take, 
 use Rattle.std.specs.Prelude.{IfSome}
 use Rattle.std.proofs.Math.Seq.{take-append_seam}
 use Rattle.tv_heap.proofs.Lists.{place_added}
+use Rattle.tv_value.specs.WriteVersion.{written_version}
 use Rattle.tv_builder.specs.Given.{place_bytes}
 use Rattle.tv_builder.specs.EncodedPut.{EncodedPut}
 use Rattle.tv_builder.proofs.Giving.{prefix_then}
@@ -15,18 +16,18 @@ pub put_encoded-returns-in-12-clause-found : goal.put_encoded-returns-in-12-clau
 put_encoded-returns-in-12-clause-found t c =
     let behind = c.in_ok-code.behind.now in
     let e : c.args.bytes.now ≡ 12 ∷ behind = c.in_ok-code.ensures.cases.0 ∙ ap (λ z. z ∷ behind) c.in-12.is in
-    subst (λ z. IfSome c.put_encoded_array.result (λ x. EncodedPut z x.0.now c.args.heap.now.items c.put_encoded_array.new.heap.items x.1)) (sym e) c.put_encoded_array.ensures.found
+    subst (λ z. IfSome c.put_encoded_array.result (λ x. EncodedPut (written_version c.args.version) z x.0.now c.args.heap.now.items c.put_encoded_array.new.heap.items x.1)) (sym e) c.put_encoded_array.ensures.found
 
 pub put_encoded-returns-in-13-clause-found : goal.put_encoded-returns-in-13-clause-found
 put_encoded-returns-in-13-clause-found t c =
     let behind = c.in_ok-code.behind.now in
     let e : c.args.bytes.now ≡ 13 ∷ behind = c.in_ok-code.ensures.cases.0 ∙ ap (λ z. z ∷ behind) c.in-13.is in
-    subst (λ z. IfSome c.put_encoded_object.result (λ x. EncodedPut z x.0.now c.args.heap.now.items c.put_encoded_object.new.heap.items x.1)) (sym e) c.put_encoded_object.ensures.found
+    subst (λ z. IfSome c.put_encoded_object.result (λ x. EncodedPut (written_version c.args.version) z x.0.now c.args.heap.now.items c.put_encoded_object.new.heap.items x.1)) (sym e) c.put_encoded_object.ensures.found
 
 -- ---- arrays
 
 pub put_encoded_array-loop-i-init : goal.put_encoded_array-loop-i-init
-put_encoded_array-loop-i-init t c = ([], sym (append-nil c.args.places.now.items), no_items c.in_ok-announced.announced c.args.bytes.now c.in_ok-announced.behind.now c.args.heap.now.items c.requires c.in_ok-announced.ensures.found)
+put_encoded_array-loop-i-init t c = ([], sym (append-nil c.args.places.now.items), no_items (written_version c.args.version) c.in_ok-announced.announced c.args.bytes.now c.in_ok-announced.behind.now c.args.heap.now.items c.requires c.in_ok-announced.ensures.found)
 
 pub put_encoded_array-put_encoded-requires : goal.put_encoded_array-put_encoded-requires
 put_encoded_array-put_encoded-requires t c = (omega (arith, c.decreases, c.if-levels-eq0.false), c.loop-i.invariant.2.children.fits)
@@ -44,7 +45,7 @@ put_encoded_array-loop-i-preserved t c =
     let x = c.in_ok-after in (
       list ++ place_bytes x.place,
       place_added c.args.places.now.items l.places.items list _ _ (place_bytes x.place) l.invariant.1 x.ensures.places c.in-Ok.ensures,
-      one_item c.in_ok-announced.announced l._i c.args.bytes.now l.rest.now x.after.now c.args.heap.now.items l.heap.items list c.put_encoded.new.heap.items x.place l.invariant.2 x.ensures.found,
+      one_item (written_version c.args.version) c.in_ok-announced.announced l._i c.args.bytes.now l.rest.now x.after.now c.args.heap.now.items l.heap.items list c.put_encoded.new.heap.items x.place l.invariant.2 x.ensures.found,
     )
 
 pub put_encoded_array-put_list-requires-clause-fits : goal.put_encoded_array-put_list-requires-clause-fits
@@ -62,17 +63,17 @@ pub put_encoded_array-returns-clause-found : goal.put_encoded_array-returns-clau
 put_encoded_array-returns-clause-found t c =
     let l = c.loop-i in
     let own = own_places c.args.places.now.items l.places.items l.invariant.0 c.len-first.result l.invariant.1 (omega (arith, c.args.places.now.ok.0, c.len-first.ensures)) in
-    let found : EncodedPut (12 ∷ c.args.bytes.now) l.rest.now c.args.heap.now.items c.put_list.new.heap.items c.in-Ok-put_list.place =
-    array_encoded c.in_ok-announced.announced l._i c.args.bytes.now l.rest.now c.args.heap.now.items l.heap.items l.invariant.0 c.put_list.new.heap.items _ c.in-Ok-put_list.place (omega (arith, c.loop-i-test.false)) l.invariant.2 own c.in-Ok-put_list.ensures.ok in
+    let found : EncodedPut (written_version c.args.version) (12 ∷ c.args.bytes.now) l.rest.now c.args.heap.now.items c.put_list.new.heap.items c.in-Ok-put_list.place =
+    array_encoded (written_version c.args.version) c.in_ok-announced.announced l._i c.args.bytes.now l.rest.now c.args.heap.now.items l.heap.items l.invariant.0 c.put_list.new.heap.items _ c.in-Ok-put_list.place (omega (arith, c.loop-i-test.false)) l.invariant.2 own c.in-Ok-put_list.ensures.ok in
     found
 
 pub put_encoded_array-returns-clause-prefix : goal.put_encoded_array-returns-clause-prefix
 put_encoded_array-returns-clause-prefix t c =
     let l = c.loop-i in
     let own = own_places c.args.places.now.items l.places.items l.invariant.0 c.len-first.result l.invariant.1 (omega (arith, c.args.places.now.ok.0, c.len-first.ensures)) in
-    let found : EncodedPut (12 ∷ c.args.bytes.now) l.rest.now c.args.heap.now.items c.put_list.new.heap.items c.in-Ok-put_list.place =
-    array_encoded c.in_ok-announced.announced l._i c.args.bytes.now l.rest.now c.args.heap.now.items l.heap.items l.invariant.0 c.put_list.new.heap.items _ c.in-Ok-put_list.place (omega (arith, c.loop-i-test.false)) l.invariant.2 own c.in-Ok-put_list.ensures.ok in
-    encoded_grows (12 ∷ c.args.bytes.now) l.rest.now c.args.heap.now.items c.put_list.new.heap.items c.in-Ok-put_list.place found
+    let found : EncodedPut (written_version c.args.version) (12 ∷ c.args.bytes.now) l.rest.now c.args.heap.now.items c.put_list.new.heap.items c.in-Ok-put_list.place =
+    array_encoded (written_version c.args.version) c.in_ok-announced.announced l._i c.args.bytes.now l.rest.now c.args.heap.now.items l.heap.items l.invariant.0 c.put_list.new.heap.items _ c.in-Ok-put_list.place (omega (arith, c.loop-i-test.false)) l.invariant.2 own c.in-Ok-put_list.ensures.ok in
+    encoded_grows (written_version c.args.version) (12 ∷ c.args.bytes.now) l.rest.now c.args.heap.now.items c.put_list.new.heap.items c.in-Ok-put_list.place found
 
 pub put_encoded_array-returns-clause-places : goal.put_encoded_array-returns-clause-places
 put_encoded_array-returns-clause-places t c =
@@ -83,7 +84,7 @@ put_encoded_array-returns-clause-places t c =
 -- ---- objects
 
 pub put_encoded_object-loop-i-init : goal.put_encoded_object-loop-i-init
-put_encoded_object-loop-i-init t c = ([], sym (append-nil c.args.places.now.items), no_members c.in_ok-total.total c.args.bytes.now c.in_ok-total.behind.now c.args.heap.now.items c.requires c.in_ok-total.ensures.found)
+put_encoded_object-loop-i-init t c = ([], sym (append-nil c.args.places.now.items), no_members (written_version c.args.version) c.in_ok-announced.announced c.args.bytes.now c.in_ok-announced.behind.now c.args.heap.now.items c.requires c.in_ok-announced.ensures)
 
 pub put_encoded_object-put-requires : goal.put_encoded_object-put-requires
 put_encoded_object-put-requires t c = c.loop-i.invariant.2.children.fits
@@ -115,7 +116,7 @@ put_encoded_object-loop-i-preserved t c =
     let keyed = place_added c.args.places.now.items l.places.items list _ _ (place_bytes k.name) l.invariant.1 refl c.in-Ok.ensures in (
       (list ++ place_bytes k.name) ++ place_bytes x.place,
       place_added c.args.places.now.items _ (list ++ place_bytes k.name) _ _ (place_bytes x.place) keyed x.ensures.places c.in-Ok-push_place.ensures,
-      one_member c.in_ok-total.total l._i c.args.bytes.now l.rest.now c.in_ok-key.behind_key.now x.after.now c.args.heap.now.items l.heap.items list c.put.new.heap.items c.put_encoded.new.heap.items c.in_ok-key.key.now k.name x.place l.invariant.2 c.in_ok-key.ensures k.ensures.found x.ensures.found,
+      one_member (written_version c.args.version) c.in_ok-announced.announced l._i c.args.bytes.now l.rest.now c.in_ok-key.behind_key.now x.after.now c.args.heap.now.items l.heap.items list c.put.new.heap.items c.put_encoded.new.heap.items c.in_ok-key.key.now k.name x.place l.invariant.2 c.in_ok-key.ensures k.ensures.found x.ensures.found,
     )
 
 pub put_encoded_object-put_list-requires-clause-fits : goal.put_encoded_object-put_list-requires-clause-fits
@@ -133,17 +134,17 @@ pub put_encoded_object-returns-clause-found : goal.put_encoded_object-returns-cl
 put_encoded_object-returns-clause-found t c =
     let l = c.loop-i in
     let own = own_places c.args.places.now.items l.places.items l.invariant.0 c.len-first.result l.invariant.1 (omega (arith, c.args.places.now.ok.0, c.len-first.ensures)) in
-    let found : EncodedPut (13 ∷ c.args.bytes.now) l.rest.now c.args.heap.now.items c.put_list.new.heap.items c.in-Ok-put_list.place =
-    object_encoded c.in_ok-total.total l._i c.args.bytes.now l.rest.now c.args.heap.now.items l.heap.items l.invariant.0 c.put_list.new.heap.items _ c.in-Ok-put_list.place (omega (arith, c.loop-i-test.false, c.if-total-ne0.false)) l.invariant.2 own c.in-Ok-put_list.ensures.ok in
+    let found : EncodedPut (written_version c.args.version) (13 ∷ c.args.bytes.now) l.rest.now c.args.heap.now.items c.put_list.new.heap.items c.in-Ok-put_list.place =
+    object_encoded (written_version c.args.version) c.in_ok-announced.announced l._i c.args.bytes.now l.rest.now c.args.heap.now.items l.heap.items l.invariant.0 c.put_list.new.heap.items _ c.in-Ok-put_list.place (omega (arith, c.loop-i-test.false)) l.invariant.2 own c.in-Ok-put_list.ensures.ok in
     found
 
 pub put_encoded_object-returns-clause-prefix : goal.put_encoded_object-returns-clause-prefix
 put_encoded_object-returns-clause-prefix t c =
     let l = c.loop-i in
     let own = own_places c.args.places.now.items l.places.items l.invariant.0 c.len-first.result l.invariant.1 (omega (arith, c.args.places.now.ok.0, c.len-first.ensures)) in
-    let found : EncodedPut (13 ∷ c.args.bytes.now) l.rest.now c.args.heap.now.items c.put_list.new.heap.items c.in-Ok-put_list.place =
-    object_encoded c.in_ok-total.total l._i c.args.bytes.now l.rest.now c.args.heap.now.items l.heap.items l.invariant.0 c.put_list.new.heap.items _ c.in-Ok-put_list.place (omega (arith, c.loop-i-test.false, c.if-total-ne0.false)) l.invariant.2 own c.in-Ok-put_list.ensures.ok in
-    encoded_grows (13 ∷ c.args.bytes.now) l.rest.now c.args.heap.now.items c.put_list.new.heap.items c.in-Ok-put_list.place found
+    let found : EncodedPut (written_version c.args.version) (13 ∷ c.args.bytes.now) l.rest.now c.args.heap.now.items c.put_list.new.heap.items c.in-Ok-put_list.place =
+    object_encoded (written_version c.args.version) c.in_ok-announced.announced l._i c.args.bytes.now l.rest.now c.args.heap.now.items l.heap.items l.invariant.0 c.put_list.new.heap.items _ c.in-Ok-put_list.place (omega (arith, c.loop-i-test.false)) l.invariant.2 own c.in-Ok-put_list.ensures.ok in
+    encoded_grows (written_version c.args.version) (13 ∷ c.args.bytes.now) l.rest.now c.args.heap.now.items c.put_list.new.heap.items c.in-Ok-put_list.place found
 
 pub put_encoded_object-returns-clause-places : goal.put_encoded_object-returns-clause-places
 put_encoded_object-returns-clause-places t c =

@@ -1,4 +1,5 @@
 use Rattle.std.proofs.Common.{◌≡◌, ◌+◌, ◌*◌, ◌++◌, List, ℕ}
+use Rattle.tv_value.specs.WriteVersion.{written_version}
 use Rattle.tv_builder.proofs.Encoding.{ItemsPut, MembersPut}
 use Rattle.tv_builder.proofs.encoded.+encoded.Given as goal
 
@@ -16,9 +17,9 @@ decreases-put_encoded_object l = 2 * l.levels
 abbrev pub invariant-put_encoded_array-loop-i : goal.invariant-put_encoded_array-loop-i
 invariant-put_encoded_array-loop-i l =
     (list : List ℕ) × (l.places.items ≡ l.fn.places.items ++ list)
-    × ItemsPut l.announced l._i l.bytes l.rest l.fn.heap.items l.heap.items list
+    × ItemsPut (written_version l.version) l.announced l._i l.bytes l.rest l.fn.heap.items l.heap.items list
 
 abbrev pub invariant-put_encoded_object-loop-i : goal.invariant-put_encoded_object-loop-i
 invariant-put_encoded_object-loop-i l =
     (list : List ℕ) × (l.places.items ≡ l.fn.places.items ++ list)
-    × MembersPut l.total l._i l.bytes l.rest l.fn.heap.items l.heap.items list
+    × MembersPut (written_version l.version) l.announced l._i l.bytes l.rest l.fn.heap.items l.heap.items list

@@ -1,4 +1,4 @@
-use Rattle.std.proofs.Common.{arith, ◌≡◌, ◌-◌, ◌+◌, ◌++◌, ◌∷◌, [], map, ap, ◌∙◌, refl}
+use Rattle.std.proofs.Common.{arith, ◌-◌, ◌+◌, ◌++◌, ◌∷◌, [], refl}
 use Rattle.std.proofs.lemmas.Result.{err_from_is_err_and}
 use Rattle.tv_base.specs.Take.{read_stop}
 use Rattle.tv_base.specs.declared.read_error.ReadError.TheVariants.{Memory}
