@@ -131,6 +131,9 @@ pub use Rattle.tv_typed.specs.Values
 pub use Rattle.tv_typed.specs.Lists
 pub use Rattle.tv_typed.specs.LegacyObjects
 pub use Rattle.tv_typed.specs.Visits
+pub use Rattle.tv_typed.specs.Excluding
+pub use Rattle.tv_typed.specs.ExcludingLists
+pub use Rattle.tv_typed.specs.ExcludingLegacy
 pub use Rattle.tv_typed.specs.Documents as DocumentPairs
 -- the types of code that contracts speak of
 pub mod CodeTypes
