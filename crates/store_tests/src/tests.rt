@@ -1,5 +1,8 @@
-//! Values of great depth, the laws of calls in use, and a store of one's own.
+//! Values of great depth, the laws of calls in use, a store of one's own, and calls that fail.
 
 mod deep;
 mod embedded;
+mod failing_reads;
+mod failing_runs;
+mod failing_writes;
 mod laws;

@@ -26,6 +26,9 @@ pub use Rattle.tv_store.specs.declared.round_trip.RoundTripError
 pub use Rattle.tv_reader.specs.declared.value_type.ValueType
 pub use Rattle.tv_term.specs.declared.term_error.TermError
 pub use Rattle.tv_value.specs.declared.json_error.JsonError
+-- calls that fail, and those that are to fail
+pub use Rattle.tv_io.specs.declared.failures.CountedFailures
+pub use Rattle.tv_io.specs.declared.planned_failure.PlannedFailure
 -- what schemas are made of
 pub use Rattle.tv_options.specs.declared.facet_options.FacetOptions
 pub use Rattle.tv_options.specs.declared.flag_options.FlagOptions

@@ -8,6 +8,8 @@ pub use Rattle.tv_base.specs.Stop
 pub use Rattle.tv_base.specs.Take
 pub use Rattle.tv_base.specs.Append
 pub use Rattle.tv_base.specs.ReadsAs
+pub use Rattle.tv_io.specs.Calls
+pub use Rattle.tv_io.specs.Planned as PlannedFailures
 -- numbers, texts and paths
 pub use Rattle.tv_base.specs.Number
 pub use Rattle.tv_base.specs.Parts
