@@ -18,7 +18,7 @@ use Rattle.tv_reader.proofs.Finding.{finds_nothing}
 use Rattle.tv_value.specs.InputError.{corrupted}
 use Rattle.tv_value.specs.Encoding.{Encodes, EncodesElements, EncodesEntries, EncodesPair, NoLegacy}
 use Rattle.tv_value.specs.Tree.{Tree, leaf, array, object, Elements, no_elements, element, Entries, no_entries, entry, Document}
-use Rattle.tv_value.specs.Version.{Version, V2}
+use Rattle.tv_value.specs.Version.{Version}
 use Rattle.tv_doc.specs.Document.{document_of, heap_of, IsUnchanged}
 use Rattle.tv_doc.specs.Encoded.{AddsEncoded, StoodIn}
 use Rattle.tv_doc.specs.declared.document.CompactDoc.{CompactDoc}
@@ -89,7 +89,7 @@ pub no_pairs : (v : Version) (d : CompactDoc) → AddsPairs v d d [] 0
 no_pairs v d = record { pairs = []; counted = refl; encoded = refl; document = sym (append-nil (document_of d)) }
 
 -- what the document was before, by what was added since
-pub stood_in : {whole rest : List ℕ} {n : ℕ} (old now : CompactDoc) (pairs heap : ℕ) → AddsEncoded old now whole rest n → pairs ≡ length (document_of old) → heap ≡ length (heap_of old) → StoodIn old now pairs heap
+pub stood_in : {v : Version} {whole rest : List ℕ} {n : ℕ} (old now : CompactDoc) (pairs heap : ℕ) → AddsEncoded v old now whole rest n → pairs ≡ length (document_of old) → heap ≡ length (heap_of old) → StoodIn old now pairs heap
 stood_in old now pairs heap h p q = record { counted = sym p; heap_length = sym q; start = h.start }
 
 -- or they were taken back
@@ -97,16 +97,16 @@ pub none_kept : (v : Version) (old new : CompactDoc) → IsUnchanged old new →
 none_kept v old new u = record { pairs = []; counted = refl; encoded = refl; document = u.document ∙ sym (append-nil (document_of old)) }
 
 -- as many as were added, of the bytes before those that are left over
-pub pairs_taken : (old new : CompactDoc) (whole rest : List ℕ) (n : ℕ) → AddsEncoded old new whole rest n → AddsPairs V2 old new (take (length whole - length rest) whole) n
-pairs_taken old new whole rest n h = record {
+pub pairs_taken : (v : Version) (old new : CompactDoc) (whole rest : List ℕ) (n : ℕ) → AddsEncoded v old new whole rest n → AddsPairs v old new (take (length whole - length rest) whole) n
+pairs_taken v old new whole rest n h = record {
   pairs = h.pairs;
   counted = h.counted;
-  encoded = subst (λ z. Each (EncodesPair NoLegacy V2) z h.pairs) (sym (taken_prefix whole h.encoded.prefix rest h.encoded.joined)) h.encoded.encoded;
+  encoded = subst (λ z. Each (EncodesPair NoLegacy v) z h.pairs) (sym (taken_prefix whole h.encoded.prefix rest h.encoded.joined)) h.encoded.encoded;
   document = h.document;
 }
 
-pub pairs_counted : (old new : CompactDoc) (whole rest : List ℕ) (n : ℕ) → AddsEncoded old new whole rest n → length (document_of new) ≡ length (document_of old) + n
-pairs_counted old new whole rest n h = ap length h.document ∙ length-append (document_of old) h.pairs ∙ ap (λ z. length (document_of old) + z) h.counted
+pub pairs_counted : (v : Version) (old new : CompactDoc) (whole rest : List ℕ) (n : ℕ) → AddsEncoded v old new whole rest n → length (document_of new) ≡ length (document_of old) + n
+pairs_counted v old new whole rest n h = ap length h.document ∙ length-append (document_of old) h.pairs ∙ ap (λ z. length (document_of old) + z) h.counted
 
 -- the reading goes on with them
 pub reading_goes : (v : Version) (r new : Reading) (n m : ℕ) (document more : CompactDoc) (taken : List ℕ) → r.announced ≡ Some n → r.field ≡ None → document_of document ≡ built r.builder → AddsPairs v document more taken m

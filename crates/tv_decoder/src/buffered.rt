@@ -1,14 +1,29 @@
 //! Whole pairs that a source has buffered.
 
-ghost use Rattle.std.specs.Prelude.{◌≡◌, ◌+◌, ◌≤◌, length, Ok};
+ghost use Rattle.std.specs.Prelude.{◌≡◌, ◌+◌, ◌≤◌, length, Ok, MatchOption};
 ghost use Rattle.tv_decoder.specs.Buffered.{AddsPairs, Nothing};
 ghost use Rattle.tv_doc.specs.Document.{document_of};
 ghost use Rattle.tv_reader.specs.Finds.{Finds};
 ghost use Rattle.tv_reader.specs.Version.{version_of};
+ghost use Rattle.tv_value.specs.WriteVersion.{written_version};
 
 use tv_base::ByteSource;
 use tv_doc::document::CompactDoc;
 use tv_reader::DocStoreVersion;
+use tv_value::version::WriteVersion;
+
+// The version as one that is written. None for version 1.
+#[inline(always)]
+fn written(version: DocStoreVersion) -> Option<WriteVersion>
+    ensures { MatchOption result (version ≡ DocStoreVersion.V1)
+        (λ known. written_version known ≡ version_of version) }
+{
+    match version {
+        DocStoreVersion::V1 => None,
+        DocStoreVersion::V2 => Some(WriteVersion::V2),
+        DocStoreVersion::V3 => Some(WriteVersion::V3),
+    }
+}
 
 // Adds the next pairs that the source has buffered whole, at once, up to so many, and says how many they are. It may add none: where the
 // source doesn't give the bytes that it has buffered, the pairs are taken back, so that they are read part by part.
@@ -26,7 +41,7 @@ pub(crate) fn take_buffered_pairs<S: ByteSource>(
         ≡ length (document_of document.old) + result }
     ensures most { result ≤ most }
 {
-    let DocStoreVersion::V2 = version else {
+    let Some(known) = written(version) else {
         return 0;
     };
     let lent = source.buffered();
@@ -35,7 +50,7 @@ pub(crate) fn take_buffered_pairs<S: ByteSource>(
     }
     let pairs = document.len();
     let heap = document.node_data().len();
-    let (rest, added) = document.add_encoded(lent, most);
+    let (rest, added) = document.add_encoded(lent, known, most);
     let taken = lent.len() - rest.len();
     if taken == 0 {
         return added;

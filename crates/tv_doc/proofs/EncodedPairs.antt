@@ -9,7 +9,7 @@ use Rattle.tv_base.specs.Parts.{Begins}
 use Rattle.tv_base.proofs.Widths.{fixed_4}
 use Rattle.tv_value.specs.Encoding.{Encodes, EncodesPair, NoLegacy}
 use Rattle.tv_value.specs.Tree.{Tree}
-use Rattle.tv_value.specs.Version.{V2}
+use Rattle.tv_value.specs.Version.{Version}
 use Rattle.tv_value.proofs.Prefixes.{begins_nothing, begins_cut, begins_then, begins_item, small_take}
 use Rattle.tv_heap.specs.Room.{room}
 use Rattle.tv_builder.specs.EncodedPut.{EncodedPut}
@@ -34,22 +34,22 @@ pub record FieldFound (whole prefix value : List ℕ) (field : ℕ) : Type 0 whe
   pub small : (i : ℕ) → get_or whole i 0 < 256
   pub number : field ≡ from_le_bytes w32 prefix
 
-begins_pair : (whole prefix value rest : List ℕ) (field : ℕ) (t : Tree) → FieldFound whole prefix value field → field ≤ 65535 → Begins (λ b. Encodes NoLegacy V2 b t) value rest
-    → Begins (λ b. EncodesPair NoLegacy V2 b (field, t)) whole rest
-begins_pair whole prefix value rest field t f fits s =
+begins_pair : (v : Version) (whole prefix value rest : List ℕ) (field : ℕ) (t : Tree) → FieldFound whole prefix value field → field ≤ 65535 → Begins (λ b. Encodes NoLegacy v b t) value rest
+    → Begins (λ b. EncodesPair NoLegacy v b (field, t)) whole rest
+begins_pair v whole prefix value rest field t f fits s =
     let small : (i : ℕ) → get_or prefix i 0 < 256 = subst (λ bs. (i : ℕ) → get_or bs i 0 < 256) (sym f.prefix_is) (small_take 4 whole f.small) in
     let four = fixed_4 prefix (ap length f.prefix_is ∙ length-take-le 4 whole f.long) small in
     let number : Begins (λ b. Fixed 4 b field) whole value = begins_cut (λ b. Fixed 4 b field) 4 whole prefix value f.prefix_is f.value_is (subst (Fixed 4 prefix) (sym f.number) four) in
     let both = begins_then whole value rest number s in
     record { prefix = both.prefix; joined = both.joined; encoded = record { small = fits; parts = both.encoded } }
 
-pub pair_added : (old new : CompactDoc) (whole prefix value rest mid : List ℕ) (len small : ℕ) (at : Place) (x : Unit {0}) (s : EncodedPut value rest (heap_of old) mid at)
-    → FieldFound whole prefix value small → PairPut old mid len small s.tree at → Keeping old mid (heap_of new) new.pairs.items len small (Ok (at.value_type, at.address)) (Ok x) → AddsPair old new whole rest
-pair_added old new whole prefix value rest mid len small at x s f w k =
+pub pair_added : (v : Version) (old new : CompactDoc) (whole prefix value rest mid : List ℕ) (len small : ℕ) (at : Place) (x : Unit {0}) (s : EncodedPut v value rest (heap_of old) mid at)
+    → FieldFound whole prefix value small → PairPut old mid len small s.tree at → Keeping old mid (heap_of new) new.pairs.items len small (Ok (at.value_type, at.address)) (Ok x) → AddsPair v old new whole rest
+pair_added v old new whole prefix value rest mid len small at x s f w k =
     let more = put_added old new mid len small s.tree at x w k in
     record {
       pair = (small, s.tree);
-      encoded = begins_pair whole prefix value rest small s.tree f w.small_fits s.encoded;
+      encoded = begins_pair v whole prefix value rest small s.tree f w.small_fits s.encoded;
       added = more;
       start = record { heap = (more.added, more.heap); later = pair_at small (at.value_type, at.address) ∷ []; pairs = k.pair };
     }
@@ -70,8 +70,8 @@ start_then old mid new a b = record {
 start_same : (old mid new : CompactDoc) → IsStart old mid → heap_of new ≡ heap_of mid → new.pairs.items ≡ mid.pairs.items → IsStart old new
 start_same old mid new a heap pairs = record { heap = (a.heap.0, heap ∙ a.heap.1); later = a.later; pairs = pairs ∙ a.pairs }
 
-pub none_encoded : (d : CompactDoc) (whole : List ℕ) → AddsEncoded d d whole whole 0
-none_encoded d whole = record {
+pub none_encoded : (v : Version) (d : CompactDoc) (whole : List ℕ) → AddsEncoded v d d whole whole 0
+none_encoded v d whole = record {
   pairs = [];
   counted = refl;
   encoded = begins_nothing whole refl;
@@ -81,11 +81,11 @@ none_encoded d whole = record {
   none = λ e. unchanged d d refl refl;
 }
 
-pub one_more : (old mid new : CompactDoc) (whole rest after : List ℕ) (n : ℕ) → AddsEncoded old mid whole rest n → AddsPair mid new rest after → AddsEncoded old new whole after (n + 1)
-one_more old mid new whole rest after n a p = record {
+pub one_more : (v : Version) (old mid new : CompactDoc) (whole rest after : List ℕ) (n : ℕ) → AddsEncoded v old mid whole rest n → AddsPair v mid new rest after → AddsEncoded v old new whole after (n + 1)
+one_more v old mid new whole rest after n a p = record {
   pairs = a.pairs ++ p.pair ∷ [];
   counted = omega (arith, a.counted, length-append a.pairs (p.pair ∷ []));
-  encoded = begins_item (EncodesPair NoLegacy V2) a.pairs p.pair whole rest after a.encoded p.encoded;
+  encoded = begins_item (EncodesPair NoLegacy v) a.pairs p.pair whole rest after a.encoded p.encoded;
   document = more.document ∙ ap (λ z. z ++ p.pair ∷ []) a.document ∙ append_assoc (document_of old) a.pairs (p.pair ∷ []);
   start = start_then old mid new a.start p.start;
   within = omega (arith, a.within, more.within, ap length more.heap, length-append (heap_of mid) more.added, sum_by_push (λ (x : ℕ × Tree). room x.1) a.pairs p.pair);
@@ -96,8 +96,8 @@ one_more old mid new whole rest after n a p = record {
     more = p.added
 
 -- and then none
-pub no_more : (old mid new : CompactDoc) (whole rest : List ℕ) (n : ℕ) → AddsEncoded old mid whole rest n → IsUnchanged mid new → new.pairs.items ≡ mid.pairs.items → AddsEncoded old new whole rest n
-no_more old mid new whole rest n a u same_pairs = record {
+pub no_more : (v : Version) (old mid new : CompactDoc) (whole rest : List ℕ) (n : ℕ) → AddsEncoded v old mid whole rest n → IsUnchanged mid new → new.pairs.items ≡ mid.pairs.items → AddsEncoded v old new whole rest n
+no_more v old mid new whole rest n a u same_pairs = record {
   pairs = a.pairs;
   counted = a.counted;
   encoded = a.encoded;

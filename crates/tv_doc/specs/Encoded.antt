@@ -5,7 +5,7 @@ use Rattle.tv_base.specs.Sink.{IsPrefix}
 use Rattle.tv_heap.specs.Room.{document_room}
 use Rattle.tv_value.specs.Encoding.{EncodesPair, NoLegacy}
 use Rattle.tv_value.specs.Tree.{Tree, Document}
-use Rattle.tv_value.specs.Version.{V2}
+use Rattle.tv_value.specs.Version.{Version}
 use Rattle.tv_doc.specs.Document.{document_of, heap_of, Added, IsUnchanged}
 use Rattle.tv_doc.specs.declared.document.CompactDoc.{CompactDoc}
 use Rattle.tv_doc.specs.declared.place.FieldValueAddr.{FieldValueAddr}
@@ -17,19 +17,19 @@ pub record IsStart (old now : CompactDoc) : Type 0 where
   pub pairs : now.pairs.items ≡ old.pairs.items ++ later
 
 -- So many pairs are added. The heap grows by at most the room of their trees. Where there is none, the document is unchanged.
-pub record AddsEncoded (old new : CompactDoc) (whole rest : List ℕ) (count : ℕ) : Type 0 where
+pub record AddsEncoded (v : Version) (old new : CompactDoc) (whole rest : List ℕ) (count : ℕ) : Type 0 where
   pub pairs : Document
   pub counted : length pairs ≡ count
-  pub encoded : Begins (λ b. Each (EncodesPair NoLegacy V2) b pairs) whole rest
+  pub encoded : Begins (λ b. Each (EncodesPair NoLegacy v) b pairs) whole rest
   pub document : document_of new ≡ document_of old ++ pairs
   pub start : IsStart old new
   pub within : length (heap_of new) ≤ length (heap_of old) + document_room pairs
   pub none : count ≡ 0 → IsUnchanged old new
 
 -- the same of one pair
-pub record AddsPair (old new : CompactDoc) (whole rest : List ℕ) : Type 0 where
+pub record AddsPair (v : Version) (old new : CompactDoc) (whole rest : List ℕ) : Type 0 where
   pub pair : ℕ × Tree
-  pub encoded : Begins (λ b. EncodesPair NoLegacy V2 b pair) whole rest
+  pub encoded : Begins (λ b. EncodesPair NoLegacy v b pair) whole rest
   pub added : Added old new pair.0 pair.1
   pub start : IsStart old new
 

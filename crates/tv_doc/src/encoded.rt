@@ -4,27 +4,35 @@ ghost use Rattle.std.specs.Prelude.{◌≡◌, ◌≤◌, IfNone, IfSome};
 ghost use Rattle.tv_doc.specs.Document.{IsUnchanged};
 ghost use Rattle.tv_doc.specs.Encoded.{AddsPair, AddsEncoded, StoodIn};
 ghost use Rattle.tv_doc.specs.declared.document.CompactDoc.{CompactDoc};
+ghost use Rattle.tv_value.specs.WriteVersion.{written_version};
 
 use crate::document::{CompactDoc, keep_pair};
 use tv_builder::encoded::put_encoded;
+use tv_value::version::WriteVersion;
 
 // A value with lists nested deeper than so many levels isn't added.
 const LEVELS: u32 = 64;
 
 impl CompactDoc {
-    /// Adds the pairs that these bytes begin with, as version 2 of the store encodes them, up to so many. Gives the bytes behind them,
+    /// Adds the pairs that these bytes begin with, as this version of the store encodes them, up to so many. Gives the bytes behind them,
     /// and how many they are. The old heap is a prefix of the new one, and the old pairs come first, at the same places. (Not in tantivy.)
     ///
     /// It stops before a pair that is malformed or not all there, before one that holds an object as older stores hold it or lists nested deeper
     /// than 64 levels, and where the heap has no room or memory is refused: what it doesn't add may still be a pair.
-    pub fn add_encoded<'a>(&mut self, bytes: &'a [u8], most: u64) -> (&'a [u8], u64)
-        ensures added { AddsEncoded self.old self.new bytes.now result.0.now result.1 }
+    pub fn add_encoded<'a>(
+        &mut self,
+        bytes: &'a [u8],
+        version: WriteVersion,
+        most: u64,
+    ) -> (&'a [u8], u64)
+        ensures added { AddsEncoded (written_version version) self.old self.new bytes.now
+            result.0.now result.1 }
         ensures most { result.1 ≤ most }
     {
         let mut places = Vec::new(self.alloc);
         let mut rest = bytes;
         for count in 0..most {
-            let Some(behind) = self.add_encoded_pair(rest, &mut places) else {
+            let Some(behind) = self.add_encoded_pair(rest, version, &mut places) else {
                 return (rest, count);
             };
             rest = behind;
@@ -43,8 +51,14 @@ impl CompactDoc {
 
     // Adds the pair that these bytes begin with, and gives the bytes behind it. `places` is used while a list is written.
     #[inline(always)]
-    fn add_encoded_pair<'a>(&mut self, bytes: &'a [u8], places: &mut Vec<u8>) -> Option<&'a [u8]>
-        ensures added { IfSome result (λ rest. AddsPair self.old self.new bytes.now rest.now) }
+    fn add_encoded_pair<'a>(
+        &mut self,
+        bytes: &'a [u8],
+        version: WriteVersion,
+        places: &mut Vec<u8>,
+    ) -> Option<&'a [u8]>
+        ensures added { IfSome result
+            (λ rest. AddsPair (written_version version) self.old self.new bytes.now rest.now) }
         ensures none { IfNone result (IsUnchanged self.old self.new) }
         ensures same_pairs { IfNone result (self.new.pairs.items ≡ self.old.pairs.items) }
     {
@@ -53,7 +67,8 @@ impl CompactDoc {
             return None;
         };
         let len = self.node_data.len();
-        let Some((rest, place)) = put_encoded(value, LEVELS, &mut self.node_data, places) else {
+        let Some((rest, place)) = put_encoded(value, version, LEVELS, &mut self.node_data, places)
+        else {
             self.node_data.truncate(len);
             return None;
         };

@@ -1,4 +1,5 @@
-use Rattle.std.proofs.Common.{◌-◌, length, sym, ap, subst, refl, take, arith}
+use Rattle.std.proofs.Common.{◌-◌, length, ap, subst, refl, take, arith}
+use Rattle.tv_value.specs.WriteVersion.{written_version}
 use Rattle.tv_reader.specs.Version.{version_of}
 use Rattle.tv_decoder.specs.Buffered.{AddsPairs}
 use Rattle.tv_decoder.proofs.BufferedPairs.{no_pairs, pairs_taken, stood_in, none_kept, passed_finds, not_passed, none_passed}
@@ -17,8 +18,9 @@ returns-then-taken-eq0-clause-finds g c =
     let lent = c.buffered-lent.result.now in
     let rest = c.add_encoded-added.result.0.now in
     let n = c.add_encoded-added.result.1 in
-    let pairs = pairs_taken old new lent rest n c.add_encoded-added.ensures.added in
-    let here = subst (λ z. AddsPairs z old new (take (length lent - length rest) lent) n) (sym (ap version_of c.in-V2.is)) pairs in
+    let known = written_version c.in-Some.known in
+    let pairs = pairs_taken known old new lent rest n c.add_encoded-added.ensures.added in
+    let here = subst (λ z. AddsPairs z old new (take (length lent - length rest) lent) n) c.in-Some.ensures pairs in
     none_passed (λ b m. AddsPairs v old new b m) n (subst (λ z. AddsPairs v old new (take z lent) n) c.if-taken-eq0.true here)
 
 pub take_back-requires : goal.take_back-requires
@@ -42,7 +44,8 @@ returns-clause-finds g c =
     let lent = c.buffered-lent.result.now in
     let rest = c.add_encoded-added.result.0.now in
     let n = c.add_encoded-added.result.1 in
-    let pairs = pairs_taken old new lent rest n c.add_encoded-added.ensures.added in
-    let here = subst (λ z. AddsPairs z old new (take (length lent - length rest) lent) n) (sym (ap version_of c.in-V2.is)) pairs in
+    let known = written_version c.in-Some.known in
+    let pairs = pairs_taken known old new lent rest n c.add_encoded-added.ensures.added in
+    let here = subst (λ z. AddsPairs z old new (take (length lent - length rest) lent) n) c.in-Some.ensures pairs in
     let pass = c.if-not-pass.ensures in
     passed_finds (λ b m. AddsPairs v old new b m) n lent (length lent - length rest) c.buffered-lent.ensures (omega arith) here pass.bytes pass.is_known pass.failures refl

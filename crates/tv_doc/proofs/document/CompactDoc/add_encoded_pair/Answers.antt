@@ -1,4 +1,5 @@
 use Rattle.std.proofs.Common.{◌≡◌, ◌∙◌, Ok, Err, length, arith}
+use Rattle.tv_value.specs.WriteVersion.{written_version}
 use Rattle.tv_doc.specs.Document.{heap_of}
 use Rattle.tv_doc.proofs.Documents.{unchanged, restored}
 use Rattle.tv_doc.proofs.Kept.{Keeping, cut_fields}
@@ -47,7 +48,7 @@ returns-in-Ok-keep_pair-clause-added c =
     let put : PairPut old c.put_encoded.new.heap.items c.len-len.result c.in-Ok.field s.tree c.in-Some.place = record { len_is = len; small_fits = omega arith; put = s.put } in
     let keeping : Keeping old c.put_encoded.new.heap.items c.keep_pair.new.heap.items c.keep_pair.new.pairs.items c.len-len.result c.in-Ok.field (Ok (c.in-Some.place.value_type, c.in-Some.place.address)) (Ok c.in-Ok-keep_pair.field-0) =
     record { pair = k.pair; same_heap = k.heap; same_pairs = k.same_pairs; cut = k.cut; memory = k.memory } in
-    pair_added old _ _ _ _ c.in-Some.rest.now _ _ _ _ _ s found put keeping
+    pair_added (written_version c.args.version) old _ _ _ _ c.in-Some.rest.now _ _ _ _ _ s found put keeping
 
 pub returns-in-Err-clause-none : goal.returns-in-Err-clause-none
 returns-in-Err-clause-none c =
