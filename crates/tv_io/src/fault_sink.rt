@@ -17,7 +17,7 @@ use tv_base::ByteSink;
 /// A call whose buffer is empty passes, and isn't counted.
 ///
 /// ```
-/// fn write_failing(alloc: Global, passes: u64) -> (Result<(), io::ErrorKind>, VecSink) {
+/// pub fn write_failing(alloc: Global, passes: u64) -> (Result<(), io::ErrorKind>, VecSink) {
 ///     let mut sink = FaultSink::new(VecSink::new(alloc), passes, io::ErrorKind::StorageFull);
 ///     let written = 20u64.serialize(&mut sink);
 ///     (written, sink.into_inner())

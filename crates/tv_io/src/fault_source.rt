@@ -17,7 +17,7 @@ use tv_base::ByteSource;
 /// A call whose buffer is empty passes, and isn't counted. No byte is shown as buffered, so that each byte takes a read.
 ///
 /// ```
-/// fn read_failing(alloc: Global, bytes: &[u8], passes: u64) -> Result<u64, ReadError> {
+/// pub fn read_failing(alloc: Global, bytes: &[u8], passes: u64) -> Result<u64, ReadError> {
 ///     let source = SliceSource::new(bytes);
 ///     let mut source = FaultSource::new(source, passes, io::ErrorKind::TimedOut);
 ///     u64::deserialize(alloc, &mut source)

@@ -2,6 +2,7 @@
 #![tactic(auto)]
 
 pub mod documents;
+pub mod failing;
 pub mod schemas;
 pub mod store;
 pub mod terms;
