@@ -13,6 +13,7 @@ use tv_builder::place::Place;
 use tv_heap::len::leaf_len;
 use tv_heap::value_type::ValueType;
 use tv_value::value::Value;
+use tv_value::version::WriteVersion;
 
 // What stands at the places of lists that are open.
 const OPEN: &[u8] = b"\x09\x81";
@@ -46,7 +47,8 @@ fn encoded(alloc: Global, before: &str, levels: u32, bytes: &[u8]) -> Result<Str
     if heap.len() > 4_294_967_295 {
         return Err(anyhow!("a heap is too long"));
     }
-    let put = put_encoded(bytes, levels, &mut heap, &mut places);
+    let version = WriteVersion::V2;
+    let put = put_encoded(bytes, version, levels, &mut heap, &mut places);
     let is_kept = heap.as_slice().starts_with(before.as_slice());
     ensure!(is_kept, "the heap has changed");
     let Some((rest, place)) = put else {
