@@ -13,7 +13,7 @@ use tantivy_schema::schema::document::{
 use tantivy_schema::schema::{
     Field, JsonObjectOptions, OwnedValue, STORED, Schema, TantivyDocument,
 };
-use tantivy_schema::store::DocStoreVersion;
+use tantivy_schema::store::{DocStoreVersion, WriteVersion, migrate};
 
 // The bytes that are written of a document.
 fn written(alloc: Global, document: &TantivyDocument, schema: &Schema) -> Result<String> {
@@ -107,6 +107,29 @@ fn object(alloc: Global, announced: u64, words: &[&str]) -> Result<String> {
     Ok(format!(in alloc; "{answers:?}, {bytes:?}")?)
 }
 
+// The version with this number, to write in.
+fn written_version(number: &str) -> Result<WriteVersion> {
+    match number {
+        "2" => Ok(WriteVersion::V2),
+        "3" => Ok(WriteVersion::V3),
+        _ => Err(anyhow!("a version that isn't written")),
+    }
+}
+
+// What is written of a document that is carried over to another version, or why it isn't, and how many bytes are left.
+fn migrated(alloc: Global, from: &str, to: &str, word: &str) -> Result<String> {
+    let bytes = reads::bytes(alloc, word)?;
+    let mut source = SliceSource::new(&bytes);
+    let mut sink = VecSink::new(alloc);
+    let from = reads::version(from)?;
+    let answer = match migrate(alloc, &mut source, from, &mut sink, written_version(to)?) {
+        Ok(()) => hex::encode(alloc, sink.as_slice())?,
+        Err(error) => format!(in alloc; "error {error:?}")?,
+    };
+    let left = source.rest().len();
+    Ok(format!(in alloc; "{answer}, {left} left")?)
+}
+
 /// What a call that writes returns.
 pub fn answer(alloc: Global, call: &[&str]) -> Result<String> {
     match call {
@@ -115,6 +138,7 @@ pub fn answer(alloc: Global, call: &[&str]) -> Result<String> {
             let bytes = reads::bytes(alloc, bytes)?;
             reads::document(alloc, DocStoreVersion::V2, Form::Written(&schema), &bytes)
         }
+        ["migrate", from, to, word] => migrated(alloc, from, to, word),
         ["value", word] => alone(alloc, word),
         ["kept", word] => kept(alloc, word),
         ["map", word] => map(alloc, word),
