@@ -10,7 +10,7 @@ ghost use Rattle.tv_heap.specs.Room.{document_room};
 ghost use Rattle.tv_reader.specs.Error.{store_stop};
 ghost use Rattle.tv_store.specs.Documents.{Answers};
 ghost use Rattle.tv_store.specs.Stored.{stored};
-ghost use Rattle.tv_store.specs.declared.error.SerializeError.TheVariants.{Io};
+ghost use Rattle.tv_writer.specs.declared.error.SerializeError.TheVariants.{Io};
 ghost use Rattle.tv_value.specs.Short.{short_document};
 ghost use Rattle.tv_value.specs.Version.{V2};
 

@@ -11,7 +11,7 @@ use Rattle.tv_field.specs.Entry.{Entry}
 use Rattle.tv_value.specs.Tree.{Tree, Document}
 use Rattle.tv_value.specs.Short.{short_pair}
 use Rattle.tv_value.specs.Version.{V2}
-use Rattle.tv_store.specs.Error.{write_error, write_stop}
+use Rattle.tv_writer.specs.Error.{write_error, write_stop}
 use Rattle.tv_store.specs.Stored.{stored, tree_written, is_stored_entry, is_stored_field, written_pairs}
 
 abbrev written : ℕ × Tree → ℕ × Tree

@@ -1,8 +1,7 @@
 pub mod Error
 pub mod Stored
-pub mod Serialized
 pub mod Documents
 pub mod Pairs
 pub mod PairsGiven
-pub mod Children
 pub mod RoundTrip
+pub use Rattle.tv_writer.specs.Serialized

@@ -2,14 +2,12 @@
 #![tactic(auto)]
 
 pub mod de;
-mod encoding;
+mod encoded_writer;
 pub mod error;
 pub mod laws;
 pub mod pairs_given;
 pub mod round_trip;
 pub mod se;
-mod serializers;
-mod value_writer;
 
 pub use de::{DirectDecoder, DocStoreVersion, Step, read_document};
 pub use error::{DeserializeError, SerializeError, ValueType};

@@ -6,17 +6,14 @@ ghost use Rattle.tv_base.specs.Sink.{Writes};
 ghost use Rattle.tv_doc.specs.Belongs.{Belongs};
 ghost use Rattle.tv_doc.specs.Document.{document_of};
 ghost use Rattle.tv_heap.specs.Value.{tree_of};
-ghost use Rattle.tv_store.specs.Error as store;
-ghost use Rattle.tv_store.specs.Error.{IsIo};
+ghost use Rattle.tv_writer.specs.Error as store;
+ghost use Rattle.tv_writer.specs.Error.{IsIo};
 ghost use Rattle.tv_store.specs.Stored.{stored, tree_written, written_pairs};
 ghost use Rattle.tv_value.specs.Short.{short_pair, short_document};
 ghost use Rattle.tv_value.specs.Version.{V2};
 
+use crate::encoded_writer::{write_encoded, write_stored_leaf};
 use crate::error::SerializeError;
-pub use crate::serializers::{
-    BinaryArraySerializer, BinaryObjectSerializer, BinaryValueSerializer,
-};
-use crate::value_writer::{write_encoded, write_stored_leaf};
 use std::io;
 use tv_base::ByteSink;
 use tv_base::write::{write_all, write_u32, write_vint};
@@ -27,6 +24,9 @@ use tv_heap::value::CompactDocValue;
 use tv_schema::Schema;
 use tv_value::field::Field;
 use tv_value::value::{ReferenceValue, Value};
+pub use tv_writer::serializers::{
+    BinaryArraySerializer, BinaryObjectSerializer, BinaryValueSerializer,
+};
 
 // Writes a field and bytes behind their code.
 #[inline]

@@ -5,7 +5,7 @@ use Rattle.tv_value.specs.Lent.{tree_of}
 use Rattle.tv_value.specs.Short.{short}
 use Rattle.tv_value.specs.Version.{V2}
 use Rattle.tv_store.specs.Stored.{tree_written}
-use Rattle.tv_store.proofs.Coded.{Writes_as}
+use Rattle.tv_writer.proofs.Coded.{Writes_as}
 use Rattle.tv_store.proofs.WriterSteps.{written_array, written_object}
 use Rattle.tv_store.proofs.se.write_field_value.Goals as goal
 

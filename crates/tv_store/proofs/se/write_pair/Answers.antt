@@ -4,7 +4,7 @@ use Rattle.tv_heap.specs.Encoded.{encoded_bytes, SaysTokenized}
 use Rattle.tv_heap.specs.Value.{tree_of}
 use Rattle.tv_value.specs.Short.{short}
 use Rattle.tv_value.specs.Version.{V2}
-use Rattle.tv_store.proofs.Coded.{Writes_as}
+use Rattle.tv_writer.proofs.Coded.{Writes_as}
 use Rattle.tv_store.proofs.WriterSteps.{plainly_written}
 use Rattle.tv_store.proofs.se.write_pair.Goals as goal
 

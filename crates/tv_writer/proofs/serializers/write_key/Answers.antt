@@ -1,0 +1,10 @@
+use Rattle.std.proofs.lemmas.Result.{err_from_is_err_and}
+use Rattle.tv_base.specs.Number.{one_byte}
+use Rattle.tv_writer.proofs.Coded.{Coded_fails}
+use Rattle.tv_writer.proofs.serializers.write_key.Goals as goal
+
+pub returns-in_err-write_u8 : goal.returns-in_err-write_u8
+unfolding one_byte
+returns-in_err-write_u8 g c =
+    let p = err_from_is_err_and c.from_residual.result c.from_residual.ensures.1 in
+    rw (p.1, p.2) (Coded_fails c.in_err-write_u8.ensures)
