@@ -15,7 +15,7 @@ pub enum SerializeError {
     /// Another number of values was given than was announced.
     #[error("another number of values was given than was announced")]
     WrongCount,
-    /// Twice the number of entries is above 2^64 - 1.
+    /// An object announces a number above 2^64 - 1, or a value has an array, an object, a text or bytes that are too long for it.
     #[error("there are too many entries")]
     TooMany,
 }

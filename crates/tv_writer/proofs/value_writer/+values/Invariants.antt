@@ -3,7 +3,7 @@ use Rattle.tv_base.proofs.Written.{Written}
 use Rattle.tv_value.specs.Short.{short_elements, short_entries, AreElements, AreEntries}
 use Rattle.tv_value.specs.Size.{size, elements_size, entries_size}
 use Rattle.tv_value.specs.Tree.{elements, entries}
-use Rattle.tv_value.specs.Version.{V2}
+use Rattle.tv_value.specs.WriteVersion.{written_version}
 use Rattle.tv_writer.proofs.value_writer.+values.Given as goal
 
 abbrev pub decreases-write_tree : goal.decreases-write_tree
@@ -23,7 +23,7 @@ invariant-write_items-loop-item g l =
     record {
       valid : AreElements rest;
       smaller : elements_size rest ≤ elements_size all;
-      written : Written g.K.ByteSink.is_known g.K.ByteSink.held g.K.ByteSink.failures l.fn.sink l.sink (short_elements V2 all) (short_elements V2 rest);
+      written : Written g.K.ByteSink.is_known g.K.ByteSink.held g.K.ByteSink.failures l.fn.sink l.sink (short_elements (written_version l.version) all) (short_elements (written_version l.version) rest);
     }
 
 -- the keys and values that are left are
@@ -34,5 +34,5 @@ invariant-write_members-loop-key g l =
     record {
       valid : AreEntries rest;
       smaller : entries_size rest ≤ entries_size all;
-      written : Written g.K.ByteSink.is_known g.K.ByteSink.held g.K.ByteSink.failures l.fn.sink l.sink (short_entries V2 all) (short_entries V2 rest);
+      written : Written g.K.ByteSink.is_known g.K.ByteSink.held g.K.ByteSink.failures l.fn.sink l.sink (short_entries (written_version l.version) all) (short_entries (written_version l.version) rest);
     }
