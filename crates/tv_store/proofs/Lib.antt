@@ -5,3 +5,4 @@ pub mod Stores
 pub mod StoredLaws
 pub mod WriterSteps
 pub mod RoundTrips
+pub mod Migrations
