@@ -20,9 +20,12 @@ pub use Rattle.tv_field.specs.declared.schema_error.SchemaError
 pub use Rattle.tv_reader.specs.declared.error.DeserializeError
 pub use Rattle.tv_field.specs.declared.value_parsing_error.ParseCause
 pub use Rattle.tv_field.specs.declared.value_parsing_error.ValueParsingError
-pub use Rattle.tv_store.specs.declared.error.SerializeError
+pub use Rattle.tv_writer.specs.declared.error.SerializeError
 pub use Rattle.tv_store.specs.declared.round_trip.RoundTrip
 pub use Rattle.tv_store.specs.declared.round_trip.RoundTripError
+pub use Rattle.tv_store.specs.declared.migration.MigrateError
+pub use Rattle.tv_store.specs.declared.migration_trip.MigrationTrip
+pub use Rattle.tv_value.specs.declared.version.WriteVersion
 pub use Rattle.tv_reader.specs.declared.value_type.ValueType
 pub use Rattle.tv_term.specs.declared.term_error.TermError
 pub use Rattle.tv_value.specs.declared.json_error.JsonError

@@ -20,6 +20,7 @@ pub use Rattle.tv_base.specs.JsonPath
 -- values, and the store format's grammar
 pub use Rattle.tv_value.specs.Tree
 pub use Rattle.tv_value.specs.Version
+pub use Rattle.tv_value.specs.WriteVersion
 pub use Rattle.tv_value.specs.Encoding
 pub use Rattle.tv_value.specs.Short
 pub use Rattle.tv_value.specs.InputError
@@ -110,6 +111,7 @@ pub use Rattle.tv_builder.specs.TreeBytes
 pub use Rattle.tv_builder.specs.Weight as StateWeight
 -- the store
 pub use Rattle.tv_store.specs.Documents
+pub use Rattle.tv_store.specs.Migrate
 pub use Rattle.tv_store.specs.Error as StoreError
 pub use Rattle.tv_decoder.specs.Decoder
 pub use Rattle.tv_decoder.specs.Documents as DecodedDocuments
@@ -119,7 +121,7 @@ pub use Rattle.tv_decoder.specs.Steps
 pub use Rattle.tv_decoder.specs.Kept as DecoderKept
 pub use Rattle.tv_store.specs.PairsGiven
 pub use Rattle.tv_store.specs.RoundTrip
-pub use Rattle.tv_store.specs.Serialized
+pub use Rattle.tv_writer.specs.Serialized
 pub use Rattle.tv_store.specs.Stored
 pub use Rattle.tv_reader.specs.Error as ReaderError
 pub use Rattle.tv_reader.specs.Finds

@@ -10,7 +10,7 @@ ghost use Rattle.tv_heap.specs.Room.{document_room};
 ghost use Rattle.tv_reader.specs.Error.{store_stop};
 ghost use Rattle.tv_store.specs.Documents.{Answers};
 ghost use Rattle.tv_store.specs.Stored.{stored};
-ghost use Rattle.tv_store.specs.declared.error.SerializeError.TheVariants.{Io};
+ghost use Rattle.tv_writer.specs.declared.error.SerializeError.TheVariants.{Io};
 ghost use Rattle.tv_value.specs.Short.{short_document};
 ghost use Rattle.tv_value.specs.Version.{V2};
 
@@ -54,6 +54,7 @@ pub use tv_schema::laws::{
 pub use tv_store::laws::{
     refusals_are_unique, stored_pairs_are_valid, stored_pairs_need_no_more_room,
 };
+pub use tv_store::migration_trip::{MigrationTrip, migrations_are_read_back};
 pub use tv_store::round_trip::{RoundTrip, RoundTripError, additions_are_stored_and_read_back};
 use tv_store::{
     BinaryDocumentSerializer, DeserializeError, DocStoreVersion, SerializeError, read_document,

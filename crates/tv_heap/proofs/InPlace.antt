@@ -1,11 +1,11 @@
 -- What stands in a heap is what the store has behind a value's code.
-use Rattle.std.proofs.Common.{inl, inr, append_assoc, take-append-drop, ◌≡◌, ℕ, ◌+◌, ◌*◌, ◌-◌, ◌/◌, ◌%◌, ◌^◌, ◌<◌, ◌≤◌, suc, ℤ, not, List, [], ◌∷◌, ◌++◌, ◌↔◌, length, take, drop, refl, sym, ◌∙◌, ap, subst, arith}
+use Rattle.std.proofs.Common.{inl, inr, append_assoc, take-append-drop, ◌≡◌, ℕ, ◌+◌, ◌*◌, ◌-◌, ◌/◌, ◌%◌, ◌^◌, ◌<◌, ◌≤◌, suc, ℤ, not, List, [], ◌∷◌, ◌++◌, ◌↔◌, length, take, drop, refl, sym, ◌∙◌, ap, arith}
 use Rattle.std.specs.Int.{w64, cast_unsigned}
 use Rattle.std.specs.List.{filter}
 use Rattle.std.proofs.lemmas.Bool.{cases_lt, cond-true, cond-false, lt-ltb, le-ltb}
 use Rattle.std.proofs.lemmas.List.{length-append}
 use Rattle.std.proofs.lemmas.List.Elements.{filter-append}
-use Rattle.std.proofs.Math.Logic.{∥∥₁_elim, ∥∥₁_map}
+use Rattle.std.proofs.Math.Logic.{∥∥₁_elim}
 use Rattle.std.proofs.Math.Seq.{take-append_seam}
 use mathlib.Core.HLevel.{⊥_prop}
 use base.Stored.{Coded-set}
@@ -17,20 +17,20 @@ use Rattle.tv_value.specs.Content.{Content, signed_content, text_content, tokens
 use Rattle.tv_value.specs.Leaves.{type_of, content, store_code}
 use Rattle.tv_value.specs.declared.content.Form.TheVariants as forms
 use Rattle.tv_value.specs.declared.leaf.LeafType.{LeafType}
-use Rattle.tv_value.specs.Tree.{Token, Leaf, text, Tree, leaf, array, object, Elements, no_elements, element, elements, element_list, element_count, Entries, no_entries, entry, entry_count}
+use Rattle.tv_value.specs.Tree.{Token, Leaf, text, Tree, leaf, array, object, Elements, no_elements, element, elements, element_count, Entries, no_entries, entry, entries, entry_count}
 use Rattle.tv_value.specs.TreeCode.{coded_text}
-use Rattle.tv_value.specs.Version.{V2}
+use Rattle.tv_value.specs.Version.{Version, entry_total}
 use Rattle.tv_heap.specs.declared.encoded.Encoded.{Encoded}
 use Rattle.tv_heap.specs.declared.encoded.Encoded.TheVariants as held
 use Rattle.tv_heap.specs.Encoded.{AreTokens, IsTokenized, SaysTokenized, is_last, last_bytes}
-use Rattle.tv_heap.specs.Held.{Held, HeldElements}
+use Rattle.tv_heap.specs.Held.{Held, HeldElements, HeldEntries}
 use Rattle.tv_heap.specs.Reads.{Stands, ShortSized, ShortTokenized, ContentStands, LeafStands, Reads, ReadsElements, ReadsEntries}
 use Rattle.tv_heap.specs.ReadsLaws.{one_type, type_small, leaf_type_small}
 use Rattle.tv_heap.specs.TypeCode.{type_code, heap_type}
 use Rattle.tv_value.proofs.Leaves.{agree_tokenized}
 use Rattle.tv_value.specs.Encoding.{Tokenized}
 use Rattle.tv_heap.proofs.Lends.{text_sized, stands_behind, tokenized_stands}
-use Rattle.tv_heap.proofs.Shapes.{GivesSized, elements_listed, same_elements, children_are}
+use Rattle.tv_heap.proofs.Shapes.{GivesSized, children_are, entries_are}
 
 -- ---- the last bytes of numbers
 
@@ -104,10 +104,6 @@ flat_count : (es : Entries) → element_count (flat es) ≡ 2 * entry_count es
 flat_count no_entries = refl
 flat_count (entry k t es) = omega (arith, flat_count es)
 
-flat_short : (es : Entries) → short_elements V2 (flat es) ≡ short_entries V2 es
-flat_short no_entries = refl
-flat_short (entry k t es) = ap (λ z. (0 ∷ short_sized k) ++ (short V2 t ++ z)) (flat_short es)
-
 -- ---- values
 
 -- what `sized_encoding_at` promises
@@ -136,50 +132,37 @@ text_bytes heap at x is _ e p = absurd (cc)
 pub leaf_short : (t : LeafType) (l : Leaf) (code : ℕ) (behind : List ℕ) → type_of l ≡ t → code ≡ store_code t → behind ≡ short_content (content l) → code ∷ behind ≡ short_leaf l
 leaf_short t l code behind same is e = λ i. (is ∙ ap store_code (sym same)) i ∷ e i
 
-leaf_tree_bytes : (heap : List ℕ) (code at : ℕ) (u : Tree) (t : LeafType) (x : List ℕ) → code ≡ type_code (heap_type t) → ((l : Leaf) → type_of l ≡ t → LeafStands heap at l → x ≡ short_leaf l) → Reads heap code at u → x ≡ short V2 u
-leaf_tree_bytes heap code at (leaf l) t x e is r = is l (one_type (type_of l) t (sym r.0 ∙ e)) r.1
-leaf_tree_bytes heap code at _ t x e is r = absurd (omega (arith, r.0, e, type_small t))
+leaf_tree_bytes : (v : Version) (heap : List ℕ) (code at : ℕ) (u : Tree) (t : LeafType) (x : List ℕ) → code ≡ type_code (heap_type t) → ((l : Leaf) → type_of l ≡ t → LeafStands heap at l → x ≡ short_leaf l) → Reads heap code at u → x ≡ short v u
+leaf_tree_bytes v heap code at (leaf l) t x e is r = is l (one_type (type_of l) t (sym r.0 ∙ e)) r.1
+leaf_tree_bytes v heap code at _ t x e is r = absurd (omega (arith, r.0, e, type_small t))
 
-pub leaf_bytes : (heap : List ℕ) (code at : ℕ) (h : Held heap code at) (t : LeafType) (x : List ℕ) → code ≡ type_code (heap_type t) → ((l : Leaf) → type_of l ≡ t → LeafStands heap at l → x ≡ short_leaf l) → x ≡ short V2 h.0
-leaf_bytes heap code at h t x e is = ∥∥₁_elim h.1 (Coded-set coded_text x (short V2 h.0)) (leaf_tree_bytes heap code at h.0 t x e is)
+pub leaf_bytes : (v : Version) (heap : List ℕ) (code at : ℕ) (h : Held heap code at) (t : LeafType) (x : List ℕ) → code ≡ type_code (heap_type t) → ((l : Leaf) → type_of l ≡ t → LeafStands heap at l → x ≡ short_leaf l) → x ≡ short v h.0
+leaf_bytes v heap code at h t x e is = ∥∥₁_elim h.1 (Coded-set coded_text x (short v h.0)) (leaf_tree_bytes v heap code at h.0 t x e is)
 
 -- ---- lists
 
-pub array_bytes : (heap : List ℕ) (code at : ℕ) (t : Tree) → ∥ Reads heap code at t ∥₁ → code ≡ 12 → (list : List ℕ) → GivesSized heap at list → (n : ℕ) → n ≡ last_bytes list → (x : HeldElements heap list)
-    → 12 ∷ (vnum n ++ short_elements V2 (elements x.0)) ≡ short V2 t
-array_bytes heap code at (array ts) h e list is n counted x =
+pub array_bytes : (v : Version) (heap : List ℕ) (code at : ℕ) (t : Tree) → ∥ Reads heap code at t ∥₁ → code ≡ 12 → (list : List ℕ) → GivesSized heap at list → (n : ℕ) → n ≡ last_bytes list → (x : HeldElements heap list)
+    → 12 ∷ (vnum n ++ short_elements v (elements x.0)) ≡ short v t
+array_bytes v heap code at (array ts) h e list is n counted x =
     let same = children_are heap code at ts h e list is x in
-    ∥∥₁_elim h (Coded-set coded_text (12 ∷ (vnum n ++ short_elements V2 (elements x.0))) (short V2 (array ts)))
+    ∥∥₁_elim h (Coded-set coded_text (12 ∷ (vnum n ++ short_elements v (elements x.0))) (short v (array ts)))
     (λ r.
     let number : n ≡ element_count ts = counted ∙ ap last_bytes (is r.1.list r.1.stands) ∙ elements_last heap at r.1.list ts r.1.children in
-    λ i. 12 ∷ (vnum (number i) ++ short_elements V2 (same i)))
-array_bytes heap code at (leaf l) h e list is n counted x = absurd (∥∥₁_elim h ⊥_prop (λ r. omega (arith, r.0, leaf_type_small l)))
-array_bytes heap code at (object es) h e list is n counted x = absurd (∥∥₁_elim h ⊥_prop (λ r. omega (arith, r.0)))
+    λ i. 12 ∷ (vnum (number i) ++ short_elements v (same i)))
+array_bytes v heap code at (leaf l) h e list is n counted x = absurd (∥∥₁_elim h ⊥_prop (λ r. omega (arith, r.0, leaf_type_small l)))
+array_bytes v heap code at (object es) h e list is n counted x = absurd (∥∥₁_elim h ⊥_prop (λ r. omega (arith, r.0)))
 
-pub object_children : (heap : List ℕ) (code at : ℕ) (t : Tree) → ∥ Reads heap code at t ∥₁ → code ≡ 11 → (list : List ℕ) → GivesSized heap at list → HeldElements heap list
-object_children heap code at (object es) h e list is = (
-  element_list (flat es),
-  ∥∥₁_map h
-      (λ r. (
-        at,
-        subst (λ z. ReadsElements heap at z (elements (element_list (flat es)))) (sym (is r.1.list r.1.stands))
-            (subst (λ u. ReadsElements heap at r.1.list u) (sym (elements_listed (flat es))) (flat_reads heap at r.1.list es r.1.children)),
-      )),
-)
-object_children heap code at (leaf l) h e list is = absurd (∥∥₁_elim h ⊥_prop (λ r. omega (arith, r.0, leaf_type_small l)))
-object_children heap code at (array ts) h e list is = absurd (∥∥₁_elim h ⊥_prop (λ r. omega (arith, r.0)))
-
-pub object_bytes : (heap : List ℕ) (code at : ℕ) (t : Tree) → ∥ Reads heap code at t ∥₁ → code ≡ 11 → (list : List ℕ) → GivesSized heap at list → (n : ℕ) → n ≡ last_bytes list → (x : HeldElements heap list)
-    → 13 ∷ (vnum n ++ short_elements V2 (elements x.0)) ≡ short V2 t
-unfolding object_children
-object_bytes heap code at (object es) h e list is n counted x =
-    let same : elements x.0 ≡ flat es = ap elements (same_elements heap list x (object_children heap code at (object es) h e list is)) ∙ elements_listed (flat es) in
-    ∥∥₁_elim h (Coded-set coded_text (13 ∷ (vnum n ++ short_elements V2 (elements x.0))) (short V2 (object es)))
+pub object_bytes : (v : Version) (heap : List ℕ) (code at : ℕ) (t : Tree) → ∥ Reads heap code at t ∥₁ → code ≡ 11 → (list : List ℕ) → GivesSized heap at list → (n : ℕ) → n ≡ last_bytes list / 2 → (x : HeldEntries heap list)
+    → 13 ∷ (vnum (entry_total v n) ++ short_entries v (entries x.0)) ≡ short v t
+object_bytes v heap code at (object es) h e list is n counted x =
+    let same = entries_are heap code at es h e list is x in
+    ∥∥₁_elim h (Coded-set coded_text (13 ∷ (vnum (entry_total v n) ++ short_entries v (entries x.0))) (short v (object es)))
     (λ r.
-    let number : n ≡ 2 * entry_count es = counted ∙ ap last_bytes (is r.1.list r.1.stands) ∙ elements_last heap at r.1.list (flat es) (flat_reads heap at r.1.list es r.1.children) ∙ flat_count es in
-    (λ i. 13 ∷ (vnum (number i) ++ short_elements V2 (same i))) ∙ ap (λ z. 13 ∷ (vnum (2 * entry_count es) ++ z)) (flat_short es))
-object_bytes heap code at (leaf l) h e list is n counted x = absurd (∥∥₁_elim h ⊥_prop (λ r. omega (arith, r.0, leaf_type_small l)))
-object_bytes heap code at (array ts) h e list is n counted x = absurd (∥∥₁_elim h ⊥_prop (λ r. omega (arith, r.0)))
+    let all : last_bytes list ≡ 2 * entry_count es = ap last_bytes (is r.1.list r.1.stands) ∙ elements_last heap at r.1.list (flat es) (flat_reads heap at r.1.list es r.1.children) ∙ flat_count es in
+    let number : n ≡ entry_count es = omega (arith, counted, all) in
+    λ i. 13 ∷ (vnum (entry_total v (number i)) ++ short_entries v (same i)))
+object_bytes v heap code at (leaf l) h e list is n counted x = absurd (∥∥₁_elim h ⊥_prop (λ r. omega (arith, r.0, leaf_type_small l)))
+object_bytes v heap code at (array ts) h e list is n counted x = absurd (∥∥₁_elim h ⊥_prop (λ r. omega (arith, r.0)))
 
 -- ---- texts with their tokens
 

@@ -85,8 +85,12 @@ object_list heap code at (object es) h e list is =
 object_list heap code at (leaf l) h e list is = absurd (∥∥₁_elim h ⊥_prop (λ r. omega (arith, r.0, leaf_type_small l)))
 object_list heap code at (array ts) h e list is = absurd (∥∥₁_elim h ⊥_prop (λ r. omega (arith, r.0)))
 
-pub object_is : (heap : List ℕ) (code at : ℕ) (t : Tree) → ∥ Reads heap code at t ∥₁ → code ≡ 11 → (list : List ℕ) → GivesSized heap at list → (x : HeldEntries heap list) → object (entries x.0) ≡ t
+-- the keys and trees that are left of an object are its own
+pub entries_are : (heap : List ℕ) (code at : ℕ) (es : Entries) → ∥ Reads heap code at (object es) ∥₁ → code ≡ 11 → (list : List ℕ) → GivesSized heap at list → (x : HeldEntries heap list) → entries x.0 ≡ es
 unfolding object_list
-object_is heap code at (object es) h e list is x = ap (λ z. object (entries z)) (same_entries heap list x (object_list heap code at (object es) h e list is)) ∙ ap object (entries_listed es)
+entries_are heap code at es h e list is x = ap entries (same_entries heap list x (object_list heap code at (object es) h e list is)) ∙ entries_listed es
+
+pub object_is : (heap : List ℕ) (code at : ℕ) (t : Tree) → ∥ Reads heap code at t ∥₁ → code ≡ 11 → (list : List ℕ) → GivesSized heap at list → (x : HeldEntries heap list) → object (entries x.0) ≡ t
+object_is heap code at (object es) h e list is x = ap object (entries_are heap code at es h e list is x)
 object_is heap code at (leaf l) h e list is x = absurd (∥∥₁_elim h ⊥_prop (λ r. omega (arith, r.0, leaf_type_small l)))
 object_is heap code at (array ts) h e list is x = absurd (∥∥₁_elim h ⊥_prop (λ r. omega (arith, r.0)))

@@ -1,22 +1,28 @@
 -- What the store has for a value that stands in a heap.
-use Rattle.std.specs.Prelude.{ℕ, Bool, not, nat_lt, List, [], ◌∷◌, ◌++◌, length, filter}
+use Rattle.std.specs.Prelude.{ℕ, ◌^◌, ◌<◌, Bool, not, nat_lt, List, [], ◌∷◌, ◌++◌, length, filter}
 use Rattle.tv_base.specs.Number.{vnum, eight_bytes, truth_byte}
-use Rattle.tv_value.specs.Short.{short_elements}
+use Rattle.tv_value.specs.Short.{short_elements, short_entries}
 use Rattle.tv_value.specs.Content.{Content, tokens_content}
 use Rattle.tv_value.specs.Leaves.{content}
-use Rattle.tv_value.specs.Tree.{Tree, leaf, elements}
-use Rattle.tv_value.specs.Version.{V2}
+use Rattle.tv_value.specs.Tree.{Tree, leaf, elements, entries}
+use Rattle.tv_value.specs.Version.{Version, entry_total}
 use Rattle.tv_heap.specs.declared.encoded.Encoded.{Encoded}
 use Rattle.tv_heap.specs.declared.encoded.Encoded.TheVariants as held
 
--- the bytes, the code first
-abbrev pub encoded_bytes : Encoded → List ℕ
-encoded_bytes held.Null = 11 ∷ []
-encoded_bytes (held.Bool b) = 9 ∷ truth_byte b
-encoded_bytes (held.Number code n) = code ∷ eight_bytes n
-encoded_bytes (held.Bytes code content) = code ∷ content.now
-encoded_bytes (held.Tokenized content) = 7 ∷ 0 ∷ content.now
-encoded_bytes (held.List code n items) = code ∷ (vnum n ++ short_elements V2 (elements items.held.0))
+-- the bytes in a version, the code first
+abbrev pub encoded_bytes : Version → Encoded → List ℕ
+encoded_bytes v held.Null = 11 ∷ []
+encoded_bytes v (held.Bool b) = 9 ∷ truth_byte b
+encoded_bytes v (held.Number code n) = code ∷ eight_bytes n
+encoded_bytes v (held.Bytes code content) = code ∷ content.now
+encoded_bytes v (held.Tokenized content) = 7 ∷ 0 ∷ content.now
+encoded_bytes v (held.Array n items) = 12 ∷ (vnum n ++ short_elements v (elements items.held.0))
+encoded_bytes v (held.Object n members) = 13 ∷ (vnum (entry_total v n) ++ short_entries v (entries members.held.0))
+
+-- an object has few enough entries that twice their number has 64 bits
+abbrev pub HasFewEntries : Encoded → Type 0
+HasFewEntries (held.Object n members) = n < 2 ^ 63
+HasFewEntries _ = Unit {0}
 
 -- a text with its tokens
 abbrev pub AreTokens : Content → Type 0

@@ -1,6 +1,6 @@
 //! What the store has for a value of a document, as it stands in the heap.
 
-use crate::value::CompactDocArrayIter;
+use crate::value::{CompactDocArrayIter, CompactDocObjectIter};
 
 /// What the store has for a value: a code, and what stands in the heap is what the store has behind it. (Not in tantivy.)
 #[derive(Clone, Copy)]
@@ -15,7 +15,8 @@ pub enum Encoded<'a> {
     Bytes(u8, &'a [u8]),
     /// A text and its tokens: the bytes behind their two codes.
     Tokenized(&'a [u8]),
-    /// A code, the number of the children, and each of them: the values of an array, or the keys and values of an object, each key before
-    /// its value.
-    List(u8, u64, CompactDocArrayIter<'a>),
+    /// The number of the values of an array, and each of them.
+    Array(u64, CompactDocArrayIter<'a>),
+    /// The number of the entries of an object, below 2^63, and each key and value.
+    Object(u64, CompactDocObjectIter<'a>),
 }

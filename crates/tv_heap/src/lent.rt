@@ -11,9 +11,11 @@ ghost use Rattle.tv_value.specs.Lent.{leaf_of};
 ghost use Rattle.tv_value.specs.PreTokenized.{tokenized_leaf};
 ghost use Rattle.tv_value.specs.Short.{short_leaf, short_tokenized};
 ghost use Rattle.tv_value.specs.Tree.{Token, Leaf, tokenized};
+ghost use Rattle.tv_value.specs.Version.{Version};
 ghost use Rattle.tv_value.specs.declared.content.Form.TheVariants as forms;
 ghost use Rattle.tv_heap.specs.declared.value_type.ValueType.{ValueType};
-ghost use Rattle.tv_heap.specs.Encoded.{encoded_bytes, last_bytes, AreTokens, SaysTokenized};
+ghost use Rattle.tv_heap.specs.Encoded.{encoded_bytes, last_bytes, AreTokens, HasFewEntries};
+ghost use Rattle.tv_heap.specs.Encoded.{SaysTokenized};
 ghost use Rattle.tv_heap.specs.Lent.{GivesChild, HasText};
 ghost use Rattle.tv_heap.specs.Reads.{Stands, ShortSized, ShortText, ShortTokenized, ContentStands};
 ghost use Rattle.tv_heap.specs.Reads.{LeafStands};
@@ -224,13 +226,14 @@ pub fn leaf_at(heap: &[u8], leaf_type: LeafType, address: u32) -> ReferenceValue
     }
 }
 
-/// What the store's version 2 has for the value without children of this type that stands at an address.
+/// What each version of the store has for the value without children of this type that stands at an address.
 #[inline(always)]
 pub fn encoded_at(heap: &[u8], leaf_type: LeafType, address: u32) -> Encoded<'_>
-    ensures bytes { (l : Leaf) → type_of l ≡ leaf_type → LeafStands heap.now address l
-        → encoded_bytes result ≡ short_leaf l }
+    ensures bytes { (v : Version) (l : Leaf) → type_of l ≡ leaf_type
+        → LeafStands heap.now address l → encoded_bytes v result ≡ short_leaf l }
     ensures tokens { (l : Leaf) → type_of l ≡ leaf_type
         → SaysTokenized result ↔ AreTokens (content l) }
+    ensures entries { HasFewEntries result }
 {
     let code = leaf_type.store_code();
     match leaf_type.form() {

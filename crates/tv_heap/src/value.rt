@@ -10,7 +10,6 @@ use crate::encoded::Encoded;
 use crate::lent::{child_at, children, encoded_at, leaf_at, sized_at, text_at};
 use crate::value_type::{ValueKind, ValueType};
 use tv_value::same::is_same;
-use tv_value::type_codes::{ARRAY_CODE, OBJECT_CODE};
 use tv_value::value::{ReferenceValue, Value};
 
 /// A value of a document, which stands in the heap that it is lent from.
@@ -39,10 +38,10 @@ pub struct CompactDocObjectIter<'a> {
 }
 
 impl<'a> CompactDocValue<'a> {
-    ghost use Rattle.tv_heap.specs.Encoded.{encoded_bytes, IsTokenized, SaysTokenized};
+    ghost use Rattle.tv_heap.specs.Encoded.{encoded_bytes, HasFewEntries, IsTokenized, SaysTokenized};
     ghost use Rattle.tv_heap.specs.Value.{tree_of};
     ghost use Rattle.tv_value.specs.Short.{short};
-    ghost use Rattle.tv_value.specs.Version.{V2};
+    ghost use Rattle.tv_value.specs.Version.{Version};
 
     /// The value of this type that stands at this address of the heap. (Not in tantivy.)
     pub fn new(heap: &'a [u8], value_type: ValueType, address: u32) -> CompactDocValue<'a>
@@ -57,11 +56,12 @@ impl<'a> CompactDocValue<'a> {
         }
     }
 
-    /// What the store's version 2 has for the value: its shortest encoding, out of the heap and without memory. (Not in tantivy.)
+    /// What each version of the store has for the value: its shortest encoding, out of the heap and without memory. (Not in tantivy.)
     #[inline(always)]
     pub fn encoded(&self) -> Encoded<'a>
-        ensures bytes { encoded_bytes result ≡ short V2 (tree_of self.now) }
+        ensures bytes { (v : Version) → encoded_bytes v result ≡ short v (tree_of self.now) }
         ensures tokens { SaysTokenized result ↔ IsTokenized (tree_of self.now) }
+        ensures entries { HasFewEntries result }
     {
         let heap = self.heap;
         let address = self.address;
@@ -69,19 +69,11 @@ impl<'a> CompactDocValue<'a> {
             ValueKind::Leaf(leaf_type) => encoded_at(heap, leaf_type, address),
             ValueKind::Array => {
                 let list = sized_at(heap, address);
-                Encoded::List(
-                    ARRAY_CODE,
-                    children(list),
-                    CompactDocArrayIter { heap, list },
-                )
+                Encoded::Array(children(list), CompactDocArrayIter { heap, list })
             }
             ValueKind::Object => {
                 let list = sized_at(heap, address);
-                Encoded::List(
-                    OBJECT_CODE,
-                    children(list),
-                    CompactDocArrayIter { heap, list },
-                )
+                Encoded::Object(children(list) / 2, CompactDocObjectIter { heap, list })
             }
         }
     }

@@ -1,9 +1,8 @@
-pub mod Encoded
 pub mod Room
 pub mod GivenSteps
 pub mod Promises
 pub mod Stores
 pub mod StoredLaws
-pub mod Coded
 pub mod WriterSteps
 pub mod RoundTrips
+pub mod Migrations

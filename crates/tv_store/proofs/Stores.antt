@@ -5,13 +5,14 @@ use Rattle.std.proofs.lemmas.List.{append-nil}
 use Rattle.std.proofs.lemmas.List.Concat.{flat_map-cons}
 use Rattle.tv_field.specs.Entry.{is_stored_type}
 use Rattle.std.specs.declared.io.ErrorKind.{ErrorKind}
+use Rattle.tv_base.specs.Number.{four_bytes}
 use Rattle.tv_base.specs.Source.{Failures}
 use Rattle.tv_base.specs.Sink.{Writes, WritesBy}
 use Rattle.tv_field.specs.Entry.{Entry}
 use Rattle.tv_value.specs.Tree.{Tree, Document}
-use Rattle.tv_value.specs.Short.{short_pair}
-use Rattle.tv_value.specs.Version.{V2}
-use Rattle.tv_store.specs.Error.{write_error, write_stop}
+use Rattle.tv_value.specs.Short.{short, short_pair}
+use Rattle.tv_value.specs.Version.{Version}
+use Rattle.tv_writer.specs.Error.{write_error, write_stop}
 use Rattle.tv_store.specs.Stored.{stored, tree_written, is_stored_entry, is_stored_field, written_pairs}
 
 abbrev written : ℕ × Tree → ℕ × Tree
@@ -37,26 +38,30 @@ no : false ≡ true → ⊥
 no e = absurd cc
 
 -- a pair whose field is stored, and one whose field is not
-pub written_one : (schema : List Entry) (field : ℕ) (entry : Entry) (t : Tree) → slice_get schema field ≡ Some entry → true ≡ is_stored_type entry.field_type → short_pair V2 (field, tree_written t) ≡ written_pairs schema ((field, t) ∷ [])
-written_one schema field entry t found is =
+pub written_one : (v : Version) (schema : List Entry) (field : ℕ) (entry : Entry) (t : Tree) → slice_get schema field ≡ Some entry → true ≡ is_stored_type entry.field_type → short_pair v (field, tree_written t) ≡ written_pairs v schema ((field, t) ∷ [])
+written_one v schema field entry t found is =
     let there : is_stored_field schema field ≡ true = ap is_stored_entry found ∙ sym is in
     let only : stored schema ((field, t) ∷ []) ≡ (field, tree_written t) ∷ [] = stored-cons schema (field, t) [] ∙ ap (λ b. cond b ((field, tree_written t) ∷ []) []) there in
-    sym (ap (flat_map (short_pair V2)) only ∙ flat_map-cons (short_pair V2) (field, tree_written t) [] ∙ append-nil (short_pair V2 (field, tree_written t)))
+    sym (ap (flat_map (short_pair v)) only ∙ flat_map-cons (short_pair v) (field, tree_written t) [] ∙ append-nil (short_pair v (field, tree_written t)))
 
-pub written_none : (schema : List Entry) (field : ℕ) (entry : Entry) (t : Tree) → slice_get schema field ≡ Some entry → false ≡ is_stored_type entry.field_type → [] ≡ written_pairs schema ((field, t) ∷ [])
-written_none schema field entry t found is =
+pub written_none : (v : Version) (schema : List Entry) (field : ℕ) (entry : Entry) (t : Tree) → slice_get schema field ≡ Some entry → false ≡ is_stored_type entry.field_type → [] ≡ written_pairs v schema ((field, t) ∷ [])
+written_none v schema field entry t found is =
     let there : is_stored_field schema field ≡ false = ap is_stored_entry found ∙ sym is in
-    sym (ap (flat_map (short_pair V2)) (stored-cons schema (field, t) [] ∙ ap (λ b. cond b ((field, tree_written t) ∷ []) []) there))
+    sym (ap (flat_map (short_pair v)) (stored-cons schema (field, t) [] ∙ ap (λ b. cond b ((field, tree_written t) ∷ []) []) there))
 
-next_case : (b : Bool) (p : ℕ × Tree) (ps : Document) → flat_map (short_pair V2) (cond b (p ∷ ps) ps) ≡ flat_map (short_pair V2) (cond b (p ∷ []) []) ++ flat_map (short_pair V2) ps
-next_case true p ps = flat_map-cons (short_pair V2) p ps ∙ ap (λ (l : List ℕ). l ++ flat_map (short_pair V2) ps) (sym (flat_map-cons (short_pair V2) p [] ∙ append-nil (short_pair V2 p)))
-next_case false p ps = refl
+next_case : (v : Version) (b : Bool) (p : ℕ × Tree) (ps : Document) → flat_map (short_pair v) (cond b (p ∷ ps) ps) ≡ flat_map (short_pair v) (cond b (p ∷ []) []) ++ flat_map (short_pair v) ps
+next_case v true p ps = flat_map-cons (short_pair v) p ps ∙ ap (λ (l : List ℕ). l ++ flat_map (short_pair v) ps) (sym (flat_map-cons (short_pair v) p [] ∙ append-nil (short_pair v p)))
+next_case v false p ps = refl
 
 -- the first pair that is left, and the others
-pub written_next : (schema : List Entry) (p : ℕ × Tree) (rest d : Document) → d ≡ p ∷ rest → written_pairs schema d ≡ written_pairs schema (p ∷ []) ++ written_pairs schema rest
-written_next schema p rest d cut =
-    ap (written_pairs schema) cut ∙ ap (flat_map (short_pair V2)) (stored-cons schema p rest) ∙ next_case (is_stored_field schema p.0) (written p) (stored schema rest)
-    ∙ ap (λ (l : List ℕ). l ++ written_pairs schema rest) (ap (flat_map (short_pair V2)) (sym (stored-cons schema p [])))
+pub written_next : (v : Version) (schema : List Entry) (p : ℕ × Tree) (rest d : Document) → d ≡ p ∷ rest → written_pairs v schema d ≡ written_pairs v schema (p ∷ []) ++ written_pairs v schema rest
+written_next v schema p rest d cut =
+    ap (written_pairs v schema) cut ∙ ap (flat_map (short_pair v)) (stored-cons schema p rest) ∙ next_case v (is_stored_field schema p.0) (written p) (stored schema rest)
+    ∙ ap (λ (l : List ℕ). l ++ written_pairs v schema rest) (ap (flat_map (short_pair v)) (sym (stored-cons schema p [])))
+
+-- the first of all pairs that are left, and the others
+pub pair_next : (v : Version) (field : ℕ) (t : Tree) (bytes : List ℕ) (rest d : Document) → d ≡ (field, t) ∷ rest → bytes ≡ short v t → flat_map (short_pair v) d ≡ (four_bytes field ++ bytes) ++ flat_map (short_pair v) rest
+pair_next v field t bytes rest d cut is = ap (flat_map (short_pair v)) cut ∙ flat_map-cons (short_pair v) (field, t) rest ∙ ap (λ z. (four_bytes field ++ z) ++ flat_map (short_pair v) rest) (sym is)
 
 -- what the sink told, in the words of the store
 pub writes_for : {S T U : Type 0} {is_known : S → Type 0} {held : S → List ℕ} {failures : S → Failures} {old new : S} {kind : ErrorKind} {text : List ℕ}

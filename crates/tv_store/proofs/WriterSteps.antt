@@ -1,66 +1,41 @@
--- The parts of an array and of an object, as they are written, and what is left of each.
-use Rattle.std.proofs.Common.{◌≡◌, ℕ, ◌<◌, ◌≤◌, List, ◌∷◌, ◌++◌, length, refl, sym, ap, subst, ◌∙◌, arith}
+-- Values as they stand in a heap, and as they are written.
+use Rattle.std.proofs.Common.{◌≡◌, ℕ, ◌≤◌, List, ◌∷◌, ◌++◌, length, refl, sym, ap, ◌∙◌, arith}
+use Rattle.std.specs.Borrow.{Bor}
 use Rattle.std.proofs.lemmas.List.{length-append}
-use Rattle.tv_base.specs.Number.{vnum}
-use Rattle.tv_base.specs.Parts.{short_sized}
-use Rattle.tv_value.specs.Short.{short, short_elements, short_entries, AreElements, AreEntries}
-use Rattle.tv_value.specs.Size.{elements_size, entries_size}
-use Rattle.tv_value.specs.Tree.{tokenized, Tree, leaf, array, object, Elements, elements, Entries, entries}
-use Rattle.tv_value.specs.Version.{V2, entry_total}
-use Rattle.tv_heap.specs.Encoded.{IsTokenized}
-use Rattle.tv_store.specs.Children.{child_count}
+use Rattle.tv_value.specs.Short.{short, short_elements, short_entries, short_key}
+use Rattle.tv_value.specs.Tree.{tokenized, Tree, leaf, elements, entries}
+use Rattle.tv_value.specs.Version.{Version}
+use Rattle.tv_heap.specs.declared.encoded.Encoded.{Encoded}
+use Rattle.tv_heap.specs.declared.encoded.Encoded.TheVariants as held
+use Rattle.tv_heap.specs.Encoded.{IsTokenized, SaysTokenized}
 use Rattle.tv_store.specs.Stored.{tree_written}
+use Rattle.tv_writer.proofs.WriterSteps.{elements_parts, entries_parts}
 
--- ---- arrays
+-- ---- how many bytes are left to write
 
-pub array_parts : {tree : Tree} {es : Elements} {count : ℕ} → tree ≡ array es → count ≡ child_count tree → short V2 tree ≡ (12 ∷ vnum count) ++ short_elements V2 es
-array_parts {es = es} is counted = ap (short V2) is ∙ ap (λ n. (12 ∷ vnum n) ++ short_elements V2 es) (sym (counted ∙ ap child_count is))
+pub others_fewer : (v : Version) {all others : List Tree} {first : Tree} {n : ℕ} → all ≡ first ∷ others → length (short_elements v (elements all)) ≤ n → length (short_elements v (elements others)) ≤ n
+others_fewer v {others = others} {first = first} cut most = omega (arith, most, ap length (elements_parts v cut), length-append (short v first) (short_elements v (elements others)))
 
-pub elements_parts : {all others : List Tree} {first : Tree} → all ≡ first ∷ others → short_elements V2 (elements all) ≡ short V2 first ++ short_elements V2 (elements others)
-elements_parts cut = ap (λ ts. short_elements V2 (elements ts)) cut
+pub entries_fewer : (v : Version) {all others : List (List ℕ × Tree)} {first : List ℕ × Tree} {n : ℕ} → all ≡ first ∷ others → length (short_entries v (entries all)) ≤ n → length (short_entries v (entries others)) ≤ n
+entries_fewer v {others = others} {first = first} cut most =
+    let whole = ap length (entries_parts v {key = first.0} cut refl) in
+    let behind = length-append (short_key v first.0) (short v first.1 ++ short_entries v (entries others)) in
+    omega (arith, most, whole, behind, length-append (short v first.1) (short_entries v (entries others)))
 
-pub elements_valid : {all others : List Tree} {first : Tree} → all ≡ first ∷ others → AreElements (elements all) → AreElements (elements others)
-elements_valid cut valid = (subst (λ ts. AreElements (elements ts)) cut valid).1
+-- ---- what is left to write
 
-pub elements_at_most : {all others : List Tree} {first : Tree} {n : ℕ} → all ≡ first ∷ others → elements_size (elements all) ≤ n → elements_size (elements others) ≤ n
-elements_at_most cut most = let sizes = ap (λ ts. elements_size (elements ts)) cut in omega (arith, most, sizes)
+-- the first value's bytes, and those of the others
+pub elements_next : (v : Version) {all others : List Tree} {first : Tree} {bytes : List ℕ} → all ≡ first ∷ others → bytes ≡ short v first → short_elements v (elements all) ≡ bytes ++ short_elements v (elements others)
+elements_next v {others = others} cut is = elements_parts v cut ∙ ap (λ (z : List ℕ). z ++ short_elements v (elements others)) (sym is)
 
--- ---- objects
+-- ---- texts with their tokens
 
-pub object_parts : {tree : Tree} {es : Entries} {count : ℕ} → tree ≡ object es → count ≡ child_count tree → short V2 tree ≡ (13 ∷ vnum (entry_total V2 count)) ++ short_entries V2 es
-object_parts {es = es} is counted = ap (short V2) is ∙ ap (λ n. (13 ∷ vnum (entry_total V2 n)) ++ short_entries V2 es) (sym (counted ∙ ap child_count is))
-
--- the first key is read in another way
-pub entries_parts : {all others : List (List ℕ × Tree)} {first : List ℕ × Tree} {key : List ℕ} → all ≡ first ∷ others → key ≡ first.0
-    → short_entries V2 (entries all) ≡ (0 ∷ short_sized key) ++ (short V2 first.1 ++ short_entries V2 (entries others))
-entries_parts {others = others} {first = first} cut same =
-    ap (λ es. short_entries V2 (entries es)) cut ∙ ap (λ k. (0 ∷ short_sized k) ++ (short V2 first.1 ++ short_entries V2 (entries others))) (sym same)
-
-pub entries_valid : {all others : List (List ℕ × Tree)} {first : List ℕ × Tree} → all ≡ first ∷ others → AreEntries (entries all) → AreEntries (entries others)
-entries_valid cut valid = (subst (λ es. AreEntries (entries es)) cut valid).2
-
-pub entries_at_most : {all others : List (List ℕ × Tree)} {first : List ℕ × Tree} {n : ℕ} → all ≡ first ∷ others → entries_size (entries all) ≤ n → entries_size (entries others) ≤ n
-entries_at_most cut most = let sizes = ap (λ es. entries_size (entries es)) cut in omega (arith, most, sizes)
-
--- ---- values as they stand in a heap
-
--- a list has fewer bytes behind its head
-pub list_fewer : (tree : Tree) (es : Elements) (code count : ℕ) → code ∷ (vnum count ++ short_elements V2 es) ≡ short V2 tree → length (short_elements V2 es) < length (short V2 tree)
-list_fewer tree es code count is = omega (arith, ap length is, length-append (vnum count) (short_elements V2 es))
-
-pub first_fewer : {all others : List Tree} {first : Tree} {n : ℕ} → all ≡ first ∷ others → length (short_elements V2 (elements all)) ≤ n → length (short V2 first) ≤ n
-first_fewer {others = others} {first = first} cut most = omega (arith, most, ap length (elements_parts cut), length-append (short V2 first) (short_elements V2 (elements others)))
-
-pub others_fewer : {all others : List Tree} {first : Tree} {n : ℕ} → all ≡ first ∷ others → length (short_elements V2 (elements all)) ≤ n → length (short_elements V2 (elements others)) ≤ n
-others_fewer {others = others} {first = first} cut most = omega (arith, most, ap length (elements_parts cut), length-append (short V2 first) (short_elements V2 (elements others)))
+-- another value says nothing of tokens
+pub says_no_tokens : (e : Encoded) → ((content : Bor (List ℕ)) → e ≡ held.Tokenized content → ⊥) → SaysTokenized e → ⊥
+says_no_tokens (held.Tokenized content) none says = none content refl
+says_no_tokens _ none says = says
 
 -- a value without tokens is written as it is
 pub plainly_written : (t : Tree) → (IsTokenized t → ⊥) → tree_written t ≡ t
 plainly_written (leaf (tokenized t ts)) none = absurd (none tt)
 plainly_written _ none = refl
-
-pub written_array : {t : Tree} {es : Elements} → t ≡ array es → tree_written t ≡ t
-written_array e = ap tree_written e ∙ sym e
-
-pub written_object : {t : Tree} {es : Entries} → t ≡ object es → tree_written t ≡ t
-written_object e = ap tree_written e ∙ sym e

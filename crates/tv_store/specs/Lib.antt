@@ -1,8 +1,8 @@
 pub mod Error
 pub mod Stored
-pub mod Serialized
 pub mod Documents
 pub mod Pairs
 pub mod PairsGiven
-pub mod Children
 pub mod RoundTrip
+pub mod Migrate
+pub use Rattle.tv_writer.specs.Serialized

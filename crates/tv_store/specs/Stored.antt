@@ -1,7 +1,7 @@
 -- Which pairs of a document are written.
 use Rattle.std.specs.Prelude.{ℕ, Bool, false, List, map, filter, Option, Some, None, slice_get}
 use Rattle.std.specs.List.{flat_map}
-use Rattle.tv_value.specs.Version.{V2}
+use Rattle.tv_value.specs.Version.{Version}
 use Rattle.tv_value.specs.Short.{short_pair}
 use Rattle.tv_field.specs.Entry.{Entry, is_stored_type}
 use Rattle.tv_value.specs.Tree.{Tree, leaf, array, object, Leaf, text, tokenized, Document}
@@ -29,5 +29,5 @@ abbrev pub stored : List Entry → Document → Document
 stored schema d = map (λ p. (p.0, tree_written p.1)) (filter (λ p. is_stored_field schema p.0) d)
 
 -- the stored pairs, as they are written
-abbrev pub written_pairs : List Entry → Document → List ℕ
-written_pairs schema d = flat_map (short_pair V2) (stored schema d)
+abbrev pub written_pairs : Version → List Entry → Document → List ℕ
+written_pairs v schema d = flat_map (short_pair v) (stored schema d)

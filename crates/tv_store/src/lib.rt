@@ -2,17 +2,19 @@
 #![tactic(auto)]
 
 pub mod de;
-mod encoding;
+mod encoded_writer;
 pub mod error;
 pub mod laws;
+pub mod migration;
+pub mod migration_trip;
+mod pair_writer;
 pub mod pairs_given;
 pub mod round_trip;
 pub mod se;
-mod serializers;
-mod value_writer;
 
 pub use de::{DirectDecoder, DocStoreVersion, Step, read_document};
 pub use error::{DeserializeError, SerializeError, ValueType};
+pub use migration::{MigrateError, migrate};
 pub use pairs_given::DocumentDeserialize;
 pub use se::{
     BinaryArraySerializer, BinaryDocumentSerializer, BinaryObjectSerializer, BinaryValueSerializer,

@@ -6,11 +6,12 @@ ghost use Rattle.std.specs.List.{AllByRecursion};
 ghost use Rattle.tv_doc.specs.Belongs.{Belongs};
 ghost use Rattle.tv_doc.specs.Document.{ReadsAt, document_of, places_of};
 ghost use Rattle.tv_heap.specs.Room.{document_room};
+ghost use Rattle.tv_reader.specs.Version.{version_of};
 ghost use Rattle.tv_store.specs.RoundTrip.{IsCalled, IsKept, given};
 ghost use Rattle.tv_store.specs.Stored.{stored};
 ghost use Rattle.tv_value.specs.Short.{short_document, IsDocument};
 ghost use Rattle.tv_value.specs.Tree.{Document};
-ghost use Rattle.tv_value.specs.Version.{V2};
+ghost use Rattle.tv_value.specs.Version.{V2, IsWritten};
 
 use crate::de::{DocStoreVersion, read_document};
 use crate::error::{DeserializeError, SerializeError};
@@ -102,22 +103,27 @@ fn reading_error(error: &DeserializeError) -> RoundTripError
     }
 }
 
-// The document of which these bytes begin with the shortest encoding, and the bytes behind it.
-fn read_back(alloc: Global, bytes: &[u8]) -> Result<(CompactDoc, Vec<u8>), RoundTripError>
-    requires { (d : Document) × ((rest : List ℕ) × (IsDocument d
-        × (bytes.now ≡ short_document V2 d ++ rest))) }
+// The document of which these bytes begin with the shortest encoding in a version that is written, and the bytes behind it.
+pub(crate) fn read_back(
+    alloc: Global,
+    bytes: &[u8],
+    version: DocStoreVersion,
+) -> Result<(CompactDoc, Vec<u8>), RoundTripError>
+    requires written { IsWritten (version_of version) }
+    requires begins { (d : Document) × ((rest : List ℕ) × (IsDocument d
+        × (bytes.now ≡ short_document (version_of version) d ++ rest))) }
     ensures found { (d : Document) (rest : List ℕ) → IsDocument d
-        → bytes.now ≡ short_document V2 d ++ rest
+        → bytes.now ≡ short_document (version_of version) d ++ rest
         → IfOk result (λ read. (document_of read.0 ≡ d) × (read.1.items ≡ rest)) }
     ensures full { (d : Document) (rest : List ℕ) → IsDocument d
-        → bytes.now ≡ short_document V2 d ++ rest → IsErrOf result RoundTripError.HeapFull
-        → 4294967295 < document_room d }
+        → bytes.now ≡ short_document (version_of version) d ++ rest
+        → IsErrOf result RoundTripError.HeapFull → 4294967295 < document_room d }
 {
     documents_have_one_reading();
     malformed_documents_derive_none();
     short_documents_encode();
     let mut source = SliceSource::new(bytes);
-    match read_document(alloc, &mut source, DocStoreVersion::V2) {
+    match read_document(alloc, &mut source, version) {
         Ok(back) => {
             let left = Vec::from_slice(alloc, source.rest())?;
             Ok((back, left))
@@ -160,7 +166,7 @@ pub fn additions_are_stored_and_read_back(
     let written = stored_bytes(alloc, schema, &added)?;
     let mut bytes = Vec::from_slice(alloc, written.as_slice())?;
     bytes.extend_from_slice(rest)?;
-    let (back, left) = read_back(alloc, bytes.as_slice())?;
+    let (back, left) = read_back(alloc, bytes.as_slice(), DocStoreVersion::V2)?;
     Ok(RoundTrip {
         added,
         written,

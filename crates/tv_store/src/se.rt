@@ -1,99 +1,30 @@
 //! Writing documents into the store.
 
-ghost use Rattle.std.specs.Prelude.{◌≡◌, ◌<◌, [], ◌∷◌, ◌++◌, Ok, IfErr, length};
-ghost use Rattle.tv_base.specs.Number.{four_bytes, eight_bytes};
+ghost use Rattle.std.specs.Prelude.{◌≡◌, ◌<◌, [], ◌∷◌, Ok, IfErr, length};
 ghost use Rattle.tv_base.specs.Sink.{Writes};
 ghost use Rattle.tv_doc.specs.Belongs.{Belongs};
 ghost use Rattle.tv_doc.specs.Document.{document_of};
 ghost use Rattle.tv_heap.specs.Value.{tree_of};
-ghost use Rattle.tv_store.specs.Error as store;
-ghost use Rattle.tv_store.specs.Error.{IsIo};
-ghost use Rattle.tv_store.specs.Stored.{stored, tree_written, written_pairs};
-ghost use Rattle.tv_value.specs.Short.{short_pair, short_document};
-ghost use Rattle.tv_value.specs.Version.{V2};
+ghost use Rattle.tv_store.specs.Stored.{stored, written_pairs};
+ghost use Rattle.tv_value.specs.Short.{short_document};
+ghost use Rattle.tv_value.specs.WriteVersion.{written_version};
+ghost use Rattle.tv_writer.specs.Error as store;
+ghost use Rattle.tv_writer.specs.Error.{IsIo};
 
 use crate::error::SerializeError;
-pub use crate::serializers::{
-    BinaryArraySerializer, BinaryObjectSerializer, BinaryValueSerializer,
-};
-use crate::value_writer::{write_encoded, write_stored_leaf};
+use crate::pair_writer::write_stored_pair;
 use std::io;
 use tv_base::ByteSink;
-use tv_base::write::{write_all, write_u32, write_vint};
+use tv_base::write::write_vint;
 use tv_doc::document::CompactDoc;
 use tv_doc::laws::documents_are_valid;
-use tv_heap::encoded::Encoded;
 use tv_heap::value::CompactDocValue;
 use tv_schema::Schema;
 use tv_value::field::Field;
-use tv_value::value::{ReferenceValue, Value};
-
-// Writes a field and bytes behind their code.
-#[inline]
-#[tactic(auto, using(tv_base::proofs::Written::Writes_then, tv_base::proofs::Written::Writes_prefix))]
-fn write_field_bytes<K: ByteSink>(
-    sink: &mut K,
-    field: Field,
-    code: u8,
-    content: &[u8],
-) -> Result<(), io::ErrorKind>
-    ensures { Writes K.is_known K.held K.failures sink.old sink.new result
-        (four_bytes field.id ++ (code ∷ content.now)) }
-{
-    let [a, b, c, d] = field.field_id().to_le_bytes();
-    write_all(sink, &[a, b, c, d, code])?;
-    write_all(sink, content)
-}
-
-// Writes a field and a number in eight bytes, with the code of its type, at once.
-#[inline]
-fn write_field_u64<K: ByteSink>(
-    sink: &mut K,
-    field: Field,
-    code: u8,
-    number: u64,
-) -> Result<(), io::ErrorKind>
-    ensures { Writes K.is_known K.held K.failures sink.old sink.new result
-        (four_bytes field.id ++ (code ∷ eight_bytes number)) }
-{
-    let [a, b, c, d] = field.field_id().to_le_bytes();
-    let [e, f, g, h, i, j, k, l] = number.to_le_bytes();
-    write_all(sink, &[a, b, c, d, code, e, f, g, h, i, j, k, l])
-}
-
-// Writes a field and a value of any kind. A pre-tokenised text is written as its text.
-#[tactic(auto, using(tv_base::proofs::Written::Writes_then, tv_base::proofs::Written::Writes_prefix))]
-fn write_field_value<K: ByteSink>(
-    sink: &mut K,
-    field: Field,
-    value: CompactDocValue<'_>,
-) -> Result<(), io::ErrorKind>
-    ensures { Writes K.is_known K.held K.failures sink.old sink.new result
-        (short_pair V2 (field.id, tree_written (tree_of value.entry))) }
-{
-    write_u32(sink, field.field_id())?;
-    match value.as_value() {
-        ReferenceValue::Leaf(leaf) => write_stored_leaf(sink, &leaf),
-        ReferenceValue::Array(_) => write_encoded(sink, value),
-        ReferenceValue::Object(_) => write_encoded(sink, value),
-    }
-}
-
-// Writes a pair: its field, and its value. The commonest values are written as they stand in the heap.
-fn write_pair<K: ByteSink>(
-    sink: &mut K,
-    field: Field,
-    value: CompactDocValue<'_>,
-) -> Result<(), io::ErrorKind>
-    ensures { Writes K.is_known K.held K.failures sink.old sink.new result
-        (short_pair V2 (field.id, tree_written (tree_of value.entry))) }
-{
-    match value.encoded() {
-        Encoded::Number(code, number) => write_field_u64(sink, field, code, number),
-        Encoded::Bytes(code, content) => write_field_bytes(sink, field, code, content),
-        _ => write_field_value(sink, field, value),
-    }
-}
+use tv_value::version::WriteVersion;
+pub use tv_writer::serializers::{
+    BinaryArraySerializer, BinaryObjectSerializer, BinaryValueSerializer,
+};
 
 // How many pairs have a stored field.
 fn stored_count(schema: &Schema, document: &CompactDoc) -> u64
@@ -113,52 +44,75 @@ fn stored_count(schema: &Schema, document: &CompactDoc) -> u64
 // Writes the pair, if its field is stored.
 fn write_if_stored<K: ByteSink>(
     sink: &mut K,
+    version: WriteVersion,
     schema: &Schema,
     field: Field,
     value: CompactDocValue<'_>,
 ) -> Result<(), io::ErrorKind>
     requires { field.id < length schema.now }
     ensures { Writes K.is_known K.held K.failures sink.old sink.new result
-        (written_pairs schema.now ((field.id, tree_of value.entry) ∷ [])) }
+        (written_pairs (written_version version) schema.now
+        ((field.id, tree_of value.entry) ∷ [])) }
 {
     if schema.get_field_entry(field).is_stored() {
-        write_pair(sink, field, value)
+        write_stored_pair(sink, version, field, value)
     } else {
         Ok(())
     }
 }
 
 // Writes the stored pairs, in order.
-fn write_pairs<K: ByteSink>(
+fn write_stored_pairs<K: ByteSink>(
     sink: &mut K,
+    version: WriteVersion,
     schema: &Schema,
     document: &CompactDoc,
 ) -> Result<(), io::ErrorKind>
     requires { Belongs schema.now (document_of document.now) }
     ensures { Writes K.is_known K.held K.failures sink.old sink.new result
-        (written_pairs schema.now (document_of document.now)) }
+        (written_pairs (written_version version) schema.now (document_of document.now)) }
 {
     for (field, value) in document.field_values() {
-        write_if_stored(sink, schema, field, value)?;
+        write_if_stored(sink, version, schema, field, value)?;
     }
     Ok(())
 }
 
-/// Writes documents to a sink: the pairs whose field is stored, as the store's version 2 has them.
+/// Writes documents to a sink: the pairs whose field is stored, in either version of the store that is written.
 #[derive(Drop)]
 pub struct BinaryDocumentSerializer<'se, K: ByteSink> {
     sink: &'se mut K,
     schema: &'se Schema,
+    version: WriteVersion,
 }
 
 impl<'se, K: ByteSink> BinaryDocumentSerializer<'se, K> {
-    /// Writes to this sink documents of this schema. Nothing is written yet.
+    /// Writes to this sink documents of this schema, as version 2 has them. Nothing is written yet.
     pub fn new(sink: &'se mut K, schema: &'se Schema) -> BinaryDocumentSerializer<'se, K>
         ensures same_sink { result.sink.ghost_name ≡ sink.entry.ghost_name }
         ensures sink { result.sink.now ≡ sink.old }
         ensures schema { result.schema.now ≡ schema.now }
+        ensures version { result.version ≡ WriteVersion.V2 }
     {
-        BinaryDocumentSerializer { sink, schema }
+        BinaryDocumentSerializer::with_version(sink, schema, WriteVersion::V2)
+    }
+
+    /// Writes to this sink documents of this schema, as this version has them. Nothing is written yet. (Not in tantivy.)
+    pub fn with_version(
+        sink: &'se mut K,
+        schema: &'se Schema,
+        version: WriteVersion,
+    ) -> BinaryDocumentSerializer<'se, K>
+        ensures same_sink { result.sink.ghost_name ≡ sink.entry.ghost_name }
+        ensures sink { result.sink.now ≡ sink.old }
+        ensures schema { result.schema.now ≡ schema.now }
+        ensures version { result.version ≡ version }
+    {
+        BinaryDocumentSerializer {
+            sink,
+            schema,
+            version,
+        }
     }
 
     /// Appends the stored pairs of a document whose fields belong to the schema, in the shortest encoding. It takes no memory
@@ -180,13 +134,15 @@ impl<'se, K: ByteSink> BinaryDocumentSerializer<'se, K> {
         requires { Belongs self.old.schema.now (document_of document.now) }
         ensures same_sink { self.new.sink.ghost_name ≡ self.old.sink.ghost_name }
         ensures schema { self.new.schema.now ≡ self.old.schema.now }
+        ensures version { self.new.version ≡ self.old.version }
         ensures writes { store.Writes K.is_known K.held K.failures self.old.sink.now
             self.new.sink.now result
-            (Ok (short_document V2 (stored self.old.schema.now (document_of document.now)))) }
+            (Ok (short_document (written_version self.old.version)
+            (stored self.old.schema.now (document_of document.now)))) }
         ensures io { IfErr result IsIo }
     {
         write_vint(self.sink, stored_count(self.schema, document))?;
-        write_pairs(self.sink, self.schema, document)?;
+        write_stored_pairs(self.sink, self.version, self.schema, document)?;
         Ok(())
     }
 }

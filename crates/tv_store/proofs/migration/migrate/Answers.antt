@@ -1,0 +1,66 @@
+use Rattle.std.proofs.Common.{◌++◌, refl, ap, ◌∙◌, subst}
+use Rattle.std.proofs.lemmas.Result.{err_from_is_err_and}
+use Rattle.tv_base.specs.Sink.{Begins}
+use Rattle.tv_doc.specs.Document.{document_of}
+use Rattle.tv_reader.specs.Version.{version_of}
+use Rattle.tv_value.specs.Short.{short_document}
+use Rattle.tv_value.specs.WriteVersion.{written_version}
+use Rattle.tv_store.specs.Migrate.{IsUnread}
+use Rattle.tv_store.proofs.Migrations.{unread_appends, unread_of, read_of}
+use Rattle.tv_store.proofs.migration.migrate.Goals as goal
+
+-- the document isn't read
+
+pub returns-in_err-document-clause-only : goal.returns-in_err-document-clause-only
+returns-in_err-document-clause-only g c =
+    let p = err_from_is_err_and c.from_residual.result c.from_residual.ensures.1 in
+    λ known told d prefix rest joined encoded small.
+    rw (p.1, p.2) (unread_appends c.in_err-document.field-0.0 d _ rest _ _ _ (c.in_err-document.ensures.only known d prefix rest joined encoded small))
+
+pub returns-in_err-document-clause-unread : goal.returns-in_err-document-clause-unread
+returns-in_err-document-clause-unread g c =
+    let p = err_from_is_err_and c.from_residual.result c.from_residual.ensures.1 in
+    let v = version_of c.args.from in
+    let S = g.S.ByteSource in
+    let old = c.args.source.now in
+    let new = c.read_document.new.source in
+    let h = c.in_err-document.ensures in
+    λ e is.
+    (subst (IsUnread v S.is_known S.left old new) (read_of _ _ _ e p.1 p.2 is) (unread_of v S.is_known S.left old new c.in_err-document.field-0.0 h.error h.shows h.full h.too_long), refl)
+
+-- the document is read
+
+pub returns-in_err-write_document-clause-only : goal.returns-in_err-write_document-clause-only
+returns-in_err-write_document-clause-only g c =
+    let p = err_from_is_err_and c.from_residual-in_err-write_document.result c.from_residual-in_err-write_document.ensures.1 in
+    let v = written_version c.args.to in
+    let K = g.K.ByteSink in
+    λ known told d prefix rest joined encoded small.
+    let a = c.in_ok-document.ensures.only known d prefix rest joined encoded small in
+    rw (p.1, p.2) (a.1, subst (λ z. Begins (K.held c.args.sink.now) (K.held c.write_document.new.sink) (short_document v z)) a.0 (c.in_err-write_document.ensures.appends told))
+
+pub returns-in_err-write_document-clause-unwritten : goal.returns-in_err-write_document-clause-unwritten
+returns-in_err-write_document-clause-unwritten g c = λ known told e is.
+    record {
+      document = document_of c.in_ok-document.document;
+      read = c.in_ok-document.ensures.found known;
+      valid = c.documents_are_valid.ensures c.in_ok-document.document;
+      written = c.in_err-write_document.ensures.appends told;
+    }
+
+pub returns-clause-only : goal.returns-clause-only
+returns-clause-only g c =
+    let v = written_version c.args.to in
+    let K = g.K.ByteSink in
+    λ known told d prefix rest joined encoded small.
+    let a = c.in_ok-document.ensures.only known d prefix rest joined encoded small in
+    (a.1, c.in_ok-write_document.ensures.appends told ∙ ap (λ z. K.held c.args.sink.now ++ short_document v z) a.0)
+
+pub returns-clause-migrated : goal.returns-clause-migrated
+returns-clause-migrated g c = λ known told.
+    record {
+      document = document_of c.in_ok-document.document;
+      read = c.in_ok-document.ensures.found known;
+      valid = c.documents_are_valid.ensures c.in_ok-document.document;
+      written = c.in_ok-write_document.ensures.appends told;
+    }

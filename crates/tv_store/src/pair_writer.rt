@@ -1,0 +1,177 @@
+//! Writing the pairs of a document, in either version of the store that is written.
+//!
+//! Each function hands on the error of a failed write. The sink then holds what it held before, and a beginning of what was
+//! to be written.
+
+ghost use Rattle.std.specs.Prelude.{◌≡◌, ◌∷◌, ◌++◌};
+ghost use Rattle.std.specs.List.{flat_map};
+ghost use Rattle.tv_base.specs.Number.{four_bytes, eight_bytes};
+ghost use Rattle.tv_base.specs.Sink.{Writes};
+ghost use Rattle.tv_doc.specs.Document.{document_of};
+ghost use Rattle.tv_heap.specs.Encoded.{encoded_bytes, HasFewEntries, IsTokenized};
+ghost use Rattle.tv_heap.specs.Value.{tree_of};
+ghost use Rattle.tv_store.specs.Stored.{leaf_written, tree_written};
+ghost use Rattle.tv_value.specs.Lent.{leaf_of};
+ghost use Rattle.tv_value.specs.Short.{short_document, short_leaf, short_pair};
+ghost use Rattle.tv_value.specs.Version.{Version};
+ghost use Rattle.tv_value.specs.WriteVersion.{written_version};
+
+use crate::encoded_writer::write_encoded;
+use crate::type_codes::TEXT_CODE;
+use std::io;
+use tv_base::ByteSink;
+use tv_base::write::{write_all, write_u32, write_vint};
+use tv_doc::document::CompactDoc;
+use tv_heap::encoded::Encoded;
+use tv_heap::value::CompactDocValue;
+use tv_value::field::Field;
+use tv_value::leaf::ReferenceValueLeaf;
+use tv_value::value::{ReferenceValue, Value};
+use tv_value::version::WriteVersion;
+use tv_writer::leaf_writer::{write_coded_text, write_leaf};
+
+// Writes a field and bytes behind their code.
+#[inline]
+#[tactic(auto, using(tv_base::proofs::Written::Writes_then, tv_base::proofs::Written::Writes_prefix))]
+fn write_field_bytes<K: ByteSink>(
+    sink: &mut K,
+    field: Field,
+    code: u8,
+    content: &[u8],
+) -> Result<(), io::ErrorKind>
+    ensures { Writes K.is_known K.held K.failures sink.old sink.new result
+        (four_bytes field.id ++ (code ∷ content.now)) }
+{
+    let [a, b, c, d] = field.field_id().to_le_bytes();
+    write_all(sink, &[a, b, c, d, code])?;
+    write_all(sink, content)
+}
+
+// Writes a field and a number in eight bytes, with the code of its type, at once.
+#[inline]
+fn write_field_u64<K: ByteSink>(
+    sink: &mut K,
+    field: Field,
+    code: u8,
+    number: u64,
+) -> Result<(), io::ErrorKind>
+    ensures { Writes K.is_known K.held K.failures sink.old sink.new result
+        (four_bytes field.id ++ (code ∷ eight_bytes number)) }
+{
+    let [a, b, c, d] = field.field_id().to_le_bytes();
+    let [e, f, g, h, i, j, k, l] = number.to_le_bytes();
+    write_all(sink, &[a, b, c, d, code, e, f, g, h, i, j, k, l])
+}
+
+// Writes a field and what the version has for a value.
+#[tactic(auto, using(tv_base::proofs::Written::Writes_then, tv_base::proofs::Written::Writes_prefix))]
+fn write_field_encoded<K: ByteSink>(
+    sink: &mut K,
+    version: WriteVersion,
+    field: Field,
+    encoded: Encoded<'_>,
+) -> Result<(), io::ErrorKind>
+    requires { HasFewEntries encoded }
+    ensures { Writes K.is_known K.held K.failures sink.old sink.new result
+        (four_bytes field.id ++ encoded_bytes (written_version version) encoded.entry) }
+{
+    write_u32(sink, field.field_id())?;
+    write_encoded(sink, version, encoded)
+}
+
+// The same. What is commonest is written with the field, at once.
+#[inline(always)]
+pub(crate) fn write_pair<K: ByteSink>(
+    sink: &mut K,
+    version: WriteVersion,
+    field: Field,
+    encoded: Encoded<'_>,
+) -> Result<(), io::ErrorKind>
+    requires { HasFewEntries encoded }
+    ensures { Writes K.is_known K.held K.failures sink.old sink.new result
+        (four_bytes field.id ++ encoded_bytes (written_version version) encoded.entry) }
+{
+    match encoded {
+        Encoded::Number(code, number) => write_field_u64(sink, field, code, number),
+        Encoded::Bytes(code, content) => write_field_bytes(sink, field, code, content),
+        other => write_field_encoded(sink, version, field, other),
+    }
+}
+
+// Writes a value without children, of a text with tokens the text alone.
+fn write_stored_leaf<K: ByteSink>(
+    sink: &mut K,
+    leaf: &ReferenceValueLeaf<'_>,
+) -> Result<(), io::ErrorKind>
+    ensures { Writes K.is_known K.held K.failures sink.old sink.new result
+        (short_leaf (leaf_written (leaf_of leaf.now))) }
+{
+    match leaf {
+        ReferenceValueLeaf::PreTokStr(text) => write_coded_text(sink, TEXT_CODE, text.text()),
+        other => write_leaf(sink, other),
+    }
+}
+
+// Writes a field and the text of a text with tokens.
+#[tactic(auto, using(tv_base::proofs::Written::Writes_then, tv_base::proofs::Written::Writes_prefix))]
+fn write_field_text<K: ByteSink>(
+    sink: &mut K,
+    field: Field,
+    value: CompactDocValue<'_>,
+) -> Result<(), io::ErrorKind>
+    requires { IsTokenized (tree_of value) }
+    ensures { (v : Version) → Writes K.is_known K.held K.failures sink.old sink.new result
+        (short_pair v (field.id, tree_written (tree_of value.entry))) }
+{
+    write_u32(sink, field.field_id())?;
+    match value.as_value() {
+        ReferenceValue::Leaf(leaf) => write_stored_leaf(sink, &leaf),
+        ReferenceValue::Array(_) => unreachable!(),
+        ReferenceValue::Object(_) => unreachable!(),
+    }
+}
+
+// Writes a pair as it is stored: its field, and its value, of a text with tokens the text alone.
+pub(crate) fn write_stored_pair<K: ByteSink>(
+    sink: &mut K,
+    version: WriteVersion,
+    field: Field,
+    value: CompactDocValue<'_>,
+) -> Result<(), io::ErrorKind>
+    ensures { Writes K.is_known K.held K.failures sink.old sink.new result
+        (short_pair (written_version version) (field.id, tree_written (tree_of value.entry))) }
+{
+    match value.encoded() {
+        Encoded::Tokenized(_) => write_field_text(sink, field, value),
+        encoded => write_pair(sink, version, field, encoded),
+    }
+}
+
+// Writes all pairs of a document, in order.
+fn write_pairs<K: ByteSink>(
+    sink: &mut K,
+    version: WriteVersion,
+    document: &CompactDoc,
+) -> Result<(), io::ErrorKind>
+    ensures { Writes K.is_known K.held K.failures sink.old sink.new result
+        (flat_map (short_pair (written_version version)) (document_of document.now)) }
+{
+    for (field, value) in document.field_values() {
+        write_pair(sink, version, field, value.encoded())?;
+    }
+    Ok(())
+}
+
+// Writes a document with all its pairs, a text with tokens with them.
+#[tactic(auto, using(tv_base::proofs::Written::Writes_then, tv_base::proofs::Written::Writes_prefix))]
+pub(crate) fn write_document<K: ByteSink>(
+    sink: &mut K,
+    version: WriteVersion,
+    document: &CompactDoc,
+) -> Result<(), io::ErrorKind>
+    ensures { Writes K.is_known K.held K.failures sink.old sink.new result
+        (short_document (written_version version) (document_of document.now)) }
+{
+    write_vint(sink, document.len() as u64)?;
+    write_pairs(sink, version, document)
+}

@@ -1,0 +1,3 @@
+pub mod Error
+pub mod Serialized
+pub mod Children

@@ -1,0 +1,24 @@
+-- What the serializers of values, arrays and objects do.
+use Rattle.std.specs.Prelude.{◌≡◌, ◌-◌, ℕ, List, Result, Ok, Err, IfErr, is_ok, if◌then◌else◌}
+use Rattle.tv_base.specs.Source.{Failures}
+use Rattle.tv_writer.specs.Error.{Writes, IsIo}
+use Rattle.tv_writer.specs.declared.error.SerializeError.{SerializeError}
+use Rattle.tv_writer.specs.declared.error.SerializeError.TheVariants.{TooMany}
+
+-- a refusal, which writes nothing
+abbrev pub Refuses : {S T : Type 0} → SerializeError → S → S → Result T SerializeError → Type 0
+Refuses error old new result = (result ≡ Err error) × (new ≡ old)
+
+-- A write of this text returned the error: it left the sink so, with a failure more, of the kind that is told.
+abbrev pub FailsToWrite : {S : Type 0} → (S → Type 0) → (S → List ℕ) → (S → Failures) → S → SerializeError → List ℕ → Type 0
+FailsToWrite {S} is_known held failures old error text = (new : S) × Writes {T = ℕ} is_known held failures old new (Err error) (Ok text)
+
+-- The text is written where P holds, unless the sink fails, and else it is refused.
+pub record WritesWhere {S T : Type 0} (P : Type 0) (is_known : S → Type 0) (held : S → List ℕ) (failures : S → Failures) (old new : S) (result : Result T SerializeError) (text : List ℕ) : Type 0 where
+  pub writes : P → Writes is_known held failures old new result (Ok text)
+  pub io : P → IfErr result IsIo
+  pub refuses : ¬ P → Refuses TooMany old new result
+
+-- how many are awaited after a call that gives one
+abbrev pub awaited_after : {T : Type 0} → ℕ → Result T SerializeError → ℕ
+awaited_after n result = if is_ok result then n - 1 else n

@@ -1,0 +1,29 @@
+//! Why values aren't written.
+
+ghost use Rattle.std.specs.Prelude.{◌≡◌};
+ghost use Rattle.tv_writer.specs.Error.{write_error};
+
+use std::io;
+use thiserror::Error;
+
+/// Why a value or a document couldn't be written.
+#[derive(Clone, Copy, Debug, PartialEq, Eq, Error)]
+pub enum SerializeError {
+    /// The sink failed.
+    #[error("the sink failed: {0}")]
+    Io(io::ErrorKind),
+    /// Another number of values was given than was announced.
+    #[error("another number of values was given than was announced")]
+    WrongCount,
+    /// An object announces a number above 2^64 - 1, or a value has an array, an object, a text or bytes that are too long for it.
+    #[error("there are too many entries")]
+    TooMany,
+}
+
+impl From<io::ErrorKind> for SerializeError {
+    ghost from_gives = { λ kind told. told ≡ write_error kind };
+
+    fn from(kind: io::ErrorKind) -> SerializeError {
+        SerializeError::Io(kind)
+    }
+}

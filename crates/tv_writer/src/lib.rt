@@ -1,0 +1,11 @@
+//! Writing values in their shortest encoding, and arrays and objects value by value.
+#![tactic(auto)]
+
+mod encoding;
+pub mod error;
+pub mod leaf_writer;
+pub mod serializers;
+pub mod value_writer;
+
+pub use error::SerializeError;
+pub use serializers::{BinaryArraySerializer, BinaryObjectSerializer, BinaryValueSerializer};

@@ -1,0 +1,345 @@
+//! Writing values, arrays and objects one by one, in either version of the store that is written.
+
+ghost use Rattle.std.specs.Prelude.{◌≡◌, ◌==◌, ◌*◌, ◌<◌, ◌≤◌, ◌^◌, ◌++◌, Ok, Err, IfOk, IfErr};
+ghost use Rattle.std.specs.Prelude.{if◌then◌else◌};
+ghost use Rattle.tv_base.specs.Number.{vnum};
+ghost use Rattle.tv_base.specs.Sink.{Writes};
+ghost use Rattle.tv_writer.specs.Error as store;
+ghost use Rattle.tv_writer.specs.Error.{IsIo};
+ghost use Rattle.tv_writer.specs.Serialized.{FailsToWrite, Refuses, WritesWhere, awaited_after};
+ghost use Rattle.tv_value.specs.Short.{short, short_key, IsValue};
+ghost use Rattle.tv_value.specs.Version.{entry_total};
+ghost use Rattle.tv_value.specs.WriteVersion.{written_version};
+
+use crate::encoding::has_encoding;
+use crate::error::SerializeError;
+use crate::value_writer::{write_key, write_value};
+use std::io;
+use tv_base::ByteSink;
+use tv_base::write::write_vint;
+use tv_value::value::Value;
+use tv_value::version::WriteVersion;
+
+// A value, where it has an encoding.
+fn write_shortest<'a, K: ByteSink, V: Value<'a>>(
+    sink: &mut K,
+    value: &V,
+    version: WriteVersion,
+) -> Result<(), SerializeError>
+    ensures { WritesWhere (IsValue (V.tree value.now)) K.is_known K.held K.failures sink.old
+        sink.new result (short (written_version version) (V.tree value.now)) }
+{
+    if !has_encoding(value) {
+        return Err(SerializeError::TooMany);
+    }
+    write_value(sink, value, version)?;
+    Ok(())
+}
+
+// A key and a value.
+#[tactic(auto, using(tv_base::proofs::Written::Writes_then, tv_base::proofs::Written::Writes_prefix))]
+fn write_key_and_value<'a, K: ByteSink, V: Value<'a>>(
+    sink: &mut K,
+    key: &str,
+    value: &V,
+    version: WriteVersion,
+) -> Result<(), io::ErrorKind>
+    requires { IsValue (V.tree value.now) }
+    ensures { Writes K.is_known K.held K.failures sink.old sink.new result
+        (short_key (written_version version) key.now
+        ++ short (written_version version) (V.tree value.now)) }
+{
+    write_key(sink, version, key)?;
+    write_value(sink, value, version)
+}
+
+// A key and a value, where the value has an encoding.
+fn write_entry<'a, K: ByteSink, V: Value<'a>>(
+    sink: &mut K,
+    key: &str,
+    value: &V,
+    version: WriteVersion,
+) -> Result<(), SerializeError>
+    ensures { WritesWhere (IsValue (V.tree value.now)) K.is_known K.held K.failures sink.old
+        sink.new result
+        (short_key (written_version version) key.now
+        ++ short (written_version version) (V.tree value.now)) }
+{
+    if !has_encoding(value) {
+        return Err(SerializeError::TooMany);
+    }
+    write_key_and_value(sink, key, value, version)?;
+    Ok(())
+}
+
+// Whether all were given that were awaited.
+fn ended(awaited: u64) -> Result<(), SerializeError>
+    ensures { result ≡ (if awaited == 0 then Ok tt else Err SerializeError.WrongCount) }
+{
+    if awaited == 0 {
+        Ok(())
+    } else {
+        Err(SerializeError::WrongCount)
+    }
+}
+
+/// Writes values to a sink, each in its shortest encoding.
+#[derive(Drop)]
+pub struct BinaryValueSerializer<'se, K: ByteSink> {
+    sink: &'se mut K,
+    version: WriteVersion,
+}
+
+impl<'se, K: ByteSink> BinaryValueSerializer<'se, K> {
+    /// Writes values to this sink, as version 2 has them. Nothing is written yet.
+    pub fn new(sink: &'se mut K) -> BinaryValueSerializer<'se, K>
+        ensures same_sink { result.sink.ghost_name ≡ sink.entry.ghost_name }
+        ensures sink { result.sink.now ≡ sink.old }
+        ensures version { result.version ≡ WriteVersion.V2 }
+    {
+        BinaryValueSerializer::with_version(sink, WriteVersion::V2)
+    }
+
+    /// Writes values to this sink, as this version has them. Nothing is written yet. (Not in tantivy.)
+    pub fn with_version(sink: &'se mut K, version: WriteVersion) -> BinaryValueSerializer<'se, K>
+        ensures same_sink { result.sink.ghost_name ≡ sink.entry.ghost_name }
+        ensures sink { result.sink.now ≡ sink.old }
+        ensures version { result.version ≡ version }
+    {
+        BinaryValueSerializer { sink, version }
+    }
+
+    /// Appends a value. It takes no memory.
+    ///
+    /// Errors: `TooMany` where an array or an object in it has 2^63 children or more, or a text or bytes that length, and then
+    /// nothing is written; else `Io` where the sink failed. The sink then holds what it held before, and a beginning of the
+    /// value; a later call appends to that.
+    pub fn serialize_value<'a, V: Value<'a>>(&mut self, value: &V) -> Result<(), SerializeError>
+        ensures same_sink { self.new.sink.ghost_name ≡ self.old.sink.ghost_name }
+        ensures version { self.new.version ≡ self.old.version }
+        ensures writes { WritesWhere (IsValue (V.tree value.now)) K.is_known K.held K.failures
+            self.old.sink.now self.new.sink.now result
+            (short (written_version self.old.version) (V.tree value.now)) }
+    {
+        write_shortest(self.sink, value, self.version)
+    }
+}
+
+/// Writes an array to a sink: the number of its values, and each. The code of an array isn't written.
+#[derive(Drop)]
+pub struct BinaryArraySerializer<'se, K: ByteSink> {
+    sink: &'se mut K,
+    awaited: u64,
+    version: WriteVersion,
+}
+
+impl<'se, K: ByteSink> BinaryArraySerializer<'se, K> {
+    fn awaiting(
+        sink: &'se mut K,
+        awaited: u64,
+        version: WriteVersion,
+    ) -> BinaryArraySerializer<'se, K>
+        ensures same_sink { result.sink.ghost_name ≡ sink.entry.ghost_name }
+        ensures sink { result.sink.now ≡ sink.old }
+        ensures awaited { result.awaited ≡ awaited }
+        ensures version { result.version ≡ version }
+    {
+        BinaryArraySerializer {
+            sink,
+            awaited,
+            version,
+        }
+    }
+
+    /// Appends the number of values, all of which are then awaited, each as version 2 has it. It takes no memory.
+    ///
+    /// The only error is `Io`, where the sink failed. The sink then holds what it held before, and a beginning of the number. Its
+    /// clause says that a failed write leaves a sink so, and not that it is this one: a contract can't say how a borrow of a sink of
+    /// any type ends that the answer may keep.
+    pub fn begin(
+        count: u64,
+        sink: &'se mut K,
+    ) -> Result<BinaryArraySerializer<'se, K>, SerializeError>
+        ensures same_sink { IfOk result (λ made. made.sink.ghost_name ≡ sink.entry.ghost_name) }
+        ensures writes { IfOk result
+            (λ made. store.Writes K.is_known K.held K.failures sink.old made.sink.now result
+            (Ok (vnum count))) }
+        ensures awaited { IfOk result (λ made. made.awaited ≡ count) }
+        ensures version { IfOk result (λ made. made.version ≡ WriteVersion.V2) }
+        ensures io { IfErr result IsIo }
+        ensures fails { IfErr result
+            (λ e. FailsToWrite K.is_known K.held K.failures sink.old e (vnum count)) }
+    {
+        BinaryArraySerializer::begin_with_version(count, sink, WriteVersion::V2)
+    }
+
+    /// The same, with each value as this version has it. (Not in tantivy.)
+    pub fn begin_with_version(
+        count: u64,
+        sink: &'se mut K,
+        version: WriteVersion,
+    ) -> Result<BinaryArraySerializer<'se, K>, SerializeError>
+        ensures same_sink { IfOk result (λ made. made.sink.ghost_name ≡ sink.entry.ghost_name) }
+        ensures writes { IfOk result
+            (λ made. store.Writes K.is_known K.held K.failures sink.old made.sink.now result
+            (Ok (vnum count))) }
+        ensures awaited { IfOk result (λ made. made.awaited ≡ count) }
+        ensures version { IfOk result (λ made. made.version ≡ version) }
+        ensures io { IfErr result IsIo }
+        ensures fails { IfErr result
+            (λ e. FailsToWrite K.is_known K.held K.failures sink.old e (vnum count)) }
+    {
+        write_vint(sink, count)?;
+        Ok(BinaryArraySerializer::awaiting(sink, count, version))
+    }
+
+    /// Appends a value, of which one less is then awaited. It takes no memory.
+    ///
+    /// Errors: `WrongCount` where none is awaited, and nothing is written; else those of `BinaryValueSerializer`. After each as
+    /// many are awaited as before.
+    pub fn serialize_value<'a, V: Value<'a>>(&mut self, value: &V) -> Result<(), SerializeError>
+        ensures same_sink { self.new.sink.ghost_name ≡ self.old.sink.ghost_name }
+        ensures full { self.old.awaited ≡ 0
+            → Refuses SerializeError.WrongCount self.old.sink.now self.new.sink.now result }
+        ensures writes { 0 < self.old.awaited
+            → WritesWhere (IsValue (V.tree value.now)) K.is_known K.held K.failures
+            self.old.sink.now self.new.sink.now result
+            (short (written_version self.old.version) (V.tree value.now)) }
+        ensures awaited { self.new.awaited ≡ awaited_after self.old.awaited result }
+        ensures version { self.new.version ≡ self.old.version }
+    {
+        let Some(others) = self.awaited.checked_sub(1) else {
+            return Err(SerializeError::WrongCount);
+        };
+        write_shortest(self.sink, value, self.version)?;
+        self.awaited = others;
+        Ok(())
+    }
+
+    /// Ends the array. Nothing is written. The only error is `WrongCount`, where values are still awaited.
+    pub fn end(self) -> Result<(), SerializeError>
+        ensures sink { self.exit.0.now ≡ self.entry.sink.now }
+        ensures count { result
+            ≡ (if self.entry.awaited == 0 then Ok tt else Err SerializeError.WrongCount) }
+    {
+        ended(self.awaited)
+    }
+}
+
+/// Writes an object to a sink: the number of its entries, in version 2 twice that, and each key and value. The code of an object
+/// isn't written.
+#[derive(Drop)]
+pub struct BinaryObjectSerializer<'se, K: ByteSink> {
+    sink: &'se mut K,
+    awaited: u64,
+    version: WriteVersion,
+}
+
+impl<'se, K: ByteSink> BinaryObjectSerializer<'se, K> {
+    fn awaiting(
+        sink: &'se mut K,
+        awaited: u64,
+        version: WriteVersion,
+    ) -> BinaryObjectSerializer<'se, K>
+        ensures same_sink { result.sink.ghost_name ≡ sink.entry.ghost_name }
+        ensures sink { result.sink.now ≡ sink.old }
+        ensures awaited { result.awaited ≡ awaited }
+        ensures version { result.version ≡ version }
+    {
+        BinaryObjectSerializer {
+            sink,
+            awaited,
+            version,
+        }
+    }
+
+    /// Appends twice the number of entries, all of which are then awaited, each as version 2 has it. It takes no memory.
+    ///
+    /// Errors: `TooMany` where twice the number is above 2^64 - 1, and nothing is written; else `Io` where the sink failed. The
+    /// sink then holds what it held before, and a beginning of the number. Its clause says that a failed write leaves a sink so,
+    /// and not that it is this one: a contract can't say how a borrow of a sink of any type ends that the answer may keep.
+    pub fn begin(
+        count: u64,
+        sink: &'se mut K,
+    ) -> Result<BinaryObjectSerializer<'se, K>, SerializeError>
+        ensures same_sink { IfOk result (λ made. made.sink.ghost_name ≡ sink.entry.ghost_name) }
+        ensures writes { IfOk result
+            (λ made. store.Writes K.is_known K.held K.failures sink.old made.sink.now result
+            (Ok (vnum (2 * count)))) }
+        ensures awaited { IfOk result (λ made. made.awaited ≡ count) }
+        ensures version { IfOk result (λ made. made.version ≡ WriteVersion.V2) }
+        ensures too_many { 2 ^ 64 ≤ 2 * count → result ≡ Err SerializeError.TooMany }
+        ensures io { 2 * count < 2 ^ 64 → IfErr result IsIo }
+        ensures fails { 2 * count < 2 ^ 64 → IfErr result
+            (λ e. FailsToWrite K.is_known K.held K.failures sink.old e (vnum (2 * count))) }
+    {
+        BinaryObjectSerializer::begin_with_version(count, sink, WriteVersion::V2)
+    }
+
+    /// Appends the number that an object of so many entries announces in this version, all of which are then awaited, each as this
+    /// version has it. It takes no memory. (Not in tantivy.)
+    ///
+    /// Errors: `TooMany` where the announced number is above 2^64 - 1, which it never is in version 3, and nothing is written; else
+    /// `Io` where the sink failed. The sink then holds what it held before, and a beginning of the number, as after `begin`.
+    pub fn begin_with_version(
+        count: u64,
+        sink: &'se mut K,
+        version: WriteVersion,
+    ) -> Result<BinaryObjectSerializer<'se, K>, SerializeError>
+        ensures same_sink { IfOk result (λ made. made.sink.ghost_name ≡ sink.entry.ghost_name) }
+        ensures writes { IfOk result
+            (λ made. store.Writes K.is_known K.held K.failures sink.old made.sink.now result
+            (Ok (vnum (entry_total (written_version version) count)))) }
+        ensures awaited { IfOk result (λ made. made.awaited ≡ count) }
+        ensures version { IfOk result (λ made. made.version ≡ version) }
+        ensures too_many { 2 ^ 64 ≤ entry_total (written_version version) count
+            → result ≡ Err SerializeError.TooMany }
+        ensures io { entry_total (written_version version) count < 2 ^ 64 → IfErr result IsIo }
+        ensures fails { entry_total (written_version version) count < 2 ^ 64 → IfErr result
+            (λ e. FailsToWrite K.is_known K.held K.failures sink.old e
+            (vnum (entry_total (written_version version) count))) }
+    {
+        let Some(total) = version.object_total(count) else {
+            return Err(SerializeError::TooMany);
+        };
+        write_vint(sink, total)?;
+        Ok(BinaryObjectSerializer::awaiting(sink, count, version))
+    }
+
+    /// Appends a key and a value, of which one less is then awaited. It takes no memory.
+    ///
+    /// Errors: `WrongCount` where none is awaited, and nothing is written; else those of `BinaryValueSerializer`, where the sink
+    /// may hold a beginning of the key and the value. After each as many are awaited as before.
+    pub fn serialize_entry<'a, V: Value<'a>>(
+        &mut self,
+        key: &str,
+        value: &V,
+    ) -> Result<(), SerializeError>
+        ensures same_sink { self.new.sink.ghost_name ≡ self.old.sink.ghost_name }
+        ensures full { self.old.awaited ≡ 0
+            → Refuses SerializeError.WrongCount self.old.sink.now self.new.sink.now result }
+        ensures writes { 0 < self.old.awaited
+            → WritesWhere (IsValue (V.tree value.now)) K.is_known K.held K.failures
+            self.old.sink.now self.new.sink.now result
+            (short_key (written_version self.old.version) key.now
+            ++ short (written_version self.old.version) (V.tree value.now)) }
+        ensures awaited { self.new.awaited ≡ awaited_after self.old.awaited result }
+        ensures version { self.new.version ≡ self.old.version }
+    {
+        let Some(others) = self.awaited.checked_sub(1) else {
+            return Err(SerializeError::WrongCount);
+        };
+        write_entry(self.sink, key, value, self.version)?;
+        self.awaited = others;
+        Ok(())
+    }
+
+    /// Ends the object. Nothing is written. The only error is `WrongCount`, where entries are still awaited.
+    pub fn end(self) -> Result<(), SerializeError>
+        ensures sink { self.exit.0.now ≡ self.entry.sink.now }
+        ensures count { result
+            ≡ (if self.entry.awaited == 0 then Ok tt else Err SerializeError.WrongCount) }
+    {
+        ended(self.awaited)
+    }
+}
