@@ -13,7 +13,7 @@ use tv_builder::place::Place;
 use tv_heap::len::leaf_len;
 use tv_heap::value_type::ValueType;
 use tv_value::value::Value;
-use tv_value::version::WriteVersion;
+use tv_format::version::WriteVersion;
 
 // What stands at the places of lists that are open.
 const OPEN: &[u8] = b"\x09\x81";

@@ -5,7 +5,7 @@ ghost use Rattle.tv_heap.specs.Wrote.{Wrote};
 ghost use Rattle.tv_heap.specs.LeafBytes.{leaf_bytes};
 ghost use Rattle.tv_heap.specs.TypeCode.{type_code};
 ghost use Rattle.tv_value.specs.Lent.{leaf_of};
-ghost use Rattle.tv_value.specs.Tree.{leaf};
+ghost use Rattle.tv_format.specs.Tree.{leaf};
 
 use std::alloc::AllocError;
 use tv_heap::value_type::ValueType;

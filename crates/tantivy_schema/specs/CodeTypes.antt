@@ -25,7 +25,7 @@ pub use Rattle.tv_store.specs.declared.round_trip.RoundTrip
 pub use Rattle.tv_store.specs.declared.round_trip.RoundTripError
 pub use Rattle.tv_store.specs.declared.migration.MigrateError
 pub use Rattle.tv_store.specs.declared.migration_trip.MigrationTrip
-pub use Rattle.tv_value.specs.declared.version.WriteVersion
+pub use Rattle.tv_format.specs.declared.version.WriteVersion
 pub use Rattle.tv_reader.specs.declared.value_type.ValueType
 pub use Rattle.tv_term.specs.declared.term_error.TermError
 pub use Rattle.tv_value.specs.declared.json_error.JsonError

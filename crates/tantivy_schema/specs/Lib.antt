@@ -18,24 +18,24 @@ pub use Rattle.tv_base.specs.Escapes
 pub use Rattle.tv_base.specs.Facet
 pub use Rattle.tv_base.specs.JsonPath
 -- values, and the store format's grammar
-pub use Rattle.tv_value.specs.Tree
-pub use Rattle.tv_value.specs.Version
-pub use Rattle.tv_value.specs.WriteVersion
-pub use Rattle.tv_value.specs.Encoding
-pub use Rattle.tv_value.specs.Short
-pub use Rattle.tv_value.specs.InputError
+pub use Rattle.tv_format.specs.Tree
+pub use Rattle.tv_format.specs.Version
+pub use Rattle.tv_format.specs.WriteVersion
+pub use Rattle.tv_format.specs.Encoding
+pub use Rattle.tv_format.specs.Short
+pub use Rattle.tv_format.specs.InputError
 pub use Rattle.tv_date.specs.DateTime
 pub use Rattle.tv_date.specs.Rfc3339
 pub use Rattle.tv_date.specs.Shape as DateShape
 pub use Rattle.tv_date.specs.Printed as DatePrinted
 pub use Rattle.tv_value.specs.Cases
-pub use Rattle.tv_value.specs.Content
+pub use Rattle.tv_format.specs.Content
 pub use Rattle.tv_value.specs.InPlace
 pub use Rattle.tv_value.specs.LeafParts
-pub use Rattle.tv_value.specs.Leaves
+pub use Rattle.tv_format.specs.Leaves
 pub use Rattle.tv_value.specs.IpAddress
 pub use Rattle.tv_value.specs.JsonTree
-pub use Rattle.tv_value.specs.Size
+pub use Rattle.tv_format.specs.Size
 pub use Rattle.tv_json.specs.JsonOf
 pub use Rattle.tv_json.specs.Named as NamedJson
 pub use Rattle.tv_value.specs.Lent

@@ -11,8 +11,8 @@ ghost use Rattle.tv_reader.specs.Error.{store_stop};
 ghost use Rattle.tv_store.specs.Documents.{Answers};
 ghost use Rattle.tv_store.specs.Stored.{stored};
 ghost use Rattle.tv_writer.specs.declared.error.SerializeError.TheVariants.{Io};
-ghost use Rattle.tv_value.specs.Short.{short_document};
-ghost use Rattle.tv_value.specs.Version.{V2};
+ghost use Rattle.tv_format.specs.Short.{short_document};
+ghost use Rattle.tv_format.specs.Version.{V2};
 
 use std::alloc::Global;
 pub use tv_base::laws::{
@@ -28,6 +28,11 @@ use tv_doc::document::CompactDoc;
 pub use tv_doc::laws::{
     additions_are_kept, builders_hold_their_state, documents_are_valid, heaps_are_within_room,
     named_documents_are_converted_back, named_values_make_the_same_pairs,
+};
+pub use tv_format::laws::{
+    documents_have_one_reading, errors_of_documents_are_unique, errors_of_values_are_unique,
+    malformed_documents_derive_none, malformed_values_encode_none, short_documents_encode,
+    short_values_encode, values_have_one_reading,
 };
 pub use tv_heap::laws::places_read_as_one_tree;
 /// The laws of legacy objects, and of values and documents that have them.
@@ -67,11 +72,7 @@ pub use tv_term::laws::{
     joined_paths_have_no_zero, json_paths_are_read_back, signed_terms_compare_as_numbers,
     terms_are_ordered, terms_compare_as_fields_and_values, written_values_are_read,
 };
-pub use tv_value::laws::{
-    comparisons_of_fields_agree, documents_have_one_reading, errors_of_documents_are_unique,
-    errors_of_values_are_unique, malformed_documents_derive_none, malformed_values_encode_none,
-    short_documents_encode, short_values_encode, values_have_one_reading,
-};
+pub use tv_value::laws::comparisons_of_fields_agree;
 
 /// What `serialize_doc` writes of a document is its stored pairs in the shortest encoding: here, in memory.
 ///

@@ -1,4 +1,4 @@
 //! The document store.
 
+pub use tv_format::version::WriteVersion;
 pub use tv_store::{DirectDecoder, DocStoreVersion, MigrateError, Step, migrate, read_document};
-pub use tv_value::version::WriteVersion;

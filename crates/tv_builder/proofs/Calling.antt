@@ -5,7 +5,7 @@ use Rattle.std.proofs.lemmas.Bool.{cond-true, cond-false, ne_eqb, eq-eqb, lt-ltb
 use Rattle.std.proofs.lemmas.List.{append-nil, reverse-append}
 use Rattle.tv_base.specs.Number.{vnum}
 use Rattle.tv_base.specs.Parts.{short_sized}
-use Rattle.tv_value.specs.Tree.{Tree, leaf, array, object, Elements, no_elements, element, Entries, no_entries, entry, element_count, entry_count}
+use Rattle.tv_format.specs.Tree.{Tree, leaf, array, object, Elements, no_elements, element, Entries, no_entries, entry, element_count, entry_count}
 use Rattle.tv_heap.specs.declared.value_type.ValueType.TheVariants as types
 use Rattle.tv_builder.specs.declared.build_error.BuildError.{BuildError}
 use Rattle.tv_builder.specs.declared.building.Building.{Building}

@@ -2,7 +2,7 @@
 use Rattle.std.proofs.Common.{◌≡◌, ℕ, ◌+◌, ◌-◌, ◌^◌, ◌<◌, ◌≤◌, Bool, true, false, List, ◌++◌, length, Option, Some, None, Result, Ok, Err, OnOk, IfErr, SomeIff, refl, sym, ◌∙◌, ap, subst, length-append, arith, inl, inr}
 use Rattle.std.proofs.lemmas.Bool.{cases_lt}
 use Rattle.tv_base.specs.Sink.{IsPrefix}
-use Rattle.tv_value.specs.Tree.{Tree}
+use Rattle.tv_format.specs.Tree.{Tree}
 use Rattle.tv_heap.specs.Weight.{tree_weight}
 use Rattle.tv_heap.specs.TypeCode.{type_code}
 use Rattle.tv_heap.specs.Wrote.{Wrote}

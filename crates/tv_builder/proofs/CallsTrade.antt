@@ -3,7 +3,7 @@ use Rattle.std.proofs.Common.{◌≡◌, ℕ, nat_eq, List, [], ◌∷◌, ◌++
 use Rattle.std.proofs.lemmas.Bool.{cond-true, cond-false}
 use Rattle.std.proofs.lemmas.Bool.Decides.{eqb_tells}
 use Rattle.std.proofs.lemmas.List.{append-nil}
-use Rattle.tv_value.specs.Tree.{Tree, leaf, text}
+use Rattle.tv_format.specs.Tree.{Tree, leaf, text}
 use Rattle.tv_builder.specs.declared.awaits.Awaits.TheVariants as awaits
 use Rattle.tv_builder.specs.declared.bytes_kind.BytesKind.{BytesKind}
 use Rattle.tv_builder.specs.declared.bytes_kind.BytesKind.TheVariants as kinds

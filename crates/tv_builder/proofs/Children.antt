@@ -3,7 +3,7 @@ use Rattle.std.proofs.Common.{◌≡◌, ℕ, suc, ◌+◌, ◌*◌, ◌%◌, �
 use Rattle.std.proofs.lemmas.List.{map-append}
 use Rattle.tv_base.specs.Number.{vnum}
 use Rattle.tv_base.specs.Parts.{short_sized}
-use Rattle.tv_value.specs.Tree.{Tree, leaf, text, array, object, elements, entries}
+use Rattle.tv_format.specs.Tree.{Tree, leaf, text, array, object, elements, entries}
 use Rattle.tv_heap.specs.Reads.{Stands, ShortText, Reads, ReadsElements, ReadsEntries}
 use Rattle.tv_heap.specs.Room.{room, elements_room, entries_room}
 use Rattle.tv_heap.specs.Weight.{tree_weight, elements_weight, entries_weight}

@@ -9,18 +9,18 @@ use Rattle.tv_base.proofs.Widths.{fixed_8, fixed_16}
 use Rattle.tv_base.specs.Number.{VNum, vnum, Fixed, Signed}
 use Rattle.tv_base.specs.Parts.{Begins, Then, Behind, Each, Text, short_sized}
 use Rattle.tv_base.specs.Sink.{IsPrefix}
-use Rattle.tv_value.specs.Content.{Content, form_of}
-use Rattle.tv_value.specs.Leaves.{type_of, content, leaf_with, form, store_code, scale}
-use Rattle.tv_value.specs.LeavesLaws.{making}
-use Rattle.tv_value.specs.declared.leaf.LeafType.{LeafType}
-use Rattle.tv_value.specs.declared.leaf.LeafType.TheVariants as types
-use Rattle.tv_value.specs.Encoding.{NoLegacy, Key, ContentBody, LeafBody, Tokenized, leaf_code, Encodes, EncodesElements, EncodesEntries}
-use Rattle.tv_value.specs.Tree.{Leaf, Token, text, Tree, leaf, array, object, elements, entries, element_count, entry_count}
-use Rattle.tv_value.specs.Version.{Version, plain, entry_total}
-use Rattle.tv_value.specs.WriteVersion.{written_version}
-use Rattle.tv_value.specs.declared.version.WriteVersion.{WriteVersion}
-use Rattle.tv_value.specs.declared.version.WriteVersion.TheVariants as versions
-use Rattle.tv_value.proofs.Prefixes.{begins_behind, begins_then, begins_nothing, begins_cut, begins_item, small_take}
+use Rattle.tv_format.specs.Content.{Content, form_of}
+use Rattle.tv_format.specs.Leaves.{type_of, content, leaf_with, form, store_code, scale}
+use Rattle.tv_format.specs.LeavesLaws.{making}
+use Rattle.tv_format.specs.declared.leaf_type.LeafType.{LeafType}
+use Rattle.tv_format.specs.declared.leaf_type.LeafType.TheVariants as types
+use Rattle.tv_format.specs.Encoding.{NoLegacy, Key, ContentBody, LeafBody, Tokenized, leaf_code, Encodes, EncodesElements, EncodesEntries}
+use Rattle.tv_format.specs.Tree.{Leaf, Token, text, Tree, leaf, array, object, elements, entries, element_count, entry_count}
+use Rattle.tv_format.specs.Version.{Version, plain, entry_total}
+use Rattle.tv_format.specs.WriteVersion.{written_version}
+use Rattle.tv_format.specs.declared.version.WriteVersion.{WriteVersion}
+use Rattle.tv_format.specs.declared.version.WriteVersion.TheVariants as versions
+use Rattle.tv_format.proofs.Prefixes.{begins_behind, begins_then, begins_nothing, begins_cut, begins_item, small_take}
 use Rattle.tv_builder.specs.declared.frame.ListKind.TheVariants.{Array, Object}
 use Rattle.tv_builder.specs.declared.place.Place.{Place}
 use Rattle.tv_builder.specs.Given.{place_bytes}

@@ -3,9 +3,9 @@ use Rattle.std.proofs.Common.{◌≡◌, ℕ, ◌+◌, ◌*◌, ◌<◌, ◌≤�
 use Rattle.std.proofs.lemmas.List.{append-nil}
 use Rattle.tv_base.specs.Number.{Groups, last, more, VNum}
 use Rattle.tv_base.specs.Parts.{Then, Text, Each}
-use Rattle.tv_value.specs.Encoding.{Key, Encodes, EncodesElements, EncodesEntries}
-use Rattle.tv_value.specs.Tree.{Tree, leaf, array, object, Entries, elements, entries, element_count, entry_count}
-use Rattle.tv_value.specs.Version.{Version, V1, V2, V3, entry_total}
+use Rattle.tv_format.specs.Encoding.{Key, Encodes, EncodesElements, EncodesEntries}
+use Rattle.tv_format.specs.Tree.{Tree, leaf, array, object, Entries, elements, entries, element_count, entry_count}
+use Rattle.tv_format.specs.Version.{Version, V1, V2, V3, entry_total}
 use Rattle.tv_builder.specs.declared.bytes_kind.BytesKind.{BytesKind}
 use Rattle.tv_builder.specs.declared.bytes_kind.BytesKind.TheVariants as kinds
 use Rattle.tv_builder.specs.declared.frame.ListKind.{ListKind}

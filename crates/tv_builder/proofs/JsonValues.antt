@@ -7,7 +7,7 @@ use Rattle.tv_borrowed.specs.declared.borrowed.BorrowedJson as borrowed
 use Rattle.tv_borrowed.specs.declared.borrowed.BorrowedJson.{BorrowedJson}
 use Rattle.tv_borrowed.proofs.Levels.{data_of-Array, data_of-Object}
 use Rattle.tv_value.specs.JsonTree.{whole_tree, whole_elements, whole_entries}
-use Rattle.tv_value.specs.Tree.{Tree, array, object, elements, element, entries, entry}
+use Rattle.tv_format.specs.Tree.{Tree, array, object, elements, element, entries, entry}
 use Rattle.tv_builder.specs.declared.frame.ListKind.TheVariants.{Array, Object}
 use Rattle.tv_builder.specs.declared.place.Place.{Place}
 use Rattle.tv_builder.specs.Whole.{Put, ListPut}

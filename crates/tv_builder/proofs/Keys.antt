@@ -2,7 +2,7 @@
 use Rattle.std.proofs.Common.{◌≡◌, ℕ, ◌+◌, ◌-◌, ◌^◌, ◌<◌, ◌≤◌, List, [], ◌∷◌, ◌++◌, length, None, Result, Ok, Err, OnOk, IfErr, IsUtf8, refl, sym, ◌∙◌, ap, subst, length-append, arith}
 use Rattle.tv_base.specs.Number.{vnum}
 use Rattle.tv_base.specs.Parts.{short_sized}
-use Rattle.tv_value.specs.Tree.{Tree, leaf, text, facet, bytes}
+use Rattle.tv_format.specs.Tree.{Tree, leaf, text, facet, bytes}
 use Rattle.tv_heap.specs.Reads.{Stands, ShortSized, ShortText, Reads}
 use Rattle.tv_heap.specs.TypeCode.{type_code}
 use Rattle.tv_heap.specs.declared.value_type.ValueType.TheVariants as types

@@ -3,7 +3,7 @@ use Rattle.std.proofs.Common.{◌≡◌, ℕ, suc, ◌+◌, ◌-◌, ◌*◌, �
 use Rattle.std.proofs.lemmas.Bool.{cases_lt}
 use Rattle.tv_base.specs.Number.{vnum}
 use Rattle.tv_base.specs.Parts.{short_sized}
-use Rattle.tv_value.specs.Tree.{Tree, leaf, text, elements}
+use Rattle.tv_format.specs.Tree.{Tree, leaf, text, elements}
 use Rattle.tv_heap.specs.Reads.{ReadsElements}
 use Rattle.tv_heap.specs.Room.{room}
 use Rattle.tv_heap.specs.Weight.{tree_weight}

@@ -8,12 +8,12 @@ use Rattle.tv_base.specs.Number.{vnum, VNum, Groups, last, more}
 use Rattle.tv_base.specs.Parts.{Text, Each, short_sized}
 use Rattle.tv_base.proofs.Numbers.{vnum_shortest, length-fixed}
 use Rattle.tv_base.proofs.Shortest.{sized_shortest, text_shortest}
-use Rattle.tv_value.specs.Content.{Content, no_content, truth_content, unsigned_content, signed_content, wide_content, text_content, bytes_content, tokens_content}
-use Rattle.tv_value.specs.Leaves.{type_of, content, scale}
-use Rattle.tv_value.specs.Short.{short_token, short_tokenized}
-use Rattle.tv_value.specs.Encoding.{NoLegacy, TokenEncoding, Tokenized, ContentBody, LeafBody, Key, Encodes, EncodesElements, EncodesEntries}
-use Rattle.tv_value.specs.Tree.{Token, Leaf, Tree, leaf, array, object, Elements, no_elements, element, Entries, no_entries, entry, elements, Document}
-use Rattle.tv_value.specs.Version.{Version, V1, V2, V3, Scale, plain, thousands, Scaled}
+use Rattle.tv_format.specs.Content.{Content, no_content, truth_content, unsigned_content, signed_content, wide_content, text_content, bytes_content, tokens_content}
+use Rattle.tv_format.specs.Leaves.{type_of, content, scale}
+use Rattle.tv_format.specs.Short.{short_token, short_tokenized}
+use Rattle.tv_format.specs.Encoding.{NoLegacy, TokenEncoding, Tokenized, ContentBody, LeafBody, Key, Encodes, EncodesElements, EncodesEntries}
+use Rattle.tv_format.specs.Tree.{Token, Leaf, Tree, leaf, array, object, Elements, no_elements, element, Entries, no_entries, entry, elements, Document}
+use Rattle.tv_format.specs.Version.{Version, V1, V2, V3, Scale, plain, thousands, Scaled}
 use Rattle.tv_heap.specs.LeafBytes.{content_bytes, leaf_bytes}
 use Rattle.tv_heap.specs.Weight.{tree_weight, elements_weight, entries_weight, document_weight}
 use Rattle.tv_heap.proofs.Writes.{length_eight, length_sixteen}

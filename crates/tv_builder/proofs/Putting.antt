@@ -4,8 +4,8 @@ use Rattle.std.proofs.lemmas.List.{append-nil}
 use Rattle.std.proofs.Math.Seq.{drop-append_seam}
 use Rattle.tv_base.specs.Parts.{short_sized}
 use Rattle.tv_base.specs.Sink.{IsPrefix}
-use Rattle.tv_value.specs.Size.{size, elements_size, entries_size}
-use Rattle.tv_value.specs.Tree.{Leaf, text, Tree, leaf, array, object, Elements, no_elements, element, Entries, no_entries, entry, elements, entries}
+use Rattle.tv_format.specs.Size.{size, elements_size, entries_size}
+use Rattle.tv_format.specs.Tree.{Leaf, text, Tree, leaf, array, object, Elements, no_elements, element, Entries, no_entries, entry, elements, entries}
 use Rattle.tv_heap.specs.LeafBytes.{leaf_bytes}
 use Rattle.tv_heap.specs.Reads.{ReadsElements}
 use Rattle.tv_heap.specs.Room.{room}

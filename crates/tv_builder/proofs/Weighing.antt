@@ -3,7 +3,7 @@ use Rattle.std.proofs.Common.{◌≡◌, ◌+◌, ◌*◌, ◌≤◌, List, [], 
 use Rattle.std.specs.Coded.{le_prop}
 use Rattle.std.proofs.Math.Logic.{∥∥₁_elim}
 use Rattle.tv_base.specs.Parts.{short_sized}
-use Rattle.tv_value.specs.Tree.{Tree, leaf, text}
+use Rattle.tv_format.specs.Tree.{Tree, leaf, text}
 use Rattle.tv_heap.specs.Weight.{tree_weight}
 use Rattle.tv_builder.specs.declared.building.Building.{Building}
 use Rattle.tv_builder.specs.declared.frame.ListKind.{ListKind}

@@ -6,15 +6,15 @@ use Rattle.tv_base.specs.declared.cause.Cause.TheVariants.{NotUtf8, UnexpectedEn
 use Rattle.tv_base.specs.Number.{VNum}
 use Rattle.tv_base.specs.ErrorInPart.{InEach, ErrorInText, ErrorInSized, bytes_end, in_sized, no_text}
 use Rattle.tv_base.specs.Parts.{Then, Each}
-use Rattle.tv_value.specs.InputError.{Refusal, corrupted, corrupt, ErrorInKey, in_key, ErrorInField, ErrorInValue, in_leaf, in_element, in_entry_key, in_entry, ErrorInPair, ErrorInDocument}
-use Rattle.tv_value.specs.Encoding.{Key, EncodesElements, EncodesEntries, EncodesPair}
-use Rattle.tv_value.specs.Tree.{Tree, elements, element_count, entries, entry_count, Entries, Document}
-use Rattle.tv_value.specs.Version.{Version, V1, V2, V3}
+use Rattle.tv_format.specs.InputError.{Refusal, corrupted, corrupt, ErrorInKey, in_key, ErrorInField, ErrorInValue, in_leaf, in_element, in_entry_key, in_entry, ErrorInPair, ErrorInDocument}
+use Rattle.tv_format.specs.Encoding.{Key, EncodesElements, EncodesEntries, EncodesPair}
+use Rattle.tv_format.specs.Tree.{Tree, elements, element_count, entries, entry_count, Entries, Document}
+use Rattle.tv_format.specs.Version.{Version, V1, V2, V3}
 use Rattle.tv_builder.specs.declared.bytes_kind.BytesKind.{BytesKind}
 use Rattle.tv_builder.specs.declared.bytes_kind.BytesKind.TheVariants as kinds
 use Rattle.tv_builder.specs.declared.frame.ListKind.{ListKind}
 use Rattle.tv_builder.specs.declared.frame.ListKind.TheVariants as lists
-use Rattle.tv_value.specs.declared.leaf.LeafType.TheVariants as leaves
+use Rattle.tv_format.specs.declared.leaf_type.LeafType.TheVariants as leaves
 use Rattle.tv_builder.specs.Behind.{pairs_parts, document_parts, open_parts, ErrorsBehind}
 use Rattle.tv_builder.specs.Prefix.{EncodesPart, KeyHead}
 use Rattle.tv_builder.specs.Kinds.{total, IsTextKind}

@@ -1,9 +1,9 @@
 -- What has come of a document, and what is malformed behind that.
 use Rattle.std.specs.Prelude.{ℕ, List, [], ◌∷◌, ◌++◌}
 use Rattle.tv_base.specs.declared.cause.Cause.{Cause}
-use Rattle.tv_value.specs.InputError.{Refusal, ErrorInDocument}
-use Rattle.tv_value.specs.Tree.{Entries, Document}
-use Rattle.tv_value.specs.Version.{Version}
+use Rattle.tv_format.specs.InputError.{Refusal, ErrorInDocument}
+use Rattle.tv_format.specs.Tree.{Entries, Document}
+use Rattle.tv_format.specs.Version.{Version}
 use Rattle.tv_builder.specs.Prefix.{Encoded}
 use Rattle.tv_builder.specs.Parts.{Part, number, pair, field}
 use Rattle.tv_builder.specs.State.{State, parts_of}

@@ -1,9 +1,9 @@
 -- A value that is encoded at the start of bytes, and is written behind a heap.
 use Rattle.std.specs.Prelude.{ℕ, List}
 use Rattle.tv_base.specs.Parts.{Begins}
-use Rattle.tv_value.specs.Encoding.{Encodes, NoLegacy}
-use Rattle.tv_value.specs.Tree.{Tree}
-use Rattle.tv_value.specs.Version.{Version}
+use Rattle.tv_format.specs.Encoding.{Encodes, NoLegacy}
+use Rattle.tv_format.specs.Tree.{Tree}
+use Rattle.tv_format.specs.Version.{Version}
 use Rattle.tv_builder.specs.Whole.{Put}
 use Rattle.tv_builder.specs.declared.place.Place.{Place}
 

@@ -8,8 +8,8 @@ use mathlib.Core.HLevel.{Σ_prop_path}
 use base.Stored.{Gv, gnil, gnum, gcons}
 use Rattle.tv_base.specs.Number.{vnum}
 use Rattle.tv_base.proofs.Texts.{same_prefix}
-use Rattle.tv_value.specs.Tree.{Tree, elements}
-use Rattle.tv_value.specs.TreeCode.{coded_text, coded_tree}
+use Rattle.tv_format.specs.Tree.{Tree, elements}
+use Rattle.tv_format.specs.TreeCode.{coded_text, coded_tree}
 use Rattle.tv_heap.specs.Held.{same_list}
 use Rattle.tv_heap.specs.ReadsLaws.{one_tree, one_elements}
 use Rattle.tv_heap.specs.Reads.{Reads}

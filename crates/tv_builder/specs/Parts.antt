@@ -1,6 +1,6 @@
 -- What has come of a document, as a flat list of parts in reading order, and how some parts are traded for others.
 use Rattle.std.specs.Prelude.{◌≡◌, ℕ, ◌≤◌, List, [], ◌∷◌, ◌++◌, length, map, IsUtf8}
-use Rattle.tv_value.specs.Tree.{Tree, leaf, text, facet, bytes, array, object, elements, entries}
+use Rattle.tv_format.specs.Tree.{Tree, leaf, text, facet, bytes, array, object, elements, entries}
 use Rattle.tv_builder.specs.declared.bytes_kind.BytesKind.{BytesKind}
 use Rattle.tv_builder.specs.declared.bytes_kind.BytesKind.TheVariants.{Str, Facet, Bytes, Key}
 

@@ -2,9 +2,9 @@
 use Rattle.std.specs.Prelude.{◌≡◌, ℕ, List}
 use Rattle.tv_base.specs.Number.{VNum, Fixed}
 use Rattle.tv_base.specs.Parts.{Behind, Each}
-use Rattle.tv_value.specs.Encoding.{Key, Encodes, EncodesPair}
-use Rattle.tv_value.specs.Tree.{Entries}
-use Rattle.tv_value.specs.Version.{Version, V1, V2, V3, entry_total}
+use Rattle.tv_format.specs.Encoding.{Key, Encodes, EncodesPair}
+use Rattle.tv_format.specs.Tree.{Entries}
+use Rattle.tv_format.specs.Version.{Version, V1, V2, V3, entry_total}
 use Rattle.tv_builder.specs.declared.bytes_kind.BytesKind.{BytesKind}
 use Rattle.tv_builder.specs.declared.bytes_kind.BytesKind.TheVariants as kinds
 use Rattle.tv_builder.specs.Parts.{Part, number, pair, field, value, key, array_head, object_head, bytes_head, some_bytes}

@@ -1,7 +1,7 @@
 -- Which state a heap, the places of finished children and the open lists hold.
 use Rattle.std.specs.Prelude.{◌≡◌, ◌≢◌, ℕ, ◌+◌, ◌<◌, ◌≤◌, ◌^◌, List, [], ◌∷◌, ◌++◌, length, reverse, take, drop, Option, Some, None}
 use Rattle.tv_base.specs.Number.{vnum}
-use Rattle.tv_value.specs.Tree.{Tree, elements}
+use Rattle.tv_format.specs.Tree.{Tree, elements}
 use Rattle.tv_heap.specs.Reads.{Reads, ReadsElements}
 use Rattle.tv_heap.specs.TypeCode.{type_code}
 use Rattle.tv_builder.specs.declared.awaits.Awaits.{Awaits}

@@ -1,6 +1,6 @@
 -- What has come so far of a value that comes part by part, and what a part does to it.
 use Rattle.std.specs.Prelude.{◌≡◌, ℕ, suc, ◌+◌, ◌-◌, ◌%◌, ◌<◌, ◌≤◌, Bool, cond, nat_lt, nat_eq, List, [], ◌∷◌, ◌++◌, length, map}
-use Rattle.tv_value.specs.Tree.{Tree, leaf, text, facet, bytes, array, object, elements, entries}
+use Rattle.tv_format.specs.Tree.{Tree, leaf, text, facet, bytes, array, object, elements, entries}
 use Rattle.tv_builder.specs.declared.awaits.Awaits.{Awaits}
 use Rattle.tv_builder.specs.declared.awaits.Awaits.TheVariants as awaits
 use Rattle.tv_builder.specs.declared.bytes_kind.BytesKind.{BytesKind}

@@ -5,8 +5,8 @@ ghost use Rattle.std.specs.Prelude.{drop, take, OnOk, OnErr, IfOk, IfErr, IsTrue
 ghost use Rattle.tv_base.specs.Number.{vnum};
 ghost use Rattle.tv_base.specs.Parts.{short_sized};
 ghost use Rattle.tv_base.specs.Sink.{IsPrefix};
+ghost use Rattle.tv_format.specs.Tree.{leaf as leaf_tree};
 ghost use Rattle.tv_value.specs.Lent.{leaf_of};
-ghost use Rattle.tv_value.specs.Tree.{leaf as leaf_tree};
 
 use crate::awaits::Awaits;
 use crate::build_error::BuildError;

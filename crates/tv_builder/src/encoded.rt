@@ -7,24 +7,25 @@ ghost use Rattle.tv_base.specs.Sink.{IsPrefix};
 ghost use Rattle.tv_builder.specs.EncodedPut.{EncodedPut};
 ghost use Rattle.tv_builder.specs.Whole.{Put};
 ghost use Rattle.tv_value.specs.LeafParts.{content_of};
-ghost use Rattle.tv_value.specs.Leaves.{leaf_with};
+ghost use Rattle.tv_format.specs.Leaves.{leaf_with};
 ghost use Rattle.tv_value.specs.PreTokenized.{text_of, tokens_of};
-ghost use Rattle.tv_value.specs.Encoding.{Key, Tokenized};
-ghost use Rattle.tv_value.specs.Tree.{Leaf, leaf as leaf_tree};
-ghost use Rattle.tv_value.specs.Version.{entry_total};
-ghost use Rattle.tv_value.specs.WriteVersion.{written_version};
-ghost use Rattle.tv_value.specs.declared.version.WriteVersion.{WriteVersion};
+ghost use Rattle.tv_format.specs.Encoding.{Key, Tokenized};
+ghost use Rattle.tv_format.specs.Tree.{Leaf, leaf as leaf_tree};
+ghost use Rattle.tv_format.specs.Version.{entry_total};
+ghost use Rattle.tv_format.specs.WriteVersion.{written_version};
+ghost use Rattle.tv_format.specs.declared.version.WriteVersion.{WriteVersion};
 
 use crate::frame::ListKind;
 use crate::place::Place;
 use crate::whole::{put, put_list};
+use tv_format::leaf_type::{Form, LeafType};
+use tv_format::type_codes::{ARRAY_CODE, OBJECT_CODE, TEXT_CODE, TOK_STR_EXT_CODE};
+use tv_format::version::WriteVersion;
 use tv_heap::write::push_place;
-use tv_value::content::{Form, LeafContent};
+use tv_value::content::LeafContent;
 use tv_value::in_place::{number_at, text_at};
-use tv_value::leaf::{LeafType, ReferenceValueLeaf};
+use tv_value::leaf::ReferenceValueLeaf;
 use tv_value::pre_tokenized::PreTokenizedStr;
-use tv_value::type_codes::{ARRAY_CODE, OBJECT_CODE, TEXT_CODE, TOK_STR_EXT_CODE};
-use tv_value::version::WriteVersion;
 
 // The bytes behind their length at the start.
 fn sized_at(bytes: &[u8]) -> Option<(&[u8], &[u8])>

@@ -6,7 +6,7 @@ ghost use Rattle.tv_base.specs.Sink.{IsPrefix};
 ghost use Rattle.tv_borrowed.specs.BorrowedData.{data_of, items_data, members_data};
 ghost use Rattle.tv_builder.specs.Whole.{Put};
 ghost use Rattle.tv_value.specs.JsonTree.{number_leaf, whole_tree, whole_elements, whole_entries};
-ghost use Rattle.tv_value.specs.Tree.{leaf, array, object};
+ghost use Rattle.tv_format.specs.Tree.{leaf, array, object};
 
 use crate::frame::ListKind;
 use crate::place::Place;

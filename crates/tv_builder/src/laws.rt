@@ -1,9 +1,9 @@
 //! Laws of parts and states, each the contract of a function that does nothing.
 
 ghost use Rattle.std.specs.Prelude.{◌≡◌, ◌+◌, ◌*◌, ◌≤◌, ℕ, List, [], ◌∷◌, ◌++◌, length};
-ghost use Rattle.tv_value.specs.Encoding.{NoLegacy};
-ghost use Rattle.tv_value.specs.Tree.{Tree, Document};
-ghost use Rattle.tv_value.specs.Version.{Version};
+ghost use Rattle.tv_format.specs.Encoding.{NoLegacy};
+ghost use Rattle.tv_format.specs.Tree.{Tree, Document};
+ghost use Rattle.tv_format.specs.Version.{Version};
 ghost use Rattle.tv_builder.specs.Behind.{document_parts, open_parts};
 ghost use Rattle.tv_builder.specs.Prefix.{Encoded};
 ghost use Rattle.tv_builder.specs.Parts.{Part, Trades, IsContent, value, key, bytes_head};

@@ -4,7 +4,7 @@ ghost use Rattle.std.specs.Prelude.{◌≡◌, ◌≤◌, ◌++◌, length, take
 ghost use Rattle.tv_base.specs.Sink.{IsPrefix};
 ghost use Rattle.tv_heap.specs.LeafBytes.{leaf_bytes};
 ghost use Rattle.tv_value.specs.Lent.{leaf_of, nested_tree};
-ghost use Rattle.tv_value.specs.Tree.{leaf as leaf_tree, array, object, elements, entries};
+ghost use Rattle.tv_format.specs.Tree.{leaf as leaf_tree, array, object, elements, entries};
 ghost use Rattle.tv_builder.specs.Whole.{Put, PutNot, ListPut, ListPutNot};
 
 use crate::build_error::BuildError;

@@ -15,10 +15,10 @@ use Rattle.tv_legacy.specs.Legacy.{Legacy}
 use Rattle.tv_reader.specs.Error.{store_stop}
 use Rattle.tv_reader.specs.Finds.{Finds}
 use Rattle.tv_reader.proofs.Finding.{finds_nothing}
-use Rattle.tv_value.specs.InputError.{corrupted}
-use Rattle.tv_value.specs.Encoding.{Encodes, EncodesElements, EncodesEntries, EncodesPair, NoLegacy}
-use Rattle.tv_value.specs.Tree.{Tree, leaf, array, object, Elements, no_elements, element, Entries, no_entries, entry, Document}
-use Rattle.tv_value.specs.Version.{Version}
+use Rattle.tv_format.specs.InputError.{corrupted}
+use Rattle.tv_format.specs.Encoding.{Encodes, EncodesElements, EncodesEntries, EncodesPair, NoLegacy}
+use Rattle.tv_format.specs.Tree.{Tree, leaf, array, object, Elements, no_elements, element, Entries, no_entries, entry, Document}
+use Rattle.tv_format.specs.Version.{Version}
 use Rattle.tv_doc.specs.Document.{document_of, heap_of, IsUnchanged}
 use Rattle.tv_doc.specs.Encoded.{AddsEncoded, StoodIn}
 use Rattle.tv_doc.specs.declared.document.CompactDoc.{CompactDoc}

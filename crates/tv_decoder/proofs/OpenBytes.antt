@@ -19,7 +19,7 @@ use Rattle.tv_doc.specs.Builder.{built, state_of, Goes, BuildsIf, Builds, TakesB
 use Rattle.tv_heap.specs.Room.{document_room}
 use Rattle.tv_reader.specs.declared.error.DeserializeError.{DeserializeError}
 use Rattle.tv_reader.specs.declared.error.DeserializeError.TheVariants as errors
-use Rattle.tv_value.specs.Tree.{Document}
+use Rattle.tv_format.specs.Tree.{Document}
 use Rattle.tv_decoder.specs.Errors.{build_error}
 use Rattle.tv_decoder.specs.Prefix.{parts_at, parts_read, IsPlace, IsSound, HasField}
 use Rattle.tv_decoder.specs.Puts.{MayStand, IsWithin, IsOpen, IsEnding, AtEnd, Puts, NoContent, PutsEnd, EndNoText, NoText, PutsBytes}

@@ -9,9 +9,9 @@ use Rattle.tv_builder.proofs.Weighing.{written_weighs}
 use Rattle.tv_doc.specs.declared.builder.TreeBuilder.{TreeBuilder}
 use Rattle.tv_doc.specs.Builder.{built, state_of, heap_so_far}
 use Rattle.tv_reader.specs.Finds.{Finds}
-use Rattle.tv_value.specs.Encoding.{NoLegacy}
-use Rattle.tv_value.specs.Tree.{Document}
-use Rattle.tv_value.specs.Version.{Version}
+use Rattle.tv_format.specs.Encoding.{NoLegacy}
+use Rattle.tv_format.specs.Tree.{Document}
+use Rattle.tv_format.specs.Version.{Version}
 use Rattle.tv_decoder.specs.Prefix.{parts_at, parts_read, IsPlace, IsSound, NoPrefix}
 use Rattle.tv_decoder.specs.Paid.{PaidBy}
 use Rattle.tv_decoder.specs.Kept.{KeepsPairs}

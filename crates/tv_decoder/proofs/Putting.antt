@@ -15,7 +15,7 @@ use Rattle.tv_builder.proofs.Giving.{prefix_then}
 use Rattle.tv_doc.specs.Builder.{built, state_of, heap_so_far, Goes, HasAllBytes, IsComplete, Finished}
 use Rattle.tv_reader.specs.declared.error.DeserializeError.{DeserializeError}
 use Rattle.tv_reader.specs.declared.error.DeserializeError.TheVariants as errors
-use Rattle.tv_value.specs.Tree.{Tree, Document}
+use Rattle.tv_format.specs.Tree.{Tree, Document}
 use Rattle.tv_decoder.specs.Prefix.{parts_at, parts_read, Lacks, IsPlace, IsSound, HasField}
 use Rattle.tv_decoder.specs.Puts.{MayStand, IsWithin, IsOpen, Put, Puts}
 use Rattle.tv_decoder.specs.Kept.{Grows, LetGo}

@@ -6,16 +6,16 @@ use Rattle.std.proofs.lemmas.List.Sums.{sum_by-append}
 use Rattle.tv_base.specs.Number.{VNum}
 use Rattle.tv_base.specs.Parts.{OneReading, Behind, Each, Text, Sized}
 use Rattle.tv_base.proofs.Numbers.{one_number, one_fixed}
-use Rattle.tv_value.specs.Content.{Content, text_content, bytes_content, form_of}
-use Rattle.tv_value.specs.Leaves.{type_of, content, form, store_code, scale}
-use Rattle.tv_value.specs.LeavesLaws.{form_of_content, one_code, small_code}
-use Rattle.tv_value.specs.Encoding.{Key, Encodes, EncodesElements, EncodesEntries, EncodesPair, EncodesDocument, leaf_code, ContentBody}
-use Rattle.tv_value.specs.Tree.{Tree, leaf, text, array, object, Elements, no_elements, element, element_count, Entries, no_entries, entry, entry_count, Document}
-use Rattle.tv_value.specs.Version.{Version, V1, V2, V3, Scale, entry_total}
-use Rattle.tv_value.specs.declared.leaf.LeafType.{LeafType}
-use Rattle.tv_value.specs.declared.leaf.LeafType.TheVariants as types
-use Rattle.tv_value.proofs.Leaves.{agree_key, total_same, leaf_code_small}
-use Rattle.tv_value.proofs.Trees.{one_tree, one_pair}
+use Rattle.tv_format.specs.Content.{Content, text_content, bytes_content, form_of}
+use Rattle.tv_format.specs.Leaves.{type_of, content, form, store_code, scale}
+use Rattle.tv_format.specs.LeavesLaws.{form_of_content, one_code, small_code}
+use Rattle.tv_format.specs.Encoding.{Key, Encodes, EncodesElements, EncodesEntries, EncodesPair, EncodesDocument, leaf_code, ContentBody}
+use Rattle.tv_format.specs.Tree.{Tree, leaf, text, array, object, Elements, no_elements, element, element_count, Entries, no_entries, entry, entry_count, Document}
+use Rattle.tv_format.specs.Version.{Version, V1, V2, V3, Scale, entry_total}
+use Rattle.tv_format.specs.declared.leaf_type.LeafType.{LeafType}
+use Rattle.tv_format.specs.declared.leaf_type.LeafType.TheVariants as types
+use Rattle.tv_format.proofs.Leaves.{agree_key, total_same, leaf_code_small}
+use Rattle.tv_format.proofs.Trees.{one_tree, one_pair}
 use Rattle.tv_heap.specs.Room.{room, content_room, elements_room, entries_room, document_room}
 use Rattle.tv_builder.specs.declared.bytes_kind.BytesKind.{BytesKind}
 use Rattle.tv_builder.specs.declared.bytes_kind.BytesKind.TheVariants as kinds

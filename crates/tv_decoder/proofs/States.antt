@@ -13,7 +13,7 @@ use Rattle.tv_builder.specs.declared.frame.ListKind.TheVariants.{Array, Object}
 use Rattle.tv_builder.specs.State.{OpenList, State, complete, in_lists, in_bytes, next_at, IsKey, AreEntries, AreValues, AreChildren, IsList, AreLists, IsValueNext, IsKeyNext, AllAwait, OthersAwait, HeadNext, IsState}
 use Rattle.tv_doc.specs.declared.builder.TreeBuilder.{TreeBuilder}
 use Rattle.tv_doc.specs.Builder.{state_of}
-use Rattle.tv_value.specs.Tree.{Tree, leaf, text}
+use Rattle.tv_format.specs.Tree.{Tree, leaf, text}
 
 key_prop : (t : Tree) → IsProp (IsKey t)
 key_prop (leaf (text content)) x y = refl

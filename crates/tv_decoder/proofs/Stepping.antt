@@ -22,14 +22,14 @@ use Rattle.tv_reader.specs.declared.error.DeserializeError.{DeserializeError}
 use Rattle.tv_reader.specs.declared.error.DeserializeError.TheVariants as errors
 use Rattle.tv_reader.specs.declared.heads.Head.{Head}
 use Rattle.tv_reader.proofs.Finding.{finds_as, finds_short}
-use Rattle.tv_value.specs.InputError.{Refusal}
-use Rattle.tv_value.specs.Content.{Content, no_content, truth_content, unsigned_content, signed_content, wide_content, text_content, bytes_content, tokens_content, form_of}
-use Rattle.tv_value.specs.Leaves.{type_of, content, scale}
-use Rattle.tv_value.specs.Encoding.{ContentBody, Encodes, NoLegacy}
-use Rattle.tv_value.specs.Tree.{Tree, leaf, array, object, Entries}
-use Rattle.tv_value.specs.Version.{Version, V1, V2, V3, Scale, Scaled}
-use Rattle.tv_value.specs.Version as scales
-use Rattle.tv_value.specs.declared.leaf.LeafType.TheVariants as leaves
+use Rattle.tv_format.specs.InputError.{Refusal}
+use Rattle.tv_format.specs.Content.{Content, no_content, truth_content, unsigned_content, signed_content, wide_content, text_content, bytes_content, tokens_content, form_of}
+use Rattle.tv_format.specs.Leaves.{type_of, content, scale}
+use Rattle.tv_format.specs.Encoding.{ContentBody, Encodes, NoLegacy}
+use Rattle.tv_format.specs.Tree.{Tree, leaf, array, object, Entries}
+use Rattle.tv_format.specs.Version.{Version, V1, V2, V3, Scale, Scaled}
+use Rattle.tv_format.specs.Version as scales
+use Rattle.tv_format.specs.declared.leaf_type.LeafType.TheVariants as leaves
 use Rattle.tv_decoder.proofs.Putting.{same_grows}
 use Rattle.tv_decoder.specs.Prefix.{parts_at, parts_read, Lacks, IsPlace, IsSound, LacksPair, NoPrefix, NoRoomBehind, ValueNext}
 use Rattle.tv_decoder.specs.Puts.{Put, Fills, Puts, IsParts, head_parts}

@@ -4,7 +4,7 @@ use Rattle.tv_builder.specs.Behind.{pairs_parts, document_parts, open_parts}
 use Rattle.tv_builder.specs.Parts.{Part, number, pair, field, value, full_pair, Trades, same, by_rule}
 use Rattle.tv_builder.specs.State.{State, complete, parts_of}
 use Rattle.tv_builder.proofs.Trading.{trades_as, trades_from, trades_last}
-use Rattle.tv_value.specs.Tree.{Tree, Document}
+use Rattle.tv_format.specs.Tree.{Tree, Document}
 
 -- behind other parts
 pub trades_behind : {ps qs : List Part} (prefix : List Part) → Trades ps qs → Trades (prefix ++ ps) (prefix ++ qs)

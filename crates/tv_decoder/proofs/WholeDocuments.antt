@@ -23,11 +23,11 @@ use Rattle.tv_reader.specs.Finds.{Finds}
 use Rattle.tv_reader.specs.declared.error.DeserializeError.{DeserializeError}
 use Rattle.tv_reader.specs.declared.error.DeserializeError.TheVariants as errors
 use Rattle.tv_reader.proofs.Finding.{finds_then, finds_as, finds_fails}
-use Rattle.tv_value.specs.InputError.{Refusal, corrupted, Corrupt, corrupt, ErrorInDocument, ErrorInKey, key_ends, field_ends, value_ends}
-use Rattle.tv_value.specs.Encoding.{EncodesPair, EncodesDocument}
-use Rattle.tv_value.specs.Tree.{Document}
-use Rattle.tv_value.specs.Version.{Version, V1, V2, V3}
-use Rattle.tv_value.proofs.SingleTrees.{single_document}
+use Rattle.tv_format.specs.InputError.{Refusal, corrupted, Corrupt, corrupt, ErrorInDocument, ErrorInKey, key_ends, field_ends, value_ends}
+use Rattle.tv_format.specs.Encoding.{EncodesPair, EncodesDocument}
+use Rattle.tv_format.specs.Tree.{Document}
+use Rattle.tv_format.specs.Version.{Version, V1, V2, V3}
+use Rattle.tv_format.proofs.SingleTrees.{single_document}
 use Rattle.tv_decoder.specs.Buffered.{AddsPairs, Nothing}
 use Rattle.tv_decoder.specs.Documents.{EncodesRead, EncodesBehind, NoDocument}
 use Rattle.tv_decoder.specs.Prefix.{parts_at, parts_read, Lacks, IsPlace, IsSound, AllFinished, IsDone, LacksPair, HasField, NoPrefix, HasNoRoom, NoRoomBehind}

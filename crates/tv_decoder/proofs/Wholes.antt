@@ -23,20 +23,20 @@ use Rattle.tv_reader.specs.declared.value_type.ValueType.{ValueType}
 use Rattle.tv_reader.specs.declared.heads.Head.{Head}
 use Rattle.tv_reader.specs.declared.heads.Head.TheVariants as heads
 use Rattle.tv_reader.proofs.BehindKinds.{kind_edge, held_error}
-use Rattle.tv_value.specs.declared.leaf.LeafType.TheVariants as leaves
+use Rattle.tv_format.specs.declared.leaf_type.LeafType.TheVariants as leaves
 use Rattle.tv_reader.proofs.Finding.{finds_then, finds_as, finds_fails, finds_short}
-use Rattle.tv_value.specs.InputError.{Refusal, corrupted, value_ends, no_extension}
-use Rattle.tv_value.specs.Encoding.{Encodes, NoLegacy}
+use Rattle.tv_format.specs.InputError.{Refusal, corrupted, value_ends, no_extension}
+use Rattle.tv_format.specs.Encoding.{Encodes, NoLegacy}
 use Rattle.tv_value.specs.EncodedTokens.{gathered}
 use Rattle.tv_value.specs.PreTokenized.{text_of, tokens_of, tokenized_leaf}
-use Rattle.tv_value.specs.Tree.{Tree, leaf, tokenized, Document}
+use Rattle.tv_format.specs.Tree.{Tree, leaf, tokenized, Document}
 use Rattle.tv_value.specs.declared.encoded_tokens.EncodedTokens.{EncodedTokens}
 use Rattle.tv_value.specs.declared.pre_tokenized.PreTokenizedStr.{PreTokenizedStr}
 use Rattle.tv_reader.specs.EncodedTokens.{tokenized_tree}
 use Rattle.std.specs.String.{string_bytes}
 use Rattle.std.specs.declared.alloc.Global.{Global}
 use Rattle.std.specs.declared.string.String.{String}
-use Rattle.tv_value.specs.Version.{Version}
+use Rattle.tv_format.specs.Version.{Version}
 use Rattle.tv_decoder.specs.Prefix.{IsPlace, IsSound, HasField, NoPrefix, NoRoomBehind}
 use Rattle.tv_decoder.specs.Puts.{Awaiting, Fills, Puts, EndNoText, NoText, PutsBytes, IsParts}
 use Rattle.tv_decoder.specs.Kept.{Grows, LetGo, KeepsPairs}

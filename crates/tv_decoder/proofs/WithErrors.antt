@@ -12,9 +12,9 @@ use Rattle.tv_builder.proofs.WithErrors.{field_errors, value_errors, key_errors,
 use Rattle.tv_builder.proofs.Sound.{all_await, next_key}
 use Rattle.tv_doc.specs.Builder.{built, state_of}
 use Rattle.tv_legacy.specs.Legacy.{Legacy, ErrorInLegacy}
-use Rattle.tv_value.specs.InputError.{Refusal, corrupted, Corrupt, corrupt, ErrorInKey, ErrorInField, ErrorInValue, ErrorInDocument}
-use Rattle.tv_value.specs.Tree.{Document}
-use Rattle.tv_value.specs.Version.{Version}
+use Rattle.tv_format.specs.InputError.{Refusal, corrupted, Corrupt, corrupt, ErrorInKey, ErrorInField, ErrorInValue, ErrorInDocument}
+use Rattle.tv_format.specs.Tree.{Document}
+use Rattle.tv_format.specs.Version.{Version}
 use Rattle.tv_decoder.specs.Prefix.{parts_at, IsPlace, IsSound, HasField, LacksPair, NoPrefix}
 use Rattle.tv_decoder.specs.Puts.{Awaiting, EndNoText}
 use Rattle.tv_decoder.specs.declared.reading.Reading.{Reading}

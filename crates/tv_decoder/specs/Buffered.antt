@@ -3,10 +3,10 @@ use Rattle.std.specs.Prelude.{◌≡◌, ℕ, List, ◌++◌, length}
 use Rattle.tv_base.specs.Parts.{Each}
 use Rattle.tv_doc.specs.declared.document.CompactDoc.{CompactDoc}
 use Rattle.tv_doc.specs.Document.{document_of}
-use Rattle.tv_value.specs.InputError.{Refusal}
-use Rattle.tv_value.specs.Encoding.{EncodesPair, NoLegacy}
-use Rattle.tv_value.specs.Tree.{Document}
-use Rattle.tv_value.specs.Version.{Version}
+use Rattle.tv_format.specs.InputError.{Refusal}
+use Rattle.tv_format.specs.Encoding.{EncodesPair, NoLegacy}
+use Rattle.tv_format.specs.Tree.{Document}
+use Rattle.tv_format.specs.Version.{Version}
 
 -- what was taken encodes so many pairs, and these are added
 pub record AddsPairs (v : Version) (old new : CompactDoc) (taken : List ℕ) (count : ℕ) : Type 0 where

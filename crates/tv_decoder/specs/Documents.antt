@@ -4,9 +4,9 @@ use Rattle.tv_builder.specs.Prefix.{Encoded}
 use Rattle.tv_doc.specs.declared.document.CompactDoc.{CompactDoc}
 use Rattle.tv_doc.specs.Document.{document_of}
 use Rattle.tv_legacy.specs.Legacy.{Legacy, ErrorInLegacy}
-use Rattle.tv_value.specs.InputError.{Refusal, ErrorInDocument}
-use Rattle.tv_value.specs.Encoding.{EncodesDocument}
-use Rattle.tv_value.specs.Version.{Version}
+use Rattle.tv_format.specs.InputError.{Refusal, ErrorInDocument}
+use Rattle.tv_format.specs.Encoding.{EncodesDocument}
+use Rattle.tv_format.specs.Version.{Version}
 use Rattle.tv_decoder.specs.Prefix.{parts_read}
 use Rattle.tv_decoder.specs.declared.reading.Reading.{Reading}
 

@@ -3,7 +3,7 @@ use Rattle.std.specs.Prelude.{◌⊎◌, ◌≡◌, ℕ, List, [], ◌∷◌, �
 use Rattle.tv_base.specs.Sink.{IsPrefix}
 use Rattle.tv_builder.specs.State.{in_lists}
 use Rattle.tv_doc.specs.Builder.{built, state_of, heap_so_far}
-use Rattle.tv_value.specs.Tree.{Tree}
+use Rattle.tv_format.specs.Tree.{Tree}
 use Rattle.tv_decoder.specs.declared.reading.Reading.{Reading}
 
 -- Where the finished pairs end in the heap: where they ended before, or at its end, where a pair more is finished.

@@ -8,9 +8,9 @@ use Rattle.tv_builder.specs.declared.awaits.Awaits.TheVariants as awaits
 use Rattle.tv_doc.specs.Builder.{built, state_of}
 use Rattle.tv_heap.specs.Room.{document_room}
 use Rattle.tv_legacy.specs.Legacy.{Legacy, ErrorInLegacy}
-use Rattle.tv_value.specs.InputError.{Refusal, ErrorInDocument}
-use Rattle.tv_value.specs.Tree.{Document}
-use Rattle.tv_value.specs.Version.{Version}
+use Rattle.tv_format.specs.InputError.{Refusal, ErrorInDocument}
+use Rattle.tv_format.specs.Tree.{Document}
+use Rattle.tv_format.specs.Version.{Version}
 use Rattle.tv_decoder.specs.declared.reading.Reading.{Reading}
 
 -- nothing; or the number of the pairs and the finished ones; or also the field of the next one, and what has come of its value

@@ -14,9 +14,9 @@ use Rattle.tv_heap.specs.Room.{document_room}
 use Rattle.tv_reader.specs.Heads.{HeadPart, leaf_head, length_head, array_head as array_number, object_head as object_number, tokenized_head, legacy_head}
 use Rattle.tv_reader.specs.declared.error.DeserializeError.{DeserializeError}
 use Rattle.tv_reader.specs.declared.error.DeserializeError.TheVariants as errors
-use Rattle.tv_value.specs.Tree.{Document, leaf}
-use Rattle.tv_value.specs.declared.leaf.LeafType.{LeafType}
-use Rattle.tv_value.specs.declared.leaf.LeafType.TheVariants as leaves
+use Rattle.tv_format.specs.Tree.{Document, leaf}
+use Rattle.tv_format.specs.declared.leaf_type.LeafType.{LeafType}
+use Rattle.tv_format.specs.declared.leaf_type.LeafType.TheVariants as leaves
 use Rattle.tv_decoder.specs.Kept.{Grows}
 use Rattle.tv_decoder.specs.Prefix.{parts_read, IsSound, HasField}
 use Rattle.tv_decoder.specs.declared.reading.Reading.{Reading}

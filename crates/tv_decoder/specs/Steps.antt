@@ -2,9 +2,9 @@
 use Rattle.std.specs.Prelude.{◌≡◌, ℕ, ◌+◌, ◌<◌, ◌≤◌, ◌⊎◌, Bool, true, false, List, [], ◌∷◌, ◌++◌, length}
 use Rattle.tv_builder.specs.Prefix.{Encoded}
 use Rattle.tv_legacy.specs.Legacy.{Legacy}
-use Rattle.tv_value.specs.Encoding.{NoLegacy}
-use Rattle.tv_value.specs.Tree.{Entries}
-use Rattle.tv_value.specs.Version.{Version}
+use Rattle.tv_format.specs.Encoding.{NoLegacy}
+use Rattle.tv_format.specs.Tree.{Entries}
+use Rattle.tv_format.specs.Version.{Version}
 use Rattle.tv_decoder.specs.Prefix.{parts_read, ValueNext}
 use Rattle.tv_decoder.specs.declared.reading.Reading.{Reading}
 

@@ -3,14 +3,14 @@
 ghost use Rattle.std.specs.Prelude.{◌≡◌, ◌+◌, ◌≤◌, length, Ok, MatchOption};
 ghost use Rattle.tv_decoder.specs.Buffered.{AddsPairs, Nothing};
 ghost use Rattle.tv_doc.specs.Document.{document_of};
+ghost use Rattle.tv_format.specs.WriteVersion.{written_version};
 ghost use Rattle.tv_reader.specs.Finds.{Finds};
 ghost use Rattle.tv_reader.specs.Version.{version_of};
-ghost use Rattle.tv_value.specs.WriteVersion.{written_version};
 
 use tv_base::ByteSource;
 use tv_doc::document::CompactDoc;
+use tv_format::version::WriteVersion;
 use tv_reader::DocStoreVersion;
-use tv_value::version::WriteVersion;
 
 // The version as one that is written. None for version 1.
 #[inline(always)]

@@ -17,7 +17,7 @@ ghost use Rattle.tv_reader.specs.Version.{version_of};
 ghost use Rattle.tv_reader.specs.declared.error.DeserializeError.TheVariants.{AlreadyFailed};
 ghost use Rattle.tv_reader.specs.declared.error.DeserializeError.TheVariants.{CorruptedValue};
 ghost use Rattle.tv_reader.specs.declared.error.DeserializeError.TheVariants.{HeapFull};
-ghost use Rattle.tv_value.specs.Encoding.{NoLegacy};
+ghost use Rattle.tv_format.specs.Encoding.{NoLegacy};
 
 use crate::reading::Reading;
 use std::alloc::Global;

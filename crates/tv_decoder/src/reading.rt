@@ -27,8 +27,8 @@ ghost use Rattle.tv_reader.specs.declared.error.DeserializeError.TheVariants.{He
 ghost use Rattle.tv_legacy.specs.Legacy.{Legacy};
 ghost use Rattle.tv_reader.specs.Version.{version_of};
 ghost use Rattle.tv_value.specs.Lent.{leaf_of};
-ghost use Rattle.tv_value.specs.Tree.{leaf as leaf_tree};
-ghost use Rattle.tv_value.specs.Version.{Version, V2};
+ghost use Rattle.tv_format.specs.Tree.{leaf as leaf_tree};
+ghost use Rattle.tv_format.specs.Version.{Version, V2};
 
 use crate::buffered::take_buffered_pairs;
 use crate::errors::store_error;
@@ -37,13 +37,14 @@ use tv_base::ByteSource;
 use tv_base::take::take_pieces;
 use tv_doc::builder::{Awaits, BuildError, BytesKind, TreeBuilder};
 use tv_doc::document::CompactDoc;
+use tv_format::leaf_type::LeafType;
 use tv_reader::encoded_tokens::take_gathered;
 use tv_reader::fields::take_field;
 use tv_reader::heads::{Head, take_document_head, take_head, take_key_head};
 use tv_reader::trees::take_behind;
 use tv_reader::{DeserializeError, DocStoreVersion, ValueType};
 use tv_value::field::Field;
-use tv_value::leaf::{LeafType, ReferenceValueLeaf};
+use tv_value::leaf::ReferenceValueLeaf;
 use tv_value::value::Value;
 
 // No more than this is read of open bytes at once.

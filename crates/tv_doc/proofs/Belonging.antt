@@ -9,7 +9,7 @@ use Rattle.tv_doc.specs.JsonObject.{FieldJson, item_values, values_for, values_o
 use Rattle.tv_field.specs.Entry.{Entry}
 use Rattle.tv_schema.specs.Schema.{field_named}
 use Rattle.tv_field.specs.declared.field_type.FieldType.{FieldType}
-use Rattle.tv_value.specs.Tree.{Document}
+use Rattle.tv_format.specs.Tree.{Document}
 
 abbrev HaveFields : ℕ → List FieldJson → Type 0
 HaveFields n values = AllByRecursion (λ v. v.field < n) values

@@ -6,7 +6,7 @@ use Rattle.std.proofs.Math.Nat.{ℕ_set}
 use Rattle.std.proofs.Math.Seq.{drop-append_seam}
 use mathlib.Core.HLevel.{⊥_prop}
 use Rattle.tv_base.specs.Number.{vnum}
-use Rattle.tv_value.specs.TreeCode.{coded_text}
+use Rattle.tv_format.specs.TreeCode.{coded_text}
 use Rattle.tv_builder.specs.declared.build_error.BuildError.{BuildError}
 use Rattle.tv_builder.specs.declared.build_error.BuildError.TheVariants.{AlreadyFailed, OutOfPlace, FieldNumber, NotUtf8, HeapFull, Memory}
 use Rattle.tv_builder.specs.declared.building.Building.{Building}

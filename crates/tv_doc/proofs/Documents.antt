@@ -8,8 +8,8 @@ use Rattle.std.proofs.Math.Logic.{∥∥₁_elim, ∥∥₁_map}
 use Rattle.std.proofs.Math.Seq.{take-append_seam}
 use Rattle.std.proofs.Math.Nat.{ℕ_set}
 use base.Stored.{Coded-set}
-use Rattle.tv_value.specs.Tree.{Tree, Document}
-use Rattle.tv_value.specs.TreeCode.{coded_document}
+use Rattle.tv_format.specs.Tree.{Tree, Document}
+use Rattle.tv_format.specs.TreeCode.{coded_document}
 use Rattle.tv_doc.specs.declared.document.CompactDoc.{CompactDoc}
 use Rattle.tv_doc.specs.declared.place.FieldValueAddr.{FieldValueAddr}
 use Rattle.tv_doc.specs.Document.{heap_of, document_of, IsUnchanged, Added, ReadsAt}

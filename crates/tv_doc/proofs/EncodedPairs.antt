@@ -7,10 +7,10 @@ use Rattle.std.specs.Int.{w32, from_le_bytes}
 use Rattle.tv_base.specs.Number.{Fixed}
 use Rattle.tv_base.specs.Parts.{Begins}
 use Rattle.tv_base.proofs.Widths.{fixed_4}
-use Rattle.tv_value.specs.Encoding.{Encodes, EncodesPair, NoLegacy}
-use Rattle.tv_value.specs.Tree.{Tree}
-use Rattle.tv_value.specs.Version.{Version}
-use Rattle.tv_value.proofs.Prefixes.{begins_nothing, begins_cut, begins_then, begins_item, small_take}
+use Rattle.tv_format.specs.Encoding.{Encodes, EncodesPair, NoLegacy}
+use Rattle.tv_format.specs.Tree.{Tree}
+use Rattle.tv_format.specs.Version.{Version}
+use Rattle.tv_format.proofs.Prefixes.{begins_nothing, begins_cut, begins_then, begins_item, small_take}
 use Rattle.tv_heap.specs.Room.{room}
 use Rattle.tv_builder.specs.EncodedPut.{EncodedPut}
 use Rattle.tv_builder.specs.declared.place.Place.{Place}

@@ -6,7 +6,7 @@ use Rattle.std.proofs.lemmas.Bool.{eqb-true}
 use Rattle.std.proofs.lemmas.Bool.Decides.{Decides-eqb}
 use Rattle.std.proofs.lemmas.List.{get_or-map, length-map, map-append, take_more}
 use Rattle.std.proofs.lemmas.List.Elements.{Contains-append_left, Contains-append_right, Contains-append_cases, Contains-push, Contains-push_cases}
-use Rattle.tv_value.specs.Tree.{Document}
+use Rattle.tv_format.specs.Tree.{Document}
 use Rattle.tv_value.specs.declared.field.Field.{Field}
 use Rattle.tv_doc.specs.SameTexts.{HasAll, SameTexts, field_texts, json_text, text_seen, texts_seen}
 use Rattle.tv_doc.specs.FieldValues.{values_of}

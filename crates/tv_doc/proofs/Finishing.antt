@@ -5,7 +5,7 @@ use Rattle.std.proofs.lemmas.List.Sums.{sum_by_push}
 use Rattle.std.proofs.Math.Logic.{∥∥₁_elim, ∥∥₁_map, ∥∥₁_prop}
 use mathlib.Core.HLevel.{⊥_prop}
 use Rattle.std.specs.Coded.{le_prop}
-use Rattle.tv_value.specs.Tree.{Tree}
+use Rattle.tv_format.specs.Tree.{Tree}
 use Rattle.tv_heap.specs.Reads.{Reads}
 use Rattle.tv_heap.specs.Room.{room, document_room}
 use Rattle.tv_heap.specs.Weight.{tree_weight, document_weight}

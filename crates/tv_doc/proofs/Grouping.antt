@@ -10,7 +10,7 @@ use Rattle.std.proofs.lemmas.Bool.Decides.{Decides-eqb, nat_tests}
 use Rattle.std.proofs.lemmas.List.{append-nil, map-append}
 use Rattle.std.proofs.lemmas.List.Elements.{Contains-append_left, Contains-push, Contains-push_cases, All-contains, All-from_recursion, filter-append, filter_agree}
 use Rattle.tv_value.specs.declared.field.Field.{Field}
-use Rattle.tv_value.specs.Tree.{Tree}
+use Rattle.tv_format.specs.Tree.{Tree}
 use Rattle.tv_doc.specs.Grouped.{IsGrouped, numbered, numbered_all, group_seen}
 use Rattle.tv_doc.specs.FieldValues.{values_of, pair_seen}
 

@@ -10,7 +10,7 @@ use Rattle.tv_field.specs.JsonAnswer.{refusal_of, TakesMemory}
 use Rattle.tv_field.specs.declared.json_value.JsonRefusal.{JsonRefusal}
 use Rattle.tv_field.specs.declared.json_value.JsonRefusal.TheVariants as refusal
 use Rattle.tv_field.specs.JsonTable.{Table}
-use Rattle.tv_value.specs.Tree.{Tree, Document}
+use Rattle.tv_format.specs.Tree.{Tree, Document}
 use Rattle.tv_doc.specs.AdditionError.{addition_error}
 use Rattle.tv_doc.specs.Additions.{Accepts, IsEmpty}
 use Rattle.tv_doc.specs.AddsRow.{AddsRow}

@@ -3,7 +3,7 @@ use Rattle.std.proofs.Common.{◌≡◌, ℕ, ◌+◌, ◌≤◌, ◌<◌, ◌^�
 use Rattle.std.specs.Prelude.{IsOkAnd, IsSomeAnd, IfErr}
 use Rattle.std.specs.declared.alloc.AllocError.{AllocError}
 use Rattle.tv_base.specs.Sink.{IsPrefix}
-use Rattle.tv_value.specs.Tree.{Tree}
+use Rattle.tv_format.specs.Tree.{Tree}
 use Rattle.tv_doc.specs.declared.add_error.AddError.{AddError}
 use Rattle.tv_doc.specs.declared.add_error.AddError.TheVariants.{Memory}
 use Rattle.tv_doc.specs.declared.document.CompactDoc.{CompactDoc}

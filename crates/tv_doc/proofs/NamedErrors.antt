@@ -5,8 +5,8 @@ use Rattle.std.specs.List.{AllByRecursion}
 use Rattle.std.proofs.lemmas.Bool.Decides.{Decides-eqb}
 use Rattle.std.proofs.lemmas.List.Sums.{sum_by-cons, sum_by-append}
 use Rattle.tv_heap.specs.Room.{room, document_room}
-use Rattle.tv_value.specs.Short.{IsPair, IsDocument}
-use Rattle.tv_value.specs.Tree.{Tree, Document}
+use Rattle.tv_format.specs.Short.{IsPair, IsDocument}
+use Rattle.tv_format.specs.Tree.{Tree, Document}
 use Rattle.tv_doc.specs.AdditionError.{addition_error}
 use Rattle.tv_doc.specs.Additions.{IsEmpty}
 use Rattle.tv_doc.specs.FieldValues.{values_of}

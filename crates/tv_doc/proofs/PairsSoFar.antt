@@ -1,6 +1,6 @@
 -- Pairs that are added one after the other.
 use Rattle.std.proofs.Common.{◌≡◌, ℕ, [], ◌∷◌, ◌++◌, Ok, subst, refl, sym, ap, ◌∙◌, append_assoc, append-nil}
-use Rattle.tv_value.specs.Tree.{Tree, Document}
+use Rattle.tv_format.specs.Tree.{Tree, Document}
 use Rattle.tv_doc.specs.Additions.{AddsEach, IsEmpty}
 use Rattle.tv_doc.specs.Document.{Refuses}
 use Rattle.tv_doc.specs.NamedPairs.{StopsAtPair, MakesPairs}

@@ -5,7 +5,7 @@ use Rattle.std.specs.List.{slice_range}
 use Rattle.std.specs.List.Sorted.{IsNonDecreasingBy}
 use Rattle.std.proofs.lemmas.List.{map-append, take_more, take_all, drop_all, get_or-drop, length-drop}
 use Rattle.tv_value.specs.declared.field.Field.{Field}
-use Rattle.tv_value.specs.Tree.{Tree, Document}
+use Rattle.tv_format.specs.Tree.{Tree, Document}
 use Rattle.tv_doc.specs.Grouped.{IsGrouped, numbered}
 use Rattle.tv_doc.specs.Named.{Named, IsNamed, by_name, put_under}
 use Rattle.tv_doc.specs.FieldValues.{pair_seen, values_of}

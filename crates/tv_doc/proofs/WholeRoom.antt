@@ -14,7 +14,7 @@ use Rattle.tv_heap.specs.LeafBytes.{leaf_bytes}
 use Rattle.tv_heap.proofs.Writes.{length_eight}
 use Rattle.tv_heap.specs.Room.{room, leaf_room, elements_room, entries_room}
 use Rattle.tv_value.specs.JsonTree.{number_leaf, whole_tree, whole_elements, whole_entries}
-use Rattle.tv_value.specs.Tree.{Leaf, null, boolean, text, signed, unsigned}
+use Rattle.tv_format.specs.Tree.{Leaf, null, boolean, text, signed, unsigned}
 
 first_group : (last : Bool) (x y : ℕ) (ys : List ℕ) → 1 ≤ length (if last then x ∷ [] else y ∷ ys)
 first_group true x y ys = omega arith

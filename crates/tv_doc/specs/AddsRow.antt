@@ -3,7 +3,7 @@ use Rattle.std.specs.Prelude.{ℕ, Ok}
 use Rattle.serde_json.specs.Data.{Data}
 use Rattle.tv_field.specs.JsonTable.{Table}
 use Rattle.tv_field.specs.declared.field_type.FieldType.{FieldType}
-use Rattle.tv_value.specs.Tree.{Tree}
+use Rattle.tv_format.specs.Tree.{Tree}
 use Rattle.tv_doc.specs.Additions.{Accepts}
 use Rattle.tv_doc.specs.declared.document.CompactDoc.{CompactDoc}
 

@@ -3,9 +3,9 @@ use Rattle.std.specs.Prelude.{◌≡◌, ℕ, ◌+◌, ◌≤◌, List, ◌++◌
 use Rattle.tv_base.specs.Parts.{Begins, Each}
 use Rattle.tv_base.specs.Sink.{IsPrefix}
 use Rattle.tv_heap.specs.Room.{document_room}
-use Rattle.tv_value.specs.Encoding.{EncodesPair, NoLegacy}
-use Rattle.tv_value.specs.Tree.{Tree, Document}
-use Rattle.tv_value.specs.Version.{Version}
+use Rattle.tv_format.specs.Encoding.{EncodesPair, NoLegacy}
+use Rattle.tv_format.specs.Tree.{Tree, Document}
+use Rattle.tv_format.specs.Version.{Version}
 use Rattle.tv_doc.specs.Document.{document_of, heap_of, Added, IsUnchanged}
 use Rattle.tv_doc.specs.declared.document.CompactDoc.{CompactDoc}
 use Rattle.tv_doc.specs.declared.place.FieldValueAddr.{FieldValueAddr}

@@ -2,7 +2,7 @@
 use Rattle.std.specs.Prelude.{ℕ, List, map, nat_eq}
 use Rattle.std.specs.List.{filter}
 use Rattle.tv_value.specs.declared.field.Field.{Field}
-use Rattle.tv_value.specs.Tree.{Tree, Document}
+use Rattle.tv_format.specs.Tree.{Tree, Document}
 use Rattle.tv_doc.specs.declared.field_values.FieldValueIterRef.{FieldValueIterRef}
 use Rattle.tv_doc.specs.declared.field_values.GetAllIter.{GetAllIter}
 

@@ -10,7 +10,7 @@ use Rattle.tv_field.specs.JsonTable.{Refusal, Table}
 use Rattle.tv_schema.specs.Schema.{field_named}
 use Rattle.tv_field.specs.declared.field_type.FieldType.{FieldType}
 use Rattle.tv_field.specs.declared.json_value.JsonRefusal.{JsonRefusal}
-use Rattle.tv_value.specs.Tree.{Tree, Document}
+use Rattle.tv_format.specs.Tree.{Tree, Document}
 use Rattle.tv_doc.specs.Additions.{AddsEach, IsEmpty, IsMade}
 use Rattle.tv_doc.specs.Document.{document_of, Refuses}
 use Rattle.tv_doc.specs.declared.add_error.AddError.{AddError}

@@ -3,7 +3,7 @@ use Rattle.std.specs.Prelude.{ℕ, List, map, String}
 use Rattle.std.specs.BTreeMap.{BTreeMap}
 use Rattle.std.specs.declared.alloc.Global.{Global}
 use Rattle.tv_value.specs.Owned.{owned_entries, owned_tree}
-use Rattle.tv_value.specs.Tree.{Tree, object, entries}
+use Rattle.tv_format.specs.Tree.{Tree, object, entries}
 use Rattle.tv_value.specs.declared.owned_value.OwnedValue.{OwnedValue}
 use Rattle.tv_doc.specs.declared.map_value.MapValue.{MapValue}
 use Rattle.tv_doc.specs.declared.map_value.MapValue.TheVariants as values

@@ -6,7 +6,7 @@ use Rattle.std.specs.Ordering.{nat_cmp}
 use Rattle.serde_json.specs.Data.{object}
 use Rattle.serde_json.specs.Written.{compact_text}
 use Rattle.tv_value.specs.Owned.{owned_tree}
-use Rattle.tv_value.specs.Tree.{Tree, Document}
+use Rattle.tv_format.specs.Tree.{Tree, Document}
 use Rattle.tv_field.specs.Entry.{Entry}
 use Rattle.tv_json.specs.Named.{named_json}
 use Rattle.tv_doc.specs.Grouped.{IsGrouped}

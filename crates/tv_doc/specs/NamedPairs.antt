@@ -2,7 +2,7 @@
 use Rattle.std.specs.Prelude.{◌≡◌, ℕ, ◌<◌, List, [], ◌∷◌, ◌++◌, map, Option, Some, None, Result, Ok, Err}
 use Rattle.tv_field.specs.Entry.{Entry}
 use Rattle.tv_schema.specs.Schema.{field_named}
-use Rattle.tv_value.specs.Tree.{Tree, Document}
+use Rattle.tv_format.specs.Tree.{Tree, Document}
 use Rattle.tv_doc.specs.AdditionError.{addition_error}
 use Rattle.tv_doc.specs.Additions.{AddsEach, IsEmpty, IsMade}
 use Rattle.tv_doc.specs.Document.{document_of, Refuses}

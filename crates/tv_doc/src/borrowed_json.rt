@@ -11,7 +11,7 @@ ghost use Rattle.tv_doc.specs.JsonObject.{AddsPairs, MakesDocument, Parses, obje
 ghost use Rattle.tv_doc.specs.JsonObject.{values_at};
 ghost use Rattle.tv_schema.specs.Schema.{field_named};
 ghost use Rattle.tv_value.specs.Lent.{leaf_of};
-ghost use Rattle.tv_value.specs.Tree.{leaf};
+ghost use Rattle.tv_format.specs.Tree.{leaf};
 
 use crate::document::CompactDoc;
 use crate::json::add_value;

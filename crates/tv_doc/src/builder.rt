@@ -119,8 +119,8 @@ impl TreeBuilder {
     ghost use Rattle.tv_doc.specs.Builder.{built, state_of, heap_so_far, TakesBytes, Builds, Ends};
     ghost use Rattle.tv_doc.specs.Builder.{Finishes};
     ghost use Rattle.tv_doc.specs.Document.{document_of, heap_of};
+    ghost use Rattle.tv_format.specs.Tree.{leaf as leaf_tree};
     ghost use Rattle.tv_value.specs.Lent.{leaf_of};
-    ghost use Rattle.tv_value.specs.Tree.{leaf as leaf_tree};
 
     /// A builder behind a document's pairs. It takes no memory.
     pub fn new(doc: CompactDoc) -> TreeBuilder

@@ -6,8 +6,8 @@ ghost use Rattle.std.specs.Prelude.{SomeIff, option_map, length, map, slice_get,
 ghost use Rattle.std.specs.Net.Addr.{ipv6_bits};
 ghost use Rattle.std.specs.String.{string_bytes};
 ghost use Rattle.tv_value.specs.HeldTokens.{token_of};
-ghost use Rattle.tv_value.specs.Tree.{leaf, text, unsigned, signed, boolean, date, facet, bytes};
-ghost use Rattle.tv_value.specs.Tree.{ip_address, tokenized};
+ghost use Rattle.tv_format.specs.Tree.{leaf, text, unsigned, signed, boolean, date, facet, bytes};
+ghost use Rattle.tv_format.specs.Tree.{ip_address, tokenized};
 ghost use Rattle.tv_value.specs.Lent.{leaf_of, nested_tree};
 ghost use Rattle.tv_doc.specs.Holds.{Holds, Holds-prop, pair_at};
 ghost use Rattle.tv_heap.specs.Room.{room, document_room};

@@ -4,11 +4,11 @@ ghost use Rattle.std.specs.Prelude.{◌≡◌, ◌≤◌, IfNone, IfSome};
 ghost use Rattle.tv_doc.specs.Document.{IsUnchanged};
 ghost use Rattle.tv_doc.specs.Encoded.{AddsPair, AddsEncoded, StoodIn};
 ghost use Rattle.tv_doc.specs.declared.document.CompactDoc.{CompactDoc};
-ghost use Rattle.tv_value.specs.WriteVersion.{written_version};
+ghost use Rattle.tv_format.specs.WriteVersion.{written_version};
 
 use crate::document::{CompactDoc, keep_pair};
 use tv_builder::encoded::put_encoded;
-use tv_value::version::WriteVersion;
+use tv_format::version::WriteVersion;
 
 // A value with lists nested deeper than so many levels isn't added.
 const LEVELS: u32 = 64;

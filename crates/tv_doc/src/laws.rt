@@ -3,8 +3,8 @@
 ghost use Rattle.std.specs.Prelude.{◌≡◌, ◌+◌, ◌<◌, ◌≤◌, ℕ, List, [], length, IfOk, IfErr};
 ghost use Rattle.tv_field.specs.Entry.{Entry};
 ghost use Rattle.tv_schema.specs.Schema.{IsSchema};
-ghost use Rattle.tv_value.specs.Short.{IsDocument};
-ghost use Rattle.tv_value.specs.Tree.{Tree, Document as Pairs};
+ghost use Rattle.tv_format.specs.Short.{IsDocument};
+ghost use Rattle.tv_format.specs.Tree.{Tree, Document as Pairs};
 ghost use Rattle.tv_doc.specs.declared.document.CompactDoc.{CompactDoc};
 ghost use Rattle.tv_builder.specs.Shows.{Shows};
 ghost use Rattle.tv_builder.specs.State.{written};

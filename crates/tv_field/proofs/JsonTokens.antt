@@ -11,11 +11,11 @@ use Rattle.serde_json.specs.View.{items_view}
 use Rattle.serde_json.specs.declared.value.Value.{Value}
 use Rattle.tv_base.specs.Number.{vnum}
 use Rattle.tv_base.specs.Parts.{short_sized}
-use Rattle.tv_value.specs.Short.{short_token, short_tokenized, IsText, IsToken, AreTokens}
-use Rattle.tv_value.specs.Encoding.{Tokenized}
-use Rattle.tv_value.specs.Tree.{Token, tokenized}
-use Rattle.tv_value.proofs.Leaves.{agree_tokenized}
-use Rattle.tv_value.proofs.ShortEncodings.{tokenized_of}
+use Rattle.tv_format.specs.Short.{short_token, short_tokenized, IsText, IsToken, AreTokens}
+use Rattle.tv_format.specs.Encoding.{Tokenized}
+use Rattle.tv_format.specs.Tree.{Token, tokenized}
+use Rattle.tv_format.proofs.Leaves.{agree_tokenized}
+use Rattle.tv_format.proofs.ShortEncodings.{tokenized_of}
 use Rattle.tv_field.specs.JsonTokens.{token_in, tokens_in, tokenized_in, text_at, AreTokensEncoded, IsTokenizedEncoded}
 
 -- the tokens that are encoded so far, and then those of the other items

@@ -6,7 +6,7 @@ use Rattle.serde_json.specs.View.{view}
 use Rattle.tv_value.specs.JsonTree.{lent_json_tree}
 use Rattle.tv_value.specs.Lent.{leaf_of}
 use Rattle.tv_value.specs.Owned.{owned_tree}
-use Rattle.tv_value.specs.Tree.{Tree, leaf}
+use Rattle.tv_format.specs.Tree.{Tree, leaf}
 use Rattle.tv_value.specs.declared.leaf.ReferenceValueLeaf.{ReferenceValueLeaf}
 use Rattle.tv_value.specs.declared.owned_value.OwnedValue.{OwnedValue}
 use Rattle.tv_field.specs.JsonTable.{Refusal, overflow, mismatch, bad_text, bad_base64, float_number, Outcome}

@@ -19,7 +19,7 @@ use Rattle.tv_options.specs.Types.{type_name}
 use Rattle.tv_options.specs.declared.types.TypeTag.TheVariants as tags
 use Rattle.tv_value.specs.IpAddress.{address_number}
 use Rattle.tv_value.specs.JsonTree.{json_tree}
-use Rattle.tv_value.specs.Tree.{Leaf, text, unsigned, signed, boolean, date, facet, bytes, ip_address, Tree, leaf}
+use Rattle.tv_format.specs.Tree.{Leaf, text, unsigned, signed, boolean, date, facet, bytes, ip_address, Tree, leaf}
 use Rattle.tv_field.specs.JsonTokens.{tokenized_in}
 use Rattle.tv_field.specs.declared.field_type.FieldType.{FieldType}
 use Rattle.tv_field.specs.declared.field_type.FieldType.TheVariants as types

@@ -5,8 +5,8 @@ use Rattle.serde_json.specs.Data.{Data, Items, Members}
 use Rattle.serde_json.specs.Find.{get, as_str, as_array, as_number, as_u64}
 use Rattle.tv_date.specs.Rfc3339.{◌>>=◌}
 use Rattle.std.specs.List.{AllByRecursion, flat_map}
-use Rattle.tv_value.specs.Short.{short_token, short_tokenized, IsText, IsToken, AreTokens}
-use Rattle.tv_value.specs.Tree.{Token, Leaf, tokenized}
+use Rattle.tv_format.specs.Short.{short_token, short_tokenized, IsText, IsToken, AreTokens}
+use Rattle.tv_format.specs.Tree.{Token, Leaf, tokenized}
 
 -- the text at a key
 abbrev pub text_at : List ℕ → Data → Option (List ℕ)

@@ -6,9 +6,9 @@ use Rattle.std.proofs.Math.Logic.{∥∥₁_elim, ∥∥₁_map}
 use mathlib.Core.HLevel.{⊥_prop}
 use base.Stored.{Coded-set}
 use Rattle.tv_base.specs.Number.{vnum}
-use Rattle.tv_value.specs.Leaves.{type_of}
-use Rattle.tv_value.specs.Tree.{text, Tree, leaf, array, object, elements, entry, entries}
-use Rattle.tv_value.specs.TreeCode.{coded_text}
+use Rattle.tv_format.specs.Leaves.{type_of}
+use Rattle.tv_format.specs.Tree.{text, Tree, leaf, array, object, elements, entry, entries}
+use Rattle.tv_format.specs.TreeCode.{coded_text}
 use Rattle.tv_heap.specs.declared.value_type.ValueType.{ValueType}
 use Rattle.tv_heap.specs.declared.value_type.ValueType.TheVariants as type
 use Rattle.tv_heap.specs.Held.{Held, same_held, AreElements, HeldElements, AreEntries, HeldEntries}

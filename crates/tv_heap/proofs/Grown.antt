@@ -1,8 +1,8 @@
 -- What reads in a heap still reads once the heap has grown at its end.
 use Rattle.std.proofs.Common.{◌≡◌, ℕ, ◌≤◌, List, ◌++◌, ◌∙◌, ap, append_assoc, arith}
-use Rattle.tv_value.specs.Content.{Content, no_content, truth_content}
-use Rattle.tv_value.specs.Leaves.{content}
-use Rattle.tv_value.specs.Tree.{Tree, leaf, array, object, Elements, no_elements, element, Entries, no_entries, entry}
+use Rattle.tv_format.specs.Content.{Content, no_content, truth_content}
+use Rattle.tv_format.specs.Leaves.{content}
+use Rattle.tv_format.specs.Tree.{Tree, leaf, array, object, Elements, no_elements, element, Entries, no_entries, entry}
 use Rattle.tv_heap.specs.Reads.{Stands, ContentStands, Reads, ReadsElements, ReadsEntries}
 
 pub stands_grown : (old new more : List ℕ) (at : ℕ) (P : List ℕ → Type 0) → new ≡ old ++ more → Stands old at P → Stands new at P

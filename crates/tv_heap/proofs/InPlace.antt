@@ -12,14 +12,14 @@ use base.Stored.{Coded-set}
 use Rattle.tv_base.specs.Number.{Groups, last, more, vnum, low_bytes, eight_bytes, sixteen_bytes, Fixed, no_bytes, low_byte, Signed}
 use Rattle.tv_base.specs.Parts.{short_sized}
 use Rattle.tv_base.proofs.Numbers.{vnum_encodes, length-fixed}
-use Rattle.tv_value.specs.Short.{short_content, short_leaf, short, short_elements, short_entries, short_tokenized}
-use Rattle.tv_value.specs.Content.{Content, signed_content, text_content, tokens_content, form_of}
-use Rattle.tv_value.specs.Leaves.{type_of, content, store_code}
-use Rattle.tv_value.specs.declared.content.Form.TheVariants as forms
-use Rattle.tv_value.specs.declared.leaf.LeafType.{LeafType}
-use Rattle.tv_value.specs.Tree.{Token, Leaf, text, Tree, leaf, array, object, Elements, no_elements, element, elements, element_count, Entries, no_entries, entry, entries, entry_count}
-use Rattle.tv_value.specs.TreeCode.{coded_text}
-use Rattle.tv_value.specs.Version.{Version, entry_total}
+use Rattle.tv_format.specs.Short.{short_content, short_leaf, short, short_elements, short_entries, short_tokenized}
+use Rattle.tv_format.specs.Content.{Content, signed_content, text_content, tokens_content, form_of}
+use Rattle.tv_format.specs.Leaves.{type_of, content, store_code}
+use Rattle.tv_format.specs.declared.leaf_type.Form.TheVariants as forms
+use Rattle.tv_format.specs.declared.leaf_type.LeafType.{LeafType}
+use Rattle.tv_format.specs.Tree.{Token, Leaf, text, Tree, leaf, array, object, Elements, no_elements, element, elements, element_count, Entries, no_entries, entry, entries, entry_count}
+use Rattle.tv_format.specs.TreeCode.{coded_text}
+use Rattle.tv_format.specs.Version.{Version, entry_total}
 use Rattle.tv_heap.specs.declared.encoded.Encoded.{Encoded}
 use Rattle.tv_heap.specs.declared.encoded.Encoded.TheVariants as held
 use Rattle.tv_heap.specs.Encoded.{AreTokens, IsTokenized, SaysTokenized, is_last, last_bytes}
@@ -27,8 +27,8 @@ use Rattle.tv_heap.specs.Held.{Held, HeldElements, HeldEntries}
 use Rattle.tv_heap.specs.Reads.{Stands, ShortSized, ShortTokenized, ContentStands, LeafStands, Reads, ReadsElements, ReadsEntries}
 use Rattle.tv_heap.specs.ReadsLaws.{one_type, type_small, leaf_type_small}
 use Rattle.tv_heap.specs.TypeCode.{type_code, heap_type}
-use Rattle.tv_value.proofs.Leaves.{agree_tokenized}
-use Rattle.tv_value.specs.Encoding.{Tokenized}
+use Rattle.tv_format.proofs.Leaves.{agree_tokenized}
+use Rattle.tv_format.specs.Encoding.{Tokenized}
 use Rattle.tv_heap.proofs.Lends.{text_sized, stands_behind, tokenized_stands}
 use Rattle.tv_heap.proofs.Shapes.{GivesSized, children_are, entries_are}
 

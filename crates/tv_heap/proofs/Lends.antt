@@ -10,11 +10,11 @@ use Rattle.std.proofs.Math.Seq.{drop-append_seam, take-append_seam}
 use Rattle.tv_base.specs.Number.{vnum, Fixed, Signed}
 use Rattle.tv_base.proofs.Numbers.{length-fixed, vnum-small, vnum-large}
 use Rattle.tv_base.proofs.Widths.{from_8, from_16}
-use Rattle.tv_value.proofs.Leaves.{agree_tokenized}
-use Rattle.tv_value.proofs.ShortEncodings.{tokenized_of}
+use Rattle.tv_format.proofs.Leaves.{agree_tokenized}
+use Rattle.tv_format.proofs.ShortEncodings.{tokenized_of}
 use Rattle.tv_value.specs.InPlace.{NoTokenized}
-use Rattle.tv_value.specs.Encoding.{Tokenized}
-use Rattle.tv_value.specs.Tree.{Token, tokenized}
+use Rattle.tv_format.specs.Encoding.{Tokenized}
+use Rattle.tv_format.specs.Tree.{Token, tokenized}
 use Rattle.tv_heap.specs.Lent.{HasText}
 use Rattle.tv_heap.specs.Reads.{Stands, ShortSized, ShortText, ShortTokenized}
 

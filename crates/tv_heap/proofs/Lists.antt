@@ -6,8 +6,8 @@ use Rattle.std.proofs.Math.Seq.{drop-append_seam, take-append_seam}
 use Rattle.tv_base.specs.Number.{vnum}
 use Rattle.tv_base.specs.Parts.{short_sized}
 use Rattle.tv_base.specs.Sink.{IsPrefix}
-use Rattle.tv_value.specs.Size.{size, elements_size, entries_size}
-use Rattle.tv_value.specs.Tree.{Tree, array, object, elements, entries}
+use Rattle.tv_format.specs.Size.{size, elements_size, entries_size}
+use Rattle.tv_format.specs.Tree.{Tree, array, object, elements, entries}
 use Rattle.tv_heap.specs.Reads.{Stands, ShortText, Reads, ReadsElements, ReadsEntries}
 use Rattle.tv_heap.specs.Room.{room, elements_room, entries_room}
 use Rattle.tv_heap.specs.Weight.{tree_weight, elements_weight, entries_weight}

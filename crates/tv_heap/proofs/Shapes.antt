@@ -3,13 +3,13 @@ use Rattle.std.proofs.Common.{◌≡◌, ℕ, List, refl, sym, ◌∙◌, ap, su
 use Rattle.std.proofs.Math.Logic.{∥∥₁_elim, ∥∥₁_map}
 use mathlib.Core.HLevel.{⊥_prop}
 use base.Stored.{Coded-set}
-use Rattle.tv_value.specs.Content.{Content, text_content, form_of}
-use Rattle.tv_value.specs.Leaves.{type_of, content, form}
-use Rattle.tv_value.specs.LeavesLaws.{form_of_content}
-use Rattle.tv_value.specs.declared.content.Form.TheVariants as forms
-use Rattle.tv_value.specs.declared.leaf.LeafType.{LeafType}
-use Rattle.tv_value.specs.Tree.{Leaf, Tree, leaf, array, object, Elements, no_elements, element, elements, element_list, Entries, no_entries, entry, entries, entry_list}
-use Rattle.tv_value.specs.TreeCode.{coded_tree}
+use Rattle.tv_format.specs.Content.{Content, text_content, form_of}
+use Rattle.tv_format.specs.Leaves.{type_of, content, form}
+use Rattle.tv_format.specs.LeavesLaws.{form_of_content}
+use Rattle.tv_format.specs.declared.leaf_type.Form.TheVariants as forms
+use Rattle.tv_format.specs.declared.leaf_type.LeafType.{LeafType}
+use Rattle.tv_format.specs.Tree.{Leaf, Tree, leaf, array, object, Elements, no_elements, element, elements, element_list, Entries, no_entries, entry, entries, entry_list}
+use Rattle.tv_format.specs.TreeCode.{coded_tree}
 use Rattle.tv_heap.specs.Held.{Held, HeldElements, HeldElements-prop, HeldEntries, HeldEntries-prop}
 use Rattle.tv_heap.specs.Lent.{HasText}
 use Rattle.tv_heap.specs.Reads.{Stands, ShortSized, ShortText, ContentStands, LeafStands, Reads, ReadsElements, ReadsEntries}

@@ -6,10 +6,10 @@ use Rattle.std.proofs.lemmas.List.{length-append}
 use Rattle.tv_base.specs.Number.{vnum}
 use Rattle.tv_base.specs.Parts.{short_sized}
 use Rattle.tv_value.specs.Lent.{leaf_of}
-use Rattle.tv_value.specs.Short.{short_token, short_tokenized}
-use Rattle.tv_value.specs.Content.{Content, text_content, bytes_content, tokens_content}
-use Rattle.tv_value.specs.Leaves.{content}
-use Rattle.tv_value.specs.Tree.{Leaf, Tree, leaf, array, object, Elements, no_elements, element, Entries, no_entries, entry}
+use Rattle.tv_format.specs.Short.{short_token, short_tokenized}
+use Rattle.tv_format.specs.Content.{Content, text_content, bytes_content, tokens_content}
+use Rattle.tv_format.specs.Leaves.{content}
+use Rattle.tv_format.specs.Tree.{Leaf, Tree, leaf, array, object, Elements, no_elements, element, Entries, no_entries, entry}
 use Rattle.tv_value.specs.declared.leaf.ReferenceValueLeaf.{ReferenceValueLeaf}
 use Rattle.tv_heap.specs.LeafBytes.{leaf_bytes}
 use Rattle.tv_heap.specs.Reads.{Stands, ContentStands, LeafStands, Reads, ReadsElements, ReadsEntries}

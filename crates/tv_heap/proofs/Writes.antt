@@ -13,18 +13,18 @@ use Rattle.tv_base.specs.Number.{vnum, low_bytes, eight_bytes, sixteen_bytes}
 use Rattle.tv_base.specs.Parts.{short_sized}
 use Rattle.tv_base.proofs.Numbers.{vnum-small, vnum-large}
 use Rattle.tv_base.proofs.Shortest.{eight_bytes_encode, sixteen_bytes_encode}
-use Rattle.tv_value.specs.Short.{short_token, short_tokenized, IsToken, AreTokens, IsContent, IsLeaf}
-use Rattle.tv_value.specs.ShortLaws.{AreTokens-prop}
+use Rattle.tv_format.specs.Short.{short_token, short_tokenized, IsToken, AreTokens, IsContent, IsLeaf}
+use Rattle.tv_format.specs.ShortLaws.{AreTokens-prop}
 use Rattle.tv_value.specs.PreTokenized.{tokens_of}
 use Rattle.tv_value.specs.Lent.{leaf_of}
 use Rattle.tv_value.specs.declared.leaf.ReferenceValueLeaf.{ReferenceValueLeaf}
 use Rattle.tv_value.specs.declared.leaf.ReferenceValueLeaf.TheVariants as lent
-use Rattle.tv_value.specs.Content.{Content, no_content, truth_content, unsigned_content, signed_content, wide_content, text_content, bytes_content, tokens_content}
-use Rattle.tv_value.specs.Leaves.{type_of, content}
-use Rattle.tv_value.specs.declared.leaf.LeafType.{LeafType}
+use Rattle.tv_format.specs.Content.{Content, no_content, truth_content, unsigned_content, signed_content, wide_content, text_content, bytes_content, tokens_content}
+use Rattle.tv_format.specs.Leaves.{type_of, content}
+use Rattle.tv_format.specs.declared.leaf_type.LeafType.{LeafType}
 use Rattle.tv_heap.specs.declared.value_type.ValueType.{ValueType}
 use Rattle.tv_heap.specs.TypeCode.{type_code, heap_type}
-use Rattle.tv_value.specs.Tree.{Token, Leaf, null, boolean, Tree, leaf}
+use Rattle.tv_format.specs.Tree.{Token, Leaf, null, boolean, Tree, leaf}
 use Rattle.tv_heap.specs.Reads.{Stands, leaf_type, flag, ContentStands}
 use Rattle.tv_heap.specs.LeafBytes.{content_bytes, content_address, leaf_bytes, leaf_address}
 use Rattle.tv_heap.specs.Room.{content_room, leaf_room, token_room}

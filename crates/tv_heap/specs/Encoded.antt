@@ -1,11 +1,11 @@
 -- What the store has for a value that stands in a heap.
 use Rattle.std.specs.Prelude.{ℕ, ◌^◌, ◌<◌, Bool, not, nat_lt, List, [], ◌∷◌, ◌++◌, length, filter}
 use Rattle.tv_base.specs.Number.{vnum, eight_bytes, truth_byte}
-use Rattle.tv_value.specs.Short.{short_elements, short_entries}
-use Rattle.tv_value.specs.Content.{Content, tokens_content}
-use Rattle.tv_value.specs.Leaves.{content}
-use Rattle.tv_value.specs.Tree.{Tree, leaf, elements, entries}
-use Rattle.tv_value.specs.Version.{Version, entry_total}
+use Rattle.tv_format.specs.Short.{short_elements, short_entries}
+use Rattle.tv_format.specs.Content.{Content, tokens_content}
+use Rattle.tv_format.specs.Leaves.{content}
+use Rattle.tv_format.specs.Tree.{Tree, leaf, elements, entries}
+use Rattle.tv_format.specs.Version.{Version, entry_total}
 use Rattle.tv_heap.specs.declared.encoded.Encoded.{Encoded}
 use Rattle.tv_heap.specs.declared.encoded.Encoded.TheVariants as held
 

@@ -5,8 +5,8 @@ use Rattle.std.proofs.Common.{ap, sym, ◌∙◌}
 use Rattle.std.proofs.Math.Logic.{∥∥₁_elim, ∥∥₁_prop}
 use mathlib.Core.HLevel.{Σ_prop_path}
 use base.Stored.{Coded-set}
-use Rattle.tv_value.specs.Tree.{Tree, elements, element_list, entries, entry_list}
-use Rattle.tv_value.specs.TreeCode.{coded_text, coded_tree}
+use Rattle.tv_format.specs.Tree.{Tree, elements, element_list, entries, entry_list}
+use Rattle.tv_format.specs.TreeCode.{coded_text, coded_tree}
 use Rattle.tv_heap.specs.Reads.{Reads, ReadsElements, ReadsEntries}
 use Rattle.tv_heap.specs.ReadsLaws.{one_tree, one_elements, one_entries}
 

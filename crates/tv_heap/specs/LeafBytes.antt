@@ -3,10 +3,10 @@ use Rattle.std.specs.Prelude.{ℕ, List, []}
 use Rattle.std.specs.Int.{w64, cast_unsigned}
 use Rattle.tv_base.specs.Number.{eight_bytes, sixteen_bytes}
 use Rattle.tv_base.specs.Parts.{short_sized}
-use Rattle.tv_value.specs.Content.{Content, no_content, truth_content, unsigned_content, signed_content, wide_content, text_content, bytes_content, tokens_content}
-use Rattle.tv_value.specs.Leaves.{type_of, content}
-use Rattle.tv_value.specs.Short.{short_tokenized}
-use Rattle.tv_value.specs.Tree.{Leaf}
+use Rattle.tv_format.specs.Content.{Content, no_content, truth_content, unsigned_content, signed_content, wide_content, text_content, bytes_content, tokens_content}
+use Rattle.tv_format.specs.Leaves.{type_of, content}
+use Rattle.tv_format.specs.Short.{short_tokenized}
+use Rattle.tv_format.specs.Tree.{Leaf}
 use Rattle.tv_heap.specs.declared.value_type.ValueType.{ValueType}
 use Rattle.tv_heap.specs.Reads.{flag}
 use Rattle.tv_heap.specs.TypeCode.{heap_type}

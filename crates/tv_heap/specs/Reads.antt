@@ -2,11 +2,11 @@
 use Rattle.std.specs.Prelude.{◌≡◌, ◌≢◌, ℕ, ◌<◌, ◌^◌, Bool, true, false, List, [], ◌∷◌, ◌++◌, length, IsUtf8}
 use Rattle.tv_base.specs.Number.{vnum, Fixed, Signed}
 use Rattle.tv_base.specs.Parts.{short_sized}
-use Rattle.tv_value.specs.Short.{short_tokenized, IsText, AreTokens}
-use Rattle.tv_value.specs.Content.{Content, no_content, truth_content, unsigned_content, signed_content, wide_content, text_content, bytes_content, tokens_content}
-use Rattle.tv_value.specs.Leaves.{type_of, content}
+use Rattle.tv_format.specs.Short.{short_tokenized, IsText, AreTokens}
+use Rattle.tv_format.specs.Content.{Content, no_content, truth_content, unsigned_content, signed_content, wide_content, text_content, bytes_content, tokens_content}
+use Rattle.tv_format.specs.Leaves.{type_of, content}
 use Rattle.tv_heap.specs.TypeCode.{type_code, heap_type}
-use Rattle.tv_value.specs.Tree.{Token, Leaf, Tree, leaf, array, object, Elements, no_elements, element, Entries, no_entries, entry}
+use Rattle.tv_format.specs.Tree.{Token, Leaf, Tree, leaf, array, object, Elements, no_elements, element, Entries, no_entries, entry}
 
 -- bytes of some kind stand at a place of the heap
 pub record Stands (heap : List ℕ) (at : ℕ) (P : List ℕ → Type 0) : Type 0 where

@@ -7,15 +7,15 @@ use Rattle.tv_base.specs.Parts.{Sized}
 use Rattle.tv_base.proofs.Agreement.{Agree}
 use Rattle.tv_base.proofs.Numbers.{one_number, vnum_encodes, agree_fixed}
 use Rattle.tv_base.proofs.Texts.{same_prefix, agree_sized, agree_signed}
-use Rattle.tv_value.specs.Content.{Content, no_content, truth_content, unsigned_content, signed_content, wide_content, text_content, bytes_content, tokens_content, form_of}
-use Rattle.tv_value.specs.Leaves.{type_of, content, form, store_code}
-use Rattle.tv_value.specs.LeavesLaws.{form_of_content, one_code, one_leaf as leaf_of_parts}
-use Rattle.tv_value.specs.Tree.{Token, Leaf, tokenized, Tree, leaf, array, object, Elements, no_elements, element, Entries, no_entries, entry}
-use Rattle.tv_value.specs.Encoding.{Tokenized}
-use Rattle.tv_value.proofs.Leaves.{agree_tokenized}
-use Rattle.tv_value.proofs.ShortEncodings.{tokenized_of}
-use Rattle.tv_value.specs.declared.leaf.LeafType.{LeafType}
-use Rattle.tv_value.specs.declared.leaf.LeafType.TheVariants as leaves
+use Rattle.tv_format.specs.Content.{Content, no_content, truth_content, unsigned_content, signed_content, wide_content, text_content, bytes_content, tokens_content, form_of}
+use Rattle.tv_format.specs.Leaves.{type_of, content, form, store_code}
+use Rattle.tv_format.specs.LeavesLaws.{form_of_content, one_code, one_leaf as leaf_of_parts}
+use Rattle.tv_format.specs.Tree.{Token, Leaf, tokenized, Tree, leaf, array, object, Elements, no_elements, element, Entries, no_entries, entry}
+use Rattle.tv_format.specs.Encoding.{Tokenized}
+use Rattle.tv_format.proofs.Leaves.{agree_tokenized}
+use Rattle.tv_format.proofs.ShortEncodings.{tokenized_of}
+use Rattle.tv_format.specs.declared.leaf_type.LeafType.{LeafType}
+use Rattle.tv_format.specs.declared.leaf_type.LeafType.TheVariants as leaves
 use Rattle.tv_heap.specs.TypeCode.{type_code, heap_type}
 use Rattle.tv_heap.specs.Reads.{Stands, ShortSized, ShortText, ShortTokenized, leaf_type, flag, ContentStands, LeafStands, Child, Reads, ReadsElements, ReadsEntries}
 

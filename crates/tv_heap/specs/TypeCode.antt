@@ -1,7 +1,7 @@
 -- The types of values in a heap, and their bytes.
 use Rattle.std.specs.Prelude.{ℕ}
-use Rattle.tv_value.specs.declared.leaf.LeafType.{LeafType}
-use Rattle.tv_value.specs.declared.leaf.LeafType.TheVariants as leaves
+use Rattle.tv_format.specs.declared.leaf_type.LeafType.{LeafType}
+use Rattle.tv_format.specs.declared.leaf_type.LeafType.TheVariants as leaves
 use Rattle.tv_heap.specs.declared.value_type.ValueKind.{ValueKind}
 use Rattle.tv_heap.specs.declared.value_type.ValueKind.TheVariants as kinds
 use Rattle.tv_heap.specs.declared.value_type.ValueType.{ValueType}

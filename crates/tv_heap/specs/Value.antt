@@ -1,5 +1,5 @@
 -- What values that are lent out of a heap are seen as.
-use Rattle.tv_value.specs.Tree.{Tree}
+use Rattle.tv_format.specs.Tree.{Tree}
 use Rattle.tv_heap.specs.declared.value.CompactDocValue.{CompactDocValue}
 
 -- the value's tree

@@ -1,7 +1,7 @@
 //! A law of values in a heap, the contract of a function that does nothing.
 
 ghost use Rattle.std.specs.Prelude.{◌≡◌, ℕ, List};
-ghost use Rattle.tv_value.specs.Tree.{Tree};
+ghost use Rattle.tv_format.specs.Tree.{Tree};
 ghost use Rattle.tv_heap.specs.Reads.{Reads};
 
 /// One type and address reads as one tree at most.

@@ -7,7 +7,7 @@ ghost use Rattle.tv_base.specs.Parts.{short_sized};
 ghost use Rattle.tv_heap.specs.LeafBytes.{leaf_bytes};
 ghost use Rattle.tv_value.specs.Lent.{leaf_of};
 ghost use Rattle.tv_value.specs.PreTokenized.{text_of, tokens_of, tokens_left};
-ghost use Rattle.tv_value.specs.Short.{short_token, short_tokenized};
+ghost use Rattle.tv_format.specs.Short.{short_token, short_tokenized};
 ghost use Rattle.tv_value.specs.TokenRef.{ref_of};
 
 use tv_base::vint::VInt;

@@ -5,7 +5,7 @@ ghost use Rattle.std.specs.List.{sum_by};
 ghost use Rattle.tv_heap.specs.Room.{leaf_room, room, elements_room, entries_room, token_room};
 ghost use Rattle.tv_value.specs.Lent.{leaf_of, nested_tree};
 ghost use Rattle.tv_value.specs.PreTokenized.{tokens_left};
-ghost use Rattle.tv_value.specs.Tree.{elements, entries};
+ghost use Rattle.tv_format.specs.Tree.{elements, entries};
 
 use std::convert::AsStr;
 use tv_value::content::LeafContent;

@@ -38,10 +38,10 @@ pub struct CompactDocObjectIter<'a> {
 }
 
 impl<'a> CompactDocValue<'a> {
+    ghost use Rattle.tv_format.specs.Short.{short};
+    ghost use Rattle.tv_format.specs.Version.{Version};
     ghost use Rattle.tv_heap.specs.Encoded.{encoded_bytes, HasFewEntries, IsTokenized, SaysTokenized};
     ghost use Rattle.tv_heap.specs.Value.{tree_of};
-    ghost use Rattle.tv_value.specs.Short.{short};
-    ghost use Rattle.tv_value.specs.Version.{Version};
 
     /// The value of this type that stands at this address of the heap. (Not in tantivy.)
     pub fn new(heap: &'a [u8], value_type: ValueType, address: u32) -> CompactDocValue<'a>

@@ -11,7 +11,8 @@ use std::alloc::Global;
 use std::io;
 use tv_base::write::write_u8;
 use tv_base::{BinarySerializable, ByteSink, ByteSource, Cause, ReadError};
-use tv_value::leaf::{LeafType, ReferenceValueLeaf};
+use tv_format::leaf_type::LeafType;
+use tv_value::leaf::ReferenceValueLeaf;
 use tv_value::value::{ReferenceValue, Value};
 
 /// The type of a value that stands in a document's heap.

@@ -4,7 +4,7 @@ use Rattle.json.specs.Token as token
 use Rattle.json.specs.Token.{Token}
 use Rattle.serde_json.specs.Data as json
 use Rattle.serde_json.specs.Data.{Data, Members, put}
-use Rattle.tv_value.specs.Tree.{Tree, array, elements, entries}
+use Rattle.tv_format.specs.Tree.{Tree, array, elements, entries}
 use Rattle.tv_json.specs.JsonOf.{json_of, elements_json, entries_json}
 use Rattle.tv_json.specs.Named.{list_json, named_json}
 use Rattle.tv_json.specs.Rising.{data_tokens, rest_of_array, rest_of_object, listed_json, pairs_json}

@@ -11,9 +11,9 @@ use Rattle.serde_json.specs.Data.{Data, Items, Members, put}
 use Rattle.serde_json.specs.Find.{of_integer}
 use Rattle.tv_base.specs.Facet.{printed}
 use Rattle.tv_date.specs.Printed.{moment_text}
-use Rattle.tv_value.specs.Content.{Content, no_content, truth_content, unsigned_content, signed_content, wide_content, text_content, bytes_content, tokens_content}
-use Rattle.tv_value.specs.Leaves.{content}
-use Rattle.tv_value.specs.Tree.{Token, Leaf, date, facet, Tree, leaf, array, object, Elements, no_elements, element, Entries, no_entries, entry}
+use Rattle.tv_format.specs.Content.{Content, no_content, truth_content, unsigned_content, signed_content, wide_content, text_content, bytes_content, tokens_content}
+use Rattle.tv_format.specs.Leaves.{content}
+use Rattle.tv_format.specs.Tree.{Token, Leaf, date, facet, Tree, leaf, array, object, Elements, no_elements, element, Entries, no_entries, entry}
 
 -- the text of an address: `::ffff:a.b.c.d` as `a.b.c.d`, another as std prints it
 unfoldable pub segments_text : List ℕ → List ℕ

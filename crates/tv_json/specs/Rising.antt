@@ -10,7 +10,7 @@ use Rattle.json.specs.Tree.{json_tokens, items_tokens, members_tokens}
 use Rattle.serde_json.specs.Data as json
 use Rattle.serde_json.specs.Data.{Data, Items, Members}
 use Rattle.serde_json.specs.Written.{outline, items_outline, members_outline}
-use Rattle.tv_value.specs.Tree.{Token, Tree, leaf, array, object, Entries, no_entries, entry}
+use Rattle.tv_format.specs.Tree.{Token, Tree, leaf, array, object, Entries, no_entries, entry}
 use Rattle.tv_json.specs.JsonOf.{json_of}
 
 -- the first text comes before the second

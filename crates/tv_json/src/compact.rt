@@ -8,8 +8,8 @@ ghost use Rattle.serde_json.specs.Data.{no_members};
 ghost use Rattle.serde_json.specs.Written.{compact_text};
 ghost use Rattle.tv_json.specs.JsonOf.{json_of, entries_json};
 ghost use Rattle.tv_json.specs.Rising.{KeysRise, entries_of, data_tokens, listed_json, pairs_json};
-ghost use Rattle.tv_value.specs.Size.{size, entries_size};
-ghost use Rattle.tv_value.specs.Tree.{array, object, elements, entries};
+ghost use Rattle.tv_format.specs.Size.{size, entries_size};
+ghost use Rattle.tv_format.specs.Tree.{array, object, elements, entries};
 
 use crate::write::{JsonWriter, write_leaf};
 use std::alloc::{AllocError, Global};

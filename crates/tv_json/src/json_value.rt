@@ -10,7 +10,7 @@ ghost use Rattle.tv_value.specs.Lent.{leaf_of, nested_tree};
 ghost use Rattle.tv_value.specs.PreTokenized.{text_of, tokens_of, tokens_left};
 ghost use Rattle.tv_value.specs.TokenRef.{ref_of};
 ghost use Rattle.tv_value.specs.Owned.{owned_tree};
-ghost use Rattle.tv_value.specs.Tree.{Tree, elements, entries};
+ghost use Rattle.tv_format.specs.Tree.{Tree, elements, entries};
 
 use crate::leaf_text::{push_address, push_base64, push_date, push_facet};
 use serde_json::{Map, Value as JsonValue};

@@ -7,7 +7,7 @@ use Rattle.tv_base.specs.ErrorInPart.{InThen}
 use Rattle.tv_base.specs.Stop.{◌>>=◌}
 use Rattle.tv_base.proofs.Agrees.{Agrees, InTurn, agrees_too, in_turn, nothing_read, nothing_stands, ok_is, err_is}
 use Rattle.tv_value.specs.JsonTree.{whole_entries}
-use Rattle.tv_value.specs.Tree.{Tree, object, Entries}
+use Rattle.tv_format.specs.Tree.{Tree, object, Entries}
 use Rattle.tv_legacy.specs.Legacy.{Slice, Legacy, ErrorInLegacy, only_blanks, not_closed, no_brace, no_object, not_whole}
 use Rattle.tv_legacy.specs.LegacyReading.{slice_at, slice_tree, beside, legacy_at}
 use Rattle.tv_legacy.proofs.Slices.{ErrorInSlice, no_byte, never_closed, other_byte, slices_agree, slice_refused, never_closes, closes_never}

@@ -5,10 +5,10 @@ use Rattle.tv_base.proofs.Deciding.{Decided, begins, malformed, Decides}
 use Rattle.tv_legacy.specs.Legacy.{Legacy, ErrorInLegacy}
 use Rattle.tv_legacy.specs.LegacyLaws.{BeginsLegacy, IsMalformed, BeginsValue, HasErrorInValue, DerivesDocument, HasErrorInDocument}
 use Rattle.tv_legacy.proofs.Unique.{begins_or_malformed}
-use Rattle.tv_value.specs.InputError.{ErrorInValue, ErrorInDocument}
-use Rattle.tv_value.specs.Encoding.{Encodes, EncodesDocument}
-use Rattle.tv_value.specs.Version.{Version}
-use Rattle.tv_value.proofs.DecidingTrees.{decides_value, decides_document}
+use Rattle.tv_format.specs.InputError.{ErrorInValue, ErrorInDocument}
+use Rattle.tv_format.specs.Encoding.{Encodes, EncodesDocument}
+use Rattle.tv_format.specs.Version.{Version}
+use Rattle.tv_format.proofs.DecidingTrees.{decides_value, decides_document}
 
 legacy : (bytes : List ℕ) → BeginsLegacy bytes ⊎ IsMalformed bytes → Decided Legacy ErrorInLegacy bytes
 legacy bytes p = elim p [ inl q ↦ begins q.1 q.2.prefix q.0 q.2.joined q.2.encoded | inr q ↦ malformed q.0 q.1 ]

@@ -11,7 +11,7 @@ use Rattle.serde_json.specs.Written.{has_float}
 use Rattle.tv_base.specs.declared.cause.Cause.{Cause}
 use Rattle.tv_base.specs.declared.cause.Cause.TheVariants.{LegacyJson, LegacyFloat}
 use Rattle.tv_value.specs.JsonTree.{json_tree, whole_entries}
-use Rattle.tv_value.specs.Tree.{Tree, object}
+use Rattle.tv_format.specs.Tree.{Tree, object}
 use Rattle.tv_legacy.specs.Legacy.{ReadsObject}
 use Rattle.tv_legacy.specs.LegacyReading.{whole_or_float, object_tree, slice_tree}
 

@@ -6,7 +6,7 @@ use Rattle.tv_base.specs.Source.{AllBytes}
 use Rattle.tv_base.proofs.Agrees.{one_encoding, err_is, no_ok}
 use Rattle.tv_base.proofs.Excluding.{Excludes}
 use Rattle.tv_base.proofs.Single.{Single}
-use Rattle.tv_value.specs.Tree.{Tree, object, Entries}
+use Rattle.tv_format.specs.Tree.{Tree, object, Entries}
 use Rattle.tv_legacy.specs.Legacy.{Legacy, ErrorInLegacy}
 use Rattle.tv_legacy.specs.LegacyLaws.{BeginsLegacy, IsMalformed}
 use Rattle.tv_legacy.specs.LegacyReading.{legacy_at}

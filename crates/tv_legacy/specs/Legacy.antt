@@ -7,7 +7,7 @@ use Rattle.serde_json.specs.Read.{read}
 use Rattle.tv_base.specs.declared.cause.Cause.{Cause}
 use Rattle.tv_base.specs.declared.cause.Cause.TheVariants.{UnexpectedEnd, LegacyJson, LegacyFloat}
 use Rattle.tv_value.specs.JsonTree.{json_tree}
-use Rattle.tv_value.specs.Tree.{object, Entries}
+use Rattle.tv_format.specs.Tree.{object, Entries}
 
 -- a tab, a line feed, a carriage return or a space
 abbrev pub IsBlank : ℕ → Type 0

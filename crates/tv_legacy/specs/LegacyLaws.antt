@@ -3,10 +3,10 @@ use Rattle.std.specs.Prelude.{ℕ, List}
 use Rattle.tv_base.specs.Parts.{Begins}
 use Rattle.tv_base.specs.declared.cause.Cause.{Cause}
 use Rattle.tv_legacy.specs.Legacy.{Legacy, ErrorInLegacy}
-use Rattle.tv_value.specs.InputError.{Refusal, ErrorInValue, ErrorInDocument}
-use Rattle.tv_value.specs.Encoding.{Encodes, Derives}
-use Rattle.tv_value.specs.Tree.{Tree, Entries, Document}
-use Rattle.tv_value.specs.Version.{Version}
+use Rattle.tv_format.specs.InputError.{Refusal, ErrorInValue, ErrorInDocument}
+use Rattle.tv_format.specs.Encoding.{Encodes, Derives}
+use Rattle.tv_format.specs.Tree.{Tree, Entries, Document}
+use Rattle.tv_format.specs.Version.{Version}
 
 -- a prefix of the bytes is a legacy object
 abbrev pub BeginsLegacy : List ℕ → Type 0

@@ -12,7 +12,7 @@ use Rattle.tv_base.specs.declared.read_error.ReadError.TheVariants.{Corrupted, I
 use Rattle.tv_legacy.specs.Legacy.{opened, closed}
 use Rattle.tv_value.specs.JsonTree.{json_tree}
 use Rattle.tv_value.specs.Owned.{owned_tree}
-use Rattle.tv_value.specs.Tree.{Tree}
+use Rattle.tv_format.specs.Tree.{Tree}
 use Rattle.tv_value.specs.declared.owned_value.OwnedValue.{OwnedValue}
 
 abbrev pub is_blank : ℕ → Bool

@@ -7,11 +7,11 @@ ghost use Rattle.tv_base.specs.declared.cause.Cause.{Cause};
 ghost use Rattle.tv_legacy.specs.Legacy.{Legacy, ErrorInLegacy};
 ghost use Rattle.tv_legacy.specs.LegacyLaws.{BeginsLegacy, IsMalformed, BeginsValue};
 ghost use Rattle.tv_legacy.specs.LegacyLaws.{HasErrorInValue, DerivesDocument, HasErrorInDocument};
-ghost use Rattle.tv_value.specs.InputError.{Refusal, ErrorInValue, ErrorInDocument};
-ghost use Rattle.tv_value.specs.Short.{short, short_document, IsValue, IsDocument};
-ghost use Rattle.tv_value.specs.Encoding.{Encodes, EncodesDocument, Derives};
-ghost use Rattle.tv_value.specs.Tree.{Tree, Entries, Document};
-ghost use Rattle.tv_value.specs.Version.{Version, IsWritten};
+ghost use Rattle.tv_format.specs.InputError.{Refusal, ErrorInValue, ErrorInDocument};
+ghost use Rattle.tv_format.specs.Short.{short, short_document, IsValue, IsDocument};
+ghost use Rattle.tv_format.specs.Encoding.{Encodes, EncodesDocument, Derives};
+ghost use Rattle.tv_format.specs.Tree.{Tree, Entries, Document};
+ghost use Rattle.tv_format.specs.Version.{Version, IsWritten};
 
 /// No legacy object begins another, and each has one list of entries.
 pub fn legacy_objects_have_one_reading()

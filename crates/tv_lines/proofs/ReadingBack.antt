@@ -3,6 +3,8 @@ use Rattle.std.proofs.Common.{◌≡◌, ℕ, ◌<◌, ◌≤◌, ◌⊎◌, inl
 use lib.Chars.{codes}
 use Rattle.tv_base.specs.Source.{Failures}
 use Rattle.tv_base.specs.Stop.{CountsStop}
+use Rattle.tv_format.specs.InputError.{Refusal, corrupted, no_text_key}
+use Rattle.tv_format.specs.Tree.{Document}
 use Rattle.tv_heap.specs.Room.{document_room}
 use Rattle.tv_lines.specs.Unwritten.{IsUnwritten}
 use Rattle.tv_reader.specs.Error.{store_stop, IsRefusal}
@@ -12,8 +14,6 @@ use Rattle.tv_reader.specs.declared.error.DeserializeError.{DeserializeError}
 use Rattle.tv_reader.specs.declared.error.DeserializeError.TheVariants as errors
 use Rattle.tv_reader.specs.declared.value_type.ValueType.{ValueType}
 use Rattle.tv_store.specs.Documents.{Answers, IsReadingError}
-use Rattle.tv_value.specs.InputError.{Refusal, corrupted, no_text_key}
-use Rattle.tv_value.specs.Tree.{Document}
 
 -- where the bytes aren't refused and no read fails, only memory and room are left
 pub only_short : (e : DeserializeError) (f g : Failures) → ((r : Refusal) → IsRefusal e r → ⊥) → IsReadingError e → g.last ≡ None → CountsStop (store_stop e) f g

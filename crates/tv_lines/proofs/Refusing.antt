@@ -24,7 +24,7 @@ use Rattle.tv_field.specs.JsonTable.{Refusal, Table}
 use Rattle.tv_field.specs.declared.value_parsing_error.ValueParsingError.{ValueParsingError}
 use Rattle.tv_field.specs.declared.value_parsing_error.ValueParsingError.TheVariants as values
 use Rattle.tv_store.specs.Stored.{stored}
-use Rattle.tv_value.specs.Tree.{Tree, Document}
+use Rattle.tv_format.specs.Tree.{Tree, Document}
 
 pub no_text : (schema : List Entry) (line : List ℕ) → ¬ IsUtf8 line → Answer schema line (codes "error InvalidJson")
 no_text schema line none = answered (no_object (λ members h. none h.0) refl)

@@ -9,7 +9,7 @@ use Rattle.tv_doc.specs.declared.doc_parsing_error.DocParsingError.{DocParsingEr
 use Rattle.tv_doc.specs.declared.doc_parsing_error.DocParsingError.TheVariants as errors
 use Rattle.tv_field.specs.declared.value_parsing_error.ValueParsingError.{ValueParsingError}
 use Rattle.tv_field.specs.declared.value_parsing_error.ValueParsingError.TheVariants as values
-use Rattle.tv_value.specs.Tree.{Document}
+use Rattle.tv_format.specs.Tree.{Document}
 
 abbrev pub value_error_text : ValueParsingError → List ℕ
 value_error_text (values.OverflowError expected json) = codes "error ValueError OverflowError"

@@ -3,12 +3,12 @@
 ghost use Rattle.std.specs.Prelude.{◌≡◌, ◌∷◌, ◌++◌, [], codes, IfErr, OnOk};
 ghost use Rattle.tv_doc.specs.Belongs.{Belongs};
 ghost use Rattle.tv_doc.specs.Document.{document_of};
+ghost use Rattle.tv_format.specs.Short.{short_document};
+ghost use Rattle.tv_format.specs.Version.{V2};
 ghost use Rattle.tv_lines.specs.Answers.{Answer, IsDocumentText};
 ghost use Rattle.tv_lines.specs.Run.{IsEnded, Leaves};
 ghost use Rattle.tv_lines.specs.Unwritten.{IsTexts, IsUnwritten, error_text, value_error_text};
 ghost use Rattle.tv_store.specs.Stored.{stored};
-ghost use Rattle.tv_value.specs.Short.{short_document};
-ghost use Rattle.tv_value.specs.Version.{V2};
 
 use crate::hex_text::append_hex;
 use crate::read_back::read_back;

@@ -2,11 +2,11 @@
 
 ghost use Rattle.std.specs.Prelude.{◌≡◌, ◌⊎◌, codes, IfErr, IfOk};
 ghost use Rattle.tv_doc.specs.Document.{document_of};
+ghost use Rattle.tv_format.specs.Short.{short_document, IsDocument};
+ghost use Rattle.tv_format.specs.Tree.{Document};
+ghost use Rattle.tv_format.specs.Version.{V2};
 ghost use Rattle.tv_lines.specs.Unwritten.{IsUnwritten};
 ghost use Rattle.tv_reader.specs.declared.error.DeserializeError.TheVariants.{Memory, HeapFull};
-ghost use Rattle.tv_value.specs.Short.{short_document, IsDocument};
-ghost use Rattle.tv_value.specs.Tree.{Document};
-ghost use Rattle.tv_value.specs.Version.{V2};
 
 use std::alloc::Global;
 use tv_base::SliceSource;

@@ -9,7 +9,7 @@ use Rattle.tv_base.specs.Number.{Fixed}
 use Rattle.tv_base.specs.ErrorInPart.{InThen, ErrorInBytes}
 use Rattle.tv_base.proofs.Agrees.{Agrees, InTurn, agrees_too, in_turn, chosen, nothing_read, nothing_stands, raised}
 use Rattle.tv_base.proofs.AgreeWidths.{bytes_error, u32_agrees}
-use Rattle.tv_value.specs.InputError.{Refusal, corrupted, corrupt, Corrupt, ErrorInField, field_ends, field_large, SmallField}
+use Rattle.tv_format.specs.InputError.{Refusal, corrupted, corrupt, Corrupt, ErrorInField, field_ends, field_large, SmallField}
 use Rattle.tv_reader.specs.Fields.{field_at}
 
 abbrev Raised : (List ℕ → Cause → Type 0) → List ℕ → Refusal → Type 0

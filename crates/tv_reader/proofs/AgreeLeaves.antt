@@ -18,16 +18,16 @@ use Rattle.tv_base.proofs.AgreeWidths.{bytes_error, u64_agrees, u128_agrees, i64
 use Rattle.tv_base.proofs.AgreeNumbers.{vint_agrees}
 use Rattle.tv_base.proofs.AgreeParts.{sized_agrees, text_agrees, each_agrees}
 use Rattle.tv_base.proofs.AgreeTruth.{truth_agrees}
-use Rattle.tv_value.specs.Content.{no_content, truth_content, unsigned_content, signed_content, wide_content, text_content, bytes_content, tokens_content}
-use Rattle.tv_value.specs.InputError.{ErrorInToken, ErrorInTokenized, ErrorInScaled, ErrorInDate, ErrorInMicroseconds, date_ends, date_range}
-use Rattle.tv_value.specs.Leaves.{form, scale}
-use Rattle.tv_value.specs.Encoding.{TokenEncoding}
-use Rattle.tv_value.specs.Tree.{Token, leaf}
-use Rattle.tv_value.specs.Version.{Version, V1, V2, V3, Date, Microseconds, Scaled}
-use Rattle.tv_value.specs.declared.content.Form.{Form}
-use Rattle.tv_value.specs.declared.content.Form.TheVariants as forms
-use Rattle.tv_value.specs.declared.leaf.LeafType.{LeafType}
-use Rattle.tv_value.specs.declared.leaf.LeafType.TheVariants as leaves
+use Rattle.tv_format.specs.Content.{no_content, truth_content, unsigned_content, signed_content, wide_content, text_content, bytes_content, tokens_content}
+use Rattle.tv_format.specs.InputError.{ErrorInToken, ErrorInTokenized, ErrorInScaled, ErrorInDate, ErrorInMicroseconds, date_ends, date_range}
+use Rattle.tv_format.specs.Leaves.{form, scale}
+use Rattle.tv_format.specs.Encoding.{TokenEncoding}
+use Rattle.tv_format.specs.Tree.{Token, leaf}
+use Rattle.tv_format.specs.Version.{Version, V1, V2, V3, Date, Microseconds, Scaled}
+use Rattle.tv_format.specs.declared.leaf_type.Form.{Form}
+use Rattle.tv_format.specs.declared.leaf_type.Form.TheVariants as forms
+use Rattle.tv_format.specs.declared.leaf_type.LeafType.{LeafType}
+use Rattle.tv_format.specs.declared.leaf_type.LeafType.TheVariants as leaves
 use Rattle.tv_reader.specs.LeafBodies.{TokenizedPair, Held, ErrorInHeld, LeafOfType, ErrorInLeafOfType, LeafOf, ErrorInLeafOf}
 use Rattle.tv_reader.specs.Leaves.{micros_of, date_at, offsets_at, named_at, placed_at, token_at, tokens_at, counted_tokens_at, tokenized_at, leaf_holding, number_at, content_at, leaf_of_type, leaf_at}
 use Rattle.tv_reader.specs.ValueType.{leaf_type}

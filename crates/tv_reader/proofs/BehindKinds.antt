@@ -6,11 +6,11 @@ use Rattle.tv_base.specs.Source.{AllBytes, Failures}
 use Rattle.tv_base.specs.Take as reads
 use Rattle.tv_base.proofs.Agrees.{same_start}
 use Rattle.tv_legacy.specs.Legacy.{Legacy}
-use Rattle.tv_value.specs.InputError.{Refusal, corrupted, no_text_key, no_extension, other_extension, in_tokenized, ErrorInBody, ErrorInCodedKey, key_ends, key_unknown, key_float, key_other, key_no_extension, key_tokenized, key_other_extension, value_ends, unknown_code, float_code, in_leaf, in_legacy, in_count, in_element, in_entry_count, odd_count, in_entry_key, in_entry}
-use Rattle.tv_value.specs.Leaves.{store_code}
-use Rattle.tv_value.specs.Encoding.{Encodes}
-use Rattle.tv_value.specs.Tree.{Tree}
-use Rattle.tv_value.specs.Version.{Version}
+use Rattle.tv_format.specs.InputError.{Refusal, corrupted, no_text_key, no_extension, other_extension, in_tokenized, ErrorInBody, ErrorInCodedKey, key_ends, key_unknown, key_float, key_other, key_no_extension, key_tokenized, key_other_extension, value_ends, unknown_code, float_code, in_leaf, in_legacy, in_count, in_element, in_entry_count, odd_count, in_entry_key, in_entry}
+use Rattle.tv_format.specs.Leaves.{store_code}
+use Rattle.tv_format.specs.Encoding.{Encodes}
+use Rattle.tv_format.specs.Tree.{Tree}
+use Rattle.tv_format.specs.Version.{Version}
 use Rattle.tv_reader.specs.Finds.{Finds}
 use Rattle.tv_reader.specs.Kinds.{kind_at}
 use Rattle.tv_reader.specs.LeafBodies.{LeafOf, ErrorInLeafOf}
@@ -20,8 +20,8 @@ use Rattle.tv_reader.specs.ValueType.{leaf_type, type_code, coded, ErrorInCode, 
 use Rattle.tv_reader.specs.declared.error.DeserializeError.{DeserializeError}
 use Rattle.tv_reader.specs.declared.value_type.ValueType.{ValueType}
 use Rattle.tv_reader.specs.declared.value_type.ValueType.TheVariants as types
-use Rattle.tv_value.specs.declared.leaf.LeafType.{LeafType}
-use Rattle.tv_value.specs.declared.leaf.LeafType.TheVariants as leaves
+use Rattle.tv_format.specs.declared.leaf_type.LeafType.{LeafType}
+use Rattle.tv_format.specs.declared.leaf_type.LeafType.TheVariants as leaves
 use Rattle.tv_reader.proofs.AgreeKinds.{kind_agrees}
 use Rattle.tv_reader.proofs.Finding.{finds_then, finds_part}
 

@@ -2,11 +2,11 @@
 use Rattle.std.proofs.Common.{◌≡◌, ◌≢◌, ◌<◌, ℕ, zero, suc, false, eqb, Some, None, refl, sym, ap, subst, ◌∙◌, arith, inl, inr}
 use Rattle.std.specs.Prelude.{option_map}
 use Rattle.std.proofs.lemmas.Bool.Decides.{eqb_tells}
-use Rattle.tv_value.specs.Leaves as leaf_codes
-use Rattle.tv_value.specs.Leaves.{store_code}
-use Rattle.tv_value.specs.LeavesLaws.{code_of_leaf}
-use Rattle.tv_value.specs.declared.leaf.LeafType.{LeafType}
-use Rattle.tv_value.specs.declared.leaf.LeafType.TheVariants as leaves
+use Rattle.tv_format.specs.Leaves as leaf_codes
+use Rattle.tv_format.specs.Leaves.{store_code}
+use Rattle.tv_format.specs.LeavesLaws.{code_of_leaf}
+use Rattle.tv_format.specs.declared.leaf_type.LeafType.{LeafType}
+use Rattle.tv_format.specs.declared.leaf_type.LeafType.TheVariants as leaves
 use Rattle.tv_reader.specs.ValueType.{of_leaf, type_with}
 
 pub differs : (m n : ℕ) → m ≢ n → eqb m n ≡ false

@@ -14,7 +14,7 @@ use Rattle.tv_base.specs.Take.{TakesBy, read_stop}
 use Rattle.tv_base.proofs.Agrees.{Agrees, empty, ends_in, ends, same_start, no_last}
 use Rattle.tv_base.proofs.ByGrammar.{shows_by}
 use Rattle.tv_base.proofs.TakeSteps.{Taken_none, Taken_then, CountsStop-from}
-use Rattle.tv_value.specs.InputError.{Refusal, corrupted}
+use Rattle.tv_format.specs.InputError.{Refusal, corrupted}
 use Rattle.tv_reader.specs.Error.{read_error, store_stop}
 use Rattle.tv_reader.specs.Error as store
 use Rattle.tv_reader.specs.declared.error.DeserializeError.{DeserializeError}

@@ -12,10 +12,10 @@ use Rattle.tv_base.proofs.Agrees.{Agrees, made, nothing_read}
 use Rattle.tv_base.proofs.AgreeNumbers.{vint_agrees}
 use Rattle.tv_base.proofs.AgreeTruth.{truth_agrees}
 use Rattle.tv_base.proofs.AgreeWidths.{u64_agrees, u128_agrees}
-use Rattle.tv_value.specs.Content.{no_content, truth_content, unsigned_content, signed_content, wide_content}
-use Rattle.tv_value.specs.InputError.{Refusal, corrupted, no_text_key, ErrorInContent, no_extension, ErrorInCodedKey, ErrorInKey, corrupt, key_ends, key_no_extension, in_key, value_ends, in_count}
-use Rattle.tv_value.specs.Leaves.{form, scale}
-use Rattle.tv_value.specs.Version.{Version, V3, Scaled}
+use Rattle.tv_format.specs.Content.{no_content, truth_content, unsigned_content, signed_content, wide_content}
+use Rattle.tv_format.specs.InputError.{Refusal, corrupted, no_text_key, ErrorInContent, no_extension, ErrorInCodedKey, ErrorInKey, corrupt, key_ends, key_no_extension, in_key, value_ends, in_count}
+use Rattle.tv_format.specs.Leaves.{form, scale}
+use Rattle.tv_format.specs.Version.{Version, V3, Scaled}
 use Rattle.tv_reader.specs.Error.{read_error, store_stop}
 use Rattle.tv_reader.specs.Finds.{Finds}
 use Rattle.tv_reader.specs.HeadReading.{head_part, form_head_at, type_head_at, head_at}
@@ -30,10 +30,10 @@ use Rattle.tv_reader.specs.declared.value_type.ValueType.{ValueType}
 use Rattle.tv_reader.specs.declared.value_type.ValueType.TheVariants as types
 use Rattle.tv_reader.specs.declared.heads.Head.{Head}
 use Rattle.tv_reader.specs.declared.version.DocStoreVersion.{DocStoreVersion}
-use Rattle.tv_value.specs.declared.content.Form.{Form}
-use Rattle.tv_value.specs.declared.content.Form.TheVariants as forms
-use Rattle.tv_value.specs.declared.leaf.LeafType.{LeafType}
-use Rattle.tv_value.specs.declared.leaf.LeafType.TheVariants as leaves
+use Rattle.tv_format.specs.declared.leaf_type.Form.{Form}
+use Rattle.tv_format.specs.declared.leaf_type.Form.TheVariants as forms
+use Rattle.tv_format.specs.declared.leaf_type.LeafType.{LeafType}
+use Rattle.tv_format.specs.declared.leaf_type.LeafType.TheVariants as leaves
 use Rattle.tv_reader.proofs.AgreeLeaves.{number_agrees}
 use Rattle.tv_reader.proofs.BehindKinds.{finds_behind, other_key, held_error, type_or_text}
 use Rattle.tv_reader.proofs.Finding.{finds_as, finds_part, finds_part_fails, finds_refused}

@@ -19,16 +19,16 @@ use Rattle.tv_base.proofs.EarlyNumbers.{number_early}
 use Rattle.tv_legacy.specs.Legacy.{Legacy}
 use Rattle.tv_legacy.specs.LegacyReading.{legacy_at}
 use Rattle.tv_legacy.proofs.Agrees.{LegacyTree, legacy_agrees}
-use Rattle.tv_value.specs.InputError.{Refusal, corrupted, no_text_key, ErrorInCodedKey, key_ends, key_no_extension, in_key, ErrorInKey, corrupt, value_ends, no_extension, in_legacy, in_count, in_element, in_entry_count, odd_count, in_entry_key, in_entry}
-use Rattle.tv_value.specs.ErrorInList.{in_next_key, in_next_value}
+use Rattle.tv_format.specs.InputError.{Refusal, corrupted, no_text_key, ErrorInCodedKey, key_ends, key_no_extension, in_key, ErrorInKey, corrupt, value_ends, no_extension, in_legacy, in_count, in_element, in_entry_count, odd_count, in_entry_key, in_entry}
+use Rattle.tv_format.specs.ErrorInList.{in_next_key, in_next_value}
 use Rattle.tv_value.specs.Lent.{key_and}
 use Rattle.tv_value.specs.Owned.{owned_tree, owned_entries}
-use Rattle.tv_value.specs.Encoding.{Key, Encodes, EncodesElements, EncodesEntries}
-use Rattle.tv_value.specs.Tree.{Tree, array, object, elements, element_count, entries, entry_count}
-use Rattle.tv_value.specs.Version.{Version, V1, V2, V3, entry_total}
+use Rattle.tv_format.specs.Encoding.{Key, Encodes, EncodesElements, EncodesEntries}
+use Rattle.tv_format.specs.Tree.{Tree, array, object, elements, element_count, entries, entry_count}
+use Rattle.tv_format.specs.Version.{Version, V1, V2, V3, entry_total}
 use Rattle.tv_value.specs.declared.owned_value.OwnedValue.{OwnedValue, Array, Object, the_lemmas}
-use Rattle.tv_value.proofs.SingleLeaves.{key_single}
-use Rattle.tv_value.proofs.Lists.{elements-length, entries-length, encodes_push, entries_push}
+use Rattle.tv_format.proofs.SingleLeaves.{key_single}
+use Rattle.tv_format.proofs.Lists.{elements-length, entries-length, encodes_push, entries_push}
 use Rattle.tv_reader.specs.Counts.{half_of, half_at, entry_count_at}
 use Rattle.tv_reader.specs.Error.{read_error, store_stop}
 use Rattle.tv_reader.specs.Finds.{Finds}
@@ -44,7 +44,7 @@ use Rattle.tv_reader.specs.declared.value_type.ValueType.TheVariants as types
 use Rattle.tv_reader.specs.declared.version.DocStoreVersion.{DocStoreVersion}
 use Rattle.tv_reader.proofs.AgreeLeaves.{leaf_agrees}
 use Rattle.tv_reader.proofs.BehindKinds.{finds_behind, other_key, leaf_encoded, leaf_refused, value_ended, held_error}
-use Rattle.tv_value.specs.declared.leaf.LeafType.TheVariants as leaves
+use Rattle.tv_format.specs.declared.leaf_type.LeafType.TheVariants as leaves
 use Rattle.tv_reader.proofs.Finding.{finds_then, finds_as, finds_fails, finds_part, finds_part_fails, finds_refused}
 
 abbrev end : Refusal

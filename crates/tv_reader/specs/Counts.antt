@@ -4,7 +4,7 @@ use Rattle.tv_base.specs.declared.cause.Cause.{Cause}
 use Rattle.tv_base.specs.declared.cause.Cause.TheVariants.{OddObject}
 use Rattle.tv_base.specs.Reading.{vint_at}
 use Rattle.tv_base.specs.Stop.{◌>>=◌}
-use Rattle.tv_value.specs.Version.{Version, V1, V2, V3}
+use Rattle.tv_format.specs.Version.{Version, V1, V2, V3}
 
 abbrev pub half_of : ℕ → List ℕ → Result (ℕ × List ℕ) (Cause × List ℕ)
 half_of n rest = if n % 2 == 0 then Ok (n / 2, rest) else Err (OddObject, rest)

@@ -1,13 +1,13 @@
 -- A text and its tokens, which are gathered in their shortest encoding.
 use Rattle.std.specs.Prelude.{List, ℕ, ◌++◌, String, string_bytes}
 use Rattle.std.specs.declared.alloc.Global.{Global}
+use Rattle.tv_format.specs.Encoding.{Encodes}
+use Rattle.tv_format.specs.Tree.{Tree, leaf, tokenized}
+use Rattle.tv_format.specs.Version.{Version}
 use Rattle.tv_legacy.specs.Legacy.{Legacy}
 use Rattle.tv_reader.specs.ValueType.{coded}
 use Rattle.tv_reader.specs.declared.value_type.ValueType.TheVariants as types
 use Rattle.tv_value.specs.EncodedTokens.{gathered}
-use Rattle.tv_value.specs.Encoding.{Encodes}
-use Rattle.tv_value.specs.Tree.{Tree, leaf, tokenized}
-use Rattle.tv_value.specs.Version.{Version}
 use Rattle.tv_value.specs.declared.encoded_tokens.EncodedTokens.{EncodedTokens}
 
 -- the value that they are

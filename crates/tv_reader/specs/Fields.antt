@@ -3,7 +3,7 @@ use Rattle.std.specs.Prelude.{ℕ, List, Result, Ok, Err, nat_lt, if◌then◌el
 use Rattle.tv_base.specs.declared.cause.Cause.TheVariants.{FieldNumber}
 use Rattle.tv_base.specs.Stop.{◌>>=◌, lifted}
 use Rattle.tv_base.specs.Reading.{u32_at}
-use Rattle.tv_value.specs.InputError.{Refusal, corrupted}
+use Rattle.tv_format.specs.InputError.{Refusal, corrupted}
 
 unfoldable pub field_at : List ℕ → Result (ℕ × List ℕ) (Refusal × List ℕ)
 field_at bytes = do

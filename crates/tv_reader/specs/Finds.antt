@@ -6,7 +6,7 @@ use Rattle.tv_base.specs.ReadsAs.{Shows}
 use Rattle.tv_base.specs.Source.{Failures}
 use Rattle.tv_base.specs.Stop.{Stop, Counts, Taken}
 use Rattle.tv_base.specs.Stop.Stop.{InputError, Failed, Short, Never}
-use Rattle.tv_value.specs.InputError.{Refusal, corrupted}
+use Rattle.tv_format.specs.InputError.{Refusal, corrupted}
 use Rattle.tv_reader.specs.Error.{store_stop}
 use Rattle.tv_reader.specs.declared.error.DeserializeError.{DeserializeError}
 

@@ -3,13 +3,13 @@ use Rattle.std.specs.Prelude.{ℕ, List, Option, Some, None, Result, Ok}
 use Rattle.tv_base.specs.declared.cause.Cause.{Cause}
 use Rattle.tv_base.specs.Reading.{u64_at, u128_at, truth_at, vint_at}
 use Rattle.tv_base.specs.Stop.{◌>>=◌}
-use Rattle.tv_value.specs.Content.{no_content, truth_content, unsigned_content, signed_content, wide_content}
-use Rattle.tv_value.specs.Leaves.{form}
+use Rattle.tv_format.specs.Content.{no_content, truth_content, unsigned_content, signed_content, wide_content}
+use Rattle.tv_format.specs.Leaves.{form}
 use Rattle.tv_value.specs.Lent.{leaf_of}
-use Rattle.tv_value.specs.Version.{Version}
-use Rattle.tv_value.specs.declared.content.Form.{Form}
-use Rattle.tv_value.specs.declared.content.Form.TheVariants as forms
-use Rattle.tv_value.specs.declared.leaf.LeafType.{LeafType}
+use Rattle.tv_format.specs.Version.{Version}
+use Rattle.tv_format.specs.declared.leaf_type.Form.{Form}
+use Rattle.tv_format.specs.declared.leaf_type.Form.TheVariants as forms
+use Rattle.tv_format.specs.declared.leaf_type.LeafType.{LeafType}
 use Rattle.tv_reader.specs.Counts.{entry_count_at}
 use Rattle.tv_reader.specs.Heads.{HeadPart, leaf_head, length_head, array_head, object_head, tokenized_head, legacy_head}
 use Rattle.tv_reader.specs.Leaves.{leaf_holding, number_at}

@@ -2,14 +2,14 @@
 use Rattle.std.specs.Prelude.{◌≡◌, ℕ, List, [], ◌∷◌}
 use Rattle.tv_base.specs.Number.{VNum}
 use Rattle.tv_base.specs.Parts.{Behind}
-use Rattle.tv_value.specs.Content.{form_of}
-use Rattle.tv_value.specs.Leaves.{content, form, store_code}
-use Rattle.tv_value.specs.Encoding.{leaf_code, LeafBody}
-use Rattle.tv_value.specs.Tree.{Leaf}
-use Rattle.tv_value.specs.Version.{Version, V1, V2, V3, entry_total}
-use Rattle.tv_value.specs.declared.content.Form.{Form}
-use Rattle.tv_value.specs.declared.content.Form.TheVariants as forms
-use Rattle.tv_value.specs.declared.leaf.LeafType.{LeafType}
+use Rattle.tv_format.specs.Content.{form_of}
+use Rattle.tv_format.specs.Leaves.{content, form, store_code}
+use Rattle.tv_format.specs.Encoding.{leaf_code, LeafBody}
+use Rattle.tv_format.specs.Tree.{Leaf}
+use Rattle.tv_format.specs.Version.{Version, V1, V2, V3, entry_total}
+use Rattle.tv_format.specs.declared.leaf_type.Form.{Form}
+use Rattle.tv_format.specs.declared.leaf_type.Form.TheVariants as forms
+use Rattle.tv_format.specs.declared.leaf_type.LeafType.{LeafType}
 
 -- a whole leaf, the length in bytes of one, a number of elements or of entries, or codes alone
 pub data HeadPart : Type 0 where

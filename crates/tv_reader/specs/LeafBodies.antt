@@ -4,15 +4,15 @@ use Rattle.tv_base.specs.declared.cause.Cause.{Cause}
 use Rattle.tv_base.specs.declared.cause.Cause.TheVariants.{LegacyJson}
 use Rattle.tv_base.specs.Number.{Fixed, Truth}
 use Rattle.tv_base.specs.Parts.{Sized, Text}
-use Rattle.tv_value.specs.Content.{no_content, truth_content, unsigned_content, signed_content, wide_content, text_content, bytes_content, tokens_content}
-use Rattle.tv_value.specs.InputError.{ErrorInContent, ErrorInTokenized}
-use Rattle.tv_value.specs.Leaves.{form, scale}
-use Rattle.tv_value.specs.Encoding.{Tokenized}
-use Rattle.tv_value.specs.Tree.{Token, Tree, leaf}
-use Rattle.tv_value.specs.Version.{Version, Scaled}
-use Rattle.tv_value.specs.declared.content.Form.{Form}
-use Rattle.tv_value.specs.declared.content.Form.TheVariants as forms
-use Rattle.tv_value.specs.declared.leaf.LeafType.{LeafType}
+use Rattle.tv_format.specs.Content.{no_content, truth_content, unsigned_content, signed_content, wide_content, text_content, bytes_content, tokens_content}
+use Rattle.tv_format.specs.InputError.{ErrorInContent, ErrorInTokenized}
+use Rattle.tv_format.specs.Leaves.{form, scale}
+use Rattle.tv_format.specs.Encoding.{Tokenized}
+use Rattle.tv_format.specs.Tree.{Token, Tree, leaf}
+use Rattle.tv_format.specs.Version.{Version, Scaled}
+use Rattle.tv_format.specs.declared.leaf_type.Form.{Form}
+use Rattle.tv_format.specs.declared.leaf_type.Form.TheVariants as forms
+use Rattle.tv_format.specs.declared.leaf_type.LeafType.{LeafType}
 use Rattle.tv_reader.specs.Leaves.{leaf_holding}
 use Rattle.tv_reader.specs.ValueType.{leaf_type}
 use Rattle.tv_reader.specs.declared.value_type.ValueType.{ValueType}

@@ -5,14 +5,14 @@ use Rattle.tv_base.specs.declared.cause.Cause.{Cause}
 use Rattle.tv_base.specs.declared.cause.Cause.TheVariants.{DateRange, LegacyJson}
 use Rattle.tv_base.specs.Reading.{u64_at, u128_at, i64_at, truth_at, vint_at, sized_at, text_at, each_at}
 use Rattle.tv_base.specs.Stop.{◌>>=◌}
-use Rattle.tv_value.specs.Content.{Content, no_content, truth_content, unsigned_content, signed_content, wide_content, text_content, bytes_content, tokens_content}
-use Rattle.tv_value.specs.Leaves.{leaf_with, form}
-use Rattle.tv_value.specs.Tree.{Token, Leaf, null, Tree, leaf}
-use Rattle.tv_value.specs.Version.{Version, V1, V2, V3}
-use Rattle.tv_value.specs.declared.content.Form.{Form}
-use Rattle.tv_value.specs.declared.content.Form.TheVariants as forms
-use Rattle.tv_value.specs.declared.leaf.LeafType.{LeafType}
-use Rattle.tv_value.specs.declared.leaf.LeafType.TheVariants as leaves
+use Rattle.tv_format.specs.Content.{Content, no_content, truth_content, unsigned_content, signed_content, wide_content, text_content, bytes_content, tokens_content}
+use Rattle.tv_format.specs.Leaves.{leaf_with, form}
+use Rattle.tv_format.specs.Tree.{Token, Leaf, null, Tree, leaf}
+use Rattle.tv_format.specs.Version.{Version, V1, V2, V3}
+use Rattle.tv_format.specs.declared.leaf_type.Form.{Form}
+use Rattle.tv_format.specs.declared.leaf_type.Form.TheVariants as forms
+use Rattle.tv_format.specs.declared.leaf_type.LeafType.{LeafType}
+use Rattle.tv_format.specs.declared.leaf_type.LeafType.TheVariants as leaves
 use Rattle.tv_reader.specs.ValueType.{leaf_type}
 use Rattle.tv_reader.specs.declared.value_type.ValueType.{ValueType}
 

@@ -7,12 +7,12 @@ use Rattle.tv_base.specs.Number.{VNum}
 use Rattle.tv_base.specs.Parts.{Then, Behind, Text}
 use Rattle.tv_base.specs.ErrorInPart.{ErrorInNumber, InThen}
 use Rattle.tv_legacy.specs.Legacy.{Legacy, ErrorInLegacy}
-use Rattle.tv_value.specs.InputError.{Refusal, ErrorInValue, ErrorInKey}
-use Rattle.tv_value.specs.ErrorInList.{ErrorInElements, ErrorInEntries}
+use Rattle.tv_format.specs.InputError.{Refusal, ErrorInValue, ErrorInKey}
+use Rattle.tv_format.specs.ErrorInList.{ErrorInElements, ErrorInEntries}
 use Rattle.tv_value.specs.Owned.{owned_tree, owned_entries}
-use Rattle.tv_value.specs.Encoding.{Key, Encodes, EncodesElements, EncodesEntries}
-use Rattle.tv_value.specs.Tree.{elements, entries}
-use Rattle.tv_value.specs.Version.{Version, entry_total}
+use Rattle.tv_format.specs.Encoding.{Key, Encodes, EncodesElements, EncodesEntries}
+use Rattle.tv_format.specs.Tree.{elements, entries}
+use Rattle.tv_format.specs.Version.{Version, entry_total}
 use Rattle.tv_value.specs.declared.owned_value.OwnedValue.{OwnedValue}
 use Rattle.tv_reader.specs.ValueType.{coded}
 use Rattle.tv_reader.specs.declared.value_type.ValueType.{ValueType}

@@ -1,6 +1,6 @@
 -- The versions that stores are read in.
 use Rattle.std.specs.Prelude.{ℕ, zero, suc, Option, Some, None}
-use Rattle.tv_value.specs.Version.{Version, V1, V2, V3}
+use Rattle.tv_format.specs.Version.{Version, V1, V2, V3}
 use Rattle.tv_reader.specs.declared.version.DocStoreVersion.{DocStoreVersion}
 use Rattle.tv_reader.specs.declared.version.DocStoreVersion.TheVariants as stores
 

@@ -11,7 +11,7 @@ ghost use Rattle.tv_reader.specs.Trees.{NoValue};
 ghost use Rattle.tv_reader.specs.Version.{version_of};
 ghost use Rattle.tv_reader.specs.declared.error.DeserializeError.TheVariants.{CorruptedValue};
 ghost use Rattle.tv_reader.specs.declared.error.DeserializeError.TheVariants.{HeapFull, Memory};
-ghost use Rattle.tv_value.specs.InputError.{Corrupt, ErrorInCodedKey, ErrorInKey};
+ghost use Rattle.tv_format.specs.InputError.{Corrupt, ErrorInCodedKey, ErrorInKey};
 
 use crate::error::DeserializeError;
 use crate::kinds::take_kind;
@@ -19,7 +19,8 @@ use crate::value_type::{ValueType, take_head_behind};
 use crate::version::DocStoreVersion;
 use tv_base::ByteSource;
 use tv_base::take::take_vint;
-use tv_value::leaf::{LeafType, ReferenceValueLeaf};
+use tv_format::leaf_type::LeafType;
+use tv_value::leaf::ReferenceValueLeaf;
 
 /// What is taken of a value at once: a whole value of a known width, or what stands before the parts of another.
 #[derive(Clone, Copy, Debug, PartialEq)]

@@ -12,5 +12,5 @@ pub mod value_type;
 pub mod version;
 
 pub use error::{DeserializeError, ValueType};
-pub use tv_value::type_codes;
+pub use tv_format::type_codes;
 pub use version::DocStoreVersion;

@@ -5,6 +5,8 @@ ghost use Rattle.tv_base.specs.Take as reads;
 ghost use Rattle.tv_base.specs.declared.cause.Cause.TheVariants.{TooLong};
 ghost use Rattle.tv_base.specs.declared.read_error.ReadError.TheVariants.{Corrupted};
 ghost use Rattle.tv_base.specs.declared.read_error.ReadError.TheVariants.{Memory as NoMemory};
+ghost use Rattle.tv_format.specs.Encoding.{Key};
+ghost use Rattle.tv_format.specs.InputError.{ErrorInCodedKey, ErrorInKey};
 ghost use Rattle.tv_reader.specs.Counts.{half_at, entry_count_at};
 ghost use Rattle.tv_reader.specs.Finds.{Finds};
 ghost use Rattle.tv_reader.specs.Trees.{EncodesValue, NoValue, EncodesBehind, NoneBehind};
@@ -13,8 +15,6 @@ ghost use Rattle.tv_reader.specs.Trees.{EncodesMembers, NoMembers, CodedKey};
 ghost use Rattle.tv_reader.specs.Version.{version_of};
 ghost use Rattle.tv_reader.specs.declared.error.DeserializeError.TheVariants.{CorruptedValue};
 ghost use Rattle.tv_reader.specs.declared.error.DeserializeError.TheVariants.{HeapFull};
-ghost use Rattle.tv_value.specs.Encoding.{Key};
-ghost use Rattle.tv_value.specs.InputError.{ErrorInCodedKey, ErrorInKey};
 
 use crate::error::{DeserializeError, ValueType};
 use crate::kinds::take_kind;

@@ -20,7 +20,8 @@ use tv_base::take::{
     take_bool, take_bytes, take_facet, take_i64, take_string, take_u64, take_vint,
 };
 use tv_base::{ByteSource, ReadError};
-use tv_value::leaf::{LeafType, ReferenceValueLeaf};
+use tv_format::leaf_type::LeafType;
+use tv_value::leaf::ReferenceValueLeaf;
 use tv_value::owned_value::OwnedValue;
 
 /// The type of a value in the store.

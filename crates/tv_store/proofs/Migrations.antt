@@ -16,12 +16,12 @@ use Rattle.tv_store.specs.declared.migration.MigrateError.{MigrateError}
 use Rattle.tv_store.specs.declared.migration.MigrateError.TheVariants.{Read, Write}
 use Rattle.tv_store.specs.declared.round_trip.RoundTripError.{RoundTripError}
 use Rattle.tv_store.specs.declared.round_trip.RoundTripError.TheVariants as trips
-use Rattle.tv_value.specs.InputError.{Refusal}
-use Rattle.tv_value.specs.Tree.{Document}
-use Rattle.tv_value.specs.Version.{Version, IsWritten}
-use Rattle.tv_value.specs.WriteVersion.{written_version}
-use Rattle.tv_value.specs.declared.version.WriteVersion.{WriteVersion}
-use Rattle.tv_value.specs.declared.version.WriteVersion.TheVariants as versions
+use Rattle.tv_format.specs.InputError.{Refusal}
+use Rattle.tv_format.specs.Tree.{Document}
+use Rattle.tv_format.specs.Version.{Version, IsWritten}
+use Rattle.tv_format.specs.WriteVersion.{written_version}
+use Rattle.tv_format.specs.declared.version.WriteVersion.{WriteVersion}
+use Rattle.tv_format.specs.declared.version.WriteVersion.TheVariants as versions
 use Rattle.tv_writer.specs.declared.error.SerializeError.TheVariants as writes
 
 -- ---- what isn't read

@@ -17,12 +17,12 @@ use Rattle.tv_reader.specs.declared.error.DeserializeError.{DeserializeError}
 use Rattle.tv_reader.specs.declared.error.DeserializeError.TheVariants as errors
 use Rattle.tv_reader.specs.declared.value_type.ValueType.{ValueType}
 use Rattle.tv_reader.specs.declared.value_type.ValueType.TheVariants as types
-use Rattle.tv_value.specs.InputError.{Refusal, corrupted, no_text_key}
-use Rattle.tv_value.specs.Encoding.{EncodesDocument}
-use Rattle.tv_value.specs.Tree.{Document}
-use Rattle.tv_value.specs.Version.{Version}
-use Rattle.tv_value.proofs.ExcludingTrees.{document_excludes}
-use Rattle.tv_value.proofs.Trees.{one_document}
+use Rattle.tv_format.specs.InputError.{Refusal, corrupted, no_text_key}
+use Rattle.tv_format.specs.Encoding.{EncodesDocument}
+use Rattle.tv_format.specs.Tree.{Document}
+use Rattle.tv_format.specs.Version.{Version}
+use Rattle.tv_format.proofs.ExcludingTrees.{document_excludes}
+use Rattle.tv_format.proofs.Trees.{one_document}
 use Rattle.tv_store.specs.Documents.{BeginsWith, Answers, NoDocument, IsReadingError}
 use Rattle.tv_decoder.specs.Documents.{EncodesRead}
 use Rattle.tv_decoder.specs.Prefix.{HasNoRoom}

@@ -9,7 +9,7 @@ use Rattle.tv_doc.specs.Document.{IsFull, Refuses}
 use Rattle.tv_reader.specs.Error.{store_stop}
 use Rattle.tv_reader.specs.declared.error.DeserializeError.{DeserializeError}
 use Rattle.tv_reader.specs.declared.error.DeserializeError.TheVariants as errors
-use Rattle.tv_value.specs.Tree.{Tree}
+use Rattle.tv_format.specs.Tree.{Tree}
 use Rattle.tv_store.specs.Error.{add_error}
 
 told_is : {T : Type 0} (result : Result T DeserializeError) (d e : DeserializeError) → result ≡ Err d → IsErrOf result e → e ≡ d

@@ -25,8 +25,8 @@ use Rattle.tv_reader.specs.declared.error.DeserializeError.TheVariants as errors
 use Rattle.tv_reader.specs.declared.value_type.ValueType.{ValueType}
 use Rattle.tv_store.specs.Documents.{Answers, IsReadingError}
 use Rattle.tv_store.specs.RoundTrip.{asked, given, IsCalled, IsKept}
-use Rattle.tv_value.specs.InputError.{Refusal, corrupted, no_text_key}
-use Rattle.tv_value.specs.Tree.{Tree, Document}
+use Rattle.tv_format.specs.InputError.{Refusal, corrupted, no_text_key}
+use Rattle.tv_format.specs.Tree.{Tree, Document}
 use Rattle.tv_value.specs.declared.field.Field.{Field}
 use Rattle.tv_value.specs.declared.owned_value.OwnedValue.{OwnedValue}
 

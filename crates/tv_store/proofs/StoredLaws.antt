@@ -4,8 +4,8 @@ use Rattle.std.specs.List.{AllByRecursion}
 use Rattle.std.proofs.lemmas.List.Sums.{sum_by-cons}
 use Rattle.tv_heap.specs.Room.{room, document_room}
 use Rattle.tv_field.specs.Entry.{Entry}
-use Rattle.tv_value.specs.Short.{IsLeaf, IsValue, IsPair, IsDocument}
-use Rattle.tv_value.specs.Tree.{Leaf, tokenized, Tree, leaf, array, object, Document}
+use Rattle.tv_format.specs.Short.{IsLeaf, IsValue, IsPair, IsDocument}
+use Rattle.tv_format.specs.Tree.{Leaf, tokenized, Tree, leaf, array, object, Document}
 use Rattle.tv_store.specs.Stored.{stored, leaf_written, tree_written, is_stored_field}
 use Rattle.tv_store.proofs.Stores.{stored-cons, stored_fewer}
 

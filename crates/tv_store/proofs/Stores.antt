@@ -9,9 +9,9 @@ use Rattle.tv_base.specs.Number.{four_bytes}
 use Rattle.tv_base.specs.Source.{Failures}
 use Rattle.tv_base.specs.Sink.{Writes, WritesBy}
 use Rattle.tv_field.specs.Entry.{Entry}
-use Rattle.tv_value.specs.Tree.{Tree, Document}
-use Rattle.tv_value.specs.Short.{short, short_pair}
-use Rattle.tv_value.specs.Version.{Version}
+use Rattle.tv_format.specs.Tree.{Tree, Document}
+use Rattle.tv_format.specs.Short.{short, short_pair}
+use Rattle.tv_format.specs.Version.{Version}
 use Rattle.tv_writer.specs.Error.{write_error, write_stop}
 use Rattle.tv_store.specs.Stored.{stored, tree_written, is_stored_entry, is_stored_field, written_pairs}
 

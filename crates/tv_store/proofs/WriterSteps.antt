@@ -2,9 +2,9 @@
 use Rattle.std.proofs.Common.{◌≡◌, ℕ, ◌≤◌, List, ◌∷◌, ◌++◌, length, refl, sym, ap, ◌∙◌, arith}
 use Rattle.std.specs.Borrow.{Bor}
 use Rattle.std.proofs.lemmas.List.{length-append}
-use Rattle.tv_value.specs.Short.{short, short_elements, short_entries, short_key}
-use Rattle.tv_value.specs.Tree.{tokenized, Tree, leaf, elements, entries}
-use Rattle.tv_value.specs.Version.{Version}
+use Rattle.tv_format.specs.Short.{short, short_elements, short_entries, short_key}
+use Rattle.tv_format.specs.Tree.{tokenized, Tree, leaf, elements, entries}
+use Rattle.tv_format.specs.Version.{Version}
 use Rattle.tv_heap.specs.declared.encoded.Encoded.{Encoded}
 use Rattle.tv_heap.specs.declared.encoded.Encoded.TheVariants as held
 use Rattle.tv_heap.specs.Encoded.{IsTokenized, SaysTokenized}

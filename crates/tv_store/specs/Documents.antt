@@ -9,10 +9,10 @@ use Rattle.tv_legacy.specs.Legacy.{Legacy}
 use Rattle.tv_reader.specs.declared.error.DeserializeError.{DeserializeError}
 use Rattle.tv_reader.specs.declared.error.DeserializeError.TheVariants as errors
 use Rattle.tv_reader.specs.declared.value_type.ValueType.TheVariants.{String}
-use Rattle.tv_value.specs.InputError.{Refusal, corrupted}
-use Rattle.tv_value.specs.Encoding.{EncodesDocument}
-use Rattle.tv_value.specs.Tree.{Document}
-use Rattle.tv_value.specs.Version.{Version}
+use Rattle.tv_format.specs.InputError.{Refusal, corrupted}
+use Rattle.tv_format.specs.Encoding.{EncodesDocument}
+use Rattle.tv_format.specs.Tree.{Document}
+use Rattle.tv_format.specs.Version.{Version}
 pub use Rattle.tv_decoder.specs.Documents.{NoDocument}
 pub use Rattle.tv_decoder.specs.Prefix.{HasNoRoom}
 

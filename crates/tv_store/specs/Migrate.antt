@@ -12,10 +12,10 @@ use Rattle.tv_reader.specs.declared.error.DeserializeError.TheVariants as errors
 use Rattle.tv_store.specs.Documents.{BeginsWith, NoDocument, ShowsRefusal, IsReadingError}
 use Rattle.tv_store.specs.declared.migration.MigrateError.{MigrateError}
 use Rattle.tv_store.specs.declared.migration.MigrateError.TheVariants.{Read, Write}
-use Rattle.tv_value.specs.InputError.{Refusal}
-use Rattle.tv_value.specs.Short.{short_document, IsDocument}
-use Rattle.tv_value.specs.Tree.{Document}
-use Rattle.tv_value.specs.Version.{Version}
+use Rattle.tv_format.specs.InputError.{Refusal}
+use Rattle.tv_format.specs.Short.{short_document, IsDocument}
+use Rattle.tv_format.specs.Tree.{Document}
+use Rattle.tv_format.specs.Version.{Version}
 use Rattle.tv_writer.specs.Error.{Unwritten, write_stop, IsIo}
 use Rattle.tv_writer.specs.declared.error.SerializeError.TheVariants as writes
 

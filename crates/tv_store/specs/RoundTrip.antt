@@ -3,8 +3,8 @@ use Rattle.std.specs.Prelude.{◌≡◌, ℕ, List, map}
 use Rattle.tv_doc.specs.Additions.{Addition, IsEmpty, Runs, accepted}
 use Rattle.tv_doc.specs.Document.{document_of}
 use Rattle.tv_doc.specs.declared.document.CompactDoc.{CompactDoc}
+use Rattle.tv_format.specs.Tree.{Tree}
 use Rattle.tv_value.specs.Owned.{owned_tree}
-use Rattle.tv_value.specs.Tree.{Tree}
 use Rattle.tv_value.specs.declared.field.Field.{Field}
 use Rattle.tv_value.specs.declared.owned_value.OwnedValue.{OwnedValue}
 

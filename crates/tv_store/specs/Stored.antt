@@ -1,10 +1,10 @@
 -- Which pairs of a document are written.
 use Rattle.std.specs.Prelude.{ℕ, Bool, false, List, map, filter, Option, Some, None, slice_get}
 use Rattle.std.specs.List.{flat_map}
-use Rattle.tv_value.specs.Version.{Version}
-use Rattle.tv_value.specs.Short.{short_pair}
+use Rattle.tv_format.specs.Version.{Version}
+use Rattle.tv_format.specs.Short.{short_pair}
 use Rattle.tv_field.specs.Entry.{Entry, is_stored_type}
-use Rattle.tv_value.specs.Tree.{Tree, leaf, array, object, Leaf, text, tokenized, Document}
+use Rattle.tv_format.specs.Tree.{Tree, leaf, array, object, Leaf, text, tokenized, Document}
 
 abbrev pub is_stored_entry : Option Entry → Bool
 is_stored_entry None = false

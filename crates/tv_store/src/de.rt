@@ -16,9 +16,9 @@ ghost use Rattle.tv_reader.specs.declared.error.DeserializeError.TheVariants.{Co
 ghost use Rattle.tv_reader.specs.declared.error.DeserializeError.TheVariants.{HeapFull};
 ghost use Rattle.tv_store.specs.Documents.{BeginsWith, Answers, NoDocument, ShowsRefusal};
 ghost use Rattle.tv_store.specs.Documents.{IsReadingError};
-ghost use Rattle.tv_value.specs.InputError.{Refusal};
-ghost use Rattle.tv_value.specs.Encoding.{EncodesDocument};
-ghost use Rattle.tv_value.specs.Tree.{Document};
+ghost use Rattle.tv_format.specs.InputError.{Refusal};
+ghost use Rattle.tv_format.specs.Encoding.{EncodesDocument};
+ghost use Rattle.tv_format.specs.Tree.{Document};
 
 use crate::error::DeserializeError;
 use std::alloc::Global;

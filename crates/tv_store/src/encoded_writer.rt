@@ -5,10 +5,10 @@
 
 ghost use Rattle.std.specs.Prelude.{◌≡◌, ◌∷◌};
 ghost use Rattle.tv_base.specs.Sink.{Writes};
+ghost use Rattle.tv_format.specs.Short.{short_elements, short_entries};
+ghost use Rattle.tv_format.specs.Tree.{elements, entries};
+ghost use Rattle.tv_format.specs.WriteVersion.{written_version};
 ghost use Rattle.tv_heap.specs.Encoded.{encoded_bytes, HasFewEntries};
-ghost use Rattle.tv_value.specs.Short.{short_elements, short_entries};
-ghost use Rattle.tv_value.specs.Tree.{elements, entries};
-ghost use Rattle.tv_value.specs.WriteVersion.{written_version};
 
 use crate::type_codes::{ARRAY_CODE, BOOL_CODE, EXT_CODE, NULL_CODE, TOK_STR_EXT_CODE};
 use std::io;
@@ -16,7 +16,7 @@ use tv_base::ByteSink;
 use tv_base::write::write_all;
 use tv_heap::encoded::Encoded;
 use tv_heap::value::{CompactDocArrayIter, CompactDocObjectIter};
-use tv_value::version::WriteVersion;
+use tv_format::version::WriteVersion;
 use tv_writer::leaf_writer::{write_code, write_coded_bool, write_coded_count, write_coded_u64};
 use tv_writer::value_writer::{write_key, write_object_head};
 

@@ -5,10 +5,10 @@ ghost use Rattle.tv_heap.specs.Room.{document_room};
 ghost use Rattle.tv_field.specs.Entry.{Entry};
 ghost use Rattle.tv_store.specs.Stored.{stored};
 ghost use Rattle.tv_store.specs.Documents.{NoDocument};
-ghost use Rattle.tv_value.specs.InputError.{Refusal};
-ghost use Rattle.tv_value.specs.Short.{IsDocument};
-ghost use Rattle.tv_value.specs.Version.{Version};
-ghost use Rattle.tv_value.specs.Tree.{Document};
+ghost use Rattle.tv_format.specs.InputError.{Refusal};
+ghost use Rattle.tv_format.specs.Short.{IsDocument};
+ghost use Rattle.tv_format.specs.Version.{Version};
+ghost use Rattle.tv_format.specs.Tree.{Document};
 
 /// The stored pairs of a document that has an encoding have one.
 pub fn stored_pairs_are_valid()

@@ -4,6 +4,10 @@ ghost use Rattle.std.specs.Prelude.{◌≡◌, ◌≤◌, ◌++◌, ℕ, List, I
 ghost use Rattle.tv_base.specs.ReadsAs.{Known};
 ghost use Rattle.tv_base.specs.Sink.{Begins};
 ghost use Rattle.tv_base.specs.Stop.{Counts};
+ghost use Rattle.tv_format.specs.Encoding.{EncodesDocument};
+ghost use Rattle.tv_format.specs.Short.{short_document};
+ghost use Rattle.tv_format.specs.Tree.{Document};
+ghost use Rattle.tv_format.specs.WriteVersion.{written_version};
 ghost use Rattle.tv_heap.specs.Room.{document_room};
 ghost use Rattle.tv_legacy.specs.Legacy.{Legacy};
 ghost use Rattle.tv_reader.specs.Version.{version_of};
@@ -11,10 +15,6 @@ ghost use Rattle.tv_reader.specs.declared.error.DeserializeError.{DeserializeErr
 ghost use Rattle.tv_store.specs.Migrate.{AppendsMigrated, IsMigrationError, IsUnread, Transcribes};
 ghost use Rattle.tv_store.specs.Migrate.{sink_stop, source_stop};
 ghost use Rattle.tv_store.specs.declared.migration.MigrateError.{MigrateError};
-ghost use Rattle.tv_value.specs.Encoding.{EncodesDocument};
-ghost use Rattle.tv_value.specs.Short.{short_document};
-ghost use Rattle.tv_value.specs.Tree.{Document};
-ghost use Rattle.tv_value.specs.WriteVersion.{written_version};
 ghost use Rattle.tv_writer.specs.declared.error.SerializeError.{SerializeError};
 
 use crate::de::{DocStoreVersion, read_document};
@@ -25,7 +25,7 @@ use std::io;
 use thiserror::Error;
 use tv_base::{ByteSink, ByteSource};
 use tv_doc::laws::documents_are_valid;
-use tv_value::version::WriteVersion;
+use tv_format::version::WriteVersion;
 
 /// Why a document wasn't migrated. (Not in tantivy.)
 #[derive(Debug, PartialEq, Drop, Error)]

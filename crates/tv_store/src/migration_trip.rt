@@ -2,13 +2,13 @@
 
 ghost use Rattle.std.specs.Prelude.{◌≡◌, ◌≤◌, [], ℕ, List, IfErr, IfOk};
 ghost use Rattle.tv_doc.specs.Document.{document_of};
+ghost use Rattle.tv_format.specs.Short.{short_document, IsDocument};
+ghost use Rattle.tv_format.specs.Tree.{Document};
+ghost use Rattle.tv_format.specs.WriteVersion.{written_version};
 ghost use Rattle.tv_heap.specs.Room.{document_room};
 ghost use Rattle.tv_reader.specs.Version.{version_of};
 ghost use Rattle.tv_store.specs.Documents.{BeginsWith};
 ghost use Rattle.tv_store.specs.Migrate.{IsMemory};
-ghost use Rattle.tv_value.specs.Short.{short_document, IsDocument};
-ghost use Rattle.tv_value.specs.Tree.{Document};
-ghost use Rattle.tv_value.specs.WriteVersion.{written_version};
 
 use crate::de::DocStoreVersion;
 use crate::error::{DeserializeError, SerializeError};
@@ -18,7 +18,7 @@ use std::alloc::Global;
 use tv_base::{SliceSource, VecSink};
 use tv_doc::document::CompactDoc;
 use tv_legacy::laws::documents_have_one_reading;
-use tv_value::version::WriteVersion;
+use tv_format::version::WriteVersion;
 
 /// What was written of a document in a new version, and what was read back of that. (Not in tantivy.)
 #[derive(Drop)]

@@ -12,9 +12,9 @@ ghost use Rattle.tv_heap.specs.Encoded.{encoded_bytes, HasFewEntries, IsTokenize
 ghost use Rattle.tv_heap.specs.Value.{tree_of};
 ghost use Rattle.tv_store.specs.Stored.{leaf_written, tree_written};
 ghost use Rattle.tv_value.specs.Lent.{leaf_of};
-ghost use Rattle.tv_value.specs.Short.{short_document, short_leaf, short_pair};
-ghost use Rattle.tv_value.specs.Version.{Version};
-ghost use Rattle.tv_value.specs.WriteVersion.{written_version};
+ghost use Rattle.tv_format.specs.Short.{short_document, short_leaf, short_pair};
+ghost use Rattle.tv_format.specs.Version.{Version};
+ghost use Rattle.tv_format.specs.WriteVersion.{written_version};
 
 use crate::encoded_writer::write_encoded;
 use crate::type_codes::TEXT_CODE;
@@ -27,7 +27,7 @@ use tv_heap::value::CompactDocValue;
 use tv_value::field::Field;
 use tv_value::leaf::ReferenceValueLeaf;
 use tv_value::value::{ReferenceValue, Value};
-use tv_value::version::WriteVersion;
+use tv_format::version::WriteVersion;
 use tv_writer::leaf_writer::{write_coded_text, write_leaf};
 
 // Writes a field and bytes behind their code.

@@ -7,7 +7,7 @@ ghost use Rattle.tv_store.specs.Pairs.{AddsPair};
 ghost use Rattle.tv_reader.specs.declared.error.DeserializeError.TheVariants as errors;
 ghost use Rattle.tv_store.specs.PairsGiven.{IsGiven, PairsRefused, document_stop};
 ghost use Rattle.tv_value.specs.Owned.{owned_tree};
-ghost use Rattle.tv_value.specs.Tree.{Document};
+ghost use Rattle.tv_format.specs.Tree.{Document};
 
 use crate::error::{DeserializeError, addition_error};
 use std::alloc::Global;

@@ -9,9 +9,9 @@ ghost use Rattle.tv_heap.specs.Room.{document_room};
 ghost use Rattle.tv_reader.specs.Version.{version_of};
 ghost use Rattle.tv_store.specs.RoundTrip.{IsCalled, IsKept, given};
 ghost use Rattle.tv_store.specs.Stored.{stored};
-ghost use Rattle.tv_value.specs.Short.{short_document, IsDocument};
-ghost use Rattle.tv_value.specs.Tree.{Document};
-ghost use Rattle.tv_value.specs.Version.{V2, IsWritten};
+ghost use Rattle.tv_format.specs.Short.{short_document, IsDocument};
+ghost use Rattle.tv_format.specs.Tree.{Document};
+ghost use Rattle.tv_format.specs.Version.{V2, IsWritten};
 
 use crate::de::{DocStoreVersion, read_document};
 use crate::error::{DeserializeError, SerializeError};

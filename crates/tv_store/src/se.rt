@@ -6,8 +6,8 @@ ghost use Rattle.tv_doc.specs.Belongs.{Belongs};
 ghost use Rattle.tv_doc.specs.Document.{document_of};
 ghost use Rattle.tv_heap.specs.Value.{tree_of};
 ghost use Rattle.tv_store.specs.Stored.{stored, written_pairs};
-ghost use Rattle.tv_value.specs.Short.{short_document};
-ghost use Rattle.tv_value.specs.WriteVersion.{written_version};
+ghost use Rattle.tv_format.specs.Short.{short_document};
+ghost use Rattle.tv_format.specs.WriteVersion.{written_version};
 ghost use Rattle.tv_writer.specs.Error as store;
 ghost use Rattle.tv_writer.specs.Error.{IsIo};
 
@@ -21,7 +21,7 @@ use tv_doc::laws::documents_are_valid;
 use tv_heap::value::CompactDocValue;
 use tv_schema::Schema;
 use tv_value::field::Field;
-use tv_value::version::WriteVersion;
+use tv_format::version::WriteVersion;
 pub use tv_writer::serializers::{
     BinaryArraySerializer, BinaryObjectSerializer, BinaryValueSerializer,
 };

@@ -9,12 +9,12 @@ use Rattle.tv_base.specs.Stop.Stop.{InputError, Failed, Short, Never}
 use Rattle.tv_base.proofs.TakeSteps.{Taken_then}
 use Rattle.tv_legacy.specs.Legacy.{Legacy}
 use Rattle.tv_legacy.proofs.Unique.{one_legacy}
-use Rattle.tv_value.specs.Encoding.{Encodes, NoLegacy}
+use Rattle.tv_format.specs.Encoding.{Encodes, NoLegacy}
 use Rattle.tv_value.specs.Owned.{owned_tree}
-use Rattle.tv_value.specs.Tree.{Leaf, Tree, leaf}
-use Rattle.tv_value.specs.Version.{Version}
+use Rattle.tv_format.specs.Tree.{Leaf, Tree, leaf}
+use Rattle.tv_format.specs.Version.{Version}
 use Rattle.tv_value.specs.declared.owned_value.OwnedValue.{OwnedValue}
-use Rattle.tv_value.proofs.Trees.{one_tree}
+use Rattle.tv_format.proofs.Trees.{one_tree}
 use Rattle.tv_reader.specs.Finds.{GivesStop, Found}
 use Rattle.tv_reader.specs.Trees.{EncodesBehind}
 use Rattle.tv_reader.specs.ValueType.{IsCoded, coded, no_code, no_extension_code}

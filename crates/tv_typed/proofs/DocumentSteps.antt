@@ -2,9 +2,9 @@
 use Rattle.std.proofs.Common.{◌≡◌, ℕ, ◌<◌, true, false, List, Result, Ok, Err, refl, sym, subst, ◌∙◌, inl, inr}
 use Rattle.std.specs.Prelude.{is_err, IsErrOf}
 use Rattle.tv_base.specs.Source.{AllBytes, Failures}
-use Rattle.tv_value.specs.InputError.{Corrupt, ErrorInField, SmallField}
-use Rattle.tv_value.specs.Tree.{Tree}
-use Rattle.tv_value.specs.Version.{Version}
+use Rattle.tv_format.specs.InputError.{Corrupt, ErrorInField, SmallField}
+use Rattle.tv_format.specs.Tree.{Tree}
+use Rattle.tv_format.specs.Version.{Version}
 use Rattle.tv_value.specs.declared.field.Field.{Field}
 use Rattle.tv_reader.specs.Error as stores
 use Rattle.tv_reader.specs.Fields.{field_at}

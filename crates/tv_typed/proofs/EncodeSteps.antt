@@ -5,11 +5,11 @@ use Rattle.std.proofs.lemmas.List.{length-map}
 use Rattle.tv_base.specs.Number.{vnum}
 use Rattle.tv_value.specs.Lent.{key_and}
 use Rattle.tv_value.specs.Owned.{owned_tree, owned_entries}
-use Rattle.tv_value.specs.Short.{short, short_elements, short_entries, IsValue, AreElements, AreEntries}
-use Rattle.tv_value.specs.Tree.{array, object, elements, entries, element_count, entry_count}
-use Rattle.tv_value.specs.Version.{V2}
+use Rattle.tv_format.specs.Short.{short, short_elements, short_entries, IsValue, AreElements, AreEntries}
+use Rattle.tv_format.specs.Tree.{array, object, elements, entries, element_count, entry_count}
+use Rattle.tv_format.specs.Version.{V2}
 use Rattle.tv_value.specs.declared.owned_value.OwnedValue.{OwnedValue, Array, Object, the_lemmas}
-use Rattle.tv_value.proofs.Lists.{elements-length, entries-length}
+use Rattle.tv_format.proofs.Lists.{elements-length, entries-length}
 
 -- ---- arrays
 

@@ -9,11 +9,11 @@ use Rattle.tv_base.specs.Source.{Failures}
 use Rattle.tv_base.proofs.EarlyNumbers.{number_early}
 use Rattle.tv_base.proofs.TakeSteps.{Taken_none}
 use Rattle.tv_legacy.specs.Legacy.{Legacy}
-use Rattle.tv_value.specs.Encoding.{Encodes, EncodesElements, EncodesEntries}
-use Rattle.tv_value.specs.Tree.{Tree, array, object, elements, element_count, entries, entry_count}
-use Rattle.tv_value.specs.Version.{Version, entry_total}
-use Rattle.tv_value.proofs.Prefixes.{each_push}
-use Rattle.tv_value.proofs.Lists.{elements-length, entries-length}
+use Rattle.tv_format.specs.Encoding.{Encodes, EncodesElements, EncodesEntries}
+use Rattle.tv_format.specs.Tree.{Tree, array, object, elements, element_count, entries, entry_count}
+use Rattle.tv_format.specs.Version.{Version, entry_total}
+use Rattle.tv_format.proofs.Prefixes.{each_push}
+use Rattle.tv_format.proofs.Lists.{elements-length, entries-length}
 use Rattle.tv_reader.specs.ValueType.{coded}
 use Rattle.tv_reader.specs.Version.{version_of}
 use Rattle.tv_reader.specs.declared.error.DeserializeError.{DeserializeError}

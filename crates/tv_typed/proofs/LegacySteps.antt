@@ -11,17 +11,17 @@ use Rattle.tv_base.specs.Stop.Stop.{InputError, Failed, Short, Never}
 use Rattle.tv_base.proofs.TakeSteps.{Taken_none}
 use Rattle.tv_legacy.specs.Legacy.{IsBlank, IsClosed, Legacy, ErrorInLegacy, only_blanks, not_closed}
 use Rattle.tv_legacy.proofs.Unique.{one_legacy}
-use Rattle.tv_value.specs.InputError.{corrupted, in_legacy}
-use Rattle.tv_value.specs.Leaves.{type_of, store_code}
-use Rattle.tv_value.specs.LeavesLaws.{small_code}
+use Rattle.tv_format.specs.InputError.{corrupted, in_legacy}
+use Rattle.tv_format.specs.Leaves.{type_of, store_code}
+use Rattle.tv_format.specs.LeavesLaws.{small_code}
 use Rattle.tv_value.specs.Owned.{owned_tree}
-use Rattle.tv_value.specs.Short.{short, IsValue}
-use Rattle.tv_value.specs.Encoding.{Encodes}
-use Rattle.tv_value.specs.Tree.{Tree, leaf, array, object}
-use Rattle.tv_value.specs.Version.{Version, V2}
+use Rattle.tv_format.specs.Short.{short, IsValue}
+use Rattle.tv_format.specs.Encoding.{Encodes}
+use Rattle.tv_format.specs.Tree.{Tree, leaf, array, object}
+use Rattle.tv_format.specs.Version.{Version, V2}
 use Rattle.tv_value.specs.declared.owned_value.OwnedValue.{OwnedValue}
-use Rattle.tv_value.proofs.ShortEncodings.{short_encodes}
-use Rattle.tv_value.proofs.Trees.{one_tree}
+use Rattle.tv_format.proofs.ShortEncodings.{short_encodes}
+use Rattle.tv_format.proofs.Trees.{one_tree}
 use Rattle.tv_reader.specs.Error.{is_corrupted}
 use Rattle.tv_reader.specs.Finds.{GivesStop, Found}
 use Rattle.tv_reader.specs.Trees.{EncodesBehind}

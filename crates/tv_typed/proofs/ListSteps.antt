@@ -10,10 +10,10 @@ use Rattle.tv_base.specs.Source.{AllBytes, Failures}
 use Rattle.tv_base.specs.Take.{TakesBy}
 use Rattle.tv_base.proofs.Agrees.{no_last}
 use Rattle.tv_base.proofs.AgreeNumbers.{vint_agrees}
-use Rattle.tv_value.specs.InputError.{Refusal, corrupted, ErrorInKey}
-use Rattle.tv_value.specs.Encoding.{Key}
-use Rattle.tv_value.specs.Tree.{Tree}
-use Rattle.tv_value.specs.Version.{Version, entry_total}
+use Rattle.tv_format.specs.InputError.{Refusal, corrupted, ErrorInKey}
+use Rattle.tv_format.specs.Encoding.{Key}
+use Rattle.tv_format.specs.Tree.{Tree}
+use Rattle.tv_format.specs.Version.{Version, entry_total}
 use Rattle.tv_reader.specs.Counts.{entry_count_at}
 use Rattle.tv_reader.specs.Error.{IsRefusal, is_corrupted, is_no_text}
 use Rattle.tv_reader.specs.Finds.{Finds}

@@ -13,10 +13,10 @@ use Rattle.tv_base.specs.Take.{TakesBy, read_stop}
 use Rattle.tv_base.proofs.Agrees.{Agrees}
 use Rattle.tv_base.proofs.ByGrammar.{shows_by}
 use Rattle.tv_legacy.specs.Legacy.{Legacy}
-use Rattle.tv_value.specs.InputError.{Refusal, corrupted}
-use Rattle.tv_value.specs.Encoding.{Encodes}
-use Rattle.tv_value.specs.Tree.{Leaf, leaf}
-use Rattle.tv_value.specs.Version.{Version}
+use Rattle.tv_format.specs.InputError.{Refusal, corrupted}
+use Rattle.tv_format.specs.Encoding.{Encodes}
+use Rattle.tv_format.specs.Tree.{Leaf, leaf}
+use Rattle.tv_format.specs.Version.{Version}
 use Rattle.tv_reader.specs.Error.{key_stop, store_stop, IsRefusal, is_corrupted, is_no_text}
 use Rattle.tv_reader.specs.Finds.{Refuses, GivesStop, Found, FindsBy, Finds}
 use Rattle.tv_reader.specs.LeafBodies.{LeafOf, ErrorInLeafOf}

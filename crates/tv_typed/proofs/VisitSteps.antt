@@ -4,11 +4,11 @@ use Rattle.std.specs.Prelude.{is_err, IsErrOf, OnOk}
 use Rattle.tv_base.specs.Source.{Failures}
 use Rattle.tv_base.specs.Stop.{CountsStop, Counts}
 use Rattle.tv_base.proofs.EarlyNumbers.{number_early}
-use Rattle.tv_value.specs.Encoding.{Encodes, NoLegacy}
+use Rattle.tv_format.specs.Encoding.{Encodes, NoLegacy}
 use Rattle.tv_value.specs.Owned.{owned_tree}
-use Rattle.tv_value.specs.Short.{short}
-use Rattle.tv_value.specs.Tree.{Leaf, Tree}
-use Rattle.tv_value.specs.Version.{Version, V2, entry_total}
+use Rattle.tv_format.specs.Short.{short}
+use Rattle.tv_format.specs.Tree.{Leaf, Tree}
+use Rattle.tv_format.specs.Version.{Version, V2, entry_total}
 use Rattle.tv_value.specs.declared.owned_value.OwnedValue.{OwnedValue}
 use Rattle.tv_reader.specs.Trees.{EncodesBehind}
 use Rattle.tv_reader.specs.ValueType.{coded, IsCoded, no_code, no_extension_code}

@@ -5,10 +5,10 @@ use Rattle.tv_base.specs.Parts.{Begins, Then}
 use Rattle.tv_base.specs.Source.{Failures}
 use Rattle.tv_base.specs.ErrorInPart.{InThen, ErrorInNumber}
 use Rattle.tv_legacy.specs.Legacy.{Legacy}
-use Rattle.tv_value.specs.InputError.{Corrupt, ErrorInField, SmallField}
-use Rattle.tv_value.specs.Encoding.{EncodesPair}
-use Rattle.tv_value.specs.Tree.{Tree, Document}
-use Rattle.tv_value.specs.Version.{Version}
+use Rattle.tv_format.specs.InputError.{Corrupt, ErrorInField, SmallField}
+use Rattle.tv_format.specs.Encoding.{EncodesPair}
+use Rattle.tv_format.specs.Tree.{Tree, Document}
+use Rattle.tv_format.specs.Version.{Version}
 use Rattle.tv_value.specs.declared.field.Field.{Field}
 use Rattle.tv_reader.specs.Version.{version_of}
 use Rattle.tv_reader.specs.declared.error.DeserializeError.{DeserializeError}

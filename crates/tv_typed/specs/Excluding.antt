@@ -3,12 +3,12 @@ use Rattle.std.specs.Prelude.{◌≡◌, ℕ, List, ◌∷◌, ◌++◌}
 use Rattle.std.proofs.Common.{refl, sym, ap, subst, ◌∙◌, append_assoc, inl, inr}
 use Rattle.tv_legacy.specs.Legacy.{Legacy, ErrorInLegacy}
 use Rattle.tv_legacy.proofs.Unique.{one_legacy, legacy_excludes}
-use Rattle.tv_value.specs.InputError.{Refusal}
-use Rattle.tv_value.specs.Leaves.{type_of}
-use Rattle.tv_value.specs.Encoding.{Encodes, EncodesElements, EncodesEntries, NoLegacy}
-use Rattle.tv_value.specs.Tree.{Leaf, tokenized, Tree, leaf, array, object, Elements, no_elements, element, Entries, no_entries, entry}
-use Rattle.tv_value.specs.Version.{Version}
-use Rattle.tv_value.proofs.ExcludingTrees.{value_excludes}
+use Rattle.tv_format.specs.InputError.{Refusal}
+use Rattle.tv_format.specs.Leaves.{type_of}
+use Rattle.tv_format.specs.Encoding.{Encodes, EncodesElements, EncodesEntries, NoLegacy}
+use Rattle.tv_format.specs.Tree.{Leaf, tokenized, Tree, leaf, array, object, Elements, no_elements, element, Entries, no_entries, entry}
+use Rattle.tv_format.specs.Version.{Version}
+use Rattle.tv_format.proofs.ExcludingTrees.{value_excludes}
 use Rattle.tv_reader.specs.Trees.{NoValue}
 use Rattle.tv_reader.specs.ValueType.{of_leaf, coded}
 use Rattle.tv_reader.specs.declared.error.DeserializeError.{DeserializeError}

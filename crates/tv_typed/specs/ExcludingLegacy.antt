@@ -1,11 +1,11 @@
 -- Where an object is refused, a legacy one among them, no prefix of its bytes encodes without legacy objects one of which something is read.
 use Rattle.std.specs.Prelude.{◌≡◌, List, ℕ, ◌∷◌, ◌++◌}
 use Rattle.std.proofs.Common.{subst, inl, inr}
-use Rattle.tv_value.specs.Leaves.{type_of, store_code}
-use Rattle.tv_value.specs.LeavesLaws.{small_code}
-use Rattle.tv_value.specs.Encoding.{Encodes, NoLegacy}
-use Rattle.tv_value.specs.Tree.{Tree, leaf, array, object}
-use Rattle.tv_value.specs.Version.{Version}
+use Rattle.tv_format.specs.Leaves.{type_of, store_code}
+use Rattle.tv_format.specs.LeavesLaws.{small_code}
+use Rattle.tv_format.specs.Encoding.{Encodes, NoLegacy}
+use Rattle.tv_format.specs.Tree.{Tree, leaf, array, object}
+use Rattle.tv_format.specs.Version.{Version}
 use Rattle.tv_reader.specs.ValueType.{coded}
 use Rattle.tv_reader.specs.declared.error.DeserializeError.{DeserializeError}
 use Rattle.tv_reader.specs.declared.value_type.ValueType.{ValueType}

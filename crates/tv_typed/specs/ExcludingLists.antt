@@ -11,13 +11,13 @@ use Rattle.tv_base.proofs.Excluding.{Excludes, rests, excludes_then, excludes_nu
 use Rattle.tv_base.proofs.Numbers.{one_number}
 use Rattle.tv_legacy.specs.Legacy.{Legacy}
 use Rattle.tv_legacy.proofs.Unique.{one_legacy}
-use Rattle.tv_value.specs.Encoding.{Key, Encodes, EncodesElements, EncodesEntries, NoLegacy}
-use Rattle.tv_value.specs.Tree.{Tree, object, elements, Entries, entries}
-use Rattle.tv_value.specs.Version.{Version, entry_total}
-use Rattle.tv_value.proofs.ExcludingLeaves.{key_excludes}
-use Rattle.tv_value.proofs.Leaves.{agree_key, total_same}
-use Rattle.tv_value.proofs.Lists.{elements-length, entries-length}
-use Rattle.tv_value.proofs.Trees.{one_tree, agree_tree}
+use Rattle.tv_format.specs.Encoding.{Key, Encodes, EncodesElements, EncodesEntries, NoLegacy}
+use Rattle.tv_format.specs.Tree.{Tree, object, elements, Entries, entries}
+use Rattle.tv_format.specs.Version.{Version, entry_total}
+use Rattle.tv_format.proofs.ExcludingLeaves.{key_excludes}
+use Rattle.tv_format.proofs.Leaves.{agree_key, total_same}
+use Rattle.tv_format.proofs.Lists.{elements-length, entries-length}
+use Rattle.tv_format.proofs.Trees.{one_tree, agree_tree}
 use Rattle.tv_reader.specs.ValueType.{coded}
 use Rattle.tv_reader.specs.declared.error.DeserializeError.{DeserializeError}
 use Rattle.tv_reader.specs.declared.value_type.ValueType.{ValueType}

@@ -6,10 +6,10 @@ use Rattle.tv_base.specs.Parts.{Begins}
 use Rattle.tv_base.specs.Stop.{Stop}
 use Rattle.tv_base.specs.Stop.Stop.{InputError, Failed, Short, Never}
 use Rattle.tv_legacy.specs.Legacy.{Legacy}
-use Rattle.tv_value.specs.Short.{short}
-use Rattle.tv_value.specs.Encoding.{Encodes}
-use Rattle.tv_value.specs.Tree.{Tree}
-use Rattle.tv_value.specs.Version.{Version, V2}
+use Rattle.tv_format.specs.Short.{short}
+use Rattle.tv_format.specs.Encoding.{Encodes}
+use Rattle.tv_format.specs.Tree.{Tree}
+use Rattle.tv_format.specs.Version.{Version, V2}
 use Rattle.tv_reader.specs.ValueType.{coded}
 use Rattle.tv_reader.specs.declared.error.DeserializeError.{DeserializeError}
 use Rattle.tv_reader.specs.declared.error.DeserializeError.TheVariants as errors

@@ -7,10 +7,10 @@ use Rattle.tv_base.specs.declared.cause.Cause.TheVariants.{OddObject}
 use Rattle.tv_base.specs.Number.{VNum}
 use Rattle.tv_base.specs.Parts.{Then, Each}
 use Rattle.tv_base.specs.ErrorInPart.{InThen, InEach, ErrorInNumber}
-use Rattle.tv_value.specs.InputError.{ErrorInKey}
-use Rattle.tv_value.specs.Encoding.{Key}
-use Rattle.tv_value.specs.Tree.{Tree, array, object, elements, entries}
-use Rattle.tv_value.specs.Version.{Version, entry_total}
+use Rattle.tv_format.specs.InputError.{ErrorInKey}
+use Rattle.tv_format.specs.Encoding.{Key}
+use Rattle.tv_format.specs.Tree.{Tree, array, object, elements, entries}
+use Rattle.tv_format.specs.Version.{Version, entry_total}
 use Rattle.tv_reader.specs.declared.error.DeserializeError.{DeserializeError}
 use Rattle.tv_reader.specs.declared.error.DeserializeError.TheVariants as errors
 use Rattle.tv_reader.specs.declared.value_type.ValueType.{ValueType}

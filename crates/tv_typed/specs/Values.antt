@@ -5,11 +5,11 @@ use Rattle.tv_base.specs.ErrorInPart.{InThen}
 use Rattle.tv_base.specs.Stop.{Stop}
 use Rattle.tv_base.specs.Stop.Stop.{InputError, Failed, Short, Never}
 use Rattle.tv_legacy.specs.Legacy.{Legacy}
-use Rattle.tv_value.specs.InputError.{Refusal, corrupted}
+use Rattle.tv_format.specs.InputError.{Refusal, corrupted}
 use Rattle.tv_value.specs.Owned.{owned_tree}
-use Rattle.tv_value.specs.Encoding.{Encodes, NoLegacy}
-use Rattle.tv_value.specs.Tree.{Leaf, Tree, leaf}
-use Rattle.tv_value.specs.Version.{Version}
+use Rattle.tv_format.specs.Encoding.{Encodes, NoLegacy}
+use Rattle.tv_format.specs.Tree.{Leaf, Tree, leaf}
+use Rattle.tv_format.specs.Version.{Version}
 use Rattle.tv_value.specs.declared.owned_value.OwnedValue.{OwnedValue}
 use Rattle.tv_reader.specs.Error.{IsRefusal}
 use Rattle.tv_reader.specs.Trees.{NoneBehind}

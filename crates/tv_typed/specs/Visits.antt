@@ -11,9 +11,9 @@ use Rattle.tv_reader.specs.declared.error.DeserializeError.{DeserializeError}
 use Rattle.tv_reader.specs.declared.value_type.ValueType.{ValueType}
 use Rattle.tv_reader.specs.declared.value_type.ValueType.TheVariants as types
 use Rattle.tv_value.specs.Owned.{owned_tree}
-use Rattle.tv_value.specs.Short.{short}
-use Rattle.tv_value.specs.Tree.{Leaf}
-use Rattle.tv_value.specs.Version.{V2, entry_total}
+use Rattle.tv_format.specs.Short.{short}
+use Rattle.tv_format.specs.Tree.{Leaf}
+use Rattle.tv_format.specs.Version.{V2, entry_total}
 use Rattle.tv_value.specs.declared.owned_value.OwnedValue.{OwnedValue}
 use Rattle.tv_typed.specs.LegacyObjects.{OfEncoding}
 use Rattle.tv_typed.specs.Lists.{Length, LengthRefused}

@@ -17,13 +17,13 @@ ghost use Rattle.tv_reader.specs.Version.{version_of};
 ghost use Rattle.tv_reader.specs.declared.value_type.ValueType.{ValueType};
 ghost use Rattle.tv_reader.specs.declared.value_type.ValueType.TheVariants as types;
 ghost use Rattle.tv_value.specs.HeldTokens.{token_of};
-ghost use Rattle.tv_value.specs.Tree.{null, text, unsigned, signed, boolean, date, facet, bytes};
-ghost use Rattle.tv_value.specs.Tree.{ip_address, tokenized, Tree, Leaf};
+ghost use Rattle.tv_format.specs.Tree.{null, text, unsigned, signed, boolean, date, facet, bytes};
+ghost use Rattle.tv_format.specs.Tree.{ip_address, tokenized, Tree, Leaf};
 ghost use Rattle.tv_typed.specs.Excluding.{leaf_excludes, tree_excludes};
 ghost use Rattle.tv_typed.specs.Lists.{EncodesEntry, EntryRefused};
 ghost use Rattle.tv_reader.specs.declared.error.DeserializeError.{DeserializeError};
 ghost use Rattle.tv_reader.specs.declared.error.DeserializeError.TheVariants as errors;
-ghost use Rattle.tv_value.specs.Version.{Version};
+ghost use Rattle.tv_format.specs.Version.{Version};
 ghost use Rattle.tv_typed.specs.Visits.{Visits, TellsNoFailure};
 
 use crate::array::BinaryArrayDeserializer;

@@ -5,10 +5,10 @@ ghost use Rattle.std.specs.Int.{w64};
 ghost use Rattle.tv_base.specs.Number.{eight_bytes, signed_bytes};
 ghost use Rattle.tv_base.specs.Parts.{short_sized};
 ghost use Rattle.tv_value.specs.Owned.{owned_tree, owned_entries};
-ghost use Rattle.tv_value.specs.Short.{short, short_elements, short_entries, IsText, IsValue};
-ghost use Rattle.tv_value.specs.Short.{AreElements, AreEntries};
-ghost use Rattle.tv_value.specs.Tree.{elements, entries};
-ghost use Rattle.tv_value.specs.Version.{V2};
+ghost use Rattle.tv_format.specs.Short.{short, short_elements, short_entries, IsText, IsValue};
+ghost use Rattle.tv_format.specs.Short.{AreElements, AreEntries};
+ghost use Rattle.tv_format.specs.Tree.{elements, entries};
+ghost use Rattle.tv_format.specs.Version.{V2};
 
 use std::alloc::{AllocError, Global};
 use tv_reader::type_codes::{

@@ -3,6 +3,7 @@
 ghost use Rattle.std.specs.Prelude.{◌≡◌, Bool, true, false, OnOk, IsErrOf};
 ghost use Rattle.tv_base.specs.Take.{TakesBy};
 ghost use Rattle.tv_base.specs.declared.read_error.ReadError.TheVariants as reads;
+ghost use Rattle.tv_format.specs.Tree.{Leaf, leaf};
 ghost use Rattle.tv_reader.specs.Leaves.{is_leaf_type, leaf_at};
 ghost use Rattle.tv_reader.specs.ValueType.{coded};
 ghost use Rattle.tv_reader.specs.Version.{version_of};
@@ -12,7 +13,6 @@ ghost use Rattle.tv_typed.specs.Excluding.{leaf_type};
 ghost use Rattle.tv_typed.specs.Typed.{Reads, Deserializes};
 ghost use Rattle.tv_typed.specs.Values.{IsLeaf, EncodedAs, EncodesLeaf, LeafRefused, Only};
 ghost use Rattle.tv_typed.specs.Visits.{Visits};
-ghost use Rattle.tv_value.specs.Tree.{Leaf, leaf};
 
 use crate::de::ValueVisitor;
 use crate::store_reader::StoreReader;

@@ -8,8 +8,8 @@ ghost use Rattle.tv_reader.specs.Leaves.{is_leaf_type};
 ghost use Rattle.tv_reader.specs.declared.value_type.ValueType.TheVariants as types;
 ghost use Rattle.tv_typed.specs.Visits.{Visits};
 ghost use Rattle.tv_value.specs.HeldTokens.{token_of};
-ghost use Rattle.tv_value.specs.Tree.{null, text, unsigned, signed, boolean, date, facet, bytes};
-ghost use Rattle.tv_value.specs.Tree.{ip_address, tokenized};
+ghost use Rattle.tv_format.specs.Tree.{null, text, unsigned, signed, boolean, date, facet, bytes};
+ghost use Rattle.tv_format.specs.Tree.{ip_address, tokenized};
 
 use crate::de::ValueVisitor;
 use crate::leaf_value::LeafValue;

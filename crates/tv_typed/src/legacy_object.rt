@@ -1,6 +1,8 @@
 //! Legacy objects, read as lists and maps: the object's tree is encoded in memory, and read from there.
 
 ghost use Rattle.std.specs.Prelude.{◌≡◌, List, ℕ};
+ghost use Rattle.tv_format.specs.Tree.{Tree};
+ghost use Rattle.tv_format.specs.Version.{Version, V2};
 ghost use Rattle.tv_reader.specs.Version.{version_of};
 ghost use Rattle.tv_reader.specs.declared.error.DeserializeError.{DeserializeError};
 ghost use Rattle.tv_reader.specs.declared.value_type.ValueType.{ValueType};
@@ -8,8 +10,6 @@ ghost use Rattle.tv_reader.specs.declared.value_type.ValueType.TheVariants as ty
 ghost use Rattle.tv_typed.specs.LegacyObjects.{Retold, OfEncoding, LegacyRefused, MembersRefused};
 ghost use Rattle.tv_typed.specs.Typed.{Deserializes};
 ghost use Rattle.tv_typed.specs.Values.{EncodesAs, EncodedAs, NextRefused};
-ghost use Rattle.tv_value.specs.Tree.{Tree};
-ghost use Rattle.tv_value.specs.Version.{Version, V2};
 
 use crate::de::BinaryValueDeserializer;
 use crate::encode::encoded;

@@ -2,6 +2,7 @@
 
 ghost use Rattle.std.specs.Prelude.{◌≡◌, true, false, is_err, OnOk};
 ghost use Rattle.tv_base.specs.Stop.{Counts};
+ghost use Rattle.tv_format.specs.Version.{V2, entry_total};
 ghost use Rattle.tv_reader.specs.Leaves.{is_leaf_type};
 ghost use Rattle.tv_reader.specs.Version.{version_of};
 ghost use Rattle.tv_reader.specs.declared.value_type.ValueType.TheVariants as types;
@@ -11,7 +12,6 @@ ghost use Rattle.tv_typed.specs.Lists.{element_total};
 ghost use Rattle.tv_typed.specs.Typed.{typed_stop, Deserializes};
 ghost use Rattle.tv_typed.specs.Visits.{Visits, VisitsItems, VisitsLegacy};
 ghost use Rattle.tv_typed.specs.Visits.{EncodesNextVisited, NextVisitRefused};
-ghost use Rattle.tv_value.specs.Version.{V2, entry_total};
 
 use crate::array::BinaryArrayDeserializer;
 use crate::de::{BinaryValueDeserializer, ValueVisitor};

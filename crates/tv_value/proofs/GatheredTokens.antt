@@ -6,13 +6,13 @@ use Rattle.std.specs.List.{AllByRecursion, flat_map}
 use Rattle.std.specs.Coded.{le_prop}
 use Rattle.tv_base.specs.Parts.{Each}
 use Rattle.tv_base.specs.Sink.{IsPrefix}
-use Rattle.tv_value.specs.Encoding.{TokenEncoding}
+use Rattle.tv_format.specs.Encoding.{TokenEncoding}
 use Rattle.tv_value.specs.HeldTokens.{AreHeld, HeldTokens}
-use Rattle.tv_value.specs.Short.{short_token, IsToken}
-use Rattle.tv_value.specs.Tree.{Token}
+use Rattle.tv_format.specs.Short.{short_token, IsToken}
+use Rattle.tv_format.specs.Tree.{Token}
 use Rattle.tv_value.proofs.Kept.{same_tokens}
 use Rattle.tv_value.proofs.Payloads.{all_encoded}
-use Rattle.tv_value.proofs.ShortEncodings.{tokens_of}
+use Rattle.tv_format.proofs.ShortEncodings.{tokens_of}
 
 -- ---- none
 

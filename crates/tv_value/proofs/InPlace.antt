@@ -7,9 +7,9 @@ use Rattle.tv_base.specs.Parts.{OneReading, Begins, Then, Sized, Text, Each, Cou
 use Rattle.tv_base.proofs.Numbers.{one_number}
 use Rattle.tv_base.proofs.Texts.{one_sized}
 use Rattle.tv_value.specs.InPlace.{NoPrefix, NoTokens}
-use Rattle.tv_value.specs.Encoding.{TokenEncoding}
-use Rattle.tv_value.specs.TokensLaws.{one_token}
-use Rattle.tv_value.specs.Tree.{Token}
+use Rattle.tv_format.specs.Encoding.{TokenEncoding}
+use Rattle.tv_format.specs.TokensLaws.{one_token}
+use Rattle.tv_format.specs.Tree.{Token}
 
 pub if_none : {A : Type 0} {P : Type 0} (r : Option A) → P → IfNone r P
 if_none None p = p

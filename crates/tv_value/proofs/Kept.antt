@@ -8,7 +8,7 @@ use Rattle.std.specs.declared.alloc.Global.{Global}
 use Rattle.std.specs.declared.string.String.{String}
 use Rattle.tv_value.specs.declared.tokenizer.Token as tokenizer
 use Rattle.tv_value.specs.HeldTokens.{token_of, AreHeld, HeldTokens, HeldTokens-prop}
-use Rattle.tv_value.specs.Short.{IsText, IsToken}
+use Rattle.tv_format.specs.Short.{IsText, IsToken}
 
 pub string_text : (s : String Global) → IsText (string_bytes s)
 string_text s = record { size = omega (arith, s.bytes.ok, s.bytes.small); utf8 = IsUtf8-had (string_bytes s) s.ok }

@@ -5,7 +5,7 @@ use Rattle.serde_json.specs.declared.value.Value.TheVariants as json
 use Rattle.serde_json.specs.View.{view, items_view, members_view}
 use Rattle.serde_json.specs.declared.value.Value.{Value}
 use Rattle.tv_value.specs.JsonTree.{whole_tree, whole_elements, whole_entries, lent_json_tree, lent_json_entries}
-use Rattle.tv_value.specs.Tree.{array, object, elements, element, entries, entry}
+use Rattle.tv_format.specs.Tree.{array, object, elements, element, entries, entry}
 
 pub lent_elements : (items : List Value) → elements (map lent_json_tree items) ≡ whole_elements (items_view items)
 lent_elements [] = refl

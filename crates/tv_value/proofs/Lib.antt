@@ -1,16 +1,5 @@
 pub mod Addresses
 pub mod AddressBytes
-pub mod Leaves
-pub mod Trees
-pub mod ExcludingLeaves
-pub mod ExcludingTrees
-pub mod SingleLeaves
-pub mod SingleTrees
-pub mod DecidingLeaves
-pub mod DecidingTrees
-pub mod ShortEncodings
-pub mod Prefixes
-pub mod Lists
 pub mod Kept
 pub mod InPlace
 pub mod TokenSteps

@@ -4,7 +4,7 @@ use Rattle.serde_json.specs.Data as json
 use Rattle.serde_json.specs.Data.{Data, Items, Members}
 use Rattle.tv_value.specs.JsonTree.{whole_tree, whole_elements, whole_entries}
 use Rattle.tv_value.specs.Owned.{owned_tree, owned_entries}
-use Rattle.tv_value.specs.Tree.{elements, Elements, no_elements, element, entries, Entries, no_entries, entry}
+use Rattle.tv_format.specs.Tree.{elements, Elements, no_elements, element, entries, Entries, no_entries, entry}
 use Rattle.tv_value.specs.declared.owned_value.OwnedValue.{OwnedValue}
 
 abbrev pub Member : Type 0

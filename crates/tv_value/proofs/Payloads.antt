@@ -7,11 +7,11 @@ use Rattle.tv_base.specs.Parts.{Begins, Then, Text, Each}
 use Rattle.tv_base.proofs.Excluding.{groups_some}
 use Rattle.tv_value.specs.HeldTokens.{AreHeld, HeldTokens}
 use Rattle.tv_value.specs.InPlace.{BeginsTokens}
-use Rattle.tv_value.specs.Short.{IsText, IsToken}
-use Rattle.tv_value.specs.Encoding.{TokenEncoding, Tokenized}
-use Rattle.tv_value.specs.Tree.{Token}
+use Rattle.tv_format.specs.Short.{IsText, IsToken}
+use Rattle.tv_format.specs.Encoding.{TokenEncoding, Tokenized}
+use Rattle.tv_format.specs.Tree.{Token}
 use Rattle.tv_value.proofs.Kept.{same_tokens}
-use Rattle.tv_value.proofs.Prefixes.{begins_length, begins_then}
+use Rattle.tv_format.proofs.Prefixes.{begins_length, begins_then}
 
 -- what follows a prefix has no more bytes
 pub begins_fewer : {P : List ℕ → Type 0} (whole rest : List ℕ) → Begins P whole rest → length whole < 2 ^ 63 → length rest < 2 ^ 63

@@ -1,8 +1,8 @@
 -- A test of two lists of children, child by child.
 use Rattle.std.proofs.Common.{◌≡◌, ℕ, List, ◌∷◌, ◌&&◌, Bool, true, false, sym, ◌∙◌}
 use Rattle.std.specs.Str.{bytes_eq}
+use Rattle.tv_format.specs.Tree.{Tree, elements, entries}
 use Rattle.tv_value.specs.Same.{tree_eq, elements_eq, entries_eq}
-use Rattle.tv_value.specs.Tree.{Tree, elements, entries}
 
 -- what was returned of two values that are lent is so of the values
 pub asked : (x y t u : Tree) (r b : Bool) → x ≡ t → y ≡ u → r ≡ tree_eq x y → r ≡ b → tree_eq t u ≡ b

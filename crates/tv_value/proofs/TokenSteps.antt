@@ -9,11 +9,11 @@ use Rattle.tv_base.specs.Parts.{Begins, Each}
 use Rattle.tv_value.specs.declared.tokenizer.Token as tokenizer
 use Rattle.tv_value.specs.HeldTokens.{token_of, AreHeld, HeldTokens}
 use Rattle.tv_value.specs.InPlace.{NoPrefix}
-use Rattle.tv_value.specs.Short.{AreTokens}
-use Rattle.tv_value.specs.Encoding.{TokenEncoding}
-use Rattle.tv_value.specs.TokensLaws.{one_token}
-use Rattle.tv_value.specs.Tree.{Token}
-use Rattle.tv_value.specs.TreeCode.{coded_token}
+use Rattle.tv_format.specs.Short.{AreTokens}
+use Rattle.tv_format.specs.Encoding.{TokenEncoding}
+use Rattle.tv_format.specs.TokensLaws.{one_token}
+use Rattle.tv_format.specs.Tree.{Token}
+use Rattle.tv_format.specs.TreeCode.{coded_token}
 use Rattle.tv_value.proofs.Kept.{same_tokens}
 
 -- the tokens are this first one and those that are still held

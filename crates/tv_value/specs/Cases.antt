@@ -1,7 +1,7 @@
 -- What a value is: a leaf, an array or an object.
 use Rattle.std.specs.Prelude.{Bool, false, Option, Some, None, option_and_then}
-use Rattle.tv_value.specs.Leaves.{is_null}
-use Rattle.tv_value.specs.Tree.{Leaf, Tree, leaf, array, object, Elements, Entries}
+use Rattle.tv_format.specs.Leaves.{is_null}
+use Rattle.tv_format.specs.Tree.{Leaf, Tree, leaf, array, object, Elements, Entries}
 
 abbrev pub leaf_in : Tree → Option Leaf
 leaf_in (leaf l) = Some l

@@ -1,6 +1,6 @@
 -- Tokens that are gathered in their shortest encoding.
 use Rattle.std.specs.Prelude.{List}
-use Rattle.tv_value.specs.Tree.{Token}
+use Rattle.tv_format.specs.Tree.{Token}
 use Rattle.tv_value.specs.declared.encoded_tokens.EncodedTokens.{EncodedTokens}
 
 -- the tokens, in order

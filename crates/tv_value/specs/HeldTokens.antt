@@ -9,11 +9,11 @@ use base.Stored.{Coded-set}
 use Rattle.tv_base.specs.Parts.{Begins, Each}
 use Rattle.tv_base.proofs.Agreement.{agree_each}
 use Rattle.tv_value.specs.declared.tokenizer.Token as tokenizer
-use Rattle.tv_value.specs.Short.{AreTokens}
-use Rattle.tv_value.specs.Encoding.{TokenEncoding}
-use Rattle.tv_value.specs.TokensLaws.{one_token}
-use Rattle.tv_value.specs.Tree.{Token}
-use Rattle.tv_value.specs.TreeCode.{coded_token}
+use Rattle.tv_format.specs.Short.{AreTokens}
+use Rattle.tv_format.specs.Encoding.{TokenEncoding}
+use Rattle.tv_format.specs.TokensLaws.{one_token}
+use Rattle.tv_format.specs.Tree.{Token}
+use Rattle.tv_format.specs.TreeCode.{coded_token}
 
 -- a token that is kept
 abbrev pub token_of : tokenizer.Token → Token

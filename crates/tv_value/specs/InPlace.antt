@@ -1,8 +1,8 @@
 -- Bytes of which no prefix is of some kind, or of which a prefix is so many tokens.
 use Rattle.std.specs.Prelude.{◌≡◌, ℕ, List, ◌++◌, length}
 use Rattle.tv_base.specs.Parts.{Begins, Each}
-use Rattle.tv_value.specs.Encoding.{TokenEncoding, Tokenized}
-use Rattle.tv_value.specs.Tree.{Token}
+use Rattle.tv_format.specs.Encoding.{TokenEncoding, Tokenized}
+use Rattle.tv_format.specs.Tree.{Token}
 
 pub record NoPrefix (P : List ℕ → Type 0) (whole : List ℕ) : Type 0 where
   pub none : (prefix rest : List ℕ) → whole ≡ prefix ++ rest → P prefix → ⊥

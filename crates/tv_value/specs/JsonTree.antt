@@ -7,7 +7,7 @@ use Rattle.serde_json.specs.View.{view}
 use Rattle.serde_json.specs.Written.{has_float}
 use Rattle.serde_json.specs.declared.value.Value.{Value}
 use Rattle.tv_value.specs.Owned.{owned_tree}
-use Rattle.tv_value.specs.Tree.{Leaf, null, text, unsigned, signed, boolean, Tree, leaf, array, object, Elements, no_elements, element, Entries, no_entries, entry}
+use Rattle.tv_format.specs.Tree.{Leaf, null, text, unsigned, signed, boolean, Tree, leaf, array, object, Elements, no_elements, element, Entries, no_entries, entry}
 use Rattle.tv_value.specs.declared.json_error.JsonError.{JsonError}
 use Rattle.tv_value.specs.declared.json_error.JsonError.TheVariants.{FloatNumber, Memory}
 use Rattle.tv_value.specs.declared.owned_value.OwnedValue.{OwnedValue}

@@ -4,7 +4,7 @@ use Rattle.std.specs.Borrow.{Bor}
 use Rattle.std.specs.Net.Addr.{ipv6_bits}
 use Rattle.std.specs.declared.alloc.Global.{Global}
 use Rattle.tv_value.specs.HeldTokens.{token_of}
-use Rattle.tv_value.specs.Tree.{Leaf, null, text, unsigned, signed, boolean, date, facet, bytes, ip_address, tokenized, Tree, leaf, array, object, elements, entries}
+use Rattle.tv_format.specs.Tree.{Leaf, null, text, unsigned, signed, boolean, date, facet, bytes, ip_address, tokenized, Tree, leaf, array, object, elements, entries}
 use Rattle.tv_value.specs.PreTokenized.{tokenized_leaf}
 use Rattle.tv_value.specs.declared.leaf.ReferenceValueLeaf.{ReferenceValueLeaf}
 use Rattle.tv_value.specs.declared.leaf.ReferenceValueLeaf.TheVariants as lent

@@ -5,7 +5,7 @@ use Rattle.std.specs.Iterator.{YieldsFirstRef, YieldsFirstBy}
 use Rattle.std.specs.declared.alloc.Global.{Global}
 use Rattle.std.proofs.Common.{ap}
 use Rattle.tv_value.specs.Lent.{key_and, tree_step}
-use Rattle.tv_value.specs.Tree.{Tree}
+use Rattle.tv_format.specs.Tree.{Tree}
 use Rattle.tv_value.specs.declared.owned_value.OwnedValue.{OwnedValue, fold-OwnedValue}
 
 abbrev pub owned_tree : OwnedValue → Tree

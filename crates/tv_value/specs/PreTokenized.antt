@@ -1,6 +1,6 @@
 -- Texts with their tokens, however they are kept.
 use Rattle.std.specs.Prelude.{ℕ, List}
-use Rattle.tv_value.specs.Tree.{Token, Leaf, tokenized}
+use Rattle.tv_format.specs.Tree.{Token, Leaf, tokenized}
 use Rattle.tv_value.specs.declared.pre_tokenized.PreTokenizedStr.{PreTokenizedStr}
 use Rattle.tv_value.specs.declared.pre_tokenized.TokenIter.{TokenIter}
 

@@ -5,11 +5,11 @@ use Rattle.std.proofs.lemmas.Slice.Eq.{bytes_eq-Decides}
 use Rattle.std.specs.Prelude.{nat_eq}
 use Rattle.std.specs.Str.{bytes_eq}
 use Rattle.tv_value.specs.SameTokensLaws.{tokenized_eq-Decides}
-use Rattle.tv_value.specs.Content.{Content, no_content, truth_content, unsigned_content, signed_content, wide_content, text_content, bytes_content, tokens_content}
-use Rattle.tv_value.specs.Leaves.{type_of, content}
-use Rattle.tv_value.specs.LeavesLaws.{one_leaf, one_code}
-use Rattle.tv_value.specs.Encoding.{leaf_code}
-use Rattle.tv_value.specs.Tree.{Leaf, Tree, leaf, array, object, Elements, no_elements, element, Entries, no_entries, entry}
+use Rattle.tv_format.specs.Content.{Content, no_content, truth_content, unsigned_content, signed_content, wide_content, text_content, bytes_content, tokens_content}
+use Rattle.tv_format.specs.Leaves.{type_of, content}
+use Rattle.tv_format.specs.LeavesLaws.{one_leaf, one_code}
+use Rattle.tv_format.specs.Encoding.{leaf_code}
+use Rattle.tv_format.specs.Tree.{Leaf, Tree, leaf, array, object, Elements, no_elements, element, Entries, no_entries, entry}
 use Rattle.tv_value.specs.Same.{bool_eq, content_eq, leaf_eq, tree_eq, elements_eq, entries_eq}
 
 left_true : (a b : Bool) → (a && b) ≡ true → a ≡ true

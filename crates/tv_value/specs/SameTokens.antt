@@ -1,7 +1,7 @@
 -- Whether tokens are the same, and texts with their tokens.
 use Rattle.std.specs.Prelude.{ℕ, Bool, ◌&&◌, List, nat_eq}
 use Rattle.std.specs.Cmp.Lexicographic.{pointwise}
-use Rattle.tv_value.specs.Tree.{Token}
+use Rattle.tv_format.specs.Tree.{Token}
 
 abbrev pub token_eq : Token → Token → Bool
 token_eq s t =

@@ -7,7 +7,7 @@ use Rattle.std.proofs.Common.{ap, sym, ◌∙◌}
 use Rattle.std.proofs.lemmas.Bool.Decides.{Decides-and, Decides-like, same_from_decides}
 use Rattle.std.proofs.lemmas.Slice.Eq.{slice_eq-Decides}
 use Rattle.tv_value.specs.SameTokens.{token_eq, tokens_eq, tokenized_eq}
-use Rattle.tv_value.specs.Tree.{Token}
+use Rattle.tv_format.specs.Tree.{Token}
 
 text_eq-Decides : (s t : List ℕ) → Decides (pointwise nat_eq s t) (s ≡ t)
 text_eq-Decides s t = slice_eq-Decides unsigned_Decides s t (pointwise nat_eq s t) refl

@@ -1,5 +1,5 @@
 -- Tokens that are lent.
-use Rattle.tv_value.specs.Tree.{Token}
+use Rattle.tv_format.specs.Tree.{Token}
 use Rattle.tv_value.specs.declared.pre_tokenized.TokenRef.{TokenRef}
 
 abbrev pub ref_of : TokenRef → Token

@@ -2,27 +2,6 @@
 
 use crate::pre_tokenized::PreTokenizedStr;
 
-/// The forms of what values without children hold. Several types may have one. (Not in tantivy.)
-#[derive(Clone, Copy, Debug, PartialEq, Eq)]
-pub enum Form {
-    /// Nothing.
-    Nothing,
-    /// A truth value.
-    Truth,
-    /// A number from 0 to 2^64 - 1.
-    Unsigned,
-    /// A number from -2^63 to 2^63 - 1.
-    Signed,
-    /// A number from 0 to 2^128 - 1.
-    Wide,
-    /// A text.
-    Text,
-    /// Bytes.
-    Bytes,
-    /// A text and its tokens.
-    Tokens,
-}
-
 /// What a value without children holds. Texts and bytes are borrowed. (Not in tantivy.)
 #[derive(Clone, Copy, Debug)]
 pub enum LeafContent<'a> {

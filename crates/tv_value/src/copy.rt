@@ -1,9 +1,9 @@
 //! Copies of lent values, that own what they hold.
 
 ghost use Rattle.std.specs.Prelude.{◌≡◌, IfOk};
+ghost use Rattle.tv_format.specs.Tree.{array, object, elements, entries};
 ghost use Rattle.tv_value.specs.Lent.{nested_tree};
 ghost use Rattle.tv_value.specs.Owned.{owned_tree};
-ghost use Rattle.tv_value.specs.Tree.{array, object, elements, entries};
 
 use crate::nested::{Nested, NestedValue};
 use crate::owned_value::OwnedValue;

@@ -4,7 +4,7 @@ ghost use Rattle.std.specs.Prelude.{◌≡◌, ◌++◌, OnOk, OnErr};
 ghost use Rattle.tv_base.specs.Number.{vnum};
 ghost use Rattle.tv_base.specs.Parts.{short_sized};
 ghost use Rattle.tv_base.specs.Sink.{IsPrefix};
-ghost use Rattle.tv_value.specs.Short.{short_token, IsText, IsToken};
+ghost use Rattle.tv_format.specs.Short.{short_token, IsText, IsToken};
 ghost use Rattle.tv_value.specs.TokenRef.{ref_of};
 
 use crate::pre_tokenized::TokenRef;

@@ -3,7 +3,7 @@
 ghost use Rattle.std.specs.Prelude.{◌≡◌, ◌++◌, ◌∷◌, [], OnOk, OnErr};
 ghost use Rattle.std.specs.List.{flat_map};
 ghost use Rattle.tv_value.specs.HeldTokens.{HeldTokens, HeldTokens-prop};
-ghost use Rattle.tv_value.specs.Short.{short_token};
+ghost use Rattle.tv_format.specs.Short.{short_token};
 ghost use Rattle.tv_value.specs.TokenRef.{ref_of};
 
 use crate::encode::push_token;

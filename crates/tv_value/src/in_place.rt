@@ -4,9 +4,9 @@ ghost use Rattle.std.specs.Prelude.{ℕ, List, IfSome, IfNone};
 ghost use Rattle.tv_base.specs.Number.{VNum};
 ghost use Rattle.tv_base.specs.Parts.{Begins, Text};
 ghost use Rattle.tv_value.specs.InPlace.{BeginsTokens, NoPrefix, NoTokens};
-ghost use Rattle.tv_value.specs.Encoding.{TokenEncoding};
+ghost use Rattle.tv_format.specs.Encoding.{TokenEncoding};
 ghost use Rattle.tv_value.specs.TokenRef.{ref_of};
-ghost use Rattle.tv_value.specs.Tree.{Token};
+ghost use Rattle.tv_format.specs.Tree.{Token};
 
 use crate::pre_tokenized::TokenRef;
 use crate::utf8::is_utf8_prefix;

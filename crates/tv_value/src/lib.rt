@@ -1,4 +1,4 @@
-//! Values as finite trees, and the bytes that encode them in a store.
+//! Values of any kind, lent and owned, and from JSON.
 #![tactic(auto)]
 
 pub mod content;
@@ -18,9 +18,7 @@ pub mod owned_value;
 pub mod pre_tokenized;
 pub mod same;
 pub mod tokenizer;
-pub mod type_codes;
 mod utf8;
 pub mod value;
-pub mod version;
 
 pub use tv_date::{date_error, date_time};

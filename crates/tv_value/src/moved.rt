@@ -4,7 +4,7 @@ ghost use Rattle.std.specs.Prelude.{◌≡◌, map, IfOk};
 ghost use Rattle.serde_json.specs.View.{view as data_of, number_view, items_view, members_view};
 ghost use Rattle.tv_value.specs.JsonTree.{number_leaf, whole_tree, whole_elements, whole_entries};
 ghost use Rattle.tv_value.specs.Owned.{owned_tree, owned_entries};
-ghost use Rattle.tv_value.specs.Tree.{leaf, elements, entries};
+ghost use Rattle.tv_format.specs.Tree.{leaf, elements, entries};
 
 use crate::owned_value::OwnedValue;
 use serde_json::{Map, Number, Value as JsonValue};

@@ -3,7 +3,7 @@
 ghost use Rattle.std.specs.Prelude.{◌≡◌, ℕ, List, Option};
 ghost use Rattle.std.specs.Iterator.{IsFinite, YieldsFirstBy};
 ghost use Rattle.tv_value.specs.Lent.{nested_tree, entry_of, nested_entry};
-ghost use Rattle.tv_value.specs.Tree.{Tree};
+ghost use Rattle.tv_format.specs.Tree.{Tree};
 
 use crate::leaf::ReferenceValueLeaf;
 use crate::value::{ReferenceValue, Value};

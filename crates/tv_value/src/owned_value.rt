@@ -156,10 +156,10 @@ fn owned_facet(alloc: Global, encoded: &str) -> Result<Facet, AllocError>
 
 impl OwnedValue {
     ghost use Rattle.serde_json.specs.View.{view as data_of};
+    ghost use Rattle.tv_format.specs.Tree.{leaf};
     ghost use Rattle.tv_value.specs.JsonTree.{AnswersJson};
     ghost use Rattle.tv_value.specs.Lent.{leaf_of};
     ghost use Rattle.tv_value.specs.Owned.{owned_tree};
-    ghost use Rattle.tv_value.specs.Tree.{leaf};
 
     /// A copy of any value. The only error is that memory was refused.
     pub fn from_value<'a, V: Value<'a>>(alloc: Global, value: &V) -> Result<OwnedValue, AllocError>

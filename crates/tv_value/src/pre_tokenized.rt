@@ -1,9 +1,9 @@
 //! Texts with their tokens, lent from where they are kept or encoded. A copy alone takes memory.
 
 ghost use Rattle.std.specs.Prelude.{◌≡◌, ◌↔◌, [], IfOk, IsTrue, length};
+ghost use Rattle.tv_format.specs.Short.{IsText};
+ghost use Rattle.tv_format.specs.ShortLaws.{IsText-prop};
 ghost use Rattle.tv_value.specs.HeldTokens.{HeldTokens, HeldTokens-prop, token_of};
-ghost use Rattle.tv_value.specs.Short.{IsText};
-ghost use Rattle.tv_value.specs.ShortLaws.{IsText-prop};
 ghost use Rattle.tv_value.specs.TokenRef.{ref_of};
 
 use crate::encoded_tokens::EncodedTokens;
@@ -49,7 +49,7 @@ impl<'a> PreTokenizedStr<'a> {
     ghost use Rattle.std.specs.String.{string_bytes};
     ghost use Rattle.tv_value.specs.InPlace.{NoTokenized};
     ghost use Rattle.tv_value.specs.PreTokenized.{text_of, tokens_left, tokens_of};
-    ghost use Rattle.tv_value.specs.Encoding.{Tokenized};
+    ghost use Rattle.tv_format.specs.Encoding.{Tokenized};
     ghost use Rattle.tv_value.specs.EncodedTokens.{gathered};
 
     /// The text and the tokens of the string.

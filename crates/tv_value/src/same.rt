@@ -1,10 +1,10 @@
 //! Whether two values are one, in place and without memory.
 
 ghost use Rattle.std.specs.Prelude.{◌≡◌};
+ghost use Rattle.tv_format.specs.Tree.{elements, entries};
 ghost use Rattle.tv_value.specs.LeafParts.{content_of};
 ghost use Rattle.tv_value.specs.Lent.{leaf_of, nested_tree};
 ghost use Rattle.tv_value.specs.Same.{content_eq, leaf_eq, tree_eq, elements_eq, entries_eq};
-ghost use Rattle.tv_value.specs.Tree.{elements, entries};
 
 use crate::content::LeafContent;
 use crate::leaf::ReferenceValueLeaf;

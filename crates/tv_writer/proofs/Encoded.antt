@@ -1,8 +1,8 @@
 -- How far the children of a value are known to have encodings.
 use Rattle.std.proofs.Common.{ℕ, ◌+◌, ◌<◌, ◌^◌, List}
-use Rattle.tv_value.specs.Short.{IsValue, AreElements, AreEntries}
-use Rattle.tv_value.specs.Size.{size, elements_size, entries_size}
-use Rattle.tv_value.specs.Tree.{Tree, elements, element_count, entries, entry_count}
+use Rattle.tv_format.specs.Short.{IsValue, AreElements, AreEntries}
+use Rattle.tv_format.specs.Size.{size, elements_size, entries_size}
+use Rattle.tv_format.specs.Tree.{Tree, elements, element_count, entries, entry_count}
 
 -- so many children have encodings, and the array has one where the others have and are few enough
 pub record ArrayEncoded (count : ℕ) (rest : List Tree) (tree : Tree) : Type 0 where

@@ -1,10 +1,10 @@
 -- The parts of an array and of an object, as they are written, and what is left of each.
 use Rattle.std.proofs.Common.{◌≡◌, ℕ, ◌<◌, ◌≤◌, ◌^◌, List, ◌∷◌, ◌++◌, sym, ap, subst, ◌∙◌, arith}
 use Rattle.tv_base.specs.Number.{vnum}
-use Rattle.tv_value.specs.Short.{short, short_elements, short_entries, short_key, AreElements, AreEntries}
-use Rattle.tv_value.specs.Size.{elements_size, entries_size}
-use Rattle.tv_value.specs.Tree.{Tree, array, object, Elements, elements, Entries, entries}
-use Rattle.tv_value.specs.Version.{Version, V1, V2, V3, entry_total}
+use Rattle.tv_format.specs.Short.{short, short_elements, short_entries, short_key, AreElements, AreEntries}
+use Rattle.tv_format.specs.Size.{elements_size, entries_size}
+use Rattle.tv_format.specs.Tree.{Tree, array, object, Elements, elements, Entries, entries}
+use Rattle.tv_format.specs.Version.{Version, V1, V2, V3, entry_total}
 use Rattle.tv_writer.specs.Children.{child_count}
 
 -- ---- arrays

@@ -1,6 +1,6 @@
 -- How many children a value has.
 use Rattle.std.specs.Prelude.{ℕ}
-use Rattle.tv_value.specs.Tree.{Tree, leaf, array, object, element_count, entry_count}
+use Rattle.tv_format.specs.Tree.{Tree, leaf, array, object, element_count, entry_count}
 
 abbrev pub child_count : Tree → ℕ
 child_count (leaf l) = 0

@@ -5,7 +5,7 @@ ghost use Rattle.std.specs.Bool.{MatchBool};
 ghost use Rattle.tv_value.specs.LeafParts.{content_of};
 ghost use Rattle.tv_value.specs.Lent.{leaf_of, nested_tree};
 ghost use Rattle.tv_value.specs.PreTokenized.{text_of, tokens_of};
-ghost use Rattle.tv_value.specs.Short.{AreTokens, IsContent, IsLeaf, IsText, IsSized, IsValue};
+ghost use Rattle.tv_format.specs.Short.{AreTokens, IsContent, IsLeaf, IsText, IsSized, IsValue};
 ghost use Rattle.std.specs.Int.{w64};
 ghost use Rattle.std.specs.Prelude.{FitsSigned};
 

@@ -11,7 +11,7 @@ ghost use Rattle.tv_base.specs.Sink.{Writes};
 ghost use Rattle.tv_value.specs.LeafParts.{content_of};
 ghost use Rattle.tv_value.specs.Lent.{leaf_of};
 ghost use Rattle.tv_value.specs.PreTokenized.{text_of, tokens_left, tokens_of};
-ghost use Rattle.tv_value.specs.Short.{short_token, short_tokenized, short_content, short_leaf};
+ghost use Rattle.tv_format.specs.Short.{short_token, short_tokenized, short_content, short_leaf};
 ghost use Rattle.tv_value.specs.TokenRef.{ref_of};
 
 use std::io;
@@ -22,7 +22,7 @@ use tv_base::write::{
 use tv_value::content::LeafContent;
 use tv_value::leaf::ReferenceValueLeaf;
 use tv_value::pre_tokenized::{PreTokenizedStr, TokenIter, TokenRef};
-use tv_value::type_codes::TOK_STR_EXT_CODE;
+use tv_format::type_codes::TOK_STR_EXT_CODE;
 
 /// Writes the code of a value.
 ///

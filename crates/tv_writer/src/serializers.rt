@@ -7,9 +7,9 @@ ghost use Rattle.tv_base.specs.Sink.{Writes};
 ghost use Rattle.tv_writer.specs.Error as store;
 ghost use Rattle.tv_writer.specs.Error.{IsIo};
 ghost use Rattle.tv_writer.specs.Serialized.{FailsToWrite, Refuses, WritesWhere, awaited_after};
-ghost use Rattle.tv_value.specs.Short.{short, short_key, IsValue};
-ghost use Rattle.tv_value.specs.Version.{entry_total};
-ghost use Rattle.tv_value.specs.WriteVersion.{written_version};
+ghost use Rattle.tv_format.specs.Short.{short, short_key, IsValue};
+ghost use Rattle.tv_format.specs.Version.{entry_total};
+ghost use Rattle.tv_format.specs.WriteVersion.{written_version};
 
 use crate::encoding::has_encoding;
 use crate::error::SerializeError;
@@ -18,7 +18,7 @@ use std::io;
 use tv_base::ByteSink;
 use tv_base::write::write_vint;
 use tv_value::value::Value;
-use tv_value::version::WriteVersion;
+use tv_format::version::WriteVersion;
 
 // A value, where it has an encoding.
 fn write_shortest<'a, K: ByteSink, V: Value<'a>>(

@@ -6,12 +6,12 @@
 ghost use Rattle.std.specs.Prelude.{◌≡◌, ◌<◌, ◌^◌, ◌∷◌};
 ghost use Rattle.tv_base.specs.Number.{vnum};
 ghost use Rattle.tv_base.specs.Sink.{Writes};
+ghost use Rattle.tv_format.specs.Short.{short, short_elements, short_entries, short_key, IsValue};
+ghost use Rattle.tv_format.specs.Short.{AreElements, AreEntries};
+ghost use Rattle.tv_format.specs.Tree.{elements, entries, element_count, entry_count};
+ghost use Rattle.tv_format.specs.Version.{entry_total};
+ghost use Rattle.tv_format.specs.WriteVersion.{written_version};
 ghost use Rattle.tv_value.specs.Lent.{nested_tree};
-ghost use Rattle.tv_value.specs.Short.{short, short_elements, short_entries, short_key, IsValue};
-ghost use Rattle.tv_value.specs.Short.{AreElements, AreEntries};
-ghost use Rattle.tv_value.specs.Tree.{elements, entries, element_count, entry_count};
-ghost use Rattle.tv_value.specs.Version.{entry_total};
-ghost use Rattle.tv_value.specs.WriteVersion.{written_version};
 ghost use Rattle.tv_writer.specs.Children.{child_count};
 
 use crate::leaf_writer::{write_coded_count, write_coded_text, write_leaf};
@@ -20,9 +20,9 @@ use std::io;
 use tv_base::ByteSink;
 use tv_base::write::write_text;
 use tv_value::nested::{Lent, Nested, NestedValue, lend};
-use tv_value::type_codes::{ARRAY_CODE, OBJECT_CODE, TEXT_CODE};
+use tv_format::type_codes::{ARRAY_CODE, OBJECT_CODE, TEXT_CODE};
 use tv_value::value::Value;
-use tv_value::version::WriteVersion;
+use tv_format::version::WriteVersion;
 
 /// Writes a key of an object: its length and its text, in version 2 behind the code of a text. It takes no memory.
 ///

@@ -3,7 +3,7 @@
 ghost use Rattle.std.specs.Prelude.{[], cond, replicate};
 ghost use Rattle.std.specs.Iterator.{YieldsFirstBy, at_most, item_count};
 ghost use Rattle.tv_value.specs.Lent.{entry_of};
-ghost use Rattle.tv_value.specs.Tree.{leaf, bytes, array, elements};
+ghost use Rattle.tv_format.specs.Tree.{leaf, bytes, array, elements};
 
 use std::test::Fail;
 use tv_doc::add_error::AddError;

@@ -1,7 +1,7 @@
 use Rattle.std.proofs.Common.{arith}
 use Rattle.tv_doc.specs.Document.{document_of}
 use Rattle.tv_store.specs.Stored.{stored}
-use Rattle.tv_value.specs.Version.{V2}
+use Rattle.tv_format.specs.Version.{V2}
 use Rattle.tantivy_schema.proofs.laws.stored_pairs_are_read_back.Goals as goal
 
 pub returns-clause-read : goal.returns-clause-read

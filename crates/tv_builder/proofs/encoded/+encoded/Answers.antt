@@ -2,7 +2,7 @@ use Rattle.std.proofs.Common.{◌≡◌, ◌++◌, [], ◌∷◌, length, take, 
 use Rattle.std.specs.Prelude.{IfSome}
 use Rattle.std.proofs.Math.Seq.{take-append_seam}
 use Rattle.tv_heap.proofs.Lists.{place_added}
-use Rattle.tv_value.specs.WriteVersion.{written_version}
+use Rattle.tv_format.specs.WriteVersion.{written_version}
 use Rattle.tv_builder.specs.Given.{place_bytes}
 use Rattle.tv_builder.specs.EncodedPut.{EncodedPut}
 use Rattle.tv_builder.proofs.Giving.{prefix_then}

@@ -1,5 +1,5 @@
 use Rattle.std.proofs.Common.{◌≡◌, ◌+◌, ◌*◌, ◌++◌, List, ℕ}
-use Rattle.tv_value.specs.WriteVersion.{written_version}
+use Rattle.tv_format.specs.WriteVersion.{written_version}
 use Rattle.tv_builder.proofs.Encoding.{ItemsPut, MembersPut}
 use Rattle.tv_builder.proofs.encoded.+encoded.Given as goal
 

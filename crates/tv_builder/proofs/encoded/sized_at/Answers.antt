@@ -1,4 +1,4 @@
-use Rattle.tv_value.proofs.Prefixes.{sized_found}
+use Rattle.tv_format.proofs.Prefixes.{sized_found}
 use Rattle.tv_builder.proofs.encoded.sized_at.Goals as goal
 
 pub returns : goal.returns

@@ -1,4 +1,4 @@
-use Rattle.tv_value.specs.Encoding.{NoLegacy}
+use Rattle.tv_format.specs.Encoding.{NoLegacy}
 use Rattle.tv_builder.proofs.Grammar.{frames_paid}
 use Rattle.tv_builder.proofs.laws.lists_are_paid.Goals as goal
 

@@ -1,4 +1,4 @@
-use Rattle.tv_value.specs.Encoding.{NoLegacy}
+use Rattle.tv_format.specs.Encoding.{NoLegacy}
 use Rattle.tv_builder.proofs.Grammar.{trades_sound}
 use Rattle.tv_builder.proofs.laws.parts_are_traded.Goals as goal
 

@@ -5,8 +5,8 @@ use Rattle.tv_value.specs.Lent.{nested_tree}
 use Rattle.tv_builder.specs.declared.build_error.BuildError.{BuildError}
 use Rattle.tv_builder.specs.declared.place.Place.{Place}
 use Rattle.tv_builder.specs.Whole.{Put, PutNot}
-use Rattle.tv_value.specs.Tree.{array, object, elements, entries}
-use Rattle.tv_value.specs.Size.{size, elements_size}
+use Rattle.tv_format.specs.Tree.{array, object, elements, entries}
+use Rattle.tv_format.specs.Size.{size, elements_size}
 use Rattle.tv_heap.proofs.Lists.{place_added}
 use Rattle.tv_builder.specs.Given.{place_bytes}
 use Rattle.tv_builder.proofs.Putting.{array_start, array_step, array_child_not, array_written, array_not_written, object_start, object_step, object_key_not, object_value_not, object_written, object_not_written, memory_not, own_places, put_grows}

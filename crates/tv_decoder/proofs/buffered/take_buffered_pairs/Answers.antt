@@ -1,5 +1,5 @@
 use Rattle.std.proofs.Common.{◌-◌, length, ap, subst, refl, take, arith}
-use Rattle.tv_value.specs.WriteVersion.{written_version}
+use Rattle.tv_format.specs.WriteVersion.{written_version}
 use Rattle.tv_reader.specs.Version.{version_of}
 use Rattle.tv_decoder.specs.Buffered.{AddsPairs}
 use Rattle.tv_decoder.proofs.BufferedPairs.{no_pairs, pairs_taken, stood_in, none_kept, passed_finds, not_passed, none_passed}

@@ -1,7 +1,7 @@
 use Rattle.std.proofs.Common.{◌≡◌, ◌+◌, ◌∷◌, ◌∙◌, [], List, map, drop, ap, sym, arith}
 use Rattle.std.proofs.lemmas.List.{drop_more}
 use Rattle.tv_value.specs.Owned.{owned_tree}
-use Rattle.tv_value.specs.Tree.{Document}
+use Rattle.tv_format.specs.Tree.{Document}
 use Rattle.tv_value.specs.declared.owned_value.OwnedValue.{OwnedValue}
 use Rattle.tv_doc.proofs.Additions.{each_one}
 use Rattle.tv_doc.proofs.PairsSoFar.{more_pairs, stops_at_pair, stops_behind}

@@ -1,9 +1,9 @@
 use Rattle.std.specs.declared.alloc.AllocError.{AllocError}
 use Rattle.std.proofs.Common.{◌≡◌, [], true, Ok, subst, sym, ap, ◌∙◌, rules, codes, append-nil}
 use Rattle.serde_json.specs.View.{view as data_of}
-use Rattle.tv_value.specs.Short.{short_tokenized}
-use Rattle.tv_value.specs.Tree.{leaf}
-use Rattle.tv_value.proofs.ShortEncodings.{tokenized_of}
+use Rattle.tv_format.specs.Short.{short_tokenized}
+use Rattle.tv_format.specs.Tree.{leaf}
+use Rattle.tv_format.proofs.ShortEncodings.{tokenized_of}
 use Rattle.tv_field.specs.JsonTable.{leaf_or, mismatch}
 use Rattle.tv_field.specs.JsonTokens.{IsTokenizedEncoded}
 use Rattle.tv_field.proofs.JsonTokens.{encoded_once}

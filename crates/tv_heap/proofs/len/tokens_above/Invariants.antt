@@ -1,7 +1,7 @@
 use Rattle.std.proofs.Common.{◌≡◌, ◌+◌, ◌<◌, ◌^◌, length}
 use Rattle.std.specs.List.{flat_map}
 use Rattle.tv_value.specs.PreTokenized.{tokens_left}
-use Rattle.tv_value.specs.Short.{short_token}
+use Rattle.tv_format.specs.Short.{short_token}
 use Rattle.tv_heap.proofs.len.tokens_above.Given as goal
 
 -- with the encodings of the tokens that are left

@@ -1,6 +1,6 @@
 use Rattle.std.proofs.Common.{ap, sym, ◌∙◌}
-use Rattle.tv_value.specs.Leaves.{content, form}
-use Rattle.tv_value.specs.LeavesLaws.{form_of_content}
+use Rattle.tv_format.specs.Leaves.{content, form}
+use Rattle.tv_format.specs.LeavesLaws.{form_of_content}
 use Rattle.tv_heap.proofs.InPlace.{leaf_short, signed_bytes, text_bytes}
 use Rattle.tv_heap.proofs.lent.encoded_at.Goals as goal
 

@@ -1,7 +1,7 @@
 use Rattle.std.proofs.Common.{◌≡◌, ◌+◌, ◌<◌, ◌≤◌, ◌^◌}
 use Rattle.tv_value.specs.Lent.{nested_tree}
-use Rattle.tv_value.specs.Size.{size, elements_size, entries_size}
-use Rattle.tv_value.specs.Tree.{elements, entries}
+use Rattle.tv_format.specs.Size.{size, elements_size, entries_size}
+use Rattle.tv_format.specs.Tree.{elements, entries}
 use Rattle.tv_heap.specs.Room.{elements_room, entries_room}
 use Rattle.tv_heap.proofs.room.+values.Given as goal
 

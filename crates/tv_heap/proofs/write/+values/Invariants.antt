@@ -1,7 +1,7 @@
 use Rattle.std.proofs.Common.{◌≡◌, ◌++◌, List, ℕ}
 use Rattle.tv_value.specs.Lent.{nested_tree}
-use Rattle.tv_value.specs.Size.{size, elements_size, entries_size}
-use Rattle.tv_value.specs.Tree.{array, object, elements, entries}
+use Rattle.tv_format.specs.Size.{size, elements_size, entries_size}
+use Rattle.tv_format.specs.Tree.{array, object, elements, entries}
 use Rattle.tv_heap.specs.Wrote.{ArraySoFar, ObjectSoFar}
 use Rattle.tv_heap.proofs.write.+values.Given as goal
 

@@ -2,7 +2,7 @@ use Rattle.std.proofs.Common.{◌≡◌, ◌++◌}
 use Rattle.std.specs.List.{flat_map}
 use Rattle.tv_base.specs.Sink.{IsPrefix}
 use Rattle.tv_value.specs.PreTokenized.{text_of, tokens_of, tokens_left}
-use Rattle.tv_value.specs.Short.{short_token, short_tokenized}
+use Rattle.tv_format.specs.Short.{short_token, short_tokenized}
 use Rattle.tv_heap.proofs.write.write_tokenized.Given as goal
 
 -- what is written, and then the tokens that are left

@@ -4,8 +4,8 @@ use Rattle.std.specs.Prelude.{Some, None}
 use Rattle.std.proofs.lemmas.Result.{on_ok_weaker}
 use Rattle.json.specs.Token as Token
 use Rattle.serde_json.specs.Data.{no_members}
-use Rattle.tv_value.specs.Size.{size, elements_size, entries_size}
-use Rattle.tv_value.specs.Tree.{array, object, elements, entries}
+use Rattle.tv_format.specs.Size.{size, elements_size, entries_size}
+use Rattle.tv_format.specs.Tree.{array, object, elements, entries}
 use Rattle.tv_json.specs.JsonOf.{json_of, elements_json, entries_json}
 use Rattle.tv_json.specs.Rising.{KeysRise, entries_of, data_tokens, rest_of_array, rest_of_object, listed_json, pairs_json}
 use Rattle.tv_json.proofs.InOrder.{object_in_order}

@@ -1,7 +1,7 @@
 use Rattle.std.proofs.Common.{◌≡◌, ◌++◌, ◌<◌, ◌≤◌}
 use Rattle.std.specs.List.{AllByRecursion}
-use Rattle.tv_value.specs.Size.{size, elements_size, entries_size}
-use Rattle.tv_value.specs.Tree.{elements, entries}
+use Rattle.tv_format.specs.Size.{size, elements_size, entries_size}
+use Rattle.tv_format.specs.Tree.{elements, entries}
 use Rattle.tv_json.specs.JsonOf.{elements_json}
 use Rattle.tv_json.specs.Rising.{rest_of_array, rest_of_object, listed_json, pairs_json}
 use Rattle.tv_json.proofs.compact.+write_value.Given as goal

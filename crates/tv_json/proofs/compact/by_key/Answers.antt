@@ -1,8 +1,8 @@
 use Rattle.std.proofs.Common.{rules, suc, ◌+◌, ◌≡◌, ◌∷◌, ◌<◌, ap, sym, ◌∙◌, arith, string_bytes, subst}
 use Rattle.std.specs.List.{AllByRecursion}
 use Rattle.serde_json.specs.Data.{put}
-use Rattle.tv_value.specs.Size.{size, entries_size}
-use Rattle.tv_value.specs.Tree.{entries, entry}
+use Rattle.tv_format.specs.Size.{size, entries_size}
+use Rattle.tv_format.specs.Tree.{entries, entry}
 use Rattle.tv_json.specs.JsonOf.{json_of, entries_json}
 use Rattle.tv_json.specs.Rising.{pairs_json}
 use Rattle.tv_json.proofs.InOrder.{pairs_json-insert_entry, all-insert_entry}

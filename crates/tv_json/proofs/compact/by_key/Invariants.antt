@@ -1,8 +1,8 @@
 use Rattle.std.proofs.Common.{◌≡◌, ◌≤◌, ◌<◌}
 use Rattle.std.specs.List.{AllByRecursion}
 use Rattle.serde_json.specs.Data.{no_members}
-use Rattle.tv_value.specs.Size.{size, entries_size}
-use Rattle.tv_value.specs.Tree.{entries}
+use Rattle.tv_format.specs.Size.{size, entries_size}
+use Rattle.tv_format.specs.Tree.{entries}
 use Rattle.tv_json.specs.JsonOf.{entries_json}
 use Rattle.tv_json.specs.Rising.{pairs_json}
 use Rattle.tv_json.proofs.compact.by_key.Given as goal

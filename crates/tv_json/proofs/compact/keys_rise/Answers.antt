@@ -2,7 +2,7 @@ use Rattle.std.proofs.Common.{◌≡◌, ℕ, List, Less, sym, subst, ◌∙◌}
 use Rattle.std.specs.Cmp.Lexicographic.{slice_cmp}
 use Rattle.std.specs.Ordering.{nat_cmp}
 use Rattle.std.specs.Prelude.{Some}
-use Rattle.tv_value.specs.Tree.{entries}
+use Rattle.tv_format.specs.Tree.{entries}
 use Rattle.tv_json.specs.Rising.{Below, KeysRise, RiseFrom}
 use Rattle.tv_json.proofs.compact.keys_rise.Goals as goal
 

@@ -1,5 +1,5 @@
 use Rattle.tv_json.specs.Rising.{KeysRise, RiseFrom}
-use Rattle.tv_value.specs.Tree.{entries}
+use Rattle.tv_format.specs.Tree.{entries}
 use Rattle.tv_json.proofs.compact.keys_rise.Given as goal
 
 abbrev pub invariant-loop-key : goal.invariant-loop-key

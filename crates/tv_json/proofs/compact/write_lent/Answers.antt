@@ -1,6 +1,6 @@
 use Rattle.std.proofs.Common.{◌≡◌, ◌++◌, ap, ◌∙◌, rules}
 use Rattle.std.proofs.lemmas.Result.{on_ok_weaker}
-use Rattle.tv_value.specs.Tree.{object, entries}
+use Rattle.tv_format.specs.Tree.{object, entries}
 use Rattle.tv_json.specs.Rising.{KeysRise, entries_of, data_tokens}
 use Rattle.tv_json.proofs.InOrder.{object_in_order}
 use Rattle.tv_json.proofs.compact.write_lent.Goals as goal

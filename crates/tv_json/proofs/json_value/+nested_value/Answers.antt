@@ -2,8 +2,8 @@ use Rattle.std.proofs.Common.{◌≡◌, ◌+◌, ◌<◌, suc, ◌∷◌, [], s
 use Rattle.std.specs.Prelude.{Some, None}
 use Rattle.serde_json.specs.Data.{item, no_members}
 use Rattle.serde_json.specs.View.{view as data_of, members_view}
-use Rattle.tv_value.specs.Size.{size, elements_size, entries_size}
-use Rattle.tv_value.specs.Tree.{array, object, elements, entries}
+use Rattle.tv_format.specs.Size.{size, elements_size, entries_size}
+use Rattle.tv_format.specs.Tree.{array, object, elements, entries}
 use Rattle.tv_json.specs.JsonOf.{elements_json, entries_json}
 use Rattle.tv_json.proofs.ItemsBefore.{items_before, items_before-no_items, items_push}
 use Rattle.tv_json.proofs.WrittenParts.{member_put}

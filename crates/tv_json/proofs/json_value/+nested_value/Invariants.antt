@@ -1,8 +1,8 @@
 use Rattle.std.proofs.Common.{◌≡◌, ◌≤◌}
 use Rattle.serde_json.specs.Data.{no_members}
 use Rattle.serde_json.specs.View.{members_view}
-use Rattle.tv_value.specs.Size.{size, elements_size, entries_size}
-use Rattle.tv_value.specs.Tree.{elements, entries}
+use Rattle.tv_format.specs.Size.{size, elements_size, entries_size}
+use Rattle.tv_format.specs.Tree.{elements, entries}
 use Rattle.tv_json.specs.JsonOf.{elements_json, entries_json}
 use Rattle.tv_json.proofs.ItemsBefore.{items_before}
 use Rattle.tv_json.proofs.json_value.+nested_value.Given as goal

@@ -2,9 +2,9 @@ use Rattle.std.proofs.Common.{[], length, refl, sym, ap, ◌∙◌, arith}
 use Rattle.std.proofs.lemmas.List.{append-nil}
 use Rattle.tv_heap.specs.Room.{document_room}
 use Rattle.tv_legacy.specs.Legacy.{Legacy}
-use Rattle.tv_value.specs.Short.{short_document}
-use Rattle.tv_value.specs.Encoding.{Derives}
-use Rattle.tv_value.specs.Version.{V2}
+use Rattle.tv_format.specs.Short.{short_document}
+use Rattle.tv_format.specs.Encoding.{Derives}
+use Rattle.tv_format.specs.Version.{V2}
 use Rattle.tv_lines.proofs.ReadingBack.{only_short, above, full_answers_none, unwritten_is}
 use Rattle.tv_lines.proofs.read_back.read_back.Goals as goal
 

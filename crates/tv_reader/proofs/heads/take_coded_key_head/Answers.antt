@@ -1,5 +1,5 @@
 use Rattle.std.proofs.lemmas.Result.{err_from_is_err_and}
-use Rattle.tv_value.specs.InputError.{ErrorInCodedKey}
+use Rattle.tv_format.specs.InputError.{ErrorInCodedKey}
 use Rattle.tv_reader.specs.Heads.{CodedLength}
 use Rattle.tv_reader.proofs.AgreeKinds.{kind_agrees}
 use Rattle.tv_reader.proofs.BehindKinds.{code_key}

@@ -2,7 +2,7 @@ use Rattle.std.proofs.lemmas.Result.{err_from_is_err_and}
 use Rattle.tv_base.specs.Number.{VNum}
 use Rattle.tv_base.specs.ErrorInPart.{ErrorInNumber}
 use Rattle.tv_base.proofs.AgreeNumbers.{vint_agrees}
-use Rattle.tv_value.specs.InputError.{Corrupt, corrupt}
+use Rattle.tv_format.specs.InputError.{Corrupt, corrupt}
 use Rattle.tv_reader.proofs.Finding.{finds_as, finds_part, finds_part_fails}
 use Rattle.tv_reader.proofs.heads.take_document_head.Goals as goal
 

@@ -3,9 +3,9 @@ use Rattle.std.proofs.lemmas.Result.{err_from_is_err_and}
 use Rattle.tv_base.proofs.Written.{Writes_some, Written-step, Written-fails}
 use Rattle.tv_heap.specs.Encoded.{encoded_bytes}
 use Rattle.tv_heap.specs.Value.{tree_of}
-use Rattle.tv_value.specs.Short.{short_elements, short_entries}
-use Rattle.tv_value.specs.Tree.{elements, entries}
-use Rattle.tv_value.specs.WriteVersion.{written_version}
+use Rattle.tv_format.specs.Short.{short_elements, short_entries}
+use Rattle.tv_format.specs.Tree.{elements, entries}
+use Rattle.tv_format.specs.WriteVersion.{written_version}
 use Rattle.tv_writer.proofs.WriterSteps.{entries_parts}
 use Rattle.tv_store.proofs.WriterSteps.{others_fewer, entries_fewer, elements_next}
 use Rattle.tv_store.proofs.encoded_writer.+encoded.Goals as goal

@@ -1,9 +1,9 @@
 use Rattle.std.proofs.Common.{suc, ◌*◌, ◌≤◌, length}
 use Rattle.tv_base.proofs.Written.{Written}
 use Rattle.tv_heap.specs.Encoded.{encoded_bytes}
-use Rattle.tv_value.specs.Short.{short_elements, short_entries}
-use Rattle.tv_value.specs.Tree.{elements, entries}
-use Rattle.tv_value.specs.WriteVersion.{written_version}
+use Rattle.tv_format.specs.Short.{short_elements, short_entries}
+use Rattle.tv_format.specs.Tree.{elements, entries}
+use Rattle.tv_format.specs.WriteVersion.{written_version}
 use Rattle.tv_store.proofs.encoded_writer.+encoded.Given as goal
 
 -- twice the bytes that are to be written, and one more for the children of a list

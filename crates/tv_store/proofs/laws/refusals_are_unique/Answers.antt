@@ -1,6 +1,6 @@
 use Rattle.tv_legacy.specs.Legacy.{Legacy, ErrorInLegacy}
 use Rattle.tv_legacy.proofs.Unique.{one_legacy, legacy_excludes, single_legacy}
-use Rattle.tv_value.proofs.SingleTrees.{single_document}
+use Rattle.tv_format.proofs.SingleTrees.{single_document}
 use Rattle.tv_store.proofs.laws.refusals_are_unique.Goals as goal
 
 pub returns : goal.returns

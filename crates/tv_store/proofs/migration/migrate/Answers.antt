@@ -3,8 +3,8 @@ use Rattle.std.proofs.lemmas.Result.{err_from_is_err_and}
 use Rattle.tv_base.specs.Sink.{Begins}
 use Rattle.tv_doc.specs.Document.{document_of}
 use Rattle.tv_reader.specs.Version.{version_of}
-use Rattle.tv_value.specs.Short.{short_document}
-use Rattle.tv_value.specs.WriteVersion.{written_version}
+use Rattle.tv_format.specs.Short.{short_document}
+use Rattle.tv_format.specs.WriteVersion.{written_version}
 use Rattle.tv_store.specs.Migrate.{IsUnread}
 use Rattle.tv_store.proofs.Migrations.{unread_appends, unread_of, read_of}
 use Rattle.tv_store.proofs.migration.migrate.Goals as goal

@@ -1,6 +1,6 @@
 use Rattle.std.proofs.Common.{◌∙◌, ap, length, refl, sym, subst, arith, rules}
 use Rattle.tv_reader.specs.Version.{version_of}
-use Rattle.tv_value.specs.Short.{IsDocument}
+use Rattle.tv_format.specs.Short.{IsDocument}
 use Rattle.tv_store.proofs.Migrations.{only_memory}
 use Rattle.tv_store.proofs.migration_trip.migrated_bytes.Goals as goal
 

@@ -1,8 +1,8 @@
 use Rattle.std.proofs.Common.{[], Err, ◌∙◌, ap, sym, subst, append-nil, arith}
 use Rattle.std.proofs.lemmas.Result.{err_from_is_err_and}
 use Rattle.tv_reader.specs.Version.{version_of}
-use Rattle.tv_value.specs.Short.{short_document}
-use Rattle.tv_value.specs.Version.{IsWritten}
+use Rattle.tv_format.specs.Short.{short_document}
+use Rattle.tv_format.specs.Version.{IsWritten}
 use Rattle.tv_store.proofs.Migrations.{is_written, not_full}
 use Rattle.tv_store.proofs.migration_trip.migrations_are_read_back.Goals as goal
 

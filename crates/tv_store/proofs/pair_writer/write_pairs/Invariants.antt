@@ -2,8 +2,8 @@ use Rattle.std.specs.List.{flat_map}
 use Rattle.tv_base.proofs.Written.{Written}
 use Rattle.tv_doc.specs.Document.{document_of}
 use Rattle.tv_doc.specs.FieldValues.{pairs_left}
-use Rattle.tv_value.specs.Short.{short_pair}
-use Rattle.tv_value.specs.WriteVersion.{written_version}
+use Rattle.tv_format.specs.Short.{short_pair}
+use Rattle.tv_format.specs.WriteVersion.{written_version}
 use Rattle.tv_store.proofs.pair_writer.write_pairs.Given as goal
 
 abbrev pub invariant-loop-field : goal.invariant-loop-field

@@ -2,8 +2,8 @@ use Rattle.std.proofs.Common.{◌++◌, sym, ap, subst, ◌∙◌}
 use Rattle.tv_base.specs.Number.{four_bytes}
 use Rattle.tv_heap.specs.Encoded.{SaysTokenized}
 use Rattle.tv_heap.specs.Value.{tree_of}
-use Rattle.tv_value.specs.Short.{short}
-use Rattle.tv_value.specs.WriteVersion.{written_version}
+use Rattle.tv_format.specs.Short.{short}
+use Rattle.tv_format.specs.WriteVersion.{written_version}
 use Rattle.tv_writer.proofs.Coded.{Writes_as}
 use Rattle.tv_store.proofs.WriterSteps.{plainly_written, says_no_tokens}
 use Rattle.tv_store.proofs.pair_writer.write_stored_pair.Goals as goal

@@ -1,8 +1,8 @@
 use Rattle.std.proofs.Common.{length, refl, sym, ap, ◌∙◌, arith}
 use Rattle.tv_heap.specs.Room.{document_room}
 use Rattle.tv_legacy.specs.Legacy.{Legacy}
-use Rattle.tv_value.specs.Encoding.{Derives}
-use Rattle.tv_value.specs.Short.{short_document}
+use Rattle.tv_format.specs.Encoding.{Derives}
+use Rattle.tv_format.specs.Short.{short_document}
 use Rattle.tv_reader.specs.Version.{version_of}
 use Rattle.tv_store.proofs.RoundTrips.{only_short, above, full_answers_none, left_behind, err_is}
 use Rattle.tv_store.proofs.round_trip.read_back.Goals as goal

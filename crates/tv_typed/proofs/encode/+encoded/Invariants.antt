@@ -1,8 +1,8 @@
 use Rattle.std.proofs.Common.{◌≡◌, ◌++◌, drop, map}
 use Rattle.tv_value.specs.Owned.{owned_tree, owned_entries}
-use Rattle.tv_value.specs.Short.{short_elements, short_entries, AreElements, AreEntries}
-use Rattle.tv_value.specs.Tree.{elements, entries}
-use Rattle.tv_value.specs.Version.{V2}
+use Rattle.tv_format.specs.Short.{short_elements, short_entries, AreElements, AreEntries}
+use Rattle.tv_format.specs.Tree.{elements, entries}
+use Rattle.tv_format.specs.Version.{V2}
 use Rattle.tv_typed.proofs.encode.+encoded.Given as goal
 
 -- what is encoded, and what is left to be

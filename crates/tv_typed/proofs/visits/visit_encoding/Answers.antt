@@ -1,7 +1,7 @@
 use Rattle.std.proofs.Common.{ap, ◌∙◌, arith, length}
 use Rattle.tv_typed.specs.Visits.{EncodesNextVisited, NextVisitRefused}
 use Rattle.tv_typed.proofs.LegacySteps.{encoding_refused, few_taken}
-use Rattle.tv_value.specs.Version.{V2}
+use Rattle.tv_format.specs.Version.{V2}
 use Rattle.tv_typed.proofs.visits.visit_encoding.Goals as goal
 
 pub returns-in-Err : goal.returns-in-Err

@@ -3,8 +3,8 @@ use Rattle.std.proofs.lemmas.Grind.{common_steps}
 use Rattle.std.specs.Prelude.{Some, None}
 use Rattle.tv_value.specs.Lent.{nested_tree}
 use Rattle.tv_value.specs.Owned.{owned_tree, owned_entries}
-use Rattle.tv_value.specs.Size.{size, elements_size, entries_size}
-use Rattle.tv_value.specs.Tree.{Tree, array, object, elements, entries}
+use Rattle.tv_format.specs.Size.{size, elements_size, entries_size}
+use Rattle.tv_format.specs.Tree.{Tree, array, object, elements, entries}
 use Rattle.tv_value.specs.declared.owned_value.OwnedValue.{OwnedValue, the_lemmas}
 use Rattle.tv_value.specs.declared.owned_value.OwnedValue.TheVariants as owned
 use Rattle.tv_value.proofs.copy.+copies.Goals as goal

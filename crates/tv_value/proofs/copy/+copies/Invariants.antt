@@ -1,6 +1,6 @@
 use Rattle.std.proofs.Common.{◌≡◌, ◌≤◌, ◌++◌, map}
-use Rattle.tv_value.specs.Size.{size, elements_size, entries_size}
-use Rattle.tv_value.specs.Tree.{elements, entries}
+use Rattle.tv_format.specs.Size.{size, elements_size, entries_size}
+use Rattle.tv_format.specs.Tree.{elements, entries}
 use Rattle.tv_value.specs.Owned.{owned_tree, owned_entries}
 use Rattle.tv_value.specs.Lent.{nested_tree}
 use Rattle.tv_value.proofs.copy.+copies.Given as goal

@@ -1,8 +1,8 @@
 use Rattle.std.proofs.Common.{◌<◌, ◌∷◌, [], ◌++◌, length, arith, length-append}
-use Rattle.tv_value.specs.Encoding.{TokenEncoding}
+use Rattle.tv_format.specs.Encoding.{TokenEncoding}
 use Rattle.tv_value.specs.TokenRef.{ref_of}
 use Rattle.tv_value.proofs.InPlace.{if_none, token_missing}
-use Rattle.tv_value.proofs.Prefixes.{begins_item}
+use Rattle.tv_format.proofs.Prefixes.{begins_item}
 use Rattle.tv_value.proofs.in_place.behind_tokens.Goals as goal
 
 pub returns-in_err-_token-clause-none : goal.returns-in_err-_token-clause-none

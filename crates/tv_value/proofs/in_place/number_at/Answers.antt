@@ -1,7 +1,7 @@
 use Rattle.std.proofs.Common.{◌%◌, ◌<◌, List, ℕ, get_or, sym, ap, subst, arith}
 use Rattle.tv_base.specs.Number.{VNum}
 use Rattle.tv_base.specs.Parts.{Begins}
-use Rattle.tv_value.proofs.Prefixes.{begins_small}
+use Rattle.tv_format.proofs.Prefixes.{begins_small}
 use Rattle.tv_value.proofs.in_place.number_at.Goals as goal
 
 pub returns-then-first-ge128-clause-found : goal.returns-then-first-ge128-clause-found

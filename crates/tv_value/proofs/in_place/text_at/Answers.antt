@@ -1,8 +1,8 @@
 use Rattle.std.proofs.Common.{◌≡◌, true, false, take, drop, refl, subst, sym, ◌∙◌}
 use Rattle.std.specs.Str.{IsUtf8}
 use Rattle.tv_base.specs.Parts.{Begins, Text}
+use Rattle.tv_format.proofs.Prefixes.{sized_found, text_found}
 use Rattle.tv_value.proofs.InPlace.{if_none, text_none, text_ends, text_wrong}
-use Rattle.tv_value.proofs.Prefixes.{sized_found, text_found}
 use Rattle.tv_value.proofs.in_place.text_at.Goals as goal
 
 pub returns-in_err-len-clause-none : goal.returns-in_err-len-clause-none

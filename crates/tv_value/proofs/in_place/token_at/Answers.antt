@@ -3,7 +3,7 @@ use Rattle.tv_base.specs.Parts.{Text}
 use Rattle.tv_base.proofs.Numbers.{one_number}
 use Rattle.tv_base.proofs.Texts.{one_text}
 use Rattle.tv_value.proofs.InPlace.{if_none, first_none, second_none}
-use Rattle.tv_value.proofs.Prefixes.{begins_then}
+use Rattle.tv_format.proofs.Prefixes.{begins_then}
 use Rattle.tv_value.proofs.in_place.token_at.Goals as goal
 
 pub returns-in_err-offset_from-clause-none : goal.returns-in_err-offset_from-clause-none

@@ -1,6 +1,6 @@
 use Rattle.std.proofs.Math.Logic.{∥∥₁_elim}
 use Rattle.tv_value.specs.PreTokenized.{tokens_of}
-use Rattle.tv_value.specs.ShortLaws.{AreTokens-prop}
+use Rattle.tv_format.specs.ShortLaws.{AreTokens-prop}
 use Rattle.tv_value.proofs.laws.pre_tokenized_texts_encode.Goals as goal
 
 pub returns : goal.returns

@@ -4,8 +4,8 @@ use Rattle.std.specs.Str.{bytes_eq}
 use Rattle.std.specs.Prelude.{Some}
 use Rattle.tv_value.specs.Same.{elements_eq, entries_eq}
 use Rattle.tv_value.specs.Lent.{nested_tree}
-use Rattle.tv_value.specs.Size.{size, elements_size, entries_size}
-use Rattle.tv_value.specs.Tree.{elements, entries}
+use Rattle.tv_format.specs.Size.{size, elements_size, entries_size}
+use Rattle.tv_format.specs.Tree.{elements, entries}
 use Rattle.tv_value.proofs.SameChildren.{asked, items_differ, items_agree, keys_differ, members_differ, members_agree}
 use Rattle.tv_value.proofs.same.+same.Goals as goal
 use Rattle.tv_value.proofs.same.+same.Goals.{same_members-then-ne-via-then-ne, same_members-then-ne-via-else-ne+then-not-same_nested}

@@ -1,6 +1,6 @@
 use Rattle.std.proofs.Common.{◌≡◌, ◌≤◌}
-use Rattle.tv_value.specs.Size.{size, elements_size, entries_size}
-use Rattle.tv_value.specs.Tree.{elements, entries}
+use Rattle.tv_format.specs.Size.{size, elements_size, entries_size}
+use Rattle.tv_format.specs.Tree.{elements, entries}
 use Rattle.tv_value.specs.Same.{elements_eq, entries_eq}
 use Rattle.tv_value.specs.Lent.{nested_tree}
 use Rattle.tv_value.proofs.same.+same.Given as goal

@@ -1,5 +1,5 @@
+use Rattle.tv_format.specs.Size.{size}
 use Rattle.tv_value.specs.Lent.{nested_tree}
-use Rattle.tv_value.specs.Size.{size}
 use Rattle.tv_writer.proofs.Encoded.{ArrayEncoded, ObjectEncoded}
 use Rattle.tv_writer.proofs.encoding.+is_encoded.Given as goal
 

@@ -3,7 +3,7 @@ use Rattle.std.specs.List.{flat_map}
 use Rattle.std.proofs.lemmas.Result.{err_from_is_err_and}
 use Rattle.tv_base.proofs.Written.{Written-step, Written-fails}
 use Rattle.tv_value.specs.PreTokenized.{tokens_left}
-use Rattle.tv_value.specs.Short.{short_token}
+use Rattle.tv_format.specs.Short.{short_token}
 use Rattle.tv_value.specs.TokenRef.{ref_of}
 use Rattle.tv_writer.proofs.leaf_writer.write_tokens.Goals as goal
 

@@ -1,7 +1,7 @@
 use Rattle.std.specs.List.{flat_map}
 use Rattle.tv_base.proofs.Written.{Written}
+use Rattle.tv_format.specs.Short.{short_token}
 use Rattle.tv_value.specs.PreTokenized.{tokens_left}
-use Rattle.tv_value.specs.Short.{short_token}
 use Rattle.tv_writer.proofs.leaf_writer.write_tokens.Given as goal
 
 abbrev pub invariant-loop-token : goal.invariant-loop-token

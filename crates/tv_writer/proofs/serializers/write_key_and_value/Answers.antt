@@ -1,7 +1,7 @@
 use Rattle.std.proofs.lemmas.Result.{err_from_is_err_and}
 use Rattle.tv_base.proofs.Written.{Writes_then, Writes_prefix}
-use Rattle.tv_value.specs.Short.{short, short_key}
-use Rattle.tv_value.specs.WriteVersion.{written_version}
+use Rattle.tv_format.specs.Short.{short, short_key}
+use Rattle.tv_format.specs.WriteVersion.{written_version}
 use Rattle.tv_writer.proofs.serializers.write_key_and_value.Goals as goal
 
 pub returns-in_err-write_key : goal.returns-in_err-write_key

@@ -2,8 +2,8 @@ use Rattle.std.proofs.Common.{◌≡◌, ◌∙◌, refl, sym, ap, arith}
 use Rattle.std.proofs.lemmas.Result.{err_from_is_err_and}
 use Rattle.tv_base.proofs.Written.{Writes_some, Writes_both, Written-step, Written-fails, Written-start}
 use Rattle.tv_value.specs.Lent.{nested_tree}
-use Rattle.tv_value.specs.Tree.{array, object, elements, entries}
-use Rattle.tv_value.specs.WriteVersion.{written_version}
+use Rattle.tv_format.specs.Tree.{array, object, elements, entries}
+use Rattle.tv_format.specs.WriteVersion.{written_version}
 use Rattle.tv_writer.specs.Children.{child_count}
 use Rattle.tv_writer.proofs.WriterSteps.{array_parts, elements_parts, elements_valid, elements_at_most, object_parts, entries_parts, entries_valid, entries_at_most}
 use Rattle.tv_writer.proofs.value_writer.+values.Goals as goal

@@ -1,9 +1,9 @@
 use Rattle.std.proofs.Common.{◌≤◌}
 use Rattle.tv_base.proofs.Written.{Written}
-use Rattle.tv_value.specs.Short.{short_elements, short_entries, AreElements, AreEntries}
-use Rattle.tv_value.specs.Size.{size, elements_size, entries_size}
-use Rattle.tv_value.specs.Tree.{elements, entries}
-use Rattle.tv_value.specs.WriteVersion.{written_version}
+use Rattle.tv_format.specs.Short.{short_elements, short_entries, AreElements, AreEntries}
+use Rattle.tv_format.specs.Size.{size, elements_size, entries_size}
+use Rattle.tv_format.specs.Tree.{elements, entries}
+use Rattle.tv_format.specs.WriteVersion.{written_version}
 use Rattle.tv_writer.proofs.value_writer.+values.Given as goal
 
 abbrev pub decreases-write_tree : goal.decreases-write_tree

@@ -1,5 +1,5 @@
 use Rattle.std.proofs.Common.{◌≡◌, ◌+◌}
-use Rattle.tv_value.specs.Tree.{elements, element_count}
+use Rattle.tv_format.specs.Tree.{elements, element_count}
 use Rattle.tv_writer.proofs.value_writer.array_count.Given as goal
 
 -- those that were counted, and those that are left

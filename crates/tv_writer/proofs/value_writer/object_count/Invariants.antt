@@ -1,5 +1,5 @@
 use Rattle.std.proofs.Common.{◌≡◌, ◌+◌}
-use Rattle.tv_value.specs.Tree.{entries, entry_count}
+use Rattle.tv_format.specs.Tree.{entries, entry_count}
 use Rattle.tv_writer.proofs.value_writer.object_count.Given as goal
 
 -- those that were counted, and those that are left

@@ -2,8 +2,8 @@ use Rattle.std.proofs.Common.{◌≡◌, ◌∙◌, sym, ap}
 use Rattle.std.proofs.lemmas.Result.{err_from_is_err_and}
 use Rattle.tv_base.proofs.Written.{Writes_some}
 use Rattle.tv_value.specs.Lent.{nested_tree}
-use Rattle.tv_value.specs.Tree.{array, object, elements, entries}
-use Rattle.tv_value.specs.WriteVersion.{written_version}
+use Rattle.tv_format.specs.Tree.{array, object, elements, entries}
+use Rattle.tv_format.specs.WriteVersion.{written_version}
 use Rattle.tv_writer.specs.Children.{child_count}
 use Rattle.tv_writer.proofs.WriterSteps.{array_parts, object_parts}
 use Rattle.tv_writer.proofs.value_writer.write_value.Goals as goal

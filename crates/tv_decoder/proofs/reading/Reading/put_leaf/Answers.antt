@@ -4,7 +4,7 @@ use Rattle.tv_doc.specs.Builder.{state_of}
 use Rattle.tv_builder.specs.Parts.{value}
 use Rattle.tv_builder.proofs.CallsTrade.{values_trade}
 use Rattle.tv_value.specs.Lent.{leaf_of}
-use Rattle.tv_value.specs.Tree.{leaf}
+use Rattle.tv_format.specs.Tree.{leaf}
 use Rattle.tv_decoder.proofs.Calls.{call_opens, call_puts, call_left, call_refused, and_value_is}
 use Rattle.tv_decoder.proofs.Putting.{with_builder, and_value_stands}
 use Rattle.tv_decoder.proofs.States.{is_state}

@@ -5,7 +5,7 @@ use Rattle.tv_builder.specs.Parts.{field}
 use Rattle.tv_legacy.specs.Legacy.{Legacy}
 use Rattle.tv_reader.proofs.AgreeField.{field_agrees}
 use Rattle.tv_reader.proofs.Finding.{finds_as, finds_read, finds_read_fails}
-use Rattle.tv_value.specs.Encoding.{NoLegacy}
+use Rattle.tv_format.specs.Encoding.{NoLegacy}
 use Rattle.tv_decoder.specs.Prefix.{NoPrefix}
 use Rattle.tv_decoder.specs.Steps.{Stepped}
 use Rattle.tv_decoder.proofs.WithErrors.{field_at_error}

@@ -3,7 +3,7 @@ use Rattle.std.proofs.lemmas.Result.{err_from_is_err_and}
 use Rattle.tv_builder.specs.Parts.{number}
 use Rattle.tv_legacy.specs.Legacy.{Legacy}
 use Rattle.tv_reader.proofs.Finding.{finds_as, finds_fails}
-use Rattle.tv_value.specs.Encoding.{NoLegacy}
+use Rattle.tv_format.specs.Encoding.{NoLegacy}
 use Rattle.tv_decoder.specs.Prefix.{NoPrefix}
 use Rattle.tv_decoder.specs.Steps.{Stepped}
 use Rattle.tv_decoder.proofs.WithErrors.{number_at_error}

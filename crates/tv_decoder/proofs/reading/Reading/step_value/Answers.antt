@@ -10,7 +10,7 @@ use Rattle.tv_reader.specs.declared.value_type.ValueType.TheVariants.{PreTokStr,
 use Rattle.tv_reader.specs.EncodedTokens.{tokenized_tree}
 use Rattle.tv_value.specs.Owned.{owned_tree}
 use Rattle.tv_value.specs.PreTokenized.{tokenized_leaf}
-use Rattle.tv_value.specs.Tree.{leaf}
+use Rattle.tv_format.specs.Tree.{leaf}
 use Rattle.tv_decoder.specs.Prefix.{NoPrefix}
 use Rattle.tv_decoder.specs.Puts.{Puts, head_parts}
 use Rattle.tv_decoder.proofs.WithErrors.{value_at_error}

@@ -2,7 +2,7 @@ use Rattle.std.proofs.Common.{refl}
 use Rattle.tv_builder.specs.Moves.{LeafHeap, LeafFull, LeafFits}
 use Rattle.tv_builder.specs.State.{and_value}
 use Rattle.tv_value.specs.Lent.{leaf_of}
-use Rattle.tv_value.specs.Tree.{leaf}
+use Rattle.tv_format.specs.Tree.{leaf}
 use Rattle.tv_doc.proofs.TreeBuilding.{Settled, does_left, fields_left, builds_next}
 use Rattle.tv_doc.proofs.builder.TreeBuilder.leaf.Goals as goal
 

@@ -1,4 +1,4 @@
-use Rattle.tv_value.specs.WriteVersion.{written_version}
+use Rattle.tv_format.specs.WriteVersion.{written_version}
 use Rattle.tv_doc.proofs.EncodedPairs.{none_encoded, one_more, no_more}
 use Rattle.tv_doc.proofs.document.CompactDoc.add_encoded.Goals as goal
 

@@ -1,5 +1,5 @@
 use Rattle.std.proofs.Common.{◌≡◌, ◌∙◌, Ok, Err, length, arith}
-use Rattle.tv_value.specs.WriteVersion.{written_version}
+use Rattle.tv_format.specs.WriteVersion.{written_version}
 use Rattle.tv_doc.specs.Document.{heap_of}
 use Rattle.tv_doc.proofs.Documents.{unchanged, restored}
 use Rattle.tv_doc.proofs.Kept.{Keeping, cut_fields}

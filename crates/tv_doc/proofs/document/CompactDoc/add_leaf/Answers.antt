@@ -1,6 +1,6 @@
 use Rattle.std.proofs.Common.{◌≡◌, length, arith}
 use Rattle.tv_value.specs.Lent.{leaf_of}
-use Rattle.tv_value.specs.Tree.{leaf}
+use Rattle.tv_format.specs.Tree.{leaf}
 use Rattle.tv_doc.specs.Document.{heap_of}
 use Rattle.tv_doc.proofs.Kept.{room_fits, Writing, Keeping, kept_fields, kept_adds}
 use Rattle.tv_heap.proofs.Writes.{leaf_fits}

@@ -1,6 +1,6 @@
 use Rattle.std.proofs.Common.{◌≡◌, ◌↔◌, ◌∙◌, Bool, false, IsTrue, subst, ap, sym}
 use Rattle.std.proofs.lemmas.Bool.{false≢true}
-use Rattle.tv_value.specs.Tree.{Document}
+use Rattle.tv_format.specs.Tree.{Document}
 use Rattle.tv_doc.specs.Document.{document_of}
 use Rattle.tv_doc.specs.SameTexts.{HasAll, SameTexts, field_texts, texts_seen}
 use Rattle.tv_doc.proofs.FieldTexts.{same_texts, has_all, has_all_back, all_moved}

@@ -1,6 +1,6 @@
 use Rattle.std.specs.HashMap as hash
 use Rattle.tv_typed.specs.Lists.{GivesLast, MapOf, EncodesEntry, EntryRefused}
-use Rattle.tv_value.specs.Version.{entry_total}
+use Rattle.tv_format.specs.Version.{entry_total}
 use Rattle.tv_typed.specs.Values.{EncodedAs}
 use Rattle.tv_typed.proofs.ItemSteps.{object_then, collection_fails}
 use Rattle.std.proofs.lemmas.Result.{err_from_is_err_and}

@@ -7,7 +7,7 @@ use Rattle.tv_reader.specs.declared.error.DeserializeError.{DeserializeError}
 use Rattle.tv_reader.specs.declared.error.DeserializeError.TheVariants as errors
 use Rattle.tv_reader.specs.declared.value_type.ValueType.{ValueType}
 use Rattle.tv_reader.proofs.AgreeLeaves.{leaf_agrees}
-use Rattle.tv_value.specs.Tree.{leaf}
+use Rattle.tv_format.specs.Tree.{leaf}
 use Rattle.tv_typed.specs.Typed.{IsMismatch}
 use Rattle.tv_typed.proofs.TypedSteps.{leaf_reads, leaf_mismatch, raised_spares, mismatch_spares}
 use Rattle.tv_typed.proofs.DeserializeSteps.{leaf_deserializes, leaf_only}

@@ -1,5 +1,5 @@
 use Rattle.std.proofs.lemmas.Result.{err_from_is_err_and}
-use Rattle.tv_value.specs.Version.{entry_total}
+use Rattle.tv_format.specs.Version.{entry_total}
 use Rattle.tv_reader.specs.Version.{version_of}
 use Rattle.tv_reader.specs.declared.value_type.ValueType.TheVariants as types
 use Rattle.tv_typed.proofs.ListSteps.{length_mismatch, entries_read}

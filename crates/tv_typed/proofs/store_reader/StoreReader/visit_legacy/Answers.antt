@@ -3,7 +3,7 @@ use Rattle.std.proofs.lemmas.Result.{err_from_is_err_and}
 use Rattle.tv_typed.specs.LegacyObjects.{OfEncoding}
 use Rattle.tv_typed.specs.Visits.{EncodesNextVisited, NextVisitRefused}
 use Rattle.tv_typed.proofs.VisitSteps.{legacy_refused, legacy_visited, unmarked_still}
-use Rattle.tv_value.specs.Version.{V2}
+use Rattle.tv_format.specs.Version.{V2}
 use Rattle.tv_typed.proofs.store_reader.StoreReader.visit_legacy.Goals as goal
 
 pub returns-in_err-tree-clause-visits : goal.returns-in_err-tree-clause-visits

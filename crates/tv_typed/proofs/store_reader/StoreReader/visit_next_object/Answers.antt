@@ -1,6 +1,6 @@
 use Rattle.std.proofs.lemmas.Result.{err_from_is_err_and}
 use Rattle.tv_typed.proofs.VisitSteps.{next_visited, next_visit_fails}
-use Rattle.tv_value.specs.Version.{V2}
+use Rattle.tv_format.specs.Version.{V2}
 use Rattle.tv_typed.proofs.store_reader.StoreReader.visit_next_object.Goals as goal
 
 pub returns-in_err-kind : goal.returns-in_err-kind

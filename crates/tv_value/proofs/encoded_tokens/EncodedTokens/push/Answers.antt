@@ -1,5 +1,5 @@
 use Rattle.std.proofs.Common.{◌≡◌, ◌<◌, ◌^◌, ◌++◌, ◌∷◌, [], length, take, sym, ◌∙◌, ap, arith, rules}
-use Rattle.tv_value.specs.Short.{short_token}
+use Rattle.tv_format.specs.Short.{short_token}
 use Rattle.tv_value.specs.TokenRef.{ref_of}
 use Rattle.tv_value.proofs.GatheredTokens.{few_held, more_held, more_gathered, kept_held, kept_gathered, short_more, back}
 use Rattle.tv_value.proofs.encoded_tokens.EncodedTokens.push.Goals as goal

@@ -1,6 +1,6 @@
 use Rattle.std.proofs.Common.{ap, sym, ◌∙◌, map}
 use Rattle.tv_value.specs.JsonTree.{lent_json_tree, lent_json_entries}
-use Rattle.tv_value.specs.Tree.{array, object, elements, entries}
+use Rattle.tv_format.specs.Tree.{array, object, elements, entries}
 use Rattle.tv_value.proofs.LentJson.{lent_array, lent_object}
 use Rattle.tv_value.proofs.json.LentJsonValue.as_value.Goals as goal
 

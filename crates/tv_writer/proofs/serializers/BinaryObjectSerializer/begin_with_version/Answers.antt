@@ -1,8 +1,8 @@
 use Rattle.std.proofs.Common.{◌≡◌, subst, arith}
 use Rattle.std.proofs.lemmas.Result.{err_from_is_err_and}
 use Rattle.tv_base.specs.Number.{vnum}
-use Rattle.tv_value.specs.Version.{entry_total}
-use Rattle.tv_value.specs.WriteVersion.{written_version}
+use Rattle.tv_format.specs.Version.{entry_total}
+use Rattle.tv_format.specs.WriteVersion.{written_version}
 use Rattle.tv_writer.specs.Error.{write_error}
 use Rattle.tv_writer.specs.Serialized.{FailsToWrite}
 use Rattle.tv_writer.proofs.serializers.BinaryObjectSerializer.begin_with_version.Goals as goal

@@ -1,0 +1,11 @@
+pub mod Leaves
+pub mod Trees
+pub mod ExcludingLeaves
+pub mod ExcludingTrees
+pub mod SingleLeaves
+pub mod SingleTrees
+pub mod DecidingLeaves
+pub mod DecidingTrees
+pub mod ShortEncodings
+pub mod Prefixes
+pub mod Lists

@@ -1,0 +1,14 @@
+pub mod Tree
+pub mod Content
+pub mod Leaves
+pub mod LeavesLaws
+pub mod TreeCode
+pub mod Version
+pub mod Encoding
+pub mod Short
+pub mod InputError
+pub mod ErrorInList
+pub mod Size
+pub mod ShortLaws
+pub mod TokensLaws
+pub mod WriteVersion

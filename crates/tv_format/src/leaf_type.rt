@@ -1,0 +1,102 @@
+//! The types of values without children, and the forms of what they hold.
+
+ghost use Rattle.std.specs.Prelude.{◌≡◌, ◌≢◌, IfSome, IfNone};
+
+/// The forms of what values without children hold. Several types may have one. (Not in tantivy.)
+#[derive(Clone, Copy, Debug, PartialEq, Eq)]
+pub enum Form {
+    /// Nothing.
+    Nothing,
+    /// A truth value.
+    Truth,
+    /// A number from 0 to 2^64 - 1.
+    Unsigned,
+    /// A number from -2^63 to 2^63 - 1.
+    Signed,
+    /// A number from 0 to 2^128 - 1.
+    Wide,
+    /// A text.
+    Text,
+    /// Bytes.
+    Bytes,
+    /// A text and its tokens.
+    Tokens,
+}
+
+/// The types of values without children, each with the code that stands before its values in the store. (Not in tantivy.)
+#[derive(Clone, Copy, Debug, PartialEq, Eq)]
+pub enum LeafType {
+    /// A text.
+    Str = 0,
+    /// A number from 0 to 2^64 - 1.
+    U64 = 1,
+    /// A number from -2^63 to 2^63 - 1.
+    I64 = 2,
+    /// A facet.
+    Facet = 3,
+    /// Bytes.
+    Bytes = 4,
+    /// A date.
+    Date = 5,
+    /// A text and its tokens. Behind its code stands one of its own, 0.
+    PreTokStr = 7,
+    /// A truth value.
+    Bool = 9,
+    /// An IPv6 address.
+    IpAddr = 10,
+    /// No value.
+    Null = 11,
+}
+
+impl LeafType {
+    ghost use Rattle.tv_format.specs.Leaves.{form, store_code};
+    ghost use Rattle.tv_format.specs.declared.leaf_type.LeafType.{LeafType};
+
+    /// The form of what its values hold.
+    #[inline(always)]
+    pub fn form(self) -> Form
+        ensures { result ≡ form self }
+    {
+        match self {
+            LeafType::Null => Form::Nothing,
+            LeafType::Str => Form::Text,
+            LeafType::U64 => Form::Unsigned,
+            LeafType::I64 => Form::Signed,
+            LeafType::Date => Form::Signed,
+            LeafType::Facet => Form::Text,
+            LeafType::Bytes => Form::Bytes,
+            LeafType::IpAddr => Form::Wide,
+            LeafType::Bool => Form::Truth,
+            LeafType::PreTokStr => Form::Tokens,
+        }
+    }
+
+    /// The code that stands before its values in the store.
+    #[inline(always)]
+    pub fn store_code(self) -> u8
+        ensures { result ≡ store_code self }
+    {
+        self as u8
+    }
+
+    /// The type before whose values this code stands in the store; `None` where there is none.
+    #[inline(always)]
+    pub fn from_store_code(code: u8) -> Option<LeafType>
+        ensures some { IfSome result (λ t. store_code t ≡ code) }
+        ensures none { IfNone result ((t : LeafType) → store_code t ≢ code) }
+    {
+        match code {
+            0 => Some(LeafType::Str),
+            1 => Some(LeafType::U64),
+            2 => Some(LeafType::I64),
+            3 => Some(LeafType::Facet),
+            4 => Some(LeafType::Bytes),
+            5 => Some(LeafType::Date),
+            7 => Some(LeafType::PreTokStr),
+            9 => Some(LeafType::Bool),
+            10 => Some(LeafType::IpAddr),
+            11 => Some(LeafType::Null),
+            _ => None,
+        }
+    }
+}

@@ -1,8 +1,0 @@
--- The versions that are written, among all.
-use Rattle.tv_value.specs.Version.{Version, V2, V3}
-use Rattle.tv_value.specs.declared.version.WriteVersion.{WriteVersion}
-use Rattle.tv_value.specs.declared.version.WriteVersion.TheVariants as versions
-
-abbrev pub written_version : WriteVersion → Version
-written_version versions.V2 = V2
-written_version versions.V3 = V3
