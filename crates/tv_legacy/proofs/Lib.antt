@@ -8,3 +8,6 @@ pub mod Agrees
 pub mod Unique
 pub mod Deciding
 pub mod Steps
+pub mod EarlyParts
+pub mod EarlyObjects
+pub mod EarlyTrees

@@ -1,13 +1,14 @@
 //! Laws of legacy objects, and of the store format that has them, each the contract of a function that does nothing.
 
-ghost use Rattle.std.specs.Prelude.{◌≡◌, ◌⊎◌, ◌++◌, ℕ, List};
+ghost use Rattle.std.specs.Prelude.{◌≡◌, ◌≢◌, ◌⊎◌, [], ◌++◌, ℕ, List};
 ghost use Rattle.tv_base.specs.Parts.{OneReading};
 ghost use Rattle.tv_base.specs.Source.{AllBytes};
 ghost use Rattle.tv_base.specs.declared.cause.Cause.{Cause};
+ghost use Rattle.tv_base.specs.declared.cause.Cause.TheVariants.{UnexpectedEnd};
 ghost use Rattle.tv_legacy.specs.Legacy.{Legacy, ErrorInLegacy};
 ghost use Rattle.tv_legacy.specs.LegacyLaws.{BeginsLegacy, IsMalformed, BeginsValue};
 ghost use Rattle.tv_legacy.specs.LegacyLaws.{HasErrorInValue, DerivesDocument, HasErrorInDocument};
-ghost use Rattle.tv_format.specs.InputError.{Refusal, ErrorInValue, ErrorInDocument};
+ghost use Rattle.tv_format.specs.InputError.{Refusal, corrupted, ErrorInValue, ErrorInDocument};
 ghost use Rattle.tv_format.specs.Short.{short, short_document, IsValue, IsDocument};
 ghost use Rattle.tv_format.specs.Encoding.{Encodes, EncodesDocument, Derives};
 ghost use Rattle.tv_format.specs.Tree.{Tree, Entries, Document};
@@ -94,4 +95,17 @@ pub fn bytes_begin_a_value_or_are_malformed()
 pub fn bytes_derive_a_document_or_are_malformed()
     ensures { (v : Version) (bytes : List ℕ) → AllBytes bytes
         → DerivesDocument v bytes ⊎ HasErrorInDocument v bytes }
+{}
+
+/// Each strict prefix of a value's encoding has the error that it ends too early; by the laws above it has no other.
+pub fn strict_prefixes_of_values_end_early()
+    ensures { (v : Version) (prefix rest : List ℕ) (t : Tree) → Encodes Legacy v (prefix ++ rest) t
+        → rest ≢ [] → ErrorInValue Legacy ErrorInLegacy v prefix (corrupted UnexpectedEnd) }
+{}
+
+/// The same of documents.
+pub fn strict_prefixes_of_documents_end_early()
+    ensures { (v : Version) (prefix rest : List ℕ) (d : Document)
+        → EncodesDocument Legacy v (prefix ++ rest) d → rest ≢ []
+        → ErrorInDocument Legacy ErrorInLegacy v prefix (corrupted UnexpectedEnd) }
 {}
