@@ -10,10 +10,10 @@ use tv_borrowed::read::read_borrowed;
 use tv_builder::encoded::put_encoded;
 use tv_builder::json::put_json;
 use tv_builder::place::Place;
+use tv_format::version::WriteVersion;
 use tv_heap::len::leaf_len;
 use tv_heap::value_type::ValueType;
 use tv_value::value::Value;
-use tv_format::version::WriteVersion;
 
 // What stands at the places of lists that are open.
 const OPEN: &[u8] = b"\x09\x81";

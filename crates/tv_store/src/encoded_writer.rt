@@ -14,9 +14,9 @@ use crate::type_codes::{ARRAY_CODE, BOOL_CODE, EXT_CODE, NULL_CODE, TOK_STR_EXT_
 use std::io;
 use tv_base::ByteSink;
 use tv_base::write::write_all;
+use tv_format::version::WriteVersion;
 use tv_heap::encoded::Encoded;
 use tv_heap::value::{CompactDocArrayIter, CompactDocObjectIter};
-use tv_format::version::WriteVersion;
 use tv_writer::leaf_writer::{write_code, write_coded_bool, write_coded_count, write_coded_u64};
 use tv_writer::value_writer::{write_key, write_object_head};
 

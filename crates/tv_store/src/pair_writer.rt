@@ -22,12 +22,12 @@ use std::io;
 use tv_base::ByteSink;
 use tv_base::write::{write_all, write_u32, write_vint};
 use tv_doc::document::CompactDoc;
+use tv_format::version::WriteVersion;
 use tv_heap::encoded::Encoded;
 use tv_heap::value::CompactDocValue;
 use tv_value::field::Field;
 use tv_value::leaf::ReferenceValueLeaf;
 use tv_value::value::{ReferenceValue, Value};
-use tv_format::version::WriteVersion;
 use tv_writer::leaf_writer::{write_coded_text, write_leaf};
 
 // Writes a field and bytes behind their code.

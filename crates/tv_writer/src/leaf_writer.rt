@@ -19,10 +19,10 @@ use tv_base::ByteSink;
 use tv_base::write::{
     write_all, write_bool, write_sized, write_text, write_u8, write_u128, write_vint,
 };
+use tv_format::type_codes::TOK_STR_EXT_CODE;
 use tv_value::content::LeafContent;
 use tv_value::leaf::ReferenceValueLeaf;
 use tv_value::pre_tokenized::{PreTokenizedStr, TokenIter, TokenRef};
-use tv_format::type_codes::TOK_STR_EXT_CODE;
 
 /// Writes the code of a value.
 ///

@@ -17,8 +17,8 @@ use crate::value_writer::{write_key, write_value};
 use std::io;
 use tv_base::ByteSink;
 use tv_base::write::write_vint;
-use tv_value::value::Value;
 use tv_format::version::WriteVersion;
+use tv_value::value::Value;
 
 // A value, where it has an encoding.
 fn write_shortest<'a, K: ByteSink, V: Value<'a>>(

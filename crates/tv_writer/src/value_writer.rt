@@ -19,10 +19,10 @@ use std::convert::AsStr;
 use std::io;
 use tv_base::ByteSink;
 use tv_base::write::write_text;
-use tv_value::nested::{Lent, Nested, NestedValue, lend};
 use tv_format::type_codes::{ARRAY_CODE, OBJECT_CODE, TEXT_CODE};
-use tv_value::value::Value;
 use tv_format::version::WriteVersion;
+use tv_value::nested::{Lent, Nested, NestedValue, lend};
+use tv_value::value::Value;
 
 /// Writes a key of an object: its length and its text, in version 2 behind the code of a text. It takes no memory.
 ///
