@@ -15,8 +15,7 @@ ghost use Rattle.tv_typed.specs.Visits.{EncodesNextVisited, NextVisitRefused};
 
 use crate::array::BinaryArrayDeserializer;
 use crate::de::{BinaryValueDeserializer, ValueVisitor};
-use crate::encode::encoded;
-use crate::legacy_object::retold;
+use crate::legacy_object::{encoded, retold};
 use crate::object::BinaryObjectDeserializer;
 use crate::store_reader::StoreReader;
 use std::alloc::Global;
