@@ -1,5 +1,5 @@
 -- Readings of values that hold no others agree with their grammar.
-use Rattle.std.proofs.Common.{◌≡◌, ◌⊎◌, ℕ, Bool, true, false, List, [], ◌++◌, length, Option, Some, None, Result, Ok, Err, refl, sym, ap, subst, ◌∙◌, arith, append_assoc, inl, inr}
+use Rattle.std.proofs.Common.{◌≡◌, ◌⊎◌, ℕ, Bool, true, false, List, [], ◌++◌, length, Option, Some, None, Result, Ok, Err, refl, sym, ap, subst, ◌∙◌, arith, inl, inr}
 use Rattle.std.specs.Prelude.{ℤ, pos, negsuc, ◌*ℤ◌, ◌≤ℤ◌, ◌<ℤ◌, FitsSigned}
 use Rattle.std.specs.Int.{w64}
 use Rattle.std.specs.Int.Signed.{lt_z}
@@ -11,8 +11,7 @@ use Rattle.tv_base.specs.Source.{AllBytes}
 use Rattle.tv_base.specs.Stop.{◌>>=◌}
 use Rattle.tv_base.specs.Number.{VNum, Signed}
 use Rattle.tv_base.specs.Parts.{Text, Each, Then}
-use Rattle.tv_base.specs.Reading.{vint_at}
-use Rattle.tv_base.specs.ErrorInPart.{InThen, InEach, ErrorInNumber, ErrorInBytes, ErrorInText}
+use Rattle.tv_base.specs.ErrorInPart.{InThen, InEach, ErrorInNumber, ErrorInBytes}
 use Rattle.tv_base.proofs.Agrees.{Agrees, InTurn, agrees_too, in_turn, make, made, chosen, nothing_read, nothing_stands}
 use Rattle.tv_base.proofs.AgreeWidths.{bytes_error, u64_agrees, u128_agrees, i64_agrees}
 use Rattle.tv_base.proofs.AgreeNumbers.{vint_agrees}
