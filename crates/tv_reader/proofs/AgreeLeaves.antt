@@ -1,5 +1,5 @@
 -- Readings of values that hold no others agree with their grammar.
-use Rattle.std.proofs.Common.{◌≡◌, ◌⊎◌, ℕ, Bool, true, false, List, [], ◌++◌, length, Option, Some, None, Result, Ok, Err, refl, sym, ap, subst, ◌∙◌, arith, append_assoc, inl, inr}
+use Rattle.std.proofs.Common.{◌≡◌, ◌⊎◌, ℕ, Bool, true, false, List, [], ◌++◌, length, Option, Some, None, Result, Ok, Err, refl, sym, ap, subst, ◌∙◌, arith, inl, inr}
 use Rattle.std.specs.Prelude.{ℤ, pos, negsuc, ◌*ℤ◌, ◌≤ℤ◌, ◌<ℤ◌, FitsSigned}
 use Rattle.std.specs.Int.{w64}
 use Rattle.std.specs.Int.Signed.{lt_z}
@@ -11,8 +11,7 @@ use Rattle.tv_base.specs.Source.{AllBytes}
 use Rattle.tv_base.specs.Stop.{◌>>=◌}
 use Rattle.tv_base.specs.Number.{VNum, Signed}
 use Rattle.tv_base.specs.Parts.{Text, Each, Then}
-use Rattle.tv_base.specs.Reading.{vint_at}
-use Rattle.tv_base.specs.ErrorInPart.{InThen, InEach, ErrorInNumber, ErrorInBytes, ErrorInText}
+use Rattle.tv_base.specs.ErrorInPart.{InThen, InEach, ErrorInNumber, ErrorInBytes}
 use Rattle.tv_base.proofs.Agrees.{Agrees, InTurn, agrees_too, in_turn, make, made, chosen, nothing_read, nothing_stands}
 use Rattle.tv_base.proofs.AgreeWidths.{bytes_error, u64_agrees, u128_agrees, i64_agrees}
 use Rattle.tv_base.proofs.AgreeNumbers.{vint_agrees}
@@ -29,9 +28,10 @@ use Rattle.tv_format.specs.declared.leaf_type.Form.TheVariants as forms
 use Rattle.tv_format.specs.declared.leaf_type.LeafType.{LeafType}
 use Rattle.tv_format.specs.declared.leaf_type.LeafType.TheVariants as leaves
 use Rattle.tv_reader.specs.LeafBodies.{TokenizedPair, Held, ErrorInHeld, LeafOfType, ErrorInLeafOfType, LeafOf, ErrorInLeafOf}
-use Rattle.tv_reader.specs.Leaves.{micros_of, date_at, offsets_at, named_at, placed_at, token_at, tokens_at, counted_tokens_at, tokenized_at, leaf_holding, number_at, content_at, leaf_of_type, leaf_at}
+use Rattle.tv_reader.specs.Leaves.{micros_of, date_at, token_at, tokens_at, counted_tokens_at, tokenized_at, leaf_holding, number_at, content_at, leaf_of_type, leaf_at}
 use Rattle.tv_reader.specs.ValueType.{leaf_type}
 use Rattle.tv_reader.specs.declared.value_type.ValueType.{ValueType}
+use Rattle.tv_reader.proofs.TokenSteps.{token_with}
 
 -- ---- dates
 
@@ -127,127 +127,37 @@ date_agrees V1 = agrees_too (λ whole. refl) micros_to micros_from micros_errors
 date_agrees V2 = agrees_too (λ whole. same_read _) (λ whole z small h. h) (λ whole z h. h) (λ whole c small h. h) i64_agrees
 date_agrees V3 = agrees_too (λ whole. same_read _) (λ whole z small h. h) (λ whole z h. h) (λ whole c small h. h) i64_agrees
 
--- ---- tokens
+-- ---- texts with their tokens
 
-abbrev Offsets : List ℕ → ℕ × ℕ → Type 0
-Offsets = InTurn VNum (λ from whole pair. (to : ℕ) × VNum whole to × (pair ≡ (from, to)))
-
-abbrev Named : List ℕ → List ℕ × ℕ → Type 0
-Named = InTurn Text (λ content whole pair. (n : ℕ) × VNum whole n × (pair ≡ (content, n)))
-
-abbrev Placed : List ℕ → ℕ × (List ℕ × ℕ) → Type 0
-Placed = InTurn VNum (λ position whole x. (named : List ℕ × ℕ) × Named whole named × (x ≡ (position, named)))
-
-abbrev ErrorInOffsets : List ℕ → Cause → Type 0
-ErrorInOffsets = InThen ErrorInNumber VNum (λ _. ErrorInNumber)
-
-abbrev ErrorInPlaced : List ℕ → Cause → Type 0
-ErrorInPlaced = InThen ErrorInNumber VNum (λ _. InThen ErrorInText Text (λ _. ErrorInNumber))
-
-offsets_agree : Agrees UnexpectedEnd offsets_at Offsets ErrorInOffsets
-unfolding offsets_at
-offsets_agree = in_turn {b = λ from whole. vint_at whole >>= make (λ to. (from, to))} vint_agrees (λ from. made (λ to. (from, to)) vint_agrees)
-
-named_agree : Agrees UnexpectedEnd named_at Named (InThen ErrorInText Text (λ _. ErrorInNumber))
-unfolding named_at
-named_agree = in_turn {b = λ content whole. vint_at whole >>= make (λ n. (content, n))} text_agrees (λ content. made (λ n. (content, n)) vint_agrees)
-
-placed_agree : Agrees UnexpectedEnd placed_at Placed ErrorInPlaced
-unfolding placed_at
-placed_agree = in_turn {b = λ position whole. named_at whole >>= make (λ named. (position, named))} vint_agrees (λ position. made (λ named. (position, named)) named_agree)
-
-abbrev token_with : ℕ × ℕ → ℕ × (List ℕ × ℕ) → Token
-token_with offsets placed = record { offset_from = offsets.0; offset_to = offsets.1; position = placed.0; text = placed.1.0; position_length = placed.1.1 }
+-- the same first part, and another one behind it
+behind : {A B C : List ℕ → Type 0} {whole : List ℕ} (p : Then A B whole) → C p.rest → Then A C whole
+behind p s = record { prefix = p.prefix; rest = p.rest; joined = p.joined; first = p.first; second = s }
 
 abbrev TokenParts : List ℕ → Token → Type 0
-TokenParts = InTurn Offsets (λ offsets whole t. (placed : ℕ × (List ℕ × ℕ)) × Placed whole placed × (t ≡ token_with offsets placed))
+TokenParts =
+    InTurn VNum (λ from. InTurn VNum (λ to. InTurn VNum (λ position. InTurn Text (λ content whole t.
+    (positions : ℕ) × VNum whole positions × (t ≡ token_with from to position content positions)))))
 
 token_to : (whole : List ℕ) (t : Token) → AllBytes whole → TokenParts whole t → TokenEncoding whole t
 token_to whole t small p =
-    let o = p.1.first.1 in
-    let q = p.1.second in
-    let at = q.1.1 in
-    let named = at.second in
-    let word = named.1.1 in
-    let same : t ≡ token_with (p.1.first.0, o.second.0) (q.1.0, (named.1.0, word.second.0)) =
-    q.2 ∙ ap (λ x. token_with x q.0) o.second.2 ∙ ap (λ x. token_with (p.1.first.0, o.second.0) x) (named_is q.0 q.1.0 named.0 (named.1.0, word.second.0) named.2 word.second.2) in
-    subst (TokenEncoding whole) (sym same) (record {
-      prefix = o.prefix;
-      rest = o.rest ++ p.1.rest;
-      joined = p.1.joined ∙ ap (λ (l : List ℕ). l ++ p.1.rest) o.joined ∙ append_assoc o.prefix o.rest p.1.rest;
-      first = o.first;
-      second = record {
-        prefix = o.rest;
-        rest = p.1.rest;
-        joined = refl;
-        first = o.second.1;
-        second = record {
-          prefix = at.prefix;
-          rest = at.rest;
-          joined = at.joined;
-          first = at.first;
-          second = record { prefix = word.prefix; rest = word.rest; joined = word.joined; first = word.first; second = word.second.1 };
-        };
-      };
-    })
-  where
-    named_is : (x : ℕ × (List ℕ × ℕ)) (position : ℕ) (named pair : List ℕ × ℕ) → x ≡ (position, named) → named ≡ pair → x ≡ (position, pair)
-    named_is x position named pair p q = p ∙ ap (λ z. (position, z)) q
+    let from = p.1 in
+    let to = from.second.1 in
+    let position = to.second.1 in
+    let content = position.second.1 in
+    let positions = content.second in
+    subst (TokenEncoding whole) (sym positions.2) (behind from (behind to (behind position (behind content positions.1))))
 
 token_from : (whole : List ℕ) (t : Token) → TokenEncoding whole t → TokenParts whole t
-token_from whole t h =
-    let s = h.second in
-    let at = s.second in
-    let word = at.second in (
-      (t.offset_from, t.offset_to),
-      record {
-        prefix = h.prefix ++ s.prefix;
-        rest = s.rest;
-        joined = h.joined ∙ ap (λ (l : List ℕ). h.prefix ++ l) s.joined ∙ sym (append_assoc h.prefix s.prefix s.rest);
-        first = (t.offset_from, record { prefix = h.prefix; rest = s.prefix; joined = refl; first = h.first; second = (t.offset_to, s.first, refl) });
-        second = (
-          (t.position, (t.text, t.position_length)),
-          (
-            t.position,
-            record {
-              prefix = at.prefix;
-              rest = at.rest;
-              joined = at.joined;
-              first = at.first;
-              second = ((t.text, t.position_length), (t.text, record { prefix = word.prefix; rest = word.rest; joined = word.joined; first = word.first; second = (t.position_length, word.second, refl) }), refl);
-            },
-          ),
-          refl,
-        );
-      },
-    )
-
-token_errors : (whole : List ℕ) (c : Cause) → AllBytes whole → InThen ErrorInOffsets Offsets (λ _. ErrorInPlaced) whole c → ErrorInToken whole c
-token_errors whole c small p = elim p [
-  | inl q ↦ elim q [
-    | inl h ↦ inl h
-    | inr h ↦ inr (h.0, record { prefix = h.1.prefix; rest = h.1.rest; joined = h.1.joined; first = h.1.first; second = inl h.1.second })
-  ]
-  | inr q ↦
-      let o = q.1.first.1 in
-      inr (
-        q.1.first.0,
-        record {
-          prefix = o.prefix;
-          rest = o.rest ++ q.1.rest;
-          joined = q.1.joined ∙ ap (λ (l : List ℕ). l ++ q.1.rest) o.joined ∙ append_assoc o.prefix o.rest q.1.rest;
-          first = o.first;
-          second = inr (o.second.0, record { prefix = o.rest; rest = q.1.rest; joined = refl; first = o.second.1; second = q.1.second });
-        },
-      )
-]
+token_from whole t from =
+    let to = from.second in
+    let position = to.second in
+    let content = position.second in
+    (t.offset_from, behind from (t.offset_to, behind to (t.position, behind position (t.text, behind content (t.position_length, content.second, refl)))))
 
 token_agrees : Agrees UnexpectedEnd token_at TokenEncoding ErrorInToken
 unfolding token_at
-token_agrees = agrees_too (λ whole. refl) token_to token_from token_errors
-    (in_turn {b = λ offsets whole. placed_at whole >>= make (λ placed. token_with offsets placed)} offsets_agree (λ offsets. made (λ placed. token_with offsets placed) placed_agree))
-
--- ---- texts with their tokens
+token_agrees = agrees_too (λ whole. refl) token_to token_from (λ whole c small h. h)
+    (in_turn vint_agrees (λ from. in_turn vint_agrees (λ to. in_turn vint_agrees (λ position. in_turn text_agrees (λ content. made (token_with from to position content) vint_agrees)))))
 
 abbrev CountedTokens : List ℕ → List Token → Type 0
 CountedTokens = InTurn VNum (λ n whole ts. (length ts ≡ n) × Each TokenEncoding whole ts)
@@ -256,30 +166,17 @@ counted_agree : Agrees UnexpectedEnd counted_tokens_at CountedTokens (InThen Err
 unfolding counted_tokens_at
 counted_agree = in_turn {b = tokens_at} vint_agrees (each_agrees token_agrees)
 
-tokenized_to : (whole : List ℕ) (pair : List ℕ × List Token) → AllBytes whole → InTurn Text (λ content b x. (ts : List Token) × CountedTokens b ts × (x ≡ (content, ts))) whole pair → TokenizedPair whole pair
+abbrev TokenizedParts : List ℕ → List ℕ × List Token → Type 0
+TokenizedParts = InTurn Text (λ content b x. (ts : List Token) × CountedTokens b ts × (x ≡ (content, ts)))
+
+tokenized_to : (whole : List ℕ) (pair : List ℕ × List Token) → AllBytes whole → TokenizedParts whole pair → TokenizedPair whole pair
 tokenized_to whole pair small p =
     let q = p.1.second in
     let counted = q.1.1 in
-    subst (TokenizedPair whole) (sym q.2) (record {
-      prefix = p.1.prefix;
-      rest = p.1.rest;
-      joined = p.1.joined;
-      first = p.1.first;
-      second = record { prefix = counted.prefix; rest = counted.rest; joined = counted.joined; first = subst (VNum counted.prefix) (sym counted.second.0) counted.first; second = counted.second.1 };
-    })
+    subst (TokenizedPair whole) (sym q.2) (behind p.1 (record { prefix = counted.prefix; rest = counted.rest; joined = counted.joined; first = subst (VNum counted.prefix) (sym counted.second.0) counted.first; second = counted.second.1 }))
 
-tokenized_from : (whole : List ℕ) (pair : List ℕ × List Token) → TokenizedPair whole pair → InTurn Text (λ content b x. (ts : List Token) × CountedTokens b ts × (x ≡ (content, ts))) whole pair
-tokenized_from whole pair h =
-    let counted = h.second in (
-      pair.0,
-      record {
-        prefix = h.prefix;
-        rest = h.rest;
-        joined = h.joined;
-        first = h.first;
-        second = (pair.1, (length pair.1, record { prefix = counted.prefix; rest = counted.rest; joined = counted.joined; first = counted.first; second = (refl, counted.second) }), refl);
-      },
-    )
+tokenized_from : (whole : List ℕ) (pair : List ℕ × List Token) → TokenizedPair whole pair → TokenizedParts whole pair
+tokenized_from whole pair h = (pair.0, behind h (pair.1, (length pair.1, behind h.second (refl, h.second.second)), refl))
 
 pub tokenized_agrees : Agrees UnexpectedEnd tokenized_at TokenizedPair ErrorInTokenized
 unfolding tokenized_at

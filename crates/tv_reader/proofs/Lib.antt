@@ -6,3 +6,4 @@ pub mod BehindKinds
 pub mod TreeSteps
 pub mod AgreeField
 pub mod HeadSteps
+pub mod TokenSteps

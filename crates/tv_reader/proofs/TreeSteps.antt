@@ -155,26 +155,15 @@ entry_count_agrees V3 = agrees_too (λ whole. refl) (λ whole n small h. h) (λ 
 
 -- ---- leaves
 
--- whatever shows which leaf was taken
-pub seen_found : {S X : Type 0} {is_known : S → Type 0} {left : S → List ℕ} {failures : S → Failures} {old new : S} {i k : ℕ} {x : X} (view : X → Tree) (v : Version) (kind : ValueType)
-    → ((source : S) → is_known source → AllBytes (left source)) → reads.TakesBy is_known left failures old i new k view (Ok x) (leaf_at v kind)
-    → Finds is_known left failures old i new k (Ok x) (λ b y. Encodes Legacy v (coded kind ++ b) (view y)) (NoneBehind v kind)
-seen_found {x = x} view v kind are_bytes h = finds_as x _ _ (λ a p. leaf_encoded v kind a (view x) p) (finds_part are_bytes (leaf_agrees v kind) h)
-
-pub seen_fails : {S X : Type 0} {is_known : S → Type 0} {left : S → List ℕ} {failures : S → Failures} {old new : S} {i k : ℕ} {e : ReadError} (view : X → Tree) (v : Version) (kind : ValueType)
-    → ((source : S) → is_known source → AllBytes (left source)) → is_leaf_type kind ≡ true → reads.TakesBy is_known left failures old i new k view (Err e) (leaf_at v kind)
-    → Finds is_known left failures old i new k (Err (read_error e)) (λ b y. Encodes Legacy v (coded kind ++ b) (view y)) (NoneBehind v kind)
-seen_fails view v kind are_bytes is h = finds_part_fails _ _ are_bytes (leaf_agrees v kind) (leaf_refused v kind is) h
-
 pub leaf_found : {S : Type 0} {is_known : S → Type 0} {left : S → List ℕ} {failures : S → Failures} {old new : S} {i k : ℕ} {value : OwnedValue} (v : Version) (kind : ValueType)
     → ((source : S) → is_known source → AllBytes (left source)) → reads.TakesBy is_known left failures old i new k owned_tree (Ok value) (leaf_at v kind)
     → Finds is_known left failures old i new k (Ok value) (EncodesBehind v kind) (NoneBehind v kind)
-leaf_found v kind are_bytes h = seen_found owned_tree v kind are_bytes h
+leaf_found {value = value} v kind are_bytes h = finds_as value _ _ (λ a p. leaf_encoded v kind a (owned_tree value) p) (finds_part are_bytes (leaf_agrees v kind) h)
 
 pub leaf_fails : {S : Type 0} {is_known : S → Type 0} {left : S → List ℕ} {failures : S → Failures} {old new : S} {i k : ℕ} {e : ReadError} (v : Version) (kind : ValueType)
     → ((source : S) → is_known source → AllBytes (left source)) → is_leaf_type kind ≡ true → reads.TakesBy is_known left failures old i new k owned_tree (Err e) (leaf_at v kind)
     → Finds is_known left failures old i new k (Err (read_error e)) (EncodesBehind v kind) (NoneBehind v kind)
-leaf_fails v kind are_bytes is h = seen_fails owned_tree v kind are_bytes is h
+leaf_fails v kind are_bytes is h = finds_part_fails _ _ are_bytes (leaf_agrees v kind) (leaf_refused v kind is) h
 
 -- ---- legacy objects
 

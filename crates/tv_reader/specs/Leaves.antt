@@ -7,7 +7,7 @@ use Rattle.tv_base.specs.Reading.{u64_at, u128_at, i64_at, truth_at, vint_at, si
 use Rattle.tv_base.specs.Stop.{◌>>=◌}
 use Rattle.tv_format.specs.Content.{Content, no_content, truth_content, unsigned_content, signed_content, wide_content, text_content, bytes_content, tokens_content}
 use Rattle.tv_format.specs.Leaves.{leaf_with, form}
-use Rattle.tv_format.specs.Tree.{Token, Leaf, null, Tree, leaf}
+use Rattle.tv_format.specs.Tree.{Token, Leaf, null, Tree, leaf, array, object}
 use Rattle.tv_format.specs.Version.{Version, V1, V2, V3}
 use Rattle.tv_format.specs.declared.leaf_type.Form.{Form}
 use Rattle.tv_format.specs.declared.leaf_type.Form.TheVariants as forms
@@ -34,32 +34,15 @@ date_at v whole = do
 
 -- ---- texts with their tokens
 
--- where a token begins and ends
-unfoldable pub offsets_at : List ℕ → Result ((ℕ × ℕ) × List ℕ) (Cause × List ℕ)
-offsets_at whole = do
-  from ← vint_at whole
-  to ← vint_at from.1
-  Ok ((from.0, to.0), to.1)
-
--- its own text, and how many positions it takes
-unfoldable pub named_at : List ℕ → Result ((List ℕ × ℕ) × List ℕ) (Cause × List ℕ)
-named_at whole = do
-  content ← text_at whole
-  positions ← vint_at content.1
-  Ok ((content.0, positions.0), positions.1)
-
--- which one it is, and what follows that
-unfoldable pub placed_at : List ℕ → Result ((ℕ × (List ℕ × ℕ)) × List ℕ) (Cause × List ℕ)
-placed_at whole = do
-  position ← vint_at whole
-  named ← named_at position.1
-  Ok ((position.0, named.0), named.1)
-
+-- five parts, one after the other
 unfoldable pub token_at : List ℕ → Result (Token × List ℕ) (Cause × List ℕ)
 token_at whole = do
-  offsets ← offsets_at whole
-  placed ← placed_at offsets.1
-  Ok (record { offset_from = offsets.0.0; offset_to = offsets.0.1; position = placed.0.0; text = placed.0.1.0; position_length = placed.0.1.1 }, placed.1)
+  from ← vint_at whole
+  to ← vint_at from.1
+  position ← vint_at to.1
+  content ← text_at position.1
+  positions ← vint_at content.1
+  Ok (record { offset_from = from.0; offset_to = to.0; position = position.0; text = content.0; position_length = positions.0 }, positions.1)
 
 -- so many tokens
 abbrev pub tokens_at : ℕ → List ℕ → Result (List Token × List ℕ) (Cause × List ℕ)
@@ -82,6 +65,12 @@ tokenized_at whole = do
 -- whether values of a type hold no others, and are read
 abbrev pub is_leaf_type : ValueType → Bool
 is_leaf_type kind = is_some (leaf_type kind)
+
+-- a tree that holds no others
+abbrev pub IsSingle : Tree → Type 0
+IsSingle (leaf l) = Unit {0}
+IsSingle (array ts) = ⊥
+IsSingle (object es) = ⊥
 
 abbrev pub or_null : Option Leaf → Leaf
 or_null (Some l) = l

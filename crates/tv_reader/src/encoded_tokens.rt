@@ -4,10 +4,9 @@ ghost use Rattle.std.specs.Prelude.{◌≡◌, ◌-◌, ◌^◌, IsErrOf, string
 ghost use Rattle.tv_base.specs.Take.{TakesBy};
 ghost use Rattle.tv_base.specs.declared.cause.Cause.TheVariants.{TooLong};
 ghost use Rattle.tv_base.specs.declared.read_error.ReadError.TheVariants.{Corrupted};
-ghost use Rattle.tv_reader.specs.EncodedTokens.{tokenized_tree, EncodesTokenized};
+ghost use Rattle.tv_reader.specs.EncodedTokens.{EncodesTokenized};
 ghost use Rattle.tv_reader.specs.Finds.{Finds};
-ghost use Rattle.tv_reader.specs.Leaves.{leaf_at, named_at, placed_at, token_at, tokens_at};
-ghost use Rattle.tv_reader.specs.Leaves.{counted_tokens_at, tokenized_at};
+ghost use Rattle.tv_reader.specs.Leaves.{token_at, tokens_at, counted_tokens_at, tokenized_at};
 ghost use Rattle.tv_reader.specs.Trees.{NoneBehind};
 ghost use Rattle.tv_reader.specs.Version.{version_of};
 ghost use Rattle.tv_reader.specs.declared.error.DeserializeError.TheVariants.{CorruptedValue};
@@ -17,47 +16,12 @@ ghost use Rattle.tv_value.specs.EncodedTokens.{gathered};
 ghost use Rattle.tv_value.specs.TokenRef.{ref_of};
 
 use crate::error::DeserializeError;
-use crate::leaves::take_offsets;
 use crate::version::DocStoreVersion;
 use std::alloc::Global;
 use tv_base::take::{take_string, take_text, take_vint};
 use tv_base::{ByteSource, ReadError};
 use tv_value::encoded_tokens::EncodedTokens;
 use tv_value::pre_tokenized::TokenRef;
-
-// A token's own text, in the place of what `text` holds, and how many positions it takes.
-#[tactic(auto, using(tv_base::proofs::TakeSteps::Taken_then), unfolding(crate::specs::Leaves::named_at))]
-fn take_named_into<S: ByteSource>(
-    alloc: Global,
-    source: &mut S,
-    count: &mut u64,
-    text: &mut String,
-) -> Result<u64, ReadError>
-    ensures takes { TakesBy S.is_known S.left S.failures source.old count.old source.new count.new
-        (λ positions. (string_bytes text.new, positions)) result named_at }
-    ensures too_long { IsErrOf result (Corrupted TooLong) → count.new ≡ 2 ^ 64 - 1 }
-{
-    take_text(alloc, source, count, text)?;
-    let position_length = take_vint(source, count)?;
-    Ok(position_length)
-}
-
-// Which token it is, and what follows that.
-#[tactic(auto, using(tv_base::proofs::TakeSteps::Taken_then), unfolding(crate::specs::Leaves::placed_at))]
-fn take_placed_into<S: ByteSource>(
-    alloc: Global,
-    source: &mut S,
-    count: &mut u64,
-    text: &mut String,
-) -> Result<(u64, u64), ReadError>
-    ensures takes { TakesBy S.is_known S.left S.failures source.old count.old source.new count.new
-        (λ x. (x.0, (string_bytes text.new, x.1))) result placed_at }
-    ensures too_long { IsErrOf result (Corrupted TooLong) → count.new ≡ 2 ^ 64 - 1 }
-{
-    let position = take_vint(source, count)?;
-    let position_length = take_named_into(alloc, source, count, text)?;
-    Ok((position, position_length))
-}
 
 // A token, whose text is put in the place of what `text` holds, and lent from there.
 #[tactic(auto, using(tv_base::proofs::TakeSteps::Taken_then), unfolding(crate::specs::Leaves::token_at))]
@@ -71,8 +35,11 @@ fn take_lent_token<'t, S: ByteSource>(
         (λ token. ref_of token) result token_at }
     ensures too_long { IsErrOf result (Corrupted TooLong) → count.new ≡ 2 ^ 64 - 1 }
 {
-    let (offset_from, offset_to) = take_offsets(source, count)?;
-    let (position, position_length) = take_placed_into(alloc, source, count, text)?;
+    let offset_from = take_vint(source, count)?;
+    let offset_to = take_vint(source, count)?;
+    let position = take_vint(source, count)?;
+    take_text(alloc, source, count, text)?;
+    let position_length = take_vint(source, count)?;
     Ok(TokenRef {
         offset_from: offset_from as usize,
         offset_to: offset_to as usize,
@@ -133,23 +100,6 @@ fn gather_tokenized<S: ByteSource>(
     Ok((text, tokens))
 }
 
-// The same, as the leaf that it is.
-#[tactic(auto, using(tv_base::proofs::TakeSteps::Taken_then), unfolding(crate::specs::Leaves::leaf_at))]
-fn gather_leaf<S: ByteSource>(
-    alloc: Global,
-    source: &mut S,
-    count: &mut u64,
-    version: DocStoreVersion,
-) -> Result<(String, EncodedTokens), ReadError>
-    ensures takes { TakesBy S.is_known S.left S.failures source.old count.old source.new count.new
-        tokenized_tree result (leaf_at (version_of version) types.PreTokStr) }
-    ensures too_long { IsErrOf result (Corrupted TooLong) → count.new ≡ 2 ^ 64 - 1 }
-{
-    let _ = version;
-    let (text, tokens) = gather_tokenized(alloc, source, count)?;
-    Ok((text, tokens))
-}
-
 /// Takes a text and its tokens behind their codes. The tokens are gathered in their shortest encoding, so that no more memory is taken
 /// than for the bytes that are read. Nothing is reserved from the number of the tokens. (Not in tantivy.)
 ///
@@ -166,6 +116,7 @@ pub fn take_gathered<S: ByteSource>(
     ensures too_long { IsErrOf result (CorruptedValue TooLong) → count.new ≡ 2 ^ 64 - 1 }
     ensures roomy { ¬ IsErrOf result HeapFull }
 {
-    let tokenized = gather_leaf(alloc, source, count, version)?;
+    let _ = version;
+    let tokenized = gather_tokenized(alloc, source, count)?;
     Ok(tokenized)
 }

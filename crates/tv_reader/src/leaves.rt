@@ -7,8 +7,8 @@ ghost use Rattle.tv_base.specs.Reading.{u128_at};
 ghost use Rattle.tv_base.specs.Take.{TakesBy};
 ghost use Rattle.tv_base.specs.declared.cause.Cause.TheVariants.{TooLong};
 ghost use Rattle.tv_base.specs.declared.read_error.ReadError.TheVariants.{Corrupted, Memory};
-ghost use Rattle.tv_reader.specs.Leaves.{date_at, offsets_at, named_at, placed_at, token_at};
-ghost use Rattle.tv_reader.specs.Leaves.{tokens_at, counted_tokens_at, tokenized_at};
+ghost use Rattle.tv_reader.specs.Leaves.{date_at, token_at, tokens_at, counted_tokens_at};
+ghost use Rattle.tv_reader.specs.Leaves.{tokenized_at};
 ghost use Rattle.tv_reader.specs.Version.{version_of};
 ghost use Rattle.tv_value.specs.HeldTokens.{token_of};
 
@@ -80,54 +80,7 @@ pub fn take_ip_address<S: ByteSource>(
     Ok(address_of(bits))
 }
 
-// Where a token begins and ends, and which one it is.
-#[tactic(auto, using(tv_base::proofs::TakeSteps::Taken_then), unfolding(crate::specs::Leaves::offsets_at))]
-pub(crate) fn take_offsets<S: ByteSource>(
-    source: &mut S,
-    count: &mut u64,
-) -> Result<(u64, u64), ReadError>
-    ensures takes { TakesBy S.is_known S.left S.failures source.old count.old source.new count.new
-        (λ x. x) result offsets_at }
-    ensures too_long { IsErrOf result (Corrupted TooLong) → count.new ≡ 2 ^ 64 - 1 }
-    ensures spares { ¬ IsErrOf result Memory }
-{
-    let offset_from = take_vint(source, count)?;
-    let offset_to = take_vint(source, count)?;
-    Ok((offset_from, offset_to))
-}
-
-// Its own text, and how many positions it takes.
-#[tactic(auto, using(tv_base::proofs::TakeSteps::Taken_then), unfolding(crate::specs::Leaves::named_at))]
-fn take_named<S: ByteSource>(
-    alloc: Global,
-    source: &mut S,
-    count: &mut u64,
-) -> Result<(String, u64), ReadError>
-    ensures takes { TakesBy S.is_known S.left S.failures source.old count.old source.new count.new
-        (λ x. (string_bytes x.0, x.1)) result named_at }
-    ensures too_long { IsErrOf result (Corrupted TooLong) → count.new ≡ 2 ^ 64 - 1 }
-{
-    let text = take_string(alloc, source, count)?;
-    let position_length = take_vint(source, count)?;
-    Ok((text, position_length))
-}
-
-// Which token it is, and what follows that.
-#[tactic(auto, using(tv_base::proofs::TakeSteps::Taken_then), unfolding(crate::specs::Leaves::placed_at))]
-fn take_placed<S: ByteSource>(
-    alloc: Global,
-    source: &mut S,
-    count: &mut u64,
-) -> Result<(u64, String, u64), ReadError>
-    ensures takes { TakesBy S.is_known S.left S.failures source.old count.old source.new count.new
-        (λ x. (x.0, (string_bytes x.1, x.2))) result placed_at }
-    ensures too_long { IsErrOf result (Corrupted TooLong) → count.new ≡ 2 ^ 64 - 1 }
-{
-    let position = take_vint(source, count)?;
-    let (text, position_length) = take_named(alloc, source, count)?;
-    Ok((position, text, position_length))
-}
-
+// A token: five parts, one after the other.
 #[tactic(auto, using(tv_base::proofs::TakeSteps::Taken_then), unfolding(crate::specs::Leaves::token_at))]
 fn take_token<S: ByteSource>(
     alloc: Global,
@@ -138,8 +91,11 @@ fn take_token<S: ByteSource>(
         (λ t. token_of t) result token_at }
     ensures too_long { IsErrOf result (Corrupted TooLong) → count.new ≡ 2 ^ 64 - 1 }
 {
-    let (offset_from, offset_to) = take_offsets(source, count)?;
-    let (position, text, position_length) = take_placed(alloc, source, count)?;
+    let offset_from = take_vint(source, count)?;
+    let offset_to = take_vint(source, count)?;
+    let position = take_vint(source, count)?;
+    let text = take_string(alloc, source, count)?;
+    let position_length = take_vint(source, count)?;
     Ok(Token {
         offset_from: offset_from as usize,
         offset_to: offset_to as usize,

@@ -1,11 +1,11 @@
 //! The types of values in the store, and what is done by type.
 
-ghost use Rattle.std.specs.Prelude.{◌≡◌, ◌≤◌, ◌+◌, ◌-◌, ◌^◌, IsTrue, IsErrOf};
+ghost use Rattle.std.specs.Prelude.{◌≡◌, ◌≤◌, ◌+◌, ◌-◌, ◌^◌, IsTrue, IsErrOf, IfOk};
 ghost use Rattle.tv_base.specs.Take.{TakesBy};
 ghost use Rattle.tv_base.specs.declared.cause.Cause.TheVariants.{TooLong};
 ghost use Rattle.tv_base.specs.declared.read_error.ReadError.TheVariants.{Corrupted, Memory};
 ghost use Rattle.tv_reader.specs.HeadReading.{head_part, head_at};
-ghost use Rattle.tv_reader.specs.Leaves.{leaf_at, is_leaf_type};
+ghost use Rattle.tv_reader.specs.Leaves.{leaf_at, is_leaf_type, IsSingle};
 ghost use Rattle.tv_reader.specs.ValueType.{of_leaf, leaf_type, type_with};
 ghost use Rattle.tv_reader.specs.Version.{version_of};
 ghost use Rattle.tv_value.specs.Owned.{owned_tree};
@@ -151,11 +151,11 @@ pub(crate) fn take_head_behind<S: ByteSource>(
     }
 }
 
-// Takes a value of a type whose values hold no others, behind its code.
-//
-// Errors: those of the parts that it has.
+/// Takes a value of a type whose values hold no others, behind its codes. (Not in tantivy.)
+///
+/// Errors: those of the parts that it has, and `Memory`.
 #[tactic(auto, using(tv_base::proofs::TakeSteps::Taken_then), unfolding(crate::specs::Leaves::leaf_at))]
-pub(crate) fn take_leaf<S: ByteSource>(
+pub fn take_leaf<S: ByteSource>(
     alloc: Global,
     source: &mut S,
     count: &mut u64,
@@ -165,6 +165,7 @@ pub(crate) fn take_leaf<S: ByteSource>(
     requires { IsTrue (is_leaf_type kind) }
     ensures takes { TakesBy S.is_known S.left S.failures source.old count.old source.new count.new
         owned_tree result (leaf_at (version_of version) kind) }
+    ensures single { IfOk result (λ value. IsSingle (owned_tree value)) }
     ensures too_long { IsErrOf result (Corrupted TooLong) → count.new ≡ 2 ^ 64 - 1 }
 {
     match kind {

@@ -33,7 +33,7 @@ use Rattle.tv_reader.specs.declared.value_type.ValueType.TheVariants as types
 use Rattle.tv_reader.specs.declared.version.DocStoreVersion.{DocStoreVersion}
 use Rattle.tv_reader.specs.declared.version.DocStoreVersion.TheVariants as stores
 use Rattle.tv_reader.proofs.Finding.{stop_map}
-use Rattle.tv_typed.specs.LegacyObjects.{Retold, as_it_is, past_the_end, EncodingRefused, ToldOf, OfEncoding, LegacyRefused, MembersRefused, in_other, in_legacy_object}
+use Rattle.tv_typed.specs.LegacyObjects.{Retold, as_it_is, past_the_end, EncodingRefused, ToldOf, OfEncoding, LegacyRefused, MembersRefused, in_legacy_object}
 use Rattle.tv_typed.specs.Typed.{typed_stop, Reads, Deserializes}
 use Rattle.tv_typed.specs.Values.{EncodesAs, EncodedAs, TreeRefused, NextRefused}
 use Rattle.tv_typed.specs.declared.store_reader.StoreReader.{StoreReader}
@@ -214,7 +214,3 @@ pub legacy_among : {S X : Type 0} {is_known : S → Type 0} {left : S → List �
     → Deserializes is_known left failures old new result (EncodedAs is v types.JSONObject) (LegacyRefused refused v) → Deserializes is_known left failures old new result (EncodedAs is v kind) (MembersRefused refused v kind)
 legacy_among {is_known = is_known} {left = left} {failures = failures} {old = old} {new = new} {result = result} is refused v kind same p =
     goes_more (MembersRefused refused v kind) (λ w c f. in_legacy_object same f) (subst (λ k. Deserializes is_known left failures old new result (EncodedAs is v k) (LegacyRefused refused v)) (sym same) p)
-
-pub other_among : {S X : Type 0} {is_known : S → Type 0} {left : S → List ℕ} {failures : S → Failures} {old new : StoreReader S} {result : Result X DeserializeError} (is : Tree → X → Type 0) (refused : Version → ValueType → List ℕ → DeserializeError → Type 0) (v : Version) (kind : ValueType) → kind ≢ types.JSONObject
-    → Deserializes is_known left failures old new result (EncodedAs is v kind) (refused v kind) → Deserializes is_known left failures old new result (EncodedAs is v kind) (MembersRefused refused v kind)
-other_among is refused v kind other p = goes_more (MembersRefused refused v kind) (λ w c f. in_other other f) p

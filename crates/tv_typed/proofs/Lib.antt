@@ -5,5 +5,4 @@ pub mod ListSteps
 pub mod ItemSteps
 pub mod DocumentSteps
 pub mod VisitSteps
-pub mod EncodeSteps
 pub mod LegacySteps

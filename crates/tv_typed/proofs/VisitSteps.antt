@@ -1,35 +1,39 @@
 -- Values that are handed to visitors.
 use Rattle.std.proofs.Common.{◌≡◌, ℕ, Bool, true, false, List, ◌++◌, Result, Ok, Err, refl, sym, ap, subst, ◌∙◌, inl, inr}
-use Rattle.std.specs.Prelude.{is_err, IsErrOf, OnOk}
-use Rattle.tv_base.specs.Source.{Failures}
-use Rattle.tv_base.specs.Stop.{CountsStop, Counts}
+use Rattle.std.specs.Prelude.{is_err, OnOk}
+use Rattle.tv_base.specs.Source.{AllBytes, Failures}
+use Rattle.tv_base.specs.declared.cause.Cause.{Cause}
+use Rattle.tv_base.specs.declared.read_error.ReadError.{ReadError}
+use Rattle.tv_base.specs.Stop.{CountsStop, Counts, Takes}
+use Rattle.tv_base.specs.Take.{TakesBy, read_stop}
 use Rattle.tv_base.proofs.EarlyNumbers.{number_early}
 use Rattle.tv_format.specs.Encoding.{Encodes, NoLegacy}
 use Rattle.tv_value.specs.Owned.{owned_tree}
 use Rattle.tv_format.specs.Short.{short}
-use Rattle.tv_format.specs.Tree.{Leaf, Tree}
+use Rattle.tv_format.specs.Tree.{Leaf, Tree, leaf, array, object}
 use Rattle.tv_format.specs.Version.{Version, V2, entry_total}
 use Rattle.tv_value.specs.declared.owned_value.OwnedValue.{OwnedValue}
+use Rattle.tv_reader.specs.Leaves.{is_leaf_type, IsSingle, leaf_at}
 use Rattle.tv_reader.specs.Trees.{EncodesBehind}
 use Rattle.tv_reader.specs.ValueType.{coded, IsCoded, no_code, no_extension_code}
 use Rattle.tv_reader.specs.Version.{version_of}
 use Rattle.tv_reader.specs.declared.error.DeserializeError.{DeserializeError}
-use Rattle.tv_reader.specs.declared.error.DeserializeError.TheVariants as errors
 use Rattle.tv_reader.specs.declared.value_type.ValueType.{ValueType}
 use Rattle.tv_reader.specs.declared.value_type.ValueType.TheVariants as types
 use Rattle.tv_reader.specs.declared.version.DocStoreVersion.TheVariants as stores
+use Rattle.tv_reader.proofs.AgreeLeaves.{leaf_agrees}
 use Rattle.tv_reader.proofs.BehindKinds.{kind_edge}
 use Rattle.tv_typed.specs.Excluding.{malformed_behind}
 use Rattle.tv_typed.specs.LegacyObjects.{OfEncoding}
-use Rattle.tv_typed.specs.Typed.{typed_stop, Reads, Deserializes}
+use Rattle.tv_typed.specs.Typed.{typed_stop, Reads, Deserializes, raised}
 use Rattle.tv_typed.specs.Values.{CodeRefused, in_code, IsLeaf, EncodesLeaf, LeafRefused, other_type, in_body, TreeRefused}
 use Rattle.tv_typed.specs.Lists.{Length, LengthRefused, in_length}
-use Rattle.tv_typed.specs.Visits.{Answered, Visits, EncodesVisited, VisitRefused, Handed, VisitsItems, EncodesNextVisited, NextVisitRefused, GivesEntries, TellsNoFailure, VisitsLegacy}
+use Rattle.tv_typed.specs.Visits.{single_leaf, Answered, Visits, EncodesVisited, VisitRefused, Handed, VisitsItems, EncodesNextVisited, NextVisitRefused, GivesEntries, TellsNoFailure, VisitsLegacy}
 use Rattle.tv_typed.specs.declared.store_reader.StoreReader.{StoreReader}
-use Rattle.tv_typed.proofs.DeserializeSteps.{end, deserializes, goes_then, goes_fails, goes_marked, only_by, leaf_deserializes}
+use Rattle.tv_typed.proofs.DeserializeSteps.{end, deserializes, goes_then, goes_fails, goes_told, only_by, leaf_deserializes}
 use Rattle.tv_typed.proofs.LegacySteps.{counts_here}
 use Rattle.tv_typed.proofs.ListSteps.{at_version}
-use Rattle.tv_reader.specs.Finds.{GivesStop}
+use Rattle.tv_typed.proofs.TypedSteps.{leaf_reads}
 
 -- ---- leaves
 
@@ -37,7 +41,8 @@ any_excluded : (v : Version) (kind : ValueType) (prefix rest : List ℕ) (e : De
 any_excluded v kind prefix rest e t (other_type other) p = absurd (other refl)
 any_excluded v kind prefix rest e t (in_body {c} same f) p = malformed_behind v kind prefix rest _ t f p
 
-visits : {S X : Type 0} {is_known : S → Type 0} {left : S → List ℕ} {failures : S → Failures} (old new : StoreReader S) (kind : ValueType) (answers : Leaf → Result X DeserializeError → Type 0) (result : Result X DeserializeError) (read : Result Leaf DeserializeError)
+-- what was read, and the answer to it
+pub visits : {S X : Type 0} {is_known : S → Type 0} {left : S → List ℕ} {failures : S → Failures} (old new : StoreReader S) (kind : ValueType) (answers : Leaf → Result X DeserializeError → Type 0) (result : Result X DeserializeError) (read : Result Leaf DeserializeError)
     → Reads is_known left failures old (record new { has_failed = is_err read }) read (EncodesLeaf (version_of old.version) kind (λ l. l)) (LeafRefused kind (version_of old.version) kind) → Answered answers read result → Visits is_known left failures old new kind answers result
 visits old new kind answers result read h a =
     let v = version_of old.version in
@@ -53,50 +58,36 @@ pub unmarked_still : {X : Type 0} (result : Result X DeserializeError) (b : Bool
 unmarked_still (Ok x) b e = e
 unmarked_still (Err e) b h = tt
 
-not_ok : {X : Type 0} (x : X) → IsErrOf {T = X} (Ok x) errors.AlreadyFailed → ⊥
-not_ok x e = absurd cc
+single_is : (t : Tree) → IsSingle t → t ≡ leaf (single_leaf t)
+single_is (leaf l) h = refl
+single_is (array ts) h = absurd h
+single_is (object es) h = absurd h
 
-err_for : {A B : Type 0} (e d : DeserializeError) → IsErrOf {T = A} (Err e) d → IsErrOf {T = B} (Err e) d
-err_for e d is = let same : e ≡ d = cc in ap (λ (z : DeserializeError). Err z) same
+-- the value that was taken is a leaf, or none was taken
+pub leaf_taken : {P : Type 0} {is_known : P → Type 0} {left : P → List ℕ} {count : P → ℕ} {failures : P → Failures} {old new : P} {value : OwnedValue} {reading : List ℕ → Result (Tree × List ℕ) (Cause × List ℕ)}
+    → IsSingle (owned_tree value) → Takes read_stop is_known left count failures old new owned_tree (Ok value) reading → Takes read_stop is_known left count failures old new leaf (Ok (single_leaf (owned_tree value))) reading
+leaf_taken {left = left} {new = new} {value = value} single h = record {
+  gives = λ told. h.gives told ∙ ap (λ t. Ok (t, left new)) (single_is (owned_tree value) single);
+  taken = h.taken;
+  stays_known = h.stays_known;
+  counts = h.counts;
+  rises = h.rises;
+}
 
--- a leaf was read, and this is the answer to it
-pub leaf_answered : {S A X : Type 0} {is_known : S → Type 0} {left : S → List ℕ} {failures : S → Failures} (old new : StoreReader S) (kind expected : ValueType) (make : A → Leaf) (a : A) (l : Leaf) (answers : Leaf → Result X DeserializeError → Type 0) (result : Result X DeserializeError)
-    → kind ≡ expected → Reads is_known left failures old new (Ok a) (EncodesLeaf (version_of old.version) kind make) (LeafRefused expected (version_of old.version) kind) → ((b : List ℕ) → EncodesLeaf (version_of old.version) kind make b a → EncodesLeaf (version_of old.version) kind (λ z. z) b l) → answers l result → Visits is_known left failures old new kind answers result
-leaf_answered old new kind expected make a l answers result is h same answered =
-    visits old new kind answers result (Ok l)
-    (record {
-      closed = λ failed. absurd (not_ok a (h.closed failed).0);
-      finds = λ is_open. let f = h.finds is_open in record {
-        found = λ t. let b = f.found t in record { prefix = b.prefix; joined = b.joined; encoded = same b.prefix b.encoded };
-        taken = f.taken;
-        stays_known = f.stays_known;
-        counts = f.counts;
-        rises = f.rises;
-      };
-      marks = refl;
-      same_version = h.same_version;
-    })
-    answered
+pub none_taken : {P : Type 0} {is_known : P → Type 0} {left : P → List ℕ} {count : P → ℕ} {failures : P → Failures} {old new : P} {e : ReadError} {reading : List ℕ → Result (Tree × List ℕ) (Cause × List ℕ)}
+    → Takes {X = OwnedValue} read_stop is_known left count failures old new owned_tree (Err e) reading → Takes read_stop is_known left count failures old new leaf (Err e) reading
+none_taken h = record { gives = h.gives; taken = h.taken; stays_known = h.stays_known; counts = h.counts; rises = h.rises }
 
--- none was read
-pub leaf_refused : {S A X : Type 0} {is_known : S → Type 0} {left : S → List ℕ} {failures : S → Failures} (old new : StoreReader S) (kind expected : ValueType) (make : A → Leaf) (answers : Leaf → Result X DeserializeError → Type 0) (e : DeserializeError)
-    → kind ≡ expected → Reads {X = A} is_known left failures old new (Err e) (EncodesLeaf (version_of old.version) kind make) (LeafRefused expected (version_of old.version) kind) → Visits {X = X} is_known left failures old new kind answers (Err e)
-leaf_refused {left = left} old new kind expected make answers e is h =
+-- a leaf was taken, and this is the answer to it
+pub leaf_visits : {S X : Type 0} {is_known : S → Type 0} {left : S → List ℕ} {failures : S → Failures} (old new : StoreReader S) (kind : ValueType) (answers : Leaf → Result X DeserializeError → Type 0) (result : Result X DeserializeError) (answer : Result Leaf ReadError)
+    → ((source : S) → is_known source → AllBytes (left source)) → is_leaf_type kind ≡ true → old.has_failed ≡ false → TakesBy is_known left failures old.source old.count new.source new.count leaf answer (leaf_at (version_of old.version) kind)
+    → new.version ≡ old.version → Answered answers (raised answer) result → Visits is_known left failures old new kind answers result
+leaf_visits old new kind answers result answer are_bytes is_leaf is_open part version answered =
     let v = version_of old.version in
-    visits old new kind answers (Err e) (Err e)
-    (record {
-      closed = λ failed. let c = h.closed failed in (err_for e errors.AlreadyFailed c.0, c.1, c.2);
-      finds = λ is_open. let f = h.finds is_open in record {
-        found = λ t. subst (λ z. GivesStop end (LeafRefused z v kind) (left old.source) (left new.source) new.count (typed_stop e)) (sym is) (f.found t);
-        taken = f.taken;
-        stays_known = f.stays_known;
-        counts = f.counts;
-        rises = f.rises;
-      };
-      marks = refl;
-      same_version = h.same_version;
-    })
-    refl
+    let read = raised answer in
+    visits old new kind answers result read
+    (leaf_reads old old (record new { has_failed = is_err read }) read v kind kind (λ l. l) are_bytes (leaf_agrees v kind) (λ a x p. p) (λ w c f. f) is_leaf refl is_open refl refl refl part refl refl version refl refl)
+    answered
 
 -- ---- arrays and objects
 
@@ -113,19 +104,20 @@ items_visited {old = old} {mid = mid} {n = n} Made Refused h handed =
     record { behind_number = mid; announced = Ok n; reads = h; handed = at_version (λ v. Made v n) (λ v. Refused v n) old.version h.same_version handed }
 
 -- what the visitor refused was marked
-pub visits_marked : {S X : Type 0} {is_known : S → Type 0} {left : S → List ℕ} {failures : S → Failures} {old new : StoreReader S} {kind : ValueType} {answers : Leaf → Result X DeserializeError → Type 0} {result : Result X DeserializeError}
-    → Visits is_known left failures old new kind answers result → Visits is_known left failures old (record new { has_failed = true }) kind answers result
-visits_marked h = record { read = h.read; reads = h.reads; only = h.only; answered = h.answered }
+pub visits_marked : {S X : Type 0} {is_known : S → Type 0} {left : S → List ℕ} {failures : S → Failures} {old new : StoreReader S} {kind : ValueType} {answers : Leaf → Result X DeserializeError → Type 0} {result : Result X DeserializeError} (has_failed : Bool)
+    → Visits is_known left failures old new kind answers result → Visits is_known left failures old (record new { has_failed = has_failed }) kind answers result
+visits_marked has_failed h = record { read = h.read; reads = h.reads; only = h.only; answered = h.answered }
 
-handed_marked : {S X : Type 0} (is_known : S → Type 0) (left : S → List ℕ) (failures : S → Failures) (mid new : StoreReader S) (Made : ℕ → List ℕ → X → Type 0) (Refused : ℕ → List ℕ → DeserializeError → Type 0) (announced : Result ℕ DeserializeError) (e : DeserializeError)
-    → mid.has_failed ≡ is_err announced → Handed is_known left failures mid new Made Refused announced (Err e) → Handed is_known left failures mid (record new { has_failed = true }) Made Refused announced (Err e)
-handed_marked is_known left failures mid new Made Refused (Ok n) e marks h = goes_marked true tt h
-handed_marked {S} is_known left failures mid new Made Refused (Err d) e marks h = (h.0, ap (λ (r : StoreReader S). record r { has_failed = true }) h.1 ∙ ap (λ b. record mid { has_failed = b }) (sym marks))
+handed_marked : {S X : Type 0} (is_known : S → Type 0) (left : S → List ℕ) (failures : S → Failures) (mid new : StoreReader S) (Made : ℕ → List ℕ → X → Type 0) (Refused : ℕ → List ℕ → DeserializeError → Type 0) (announced : Result ℕ DeserializeError) (result : Result X DeserializeError) (has_failed : Bool)
+    → has_failed ≡ is_err result → mid.has_failed ≡ is_err announced → Handed is_known left failures mid new Made Refused announced result → Handed is_known left failures mid (record new { has_failed = has_failed }) Made Refused announced result
+handed_marked is_known left failures mid new Made Refused (Ok n) result has_failed told marks h = goes_told has_failed told h
+handed_marked {S} is_known left failures mid new Made Refused (Err d) result has_failed told marks h =
+    (h.0, ap (λ (r : StoreReader S). record r { has_failed = has_failed }) h.1 ∙ ap (λ b. record mid { has_failed = b }) (told ∙ ap is_err h.0 ∙ sym marks))
 
-pub items_marked : {S X : Type 0} {is_known : S → Type 0} {left : S → List ℕ} {failures : S → Failures} {old new : StoreReader S} {collection : ValueType} {total : ℕ → ℕ} {Made : ℕ → List ℕ → X → Type 0} {Refused : ℕ → List ℕ → DeserializeError → Type 0} {kind : ValueType} {e : DeserializeError}
-    → VisitsItems is_known left failures old new collection total Made Refused kind (Err e) → VisitsItems is_known left failures old (record new { has_failed = true }) collection total Made Refused kind (Err e)
-items_marked {is_known = is_known} {left = left} {failures = failures} {new = new} {Made = Made} {Refused = Refused} {e = e} h =
-    record { behind_number = h.behind_number; announced = h.announced; reads = h.reads; handed = handed_marked is_known left failures h.behind_number new Made Refused h.announced e h.reads.marks h.handed }
+pub items_marked : {S X : Type 0} {is_known : S → Type 0} {left : S → List ℕ} {failures : S → Failures} {old new : StoreReader S} {collection : ValueType} {total : ℕ → ℕ} {Made : ℕ → List ℕ → X → Type 0} {Refused : ℕ → List ℕ → DeserializeError → Type 0} {kind : ValueType} {result : Result X DeserializeError} (has_failed : Bool) → has_failed ≡ is_err result
+    → VisitsItems is_known left failures old new collection total Made Refused kind result → VisitsItems is_known left failures old (record new { has_failed = has_failed }) collection total Made Refused kind result
+items_marked {is_known = is_known} {left = left} {failures = failures} {new = new} {Made = Made} {Refused = Refused} {result = result} has_failed told h =
+    record { behind_number = h.behind_number; announced = h.announced; reads = h.reads; handed = handed_marked is_known left failures h.behind_number new Made Refused h.announced result has_failed told h.reads.marks h.handed }
 
 -- the number, and what was made of the values, as one
 handed_deserialize : {S X : Type 0} (is_known : S → Type 0) (left : S → List ℕ) (failures : S → Failures) (old mid new : StoreReader S) (collection : ValueType) (total : ℕ → ℕ) (Made : ℕ → List ℕ → X → Type 0) (Refused : ℕ → List ℕ → DeserializeError → Type 0) (kind : ValueType) (announced : Result ℕ DeserializeError) (result : Result X DeserializeError)
@@ -164,9 +156,9 @@ pub next_visit_fails : {S X : Type 0} {is_known : S → Type 0} {left : S → Li
 next_visit_fails Made Refused p = goes_fails (EncodesNextVisited Made) (NextVisitRefused Refused) (λ w c f. inl f) (deserializes IsCoded (λ b k c. c) p)
 
 -- what the visitor refused was marked
-pub legacy_marked : {S X : Type 0} {is_known : S → Type 0} {left : S → List ℕ} {failures : S → Failures} {old new : StoreReader S} {Made : ℕ → List ℕ → X → Type 0} {Refused : ℕ → List ℕ → DeserializeError → Type 0} {result : Result X DeserializeError}
-    → VisitsLegacy is_known left failures old new Made Refused result → VisitsLegacy is_known left failures old (record new { has_failed = true }) Made Refused result
-legacy_marked h = record { behind_object = h.behind_object; read = h.read; reads = h.reads; gives = h.gives; same_source = h.same_source; same_count = h.same_count; same_version = h.same_version }
+pub legacy_marked : {S X : Type 0} {is_known : S → Type 0} {left : S → List ℕ} {failures : S → Failures} {old new : StoreReader S} {Made : ℕ → List ℕ → X → Type 0} {Refused : ℕ → List ℕ → DeserializeError → Type 0} {result : Result X DeserializeError} (has_failed : Bool)
+    → VisitsLegacy is_known left failures old new Made Refused result → VisitsLegacy is_known left failures old (record new { has_failed = has_failed }) Made Refused result
+legacy_marked has_failed h = record { behind_object = h.behind_object; read = h.read; reads = h.reads; gives = h.gives; same_source = h.same_source; same_count = h.same_count; same_version = h.same_version }
 
 -- the object was refused
 pub legacy_refused : {S X : Type 0} {is_known : S → Type 0} {left : S → List ℕ} {failures : S → Failures} {old new : StoreReader S} {Made : ℕ → List ℕ → X → Type 0} {Refused : ℕ → List ℕ → DeserializeError → Type 0} (e : DeserializeError)

@@ -1,5 +1,5 @@
 -- Which values are read of which bytes, by the trees that these encode.
-use Rattle.std.specs.Prelude.{◌≡◌, ◌≢◌, ◌+◌, ◌-◌, ◌^◌, ◌<◌, ℕ, false, List, ◌++◌, length, Result, Ok, Err}
+use Rattle.std.specs.Prelude.{◌≡◌, ◌≢◌, ◌+◌, ◌-◌, ◌^◌, ◌<◌, ℕ, false, List, ◌++◌, length, Option, Some, None, Result, Ok, Err}
 use Rattle.tv_base.specs.declared.cause.Cause.{Cause}
 use Rattle.tv_base.specs.ErrorInPart.{InThen}
 use Rattle.tv_base.specs.Stop.{Stop}
@@ -11,7 +11,10 @@ use Rattle.tv_format.specs.Encoding.{Encodes, NoLegacy}
 use Rattle.tv_format.specs.Tree.{Leaf, Tree, leaf}
 use Rattle.tv_format.specs.Version.{Version}
 use Rattle.tv_value.specs.declared.owned_value.OwnedValue.{OwnedValue}
+use Rattle.tv_format.specs.Leaves.{form}
+use Rattle.tv_format.specs.declared.leaf_type.LeafType.{LeafType}
 use Rattle.tv_reader.specs.Error.{IsRefusal}
+use Rattle.tv_reader.specs.Heads.{HasWidth}
 use Rattle.tv_reader.specs.Trees.{NoneBehind}
 use Rattle.tv_reader.specs.ValueType.{coded, IsCoded, ErrorInCode}
 use Rattle.tv_reader.specs.declared.error.DeserializeError.{DeserializeError}
@@ -29,6 +32,11 @@ EncodesAs is v b x = (t : Tree) × Encodes Legacy v b t × is t x
 -- the same behind the code of a type
 abbrev pub EncodedAs : {X : Type 0} → (Tree → X → Type 0) → Version → ValueType → List ℕ → X → Type 0
 EncodedAs is v kind b x = EncodesAs is v (coded kind ++ b) x
+
+-- leaves of this type have a known width
+abbrev pub IsFixed : Option LeafType → Type 0
+IsFixed (Some t) = HasWidth (form t)
+IsFixed None = ⊥
 
 -- of a leaf, what it holds
 abbrev pub IsLeaf : {X : Type 0} → (X → Leaf) → Tree → X → Type 0

@@ -12,7 +12,7 @@ use Rattle.tv_reader.specs.declared.value_type.ValueType.{ValueType}
 use Rattle.tv_reader.specs.declared.value_type.ValueType.TheVariants as types
 use Rattle.tv_value.specs.Owned.{owned_tree}
 use Rattle.tv_format.specs.Short.{short}
-use Rattle.tv_format.specs.Tree.{Leaf}
+use Rattle.tv_format.specs.Tree.{Leaf, null, Tree, leaf, array, object}
 use Rattle.tv_format.specs.Version.{V2, entry_total}
 use Rattle.tv_value.specs.declared.owned_value.OwnedValue.{OwnedValue}
 use Rattle.tv_typed.specs.LegacyObjects.{OfEncoding}
@@ -22,6 +22,12 @@ use Rattle.tv_typed.specs.Values.{CodeRefused, IsLeaf, EncodesLeaf, LeafRefused,
 use Rattle.tv_typed.specs.declared.store_reader.StoreReader.{StoreReader}
 
 -- ---- leaves
+
+-- the leaf that a tree is, if it is one
+abbrev pub single_leaf : Tree → Leaf
+single_leaf (leaf l) = l
+single_leaf (array ts) = null
+single_leaf (object es) = null
 
 -- no failed read is told
 abbrev pub TellsNoFailure : {X : Type 0} → Result X DeserializeError → Type 0

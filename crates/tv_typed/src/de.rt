@@ -3,12 +3,11 @@
 #![tactic(auto, using(tv_base::proofs::TakeSteps::Taken_then), unfolding(tv_reader::specs::Leaves::leaf_at))]
 
 ghost use Rattle.std.specs.Prelude.{◌≡◌, Ok, Err, IfOk, IfErr, string_bytes, map, true, List, []};
-ghost use Rattle.std.specs.Prelude.{ℕ, OnOk, OnErr, IsErrOf, refl, false, Result};
+ghost use Rattle.std.specs.Prelude.{ℕ, OnErr, IsErrOf, refl, false, Result};
 ghost use Rattle.std.specs.Borrow.{sem, RestsIfErr};
 ghost use Rattle.std.specs.Net.Addr.{ipv6_bits};
-ghost use Rattle.tv_base.specs.Stop.{Counts};
 ghost use Rattle.tv_reader.specs.ValueType.{coded, IsCoded};
-ghost use Rattle.tv_typed.specs.Typed.{typed_stop, Reads, Deserializes};
+ghost use Rattle.tv_typed.specs.Typed.{Reads, Deserializes};
 ghost use Rattle.tv_typed.specs.Values.{CodeRefused, IsLeaf, IsTree, EncodesLeaf, LeafRefused};
 ghost use Rattle.tv_typed.specs.Values.{TreeRefused, Only, EncodesAs, EncodedAs, NextRefused};
 ghost use Rattle.tv_typed.specs.Values.{RefusalsExclude};
@@ -24,7 +23,7 @@ ghost use Rattle.tv_typed.specs.Lists.{EncodesEntry, EntryRefused};
 ghost use Rattle.tv_reader.specs.declared.error.DeserializeError.{DeserializeError};
 ghost use Rattle.tv_reader.specs.declared.error.DeserializeError.TheVariants as errors;
 ghost use Rattle.tv_format.specs.Version.{Version};
-ghost use Rattle.tv_typed.specs.Visits.{Visits, TellsNoFailure};
+ghost use Rattle.tv_typed.specs.Visits.{TellsNoFailure};
 
 use crate::array::BinaryArrayDeserializer;
 use crate::object::BinaryObjectDeserializer;
@@ -104,7 +103,7 @@ impl<'de, S: ByteSource> BinaryValueDeserializer<'de, S> {
         ensures spares { ¬ IsErrOf result errors.Memory }
     {
         let BinaryValueDeserializer { kind, reader } = self;
-        reader.leaf::<()>((), kind)
+        reader.leaf::<()>((), kind, ValueType::Null)
     }
 
     /// Reads a number from 0 to 2^64 - 1.
@@ -120,7 +119,7 @@ impl<'de, S: ByteSource> BinaryValueDeserializer<'de, S> {
         ensures spares { ¬ IsErrOf result errors.Memory }
     {
         let BinaryValueDeserializer { kind, reader } = self;
-        reader.leaf::<u64>((), kind)
+        reader.leaf::<u64>((), kind, ValueType::U64)
     }
 
     /// Reads a number from -2^63 to 2^63 - 1.
@@ -135,7 +134,7 @@ impl<'de, S: ByteSource> BinaryValueDeserializer<'de, S> {
         ensures spares { ¬ IsErrOf result errors.Memory }
     {
         let BinaryValueDeserializer { kind, reader } = self;
-        reader.leaf::<i64>((), kind)
+        reader.leaf::<i64>((), kind, ValueType::I64)
     }
 
     /// Reads a truth value.
@@ -151,7 +150,7 @@ impl<'de, S: ByteSource> BinaryValueDeserializer<'de, S> {
         ensures spares { ¬ IsErrOf result errors.Memory }
     {
         let BinaryValueDeserializer { kind, reader } = self;
-        reader.leaf::<bool>((), kind)
+        reader.leaf::<bool>((), kind, ValueType::Bool)
     }
 
     /// Reads a text.
@@ -166,7 +165,7 @@ impl<'de, S: ByteSource> BinaryValueDeserializer<'de, S> {
             (coded self.entry.kind) }
     {
         let BinaryValueDeserializer { kind, reader } = self;
-        reader.leaf::<String>(alloc, kind)
+        reader.leaf::<String>(alloc, kind, ValueType::String)
     }
 
     /// Reads a facet.
@@ -180,7 +179,7 @@ impl<'de, S: ByteSource> BinaryValueDeserializer<'de, S> {
             (coded self.entry.kind) }
     {
         let BinaryValueDeserializer { kind, reader } = self;
-        reader.leaf::<Facet>(alloc, kind)
+        reader.leaf::<Facet>(alloc, kind, ValueType::Facet)
     }
 
     /// Reads bytes.
@@ -195,7 +194,7 @@ impl<'de, S: ByteSource> BinaryValueDeserializer<'de, S> {
             (coded self.entry.kind) }
     {
         let BinaryValueDeserializer { kind, reader } = self;
-        reader.leaf::<Vec<u8>>(alloc, kind)
+        reader.leaf::<Vec<u8>>(alloc, kind, ValueType::Bytes)
     }
 
     /// Reads a date: microseconds in version 1, and nanoseconds in the others.
@@ -212,7 +211,7 @@ impl<'de, S: ByteSource> BinaryValueDeserializer<'de, S> {
         ensures spares { ¬ IsErrOf result errors.Memory }
     {
         let BinaryValueDeserializer { kind, reader } = self;
-        reader.leaf::<DateTime>((), kind)
+        reader.leaf::<DateTime>((), kind, ValueType::DateTime)
     }
 
     /// Reads an IP address.
@@ -228,7 +227,7 @@ impl<'de, S: ByteSource> BinaryValueDeserializer<'de, S> {
         ensures spares { ¬ IsErrOf result errors.Memory }
     {
         let BinaryValueDeserializer { kind, reader } = self;
-        reader.leaf::<Ipv6Addr>((), kind)
+        reader.leaf::<Ipv6Addr>((), kind, ValueType::IpAddr)
     }
 
     /// Reads a text and its tokens.
@@ -247,7 +246,7 @@ impl<'de, S: ByteSource> BinaryValueDeserializer<'de, S> {
             (version_of self.entry.reader.now.version) (coded self.entry.kind) }
     {
         let BinaryValueDeserializer { kind, reader } = self;
-        reader.leaf::<PreTokenizedString>(alloc, kind)
+        reader.leaf::<PreTokenizedString>(alloc, kind, ValueType::PreTokStr)
     }
 }
 
@@ -334,7 +333,7 @@ impl ValueDeserialize for u64 {
             deserializer.entry.kind) }
     {
         let BinaryValueDeserializer { kind, reader } = deserializer;
-        reader.leaf::<u64>((), kind)
+        reader.leaf::<u64>((), kind, ValueType::U64)
     }
 
     ghost excludes = { λ v kind prefix rest e t n refused encoded is. leaf_excludes types.U64
@@ -364,7 +363,7 @@ impl ValueDeserialize for i64 {
             deserializer.entry.kind) }
     {
         let BinaryValueDeserializer { kind, reader } = deserializer;
-        reader.leaf::<i64>((), kind)
+        reader.leaf::<i64>((), kind, ValueType::I64)
     }
 
     ghost excludes = { λ v kind prefix rest e t z refused encoded is. leaf_excludes types.I64
@@ -394,7 +393,7 @@ impl ValueDeserialize for bool {
             deserializer.entry.kind) }
     {
         let BinaryValueDeserializer { kind, reader } = deserializer;
-        reader.leaf::<bool>((), kind)
+        reader.leaf::<bool>((), kind, ValueType::Bool)
     }
 
     ghost excludes = { λ v kind prefix rest e t b refused encoded is. leaf_excludes types.Bool
@@ -424,7 +423,7 @@ impl ValueDeserialize for String {
             deserializer.entry.kind) }
     {
         let BinaryValueDeserializer { kind, reader } = deserializer;
-        reader.leaf::<String>(alloc, kind)
+        reader.leaf::<String>(alloc, kind, ValueType::String)
     }
 
     ghost excludes = { λ v kind prefix rest e t s refused encoded is. leaf_excludes types.String
@@ -454,7 +453,7 @@ impl ValueDeserialize for Facet {
             deserializer.entry.kind) }
     {
         let BinaryValueDeserializer { kind, reader } = deserializer;
-        reader.leaf::<Facet>(alloc, kind)
+        reader.leaf::<Facet>(alloc, kind, ValueType::Facet)
     }
 
     ghost excludes = { λ v kind prefix rest e t f refused encoded is. leaf_excludes types.Facet
@@ -484,7 +483,7 @@ impl ValueDeserialize for Vec<u8> {
             deserializer.entry.kind) }
     {
         let BinaryValueDeserializer { kind, reader } = deserializer;
-        reader.leaf::<Vec<u8>>(alloc, kind)
+        reader.leaf::<Vec<u8>>(alloc, kind, ValueType::Bytes)
     }
 
     ghost excludes = { λ v kind prefix rest e t list refused encoded is. leaf_excludes types.Bytes
@@ -514,7 +513,7 @@ impl ValueDeserialize for DateTime {
             deserializer.entry.kind) }
     {
         let BinaryValueDeserializer { kind, reader } = deserializer;
-        reader.leaf::<DateTime>((), kind)
+        reader.leaf::<DateTime>((), kind, ValueType::DateTime)
     }
 
     ghost excludes = { λ v kind prefix rest e t d refused encoded is. leaf_excludes types.DateTime
@@ -544,7 +543,7 @@ impl ValueDeserialize for Ipv6Addr {
             deserializer.entry.kind) }
     {
         let BinaryValueDeserializer { kind, reader } = deserializer;
-        reader.leaf::<Ipv6Addr>((), kind)
+        reader.leaf::<Ipv6Addr>((), kind, ValueType::IpAddr)
     }
 
     ghost excludes = { λ v kind prefix rest e t a refused encoded is. leaf_excludes types.IpAddr
@@ -574,7 +573,7 @@ impl ValueDeserialize for PreTokenizedString {
             deserializer.entry.kind) }
     {
         let BinaryValueDeserializer { kind, reader } = deserializer;
-        reader.leaf::<PreTokenizedString>(alloc, kind)
+        reader.leaf::<PreTokenizedString>(alloc, kind, ValueType::PreTokStr)
     }
 
     ghost excludes = { λ v kind prefix rest e t s refused encoded is. leaf_excludes types.PreTokStr

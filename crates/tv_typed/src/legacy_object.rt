@@ -1,6 +1,7 @@
 //! Legacy objects, read as lists and maps: the object's tree is encoded in memory, and read from there.
 
-ghost use Rattle.std.specs.Prelude.{◌≡◌, List, ℕ};
+ghost use Rattle.std.specs.Prelude.{◌≡◌, List, ℕ, IfOk, OnOk};
+ghost use Rattle.tv_format.specs.Short.{short, IsValue};
 ghost use Rattle.tv_format.specs.Tree.{Tree};
 ghost use Rattle.tv_format.specs.Version.{Version, V2};
 ghost use Rattle.tv_reader.specs.Version.{version_of};
@@ -10,13 +11,17 @@ ghost use Rattle.tv_reader.specs.declared.value_type.ValueType.TheVariants as ty
 ghost use Rattle.tv_typed.specs.LegacyObjects.{Retold, OfEncoding, LegacyRefused, MembersRefused};
 ghost use Rattle.tv_typed.specs.Typed.{Deserializes};
 ghost use Rattle.tv_typed.specs.Values.{EncodesAs, EncodedAs, NextRefused};
+ghost use Rattle.tv_value.specs.Owned.{owned_tree};
 
 use crate::de::BinaryValueDeserializer;
-use crate::encode::encoded;
 use crate::store_reader::StoreReader;
-use std::alloc::Global;
-use tv_base::{ByteSource, Cause, SliceSource};
+use std::alloc::{AllocError, Global};
+use tv_base::{ByteSource, Cause, SliceSource, VecSink};
+use tv_format::version::WriteVersion;
 use tv_reader::{DeserializeError, DocStoreVersion, ValueType};
+use tv_value::owned_value::OwnedValue;
+use tv_writer::encoding::has_encoding;
+use tv_writer::value_writer::write_value;
 
 // What is read of an object that isn't a legacy one, behind the code of its type.
 pub(crate) trait CodedObject: Sized + Drop {
@@ -48,6 +53,19 @@ fn next_object<V: CodedObject, S: ByteSource>(
 {
     let kind = reader.code()?;
     V::behind(alloc, kind, reader)
+}
+
+// The shortest encoding of a value in version 2. The only error is that memory was refused, which is told too where it has none.
+pub(crate) fn encoded(alloc: Global, value: &OwnedValue) -> Result<Vec<u8>, AllocError>
+    ensures ok { IfOk result (λ bytes. bytes.items ≡ short V2 (owned_tree value.now)) }
+    ensures valid { OnOk result (IsValue (owned_tree value.now)) }
+{
+    let mut sink = VecSink::new(alloc);
+    if has_encoding(&value) && write_value(&mut sink, &value, WriteVersion::V2).is_ok() {
+        Ok(sink.into_vec())
+    } else {
+        Err(AllocError)
+    }
 }
 
 // How a refusal of what was encoded is told.

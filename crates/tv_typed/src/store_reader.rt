@@ -111,11 +111,12 @@ impl<S: ByteSource> StoreReader<S> {
         }
     }
 
-    // Goes on where nothing was refused before and the type is the one that is expected.
+    // Goes on where nothing was refused before and the type is the one that is expected; of another one this is the refusal.
     pub(crate) fn expect(
         &mut self,
         kind: ValueType,
         expected: ValueType,
+        refusal: DeserializeError,
     ) -> Result<(), DeserializeError>
         ensures source { self.new.source ≡ self.old.source }
         ensures count { self.new.count ≡ self.old.count }
@@ -123,14 +124,13 @@ impl<S: ByteSource> StoreReader<S> {
         ensures ok { OnOk result
             ((self.old.has_failed ≡ false) × (self.new.has_failed ≡ false) × (kind ≡ expected)) }
         ensures err { IfErr result
-            (IsMismatch self.old.has_failed kind expected (errors.TypeMismatch expected kind)) }
+            (IsMismatch self.old.has_failed kind expected refusal) }
         ensures marks { OnErr result (self.new.has_failed ≡ true) }
     {
         self.go_on()?;
         if kind != expected {
             self.has_failed = true;
-            let actual = kind;
-            return Err(DeserializeError::TypeMismatch { expected, actual });
+            return Err(refusal);
         }
         Ok(())
     }
@@ -146,36 +146,17 @@ impl<S: ByteSource> StoreReader<S> {
         self.marked(answer)
     }
 
-    // Goes on where nothing was refused before and the type is that of these collections.
-    fn expect_collection(
-        &mut self,
-        kind: ValueType,
-        collection: ValueType,
-    ) -> Result<(), DeserializeError>
-        ensures source { self.new.source ≡ self.old.source }
-        ensures count { self.new.count ≡ self.old.count }
-        ensures version { self.new.version ≡ self.old.version }
-        ensures ok { OnOk result
-            ((self.old.has_failed ≡ false) × (self.new.has_failed ≡ false) × (kind ≡ collection)) }
-        ensures err { IfErr result
-            (IsMismatch self.old.has_failed kind collection (errors.UnsupportedType kind)) }
-        ensures marks { OnErr result (self.new.has_failed ≡ true) }
-    {
-        self.go_on()?;
-        if kind != collection {
-            self.has_failed = true;
-            return Err(DeserializeError::UnsupportedType(kind));
-        }
-        Ok(())
-    }
-
     // Takes the number of an array's values, behind its code.
     pub(crate) fn array_length(&mut self, kind: ValueType) -> Result<u64, DeserializeError>
         ensures reads { Reads S.is_known S.left S.failures self.old self.new result
             (Length types.Array element_total kind) (LengthRefused types.Array element_total kind) }
         ensures spares { ¬ IsErrOf result errors.Memory }
     {
-        self.expect_collection(kind, ValueType::Array)?;
+        self.expect(
+            kind,
+            ValueType::Array,
+            DeserializeError::UnsupportedType(kind),
+        )?;
         let answer = take_vint(&mut self.source, &mut self.count);
         self.marked(answer)
     }
@@ -187,7 +168,11 @@ impl<S: ByteSource> StoreReader<S> {
             (LengthRefused types.Object (entry_total (version_of self.old.version)) kind) }
         ensures spares { ¬ IsErrOf result errors.Memory }
     {
-        self.expect_collection(kind, ValueType::Object)?;
+        self.expect(
+            kind,
+            ValueType::Object,
+            DeserializeError::UnsupportedType(kind),
+        )?;
         let version = self.version;
         let answer = take_entry_count(&mut self.source, &mut self.count, version);
         self.marked(answer)

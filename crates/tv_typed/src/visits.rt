@@ -1,27 +1,49 @@
 //! Handing what stands in a store to a visitor.
 
-ghost use Rattle.std.specs.Prelude.{◌≡◌, true, false, is_err, OnOk};
+ghost use Rattle.std.specs.Prelude.{◌≡◌, true, false, is_err, IsTrue, OnOk};
 ghost use Rattle.tv_base.specs.Stop.{Counts};
 ghost use Rattle.tv_format.specs.Version.{V2, entry_total};
-ghost use Rattle.tv_reader.specs.Leaves.{is_leaf_type};
+ghost use Rattle.tv_reader.specs.Leaves.{is_leaf_type, IsSingle};
 ghost use Rattle.tv_reader.specs.Version.{version_of};
 ghost use Rattle.tv_reader.specs.declared.value_type.ValueType.TheVariants as types;
 ghost use Rattle.tv_reader.specs.declared.version.DocStoreVersion.TheVariants as stores;
 ghost use Rattle.tv_typed.specs.LegacyObjects.{OfEncoding};
 ghost use Rattle.tv_typed.specs.Lists.{element_total};
 ghost use Rattle.tv_typed.specs.Typed.{typed_stop, Deserializes};
-ghost use Rattle.tv_typed.specs.Visits.{Visits, VisitsItems, VisitsLegacy};
+ghost use Rattle.tv_typed.specs.Visits.{Visits, VisitsItems, VisitsLegacy, single_leaf};
 ghost use Rattle.tv_typed.specs.Visits.{EncodesNextVisited, NextVisitRefused};
+ghost use Rattle.tv_value.specs.Owned.{owned_tree};
 
 use crate::array::BinaryArrayDeserializer;
 use crate::de::{BinaryValueDeserializer, ValueVisitor};
-use crate::encode::encoded;
-use crate::legacy_object::retold;
+use crate::legacy_object::{encoded, retold};
 use crate::object::BinaryObjectDeserializer;
 use crate::store_reader::StoreReader;
 use std::alloc::Global;
 use tv_base::{ByteSource, SliceSource};
+use tv_reader::value_type::take_leaf;
 use tv_reader::{DeserializeError, DocStoreVersion, ValueType};
+use tv_value::owned_value::OwnedValue;
+
+// Hands a value that holds no others to the visitor's call for its type.
+fn hand<V: ValueVisitor>(visitor: &V, value: OwnedValue) -> Result<V::Value, DeserializeError>
+    requires { IsSingle (owned_tree value) }
+    ensures { V.answers visitor.now (single_leaf (owned_tree value)) result }
+{
+    match value {
+        OwnedValue::Null => visitor.visit_null(()),
+        OwnedValue::Str(text) => visitor.visit_string(text),
+        OwnedValue::PreTokStr(text) => visitor.visit_pre_tokenized_string(text),
+        OwnedValue::U64(number) => visitor.visit_u64(number),
+        OwnedValue::I64(number) => visitor.visit_i64(number),
+        OwnedValue::Bool(truth) => visitor.visit_bool(truth),
+        OwnedValue::Date(date) => visitor.visit_datetime(date),
+        OwnedValue::Facet(facet) => visitor.visit_facet(facet),
+        OwnedValue::Bytes(bytes) => visitor.visit_bytes(bytes),
+        OwnedValue::IpAddr(address) => visitor.visit_ip_address(address),
+        OwnedValue::Array(_) | OwnedValue::Object(_) => unreachable!(),
+    }
+}
 
 // Hands the visitor the entries of an object whose encoding stands in memory.
 fn visit_encoding<V: ValueVisitor>(
@@ -40,6 +62,25 @@ fn visit_encoding<V: ValueVisitor>(
 }
 
 impl<S: ByteSource> StoreReader<S> {
+    // Hands the visitor a value that holds no others, behind the codes of its type. What it refuses isn't marked yet.
+    fn visit_leaf<V: ValueVisitor>(
+        &mut self,
+        alloc: Global,
+        kind: ValueType,
+        visitor: &V,
+    ) -> Result<V::Value, DeserializeError>
+        requires { IsTrue (is_leaf_type kind) }
+        ensures visits { Visits S.is_known S.left S.failures self.old self.new kind
+            (V.answers visitor.now) result }
+        ensures unmarked { OnOk result (self.new.has_failed ≡ false) }
+    {
+        self.go_on()?;
+        match take_leaf(alloc, &mut self.source, &mut self.count, self.version, kind) {
+            Ok(value) => hand(visitor, value),
+            Err(error) => Err(DeserializeError::from(error)),
+        }
+    }
+
     // Hands the visitor the values of an array, once their number is read. What it refuses isn't marked yet.
     fn visit_elements<V: ValueVisitor>(
         &mut self,
@@ -147,41 +188,6 @@ impl<S: ByteSource> StoreReader<S> {
             _ => self.visit_leaf(alloc, kind, visitor),
         }
     }
-
-    // The same, and what the visitor refuses is marked.
-    fn visit<V: ValueVisitor>(
-        &mut self,
-        alloc: Global,
-        kind: ValueType,
-        visitor: &V,
-    ) -> Result<V::Value, DeserializeError>
-        ensures leaf { is_leaf_type kind ≡ true
-            → Visits S.is_known S.left S.failures self.old self.new kind (V.answers visitor.now)
-            result }
-        ensures array { kind ≡ types.Array
-            → VisitsItems S.is_known S.left S.failures self.old self.new types.Array element_total
-            (V.of_array visitor.now (version_of self.old.version))
-            (V.array_refused visitor.now (version_of self.old.version)) kind result }
-        ensures object { kind ≡ types.Object
-            → VisitsItems S.is_known S.left S.failures self.old self.new types.Object
-            (entry_total (version_of self.old.version))
-            (V.of_object visitor.now (version_of self.old.version))
-            (V.object_refused visitor.now (version_of self.old.version)) kind result }
-        ensures legacy { kind ≡ types.JSONObject
-            → VisitsLegacy S.is_known S.left S.failures self.old self.new
-            (V.of_object visitor.now V2) (V.object_refused visitor.now V2) result }
-        ensures counts { self.old.has_failed ≡ false
-            → Counts typed_stop result (S.failures self.old.source) (S.failures self.new.source) }
-        ensures marks { self.new.has_failed ≡ is_err result }
-    {
-        match self.visit_kind(alloc, kind, visitor) {
-            Ok(value) => Ok(value),
-            Err(error) => {
-                self.has_failed = true;
-                Err(error)
-            }
-        }
-    }
 }
 
 impl<'de, S: ByteSource> BinaryValueDeserializer<'de, S> {
@@ -222,6 +228,8 @@ impl<'de, S: ByteSource> BinaryValueDeserializer<'de, S> {
         ensures marks { self.exit.1.0.now.has_failed ≡ is_err result }
     {
         let BinaryValueDeserializer { kind, reader } = self;
-        reader.visit(alloc, kind, visitor)
+        let answer = reader.visit_kind(alloc, kind, visitor);
+        reader.has_failed = answer.is_err();
+        answer
     }
 }

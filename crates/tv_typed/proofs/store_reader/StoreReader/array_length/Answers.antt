@@ -5,22 +5,22 @@ use Rattle.tv_typed.proofs.ListSteps.{length_mismatch, elements_read}
 use Rattle.tv_typed.proofs.TypedSteps.{raised_spares, mismatch_spares}
 use Rattle.tv_typed.proofs.store_reader.StoreReader.array_length.Goals as goal
 
-pub returns-in_err-expect_collection-clause-reads : goal.returns-in_err-expect_collection-clause-reads
-returns-in_err-expect_collection-clause-reads g c =
+pub returns-in_err-expect-clause-reads : goal.returns-in_err-expect-clause-reads
+returns-in_err-expect-clause-reads g c =
     let p = err_from_is_err_and c.from_residual.result c.from_residual.ensures.1 in
-    let e = c.in_err-expect_collection.ensures in
+    let e = c.in_err-expect.ensures in
     rw (p.1, p.2) (length_mismatch _ _ _ _ _ c.args.kind types.Array element_total _ _ e.err e.source e.count e.version e.marks)
 
 pub returns-clause-reads : goal.returns-clause-reads
 returns-clause-reads g c =
-    let e = c.in_ok-expect_collection.ensures in
+    let e = c.in_ok-expect.ensures in
     let m = c.marked.ensures in
-    elements_read c.args.self.now c.expect_collection.new.self c.marked.new.self c.marked.result c.args.kind g.met.S.ByteSource.are_bytes e.ok.2 e.ok.0 e.source e.count e.version c.take_vint-answer.ensures.takes m.source m.count m.version m.marks m.told
+    elements_read c.args.self.now c.expect.new.self c.marked.new.self c.marked.result c.args.kind g.met.S.ByteSource.are_bytes e.ok.2 e.ok.0 e.source e.count e.version c.take_vint-answer.ensures.takes m.source m.count m.version m.marks m.told
 
-pub returns-in_err-expect_collection-clause-spares : goal.returns-in_err-expect_collection-clause-spares
-returns-in_err-expect_collection-clause-spares g c =
+pub returns-in_err-expect-clause-spares : goal.returns-in_err-expect-clause-spares
+returns-in_err-expect-clause-spares g c =
     let p = err_from_is_err_and c.from_residual.result c.from_residual.ensures.1 in
-    rw (p.1, p.2) (mismatch_spares (λ same. cc) c.in_err-expect_collection.ensures.err)
+    rw (p.1, p.2) (mismatch_spares (λ same. cc) c.in_err-expect.ensures.err)
 
 pub returns-clause-spares : goal.returns-clause-spares
 returns-clause-spares g c = raised_spares c.take_vint-answer.result c.marked.result c.marked.ensures.told c.take_vint-answer.ensures.spares

@@ -1,28 +1,21 @@
-use Rattle.std.proofs.Common.{◌≡◌, Bool, subst}
+use Rattle.std.proofs.Common.{subst, ◌∙◌}
 use Rattle.std.proofs.lemmas.Result.{err_from_is_err_and}
 use Rattle.tv_base.specs.Take.{TakesBy}
 use Rattle.tv_reader.specs.Leaves.{leaf_at}
 use Rattle.tv_reader.specs.Version.{version_of}
-use Rattle.tv_reader.specs.declared.error.DeserializeError.{DeserializeError}
-use Rattle.tv_reader.specs.declared.error.DeserializeError.TheVariants as errors
-use Rattle.tv_reader.specs.declared.value_type.ValueType.{ValueType}
 use Rattle.tv_reader.proofs.AgreeLeaves.{leaf_agrees}
 use Rattle.tv_format.specs.Tree.{leaf}
-use Rattle.tv_typed.specs.Typed.{IsMismatch}
 use Rattle.tv_typed.proofs.TypedSteps.{leaf_reads, leaf_mismatch, raised_spares, mismatch_spares}
 use Rattle.tv_typed.proofs.DeserializeSteps.{leaf_deserializes, leaf_only}
 use Rattle.tv_typed.proofs.store_reader.StoreReader.leaf.Goals as goal
-
--- the type that was asked for is the one that is expected
-of_expected : {has_failed : Bool} {kind given expected : ValueType} {e : DeserializeError} → given ≡ expected → IsMismatch has_failed kind given (errors.TypeMismatch given kind) e → IsMismatch has_failed kind expected (errors.TypeMismatch expected kind) e
-of_expected {has_failed = has_failed} {kind = kind} {e = e} is h = subst (λ k. IsMismatch has_failed kind k (errors.TypeMismatch k kind) e) is h
 
 pub returns-in_err-expect-clause-reads : goal.returns-in_err-expect-clause-reads
 returns-in_err-expect-clause-reads g c =
     let p = err_from_is_err_and c.from_residual.result c.from_residual.ensures.1 in
     let T = g.T.LeafValue in
     let e = c.in_err-expect.ensures in
-    rw (p.1, p.2) (leaf_mismatch _ _ _ _ _ c.args.kind T.expected (version_of c.args.self.now.version) _ _ (of_expected c.value_type.ensures e.err) e.source e.count e.version e.marks)
+    let err = rw c.requires at e.err in
+    rw (p.1, p.2) (leaf_mismatch _ _ _ _ _ c.args.kind T.expected (version_of c.args.self.now.version) _ _ err e.source e.count e.version e.marks)
 
 pub returns-clause-reads : goal.returns-clause-reads
 returns-clause-reads g c =
@@ -30,16 +23,17 @@ returns-clause-reads g c =
     let e = c.in_ok-expect.ensures in
     let v = version_of c.args.self.now.version in
     let m = c.marked.ensures in
+    let t = c.take-answer.ensures in
     let S = g.S.ByteSource in
-    let part = subst (λ z. TakesBy S.is_known S.left S.failures c.expect.new.self.source c.expect.new.self.count c.take-answer.new.source c.take-answer.new.count (λ x. leaf (T.make x)) c.take-answer.result (leaf_at (version_of z) T.expected)) e.version c.take-answer.ensures.takes in
+    let part = subst (λ z. TakesBy S.is_known S.left S.failures c.expect.new.self.source c.expect.new.self.count c.take-answer.new.reader.source c.take-answer.new.reader.count (λ x. leaf (T.make x)) c.take-answer.result (leaf_at (version_of z) T.expected)) e.version t.takes in
     leaf_reads c.args.self.now c.expect.new.self c.marked.new.self c.marked.result v c.args.kind T.expected T.make g.met.S.ByteSource.are_bytes (leaf_agrees v T.expected)
-    (λ a x h. h) (λ w c f. f) T.typed.0 (subst (λ k. c.args.kind ≡ k) c.value_type.ensures e.ok.2) e.ok.0 e.source e.count e.version part m.source m.count m.version m.marks m.told
+    (λ a x h. h) (λ w c f. f) g.met.T.LeafValue.typed.0 (e.ok.2 ∙ c.requires) e.ok.0 e.source e.count e.version part m.source m.count (m.version ∙ t.version) m.marks m.told
 
 pub returns-in_err-expect-clause-only : goal.returns-in_err-expect-clause-only
-returns-in_err-expect-clause-only g c = let T = g.T.LeafValue in leaf_only T.expected T.make T.typed.1 (version_of c.args.self.now.version) c.args.kind (returns-in_err-expect-clause-reads g c)
+returns-in_err-expect-clause-only g c = let T = g.T.LeafValue in leaf_only T.expected T.make g.met.T.LeafValue.typed.1 (version_of c.args.self.now.version) c.args.kind (returns-in_err-expect-clause-reads g c)
 
 pub returns-clause-only : goal.returns-clause-only
-returns-clause-only g c = let T = g.T.LeafValue in leaf_only T.expected T.make T.typed.1 (version_of c.args.self.now.version) c.args.kind (returns-clause-reads g c)
+returns-clause-only g c = let T = g.T.LeafValue in leaf_only T.expected T.make g.met.T.LeafValue.typed.1 (version_of c.args.self.now.version) c.args.kind (returns-clause-reads g c)
 
 pub returns-in_err-expect-clause-deserializes : goal.returns-in_err-expect-clause-deserializes
 returns-in_err-expect-clause-deserializes g c = leaf_deserializes g.T.LeafValue.make (version_of c.args.self.now.version) c.args.kind (returns-in_err-expect-clause-reads g c)

@@ -12,6 +12,7 @@ pub returns-in-JSONObject-clause-counts : goal.returns-in-JSONObject-clause-coun
 returns-in-JSONObject-clause-counts g c is_open = legacy_count is_open c.visit_legacy.ensures.visits
 
 pub returns-in_default-clause-counts : goal.returns-in_default-clause-counts
-returns-in_default-clause-counts g c is_open =
-    let is = is_leaf c.args.kind c.in_default.not-Array c.in_default.not-Object c.in_default.not-JSONObject in
-    visits_count (λ l r h. g.V.ValueVisitor.tells_no_failure c.args.visitor.now l r h) is_open (c.visit_leaf.ensures.visits is)
+returns-in_default-clause-counts g c is_open = visits_count (λ l r h. g.V.ValueVisitor.tells_no_failure c.args.visitor.now l r h) is_open c.visit_leaf.ensures.visits
+
+pub visit_leaf-requires : goal.visit_leaf-requires
+visit_leaf-requires g c = is_leaf c.args.kind c.in_default.not-Array c.in_default.not-Object c.in_default.not-JSONObject
