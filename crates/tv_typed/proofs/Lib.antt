@@ -6,4 +6,5 @@ pub mod ItemSteps
 pub mod DocumentSteps
 pub mod VisitSteps
 pub mod EncodeSteps
+pub mod TreeTypeSteps
 pub mod LegacySteps
