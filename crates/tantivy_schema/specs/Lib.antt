@@ -139,6 +139,7 @@ pub use Rattle.tv_typed.specs.Visits
 pub use Rattle.tv_typed.specs.Excluding
 pub use Rattle.tv_typed.specs.ExcludingLists
 pub use Rattle.tv_typed.specs.ExcludingLegacy
+pub use Rattle.tv_typed.specs.TreeTypes
 pub use Rattle.tv_typed.specs.Documents as DocumentPairs
 -- the types of code that contracts speak of
 pub mod CodeTypes

@@ -38,45 +38,7 @@ use Rattle.tv_typed.specs.Typed.{typed_stop, Reads, Deserializes}
 use Rattle.tv_typed.specs.Values.{EncodesAs, EncodedAs, TreeRefused, NextRefused}
 use Rattle.tv_typed.specs.declared.store_reader.StoreReader.{StoreReader}
 use Rattle.tv_typed.proofs.DeserializeSteps.{end, deserializes, goes_then, goes_fails, goes_short}
-
--- ---- a legacy object that is cut short
-
--- a blank before it changes nothing
-blank_first : (b : ℕ) (content : List ℕ) → IsBlank b → ErrorInLegacy content UnexpectedEnd → ErrorInLegacy (b ∷ content) UnexpectedEnd
-blank_first b content blank (only_blanks all) = only_blanks (blank, all)
-blank_first b content blank (not_closed blanks rest joined all never) = not_closed (b ∷ blanks) rest (ap (λ (l : List ℕ). b ∷ l) joined) (blank, all) never
-
-some_last : (m : List ℕ) (byte : ℕ) → m ++ byte ∷ [] ≢ []
-some_last [] byte e = absurd cc
-some_last (n ∷ m) byte e = absurd cc
-
-cut_slice : (slice start : List ℕ) (byte : ℕ) → IsClosed slice → slice ≡ start ++ byte ∷ [] → ErrorInLegacy start UnexpectedEnd
-cut_slice slice [] byte h joined = only_blanks tt
-cut_slice slice (d ∷ start) byte h joined =
-    let head : 123 ∷ h.more ≡ d ∷ (start ++ byte ∷ []) = sym h.opens ∙ joined in
-    let brace : d ≡ 123 = cc in
-    not_closed [] start (ap (λ n. n ∷ start) brace) tt
-    (λ s m cut is.
-    let whole : slice ≡ s ++ (m ++ byte ∷ []) = joined ∙ ap (λ (l : List ℕ). l ++ byte ∷ []) (ap (λ n. n ∷ start) brace ∙ cut) ∙ append_assoc s m (byte ∷ []) in
-    h.first s (m ++ byte ∷ []) whole (λ none. let none_opens : [] ≡ 123 ∷ is.more = sym none ∙ is.opens in absurd cc) (some_last m byte) is.closes)
-
-cut_legacy : (blanks slice start : List ℕ) (byte : ℕ) → AllByRecursion IsBlank blanks → IsClosed slice → blanks ++ slice ≡ start ++ byte ∷ [] → ErrorInLegacy start UnexpectedEnd
-cut_legacy [] slice start byte all h joined = cut_slice slice start byte h joined
-cut_legacy (b ∷ blanks) slice [] byte all h joined = only_blanks tt
-cut_legacy (b ∷ blanks) slice (d ∷ start) byte all h joined =
-    let same : b ≡ d = cc in
-    let rest : blanks ++ slice ≡ start ++ byte ∷ [] = cc in
-    blank_first d start (subst IsBlank same all.0) (cut_legacy blanks slice start byte all.1 h rest)
-
-cut_object : (v : Version) (a : List ℕ) (t : Tree) → Encodes Legacy v (8 ∷ a) t → (start : List ℕ) (byte : ℕ) → a ≡ start ++ byte ∷ [] → ErrorInLegacy start UnexpectedEnd
-cut_object v a (leaf l) p start byte last = let e = p.joined in let same : store_code (type_of l) ≡ 8 = cc in absurd ((small_code (type_of l)).1 same)
-cut_object v a (array ts) p start byte last = absurd (let e = p.joined in cc)
-cut_object v a (object es) (inl p) start byte last = absurd (let e = p.joined in cc)
-cut_object v a (object es) (inr p) start byte last =
-    let e : 8 ∷ a ≡ 8 ∷ p.body = p.joined in
-    let same : a ≡ p.body = cc in
-    let cut = p.encoded.cut in
-    cut_legacy cut.blanks p.encoded.slice start byte cut.blank cut.is_closed (sym cut.joined ∙ sym same ∙ last)
+use Rattle.tv_typed.proofs.TreeTypeSteps.{early_behind}
 
 -- ---- what an encoding gives
 
@@ -172,7 +134,7 @@ legacy_then {is_known = is_known} {left = left} {failures = failures} {new = new
     goes_then {A = λ b x. (b ≡ []) × is t x} {P = λ w told. EncodingRefused (NextRefused refused V2) t told} (EncodedAs is v types.JSONObject) (LegacyRefused refused v)
     (λ a b x r s. (t, subst (λ (l : List ℕ). Encodes Legacy v (8 ∷ l) t) (sym (ap (λ (l : List ℕ). a ++ l) s.0 ∙ append-nil a)) r, s.1))
     (λ a w c r f. inr (t, record { prefix = a; rest = w; joined = refl; first = r; second = f }))
-    (λ a f r _ _ start byte last. inl (record { refusal = corrupted UnexpectedEnd; told = is_corrupted; error = in_legacy (cut_object v a t r start byte last) }))
+    (λ a f r _ _ start byte last. inl (record { refusal = corrupted UnexpectedEnd; told = is_corrupted; error = early_behind v types.JSONObject t a start byte r last }))
     (deserializes (λ b x. Encodes Legacy v (8 ∷ b) (owned_tree x)) (λ b x q. q) p)
     (record {
       closed = λ failed. absurd (both (sym p.marks ∙ failed));

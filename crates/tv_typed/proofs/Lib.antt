@@ -5,4 +5,5 @@ pub mod ListSteps
 pub mod ItemSteps
 pub mod DocumentSteps
 pub mod VisitSteps
+pub mod TreeTypeSteps
 pub mod LegacySteps

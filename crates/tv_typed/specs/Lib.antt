@@ -7,3 +7,4 @@ pub mod ExcludingLists
 pub mod Visits
 pub mod LegacyObjects
 pub mod ExcludingLegacy
+pub mod TreeTypes
