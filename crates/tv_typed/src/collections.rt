@@ -22,7 +22,7 @@ ghost use Rattle.tv_typed.specs.Values.{EncodedAs};
 use crate::array::read_elements;
 use crate::de::{BinaryValueDeserializer, ValueDeserialize};
 use crate::legacy_object::{CodedObject, read_object};
-use crate::object::{read_entries, read_hashed, read_map};
+use crate::object::read_entries;
 use crate::store_reader::StoreReader;
 use std::alloc::Global;
 use std::collections::{BTreeMap, HashMap};
@@ -72,7 +72,7 @@ impl<T: ValueDeserialize> CodedObject for Vec<(String, T)> {
             (ObjectRefused T.is T.refused (version_of reader.old.version) kind) }
     {
         let announced = reader.object_length(kind)?;
-        let answer = read_entries(alloc, reader, announced);
+        let answer = read_entries::<T, Vec<(String, T)>, S>(alloc, reader, announced);
         reader.has_failed = answer.is_err();
         answer
     }
@@ -124,7 +124,7 @@ impl<T: ValueDeserialize> CodedObject for BTreeMap<String, T> {
             (ObjectRefused T.is T.refused (version_of reader.old.version) kind) }
     {
         let announced = reader.object_length(kind)?;
-        let answer = read_map(alloc, reader, announced);
+        let answer = read_entries::<T, BTreeMap<String, T>, S>(alloc, reader, announced);
         reader.has_failed = answer.is_err();
         answer
     }
@@ -176,7 +176,7 @@ impl<T: ValueDeserialize> CodedObject for HashMap<String, T> {
             (ObjectRefused T.is T.refused (version_of reader.old.version) kind) }
     {
         let announced = reader.object_length(kind)?;
-        let answer = read_hashed(alloc, reader, announced);
+        let answer = read_entries::<T, HashMap<String, T>, S>(alloc, reader, announced);
         reader.has_failed = answer.is_err();
         answer
     }

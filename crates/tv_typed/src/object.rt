@@ -1,9 +1,10 @@
 //! Objects in a store.
 
-ghost use Rattle.std.specs.Prelude.{◌≡◌, ◌+◌, ◌-◌, false, true, Some, List, ℕ, OnOk, OnErr, IfErr};
-ghost use Rattle.std.specs.Prelude.{string_bytes, bytes_eq, if◌then◌else◌};
+ghost use Rattle.std.specs.Prelude.{◌≡◌, ◌+◌, ◌-◌, ◌++◌, ◌∷◌, [], false, true, List, OnOk, OnErr};
+ghost use Rattle.std.specs.Prelude.{String, if◌then◌else◌};
 ghost use Rattle.std.specs.BTreeMap as tree;
 ghost use Rattle.std.specs.HashMap as hash;
+ghost use Rattle.std.specs.declared.alloc.Global.{Global};
 ghost use Rattle.tv_base.specs.ErrorInPart.{InEach};
 ghost use Rattle.tv_reader.specs.Version.{version_of};
 ghost use Rattle.tv_reader.specs.declared.error.DeserializeError.TheVariants as errors;
@@ -14,109 +15,90 @@ ghost use Rattle.tv_typed.specs.Typed.{Deserializes};
 
 use crate::de::ValueDeserialize;
 use crate::store_reader::StoreReader;
-use std::alloc::Global;
+use std::alloc::{AllocError, Global};
 use std::collections::{BTreeMap, HashMap};
 use tv_base::ByteSource;
 use tv_reader::{DeserializeError, ValueType};
 
+// What the entries of an object are put into, one after the other.
+pub(crate) trait Entries<T>: Sized + Drop {
+    /// It was made of these, in this order.
+    ghost made: { Self → List (String Global × T) → Type 0 };
+
+    /// It holds none yet.
+    fn none(alloc: Global) -> Self
+        ensures { made result [] };
+
+    /// Puts in one more. The only error is that memory was refused.
+    fn put(&mut self, key: String, value: T) -> Result<(), AllocError>
+        ensures { OnOk result ((entries : List (String Global × T)) → made self.old entries
+            → made self.new (entries ++ (key, value) ∷ [])) };
+}
+
+// All of them, in order.
+impl<T: Drop> Entries<T> for Vec<(String, T)> {
+    ghost made = { λ list entries. list.items ≡ entries };
+
+    fn none(alloc: Global) -> Vec<(String, T)> {
+        Vec::new(alloc)
+    }
+
+    fn put(&mut self, key: String, value: T) -> Result<(), AllocError> {
+        self.push((key, value))?;
+        Ok(())
+    }
+}
+
+// Of equal keys the last.
+impl<T: Drop> Entries<T> for BTreeMap<String, T> {
+    ghost made = { λ map entries. GivesLast (λ key. tree.get_by_text map key) entries };
+
+    fn none(alloc: Global) -> BTreeMap<String, T> {
+        BTreeMap::new(alloc)
+    }
+
+    fn put(&mut self, key: String, value: T) -> Result<(), AllocError> {
+        match self.insert(key, value) {
+            Ok(_) => Ok(()),
+            Err(_) => Err(AllocError),
+        }
+    }
+}
+
+// The same.
+impl<T: Drop> Entries<T> for HashMap<String, T> {
+    ghost made = { λ map entries. GivesLast (λ key. hash.get_by_text map key) entries };
+
+    fn none(alloc: Global) -> HashMap<String, T> {
+        HashMap::new(alloc)
+    }
+
+    fn put(&mut self, key: String, value: T) -> Result<(), AllocError> {
+        match self.insert(key, value) {
+            Ok(_) => Ok(()),
+            Err(_) => Err(AllocError),
+        }
+    }
+}
+
 // Reads so many keys with values, in order. Nothing is reserved from their number. That memory was refused isn't marked yet.
-pub(crate) fn read_entries<T: ValueDeserialize, S: ByteSource>(
+pub(crate) fn read_entries<T: ValueDeserialize, C: Entries<T>, S: ByteSource>(
     alloc: Global,
     reader: &mut StoreReader<S>,
     announced: u64,
-) -> Result<Vec<(String, T)>, DeserializeError>
+) -> Result<C, DeserializeError>
     requires { reader.old.has_failed ≡ false }
     ensures { Deserializes S.is_known S.left S.failures reader.old reader.new result
-        (EncodesInto (λ items xs. items.items ≡ xs)
-        (EncodesEntry T.is (version_of reader.old.version)) announced)
+        (EncodesInto C.made (EncodesEntry T.is (version_of reader.old.version)) announced)
         (InEach (EntryRefused T.refused (version_of reader.old.version))
         (EncodesEntry T.is (version_of reader.old.version)) announced) }
 {
-    let mut items = Vec::new(alloc);
-    for _ in 0..announced {
-        let item = reader.entry::<T>(alloc)?;
-        items.push(item)?;
-    }
-    Ok(items)
-}
-
-// Puts a value under its key, in place of an earlier one.
-fn put<T: Drop>(
-    map: &mut BTreeMap<String, T>,
-    key: String,
-    value: T,
-) -> Result<(), DeserializeError>
-    ensures put { OnOk result
-        ((q : List ℕ)
-        → tree.get_by_text map.new q
-        ≡ (if bytes_eq q (string_bytes key) then Some value else tree.get_by_text map.old
-        q)) }
-    ensures err { IfErr result (λ e. e ≡ errors.Memory) }
-{
-    match map.insert(key, value) {
-        Ok(_) => Ok(()),
-        Err(_) => Err(DeserializeError::Memory),
-    }
-}
-
-// Reads so many keys with values as a map. Of equal keys the last stands.
-pub(crate) fn read_map<T: ValueDeserialize, S: ByteSource>(
-    alloc: Global,
-    reader: &mut StoreReader<S>,
-    announced: u64,
-) -> Result<BTreeMap<String, T>, DeserializeError>
-    requires { reader.old.has_failed ≡ false }
-    ensures { Deserializes S.is_known S.left S.failures reader.old reader.new result
-        (EncodesInto (λ map xs. GivesLast (λ key. tree.get_by_text map key) xs)
-        (EncodesEntry T.is (version_of reader.old.version)) announced)
-        (InEach (EntryRefused T.refused (version_of reader.old.version))
-        (EncodesEntry T.is (version_of reader.old.version)) announced) }
-{
-    let mut map = BTreeMap::new(alloc);
+    let mut entries = C::none(alloc);
     for _ in 0..announced {
         let (key, value) = reader.entry::<T>(alloc)?;
-        put(&mut map, key, value)?;
+        entries.put(key, value)?;
     }
-    Ok(map)
-}
-
-// The same of a map by hashes.
-fn put_hashed<T: Drop>(
-    map: &mut HashMap<String, T>,
-    key: String,
-    value: T,
-) -> Result<(), DeserializeError>
-    ensures put { OnOk result
-        ((q : List ℕ)
-        → hash.get_by_text map.new q
-        ≡ (if bytes_eq q (string_bytes key) then Some value else hash.get_by_text map.old
-        q)) }
-    ensures err { IfErr result (λ e. e ≡ errors.Memory) }
-{
-    match map.insert(key, value) {
-        Ok(_) => Ok(()),
-        Err(_) => Err(DeserializeError::Memory),
-    }
-}
-
-pub(crate) fn read_hashed<T: ValueDeserialize, S: ByteSource>(
-    alloc: Global,
-    reader: &mut StoreReader<S>,
-    announced: u64,
-) -> Result<HashMap<String, T>, DeserializeError>
-    requires { reader.old.has_failed ≡ false }
-    ensures { Deserializes S.is_known S.left S.failures reader.old reader.new result
-        (EncodesInto (λ map xs. GivesLast (λ key. hash.get_by_text map key) xs)
-        (EncodesEntry T.is (version_of reader.old.version)) announced)
-        (InEach (EntryRefused T.refused (version_of reader.old.version))
-        (EncodesEntry T.is (version_of reader.old.version)) announced) }
-{
-    let mut map = HashMap::new(alloc);
-    for _ in 0..announced {
-        let (key, value) = reader.entry::<T>(alloc)?;
-        put_hashed(&mut map, key, value)?;
-    }
-    Ok(map)
+    Ok(entries)
 }
 
 /// The keys and values of an object, which are read one after the other.
@@ -162,7 +144,7 @@ impl<'de, S: ByteSource> BinaryObjectDeserializer<'de, S> {
             (self.entry.announced - self.entry.position)) }
     {
         let rest = self.announced.saturating_sub(self.position);
-        read_entries(alloc, self.reader, rest)
+        read_entries::<V, Vec<(String, V)>, S>(alloc, self.reader, rest)
     }
 
     /// Reads the next key with its value. None where as many were read as there are.

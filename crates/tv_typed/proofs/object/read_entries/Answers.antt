@@ -1,4 +1,3 @@
-use Rattle.std.proofs.Common.{◌≡◌, ◌∙◌, ◌++◌, ◌∷◌, [], ap}
 use Rattle.std.proofs.lemmas.Result.{err_from_is_err_and}
 use Rattle.tv_typed.specs.Lists.{EncodesEntry, EntryRefused}
 use Rattle.tv_reader.specs.Version.{version_of}
@@ -7,26 +6,26 @@ use Rattle.tv_typed.proofs.ListSteps.{at_version, entry_ended}
 use Rattle.tv_typed.proofs.object.read_entries.Goals as goal
 
 pub loop-init : goal.loop-init
-loop-init g c = into_none _ _ _ c.args.reader.now _ (λ items xs. items.items ≡ xs) (EncodesEntry g.T.ValueDeserialize.is (version_of c.args.reader.now.version)) c.requires c.new-items.ensures.items
+loop-init g c = into_none _ _ _ c.args.reader.now _ g.C.Entries.made (EncodesEntry g.T.ValueDeserialize.is (version_of c.args.reader.now.version)) c.requires c.none-entries.ensures
 
-pub returns-in_err-item : goal.returns-in_err-item
-returns-in_err-item g c =
+pub returns-in_err-key : goal.returns-in_err-key
+returns-in_err-key g c =
     let p = err_from_is_err_and c.from_residual.result c.from_residual.ensures.1 in
     let T = g.T.ValueDeserialize in
     let old = c.args.reader.now.version in
-    rw (p.1, p.2) (into_fail (λ items xs. items.items ≡ xs) (EncodesEntry T.is (version_of old)) (EntryRefused T.refused (version_of old)) _ (λ f nothing. entry_ended T.refused old f nothing) c.loop-test.true c.loop.invariant
-    (at_version (EncodesEntry T.is) (EntryRefused T.refused) old c.loop.invariant.same_version c.in_err-item.ensures.deserializes))
+    rw (p.1, p.2) (into_fail g.C.Entries.made (EncodesEntry T.is (version_of old)) (EntryRefused T.refused (version_of old)) _ (λ f nothing. entry_ended T.refused old f nothing) c.loop-test.true c.loop.invariant
+    (at_version (EncodesEntry T.is) (EntryRefused T.refused) old c.loop.invariant.same_version c.in_err-key.ensures.deserializes))
 
-pub returns-in_err-push : goal.returns-in_err-push
-returns-in_err-push g c =
-    let p = err_from_is_err_and c.from_residual-in_err-push.result c.from_residual-in_err-push.ensures.1 in
+pub returns-in_err-put : goal.returns-in_err-put
+returns-in_err-put g c =
+    let p = err_from_is_err_and c.from_residual-in_err-put.result c.from_residual-in_err-put.ensures.1 in
     let T = g.T.ValueDeserialize in
     let old = c.args.reader.now.version in
-    rw (p.1, p.2) (into_short (λ items xs. items.items ≡ xs) (EncodesEntry T.is (version_of old)) _ _ c.loop.invariant (at_version (EncodesEntry T.is) (EntryRefused T.refused) old c.loop.invariant.same_version c.in_ok-item.ensures.deserializes))
+    rw (p.1, p.2) (into_short g.C.Entries.made (EncodesEntry T.is (version_of old)) _ _ c.loop.invariant (at_version (EncodesEntry T.is) (EntryRefused T.refused) old c.loop.invariant.same_version c.in_ok-key.ensures.deserializes))
 
 pub loop-preserved : goal.loop-preserved
 loop-preserved g c =
     let T = g.T.ValueDeserialize in
     let old = c.args.reader.now.version in
-    into_more (λ items xs. items.items ≡ xs) (EncodesEntry T.is (version_of old)) c.push.new.self (λ xs made. c.in_ok-push.ensures.items ∙ ap (λ l. l ++ c.in_ok-item.item ∷ []) made) c.loop.invariant
-    (at_version (EncodesEntry T.is) (EntryRefused T.refused) old c.loop.invariant.same_version c.in_ok-item.ensures.deserializes)
+    into_more g.C.Entries.made (EncodesEntry T.is (version_of old)) c.put.new.self c.in_ok-put.ensures c.loop.invariant
+    (at_version (EncodesEntry T.is) (EntryRefused T.refused) old c.loop.invariant.same_version c.in_ok-key.ensures.deserializes)

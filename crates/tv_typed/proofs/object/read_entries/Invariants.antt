@@ -1,11 +1,11 @@
-use Rattle.std.proofs.Common.{◌≡◌, Ok}
+use Rattle.std.proofs.Common.{Ok}
 use Rattle.tv_typed.specs.Lists.{EncodesInto, EncodesEntry}
 use Rattle.tv_reader.specs.Version.{version_of}
 use Rattle.tv_typed.specs.Typed.{Deserializes}
 use Rattle.tv_typed.proofs.object.read_entries.Given as goal
 
--- the items so far are encoded by what was taken
+-- the entries so far are encoded by what was taken
 abbrev pub invariant-loop : goal.invariant-loop
 invariant-loop g l =
     let source = g.S.ByteSource in
-    Deserializes source.is_known source.left source.failures l.initial.reader l.reader (Ok l.items) (EncodesInto (λ items xs. items.items ≡ xs) (EncodesEntry g.T.ValueDeserialize.is (version_of l.initial.reader.version)) l.counter) (λ w e. ⊥)
+    Deserializes source.is_known source.left source.failures l.initial.reader l.reader (Ok l.entries) (EncodesInto g.C.Entries.made (EncodesEntry g.T.ValueDeserialize.is (version_of l.initial.reader.version)) l.counter) (λ w e. ⊥)

@@ -19,4 +19,4 @@ returns-in_err-announced g c =
 pub returns : goal.returns
 returns g c =
     let T = g.T.ValueDeserialize in
-    goes_told c.is_err-reader.result c.is_err-reader.ensures.value (object_then T.is T.refused (λ t map. MapOf T.is t (λ key. hash.get_by_text map key)) (λ map xs. GivesLast (λ key. hash.get_by_text map key) xs) (λ t map xs last o. record { pairs = xs; read = o; last = last }) c.args.kind c.in_ok-announced.ensures.reads c.read_hashed-answer.ensures)
+    goes_told c.is_err-reader.result c.is_err-reader.ensures.value (object_then T.is T.refused (λ t map. MapOf T.is t (λ key. hash.get_by_text map key)) (λ map xs. GivesLast (λ key. hash.get_by_text map key) xs) (λ t map xs last o. record { pairs = xs; read = o; last = last }) c.args.kind c.in_ok-announced.ensures.reads c.read_entries-answer.ensures)
