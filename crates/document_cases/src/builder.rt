@@ -29,7 +29,7 @@ pub fn answer(alloc: Global, calls: &[&str]) -> Result<String> {
 pub fn document(alloc: Global, calls: &[&str]) -> Result<CompactDoc> {
     let mut answers = String::new(alloc);
     let document = made(alloc, calls, &mut answers)?;
-    ensure!(answers.is_empty(), "a call was refused");
+    ensure!(answers.is_empty(), "a call was refused: {answers}");
     Ok(document)
 }
 
