@@ -6,7 +6,7 @@ use serde_json::Value;
 use std::alloc::Global;
 use tantivy_schema::common::{SliceSource, VecSink};
 use tantivy_schema::schema::document::{AddError, CompactDoc, Document};
-use tantivy_schema::store::{DocStoreVersion, read_document};
+use tantivy_schema::store::{DocStoreVersion, WriteVersion, migrate, read_document};
 
 /// A call that is made for each document.
 #[derive(Clone, Copy)]
@@ -23,6 +23,12 @@ pub enum Call {
     ToJson,
     /// From values to a document.
     Add,
+    /// From a document to stored bytes of version 3.
+    SerializeV3,
+    /// From stored bytes of version 3 to a document.
+    DeserializeV3,
+    /// From stored bytes of version 2 to those of version 3.
+    Migrate,
 }
 
 /// What a round did: for how many documents the call was made, how many it can't be made for yet, and how many bytes the answers
@@ -54,13 +60,16 @@ impl Round {
 }
 
 impl Call {
-    pub const ALL: [Call; 6] = [
+    pub const ALL: [Call; 9] = [
         Call::ReadJson,
         Call::ParseJson,
         Call::Serialize,
         Call::Deserialize,
         Call::ToJson,
         Call::Add,
+        Call::SerializeV3,
+        Call::DeserializeV3,
+        Call::Migrate,
     ];
 
     /// The name under which it is told.
@@ -72,6 +81,9 @@ impl Call {
             Call::Deserialize => "deserialize",
             Call::ToJson => "to_json",
             Call::Add => "add",
+            Call::SerializeV3 => "serialize_v3",
+            Call::DeserializeV3 => "deserialize_v3",
+            Call::Migrate => "migrate",
         }
     }
 
@@ -80,10 +92,17 @@ impl Call {
         match self {
             Call::ReadJson => read_each(alloc, workload),
             Call::ParseJson => parse_each(alloc, workload),
-            Call::Serialize => serialize_each(alloc, workload),
-            Call::Deserialize => deserialize_each(alloc, workload),
+            Call::Serialize => serialize_each(alloc, workload, WriteVersion::V2),
+            Call::Deserialize => deserialize_each(alloc, &workload.stored, DocStoreVersion::V2),
             Call::ToJson => print_each(alloc, workload),
             Call::Add => add_each(alloc, workload),
+            Call::SerializeV3 => serialize_each(alloc, workload, WriteVersion::V3),
+            Call::DeserializeV3 => deserialize_each(
+                alloc,
+                &workload.stored_v3,
+                DocStoreVersion::V3,
+            ),
+            Call::Migrate => migrate_each(alloc, workload),
         }
     }
 }
@@ -109,22 +128,22 @@ fn parse_each(alloc: Global, workload: &Workload) -> Result<Round> {
 }
 
 // All documents are written into one sink, one after the other: its memory is used again.
-fn serialize_each(alloc: Global, workload: &Workload) -> Result<Round> {
+fn serialize_each(alloc: Global, workload: &Workload, version: WriteVersion) -> Result<Round> {
     let mut round = Round::new();
     let mut sink = VecSink::new(alloc);
     for document in &workload.documents {
         sink.clear();
-        write_stored(&mut sink, &workload.schema, document)?;
+        write_stored(&mut sink, &workload.schema, document, version)?;
         round.made(sink.as_slice().len());
     }
     Ok(round)
 }
 
-fn deserialize_each(alloc: Global, workload: &Workload) -> Result<Round> {
+fn deserialize_each(alloc: Global, stored: &[Vec<u8>], version: DocStoreVersion) -> Result<Round> {
     let mut round = Round::new();
-    for bytes in &workload.stored {
+    for bytes in stored {
         let mut source = SliceSource::new(bytes.as_slice());
-        match read_document(alloc, &mut source, DocStoreVersion::V2) {
+        match read_document(alloc, &mut source, version) {
             Ok(document) => round.made(document.node_data().len()),
             Err(_) => round.left_out(),
         }
@@ -155,4 +174,19 @@ fn document_of(alloc: Global, pairs: &[Pair]) -> Result<CompactDoc, AddError> {
         document.add_field_value(pair.field, &&pair.value)?;
     }
     Ok(document)
+}
+
+fn migrate_each(alloc: Global, workload: &Workload) -> Result<Round> {
+    let mut round = Round::new();
+    let mut sink = VecSink::new(alloc);
+    for bytes in &workload.stored {
+        sink.clear();
+        let mut source = SliceSource::new(bytes.as_slice());
+        let (from, to) = (DocStoreVersion::V2, WriteVersion::V3);
+        match migrate(alloc, &mut source, from, &mut sink, to) {
+            Ok(()) => round.made(sink.as_slice().len()),
+            Err(_) => round.left_out(),
+        }
+    }
+    Ok(round)
 }

@@ -2,7 +2,8 @@
 //!
 //! Standard input holds the schema as JSON on its first line, and a document as JSON on each other line. Standard output says how
 //! many documents were accepted, how many bytes of JSON these have, and how many stored bytes. With the arguments `time N` standard
-//! error says for each call how many nanoseconds a document takes: the mean over N rounds, and that of the best round.
+//! error says for each call how many nanoseconds a document takes: the mean over N rounds, and that of the best round. `time N CALL`
+//! makes that call alone.
 #![tactic(auto)]
 
 mod calls;
@@ -23,16 +24,18 @@ fn main(rt: HostRuntime) -> Result<()> {
     println!(rt;
         "{documents} accepted documents, {json_len} bytes of JSON, {stored_len} stored bytes"
     )?;
-    if let Some(rounds) = rounds_wanted(&rt)? {
+    if let Some((rounds, name)) = rounds_wanted(&rt)? {
         for call in Call::ALL {
-            measure(&rt, &workload, call, rounds)?;
+            if name.is_empty() || name.as_str() == call.name() {
+                measure(&rt, &workload, call, rounds)?;
+            }
         }
     }
     Ok(())
 }
 
-// How many rounds the arguments `time N` ask for.
-fn rounds_wanted(rt: &(impl Env + AllocGlobal)) -> Result<Option<u32>> {
+// How many rounds the arguments `time N` or `time N CALL` ask for, and the call's name, which is empty where all are meant.
+fn rounds_wanted(rt: &(impl Env + AllocGlobal)) -> Result<Option<(u32, String)>> {
     let mut words = env::args(rt)?.skip(1);
     let Some(first) = words.next() else {
         return Ok(None);
@@ -41,13 +44,13 @@ fn rounds_wanted(rt: &(impl Env + AllocGlobal)) -> Result<Option<u32>> {
         return Ok(None);
     }
     let number = words.next().context("how many rounds?")?;
-    Ok(Some(
-        number
-            .as_str()
-            .parse::<u32>()
-            .ok()
-            .context("a number of rounds")?,
-    ))
+    let rounds = number
+        .as_str()
+        .parse::<u32>()
+        .ok()
+        .context("a number of rounds")?;
+    let name = words.next().unwrap_or(String::new(rt.alloc()));
+    Ok(Some((rounds, name)))
 }
 
 // Makes the call for each document, in so many rounds, and says what a document takes.

@@ -6,6 +6,7 @@ use std::io::{BufRead, BufReader};
 use tantivy_schema::common::VecSink;
 use tantivy_schema::schema::document::{BinaryDocumentSerializer, CompactDoc, OwnedValue};
 use tantivy_schema::schema::{Field, Schema};
+use tantivy_schema::store::WriteVersion;
 
 /// A pair of a document, with a value of its own.
 #[derive(Drop)]
@@ -14,7 +15,8 @@ pub struct Pair {
     pub value: OwnedValue,
 }
 
-/// A schema, and the documents that it accepts: as JSON, as documents, as lists of pairs, and as stored bytes.
+/// A schema, and the documents that it accepts: as JSON, as documents, as lists of pairs, and as stored bytes of
+/// version 2 and of version 3.
 #[derive(Drop)]
 pub struct Workload {
     pub schema: Schema,
@@ -22,6 +24,7 @@ pub struct Workload {
     pub documents: Vec<CompactDoc>,
     pub pairs: Vec<Vec<Pair>>,
     pub stored: Vec<Vec<u8>>,
+    pub stored_v3: Vec<Vec<u8>>,
 }
 
 impl Workload {
@@ -47,16 +50,15 @@ impl Workload {
         for document in &documents {
             pairs.push(pairs_of(alloc, document)?)?;
         }
-        let mut stored = Vec::new(alloc);
-        for document in &documents {
-            stored.push(stored_bytes(alloc, &schema, document)?)?;
-        }
+        let stored = stored_of(alloc, &schema, documents.as_slice(), WriteVersion::V2)?;
+        let stored_v3 = stored_of(alloc, &schema, documents.as_slice(), WriteVersion::V3)?;
         Ok(Workload {
             schema,
             lines,
             documents,
             pairs,
             stored,
+            stored_v3,
         })
     }
 
@@ -96,16 +98,30 @@ fn pairs_of(alloc: Global, document: &CompactDoc) -> Result<Vec<Pair>> {
     Ok(pairs)
 }
 
-fn stored_bytes(alloc: Global, schema: &Schema, document: &CompactDoc) -> Result<Vec<u8>> {
-    let mut sink = VecSink::new(alloc);
-    write_stored(&mut sink, schema, document)?;
-    Ok(sink.into_vec())
+fn stored_of(
+    alloc: Global,
+    schema: &Schema,
+    documents: &[CompactDoc],
+    version: WriteVersion,
+) -> Result<Vec<Vec<u8>>> {
+    let mut stored = Vec::new(alloc);
+    for document in documents {
+        let mut sink = VecSink::new(alloc);
+        write_stored(&mut sink, schema, document, version)?;
+        stored.push(sink.into_vec())?;
+    }
+    Ok(stored)
 }
 
 /// Writes the stored bytes of a document whose fields belong to the schema; nothing of another.
-pub fn write_stored(sink: &mut VecSink, schema: &Schema, document: &CompactDoc) -> Result<()> {
+pub fn write_stored(
+    sink: &mut VecSink,
+    schema: &Schema,
+    document: &CompactDoc,
+    version: WriteVersion,
+) -> Result<()> {
     if document.fits(schema) {
-        BinaryDocumentSerializer::new(sink, schema).serialize_doc(document)?;
+        BinaryDocumentSerializer::with_version(sink, schema, version).serialize_doc(document)?;
     }
     Ok(())
 }
