@@ -3,14 +3,14 @@
 #![tactic(auto)]
 
 pub mod leaves;
+pub mod parts;
 
 use anyhow::{Context, Result, ensure};
 use std::alloc::Global;
 use std::cmp::Ordering;
 use std::convert::AsStr;
-use std::fmt::{Debug, Display, Write};
+use std::fmt::{Debug, Display};
 use std::hash::{DefaultHasher, Hash, Hasher};
-use std::net::Ipv6Addr;
 use std::str::FromStr;
 use tv_options::Type;
 use tv_value::field::Field;
@@ -75,59 +75,19 @@ pub fn digits(alloc: Global, bytes: &[u8]) -> Result<String> {
     Ok(hex::encode(alloc, bytes)?)
 }
 
+/// A value as it is displayed.
+pub fn plain(alloc: Global, value: &impl Display) -> Result<String> {
+    Ok(format!(in alloc; "{value}")?)
+}
+
+/// The word `none`.
+pub fn none(alloc: Global) -> Result<String> {
+    Ok(String::from_str(alloc, "none")?)
+}
+
 /// The answer of a call that failed.
 pub fn error(alloc: Global, error: &impl Debug) -> Result<String> {
     Ok(format!(in alloc; "error {error:?}")?)
-}
-
-/// Appends a name and a value, if there is one.
-pub fn push_named<T: Display + Drop>(
-    answer: &mut String,
-    name: &str,
-    value: Option<T>,
-) -> Result<()> {
-    if let Some(value) = value {
-        write!(answer, " {name} {value}")?;
-    }
-    Ok(())
-}
-
-/// Appends a name and a text in quotes, if there is one.
-pub fn push_text(alloc: Global, answer: &mut String, name: &str, text: Option<&str>) -> Result<()> {
-    match text {
-        Some(text) => push_named(answer, name, Some(quoted(alloc, text)?)),
-        None => Ok(()),
-    }
-}
-
-/// Appends a name and the digits of a byte string, if there is one.
-pub fn push_bytes(
-    alloc: Global,
-    answer: &mut String,
-    name: &str,
-    bytes: Option<&[u8]>,
-) -> Result<()> {
-    match bytes {
-        Some(bytes) => push_named(answer, name, Some(digits(alloc, bytes)?)),
-        None => Ok(()),
-    }
-}
-
-/// Appends the digits of an address, if there is one.
-pub fn push_address(answer: &mut String, address: Option<Ipv6Addr>) -> Result<()> {
-    if let Some(address) = address {
-        let bits = address.to_bits();
-        write!(answer, " ip {bits:032x}")?;
-    }
-    Ok(())
-}
-
-/// Appends a name, if it holds.
-pub fn push_flag(answer: &mut String, name: &str, holds: bool) -> Result<()> {
-    if holds {
-        write!(answer, " {name}")?;
-    }
-    Ok(())
 }
 
 /// The type of a code, which is a letter.
@@ -159,6 +119,17 @@ pub fn parted(word: &str) -> (&str, &str) {
     word.split_once(' ').unwrap_or((word, ""))
 }
 
+/// The value of a result as it is displayed, or its error behind the word `error`.
+pub fn told<T: Display + Drop, E: Debug + Drop>(
+    alloc: Global,
+    answer: Result<T, E>,
+) -> Result<String> {
+    match answer {
+        Ok(value) => plain(alloc, &value),
+        Err(failure) => error(alloc, &failure),
+    }
+}
+
 /// The value of a result, as Rust prints it, or its error behind the word `error`.
 pub fn shown<T: Debug + Drop, E: Debug + Drop>(
     alloc: Global,
@@ -166,6 +137,6 @@ pub fn shown<T: Debug + Drop, E: Debug + Drop>(
 ) -> Result<String> {
     match answer {
         Ok(value) => Ok(format!(in alloc; "{value:?}")?),
-        Err(error) => Ok(format!(in alloc; "error {error:?}")?),
+        Err(failure) => error(alloc, &failure),
     }
 }

@@ -9,33 +9,39 @@ use tv_date::{DATE_TIME_PRECISION_INDEXED, DateTime, DateTimePrecision};
 /// What a call about dates returns.
 pub fn answer(alloc: Global, call: &[&str]) -> Result<String> {
     match call {
-        ["read", text] => match DateTime::from_rfc3339(words::text(alloc, text)?.as_str()) {
-            Ok(date) => shown(alloc, date),
-            Err(error) => words::error(alloc, &error),
-        },
+        ["read", text] => read(alloc, text),
         ["print", nanoseconds] => printed(alloc, leaves::date(nanoseconds)?),
-        ["truncate", precision, nanoseconds] => {
-            let date = leaves::date(nanoseconds)?;
-            let cut = date.truncate(precision_named(precision)?);
-            let order = words::compared(alloc, &date, &cut)?;
-            let cut = cut.into_timestamp_nanos();
-            Ok(format!(in alloc; "{cut} {order}")?)
-        }
-        ["micros", microseconds] => {
-            match DateTime::from_timestamp_micros(words::number(microseconds)?) {
-                Some(date) => shown(alloc, date),
-                None => Ok(String::from_str(alloc, "none")?),
-            }
-        }
+        ["truncate", precision, nanoseconds] => truncated(alloc, precision, nanoseconds),
+        ["micros", microseconds] => of_microseconds(alloc, words::number(microseconds)?),
         ["indexed precision"] => Ok(format!(in alloc; "{DATE_TIME_PRECISION_INDEXED:?}")?),
         _ => Err(anyhow!("an unknown call about dates")),
     }
 }
 
-// How many nanoseconds after 1970 a date is.
-fn shown(alloc: Global, date: DateTime) -> Result<String> {
-    let nanoseconds = date.into_timestamp_nanos();
-    Ok(format!(in alloc; "{nanoseconds}")?)
+// The date of a text.
+fn read(alloc: Global, word: &str) -> Result<String> {
+    let text = words::text(alloc, word)?;
+    match DateTime::from_rfc3339(text.as_str()) {
+        Ok(date) => words::plain(alloc, &date.into_timestamp_nanos()),
+        Err(error) => words::error(alloc, &error),
+    }
+}
+
+// The date so many microseconds after 1970.
+fn of_microseconds(alloc: Global, microseconds: i64) -> Result<String> {
+    match DateTime::from_timestamp_micros(microseconds) {
+        Some(date) => words::plain(alloc, &date.into_timestamp_nanos()),
+        None => words::none(alloc),
+    }
+}
+
+// A date that is cut to a precision, and how the date compares with it.
+fn truncated(alloc: Global, precision: &str, nanoseconds: &str) -> Result<String> {
+    let date = leaves::date(nanoseconds)?;
+    let cut = date.truncate(precision_named(precision)?);
+    let order = words::compared(alloc, &date, &cut)?;
+    let cut = cut.into_timestamp_nanos();
+    Ok(format!(in alloc; "{cut} {order}")?)
 }
 
 // The text of a date. It is the same behind another text.

@@ -1,6 +1,6 @@
 //! Facets: of texts, of steps and of encoded bytes, compared and printed.
 
-use anyhow::{Result, anyhow, ensure};
+use anyhow::{Context, Result, anyhow, ensure};
 use case_words as words;
 use case_words::leaves::facet;
 use std::alloc::Global;
@@ -10,88 +10,98 @@ use tv_base::{BinarySerializable, Facet, SliceSource, VecSink};
 pub fn answer(alloc: Global, call: &[&str]) -> Result<String> {
     match call {
         ["root"] => shown(alloc, &Facet::root(alloc)),
-        ["text", text] => match Facet::from_text(alloc, words::text(alloc, text)?.as_str()) {
-            Ok(facet) => shown(alloc, &facet),
-            Err(error) => words::error(alloc, &error),
-        },
-        ["steps", steps] => shown(alloc, &of_steps(alloc, steps)?),
-        ["encoded", digits] => match Facet::from_encoded(words::bytes(alloc, digits)?) {
-            Ok(facet) => shown(alloc, &facet),
-            Err(error) => {
-                let refused = words::digits(alloc, &error.into_bytes())?;
-                Ok(format!(in alloc; "error FromUtf8Error {refused}")?)
-            }
-        },
+        ["text", text] => of_text(alloc, text),
+        ["steps", steps] => of_steps(alloc, steps),
+        ["encoded", digits] => of_bytes(alloc, digits),
         ["prefix", upper, lower] => {
-            let is_prefix = facet(alloc, upper)?.is_prefix_of(&facet(alloc, lower)?);
-            Ok(format!(in alloc; "{is_prefix}")?)
+            let (upper, lower) = two(alloc, upper, lower)?;
+            words::plain(alloc, &upper.is_prefix_of(&lower))
         }
         ["compare", one, other] => {
-            words::compared(alloc, &facet(alloc, one)?, &facet(alloc, other)?)
+            let (one, other) = two(alloc, one, other)?;
+            words::compared(alloc, &one, &other)
         }
         _ => Err(anyhow!("an unknown call about facets")),
     }
 }
 
+// The facets of two texts.
+fn two(alloc: Global, one: &str, other: &str) -> Result<(Facet, Facet)> {
+    let one = facet(alloc, one)?;
+    Ok((one, facet(alloc, other)?))
+}
+
+// The facet of a text.
+fn of_text(alloc: Global, word: &str) -> Result<String> {
+    let text = words::text(alloc, word)?;
+    match Facet::from_text(alloc, text.as_str()) {
+        Ok(facet) => shown(alloc, &facet),
+        Err(error) => words::error(alloc, &error),
+    }
+}
+
+// The facet of encoded bytes.
+fn of_bytes(alloc: Global, digits: &str) -> Result<String> {
+    match Facet::from_encoded(words::bytes(alloc, digits)?) {
+        Ok(facet) => shown(alloc, &facet),
+        Err(error) => {
+            let refused = words::digits(alloc, &error.into_bytes())?;
+            Ok(format!(in alloc; "error FromUtf8Error {refused}")?)
+        }
+    }
+}
+
 // The facet of a JSON array of steps.
-fn of_steps(alloc: Global, word: &str) -> Result<Facet> {
+fn of_steps(alloc: Global, word: &str) -> Result<String> {
     let texts = words::texts(alloc, word)?;
     let steps: Vec<&str> = texts.iter().map(|step| step.as_str()).collect(alloc)?;
-    Ok(Facet::from_path(alloc, &steps)?)
+    shown(alloc, &Facet::from_path(alloc, &steps)?)
 }
 
 // The encoded text of a facet, the printed text, the steps, and whether it is the root.
 fn shown(alloc: Global, facet: &Facet) -> Result<String> {
     let printed = facet.to_path_string(alloc)?;
-    ensure!(
-        is_printed(alloc, facet, printed.as_str())?,
-        "printed otherwise"
-    );
-    ensure!(
-        is_kept(alloc, facet, printed.as_str())?,
-        "read back otherwise"
-    );
-    let mut answer = words::quoted(alloc, facet.encoded_str())?;
-    answer.push_str(" ")?;
-    answer.push_str(words::quoted(alloc, printed.as_str())?.as_str())?;
-    answer.push_str(" ")?;
-    answer.push_str(words::quoted_all(alloc, facet.to_path(alloc)?.as_slice())?.as_str())?;
-    if facet.is_root() {
-        answer.push_str(" root")?;
-    }
-    Ok(answer)
+    check_printed(alloc, facet, printed.as_str())?;
+    check_kept(alloc, facet, printed.as_str())?;
+    let encoded = words::quoted(alloc, facet.encoded_str())?;
+    let printed = words::quoted(alloc, printed.as_str())?;
+    let steps = steps(alloc, facet)?;
+    let root = if facet.is_root() { " root" } else { "" };
+    Ok(format!(in alloc; "{encoded} {printed} {steps}{root}")?)
 }
 
-// Whether all ways to print a facet give this text.
-fn is_printed(alloc: Global, facet: &Facet, printed: &str) -> Result<bool> {
+// The steps of a facet.
+fn steps(alloc: Global, facet: &Facet) -> Result<String> {
+    let steps = facet.to_path(alloc)?;
+    words::quoted_all(alloc, steps.as_slice())
+}
+
+// Checks that all ways to print a facet give this text.
+fn check_printed(alloc: Global, facet: &Facet, printed: &str) -> Result<()> {
     let mut encoded = String::new(alloc);
     Facet::print_encoded(facet.encoded_str(), &mut encoded)?;
-    let debugged = format!(in alloc; "{facet:?}")?;
-    Ok(
-        encoded.as_str() == printed
-            && format!(in alloc; "{facet}")?.as_str() == printed
-            && debugged.as_str() == format!(in alloc; "Facet({printed})")?.as_str(),
-    )
+    let all = format!(in alloc; "{encoded} {facet} {facet:?}")?;
+    let expected = format!(in alloc; "{printed} {printed} Facet({printed})")?;
+    ensure!(all == expected, "printed otherwise");
+    Ok(())
 }
 
-// Whether the facet is read again from what is printed and from what is written, and a copy is equal and has the same hash.
-fn is_kept(alloc: Global, facet: &Facet, printed: &str) -> Result<bool> {
+// Checks that the facet is read again from what is printed and from what is written, and that a copy is equal and has the same hash.
+fn check_kept(alloc: Global, facet: &Facet, printed: &str) -> Result<()> {
     let read = Facet::from_text(alloc, printed)?;
     let copy = facet.try_clone(alloc)?;
-    Ok(
-        read == *facet
-            && copy == *facet
-            && words::hash(&copy) == words::hash(facet)
-            && is_read_back(alloc, facet)?,
-    )
+    let read_back = read_back(alloc, facet)?;
+    let is_kept = read == *facet && copy == *facet && read_back == *facet;
+    ensure!(
+        is_kept && words::hash(&copy) == words::hash(facet),
+        "read back otherwise"
+    );
+    Ok(())
 }
 
-// Whether the facet is read again from what is written.
-fn is_read_back(alloc: Global, facet: &Facet) -> Result<bool> {
+// The facet that is read again from what is written.
+fn read_back(alloc: Global, facet: &Facet) -> Result<Facet> {
     let mut sink = VecSink::new(alloc);
-    if facet.serialize(&mut sink).is_err() {
-        return Err(anyhow!("memory was refused"));
-    }
-    let read = Facet::deserialize(alloc, &mut SliceSource::new(sink.as_slice()))?;
-    Ok(read == *facet)
+    facet.serialize(&mut sink).ok().context("memory")?;
+    Ok(Facet::deserialize(alloc, &mut SliceSource::new(sink.as_slice()))?)
 }

@@ -2,33 +2,40 @@
 
 use anyhow::{Context, Result, anyhow};
 use case_words as words;
+use case_words::leaves::facet;
 use std::alloc::Global;
-use std::fmt::Display;
+use std::fmt::Write;
 use std::io;
 use std::io::Read;
-use tv_base::{
-    BinarySerializable, ByteSink, ByteSource, Facet, ReadError, SliceSource, VInt, VecSink,
-};
+use std::str::FromStr;
+use tv_base::{BinarySerializable, ByteSink, ByteSource, Facet, SliceSource, VInt, VecSink};
 use tv_io::{ReadSource, WriteSink};
 
 /// What a call about numbers returns.
 pub fn answer(alloc: Global, call: &[&str]) -> Result<String> {
     match call {
         ["read", source, kinds, digits] => {
-            let source: Vec<&str> = source.split(' ').collect(alloc)?;
-            read(alloc, &source, kinds, &words::bytes(alloc, digits)?)
+            read(alloc, source, kinds, &words::bytes(alloc, digits)?)
         }
-        ["find", digits] => match VInt::from_slice(&words::bytes(alloc, digits)?) {
-            Some((number, length)) => Ok(format!(in alloc; "{number} {length}")?),
-            None => Ok(String::from_str(alloc, "none")?),
-        },
-        ["encode", number] => {
-            let (bytes, length) = VInt(words::number(number)?).encoding();
-            words::digits(alloc, bytes.get(..length).context("ten bytes at most")?)
-        }
+        ["find", digits] => found(alloc, &words::bytes(alloc, digits)?),
+        ["encode", number] => encoded(alloc, words::number(number)?),
         ["write", sink, values @ ..] => write(alloc, sink, values),
         _ => Err(anyhow!("an unknown call about numbers")),
     }
+}
+
+// The number that bytes begin with, and how many bytes it has.
+fn found(alloc: Global, bytes: &[u8]) -> Result<String> {
+    match VInt::from_slice(bytes) {
+        Some((number, length)) => Ok(format!(in alloc; "{number} {length}")?),
+        None => words::none(alloc),
+    }
+}
+
+// The bytes of a number.
+fn encoded(alloc: Global, number: u64) -> Result<String> {
+    let (bytes, length) = VInt(number).encoding();
+    words::digits(alloc, bytes.get(..length).context("ten bytes at most")?)
 }
 
 // Gives so many of its bytes, and then fails with errors of this kind.
@@ -62,27 +69,49 @@ fn error_kind(word: &str) -> Result<io::ErrorKind> {
 }
 
 // What a source of these bytes reads as values of these kinds, and the bytes that it has left.
-fn read(alloc: Global, source: &[&str], kinds: &str, bytes: &[u8]) -> Result<String> {
-    let (values, rest) = match source {
-        ["whole"] => {
-            let mut whole = SliceSource::new(bytes);
-            (read_all(alloc, &mut whole, kinds)?, whole.rest())
-        }
-        ["reader"] => {
-            let mut reader = ReadSource::new(bytes);
-            (read_all(alloc, &mut reader, kinds)?, reader.into_inner())
-        }
-        ["fails", good, kind] => {
-            let mut reader = ReadSource::new(FailingReader {
-                rest: bytes,
-                good: words::number(good)?,
-                kind: error_kind(kind)?,
-            });
-            let values = read_all(alloc, &mut reader, kinds)?;
-            (values, reader.into_inner().rest)
-        }
-        _ => return Err(anyhow!("an unknown source")),
-    };
+fn read(alloc: Global, source: &str, kinds: &str, bytes: &[u8]) -> Result<String> {
+    let source: Vec<&str> = source.split(' ').collect(alloc)?;
+    match source.as_slice() {
+        ["whole"] => read_whole(alloc, kinds, bytes),
+        ["reader"] => read_through(alloc, kinds, bytes),
+        ["fails", good, kind] => read_failing(alloc, kinds, bytes, good, kind),
+        _ => Err(anyhow!("an unknown source")),
+    }
+}
+
+// What is read of bytes that are there at once.
+fn read_whole(alloc: Global, kinds: &str, bytes: &[u8]) -> Result<String> {
+    let mut whole = SliceSource::new(bytes);
+    let values = read_all(alloc, &mut whole, kinds)?;
+    ended(alloc, values.as_str(), whole.rest())
+}
+
+// What is read through a reader of std.
+fn read_through(alloc: Global, kinds: &str, bytes: &[u8]) -> Result<String> {
+    let mut reader = ReadSource::new(bytes);
+    let values = read_all(alloc, &mut reader, kinds)?;
+    ended(alloc, values.as_str(), reader.into_inner())
+}
+
+// What is read through a reader that gives so many bytes, and then fails.
+fn read_failing(
+    alloc: Global,
+    kinds: &str,
+    bytes: &[u8],
+    good: &str,
+    kind: &str,
+) -> Result<String> {
+    let mut reader = ReadSource::new(FailingReader {
+        rest: bytes,
+        good: words::number(good)?,
+        kind: error_kind(kind)?,
+    });
+    let values = read_all(alloc, &mut reader, kinds)?;
+    ended(alloc, values.as_str(), reader.into_inner().rest)
+}
+
+// Values that were read, and the bytes that are left.
+fn ended(alloc: Global, values: &str, rest: &[u8]) -> Result<String> {
     let rest = words::digits(alloc, rest)?;
     Ok(format!(in alloc; "{values}left {rest}")?)
 }
@@ -91,8 +120,8 @@ fn read(alloc: Global, source: &[&str], kinds: &str, bytes: &[u8]) -> Result<Str
 fn read_all<S: ByteSource>(alloc: Global, source: &mut S, kinds: &str) -> Result<String> {
     let mut values = String::new(alloc);
     for kind in kinds.split(' ') {
-        values.push_str(read_one(alloc, source, kind)?.as_str())?;
-        values.push_str(", ")?;
+        let value = read_one(alloc, source, kind)?;
+        write!(values, "{value}, ")?;
     }
     Ok(values)
 }
@@ -100,25 +129,17 @@ fn read_all<S: ByteSource>(alloc: Global, source: &mut S, kinds: &str) -> Result
 // What is read as a value of this kind.
 fn read_one<S: ByteSource>(alloc: Global, source: &mut S, kind: &str) -> Result<String> {
     match kind {
-        "vint" => shown(
-            alloc,
-            VInt::deserialize(alloc, source).map(|number| number.0),
-        ),
-        "u8" => shown(alloc, u8::deserialize(alloc, source)),
-        "u32" => shown(alloc, u32::deserialize(alloc, source)),
-        "u64" => shown(alloc, u64::deserialize(alloc, source)),
-        "i64" => shown(alloc, i64::deserialize(alloc, source)),
-        "u128" => shown(alloc, u128::deserialize(alloc, source)),
-        "bool" => shown(alloc, bool::deserialize(alloc, source)),
+        "vint" => match VInt::deserialize(alloc, source) {
+            Ok(number) => words::plain(alloc, &number.0),
+            Err(error) => words::error(alloc, &error),
+        },
+        "u8" => words::told(alloc, u8::deserialize(alloc, source)),
+        "u32" => words::told(alloc, u32::deserialize(alloc, source)),
+        "u64" => words::told(alloc, u64::deserialize(alloc, source)),
+        "i64" => words::told(alloc, i64::deserialize(alloc, source)),
+        "u128" => words::told(alloc, u128::deserialize(alloc, source)),
+        "bool" => words::told(alloc, bool::deserialize(alloc, source)),
         _ => read_bytes(alloc, source, kind),
-    }
-}
-
-// A value that was read, or why none was.
-fn shown<T: Display + Drop>(alloc: Global, value: Result<T, ReadError>) -> Result<String> {
-    match value {
-        Ok(value) => Ok(format!(in alloc; "{value}")?),
-        Err(error) => words::error(alloc, &error),
     }
 }
 
@@ -144,25 +165,34 @@ fn read_bytes<S: ByteSource>(alloc: Global, source: &mut S, kind: &str) -> Resul
 // The bytes that a sink holds when these values, each behind its kind, are written to it, and why it took no more.
 fn write(alloc: Global, sink: &str, values: &[&str]) -> Result<String> {
     match sink {
-        "memory" => {
-            let mut sink = VecSink::new(alloc);
-            let failure = write_all(alloc, &mut sink, values)?;
-            written(alloc, &sink.into_vec(), failure)
-        }
-        "writer" => {
-            let mut sink = WriteSink::new(Vec::new(alloc));
-            let failure = write_all(alloc, &mut sink, values)?;
-            written(alloc, sink.into_inner().as_slice(), failure)
-        }
-        _ => {
-            let mut room = vec![in alloc; 0u8; words::number(sink)?]?;
-            let mut sink = WriteSink::new(room.as_mut_slice());
-            let failure = write_all(alloc, &mut sink, values)?;
-            let left = sink.into_inner().len();
-            let filled = room.len().saturating_sub(left);
-            written(alloc, &room[..filled], failure)
-        }
+        "memory" => write_to_memory(alloc, values),
+        "writer" => write_to_writer(alloc, values),
+        _ => write_to_room(alloc, words::number(sink)?, values),
     }
+}
+
+// What is written to a sink in memory.
+fn write_to_memory(alloc: Global, values: &[&str]) -> Result<String> {
+    let mut sink = VecSink::new(alloc);
+    let failure = write_all(alloc, &mut sink, values)?;
+    written(alloc, &sink.into_vec(), failure)
+}
+
+// What is written through a writer of std.
+fn write_to_writer(alloc: Global, values: &[&str]) -> Result<String> {
+    let mut sink = WriteSink::new(Vec::new(alloc));
+    let failure = write_all(alloc, &mut sink, values)?;
+    written(alloc, sink.into_inner().as_slice(), failure)
+}
+
+// What is written through a writer of std that has room for so many bytes.
+fn write_to_room(alloc: Global, length: usize, values: &[&str]) -> Result<String> {
+    let mut room = vec![in alloc; 0u8; length]?;
+    let mut sink = WriteSink::new(room.as_mut_slice());
+    let failure = write_all(alloc, &mut sink, values)?;
+    let left = sink.into_inner().len();
+    let filled = room.len().saturating_sub(left);
+    written(alloc, &room[..filled], failure)
 }
 
 // Bytes that were written, and why no more were.
@@ -197,17 +227,39 @@ fn write_one<K: ByteSink>(
     kind: &str,
     value: &str,
 ) -> Result<Result<(), io::ErrorKind>> {
-    Ok(match kind {
-        "vint" => VInt(words::number(value)?).serialize(sink),
-        "u8" => words::number::<u8>(value)?.serialize(sink),
-        "u32" => words::number::<u32>(value)?.serialize(sink),
-        "u64" => words::number::<u64>(value)?.serialize(sink),
-        "i64" => words::number::<i64>(value)?.serialize(sink),
-        "u128" => words::number::<u128>(value)?.serialize(sink),
-        "bool" => (value == "true").serialize(sink),
-        "text" => words::text(alloc, value)?.serialize(sink),
-        "bytes" => words::bytes(alloc, value)?.serialize(sink),
-        "facet" => Facet::from_text(alloc, words::text(alloc, value)?.as_str())?.serialize(sink),
-        _ => return Err(anyhow!("an unknown kind of value")),
-    })
+    match kind {
+        "vint" => Ok(VInt(words::number(value)?).serialize(sink)),
+        "u8" => write_number::<u8, K>(sink, value),
+        "u32" => write_number::<u32, K>(sink, value),
+        "u64" => write_number::<u64, K>(sink, value),
+        "i64" => write_number::<i64, K>(sink, value),
+        "u128" => write_number::<u128, K>(sink, value),
+        "bool" => Ok((value == "true").serialize(sink)),
+        _ => write_bytes(alloc, sink, kind, value),
+    }
+}
+
+// Writes a number, and returns what the sink answered.
+fn write_number<T, K: ByteSink>(sink: &mut K, digits: &str) -> Result<Result<(), io::ErrorKind>>
+where
+    T: FromStr + BinarySerializable + Drop,
+    T::Err: Drop,
+{
+    let number: T = words::number(digits)?;
+    Ok(number.serialize(sink))
+}
+
+// Writes a text, a byte string or a facet, and returns what the sink answered.
+fn write_bytes<K: ByteSink>(
+    alloc: Global,
+    sink: &mut K,
+    kind: &str,
+    value: &str,
+) -> Result<Result<(), io::ErrorKind>> {
+    match kind {
+        "text" => Ok(words::text(alloc, value)?.serialize(sink)),
+        "bytes" => Ok(words::bytes(alloc, value)?.serialize(sink)),
+        "facet" => Ok(facet(alloc, value)?.serialize(sink)),
+        _ => Err(anyhow!("an unknown kind of value")),
+    }
 }

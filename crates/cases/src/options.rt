@@ -2,8 +2,8 @@
 
 use anyhow::{Context, Result, anyhow, ensure};
 use case_words as words;
+use case_words::parts::{Part, push_parts};
 use std::alloc::Global;
-use std::fmt::Write;
 use tv_date::DateTimePrecision;
 use tv_field::{FieldEntry, FieldType};
 use tv_options::{
@@ -16,54 +16,70 @@ use tv_schema::Schema;
 /// What a call about options returns.
 pub fn answer(alloc: Global, call: &[&str]) -> Result<String> {
     match call {
-        ["of", kind, steps] => {
-            let mut field_type = unset(kind)?;
-            for step in steps.split(' ') {
-                field_type = changed(alloc, field_type, step)?;
-            }
-            shown(alloc, field_type)
-        }
-        ["record", one, other] => {
-            let (one, other) = (record_named(one)?, record_named(other)?);
-            let (order, least) = (words::compared(alloc, &one, &other)?, one.downgrade(other));
-            Ok(format!(in alloc; "{order} {least:?}")?)
-        }
-        ["record"] => {
-            let record = IndexRecordOption::default();
-            Ok(format!(in alloc; "{record:?}")?)
-        }
-        ["tokenizer", name] => {
-            let name = words::text(alloc, name)?;
-            let name = TokenizerName::from_name(alloc, name.as_str())?;
-            ensure!(name.try_clone(alloc)? == name, "a copy is not equal");
-            let is_default = name == TokenizerName::default();
-            let name = words::quoted(alloc, name.name())?;
-            Ok(format!(in alloc; "{name} {is_default}")?)
-        }
+        ["of", kind, steps] => of_steps(alloc, kind, steps),
+        ["record", one, other] => compared_records(alloc, one, other),
+        ["record"] => Ok(format!(in alloc; "{:?}", IndexRecordOption::default())?),
+        ["tokenizer", name] => tokenizer(alloc, name),
         _ => Err(anyhow!("an unknown call about options")),
     }
+}
+
+// The options of a type of fields after these steps.
+fn of_steps(alloc: Global, kind: &str, steps: &str) -> Result<String> {
+    let mut field_type = unset(kind)?;
+    for step in steps.split(' ') {
+        field_type = changed(alloc, field_type, step)?;
+    }
+    shown(alloc, field_type)
+}
+
+// How two record options compare, and the lesser of both.
+fn compared_records(alloc: Global, one: &str, other: &str) -> Result<String> {
+    let one = record_named(one)?;
+    let other = record_named(other)?;
+    let (order, least) = (words::compared(alloc, &one, &other)?, one.downgrade(other));
+    Ok(format!(in alloc; "{order} {least:?}")?)
+}
+
+// The name of a tokenizer, and whether it is the default.
+fn tokenizer(alloc: Global, word: &str) -> Result<String> {
+    let text = words::text(alloc, word)?;
+    let name = TokenizerName::from_name(alloc, text.as_str())?;
+    ensure!(name.try_clone(alloc)? == name, "a copy is not equal");
+    let is_default = name == TokenizerName::default();
+    let name = words::quoted(alloc, name.name())?;
+    Ok(format!(in alloc; "{name} {is_default}")?)
 }
 
 /// What a call about types returns.
 pub fn answer_types(alloc: Global, call: &[&str]) -> Result<String> {
     match call {
-        ["all"] => {
-            let mut codes = String::new(alloc);
-            for value_type in Type::iter_values() {
-                ensure!(value_type as u8 == value_type.to_code(), "two codes");
-                codes.push(char::from(value_type.to_code()))?;
-            }
-            Ok(codes)
-        }
-        ["of", code] => {
-            let code = code.bytes().next().context("a code")?;
-            let name = Type::from_code(code).map_or("none", |value_type| value_type.name());
-            Ok(String::from_str(alloc, name)?)
-        }
+        ["all"] => codes(alloc),
+        ["of", code] => type_name(alloc, code),
         ["compare", one, other] => {
-            words::compared(alloc, &words::type_of(one)?, &words::type_of(other)?)
+            let one = words::type_of(one)?;
+            words::compared(alloc, &one, &words::type_of(other)?)
         }
         _ => Err(anyhow!("an unknown call about types")),
+    }
+}
+
+// The codes of all types.
+fn codes(alloc: Global) -> Result<String> {
+    let mut codes = String::new(alloc);
+    for value_type in Type::iter_values() {
+        ensure!(value_type as u8 == value_type.to_code(), "two codes");
+        codes.push(char::from(value_type.to_code()))?;
+    }
+    Ok(codes)
+}
+
+// The name of the type of a code.
+fn type_name(alloc: Global, code: &str) -> Result<String> {
+    let code = code.bytes().next().context("a code")?;
+    match Type::from_code(code) {
+        Some(value_type) => words::plain(alloc, &value_type.name()),
+        None => words::none(alloc),
     }
 }
 
@@ -98,111 +114,124 @@ fn changed(alloc: Global, field_type: FieldType, step: &str) -> Result<FieldType
         Some((step, name)) => (step, Some(name)),
         None => (step, None),
     };
-    Ok(match field_type {
-        FieldType::Str(options) => FieldType::Str(changed_text(alloc, options, step, name)?),
-        FieldType::U64(options) => FieldType::U64(changed_number(options, step)?),
-        FieldType::Date(options) => FieldType::Date(match step {
-            "fieldnorm" => options.set_fieldnorm(),
-            "milliseconds" => options.set_precision(DateTimePrecision::Milliseconds),
-            "|stored" => options | STORED,
-            "stored|" => STORED | options,
-            _ => return Err(anyhow!("an unknown step")),
-        }),
-        FieldType::Facet(options) => FieldType::Facet(match step {
-            "|indexed" => options | INDEXED,
-            "|indexed+stored" => options | (INDEXED | STORED),
-            _ => options,
-        }),
-        FieldType::Bytes(options) => FieldType::Bytes(changed_bytes(options, step)?),
-        FieldType::IpAddr(options) => FieldType::IpAddr(match step {
-            "fieldnorms" => options.set_fieldnorms(),
-            "|stored+indexed+fast" => options | (STORED | INDEXED | FAST),
-            _ => return Err(anyhow!("an unknown step")),
-        }),
-        FieldType::JsonObject(options) => {
-            FieldType::JsonObject(changed_json(alloc, options, step, name)?)
-        }
-        _ => return Err(anyhow!("a type whose options are those of u64")),
+    match field_type {
+        FieldType::Str(options) => changed_text(alloc, options, step, name),
+        FieldType::U64(options) => changed_number(options, step),
+        FieldType::Date(options) => changed_date(options, step),
+        FieldType::Facet(options) => Ok(changed_facet(options, step)),
+        FieldType::Bytes(options) => changed_bytes(options, step),
+        FieldType::IpAddr(options) => changed_address(options, step),
+        FieldType::JsonObject(options) => changed_json(alloc, options, step, name),
+        _ => Err(anyhow!("a type whose options are those of u64")),
+    }
+}
+
+// Dates, with their options changed by one step.
+fn changed_date(options: DateOptions, step: &str) -> Result<FieldType> {
+    Ok(FieldType::Date(match step {
+        "fieldnorm" => options.set_fieldnorm(),
+        "milliseconds" => options.set_precision(DateTimePrecision::Milliseconds),
+        "|stored" => options | STORED,
+        "stored|" => STORED | options,
+        _ => return Err(anyhow!("an unknown step")),
+    }))
+}
+
+// Facets, with their options changed by one step.
+fn changed_facet(options: FacetOptions, step: &str) -> FieldType {
+    FieldType::Facet(match step {
+        "|indexed" => options | INDEXED,
+        "|indexed+stored" => options | (INDEXED | STORED),
+        _ => options,
     })
 }
 
-// The options of numbers, changed by one step.
-fn changed_number(options: NumericOptions, step: &str) -> Result<NumericOptions> {
-    match step {
-        "fieldnorm" => Ok(options.set_fieldnorm()),
-        "coerce" => Ok(options.set_coerce()),
-        "indexed" => Ok(options.set_indexed()),
-        "|coerce" => Ok(options | COERCE),
-        "|stored" => Ok(options | STORED),
-        "indexed|" => Ok(INDEXED | options),
-        "|fast" => Ok(options | FAST),
-        "|itself" => Ok(options | options),
-        _ => Err(anyhow!("an unknown step")),
-    }
+// Addresses, with their options changed by one step.
+fn changed_address(options: IpAddrOptions, step: &str) -> Result<FieldType> {
+    Ok(FieldType::IpAddr(match step {
+        "fieldnorms" => options.set_fieldnorms(),
+        "|stored+indexed+fast" => options | (STORED | INDEXED | FAST),
+        _ => return Err(anyhow!("an unknown step")),
+    }))
 }
 
-// The options of byte strings, changed by one step.
-fn changed_bytes(options: BytesOptions, step: &str) -> Result<BytesOptions> {
-    match step {
-        "default" => Ok(options),
-        "fieldnorms" => Ok(options.set_fieldnorms()),
-        "stored" => Ok(options.set_stored()),
-        "indexed" => Ok(options.set_indexed()),
-        "fast" => Ok(options.set_fast()),
-        "stored|" => Ok(STORED | options),
-        "|stored" => Ok(options | STORED),
-        "|indexed" => Ok(options | INDEXED),
-        "|fast" => Ok(options | FAST),
-        "|fast+stored" => Ok(options | (FAST | STORED)),
-        "|indexed+fast" => Ok(options | (INDEXED | FAST)),
-        "|stored+indexed" => Ok(options | (STORED | INDEXED)),
-        _ => Err(anyhow!("an unknown step")),
-    }
+// Numbers, with their options changed by one step.
+fn changed_number(options: NumericOptions, step: &str) -> Result<FieldType> {
+    Ok(FieldType::U64(match step {
+        "fieldnorm" => options.set_fieldnorm(),
+        "coerce" => options.set_coerce(),
+        "indexed" => options.set_indexed(),
+        "|coerce" => options | COERCE,
+        "|stored" => options | STORED,
+        "indexed|" => INDEXED | options,
+        "|fast" => options | FAST,
+        "|itself" => options | options,
+        _ => return Err(anyhow!("an unknown step")),
+    }))
 }
 
-// The options of texts, changed by one step, which may name a tokenizer.
+// Byte strings, with their options changed by one step.
+fn changed_bytes(options: BytesOptions, step: &str) -> Result<FieldType> {
+    Ok(FieldType::Bytes(match step {
+        "default" => options,
+        "fieldnorms" => options.set_fieldnorms(),
+        "stored" => options.set_stored(),
+        "indexed" => options.set_indexed(),
+        "fast" => options.set_fast(),
+        "stored|" => STORED | options,
+        "|stored" => options | STORED,
+        "|indexed" => options | INDEXED,
+        "|fast" => options | FAST,
+        "|fast+stored" => options | (FAST | STORED),
+        "|indexed+fast" => options | (INDEXED | FAST),
+        "|stored+indexed" => options | (STORED | INDEXED),
+        _ => return Err(anyhow!("an unknown step")),
+    }))
+}
+
+// Texts, with their options changed by one step, which may name a tokenizer.
 fn changed_text(
     alloc: Global,
     options: TextOptions,
     step: &str,
     tokenizer_name: Option<&str>,
-) -> Result<TextOptions> {
-    match step {
-        "default" => Ok(options),
-        "stored" => Ok(options.set_stored()),
-        "coerce" => Ok(options.set_coerce()),
-        "fast" => Ok(options.set_fast(alloc, tokenizer_name)?),
-        "frequencies" => Ok(options.set_indexing_options(frequencies(alloc, tokenizer_name)?)),
-        "|text" => Ok(options | TEXT),
-        "|string" => Ok(options | STRING),
-        "stored|" => Ok(STORED | options),
-        "|fast" => Ok(options | TextOptions::default().set_fast(alloc, tokenizer_name)?),
-        "|stored+coerce" => Ok(options | (STORED | COERCE)),
-        "|stored+coerce+fast" => Ok(options | (STORED | COERCE | FAST)),
-        _ => Err(anyhow!("an unknown step")),
-    }
+) -> Result<FieldType> {
+    Ok(FieldType::Str(match step {
+        "default" => options,
+        "stored" => options.set_stored(),
+        "coerce" => options.set_coerce(),
+        "fast" => options.set_fast(alloc, tokenizer_name)?,
+        "frequencies" => options.set_indexing_options(frequencies(alloc, tokenizer_name)?),
+        "|text" => options | TEXT,
+        "|string" => options | STRING,
+        "stored|" => STORED | options,
+        "|fast" => options | TextOptions::default().set_fast(alloc, tokenizer_name)?,
+        "|stored+coerce" => options | (STORED | COERCE),
+        "|stored+coerce+fast" => options | (STORED | COERCE | FAST),
+        _ => return Err(anyhow!("an unknown step")),
+    }))
 }
 
-// The options of JSON objects, changed by one step, which may name a tokenizer.
+// JSON objects, with their options changed by one step, which may name a tokenizer.
 fn changed_json(
     alloc: Global,
     options: JsonObjectOptions,
     step: &str,
     tokenizer_name: Option<&str>,
-) -> Result<JsonObjectOptions> {
-    match step {
-        "dots" => Ok(options.set_expand_dots_enabled()),
-        "fast" => Ok(options.set_fast(alloc, tokenizer_name)?),
-        "frequencies" => Ok(options.set_indexing_options(frequencies(alloc, tokenizer_name)?)),
-        "|text" => Ok(options | TEXT),
-        "|string" => Ok(options | STRING),
-        "|stored|text" => Ok(options | (STORED | TEXT)),
-        "stored|" => Ok(STORED | options),
-        "|stored" => Ok(options | STORED),
-        "|fast" => Ok(options | FAST),
-        "|fast+stored" => Ok(options | (FAST | STORED)),
-        _ => Err(anyhow!("an unknown step")),
-    }
+) -> Result<FieldType> {
+    Ok(FieldType::JsonObject(match step {
+        "dots" => options.set_expand_dots_enabled(),
+        "fast" => options.set_fast(alloc, tokenizer_name)?,
+        "frequencies" => options.set_indexing_options(frequencies(alloc, tokenizer_name)?),
+        "|text" => options | TEXT,
+        "|string" => options | STRING,
+        "|stored|text" => options | (STORED | TEXT),
+        "stored|" => STORED | options,
+        "|stored" => options | STORED,
+        "|fast" => options | FAST,
+        "|fast+stored" => options | (FAST | STORED),
+        _ => return Err(anyhow!("an unknown step")),
+    }))
 }
 
 // Indexing by the tokenizer of this name, of documents and frequencies, without field norms.
@@ -218,26 +247,25 @@ fn frequencies(alloc: Global, tokenizer_name: Option<&str>) -> Result<TextFieldI
 
 // The options as JSON, and which queries of the field's type hold.
 fn shown(alloc: Global, field_type: FieldType) -> Result<String> {
-    ensure!(
-        field_type.try_clone(alloc)? == field_type,
-        "a copy is not equal"
-    );
-    let mut queries = String::new(alloc);
-    for (name, holds) in [
-        ("stored", field_type.is_stored()),
-        ("indexed", field_type.is_indexed()),
-        ("fast", field_type.is_fast()),
-        ("fieldnorms", field_type.has_fieldnorms()),
-    ] {
-        words::push_flag(&mut queries, name, holds)?;
-    }
-    let mut builder = Schema::builder(alloc);
-    builder.add_field(FieldEntry::new(String::from_str(alloc, "f")?, field_type)?)?;
-    let schema = builder.build()?.to_json_value(alloc)?;
-    let mut answer = schema
-        .pointer("/0/options")
-        .context("options")?
-        .to_string(alloc)?;
-    write!(answer, "{queries}")?;
+    let copy = field_type.try_clone(alloc)?;
+    ensure!(copy == field_type, "a copy is not equal");
+    let mut answer = json(alloc, copy)?;
+    let queries = [
+        ("stored", Part::from(field_type.is_stored())),
+        ("indexed", Part::from(field_type.is_indexed())),
+        ("fast", Part::from(field_type.is_fast())),
+        ("fieldnorms", Part::from(field_type.has_fieldnorms())),
+    ];
+    push_parts(alloc, &mut answer, &queries)?;
     Ok(answer)
+}
+
+// The options of a field as they stand in the JSON of its schema.
+fn json(alloc: Global, field_type: FieldType) -> Result<String> {
+    let entry = FieldEntry::new(String::from_str(alloc, "f")?, field_type)?;
+    let mut builder = Schema::builder(alloc);
+    builder.add_field(entry)?;
+    let schema = builder.build()?.to_json_value(alloc)?;
+    let options = schema.pointer("/0/options").context("options")?;
+    Ok(options.to_string(alloc)?)
 }

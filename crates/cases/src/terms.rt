@@ -3,6 +3,7 @@
 use anyhow::{Context, Result, anyhow, ensure};
 use case_words as words;
 use case_words::leaves;
+use case_words::parts::{Part, push_parts};
 use std::alloc::Global;
 use std::fmt::Write;
 use tv_schema::Schema;
@@ -16,38 +17,58 @@ use tv_value::owned_value::OwnedValue;
 /// What a call about terms returns.
 pub fn answer(alloc: Global, call: &[&str]) -> Result<String> {
     match call {
-        ["of", field, kind, value] => {
-            let value = leaves::leaf(alloc, kind, value)?;
-            shown(alloc, &term_of(alloc, words::field(field)?, &value)?)
-        }
-        ["searched date", field, value] => {
-            let (field, date) = (words::field(field)?, leaves::date(value)?);
-            shown(
-                alloc,
-                &Term::from_field_date_for_search(alloc, field, date)?,
-            )
-        }
+        ["of", field, kind, value] => of_value(alloc, field, kind, value),
+        ["searched date", field, value] => of_searched_date(alloc, field, value),
         ["json", field, path, dots, kind, value] => {
             let mut term = json_term(alloc, field, path, dots)?;
             append(alloc, &mut term, kind, value)?;
             shown(alloc, &term)
         }
         ["json", field, path, dots] => shown(alloc, &json_term(alloc, field, path, dots)?),
-        ["wrap", digits] => match Term::wrap(alloc, &words::bytes(alloc, digits)?) {
-            Ok(term) => shown(alloc, &term),
-            Err(error) => words::error(alloc, &error),
-        },
-        ["value", digits] => match ValueBytes::wrap(&words::bytes(alloc, digits)?) {
-            Ok(value) => shown_value(alloc, &value),
-            Err(error) => words::error(alloc, &error),
-        },
+        ["wrap", digits] => of_bytes(alloc, digits),
+        ["value", digits] => value_of_bytes(alloc, digits),
         ["full path", schema, digits] => full_path(alloc, schema, &wrapped(alloc, digits)?),
         ["compare", one, other] => {
-            words::compared(alloc, &wrapped(alloc, one)?, &wrapped(alloc, other)?)
+            let one = wrapped(alloc, one)?;
+            words::compared(alloc, &one, &wrapped(alloc, other)?)
         }
         ["edit", start, steps @ ..] => edited(alloc, start, steps),
         ["fast", kind, one, other] => fast_values(alloc, kind, one, other),
         _ => Err(anyhow!("an unknown call about terms")),
+    }
+}
+
+// The term of a field and a value.
+fn of_value(alloc: Global, field: &str, kind: &str, value: &str) -> Result<String> {
+    let value = leaves::leaf(alloc, kind, value)?;
+    shown(alloc, &term_of(alloc, words::field(field)?, &value)?)
+}
+
+// The term of a date that is searched for.
+fn of_searched_date(alloc: Global, field: &str, value: &str) -> Result<String> {
+    let field = words::field(field)?;
+    let date = leaves::date(value)?;
+    shown(
+        alloc,
+        &Term::from_field_date_for_search(alloc, field, date)?,
+    )
+}
+
+// The term of bytes.
+fn of_bytes(alloc: Global, digits: &str) -> Result<String> {
+    let bytes = words::bytes(alloc, digits)?;
+    match Term::wrap(alloc, &bytes) {
+        Ok(term) => shown(alloc, &term),
+        Err(error) => words::error(alloc, &error),
+    }
+}
+
+// The value of bytes.
+fn value_of_bytes(alloc: Global, digits: &str) -> Result<String> {
+    let bytes = words::bytes(alloc, digits)?;
+    match ValueBytes::wrap(&bytes) {
+        Ok(value) => shown_value(alloc, &value),
+        Err(error) => words::error(alloc, &error),
     }
 }
 
@@ -96,63 +117,80 @@ fn append(alloc: Global, term: &mut Term, kind: &str, value: &str) -> Result<()>
 
 // The bytes of a term, its field, and the value that is read back from a copy.
 fn shown(alloc: Global, term: &Term) -> Result<String> {
-    ensure!(
-        is_consistent(alloc, term)?,
-        "a part or a copy of a term differs"
-    );
-    let mut answer = hex::encode(alloc, term.serialized_term())?;
+    check_copy(alloc, term)?;
+    let bytes = hex::encode(alloc, term.serialized_term())?;
     let field = term.field().field_id();
     let owned = term.value().to_owned(alloc)?;
     let value = shown_value(alloc, &owned.as_value_bytes())?;
-    write!(answer, " {field} {value}")?;
+    let mut answer = format!(in alloc; "{bytes} {field} {value}")?;
     if let Some(path) = term.get_json_path(alloc)? {
-        words::push_text(alloc, &mut answer, "path", Some(path.as_str()))?;
+        let path = words::quoted(alloc, path.as_str())?;
+        write!(answer, " path {path}")?;
     }
     Ok(answer)
 }
 
-// Whether the parts of a term are those of its bytes, and a copy is equal and has the same hash.
-fn is_consistent(alloc: Global, term: &Term) -> Result<bool> {
-    let (bytes, value_bytes) = (term.serialized_term(), term.serialized_value_bytes());
+// Checks that the parts of a term are those of its bytes, and that a copy is equal and has the same hash.
+fn check_copy(alloc: Global, term: &Term) -> Result<()> {
     let copy = term.try_clone(alloc)?;
-    Ok(
-        bytes.get(4..) == Some(term.value().as_serialized())
-            && bytes.get(5..) == Some(value_bytes)
-            && value_bytes.len() == term.len_bytes()
-            && value_bytes.is_empty() == term.is_empty()
-            && term.typ() == term.value().typ()
-            && copy == *term
-            && words::hash(&copy) == words::hash(term),
-    )
+    let is_copied = copy == *term && words::hash(&copy) == words::hash(term);
+    ensure!(
+        is_copied && has_its_parts(term),
+        "a part or a copy of a term differs"
+    );
+    Ok(())
+}
+
+// Whether the parts of a term are those of its bytes.
+fn has_its_parts(term: &Term) -> bool {
+    let (bytes, value_bytes) = (term.serialized_term(), term.serialized_value_bytes());
+    bytes.get(4..) == Some(term.value().as_serialized())
+        && bytes.get(5..) == Some(value_bytes)
+        && value_bytes.len() == term.len_bytes()
+        && value_bytes.is_empty() == term.is_empty()
+        && term.typ() == term.value().typ()
 }
 
 // The type of a value, and the name and the answer of each reader that has one.
 fn shown_value(alloc: Global, value: &ValueBytes<'_>) -> Result<String> {
+    let parts = [
+        ("u64", Part::from(value.as_u64())),
+        ("i64", Part::from(value.as_i64())),
+        ("bool", Part::from(value.as_bool())),
+        ("date", Part::from(value.as_date())),
+        ("str", Part::from(value.as_str())),
+        ("bytes", Part::from(value.as_bytes())),
+        ("ip", Part::from(value.as_ip_addr())),
+    ];
     let name = value.typ().map_or("none", |value_type| value_type.name());
     let mut answer = String::from_str(alloc, name)?;
-    words::push_named(&mut answer, "u64", value.as_u64())?;
-    words::push_named(&mut answer, "i64", value.as_i64())?;
-    words::push_named(&mut answer, "bool", value.as_bool())?;
-    let date = value.as_date().map(|date| date.into_timestamp_nanos());
-    words::push_named(&mut answer, "date", date)?;
-    words::push_text(alloc, &mut answer, "str", value.as_str())?;
-    words::push_bytes(alloc, &mut answer, "bytes", value.as_bytes())?;
-    words::push_address(&mut answer, value.as_ip_addr())?;
-    if let Some(facet) = value.as_facet(alloc)? {
-        words::push_text(alloc, &mut answer, "facet", Some(facet.encoded_str()))?;
-    }
+    push_parts(alloc, &mut answer, &parts)?;
+    push_facet(alloc, &mut answer, value)?;
     push_path(alloc, &mut answer, value)?;
     Ok(answer)
+}
+
+// Appends the encoded text of a facet, if the value is one.
+fn push_facet(alloc: Global, answer: &mut String, value: &ValueBytes<'_>) -> Result<()> {
+    if let Some(facet) = value.as_facet(alloc)? {
+        let text = words::quoted(alloc, facet.encoded_str())?;
+        write!(answer, " facet {text}")?;
+    }
+    Ok(())
 }
 
 // Appends the path of a value of a JSON field, what stands behind it, and the type of that.
 fn push_path(alloc: Global, answer: &mut String, value: &ValueBytes<'_>) -> Result<()> {
     if let Some((path, rest)) = value.as_json() {
-        let (path, rest) = (words::digits(alloc, path)?, words::digits(alloc, rest)?);
+        let path = words::digits(alloc, path)?;
+        let rest = words::digits(alloc, rest)?;
         write!(answer, " json {path} {rest}")?;
     }
-    let path_type = value.json_path_type().map(|value_type| value_type.name());
-    words::push_named(answer, "of", path_type)
+    if let Some(value_type) = value.json_path_type() {
+        let name = value_type.name();
+        write!(answer, " of {name}")?;
+    }
+    Ok(())
 }
 
 // The name of a term's field in a schema, and the term's path.
@@ -176,33 +214,37 @@ fn edited(alloc: Global, start: &str, steps: &[&str]) -> Result<String> {
 // Changes a term by one step.
 fn edit(alloc: Global, term: &mut Term, step: &[&str]) -> Result<()> {
     match step {
-        ["field", field, code] => {
-            ensure!(term.is_empty(), "a term without value bytes");
-            term.set_field_and_type(words::field(field)?, words::type_of(code)?);
-        }
-        ["set", digits] => term.set_bytes(&words::bytes(alloc, digits)?)?,
-        ["append", digits] => term.append_bytes(&words::bytes(alloc, digits)?)?,
-        ["fill", start, byte] => {
-            let (start, byte) = (words::number(start)?, words::number(byte)?);
-            ensure!(start <= term.len_bytes(), "fewer value bytes");
-            for slot in term.value_bytes_mut(start) {
-                *slot = byte;
-            }
-        }
-        ["truncate", length] => term.truncate_value_bytes(words::number(length)?),
-        ["clear", code] => term.clear_with_type(words::type_of(code)?),
-        [kind, value] => append(alloc, term, kind, value)?,
-        _ => return Err(anyhow!("an unknown step")),
+        ["field", field, code] => set_field(term, field, code),
+        ["set", digits] => Ok(term.set_bytes(&words::bytes(alloc, digits)?)?),
+        ["append", digits] => Ok(term.append_bytes(&words::bytes(alloc, digits)?)?),
+        ["fill", start, byte] => fill(term, words::number(start)?, words::number(byte)?),
+        ["truncate", length] => Ok(term.truncate_value_bytes(words::number(length)?)),
+        ["clear", code] => Ok(term.clear_with_type(words::type_of(code)?)),
+        [kind, value] => append(alloc, term, kind, value),
+        _ => Err(anyhow!("an unknown step")),
+    }
+}
+
+// Gives a term without value bytes another field and type.
+fn set_field(term: &mut Term, field: &str, code: &str) -> Result<()> {
+    ensure!(term.is_empty(), "a term without value bytes");
+    term.set_field_and_type(words::field(field)?, words::type_of(code)?);
+    Ok(())
+}
+
+// Makes all value bytes from a place on the same.
+fn fill(term: &mut Term, start: usize, byte: u8) -> Result<()> {
+    ensure!(start <= term.len_bytes(), "fewer value bytes");
+    for slot in term.value_bytes_mut(start) {
+        *slot = byte;
     }
     Ok(())
 }
 
 // The type of two fast values, their numbers, and how the values and the numbers compare.
 fn fast_values(alloc: Global, kind: &str, one: &str, other: &str) -> Result<String> {
-    let (one, other) = (
-        leaves::leaf(alloc, kind, one)?,
-        leaves::leaf(alloc, kind, other)?,
-    );
+    let one = leaves::leaf(alloc, kind, one)?;
+    let other = leaves::leaf(alloc, kind, other)?;
     match (&one, &other) {
         (OwnedValue::I64(one), OwnedValue::I64(other)) => compared(alloc, *one, *other),
         (OwnedValue::U64(one), OwnedValue::U64(other)) => compared(alloc, *one, *other),

@@ -16,7 +16,7 @@ pub fn answer(alloc: Global, call: &[&str]) -> Result<String> {
             let bytes = words::bytes(alloc, digits)?;
             match PreTokenizedStr::from_payload(&bytes) {
                 Some((text, length)) => shown(alloc, text, length),
-                None => Ok(String::from_str(alloc, "none")?),
+                None => words::none(alloc),
             }
         }
         ["same", kept, encoded] => same(alloc, &tokenized(alloc, kept)?, encoded),

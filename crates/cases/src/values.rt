@@ -3,6 +3,7 @@
 use anyhow::{Result, anyhow, ensure};
 use case_words as words;
 use case_words::leaves::leaf;
+use case_words::parts::{Part, push_parts};
 use std::alloc::Global;
 use tv_value::owned_value::OwnedValue;
 use tv_value::same::is_same;
@@ -24,27 +25,35 @@ pub fn answer(alloc: Global, call: &[&str]) -> Result<String> {
 
 // The name and the answer of each accessor that has one.
 fn shown(alloc: Global, value: &OwnedValue) -> Result<String> {
-    ensure!(is_copied(alloc, value)?, "a copy is not equal");
+    check_copies(alloc, value)?;
+    let tokens = match value.as_pre_tokenized_text() {
+        Some(text) => Part::Text(text.text()),
+        None => Part::Nothing,
+    };
+    let parts = [
+        ("null", Part::from(value.as_value().is_null())),
+        ("str", Part::from(value.as_str())),
+        ("u64", Part::from(value.as_u64())),
+        ("i64", Part::from(value.as_i64())),
+        ("bool", Part::from(value.as_bool())),
+        ("date", Part::from(value.as_datetime())),
+        ("facet", Part::from(value.as_facet())),
+        ("bytes", Part::from(value.as_bytes())),
+        ("ip", Part::from(value.as_ip_addr())),
+        ("tokens", tokens),
+        ("array", Part::from(value.as_array().is_some())),
+        ("object", Part::from(value.as_object().is_some())),
+    ];
     let mut answer = String::from_str(alloc, "is")?;
-    words::push_flag(&mut answer, "null", value.as_value().is_null())?;
-    words::push_text(alloc, &mut answer, "str", value.as_str())?;
-    words::push_named(&mut answer, "u64", value.as_u64())?;
-    words::push_named(&mut answer, "i64", value.as_i64())?;
-    words::push_named(&mut answer, "bool", value.as_bool())?;
-    let date = value.as_datetime().map(|date| date.into_timestamp_nanos());
-    words::push_named(&mut answer, "date", date)?;
-    words::push_text(alloc, &mut answer, "facet", value.as_facet())?;
-    words::push_bytes(alloc, &mut answer, "bytes", value.as_bytes())?;
-    words::push_address(&mut answer, value.as_ip_addr())?;
-    let tokenized = value.as_pre_tokenized_text().map(|text| text.text());
-    words::push_text(alloc, &mut answer, "tokens", tokenized)?;
-    words::push_flag(&mut answer, "array", value.as_array().is_some())?;
-    words::push_flag(&mut answer, "object", value.as_object().is_some())?;
+    push_parts(alloc, &mut answer, &parts)?;
     Ok(answer)
 }
 
-// Whether copies are equal to the value that they copy.
-fn is_copied(alloc: Global, value: &OwnedValue) -> Result<bool> {
+// Checks that copies are equal to the value that they copy.
+fn check_copies(alloc: Global, value: &OwnedValue) -> Result<()> {
     let copy = OwnedValue::from_value(alloc, &value)?;
-    Ok(copy == *value && is_same(&&copy, &value) && value.try_clone(alloc)? == *value)
+    let clone = value.try_clone(alloc)?;
+    let are_equal = copy == *value && is_same(&&copy, &value) && clone == *value;
+    ensure!(are_equal, "a copy is not equal");
+    Ok(())
 }

@@ -8,6 +8,7 @@ use serde_json::Value as JsonValue;
 use std::alloc::Global;
 use std::collections::BTreeMap;
 use std::fmt::{Debug, Write};
+use std::mem;
 use tv_doc::add_error::AddError;
 use tv_doc::builder::{BuildError, BytesKind, TreeBuilder};
 use tv_doc::document::CompactDoc;
@@ -39,20 +40,38 @@ fn made(alloc: Global, calls: &[&str], answers: &mut String) -> Result<CompactDo
     for word in calls {
         let (call, content) = words::parted(word);
         match call {
-            "state" => push_state(answers, &builder)?,
-            "add" => {
-                let mut document = builder.into_doc();
-                let outcome = add(alloc, &mut document, content)?;
-                builder = TreeBuilder::new(document);
-                note(answers, outcome)?;
-            }
-            _ => {
-                let outcome = build(alloc, &mut builder, call, content)?;
-                note(answers, outcome)?;
-            }
-        }
+            "state" => push_state(answers, &builder),
+            "add" => added(alloc, &mut builder, content, answers),
+            _ => built(alloc, &mut builder, call, content, answers),
+        }?;
     }
     Ok(builder.into_doc())
+}
+
+// Adds a value to the document of a builder, and puts a refusal behind the answers.
+fn added(
+    alloc: Global,
+    builder: &mut TreeBuilder,
+    content: &str,
+    answers: &mut String,
+) -> Result<()> {
+    let empty = TreeBuilder::new(CompactDoc::new(alloc));
+    let mut document = mem::replace(builder, empty).into_doc();
+    let outcome = add(alloc, &mut document, content)?;
+    *builder = TreeBuilder::new(document);
+    note(answers, outcome)
+}
+
+// Makes a call on a tree builder, and puts a refusal behind the answers.
+fn built(
+    alloc: Global,
+    builder: &mut TreeBuilder,
+    call: &str,
+    content: &str,
+    answers: &mut String,
+) -> Result<()> {
+    let outcome = build(alloc, builder, call, content)?;
+    note(answers, outcome)
 }
 
 // Puts the refusal of a call behind the answers.
@@ -83,21 +102,36 @@ fn build(
     call: &str,
     content: &str,
 ) -> Result<Result<(), BuildError>> {
-    Ok(match call {
-        "array" => builder.open_array(words::number(content)?),
-        "object" => builder.open_object(words::number(content)?),
-        "key" => builder.key(words::text(alloc, content)?.as_str()),
-        "begin" => begin(builder, content)?,
-        "chunk" => builder.chunk(words::bytes(alloc, content)?.as_slice()),
-        "end" => builder.end_bytes(),
-        "finish" => builder.finish(words::field(content)?),
-        "tree" => builder.tree(&&value(alloc, content)?),
-        "leaf" => {
-            let value = value(alloc, content)?;
-            builder.leaf((&value).as_leaf().context("a value without children")?)
-        }
-        _ => return Err(anyhow!("an unknown call")),
-    })
+    match call {
+        "array" => Ok(builder.open_array(words::number(content)?)),
+        "object" => Ok(builder.open_object(words::number(content)?)),
+        "key" => Ok(builder.key(words::text(alloc, content)?.as_str())),
+        "finish" => Ok(builder.finish(words::field(content)?)),
+        "tree" => Ok(builder.tree(&&value(alloc, content)?)),
+        "leaf" => leaf(builder, &value(alloc, content)?),
+        _ => build_bytes(alloc, builder, call, content),
+    }
+}
+
+// Makes a call for a value without children.
+fn leaf(builder: &mut TreeBuilder, value: &OwnedValue) -> Result<Result<(), BuildError>> {
+    let leaf = value.as_leaf().context("a value without children")?;
+    Ok(builder.leaf(leaf))
+}
+
+// Makes a call on a tree builder for bytes that come in chunks.
+fn build_bytes(
+    alloc: Global,
+    builder: &mut TreeBuilder,
+    call: &str,
+    content: &str,
+) -> Result<Result<(), BuildError>> {
+    match call {
+        "begin" => begin(builder, content),
+        "chunk" => Ok(builder.chunk(words::bytes(alloc, content)?.as_slice())),
+        "end" => Ok(builder.end_bytes()),
+        _ => Err(anyhow!("an unknown call")),
+    }
 }
 
 /// The value of a kind and what it holds, as `u64 1`, or of plain JSON.

@@ -9,13 +9,14 @@ use tv_doc::doc_parsing_error::DocParsingError;
 use tv_doc::document::CompactDoc;
 use tv_doc::document_trait::Document;
 use tv_doc::laws::named_documents_are_converted_back;
+use tv_doc::named::NamedFieldDocument;
 use tv_field::ValueParsingError;
+use tv_heap::value::CompactDocValue;
 use tv_json::compact::push_json;
 use tv_json::json_value::{ToJsonValue, to_json_value};
 use tv_schema::Schema;
 use tv_value::owned_value::OwnedValue;
 use tv_value::same::is_same;
-use tv_value::value::Value;
 
 /// What a call about documents returns.
 pub fn answer(alloc: Global, call: &[&str]) -> Result<String> {
@@ -90,17 +91,16 @@ fn parsed(alloc: Global, document: &CompactDoc) -> Result<String> {
 // Why there is no document of a JSON object.
 fn refusal(alloc: Global, error: &DocParsingError) -> Result<String> {
     match error {
-        DocParsingError::InvalidJson(start) => {
-            let start = words::quoted(alloc, start.as_str())?;
-            Ok(format!(in alloc; "error InvalidJson {start}")?)
-        }
+        DocParsingError::InvalidJson(start) => invalid_json(alloc, start.as_str()),
         DocParsingError::ValueError(name, error) => refused_value(alloc, name.as_str(), error),
-        DocParsingError::FieldNumber(number) => {
-            Ok(format!(in alloc; "error FieldNumber({number})")?)
-        }
-        DocParsingError::HeapFull => Ok(String::from_str(alloc, "error HeapFull")?),
-        DocParsingError::Memory => Ok(String::from_str(alloc, "error Memory")?),
+        other => words::error(alloc, other),
     }
+}
+
+// The beginning of a text that is no JSON object.
+fn invalid_json(alloc: Global, start: &str) -> Result<String> {
+    let start = words::quoted(alloc, start)?;
+    Ok(format!(in alloc; "error InvalidJson {start}")?)
 }
 
 // The name of a field, and why its value is refused.
@@ -112,16 +112,28 @@ fn refused_value(alloc: Global, name: &str, error: &ValueParsingError) -> Result
 
 // The values of a document by the names of one schema, and the document that these names make with another.
 fn named(alloc: Global, from: &str, to: &str, calls: &[&str]) -> Result<String> {
-    let (from, to) = (schemas::schema(alloc, from)?, schemas::schema(alloc, to)?);
+    let from = schemas::schema(alloc, from)?;
     let document = builder::document(alloc, calls)?;
     let names = document.to_named_doc(alloc, &from)?;
-    let made = if from == to {
-        named_documents_are_converted_back(alloc, &from, &document)?
-    } else {
-        CompactDoc::convert_named_doc(alloc, &to, &names)?
-    };
-    let made = shown(alloc, &made)?;
+    let made = converted(alloc, &from, to, &document, &names)?;
     Ok(format!(in alloc; "{:?}\t{made}", names.0)?)
+}
+
+// The document that the names make with a schema. Where that is the document's own, the names are converted back.
+fn converted(
+    alloc: Global,
+    from: &Schema,
+    to: &str,
+    document: &CompactDoc,
+    names: &NamedFieldDocument,
+) -> Result<String> {
+    let to = schemas::schema(alloc, to)?;
+    let made = if *from == to {
+        named_documents_are_converted_back(alloc, from, document)?
+    } else {
+        CompactDoc::convert_named_doc(alloc, &to, names)?
+    };
+    shown(alloc, &made)
 }
 
 // Whether two documents are the same by the JSON of their values. The word `and` stands between their calls.
@@ -131,11 +143,12 @@ fn same(alloc: Global, calls: &[&str]) -> Result<String> {
     let one = builder::document(alloc, one)?;
     let other = builder::document(alloc, other.get(1..).context("a document")?)?;
     let is_same = one.same_as(alloc, &other)?;
+    let is_same_back = other.same_as(alloc, &one)?;
     ensure!(
-        other.same_as(alloc, &one)? == is_same,
+        is_same_back == is_same,
         "the other way round the answer differs"
     );
-    Ok(format!(in alloc; "{is_same}")?)
+    words::plain(alloc, &is_same)
 }
 
 // A copy of a document. Its values have to be equal to those of the document, whose memory is shrunk.
@@ -144,17 +157,30 @@ fn copy(alloc: Global, calls: &[&str]) -> Result<String> {
     let copy = document.try_clone(alloc)?;
     document.shrink_to_fit();
     for ((_, one), (_, other)) in copy.field_values().zip(document.field_values()) {
-        let owned = OwnedValue::from_value(alloc, &one)?;
-        let other_owned = OwnedValue::from_value(alloc, &other)?;
-        let is_equal = one == other && is_same(&&owned, &&other_owned);
-        ensure!(is_equal, "a value of the copy differs");
+        check_equal(alloc, one, other)?;
     }
     shown(alloc, &copy)
 }
 
+// Checks that two values are equal.
+fn check_equal(alloc: Global, one: CompactDocValue<'_>, other: CompactDocValue<'_>) -> Result<()> {
+    let owned = OwnedValue::from_value(alloc, &one)?;
+    let other_owned = OwnedValue::from_value(alloc, &other)?;
+    let is_equal = one == other && is_same(&&owned, &&other_owned);
+    ensure!(is_equal, "a value of the copy differs");
+    Ok(())
+}
+
 // A value with its type.
-fn typed<'a, V: Value<'a>>(alloc: Global, value: &V) -> Result<String> {
-    Ok(format!(in alloc; "{:?}", OwnedValue::from_value(alloc, value)?)?)
+fn typed(alloc: Global, value: CompactDocValue<'_>) -> Result<String> {
+    let owned = OwnedValue::from_value(alloc, &value)?;
+    Ok(format!(in alloc; "{owned:?}")?)
+}
+
+// Appends a value with its type.
+fn push_typed(alloc: Global, text: &mut String, value: CompactDocValue<'_>) -> Result<()> {
+    let typed = typed(alloc, value)?;
+    Ok(write!(text, "\t{typed}")?)
 }
 
 // The first value of a field, and all of its values.
@@ -162,12 +188,11 @@ fn get(alloc: Global, field: &str, calls: &[&str]) -> Result<String> {
     let field = words::field(field)?;
     let document = builder::document(alloc, calls)?;
     let mut text = match document.get_first(field) {
-        Some(value) => typed(alloc, &value)?,
-        None => String::from_str(alloc, "none")?,
+        Some(value) => typed(alloc, value)?,
+        None => words::none(alloc)?,
     };
     for value in document.get_all(field) {
-        text.push_str("\t")?;
-        text.push_str(typed(alloc, &value)?.as_str())?;
+        push_typed(alloc, &mut text, value)?;
     }
     Ok(text)
 }
@@ -176,12 +201,11 @@ fn get(alloc: Global, field: &str, calls: &[&str]) -> Result<String> {
 fn sorted(alloc: Global, calls: &[&str]) -> Result<String> {
     let document = builder::document(alloc, calls)?;
     let groups = document.get_sorted_field_values(alloc)?;
-    let mut text = format!(in alloc; "{}", groups.len())?;
+    let mut text = words::plain(alloc, &groups.len())?;
     for (field, values) in groups {
         write!(text, "\tfield {}", field.field_id())?;
         for value in values {
-            text.push_str("\t")?;
-            text.push_str(typed(alloc, &value)?.as_str())?;
+            push_typed(alloc, &mut text, value)?;
         }
     }
     Ok(text)
@@ -190,18 +214,27 @@ fn sorted(alloc: Global, calls: &[&str]) -> Result<String> {
 // The field of each pair, and its value with its type and as JSON.
 fn values(alloc: Global, calls: &[&str]) -> Result<String> {
     let document = builder::document(alloc, calls)?;
-    let mut text = format!(in alloc; "{}", document.len())?;
+    let mut text = words::plain(alloc, &document.len())?;
     for (field, value) in document.field_values() {
         let number = field.field_id();
-        let typed = typed(alloc, &value)?;
-        write!(text, "\t{number} {typed}\t")?;
-        push_json(alloc, &mut text, value)?;
-        let json = OwnedValue::from_value(alloc, &value)?.to_json_value(alloc)?;
-        let printed = format!(in alloc; "\t{}", json.to_string(alloc)?)?;
-        ensure!(
-            to_json_value(alloc, value)? == json && text.as_str().ends_with(printed.as_str()),
-            "the JSON values of a value differ"
-        );
+        let typed = typed(alloc, value)?;
+        let json = tabbed_json(alloc, value)?;
+        write!(text, "\t{number} {typed}{json}")?;
     }
+    Ok(text)
+}
+
+// A tab and the JSON of a value, which is the same by each call.
+fn tabbed_json(alloc: Global, value: CompactDocValue<'_>) -> Result<String> {
+    let mut text = String::from_str(alloc, "\t")?;
+    push_json(alloc, &mut text, value)?;
+    let json = to_json_value(alloc, value)?;
+    let owned = OwnedValue::from_value(alloc, &value)?;
+    let is_same = owned.to_json_value(alloc)? == json;
+    let printed = format!(in alloc; "\t{}", json.to_string(alloc)?)?;
+    ensure!(
+        is_same && text == printed,
+        "the JSON values of a value differ"
+    );
     Ok(text)
 }

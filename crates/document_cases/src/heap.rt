@@ -28,13 +28,7 @@ pub fn answer(alloc: Global, call: &[&str]) -> Result<String> {
         ["json", heap, json] => json_value(alloc, heap, json),
         ["leaf", value] => leaf(alloc, value),
         ["type", "default"] => value_type(alloc, ValueType::default()),
-        ["type", digits] => {
-            let bytes = words::bytes(alloc, digits)?;
-            match ValueType::deserialize(alloc, &mut SliceSource::new(bytes.as_slice())) {
-                Ok(read) => value_type(alloc, read),
-                Err(error) => words::error(alloc, &error),
-            }
-        }
+        ["type", digits] => type_of_bytes(alloc, words::bytes(alloc, digits)?.as_slice()),
         _ => Err(anyhow!("an unknown call about heaps")),
     }
 }
@@ -52,7 +46,7 @@ fn encoded(alloc: Global, before: &str, levels: u32, bytes: &[u8]) -> Result<Str
     let is_kept = heap.as_slice().starts_with(before.as_slice());
     ensure!(is_kept, "the heap has changed");
     let Some((rest, place)) = put else {
-        return Ok(String::from_str(alloc, "none")?);
+        return words::none(alloc);
     };
     let placed = placed(alloc, heap.as_slice(), place, places.as_slice())?;
     let rest = hex::encode(alloc, rest)?;
@@ -65,7 +59,7 @@ fn json_value(alloc: Global, before: &str, json: &str) -> Result<String> {
     let mut places = OPEN.to_vec(alloc)?;
     let mut scratch = Scratch::new(alloc);
     let Some(json) = read_borrowed(alloc, json, &mut scratch) else {
-        return Ok(String::from_str(alloc, "none")?);
+        return words::none(alloc);
     };
     if heap.len() > 4_294_967_295 {
         return Err(anyhow!("a heap is too long"));
@@ -92,6 +86,14 @@ fn leaf(alloc: Global, word: &str) -> Result<String> {
     let value_type = ValueType::from(&leaf);
     let length = leaf_len(&leaf).context("a length")?;
     Ok(format!(in alloc; "{value_type:?} {length}")?)
+}
+
+// The type that is read of a byte.
+fn type_of_bytes(alloc: Global, bytes: &[u8]) -> Result<String> {
+    match ValueType::deserialize(alloc, &mut SliceSource::new(bytes)) {
+        Ok(read) => value_type(alloc, read),
+        Err(error) => words::error(alloc, &error),
+    }
 }
 
 // A type, its code, and the byte that is written of it.

@@ -58,6 +58,23 @@ fn build_part<'a>(
     value: CompactDocValue<'a>,
     cut: usize,
 ) -> Result<()> {
+    let mut children = children(alloc, builder, value, cut)?;
+    for _ in 0..MOST_PARTS {
+        let Some(child) = children.pop() else {
+            return Ok(());
+        };
+        parts.push(child)?;
+    }
+    Err(anyhow!("a list has too many children"))
+}
+
+// Makes the call for a leaf or for a list, and gives its children.
+fn children<'a>(
+    alloc: Global,
+    builder: &mut TreeBuilder,
+    value: CompactDocValue<'a>,
+    cut: usize,
+) -> Result<Vec<Part<'a>>> {
     let mut children = Vec::new(alloc);
     match value.as_value() {
         ReferenceValue::Leaf(leaf) => build_leaf(builder, leaf, cut)?,
@@ -75,13 +92,7 @@ fn build_part<'a>(
             builder.open_object(children.len() as u64 / 2)?;
         }
     }
-    for _ in 0..MOST_PARTS {
-        let Some(child) = children.pop() else {
-            return Ok(());
-        };
-        parts.push(child)?;
-    }
-    Err(anyhow!("a list has too many children"))
+    Ok(children)
 }
 
 // Makes the calls for a leaf.

@@ -2,6 +2,7 @@
 
 use anyhow::{Context, Result, anyhow, ensure};
 use case_words as words;
+use case_words::parts::{Part, push_parts};
 use serde_json::Value;
 use std::alloc::Global;
 use std::fmt::Write;
@@ -58,23 +59,23 @@ fn description_of(word: &str) -> &str {
     if word == "types" { TYPES } else { word }
 }
 
-// The JSON of the schema that a description describes, or the refusal. The schema that is read from this JSON has to be the same, and so
-// has the one whose fields are added by the calls of their types.
+// The JSON of the schema that a description describes, or the refusal.
 fn described(alloc: Global, word: &str) -> Result<String> {
     let description = Value::from_str(alloc, description_of(word))?;
-    let schema = match Schema::from_json_value(alloc, &description) {
-        Ok(schema) => schema,
-        Err(error) => return words::error(alloc, &error),
-    };
-    ensure!(
-        printed_schema_is_read_back(alloc, &schema)? == schema,
-        "another schema is read back"
-    );
-    ensure!(
-        added_again(alloc, &schema)? == schema,
-        "another schema is added field by field"
-    );
-    printed(alloc, &schema)
+    match Schema::from_json_value(alloc, &description) {
+        Ok(schema) => described_again(alloc, &schema),
+        Err(error) => words::error(alloc, &error),
+    }
+}
+
+// The JSON of a schema. The schema that is read from this JSON has to be the same, and so has the one whose fields are added by the
+// calls of their types.
+fn described_again(alloc: Global, schema: &Schema) -> Result<String> {
+    let read_back = printed_schema_is_read_back(alloc, schema)?;
+    ensure!(read_back == *schema, "another schema is read back");
+    let added = added_again(alloc, schema)?;
+    ensure!(added == *schema, "another schema is added field by field");
+    printed(alloc, schema)
 }
 
 // The JSON of a schema.
@@ -86,17 +87,20 @@ fn printed(alloc: Global, schema: &Schema) -> Result<String> {
 fn added_again(alloc: Global, schema: &Schema) -> Result<Schema> {
     let mut builder = Schema::builder(alloc);
     for (_, entry) in schema.fields() {
-        let copy = entry.try_clone(alloc)?;
-        add_field(
-            &mut builder,
-            entry.name(),
-            entry.field_type().try_clone(alloc)?,
-        )?;
-        let name = String::from_str(alloc, entry.name())?;
-        let made = new_entry(name, entry.field_type().try_clone(alloc)?)?;
-        ensure!(copy == *entry && made == *entry, "another entry is made");
+        check_entry(alloc, entry)?;
+        let field_type = entry.field_type().try_clone(alloc)?;
+        add_field(&mut builder, entry.name(), field_type)?;
     }
     Ok(builder.build()?)
+}
+
+// Checks that a copy of an entry is the same, and that the call of its type makes the same.
+fn check_entry(alloc: Global, entry: &FieldEntry) -> Result<()> {
+    let copy = entry.try_clone(alloc)?;
+    let name = String::from_str(alloc, entry.name())?;
+    let made = new_entry(name, entry.field_type().try_clone(alloc)?)?;
+    ensure!(copy == *entry && made == *entry, "another entry is made");
+    Ok(())
 }
 
 // Adds a field by the call of its type.
@@ -153,27 +157,30 @@ fn push_entry(alloc: Global, answer: &mut String, field: Field, entry: &FieldEnt
     let value_type = entry.field_type().value_type();
     let name = words::quoted(alloc, entry.name())?;
     write!(answer, "\t{number} {name} {value_type:?}")?;
-    push_kinds(answer, entry.field_type())?;
-    push_queries(answer, entry)
+    push_parts(alloc, answer, &queries(entry))?;
+    push_record(answer, entry.field_type())
 }
 
-// Appends the queries about a type that hold.
-fn push_kinds(answer: &mut String, field_type: &FieldType) -> Result<()> {
-    words::push_flag(answer, "is_str", field_type.is_str())?;
-    words::push_flag(answer, "is_json", field_type.is_json())?;
-    words::push_flag(answer, "is_date", field_type.is_date())?;
-    words::push_flag(answer, "is_bytes", field_type.is_bytes())?;
-    words::push_flag(answer, "is_ip_addr", field_type.is_ip_addr())
+// The queries about a type and about an entry.
+fn queries(entry: &FieldEntry) -> [(&'static str, Part<'static>); 10] {
+    let field_type = entry.field_type();
+    [
+        ("is_str", Part::from(field_type.is_str())),
+        ("is_json", Part::from(field_type.is_json())),
+        ("is_date", Part::from(field_type.is_date())),
+        ("is_bytes", Part::from(field_type.is_bytes())),
+        ("is_ip_addr", Part::from(field_type.is_ip_addr())),
+        ("stored", Part::from(entry.is_stored())),
+        ("indexed", Part::from(entry.is_indexed())),
+        ("fieldnorms", Part::from(entry.has_fieldnorms())),
+        ("fast", Part::from(entry.is_fast())),
+        ("expand_dots", Part::from(entry.is_expand_dots_enabled())),
+    ]
 }
 
-// Appends the queries about an entry that hold, and what an index keeps of each term.
-fn push_queries(answer: &mut String, entry: &FieldEntry) -> Result<()> {
-    words::push_flag(answer, "stored", entry.is_stored())?;
-    words::push_flag(answer, "indexed", entry.is_indexed())?;
-    words::push_flag(answer, "fieldnorms", entry.has_fieldnorms())?;
-    words::push_flag(answer, "fast", entry.is_fast())?;
-    words::push_flag(answer, "expand_dots", entry.is_expand_dots_enabled())?;
-    let (record, same_record) = record_options_agree(entry.field_type());
+// Appends what an index keeps of each term.
+fn push_record(answer: &mut String, field_type: &FieldType) -> Result<()> {
+    let (record, same_record) = record_options_agree(field_type);
     ensure!(
         record == same_record,
         "calls about a record option disagree"
@@ -200,7 +207,7 @@ fn field(alloc: Global, description: &str, word: &str) -> Result<String> {
     }
     let field = words::field(word)?;
     if !schema.has_field(field) {
-        return Ok(String::from_str(alloc, "none")?);
+        return words::none(alloc);
     }
     words::quoted(alloc, schema.get_field_name(field))
 }
@@ -208,7 +215,7 @@ fn field(alloc: Global, description: &str, word: &str) -> Result<String> {
 // The number of the field with a name, or the refusal.
 fn field_named(alloc: Global, schema: &Schema, name: &str) -> Result<String> {
     match schema.get_field(name) {
-        Ok(field) => Ok(format!(in alloc; "{}", field.field_id())?),
+        Ok(field) => words::plain(alloc, &field.field_id()),
         Err(error) => words::error(alloc, &error),
     }
 }
@@ -244,7 +251,7 @@ fn found(alloc: Global, field_and_rest: Option<(Field, &str)>) -> Result<String>
             let rest = words::quoted(alloc, rest)?;
             Ok(format!(in alloc; "{} {rest}", field.field_id())?)
         }
-        None => Ok(String::from_str(alloc, "none")?),
+        None => words::none(alloc),
     }
 }
 
@@ -253,16 +260,23 @@ fn add(alloc: Global, names: &[&str]) -> Result<String> {
     let mut builder = Schema::builder(alloc);
     let mut text = String::new(alloc);
     for name in names {
-        let name = words::text(alloc, name)?;
-        match builder.add_text_field(name.as_str(), TEXT) {
-            Ok(field) => write!(text, "{}\t", field.field_id())?,
-            Err(error) => write!(text, "error {error:?}\t")?,
-        }
+        let added = added(alloc, &mut builder, name)?;
+        write!(text, "{added}\t")?;
     }
     let debug = format!(in alloc; "{builder:?}")?;
     ensure!(!debug.is_empty(), "nothing is printed of a builder");
-    text.push_str(printed(alloc, &builder.build()?)?.as_str())?;
+    let json = printed(alloc, &builder.build()?)?;
+    text.push_str(json.as_str())?;
     Ok(text)
+}
+
+// The number or the refusal of a field of texts that is added.
+fn added(alloc: Global, builder: &mut SchemaBuilder, word: &str) -> Result<String> {
+    let name = words::text(alloc, word)?;
+    match builder.add_text_field(name.as_str(), TEXT) {
+        Ok(field) => words::plain(alloc, &field.field_id()),
+        Err(error) => words::error(alloc, &error),
+    }
 }
 
 // Whether a name is valid, and the refusal of an entry of this name.
@@ -280,5 +294,5 @@ fn name_answer(alloc: Global, word: &str) -> Result<String> {
 fn equal(alloc: Global, one: &str, other: &str) -> Result<String> {
     let (one, other) = (schema(alloc, one)?, schema(alloc, other)?);
     ensure!(one.clone()? == one, "a copy is not equal");
-    Ok(format!(in alloc; "{}", one == other)?)
+    words::plain(alloc, &(one == other))
 }

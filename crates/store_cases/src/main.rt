@@ -12,16 +12,17 @@ mod typed;
 
 use anyhow::{Result, anyhow};
 use std::alloc::Global;
-use std::io::{BufRead, BufReader};
+use std::io::Read;
 
 fn main(rt: HostRuntime) -> Result<()> {
     let alloc = rt.alloc();
-    for line in BufReader::new(alloc, rt.reader())?.lines(alloc) {
-        let line = line?;
+    let mut input = String::new(alloc);
+    rt.reader().read_to_string(&mut input)?;
+    for line in input.as_str().lines() {
         if line.is_empty() || line.starts_with('#') {
             println!(rt; "{line}")?;
         } else {
-            let answer = answer(alloc, line.as_str())?;
+            let answer = answer(alloc, line)?;
             println!(rt; "{answer}")?;
         }
     }

@@ -4,6 +4,7 @@ use crate::over_each::{Ending, Reading, over_each, where_it_fails};
 use crate::reads::{self, Form};
 use anyhow::{Context, Result, anyhow};
 use case_words as words;
+use embedding::{Figures, Point, Score};
 use std::alloc::Global;
 use std::collections::{BTreeMap, HashMap};
 use std::fmt::Debug;
@@ -77,6 +78,9 @@ fn typed_by_name(
         "map map i64" => typed::<BTreeMap<String, BTreeMap<String, i64>>>(alloc, version, bytes),
         "hashed u64" => typed::<HashMap<String, u64>>(alloc, version, bytes),
         "hashed i64" => typed::<HashMap<String, i64>>(alloc, version, bytes),
+        "score" => typed::<Score>(alloc, version, bytes),
+        "point" => typed::<Point>(alloc, version, bytes),
+        "figures" => typed::<Figures>(alloc, version, bytes),
         _ => Err(anyhow!("an unknown type")),
     }
 }
