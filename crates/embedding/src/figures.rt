@@ -13,8 +13,8 @@ use tantivy_schema::schema::document::{
     BinaryValueDeserializer, DeserializeError, ValueDeserialize,
 };
 
-/// Numbers from 0 to 2^64 - 1, in lists of any depth. In a store it is such a number, or an array of figures. Any other value is refused as
-/// `Custom`, once it was read.
+/// Numbers from 0 to 2^64 - 1, in lists of any depth. In a store it is such a number, or an array of figures. Any other value is
+/// refused as `Custom`, once it was read.
 #[derive(Debug, Drop)]
 pub enum Figures {
     /// A number.
