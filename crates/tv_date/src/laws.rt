@@ -13,7 +13,10 @@ use crate::date_time::DateTimePrecision;
 use std::cmp::Ordering;
 
 /// Precisions rise from seconds to nanoseconds: one is below another exactly where its unit is longer.
-pub fn precisions_compare_by_their_units(one: DateTimePrecision, other: DateTimePrecision) -> Ordering
+pub fn precisions_compare_by_their_units(
+    one: DateTimePrecision,
+    other: DateTimePrecision,
+) -> Ordering
     ensures { result ≡ nat_cmp (unit_of other) (unit_of one) }
 {
     one.cmp(&other)
