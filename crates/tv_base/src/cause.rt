@@ -23,8 +23,6 @@ pub enum Cause {
     NotUtf8,
     /// An object whose number of keys and values is odd.
     OddObject,
-    /// A field number above 65535.
-    FieldNumber(u32),
     /// A date whose nanoseconds don't fit 64 bits.
     DateRange,
     /// A legacy object that isn't JSON.
@@ -36,7 +34,7 @@ pub enum Cause {
 }
 
 impl Cause {
-    // What is wrong, up to the number that it is told with, if any.
+    // What is wrong, up to the code that it is told with, if any.
     fn words(&self) -> &'static str {
         match self {
             Cause::UnexpectedEnd => "the bytes end inside a value",
@@ -47,7 +45,6 @@ impl Cause {
             Cause::BadBool => "a truth value is neither 0 nor 1",
             Cause::NotUtf8 => "a text is not UTF-8",
             Cause::OddObject => "an object has an odd number of keys and values",
-            Cause::FieldNumber(_) => "no document has a field above 65535, but here is the number",
             Cause::DateRange => "a date does not fit 64 bits of nanoseconds",
             Cause::LegacyJson => "a legacy object is not JSON",
             Cause::LegacyFloat => "a legacy object has a number that is not a whole 64-bit number",
@@ -55,11 +52,10 @@ impl Cause {
         }
     }
 
-    // The number that shows what is wrong.
-    fn number(&self) -> Option<u32> {
+    // The code that shows what is wrong.
+    fn code(&self) -> Option<u8> {
         match *self {
-            Cause::UnknownTypeCode(code) | Cause::UnknownExtCode(code) => Some(u32::from(code)),
-            Cause::FieldNumber(number) => Some(number),
+            Cause::UnknownTypeCode(code) | Cause::UnknownExtCode(code) => Some(code),
             _ => None,
         }
     }
@@ -68,8 +64,8 @@ impl Cause {
 impl Display for Cause {
     fn fmt<W: Write>(&self, f: &mut Formatter<W>) -> fmt::Result {
         f.write_str(self.words())?;
-        match self.number() {
-            Some(number) => write!(f, " {number}"),
+        match self.code() {
+            Some(code) => write!(f, " {code}"),
             None => Ok(()),
         }
     }

@@ -8,7 +8,7 @@ use Rattle.tv_heap.specs.TypeCode.{type_code}
 use Rattle.tv_heap.specs.Wrote.{Wrote}
 use Rattle.tv_builder.specs.declared.awaits.Awaits.TheVariants as awaits
 use Rattle.tv_builder.specs.declared.build_error.BuildError.{BuildError}
-use Rattle.tv_builder.specs.declared.build_error.BuildError.TheVariants.{AlreadyFailed, OutOfPlace, FieldNumber, NotUtf8, HeapFull, Memory}
+use Rattle.tv_builder.specs.declared.build_error.BuildError.TheVariants.{AlreadyFailed, OutOfPlace, NotUtf8, HeapFull, Memory}
 use Rattle.tv_builder.specs.declared.building.Building.{Building}
 use Rattle.tv_builder.specs.declared.building.OpenBytes.{OpenBytes}
 use Rattle.tv_builder.specs.declared.frame.Frame.{Frame}
@@ -80,7 +80,6 @@ does_give old mid new p in_place full fits heaps after (Err HeapFull) here is ov
 does_give old mid new p in_place full fits heaps after (Err Memory) here is over no_room holds prefix moves ok err = (here, holds, prefix_then old.heap.items mid.heap.items new.heap.items prefix err.prefix)
 does_give old mid new p in_place full fits heaps after (Err AlreadyFailed) here is over no_room holds prefix moves ok err = absurd err.why
 does_give old mid new p in_place full fits heaps after (Err OutOfPlace) here is over no_room holds prefix moves ok err = absurd err.why
-does_give old mid new p in_place full fits heaps after (Err (FieldNumber n)) here is over no_room holds prefix moves ok err = absurd err.why
 does_give old mid new p in_place full fits heaps after (Err NotUtf8) here is over no_room holds prefix moves ok err = absurd err.why
 
 -- ---- a whole value
@@ -111,7 +110,6 @@ value_not old new t fits e await holds w = answer e holds w.why
     answer Memory k h = (await, k refl, w.prefix)
     answer AlreadyFailed k h = absurd h
     answer OutOfPlace k h = absurd h
-    answer (FieldNumber n) k h = absurd h
     answer NotUtf8 k h = absurd h
 
 -- whether what was found fits

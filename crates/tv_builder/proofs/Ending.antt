@@ -13,7 +13,7 @@ use Rattle.tv_heap.specs.declared.value_type.ValueType.{ValueType}
 use Rattle.tv_heap.specs.declared.value_type.ValueType.TheVariants as types
 use Rattle.tv_builder.specs.declared.awaits.Awaits.TheVariants as awaits
 use Rattle.tv_builder.specs.declared.build_error.BuildError.{BuildError}
-use Rattle.tv_builder.specs.declared.build_error.BuildError.TheVariants.{AlreadyFailed, OutOfPlace, FieldNumber, NotUtf8, HeapFull, Memory}
+use Rattle.tv_builder.specs.declared.build_error.BuildError.TheVariants.{AlreadyFailed, OutOfPlace, NotUtf8, HeapFull, Memory}
 use Rattle.tv_builder.specs.declared.building.Building.{Building}
 use Rattle.tv_builder.specs.declared.building.OpenBytes.{OpenBytes}
 use Rattle.tv_builder.specs.declared.bytes_kind.BytesKind.{BytesKind}
@@ -198,7 +198,6 @@ does_end old mid new o r e none is not_key l ok err = answer r ok err
     answer (Err Memory) ok err = (here, well, prefix Memory err)
     answer (Err AlreadyFailed) ok err = absurd err.why
     answer (Err OutOfPlace) ok err = absurd err.why
-    answer (Err (FieldNumber n)) ok err = absurd err.why
     answer (Err NotUtf8) ok err = absurd err.why
 
 pub does_end_at : (old mid new : Building) (o : OpenBytes) (t : ValueType) (r : Result (Unit {0}) BuildError) → old.open ≡ Some o → o.missing ≡ 0 → IsContent o.kind (last_bytes o.announced old.heap.items) → o.kind ≢ kinds.Key → t ≡ bytes_type o.kind → LetGo old mid
@@ -255,7 +254,6 @@ does_end_key old mid new o r e none is kind l ok err = answer r ok err
     answer (Err Memory) ok err = (here, well, prefix_same old.heap.items new.heap.items (err.1 ∙ l.heap))
     answer (Err AlreadyFailed) ok err = absurd (let f = err.0 in cc)
     answer (Err OutOfPlace) ok err = absurd (let f = err.0 in cc)
-    answer (Err (FieldNumber n)) ok err = absurd (let f = err.0 in cc)
     answer (Err NotUtf8) ok err = absurd (let f = err.0 in cc)
     answer (Err HeapFull) ok err = absurd (let f = err.0 in cc)
 

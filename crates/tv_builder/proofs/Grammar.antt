@@ -97,10 +97,10 @@ module _ (Legacy : List ℕ → Entries → Type 0) (v : Version) where
       let q = p.second in
       one b (some_bytes (x ++ y)) (p.joined ∙ (λ i. p.first i ++ (q.joined ∙ (λ j. q.first j ++ q.second j) ∙ append-nil y) i))
   rule_sound _ _ b no_bytes p = record { prefix = []; rest = b; joined = refl; first = refl; second = p }
-  rule_sound _ _ b (full_pair f t small) p =
+  rule_sound _ _ b (full_pair f t) p =
       let q = p.second in
       let rest : p.rest ≡ q.prefix = q.joined ∙ ap (λ z. q.prefix ++ z) q.second ∙ append-nil q.prefix in
-      one b (pair f t) (record { small = small; parts = record { prefix = p.prefix; rest = p.rest; joined = p.joined; first = p.first; second = subst (λ z. Encodes Legacy v z t) (sym rest) q.first } })
+      one b (pair f t) (record { prefix = p.prefix; rest = p.rest; joined = p.joined; first = p.first; second = subst (λ z. Encodes Legacy v z t) (sym rest) q.first })
 
   -- whatever encodes the first parts encodes the others
   pub trades_sound : (ps qs : List Part) (b : List ℕ) → Trades ps qs → Encoded Legacy v b ps → Encoded Legacy v b qs

@@ -4,7 +4,7 @@ use Rattle.std.proofs.lemmas.List.{reverse-append, take-append-le}
 use Rattle.tv_base.specs.Parts.{short_sized}
 use Rattle.tv_base.specs.Sink.{IsPrefix}
 use Rattle.tv_builder.specs.declared.build_error.BuildError.{BuildError}
-use Rattle.tv_builder.specs.declared.build_error.BuildError.TheVariants.{AlreadyFailed, OutOfPlace, FieldNumber, NotUtf8, HeapFull, Memory}
+use Rattle.tv_builder.specs.declared.build_error.BuildError.TheVariants.{AlreadyFailed, OutOfPlace, NotUtf8, HeapFull, Memory}
 use Rattle.tv_builder.specs.declared.building.Building.{Building}
 use Rattle.tv_builder.specs.declared.building.OpenBytes.{OpenBytes}
 use Rattle.tv_builder.specs.declared.frame.Frame.{Frame}
@@ -146,7 +146,6 @@ gives_not old mid new p heap places frames rest f pending whole bytes q e s is t
     why_not Memory h = tt
     why_not AlreadyFailed h = absurd h
     why_not OutOfPlace h = absurd h
-    why_not (FieldNumber n) h = absurd h
     why_not NotUtf8 h = absurd h
 
 -- memory was refused

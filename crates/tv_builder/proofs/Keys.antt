@@ -9,7 +9,7 @@ use Rattle.tv_heap.specs.declared.value_type.ValueType.TheVariants as types
 use Rattle.tv_heap.proofs.Writes.{at_end, longer, sized_some}
 use Rattle.tv_builder.specs.declared.awaits.Awaits.TheVariants as awaits
 use Rattle.tv_builder.specs.declared.build_error.BuildError.{BuildError}
-use Rattle.tv_builder.specs.declared.build_error.BuildError.TheVariants.{AlreadyFailed, OutOfPlace, FieldNumber, NotUtf8, HeapFull, Memory}
+use Rattle.tv_builder.specs.declared.build_error.BuildError.TheVariants.{AlreadyFailed, OutOfPlace, NotUtf8, HeapFull, Memory}
 use Rattle.tv_builder.specs.declared.building.Building.{Building}
 use Rattle.tv_builder.specs.declared.bytes_kind.BytesKind.{BytesKind}
 use Rattle.tv_builder.specs.declared.bytes_kind.BytesKind.TheVariants as kinds
@@ -112,6 +112,5 @@ does_key old mid new content at (Err Memory) await utf8 at_is grows fits frames 
     (await, (λ full. omega (arith, full, fits, ap length grows)), (short_sized content, err.1 ∙ grows))
 does_key old mid new content at (Err AlreadyFailed) await utf8 at_is grows fits frames places pending whole open_is ok err = absurd (let e = err.0 in cc)
 does_key old mid new content at (Err OutOfPlace) await utf8 at_is grows fits frames places pending whole open_is ok err = absurd (let e = err.0 in cc)
-does_key old mid new content at (Err (FieldNumber n)) await utf8 at_is grows fits frames places pending whole open_is ok err = absurd (let e = err.0 in cc)
 does_key old mid new content at (Err NotUtf8) await utf8 at_is grows fits frames places pending whole open_is ok err = absurd (let e = err.0 in cc)
 does_key old mid new content at (Err HeapFull) await utf8 at_is grows fits frames places pending whole open_is ok err = absurd (let e = err.0 in cc)

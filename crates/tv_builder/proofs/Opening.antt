@@ -9,7 +9,7 @@ use Rattle.tv_heap.specs.Weight.{tree_weight}
 use Rattle.tv_heap.proofs.Writes.{longer, sized_length}
 use Rattle.tv_builder.specs.declared.awaits.Awaits.TheVariants as awaits
 use Rattle.tv_builder.specs.declared.build_error.BuildError.{BuildError}
-use Rattle.tv_builder.specs.declared.build_error.BuildError.TheVariants.{AlreadyFailed, OutOfPlace, FieldNumber, NotUtf8, HeapFull, Memory}
+use Rattle.tv_builder.specs.declared.build_error.BuildError.TheVariants.{AlreadyFailed, OutOfPlace, NotUtf8, HeapFull, Memory}
 use Rattle.tv_builder.specs.declared.building.Building.{Building}
 use Rattle.tv_builder.specs.declared.building.OpenBytes.{OpenBytes}
 use Rattle.tv_builder.specs.declared.bytes_kind.BytesKind.{BytesKind}
@@ -115,7 +115,6 @@ empty_not old new f n e none first await c =
     answer Memory k h = (await, (λ e. omega (arith, k refl, ap length same_heap)), c.prefix)
     answer AlreadyFailed k h = absurd h
     answer OutOfPlace k h = absurd h
-    answer (FieldNumber m) k h = absurd h
     answer NotUtf8 k h = absurd h
 
 -- ---- a list of which some child is awaited

@@ -17,7 +17,7 @@ use Rattle.tv_heap.proofs.Grown.{grown_elements}
 use Rattle.tv_heap.proofs.Lists.{elements_push}
 use Rattle.tv_heap.proofs.Writes.{longer}
 use Rattle.tv_builder.specs.declared.build_error.BuildError.{BuildError}
-use Rattle.tv_builder.specs.declared.build_error.BuildError.TheVariants.{AlreadyFailed, OutOfPlace, FieldNumber, NotUtf8, HeapFull, Memory}
+use Rattle.tv_builder.specs.declared.build_error.BuildError.TheVariants.{AlreadyFailed, OutOfPlace, NotUtf8, HeapFull, Memory}
 use Rattle.tv_builder.specs.declared.frame.ListKind.TheVariants.{Array, Object}
 use Rattle.tv_builder.specs.declared.place.Place.{Place}
 use Rattle.tv_builder.specs.Given.{place_bytes}
@@ -175,7 +175,6 @@ array_child_not old heap list new ts us all t e s is w = record { prefix = prefi
     why Memory h = tt
     why AlreadyFailed h = absurd h
     why OutOfPlace h = absurd h
-    why (FieldNumber n) h = absurd h
     why NotUtf8 h = absurd h
 
 array_own_not : (old heap list new : List ℕ) (ts all : List Tree) (e : BuildError) → ArrayPut old heap list ts all → ts ≡ [] → ListPutNot heap list new e → PutNot old (array (elements all)) new e
@@ -189,7 +188,6 @@ array_own_not old heap list new ts all e s none w = record { prefix = prefix_the
     why Memory h = tt
     why AlreadyFailed h = absurd h
     why OutOfPlace h = absurd h
-    why (FieldNumber n) h = absurd h
     why NotUtf8 h = absurd h
 
 pub array_written : (r : Result Place BuildError) (old heap list new own : List ℕ) (ts all : List Tree) → ArrayPut old heap list ts all → ts ≡ [] → own ≡ list
@@ -303,7 +301,6 @@ object_not old heap list new trees us all t e c is prefix w = record { prefix = 
     why Memory h = tt
     why AlreadyFailed h = absurd h
     why OutOfPlace h = absurd h
-    why (FieldNumber n) h = absurd h
     why NotUtf8 h = absurd h
 
 flat_all : (old heap list : List ℕ) (es fs all : List (List ℕ × Tree)) (k : List ℕ) (t : Tree) (s : ObjectPut old heap list es all) → es ≡ (k, t) ∷ fs → flat all ≡ flat s.done ++ leaf (text k) ∷ t ∷ flat fs
@@ -341,7 +338,6 @@ object_own_not old heap list new es all e s none w = record { prefix = prefix_th
     why Memory h = tt
     why AlreadyFailed h = absurd h
     why OutOfPlace h = absurd h
-    why (FieldNumber n) h = absurd h
     why NotUtf8 h = absurd h
 
 pub object_written : (r : Result Place BuildError) (old heap list new own : List ℕ) (es all : List (List ℕ × Tree)) → ObjectPut old heap list es all → es ≡ [] → own ≡ list

@@ -149,15 +149,15 @@ module _ (Legacy : List ℕ → Entries → Type 0) (L : List ℕ → Cause → 
   )
 
   -- behind a field and parts of its value
-  open_error : (n : ℕ) (d : Document) (f : ℕ) (ps : List Part) (bytes rest : List ℕ) (r : Refusal) → length d < n → f ≤ 65535 → Each R bytes (document_parts n d ++ (field f ∷ ps))
+  open_error : (n : ℕ) (d : Document) (f : ℕ) (ps : List Part) (bytes rest : List ℕ) (r : Refusal) → length d < n → Each R bytes (document_parts n d ++ (field f ∷ ps))
       → ((b : List ℕ) → Each R b ps → VF (b ++ rest) r) → ErrorInDocument Legacy L v (bytes ++ rest) r
-  open_error n d f ps bytes rest r less small p h =
+  open_error n d f ps bytes rest r less p h =
       let q = each_split R (document_parts n d) (field f ∷ ps) bytes p in
       let s = q.second in
       subst (λ z. ErrorInDocument Legacy L v z r) (behind_both bytes q.prefix q.rest rest q.joined)
       (document_error n d q.prefix (q.rest ++ rest) r less q.first (inr (
         f,
-        record { prefix = s.prefix; rest = s.rest ++ rest; joined = sym (behind_both q.rest s.prefix s.rest rest s.joined); first = (s.first, small); second = h s.rest s.second },
+        record { prefix = s.prefix; rest = s.rest ++ rest; joined = sym (behind_both q.rest s.prefix s.rest rest s.joined); first = s.first; second = h s.rest s.second },
       )))
 
   -- ---- by what is awaited
@@ -165,13 +165,13 @@ module _ (Legacy : List ℕ → Entries → Type 0) (L : List ℕ → Cause → 
   pub field_errors : (n : ℕ) (d : Document) (rest : List ℕ) (c : Cause) → length d < n → ErrorInField rest c → ErrorsBehind Legacy L v (document_parts n d) rest (corrupted c)
   field_errors n d rest c less h = λ bytes p. document_error n d bytes rest (corrupted c) less p (inl (corrupt h))
 
-  pub value_errors : (n : ℕ) (d : Document) (f : ℕ) (ls : List OpenList) (rest : List ℕ) (r : Refusal) → length d < n → f ≤ 65535 → AreLists ls → AllAwait ls → VF rest r
+  pub value_errors : (n : ℕ) (d : Document) (f : ℕ) (ls : List OpenList) (rest : List ℕ) (r : Refusal) → length d < n → AreLists ls → AllAwait ls → VF rest r
       → ErrorsBehind Legacy L v (open_parts n d f (in_lists ls)) rest r
-  value_errors n d f ls rest r less small are await h = λ bytes p. open_error n d f (lists_parts ls) bytes rest r less small p (λ b q. lists_error ls b rest r are await q h)
+  value_errors n d f ls rest r less are await h = λ bytes p. open_error n d f (lists_parts ls) bytes rest r less p (λ b q. lists_error ls b rest r are await q h)
 
-  pub key_errors : (n : ℕ) (d : Document) (f : ℕ) (l : OpenList) (ls : List OpenList) (rest : List ℕ) (r : Refusal) → length d < n → f ≤ 65535 → AreLists (l ∷ ls) → AllAwait ls
+  pub key_errors : (n : ℕ) (d : Document) (f : ℕ) (l : OpenList) (ls : List OpenList) (rest : List ℕ) (r : Refusal) → length d < n → AreLists (l ∷ ls) → AllAwait ls
       → IsKeyNext l.kind (length l.children) → ErrorInKey v rest r → ErrorsBehind Legacy L v (open_parts n d f (in_lists (l ∷ ls))) rest r
-  key_errors n d f l ls rest r less small are await next h = λ bytes p. open_error n d f (lists_parts (l ∷ ls)) bytes rest r less small p (λ b q. lists_key_error l ls b rest r are await next q h)
+  key_errors n d f l ls rest r less are await next h = λ bytes p. open_error n d f (lists_parts (l ∷ ls)) bytes rest r less p (λ b q. lists_key_error l ls b rest r are await next q h)
 
   -- ---- behind open bytes
 
@@ -196,9 +196,9 @@ module _ (Legacy : List ℕ → Entries → Type 0) (L : List ℕ → Cause → 
   ErrorsIn kinds.Bytes whole r = VF whole r
   ErrorsIn kinds.Key whole r = ErrorInKey v whole r
 
-  bytes_error : (n : ℕ) (d : Document) (f : ℕ) (kind : BytesKind) (ls : List OpenList) (m : ℕ) (bs rest : List ℕ) (r : Refusal) → length d < n → f ≤ 65535 → AreLists ls → OthersAwait ls → HeadNext kind ls
+  bytes_error : (n : ℕ) (d : Document) (f : ℕ) (kind : BytesKind) (ls : List OpenList) (m : ℕ) (bs rest : List ℕ) (r : Refusal) → length d < n → AreLists ls → OthersAwait ls → HeadNext kind ls
       → ((b : List ℕ) → Each R b (bytes_head kind m ∷ some_bytes bs ∷ []) → ErrorsIn kind (b ++ rest) r) → ErrorsBehind Legacy L v (open_parts n d f (in_bytes ls kind m bs)) rest r
-  bytes_error n d f kind ls m bs rest r less small are others next h = λ bytes p. open_error n d f (lists_parts ls ++ (bytes_head kind m ∷ some_bytes bs ∷ [])) bytes rest r less small p (λ b q.
+  bytes_error n d f kind ls m bs rest r less are others next h = λ bytes p. open_error n d f (lists_parts ls ++ (bytes_head kind m ∷ some_bytes bs ∷ [])) bytes rest r less p (λ b q.
       let s = each_split R (lists_parts ls) (bytes_head kind m ∷ some_bytes bs ∷ []) b q in
       subst (λ z. VF z r) (behind_both b s.prefix s.rest rest s.joined) (within kind ls s.prefix (s.rest ++ rest) are others next s.first (h s.rest s.second)))
     where
@@ -239,11 +239,11 @@ module _ (Legacy : List ℕ → Entries → Type 0) (L : List ℕ → Cause → 
       (λ body h. text_is_none m body p.rest piece rest h (omega (arith, full, ap length content)) (subst (λ z. ¬ IsUtf8 (z ++ piece)) (sym content) none))
 
   -- the bytes end before so many have come
-  pub end_errors : (n : ℕ) (d : Document) (f : ℕ) (kind : BytesKind) (ls : List OpenList) (m : ℕ) (bs rest : List ℕ) → length d < n → f ≤ 65535 → AreLists ls → OthersAwait ls → HeadNext kind ls → length bs + length rest < m
+  pub end_errors : (n : ℕ) (d : Document) (f : ℕ) (kind : BytesKind) (ls : List OpenList) (m : ℕ) (bs rest : List ℕ) → length d < n → AreLists ls → OthersAwait ls → HeadNext kind ls → length bs + length rest < m
       → ErrorsBehind Legacy L v (open_parts n d f (in_bytes ls kind m bs)) rest (corrupted UnexpectedEnd)
-  end_errors n d f kind ls m bs rest less small are others next short = bytes_error n d f kind ls m bs rest (corrupted UnexpectedEnd) less small are others next (λ b p. head_ends kind m bs rest short b p)
+  end_errors n d f kind ls m bs rest less are others next short = bytes_error n d f kind ls m bs rest (corrupted UnexpectedEnd) less are others next (λ b p. head_ends kind m bs rest short b p)
 
   -- all have come, and are no text
-  pub text_errors : (n : ℕ) (d : Document) (f : ℕ) (kind : BytesKind) (ls : List OpenList) (m : ℕ) (bs piece rest : List ℕ) → length d < n → f ≤ 65535 → AreLists ls → OthersAwait ls → HeadNext kind ls → IsTextKind kind
+  pub text_errors : (n : ℕ) (d : Document) (f : ℕ) (kind : BytesKind) (ls : List OpenList) (m : ℕ) (bs piece rest : List ℕ) → length d < n → AreLists ls → OthersAwait ls → HeadNext kind ls → IsTextKind kind
       → length bs + length piece ≡ m → ¬ IsUtf8 (bs ++ piece) → ErrorsBehind Legacy L v (open_parts n d f (in_bytes ls kind m bs)) (piece ++ rest) (corrupted NotUtf8)
-  text_errors n d f kind ls m bs piece rest less small are others next is full none = bytes_error n d f kind ls m bs (piece ++ rest) (corrupted NotUtf8) less small are others next (λ b p. head_is_none kind m bs piece rest is full none b p)
+  text_errors n d f kind ls m bs piece rest less are others next is full none = bytes_error n d f kind ls m bs (piece ++ rest) (corrupted NotUtf8) less are others next (λ b p. head_is_none kind m bs piece rest is full none b p)

@@ -1,5 +1,5 @@
 -- What has come of a document, as a flat list of parts in reading order, and how some parts are traded for others.
-use Rattle.std.specs.Prelude.{◌≡◌, ℕ, ◌≤◌, List, [], ◌∷◌, ◌++◌, length, map, IsUtf8}
+use Rattle.std.specs.Prelude.{◌≡◌, ℕ, List, [], ◌∷◌, ◌++◌, length, map, IsUtf8}
 use Rattle.tv_format.specs.Tree.{Tree, leaf, text, facet, bytes, array, object, elements, entries}
 use Rattle.tv_builder.specs.declared.bytes_kind.BytesKind.{BytesKind}
 use Rattle.tv_builder.specs.declared.bytes_kind.BytesKind.TheVariants.{Str, Facet, Bytes, Key}
@@ -42,7 +42,7 @@ pub data Rule : List Part → List Part → Type 0 where
   full_bytes : (kind : BytesKind) (content : List ℕ) → IsContent kind content → Rule (bytes_head kind (length content) ∷ some_bytes content ∷ []) (bytes_part kind content ∷ [])
   more_bytes : (a b : List ℕ) → Rule (some_bytes a ∷ some_bytes b ∷ []) (some_bytes (a ++ b) ∷ [])
   no_bytes : Rule [] (some_bytes [] ∷ [])
-  full_pair : (f : ℕ) (t : Tree) → f ≤ 65535 → Rule (field f ∷ value t ∷ []) (pair f t ∷ [])
+  full_pair : (f : ℕ) (t : Tree) → Rule (field f ∷ value t ∷ []) (pair f t ∷ [])
 
 -- by one rule after the other, each between other parts
 pub data Trades : List Part → List Part → Type 0 where

@@ -14,9 +14,6 @@ pub enum BuildError {
     /// Another call is awaited.
     #[error("another call is awaited")]
     OutOfPlace,
-    /// The number of the field, which is above 65535.
-    #[error("the field number {0} is above 65535")]
-    FieldNumber(u32),
     /// The bytes of a text, a facet or a key aren't UTF-8.
     #[error("the bytes of a text are not UTF-8")]
     NotUtf8,

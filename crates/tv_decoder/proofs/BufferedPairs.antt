@@ -52,8 +52,7 @@ mutual
 
 pair_with_legacy : (L : List ℕ → Entries → Type 0) (v : Version) (p : ℕ × Tree) (b : List ℕ) → EncodesPair NoLegacy v b p → EncodesPair L v b p
 pair_with_legacy L v p b h =
-    let s = h.parts in
-    record { small = h.small; parts = record { prefix = s.prefix; rest = s.rest; joined = s.joined; first = s.first; second = with_legacy L v p.1 s.rest s.second } }
+    record { prefix = h.prefix; rest = h.rest; joined = h.joined; first = h.first; second = with_legacy L v p.1 h.rest h.second }
 
 pub pairs_as_parts : (L : List ℕ → Entries → Type 0) (v : Version) (d : Document) (b : List ℕ) → Each (EncodesPair NoLegacy v) b d → Each (EncodesPart L v) b (pairs_parts d)
 pairs_as_parts L v [] b h = h

@@ -1,7 +1,7 @@
 -- What the calls of a builder leave where each is made in its place.
 use Rattle.std.proofs.Common.{◌≡◌, ℕ, ◌≤◌, false, List, Result, Ok, Err, subst, arith}
 use Rattle.tv_builder.specs.declared.build_error.BuildError.{BuildError}
-use Rattle.tv_builder.specs.declared.build_error.BuildError.TheVariants.{AlreadyFailed, OutOfPlace, FieldNumber, NotUtf8, HeapFull, Memory}
+use Rattle.tv_builder.specs.declared.build_error.BuildError.TheVariants.{AlreadyFailed, OutOfPlace, NotUtf8, HeapFull, Memory}
 use Rattle.tv_builder.specs.State.{State, and_end}
 use Rattle.tv_doc.specs.declared.builder.TreeBuilder.{TreeBuilder}
 use Rattle.tv_doc.specs.Builder.{state_of, Overfull, Goes, BuildsIf, Builds, HasAllBytes, HasContent, EndsIf, Ends, IsComplete, Finished, FinishesIf, Finishes}
@@ -16,7 +16,6 @@ called_live : (old new : TreeBuilder) (in_place full fits : Type 0) (heaps : Lis
 called_live old new in_place full fits heaps after (Ok x) here h = h.2
 called_live old new in_place full fits heaps after (Err AlreadyFailed) here h = absurd h
 called_live old new in_place full fits heaps after (Err OutOfPlace) here h = absurd (h.0 here)
-called_live old new in_place full fits heaps after (Err (FieldNumber n)) here h = absurd h
 called_live old new in_place full fits heaps after (Err NotUtf8) here h = absurd h
 called_live old new in_place full fits heaps after (Err HeapFull) here h = h.3
 called_live old new in_place full fits heaps after (Err Memory) here h = tt
@@ -36,7 +35,6 @@ ended_live : (old new : TreeBuilder) (r : Result (Unit {0}) BuildError) → HasA
 ended_live old new (Ok x) all h = (h.3, h.1)
 ended_live old new (Err AlreadyFailed) all h = absurd h
 ended_live old new (Err OutOfPlace) all h = absurd (h.0 all)
-ended_live old new (Err (FieldNumber n)) all h = absurd h
 ended_live old new (Err NotUtf8) all h = h.1
 ended_live old new (Err HeapFull) all h = (h.1, h.4)
 ended_live old new (Err Memory) all h = h.1
@@ -50,14 +48,13 @@ CalledFinish old new f (Ok x) = Finished old new f
 CalledFinish old new f (Err Memory) = Unit {0}
 CalledFinish old new f (Err _) = ⊥
 
-finished_live : (old new : TreeBuilder) (f : ℕ) (r : Result (Unit {0}) BuildError) → IsComplete (state_of old) → f ≤ 65535 → FinishesIf false old new f r → CalledFinish old new f r
-finished_live old new f (Ok x) whole small h = h
-finished_live old new f (Err AlreadyFailed) whole small h = absurd h
-finished_live old new f (Err OutOfPlace) whole small h = absurd (h.0 whole)
-finished_live old new f (Err (FieldNumber n)) whole small h = absurd (omega (arith, h.2, small))
-finished_live old new f (Err NotUtf8) whole small h = absurd h
-finished_live old new f (Err HeapFull) whole small h = absurd h
-finished_live old new f (Err Memory) whole small h = tt
+finished_live : (old new : TreeBuilder) (f : ℕ) (r : Result (Unit {0}) BuildError) → IsComplete (state_of old) → FinishesIf false old new f r → CalledFinish old new f r
+finished_live old new f (Ok x) whole h = h
+finished_live old new f (Err AlreadyFailed) whole h = absurd h
+finished_live old new f (Err OutOfPlace) whole h = absurd (h.0 whole)
+finished_live old new f (Err NotUtf8) whole h = absurd h
+finished_live old new f (Err HeapFull) whole h = absurd h
+finished_live old new f (Err Memory) whole h = tt
 
-pub finished : (old new : TreeBuilder) (f : ℕ) (r : Result (Unit {0}) BuildError) → old.failed ≡ false → IsComplete (state_of old) → f ≤ 65535 → Finishes old new f r → CalledFinish old new f r
-finished old new f r live whole small h = finished_live old new f r whole small (subst (λ z. FinishesIf z old new f r) live h)
+pub finished : (old new : TreeBuilder) (f : ℕ) (r : Result (Unit {0}) BuildError) → old.failed ≡ false → IsComplete (state_of old) → Finishes old new f r → CalledFinish old new f r
+finished old new f r live whole h = finished_live old new f r whole (subst (λ z. FinishesIf z old new f r) live h)

@@ -5,7 +5,7 @@ use Rattle.std.proofs.lemmas.Bool.Decides.{eqb_tells}
 use Rattle.tv_builder.specs.declared.awaits.Awaits.{Awaits}
 use Rattle.tv_builder.specs.declared.awaits.Awaits.TheVariants as awaits
 use Rattle.tv_builder.specs.declared.build_error.BuildError.{BuildError}
-use Rattle.tv_builder.specs.declared.build_error.BuildError.TheVariants.{AlreadyFailed, OutOfPlace, FieldNumber, NotUtf8, HeapFull, Memory}
+use Rattle.tv_builder.specs.declared.build_error.BuildError.TheVariants.{AlreadyFailed, OutOfPlace, NotUtf8, HeapFull, Memory}
 use Rattle.tv_builder.specs.declared.bytes_kind.BytesKind.{BytesKind}
 use Rattle.tv_builder.specs.declared.bytes_kind.BytesKind.TheVariants as kinds
 use Rattle.tv_builder.specs.declared.frame.ListKind.{ListKind}
@@ -89,7 +89,6 @@ pub record FillsAt (a f : Option ℕ) (d : Document) (old : State) (ps : List Pa
   pub field : ℕ
   pub state : State
   pub less : length d < announced
-  pub small : field ≤ 65535
   pub is : IsState state
   pub trades : Trades (parts_at a d f old ++ ps) (open_parts announced d field state)
   pub full : 4294967295 < document_room d + state_room state
@@ -98,12 +97,12 @@ pub fills_at : (a f : Option ℕ) (d : Document) (old new : State) (ps : List Pa
 fills_at None None d old new ps has h is t full = absurd has
 fills_at None (Some f) d old new ps has h is t full = absurd h
 fills_at (Some n) None d old new ps has h is t full = absurd has
-fills_at (Some n) (Some f) d old new ps has h is t full = record { announced = n; field = f; state = new; less = h.0; small = h.1; is = is; trades = trades_at (Some n) (Some f) d old new ps has h t; full = full }
+fills_at (Some n) (Some f) d old new ps has h is t full = record { announced = n; field = f; state = new; less = h.0; is = is; trades = trades_at (Some n) (Some f) d old new ps has h t; full = full }
 
 pub fills : (r : Reading) (s : State) (ps : List Part) → IsSound r → HasField r.field → IsState s → Trades (parts_of (state_of r.builder) ++ ps) (parts_of s) → Overfull r.builder s → Fills r ps
 fills r s ps sound has is t full =
     let k = fills_at r.announced r.field (built r.builder) (state_of r.builder) s ps has sound.place is t full in
-    record { announced = k.announced; finished = built r.builder; field = k.field; state = k.state; less = k.less; small = k.small; is = k.is; trades = k.trades; full = k.full }
+    record { announced = k.announced; finished = built r.builder; field = k.field; state = k.state; less = k.less; is = k.is; trades = k.trades; full = k.full }
 
 -- ---- the call, and what it answers
 
@@ -131,5 +130,4 @@ module _ (r : Reading) (b : TreeBuilder) (what : Awaits) (in_place full fits : T
       refused Memory k = tt
       refused AlreadyFailed k = absurd k
       refused OutOfPlace k = absurd k
-      refused (FieldNumber n) k = absurd k
       refused NotUtf8 k = absurd k

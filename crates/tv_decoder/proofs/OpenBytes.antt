@@ -6,7 +6,7 @@ use Rattle.tv_base.specs.declared.cause.Cause.{Cause}
 use Rattle.tv_base.specs.declared.cause.Cause.TheVariants as causes
 use Rattle.tv_builder.specs.declared.awaits.Awaits.TheVariants as awaits
 use Rattle.tv_builder.specs.declared.build_error.BuildError.{BuildError}
-use Rattle.tv_builder.specs.declared.build_error.BuildError.TheVariants.{AlreadyFailed, OutOfPlace, FieldNumber, NotUtf8, HeapFull, Memory}
+use Rattle.tv_builder.specs.declared.build_error.BuildError.TheVariants.{AlreadyFailed, OutOfPlace, NotUtf8, HeapFull, Memory}
 use Rattle.tv_builder.specs.declared.bytes_kind.BytesKind.{BytesKind}
 use Rattle.tv_builder.specs.declared.bytes_kind.BytesKind.TheVariants as kinds
 use Rattle.tv_builder.specs.Kinds.{IsTextKind}
@@ -120,12 +120,12 @@ record EndedAt (a f : Option ℕ) (d : Document) (old new : State) : Type 0 wher
 ended_at : (a f : Option ℕ) (d : Document) (old new : State) → IsEnding a d f old → MayStand new → Trades (parts_of old ++ []) (parts_of new) → EndedAt a f d old new
 ended_at None f d old new h stands t = absurd h
 ended_at (Some n) None d old new h stands t = absurd h
-ended_at (Some n) (Some f) d old new h stands t = record { within = (h.0, h.1, stands); trades = open_trades n d f old new [] t }
+ended_at (Some n) (Some f) d old new h stands t = record { within = (h.0, stands); trades = open_trades n d f old new [] t }
 
 all_bytes : (a f : Option ℕ) (d : Document) (s : State) → IsEnding a d f s → HasAllBytes s
 all_bytes None f d s h = absurd h
 all_bytes (Some n) None d s h = absurd h
-all_bytes (Some n) (Some f) d s h = h.2
+all_bytes (Some n) (Some f) d s h = h.1
 
 pub ends_all : (r : Reading) → AtEnd r → HasAllBytes (state_of r.builder)
 ends_all r h = all_bytes r.announced r.field (built r.builder) (state_of r.builder) h.ending
@@ -162,7 +162,7 @@ end_left r b new (Err e) o l = goes_let_go r b (and_end (state_of r.builder)) ne
 end_fills_at : (a f : Option ℕ) (d : Document) (s : State) (finished : ℕ) → IsEnding a d f s → IsState (and_end s) → Trades (parts_of s ++ []) (parts_of (and_end s)) → 4294967295 < document_room d + state_room (and_end s) → FillsAt a f d s []
 end_fills_at None f d s finished h is t full = absurd h
 end_fills_at (Some n) None d s finished h is t full = absurd h
-end_fills_at (Some n) (Some f) d s finished h is t full = record { announced = n; field = f; state = and_end s; less = h.0; small = h.1; is = is; trades = open_trades n d f s (and_end s) [] t; full = full }
+end_fills_at (Some n) (Some f) d s finished h is t full = record { announced = n; field = f; state = and_end s; less = h.0; is = is; trades = open_trades n d f s (and_end s) [] t; full = full }
 
 pub end_refused : (r new : Reading) (b : TreeBuilder) (e : BuildError) → AtEnd r → Ends r.builder b (Err e) → PutsEnd r new (Err (build_error e))
 end_refused r new b e h c = refused e c (ended r.builder b (Err e) h.live (ends_all r h) c)
@@ -173,12 +173,11 @@ end_refused r new b e h c = refused e c (ended r.builder b (Err e) h.live (ends_
     refused : (e : BuildError) → Ends r.builder b (Err e) → CalledEnd r.builder b (Err e) → PutsEnd r new (Err (build_error e))
     refused HeapFull c k =
         let f = end_fills_at r.announced r.field (built r.builder) s 0 h.ending (and_end_is s (is_state r.builder)) (end_trades s (is_state r.builder) (ends_all r h) k.0) k.1 in
-        record { announced = f.announced; finished = built r.builder; field = f.field; state = f.state; less = f.less; small = f.small; is = f.is; trades = f.trades; full = f.full }
+        record { announced = f.announced; finished = built r.builder; field = f.field; state = f.state; less = f.less; is = f.is; trades = f.trades; full = f.full }
     refused Memory c k = tt
     refused NotUtf8 c k = k
     refused AlreadyFailed c k = absurd k
     refused OutOfPlace c k = absurd k
-    refused (FieldNumber n) c k = absurd k
 
 -- ---- together
 
@@ -238,13 +237,12 @@ bytes_refused r new b in_place fits heaps after more ps e live here c = refused 
     refused NotUtf8 k = absurd k
     refused AlreadyFailed k = absurd k
     refused OutOfPlace k = absurd (k.0 here)
-    refused (FieldNumber n) k = absurd k
 
 ending_at : (a f : Option ℕ) (d : Document) (old new : State) → HasField f → IsPlace a d f old → HasAllBytes new → IsEnding a d f new
 ending_at None None d old new has h all = absurd has
 ending_at None (Some f) d old new has h all = absurd h
 ending_at (Some n) None d old new has h all = absurd has
-ending_at (Some n) (Some f) d old new has h all = (h.0, h.1, all)
+ending_at (Some n) (Some f) d old new has h all = (h.0, all)
 
 pub at_end : (r : Reading) (b : TreeBuilder) (s : State) → IsSound r → HasField r.field → Goes r.builder b s → HasAllBytes s → AtEnd (with_builder r b)
 at_end r b s h has g all = record {

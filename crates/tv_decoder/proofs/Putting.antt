@@ -37,7 +37,7 @@ closed_at : (a : Option ℕ) (d : Document) (f : ℕ) (s : State) (t : Tree) →
 closed_at None d f s t h e = absurd h
 closed_at (Some n) d f s t h e = record {
   place = (omega (arith, h.0, length-append d ((f, t) ∷ [])), refl);
-  trades = trades_from _ (append-nil (open_parts n d f s) ∙ ap (λ z. open_parts n d f z) e) (pair_trades n d f t h.1);
+  trades = trades_from _ (append-nil (open_parts n d f s) ∙ ap (λ z. open_parts n d f z) e) (pair_trades n d f t);
 }
 
 pub closed : (r new : Reading) (f : ℕ) → IsOpen r → r.field ≡ Some f → Finished r.builder new.builder f → new.announced ≡ r.announced → new.finished ≡ r.finished + 1 → new.field ≡ None → Put r new []
@@ -72,7 +72,7 @@ lacks_at (in_lists ls) other h = tt
 lacks_at (in_bytes ls kind n bs) other h = h
 
 place_at : (a : Option ℕ) (d : Document) (f : Option ℕ) (s : State) → awaited s ≢ awaits.Finish → IsWithin a d f s → IsPlace a d f s
-place_at (Some n) d (Some f) s other h = (h.0, h.1, lacks_at s other h.2)
+place_at (Some n) d (Some f) s other h = (h.0, lacks_at s other h.1)
 place_at (Some n) d None s other h = absurd h
 place_at None d f s other h = absurd h
 
@@ -98,13 +98,6 @@ no_field r h e = none r.announced (subst (λ z. IsWithin r.announced (built r.bu
 pub no_number : (r : Reading) → IsOpen r → r.announced ≡ None → ⊥
 no_number r h e = subst (λ z. IsWithin z (built r.builder) r.field (state_of r.builder)) e h.within
 
-pub small_field : (r : Reading) (f : ℕ) → IsOpen r → r.field ≡ Some f → f ≤ 65535
-small_field r f h e = small r.announced (subst (λ z. IsWithin r.announced (built r.builder) z (state_of r.builder)) e h.within)
-  where
-    small : (a : Option ℕ) → IsWithin a (built r.builder) (Some f) (state_of r.builder) → f ≤ 65535
-    small None w = absurd w
-    small (Some n) w = w.1
-
 -- the next pair can be counted
 pub lacks_pair : (r : Reading) → IsOpen r → (n : ℕ) × (r.announced ≡ Some n) × (r.finished < n)
 lacks_pair r h = lacks r.announced refl h.within
@@ -129,7 +122,7 @@ within_at : (a f : Option ℕ) (d : Document) (old new : State) → HasField f �
 within_at None None d old new has h stands = absurd has
 within_at None (Some f) d old new has h stands = absurd h
 within_at (Some n) None d old new has h stands = absurd has
-within_at (Some n) (Some f) d old new has h stands = (h.0, h.1, stands)
+within_at (Some n) (Some f) d old new has h stands = (h.0, stands)
 
 pub opened : (r : Reading) (b : TreeBuilder) (s : State) → IsSound r → HasField r.field → Goes r.builder b s → MayStand s → IsOpen (with_builder r b)
 opened r b s h has g stands = record {
@@ -175,7 +168,7 @@ goes_let_go r b s new g l = record {
 
 pub puts_on : (r mid new : Reading) (ps : List Part) (result : Result (Unit {0}) DeserializeError) → Leads r mid ps → Puts mid new [] result → Puts r new ps result
 puts_on r mid new ps (Ok x) l h = record { sound = h.sound; grows = grows_on r mid new ps l h.grows; trades = trades_then l.trades (trades_from _ (sym (append-nil (parts_read mid))) h.trades) }
-puts_on r mid new ps (Err errors.HeapFull) l h = record { announced = h.announced; finished = h.finished; field = h.field; state = h.state; less = h.less; small = h.small; is = h.is; trades = trades_then l.trades (trades_from _ (sym (append-nil (parts_read mid))) h.trades); full = h.full }
+puts_on r mid new ps (Err errors.HeapFull) l h = record { announced = h.announced; finished = h.finished; field = h.field; state = h.state; less = h.less; is = h.is; trades = trades_then l.trades (trades_from _ (sym (append-nil (parts_read mid))) h.trades); full = h.full }
 puts_on r mid new ps (Err errors.Memory) t h = tt
 puts_on r mid new ps (Err (errors.CorruptedValue c)) t h = absurd h
 puts_on r mid new ps (Err (errors.UnsupportedType k)) t h = absurd h

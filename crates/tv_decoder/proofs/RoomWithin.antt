@@ -333,7 +333,7 @@ module _ (L : List ℕ → Entries → Type 0) (v : Version) (one_l : OneReading
   pairs_within (q ∷ o) f st [] p x b y is less h e s = absurd (omega (arith, less))
   pairs_within [] f st (r ∷ d) p x b y is less h e s =
       let whole = both_cut p b h.prefix h.rest s.prefix s.rest x y h.joined s.joined e in
-      let t = s.first.parts in
+      let t = s.first in
       let all : h.prefix ++ (h.rest ++ x) ≡ t.prefix ++ (t.rest ++ (s.rest ++ y)) = whole ∙ ap (λ (z : List ℕ). z ++ (s.rest ++ y)) t.joined ∙ append_assoc t.prefix t.rest (s.rest ++ y) in
       let same = one_fixed 4 h.prefix t.prefix (h.rest ++ x) (t.rest ++ (s.rest ++ y)) f r.0 h.first t.first all in
       let within = state_within st h.rest x t.rest (s.rest ++ y) r.1 is h.second (rest_is h.prefix t.prefix (h.rest ++ x) (t.rest ++ (s.rest ++ y)) same.0 all) t.second in

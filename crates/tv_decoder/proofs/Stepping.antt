@@ -87,8 +87,8 @@ number_put r new n sound none announced finished field_is builder =
 
 -- ---- a field
 
-pub field_put : (r new : Reading) (f : ℕ) → IsSound r → r.field ≡ None → LacksPair r.announced r.finished → f ≤ 65535 → new.announced ≡ r.announced → new.finished ≡ r.finished → new.field ≡ Some f → new.builder ≡ r.builder → Put r new (field f ∷ [])
-field_put r new f sound none lacks small announced finished field_is builder =
+pub field_put : (r new : Reading) (f : ℕ) → IsSound r → r.field ≡ None → LacksPair r.announced r.finished → new.announced ≡ r.announced → new.finished ≡ r.finished → new.field ≡ Some f → new.builder ≡ r.builder → Put r new (field f ∷ [])
+field_put r new f sound none lacks announced finished field_is builder =
     let built_is : built new.builder ≡ built r.builder = ap built builder in
     let state : state_of new.builder ≡ state_of r.builder = ap state_of builder in
     let k = at r.announced lacks (subst (λ z. IsPlace r.announced (built r.builder) z (state_of r.builder)) none sound.place) in
@@ -112,7 +112,7 @@ field_put r new f sound none lacks small announced finished field_is builder =
         → IsPlace a (built r.builder) (Some f) (state_of r.builder) × (parts_at a (built r.builder) None (state_of r.builder) ++ field f ∷ [] ≡ parts_at a (built r.builder) (Some f) (state_of r.builder))
     at None lacks h = absurd lacks
     at (Some n) lacks h = (
-      (omega (arith, lacks, sound.counted), small, subst (λ z. Lacks z) (sym h.1) tt),
+      (omega (arith, lacks, sound.counted), subst (λ z. Lacks z) (sym h.1) tt),
       ap (λ (z : List Part). document_parts n (built r.builder) ++ (field f ∷ z)) (sym (ap parts_of h.1)),
     )
 
@@ -152,7 +152,6 @@ no_room v old ps whole rest taken joined encoded f = λ bytes p. record {
   rest = rest;
   joined = ap (λ (z : List ℕ). bytes ++ z) joined ∙ sym (append_assoc bytes taken rest);
   less = f.less;
-  small = f.small;
   is = f.is;
   encoded = trades_sound Legacy v (parts_read old ++ ps) (open_parts f.announced f.finished f.field f.state) (bytes ++ taken) f.trades (each_append (EncodesPart Legacy v) (parts_read old) ps bytes taken p encoded);
   full = f.full;

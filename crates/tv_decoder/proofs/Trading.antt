@@ -24,7 +24,7 @@ pairs_push [] f t = refl
 pairs_push (p ∷ d) f t = ap (λ (z : List Part). pair p.0 p.1 ∷ z) (pairs_push d f t)
 
 -- a complete value becomes that of a pair
-pub pair_trades : (n : ℕ) (d : Document) (f : ℕ) (t : Tree) → f ≤ 65535 → Trades (open_parts n d f (complete t)) (document_parts n (d ++ (f, t) ∷ []))
-pair_trades n d f t small =
+pub pair_trades : (n : ℕ) (d : Document) (f : ℕ) (t : Tree) → Trades (open_parts n d f (complete t)) (document_parts n (d ++ (f, t) ∷ []))
+pair_trades n d f t =
     let after : document_parts n d ++ pair f t ∷ [] ≡ document_parts n (d ++ (f, t) ∷ []) = ap (λ (z : List Part). number n ∷ z) (sym (pairs_push d f t)) in
-    trades_as _ after (trades_last (document_parts n d) (field f ∷ value t ∷ []) (pair f t ∷ []) (full_pair f t small))
+    trades_as _ after (trades_last (document_parts n d) (field f ∷ value t ∷ []) (pair f t ∷ []) (full_pair f t))

@@ -5,7 +5,7 @@ use Rattle.std.proofs.lemmas.Bool.Decides.{eqb_tells}
 use Rattle.std.proofs.lemmas.Bool.{cond-true, cond-false}
 use Rattle.tv_base.specs.declared.cause.Cause.TheVariants as causes
 use Rattle.tv_base.specs.Number.{VNum}
-use Rattle.tv_base.specs.ErrorInPart.{ErrorInNumber, number_ends, in_sized}
+use Rattle.tv_base.specs.ErrorInPart.{ErrorInNumber, number_ends, bytes_end, in_sized}
 use Rattle.tv_base.specs.Parts.{Each}
 use Rattle.tv_base.specs.Source.{Failures}
 use Rattle.tv_builder.specs.declared.awaits.Awaits.TheVariants as awaits
@@ -23,7 +23,7 @@ use Rattle.tv_reader.specs.Finds.{Finds}
 use Rattle.tv_reader.specs.declared.error.DeserializeError.{DeserializeError}
 use Rattle.tv_reader.specs.declared.error.DeserializeError.TheVariants as errors
 use Rattle.tv_reader.proofs.Finding.{finds_then, finds_as, finds_fails}
-use Rattle.tv_format.specs.InputError.{Refusal, corrupted, Corrupt, corrupt, ErrorInDocument, ErrorInKey, key_ends, field_ends, value_ends}
+use Rattle.tv_format.specs.InputError.{Refusal, corrupted, Corrupt, corrupt, ErrorInDocument, ErrorInKey, key_ends, value_ends}
 use Rattle.tv_format.specs.Encoding.{EncodesPair, EncodesDocument}
 use Rattle.tv_format.specs.Tree.{Document}
 use Rattle.tv_format.specs.Version.{Version, V1, V2, V3}
@@ -90,10 +90,10 @@ ended_at v r sound more None f ea ef = number_at_error v r [] end ea (corrupt (n
 ended_at v r sound more (Some n) None ea ef =
     let place = subst (λ z. IsPlace r.announced (built r.builder) z (state_of r.builder)) ef sound.place in
     let some : r.announced ≢ None = λ e. (let g : Some n ≡ None = sym ea ∙ e in cc) in
-    field_at_error v r [] end sound ef (pair_lacks r.announced (built r.builder) r.finished (state_of r.builder) sound.counted place more some) (corrupt (field_ends (omega arith)))
+    field_at_error v r [] end sound ef (pair_lacks r.announced (built r.builder) r.finished (state_of r.builder) sound.counted place more some) (corrupt (bytes_end (omega arith)))
 ended_at v r sound more (Some n) (Some f) ea ef =
     let place = subst (λ z. IsPlace z (built r.builder) (Some f) (state_of r.builder)) ea (subst (λ z. IsPlace r.announced (built r.builder) z (state_of r.builder)) ef sound.place) in
-    value_ended_at v r sound (subst HasField (sym ef) tt) (state_of r.builder) refl place.2
+    value_ended_at v r sound (subst HasField (sym ef) tt) (state_of r.builder) refl place.1
 
 -- without a byte more, only the end is missing
 pub ended : (v : Version) (r : Reading) (b : List ℕ) (f : Refusal) → IsSound r → ¬ IsDone r → Encoded Legacy v b (parts_read r) → NoPrefix v r [] f → f ≡ end

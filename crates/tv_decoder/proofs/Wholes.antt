@@ -127,8 +127,8 @@ lent_is s content tokens e f = λ i. leaf (tokenized (e i) (f i))
 
 -- one is missing at least
 missing_at : (a f : Option ℕ) (d : Document) (s : State) (missing : ℕ) → HasField f → IsPlace a d f s → awaited s ≡ awaits.Bytes missing → 0 < missing
-missing_at (Some n) (Some f) d (in_bytes ls kind m bs) missing has h e = let same : m - length bs ≡ missing = cc in omega (arith, same, h.2)
-missing_at (Some n) (Some f) d (complete t) missing has h e = absurd h.2
+missing_at (Some n) (Some f) d (in_bytes ls kind m bs) missing has h e = let same : m - length bs ≡ missing = cc in omega (arith, same, h.1)
+missing_at (Some n) (Some f) d (complete t) missing has h e = absurd h.1
 missing_at (Some n) (Some f) d (in_lists []) missing has h e = absurd cc
 missing_at (Some n) (Some f) d (in_lists (l ∷ ls)) missing has h e = absurd (no_bytes_next l.kind (length l.children) missing e)
 missing_at None (Some f) d s missing has h e = absurd h

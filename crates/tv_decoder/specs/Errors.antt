@@ -9,7 +9,6 @@ use Rattle.tv_reader.specs.declared.error.DeserializeError.TheVariants as errors
 abbrev pub Comes : BuildError → Type 0
 Comes builds.AlreadyFailed = ⊥
 Comes builds.OutOfPlace = ⊥
-Comes (builds.FieldNumber n) = ⊥
 Comes builds.NotUtf8 = Unit {0}
 Comes builds.HeapFull = Unit {0}
 Comes builds.Memory = Unit {0}
@@ -17,7 +16,6 @@ Comes builds.Memory = Unit {0}
 abbrev pub build_error : BuildError → DeserializeError
 build_error builds.AlreadyFailed = errors.AlreadyFailed
 build_error builds.OutOfPlace = errors.AlreadyFailed
-build_error (builds.FieldNumber n) = errors.CorruptedValue (causes.FieldNumber n)
 build_error builds.NotUtf8 = errors.CorruptedValue causes.NotUtf8
 build_error builds.HeapFull = errors.HeapFull
 build_error builds.Memory = errors.Memory

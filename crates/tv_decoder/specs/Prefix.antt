@@ -35,7 +35,7 @@ abbrev pub IsPlace : Option ℕ → Document → Option ℕ → State → Type 0
 IsPlace None d None s = (d ≡ []) × (s ≡ in_lists [])
 IsPlace None d (Some f) s = ⊥
 IsPlace (Some n) d None s = (length d ≤ n) × (s ≡ in_lists [])
-IsPlace (Some n) d (Some f) s = (length d < n) × (f ≤ 65535) × Lacks s
+IsPlace (Some n) d (Some f) s = (length d < n) × Lacks s
 
 pub record IsSound (r : Reading) : Type 0 where
   pub live : r.builder.failed ≡ false
@@ -71,7 +71,6 @@ pub record HasNoRoom (v : Version) (whole : List ℕ) : Type 0 where
   pub rest : List ℕ
   pub joined : whole ≡ prefix ++ rest
   pub less : length finished < announced
-  pub small : field ≤ 65535
   pub is : IsState state
   pub encoded : Encoded Legacy v prefix (open_parts announced finished field state)
   pub full : 4294967295 < document_room finished + state_room state

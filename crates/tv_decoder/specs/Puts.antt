@@ -29,7 +29,7 @@ MayStand (in_lists ls) = Unit {0}
 MayStand (in_bytes ls kind n bs) = length bs < n
 
 abbrev pub IsWithin : Option ℕ → Document → Option ℕ → State → Type 0
-IsWithin (Some n) d (Some f) s = (length d < n) × (f ≤ 65535) × MayStand s
+IsWithin (Some n) d (Some f) s = (length d < n) × MayStand s
 IsWithin _ d f s = ⊥
 
 -- within a pair
@@ -39,7 +39,7 @@ pub record IsOpen (r : Reading) : Type 0 where
   pub within : IsWithin r.announced (built r.builder) r.field (state_of r.builder)
 
 abbrev pub IsEnding : Option ℕ → Document → Option ℕ → State → Type 0
-IsEnding (Some n) d (Some f) s = (length d < n) × (f ≤ 65535) × HasAllBytes s
+IsEnding (Some n) d (Some f) s = (length d < n) × HasAllBytes s
 IsEnding _ d f s = ⊥
 
 -- within a pair, and all open bytes have come
@@ -69,7 +69,6 @@ pub record Fills (old : Reading) (ps : List Part) : Type 0 where
   pub field : ℕ
   pub state : State
   pub less : length finished < announced
-  pub small : field ≤ 65535
   pub is : IsState state
   pub trades : Trades (parts_read old ++ ps) (open_parts announced finished field state)
   pub full : 4294967295 < document_room finished + state_room state

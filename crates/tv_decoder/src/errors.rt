@@ -16,8 +16,6 @@ pub(crate) fn store_error(error: BuildError) -> DeserializeError
         BuildError::NotUtf8 => DeserializeError::CorruptedValue(Cause::NotUtf8),
         BuildError::HeapFull => DeserializeError::HeapFull,
         BuildError::Memory => DeserializeError::Memory,
-        BuildError::AlreadyFailed | BuildError::OutOfPlace | BuildError::FieldNumber(_) => {
-            unreachable!()
-        }
+        BuildError::AlreadyFailed | BuildError::OutOfPlace => unreachable!(),
     }
 }

@@ -16,7 +16,7 @@ unchanged_keeps old new same = record {
 
 one_keeps : (field : ℕ) (t : Tree) (old new : CompactDoc) (answer : Result (Unit {0}) AddError) → Adds old new field t answer → Keeps (pair_of answer field t) old new
 one_keeps field t old new (Ok x) adds =
-    let added = adds.2 in
+    let added = adds.1 in
     record { document = added.document; heap = (added.added, added.heap); added_places = (added.code, added.at) ∷ []; places = added.places }
 one_keeps field t old new (Err e) adds = unchanged_keeps old new adds.1
 
@@ -46,9 +46,8 @@ unchanged_from a b c u v = record { document = v.document ∙ u.document; heap =
 pub adds_from : (field : ℕ) (t : Tree) (a b c : CompactDoc) → IsUnchanged a b → Accepts b c field t → Accepts a c field t
 adds_from field t a b c u h =
     let same = ap length u.heap in
-    let k = h.2 in (
-      h.0,
-      omega (arith, same, h.1),
+    let k = h.1 in (
+      omega (arith, same, h.0),
       record {
         document = k.document ∙ ap (λ d. d ++ (field, t) ∷ []) u.document;
         added = k.added;
@@ -74,7 +73,7 @@ each_one field t a b h = (b, h, unchanged_same b)
 
 pub each_document : (ps : Document) (a b : CompactDoc) → AddsEach ps a b → document_of b ≡ document_of a ++ ps
 each_document [] a b h = h.document ∙ sym (append-nil (document_of a))
-each_document (p ∷ ps) a b h = prefix_of_prefix (document_of a) (document_of h.0) (document_of b) (p ∷ []) ps h.1.2.document (each_document ps h.0 b h.2)
+each_document (p ∷ ps) a b h = prefix_of_prefix (document_of a) (document_of h.0) (document_of b) (p ∷ []) ps h.1.1.document (each_document ps h.0 b h.2)
 
 -- from an empty document the pairs are all
 pub from_empty : (ps : Document) (start made : CompactDoc) → IsEmpty start → AddsEach ps start made → document_of made ≡ ps

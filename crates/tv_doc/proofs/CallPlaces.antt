@@ -8,7 +8,7 @@ use mathlib.Core.HLevel.{⊥_prop}
 use Rattle.tv_base.specs.Number.{vnum}
 use Rattle.tv_format.specs.TreeCode.{coded_text}
 use Rattle.tv_builder.specs.declared.build_error.BuildError.{BuildError}
-use Rattle.tv_builder.specs.declared.build_error.BuildError.TheVariants.{AlreadyFailed, OutOfPlace, FieldNumber, NotUtf8, HeapFull, Memory}
+use Rattle.tv_builder.specs.declared.build_error.BuildError.TheVariants.{AlreadyFailed, OutOfPlace, NotUtf8, HeapFull, Memory}
 use Rattle.tv_builder.specs.declared.building.Building.{Building}
 use Rattle.tv_builder.specs.declared.building.OpenBytes.{OpenBytes}
 use Rattle.tv_builder.specs.declared.bytes_kind.BytesKind.{BytesKind}
@@ -27,7 +27,6 @@ does_as old mid P Q heaps full fits after (Err OutOfPlace) f g d = ((λ q. d.0 (
 does_as old mid P Q heaps full fits after (Err HeapFull) f g d = (f d.0, d.1, d.2, d.3)
 does_as old mid P Q heaps full fits after (Err Memory) f g d = (f d.0, d.1, d.2)
 does_as old mid P Q heaps full fits after (Err AlreadyFailed) f g d = absurd d
-does_as old mid P Q heaps full fits after (Err (FieldNumber n)) f g d = absurd d
 does_as old mid P Q heaps full fits after (Err NotUtf8) f g d = absurd d
 
 -- kinds have a code, that of a state with open bytes, so that two are equal in one way at most

@@ -38,7 +38,7 @@ unchanged old new e f = record {
 }
 
 pair_grown : (old new more : List ℕ) (p : FieldValueAddr) (x : ℕ × Tree) → new ≡ old ++ more → ReadsPair old p x → ReadsPair new p x
-pair_grown old new more p x e r = record { field = r.field; small = r.small; reads = grown old new more (type_code p.value_type) p.address x.1 e r.reads }
+pair_grown old new more p x e r = record { field = r.field; fits = r.fits; reads = grown old new more (type_code p.value_type) p.address x.1 e r.reads }
 
 pub pairs_grown : (old new more : List ℕ) (ps : List FieldValueAddr) (d : Document) → new ≡ old ++ more → ReadsPairs old ps d → ReadsPairs new ps d
 pairs_grown old new more [] [] e r = tt
@@ -57,35 +57,35 @@ unfoldable pub empty : (heap : List ℕ) (ps : List FieldValueAddr) → ps ≡ [
 empty heap ps e = ([], ∣ subst (λ z. ReadsPairs heap z []) (sym e) tt ∣₁)
 
 -- the document with one pair more
-pub pushed : (old : CompactDoc) (heap : List ℕ) (ps : List FieldValueAddr) (p : FieldValueAddr) (field : ℕ) (t : Tree) → p.field ≡ field → field ≤ 65535
+pub pushed : (old : CompactDoc) (heap : List ℕ) (ps : List FieldValueAddr) (p : FieldValueAddr) (field : ℕ) (t : Tree) → p.field ≡ field → field < 2 ^ 32
     → Wrote (heap_of old) heap (type_code p.value_type) p.address t → ps ≡ old.pairs.items ++ p ∷ [] → Holds heap ps
-pushed old heap ps p field t f small w e = (
+pushed old heap ps p field t f fits w e = (
   document_of old ++ (field, t) ∷ [],
   ∥∥₁_map old.document.1 (λ r.
       subst (λ z. ReadsPairs heap z (document_of old ++ (field, t) ∷ [])) (sym e)
-      (pairs_push heap old.pairs.items (document_of old) p (field, t) (pairs_grown (heap_of old) heap w.added old.pairs.items (document_of old) w.grows r) (record { field = f; small = small; reads = w.reads }))),
+      (pairs_push heap old.pairs.items (document_of old) p (field, t) (pairs_grown (heap_of old) heap w.added old.pairs.items (document_of old) w.grows r) (record { field = f; fits = fits; reads = w.reads }))),
 )
 
-pub pushed_room : (old : CompactDoc) (heap : List ℕ) (ps : List FieldValueAddr) (p : FieldValueAddr) (field : ℕ) (t : Tree) (f : p.field ≡ field) (small : field ≤ 65535)
-    (w : Wrote (heap_of old) heap (type_code p.value_type) p.address t) (e : ps ≡ old.pairs.items ++ p ∷ []) → length heap ≤ document_room ((pushed old heap ps p field t f small w e).0)
+pub pushed_room : (old : CompactDoc) (heap : List ℕ) (ps : List FieldValueAddr) (p : FieldValueAddr) (field : ℕ) (t : Tree) (f : p.field ≡ field) (fits : field < 2 ^ 32)
+    (w : Wrote (heap_of old) heap (type_code p.value_type) p.address t) (e : ps ≡ old.pairs.items ++ p ∷ []) → length heap ≤ document_room ((pushed old heap ps p field t f fits w e).0)
 unfolding pushed
-pushed_room old heap ps p field t f small w e =
+pushed_room old heap ps p field t f fits w e =
     omega (arith, old.room, w.within, ap length w.grows, length-append (heap_of old) w.added, sum_by_push (λ (pair : ℕ × Tree). room pair.1) (document_of old) (field, t))
 
-pub pushed_weight : (old : CompactDoc) (heap : List ℕ) (ps : List FieldValueAddr) (p : FieldValueAddr) (field : ℕ) (t : Tree) (f : p.field ≡ field) (small : field ≤ 65535)
-    (w : Wrote (heap_of old) heap (type_code p.value_type) p.address t) (e : ps ≡ old.pairs.items ++ p ∷ []) → length heap ≤ document_weight ((pushed old heap ps p field t f small w e).0)
+pub pushed_weight : (old : CompactDoc) (heap : List ℕ) (ps : List FieldValueAddr) (p : FieldValueAddr) (field : ℕ) (t : Tree) (f : p.field ≡ field) (fits : field < 2 ^ 32)
+    (w : Wrote (heap_of old) heap (type_code p.value_type) p.address t) (e : ps ≡ old.pairs.items ++ p ∷ []) → length heap ≤ document_weight ((pushed old heap ps p field t f fits w e).0)
 unfolding pushed
-pushed_weight old heap ps p field t f small w e =
+pushed_weight old heap ps p field t f fits w e =
     omega (arith, old.weight, w.weighed, ap length w.grows, length-append (heap_of old) w.added, sum_by_push (λ (pair : ℕ × Tree). tree_weight pair.1) (document_of old) (field, t))
 
 pub pushed_fits : (old : CompactDoc) (heap : List ℕ) (code at : ℕ) (t : Tree) → Wrote (heap_of old) heap code at t → length (heap_of old) + room t ≤ 4294967295 → length heap < 2 ^ 32
 pushed_fits old heap code at t w small = omega (arith, w.within, ap length w.grows, length-append (heap_of old) w.added)
 
-pub added : (old new : CompactDoc) (p : FieldValueAddr) (field : ℕ) (t : Tree) → p.field ≡ field → field ≤ 65535 → Wrote (heap_of old) (heap_of new) (type_code p.value_type) p.address t
+pub added : (old new : CompactDoc) (p : FieldValueAddr) (field : ℕ) (t : Tree) → p.field ≡ field → field < 2 ^ 32 → Wrote (heap_of old) (heap_of new) (type_code p.value_type) p.address t
     → new.pairs.items ≡ old.pairs.items ++ p ∷ [] → Added old new field t
 unfolding pushed
-added old new p field t f small w e = record {
-  document = same_document (heap_of new) (heap_of new) new.pairs.items new.pairs.items new.document (pushed old (heap_of new) new.pairs.items p field t f small w e) refl refl;
+added old new p field t f fits w e = record {
+  document = same_document (heap_of new) (heap_of new) new.pairs.items new.pairs.items new.document (pushed old (heap_of new) new.pairs.items p field t f fits w e) refl refl;
   added = w.added;
   heap = w.grows;
   within = w.within;

@@ -34,14 +34,13 @@ pub record FieldFound (whole prefix value : List ℕ) (field : ℕ) : Type 0 whe
   pub small : (i : ℕ) → get_or whole i 0 < 256
   pub number : field ≡ from_le_bytes w32 prefix
 
-begins_pair : (v : Version) (whole prefix value rest : List ℕ) (field : ℕ) (t : Tree) → FieldFound whole prefix value field → field ≤ 65535 → Begins (λ b. Encodes NoLegacy v b t) value rest
+begins_pair : (v : Version) (whole prefix value rest : List ℕ) (field : ℕ) (t : Tree) → FieldFound whole prefix value field → Begins (λ b. Encodes NoLegacy v b t) value rest
     → Begins (λ b. EncodesPair NoLegacy v b (field, t)) whole rest
-begins_pair v whole prefix value rest field t f fits s =
+begins_pair v whole prefix value rest field t f s =
     let small : (i : ℕ) → get_or prefix i 0 < 256 = subst (λ bs. (i : ℕ) → get_or bs i 0 < 256) (sym f.prefix_is) (small_take 4 whole f.small) in
     let four = fixed_4 prefix (ap length f.prefix_is ∙ length-take-le 4 whole f.long) small in
     let number : Begins (λ b. Fixed 4 b field) whole value = begins_cut (λ b. Fixed 4 b field) 4 whole prefix value f.prefix_is f.value_is (subst (Fixed 4 prefix) (sym f.number) four) in
-    let both = begins_then whole value rest number s in
-    record { prefix = both.prefix; joined = both.joined; encoded = record { small = fits; parts = both.encoded } }
+    begins_then whole value rest number s
 
 pub pair_added : (v : Version) (old new : CompactDoc) (whole prefix value rest mid : List ℕ) (len small : ℕ) (at : Place) (x : Unit {0}) (s : EncodedPut v value rest (heap_of old) mid at)
     → FieldFound whole prefix value small → PairPut old mid len small s.tree at → Keeping old mid (heap_of new) new.pairs.items len small (Ok (at.value_type, at.address)) (Ok x) → AddsPair v old new whole rest
@@ -49,7 +48,7 @@ pair_added v old new whole prefix value rest mid len small at x s f w k =
     let more = put_added old new mid len small s.tree at x w k in
     record {
       pair = (small, s.tree);
-      encoded = begins_pair v whole prefix value rest small s.tree f w.small_fits s.encoded;
+      encoded = begins_pair v whole prefix value rest small s.tree f s.encoded;
       added = more;
       start = record { heap = (more.added, more.heap); later = pair_at small (at.value_type, at.address) ∷ []; pairs = k.pair };
     }

@@ -12,7 +12,7 @@ use Rattle.tv_heap.specs.Weight.{tree_weight, document_weight}
 use Rattle.tv_heap.proofs.Weights.{reads_weigh}
 use Rattle.tv_heap.specs.TypeCode.{type_code}
 use Rattle.tv_builder.specs.declared.build_error.BuildError.{BuildError}
-use Rattle.tv_builder.specs.declared.build_error.BuildError.TheVariants.{AlreadyFailed, OutOfPlace, FieldNumber, NotUtf8, HeapFull, Memory}
+use Rattle.tv_builder.specs.declared.build_error.BuildError.TheVariants.{AlreadyFailed, OutOfPlace, NotUtf8, HeapFull, Memory}
 use Rattle.tv_builder.specs.declared.building.Building.{Building}
 use Rattle.tv_builder.specs.declared.place.Place.{Place}
 use Rattle.tv_builder.specs.Given.{pending_in}
@@ -75,7 +75,7 @@ with_pair old mid ps kept f k =
           subst (λ z. ReadsPairs heap z (built old ++ (f, w.tree) ∷ [])) (sym k.pairs)
           (pairs_push heap old.pairs.items (built old) (pair_at f (k.at.value_type, k.at.address)) (f, w.tree)
           (pairs_grown (take old.kept heap) heap (drop old.kept heap) old.pairs.items (built old) (sym (take-append-drop old.kept heap)) r)
-          (record { field = refl; small = k.small; reads = reads_at old.building w.tree k.at k.is s })))),
+          (record { field = refl; fits = k.fits; reads = reads_at old.building w.tree k.at k.is s })))),
     )
 
 prefix_is : (old : TreeBuilder) (mid new : Building) (ps : List FieldValueAddr) (kept f : ℕ) → Kept old.building mid old.pairs.items ps kept f → new ≡ mid → take kept new.heap.items ≡ heap_so_far old
@@ -114,7 +114,7 @@ settled_as : (mid new : Building) (kept other : ℕ) (failed failed_new : Bool) 
 settled_as mid new kept other failed failed_new r e s = subst (λ n. Settled mid new n failed failed_new r) e s
 
 pub finish_fields : (old : TreeBuilder) (mid new : Building) (ps : List FieldValueAddr) (kept f : ℕ) (failed_new : Bool) (r : Answer) → OnOk r (Kept old.building mid old.pairs.items ps kept f)
-    → IfErr r (λ e. KeptNot old.building mid old.pairs.items ps old.kept kept f e) → Settled mid new kept old.failed failed_new r → Fields new kept ps
+    → IfErr r (λ e. KeptNot old.building mid old.pairs.items ps old.kept kept e) → Settled mid new kept old.failed failed_new r → Fields new kept ps
 finish_fields old mid new ps kept f failed_new (Ok x) ok err s = finish_fields_ok old mid new ps kept f ok s.ok
 finish_fields old mid new ps kept f failed_new (Err e) ok err s =
     subst (λ n. Fields new n ps) (sym err.kept_same) (subst (λ qs. Fields new old.kept qs) (sym err.pairs)
@@ -128,7 +128,6 @@ finish_done old new mid f live k s =
     record {
       tree = w.tree;
       was = w.is;
-      small = k.small;
       live = s.live ∙ live;
       document = same_document (take new.kept (heap_so_far new)) (heap_so_far old) new.pairs.items new.pairs.items new.document (with_pair old mid new.pairs.items new.kept f k) (prefix_is old mid new.building new.pairs.items new.kept f k s.ok) refl;
       state = same_state new.building new.state (after_pair old mid new.building new.pairs.items new.kept f k s.ok);
@@ -137,7 +136,7 @@ finish_done old new mid f live k s =
     }
 
 finish_live : (old new : TreeBuilder) (mid : Building) (f : ℕ) (r : Answer) → old.failed ≡ false → OnOk r (Kept old.building mid old.pairs.items new.pairs.items new.kept f)
-    → IfErr r (λ e. KeptNot old.building mid old.pairs.items new.pairs.items old.kept new.kept f e) → Settled mid new.building new.kept old.failed new.failed r → FinishesIf false old new f r
+    → IfErr r (λ e. KeptNot old.building mid old.pairs.items new.pairs.items old.kept new.kept e) → Settled mid new.building new.kept old.failed new.failed r → FinishesIf false old new f r
 finish_live old new mid f (Ok x) live ok err s = finish_done old new mid f live ok s
 finish_live old new mid f (Err e) live ok err s = answer e err.why fails
   where
@@ -147,14 +146,13 @@ finish_live old new mid f (Err e) live ok err s = answer e err.why fails
     is_complete : ¬ (old.building.complete ≡ None) → IsComplete (state_of old)
     is_complete n = let p = some_of old.building.complete n in tree_state old.building old.state.0 old.state.1 p.0 p.1
 
-    answer : (x : BuildError) → WhyNoPair old.building f x → Fails old new → FinishesIf false old new f (Err x)
+    answer : (x : BuildError) → WhyNoPair old.building x → Fails old new → FinishesIf false old new f (Err x)
     answer OutOfPlace h g = (no_tree old.building old.state.0 old.state.1 h, g)
-    answer (FieldNumber n) h g = (is_complete h.0, h.1, h.2, g)
-    answer Memory h g = (is_complete h.0, h.1, g)
+    answer Memory h g = (is_complete h, g)
     answer AlreadyFailed h g = absurd h
     answer NotUtf8 h g = absurd h
     answer HeapFull h g = absurd h
 
 pub finishes : (old new : TreeBuilder) (mid : Building) (f : ℕ) (r t : Answer) → old.failed ≡ false → OnOk r (Kept old.building mid old.pairs.items new.pairs.items new.kept f)
-    → IfErr r (λ e. KeptNot old.building mid old.pairs.items new.pairs.items old.kept new.kept f e) → Settled mid new.building new.kept old.failed new.failed r → t ≡ r → Finishes old new f t
+    → IfErr r (λ e. KeptNot old.building mid old.pairs.items new.pairs.items old.kept new.kept e) → Settled mid new.building new.kept old.failed new.failed r → t ≡ r → Finishes old new f t
 finishes old new mid f r t live ok err s e = subst (λ z. FinishesIf z old new f t) (sym live) (subst (λ z. FinishesIf false old new f z) (sym e) (finish_live old new mid f r live ok err s))

@@ -18,15 +18,14 @@ use Rattle.tv_doc.specs.Document.{IsUnchanged, Refuses}
 use Rattle.tv_doc.specs.JsonObject.{FieldJson, Pairs, IsRefused, StopsAt, IsValueError, MakesDocument, Parses, AddsPairs, AddsValues, object_values}
 use Rattle.tv_doc.specs.JsonObject.IsShort.{for_pair, for_value, for_error}
 use Rattle.tv_doc.specs.declared.add_error.AddError.{AddError}
-use Rattle.tv_doc.specs.declared.add_error.AddError.TheVariants.{FieldNumber, HeapFull, Memory}
+use Rattle.tv_doc.specs.declared.add_error.AddError.TheVariants.{HeapFull, Memory}
 use Rattle.tv_doc.specs.declared.doc_parsing_error.DocParsingError.{DocParsingError}
 use Rattle.tv_doc.specs.declared.doc_parsing_error.DocParsingError.TheVariants as error
 use Rattle.tv_doc.specs.declared.document.CompactDoc.{CompactDoc}
 use Rattle.tv_doc.proofs.Additions.{unchanged_same, each_from, each_append, each_one, from_empty, made_of}
 
 -- an addition that a document refuses
-pub refused_addition : (v : FieldJson) (d : CompactDoc) (t : Tree) (e : AddError) → Table v.field_type v.value (Ok t) → Refuses d v.field t e → IsRefused v d (addition_error e)
-refused_addition v d t (FieldNumber n) table why = (t, table, why)
+pub refused_addition : (v : FieldJson) (d : CompactDoc) (t : Tree) (e : AddError) → Table v.field_type v.value (Ok t) → Refuses d t e → IsRefused v d (addition_error e)
 refused_addition v d t HeapFull table why = (t, table, why)
 refused_addition v d t Memory table why = for_pair t table why
 
@@ -44,7 +43,6 @@ pub refused_value : (v : FieldJson) (d : CompactDoc) (r : JsonRefusal) (e : DocP
     → IfSome (refusal_of v.value r) (λ x. Table v.field_type v.value (Err x)) → (r ≡ refusal.Memory → TakesMemory v.field_type v.value) → IsRefused v d e
 refused_value v d r (error.ValueError copy e) (refusal, named, is, for) h short =
     (refusal, named, is, subst (λ o. IfSome o (λ x. Table v.field_type v.value (Err x))) for h)
-refused_value v d r (error.FieldNumber n) wrong h short = absurd wrong
 refused_value v d r error.HeapFull wrong h short = absurd wrong
 refused_value v d r (error.InvalidJson text) wrong h short = absurd wrong
 refused_value v d r error.Memory right h short = short_value v d r h short
@@ -59,15 +57,15 @@ stops_at_one v old e h = record { before = []; at = v; behind = []; joined = ref
 -- a value alone whose pair is added
 pub one_added : (v : FieldJson) (old new : CompactDoc) (t : Tree) → Table v.field_type v.value (Ok t) → Accepts old new v.field t → AddsPairs (v ∷ []) old new
 one_added v old new t table adds =
-    record { pairs = (v.field, t) ∷ []; by_table = (t, [], table, adds.0, refl, refl); adds = each_one v.field t old new adds }
+    record { pairs = (v.field, t) ∷ []; by_table = (t, [], table, refl, refl); adds = each_one v.field t old new adds }
 
 pub one_pair : (v : FieldJson) (old new : CompactDoc) → AddsRow old new v.field v.field_type v.value → AddsPairs (v ∷ []) old new
 one_pair v old new h = one_added v old new h.0 h.1 h.2
 
 Pairs-append : (vs ws : List FieldJson) (ps qs : Document) → Pairs vs ps → Pairs ws qs → Pairs (vs ++ ws) (ps ++ qs)
 Pairs-append [] ws ps qs none h = subst (λ prefix. Pairs ws (prefix ++ qs)) (sym none) h
-Pairs-append (v ∷ vs) ws ps qs (tree, rest, table, small, joined, others) h =
-    (tree, rest ++ qs, table, small, ap (λ prefix. prefix ++ qs) joined, Pairs-append vs ws rest qs others h)
+Pairs-append (v ∷ vs) ws ps qs (tree, rest, table, joined, others) h =
+    (tree, rest ++ qs, table, ap (λ prefix. prefix ++ qs) joined, Pairs-append vs ws rest qs others h)
 
 both_added : (vs ws : List FieldJson) (a b c : CompactDoc) → AddsPairs vs a b → AddsPairs ws b c → AddsPairs (vs ++ ws) a c
 both_added vs ws a b c h k = record {
@@ -132,6 +130,5 @@ pub parses_object : (schema : List Entry) (text : List ℕ) (ms : Members) (r : 
 parses_object schema text ms (Ok made) is h = (ms, is, h)
 parses_object schema text ms (Err (error.InvalidJson start)) is h = absurd h.2.refused
 parses_object schema text ms (Err (error.ValueError name e)) is h = (ms, is, h)
-parses_object schema text ms (Err (error.FieldNumber n)) is h = (ms, is, h)
 parses_object schema text ms (Err error.HeapFull) is h = (ms, is, h)
 parses_object schema text ms (Err error.Memory) is h = tt

@@ -12,7 +12,7 @@ use Rattle.tv_doc.specs.Additions.{IsEmpty}
 use Rattle.tv_doc.specs.FieldValues.{values_of}
 use Rattle.tv_doc.specs.NamedPairs.{StopsAtPair, MakesPairs, IsBackError}
 use Rattle.tv_doc.specs.declared.add_error.AddError.{AddError}
-use Rattle.tv_doc.specs.declared.add_error.AddError.TheVariants.{FieldNumber, HeapFull, Memory}
+use Rattle.tv_doc.specs.declared.add_error.AddError.TheVariants.{HeapFull, Memory}
 use Rattle.tv_doc.specs.declared.doc_parsing_error.DocParsingError.{DocParsingError}
 use Rattle.tv_doc.specs.declared.document.CompactDoc.{CompactDoc}
 use Rattle.tv_doc.proofs.Additions.{from_empty}
@@ -93,43 +93,15 @@ room_within ((f, t) ∷ a) d h =
     let w = without f t (values_of f a) d (parts_first f t a d h) in
     omega (arith, room-cons (f, t) a, w.fills, room_within a w.rest (parts_rest f t a d h w))
 
--- a field of a document is a number up to 65535
-field_fits : (f : ℕ) (t : Tree) (ts : List Tree) (d : Document) → AllByRecursion IsPair d → values_of f d ≡ t ∷ ts → f ≤ 65535
-field_fits f t ts [] valid e = absurd (cc)
-field_fits f t ts ((g, u) ∷ d) valid e = by_test (nat_eq g f) refl (field_fits f t ts d valid.1)
-  where
-    by_test : (b : Bool) → nat_eq g f ≡ b → (values_of f d ≡ t ∷ ts → f ≤ 65535) → f ≤ 65535
-    by_test true test again = subst (λ n. n ≤ 65535) ((Decides-eqb g f).0 test) valid.0.field
-    by_test false test again = again (sym (other_first f g u _ d refl test) ∙ e)
-
--- what stands in the middle
-stands_first : (f : ℕ) (t : Tree) (before behind : Document) → (ts : List Tree) × (u : Tree) × (values_of f (before ++ (f, t) ∷ behind) ≡ u ∷ ts)
-stands_first f t before behind = by_front (values_of f before) refl
-  where
-    all : values_of f (before ++ (f, t) ∷ behind) ≡ values_of f before ++ t ∷ values_of f behind
-    all = values_append f before ((f, t) ∷ behind) ∙ ap (λ l. values_of f before ++ l) (own_first f t behind)
-
-    by_front : (front : List Tree) → values_of f before ≡ front → (ts : List Tree) × (u : Tree) × (values_of f (before ++ (f, t) ∷ behind) ≡ u ∷ ts)
-    by_front [] e = (values_of f behind, t, all ∙ ap (λ l. l ++ t ∷ values_of f behind) e)
-    by_front (u ∷ us) e = (us ++ t ∷ values_of f behind, u, all ∙ ap (λ l. l ++ t ∷ values_of f behind) e)
-
-middle_fits : (f : ℕ) (t : Tree) (before behind d : Document) → IsDocument d → Parts (before ++ (f, t) ∷ behind) d → f ≤ 65535
-middle_fits f t before behind d valid h =
-    let s = stands_first f t before behind in
-    elim (h f) [ inl none ↦ absurd (not_none (sym s.2 ∙ none)) | inr same ↦ field_fits f s.1 s.0 d valid.each (sym same ∙ s.2) ]
-
 middle_room : (p : ℕ × Tree) (before behind : Document) → document_room before + room p.1 ≤ document_room (before ++ p ∷ behind)
 middle_room p before behind = omega (arith, sum_by-append (λ (pair : ℕ × Tree). room pair.1) before (p ∷ behind), room-cons p behind)
 
-refusal_back : (pairs d : Document) (start : CompactDoc) (r : AddError) → IsDocument d → Parts pairs d → IsEmpty start → StopsAtPair pairs start r → IsBackError d (addition_error r)
-refusal_back pairs d start (FieldNumber n) valid h none s =
-    let fits = middle_fits s.at.0 s.at.1 s.before s.behind d valid (subst (λ ps. Parts ps d) s.joined h) in
-    absurd (omega (arith, fits, s.refused.1))
-refusal_back pairs d start HeapFull valid h none s =
+refusal_back : (pairs d : Document) (start : CompactDoc) (r : AddError) → Parts pairs d → IsEmpty start → StopsAtPair pairs start r → IsBackError d (addition_error r)
+refusal_back pairs d start HeapFull h none s =
     let mid = s.mid in
     let within = mid.room in
-    omega (arith, s.refused.1, within, ap document_room (from_empty s.before start mid none s.added), middle_room s.at s.before s.behind, ap document_room s.joined, room_within pairs d h)
-refusal_back pairs d start Memory valid h none s = tt
+    omega (arith, s.refused, within, ap document_room (from_empty s.before start mid none s.added), middle_room s.at s.before s.behind, ap document_room s.joined, room_within pairs d h)
+refusal_back pairs d start Memory h none s = tt
 
-pub convert_error : (pairs d : Document) (e : DocParsingError) → IsDocument d → Parts pairs d → MakesPairs pairs (Err e) → IsBackError d e
-convert_error pairs d e valid h made = subst (IsBackError d) (sym made.1) (refusal_back pairs d made.2.0 made.0 valid h made.2.1 made.2.2)
+pub convert_error : (pairs d : Document) (e : DocParsingError) → Parts pairs d → MakesPairs pairs (Err e) → IsBackError d e
+convert_error pairs d e h made = subst (IsBackError d) (sym made.1) (refusal_back pairs d made.2.0 made.0 h made.2.1 made.2.2)

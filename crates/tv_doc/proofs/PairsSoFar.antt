@@ -9,7 +9,7 @@ use Rattle.tv_doc.specs.declared.document.CompactDoc.{CompactDoc}
 use Rattle.tv_doc.proofs.Additions.{unchanged_same, each_append, from_empty, made_of}
 
 -- a pair alone that is refused
-pub stops_at_pair : (d : CompactDoc) (field : ℕ) (t : Tree) (e : AddError) → Refuses d field t e → StopsAtPair ((field, t) ∷ []) d e
+pub stops_at_pair : (d : CompactDoc) (field : ℕ) (t : Tree) (e : AddError) → Refuses d t e → StopsAtPair ((field, t) ∷ []) d e
 stops_at_pair d field t e h = record { before = []; at = (field, t); behind = []; joined = refl; mid = d; added = unchanged_same d; refused = h }
 
 -- some pairs are added, and then come the rest

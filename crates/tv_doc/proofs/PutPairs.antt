@@ -66,31 +66,31 @@ put_wrote old t new p w =
 -- ---- one pair
 
 -- the value was written, and its field fits
-pub record PairPut (old : CompactDoc) (mid : List ℕ) (len small : ℕ) (t : Tree) (at : Place) : Type 0 where
+pub record PairPut (old : CompactDoc) (mid : List ℕ) (len number : ℕ) (t : Tree) (at : Place) : Type 0 where
   pub len_is : len ≡ length (heap_of old)
-  pub small_fits : small ≤ 65535
+  pub number_fits : number < 2 ^ 32
   pub put : Put (heap_of old) t mid at
 
-wrote_at : (old : CompactDoc) (mid heap : List ℕ) (len small : ℕ) (t : Tree) (at : Place) → PairPut old mid len small t at → heap ≡ mid → Wrote (heap_of old) heap (type_code at.value_type) at.address t
-wrote_at old mid heap len small t at w same = subst (λ h. Wrote (heap_of old) h (type_code at.value_type) at.address t) (sym same) (put_wrote (heap_of old) t mid at w.put)
+wrote_at : (old : CompactDoc) (mid heap : List ℕ) (len number : ℕ) (t : Tree) (at : Place) → PairPut old mid len number t at → heap ≡ mid → Wrote (heap_of old) heap (type_code at.value_type) at.address t
+wrote_at old mid heap len number t at w same = subst (λ h. Wrote (heap_of old) h (type_code at.value_type) at.address t) (sym same) (put_wrote (heap_of old) t mid at w.put)
 
-pub pair_fields : (old : CompactDoc) (mid heap : List ℕ) (ps : List FieldValueAddr) (len small : ℕ) (t : Tree) (at : Place) (result : Result (Unit {0}) AddError)
-    → PairPut old mid len small t at → Keeping old mid heap ps len small (Ok (at.value_type, at.address)) result → Fields heap ps
-pair_fields old mid heap ps len small t at (Ok x) w k =
-    pushed_fields old heap ps (pair_at small (at.value_type, at.address)) small t refl w.small_fits (wrote_at old mid heap len small t at w k.same_heap) k.pair
+pub pair_fields : (old : CompactDoc) (mid heap : List ℕ) (ps : List FieldValueAddr) (len number : ℕ) (t : Tree) (at : Place) (result : Result (Unit {0}) AddError)
+    → PairPut old mid len number t at → Keeping old mid heap ps len number (Ok (at.value_type, at.address)) result → Fields heap ps
+pair_fields old mid heap ps len number t at (Ok x) w k =
+    pushed_fields old heap ps (pair_at number (at.value_type, at.address)) number t refl w.number_fits (wrote_at old mid heap len number t at w k.same_heap) k.pair
     (let p = w.put in omega (arith, ap length k.same_heap, p.fits))
-pair_fields old mid heap ps len small t at (Err e) w k = cut_fields old mid heap ps len (put_prefix (heap_of old) t mid at w.put) w.len_is k.cut k.same_pairs
+pair_fields old mid heap ps len number t at (Err e) w k = cut_fields old mid heap ps len (put_prefix (heap_of old) t mid at w.put) w.len_is k.cut k.same_pairs
 
-pub pair_refused : (old new : CompactDoc) (mid : List ℕ) (len small : ℕ) (t : Tree) (at : Place) (e : AddError) → PairPut old mid len small t at
-    → Keeping old mid (heap_of new) new.pairs.items len small (Ok (at.value_type, at.address)) (Err e) → IsUnchanged old new
-pair_refused old new mid len small t at e w k = unchanged old new (k.cut ∙ restored (heap_of old) mid len (put_prefix (heap_of old) t mid at w.put) w.len_is) k.same_pairs
+pub pair_refused : (old new : CompactDoc) (mid : List ℕ) (len number : ℕ) (t : Tree) (at : Place) (e : AddError) → PairPut old mid len number t at
+    → Keeping old mid (heap_of new) new.pairs.items len number (Ok (at.value_type, at.address)) (Err e) → IsUnchanged old new
+pair_refused old new mid len number t at e w k = unchanged old new (k.cut ∙ restored (heap_of old) mid len (put_prefix (heap_of old) t mid at w.put) w.len_is) k.same_pairs
 
-pub put_added : (old new : CompactDoc) (mid : List ℕ) (len small : ℕ) (t : Tree) (at : Place) (x : Unit {0}) → PairPut old mid len small t at
-    → Keeping old mid (heap_of new) new.pairs.items len small (Ok (at.value_type, at.address)) (Ok x) → Added old new small t
-put_added old new mid len small t at x w k =
-    added old new (pair_at small (at.value_type, at.address)) small t refl w.small_fits (wrote_at old mid (heap_of new) len small t at w k.same_heap) k.pair
+pub put_added : (old new : CompactDoc) (mid : List ℕ) (len number : ℕ) (t : Tree) (at : Place) (x : Unit {0}) → PairPut old mid len number t at
+    → Keeping old mid (heap_of new) new.pairs.items len number (Ok (at.value_type, at.address)) (Ok x) → Added old new number t
+put_added old new mid len number t at x w k =
+    added old new (pair_at number (at.value_type, at.address)) number t refl w.number_fits (wrote_at old mid (heap_of new) len number t at w k.same_heap) k.pair
 
 -- as an addition of the field with this number
-pub put_tree : (old new : CompactDoc) (mid : List ℕ) (len small field : ℕ) (t : Tree) (at : Place) (x : Unit {0}) → small ≡ field → length (heap_of old) + room t ≤ 4294967295
-    → PairPut old mid len small t at → Keeping old mid (heap_of new) new.pairs.items len small (Ok (at.value_type, at.address)) (Ok x) → Accepts old new field t
-put_tree old new mid len small field t at x is fits w k = subst (λ n. Accepts old new n t) is (w.small_fits, fits, put_added old new mid len small t at x w k)
+pub put_tree : (old new : CompactDoc) (mid : List ℕ) (len number field : ℕ) (t : Tree) (at : Place) (x : Unit {0}) → number ≡ field → length (heap_of old) + room t ≤ 4294967295
+    → PairPut old mid len number t at → Keeping old mid (heap_of new) new.pairs.items len number (Ok (at.value_type, at.address)) (Ok x) → Accepts old new field t
+put_tree old new mid len number field t at x is fits w k = subst (λ n. Accepts old new n t) is (fits, put_added old new mid len number t at x w k)

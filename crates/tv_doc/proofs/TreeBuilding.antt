@@ -7,7 +7,7 @@ use Rattle.tv_base.specs.Sink.{IsPrefix}
 use Rattle.tv_heap.specs.Room.{document_room}
 use Rattle.tv_heap.specs.Weight.{document_weight}
 use Rattle.tv_builder.specs.declared.build_error.BuildError.{BuildError}
-use Rattle.tv_builder.specs.declared.build_error.BuildError.TheVariants.{AlreadyFailed, OutOfPlace, FieldNumber, NotUtf8, HeapFull, Memory}
+use Rattle.tv_builder.specs.declared.build_error.BuildError.TheVariants.{AlreadyFailed, OutOfPlace, NotUtf8, HeapFull, Memory}
 use Rattle.tv_builder.specs.declared.building.Building.{Building}
 use Rattle.tv_builder.specs.declared.awaits.Awaits.{Awaits}
 use Rattle.tv_builder.specs.Moves.{Moves, HasNoRoom, Does, EndsBytes, AwaitsChunk, AwaitsEnd, EndsWell}
@@ -58,7 +58,6 @@ does_left old mid in_place heaps full fits after (Err OutOfPlace) h = record { m
 does_left old mid in_place heaps full fits after (Err HeapFull) h = record { moves = tt; prefix = h.2 }
 does_left old mid in_place heaps full fits after (Err Memory) h = record { moves = tt; prefix = h.2 }
 does_left old mid in_place heaps full fits after (Err AlreadyFailed) h = absurd h
-does_left old mid in_place heaps full fits after (Err (FieldNumber n)) h = absurd h
 does_left old mid in_place heaps full fits after (Err NotUtf8) h = absurd h
 
 pub ends_left : (old mid : Building) (r : Answer) → EndsBytes old mid r → Left old mid and_end r
@@ -68,7 +67,6 @@ ends_left old mid (Err NotUtf8) h = record { moves = tt; prefix = h.2 }
 ends_left old mid (Err HeapFull) h = record { moves = tt; prefix = h.3 }
 ends_left old mid (Err Memory) h = record { moves = tt; prefix = h.2 }
 ends_left old mid (Err AlreadyFailed) h = absurd h
-ends_left old mid (Err (FieldNumber n)) h = absurd h
 
 -- and how it is settled
 pub record Settled (mid new : Building) (kept : ℕ) (failed failed_new : Bool) (r : Answer) : Type 0 where
@@ -182,7 +180,6 @@ builds_live old new mid in_place heaps full fits after (Err OutOfPlace) live d s
 builds_live old new mid in_place heaps full fits after (Err HeapFull) live d s kept pairs = (d.0, d.1, fails_now old new mid after HeapFull (does_left old.building mid in_place heaps full fits after (Err HeapFull) d) s kept pairs, overfull old after d.3)
 builds_live old new mid in_place heaps full fits after (Err Memory) live d s kept pairs = (d.0, d.1, fails_now old new mid after Memory (does_left old.building mid in_place heaps full fits after (Err Memory) d) s kept pairs)
 builds_live old new mid in_place heaps full fits after (Err AlreadyFailed) live d s kept pairs = absurd d
-builds_live old new mid in_place heaps full fits after (Err (FieldNumber n)) live d s kept pairs = absurd d
 builds_live old new mid in_place heaps full fits after (Err NotUtf8) live d s kept pairs = absurd d
 
 builds : (old new : TreeBuilder) (mid : Building) (in_place : Type 0) (heaps : List ℕ → Type 0) (full fits : Type 0) (after : State → State) (r t : Answer) → old.failed ≡ false → Does old.building mid in_place heaps full fits after r
@@ -226,7 +223,6 @@ ends_live old new mid (Err HeapFull) live d s kept pairs =
 ends_live old new mid (Err Memory) live d s kept pairs =
     (all_of old d.0, content_of old d.0 d.1, fails_now old new mid and_end Memory (ends_left old.building mid (Err Memory) d) s kept pairs)
 ends_live old new mid (Err AlreadyFailed) live d s kept pairs = absurd d
-ends_live old new mid (Err (FieldNumber n)) live d s kept pairs = absurd d
 
 pub ends : (old new : TreeBuilder) (mid : Building) (r t : Answer) → old.failed ≡ false → EndsBytes old.building mid r → Settled mid new.building old.kept old.failed new.failed r → new.kept ≡ old.kept → new.pairs.items ≡ old.pairs.items
     → t ≡ r → Ends old new t

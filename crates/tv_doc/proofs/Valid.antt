@@ -68,7 +68,7 @@ mutual
 
 IsPair-prop : (pair : ℕ × Tree) → IsProp (IsPair pair)
 IsPair-prop pair p q =
-    let field : IsProp (pair.0 ≤ 65535) = hlevel props in
+    let field : IsProp (pair.0 < 2 ^ 32) = hlevel props in
     λ i. record { field = field p.field q.field i; value = IsValue-prop pair.1 p.value q.value i }
 
 IsDocument-prop : (d : Document) → IsProp (IsDocument d)
@@ -124,7 +124,7 @@ mutual
 pairs_valid : (heap : List ℕ) (ps : List FieldValueAddr) (d : Document) → ReadsPairs heap ps d → AllByRecursion IsPair d
 pairs_valid heap [] [] r = tt
 pairs_valid heap (p ∷ ps) (x ∷ d) r =
-    (record { field = r.0.small; value = reads_valid heap (type_code p.value_type) p.address x.1 r.0.reads }, pairs_valid heap ps d r.1)
+    (record { field = r.0.fits; value = reads_valid heap (type_code p.value_type) p.address x.1 r.0.reads }, pairs_valid heap ps d r.1)
 pairs_valid heap [] (x ∷ d) r = absurd r
 pairs_valid heap (p ∷ ps) [] r = absurd r
 

@@ -2,9 +2,8 @@
 use Rattle.tv_doc.specs.declared.add_error.AddError.{AddError}
 use Rattle.tv_doc.specs.declared.add_error.AddError.TheVariants as add_error
 use Rattle.tv_doc.specs.declared.doc_parsing_error.DocParsingError.{DocParsingError}
-use Rattle.tv_doc.specs.declared.doc_parsing_error.DocParsingError.TheVariants.{FieldNumber, HeapFull, Memory}
+use Rattle.tv_doc.specs.declared.doc_parsing_error.DocParsingError.TheVariants.{HeapFull, Memory}
 
 abbrev pub addition_error : AddError → DocParsingError
 addition_error add_error.Memory = Memory
-addition_error (add_error.FieldNumber n) = FieldNumber n
 addition_error add_error.HeapFull = HeapFull

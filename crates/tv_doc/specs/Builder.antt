@@ -3,7 +3,7 @@ use Rattle.std.specs.Prelude.{◌≡◌, ℕ, ◌+◌, ◌<◌, ◌≤◌, Bool,
 use Rattle.tv_base.specs.Sink.{IsPrefix}
 use Rattle.tv_format.specs.Tree.{Tree, Document}
 use Rattle.tv_builder.specs.declared.build_error.BuildError.{BuildError}
-use Rattle.tv_builder.specs.declared.build_error.BuildError.TheVariants.{AlreadyFailed, OutOfPlace, FieldNumber, NotUtf8, HeapFull, Memory}
+use Rattle.tv_builder.specs.declared.build_error.BuildError.TheVariants.{AlreadyFailed, OutOfPlace, NotUtf8, HeapFull, Memory}
 use Rattle.tv_builder.specs.Moves.{end_heap}
 use Rattle.tv_builder.specs.Parts.{IsContent}
 use Rattle.tv_builder.specs.State.{State, complete, in_lists, in_bytes, and_end, state_room}
@@ -86,7 +86,6 @@ Ends old new r = EndsIf old.failed old new r
 pub record Finished (old new : TreeBuilder) (f : ℕ) : Type 0 where
   pub tree : Tree
   pub was : state_of old ≡ complete tree
-  pub small : f ≤ 65535
   pub live : new.failed ≡ false
   pub document : built new ≡ built old ++ (f, tree) ∷ []
   pub state : state_of new ≡ in_lists []
@@ -100,8 +99,7 @@ abbrev pub FinishesIf : Bool → TreeBuilder → TreeBuilder → ℕ → Result 
 FinishesIf true old new f r = (r ≡ Err AlreadyFailed) × (new ≡ old)
 FinishesIf false old new f (Ok x) = Finished old new f
 FinishesIf false old new f (Err OutOfPlace) = ¬ IsComplete (state_of old) × Fails old new
-FinishesIf false old new f (Err (FieldNumber n)) = IsComplete (state_of old) × (n ≡ f) × (65535 < f) × Fails old new
-FinishesIf false old new f (Err Memory) = IsComplete (state_of old) × (f ≤ 65535) × Fails old new
+FinishesIf false old new f (Err Memory) = IsComplete (state_of old) × Fails old new
 FinishesIf false old new f (Err _) = ⊥
 
 abbrev pub Finishes : TreeBuilder → TreeBuilder → ℕ → Result (Unit {0}) BuildError → Type 0

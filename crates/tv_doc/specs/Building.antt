@@ -1,7 +1,7 @@
 -- What is left of a value that comes part by part where it is let go of, or becomes that of a pair.
-use Rattle.std.specs.Prelude.{◌≡◌, ℕ, ◌<◌, ◌≤◌, List, [], ◌∷◌, ◌++◌, length, take, Some, None}
+use Rattle.std.specs.Prelude.{◌≡◌, ℕ, ◌<◌, ◌^◌, List, [], ◌∷◌, ◌++◌, length, take, Some, None}
 use Rattle.tv_builder.specs.declared.build_error.BuildError.{BuildError}
-use Rattle.tv_builder.specs.declared.build_error.BuildError.TheVariants.{OutOfPlace, FieldNumber, Memory}
+use Rattle.tv_builder.specs.declared.build_error.BuildError.TheVariants.{OutOfPlace, Memory}
 use Rattle.tv_builder.specs.declared.building.Building.{Building}
 use Rattle.tv_builder.specs.declared.place.Place.{Place}
 use Rattle.tv_doc.specs.declared.place.FieldValueAddr.{FieldValueAddr}
@@ -27,7 +27,7 @@ pub record Cleared (old new : Building) (kept : ℕ) : Type 0 where
 pub record Kept (old new : Building) (ps qs : List FieldValueAddr) (kept f : ℕ) : Type 0 where
   pub at : Place
   pub is : old.complete ≡ Some at
-  pub small : f ≤ 65535
+  pub fits : f < 2 ^ 32
   pub pairs : qs ≡ ps ++ pair_at f (at.value_type, at.address) ∷ []
   pub kept_is : kept ≡ length old.heap.items
   pub heap : new.heap.items ≡ old.heap.items
@@ -38,14 +38,13 @@ pub record Kept (old new : Building) (ps qs : List FieldValueAddr) (kept f : ℕ
   pub same_bytes : new.open ≡ old.open
 
 -- why there is no pair
-abbrev pub WhyNoPair : Building → ℕ → BuildError → Type 0
-WhyNoPair old f OutOfPlace = old.complete ≡ None
-WhyNoPair old f (FieldNumber n) = ¬ (old.complete ≡ None) × (n ≡ f) × (65535 < f)
-WhyNoPair old f Memory = ¬ (old.complete ≡ None) × (f ≤ 65535)
-WhyNoPair old f _ = ⊥
+abbrev pub WhyNoPair : Building → BuildError → Type 0
+WhyNoPair old OutOfPlace = old.complete ≡ None
+WhyNoPair old Memory = ¬ (old.complete ≡ None)
+WhyNoPair old _ = ⊥
 
-pub record KeptNot (old new : Building) (ps qs : List FieldValueAddr) (kept kept_new f : ℕ) (e : BuildError) : Type 0 where
+pub record KeptNot (old new : Building) (ps qs : List FieldValueAddr) (kept kept_new : ℕ) (e : BuildError) : Type 0 where
   pub same : new ≡ old
   pub pairs : qs ≡ ps
   pub kept_same : kept_new ≡ kept
-  pub why : WhyNoPair old f e
+  pub why : WhyNoPair old e

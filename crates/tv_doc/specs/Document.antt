@@ -3,7 +3,7 @@ use Rattle.std.specs.Prelude.{◌≡◌, ◌≢◌, ℕ, ◌+◌, ◌<◌, ◌�
 use Rattle.std.specs.Vec.{vec_capacity}
 use Rattle.tv_format.specs.Tree.{Tree, Document}
 use Rattle.tv_doc.specs.declared.add_error.AddError.{AddError}
-use Rattle.tv_doc.specs.declared.add_error.AddError.TheVariants.{FieldNumber, HeapFull, Memory}
+use Rattle.tv_doc.specs.declared.add_error.AddError.TheVariants.{HeapFull, Memory}
 use Rattle.tv_doc.specs.declared.document.CompactDoc.{CompactDoc}
 use Rattle.tv_heap.specs.Reads.{Reads}
 use Rattle.tv_heap.specs.Room.{room}
@@ -51,15 +51,14 @@ abbrev pub IsFull : CompactDoc → Tree → Type 0
 IsFull d t = 4294967295 < length (heap_of d) + room t
 
 -- when which refusal comes
-abbrev pub Refuses : CompactDoc → ℕ → Tree → AddError → Type 0
-Refuses d field t (FieldNumber n) = (n ≡ field) × (65535 < field)
-Refuses d field t HeapFull = (field ≤ 65535) × IsFull d t
-Refuses d field t Memory = (field ≤ 65535) × (length (heap_of d) + room t ≤ 4294967295)
+abbrev pub Refuses : CompactDoc → Tree → AddError → Type 0
+Refuses d t HeapFull = IsFull d t
+Refuses d t Memory = length (heap_of d) + room t ≤ 4294967295
 
 -- what an addition returns, and what it leaves
 abbrev pub Adds : {T : Type 0} → CompactDoc → CompactDoc → ℕ → Tree → Result T AddError → Type 0
-Adds old new field t (Ok x) = (field ≤ 65535) × (length (heap_of old) + room t ≤ 4294967295) × Added old new field t
-Adds old new field t (Err e) = Refuses old field t e × IsUnchanged old new
+Adds old new field t (Ok x) = (length (heap_of old) + room t ≤ 4294967295) × Added old new field t
+Adds old new field t (Err e) = Refuses old t e × IsUnchanged old new
 
 -- the type byte and the address of the pair at a place, whose tree the heap reads there
 abbrev pub ReadsAt : CompactDoc → ℕ → Option (ℕ × ℕ) → Type 0

@@ -1,5 +1,5 @@
 -- The document of all pairs: what a heap's readings give.
-use Rattle.std.specs.Prelude.{◌≡◌, ℕ, ◌≤◌, List, [], ◌∷◌, refl}
+use Rattle.std.specs.Prelude.{◌≡◌, ℕ, ◌<◌, ◌^◌, List, [], ◌∷◌, refl}
 use Rattle.std.proofs.Common.{sym, ◌∙◌}
 use Rattle.std.proofs.Math.Logic.{∥∥₁_elim, ∥∥₁_prop}
 use mathlib.Core.HLevel.{Σ_prop_path}
@@ -19,7 +19,7 @@ pair_at field place = record { field = field; value_type = place.0; address = pl
 -- a pair's field and tree
 pub record ReadsPair (heap : List ℕ) (p : FieldValueAddr) (pair : ℕ × Tree) : Type 0 where
   pub field : p.field ≡ pair.0
-  pub small : pair.0 ≤ 65535
+  pub fits : pair.0 < 2 ^ 32
   pub reads : Reads heap (type_code p.value_type) p.address pair.1
 
 -- each pair's

@@ -50,28 +50,27 @@ abbrev pub object_values : List Entry → Members → List FieldJson
 object_values schema json.no_members = []
 object_values schema (json.member k d ms) = values_at schema k (field_named schema k) d ++ object_values schema ms
 
--- the pairs of these values by the table, each of a field that a document can have
+-- the pairs of these values by the table
 abbrev pub Pairs : List FieldJson → Document → Type 0
 Pairs [] pairs = pairs ≡ []
 Pairs (v ∷ vs) pairs =
-    (tree : Tree) × (rest : Document) × Table v.field_type v.value (Ok tree) × (v.field ≤ 65535) × (pairs ≡ (v.field, tree) ∷ rest) × Pairs vs rest
+    (tree : Tree) × (rest : Document) × Table v.field_type v.value (Ok tree) × (pairs ≡ (v.field, tree) ∷ rest) × Pairs vs rest
 
 -- Where memory is refused for a value: for its pair, for which the heap has room; for what the field's type makes of it before, see
 -- `TakesMemory`; or for the error of a value that the type refuses, which has a copy of the field's name.
 pub data IsShort (v : FieldJson) (d : CompactDoc) : Type 0 where
-  for_pair : (tree : Tree) → Table v.field_type v.value (Ok tree) → Refuses d v.field tree add_error.Memory → IsShort v d
+  for_pair : (tree : Tree) → Table v.field_type v.value (Ok tree) → Refuses d tree add_error.Memory → IsShort v d
   for_value : TakesMemory v.field_type v.value → IsShort v d
   for_error : (refusal : Refusal) → Table v.field_type v.value (Err refusal) → IsShort v d
 
 -- the tree that the table has for the value is refused by this document
 abbrev pub RefusesRow : FieldJson → CompactDoc → AddError → Type 0
-RefusesRow v d e = (tree : Tree) × Table v.field_type v.value (Ok tree) × Refuses d v.field tree e
+RefusesRow v d e = (tree : Tree) × Table v.field_type v.value (Ok tree) × Refuses d tree e
 
 -- Why a value is refused: by the table, or by the document that holds what was added before.
 abbrev pub IsRefused : FieldJson → CompactDoc → DocParsingError → Type 0
 IsRefused v d (error.ValueError name e) =
     (refusal : Refusal) × (string_bytes name ≡ v.name) × (error_of e ≡ Some refusal) × Table v.field_type v.value (Err refusal)
-IsRefused v d (error.FieldNumber n) = RefusesRow v d (add_error.FieldNumber n)
 IsRefused v d error.HeapFull = RefusesRow v d add_error.HeapFull
 IsRefused v d (error.InvalidJson text) = ⊥
 IsRefused v d error.Memory = IsShort v d

@@ -30,7 +30,7 @@ pub record StopsAtPair (pairs : Document) (old : CompactDoc) (e : AddError) : Ty
   pub joined : pairs ≡ before ++ at ∷ behind
   pub mid : CompactDoc
   pub added : AddsEach before old mid
-  pub refused : Refuses mid at.0 at.1 e
+  pub refused : Refuses mid at.1 e
 
 -- all pairs are added, or the first refusal is returned
 abbrev pub AddsPairs : {T : Type 0} → Document → CompactDoc → CompactDoc → Result T AddError → Type 0
@@ -51,6 +51,5 @@ MakesPairs pairs (Err e) = (refused : AddError) × (e ≡ addition_error refused
 abbrev pub IsBackError : Document → DocParsingError → Type 0
 IsBackError d errors.Memory = Unit {0}
 IsBackError d errors.HeapFull = 4294967295 < document_room d
-IsBackError d (errors.FieldNumber n) = ⊥
 IsBackError d (errors.InvalidJson text) = ⊥
 IsBackError d (errors.ValueError name e) = ⊥

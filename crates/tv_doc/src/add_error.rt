@@ -5,9 +5,6 @@ use thiserror::Error;
 /// Why a document refuses an addition. After each refusal its pairs and its heap are unchanged.
 #[derive(Clone, Copy, Debug, PartialEq, Eq, Error)]
 pub enum AddError {
-    /// The number of the field, which is above 65535.
-    #[error("the field number {0} is above 65535")]
-    FieldNumber(u32),
     /// The length of the heap and the room of the value together are above 4294967295 bytes.
     #[error("the values need more room than 4294967295 bytes")]
     HeapFull,

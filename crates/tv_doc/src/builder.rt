@@ -51,17 +51,13 @@ fn keep_tree(
     ensures ok { OnOk result
         (Kept building.old building.new pairs.old.items pairs.new.items kept.new field.id) }
     ensures err { IfErr result
-        (λ e. KeptNot building.old building.new pairs.old.items pairs.new.items kept.old kept.new
-        field.id e) }
+        (λ e. KeptNot building.old building.new pairs.old.items pairs.new.items kept.old kept.new e) }
 {
     let Some(place) = building.complete else {
         return Err(BuildError::OutOfPlace);
     };
-    let Ok(small) = u16::try_from(field.field_id()) else {
-        return Err(BuildError::FieldNumber(field.field_id()));
-    };
     let pair = FieldValueAddr {
-        field: small,
+        field: field.field_id(),
         value_type: place.value_type,
         address: place.address,
     };
@@ -318,8 +314,7 @@ impl TreeBuilder {
 
     /// The complete value becomes that of a pair.
     ///
-    /// `AlreadyFailed` after a refusal; `OutOfPlace` where no value is complete; `FieldNumber(n)` where the field's number `n` is above
-    /// 65535; else `Memory` where memory is refused.
+    /// `AlreadyFailed` after a refusal; `OutOfPlace` where no value is complete; else `Memory` where memory is refused.
     pub fn finish(&mut self, field: Field) -> Result<(), BuildError>
         ensures { Finishes self.old self.new field.id result }
     {

@@ -17,9 +17,6 @@ pub enum DocParsingError {
     /// The value of the field with this name is refused.
     #[error("the value of the field {0} is refused: {1}")]
     ValueError(String, ValueParsingError),
-    /// The number of the field, which is above 65535.
-    #[error("the field number {0} is above 65535")]
-    FieldNumber(u32),
     /// The values need more room than 4294967295 bytes.
     #[error("the values need more room than 4294967295 bytes")]
     HeapFull,
@@ -44,7 +41,6 @@ impl From<AddError> for DocParsingError {
     fn from(refused: AddError) -> DocParsingError {
         match refused {
             AddError::Memory => DocParsingError::Memory,
-            AddError::FieldNumber(number) => DocParsingError::FieldNumber(number),
             AddError::HeapFull => DocParsingError::HeapFull,
         }
     }

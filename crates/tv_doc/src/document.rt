@@ -55,23 +55,17 @@ pub(crate) fn push_pair(
     Ok(())
 }
 
-// The number of a field in 16 bits, where it fits, and a value of this room fits behind so many bytes.
+// Tests that a value of this room fits behind so many bytes.
 #[inline(always)]
-fn admit(field: Field, room: Option<u32>, len: usize) -> Result<u16, AddError>
+fn admit(room: Option<u32>, len: usize) -> Result<(), AddError>
     requires { len ≤ 4294967295 }
-    ensures small { IfOk result (λ small. (small ≡ field.id) × (field.id ≤ 65535)) }
     ensures fits { OnOk result (IsSomeAnd room (λ n. len + n ≤ 4294967295)) }
-    ensures number { (n : ℕ) → IsErrOf result (AddError.FieldNumber n)
-        → (n ≡ field.id) × (65535 < field.id) }
     ensures full { IsErrOf result AddError.HeapFull
-        → (field.id ≤ 65535) × MatchOption room (Unit {0}) (λ n. 4294967295 < len + n) }
+        → MatchOption room (Unit {0}) (λ n. 4294967295 < len + n) }
     ensures spares { ¬ IsErrOf result AddError.Memory }
 {
-    let Ok(small) = u16::try_from(field.field_id()) else {
-        return Err(AddError::FieldNumber(field.field_id()));
-    };
     match room {
-        Some(room) if u64::from(room) <= MAX_HEAP_LEN - len as u64 => Ok(small),
+        Some(room) if u64::from(room) <= MAX_HEAP_LEN - len as u64 => Ok(()),
         _ => Err(AddError::HeapFull),
     }
 }
@@ -83,7 +77,7 @@ pub(crate) fn keep_pair(
     heap: &mut Vec<u8>,
     pairs: &mut Vec<FieldValueAddr>,
     len: usize,
-    field: u16,
+    field: u32,
     written: Result<(ValueType, u32), AllocError>,
 ) -> Result<(), AddError>
     ensures pair { OnOk result
@@ -228,9 +222,8 @@ impl CompactDoc {
 
     /// Adds a pair of a field and a text.
     ///
-    /// `FieldNumber(n)` where the field's number `n` is above 65535; else `HeapFull` where the heap's length and the
-    /// text's room, 5 bytes and its length, are together above 4294967295; else `Memory` where memory is refused.
-    /// After each of these the pairs and the heap are unchanged.
+    /// `HeapFull` where the heap's length and the text's room, 5 bytes and its length, are together above 4294967295; else
+    /// `Memory` where memory is refused. After each of these the pairs and the heap are unchanged.
     pub fn add_text(&mut self, field: Field, content: &str) -> Result<(), AddError>
         ensures { Adds self.old self.new field.id (leaf (text content.now)) result }
     {
@@ -404,9 +397,10 @@ impl CompactDoc {
         ensures { Adds self.old self.new field.id (leaf (leaf_of value.now)) result }
     {
         let len = self.node_data.len();
-        let small = admit(field, leaf_room(value), len)?;
+        admit(leaf_room(value), len)?;
         let written = write_leaf(&mut self.node_data, value);
-        keep_pair(&mut self.node_data, &mut self.pairs, len, small, written)
+        let number = field.field_id();
+        keep_pair(&mut self.node_data, &mut self.pairs, len, number, written)
     }
 
     fn add_tree<N: Nested>(
@@ -421,10 +415,11 @@ impl CompactDoc {
             (nested_tree N.array_rest N.object_rest value.entry) result }
     {
         let len = self.node_data.len();
-        let small = admit(field, room_found, len)?;
+        admit(room_found, len)?;
         let mut places = Vec::new(self.alloc);
         let written = write_tree(&mut self.node_data, &mut places, value);
-        keep_pair(&mut self.node_data, &mut self.pairs, len, small, written)
+        let number = field.field_id();
+        keep_pair(&mut self.node_data, &mut self.pairs, len, number, written)
     }
 }
 

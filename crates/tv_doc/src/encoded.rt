@@ -63,9 +63,7 @@ impl CompactDoc {
         ensures same_pairs { IfNone result (self.new.pairs.items ≡ self.old.pairs.items) }
     {
         let (prefix, value) = bytes.split_first_chunk::<4>()?;
-        let Ok(field) = u16::try_from(u32::from_le_bytes(*prefix)) else {
-            return None;
-        };
+        let field = u32::from_le_bytes(*prefix);
         let len = self.node_data.len();
         let Some((rest, place)) = put_encoded(value, version, LEVELS, &mut self.node_data, places)
         else {

@@ -180,7 +180,6 @@ impl CompactDoc {
     /// is to the field's type, or the values of its items where it is an array. Other keys are skipped. The values are added one after the
     /// other. Errors, for the first value that is refused:
     /// - `ValueError` with the field's name: the field's type refuses it, see `FieldType::value_from_json`,
-    /// - `FieldNumber`: the field's number is above 65535,
     /// - `HeapFull`: the length of the heap so far and the value's room are together above 4294967295, see `add_text`,
     /// - `Memory`: memory was refused, for the pair, for what the type makes of the value before, or for the field's name in `ValueError`.
     pub fn from_json_object(

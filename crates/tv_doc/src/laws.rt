@@ -26,7 +26,7 @@ use std::alloc::Global;
 use tv_schema::Schema;
 use tv_schema::laws::names_are_of_one_field;
 
-/// Each document has an encoding in the store: its fields are numbers up to 65535, and its numbers, texts and lists fit.
+/// Each document has an encoding in the store: its fields are numbers below 2^32, and its numbers, texts and lists fit.
 pub fn documents_are_valid()
     ensures { (d : CompactDoc) → IsDocument (document_of d) }
 {}
@@ -75,7 +75,6 @@ pub fn named_documents_are_converted_back(
         → values_of field (document_of back) ≡ values_of field (document_of document.now)) }
     ensures errors { IfErr result (IsBackError (document_of document.now)) }
 {
-    documents_are_valid();
     names_are_of_one_field();
     let _names_are_distinct = schema.num_fields();
     let named = document.to_named_doc(alloc, schema)?;

@@ -15,16 +15,13 @@ use tv_value::field::Field;
 impl CompactDoc {
     // Adds a pair of a field and a JSON value, each kind in it as itself.
     //
-    // `None` where the field's number is above 65535, where the heap has no room for five times what is written of the value, which is at
-    // least its room, and where memory is refused. The document is then unchanged.
+    // `None` where the heap has no room for five times what is written of the value, which is at least its room, and where memory is
+    // refused. The document is then unchanged.
     pub(crate) fn add_whole_json(&mut self, field: Field, json: &BorrowedJson<'_>) -> Option<()>
         ensures added { OnSome result
             (Accepts self.old self.new field.id (whole_tree (data_of json.now))) }
         ensures none { IfNone result (IsUnchanged self.old self.new) }
     {
-        let Ok(small) = u16::try_from(field.field_id()) else {
-            return None;
-        };
         let len = self.node_data.len();
         let mut places = Vec::new(self.alloc);
         let Some(place) = put_json(json, &mut self.node_data, &mut places) else {
@@ -37,7 +34,8 @@ impl CompactDoc {
             return None;
         }
         let written = Ok((place.value_type, place.address));
-        match keep_pair(&mut self.node_data, &mut self.pairs, len, small, written) {
+        let number = field.field_id();
+        match keep_pair(&mut self.node_data, &mut self.pairs, len, number, written) {
             Ok(()) => Some(()),
             Err(_) => None,
         }

@@ -6,7 +6,7 @@ use Rattle.std.proofs.lemmas.Bool.{cases_lt}
 use Rattle.std.proofs.lemmas.Bool.Decides.{eqb_tells}
 use Rattle.std.proofs.lemmas.Int.{ints}
 use Rattle.tv_base.specs.declared.cause.Cause.{Cause}
-use Rattle.tv_base.specs.declared.cause.Cause.TheVariants.{UnexpectedEnd, UnknownTypeCode, FloatCode, UnknownExtCode, DateRange, FieldNumber}
+use Rattle.tv_base.specs.declared.cause.Cause.TheVariants.{UnexpectedEnd, UnknownTypeCode, FloatCode, UnknownExtCode, DateRange}
 use Rattle.tv_base.specs.Number.{VNum, Fixed, Signed}
 use Rattle.tv_base.specs.Parts.{Behind, Text}
 use Rattle.tv_base.specs.ErrorInPart.{InThen, InEach, ErrorInNumber, ErrorInBytes, ErrorInText}
@@ -17,7 +17,7 @@ use Rattle.tv_base.proofs.AgreeTruth.{truth_agrees}
 use Rattle.tv_base.proofs.AgreeWidths.{bytes_error, u32_agrees, u64_agrees, u128_agrees, i64_agrees}
 use Rattle.tv_base.proofs.Deciding.{Decided, begins, malformed, Decides, Both, Items, decides_as, behind_code, decides_then, decides_each, decides_by}
 use Rattle.tv_base.proofs.SmallBytes.{bytes_after}
-use Rattle.tv_format.specs.InputError.{corrupted, no_text_key, Corrupt, corrupt, ErrorInToken, ErrorInTokenized, ErrorInMicroseconds, date_ends, date_range, ErrorInScaled, ErrorInExtension, no_extension, other_extension, in_tokenized, ErrorInContent, ErrorInBody, ErrorInLeaf, ErrorInCodedKey, key_ends, key_unknown, key_float, key_other, key_no_extension, key_tokenized, key_other_extension, in_key, ErrorInKey, ErrorInField, field_ends, field_large, SmallField}
+use Rattle.tv_format.specs.InputError.{corrupted, no_text_key, Corrupt, corrupt, ErrorInToken, ErrorInTokenized, ErrorInMicroseconds, date_ends, date_range, ErrorInScaled, ErrorInExtension, no_extension, other_extension, in_tokenized, ErrorInContent, ErrorInBody, ErrorInLeaf, ErrorInCodedKey, key_ends, key_unknown, key_float, key_other, key_no_extension, key_tokenized, key_other_extension, in_key, ErrorInKey}
 use Rattle.tv_format.specs.Encoding.{TokenEncoding, Tokenized, leaf_code, ContentBody, LeafBody, Key}
 use Rattle.tv_format.specs.Content.{Content, no_content, truth_content, unsigned_content, signed_content, wide_content, text_content, bytes_content, tokens_content, form_of}
 use Rattle.tv_format.specs.Leaves.{content, form, store_code, scale}
@@ -176,12 +176,5 @@ decides_key most V3 = decides_as (Key V3) (ErrorInKey V3) (λ k. k) corrupted (�
 
 -- ---- fields
 
-small_field : (whole : List ℕ) → Decided (Fixed 4) (ErrorInBytes 4) whole → Decided SmallField (Corrupt ErrorInField) whole
-small_field whole (begins n prefix rest joined h) = elim (cases_lt 65535 n) as (λ _. Decided SmallField (Corrupt ErrorInField) whole) [
-  | inl large ↦ malformed (corrupted (FieldNumber n)) (corrupt (field_large n prefix rest joined h large))
-  | inr fits ↦ begins n prefix rest joined (h, fits)
-]
-small_field whole (malformed c f) = let q = bytes_error 4 whole c f in malformed (corrupted UnexpectedEnd) (corrupt (field_ends q.1))
-
-pub decides_field : (most : ℕ) → Decides most SmallField (Corrupt ErrorInField)
-decides_field most = record { decides = λ whole small le. small_field whole ((decides_by most u32_agrees).decides whole small le) }
+pub decides_field : (most : ℕ) → Decides most (Fixed 4) (Corrupt (ErrorInBytes 4))
+decides_field most = decides_as (Fixed 4) (Corrupt (ErrorInBytes 4)) (λ n. n) corrupted (λ b n h. h) (λ b c f. corrupt f) (decides_by most u32_agrees)

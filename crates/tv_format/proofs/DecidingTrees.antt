@@ -4,14 +4,14 @@ use Rattle.std.proofs.lemmas.Bool.{cases_lt}
 use Rattle.std.proofs.lemmas.Bool.Decides.{eqb_tells}
 use Rattle.tv_base.specs.declared.cause.Cause.{Cause}
 use Rattle.tv_base.specs.declared.cause.Cause.TheVariants.{UnexpectedEnd, UnknownTypeCode, FloatCode, OddObject}
-use Rattle.tv_base.specs.Number.{VNum}
+use Rattle.tv_base.specs.Number.{VNum, Fixed}
 use Rattle.tv_base.specs.Parts.{Then}
-use Rattle.tv_base.specs.ErrorInPart.{InThen, InEach, ErrorInNumber}
+use Rattle.tv_base.specs.ErrorInPart.{InThen, InEach, ErrorInNumber, ErrorInBytes}
 use Rattle.tv_base.specs.Source.{AllBytes}
 use Rattle.tv_base.proofs.AgreeNumbers.{vint_agrees}
 use Rattle.tv_base.proofs.Deciding.{Decided, begins, malformed, Decides, Both, Items, decides_as, decides_then, decides_each, decides_by}
 use Rattle.tv_base.proofs.SmallBytes.{bytes_after}
-use Rattle.tv_format.specs.InputError.{Refusal, corrupted, Corrupt, corrupt, ErrorInKey, ErrorInField, SmallField, ErrorInValue, value_ends, unknown_code, float_code, in_leaf, in_legacy, in_count, in_element, in_entry_count, odd_count, in_entry_key, in_entry, ErrorInPair, ErrorInDocument}
+use Rattle.tv_format.specs.InputError.{Refusal, corrupted, Corrupt, corrupt, ErrorInKey, ErrorInValue, value_ends, unknown_code, float_code, in_leaf, in_legacy, in_count, in_element, in_entry_count, odd_count, in_entry_key, in_entry, ErrorInPair, ErrorInDocument}
 use Rattle.tv_format.specs.ErrorInList.{ErrorInElements, ErrorInEntries, in_next_key, in_next_value}
 use Rattle.tv_format.specs.Encoding.{Key, Encodes, EncodesElements, EncodesEntries, EncodesPair, EncodesDocument}
 use Rattle.tv_format.specs.Tree.{Tree, leaf, array, object, Elements, no_elements, element, element_count, Entries, no_entries, entry, entry_count}
@@ -230,8 +230,8 @@ module _ (Legacy : List ℕ → Entries → Type 0) (ErrorInLegacy : List ℕ �
   decides_pair : (most : ℕ) → Decides most (EncodesPair Legacy v) (ErrorInPair Legacy ErrorInLegacy v)
   decides_pair most =
       decides_as (EncodesPair Legacy v) (ErrorInPair Legacy ErrorInLegacy v) (λ p. p) (λ r. r)
-      (λ b p h. record { small = h.first.1; parts = record { prefix = h.prefix; rest = h.rest; joined = h.joined; first = h.first.0; second = h.second } }) (λ b r f. f)
-      (decides_then (Corrupt ErrorInField) SmallField (λ _. Value) (λ _. InputError) (decides_field most) (λ _. decides_value most))
+      (λ b p h. record { prefix = h.prefix; rest = h.rest; joined = h.joined; first = h.first; second = h.second }) (λ b r f. f)
+      (decides_then (Corrupt (ErrorInBytes 4)) (Fixed 4) (λ _. Value) (λ _. InputError) (decides_field most) (λ _. decides_value most))
 
   pub decides_document : (most : ℕ) → Decides most (EncodesDocument Legacy v) (ErrorInDocument Legacy ErrorInLegacy v)
   decides_document most =

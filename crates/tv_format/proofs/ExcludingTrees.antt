@@ -3,20 +3,20 @@ use Rattle.std.proofs.Common.{subst, ◌≡◌, ℕ, ◌<◌, List, [], ◌∷�
 use Rattle.tv_base.specs.declared.cause.Cause.{Cause}
 use Rattle.tv_base.specs.Parts.{OneReading}
 use Rattle.tv_format.specs.Tree.{Leaf, Tree, leaf, array, object, Elements, no_elements, element, Entries, no_entries, entry, element_count, entry_count, Document}
-use Rattle.tv_base.specs.Number.{VNum}
+use Rattle.tv_base.specs.Number.{VNum, Fixed}
 use Rattle.tv_format.specs.Version.{Version, entry_total}
 use Rattle.tv_format.specs.Encoding.{leaf_code, Key, Encodes, EncodesElements, EncodesEntries, EncodesPair, EncodesDocument, NoLegacy}
-use Rattle.tv_format.specs.InputError.{Refusal, Corrupt, ErrorInLeaf, ErrorInField, field_ends, field_large, SmallField, ErrorInValue, value_ends, unknown_code, float_code, in_leaf, in_legacy, in_count, in_element, in_entry_count, odd_count, in_entry_key, in_entry, ErrorInPair, ErrorInDocument, NoErrorInLegacy}
+use Rattle.tv_format.specs.InputError.{Refusal, Corrupt, ErrorInLeaf, ErrorInValue, value_ends, unknown_code, float_code, in_leaf, in_legacy, in_count, in_element, in_entry_count, odd_count, in_entry_key, in_entry, ErrorInPair, ErrorInDocument, NoErrorInLegacy}
 use Rattle.tv_base.proofs.Numbers.{agree_number, agree_fixed, one_number, length-fixed}
 use Rattle.tv_format.specs.Leaves.{type_of}
 use Rattle.tv_format.specs.LeavesLaws.{small_code}
 use Rattle.tv_format.proofs.Leaves.{agree_key, leaf_code_small, total_same}
 use Rattle.tv_format.proofs.Trees.{agree_tree, one_pair}
 use Rattle.tv_base.proofs.Excluding.{Excludes, rests, excludes_then, excludes_each, excludes_number}
-use Rattle.tv_base.proofs.ExcludingParts.{behind_head}
+use Rattle.tv_base.proofs.ExcludingParts.{behind_head, excludes_bytes}
 use Rattle.tv_format.proofs.ExcludingLeaves.{leaf_excludes, leaf_error_code, excludes_corrupt, key_excludes}
 use Rattle.tv_base.specs.Parts.{Then}
-use Rattle.tv_base.specs.ErrorInPart.{InEach, ErrorInNumber}
+use Rattle.tv_base.specs.ErrorInPart.{InEach, ErrorInNumber, ErrorInBytes}
 
 module _ (Legacy : List ℕ → Entries → Type 0) (ErrorInLegacy : List ℕ → Cause → Type 0) (v : Version)
     (one_legacy : OneReading Legacy) (legacy_excludes : (es : Entries) → Excludes ErrorInLegacy (λ b. Legacy b es)) where
@@ -158,25 +158,17 @@ module _ (Legacy : List ℕ → Entries → Type 0) (ErrorInLegacy : List ℕ �
       let same = (agree_key v k r.0).agree key r.2 rest (r.3 ++ r.4) keyed r.5 r.7 in
       value_excludes f r.1 r.3 r.4 r.6 (rests key rest r.2 (r.3 ++ r.4) same.0 r.7)
 
-  field_refused : (n : ℕ) (whole a x : List ℕ) (c : Cause) → ErrorInField whole c → SmallField a n → whole ≡ a ++ x → ⊥
-  field_refused n whole a x c (field_ends h) p e = omega (arith, ap length e, length-append a x, length-fixed p.0)
-  field_refused n whole a x c (field_large m prefix rest joined q l) p e =
-      omega (arith, ((agree_fixed 4 m n).agree prefix a rest x q p.0 (sym joined ∙ e)).1, p.1)
+  pub excludes_field : (n : ℕ) → Excludes (ErrorInBytes 4) (λ b. Fixed 4 b n)
+  excludes_field n = excludes_bytes 4 (λ b. Fixed 4 b n) (λ b q. length-fixed q)
 
-  pub excludes_field : (n : ℕ) → Excludes ErrorInField (λ b. SmallField b n)
-  excludes_field n = record { excludes = field_refused n }
-
-  pub one_field : OneReading SmallField
-  one_field a b x y m n p q e = (agree_fixed 4 m n).agree a b x y p.0 q.0 e
+  pub one_field : OneReading (Fixed 4)
+  one_field a b x y m n p q e = (agree_fixed 4 m n).agree a b x y p q e
 
   pub pair_excludes : (pair : ℕ × Tree) → Excludes (ErrorInPair Legacy ErrorInLegacy v) (λ b. EncodesPair Legacy v b pair)
-  pair_excludes pair = record {
-    excludes = λ whole a x c f p e.
-        (excludes_then (Corrupt ErrorInField) SmallField (λ _. ErrorInValue Legacy ErrorInLegacy v) {Q = λ b. Encodes Legacy v b pair.1} pair.0
-        (excludes_corrupt (excludes_field pair.0)) one_field
-        (record { excludes = λ w s y d g q k. value_excludes g pair.1 s y q k })).excludes whole a x c f
-        (record { prefix = p.parts.prefix; rest = p.parts.rest; joined = p.parts.joined; first = (p.parts.first, p.small); second = p.parts.second }) e;
-  }
+  pair_excludes pair =
+      excludes_then (Corrupt (ErrorInBytes 4)) (Fixed 4) (λ _. ErrorInValue Legacy ErrorInLegacy v) {Q = λ b. Encodes Legacy v b pair.1} pair.0
+      (excludes_corrupt (excludes_field pair.0)) one_field
+      (record { excludes = λ w s y d g q k. value_excludes g pair.1 s y q k })
 
   pub document_excludes : (d : Document) → Excludes (ErrorInDocument Legacy ErrorInLegacy v) (λ b. EncodesDocument Legacy v b d)
   document_excludes d =

@@ -117,7 +117,7 @@ module _ (Legacy : List ℕ → Entries → Type 0) (v : Version) (written : IsW
     entries_encode (entry k t es) h = then _ _ (key_of v k h.0) (then _ _ (short_encodes t h.1) (entries_encode es h.2))
 
   pair : (p : ℕ × Tree) → IsPair p → EncodesPair Legacy v (short_pair v p) p
-  pair p h = record { small = h.field; parts = then _ _ (four p.0 (omega (arith, h.field))) (short_encodes p.1 h.value) }
+  pair p h = then _ _ (four p.0 h.field) (short_encodes p.1 h.value)
 
   pub short_document_encodes : (d : Document) → IsDocument d → EncodesDocument Legacy v (short_document v d) d
   short_document_encodes d h = then _ _ (vnum_encodes (length d) (omega (arith, h.count))) (each_of (EncodesPair Legacy v) IsPair (short_pair v) pair d h.each)

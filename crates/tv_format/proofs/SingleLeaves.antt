@@ -1,7 +1,7 @@
 -- A leaf, a key or a field is malformed in one way only.
 use Rattle.std.proofs.Common.{◌≡◌, ℕ, List, [], ◌∷◌, length, refl, sym, ◌∙◌, ap, subst, arith, length-append}
 use Rattle.tv_base.specs.declared.cause.Cause.{Cause}
-use Rattle.tv_base.specs.declared.cause.Cause.TheVariants.{UnknownTypeCode, UnknownExtCode, FieldNumber}
+use Rattle.tv_base.specs.declared.cause.Cause.TheVariants.{UnknownTypeCode, UnknownExtCode}
 use Rattle.tv_base.specs.Number.{VNum}
 use Rattle.tv_base.specs.Parts.{Text}
 use Rattle.tv_base.specs.ErrorInPart.{InThen, InEach, ErrorInNumber, ErrorInText, ErrorInTruth, truth_ends, truth_large}
@@ -16,7 +16,7 @@ use Rattle.tv_format.specs.LeavesLaws.{one_code}
 use Rattle.tv_format.specs.Version.{Version, V1, V2, V3, Scale, plain, thousands}
 use Rattle.tv_format.specs.declared.leaf_type.Form.{Form}
 use Rattle.tv_format.specs.declared.leaf_type.Form.TheVariants as forms
-use Rattle.tv_format.specs.InputError.{ErrorInToken, ErrorInTokenized, ErrorInMicroseconds, date_ends, date_range, ErrorInScaled, ErrorInExtension, no_extension, other_extension, in_tokenized, ErrorInContent, ErrorInBody, ErrorInLeaf, Refusal, corrupted, no_text_key, Corrupt, corrupt, ErrorInCodedKey, ErrorInKey, key_ends, key_unknown, key_float, key_other, key_no_extension, key_tokenized, key_other_extension, in_key, ErrorInField, field_ends, field_large}
+use Rattle.tv_format.specs.InputError.{ErrorInToken, ErrorInTokenized, ErrorInMicroseconds, date_ends, date_range, ErrorInScaled, ErrorInExtension, no_extension, other_extension, in_tokenized, ErrorInContent, ErrorInBody, ErrorInLeaf, Refusal, corrupted, no_text_key, Corrupt, corrupt, ErrorInCodedKey, ErrorInKey, key_ends, key_unknown, key_float, key_other, key_no_extension, key_tokenized, key_other_extension, in_key}
 use Rattle.tv_format.specs.TokensLaws.{one_token}
 use Rattle.tv_format.proofs.ExcludingLeaves.{excludes_token}
 
@@ -138,14 +138,3 @@ pub key_single : (v : Version) (whole : List ℕ) (r s : Refusal) → ErrorInKey
 key_single V1 whole r s h k = coded_key_single h k refl
 key_single V2 whole r s h k = coded_key_single h k refl
 key_single V3 whole r s h k = corrupt_single ErrorInText single_text whole r s h k
-
--- ---- fields
-
-field_single : (whole : List ℕ) (c d : Cause) → ErrorInField whole c → ErrorInField whole d → c ≡ d
-field_single whole c d (field_ends h) (field_ends k) = refl
-field_single whole c d (field_large m prefix rest joined q l) (field_large n f r e k p) = ap FieldNumber ((agree_fixed 4 m n).agree prefix f rest r q k (sym joined ∙ e)).1
-field_single whole c d (field_ends h) (field_large m prefix rest joined q l) = absurd (omega (arith, ap length joined, length-append prefix rest, length-fixed q))
-field_single whole c d (field_large m prefix rest joined q l) (field_ends h) = absurd (omega (arith, ap length joined, length-append prefix rest, length-fixed q))
-
-pub single_field : Single ErrorInField
-single_field = record { single = field_single }

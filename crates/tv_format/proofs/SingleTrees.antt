@@ -3,21 +3,21 @@ use Rattle.std.proofs.Common.{◌≡◌, ◌≢◌, ◌⊎◌, ℕ, ◌<◌, Lis
 use Rattle.std.proofs.lemmas.Bool.{cases_lt}
 use Rattle.tv_base.specs.declared.cause.Cause.{Cause}
 use Rattle.tv_base.specs.declared.cause.Cause.TheVariants.{UnexpectedEnd, UnknownTypeCode, FloatCode, OddObject}
-use Rattle.tv_base.specs.Number.{VNum}
+use Rattle.tv_base.specs.Number.{VNum, Fixed}
 use Rattle.tv_base.specs.Parts.{OneReading}
-use Rattle.tv_base.specs.ErrorInPart.{InEach, ErrorInNumber}
+use Rattle.tv_base.specs.ErrorInPart.{InEach, ErrorInNumber, ErrorInBytes}
 use Rattle.tv_base.proofs.Numbers.{agree_number, one_number}
 use Rattle.tv_base.proofs.Excluding.{Excludes, rests, excludes_number}
-use Rattle.tv_base.proofs.Single.{Single, single_then, single_each, single_number}
+use Rattle.tv_base.proofs.Single.{Single, single_then, single_each, single_number, single_bytes}
 use Rattle.tv_format.specs.Tree.{Tree, Elements, Entries, element_count, entry_count}
 use Rattle.tv_format.specs.Version.{Version, entry_total}
 use Rattle.tv_format.specs.Encoding.{Key, Encodes, EncodesElements, EncodesEntries, EncodesPair}
-use Rattle.tv_format.specs.InputError.{Refusal, corrupted, Corrupt, corrupt, ErrorInKey, ErrorInLeaf, ErrorInField, SmallField, ErrorInValue, value_ends, unknown_code, float_code, in_leaf, in_legacy, in_count, in_element, in_entry_count, odd_count, in_entry_key, in_entry, ErrorInPair, ErrorInDocument, NoErrorInLegacy}
+use Rattle.tv_format.specs.InputError.{Refusal, corrupted, Corrupt, corrupt, ErrorInKey, ErrorInLeaf, ErrorInValue, value_ends, unknown_code, float_code, in_leaf, in_legacy, in_count, in_element, in_entry_count, odd_count, in_entry_key, in_entry, ErrorInPair, ErrorInDocument, NoErrorInLegacy}
 use Rattle.tv_format.proofs.Leaves.{agree_key}
 use Rattle.tv_format.proofs.Trees.{agree_elements, agree_entries, one_pair}
 use Rattle.tv_format.proofs.ExcludingLeaves.{leaf_error_code, key_excludes, excludes_corrupt}
 use Rattle.tv_format.proofs.ExcludingTrees.{elements_reach, entries_reach, value_excludes, excludes_field, one_field, pair_excludes}
-use Rattle.tv_format.proofs.SingleLeaves.{leaf_single, key_single, single_corrupt, single_field}
+use Rattle.tv_format.proofs.SingleLeaves.{leaf_single, key_single, single_corrupt}
 
 module _ (Legacy : List ℕ → Entries → Type 0) (ErrorInLegacy : List ℕ → Cause → Type 0) (v : Version)
     (one_legacy : OneReading Legacy) (legacy_excludes : (es : Entries) → Excludes ErrorInLegacy (λ b. Legacy b es)) (legacy_single : Single ErrorInLegacy) where
@@ -267,7 +267,7 @@ module _ (Legacy : List ℕ → Entries → Type 0) (ErrorInLegacy : List ℕ �
   single_value = record { single = λ whole r s f g. value_single f refl g }
 
   single_pair : Single (ErrorInPair Legacy ErrorInLegacy v)
-  single_pair = single_then {R = SmallField} {G = λ _. ErrorInValue Legacy ErrorInLegacy v} (single_corrupt ErrorInField single_field)
+  single_pair = single_then {R = Fixed 4} {G = λ _. ErrorInValue Legacy ErrorInLegacy v} (single_corrupt (ErrorInBytes 4) (single_bytes 4))
       (λ n. excludes_corrupt (excludes_field Legacy ErrorInLegacy v one_legacy legacy_excludes n)) (one_field Legacy ErrorInLegacy v one_legacy legacy_excludes) (λ _. single_value)
 
   pub single_document : Single (ErrorInDocument Legacy ErrorInLegacy v)

@@ -41,10 +41,7 @@ module _ (Legacy : List ℕ → Entries → Type 0) (v : Version) (one_legacy : 
   one_tree = one_from (Encodes Legacy v) agree_tree
 
   pub agree_pair : (p q : ℕ × Tree) → Agree (λ b. EncodesPair Legacy v b p) (λ b. EncodesPair Legacy v b q) (p ≡ q)
-  agree_pair p q = record {
-    agree = λ a b x y r s e.
-        (agree_map (λ h. λ i. (h.0 i, h.1 i)) (agree_then (agree_fixed 4 p.0 q.0) (λ _. agree_tree p.1 q.1))).agree a b x y r.parts s.parts e;
-  }
+  agree_pair p q = agree_map (λ h. λ i. (h.0 i, h.1 i)) (agree_then (agree_fixed 4 p.0 q.0) (λ _. agree_tree p.1 q.1))
 
   pub one_pair : OneReading (EncodesPair Legacy v)
   one_pair = one_from (EncodesPair Legacy v) agree_pair

@@ -62,10 +62,9 @@ module _ (Legacy : List ℕ → Entries → Type 0) (v : Version) where
     EncodesEntries whole no_entries = whole ≡ []
     EncodesEntries whole (entry k t es) = Then (λ b. Key v b k) (Then (λ b. Encodes b t) (λ b. EncodesEntries b es)) whole
 
-  -- a field of at most 16 bits in 4 bytes, and a value
-  pub record EncodesPair (whole : List ℕ) (pair : ℕ × Tree) : Type 0 where
-    pub small : pair.0 ≤ 65535
-    pub parts : Then (λ b. Fixed 4 b pair.0) (λ b. Encodes b pair.1) whole
+  -- a field in 4 bytes, and a value
+  abbrev pub EncodesPair : List ℕ → ℕ × Tree → Type 0
+  EncodesPair whole pair = Then (λ b. Fixed 4 b pair.0) (λ b. Encodes b pair.1) whole
 
   -- the number of the pairs, and then each
   abbrev pub EncodesDocument : List ℕ → Document → Type 0

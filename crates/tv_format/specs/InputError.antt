@@ -2,7 +2,7 @@
 use Rattle.std.specs.Prelude.{◌≡◌, ◌≢◌, ℕ, ◌<◌, ◌≤◌, ◌⊎◌, List, [], ◌∷◌, ◌++◌, length, ℤ, pos, negsuc, ◌<ℤ◌, FitsSigned}
 use Rattle.std.specs.Int.{w64, cast_unsigned}
 use Rattle.tv_base.specs.declared.cause.Cause.{Cause}
-use Rattle.tv_base.specs.declared.cause.Cause.TheVariants.{UnexpectedEnd, UnknownTypeCode, FloatCode, UnknownExtCode, OddObject, FieldNumber, DateRange}
+use Rattle.tv_base.specs.declared.cause.Cause.TheVariants.{UnexpectedEnd, UnknownTypeCode, FloatCode, UnknownExtCode, OddObject, DateRange}
 use Rattle.tv_base.specs.Number.{VNum, Fixed}
 use Rattle.tv_base.specs.Parts.{Text}
 use Rattle.tv_base.specs.ErrorInPart.{InThen, InEach, ErrorInNumber, ErrorInBytes, ErrorInSized, ErrorInText, ErrorInTruth}
@@ -93,15 +93,6 @@ ErrorInKey V1 = ErrorInCodedKey
 ErrorInKey V2 = ErrorInCodedKey
 ErrorInKey V3 = Corrupt ErrorInText
 
--- a field above 16 bits
-pub data ErrorInField (whole : List ℕ) : Cause → Type 0 where
-  field_ends : length whole < 4 → ErrorInField whole UnexpectedEnd
-  field_large : (n : ℕ) (prefix rest : List ℕ) → whole ≡ prefix ++ rest → Fixed 4 prefix n → 65535 < n → ErrorInField whole (FieldNumber n)
-
--- a field of at most 16 bits
-abbrev pub SmallField : List ℕ → ℕ → Type 0
-SmallField whole field = Fixed 4 whole field × (field ≤ 65535)
-
 -- `Legacy` says what encodes a legacy object behind code 8, and `ErrorInLegacy` what is wrong with bytes that encode none.
 module _ (Legacy : List ℕ → Entries → Type 0) (ErrorInLegacy : List ℕ → Cause → Type 0) (v : Version) where
   pub data ErrorInValue : List ℕ → Refusal → Type 0 where
@@ -128,7 +119,7 @@ module _ (Legacy : List ℕ → Entries → Type 0) (ErrorInLegacy : List ℕ �
 
   -- of a pair: its field, or its value
   abbrev pub ErrorInPair : List ℕ → Refusal → Type 0
-  ErrorInPair = InThen (Corrupt ErrorInField) SmallField (λ _. ErrorInValue)
+  ErrorInPair = InThen (Corrupt (ErrorInBytes 4)) (Fixed 4) (λ _. ErrorInValue)
 
   -- of a document: the number of its pairs, or one of them
   abbrev pub ErrorInDocument : List ℕ → Refusal → Type 0

@@ -104,7 +104,7 @@ abbrev mutual
   AreEntries (entry k t es) = IsText k × IsValue t × AreEntries es
 
 pub record IsPair (pair : ℕ × Tree) : Type 0 where
-  pub field : pair.0 ≤ 65535
+  pub field : pair.0 < 2 ^ 32
   pub value : IsValue pair.1
 
 pub record IsDocument (d : Document) : Type 0 where

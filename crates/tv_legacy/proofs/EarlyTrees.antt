@@ -4,12 +4,12 @@ use Rattle.tv_base.specs.declared.cause.Cause.{Cause}
 use Rattle.tv_base.specs.declared.cause.Cause.TheVariants.{UnexpectedEnd}
 use Rattle.tv_base.specs.Number.{VNum, Fixed}
 use Rattle.tv_base.specs.Parts.{Then, Behind, Text}
-use Rattle.tv_base.specs.ErrorInPart.{InThen, InEach, ErrorInNumber, ErrorInText}
+use Rattle.tv_base.specs.ErrorInPart.{InThen, InEach, ErrorInNumber, ErrorInBytes, ErrorInText}
 use Rattle.tv_base.proofs.Numbers.{length-fixed}
 use Rattle.tv_format.specs.Content.{Content, no_content, truth_content, unsigned_content, signed_content, wide_content, text_content, bytes_content, tokens_content, form_of}
 use Rattle.tv_format.specs.Encoding.{TokenEncoding, Tokenized, ContentBody, LeafBody, Key, Encodes, EncodesElements, EncodesEntries, EncodesPair, EncodesDocument, leaf_code}
 use Rattle.tv_format.specs.ErrorInList.{ErrorInElements, ErrorInEntries, in_next_key, in_next_value}
-use Rattle.tv_format.specs.InputError.{Refusal, corrupted, Corrupt, corrupt, ErrorInToken, ErrorInTokenized, ErrorInScaled, date_ends, no_extension, in_tokenized, ErrorInContent, ErrorInKey, key_ends, in_key, field_ends, ErrorInField, SmallField, ErrorInValue, value_ends, in_leaf, in_legacy, in_count, in_element, in_entry_count, in_entry_key, in_entry, ErrorInPair, ErrorInDocument}
+use Rattle.tv_format.specs.InputError.{Refusal, corrupted, Corrupt, corrupt, ErrorInToken, ErrorInTokenized, ErrorInScaled, date_ends, no_extension, in_tokenized, ErrorInContent, ErrorInKey, key_ends, in_key, ErrorInValue, value_ends, in_leaf, in_legacy, in_count, in_element, in_entry_count, in_entry_key, in_entry, ErrorInPair, ErrorInDocument}
 use Rattle.tv_format.specs.Leaves.{type_of, content, form, scale}
 use Rattle.tv_format.specs.LeavesLaws.{form_of_content}
 use Rattle.tv_format.specs.declared.leaf_type.Form.TheVariants as forms
@@ -207,16 +207,12 @@ module _ (Legacy : List ℕ → Entries → Type 0) (ErrorInLegacy : List ℕ �
 
   -- ---- documents
 
-  early_field : (field : ℕ) → Early (λ b. SmallField b field) (λ w. Corrupt ErrorInField w (corrupted UnexpectedEnd))
-  early_field field = record { early = λ whole start rest p joined some. corrupt (field_ends (omega (arith, length-fixed p.0, fewer whole start rest joined some))) }
+  early_field : (field : ℕ) → Early (λ b. Fixed 4 b field) (λ w. Corrupt (ErrorInBytes 4) w (corrupted UnexpectedEnd))
+  early_field field = record { early = λ whole start rest p joined some. corrupt ((early_fixed 4 field).early whole start rest p joined some) }
 
   early_pair : (pair : ℕ × Tree) → Early (λ b. EncodesPair Legacy v b pair) (λ w. ErrorInPair Legacy ErrorInLegacy v w (corrupted UnexpectedEnd))
-  early_pair pair = record {
-    early = λ whole start rest p joined some.
-        let parts = p.parts in
-        (early_then (Corrupt ErrorInField) SmallField (λ _. ErrorInValue Legacy ErrorInLegacy v) (corrupted UnexpectedEnd) pair.0 (early_field pair.0) (early_value pair.1)).early whole start rest
-        (record { prefix = parts.prefix; rest = parts.rest; joined = parts.joined; first = (parts.first, p.small); second = parts.second }) joined some;
-  }
+  early_pair pair =
+      early_then (Corrupt (ErrorInBytes 4)) (Fixed 4) (λ _. ErrorInValue Legacy ErrorInLegacy v) (corrupted UnexpectedEnd) pair.0 (early_field pair.0) (early_value pair.1)
 
   pub early_document : (d : Document) → Early (λ b. EncodesDocument Legacy v b d) (λ w. ErrorInDocument Legacy ErrorInLegacy v w (corrupted UnexpectedEnd))
   early_document d =

@@ -15,7 +15,6 @@ use Rattle.tv_doc.specs.declared.document.CompactDoc.{CompactDoc}
 use Rattle.tv_lines.specs.Answers.{refusal_name, Answer, IsDocumentText}
 use Rattle.tv_lines.specs.Answers.Answer.{answered, no_memory, no_room}
 use Rattle.tv_lines.specs.Answers.LineAnswer.{no_object, refused, written}
-use Rattle.tv_lines.specs.Answers.RefusalText.{by_table, by_number}
 use Rattle.tv_lines.specs.Run.{Leaves}
 use Rattle.tv_lines.specs.Unwritten.{IsUnwritten, error_text, value_error_text}
 use Rattle.tv_field.specs.Entry.{Entry}
@@ -42,11 +41,11 @@ named_by (values.InvalidBase64 text) refusal is = rw (← some_is is)
 named_by values.FloatNumber refusal is = rw (← some_is is)
 named_by values.Memory refusal is = absurd (cc)
 
-pairs-snoc : (before : List FieldJson) (at : FieldJson) (tree : Tree) (pairs : Document) → Pairs before pairs → Table at.field_type at.value (Ok tree) → at.field ≤ 65535
+pairs-snoc : (before : List FieldJson) (at : FieldJson) (tree : Tree) (pairs : Document) → Pairs before pairs → Table at.field_type at.value (Ok tree)
     → Pairs (before ++ at ∷ []) (pairs ++ (at.field, tree) ∷ [])
-pairs-snoc [] at tree pairs made row small = (tree, [], row, small, ap (λ (d : Document). d ++ (at.field, tree) ∷ []) made, refl)
-pairs-snoc (v ∷ vs) at tree pairs made row small =
-    (made.0, made.1 ++ (at.field, tree) ∷ [], made.2, made.3, ap (λ (d : Document). d ++ (at.field, tree) ∷ []) made.4, pairs-snoc vs at tree made.1 made.5 row small)
+pairs-snoc [] at tree pairs made row = (tree, [], row, ap (λ (d : Document). d ++ (at.field, tree) ∷ []) made, refl)
+pairs-snoc (v ∷ vs) at tree pairs made row =
+    (made.0, made.1 ++ (at.field, tree) ∷ [], made.2, ap (λ (d : Document). d ++ (at.field, tree) ∷ []) made.3, pairs-snoc vs at tree made.1 made.4 row)
 
 -- the heap has no room, so the pairs have none
 full_room : (pairs : Document) (start mid : CompactDoc) (field : ℕ) (t : Tree) → IsEmpty start → AddsEach pairs start mid → IsFull mid t → 4294967295 < document_room (pairs ++ (field, t) ∷ [])
@@ -61,18 +60,14 @@ refusal_answers schema line (errors.InvalidJson start) utf8 h = answered (no_obj
 refusal_answers schema line (errors.ValueError name e) utf8 h =
     let stop = h.2.2 in
     let why = stop.refused in
-    answered (refused h.0 stop.before stop.behind stop.at stop.added.pairs (utf8, h.1) stop.joined stop.added.by_table (by_table why.0 why.3 (named_by e why.0 why.2)))
-refusal_answers schema line (errors.FieldNumber n) utf8 h =
-    let stop = h.2.2 in
-    let why = stop.refused in
-    answered (refused h.0 stop.before stop.behind stop.at stop.added.pairs (utf8, h.1) stop.joined stop.added.by_table (by_number why.0 why.1 why.2.1 refl))
+    answered (refused h.0 stop.before stop.behind stop.at stop.added.pairs (utf8, h.1) stop.joined stop.added.by_table (why.0, why.3, named_by e why.0 why.2))
 refusal_answers schema line errors.HeapFull utf8 h =
     let stop = h.2.2 in
     let why = stop.refused in
     let pairs = stop.added.pairs in
     no_room h.0 (stop.before ++ stop.at ∷ []) stop.behind (pairs ++ (stop.at.field, why.0) ∷ []) (utf8, h.1)
-    (stop.joined ∙ sym (append_assoc stop.before (stop.at ∷ []) stop.behind)) (pairs-snoc stop.before stop.at why.0 pairs stop.added.by_table why.1 why.2.0)
-    (full_room pairs h.2.0 stop.mid stop.at.field why.0 h.2.1 stop.added.adds why.2.1) refl
+    (stop.joined ∙ sym (append_assoc stop.before (stop.at ∷ []) stop.behind)) (pairs-snoc stop.before stop.at why.0 pairs stop.added.by_table why.1)
+    (full_room pairs h.2.0 stop.mid stop.at.field why.0 h.2.1 stop.added.adds why.2) refl
 refusal_answers schema line errors.Memory utf8 h = no_memory refl
 
 -- ---- the answer for a document

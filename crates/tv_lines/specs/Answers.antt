@@ -52,10 +52,9 @@ refusal_name (bad_text cause d) = codes "ParseError"
 refusal_name (bad_base64 text) = codes "InvalidBase64"
 refusal_name float_number = codes "FloatNumber"
 
--- the text for a value that is refused: by the table of its field's type, or for its field's number
-pub data RefusalText (v : FieldJson) (text : List ℕ) : Type 0 where
-  by_table : (refusal : Refusal) → Table v.field_type v.value (Err refusal) → text ≡ codes "error ValueError " ++ refusal_name refusal → RefusalText v text
-  by_number : (tree : Tree) → Table v.field_type v.value (Ok tree) → 65535 < v.field → text ≡ codes "error FieldNumber" → RefusalText v text
+-- the text for a value that the table of its field's type refuses
+abbrev pub RefusalText : FieldJson → List ℕ → Type 0
+RefusalText v text = (refusal : Refusal) × Table v.field_type v.value (Err refusal) × (text ≡ codes "error ValueError " ++ refusal_name refusal)
 
 -- the bytes of a document in lower-case hexadecimal, a space, and its text of JSON by the names of the fields
 abbrev pub IsDocumentText : List Entry → Document → List ℕ → Type 0

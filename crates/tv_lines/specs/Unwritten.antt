@@ -22,7 +22,6 @@ value_error_text values.Memory = codes "error Memory"
 abbrev pub error_text : DocParsingError → List ℕ
 error_text (errors.InvalidJson start) = codes "error InvalidJson"
 error_text (errors.ValueError name error) = value_error_text error
-error_text (errors.FieldNumber n) = codes "error FieldNumber"
 error_text errors.HeapFull = codes "error HeapFull"
 error_text errors.Memory = codes "error Memory"
 

@@ -53,7 +53,6 @@ fn refusal(error: &DocParsingError) -> &'static str
     match error {
         DocParsingError::InvalidJson(_) => "error InvalidJson",
         DocParsingError::ValueError(_, error) => value_refusal(error),
-        DocParsingError::FieldNumber(_) => "error FieldNumber",
         DocParsingError::HeapFull => "error HeapFull",
         DocParsingError::Memory => "error Memory",
     }

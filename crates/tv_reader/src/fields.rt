@@ -1,6 +1,6 @@
 //! Taking the field of a pair from a source that is lent, with the count of the bytes that were taken of it.
 
-ghost use Rattle.std.specs.Prelude.{◌≡◌, ◌≤◌, ◌+◌, ◌-◌, ◌^◌, IfOk, IsErrOf};
+ghost use Rattle.std.specs.Prelude.{◌≡◌, ◌≤◌, ◌+◌, ◌-◌, ◌^◌, IsErrOf};
 ghost use Rattle.tv_base.specs.declared.cause.Cause.TheVariants.{TooLong};
 ghost use Rattle.tv_reader.specs.Error.{TakesBy};
 ghost use Rattle.tv_reader.specs.Fields.{field_at};
@@ -8,16 +8,12 @@ ghost use Rattle.tv_reader.specs.declared.error.DeserializeError.TheVariants.{Co
 ghost use Rattle.tv_reader.specs.declared.error.DeserializeError.TheVariants.{HeapFull, Memory};
 
 use crate::error::DeserializeError;
+use tv_base::ByteSource;
 use tv_base::take::take_u32;
-use tv_base::{ByteSource, Cause};
-
-// The largest field number in a document.
-const LARGEST_FIELD: u32 = 65535;
 
 /// Takes a field number.
 ///
-/// Errors: `CorruptedValue(UnexpectedEnd)` where fewer than four bytes are left, `CorruptedValue(FieldNumber)` where it is above
-/// 65535, and `Io`.
+/// Errors: `CorruptedValue(UnexpectedEnd)` where fewer than four bytes are left, and `Io`.
 #[tactic(auto, using(tv_base::proofs::TakeSteps::Taken_then), unfolding(crate::specs::Fields::field_at))]
 pub fn take_field<S: ByteSource>(source: &mut S, count: &mut u64) -> Result<u32, DeserializeError>
     ensures takes { TakesBy S.is_known S.left S.failures source.old count.old source.new count.new
@@ -26,11 +22,6 @@ pub fn take_field<S: ByteSource>(source: &mut S, count: &mut u64) -> Result<u32,
     ensures few { count.new ≤ count.old + 4 }
     ensures roomy { ¬ IsErrOf result HeapFull }
     ensures spares { ¬ IsErrOf result Memory }
-    ensures small { IfOk result (λ field. field ≤ 65535) }
 {
-    let field = take_u32(source, count)?;
-    if field > LARGEST_FIELD {
-        return Err(DeserializeError::CorruptedValue(Cause::FieldNumber(field)));
-    }
-    Ok(field)
+    Ok(take_u32(source, count)?)
 }

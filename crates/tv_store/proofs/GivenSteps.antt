@@ -4,7 +4,6 @@ use Rattle.std.proofs.lemmas.List.Sums.{sum_by-append}
 use Rattle.std.specs.Prelude.{IsErrOf}
 use Rattle.tv_base.specs.Source.{Failures}
 use Rattle.tv_base.specs.Stop.{CountsStop}
-use Rattle.tv_base.specs.declared.cause.Cause.TheVariants.{FieldNumber}
 use Rattle.tv_doc.specs.declared.add_error.AddError.{AddError}
 use Rattle.tv_doc.specs.declared.add_error.AddError.TheVariants as adds
 use Rattle.tv_doc.specs.declared.document.CompactDoc.{CompactDoc}
@@ -16,7 +15,7 @@ use Rattle.tv_reader.specs.declared.error.DeserializeError.{DeserializeError}
 use Rattle.tv_reader.specs.declared.error.DeserializeError.TheVariants as errors
 use Rattle.tv_reader.specs.declared.value_type.ValueType.{ValueType}
 use Rattle.tv_store.specs.Error.{add_error}
-use Rattle.tv_store.specs.PairsGiven.{IsGiven, document_stop, PairsRefused, large_field, no_room, no_memory}
+use Rattle.tv_store.specs.PairsGiven.{IsGiven, document_stop, PairsRefused, no_room, no_memory}
 use Rattle.tv_value.specs.declared.field.Field.{Field}
 use Rattle.tv_typed.specs.Documents.{NextField, GivesAll}
 use Rattle.tv_typed.specs.Typed.{typed_stop}
@@ -31,15 +30,13 @@ gives_push gives first mid last [] pair p g = (last, subst (λ z. gives z pair l
 gives_push gives first mid last (q ∷ pairs) pair p g = (p.0, p.1, gives_push gives p.0 mid last pairs pair p.2 g)
 
 refused_by : {D : Type 0} (gives : D → ℕ × Tree → D → Type 0) (refuses : D → (Version → ValueType → List ℕ → DeserializeError → Type 0) → DeserializeError → Type 0) (first mid last : D) (doc : CompactDoc) (field : ℕ) (t : Tree) (error : AddError)
-    → GivesAll gives first (document_of doc) mid → gives mid (field, t) last → length (heap_of doc) ≤ document_room (document_of doc) → Refuses doc field t error → PairsRefused gives refuses first (add_error error)
-refused_by gives refuses first mid last doc field t (adds.FieldNumber n) p g within h =
-    subst (λ m. PairsRefused gives refuses first (errors.CorruptedValue (FieldNumber m))) (sym h.0) (large_field (document_of doc) last field t (gives_push gives first mid last (document_of doc) (field, t) p g) h.1)
+    → GivesAll gives first (document_of doc) mid → gives mid (field, t) last → length (heap_of doc) ≤ document_room (document_of doc) → Refuses doc t error → PairsRefused gives refuses first (add_error error)
 refused_by gives refuses first mid last doc field t adds.HeapFull p g within h =
-    no_room (document_of doc ++ (field, t) ∷ []) last (gives_push gives first mid last (document_of doc) (field, t) p g) (omega (arith, document_room-push (document_of doc) (field, t), within, h.1))
+    no_room (document_of doc ++ (field, t) ∷ []) last (gives_push gives first mid last (document_of doc) (field, t) p g) (omega (arith, document_room-push (document_of doc) (field, t), within, h))
 refused_by gives refuses first mid last doc field t adds.Memory p g within h = no_memory
 
 pub addition_refused : {D : Type 0} (gives : D → ℕ × Tree → D → Type 0) (refuses : D → (Version → ValueType → List ℕ → DeserializeError → Type 0) → DeserializeError → Type 0) (first mid last : D) (doc : CompactDoc) (field : ℕ) (t : Tree) (error : AddError) (e : DeserializeError)
-    → e ≡ add_error error → GivesAll gives first (document_of doc) mid → gives mid (field, t) last → length (heap_of doc) ≤ document_room (document_of doc) → Refuses doc field t error → PairsRefused gives refuses first e
+    → e ≡ add_error error → GivesAll gives first (document_of doc) mid → gives mid (field, t) last → length (heap_of doc) ≤ document_room (document_of doc) → Refuses doc t error → PairsRefused gives refuses first e
 addition_refused gives refuses first mid last doc field t error e is p g within h = subst (PairsRefused gives refuses first) (sym is) (refused_by gives refuses first mid last doc field t error p g within h)
 
 -- ---- the next pair
@@ -84,7 +81,6 @@ document_counts errors.AlreadyFailed old new h = h
 
 -- an addition reads nothing
 addition_counted : (error : AddError) (old new : Failures) → new ≡ old → CountsStop (document_stop (add_error error)) old new
-addition_counted (adds.FieldNumber n) old new same = same
 addition_counted adds.HeapFull old new same = same
 addition_counted adds.Memory old new same = same
 

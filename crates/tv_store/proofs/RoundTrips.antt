@@ -34,9 +34,8 @@ use Rattle.tv_value.specs.declared.owned_value.OwnedValue.{OwnedValue}
 
 answer_from : (field : ℕ) (t : Tree) (answer : Result (Unit {0}) AddError) (a b c : CompactDoc) → IsUnchanged a b → Adds b c field t answer → Adds a c field t answer
 answer_from field t (Ok x) a b c u h = adds_from field t a b c u h
-answer_from field t (Err (adds.FieldNumber n)) a b c u h = (h.0, unchanged_from a b c u h.1)
-answer_from field t (Err adds.HeapFull) a b c u h = ((h.0.0, omega (arith, ap length u.heap, h.0.1)), unchanged_from a b c u h.1)
-answer_from field t (Err adds.Memory) a b c u h = ((h.0.0, omega (arith, ap length u.heap, h.0.1)), unchanged_from a b c u h.1)
+answer_from field t (Err adds.HeapFull) a b c u h = (omega (arith, ap length u.heap, h.0), unchanged_from a b c u h.1)
+answer_from field t (Err adds.Memory) a b c u h = (omega (arith, ap length u.heap, h.0), unchanged_from a b c u h.1)
 
 runs_push : (additions : List Addition) (a : Addition) (old mid new : CompactDoc) → Runs additions old mid → Adds mid new a.field a.tree a.answer → Runs (additions ++ a ∷ []) old new
 runs_push [] a old mid new same h = (new, answer_from a.field a.tree a.answer old mid new same h, unchanged_same new)

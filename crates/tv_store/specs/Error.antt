@@ -1,5 +1,4 @@
 -- What the errors of the lower layers are called in the store, and which of them stop a writer for what reason.
-use Rattle.tv_base.specs.declared.cause.Cause.TheVariants as causes
 use Rattle.tv_doc.specs.declared.add_error.AddError.{AddError}
 use Rattle.tv_doc.specs.declared.add_error.AddError.TheVariants as adds
 use Rattle.tv_reader.specs.declared.error.DeserializeError.{DeserializeError}
@@ -7,6 +6,5 @@ use Rattle.tv_reader.specs.declared.error.DeserializeError.TheVariants as errors
 pub use Rattle.tv_writer.specs.Error.{write_error, Unwritten, write_stop, Writes, IsIo}
 
 abbrev pub add_error : AddError → DeserializeError
-add_error (adds.FieldNumber n) = errors.CorruptedValue (causes.FieldNumber n)
 add_error adds.HeapFull = errors.HeapFull
 add_error adds.Memory = errors.Memory

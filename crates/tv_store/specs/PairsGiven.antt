@@ -1,6 +1,5 @@
 -- Documents that are read of the pairs that something gives.
-use Rattle.std.specs.Prelude.{◌≡◌, ◌<◌, ℕ, List, [], ◌∷◌, ◌++◌}
-use Rattle.tv_base.specs.declared.cause.Cause.TheVariants.{FieldNumber}
+use Rattle.std.specs.Prelude.{◌≡◌, ◌<◌, ℕ, List, [], ◌∷◌}
 use Rattle.tv_base.specs.Stop.{Stop}
 use Rattle.tv_base.specs.Stop.Stop.{Short}
 use Rattle.tv_heap.specs.Room.{document_room}
@@ -22,10 +21,8 @@ abbrev pub document_stop : DeserializeError → Stop DeserializeError
 document_stop errors.HeapFull = Short
 document_stop e = typed_stop e
 
--- No document is read: some pairs are given, and the next is refused, or has a field above 65535, or no room beside them in a heap. Or
--- memory was refused.
+-- No document is read: some pairs are given, and the next is refused, or has no room beside them in a heap. Or memory was refused.
 pub data PairsRefused {D : Type 0} (gives : D → ℕ × Tree → D → Type 0) (refuses : D → (Version → ValueType → List ℕ → DeserializeError → Type 0) → DeserializeError → Type 0) (first : D) : DeserializeError → Type 0 where
   in_next : {e : DeserializeError} (pairs : Document) (last : D) → GivesAll gives first pairs last → refuses last TreeRefused e → PairsRefused gives refuses first e
-  large_field : (pairs : Document) (last : D) (field : ℕ) (t : Tree) → GivesAll gives first (pairs ++ (field, t) ∷ []) last → 65535 < field → PairsRefused gives refuses first (errors.CorruptedValue (FieldNumber field))
   no_room : (pairs : Document) (last : D) → GivesAll gives first pairs last → 4294967295 < document_room pairs → PairsRefused gives refuses first errors.HeapFull
   no_memory : PairsRefused gives refuses first errors.Memory

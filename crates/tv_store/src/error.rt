@@ -3,7 +3,6 @@
 ghost use Rattle.std.specs.Prelude.{◌≡◌};
 ghost use Rattle.tv_store.specs.Error.{add_error};
 
-use tv_base::Cause;
 use tv_doc::add_error::AddError;
 pub use tv_reader::error::{DeserializeError, ValueType};
 pub use tv_writer::error::SerializeError;
@@ -13,7 +12,6 @@ pub(crate) fn addition_error(error: AddError) -> DeserializeError
     ensures { result ≡ add_error error }
 {
     match error {
-        AddError::FieldNumber(field) => DeserializeError::CorruptedValue(Cause::FieldNumber(field)),
         AddError::HeapFull => DeserializeError::HeapFull,
         AddError::Memory => DeserializeError::Memory,
     }

@@ -59,8 +59,8 @@ impl DocumentDeserialize for CompactDoc {
 
     /// Reads the pairs, each value first into one that owns what it holds, up to the last.
     ///
-    /// Errors: those of `next_field`, `CorruptedValue` with `FieldNumber` where a field above 65535 is given, `HeapFull` where the
-    /// pairs so far need more room than 4294967295 bytes, and `Memory`. Each is marked in what the pairs are read from.
+    /// Errors: those of `next_field`, `HeapFull` where the pairs so far need more room than 4294967295 bytes, and `Memory`. Each is
+    /// marked in what the pairs are read from.
     fn deserialize<D: DocumentDeserializer>(
         alloc: Global,
         deserializer: &mut D,

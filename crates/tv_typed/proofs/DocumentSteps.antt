@@ -1,8 +1,10 @@
 -- Pairs of a document by their parts.
 use Rattle.std.proofs.Common.{◌≡◌, ℕ, ◌<◌, true, false, List, Result, Ok, Err, refl, sym, subst, ◌∙◌, inl, inr}
 use Rattle.std.specs.Prelude.{is_err, IsErrOf}
+use Rattle.tv_base.specs.ErrorInPart.{ErrorInBytes}
+use Rattle.tv_base.specs.Number.{Fixed}
 use Rattle.tv_base.specs.Source.{AllBytes, Failures}
-use Rattle.tv_format.specs.InputError.{Corrupt, ErrorInField, SmallField}
+use Rattle.tv_format.specs.InputError.{Corrupt}
 use Rattle.tv_format.specs.Tree.{Tree}
 use Rattle.tv_format.specs.Version.{Version}
 use Rattle.tv_value.specs.declared.field.Field.{Field}
@@ -15,7 +17,7 @@ use Rattle.tv_reader.specs.declared.error.DeserializeError.TheVariants as errors
 use Rattle.tv_reader.specs.declared.value_type.ValueType.{ValueType}
 use Rattle.tv_reader.proofs.AgreeField.{field_agrees}
 use Rattle.tv_reader.proofs.Finding.{finds_as, finds_read, finds_read_fails}
-use Rattle.tv_typed.specs.Documents.{EncodesField, FieldNumberRefused, FieldRefused, GivesPair, RefusesPair}
+use Rattle.tv_typed.specs.Documents.{EncodesField, FieldEnds, FieldRefused, GivesPair, RefusesPair}
 use Rattle.tv_typed.specs.Lists.{NextItemRefused}
 use Rattle.tv_typed.specs.Typed.{Reads, Deserializes}
 use Rattle.tv_typed.specs.Values.{EncodesAs, NextRefused}
@@ -27,39 +29,39 @@ use Rattle.tv_typed.proofs.TypedSteps.{told_reads}
 -- ---- fields
 
 field_found : {S : Type 0} {is_known : S → Type 0} {left : S → List ℕ} {failures : S → Failures} {old new : S} {i k : ℕ} (result : Result ℕ DeserializeError) → ((source : S) → is_known source → AllBytes (left source))
-    → stores.TakesBy is_known left failures old i new k (λ x. x) result field_at → Finds is_known left failures old i new k result SmallField (Corrupt ErrorInField)
-field_found (Ok x) are_bytes h = finds_as x SmallField (Corrupt ErrorInField) (λ a p. p) (finds_read are_bytes field_agrees h)
-field_found (Err e) are_bytes h = finds_read_fails SmallField (Corrupt ErrorInField) are_bytes field_agrees (λ w r f. f) h
+    → stores.TakesBy is_known left failures old i new k (λ x. x) result field_at → Finds is_known left failures old i new k result (Fixed 4) (Corrupt (ErrorInBytes 4))
+field_found (Ok x) are_bytes h = finds_as x (Fixed 4) (Corrupt (ErrorInBytes 4)) (λ a p. p) (finds_read are_bytes field_agrees h)
+field_found (Err e) are_bytes h = finds_read_fails (Fixed 4) (Corrupt (ErrorInBytes 4)) are_bytes field_agrees (λ w r f. f) h
 
 pub field_reads : {S : Type 0} {is_known : S → Type 0} {left : S → List ℕ} {failures : S → Failures} {s : S} {k : ℕ} (old new : StoreReader S) (result : Result ℕ DeserializeError) → ((source : S) → is_known source → AllBytes (left source))
     → old.has_failed ≡ false → stores.TakesBy is_known left failures old.source old.count s k (λ x. x) result field_at → (IsErrOf result errors.HeapFull → ⊥) → new.source ≡ s → new.count ≡ k → new.version ≡ old.version → new.has_failed ≡ is_err result
-    → Reads is_known left failures old new result SmallField FieldNumberRefused
-field_reads old new result are_bytes is_open h roomy source count version marks = told_reads old new result SmallField (Corrupt ErrorInField) is_open (field_found result are_bytes h) roomy source count version marks
+    → Reads is_known left failures old new result (Fixed 4) FieldEnds
+field_reads old new result are_bytes is_open h roomy source count version marks = told_reads old new result (Fixed 4) (Corrupt (ErrorInBytes 4)) is_open (field_found result are_bytes h) roomy source count version marks
 
 -- ---- pairs
 
 pub pair_found : {S X : Type 0} {is_known : S → Type 0} {left : S → List ℕ} {failures : S → Failures} {old mid new : StoreReader S} {n : ℕ} {value : X} (is : Tree → X → Type 0) (refused : Version → ValueType → List ℕ → DeserializeError → Type 0) (field : Field) → field.id ≡ n
-    → Reads is_known left failures old mid (Ok n) SmallField FieldNumberRefused → Deserializes is_known left failures mid new (Ok value) (EncodesAs is (version_of mid.version)) (NextRefused refused (version_of mid.version))
+    → Reads is_known left failures old mid (Ok n) (Fixed 4) FieldEnds → Deserializes is_known left failures mid new (Ok value) (EncodesAs is (version_of mid.version)) (NextRefused refused (version_of mid.version))
     → Deserializes is_known left failures old new (Ok (field, value)) (EncodesField is (version_of old.version)) (FieldRefused refused (version_of old.version))
 pair_found {old = old} {value = value} is refused field same p h =
     let v = version_of old.version in
     goes_as (field, value) (EncodesField is v) (FieldRefused refused v) (λ a s. s)
-    (goes_then (λ b x. EncodesField is v b (field, x)) (λ w r. Unit {0}) (λ a b x r s. record { prefix = a; rest = b; joined = refl; first = subst (SmallField a) (sym same) r; second = s }) (λ a w c r f. tt) (λ a f r _ _ start byte last. tt)
-    (deserializes SmallField (λ b x q. q) p) (at_version (EncodesAs is) (NextRefused refused) old.version p.same_version h))
+    (goes_then (λ b x. EncodesField is v b (field, x)) (λ w r. Unit {0}) (λ a b x r s. record { prefix = a; rest = b; joined = refl; first = subst (Fixed 4 a) (sym same) r; second = s }) (λ a w c r f. tt) (λ a f r _ _ start byte last. tt)
+    (deserializes (Fixed 4) (λ b x q. q) p) (at_version (EncodesAs is) (NextRefused refused) old.version p.same_version h))
 
 pub pair_field_fails : {S X : Type 0} {is_known : S → Type 0} {left : S → List ℕ} {failures : S → Failures} {old new : StoreReader S} {e : DeserializeError} (is : Tree → X → Type 0) (refused : Version → ValueType → List ℕ → DeserializeError → Type 0) (v : Version)
-    → Reads {X = ℕ} is_known left failures old new (Err e) SmallField FieldNumberRefused → Deserializes {X = Field × X} is_known left failures old new (Err e) (EncodesField is v) (FieldRefused refused v)
-pair_field_fails is refused v p = goes_fails (EncodesField is v) (FieldRefused refused v) (λ w c f. inl f) (deserializes SmallField (λ b x q. q) p)
+    → Reads {X = ℕ} is_known left failures old new (Err e) (Fixed 4) FieldEnds → Deserializes {X = Field × X} is_known left failures old new (Err e) (EncodesField is v) (FieldRefused refused v)
+pair_field_fails is refused v p = goes_fails (EncodesField is v) (FieldRefused refused v) (λ w c f. inl f) (deserializes (Fixed 4) (λ b x q. q) p)
 
 pub pair_value_fails : {S X : Type 0} {is_known : S → Type 0} {left : S → List ℕ} {failures : S → Failures} {old mid new : StoreReader S} {n : ℕ} {e : DeserializeError} (is : Tree → X → Type 0) (refused : Version → ValueType → List ℕ → DeserializeError → Type 0)
-    → Reads is_known left failures old mid (Ok n) SmallField FieldNumberRefused → Deserializes {X = X} is_known left failures mid new (Err e) (EncodesAs is (version_of mid.version)) (NextRefused refused (version_of mid.version))
+    → Reads is_known left failures old mid (Ok n) (Fixed 4) FieldEnds → Deserializes {X = X} is_known left failures mid new (Err e) (EncodesAs is (version_of mid.version)) (NextRefused refused (version_of mid.version))
     → Deserializes {X = Field × X} is_known left failures old new (Err e) (EncodesField is (version_of old.version)) (FieldRefused refused (version_of old.version))
 pair_value_fails {old = old} {n = n} is refused p h =
     let v = version_of old.version in
     goes_then (EncodesField is v) (FieldRefused refused v) (λ a b x r s. absurd s)
     (λ a w c r f. inr (n, record { prefix = a; rest = w; joined = refl; first = r; second = f }))
     (λ a f r other nothing start byte last. absurd (other (next_ended refused v f nothing)))
-    (deserializes SmallField (λ b x q. q) p) (goes_fails (λ b z. ⊥) (NextRefused refused v) (λ w c f. f) (at_version (EncodesAs is) (NextRefused refused) old.version p.same_version h))
+    (deserializes (Fixed 4) (λ b x q. q) p) (goes_fails (λ b z. ⊥) (NextRefused refused v) (λ w c f. f) (at_version (EncodesAs is) (NextRefused refused) old.version p.same_version h))
 
 -- ---- what gives pairs
 
@@ -75,7 +77,7 @@ pair_given is is_open h told =
           was_open = is_open;
           is_open = h.unmarked;
           same_version = h.same_version;
-          encodes = record { prefix = b.prefix; joined = b.joined; encoded = record { small = s.first.1; parts = record { prefix = s.prefix; rest = s.rest; joined = s.joined; first = s.first.0; second = s.second.1 } } };
+          encodes = record { prefix = b.prefix; joined = b.joined; encoded = record { prefix = s.prefix; rest = s.rest; joined = s.joined; first = s.first; second = s.second.1 } };
         },
         s.second.2,
       ),

@@ -3,9 +3,10 @@ use Rattle.std.specs.Prelude.{◌≡◌, ℕ, suc, false, List, [], ◌∷◌, O
 use Rattle.tv_base.specs.declared.cause.Cause.{Cause}
 use Rattle.tv_base.specs.Parts.{Begins, Then}
 use Rattle.tv_base.specs.Source.{Failures}
-use Rattle.tv_base.specs.ErrorInPart.{InThen, ErrorInNumber}
+use Rattle.tv_base.specs.ErrorInPart.{InThen, ErrorInNumber, ErrorInBytes}
+use Rattle.tv_base.specs.Number.{Fixed}
 use Rattle.tv_legacy.specs.Legacy.{Legacy}
-use Rattle.tv_format.specs.InputError.{Corrupt, ErrorInField, SmallField}
+use Rattle.tv_format.specs.InputError.{Corrupt}
 use Rattle.tv_format.specs.Encoding.{EncodesPair}
 use Rattle.tv_format.specs.Tree.{Tree, Document}
 use Rattle.tv_format.specs.Version.{Version}
@@ -23,19 +24,19 @@ use Rattle.tv_typed.specs.declared.store_reader.StoreReader.{StoreReader}
 
 -- a field, and then a value
 abbrev pub EncodesField : {X : Type 0} → (Tree → X → Type 0) → Version → List ℕ → Field × X → Type 0
-EncodesField is v b p = Then (λ w. SmallField w p.0.id) (λ w. EncodesAs is v w p.1) b
+EncodesField is v b p = Then (λ w. Fixed 4 w p.0.id) (λ w. EncodesAs is v w p.1) b
 
 -- the number of pairs is malformed
 pub data NumberRefused (whole : List ℕ) : DeserializeError → Type 0 where
   in_pair_count : {c : Cause} → ErrorInNumber whole c → NumberRefused whole (errors.CorruptedValue c)
 
--- a field
-abbrev pub FieldNumberRefused : List ℕ → DeserializeError → Type 0
-FieldNumberRefused = GivesError (Corrupt ErrorInField)
+-- the field ends within its four bytes
+abbrev pub FieldEnds : List ℕ → DeserializeError → Type 0
+FieldEnds = GivesError (Corrupt (ErrorInBytes 4))
 
 -- a field, or the value behind it
 abbrev pub FieldRefused : (Version → ValueType → List ℕ → DeserializeError → Type 0) → Version → List ℕ → DeserializeError → Type 0
-FieldRefused refused v = InThen FieldNumberRefused SmallField (λ _. NextRefused refused v)
+FieldRefused refused v = InThen FieldEnds (Fixed 4) (λ _. NextRefused refused v)
 
 -- ---- what gives pairs
 

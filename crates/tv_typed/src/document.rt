@@ -3,18 +3,17 @@
 ghost use Rattle.std.specs.Prelude.{◌≡◌, ◌+◌, ◌-◌, List, ℕ, Bool, false, true, Ok, Err, OnErr};
 ghost use Rattle.std.specs.Prelude.{is_err, IfOk, IfErr, IsErrOf, if◌then◌else◌};
 ghost use Rattle.std.specs.Borrow.{sem, RestsIfErr};
-ghost use Rattle.tv_base.specs.Number.{VNum};
+ghost use Rattle.tv_base.specs.Number.{Fixed, VNum};
 ghost use Rattle.tv_base.specs.Source.{Failures};
 ghost use Rattle.tv_base.specs.Stop.{Counts};
 ghost use Rattle.tv_reader.specs.Version.{version_of};
 ghost use Rattle.tv_reader.specs.declared.error.DeserializeError.{DeserializeError};
 ghost use Rattle.tv_reader.specs.declared.error.DeserializeError.TheVariants as errors;
 ghost use Rattle.tv_reader.specs.declared.value_type.ValueType.{ValueType};
-ghost use Rattle.tv_format.specs.InputError.{SmallField};
 ghost use Rattle.tv_format.specs.Tree.{Tree};
 ghost use Rattle.tv_format.specs.Version.{Version};
 ghost use Rattle.tv_typed.specs.Documents.{NextField, GivesPair, RefusesPair, EncodesField};
-ghost use Rattle.tv_typed.specs.Documents.{FieldRefused, FieldNumberRefused, NumberRefused};
+ghost use Rattle.tv_typed.specs.Documents.{FieldEnds, FieldRefused, NumberRefused};
 ghost use Rattle.tv_typed.specs.Lists.{NextItem, NextItemRefused, gives_some};
 ghost use Rattle.tv_typed.specs.Typed.{typed_stop, Reads, Deserializes};
 ghost use Rattle.tv_typed.specs.contracts.store_reader.StoreReader.{the_row};
@@ -95,8 +94,8 @@ impl<S: ByteSource> StoreReader<S> {
 
     // Takes the field of a pair.
     pub(crate) fn field(&mut self) -> Result<u32, DeserializeError>
-        ensures reads { Reads S.is_known S.left S.failures self.old self.new result SmallField
-            FieldNumberRefused }
+        ensures reads { Reads S.is_known S.left S.failures self.old self.new result (Fixed 4)
+            FieldEnds }
         ensures spares { ¬ IsErrOf result errors.Memory }
     {
         self.go_on()?;
@@ -180,8 +179,7 @@ impl<'de, S: ByteSource> DocumentDeserializer for BinaryDocumentDeserializer<'de
 
     /// Reads the next pair, its value as one of this type. None where as many were read as are announced.
     ///
-    /// Errors: `CorruptedValue` where the field is malformed, with `FieldNumber` where it is above 65535, and those of
-    /// `StoreReader::read`. Each is marked in the reader, and the place in the document stays.
+    /// Errors: `CorruptedValue(UnexpectedEnd)` where the field ends within its four bytes, and those of `StoreReader::read`. Each is marked in the reader, and the place in the document stays.
     fn next_field<V: ValueDeserialize>(
         &mut self,
         alloc: Global,

@@ -32,5 +32,5 @@ returns-clause-errors c =
     let schema = c.args.schema.now in
     let d = document_of c.args.document.now in
     not_made _ c.convert_named_doc.result (λ e stops.
-    convert_error _ d e (c.documents_are_valid.ensures c.args.document.now) (names_keep_some schema d _ (λ number entry at. c.names_are_of_one_field.ensures.found schema number entry c.num_fields-names_are_distinct.ensures.schema at) (λ name number at. c.names_are_of_one_field.ensures.named schema name number at) c.in_ok-named.ensures) stops)
+    convert_error _ d e (names_keep_some schema d _ (λ number entry at. c.names_are_of_one_field.ensures.found schema number entry c.num_fields-names_are_distinct.ensures.schema at) (λ name number at. c.names_are_of_one_field.ensures.named schema name number at) c.in_ok-named.ensures) stops)
     c.convert_named_doc.ensures.makes

@@ -1,7 +1,7 @@
 use Rattle.std.proofs.Common.{Ok, refl, sym, ◌∙◌, subst}
 use Rattle.tv_doc.specs.Builder.{Finishes, state_of}
 use Rattle.tv_decoder.proofs.Building.{finished}
-use Rattle.tv_decoder.proofs.Putting.{closed, stays, small_field, finish_awaited}
+use Rattle.tv_decoder.proofs.Putting.{closed, stays, finish_awaited}
 use Rattle.tv_decoder.proofs.reading.Reading.close_pair.Goals as goal
 
 pub returns-in_default : goal.returns-in_default
@@ -11,6 +11,5 @@ pub returns-in-Ok-clause-puts : goal.returns-in-Ok-clause-puts
 returns-in-Ok-clause-puts c =
     let r = c.args.self.now in
     let whole = finish_awaited (state_of r.builder) (sym c.awaits.ensures ∙ c.in-Finish.is) in
-    let small = small_field r c.in-Some-Some.field c.requires c.in-Some-Some.is-0 in
     let called = subst (λ z. Finishes r.builder c.finish.new.self z (Ok c.in-Ok.field-0)) c.from_field_id.ensures c.in-Ok.ensures in
-    closed r _ c.in-Some-Some.field c.requires c.in-Some-Some.is-0 (finished r.builder c.finish.new.self c.in-Some-Some.field (Ok c.in-Ok.field-0) c.requires.live whole small called) refl refl refl
+    closed r _ c.in-Some-Some.field c.requires c.in-Some-Some.is-0 (finished r.builder c.finish.new.self c.in-Some-Some.field (Ok c.in-Ok.field-0) c.requires.live whole called) refl refl refl

@@ -23,9 +23,9 @@ returns-clause-finds g c = λ v.
     let old = c.args.self.now in
     let f = c.in_ok-field.field in
     finds_as tt (λ b _. Stepped v false old _ b) (NoPrefix v old)
-    (λ a h. stepped v false old _ (field f ∷ []) a (field_put old _ f c.requires.sound c.requires.none c.requires.lacks h.1 refl refl refl refl) (omega (arith, length-fixed h.0)) (inl (omega (arith, length-fixed h.0)))
-    (one_part Legacy v a (field f) h.0) (λ _. one_part NoLegacy v a (field f) h.0))
+    (λ a h. stepped v false old _ (field f ∷ []) a (field_put old _ f c.requires.sound c.requires.none c.requires.lacks refl refl refl refl) (omega (arith, length-fixed h)) (inl (omega (arith, length-fixed h)))
+    (one_part Legacy v a (field f) h) (λ _. one_part NoLegacy v a (field f) h))
     (finds_read g.met.S.ByteSource.are_bytes field_agrees c.in_ok-field.ensures.takes)
 
 pub returns-clause-sound : goal.returns-clause-sound
-returns-clause-sound g c = (field_put c.args.self.now _ c.in_ok-field.field c.requires.sound c.requires.none c.requires.lacks c.in_ok-field.ensures.small refl refl refl refl).sound
+returns-clause-sound g c = (field_put c.args.self.now _ c.in_ok-field.field c.requires.sound c.requires.none c.requires.lacks refl refl refl refl).sound

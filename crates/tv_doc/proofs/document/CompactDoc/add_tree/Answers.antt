@@ -8,15 +8,15 @@ pub invariant_of-self : goal.invariant_of-self
 invariant_of-self g c =
     let old = c.args.self.now in
     let len : c.len-len.result ≡ length (heap_of old) = omega (arith, c.len-len.ensures, old.node_data.ok.0) in
-    let wrote : Writing old c.write_tree-written.new.heap.items c.len-len.result c.in_ok-small.small c.args.field.id (nested_tree g.N.Nested.array_rest g.N.Nested.object_rest c.args.value) c.write_tree-written.result = record {
+    let wrote : Writing old c.write_tree-written.new.heap.items c.len-len.result c.field_id-number.result c.args.field.id (nested_tree g.N.Nested.array_rest g.N.Nested.object_rest c.args.value) c.write_tree-written.result = record {
       len_is = len;
-      small_is = c.in_ok-small.ensures.small.0;
-      field_fits = c.in_ok-small.ensures.small.1;
-      tree_fits = room_fits c.args.room_found _ _ _ len c.requires c.in_ok-small.ensures.fits;
+      number_is = c.field_id-number.ensures;
+      field_fits = omega arith;
+      tree_fits = room_fits c.args.room_found _ _ _ len c.requires c.in_ok-admit.ensures.fits;
       wrote = c.write_tree-written.ensures.ok;
       prefix = c.write_tree-written.ensures.err;
     } in
-    let keeping : Keeping old c.write_tree-written.new.heap.items c.keep_pair.new.heap.items c.keep_pair.new.pairs.items c.len-len.result c.in_ok-small.small c.write_tree-written.result c.keep_pair.result = record { pair = c.keep_pair.ensures.pair; same_heap = c.keep_pair.ensures.heap; same_pairs = c.keep_pair.ensures.same_pairs; cut = c.keep_pair.ensures.cut; memory = c.keep_pair.ensures.memory } in
+    let keeping : Keeping old c.write_tree-written.new.heap.items c.keep_pair.new.heap.items c.keep_pair.new.pairs.items c.len-len.result c.field_id-number.result c.write_tree-written.result c.keep_pair.result = record { pair = c.keep_pair.ensures.pair; same_heap = c.keep_pair.ensures.heap; same_pairs = c.keep_pair.ensures.same_pairs; cut = c.keep_pair.ensures.cut; memory = c.keep_pair.ensures.memory } in
     let fields = kept_fields old _ _ _ _ _ _ _ _ _ wrote keeping in
     record { document = fields.document; room = fields.room; weight = fields.weight; fits = fields.fits }
 
@@ -24,13 +24,13 @@ pub returns : goal.returns
 returns g c =
     let old = c.args.self.now in
     let len : c.len-len.result ≡ length (heap_of old) = omega (arith, c.len-len.ensures, old.node_data.ok.0) in
-    let wrote : Writing old c.write_tree-written.new.heap.items c.len-len.result c.in_ok-small.small c.args.field.id (nested_tree g.N.Nested.array_rest g.N.Nested.object_rest c.args.value) c.write_tree-written.result = record {
+    let wrote : Writing old c.write_tree-written.new.heap.items c.len-len.result c.field_id-number.result c.args.field.id (nested_tree g.N.Nested.array_rest g.N.Nested.object_rest c.args.value) c.write_tree-written.result = record {
       len_is = len;
-      small_is = c.in_ok-small.ensures.small.0;
-      field_fits = c.in_ok-small.ensures.small.1;
-      tree_fits = room_fits c.args.room_found _ _ _ len c.requires c.in_ok-small.ensures.fits;
+      number_is = c.field_id-number.ensures;
+      field_fits = omega arith;
+      tree_fits = room_fits c.args.room_found _ _ _ len c.requires c.in_ok-admit.ensures.fits;
       wrote = c.write_tree-written.ensures.ok;
       prefix = c.write_tree-written.ensures.err;
     } in
-    let keeping : Keeping old c.write_tree-written.new.heap.items c.keep_pair.new.heap.items c.keep_pair.new.pairs.items c.len-len.result c.in_ok-small.small c.write_tree-written.result c.keep_pair.result = record { pair = c.keep_pair.ensures.pair; same_heap = c.keep_pair.ensures.heap; same_pairs = c.keep_pair.ensures.same_pairs; cut = c.keep_pair.ensures.cut; memory = c.keep_pair.ensures.memory } in
+    let keeping : Keeping old c.write_tree-written.new.heap.items c.keep_pair.new.heap.items c.keep_pair.new.pairs.items c.len-len.result c.field_id-number.result c.write_tree-written.result c.keep_pair.result = record { pair = c.keep_pair.ensures.pair; same_heap = c.keep_pair.ensures.heap; same_pairs = c.keep_pair.ensures.same_pairs; cut = c.keep_pair.ensures.cut; memory = c.keep_pair.ensures.memory } in
     kept_adds old _ _ _ _ _ _ _ _ wrote keeping

@@ -29,27 +29,27 @@ invariant_of-self-2 c =
     let tree = whole_tree (data_of c.args.json.now) in
     let place = c.in-Some.place in
     let len : c.len-len.result ≡ length (heap_of old) = omega (arith, c.len-len.ensures, old.node_data.ok.0) in
-    let put : PairPut old mid c.len-len.result c.in-Ok.small tree place = record { len_is = len; small_fits = omega arith; put = c.in-Some.ensures.found } in
-    let keeping : Keeping old mid c.keep_pair.new.heap.items c.keep_pair.new.pairs.items c.len-len.result c.in-Ok.small (Ok (place.value_type, place.address)) c.keep_pair.result =
+    let put : PairPut old mid c.len-len.result c.field_id-number.result tree place = record { len_is = len; number_fits = omega arith; put = c.in-Some.ensures.found } in
+    let keeping : Keeping old mid c.keep_pair.new.heap.items c.keep_pair.new.pairs.items c.len-len.result c.field_id-number.result (Ok (place.value_type, place.address)) c.keep_pair.result =
     record { pair = c.keep_pair.ensures.pair; same_heap = c.keep_pair.ensures.heap; same_pairs = c.keep_pair.ensures.same_pairs; cut = c.keep_pair.ensures.cut; memory = c.keep_pair.ensures.memory } in
     let fields = pair_fields old _ _ _ _ _ _ _ _ put keeping in
     record { document = fields.document; room = fields.room; weight = fields.weight; fits = fields.fits }
 
-pub returns-in-Ok-keep_pair-clause-added : goal.returns-in-Ok-keep_pair-clause-added
-returns-in-Ok-keep_pair-clause-added c =
+pub returns-in-Ok-clause-added : goal.returns-in-Ok-clause-added
+returns-in-Ok-clause-added c =
     let old = c.args.self.now in
     let mid = c.put_json.new.heap.items in
     let tree = whole_tree (data_of c.args.json.now) in
     let place = c.in-Some.place in
     let len : c.len-len.result ≡ length (heap_of old) = omega (arith, c.len-len.ensures, old.node_data.ok.0) in
-    let k = c.in-Ok-keep_pair.ensures in
-    let small : c.in-Ok.small ≡ c.args.field.id = c.in-Ok.ensures.1 ∙ c.field_id.ensures in
-    let put : PairPut old mid c.len-len.result c.in-Ok.small tree place = record { len_is = len; small_fits = omega arith; put = c.in-Some.ensures.found } in
-    let keeping : Keeping old mid c.keep_pair.new.heap.items c.keep_pair.new.pairs.items c.len-len.result c.in-Ok.small (Ok (place.value_type, place.address)) (Ok c.in-Ok-keep_pair.field-0) =
+    let k = c.in-Ok.ensures in
+    let same : c.field_id-number.result ≡ c.args.field.id = c.field_id-number.ensures in
+    let put : PairPut old mid c.len-len.result c.field_id-number.result tree place = record { len_is = len; number_fits = omega arith; put = c.in-Some.ensures.found } in
+    let keeping : Keeping old mid c.keep_pair.new.heap.items c.keep_pair.new.pairs.items c.len-len.result c.field_id-number.result (Ok (place.value_type, place.address)) (Ok c.in-Ok.field-0) =
     record { pair = k.pair; same_heap = k.heap; same_pairs = k.same_pairs; cut = k.cut; memory = k.memory } in
     let fits : length (heap_of old) + room tree ≤ 4294967295 =
     omega (arith, c.if-written_len-len.false, whole_room (heap_of old) (data_of c.args.json.now), ap length c.in-Some.ensures.found.heap, c.len.ensures, c.put_json.new.heap.ok.0, len, old.fits) in
-    put_tree old _ _ _ _ _ _ _ _ small fits put keeping
+    put_tree old _ _ _ _ _ _ _ _ same fits put keeping
 
 pub returns-clause-none : goal.returns-clause-none
 returns-clause-none c =
@@ -59,8 +59,8 @@ returns-clause-none c =
     let place = c.in-Some.place in
     let len : c.len-len.result ≡ length (heap_of old) = omega (arith, c.len-len.ensures, old.node_data.ok.0) in
     let k = c.in-Err.ensures in
-    let put : PairPut old mid c.len-len.result c.in-Ok.small tree place = record { len_is = len; small_fits = omega arith; put = c.in-Some.ensures.found } in
-    let keeping : Keeping old mid c.keep_pair.new.heap.items c.keep_pair.new.pairs.items c.len-len.result c.in-Ok.small (Ok (place.value_type, place.address)) (Err c.in-Err.field-0) =
+    let put : PairPut old mid c.len-len.result c.field_id-number.result tree place = record { len_is = len; number_fits = omega arith; put = c.in-Some.ensures.found } in
+    let keeping : Keeping old mid c.keep_pair.new.heap.items c.keep_pair.new.pairs.items c.len-len.result c.field_id-number.result (Ok (place.value_type, place.address)) (Err c.in-Err.field-0) =
     record { pair = k.pair; same_heap = k.heap; same_pairs = k.same_pairs; cut = k.cut; memory = k.memory } in
     pair_refused old _ _ _ _ _ _ _ put keeping
 

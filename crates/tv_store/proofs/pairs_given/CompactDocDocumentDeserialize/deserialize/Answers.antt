@@ -70,7 +70,7 @@ loop-document-preserved g c =
           let next = (given_next D.remaining D.is_known D.gives IsTree l.deserializer c.next_field.new.self _ c.in-Some.field c.in-Some.value c.in-Some.is f.gives).1 so_far.0 in
           let given = subst (λ t. D.gives l.deserializer (c.in-Some.field.id, t) c.next_field.new.self) next.1.2 next.1.1 in (
             next.0,
-            subst (λ pairs. GivesAll D.gives first pairs c.next_field.new.self) (sym c.in_default-add_value.ensures.2.document)
+            subst (λ pairs. GivesAll D.gives first pairs c.next_field.new.self) (sym c.in_default-add_value.ensures.1.document)
                 (gives_push D.gives first l.deserializer c.next_field.new.self (document_of l.document) (c.in-Some.field.id, owned_tree c.in-Some.value) so_far.1 given),
           )),
       f.marks ∙ sym is_open ∙ l.invariant.1,
