@@ -206,7 +206,7 @@ module _ (v : Version) where
   pairs_paid : (d : Document) (b : List ℕ) → Encoded NoLegacy v b (pairs_parts d) → document_weight d ≤ 7 * length b
   pairs_paid [] b h = omega arith
   pairs_paid (p ∷ d) b h =
-      let x = h.first.parts in
+      let x = h.first in
       omega (
         arith,
         value_paid p.1 x.rest x.second,

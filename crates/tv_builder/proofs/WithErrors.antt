@@ -4,9 +4,9 @@ use Rattle.std.proofs.lemmas.List.{append-nil}
 use Rattle.tv_base.specs.declared.cause.Cause.{Cause}
 use Rattle.tv_base.specs.declared.cause.Cause.TheVariants.{NotUtf8, UnexpectedEnd}
 use Rattle.tv_base.specs.Number.{VNum}
-use Rattle.tv_base.specs.ErrorInPart.{InEach, ErrorInText, ErrorInSized, bytes_end, in_sized, no_text}
+use Rattle.tv_base.specs.ErrorInPart.{InEach, ErrorInBytes, ErrorInText, ErrorInSized, bytes_end, in_sized, no_text}
 use Rattle.tv_base.specs.Parts.{Then, Each}
-use Rattle.tv_format.specs.InputError.{Refusal, corrupted, corrupt, ErrorInKey, in_key, ErrorInField, ErrorInValue, in_leaf, in_element, in_entry_key, in_entry, ErrorInPair, ErrorInDocument}
+use Rattle.tv_format.specs.InputError.{Refusal, corrupted, corrupt, ErrorInKey, in_key, ErrorInValue, in_leaf, in_element, in_entry_key, in_entry, ErrorInPair, ErrorInDocument}
 use Rattle.tv_format.specs.Encoding.{Key, EncodesElements, EncodesEntries, EncodesPair}
 use Rattle.tv_format.specs.Tree.{Tree, elements, element_count, entries, entry_count, Entries, Document}
 use Rattle.tv_format.specs.Version.{Version, V1, V2, V3}
@@ -162,7 +162,7 @@ module _ (Legacy : List ℕ → Entries → Type 0) (L : List ℕ → Cause → 
 
   -- ---- by what is awaited
 
-  pub field_errors : (n : ℕ) (d : Document) (rest : List ℕ) (c : Cause) → length d < n → ErrorInField rest c → ErrorsBehind Legacy L v (document_parts n d) rest (corrupted c)
+  pub field_errors : (n : ℕ) (d : Document) (rest : List ℕ) (c : Cause) → length d < n → ErrorInBytes 4 rest c → ErrorsBehind Legacy L v (document_parts n d) rest (corrupted c)
   field_errors n d rest c less h = λ bytes p. document_error n d bytes rest (corrupted c) less p (inl (corrupt h))
 
   pub value_errors : (n : ℕ) (d : Document) (f : ℕ) (ls : List OpenList) (rest : List ℕ) (r : Refusal) → length d < n → AreLists ls → AllAwait ls → VF rest r
