@@ -16,10 +16,10 @@ AllBelow k = AllByRecursion (λ m. slice_cmp nat_cmp k m.0.now ≡ Greater)
 abbrev pub RisesTo : Option (Bor (List ℕ)) → List Entry → Type 0
 RisesTo last prefix = (k : List ℕ) → IfSome last (λ l. slice_cmp nat_cmp l.now k ≡ Less) → AllBelow k prefix
 
-turned : (k l : List ℕ) → slice_cmp nat_cmp k l ≡ Less → slice_cmp nat_cmp l k ≡ Greater
+pub turned : (k l : List ℕ) → slice_cmp nat_cmp k l ≡ Less → slice_cmp nat_cmp l k ≡ Greater
 turned k l h = nat_list_cmp_total.antisymm l k ∙ ap ordering_reverse h
 
-turned_back : (k l : List ℕ) → slice_cmp nat_cmp k l ≡ Greater → slice_cmp nat_cmp l k ≡ Less
+pub turned_back : (k l : List ℕ) → slice_cmp nat_cmp k l ≡ Greater → slice_cmp nat_cmp l k ≡ Less
 turned_back k l h = nat_list_cmp_total.antisymm l k ∙ ap ordering_reverse h
 
 all_below_higher : (low high : List ℕ) (prefix : List Entry) → slice_cmp nat_cmp low high ≡ Less → AllBelow low prefix → AllBelow high prefix

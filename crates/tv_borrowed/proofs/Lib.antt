@@ -1,6 +1,7 @@
 pub mod Levels
 mod Places
 mod Copies
+mod Rising
 mod Turns
 mod WholeNumbers
 pub mod NoFloats

@@ -1,1 +1,2 @@
 pub mod BorrowedData
+pub mod Rising

@@ -16,13 +16,10 @@ use std::alloc::Global;
 // How deep arrays and objects nest at most, as in the JSON library's values.
 const MAX_DEPTH: usize = 127;
 
-// An object with more members isn't read: each is put in its place among those before it.
-const MAX_MEMBERS: usize = 128;
-
 /// Reads the JSON value that the text is, without copying its texts. (Not in tantivy.) The scratch is used for texts with escapes.
 ///
-/// `None` where the text is no JSON, and where a number in it isn't whole or doesn't fit 64 bits, an object has more than 128 members,
-/// arrays and objects nest deeper than 127, or memory is refused: what isn't read here may still be JSON.
+/// `None` where the text is no JSON, and where a number in it isn't whole or doesn't fit 64 bits, an object has 128 members or more before a key
+/// that isn't above all of theirs, arrays and objects nest deeper than 127, or memory is refused: what isn't read here may still be JSON.
 pub fn read_borrowed<'a>(
     alloc: Global,
     text: &'a str,
@@ -98,9 +95,6 @@ fn read_members<'a>(alloc: Global, reader: &mut Reader<'a>, depth: usize) -> Opt
 {
     let mut found = Vec::new(alloc);
     'members: while let Some(key) = reader.next_key().ok()? {
-        if found.len() == MAX_MEMBERS {
-            return None;
-        }
         let member = read(alloc, reader, depth)?;
         put_member(&mut found, key, member)?;
     }

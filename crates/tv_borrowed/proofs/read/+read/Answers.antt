@@ -8,6 +8,7 @@ use Rattle.serde_json.specs.Data.{item, put}
 use Rattle.serde_json.specs.Read.{of_json, converted}
 use Rattle.tv_borrowed.specs.BorrowedData.{data_of, members_data}
 use Rattle.tv_borrowed.proofs.Levels.{data_of-Null, data_of-Bool, data_of-String, data_of-Array, data_of-Object}
+use Rattle.tv_borrowed.proofs.Rising.{put_rises}
 use Rattle.tv_borrowed.proofs.Places.{items_before, items_before-none, items_before-last}
 use Rattle.tv_borrowed.proofs.Turns.{null-read, boolean-read, string-read, number-read, array-read, object-read, item-read, no_items-read, member-read, no_members-read}
 use Rattle.tv_borrowed.proofs.read.+read.Goals as goal
@@ -98,6 +99,7 @@ read_members-members-preserved t c =
     record {
       turns = n - 1;
       enough = omega (arith, l.invariant.enough);
+      rises = rw grown (put_rises k d (members_data l.found.items) l.invariant.rises);
       rest = λ ds r more.
           l.invariant.rest ds r (member-read p n (members_data l.found.items) k l.reader v s r d ds some named done.found (rw grown at more));
       less = omega (arith, l.invariant.less);

@@ -2,7 +2,7 @@ use Rattle.std.proofs.Common.{◌≡◌, take, drop}
 use Rattle.serde_json.specs.Data.{put}
 use Rattle.tv_borrowed.specs.BorrowedData.{data_of, members_data}
 use Rattle.tv_borrowed.proofs.Places.{put_before}
-use Rattle.tv_borrowed.proofs.members.put_member.Given as goal
+use Rattle.tv_borrowed.proofs.members.put_among.Given as goal
 
 -- the key belongs behind the members that were passed
 abbrev pub invariant-loop-i : goal.invariant-loop-i
