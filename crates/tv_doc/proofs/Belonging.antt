@@ -49,7 +49,7 @@ object_has schema (json.member k d ms) = both_have (length schema) _ _ (at_has s
 
 pairs_have : (schema : List Entry) (values : List FieldJson) (pairs : Document) → HaveFields (length schema) values → Pairs values pairs → Belongs schema pairs
 pairs_have schema [] pairs h made = subst (λ (d : Document). Belongs schema d) (sym made) tt
-pairs_have schema (v ∷ vs) pairs h made = subst (λ (d : Document). Belongs schema d) (sym made.4) (h.0, pairs_have schema vs made.1 h.1 made.5)
+pairs_have schema (v ∷ vs) pairs h made = subst (λ (d : Document). Belongs schema d) (sym made.3) (h.0, pairs_have schema vs made.1 h.1 made.4)
 
 pub object_belongs : (schema : List Entry) (members : Members) (pairs : Document) → Pairs (object_values schema members) pairs → Belongs schema pairs
 object_belongs schema members pairs made = pairs_have schema (object_values schema members) pairs (object_has schema members) made

@@ -14,8 +14,8 @@ invariant_of-self c =
     let fields = cut_fields old c.put_encoded.new.heap.items _ _ c.len-len.result c.put_encoded.ensures.prefix len c.truncate.ensures.items (λ i. old.pairs.items) in
     record { document = fields.document; room = fields.room; weight = fields.weight; fits = fields.fits }
 
-pub returns-in_default-put_encoded-clause-none : goal.returns-in_default-put_encoded-clause-none
-returns-in_default-put_encoded-clause-none c =
+pub returns-in_default-clause-none : goal.returns-in_default-clause-none
+returns-in_default-clause-none c =
     let old = c.args.self.now in
     let len : c.len-len.result ≡ length (heap_of old) = omega (arith, c.len-len.ensures, old.node_data.ok.0) in
     unchanged old _ (c.truncate.ensures.items ∙ restored (heap_of old) c.put_encoded.new.heap.items c.len-len.result c.put_encoded.ensures.prefix len) (λ i. old.pairs.items)
