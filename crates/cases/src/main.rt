@@ -2,11 +2,18 @@
 //! says what the call returns. The answers are compared with those that the format, the standards and the original give.
 #![tactic(auto)]
 
+mod builder;
 mod dates;
+mod documents;
 mod facets;
+mod heap;
+mod json_values;
 mod numbers;
 mod options;
+mod parts;
 mod paths;
+mod rows;
+mod schemas;
 mod terms;
 mod tokens;
 mod values;
@@ -43,6 +50,12 @@ fn answer(alloc: Global, line: &str) -> Result<String> {
         ["tokens", call @ ..] => tokens::answer(alloc, call),
         ["value", call @ ..] => values::answer(alloc, call),
         ["term", call @ ..] => terms::answer(alloc, call),
+        ["schema", call @ ..] => schemas::answer(alloc, call),
+        ["json", call @ ..] => json_values::answer(alloc, call),
+        ["document", call @ ..] => documents::answer(alloc, call),
+        ["builder", call @ ..] => builder::answer(alloc, call),
+        ["heap", call @ ..] => heap::answer(alloc, call),
+        ["row", call @ ..] => rows::answer(alloc, call),
         _ => Err(anyhow!("an unknown line: {line}")),
     }
 }

@@ -4,7 +4,7 @@ use anyhow::{Context, Result, anyhow, ensure};
 use case_words as words;
 use case_words::leaves;
 use case_words::parts::{Part, push_parts};
-use std::alloc::Global;
+use std::alloc::{AllocError, Global};
 use std::fmt::Write;
 use tv_schema::Schema;
 use tv_term::laws::{
@@ -21,7 +21,7 @@ pub fn answer(alloc: Global, call: &[&str]) -> Result<String> {
         ["searched date", field, value] => of_searched_date(alloc, field, value),
         ["json", field, path, dots, kind, value] => {
             let mut term = json_term(alloc, field, path, dots)?;
-            append(alloc, &mut term, kind, value)?;
+            append(alloc, &mut term, kind, value)??;
             shown(alloc, &term)
         }
         ["json", field, path, dots] => shown(alloc, &json_term(alloc, field, path, dots)?),
@@ -72,8 +72,8 @@ fn value_of_bytes(alloc: Global, digits: &str) -> Result<String> {
     }
 }
 
-// The term of these bytes, and the fresh term where there is none.
-fn wrapped(alloc: Global, digits: &str) -> Result<Term> {
+/// The term of these bytes, and a fresh one for the word `new`.
+pub fn wrapped(alloc: Global, digits: &str) -> Result<Term> {
     match digits {
         "new" => Ok(Term::with_capacity(alloc, 8)?),
         _ => Ok(Term::wrap(alloc, &words::bytes(alloc, digits)?)?),
@@ -102,17 +102,21 @@ fn json_term(alloc: Global, field: &str, path: &str, dots: &str) -> Result<Term>
     Ok(Term::from_field_json_path(alloc, field, path.as_str(), dots == "expanded")?)
 }
 
-// Appends a value of this kind to a term.
-fn append(alloc: Global, term: &mut Term, kind: &str, value: &str) -> Result<()> {
-    let appended = match leaves::leaf(alloc, kind, value)? {
+// Appends a value of this kind to a term, and returns what that call answers.
+fn append(
+    alloc: Global,
+    term: &mut Term,
+    kind: &str,
+    value: &str,
+) -> Result<Result<(), AllocError>> {
+    Ok(match leaves::leaf(alloc, kind, value)? {
         OwnedValue::Str(text) => term.append_type_and_str(text.as_str()),
         OwnedValue::U64(number) => term.append_type_and_fast_value(number),
         OwnedValue::I64(number) => term.append_type_and_fast_value(number),
         OwnedValue::Bool(truth) => term.append_type_and_fast_value(truth),
         OwnedValue::Date(date) => term.append_type_and_fast_value(date),
         _ => return Err(anyhow!("a value that isn't appended")),
-    };
-    Ok(appended?)
+    })
 }
 
 // The bytes of a term, its field, and the value that is read back from a copy.
@@ -130,25 +134,12 @@ fn shown(alloc: Global, term: &Term) -> Result<String> {
     Ok(answer)
 }
 
-// Checks that the parts of a term are those of its bytes, and that a copy is equal and has the same hash.
+// Checks that a copy of a term is equal and has the same hash.
 fn check_copy(alloc: Global, term: &Term) -> Result<()> {
     let copy = term.try_clone(alloc)?;
     let is_copied = copy == *term && words::hash(&copy) == words::hash(term);
-    ensure!(
-        is_copied && has_its_parts(term),
-        "a part or a copy of a term differs"
-    );
+    ensure!(is_copied, "a copy of a term differs");
     Ok(())
-}
-
-// Whether the parts of a term are those of its bytes.
-fn has_its_parts(term: &Term) -> bool {
-    let (bytes, value_bytes) = (term.serialized_term(), term.serialized_value_bytes());
-    bytes.get(4..) == Some(term.value().as_serialized())
-        && bytes.get(5..) == Some(value_bytes)
-        && value_bytes.len() == term.len_bytes()
-        && value_bytes.is_empty() == term.is_empty()
-        && term.typ() == term.value().typ()
 }
 
 // The type of a value, and the name and the answer of each reader that has one.
@@ -205,21 +196,21 @@ fn full_path(alloc: Global, schema: &str, term: &Term) -> Result<String> {
 fn edited(alloc: Global, start: &str, steps: &[&str]) -> Result<String> {
     let mut term = wrapped(alloc, start)?;
     for step in steps {
-        let step: Vec<&str> = step.split(' ').collect(alloc)?;
-        edit(alloc, &mut term, &step)?;
+        edit(alloc, &mut term, step)??;
     }
     shown(alloc, &term)
 }
 
-// Changes a term by one step.
-fn edit(alloc: Global, term: &mut Term, step: &[&str]) -> Result<()> {
-    match step {
-        ["field", field, code] => set_field(term, field, code),
-        ["set", digits] => Ok(term.set_bytes(&words::bytes(alloc, digits)?)?),
-        ["append", digits] => Ok(term.append_bytes(&words::bytes(alloc, digits)?)?),
-        ["fill", start, byte] => fill(term, words::number(start)?, words::number(byte)?),
-        ["truncate", length] => Ok(term.truncate_value_bytes(words::number(length)?)),
-        ["clear", code] => Ok(term.clear_with_type(words::type_of(code)?)),
+/// Changes a term by one step, and returns what the step's call answers.
+pub fn edit(alloc: Global, term: &mut Term, step: &str) -> Result<Result<(), AllocError>> {
+    let step: Vec<&str> = step.split(' ').collect(alloc)?;
+    match step.as_slice() {
+        ["set", digits] => Ok(term.set_bytes(&words::bytes(alloc, digits)?)),
+        ["append", digits] => Ok(term.append_bytes(&words::bytes(alloc, digits)?)),
+        ["field", field, code] => Ok(Ok(set_field(term, field, code)?)),
+        ["fill", start, byte] => Ok(Ok(fill(term, words::number(start)?, words::number(byte)?)?)),
+        ["truncate", length] => Ok(Ok(term.truncate_value_bytes(words::number(length)?))),
+        ["clear", code] => Ok(Ok(term.clear_with_type(words::type_of(code)?))),
         [kind, value] => append(alloc, term, kind, value),
         _ => Err(anyhow!("an unknown step")),
     }

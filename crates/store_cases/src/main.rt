@@ -1,8 +1,9 @@
-//! The conformance suite of the store in plain text, in the form of the program `cases`: each line of the input names a call and has
-//! its arguments, and is answered by one line that says what the call returns. The answers are compared with those that the format, the
-//! standards and the original give.
+//! The conformance suite of the store and of lines of JSON in plain text, in the form of the program `cases`: each line of the input
+//! names a call and has its arguments, and is answered by one line that says what the call returns. The answers are compared with those
+//! that the format, the standards and the original give.
 #![tactic(auto)]
 
+mod lines;
 mod over_each;
 mod reads;
 mod sources;
@@ -37,6 +38,7 @@ fn answer(alloc: Global, line: &str) -> Result<String> {
         ["steps", call @ ..] => steps::answer(alloc, call),
         ["stored", call @ ..] => stored::answer(alloc, call),
         ["typed", call @ ..] => typed::answer(alloc, call),
+        ["lines", call @ ..] => lines::answer(alloc, call),
         _ => Err(anyhow!("an unknown line: {line}")),
     }
 }

@@ -7,7 +7,7 @@ use anyhow::Result;
 use embedding::PacketSource;
 use std::alloc::Global;
 use std::io;
-use tantivy_schema::common::{ByteSource, ReadSource, SliceSource};
+use tantivy_schema::common::{ByteSource, FaultSource, ReadSource, SliceSource};
 
 // How many bytes the sources lend at once.
 const WINDOWS: [usize; 6] = [0, 1, 2, 5, 16, 64];
@@ -97,7 +97,8 @@ pub fn over_each<R: Reading>(alloc: Global, bytes: &[u8], reading: &R) -> Result
     once(alloc, answers.as_slice())
 }
 
-/// How the reading ends where a read fails, once for each byte that it may fail at. What is left is counted from that byte on.
+/// How the reading ends over a source that gives one byte at a time, where a read fails, once for each byte that it may fail at. What is
+/// left is counted from that byte on.
 pub fn where_it_fails<R: Reading>(
     alloc: Global,
     kind: io::ErrorKind,
@@ -106,11 +107,23 @@ pub fn where_it_fails<R: Reading>(
 ) -> Result<String> {
     let mut answers = Vec::new(alloc);
     for place in 0..bytes.len() {
+        let source = FaultSource::new(SliceSource::new(bytes), place as u64, kind);
+        let ending = reading.read(alloc, source)?;
+        let Ending {
+            answer,
+            counted,
+            source,
+        } = ending;
+        let failures = source.calls().saturating_sub(place as u64);
+        let rest = source.into_inner();
         let behind = bytes.len().saturating_sub(place);
-        let ending = reading.read(alloc, LimitedSource::failing(bytes, behind, kind))?;
-        let left = ending.source.rest.len().saturating_sub(behind);
+        let left = rest.rest().len().saturating_sub(behind);
+        let ending = Ending {
+            answer,
+            counted,
+            source: rest,
+        };
         let told = ending.told(alloc, place, left)?;
-        let failures = ending.source.failures;
         answers.push(format!(in alloc; "{told}, {failures} failed")?)?;
     }
     once(alloc, answers.as_slice())

@@ -36,7 +36,7 @@ impl Reading for DocumentReading<'_> {
     fn read<S: ByteSource + Drop>(&self, alloc: Global, source: S) -> Result<Ending<S>> {
         let mut source = source;
         let (document, counted) = if self.by_steps {
-            steps::document(alloc, &mut source, self.version)?
+            steps::document(alloc, &mut source, self.version)
         } else {
             (read_document(alloc, &mut source, self.version), None)
         };

@@ -24,15 +24,6 @@ fn counts(decoder: &DirectDecoder) -> DecoderCounts {
     )
 }
 
-// Whether what a decoder holds is paid for by the bytes that it read. Legacy objects may take more.
-fn is_paid(counts: DecoderCounts) -> bool {
-    let (read, heap, pending, frames, legacy_seen) = counts;
-    let is_within = heap as u64 <= read.saturating_mul(7)
-        && pending as u64 <= read
-        && (frames as u64).saturating_mul(2) <= read;
-    legacy_seen || is_within
-}
-
 // How a document was read step by step.
 #[derive(Drop)]
 struct Outcome {
@@ -44,27 +35,13 @@ struct Outcome {
     largest: u64,
     /// The most lists that were open.
     deepest: usize,
-    /// Whether each step but the last read a byte, what is held was paid for after each, and one more step changed nothing.
-    is_right: bool,
     /// The document of the finished pairs.
     document: TantivyDocument,
-}
-
-// Whether one more step returns that all is done, or that an earlier step was refused, and changes nothing.
-fn rests<S: ByteSource>(decoder: &mut DirectDecoder, source: &mut S, is_refused: bool) -> bool {
-    let before = counts(decoder);
-    let answer = decoder.step(source);
-    let is_told = match answer {
-        Ok(step) => !is_refused && step == Step::Done,
-        Err(error) => is_refused && error == DeserializeError::AlreadyFailed,
-    };
-    is_told && before == counts(decoder)
 }
 
 // Reads a document step by step.
 fn read_steps<S: ByteSource>(alloc: Global, source: &mut S, version: DocStoreVersion) -> Outcome {
     let mut decoder = DirectDecoder::new(alloc, version);
-    let mut is_right = counts(&decoder) == (0, 0, 0, 0, false);
     let mut largest = 0;
     let mut deepest = 0;
     let mut refusal = None;
@@ -74,9 +51,8 @@ fn read_steps<S: ByteSource>(alloc: Global, source: &mut S, version: DocStoreVer
         let taken = decoder.bytes_read().saturating_sub(before);
         largest = taken.max(largest);
         deepest = decoder.frames().max(deepest);
-        is_right = is_right && is_paid(counts(&decoder));
         match answer {
-            Ok(Step::More) => is_right = is_right && taken > 0,
+            Ok(Step::More) => {}
             Ok(Step::Done) => break,
             Err(error) => {
                 refusal = Some(error);
@@ -84,14 +60,11 @@ fn read_steps<S: ByteSource>(alloc: Global, source: &mut S, version: DocStoreVer
             }
         }
     }
-    let rests = rests(&mut decoder, source, refusal.is_some());
-    let counts = counts(&decoder);
     Outcome {
         refusal,
-        counts,
+        counts: counts(&decoder),
         largest,
         deepest,
-        is_right: is_right && rests,
         document: decoder.into_doc(),
     }
 }
@@ -101,23 +74,19 @@ pub fn document<S: ByteSource>(
     alloc: Global,
     source: &mut S,
     version: DocStoreVersion,
-) -> Result<(Result<TantivyDocument, DeserializeError>, Option<u64>)> {
+) -> (Result<TantivyDocument, DeserializeError>, Option<u64>) {
     let Outcome {
         refusal,
         counts,
         largest: _,
         deepest: _,
-        is_right,
         document,
     } = read_steps(alloc, source, version);
-    if !is_right {
-        return Err(anyhow!("a step breaks a rule"));
-    }
     let answer = match refusal {
         None => Ok(document),
         Some(error) => Err(error),
     };
-    Ok((answer, Some(counts.0)))
+    (answer, Some(counts.0))
 }
 
 // Tells what was counted.
@@ -130,10 +99,10 @@ impl Reading for CountsReading {
         let outcome = read_steps(alloc, &mut source, self.0);
         let (read, heap, pending, frames, _) = outcome.counts;
         let pairs = outcome.document.len();
-        let (largest, deepest, is_right) = (outcome.largest, outcome.deepest, outcome.is_right);
+        let (largest, deepest) = (outcome.largest, outcome.deepest);
         let refusal = outcome.refusal;
         let answer = format!(in alloc;
-            "refusal {refusal:?}, pairs {pairs}, heap {heap}, finished {pending}, open {frames}, largest step {largest}, most open {deepest}, right {is_right}"
+            "refusal {refusal:?}, pairs {pairs}, heap {heap}, finished {pending}, open {frames}, largest step {largest}, most open {deepest}"
         )?;
         Ok(Ending {
             answer,

@@ -33,41 +33,66 @@ pub fn answer(alloc: Global, call: &[&str]) -> Result<String> {
     }
 }
 
+// The answer where a call gives nothing, from what it gives when it is made once more. The rows' values are small, so memory was refused to the
+// first call if the second one gives something.
+fn nothing(alloc: Global, again: Option<String>) -> Result<String> {
+    match again {
+        Some(_) => Ok(String::from_str(alloc, "error Memory")?),
+        None => words::none(alloc),
+    }
+}
+
 // The heap behind which the value that bytes encode is written, its type's code and its address, and the bytes behind it.
 fn encoded(alloc: Global, before: &str, levels: u32, bytes: &[u8]) -> Result<String> {
+    match put(alloc, before, levels, bytes)? {
+        Some(answer) => Ok(answer),
+        None => nothing(alloc, put(alloc, before, levels, bytes)?),
+    }
+}
+
+// What the call for the value that bytes encode gives.
+fn put(alloc: Global, before: &str, levels: u32, bytes: &[u8]) -> Result<Option<String>> {
     let before = words::bytes(alloc, before)?;
     let mut heap = before.as_slice().to_vec(alloc)?;
     let mut places = OPEN.to_vec(alloc)?;
     if heap.len() > 4_294_967_295 {
         return Err(anyhow!("a heap is too long"));
     }
-    let version = WriteVersion::V2;
-    let put = put_encoded(bytes, version, levels, &mut heap, &mut places);
+    let put = put_encoded(bytes, WriteVersion::V2, levels, &mut heap, &mut places);
     let is_kept = heap.as_slice().starts_with(before.as_slice());
     ensure!(is_kept, "the heap has changed");
     let Some((rest, place)) = put else {
-        return words::none(alloc);
+        return Ok(None);
     };
     let placed = placed(alloc, heap.as_slice(), place, places.as_slice())?;
     let rest = hex::encode(alloc, rest)?;
-    Ok(format!(in alloc; "{placed}\t{rest}")?)
+    Ok(Some(format!(in alloc; "{placed}\t{rest}")?))
 }
 
 // The heap behind which a JSON value is written, its type's code and its address.
 fn json_value(alloc: Global, before: &str, json: &str) -> Result<String> {
+    match put_value(alloc, before, json)? {
+        Some(answer) => Ok(answer),
+        None => nothing(alloc, put_value(alloc, before, json)?),
+    }
+}
+
+// What the calls give that read a JSON value and write it behind a heap.
+fn put_value(alloc: Global, before: &str, json: &str) -> Result<Option<String>> {
     let mut heap = words::bytes(alloc, before)?;
     let mut places = OPEN.to_vec(alloc)?;
     let mut scratch = Scratch::new(alloc);
     let Some(json) = read_borrowed(alloc, json, &mut scratch) else {
-        return words::none(alloc);
+        return Ok(None);
     };
     if heap.len() > 4_294_967_295 {
         return Err(anyhow!("a heap is too long"));
     }
-    match put_json(&json, &mut heap, &mut places) {
-        Some(place) => placed(alloc, heap.as_slice(), place, places.as_slice()),
-        None => Err(anyhow!("the value was not written")),
-    }
+    let Some(place) = put_json(&json, &mut heap, &mut places) else {
+        return Ok(None);
+    };
+    let placed = placed(alloc, heap.as_slice(), place, places.as_slice())?;
+    Ok(Some(placed))
 }
 
 // A heap, and the place of a value in it. The places of open lists have to be as they were.

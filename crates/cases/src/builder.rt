@@ -95,8 +95,8 @@ fn push_state(answers: &mut String, builder: &TreeBuilder) -> Result<()> {
     Ok(())
 }
 
-// Makes a call on a tree builder.
-fn build(
+/// Makes a call on a tree builder, and returns what it answers.
+pub fn build(
     alloc: Global,
     builder: &mut TreeBuilder,
     call: &str,
@@ -157,8 +157,12 @@ fn begin(builder: &mut TreeBuilder, content: &str) -> Result<Result<(), BuildErr
     Ok(builder.begin_bytes(kind, words::number(length)?))
 }
 
-// Adds a value to a field by the call of its type.
-fn add(alloc: Global, document: &mut CompactDoc, content: &str) -> Result<Result<(), AddError>> {
+/// Adds a value to a field by the call of its type, and returns what that call answers.
+pub fn add(
+    alloc: Global,
+    document: &mut CompactDoc,
+    content: &str,
+) -> Result<Result<(), AddError>> {
     let (number, content) = words::parted(content);
     let field = words::field(number)?;
     let (kind, json) = words::parted(content);

@@ -78,8 +78,8 @@ fn described_again(alloc: Global, schema: &Schema) -> Result<String> {
     printed(alloc, schema)
 }
 
-// The JSON of a schema.
-fn printed(alloc: Global, schema: &Schema) -> Result<String> {
+/// The JSON of a schema.
+pub fn printed(alloc: Global, schema: &Schema) -> Result<String> {
     Ok(schema.to_json_value(alloc)?.to_string(alloc)?)
 }
 
@@ -142,10 +142,6 @@ fn fields(alloc: Global, description: &str) -> Result<String> {
     let schema = schema(alloc, description)?;
     let mut answer = format!(in alloc; "{}", schema.num_fields())?;
     for (field, entry) in schema.fields() {
-        ensure!(
-            is_found(&schema, field, entry),
-            "calls about a field disagree"
-        );
         push_entry(alloc, &mut answer, field, entry)?;
     }
     Ok(answer)
@@ -189,14 +185,6 @@ fn push_record(answer: &mut String, field_type: &FieldType) -> Result<()> {
         write!(answer, " record {kept:?}")?;
     }
     Ok(())
-}
-
-// Whether the schema has the field by its number, and by its name.
-fn is_found(schema: &Schema, field: Field, entry: &FieldEntry) -> bool {
-    schema.has_field(field)
-        && schema.get_field(entry.name()) == Ok(field)
-        && schema.get_field_name(field) == entry.name()
-        && *schema.get_field_entry(field) == *entry
 }
 
 // The number of the field with a name, or the name of the field with a number.
@@ -270,10 +258,19 @@ fn add(alloc: Global, names: &[&str]) -> Result<String> {
     Ok(text)
 }
 
+/// Adds a field of texts, and returns what that call answers.
+pub fn add_text(
+    alloc: Global,
+    builder: &mut SchemaBuilder,
+    word: &str,
+) -> Result<Result<Field, SchemaError>> {
+    let name = words::text(alloc, word)?;
+    Ok(builder.add_text_field(name.as_str(), TEXT))
+}
+
 // The number or the refusal of a field of texts that is added.
 fn added(alloc: Global, builder: &mut SchemaBuilder, word: &str) -> Result<String> {
-    let name = words::text(alloc, word)?;
-    match builder.add_text_field(name.as_str(), TEXT) {
+    match add_text(alloc, builder, word)? {
         Ok(field) => words::plain(alloc, &field.field_id()),
         Err(error) => words::error(alloc, &error),
     }

@@ -16,7 +16,6 @@ use tv_json::compact::push_json;
 use tv_json::json_value::{ToJsonValue, to_json_value};
 use tv_schema::Schema;
 use tv_value::owned_value::OwnedValue;
-use tv_value::same::is_same;
 
 /// What a call about documents returns.
 pub fn answer(alloc: Global, call: &[&str]) -> Result<String> {
@@ -142,33 +141,16 @@ fn same(alloc: Global, calls: &[&str]) -> Result<String> {
     let (one, other) = calls.split_at(place.context("two documents")?);
     let one = builder::document(alloc, one)?;
     let other = builder::document(alloc, other.get(1..).context("a document")?)?;
-    let is_same = one.same_as(alloc, &other)?;
-    let is_same_back = other.same_as(alloc, &one)?;
-    ensure!(
-        is_same_back == is_same,
-        "the other way round the answer differs"
-    );
-    words::plain(alloc, &is_same)
+    words::plain(alloc, &one.same_as(alloc, &other)?)
 }
 
-// A copy of a document. Its values have to be equal to those of the document, whose memory is shrunk.
+// A copy of a document. The document has to be the same when its memory is shrunk.
 fn copy(alloc: Global, calls: &[&str]) -> Result<String> {
     let mut document = builder::document(alloc, calls)?;
-    let copy = document.try_clone(alloc)?;
+    let copy = shown(alloc, &document.try_clone(alloc)?)?;
     document.shrink_to_fit();
-    for ((_, one), (_, other)) in copy.field_values().zip(document.field_values()) {
-        check_equal(alloc, one, other)?;
-    }
-    shown(alloc, &copy)
-}
-
-// Checks that two values are equal.
-fn check_equal(alloc: Global, one: CompactDocValue<'_>, other: CompactDocValue<'_>) -> Result<()> {
-    let owned = OwnedValue::from_value(alloc, &one)?;
-    let other_owned = OwnedValue::from_value(alloc, &other)?;
-    let is_equal = one == other && is_same(&&owned, &&other_owned);
-    ensure!(is_equal, "a value of the copy differs");
-    Ok(())
+    ensure!(shown(alloc, &document)? == copy, "the copy differs");
+    Ok(copy)
 }
 
 // A value with its type.
