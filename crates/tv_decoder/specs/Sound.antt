@@ -19,7 +19,7 @@ IsPlace-prop : (a : Option ℕ) (d : Document) (f : Option ℕ) (s : State) → 
 IsPlace-prop None d None s x y = λ i. (Coded-set coded_document _ _ x.0 y.0 i, Coded-set coded_state _ _ x.1 y.1 i)
 IsPlace-prop None d (Some f) s x y = absurd x
 IsPlace-prop (Some n) d None s x y = λ i. (le_prop x.0 y.0 i, Coded-set coded_state _ _ x.1 y.1 i)
-IsPlace-prop (Some n) d (Some f) s x y = λ i. (le_prop x.0 y.0 i, le_prop x.1 y.1 i, Lacks-prop s x.2 y.2 i)
+IsPlace-prop (Some n) d (Some f) s x y = λ i. (le_prop x.0 y.0 i, Lacks-prop s x.1 y.1 i)
 
 IsSound-prop : (r : Reading) → IsProp (IsSound r)
 IsSound-prop r x y =
