@@ -2,7 +2,7 @@
 
 ghost use Rattle.std.specs.Prelude.{◌≡◌, ◌<◌, ◌≤◌, ◌+◌, ◌^◌, ◌++◌, ◌∷◌, ◌↔◌, [], length, take};
 ghost use Rattle.std.specs.Prelude.{drop, IfOk, IfErr, MatchResult, OnOk, OnErr, IsTrue, slice_get};
-ghost use Rattle.std.specs.Prelude.{slice_index, option_map, string_bytes, Some};
+ghost use Rattle.std.specs.Prelude.{slice_index, option_map, string_bytes, vec_capacity, Some};
 ghost use Rattle.std.specs.Int.{to_be_bytes, w32};
 ghost use Rattle.std.specs.Net.Addr.{ipv6_bits};
 ghost use Rattle.std.specs.Option.{option_copied};
@@ -91,9 +91,9 @@ impl Term {
         ensures made { IfOk result (λ made. made ≡ 0 ∷ 0 ∷ 0 ∷ 0 ∷ 0 ∷ []) }
         ensures memory { IfErr result (λ error. error ≡ Memory) }
     {
-        let mut bytes = Vec::with_capacity(alloc, capacity.saturating_add(5))?;
-        bytes.extend_from_slice(&[0, 0, 0, 0, 0])?;
-        Ok(Term { bytes })
+        Ok(Term {
+            bytes: bytes_with_room(alloc, capacity)?,
+        })
     }
 
     /// The term of a path into a field of JSON objects: the path's segments with U+0001 between each two of them, and U+0000.
@@ -404,6 +404,16 @@ impl Term {
         let name = schema.get_field_entry(self.field()).name();
         dotted(alloc, name, self.value().json_path())
     }
+}
+
+// The bytes of field 0, of the code 0 and of no value, with room for as many value bytes.
+fn bytes_with_room(alloc: Global, capacity: usize) -> Result<Vec<u8>, AllocError>
+    ensures bytes { IfOk result (λ made. made.items ≡ 0 ∷ 0 ∷ 0 ∷ 0 ∷ 0 ∷ []) }
+    ensures room { IfOk result (λ made. capacity + 5 ≤ vec_capacity made) }
+{
+    let mut bytes = Vec::with_capacity(alloc, capacity.saturating_add(5))?;
+    bytes.extend_from_slice(&[0, 0, 0, 0, 0])?;
+    Ok(bytes)
 }
 
 // The name, and behind a dot the path, if there is one.
