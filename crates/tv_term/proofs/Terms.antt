@@ -10,7 +10,7 @@ use Rattle.tv_options.specs.Types.{code}
 use Rattle.tv_options.specs.declared.types.TypeTag.{TypeTag}
 use Rattle.tv_options.specs.declared.types.TypeTag.TheVariants as tag
 use Rattle.tv_term.specs.FastValue.{StandsAs}
-use Rattle.tv_term.specs.Key.{TermValue, Json, Fits, HasNoZero, coded, payload, term, json_term, value_cmp, IsTerm, IsJsonTerm, Appends}
+use Rattle.tv_term.specs.Key.{TermValue, Json, Fits, coded, payload, term, json_term, value_cmp, IsTerm, IsJsonTerm, Appends}
 use Rattle.tv_term.proofs.Orders.{term-order, coded-order, number-order}
 use Rattle.tv_term.specs.Reading.{json_parts, json_path, value_of, ReadsText}
 use Rattle.tv_term.proofs.Written.{cut_behind_zero-path, json_path_read}
@@ -31,11 +31,11 @@ joined : (f : ℕ) (path : List ℕ) (value : TermValue) → json_term f path ++
 joined f path value = ap (λ rest. to_be_bytes w32 f ++ code tag.Json ∷ rest) (append_assoc path (0 ∷ []) (coded value))
 
 -- a value that is appended to a JSON term makes the term of the path and the value
-pub completed : (old new : List ℕ) (f : ℕ) (path : List ℕ) (value : TermValue) → IsJsonTerm old f path → HasNoZero path → Appends old new value → IsTerm new f (Json path value)
-completed old new f path value p no_zero q = record {
+pub completed : (old new : List ℕ) (f : ℕ) (path : List ℕ) (value : TermValue) → IsJsonTerm old f path → Appends old new value → IsTerm new f (Json path value)
+completed old new f path value p q = record {
   bytes_are = q.bytes_are ∙ ap (λ bytes. bytes ++ coded value) p.bytes_are ∙ joined f path value;
   field_fits = p.field_fits;
-  value_fits = (no_zero, q.value_fits);
+  value_fits = (p.path_has_no_zero, q.value_fits);
 }
 
 -- two JSON terms of one path compare as the values there

@@ -1,5 +1,5 @@
 -- What is written for a value is read back as it.
-use Rattle.std.proofs.Common.{◌≡◌, ◌≢◌, ℕ, suc, zero, ◌+◌, ◌<◌, ◌≤◌, ◌^◌, Bool, true, false, List, [], ◌∷◌, ◌++◌, length, length-append, take, drop, get_or, Some, refl, ◌∙◌, ap, arith}
+use Rattle.std.proofs.Common.{◌≡◌, ◌≢◌, ℕ, suc, zero, ◌+◌, ◌<◌, ◌≤◌, ◌^◌, Bool, true, false, List, [], ◌∷◌, ◌++◌, length, length-append, take, drop, get_or, Some, refl, ◌∙◌, ap, subst, arith}
 use Rattle.std.specs.Prelude.{ℤ, FitsSigned, position, slice_index, option_map, nat_lt, ◌-◌, ◌==◌, if◌then◌else◌, ◌&&◌, ◌||◌}
 use Rattle.std.specs.List.{position_or_len}
 use Rattle.std.specs.Option.{option_and_then}
@@ -8,10 +8,11 @@ use Rattle.std.proofs.lemmas.Bool.{lt-ltb}
 use Rattle.std.proofs.lemmas.Bool.Decides.{nat_tests}
 use Rattle.std.proofs.lemmas.Nat.{from_be_bytes-to_be_bytes_8}
 use Rattle.std.proofs.Math.Seq.{take-append-add, take-append_seam, drop-append-add}
+use borrow.Author.Count.{below_more}
 use Rattle.tv_base.specs.Escapes.{rewritten_below, is_unescaped}
 use Rattle.tv_base.specs.JsonPath.{joined_path}
 use Rattle.tv_base.specs.Rewriting.{path_byte}
-use Rattle.tv_base.proofs.JsonPaths.{joined_path-is}
+use Rattle.tv_base.proofs.JsonPaths.{joined_path-is, and_false}
 use Rattle.tv_options.specs.Types.{code, type_of_code}
 use Rattle.tv_options.specs.declared.types.TypeTag.{TypeTag}
 use Rattle.tv_options.specs.declared.types.TypeTag.TheVariants as tag
@@ -76,6 +77,35 @@ HasNoZero-rewritten_below expand_dots path (suc place) h inside =
 -- a path without a zero is joined without one
 pub HasNoZero-joined_path : (expand_dots : Bool) (path : List ℕ) → HasNoZero path → HasNoZero (joined_path expand_dots path)
 HasNoZero-joined_path expand_dots path h = rw (joined_path-is expand_dots path) (HasNoZero-rewritten_below expand_dots path (length path) h (omega arith))
+
+-- and the other way round
+HasNoZero-parts : (a b : List ℕ) → HasNoZero (a ++ b) → HasNoZero a × HasNoZero b
+HasNoZero-parts [] b h = (tt, h)
+HasNoZero-parts (c ∷ a) b h = let rest = HasNoZero-parts a b h.1 in ((h.0, rest.0), rest.1)
+
+-- a zero stands for itself
+path_byte-zero : (expand_dots unescaped : Bool) → path_byte expand_dots unescaped 0 ≡ 0 ∷ []
+path_byte-zero expand_dots unescaped = rw (and_false unescaped, and_false (unescaped || expand_dots)) refl
+
+path_byte-not_zero : (expand_dots unescaped : Bool) (b : ℕ) → HasNoZero (path_byte expand_dots unescaped b) → b ≢ 0
+path_byte-not_zero expand_dots unescaped b h e =
+    let kept : HasNoZero (0 ∷ []) = subst HasNoZero (ap (path_byte expand_dots unescaped) e ∙ path_byte-zero expand_dots unescaped) h in kept.0 refl
+
+rewritten_below-not_zero : (expand_dots : Bool) (path : List ℕ) (place : ℕ) → HasNoZero (rewritten_below (path_byte expand_dots) path place) → (i : ℕ) → i < place → slice_index path i ≢ 0
+rewritten_below-not_zero expand_dots path zero h i below = absurd (omega arith)
+rewritten_below-not_zero expand_dots path (suc place) h i below =
+    let parts = HasNoZero-parts (rewritten_below (path_byte expand_dots) path place) (path_byte expand_dots (is_unescaped path place) (slice_index path place)) h in
+    let last = path_byte-not_zero expand_dots (is_unescaped path place) (slice_index path place) parts.1 in
+    below_more (λ n. slice_index path n ≢ 0) place (rewritten_below-not_zero expand_dots path place parts.0) last i (omega arith)
+
+HasNoZero-from_each : (text : List ℕ) → ((i : ℕ) → i < length text → get_or text i 0 ≢ 0) → HasNoZero text
+HasNoZero-from_each [] h = tt
+HasNoZero-from_each (b ∷ text) h = (h 0 (omega arith), HasNoZero-from_each text (λ i inside. h (suc i) (omega arith)))
+
+-- a path has no zero where what is joined of it has none
+pub HasNoZero-from_joined_path : (expand_dots : Bool) (path : List ℕ) → HasNoZero (joined_path expand_dots path) → HasNoZero path
+HasNoZero-from_joined_path expand_dots path h =
+    HasNoZero-from_each path (rewritten_below-not_zero expand_dots path (length path) (subst HasNoZero (joined_path-is expand_dots path) h))
 
 pub truth_read : (b : Bool) → option_map is_true (number_of_eight (to_be_bytes w64 (truth_number b))) ≡ Some b
 truth_read b = ap (option_map is_true) (eight_again (truth_number b) (truth_number-fits b)) ∙ ap Some (is_true-truth_number b)

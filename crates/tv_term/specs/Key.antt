@@ -9,7 +9,7 @@ use Rattle.tv_options.specs.Types.{code}
 use Rattle.tv_options.specs.declared.types.TypeTag.{TypeTag}
 use Rattle.tv_options.specs.declared.types.TypeTag.TheVariants as tag
 
--- the value of a term; of a term of a JSON field the joined path and the value there
+-- the value of a term; of a term of a JSON field the joined path and the value there. Which of these are values, `Fits` says
 pub data TermValue : Type 0 where
   Text : List ℕ → TermValue
   Unsigned : ℕ → TermValue
@@ -60,10 +60,12 @@ payload (Bytes bytes) = bytes
 payload (Address n) = to_be_bytes w128 n
 payload (Json path value) = path ++ 0 ∷ value_code value ∷ payload value
 
+-- no byte is that of U+0000
 abbrev pub HasNoZero : List ℕ → Type 0
 HasNoZero = AllByRecursion (λ b. b ≢ 0)
 
--- the numbers are of the widths of their types, and no path has a zero
+-- which of these are the values of terms: a number is of its type's width, and a path, which U+0000 ends, has no U+0000. Each
+-- typed constructor makes a term of such a value, and so does a value that is appended to a term of a path
 abbrev pub Fits : TermValue → Type 0
 Fits (Text bytes) = Unit {0}
 Fits (Unsigned n) = n < 2 ^ 64
@@ -106,11 +108,12 @@ pub record IsTerm (bytes : List ℕ) (field : ℕ) (value : TermValue) : Type 0 
   pub field_fits : field < 2 ^ 32
   pub value_fits : Fits value
 
--- the bytes are the term of the field and the path, a text, before a value is appended
+-- the bytes are the term of the field and the path, a text without U+0000, before a value is appended
 pub record IsJsonTerm (bytes : List ℕ) (field : ℕ) (path : List ℕ) : Type 0 where
   pub bytes_are : bytes ≡ json_term field path
   pub field_fits : field < 2 ^ 32
   pub path_is_text : IsUtf8 path
+  pub path_has_no_zero : HasNoZero path
 
 -- the value, which is within its width, was appended
 pub record Appends (old new : List ℕ) (value : TermValue) : Type 0 where

@@ -1,5 +1,6 @@
 //! Laws of terms, each the contract of a function that makes the calls of which it speaks, or of one that does nothing.
-//! Where a law has a `Result` and says nothing of errors, its error is `Memory`.
+//! Where a law has a `Result` and says nothing of errors, its error is `Memory`. One that is given a path into JSON objects
+//! returns `NulInPath` exactly where the path has U+0000, and else has that error.
 
 ghost use Rattle.std.specs.Prelude.{◌≡◌, ◌↔◌, ℕ, ℤ, FitsSigned, Bool, List, [], ◌<◌, ◌^◌, ◌++◌};
 ghost use Rattle.std.specs.Prelude.{◌∷◌, Some, IfOk, IfErr, IsTrue, IsUtf8, option_map};
@@ -17,7 +18,7 @@ ghost use Rattle.tv_term.specs.Key.{Address, Json, Fits, HasNoZero, IsTerm, IsJs
 ghost use Rattle.tv_term.specs.Key.{type_of, coded, term, value_cmp};
 ghost use Rattle.tv_term.specs.Reading.{number_of, address_of, payload_of, signed_at, is_true};
 ghost use Rattle.tv_term.specs.Reading.{json_parts, json_type, json_path};
-ghost use Rattle.tv_term.specs.declared.term_error.TermError.TheVariants.{Memory};
+ghost use Rattle.tv_term.specs.declared.term_error.TermError.TheVariants.{Memory, NulInPath};
 
 use crate::fast_value::FastValue;
 use crate::term::Term;
@@ -55,8 +56,8 @@ pub fn fast_values_are_ordered_as_numbers<T: FastValue>(one: T, other: T) -> (Or
     (one.cmp(&other), one.to_u64().cmp(&other.to_u64()))
 }
 
-/// Any two terms that the typed constructors made, and terms of JSON paths without U+0000 with one appended value each, are
-/// ordered by field, then by the code of the type, then by value.
+/// Any two terms that constructors made, those of JSON paths with one appended value each, are ordered by field, then by the
+/// code of the type, then by value.
 pub fn terms_compare_as_fields_and_values(one: &Term, other: &Term) -> Ordering
     ensures { (f g : ℕ) (a b : TermValue) → IsTerm one.now f a → IsTerm other.now g b →
         result ≡ ordering_then (nat_cmp f g) (value_cmp a b) }
@@ -87,10 +88,10 @@ pub fn appended_texts_make_terms(
     expand_dots: bool,
     text: &str,
 ) -> Result<Term, TermError>
-    requires { HasNoZero path.now }
     ensures made { IfOk result
         (λ made. IsTerm made field.id (Json (joined_path expand_dots path.now) (Text text.now))) }
-    ensures memory { IfErr result (λ error. error ≡ Memory) }
+    ensures nul { (result ≡ Err NulInPath) ↔ (¬ HasNoZero path.now) }
+    ensures memory { HasNoZero path.now → IfErr result (λ error. error ≡ Memory) }
 {
     let mut term = Term::from_field_json_path(alloc, field, path, expand_dots)?;
     term.append_type_and_str(text)?;
@@ -105,11 +106,11 @@ pub fn appended_fast_values_make_terms<T: FastValue>(
     expand_dots: bool,
     value: T,
 ) -> Result<Term, TermError>
-    requires { HasNoZero path.now }
     ensures made { IfOk result
         (λ made. IsTerm made field.id
         (Json (joined_path expand_dots path.now) (T.as_value value))) }
-    ensures memory { IfErr result (λ error. error ≡ Memory) }
+    ensures nul { (result ≡ Err NulInPath) ↔ (¬ HasNoZero path.now) }
+    ensures memory { HasNoZero path.now → IfErr result (λ error. error ≡ Memory) }
 {
     let mut term = Term::from_field_json_path(alloc, field, path, expand_dots)?;
     term.append_type_and_fast_value(value)?;
@@ -125,9 +126,9 @@ pub fn appended_fast_values_compare_as_values<T: FastValue>(
     one: T,
     other: T,
 ) -> Result<Ordering, TermError>
-    requires { HasNoZero path.now }
     ensures order { IfOk result (λ order. order ≡ T.cmp one other) }
-    ensures memory { IfErr result (λ error. error ≡ Memory) }
+    ensures nul { (result ≡ Err NulInPath) ↔ (¬ HasNoZero path.now) }
+    ensures memory { HasNoZero path.now → IfErr result (λ error. error ≡ Memory) }
 {
     let one = appended_fast_values_make_terms(alloc, field, path, expand_dots, one)?;
     let other = appended_fast_values_make_terms(alloc, field, path, expand_dots, other)?;
@@ -142,10 +143,10 @@ pub fn json_paths_are_read_back(
     expand_dots: bool,
     text: &str,
 ) -> Result<Option<String>, TermError>
-    requires { HasNoZero path.now }
     ensures path { IfOk result
         (λ found. option_map string_bytes found ≡ Some (joined_path expand_dots path.now)) }
-    ensures memory { IfErr result (λ error. error ≡ Memory) }
+    ensures nul { (result ≡ Err NulInPath) ↔ (¬ HasNoZero path.now) }
+    ensures memory { HasNoZero path.now → IfErr result (λ error. error ≡ Memory) }
 {
     let mut term = Term::from_field_json_path(alloc, field, path, expand_dots)?;
     term.append_type_and_str(text)?;
@@ -160,9 +161,9 @@ pub fn appended_texts_are_read_back(
     expand_dots: bool,
     text: &str,
 ) -> Result<Option<String>, TermError>
-    requires { HasNoZero path.now }
     ensures text { IfOk result (λ found. option_map string_bytes found ≡ Some text.now) }
-    ensures memory { IfErr result (λ error. error ≡ Memory) }
+    ensures nul { (result ≡ Err NulInPath) ↔ (¬ HasNoZero path.now) }
+    ensures memory { HasNoZero path.now → IfErr result (λ error. error ≡ Memory) }
 {
     let term = appended_texts_make_terms(alloc, field, path, expand_dots, text)?;
     match text_behind_path(&term) {
@@ -196,9 +197,9 @@ pub fn appended_numbers_are_read_back(
     expand_dots: bool,
     number: i64,
 ) -> Result<Option<i64>, TermError>
-    requires { HasNoZero path.now }
     ensures number { IfOk result (λ found. found ≡ Some number) }
-    ensures memory { IfErr result (λ error. error ≡ Memory) }
+    ensures nul { (result ≡ Err NulInPath) ↔ (¬ HasNoZero path.now) }
+    ensures memory { HasNoZero path.now → IfErr result (λ error. error ≡ Memory) }
 {
     let term = appended_fast_values_make_terms(alloc, field, path, expand_dots, number)?;
     Ok(number_behind_path(&term))
@@ -214,13 +215,16 @@ fn number_behind_path(term: &Term) -> Option<i64>
 
 /// Terms are ordered by field, then by the code of the type, then by value: numbers, dates and addresses as numbers, false
 /// before true, texts, encoded facets and bytes as bytes. Terms of JSON fields are ordered by path, then by the code of the type
-/// of the value there, then by that value, where no path has U+0000.
+/// of the value there, then by that value.
+///
+/// What is a value of a term is part of the definition (`Fits`): a number of its type's width, and a path without U+0000, as
+/// the constructors make them.
 pub fn terms_are_ordered()
     ensures { (f g : ℕ) (a b : TermValue) → f < 2 ^ 32 → g < 2 ^ 32 → Fits a → Fits b →
         ⟦<Term as Ord>⟧.cmp (term f a) (term g b) ≡ ordering_then (nat_cmp f g) (value_cmp a b) }
 {}
 
-/// Equal terms are of one field and one value, under the same premises.
+/// Equal terms are of one field and one value.
 pub fn equal_terms_have_equal_keys()
     ensures { (f g : ℕ) (a b : TermValue) → f < 2 ^ 32 → g < 2 ^ 32 → Fits a → Fits b →
         IsTrue (⟦<Term as PartialEq>⟧.eq (term f a) (term g b)) → (f ≡ g) × (a ≡ b) }
@@ -234,19 +238,20 @@ pub fn comparisons_of_terms_agree()
         → ⟦<Term as Hash>⟧.hash_input a ≡ ⟦<Term as Hash>⟧.hash_input b }
 {}
 
-/// What a term of a JSON path without U+0000 becomes by an appended value is the term of the path and the value.
+/// What a term of a JSON path becomes by an appended value is the term of the path and the value.
 pub fn appended_values_complete_json_terms()
     ensures { (old new : List ℕ) (f : ℕ) (path : List ℕ) (value : TermValue) → IsJsonTerm old f path
-        → HasNoZero path → Appends old new value → IsTerm new f (Json path value) }
+        → Appends old new value → IsTerm new f (Json path value) }
 {}
 
-/// A path without U+0000 is joined without one.
+/// A path is joined without U+0000 exactly where it has none: no backslash takes one away.
 pub fn joined_paths_have_no_zero()
-    ensures { (expand_dots : Bool) (path : List ℕ) → HasNoZero path
-        → HasNoZero (joined_path expand_dots path) }
+    ensures { (expand_dots : Bool) (path : List ℕ) → (HasNoZero path)
+        ↔ (HasNoZero (joined_path expand_dots path)) }
 {}
 
-/// What the readers of value bytes return for the bytes of a value of their type is that value.
+/// What the readers of value bytes return for the bytes of a value of their type is that value. The path of a value of a JSON
+/// field has no U+0000 by its definition.
 pub fn written_values_are_read()
     ensures unsigned { (n : ℕ) → n < 2 ^ 64 → number_of tag.U64 (coded (Unsigned n)) ≡ Some n }
     ensures signed { (z : ℤ) → FitsSigned w64 z

@@ -1,8 +1,9 @@
 //! Terms.
 
 ghost use Rattle.std.specs.Prelude.{◌≡◌, ◌<◌, ◌≤◌, ◌+◌, ◌^◌, ◌++◌, ◌∷◌, ◌↔◌, [], length, take};
-ghost use Rattle.std.specs.Prelude.{drop, IfOk, IfErr, MatchResult, OnOk, OnErr, IsTrue, slice_get};
-ghost use Rattle.std.specs.Prelude.{slice_index, option_map, string_bytes, Some};
+ghost use Rattle.std.specs.Prelude.{drop, IfOk, IfErr, MatchResult, MatchBool, OnOk, OnErr, IsTrue};
+ghost use Rattle.std.specs.Prelude.{slice_get, slice_index, option_map, string_bytes, vec_capacity};
+ghost use Rattle.std.specs.Prelude.{Some};
 ghost use Rattle.std.specs.Int.{to_be_bytes, w32};
 ghost use Rattle.std.specs.Net.Addr.{ipv6_bits};
 ghost use Rattle.std.specs.Option.{option_copied};
@@ -11,11 +12,13 @@ ghost use Rattle.tv_options.specs.Types.{code, type_of_code};
 ghost use Rattle.tv_field.specs.Entry.{Entry};
 ghost use Rattle.tv_date.specs.DateTime.{truncated};
 ghost use Rattle.tv_date.specs.declared.date_time.DateTimePrecision.TheVariants.{Seconds};
-ghost use Rattle.tv_term.specs.Key.{IsTerm, IsJsonTerm, Appends, Text, Unsigned, Signed, Truth};
+ghost use Rattle.tv_term.specs.Key.{IsTerm, IsJsonTerm, HasNoZero, Appends};
+ghost use Rattle.tv_term.specs.Key.{Text, Unsigned, Signed, Truth};
 ghost use Rattle.tv_term.specs.Key.{Date, Facet as FacetValue, Bytes, Address};
 ghost use Rattle.tv_term.specs.Reading.{field_of, value_of, json_path, ReadsText, IsFullPath};
 ghost use Rattle.tv_term.specs.Reading.{dotted};
 ghost use Rattle.tv_term.specs.declared.term_error.TermError.TheVariants.{TooShort, Memory};
+ghost use Rattle.tv_term.specs.declared.term_error.TermError.TheVariants.{NulInPath};
 
 use crate::fast_value::FastValue;
 use crate::term_error::TermError;
@@ -91,14 +94,17 @@ impl Term {
         ensures made { IfOk result (λ made. made ≡ 0 ∷ 0 ∷ 0 ∷ 0 ∷ 0 ∷ []) }
         ensures memory { IfErr result (λ error. error ≡ Memory) }
     {
-        let mut bytes = Vec::with_capacity(alloc, capacity.saturating_add(5))?;
-        bytes.extend_from_slice(&[0, 0, 0, 0, 0])?;
-        Ok(Term { bytes })
+        Ok(Term {
+            bytes: bytes_with_room(alloc, capacity)?,
+        })
     }
 
     /// The term of a path into a field of JSON objects: the path's segments with U+0001 between each two of them, and U+0000.
     /// Dots separate segments; a backslash goes and keeps the character behind it; where dots are expanded, a dot that it
     /// keeps separates too. A value there is appended by `append_type_and_fast_value` or `append_type_and_str`.
+    ///
+    /// Errors: `NulInPath`, exactly where the path has U+0000, also behind a backslash, and before memory is asked for; else
+    /// `Memory`. (tantivy takes such a path, and its readers end it at the first U+0000.)
     pub fn from_field_json_path(
         alloc: Global,
         field: Field,
@@ -107,8 +113,13 @@ impl Term {
     ) -> Result<Term, TermError>
         ensures made { IfOk result
             (λ made. IsJsonTerm made field.id (joined_path expand_dots json_path.now)) }
-        ensures memory { IfErr result (λ error. error ≡ Memory) }
+        ensures has_no_nul { OnOk result (HasNoZero json_path.now) }
+        ensures nul { (result ≡ Err NulInPath) ↔ (¬ HasNoZero json_path.now) }
+        ensures memory { HasNoZero json_path.now → IfErr result (λ error. error ≡ Memory) }
     {
+        if has_nul(json_path) {
+            return Err(TermError::NulInPath);
+        }
         let mut joined = joined_json_path(alloc, json_path, expand_dots)?;
         joined.push('\0')?;
         Term::from_payload(alloc, field, Type::Json, joined.as_bytes())
@@ -404,6 +415,23 @@ impl Term {
         let name = schema.get_field_entry(self.field()).name();
         dotted(alloc, name, self.value().json_path())
     }
+}
+
+// Whether the text has U+0000.
+fn has_nul(text: &str) -> bool
+    ensures { MatchBool result (¬ HasNoZero text.now) (HasNoZero text.now) }
+{
+    text.as_bytes().contains(&0)
+}
+
+// The bytes of field 0, of the code 0 and of no value, with room for as many value bytes.
+fn bytes_with_room(alloc: Global, capacity: usize) -> Result<Vec<u8>, AllocError>
+    ensures bytes { IfOk result (λ made. made.items ≡ 0 ∷ 0 ∷ 0 ∷ 0 ∷ 0 ∷ []) }
+    ensures room { IfOk result (λ made. capacity + 5 ≤ vec_capacity made) }
+{
+    let mut bytes = Vec::with_capacity(alloc, capacity.saturating_add(5))?;
+    bytes.extend_from_slice(&[0, 0, 0, 0, 0])?;
+    Ok(bytes)
 }
 
 // The name, and behind a dot the path, if there is one.

@@ -12,6 +12,9 @@ pub enum TermError {
     /// Memory was refused.
     #[error("memory was refused")]
     Memory,
+    /// A path into JSON objects has U+0000, which ends the path in a term.
+    #[error("the path has U+0000")]
+    NulInPath,
 }
 
 impl From<AllocError> for TermError {

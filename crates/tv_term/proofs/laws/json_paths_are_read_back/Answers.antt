@@ -1,10 +1,9 @@
 use Rattle.tv_term.specs.Key.{Text}
 use Rattle.tv_term.proofs.Terms.{completed, json_path-term, text-read}
-use Rattle.tv_term.proofs.Written.{HasNoZero-joined_path}
 use Rattle.tv_term.proofs.laws.json_paths_are_read_back.Goals as goal
 
 pub returns-clause-path : goal.returns-clause-path
 returns-clause-path c =
-    let made = completed _ _ c.args.field.id _ (Text c.args.text.now) c.in_ok-term.ensures.made (HasNoZero-joined_path c.args.expand_dots c.args.path.now c.requires)
+    let made = completed _ _ c.args.field.id _ (Text c.args.text.now) c.in_ok-term.ensures.made
     c.in_ok-append_type_and_str.ensures.appended in
     text-read _ _ _ c.in_ok-term.ensures.made.path_is_text (json_path-term _ c.args.field.id _ (Text c.args.text.now) made) c.in_ok-get_json_path.ensures
