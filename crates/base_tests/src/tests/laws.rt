@@ -6,12 +6,12 @@ use std::cmp::Ordering;
 use std::test::Fail;
 use tv_options::laws::{comparisons_of_flag_options_agree, comparisons_of_textual_options_agree};
 use tv_options::{COERCE, Coercion, FAST, NumericOptions, STRING, TEXT, TextOptions};
-use tv_term::Term;
 use tv_term::laws::{
     appended_fast_values_compare_as_values, appended_numbers_are_read_back,
     appended_texts_are_read_back, json_paths_are_read_back, signed_terms_compare_as_numbers,
     terms_compare_as_fields_and_values,
 };
+use tv_term::{Term, TermError};
 use tv_value::field::Field;
 
 // What `==` of two options says of them, by the law at their type.
@@ -61,5 +61,7 @@ fn values_are_read_back(rt: HostRuntime) -> Result<(), Fail> {
     assert!(rt; text.ok_or("a text")?.as_str() == "c");
     let number = appended_numbers_are_read_back(alloc, field, "a", true, -5)?;
     assert!(rt; number == Some(-5));
+    let refused = json_paths_are_read_back(alloc, field, "a\0b", false, "c").err();
+    assert!(rt; refused == Some(TermError::NulInPath));
     Ok(())
 }
