@@ -19,12 +19,7 @@ pub fn answer(alloc: Global, call: &[&str]) -> Result<String> {
     match call {
         ["of", field, kind, value] => of_value(alloc, field, kind, value),
         ["searched date", field, value] => of_searched_date(alloc, field, value),
-        ["json", field, path, dots, kind, value] => {
-            let mut term = json_term(alloc, field, path, dots)?;
-            append(alloc, &mut term, kind, value)?;
-            shown(alloc, &term)
-        }
-        ["json", field, path, dots] => shown(alloc, &json_term(alloc, field, path, dots)?),
+        ["json", field, path, dots, appended @ ..] => of_path(alloc, field, path, dots, appended),
         ["wrap", digits] => of_bytes(alloc, digits),
         ["value", digits] => value_of_bytes(alloc, digits),
         ["full path", schema, digits] => full_path(alloc, schema, &wrapped(alloc, digits)?),
@@ -52,6 +47,27 @@ fn of_searched_date(alloc: Global, field: &str, value: &str) -> Result<String> {
         alloc,
         &Term::from_field_date_for_search(alloc, field, date)?,
     )
+}
+
+// The term of a field and a path, to which a value is appended, if there is one.
+fn of_path(
+    alloc: Global,
+    field: &str,
+    path: &str,
+    dots: &str,
+    appended: &[&str],
+) -> Result<String> {
+    let (field, path) = (words::field(field)?, words::text(alloc, path)?);
+    let made = Term::from_field_json_path(alloc, field, path.as_str(), dots == "expanded");
+    match (made, appended) {
+        (Ok(term), []) => shown(alloc, &term),
+        (Ok(mut term), [kind, value]) => {
+            append(alloc, &mut term, kind, value)?;
+            shown(alloc, &term)
+        }
+        (Ok(_), _) => Err(anyhow!("an unknown value")),
+        (Err(error), _) => words::error(alloc, &error),
+    }
 }
 
 // The term of bytes.
@@ -94,12 +110,6 @@ fn term_of(alloc: Global, field: Field, value: &OwnedValue) -> Result<Term> {
         _ => return Err(anyhow!("a value that has no term")),
     };
     Ok(made?)
-}
-
-// The term of a field and a path.
-fn json_term(alloc: Global, field: &str, path: &str, dots: &str) -> Result<Term> {
-    let (field, path) = (words::field(field)?, words::text(alloc, path)?);
-    Ok(Term::from_field_json_path(alloc, field, path.as_str(), dots == "expanded")?)
 }
 
 // Appends a value of this kind to a term.
