@@ -1,6 +1,6 @@
 //! Values that stand encoded in bytes, written behind a heap.
 
-ghost use Rattle.std.specs.Prelude.{◌≡◌, ◌≤◌, ◌∷◌, length, IfSome, Some};
+ghost use Rattle.std.specs.Prelude.{◌≡◌, ◌≢◌, ◌≤◌, ◌∷◌, List, ℕ, length, IfSome, MatchOption, Some};
 ghost use Rattle.tv_base.specs.Number.{VNum, Fixed, Signed, Truth};
 ghost use Rattle.tv_base.specs.Parts.{Begins, Behind, Sized, Text};
 ghost use Rattle.tv_base.specs.Sink.{IsPrefix};
@@ -92,18 +92,24 @@ fn tokenized_at(bytes: &[u8]) -> Option<(PreTokenizedStr<'_>, &[u8])>
     Some((content, &payload[len..]))
 }
 
-// The text at the start, behind its code.
+// What stands behind the code of a key, which only version 3 leaves out.
 #[inline(always)]
-fn coded_text_at(bytes: &[u8]) -> Option<(&str, &[u8])>
-    ensures { IfSome result
-        (λ x. Begins (Behind 0 (λ b. Text b x.0.now)) bytes.now x.1.now) }
+fn behind_key_code(bytes: &[u8], version: WriteVersion) -> Option<&[u8]>
+    ensures coded { version ≡ WriteVersion.V2 → MatchOption result
+        ((behind : List ℕ) → bytes.now ≢ 0 ∷ behind) (λ behind. bytes.now ≡ 0 ∷ behind.now) }
+    ensures bare { version ≡ WriteVersion.V3 → MatchOption result ⊥
+        (λ behind. bytes.now ≡ behind.now) }
 {
-    let (code, behind_code) = bytes.split_first()?;
-    if *code != TEXT_CODE {
-        return None;
+    match version {
+        WriteVersion::V2 => {
+            let (code, behind) = bytes.split_first()?;
+            if *code != TEXT_CODE {
+                return None;
+            }
+            Some(behind)
+        }
+        WriteVersion::V3 => Some(bytes),
     }
-    let (key, rest) = text_at(behind_code)?;
-    Some((key, rest))
 }
 
 // The key at the start.
@@ -112,10 +118,9 @@ fn key_at(bytes: &[u8], version: WriteVersion) -> Option<(&str, &[u8])>
     ensures { IfSome result
         (λ x. Begins (λ b. Key (written_version version) b x.0.now) bytes.now x.1.now) }
 {
-    match version {
-        WriteVersion::V2 => coded_text_at(bytes),
-        WriteVersion::V3 => text_at(bytes),
-    }
+    let behind = behind_key_code(bytes, version)?;
+    let (key, rest) = text_at(behind)?;
+    Some((key, rest))
 }
 
 // The number of an object's entries at the start.
@@ -227,8 +232,15 @@ pub fn put_encoded<'a>(
 {
     let (code, behind) = bytes.split_first()?;
     match *code {
-        ARRAY_CODE => put_encoded_array(behind, version, levels, heap, places),
-        OBJECT_CODE => put_encoded_object(behind, version, levels, heap, places),
+        // what these calls return is taken apart, so that a value without children is returned without going through memory
+        ARRAY_CODE => {
+            let (rest, place) = put_encoded_array(behind, version, levels, heap, places)?;
+            Some((rest, place))
+        }
+        OBJECT_CODE => {
+            let (rest, place) = put_encoded_object(behind, version, levels, heap, places)?;
+            Some((rest, place))
+        }
         code => put_encoded_leaf(code, behind, heap),
     }
 }

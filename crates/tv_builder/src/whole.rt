@@ -58,6 +58,7 @@ pub(crate) fn put(heap: &mut Vec<u8>, value: &ReferenceValueLeaf<'_>) -> Option<
 
 // Writes a list behind its children, whose places are those from `first` on, takes these off, and returns its own place. After an
 // error the old heap is still a prefix of the new, and what `places` holds is unspecified.
+#[inline(always)]
 pub(crate) fn put_list(
     heap: &mut Vec<u8>,
     places: &mut Vec<u8>,

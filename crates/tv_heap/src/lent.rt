@@ -264,7 +264,7 @@ pub fn children(list: &[u8]) -> u64
 }
 
 /// The first child's type and address, and the list behind it.
-#[inline]
+#[inline(always)]
 pub fn child_at(list: &[u8]) -> Option<(ValueType, u32, &[u8])>
     ensures first { (t : ValueType) (at : ℕ) (rest : List ℕ) → at < 2 ^ 32
         → list.now ≡ type_code t ∷ (vnum at ++ rest) → GivesChild result (type_code t) at rest }

@@ -108,7 +108,7 @@ impl<'a> Iterator for CompactDocObjectIter<'a> {
 
     ghost remaining = { item_count (λ s. s.held.0) };
 
-    #[inline]
+    #[inline(always)]
     fn next(&mut self) -> Option<(&'a str, CompactDocValue<'a>)> {
         let heap = self.heap;
         let (_, key, behind) = child_at(self.list)?;

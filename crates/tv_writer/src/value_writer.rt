@@ -14,11 +14,10 @@ ghost use Rattle.tv_format.specs.WriteVersion.{written_version};
 ghost use Rattle.tv_value.specs.Lent.{nested_tree};
 ghost use Rattle.tv_writer.specs.Children.{child_count};
 
-use crate::leaf_writer::{write_coded_count, write_coded_text, write_leaf};
+use crate::leaf_writer::{write_coded_count, write_coded_text, write_leaf, write_sized_text};
 use std::convert::AsStr;
 use std::io;
 use tv_base::ByteSink;
-use tv_base::write::write_text;
 use tv_format::type_codes::{ARRAY_CODE, OBJECT_CODE, TEXT_CODE};
 use tv_format::version::WriteVersion;
 use tv_value::nested::{Lent, Nested, NestedValue, lend};
@@ -28,7 +27,7 @@ use tv_value::value::Value;
 ///
 /// The only error is the kind with which a write failed. The sink then holds what it held before, and a beginning of the key.
 /// (Not in tantivy.)
-#[inline]
+#[inline(always)]
 pub fn write_key<K: ByteSink>(
     sink: &mut K,
     version: WriteVersion,
@@ -39,7 +38,7 @@ pub fn write_key<K: ByteSink>(
 {
     match version {
         WriteVersion::V2 => write_coded_text(sink, TEXT_CODE, key),
-        WriteVersion::V3 => write_text(sink, key),
+        WriteVersion::V3 => write_sized_text(sink, key),
     }
 }
 
