@@ -54,6 +54,7 @@ fn take_rest<S: ByteSource>(
 ///
 /// Errors: `CorruptedValue` and `TypeMismatch` with the first error in the bytes; `HeapFull` where what has come needs more room than
 /// 4294967295 bytes; `Io` where the source failed; `Memory`.
+#[inline(always)]
 pub fn take_document<S: ByteSource>(
     alloc: Global,
     source: &mut S,

@@ -45,6 +45,7 @@ pub use tv_reader::version::DocStoreVersion;
 ///     Ok(documents)
 /// }
 /// ```
+#[inline(always)]
 pub fn read_document<S: ByteSource>(
     alloc: Global,
     source: &mut S,

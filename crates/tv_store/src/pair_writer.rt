@@ -31,7 +31,7 @@ use tv_value::value::{ReferenceValue, Value};
 use tv_writer::leaf_writer::{write_coded_text, write_leaf};
 
 // Writes a field and bytes behind their code.
-#[inline]
+#[inline(always)]
 #[tactic(auto, using(tv_base::proofs::Written::Writes_then, tv_base::proofs::Written::Writes_prefix))]
 fn write_field_bytes<K: ByteSink>(
     sink: &mut K,
@@ -48,7 +48,7 @@ fn write_field_bytes<K: ByteSink>(
 }
 
 // Writes a field and a number in eight bytes, with the code of its type, at once.
-#[inline]
+#[inline(always)]
 fn write_field_u64<K: ByteSink>(
     sink: &mut K,
     field: Field,
@@ -64,6 +64,7 @@ fn write_field_u64<K: ByteSink>(
 }
 
 // Writes a field and what the version has for a value.
+#[inline(always)]
 #[tactic(auto, using(tv_base::proofs::Written::Writes_then, tv_base::proofs::Written::Writes_prefix))]
 fn write_field_encoded<K: ByteSink>(
     sink: &mut K,
