@@ -55,6 +55,11 @@ tokenized_found bytes payload rest n t ts e after h =
 pub coded_found : (bytes behind rest k : List ℕ) → bytes ≡ 0 ∷ behind → Begins (λ b. Text b k) behind rest → Begins (Behind 0 (λ b. Text b k)) bytes rest
 coded_found bytes behind rest k e h = subst (λ z. Begins (Behind 0 (λ b. Text b k)) z rest) (sym e) (begins_behind 0 behind rest h)
 
+-- a key behind its code, which version 3 leaves out
+pub key_found : (version : WriteVersion) (bytes behind rest k : List ℕ) → (version ≡ versions.V2 → bytes ≡ 0 ∷ behind) → (version ≡ versions.V3 → bytes ≡ behind) → Begins (λ b. Text b k) behind rest → Begins (λ b. Key (written_version version) b k) bytes rest
+key_found versions.V2 bytes behind rest k coded bare h = coded_found bytes behind rest k (coded refl) h
+key_found versions.V3 bytes behind rest k coded bare h = subst (λ z. Begins (λ b. Text b k) z rest) (sym (bare refl)) h
+
 pub number_as : (bytes rest : List ℕ) (m n : ℕ) → m ≡ n → Begins (λ b. VNum b m) bytes rest → Begins (λ b. VNum b n) bytes rest
 number_as bytes rest m n e h = subst (λ k. Begins (λ b. VNum b k) bytes rest) e h
 

@@ -1,6 +1,6 @@
 //! Values that stand encoded in bytes, written behind a heap.
 
-ghost use Rattle.std.specs.Prelude.{◌≡◌, ◌≤◌, ◌∷◌, List, ℕ, length, IfSome, Some};
+ghost use Rattle.std.specs.Prelude.{◌≡◌, ◌≢◌, ◌≤◌, ◌∷◌, List, ℕ, length, IfSome, MatchOption, Some};
 ghost use Rattle.tv_base.specs.Number.{VNum, Fixed, Signed, Truth};
 ghost use Rattle.tv_base.specs.Parts.{Begins, Behind, Sized, Text};
 ghost use Rattle.tv_base.specs.Sink.{IsPrefix};
@@ -95,9 +95,10 @@ fn tokenized_at(bytes: &[u8]) -> Option<(PreTokenizedStr<'_>, &[u8])>
 // What stands behind the code of a key, which only version 3 leaves out.
 #[inline(always)]
 fn behind_key_code(bytes: &[u8], version: WriteVersion) -> Option<&[u8]>
-    ensures { IfSome result
-        (λ behind. (k rest : List ℕ) → Begins (λ b. Text b k) behind.now rest
-        → Begins (λ b. Key (written_version version) b k) bytes.now rest) }
+    ensures coded { version ≡ WriteVersion.V2 → MatchOption result
+        ((behind : List ℕ) → bytes.now ≢ 0 ∷ behind) (λ behind. bytes.now ≡ 0 ∷ behind.now) }
+    ensures bare { version ≡ WriteVersion.V3 → MatchOption result ⊥
+        (λ behind. bytes.now ≡ behind.now) }
 {
     match version {
         WriteVersion::V2 => {
@@ -231,8 +232,15 @@ pub fn put_encoded<'a>(
 {
     let (code, behind) = bytes.split_first()?;
     match *code {
-        ARRAY_CODE => put_encoded_array(behind, version, levels, heap, places),
-        OBJECT_CODE => put_encoded_object(behind, version, levels, heap, places),
+        // what these calls return is taken apart, so that a value without children is returned without going through memory
+        ARRAY_CODE => {
+            let (rest, place) = put_encoded_array(behind, version, levels, heap, places)?;
+            Some((rest, place))
+        }
+        OBJECT_CODE => {
+            let (rest, place) = put_encoded_object(behind, version, levels, heap, places)?;
+            Some((rest, place))
+        }
         code => put_encoded_leaf(code, behind, heap),
     }
 }

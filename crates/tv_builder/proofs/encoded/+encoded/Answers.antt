@@ -1,5 +1,4 @@
 use Rattle.std.proofs.Common.{◌≡◌, ◌++◌, [], ◌∷◌, length, take, refl, sym, ap, ◌∙◌, subst, arith, length-append, append-nil}
-use Rattle.std.specs.Prelude.{IfSome}
 use Rattle.std.proofs.Math.Seq.{take-append_seam}
 use Rattle.tv_heap.proofs.Lists.{place_added}
 use Rattle.tv_format.specs.WriteVersion.{written_version}
@@ -12,17 +11,19 @@ use Rattle.tv_builder.proofs.encoded.+encoded.Goals as goal
 
 -- ---- a value of any kind
 
-pub put_encoded-returns-in-12-clause-found : goal.put_encoded-returns-in-12-clause-found
-put_encoded-returns-in-12-clause-found t c =
+pub put_encoded-returns-in_ok-rest-in-12-clause-found : goal.put_encoded-returns-in_ok-rest-in-12-clause-found
+put_encoded-returns-in_ok-rest-in-12-clause-found t c =
     let behind = c.in_ok-code.behind.now in
     let e : c.args.bytes.now ≡ 12 ∷ behind = c.in_ok-code.ensures.cases.0 ∙ ap (λ z. z ∷ behind) c.in-12.is in
-    subst (λ z. IfSome c.put_encoded_array.result (λ x. EncodedPut (written_version c.args.version) z x.0.now c.args.heap.now.items c.put_encoded_array.new.heap.items x.1)) (sym e) c.put_encoded_array.ensures.found
+    let x = c.in_ok-rest-in-12 in
+    subst (λ z. EncodedPut (written_version c.args.version) z x.rest.now c.args.heap.now.items c.put_encoded_array.new.heap.items x.place) (sym e) x.ensures.found
 
-pub put_encoded-returns-in-13-clause-found : goal.put_encoded-returns-in-13-clause-found
-put_encoded-returns-in-13-clause-found t c =
+pub put_encoded-returns-in_ok-rest-in-13-clause-found : goal.put_encoded-returns-in_ok-rest-in-13-clause-found
+put_encoded-returns-in_ok-rest-in-13-clause-found t c =
     let behind = c.in_ok-code.behind.now in
     let e : c.args.bytes.now ≡ 13 ∷ behind = c.in_ok-code.ensures.cases.0 ∙ ap (λ z. z ∷ behind) c.in-13.is in
-    subst (λ z. IfSome c.put_encoded_object.result (λ x. EncodedPut (written_version c.args.version) z x.0.now c.args.heap.now.items c.put_encoded_object.new.heap.items x.1)) (sym e) c.put_encoded_object.ensures.found
+    let x = c.in_ok-rest-in-13 in
+    subst (λ z. EncodedPut (written_version c.args.version) z x.rest.now c.args.heap.now.items c.put_encoded_object.new.heap.items x.place) (sym e) x.ensures.found
 
 -- ---- arrays
 
