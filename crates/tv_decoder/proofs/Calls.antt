@@ -1,5 +1,5 @@
 -- A call of the builder, as it leaves what is read.
-use Rattle.std.proofs.Common.{◌≡◌, ℕ, ◌+◌, ◌-◌, ◌<◌, ◌≤◌, nat_eq, List, [], ◌∷◌, ◌++◌, length, Option, Some, None, Result, Ok, Err, OnErr, sym, ◌∙◌, subst, length-append, arith, inl, inr}
+use Rattle.std.proofs.Common.{◌≡◌, ℕ, ◌+◌, ◌-◌, ◌<◌, nat_eq, List, [], ◌∷◌, ◌++◌, length, Option, Some, None, Result, Ok, Err, OnErr, sym, subst, length-append, arith, inl, inr}
 use Rattle.std.proofs.lemmas.Bool.{cond-true, cond-false}
 use Rattle.std.proofs.lemmas.Bool.Decides.{eqb_tells}
 use Rattle.tv_builder.specs.declared.awaits.Awaits.{Awaits}
@@ -22,7 +22,7 @@ use Rattle.tv_heap.specs.Room.{document_room}
 use Rattle.tv_reader.specs.declared.error.DeserializeError.{DeserializeError}
 use Rattle.tv_format.specs.Tree.{Tree, leaf, text, Document}
 use Rattle.tv_decoder.specs.Errors.{build_error}
-use Rattle.tv_decoder.specs.Prefix.{parts_at, parts_read, IsPlace, IsSound, HasField}
+use Rattle.tv_decoder.specs.Prefix.{parts_at, IsPlace, IsSound, HasField}
 use Rattle.tv_decoder.specs.Puts.{MayStand, IsOpen, Awaiting, Fills, Puts}
 use Rattle.tv_decoder.specs.Kept.{LetGo}
 use Rattle.tv_decoder.specs.declared.reading.Reading.{Reading}

@@ -1,5 +1,5 @@
 -- How the parts of what is read are traded.
-use Rattle.std.proofs.Common.{◌≡◌, ℕ, ◌≤◌, List, [], ◌∷◌, ◌++◌, refl, sym, ◌∙◌, ap, append_assoc}
+use Rattle.std.proofs.Common.{◌≡◌, ℕ, List, [], ◌∷◌, ◌++◌, refl, sym, ◌∙◌, ap, append_assoc}
 use Rattle.tv_builder.specs.Behind.{pairs_parts, document_parts, open_parts}
 use Rattle.tv_builder.specs.Parts.{Part, number, pair, field, value, full_pair, Trades, same, by_rule}
 use Rattle.tv_builder.specs.State.{State, complete, parts_of}

@@ -1,5 +1,5 @@
 -- The texts of refusals are answers.
-use Rattle.std.proofs.Common.{◌≡◌, ℕ, ◌≤◌, ◌<◌, arith, inl, inr, List, [], ◌∷◌, ◌++◌, Result, Ok, Err, Some, refl, sym, ap, ◌∙◌, append_assoc}
+use Rattle.std.proofs.Common.{◌≡◌, ℕ, ◌<◌, arith, inl, inr, List, [], ◌∷◌, ◌++◌, Result, Ok, Err, Some, refl, sym, ap, ◌∙◌, append_assoc}
 use Rattle.std.specs.Prelude.{IsUtf8, OnOk, IfErr}
 use lib.Chars.{codes}
 use Rattle.std.proofs.lemmas.List.{append-nil}

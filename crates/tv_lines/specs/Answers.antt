@@ -14,7 +14,7 @@ use Rattle.tv_field.specs.declared.schema_error.SchemaError.{SchemaError}
 use Rattle.tv_field.specs.declared.schema_error.SchemaError.TheVariants as schema_error
 use Rattle.tv_store.specs.Stored.{stored}
 use Rattle.tv_format.specs.Short.{short_document}
-use Rattle.tv_format.specs.Tree.{Tree, Document}
+use Rattle.tv_format.specs.Tree.{Document}
 use Rattle.tv_format.specs.Version.{V2}
 
 -- the line is UTF-8, and encodes this JSON value

@@ -1,5 +1,5 @@
 -- What stops the addition of a pair: a heap without room.
-use Rattle.std.proofs.Common.{◌≡◌, ℕ, ◌≤◌, Result, Err, refl, ◌∙◌, arith}
+use Rattle.std.proofs.Common.{◌≡◌, Result, Err, refl, ◌∙◌}
 use Rattle.std.specs.Prelude.{IsErrOf}
 use Rattle.tv_base.specs.Stop.Stop.{Short}
 use Rattle.tv_doc.specs.declared.add_error.AddError.{AddError}

@@ -179,7 +179,8 @@ impl<'de, S: ByteSource> DocumentDeserializer for BinaryDocumentDeserializer<'de
 
     /// Reads the next pair, its value as one of this type. None where as many were read as are announced.
     ///
-    /// Errors: `CorruptedValue(UnexpectedEnd)` where the field ends within its four bytes, and those of `StoreReader::read`. Each is marked in the reader, and the place in the document stays.
+    /// Errors: `CorruptedValue(UnexpectedEnd)` where the field ends within its four bytes, and those of `StoreReader::read`. Each is
+    /// marked in the reader, and the place in the document stays.
     fn next_field<V: ValueDeserialize>(
         &mut self,
         alloc: Global,
