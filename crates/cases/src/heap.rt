@@ -9,7 +9,7 @@ use tv_borrowed::Scratch;
 use tv_borrowed::read::read_borrowed;
 use tv_builder::encoded::put_encoded;
 use tv_builder::json::put_json;
-use tv_builder::place::Place;
+use tv_heap::place::Place;
 use tv_format::version::WriteVersion;
 use tv_heap::len::leaf_len;
 use tv_heap::value_type::ValueType;

@@ -11,7 +11,7 @@ pub use Rattle.tv_builder.specs.declared.building.Building
 pub use Rattle.tv_builder.specs.declared.bytes_kind.BytesKind
 pub use Rattle.tv_builder.specs.declared.frame.Frame
 pub use Rattle.tv_builder.specs.declared.frame.ListKind
-pub use Rattle.tv_builder.specs.declared.place.Place
+pub use Rattle.tv_heap.specs.declared.place.Place
 pub use Rattle.tv_doc.specs.declared.builder.TreeBuilder
 pub use Rattle.tv_doc.specs.declared.add_error.AddError
 pub use Rattle.tv_doc.specs.declared.doc_parsing_error.DocParsingError

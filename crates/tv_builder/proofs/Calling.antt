@@ -12,7 +12,7 @@ use Rattle.tv_builder.specs.declared.building.Building.{Building}
 use Rattle.tv_builder.specs.declared.frame.Frame.{Frame}
 use Rattle.tv_builder.specs.declared.frame.ListKind.{ListKind}
 use Rattle.tv_builder.specs.declared.frame.ListKind.TheVariants.{Array, Object}
-use Rattle.tv_builder.specs.declared.place.Place.{Place}
+use Rattle.tv_heap.specs.declared.place.Place.{Place}
 use Rattle.tv_builder.specs.Called.{held, list_called, key_called, more_in, tree_called, elements_called, entries_called}
 use Rattle.tv_builder.specs.Given.{Given, given, place_bytes}
 use Rattle.tv_builder.specs.Kinds.{list_type, total}

@@ -12,7 +12,7 @@ use Rattle.tv_builder.specs.declared.build_error.BuildError.TheVariants.{Already
 use Rattle.tv_builder.specs.declared.building.Building.{Building}
 use Rattle.tv_builder.specs.declared.building.OpenBytes.{OpenBytes}
 use Rattle.tv_builder.specs.declared.frame.Frame.{Frame}
-use Rattle.tv_builder.specs.declared.place.Place.{Place}
+use Rattle.tv_heap.specs.declared.place.Place.{Place}
 use Rattle.tv_builder.specs.Given.{given}
 use Rattle.tv_builder.specs.Moves.{given_to, Gives, GivesNot, Moves, HasNoRoom, Does, FitsRoom, value_heap, ValueHeap, ValueFull}
 use Rattle.tv_builder.specs.TreeBytes.{tree_heap, tree_place}

@@ -21,7 +21,7 @@ use Rattle.tv_builder.specs.declared.bytes_kind.BytesKind.TheVariants as kinds
 use Rattle.tv_builder.specs.declared.frame.Frame.{Frame}
 use Rattle.tv_builder.specs.declared.frame.ListKind.{ListKind}
 use Rattle.tv_builder.specs.declared.frame.ListKind.TheVariants.{Array, Object}
-use Rattle.tv_builder.specs.declared.place.Place.{Place}
+use Rattle.tv_heap.specs.declared.place.Place.{Place}
 use Rattle.tv_builder.specs.Given.{given, pending_in, AreCut}
 use Rattle.tv_builder.specs.Kinds.{bytes_type}
 use Rattle.tv_builder.specs.Moves.{given_to, CanGive, CanGiveKey, Gives, GivesNot, GivesKey, Moves, HasNoRoom, EndsBytes, EndsWell, AwaitsEnd, last_bytes, content_heap, end_heap}

@@ -12,7 +12,7 @@ use Rattle.tv_heap.proofs.Grown.{grown_elements}
 use Rattle.tv_heap.proofs.Lists.{elements_push}
 use Rattle.tv_heap.proofs.Writes.{longer}
 use Rattle.tv_builder.specs.declared.frame.Frame.{Frame}
-use Rattle.tv_builder.specs.declared.place.Place.{Place}
+use Rattle.tv_heap.specs.declared.place.Place.{Place}
 use Rattle.tv_builder.specs.Given.{Given, given, place_bytes, still_lacks, one_more}
 use Rattle.tv_builder.specs.Kinds.{list_type, total}
 use Rattle.tv_builder.specs.Parts.{value, Trades, same}

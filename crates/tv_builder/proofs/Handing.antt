@@ -8,7 +8,7 @@ use Rattle.tv_builder.specs.declared.build_error.BuildError.TheVariants.{Already
 use Rattle.tv_builder.specs.declared.building.Building.{Building}
 use Rattle.tv_builder.specs.declared.building.OpenBytes.{OpenBytes}
 use Rattle.tv_builder.specs.declared.frame.Frame.{Frame}
-use Rattle.tv_builder.specs.declared.place.Place.{Place}
+use Rattle.tv_heap.specs.declared.place.Place.{Place}
 use Rattle.tv_builder.specs.Given.{Given, given, place_bytes, lacks, still_lacks, one_more, AreCut, pending_in}
 use Rattle.tv_builder.specs.Kinds.{list_type, total}
 use Rattle.tv_builder.specs.Moves.{CanGive, given_to, Gives, GivesNot, WhyNot, Closed, ClosedNot}

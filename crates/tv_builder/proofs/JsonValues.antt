@@ -9,7 +9,7 @@ use Rattle.tv_borrowed.proofs.Levels.{data_of-Array, data_of-Object}
 use Rattle.tv_value.specs.JsonTree.{whole_tree, whole_elements, whole_entries}
 use Rattle.tv_format.specs.Tree.{Tree, array, object, elements, element, entries, entry}
 use Rattle.tv_builder.specs.declared.frame.ListKind.TheVariants.{Array, Object}
-use Rattle.tv_builder.specs.declared.place.Place.{Place}
+use Rattle.tv_heap.specs.declared.place.Place.{Place}
 use Rattle.tv_builder.specs.Whole.{Put, ListPut}
 use Rattle.tv_builder.proofs.Putting.{ArrayPut, array_put, ObjectPut, object_put}
 

@@ -13,7 +13,7 @@ use Rattle.tv_builder.specs.declared.build_error.BuildError.TheVariants.{Already
 use Rattle.tv_builder.specs.declared.building.Building.{Building}
 use Rattle.tv_builder.specs.declared.bytes_kind.BytesKind.{BytesKind}
 use Rattle.tv_builder.specs.declared.bytes_kind.BytesKind.TheVariants as kinds
-use Rattle.tv_builder.specs.declared.place.Place.{Place}
+use Rattle.tv_heap.specs.declared.place.Place.{Place}
 use Rattle.tv_builder.specs.Given.{place_bytes, one_more, pending_in}
 use Rattle.tv_builder.specs.Kinds.{bytes_type}
 use Rattle.tv_builder.specs.Moves.{GivesKey, Moves, Does, KeyHeap, KeyFull}

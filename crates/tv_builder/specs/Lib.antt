@@ -1,4 +1,5 @@
 pub mod Kinds
+pub mod Holds
 pub mod Parts
 pub mod Prefix
 pub mod State

@@ -21,7 +21,7 @@ use Rattle.tv_builder.specs.declared.bytes_kind.BytesKind.TheVariants as kinds
 use Rattle.tv_builder.specs.declared.frame.Frame.{Frame}
 use Rattle.tv_builder.specs.declared.frame.ListKind.{ListKind}
 use Rattle.tv_builder.specs.declared.frame.ListKind.TheVariants.{Array, Object}
-use Rattle.tv_builder.specs.declared.place.Place.{Place}
+use Rattle.tv_heap.specs.declared.place.Place.{Place}
 use Rattle.tv_builder.specs.Shows.{ShowsLists, ShowsAt, Stands, frames_of}
 use Rattle.tv_builder.specs.State.{OpenList, State, complete, in_lists, in_bytes}
 

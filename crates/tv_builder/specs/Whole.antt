@@ -8,7 +8,7 @@ use Rattle.tv_heap.specs.Weight.{tree_weight}
 use Rattle.tv_builder.specs.declared.build_error.BuildError.{BuildError}
 use Rattle.tv_builder.specs.declared.build_error.BuildError.TheVariants.{HeapFull, Memory}
 use Rattle.tv_builder.specs.declared.frame.ListKind.{ListKind}
-use Rattle.tv_builder.specs.declared.place.Place.{Place}
+use Rattle.tv_heap.specs.declared.place.Place.{Place}
 use Rattle.tv_builder.specs.Kinds.{list_type}
 use Rattle.tv_builder.specs.Moves.{WhyNot}
 use Rattle.tv_builder.specs.Shows.{Placed}

@@ -13,7 +13,7 @@ use crate::build_error::BuildError;
 use crate::bytes_kind::BytesKind;
 use crate::fits::has_room;
 use crate::frame::{Frame, ListKind};
-use crate::place::Place;
+use tv_heap::place::Place;
 use crate::whole::{put_leaf, put_list, put_tree};
 use std::alloc::Global;
 use std::convert::AsStr;

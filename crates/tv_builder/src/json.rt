@@ -9,7 +9,7 @@ ghost use Rattle.tv_value.specs.JsonTree.{number_leaf, whole_tree, whole_element
 ghost use Rattle.tv_format.specs.Tree.{leaf, array, object};
 
 use crate::frame::ListKind;
-use crate::place::Place;
+use tv_heap::place::Place;
 use crate::whole::{put, put_list};
 use tv_borrowed::borrowed::BorrowedJson;
 use tv_heap::write::push_place;

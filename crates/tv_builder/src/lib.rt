@@ -10,5 +10,6 @@ mod fits;
 pub mod frame;
 pub mod json;
 pub mod laws;
-pub mod place;
+pub mod heap_pair;
+pub mod heap_pairs;
 mod whole;

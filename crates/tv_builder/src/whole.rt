@@ -10,7 +10,7 @@ ghost use Rattle.tv_builder.specs.Whole.{Put, PutNot, ListPut, ListPutNot};
 use crate::build_error::BuildError;
 use crate::fits::{has_room, has_value_room};
 use crate::frame::ListKind;
-use crate::place::Place;
+use tv_heap::place::Place;
 use std::convert::AsStr;
 use tv_heap::len::leaf_len;
 use tv_heap::write::{push_place, write_leaf, write_list};

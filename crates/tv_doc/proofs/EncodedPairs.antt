@@ -13,7 +13,7 @@ use Rattle.tv_format.specs.Version.{Version}
 use Rattle.tv_format.proofs.Prefixes.{begins_nothing, begins_cut, begins_then, begins_item, small_take}
 use Rattle.tv_heap.specs.Room.{room}
 use Rattle.tv_builder.specs.EncodedPut.{EncodedPut}
-use Rattle.tv_builder.specs.declared.place.Place.{Place}
+use Rattle.tv_heap.specs.declared.place.Place.{Place}
 use Rattle.tv_builder.proofs.Giving.{prefix_then}
 use Rattle.tv_doc.specs.declared.document.CompactDoc.{CompactDoc}
 use Rattle.tv_doc.specs.declared.place.FieldValueAddr.{FieldValueAddr}

@@ -10,7 +10,7 @@ use Rattle.tv_heap.specs.Wrote.{Wrote}
 use Rattle.tv_heap.proofs.Weights.{reads_weigh}
 use Rattle.tv_builder.specs.TreeBytes.{leaf_place, tree_heap, tree_place, elements_heap, entries_heap}
 use Rattle.tv_builder.specs.Whole.{Put}
-use Rattle.tv_builder.specs.declared.place.Place.{Place}
+use Rattle.tv_heap.specs.declared.place.Place.{Place}
 use Rattle.tv_builder.proofs.Giving.{prefix_length}
 use Rattle.tv_builder.proofs.Putting.{tree_prefix}
 use Rattle.tv_doc.specs.declared.add_error.AddError.{AddError}

@@ -9,7 +9,7 @@ use Rattle.tv_base.specs.Number.{vnum, groups_of}
 use Rattle.tv_base.specs.Parts.{short_sized}
 use Rattle.tv_builder.specs.Given.{place_bytes}
 use Rattle.tv_builder.specs.TreeBytes.{tree_heap, tree_place, elements_heap, elements_places, entries_heap, entries_places}
-use Rattle.tv_builder.specs.declared.place.Place.{Place}
+use Rattle.tv_heap.specs.declared.place.Place.{Place}
 use Rattle.tv_heap.specs.LeafBytes.{leaf_bytes}
 use Rattle.tv_heap.proofs.Writes.{length_eight}
 use Rattle.tv_heap.specs.Room.{room, leaf_room, elements_room, entries_room}

@@ -5,6 +5,7 @@ pub mod encoded;
 pub mod laws;
 pub mod len;
 mod lent;
+pub mod place;
 pub mod room;
 pub mod value;
 pub mod value_type;

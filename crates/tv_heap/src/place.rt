@@ -1,8 +1,8 @@
 //! Where a value stands in a heap.
 
-use tv_heap::value_type::ValueType;
+use crate::value_type::ValueType;
 
-/// The type and the address of a value or a key in a heap.
+/// The type and the address of a value or a key in a heap. (Not in tantivy.)
 #[derive(Clone, Copy, Debug)]
 pub struct Place {
     /// Its type.

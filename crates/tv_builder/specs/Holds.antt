@@ -1,0 +1,50 @@
+-- The document of all pairs: what a heap's readings give.
+use Rattle.std.specs.Prelude.{◌≡◌, ℕ, ◌<◌, ◌^◌, List, [], ◌∷◌, refl}
+use Rattle.std.proofs.Common.{sym, ◌∙◌}
+use Rattle.std.proofs.Math.Logic.{∥∥₁_elim, ∥∥₁_prop}
+use mathlib.Core.HLevel.{Σ_prop_path}
+use base.Stored.{Coded-set}
+use Rattle.tv_format.specs.Tree.{Tree, Document}
+use Rattle.tv_format.specs.TreeCode.{coded_document}
+use Rattle.tv_heap.specs.declared.place.Place.{Place}
+use Rattle.tv_heap.specs.TypeCode.{type_code}
+use Rattle.tv_heap.specs.Reads.{Reads}
+use Rattle.tv_heap.specs.ReadsLaws.{one_tree}
+use Rattle.tv_builder.specs.declared.heap_pair.HeapPair.{HeapPair}
+
+-- a field, and where its value stands
+abbrev pub pair_at : ℕ → Place → HeapPair
+pair_at field place = record { field = field; place = place }
+
+-- a pair's field and tree
+pub record ReadsPair (heap : List ℕ) (p : HeapPair) (pair : ℕ × Tree) : Type 0 where
+  pub field : p.field ≡ pair.0
+  pub fits : pair.0 < 2 ^ 32
+  pub reads : Reads heap (type_code p.place.value_type) p.place.address pair.1
+
+-- each pair's
+abbrev pub ReadsPairs : List ℕ → List HeapPair → Document → Type 0
+ReadsPairs heap [] [] = Unit {0}
+ReadsPairs heap (p ∷ ps) (pair ∷ d) = ReadsPair heap p pair × ReadsPairs heap ps d
+ReadsPairs heap _ _ = ⊥
+
+pub one_document : (heap : List ℕ) (ps : List HeapPair) (d e : Document) → ReadsPairs heap ps d → ReadsPairs heap ps e → d ≡ e
+one_document heap [] [] [] r s = refl
+one_document heap (p ∷ ps) (x ∷ d) (y ∷ e) r s =
+    let field : x.0 ≡ y.0 = sym r.0.field ∙ s.0.field in
+    let tree = one_tree heap (type_code p.place.value_type) p.place.address x.1 y.1 r.0.reads s.0.reads in
+    let rest = one_document heap ps d e r.1 s.1 in
+    λ i. (field i, tree i) ∷ rest i
+one_document heap [] [] (y ∷ e) r s = absurd s
+one_document heap [] (x ∷ d) e r s = absurd r
+one_document heap (p ∷ ps) [] e r s = absurd r
+one_document heap (p ∷ ps) (x ∷ d) [] r s = absurd s
+
+-- the document that a heap and its pairs hold
+abbrev pub Holds : List ℕ → List HeapPair → Type 0
+Holds heap ps = (d : Document) × ∥ ReadsPairs heap ps d ∥₁
+
+pub Holds-prop : (heap : List ℕ) (ps : List HeapPair) → IsProp (Holds heap ps)
+Holds-prop heap ps x y =
+    Σ_prop_path (λ d. ∥∥₁_prop)
+    (∥∥₁_elim x.1 (Coded-set coded_document x.0 y.0) (λ p. ∥∥₁_elim y.1 (Coded-set coded_document x.0 y.0) (λ q. one_document heap ps x.0 y.0 p q)))
