@@ -1,5 +1,6 @@
 pub mod Kinds
 pub mod Holds
+pub mod HeapPairs
 pub mod Parts
 pub mod Prefix
 pub mod State
@@ -13,3 +14,5 @@ pub mod Behind
 pub mod OneState
 pub mod Called
 pub mod EncodedPut
+pub mod Builder
+pub mod Finish

@@ -12,4 +12,5 @@ pub mod json;
 pub mod laws;
 pub mod heap_pair;
 pub mod heap_pairs;
+pub mod pair_builder;
 mod whole;

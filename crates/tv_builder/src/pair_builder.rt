@@ -1,0 +1,287 @@
+//! Building the values of pairs part by part, in one heap.
+
+ghost use Rattle.std.specs.Prelude.{◌≡◌, ◌+◌, ◌<◌, ◌≤◌, ◌∷◌, [], ◌++◌, OnOk, OnErr, IfErr, length};
+ghost use Rattle.std.specs.Prelude.{take, true, false, None};
+ghost use Rattle.tv_builder.specs.OneState.{Stands-prop};
+ghost use Rattle.tv_builder.specs.Shows.{Stands};
+ghost use Rattle.tv_builder.specs.State.{written};
+ghost use Rattle.tv_builder.specs.Finish.{HoldsPrefix, HoldsPrefix-prop, Cleared, Kept, KeptNot};
+ghost use Rattle.tv_builder.specs.Weight.{document_weight, state_weight};
+ghost use Rattle.tv_heap.specs.Room.{document_room};
+
+use crate::awaits::Awaits;
+use crate::build_error::BuildError;
+use crate::building::Building;
+use crate::bytes_kind::BytesKind;
+use crate::frame::ListKind;
+use crate::heap_pair::HeapPair;
+use crate::heap_pairs::{HeapPairs, push_pair};
+use std::alloc::Global;
+use tv_value::leaf::ReferenceValueLeaf;
+use tv_value::value::Value;
+
+// After a refusal, lets go of what isn't finished and marks it.
+fn settle(
+    building: &mut Building,
+    failed: &mut bool,
+    kept: usize,
+    answer: Result<(), BuildError>,
+) -> Result<(), BuildError>
+    ensures same { result ≡ answer }
+    ensures ok { OnOk answer (building.new ≡ building.old) }
+    ensures live { OnOk answer (failed.new ≡ failed.old) }
+    ensures err { OnErr answer (Cleared building.old building.new kept) }
+    ensures mark { OnErr answer (failed.new ≡ true) }
+{
+    if answer.is_err() {
+        building.clear(kept);
+        *failed = true;
+    }
+    answer
+}
+
+// Makes the complete value that of a pair.
+fn keep_tree(
+    building: &mut Building,
+    pairs: &mut Vec<HeapPair>,
+    kept: &mut usize,
+    field: u32,
+) -> Result<(), BuildError>
+    ensures ok { OnOk result
+        (Kept building.old building.new pairs.old.items pairs.new.items kept.new field) }
+    ensures err { IfErr result
+        (λ e. KeptNot building.old building.new pairs.old.items pairs.new.items kept.old kept.new e) }
+{
+    let Some(place) = building.complete else {
+        return Err(BuildError::OutOfPlace);
+    };
+    push_pair(pairs, HeapPair { field, place })?;
+    building.complete = None;
+    *kept = building.heap.len();
+    Ok(())
+}
+
+/// Pairs in a heap, and a value of any depth that is written into it as its parts arrive. (Not in tantivy.)
+///
+/// A value comes by one call, or as a list whose children come by as many calls, or as bytes in chunks. A list closes itself with its
+/// last child. The complete value becomes a pair by `finish`. After any refusal nothing is open, and every call that can refuse
+/// returns `AlreadyFailed`; the finished pairs stay. No call's time grows with the number of open lists or of finished pairs; what closes a
+/// list takes as long as its own bytes.
+#[derive(Debug, Drop)]
+pub struct PairBuilder {
+    building: Building,
+    pairs: Vec<HeapPair>,
+    // The length of the heap behind the last finished pair.
+    kept: usize,
+    failed: bool,
+    pub ghost document: { HoldsPrefix building.heap.items kept pairs.items } by { HoldsPrefix-prop building.heap.items kept pairs.items },
+    pub ghost kept_within: { kept ≤ length building.heap.items },
+    pub ghost room: { kept ≤ document_room document.0 },
+    pub ghost weight: { kept ≤ document_weight document.0 },
+    pub ghost state: { Stands building } by { Stands-prop building },
+    pub ghost written: { length building.heap.items ≤ kept + written state.0 },
+}
+
+impl PairBuilder {
+    ghost use Rattle.tv_builder.specs.Moves.{LeafHeap, LeafFull, LeafFits, ValueHeap, ValueFull};
+    ghost use Rattle.tv_builder.specs.Moves.{ListHeap, ListFull, ListFits, KeyHeap, KeyFull};
+    ghost use Rattle.tv_builder.specs.Moves.{HeadHeap, HeadFull};
+    ghost use Rattle.tv_builder.specs.State.{and_value, and_list, and_key, and_head, and_bytes};
+    ghost use Rattle.tv_builder.specs.State.{awaited, head_awaits, in_lists, lists_of, children_of};
+    ghost use Rattle.tv_builder.specs.declared.awaits.Awaits.TheVariants.{Value as ValueNext};
+    ghost use Rattle.tv_builder.specs.declared.awaits.Awaits.TheVariants.{Key as KeyNext};
+    ghost use Rattle.tv_builder.specs.Builder.{built, state_of, heap_so_far, TakesBytes, Builds, Ends};
+    ghost use Rattle.tv_builder.specs.Builder.{Finishes};
+    ghost use Rattle.tv_builder.specs.HeapPairs.{document_of, heap_of};
+    ghost use Rattle.tv_format.specs.Tree.{leaf as leaf_tree};
+    ghost use Rattle.tv_value.specs.Lent.{leaf_of};
+
+    /// A builder behind these pairs. It takes no memory.
+    pub fn new(alloc: Global, finished: HeapPairs) -> PairBuilder
+        ensures document { built result ≡ document_of finished }
+        ensures heap { heap_so_far result ≡ heap_of finished }
+        ensures kept { result.kept ≡ length (heap_of finished) }
+        ensures state { state_of result ≡ in_lists [] }
+        ensures live { result.failed ≡ false }
+    {
+        let kept = finished.heap.len();
+        PairBuilder {
+            building: Building::new(alloc, finished.heap),
+            pairs: finished.pairs,
+            kept,
+            failed: false,
+        }
+    }
+
+    /// The finished pairs, at any time, also after a refusal. Their heap ends behind the last of their values.
+    pub fn into_pairs(self) -> HeapPairs
+        ensures document { document_of result ≡ built self }
+        ensures heap { heap_of result ≡ take self.kept (heap_so_far self) }
+    {
+        let building = self.building;
+        let mut heap = building.heap;
+        heap.truncate(self.kept);
+        HeapPairs {
+            heap,
+            pairs: self.pairs,
+        }
+    }
+
+    /// The length of the heap, in bytes: at most what the finished pairs and the value that comes next weigh.
+    pub fn heap_len(&self) -> usize
+        ensures same { result ≡ length (heap_so_far self.now) }
+        ensures within { result
+            ≤ document_weight (built self.now) + state_weight (state_of self.now) }
+    {
+        self.building.heap.len()
+    }
+
+    /// How many finished children the open lists have, keys among them.
+    pub fn pending(&self) -> usize
+        ensures { result ≡ children_of (lists_of (state_of self.now)) }
+    {
+        self.building.pending
+    }
+
+    /// How many lists are open.
+    pub fn frames(&self) -> usize
+        ensures { result ≡ length (lists_of (state_of self.now)) }
+    {
+        self.building.frames.len()
+    }
+
+    /// What the next call must be; after a refusal, what it would have to be at first. (Not in tantivy.)
+    pub fn awaits(&self) -> Awaits
+        ensures { result ≡ awaited (state_of self.now) }
+    {
+        self.building.awaits()
+    }
+
+    /// A value without children.
+    ///
+    /// `AlreadyFailed` after a refusal; `OutOfPlace` where no value is awaited; `HeapFull` where the value, or a list that it closes, would
+    /// end above 4294967295; `Memory` where memory is refused. `Memory` comes only where the value itself fits; it may come before the
+    /// `HeapFull` of a list that the value closes.
+    pub fn leaf(&mut self, value: ReferenceValueLeaf<'_>) -> Result<(), BuildError>
+        ensures { let l = leaf_of value.entry in Builds self.old self.new
+            (awaited (state_of self.old) ≡ ValueNext) (LeafHeap self.old.building l)
+            (LeafFull self.old.building l) (LeafFits self.old.building l)
+            (λ s. and_value s (leaf_tree l)) result }
+    {
+        if self.failed {
+            return Err(BuildError::AlreadyFailed);
+        }
+        let result = self.building.leaf(&value);
+        settle(&mut self.building, &mut self.failed, self.kept, result)
+    }
+
+    /// A whole value of any kind: what the calls for its parts do.
+    ///
+    /// `AlreadyFailed` after a refusal; `OutOfPlace` where no value is awaited; `HeapFull` where a part of the value, or a list that it
+    /// closes, would end above 4294967295; `Memory` where memory is refused, which may come before the `HeapFull` of a later part of the
+    /// value, or of a list that it closes.
+    pub fn tree<'a, V: Value<'a>>(&mut self, value: &V) -> Result<(), BuildError>
+        ensures { let t = V.tree value.now in Builds self.old self.new
+            (awaited (state_of self.old) ≡ ValueNext) (ValueHeap self.old.building t)
+            (ValueFull self.old.building t) (Unit {0}) (λ s. and_value s t) result }
+    {
+        if self.failed {
+            return Err(BuildError::AlreadyFailed);
+        }
+        let result = self.building.tree(value);
+        settle(&mut self.building, &mut self.failed, self.kept, result)
+    }
+
+    /// A list opens, of which so many elements or entries are announced. One of none closes at once. Nothing is reserved.
+    ///
+    /// `AlreadyFailed` after a refusal; `OutOfPlace` where no value is awaited; `HeapFull` where the list, or one that it closes,
+    /// would end above 4294967295; `Memory` where memory is refused. `Memory` comes only where a list of none itself fits; it may come
+    /// before the `HeapFull` of a list that the list closes.
+    pub fn open_list(&mut self, kind: ListKind, announced: u64) -> Result<(), BuildError>
+        ensures { Builds self.old self.new (awaited (state_of self.old) ≡ ValueNext)
+            (ListHeap self.old.building kind announced)
+            (ListFull self.old.building kind announced) (ListFits self.old.building announced)
+            (λ s. and_list s kind announced) result }
+    {
+        if self.failed {
+            return Err(BuildError::AlreadyFailed);
+        }
+        let result = self.building.open_list(kind, announced);
+        settle(&mut self.building, &mut self.failed, self.kept, result)
+    }
+
+    /// A key of the innermost object.
+    ///
+    /// `AlreadyFailed` after a refusal; `OutOfPlace` where no key is awaited; `HeapFull` where the key would end above 4294967295; else
+    /// `Memory` where memory is refused. `Memory` comes only where the key fits.
+    pub fn key(&mut self, content: &str) -> Result<(), BuildError>
+        ensures { Builds self.old self.new (awaited (state_of self.old) ≡ KeyNext)
+            (KeyHeap self.old.building content.now) (KeyFull self.old.building content.now)
+            (¬ KeyFull self.old.building content.now) (λ s. and_key s content.now) result }
+    {
+        if self.failed {
+            return Err(BuildError::AlreadyFailed);
+        }
+        let result = self.building.key(content);
+        settle(&mut self.building, &mut self.failed, self.kept, result)
+    }
+
+    /// The bytes of a value or of a key begin, of which so many are announced. Nothing is reserved.
+    ///
+    /// `AlreadyFailed` after a refusal; `OutOfPlace` where no value, or for a key no key, is awaited; `HeapFull` where the announced
+    /// bytes behind their length would end above 4294967295; else `Memory` where memory is refused. `Memory` comes only where they fit.
+    pub fn begin_bytes(&mut self, kind: BytesKind, announced: u64) -> Result<(), BuildError>
+        ensures { Builds self.old self.new (awaited (state_of self.old) ≡ head_awaits kind)
+            (HeadHeap self.old.building announced) (HeadFull self.old.building announced)
+            (¬ HeadFull self.old.building announced) (λ s. and_head s kind announced) result }
+    {
+        if self.failed {
+            return Err(BuildError::AlreadyFailed);
+        }
+        let result = self.building.begin_bytes(kind, announced);
+        settle(&mut self.building, &mut self.failed, self.kept, result)
+    }
+
+    /// Some of the announced bytes.
+    ///
+    /// `AlreadyFailed` after a refusal; `OutOfPlace` where fewer are missing; else `Memory` where memory is refused.
+    pub fn chunk(&mut self, bytes: &[u8]) -> Result<(), BuildError>
+        ensures { Builds self.old self.new (TakesBytes (state_of self.old) (length bytes.now))
+            (λ heap. heap ≡ heap_so_far self.old ++ bytes.now) ⊥ (Unit {0})
+            (λ s. and_bytes s bytes.now) result }
+    {
+        if self.failed {
+            return Err(BuildError::AlreadyFailed);
+        }
+        let result = self.building.chunk(bytes);
+        settle(&mut self.building, &mut self.failed, self.kept, result)
+    }
+
+    /// All announced bytes have come, and are a finished value or key.
+    ///
+    /// `AlreadyFailed` after a refusal; `OutOfPlace` where no bytes are open, or some are missing; `NotUtf8` where they should be a text,
+    /// a facet or a key and aren't UTF-8; `HeapFull` where a list that the value closes would end above 4294967295; `Memory` where memory is
+    /// refused, which may come before that `HeapFull`.
+    pub fn end_bytes(&mut self) -> Result<(), BuildError>
+        ensures { Ends self.old self.new result }
+    {
+        if self.failed {
+            return Err(BuildError::AlreadyFailed);
+        }
+        let result = self.building.end_bytes();
+        settle(&mut self.building, &mut self.failed, self.kept, result)
+    }
+
+    /// The complete value becomes that of a pair.
+    ///
+    /// `AlreadyFailed` after a refusal; `OutOfPlace` where no value is complete; else `Memory` where memory is refused.
+    pub fn finish(&mut self, field: u32) -> Result<(), BuildError>
+        ensures { Finishes self.old self.new field result }
+    {
+        if self.failed {
+            return Err(BuildError::AlreadyFailed);
+        }
+        let result = keep_tree(&mut self.building, &mut self.pairs, &mut self.kept, field);
+        settle(&mut self.building, &mut self.failed, self.kept, result)
+    }
+}
