@@ -21,13 +21,13 @@ use Rattle.tv_builder.specs.State.{State, OpenList, complete, in_lists, in_bytes
 use Rattle.tv_builder.specs.Builder.{TakesBytes, HasAllBytes, HasContent}
 
 -- the same call, its place said otherwise
-pub does_as : (old mid : Building) (P Q : Type 0) (heaps : List ℕ → Type 0) (full fits : Type 0) (after : State → State) (r : Result (Unit {0}) BuildError) → (P → Q) → (Q → P) → Does old mid P heaps full fits after r → Does old mid Q heaps full fits after r
-does_as old mid P Q heaps full fits after (Ok x) f g d = (f d.0, d.1, d.2)
-does_as old mid P Q heaps full fits after (Err OutOfPlace) f g d = ((λ q. d.0 (g q)), d.1)
-does_as old mid P Q heaps full fits after (Err HeapFull) f g d = (f d.0, d.1, d.2, d.3)
-does_as old mid P Q heaps full fits after (Err Memory) f g d = (f d.0, d.1, d.2)
-does_as old mid P Q heaps full fits after (Err AlreadyFailed) f g d = absurd d
-does_as old mid P Q heaps full fits after (Err NotUtf8) f g d = absurd d
+pub does_as : (old mid : Building) (P Q fits : Type 0) (after : State → State) (r : Result (Unit {0}) BuildError) → (P → Q) → (Q → P) → Does old mid P fits after r → Does old mid Q fits after r
+does_as old mid P Q fits after (Ok x) f g d = (f d.0, d.1)
+does_as old mid P Q fits after (Err OutOfPlace) f g d = ((λ q. d.0 (g q)), d.1)
+does_as old mid P Q fits after (Err HeapFull) f g d = (f d.0, d.1, d.2, d.3)
+does_as old mid P Q fits after (Err Memory) f g d = (f d.0, d.1, d.2)
+does_as old mid P Q fits after (Err AlreadyFailed) f g d = absurd d
+does_as old mid P Q fits after (Err NotUtf8) f g d = absurd d
 
 -- kinds have a code, that of a state with open bytes, so that two are equal in one way at most
 abbrev kind_in : State → BytesKind

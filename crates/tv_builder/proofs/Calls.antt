@@ -4,8 +4,6 @@ use Rattle.std.proofs.lemmas.Bool.{cases_lt}
 use Rattle.tv_base.specs.Sink.{IsPrefix}
 use Rattle.tv_format.specs.Tree.{Tree}
 use Rattle.tv_heap.specs.Weight.{tree_weight}
-use Rattle.tv_heap.specs.TypeCode.{type_code}
-use Rattle.tv_heap.specs.Wrote.{Wrote}
 use Rattle.tv_builder.specs.declared.awaits.Awaits.TheVariants as awaits
 use Rattle.tv_builder.specs.declared.build_error.BuildError.{BuildError}
 use Rattle.tv_builder.specs.declared.build_error.BuildError.TheVariants.{AlreadyFailed, OutOfPlace, NotUtf8, HeapFull, Memory}
@@ -13,8 +11,9 @@ use Rattle.tv_builder.specs.declared.building.Building.{Building}
 use Rattle.tv_builder.specs.declared.building.OpenBytes.{OpenBytes}
 use Rattle.tv_builder.specs.declared.frame.Frame.{Frame}
 use Rattle.tv_heap.specs.declared.place.Place.{Place}
-use Rattle.tv_builder.specs.Given.{given}
-use Rattle.tv_builder.specs.Moves.{given_to, Gives, GivesNot, Moves, HasNoRoom, Does, FitsRoom, value_heap, ValueHeap, ValueFull}
+use Rattle.tv_builder.specs.Given.{Given, given}
+use Rattle.tv_builder.specs.Image.{full_length, held, image_of}
+use Rattle.tv_builder.specs.Moves.{given_to, Gives, GivesNot, Moves, IsFull, HasNoRoom, Does, FitsRoom}
 use Rattle.tv_builder.specs.TreeBytes.{tree_heap, tree_place}
 use Rattle.tv_builder.specs.Whole.{Put, PutNot, WhyNoTree}
 use Rattle.tv_builder.proofs.Putting.{tree_prefix}
@@ -22,6 +21,7 @@ use Rattle.tv_heap.proofs.Writes.{longer}
 use Rattle.tv_builder.specs.Shows.{Placed, ShowsLists, ShowsAt, Shows, frames_of, awaited_by}
 use Rattle.tv_builder.specs.State.{OpenList, State, complete, in_lists, in_bytes, with_value, and_value, AreLists, AllAwait, lists_written, written}
 use Rattle.tv_builder.proofs.Giving.{prefix_then, prefix_length, given_prefix, lists_grown, given_shows, value_is}
+use Rattle.tv_builder.proofs.Images.{gives_held, value_image, image_heap}
 use Rattle.tv_builder.proofs.NoRoom.{lists_as, value_no_room, value_over}
 use Rattle.tv_builder.proofs.Sound.{awaited_same, value_none, all_await}
 
@@ -52,13 +52,21 @@ handed mid new p t ls are await h placed closed g =
 pub given_grows : (mid new : Building) (p : Place) → Gives mid p new → IsPrefix mid.heap.items new.heap.items
 given_grows mid new p g = let f = given_prefix (frames_of mid) mid.heap.items mid.places.items p in (f.0, g.heap ∙ f.1)
 
+-- a value that was written behind what stood before
+pub record ValueStands (old mid : Building) (p : Place) (t : Tree) : Type 0 where
+  pub heap : mid.heap.items ≡ tree_heap old.heap.items t
+  pub place : p ≡ tree_place old.heap.items t
+  pub frames : frames_of mid ≡ frames_of old
+  pub places : mid.places.items ≡ old.places.items
+
 -- what stood before stands for lists, which await a value
-pub value_moves : (old mid new : Building) (p : Place) (t : Tree) (more : List ℕ) → awaited_by old ≡ awaits.Value → mid.heap.items ≡ old.heap.items ++ more → length more ≤ tree_weight t → frames_of mid ≡ frames_of old
-    → mid.places.items ≡ old.places.items → mid.open ≡ old.open → Placed mid.heap.items p t → Gives mid p new → Moves old new (λ s. and_value s t)
-value_moves old mid new p t more await grows small frames places bytes placed g = record {
+pub value_moves : (old mid new : Building) (p : Place) (t : Tree) (more : List ℕ) → awaited_by old ≡ awaits.Value → mid.heap.items ≡ old.heap.items ++ more → length more ≤ tree_weight t → ValueStands old mid p t
+    → mid.open ≡ old.open → Placed mid.heap.items p t → Gives mid p new → Moves old new (λ s. and_value s t)
+value_moves old mid new p t more await grows small w bytes placed g = record {
   grows = prefix_then old.heap.items mid.heap.items new.heap.items (more, grows) (given_grows mid new p g);
   shows = λ s h. (next s h).0;
   within = λ s h. (next s h).1;
+  image = drawn;
 }
   where
     next : (s : State) → Shows old s → Shows new (and_value s t) × (length new.heap.items + written s ≤ length old.heap.items + written (and_value s t))
@@ -66,47 +74,65 @@ value_moves old mid new p t more await grows small frames places bytes placed g 
     next (in_bytes ls kind n bs) h = absurd (let e : awaits.Bytes (n - length bs) ≡ awaits.Value = sym (awaited_same _ _ _ _ _ (in_bytes ls kind n bs) h.at) ∙ await in cc)
     next (in_lists ls) h =
         let all = all_await ls (sym (awaited_same _ _ _ _ _ (in_lists ls) h.at) ∙ await) h.is.1 in
-        let lists = lists_as mid.heap.items (frames_of old) (frames_of mid) old.places.items mid.places.items ls frames places
+        let lists = lists_as mid.heap.items (frames_of old) (frames_of mid) old.places.items mid.places.items ls w.frames w.places
         (lists_grown old.heap.items mid.heap.items more (frames_of old) old.places.items ls grows h.at.lists) in
         let r = handed mid new p t ls h.is.0 all lists placed (bytes ∙ (value_none old.open old.complete (frames_of old) await).1) g in
         (r.0, omega (arith, r.1, small, ap length grows, length-append old.heap.items more))
 
+    drawn : (base : List ℕ) (s : State) → Shows old s → held old ≡ image_of base s → held new ≡ image_of base (and_value s t)
+    drawn base (complete u) h is = absurd (let e : awaits.Finish ≡ awaits.Value = sym (awaited_same _ _ _ _ _ (complete u) h.at) ∙ await in cc)
+    drawn base (in_bytes ls kind n bs) h is = absurd (let e : awaits.Bytes (n - length bs) ≡ awaits.Value = sym (awaited_same _ _ _ _ _ (in_bytes ls kind n bs) h.at) ∙ await in cc)
+    drawn base (in_lists ls) h is =
+        gives_held mid new p g ∙ (λ i. given (w.heap i) (w.places i) (w.frames i) (w.place i)) ∙
+        value_image base ls t (held old) h.is.0 (all_await ls (sym (awaited_same _ _ _ _ _ (in_lists ls) h.at) ∙ await) h.is.1) is
+
+-- handing it over, or writing it, makes the heap too long
+value_full : (old : Building) (t : Tree) → awaited_by old ≡ awaits.Value → 4294967295 < length (given (tree_heap old.heap.items t) old.places.items (frames_of old) (tree_place old.heap.items t)).heap → IsFull old (λ s. and_value s t)
+value_full old t await over = full
+  where
+    full : (base : List ℕ) (s : State) → Shows old s → held old ≡ image_of base s → 4294967295 < full_length base (and_value s t)
+    full base (complete u) h is = absurd (let e : awaits.Finish ≡ awaits.Value = sym (awaited_same _ _ _ _ _ (complete u) h.at) ∙ await in cc)
+    full base (in_bytes ls kind n bs) h is = absurd (let e : awaits.Bytes (n - length bs) ≡ awaits.Value = sym (awaited_same _ _ _ _ _ (in_bytes ls kind n bs) h.at) ∙ await in cc)
+    full base (in_lists ls) h is =
+        let whole = value_image base ls t (held old) h.is.0 (all_await ls (sym (awaited_same _ _ _ _ _ (in_lists ls) h.at) ∙ await) h.is.1) is in
+        omega (arith, over, ap (λ (z : Given). length z.heap) whole, ap length (image_heap base (with_value ls t)))
+
+given_full : (old mid : Building) (p : Place) (t : Tree) → awaited_by old ≡ awaits.Value → ValueStands old mid p t → 4294967295 < length (given_to mid p).heap → IsFull old (λ s. and_value s t)
+given_full old mid p t await w over = value_full old t await (subst (λ (z : Given). 4294967295 < length z.heap) (λ i. given (w.heap i) (w.places i) (w.frames i) (w.place i)) over)
+
 -- what handing it over answers
-pub does_give : (old mid new : Building) (p : Place) (in_place full fits : Type 0) (heaps : List ℕ → Type 0) (after : State → State) (r : Result (Unit {0}) BuildError) → in_place
-    → (Gives mid p new → heaps new.heap.items) → (4294967295 < length (given_to mid p).heap → full) → (4294967295 < length (given_to mid p).heap → HasNoRoom old after) → fits → IsPrefix old.heap.items mid.heap.items → (Gives mid p new → Moves old new after)
-    → OnOk r (Gives mid p new) → IfErr r (λ e. GivesNot mid p new e) → Does old new in_place heaps full fits after r
-does_give old mid new p in_place full fits heaps after (Ok x) here is over no_room holds prefix moves ok err = (here, is ok, moves ok)
-does_give old mid new p in_place full fits heaps after (Err HeapFull) here is over no_room holds prefix moves ok err = (here, over err.why, prefix_then old.heap.items mid.heap.items new.heap.items prefix err.prefix, no_room err.why)
-does_give old mid new p in_place full fits heaps after (Err Memory) here is over no_room holds prefix moves ok err = (here, holds, prefix_then old.heap.items mid.heap.items new.heap.items prefix err.prefix)
-does_give old mid new p in_place full fits heaps after (Err AlreadyFailed) here is over no_room holds prefix moves ok err = absurd err.why
-does_give old mid new p in_place full fits heaps after (Err OutOfPlace) here is over no_room holds prefix moves ok err = absurd err.why
-does_give old mid new p in_place full fits heaps after (Err NotUtf8) here is over no_room holds prefix moves ok err = absurd err.why
+pub does_give : (old mid new : Building) (p : Place) (in_place fits : Type 0) (after : State → State) (r : Result (Unit {0}) BuildError) → in_place → (4294967295 < length (given_to mid p).heap → IsFull old after)
+    → (4294967295 < length (given_to mid p).heap → HasNoRoom old after) → fits → IsPrefix old.heap.items mid.heap.items → (Gives mid p new → Moves old new after)
+    → OnOk r (Gives mid p new) → IfErr r (λ e. GivesNot mid p new e) → Does old new in_place fits after r
+does_give old mid new p in_place fits after (Ok x) here over no_room holds prefix moves ok err = (here, moves ok)
+does_give old mid new p in_place fits after (Err HeapFull) here over no_room holds prefix moves ok err = (here, over err.why, prefix_then old.heap.items mid.heap.items new.heap.items prefix err.prefix, no_room err.why)
+does_give old mid new p in_place fits after (Err Memory) here over no_room holds prefix moves ok err = (here, holds, prefix_then old.heap.items mid.heap.items new.heap.items prefix err.prefix)
+does_give old mid new p in_place fits after (Err AlreadyFailed) here over no_room holds prefix moves ok err = absurd err.why
+does_give old mid new p in_place fits after (Err OutOfPlace) here over no_room holds prefix moves ok err = absurd err.why
+does_give old mid new p in_place fits after (Err NotUtf8) here over no_room holds prefix moves ok err = absurd err.why
 
 -- ---- a whole value
 
-pub wrote_placed : (old new : List ℕ) (p : Place) (t : Tree) → Wrote old new (type_code p.value_type) p.address t → Placed new p t
-wrote_placed old new p t w = record { reads = w.reads; below = w.below; fits = w.fits }
-
 pub does_value : (old mid new : Building) (p : Place) (t : Tree) (fits : Type 0) (r : Result (Unit {0}) BuildError) → awaited_by old ≡ awaits.Value → fits → Put old.heap.items t mid.heap.items p → frames_of mid ≡ frames_of old → mid.places.items ≡ old.places.items
-    → mid.open ≡ old.open → OnOk r (Gives mid p new) → IfErr r (λ e. GivesNot mid p new e) → Does old new (awaited_by old ≡ awaits.Value) (ValueHeap old t) (ValueFull old t) fits (λ s. and_value s t) r
+    → mid.open ≡ old.open → OnOk r (Gives mid p new) → IfErr r (λ e. GivesNot mid p new e) → Does old new (awaited_by old ≡ awaits.Value) fits (λ s. and_value s t) r
 does_value old mid new p t fits r await holds w frames places bytes ok err =
-    let as_given : (given_to mid p).heap ≡ value_heap old t = λ i. (given (w.heap i) (places i) (frames i) (w.place i)).heap in
+    let stands : ValueStands old mid p t = record { heap = w.heap; place = w.place; frames = frames; places = places } in
     let f = tree_prefix old.heap.items t in
     let grows : mid.heap.items ≡ old.heap.items ++ f.0 = w.heap ∙ f.1 in
     let small : length f.0 ≤ tree_weight t = omega (arith, w.weighed, longer old.heap.items mid.heap.items f.0 grows) in
-    does_give old mid new p (awaited_by old ≡ awaits.Value) (ValueFull old t) fits (ValueHeap old t) (λ s. and_value s t) r await (λ g. g.heap ∙ as_given) (λ h. subst (λ z. 4294967295 < length z) as_given h)
-    (value_no_room old mid p t f.0 await grows small w.fits frames places w.placed) holds (f.0, grows) (λ g. value_moves old mid new p t f.0 await grows small frames places bytes w.placed g) ok err
+    does_give old mid new p (awaited_by old ≡ awaits.Value) fits (λ s. and_value s t) r await (given_full old mid p t await stands)
+    (value_no_room old mid p t f.0 await grows small w.fits frames places w.placed) holds (f.0, grows) (λ g. value_moves old mid new p t f.0 await grows small stands bytes w.placed g) ok err
 
 -- it isn't written
 pub value_not : (old new : Building) (t : Tree) (fits : Type 0) (e : BuildError) → awaited_by old ≡ awaits.Value → (e ≡ Memory → fits) → PutNot old.heap.items t new.heap.items e
-    → Does old new (awaited_by old ≡ awaits.Value) (ValueHeap old t) (ValueFull old t) fits (λ s. and_value s t) (Err e)
+    → Does old new (awaited_by old ≡ awaits.Value) fits (λ s. and_value s t) (Err e)
 value_not old new t fits e await holds w = answer e holds w.why
   where
-    more : length (tree_heap old.heap.items t) ≤ length (value_heap old t)
+    more : length (tree_heap old.heap.items t) ≤ length (given (tree_heap old.heap.items t) old.places.items (frames_of old) (tree_place old.heap.items t)).heap
     more = prefix_length _ _ (given_prefix (frames_of old) (tree_heap old.heap.items t) old.places.items (tree_place old.heap.items t))
 
-    answer : (x : BuildError) → (x ≡ Memory → fits) → WhyNoTree old.heap.items t x → Does old new (awaited_by old ≡ awaits.Value) (ValueHeap old t) (ValueFull old t) fits (λ s. and_value s t) (Err x)
-    answer HeapFull k h = (await, omega (arith, h.0, more), w.prefix, value_over old t await h.1)
+    answer : (x : BuildError) → (x ≡ Memory → fits) → WhyNoTree old.heap.items t x → Does old new (awaited_by old ≡ awaits.Value) fits (λ s. and_value s t) (Err x)
+    answer HeapFull k h = (await, value_full old t await (omega (arith, h.0, more)), w.prefix, value_over old t await h.1)
     answer Memory k h = (await, k refl, w.prefix)
     answer AlreadyFailed k h = absurd h
     answer OutOfPlace k h = absurd h

@@ -22,16 +22,19 @@ use Rattle.tv_builder.specs.declared.frame.Frame.{Frame}
 use Rattle.tv_builder.specs.declared.frame.ListKind.{ListKind}
 use Rattle.tv_builder.specs.declared.frame.ListKind.TheVariants.{Array, Object}
 use Rattle.tv_heap.specs.declared.place.Place.{Place}
-use Rattle.tv_builder.specs.Given.{given, pending_in, AreCut}
+use Rattle.tv_builder.specs.Given.{Given, given, pending_in, AreCut}
+use Rattle.tv_builder.specs.Image.{lists_heap, lists_places, lists_frames, held, image_of}
 use Rattle.tv_builder.specs.Kinds.{bytes_type}
-use Rattle.tv_builder.specs.Moves.{given_to, CanGive, CanGiveKey, Gives, GivesNot, GivesKey, Moves, HasNoRoom, EndsBytes, EndsWell, AwaitsEnd, last_bytes, content_heap, end_heap}
+use Rattle.tv_builder.specs.Moves.{given_to, CanGive, CanGiveKey, Gives, GivesNot, GivesKey, Moves, IsFull, HasNoRoom, EndsBytes, EndsWell, AwaitsEnd, last_bytes}
 use Rattle.tv_builder.specs.Parts.{IsContent}
 use Rattle.tv_builder.specs.Shows.{Placed, ShowsLists, Shows, Stands, frames_of}
 use Rattle.tv_builder.specs.State.{OpenList, State, complete, in_lists, in_bytes, next_in, next_at, with_value, with_content, and_end, HeadNext, IsKeyNext, AllAwait, state_room, lists_written, written}
 use Rattle.tv_builder.proofs.Calls.{handed, given_grows}
 use Rattle.tv_builder.proofs.NoRoom.{lists_as, given_over}
 use Rattle.tv_builder.proofs.Giving.{prefix_same}
-use Rattle.tv_builder.proofs.Keys.{content_tree, content_placed, key_handed}
+use Rattle.tv_builder.proofs.Images.{gives_held, given_image, image_heap}
+use Rattle.tv_builder.proofs.Keys.{content_tree, content_placed, key_handed, key_image}
+use Rattle.tv_builder.specs.TreeBytes.{tree_heap, tree_place}
 use Rattle.tv_builder.proofs.Sound.{cut_of, fits_of, counted_of}
 
 some_none : {A : Type 0} (x : Option A) (a : A) → x ≡ Some a → x ≡ None → ⊥
@@ -124,10 +127,24 @@ with_content_is _ ls content of_str = refl
 with_content_is _ ls content of_facet = refl
 with_content_is _ ls content of_bytes = refl
 
-content_heap_is : (kind : BytesKind) (b : Building) (at : ℕ) → IsValueKind kind → content_heap kind b at ≡ (given_to b (record { value_type = bytes_type kind; address = at })).heap
-content_heap_is _ b at of_str = refl
-content_heap_is _ b at of_facet = refl
-content_heap_is _ b at of_bytes = refl
+-- what is held of open bytes that have all come is what is held of a value, or a key, that was written behind the lists
+all_written : (b : Building) (o : OpenBytes) (s : State) (i : InBytes b o s) (base : List ℕ) → o.missing ≡ 0 → held b ≡ image_of base s
+    → (b.heap.items ≡ lists_heap base i.lists ++ short_sized i.so_far) × (o.address ≡ length (lists_heap base i.lists)) × (b.places.items ≡ lists_places base i.lists) × (frames_of b ≡ lists_frames base i.lists)
+all_written b o s i base none is =
+    let shown : held b ≡ image_of base (in_bytes i.lists o.kind o.announced i.so_far) = is ∙ ap (λ z. image_of base z) i.is in
+    let same_count : o.announced ≡ length i.so_far = omega (arith, i.counted, none) in
+    let heap : b.heap.items ≡ lists_heap base i.lists ++ (vnum o.announced ++ i.so_far) = ap (λ (z : Given). z.heap) shown in (
+      heap ∙ ap (λ z. lists_heap base i.lists ++ (vnum z ++ i.so_far)) same_count,
+      omega (arith, i.place, ap length heap, ap length i.joined, length-append (lists_heap base i.lists) (vnum o.announced ++ i.so_far), length-append i.before (vnum o.announced ++ i.so_far)),
+      ap (λ (z : Given). z.places) shown,
+      ap (λ (z : Given). z.frames) shown,
+    )
+
+content_bytes_are : (kind : BytesKind) (heap content : List ℕ) → IsValueKind kind → (heap ++ short_sized content ≡ tree_heap heap (content_tree kind content))
+    × ((at : ℕ) → at ≡ length heap → record { value_type = bytes_type kind; address = at } ≡ tree_place heap (content_tree kind content))
+content_bytes_are _ heap content of_str = (refl, (λ at e. λ i. record { value_type = types.Str; address = e i }))
+content_bytes_are _ heap content of_facet = (refl, (λ at e. λ i. record { value_type = types.Facet; address = e i }))
+content_bytes_are _ heap content of_bytes = (refl, (λ at e. λ i. record { value_type = types.Bytes; address = e i }))
 
 -- where the building has let go of the open bytes
 pub record LetGo (old mid : Building) : Type 0 where
@@ -141,12 +158,23 @@ pub record LetGo (old mid : Building) : Type 0 where
 lists_let_go : (old mid : Building) (ls : List OpenList) → LetGo old mid → ShowsLists old.heap.items (frames_of old) old.places.items ls → ShowsLists mid.heap.items (frames_of mid) mid.places.items ls
 lists_let_go old mid ls l h = lists_as mid.heap.items (frames_of old) (frames_of mid) old.places.items mid.places.items ls l.frames l.places (subst (λ z. ShowsLists z (frames_of old) old.places.items ls) (sym l.heap) h)
 
+end_given : (old mid : Building) (o : OpenBytes) → old.open ≡ Some o → o.missing ≡ 0 → IsValueKind o.kind → LetGo old mid → (base : List ℕ) (s : State) → Shows old s → held old ≡ image_of base s
+    → given_to mid (record { value_type = bytes_type o.kind; address = o.address }) ≡ image_of base (and_end s)
+end_given old mid o e none kind l base s h shown =
+    let i = bytes_state old o s e h in
+    let w = all_written old o s i base none shown in
+    let t = content_tree o.kind i.so_far in
+    let bytes = content_bytes_are o.kind (lists_heap base i.lists) i.so_far kind in
+    (λ j. given ((l.heap ∙ w.0 ∙ bytes.0) j) ((l.places ∙ w.2) j) ((l.frames ∙ w.3) j) (bytes.1 o.address w.1 j)) ∙ given_image base i.lists t i.shows.is.0 (all_next o.kind i.lists kind i.shows.is.2) ∙
+    ap (λ z. image_of base z) (sym (ap and_end i.is ∙ with_content_is o.kind i.lists i.so_far kind))
+
 value_ends : (old mid new : Building) (o : OpenBytes) → old.open ≡ Some o → o.missing ≡ 0 → IsContent o.kind (last_bytes o.announced old.heap.items) → IsValueKind o.kind → LetGo old mid
     → Gives mid (record { value_type = bytes_type o.kind; address = o.address }) new → Moves old new and_end
 value_ends old mid new o e none is kind l g = record {
   grows = subst (λ z. IsPrefix z new.heap.items) l.heap (given_grows mid new _ g);
   shows = λ s h. (next s h).0;
   within = λ s h. (next s h).1;
+  image = λ base s h shown. gives_held mid new _ g ∙ end_given old mid o e none kind l base s h shown;
 }
   where
     next : (s : State) → Shows old s → Shows new (and_end s) × (length new.heap.items + written s ≤ length old.heap.items + written (and_end s))
@@ -186,15 +214,15 @@ does_end old mid new o r e none is not_key l ok err = answer r ok err
     kind : IsValueKind o.kind
     kind = value_kind o.kind not_key
 
-    heap_is : (given_to mid p).heap ≡ end_heap old old.open
-    heap_is = (λ i. (given (l.heap i) (l.places i) (l.frames i) p).heap) ∙ sym (content_heap_is o.kind old o.address kind) ∙ ap (λ z. end_heap old z) (sym e)
+    full : 4294967295 < length (given_to mid p).heap → IsFull old and_end
+    full over = λ base s h shown. let whole = end_given old mid o e none kind l base s h shown in omega (arith, over, ap (λ (z : Given). length z.heap) whole, ap length (image_heap base (and_end s)))
 
     prefix : (x : BuildError) → GivesNot mid p new x → IsPrefix old.heap.items new.heap.items
     prefix x g = subst (λ z. IsPrefix z new.heap.items) l.heap g.prefix
 
     answer : (r : Result (Unit {0}) BuildError) → OnOk r (Gives mid p new) → IfErr r (λ x. GivesNot mid p new x) → EndsBytes old new r
-    answer (Ok x) ok err = (here, well, ok.heap ∙ heap_is, value_ends old mid new o e none is kind l ok)
-    answer (Err HeapFull) ok err = (here, well, omega (arith, err.why, ap length heap_is), prefix HeapFull err, value_end_over old mid o e none is kind l err.why)
+    answer (Ok x) ok err = (here, well, value_ends old mid new o e none is kind l ok)
+    answer (Err HeapFull) ok err = (here, well, full err.why, prefix HeapFull err, value_end_over old mid o e none is kind l err.why)
     answer (Err Memory) ok err = (here, well, prefix Memory err)
     answer (Err AlreadyFailed) ok err = absurd err.why
     answer (Err OutOfPlace) ok err = absurd err.why
@@ -222,8 +250,17 @@ key_ends old mid new o e none is kind l g = record {
   grows = prefix_same old.heap.items new.heap.items (g.heap ∙ l.heap);
   shows = λ s h. (next s h).0;
   within = λ s h. (next s h).1;
+  image = drawn;
 }
   where
+    drawn : (base : List ℕ) (s : State) → Shows old s → held old ≡ image_of base s → held new ≡ image_of base (and_end s)
+    drawn base s h shown =
+        let i = bytes_state old o s e h in
+        let w = all_written old o s i base none shown in
+        let head : HeadNext kinds.Key i.lists = subst (λ k. HeadNext k i.lists) kind i.shows.is.2 in
+        key_image mid new o.address i.so_far base i.lists g (key_next i.lists head) (l.heap ∙ w.0) w.1 (l.places ∙ w.2) (l.frames ∙ w.3) (l.complete ∙ i.shows.at.none) ∙
+        ap (λ z. image_of base z) (sym (ap and_end i.is ∙ ap (λ k. with_content i.lists k i.so_far) kind))
+
     next : (s : State) → Shows old s → Shows new (and_end s) × (length new.heap.items + written s ≤ length old.heap.items + written (and_end s))
     next s h =
         let i = bytes_state old o s e h in
@@ -246,11 +283,8 @@ does_end_key old mid new o r e none is kind l ok err = answer r ok err
     well : EndsWell old.open old.heap.items
     well = subst (λ z. EndsWell z old.heap.items) (sym e) is
 
-    heap_is : old.heap.items ≡ end_heap old old.open
-    heap_is = ap (λ k. content_heap k old o.address) (sym kind) ∙ ap (λ z. end_heap old z) (sym e)
-
     answer : (r : Result (Unit {0}) BuildError) → OnOk r (GivesKey mid o.address new) → IfErr r (λ x. (x ≡ Memory) × (new.heap.items ≡ mid.heap.items)) → EndsBytes old new r
-    answer (Ok x) ok err = (here, well, ok.heap ∙ l.heap ∙ heap_is, key_ends old mid new o e none is kind l ok)
+    answer (Ok x) ok err = (here, well, key_ends old mid new o e none is kind l ok)
     answer (Err Memory) ok err = (here, well, prefix_same old.heap.items new.heap.items (err.1 ∙ l.heap))
     answer (Err AlreadyFailed) ok err = absurd (let f = err.0 in cc)
     answer (Err OutOfPlace) ok err = absurd (let f = err.0 in cc)

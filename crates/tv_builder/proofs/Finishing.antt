@@ -1,10 +1,12 @@
 -- The complete tree becomes the value of a pair.
-use Rattle.std.proofs.Common.{◌≡◌, ℕ, ◌≤◌, Bool, false, List, [], ◌∷◌, ◌++◌, length, reverse, take, drop, Option, Some, None, Ok, Err, OnOk, IfErr, refl, sym, ◌∙◌, ap, subst, arith}
+use Rattle.std.proofs.Common.{◌≡◌, ℕ, zero, suc, ◌≤◌, Bool, false, List, [], ◌∷◌, ◌++◌, length, reverse, take, drop, Option, Some, None, Ok, Err, OnOk, IfErr, refl, sym, ◌∙◌, ap, subst, arith}
 use Rattle.std.proofs.lemmas.List.{append-nil, take-append-drop, take_all}
 use Rattle.std.proofs.lemmas.List.Sums.{sum_by_push}
 use Rattle.std.proofs.Math.Logic.{∥∥₁_elim, ∥∥₁_map, ∥∥₁_prop}
 use mathlib.Core.HLevel.{⊥_prop}
-use Rattle.std.specs.Coded.{le_prop}
+use Rattle.std.specs.Coded.{Coded, code_by, coded×, coded_ℕ, Coded-set, le_prop}
+use Rattle.tv_heap.specs.declared.value_type.ValueType.{ValueType}
+use Rattle.tv_heap.specs.declared.value_type.ValueType.TheVariants as types
 use Rattle.tv_format.specs.Tree.{Tree}
 use Rattle.tv_heap.specs.Reads.{Reads}
 use Rattle.tv_heap.specs.Room.{room, document_room}
@@ -16,16 +18,19 @@ use Rattle.tv_builder.specs.declared.build_error.BuildError.TheVariants.{Already
 use Rattle.tv_builder.specs.declared.building.Building.{Building}
 use Rattle.tv_heap.specs.declared.place.Place.{Place}
 use Rattle.tv_builder.specs.Given.{pending_in}
-use Rattle.tv_builder.specs.OneState.{same_state}
-use Rattle.tv_builder.specs.Shows.{Shows, Stands}
+use Rattle.tv_builder.specs.Given.{Given}
+use Rattle.tv_builder.specs.Image.{held, image_of}
+use Rattle.tv_builder.specs.OneState.{StandsBehind, stands_of, same_behind}
+use Rattle.tv_builder.specs.Shows.{Shows}
+use Rattle.tv_builder.specs.TreeBytes.{tree_place}
 use Rattle.tv_builder.specs.State.{State, complete, in_lists, in_bytes, written}
 use Rattle.tv_builder.specs.declared.pair_builder.PairBuilder.{PairBuilder}
 use Rattle.tv_builder.specs.declared.heap_pair.HeapPair.{HeapPair}
 use Rattle.tv_builder.specs.Finish.{HoldsPrefix, Kept, KeptNot, WhyNoPair}
-use Rattle.tv_builder.specs.Builder.{built, state_of, heap_so_far, Fails, Finished, FinishesIf, Finishes, IsComplete}
+use Rattle.tv_builder.specs.Builder.{built, state_of, heap_so_far, kept_heap, Fails, Finished, FinishesIf, Finishes, IsComplete}
 use Rattle.tv_builder.specs.Holds.{ReadsPairs, Holds, pair_at}
 use Rattle.tv_builder.proofs.HeldPairs.{same_document, pairs_grown, pairs_push}
-use Rattle.tv_builder.proofs.PairBuilding.{Answer, Left, Settled, Fields, shows_none, fields_left, fails_now}
+use Rattle.tv_builder.proofs.PairBuilding.{Answer, Left, Settled, Fields, none_shows, fields_left, fails_now}
 
 both : {A : Type 0} (x : Option A) (a : A) → x ≡ Some a → x ≡ None → ⊥
 both x a e f = absurd (let g : Some a ≡ None = sym e ∙ f in cc)
@@ -43,6 +48,39 @@ some_of : (x : Option Place) → ¬ (x ≡ None) → (p : Place) × (x ≡ Some 
 some_of None n = absurd (n refl)
 some_of (Some p) n = (p, refl)
 
+-- a code for places, so that two are equal in one way at most
+abbrev type_at : ℕ → ValueType
+type_at zero = types.Null
+type_at (suc zero) = types.Str
+type_at (suc (suc zero)) = types.U64
+type_at (suc (suc (suc zero))) = types.I64
+type_at (suc (suc (suc (suc zero)))) = types.Null
+type_at (suc (suc (suc (suc (suc zero))))) = types.Date
+type_at (suc (suc (suc (suc (suc (suc zero)))))) = types.Facet
+type_at (suc (suc (suc (suc (suc (suc (suc zero))))))) = types.Bytes
+type_at (suc (suc (suc (suc (suc (suc (suc (suc zero)))))))) = types.IpAddr
+type_at (suc (suc (suc (suc (suc (suc (suc (suc (suc zero))))))))) = types.Bool
+type_at (suc (suc (suc (suc (suc (suc (suc (suc (suc (suc zero)))))))))) = types.PreTokStr
+type_at (suc (suc (suc (suc (suc (suc (suc (suc (suc (suc (suc zero))))))))))) = types.Object
+type_at (suc (suc (suc (suc (suc (suc (suc (suc (suc (suc (suc (suc n)))))))))))) = types.Array
+
+type_back : (t : ValueType) → type_at (type_code t) ≡ t
+type_back types.Null = refl
+type_back types.Str = refl
+type_back types.U64 = refl
+type_back types.I64 = refl
+type_back types.Date = refl
+type_back types.Facet = refl
+type_back types.Bytes = refl
+type_back types.IpAddr = refl
+type_back types.Bool = refl
+type_back types.PreTokStr = refl
+type_back types.Object = refl
+type_back types.Array = refl
+
+coded_place : Coded Place
+coded_place = code_by (ℕ × ℕ) (coded× coded_ℕ coded_ℕ) (λ p. (type_code p.value_type, p.address)) (λ c. record { value_type = type_at c.0; address = c.1 }) (λ p. λ i. record { value_type = type_back p.value_type i; address = p.address })
+
 -- ---- the pair
 
 -- what is known of a builder whose tree is complete
@@ -50,11 +88,21 @@ pub record Whole (old : PairBuilder) (at : Place) : Type 0 where
   pub tree : Tree
   pub is : state_of old ≡ complete tree
   pub shows : ∥ Shows old.building (complete tree) ∥₁
+  pub place : at ≡ tree_place (kept_heap old) tree
 
 whole : (old : PairBuilder) (at : Place) → old.building.complete ≡ Some at → Whole old at
 whole old at e =
-    let t = tree_state old.building old.state.0 old.state.1 at e in
-    record { tree = t.0; is = t.1; shows = subst (λ z. ∥ Shows old.building z ∥₁) t.1 old.state.1 }
+    let shown = (stands_of (kept_heap old) old.building old.state).1 in
+    let t = tree_state old.building old.state.0 shown at e in
+    record {
+      tree = t.0;
+      is = t.1;
+      shows = subst (λ z. ∥ Shows old.building z ∥₁) t.1 shown;
+      place = ∥∥₁_elim old.state.1 (Coded-set coded_place at (tree_place (kept_heap old) t.0)) (λ p.
+          let drawn : held old.building ≡ image_of (kept_heap old) (complete t.0) = p.1 ∙ ap (λ z. image_of (kept_heap old) z) t.1 in
+          let both_are : Some at ≡ Some (tree_place (kept_heap old) t.0) = sym e ∙ ap (λ (g : Given). g.complete) drawn in
+          cc);
+    }
 
 -- it weighs no more than its room
 tree_fits : (old : PairBuilder) (at : Place) (w : Whole old at) → tree_weight w.tree ≤ room w.tree
@@ -83,12 +131,13 @@ prefix_is old mid new ps kept f k e =
     let same_heap : new.heap.items ≡ heap_so_far old = ap (λ (b : Building). b.heap.items) e ∙ k.heap in
     ap (λ z. take kept z) same_heap ∙ take_all kept (heap_so_far old) (omega (arith, k.kept_is))
 
-abbrev after_pair : (old : PairBuilder) (mid new : Building) (ps : List HeapPair) (kept f : ℕ) → Kept old.building mid old.pairs.items ps kept f → new ≡ mid → Stands new
+abbrev after_pair : (old : PairBuilder) (mid new : Building) (ps : List HeapPair) (kept f : ℕ) → Kept old.building mid old.pairs.items ps kept f → new ≡ mid → StandsBehind (take kept new.heap.items) new
 after_pair old mid new ps kept f k e =
     let w = whole old k.at k.is in (
       in_lists [],
-      ∥∥₁_map w.shows (λ s. subst (λ z. Shows z (in_lists [])) (sym e)
-          (shows_none mid (omega (arith, ap length k.heap, s.fits)) (k.places ∙ s.at.places_none) (k.pending ∙ s.counted ∙ ap pending_in s.at.frames) (ap reverse k.frames ∙ s.at.frames) k.complete (k.same_bytes ∙ s.at.closed))),
+      ∥∥₁_map w.shows (λ s. subst (λ (z : Building). Shows z (in_lists []) × (held z ≡ image_of (take kept z.heap.items) (in_lists []))) (sym e)
+          (none_shows kept mid (omega (arith, ap length k.heap, k.kept_is)) (omega (arith, ap length k.heap, s.fits)) (k.places ∙ s.at.places_none) (k.pending ∙ s.counted ∙ ap pending_in s.at.frames) (ap reverse k.frames ∙ s.at.frames) k.complete
+          (k.same_bytes ∙ s.at.closed))),
     )
 
 finish_fields_ok : (old : PairBuilder) (mid new : Building) (ps : List HeapPair) (kept f : ℕ) → Kept old.building mid old.pairs.items ps kept f → new ≡ mid → Fields new kept ps
@@ -130,7 +179,8 @@ finish_done old new mid f live k s =
       was = w.is;
       live = s.live ∙ live;
       document = same_document (take new.kept (heap_so_far new)) (heap_so_far old) new.pairs.items new.pairs.items new.document (with_pair old mid new.pairs.items new.kept f k) (prefix_is old mid new.building new.pairs.items new.kept f k s.ok) refl;
-      state = same_state new.building new.state (after_pair old mid new.building new.pairs.items new.kept f k s.ok);
+      state = same_behind (take new.kept new.building.heap.items) (take new.kept new.building.heap.items) new.building new.state (after_pair old mid new.building new.pairs.items new.kept f k s.ok);
+      pairs = k.pairs ∙ ap (λ (p : Place). old.pairs.items ++ pair_at f p ∷ []) w.place;
       heap = ap (λ (b : Building). b.heap.items) s.ok ∙ k.heap;
       kept = k.kept_is;
     }
@@ -144,10 +194,10 @@ finish_live old new mid f (Err e) live ok err s = answer e err.why fails
     fails = fails_now old new mid (λ s. s) e (left_same old mid e err.same) (settled_as mid new.building new.kept old.kept old.failed new.failed (Err e) err.kept_same s) err.kept_same err.pairs
 
     is_complete : ¬ (old.building.complete ≡ None) → IsComplete (state_of old)
-    is_complete n = let p = some_of old.building.complete n in tree_state old.building old.state.0 old.state.1 p.0 p.1
+    is_complete n = let p = some_of old.building.complete n in tree_state old.building old.state.0 (stands_of (kept_heap old) old.building old.state).1 p.0 p.1
 
     answer : (x : BuildError) → WhyNoPair old.building x → Fails old new → FinishesIf false old new f (Err x)
-    answer OutOfPlace h g = (no_tree old.building old.state.0 old.state.1 h, g)
+    answer OutOfPlace h g = (no_tree old.building old.state.0 (stands_of (kept_heap old) old.building old.state).1 h, g)
     answer Memory h g = (is_complete h, g)
     answer AlreadyFailed h g = absurd h
     answer NotUtf8 h g = absurd h

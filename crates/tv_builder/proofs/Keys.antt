@@ -13,15 +13,18 @@ use Rattle.tv_builder.specs.declared.build_error.BuildError.TheVariants.{Already
 use Rattle.tv_builder.specs.declared.building.Building.{Building}
 use Rattle.tv_builder.specs.declared.bytes_kind.BytesKind.{BytesKind}
 use Rattle.tv_builder.specs.declared.bytes_kind.BytesKind.TheVariants as kinds
+use Rattle.tv_builder.specs.declared.frame.Frame.{Frame}
 use Rattle.tv_heap.specs.declared.place.Place.{Place}
-use Rattle.tv_builder.specs.Given.{place_bytes, one_more, pending_in}
+use Rattle.tv_builder.specs.Given.{Given, place_bytes, one_more, pending_in}
+use Rattle.tv_builder.specs.Image.{lists_heap, full_length, lists_places, list_frame, lists_frames, held, image_of}
 use Rattle.tv_builder.specs.Kinds.{bytes_type}
-use Rattle.tv_builder.specs.Moves.{GivesKey, Moves, Does, KeyHeap, KeyFull}
+use Rattle.tv_builder.specs.Moves.{GivesKey, Moves, IsFull, Does, KeyFits}
 use Rattle.tv_builder.specs.Parts.{IsContent}
 use Rattle.tv_builder.specs.Shows.{Placed, ShowsLists, Shows, frames_of, awaited_by}
 use Rattle.tv_builder.specs.State.{OpenList, State, complete, in_lists, in_bytes, next_in, with_key, and_key, with_child, AreLists, OthersAwait, lists_written, written}
 use Rattle.tv_builder.proofs.Children.{child_key, key_lacks, trees_weight_push}
 use Rattle.tv_builder.proofs.Giving.{lists_grown, pushed_list, pushed_others}
+use Rattle.tv_builder.proofs.Images.{child_image}
 use Rattle.tv_builder.proofs.Sound.{awaited_same, next_key}
 use Rattle.tv_builder.proofs.NoRoom.{lists_as}
 
@@ -83,6 +86,24 @@ key_handed mid new at k (l ∷ ls) are others next h placed none closed fits cou
       omega (arith, ap length g.heap, trees_weight_push l.children (leaf (text k))),
     )
 
+-- what is held then
+pub key_image : (mid new : Building) (at : ℕ) (k base : List ℕ) (ls : List OpenList) → GivesKey mid at new → next_in ls ≡ awaits.Key
+    → mid.heap.items ≡ lists_heap base ls ++ short_sized k → at ≡ length (lists_heap base ls) → mid.places.items ≡ lists_places base ls → frames_of mid ≡ lists_frames base ls → mid.complete ≡ None
+    → held new ≡ image_of base (with_key ls k)
+key_image mid new at k base [] g next heap at_is places frames none = absurd (cc)
+key_image mid new at k base (l ∷ ls) g next heap at_is places frames none =
+    let first : g.frame ∷ g.rest ≡ list_frame base l ls ∷ lists_frames base ls = sym g.was ∙ frames in
+    (λ i. record {
+        heap = (g.heap ∙ heap) i;
+        places = (g.places ∙ (λ j. places j ++ (1 ∷ vnum (at_is j)))) i;
+        frames = (g.frames ∙ ap more_in first) i;
+        complete = (g.complete ∙ none) i;
+    }) ∙ child_image base l ls (leaf (text k))
+  where
+    more_in : List Frame → List Frame
+    more_in [] = []
+    more_in (f ∷ fs) = one_more f ∷ fs
+
 -- a whole key
 pub key_moves : (old mid new : Building) (content : List ℕ) (at : ℕ) → awaited_by old ≡ awaits.Key → IsUtf8 content → at ≡ length old.heap.items → mid.heap.items ≡ old.heap.items ++ short_sized content → length mid.heap.items ≤ 4294967295
     → frames_of mid ≡ frames_of old → mid.places.items ≡ old.places.items → mid.pending ≡ old.pending → mid.complete ≡ old.complete → mid.open ≡ old.open → GivesKey mid at new → Moves old new (λ s. and_key s content)
@@ -90,6 +111,7 @@ key_moves old mid new content at await utf8 at_is grows fits frames places pendi
   grows = (short_sized content, g.heap ∙ grows);
   shows = λ s h. (next s h).0;
   within = λ s h. (next s h).1;
+  image = drawn;
 }
   where
     next : (s : State) → Shows old s → Shows new (and_key s content) × (length new.heap.items + written s ≤ length old.heap.items + written (and_key s content))
@@ -103,13 +125,31 @@ key_moves old mid new content at await utf8 at_is grows fits frames places pendi
         let r = key_handed mid new at content ls h.is.0 h.is.1 key_is lists placed (whole ∙ h.at.none) (open_is ∙ h.at.closed) fits (pending ∙ h.counted ∙ ap pending_in (sym frames)) g in
         (r.0, omega (arith, r.1, longer old.heap.items mid.heap.items (short_sized content) grows))
 
+    drawn : (base : List ℕ) (s : State) → Shows old s → held old ≡ image_of base s → held new ≡ image_of base (and_key s content)
+    drawn base (complete u) h is = absurd (let e : awaits.Finish ≡ awaits.Key = sym (awaited_same _ _ _ _ _ (complete u) h.at) ∙ await in cc)
+    drawn base (in_bytes ls kind n bs) h is = absurd (let e : awaits.Bytes (n - length bs) ≡ awaits.Key = sym (awaited_same _ _ _ _ _ (in_bytes ls kind n bs) h.at) ∙ await in cc)
+    drawn base (in_lists ls) h is =
+        let heap_is : old.heap.items ≡ lists_heap base ls = ap (λ (z : Given). z.heap) is in
+        key_image mid new at content base ls g (sym (awaited_same _ _ _ _ _ (in_lists ls) h.at) ∙ await) (grows ∙ ap (λ z. z ++ short_sized content) heap_is) (at_is ∙ ap length heap_is) (places ∙ ap (λ (z : Given). z.places) is)
+        (frames ∙ ap (λ (z : Given). z.frames) is) (whole ∙ ap (λ (z : Given). z.complete) is)
+
+pub key_full : (old : Building) (k : List ℕ) → awaited_by old ≡ awaits.Key → 4294967295 < length (old.heap.items ++ short_sized k) → IsFull old (λ s. and_key s k)
+key_full old k await over = full
+  where
+    full : (base : List ℕ) (s : State) → Shows old s → held old ≡ image_of base s → 4294967295 < full_length base (and_key s k)
+    full base (complete u) h is = absurd (let e : awaits.Finish ≡ awaits.Key = sym (awaited_same _ _ _ _ _ (complete u) h.at) ∙ await in cc)
+    full base (in_bytes ls kind n bs) h is = absurd (let e : awaits.Bytes (n - length bs) ≡ awaits.Key = sym (awaited_same _ _ _ _ _ (in_bytes ls kind n bs) h.at) ∙ await in cc)
+    full base (in_lists []) h is = absurd (let e : awaits.Value ≡ awaits.Key = sym (awaited_same _ _ _ _ _ (in_lists []) h.at) ∙ await in cc)
+    full base (in_lists (l ∷ ls)) h is =
+        omega (arith, over, ap (λ (z : Given). length (z.heap ++ short_sized k)) is, ap (λ (z : Given). length z.heap) (child_image base l ls (leaf (text k))))
+
 pub does_key : (old mid new : Building) (content : List ℕ) (at : ℕ) (r : Result (Unit {0}) BuildError) → awaited_by old ≡ awaits.Key → IsUtf8 content → at ≡ length old.heap.items → mid.heap.items ≡ old.heap.items ++ short_sized content
     → length mid.heap.items ≤ 4294967295 → frames_of mid ≡ frames_of old → mid.places.items ≡ old.places.items → mid.pending ≡ old.pending → mid.complete ≡ old.complete → mid.open ≡ old.open
-    → OnOk r (GivesKey mid at new) → IfErr r (λ e. (e ≡ Memory) × (new.heap.items ≡ mid.heap.items)) → Does old new (awaited_by old ≡ awaits.Key) (KeyHeap old content) (KeyFull old content) (¬ KeyFull old content) (λ s. and_key s content) r
+    → OnOk r (GivesKey mid at new) → IfErr r (λ e. (e ≡ Memory) × (new.heap.items ≡ mid.heap.items)) → Does old new (awaited_by old ≡ awaits.Key) (KeyFits old.heap.items content) (λ s. and_key s content) r
 does_key old mid new content at (Ok x) await utf8 at_is grows fits frames places pending whole open_is ok err =
-    (await, ok.heap ∙ grows, key_moves old mid new content at await utf8 at_is grows fits frames places pending whole open_is ok)
+    (await, key_moves old mid new content at await utf8 at_is grows fits frames places pending whole open_is ok)
 does_key old mid new content at (Err Memory) await utf8 at_is grows fits frames places pending whole open_is ok err =
-    (await, (λ full. omega (arith, full, fits, ap length grows)), (short_sized content, err.1 ∙ grows))
+    (await, omega (arith, fits, ap length grows), (short_sized content, err.1 ∙ grows))
 does_key old mid new content at (Err AlreadyFailed) await utf8 at_is grows fits frames places pending whole open_is ok err = absurd (let e = err.0 in cc)
 does_key old mid new content at (Err OutOfPlace) await utf8 at_is grows fits frames places pending whole open_is ok err = absurd (let e = err.0 in cc)
 does_key old mid new content at (Err NotUtf8) await utf8 at_is grows fits frames places pending whole open_is ok err = absurd (let e = err.0 in cc)

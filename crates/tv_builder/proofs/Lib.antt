@@ -1,12 +1,12 @@
 pub mod Trading
 pub mod Children
 pub mod Giving
+pub mod Images
 pub mod Sound
 pub mod Handing
 pub mod NoRoom
 pub mod Putting
 pub mod Calls
-pub mod Calling
 pub mod Keys
 pub mod Opening
 pub mod Ending

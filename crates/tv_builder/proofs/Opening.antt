@@ -1,11 +1,10 @@
 -- How lists and bytes open, and how bytes go on and end.
-use Rattle.std.proofs.Common.{◌≡◌, ℕ, ◌+◌, ◌-◌, ◌<◌, ◌≤◌, false, nat_eq, List, [], ◌∷◌, ◌++◌, length, reverse, drop, Some, None, Result, Ok, Err, OnOk, IfErr, refl, sym, ◌∙◌, ap, subst, append_assoc, length-append, arith}
+use Rattle.std.proofs.Common.{◌≡◌, ℕ, ◌+◌, ◌-◌, ◌<◌, ◌≤◌, false, nat_eq, List, [], ◌∷◌, ◌++◌, length, reverse, Some, None, Result, Ok, Err, refl, sym, ◌∙◌, ap, subst, append_assoc, length-append, arith}
 use Rattle.std.proofs.lemmas.Bool.{cond-false, ne_eqb}
 use Rattle.std.proofs.lemmas.List.{append-nil, take_all, drop_all, reverse-append}
 use Rattle.tv_base.specs.Number.{vnum}
 use Rattle.tv_base.specs.Parts.{short_sized}
 use Rattle.tv_heap.specs.Room.{room}
-use Rattle.tv_heap.specs.Weight.{tree_weight}
 use Rattle.tv_heap.proofs.Writes.{longer, sized_length}
 use Rattle.tv_builder.specs.declared.awaits.Awaits.TheVariants as awaits
 use Rattle.tv_builder.specs.declared.build_error.BuildError.{BuildError}
@@ -18,15 +17,18 @@ use Rattle.tv_builder.specs.declared.frame.Frame.{Frame}
 use Rattle.tv_builder.specs.declared.frame.ListKind.{ListKind}
 use Rattle.tv_builder.specs.declared.frame.ListKind.TheVariants.{Array, Object}
 use Rattle.tv_heap.specs.declared.place.Place.{Place}
-use Rattle.tv_builder.specs.Given.{given, pending_in}
-use Rattle.tv_builder.specs.Kinds.{list_type, total}
-use Rattle.tv_builder.specs.Moves.{given_to, Gives, GivesNot, WhyNot, Closed, ClosedNot, Moves, HasNoRoom, Does, list_heap, ListHeap, ListFull, ListFits, HeadHeap, HeadFull, AwaitsChunk}
+use Rattle.tv_builder.specs.Given.{Given, pending_in}
+use Rattle.tv_builder.specs.Image.{lists_heap, full_length, lists_places, list_frame, held, image_of}
+use Rattle.tv_builder.specs.Kinds.{total}
+use Rattle.tv_builder.specs.Moves.{WhyNot, Moves, IsFull, HasNoRoom, Does, ListFits, HeadFits, AwaitsChunk}
 use Rattle.tv_builder.specs.Shows.{Placed, ShowsList, ShowsLists, Shows, frames_of, awaited_by}
 use Rattle.tv_builder.specs.State.{OpenList, State, complete, in_lists, in_bytes, next_in, and_value, with_list, and_list, and_head, and_bytes, head_awaits, HeadNext, list_tree, OthersAwait, AreChildren, written}
-use Rattle.tv_builder.proofs.Calls.{does_give, value_moves}
-use Rattle.tv_builder.proofs.NoRoom.{lists_as, value_no_room, value_over, no_room_as, head_over}
+use Rattle.tv_builder.specs.TreeBytes.{tree_heap}
+use Rattle.tv_builder.specs.Whole.{Put, PutNot, WhyNoTree, ListPut, ListPutNot}
+use Rattle.tv_builder.proofs.Images.{list_heap_is}
+use Rattle.tv_builder.proofs.NoRoom.{lists_as, no_room_as, head_over}
 use Rattle.tv_builder.proofs.Children.{list_placed, list_within}
-use Rattle.tv_builder.proofs.Giving.{prefix_same, prefix_length, given_prefix, lists_grown}
+use Rattle.tv_builder.proofs.Giving.{prefix_same, lists_grown}
 use Rattle.tv_builder.proofs.Sound.{awaited_same, all_await, next_key}
 
 moves_as : (old new : Building) (after others : State → State) → ((s : State) → after s ≡ others s) → Moves old new after → Moves old new others
@@ -34,7 +36,17 @@ moves_as old new after others e m = record {
   grows = m.grows;
   shows = λ s h. subst (Shows new) (e s) (m.shows s h);
   within = λ s h. subst (λ z. length new.heap.items + written s ≤ length old.heap.items + written z) (e s) (m.within s h);
+  image = λ base s h is. m.image base s h is ∙ ap (λ z. image_of base z) (e s);
 }
+
+does_after : (old new : Building) (in_place fits : Type 0) (after others : State → State) (r : Result (Unit {0}) BuildError) → ((s : State) → after s ≡ others s) → Does old new in_place fits after r → Does old new in_place fits others r
+does_after old new in_place fits after others (Ok x) e d = (d.0, moves_as old new after others e d.1)
+does_after old new in_place fits after others (Err OutOfPlace) e d = d
+does_after old new in_place fits after others (Err HeapFull) e d =
+    (d.0, (λ base s h is. subst (λ z. 4294967295 < full_length base z) (e s) (d.1 base s h is)), d.2, no_room_as old after others e d.3)
+does_after old new in_place fits after others (Err Memory) e d = d
+does_after old new in_place fits after others (Err AlreadyFailed) e d = absurd d
+does_after old new in_place fits after others (Err NotUtf8) e d = absurd d
 
 -- ---- a list of none
 
@@ -51,71 +63,40 @@ and_empty kind (complete t) = refl
 and_empty kind (in_lists ls) = refl
 and_empty kind (in_bytes ls k n bs) = refl
 
-empty_over : (kind : ListKind) (len : ℕ) → 4294967295 < len + length (short_sized []) → 4294967295 < len + room (list_tree kind [])
-empty_over Array len h = omega (arith, h, sized_length [] (omega arith))
-empty_over Object len h = omega (arith, h, sized_length [] (omega arith))
+empty_room : (kind : ListKind) → room (list_tree kind []) ≡ 5
+empty_room Array = omega arith
+empty_room Object = omega arith
 
--- the bytes of no children
-pub record EmptyClosed (old mid : Building) (kind : ListKind) (p : Place) : Type 0 where
-  pub heap : mid.heap.items ≡ old.heap.items ++ short_sized []
-  pub places : mid.places.items ≡ old.places.items
-  pub pending : mid.pending ≡ old.pending
-  pub frames : frames_of mid ≡ frames_of old
-  pub complete : mid.complete ≡ old.complete
-  pub same_bytes : mid.open ≡ old.open
-  pub fits : length mid.heap.items ≤ 4294967295
-  pub place : p ≡ record { value_type = list_type kind; address = length old.heap.items }
+-- it is written as a value
+pub empty_put : (old new own : List ℕ) (kind : ListKind) (p : Place) → own ≡ [] → ListPut old kind own new p → Put old (list_tree kind []) new p
+empty_put old new own kind p none w =
+    let whole = list_heap_is kind 0 old [] (no_total kind) (no_children kind) in
+    let heap : new ≡ old ++ short_sized [] = w.heap ∙ ap (λ z. old ++ short_sized z) none in
+    let placed = list_placed kind 0 old new [] [] (no_total kind) (no_children kind) refl heap w.fits in
+    record {
+      heap = heap ∙ sym whole.0;
+      place = w.place ∙ sym whole.1;
+      fits = w.fits;
+      placed = subst (λ q. Placed new q (list_tree kind [])) (sym w.place) placed;
+      weighed = omega (arith, list_within kind 0 old new [] [] (no_total kind) (no_children kind) refl heap w.fits);
+    }
 
-pub empty_closed : (old mid : Building) (f : Frame) (p : Place) → f.first ≡ length old.places.items → f.finished ≡ 0 → Closed old f p mid → EmptyClosed old mid f.kind p
-empty_closed old mid f p first none c = record {
-  heap = c.heap ∙ ap (λ z. old.heap.items ++ short_sized z) (drop_all f.first old.places.items (omega (arith, first)));
-  places = c.places ∙ take_all f.first old.places.items (omega (arith, first));
-  pending = let e = c.pending in omega (arith, none);
-  frames = ap (λ z. reverse z.items) c.frames;
-  complete = c.complete;
-  same_bytes = c.same_bytes;
-  fits = c.fits;
-  place = c.place;
-}
-
-empty_heap : Building → ListKind → List ℕ
-empty_heap old kind = (given (old.heap.items ++ short_sized []) old.places.items (frames_of old) (record { value_type = list_type kind; address = length old.heap.items })).heap
-
-empty_does_at : (old mid new : Building) (kind : ListKind) (p : Place) (r : Result (Unit {0}) BuildError) → awaited_by old ≡ awaits.Value → EmptyClosed old mid kind p
-    → OnOk r (Gives mid p new) → IfErr r (λ e. GivesNot mid p new e) → Does old new (awaited_by old ≡ awaits.Value) (ListHeap old kind 0) (ListFull old kind 0) (ListFits old 0) (λ s. and_list s kind 0) r
-empty_does_at old mid new kind p r await c ok err =
-    let as_given : (given_to mid p).heap ≡ list_heap old kind 0 = λ i. (given (c.heap i) (c.places i) (c.frames i) (c.place i)).heap in
-    let t = list_tree kind [] in
-    let placed : Placed mid.heap.items p t = subst (λ z. Placed mid.heap.items z t) (sym c.place) (list_placed kind 0 old.heap.items mid.heap.items [] [] (no_total kind) (no_children kind) refl c.heap c.fits) in
-    let within = list_within kind 0 old.heap.items mid.heap.items [] [] (no_total kind) (no_children kind) refl c.heap c.fits in
-    let small : length (short_sized []) ≤ tree_weight t = omega (arith, within, longer old.heap.items mid.heap.items (short_sized []) c.heap) in
-    does_give old mid new p (awaited_by old ≡ awaits.Value) (ListFull old kind 0) (ListFits old 0) (ListHeap old kind 0) (λ s. and_list s kind 0) r await (λ g. g.heap ∙ as_given) (λ h. omega (arith, h, ap length as_given))
-    (λ h. no_room_as old _ _ (and_empty kind) (value_no_room old mid p t (short_sized []) await c.heap small c.fits c.frames c.places placed h)) (λ e. omega (arith, c.fits, ap length c.heap)) (_, c.heap)
-    (λ g. moves_as old new _ _ (and_empty kind) (value_moves old mid new p t (short_sized []) await c.heap small c.frames c.places c.same_bytes placed g)) ok err
-
-pub empty_does : (old mid new : Building) (kind : ListKind) (n : ℕ) (p : Place) (r : Result (Unit {0}) BuildError) → n ≡ 0 → awaited_by old ≡ awaits.Value → EmptyClosed old mid kind p
-    → OnOk r (Gives mid p new) → IfErr r (λ e. GivesNot mid p new e) → Does old new (awaited_by old ≡ awaits.Value) (ListHeap old kind n) (ListFull old kind n) (ListFits old n) (λ s. and_list s kind n) r
-empty_does old mid new kind n p r e await c ok err =
-    subst (λ m. Does old new (awaited_by old ≡ awaits.Value) (ListHeap old kind m) (ListFull old kind m) (ListFits old m) (λ s. and_list s kind m) r) (sym e) (empty_does_at old mid new kind p r await c ok err)
-
--- it isn't written
-pub empty_not : (old new : Building) (f : Frame) (n : ℕ) (e : BuildError) → n ≡ 0 → f.first ≡ length old.places.items → awaited_by old ≡ awaits.Value → ClosedNot old f new e
-    → Does old new (awaited_by old ≡ awaits.Value) (ListHeap old f.kind n) (ListFull old f.kind n) (ListFits old n) (λ s. and_list s f.kind n) (Err e)
-empty_not old new f n e none first await c =
-    subst (λ m. Does old new (awaited_by old ≡ awaits.Value) (ListHeap old f.kind m) (ListFull old f.kind m) (ListFits old m) (λ s. and_list s f.kind m) (Err e)) (sym none) (answer e c.memory c.why)
+pub empty_put_not : (old new own : List ℕ) (kind : ListKind) (e : BuildError) → own ≡ [] → ListPutNot old own new e → PutNot old (list_tree kind []) new e
+empty_put_not old new own kind e none w = record { prefix = w.prefix; why = why e w.why }
   where
-    same_heap : old.heap.items ++ short_sized (drop f.first old.places.items) ≡ old.heap.items ++ short_sized []
-    same_heap = ap (λ z. old.heap.items ++ short_sized z) (drop_all f.first old.places.items (omega (arith, first)))
+    heap : old ++ short_sized own ≡ tree_heap old (list_tree kind [])
+    heap = ap (λ z. old ++ short_sized z) none ∙ sym (list_heap_is kind 0 old [] (no_total kind) (no_children kind)).0
 
-    more : length (old.heap.items ++ short_sized []) ≤ length (list_heap old f.kind 0)
-    more = prefix_length _ _ (given_prefix (frames_of old) (old.heap.items ++ short_sized []) old.places.items (record { value_type = list_type f.kind; address = length old.heap.items }))
+    why : (x : BuildError) → WhyNot (old ++ short_sized own) x → WhyNoTree old (list_tree kind []) x
+    why HeapFull h = (omega (arith, h, ap length heap), omega (arith, h, ap (λ z. length (old ++ short_sized z)) none, length-append old (short_sized []), sized_length [] (omega arith), empty_room kind))
+    why Memory h = tt
+    why AlreadyFailed h = absurd h
+    why OutOfPlace h = absurd h
+    why NotUtf8 h = absurd h
 
-    answer : (x : BuildError) → (x ≡ Memory → length (old.heap.items ++ short_sized (drop f.first old.places.items)) ≤ 4294967295) → WhyNot (old.heap.items ++ short_sized (drop f.first old.places.items)) x → Does old new (awaited_by old ≡ awaits.Value) (ListHeap old f.kind 0) (ListFull old f.kind 0) (ListFits old 0) (λ s. and_list s f.kind 0) (Err x)
-    answer HeapFull k h = (await, omega (arith, h, ap length same_heap, more), c.prefix, no_room_as old _ _ (and_empty f.kind) (value_over old (list_tree f.kind []) await (empty_over f.kind (length old.heap.items) (omega (arith, h, ap length same_heap, length-append old.heap.items (short_sized []))))))
-    answer Memory k h = (await, (λ e. omega (arith, k refl, ap length same_heap)), c.prefix)
-    answer AlreadyFailed k h = absurd h
-    answer OutOfPlace k h = absurd h
-    answer NotUtf8 k h = absurd h
+pub empty_does : (old new : Building) (kind : ListKind) (n : ℕ) (fits : Type 0) (r : Result (Unit {0}) BuildError) → n ≡ 0 → Does old new (awaited_by old ≡ awaits.Value) fits (λ s. and_value s (list_tree kind [])) r
+    → Does old new (awaited_by old ≡ awaits.Value) fits (λ s. and_list s kind n) r
+empty_does old new kind n fits r e d = does_after old new (awaited_by old ≡ awaits.Value) fits _ _ r (λ s. and_empty kind s ∙ ap (λ z. and_list s kind z) (sym e)) d
 
 -- ---- a list of which some child is awaited
 
@@ -125,14 +106,14 @@ some_total Object n h = omega (arith, h)
 
 pub opens_list : (old new : Building) (kind : ListKind) (n : ℕ) (f : Frame) → 0 < n → f ≡ record { kind = kind; announced = n; finished = 0; first = length old.places.items } → awaited_by old ≡ awaits.Value → new.heap.items ≡ old.heap.items
     → new.places.items ≡ old.places.items → new.pending ≡ old.pending → new.frames.items ≡ old.frames.items ++ f ∷ [] → new.complete ≡ old.complete → new.open ≡ old.open
-    → Does old new (awaited_by old ≡ awaits.Value) (ListHeap old kind n) (ListFull old kind n) (ListFits old n) (λ s. and_list s kind n) (Ok tt)
+    → Does old new (awaited_by old ≡ awaits.Value) (ListFits old.heap.items n) (λ s. and_list s kind n) (Ok tt)
 opens_list old new kind n f some is await heap places pending frames whole closed = (
   await,
-  heap ∙ sym (cond-false (nat_eq n 0) _ _ test),
   record {
     grows = prefix_same old.heap.items new.heap.items heap;
     shows = λ s h. (next s h).0;
     within = λ s h. (next s h).1;
+    image = drawn;
   },
 )
   where
@@ -171,6 +152,19 @@ opens_list old new kind n f some is await heap places pending frames whole close
         } in
         (subst (Shows new) (sym same_state) shows, omega (arith, ap length heap, ap written same_state))
 
+    drawn : (base : List ℕ) (s : State) → Shows old s → held old ≡ image_of base s → held new ≡ image_of base (and_list s kind n)
+    drawn base (complete u) h shown = absurd (let e : awaits.Finish ≡ awaits.Value = sym (awaited_same _ _ _ _ _ (complete u) h.at) ∙ await in cc)
+    drawn base (in_bytes ls k m bs) h shown = absurd (let e : awaits.Bytes (m - length bs) ≡ awaits.Value = sym (awaited_same _ _ _ _ _ (in_bytes ls k m bs) h.at) ∙ await in cc)
+    drawn base (in_lists ls) h shown =
+        let places_are : new.places.items ≡ lists_places base ls = places ∙ ap (λ (z : Given). z.places) shown in
+        let frame_is : f ≡ list_frame base opened ls = is ∙ ap (λ m. record { kind = kind; announced = n; finished = 0; first = m }) (ap length (sym places ∙ places_are)) in
+        (λ i. record {
+            heap = (heap ∙ ap (λ (z : Given). z.heap) shown) i;
+            places = (places_are ∙ sym (append-nil (lists_places base ls))) i;
+            frames = (now ∙ (λ j. frame_is j ∷ (shown j).frames)) i;
+            complete = (whole ∙ ap (λ (z : Given). z.complete) shown) i;
+        }) ∙ ap (λ z. image_of base z) (sym (cond-false (nat_eq n 0) _ _ test))
+
 -- ---- bytes
 
 head_next : (kind : BytesKind) (ls : List OpenList) → next_in ls ≡ head_awaits kind → OthersAwait ls → HeadNext kind ls
@@ -200,16 +194,24 @@ begins_over old kind n await over = head_over old kind n await lists over
     lists (in_bytes ls k m bs) h = absurd (no_open kind (m - length bs) (sym (awaited_same _ _ _ _ _ (in_bytes ls k m bs) h.at) ∙ await))
     lists (in_lists ls) h = (ls, refl)
 
+pub begins_full : (old : Building) (kind : BytesKind) (n : ℕ) → awaited_by old ≡ head_awaits kind → 4294967295 < length old.heap.items + (length (vnum n) + n) → IsFull old (λ s. and_head s kind n)
+begins_full old kind n await over = full
+  where
+    full : (base : List ℕ) (s : State) → Shows old s → held old ≡ image_of base s → 4294967295 < full_length base (and_head s kind n)
+    full base (complete u) h shown = absurd (no_finish kind (sym (awaited_same _ _ _ _ _ (complete u) h.at) ∙ await))
+    full base (in_bytes ls k m bs) h shown = absurd (no_open kind (m - length bs) (sym (awaited_same _ _ _ _ _ (in_bytes ls k m bs) h.at) ∙ await))
+    full base (in_lists ls) h shown = omega (arith, over, ap (λ (z : Given). length z.heap) shown, length-append (lists_heap base ls) (vnum n ++ []), length-append (vnum n) [])
+
 pub begins_bytes : (old new : Building) (kind : BytesKind) (n : ℕ) (o : OpenBytes) → awaited_by old ≡ head_awaits kind → length old.heap.items + (length (vnum n) + n) ≤ 4294967295
     → o ≡ record { kind = kind; address = length old.heap.items; announced = n; missing = n } → new.heap.items ≡ old.heap.items ++ vnum n → new.places.items ≡ old.places.items → new.pending ≡ old.pending → new.frames.items ≡ old.frames.items
-    → new.complete ≡ old.complete → new.open ≡ Some o → Does old new (awaited_by old ≡ head_awaits kind) (HeadHeap old n) (HeadFull old n) (¬ HeadFull old n) (λ s. and_head s kind n) (Ok tt)
+    → new.complete ≡ old.complete → new.open ≡ Some o → Does old new (awaited_by old ≡ head_awaits kind) (HeadFits old.heap.items n) (λ s. and_head s kind n) (Ok tt)
 begins_bytes old new kind n o await room_is is heap places pending frames whole open_is = (
   await,
-  (heap, room_is),
   record {
     grows = (vnum n, heap);
     shows = λ s h. (next s h).0;
     within = λ s h. (next s h).1;
+    image = drawn;
   },
 )
   where
@@ -242,18 +244,28 @@ begins_bytes old new kind n o await room_is is heap places pending frames whole 
           omega (arith, long),
         )
 
+    drawn : (base : List ℕ) (s : State) → Shows old s → held old ≡ image_of base s → held new ≡ image_of base (and_head s kind n)
+    drawn base (complete u) h shown = absurd (no_finish kind (sym (awaited_same _ _ _ _ _ (complete u) h.at) ∙ await))
+    drawn base (in_bytes ls k m bs) h shown = absurd (no_open kind (m - length bs) (sym (awaited_same _ _ _ _ _ (in_bytes ls k m bs) h.at) ∙ await))
+    drawn base (in_lists ls) h shown = λ i. record {
+      heap = (heap ∙ (λ j. (shown j).heap ++ sym (append-nil (vnum n)) j)) i;
+      places = (places ∙ ap (λ (z : Given). z.places) shown) i;
+      frames = (ap reverse frames ∙ ap (λ (z : Given). z.frames) shown) i;
+      complete = (whole ∙ ap (λ (z : Given). z.complete) shown) i;
+    }
+
 -- some more of them
 pub chunk_comes : (old new : Building) (o : OpenBytes) (more : List ℕ) (m : ℕ) → old.open ≡ Some o → length more ≤ o.missing → m + length more ≡ o.missing
     → new.heap.items ≡ old.heap.items ++ more → new.places.items ≡ old.places.items → new.pending ≡ old.pending → new.frames.items ≡ old.frames.items → new.complete ≡ old.complete
     → new.open ≡ Some (record { kind = o.kind; address = o.address; announced = o.announced; missing = m })
-    → Does old new (AwaitsChunk old.open (length more)) (λ heap. heap ≡ old.heap.items ++ more) ⊥ (Unit {0}) (λ s. and_bytes s more) (Ok tt)
+    → Does old new (AwaitsChunk old.open (length more)) (Unit {0}) (λ s. and_bytes s more) (Ok tt)
 chunk_comes old new o more m was small left heap places pending frames whole open_is = (
   subst (λ z. AwaitsChunk z (length more)) (sym was) small,
-  heap,
   record {
     grows = (more, heap);
     shows = λ s h. (next s h).0;
     within = λ s h. (next s h).1;
+    image = drawn;
   },
 )
   where
@@ -292,3 +304,13 @@ chunk_comes old new o more m was small left heap places pending frames whole ope
           },
           omega (arith, long, whole_length),
         )
+
+    drawn : (base : List ℕ) (s : State) → Shows old s → held old ≡ image_of base s → held new ≡ image_of base (and_bytes s more)
+    drawn base (complete u) h shown = absurd (let e : Some o ≡ None = sym was ∙ h.at.closed in cc)
+    drawn base (in_lists ls) h shown = absurd (let e : Some o ≡ None = sym was ∙ h.at.closed in cc)
+    drawn base (in_bytes ls kind n bs) h shown = λ i. record {
+      heap = (heap ∙ (λ j. (shown j).heap ++ more) ∙ append_assoc (lists_heap base ls) (vnum n ++ bs) more ∙ ap (λ z. lists_heap base ls ++ z) (append_assoc (vnum n) bs more)) i;
+      places = (places ∙ ap (λ (z : Given). z.places) shown) i;
+      frames = (ap reverse frames ∙ ap (λ (z : Given). z.frames) shown) i;
+      complete = (whole ∙ ap (λ (z : Given). z.complete) shown) i;
+    }

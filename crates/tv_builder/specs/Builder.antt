@@ -1,12 +1,14 @@
--- What a tree builder is seen as, and what its calls return and leave.
+-- What a builder of pairs is seen as, and what its calls return and leave.
 use Rattle.std.specs.Prelude.{◌≡◌, ℕ, ◌+◌, ◌<◌, ◌≤◌, Bool, true, false, List, [], ◌∷◌, ◌++◌, length, take, Result, Ok, Err}
 use Rattle.tv_base.specs.Sink.{IsPrefix}
 use Rattle.tv_format.specs.Tree.{Tree, Document}
 use Rattle.tv_builder.specs.declared.build_error.BuildError.{BuildError}
 use Rattle.tv_builder.specs.declared.build_error.BuildError.TheVariants.{AlreadyFailed, OutOfPlace, NotUtf8, HeapFull, Memory}
-use Rattle.tv_builder.specs.Moves.{end_heap}
+use Rattle.tv_builder.specs.Holds.{pair_at}
+use Rattle.tv_builder.specs.Image.{state_heap, full_length}
 use Rattle.tv_builder.specs.Parts.{IsContent}
 use Rattle.tv_builder.specs.State.{State, complete, in_lists, in_bytes, and_end, state_room}
+use Rattle.tv_builder.specs.TreeBytes.{tree_place}
 use Rattle.tv_heap.specs.Room.{document_room}
 use Rattle.tv_builder.specs.declared.pair_builder.PairBuilder.{PairBuilder}
 
@@ -20,6 +22,10 @@ state_of b = b.state.0
 
 abbrev pub heap_so_far : PairBuilder → List ℕ
 heap_so_far b = b.building.heap.items
+
+-- the heap of the finished pairs
+abbrev pub kept_heap : PairBuilder → List ℕ
+kept_heap b = take b.kept (heap_so_far b)
 
 -- bytes are open, and so many more are announced
 abbrev pub TakesBytes : State → ℕ → Type 0
@@ -36,12 +42,15 @@ abbrev pub HasContent : State → Type 0
 HasContent (in_bytes ls kind n bs) = IsContent kind bs
 HasContent _ = ⊥
 
--- A call that goes on to this state. `kept` stays at the end of the last finished pair.
+-- A call that goes on to this state. Behind the finished pairs the heap is that of the state, and has room for all announced bytes. `kept`
+-- stays at the end of the last finished pair.
 pub record Goes (old new : PairBuilder) (after : State) : Type 0 where
   pub live : new.failed ≡ false
   pub document : built new ≡ built old
   pub kept : new.kept ≡ old.kept
   pub state : state_of new ≡ after
+  pub heap : heap_so_far new ≡ state_heap (kept_heap old) after
+  pub fits : full_length (kept_heap old) after ≤ 4294967295
   pub grows : IsPrefix (heap_so_far old) (heap_so_far new)
 
 -- After a refusal nothing is open, and the heap ends behind the last finished pair.
@@ -52,30 +61,30 @@ pub record Fails (old new : PairBuilder) : Type 0 where
   pub state : state_of new ≡ in_lists []
   pub heap : heap_so_far new ≡ take old.kept (heap_so_far old)
 
--- the finished pairs and this state have more room than a heap has
-abbrev pub Overfull : PairBuilder → State → Type 0
-Overfull old s = 4294967295 < document_room (built old) + state_room s
+-- Behind the finished pairs this state has no room in a heap, by its bytes and the announced ones, nor by the room that all may take.
+pub record Overfull (old : PairBuilder) (after : State) : Type 0 where
+  pub bytes : 4294967295 < full_length (kept_heap old) after
+  pub room : 4294967295 < document_room (built old) + state_room after
 
--- A call that belongs `in_place`, for which the heap that it leaves is `heaps`, whatever its length, and is too long where it is `full`.
--- Memory is refused only where `fits` holds.
-abbrev pub BuildsIf : Bool → PairBuilder → PairBuilder → Type 0 → (List ℕ → Type 0) → Type 0 → Type 0 → (State → State) → Result (Unit {0}) BuildError → Type 0
-BuildsIf true old new in_place heaps full fits after r = (r ≡ Err AlreadyFailed) × (new ≡ old)
-BuildsIf false old new in_place heaps full fits after (Ok x) = in_place × heaps (heap_so_far new) × Goes old new (after (state_of old))
-BuildsIf false old new in_place heaps full fits after (Err OutOfPlace) = ¬ in_place × Fails old new
-BuildsIf false old new in_place heaps full fits after (Err HeapFull) = in_place × full × Fails old new × Overfull old (after (state_of old))
-BuildsIf false old new in_place heaps full fits after (Err Memory) = in_place × fits × Fails old new
-BuildsIf false old new in_place heaps full fits after (Err _) = ⊥
+-- A call that belongs `in_place`. Memory is refused only where `fits` holds.
+abbrev pub BuildsIf : Bool → PairBuilder → PairBuilder → Type 0 → Type 0 → (State → State) → Result (Unit {0}) BuildError → Type 0
+BuildsIf true old new in_place fits after r = (r ≡ Err AlreadyFailed) × (new ≡ old)
+BuildsIf false old new in_place fits after (Ok x) = in_place × Goes old new (after (state_of old))
+BuildsIf false old new in_place fits after (Err OutOfPlace) = ¬ in_place × Fails old new
+BuildsIf false old new in_place fits after (Err HeapFull) = in_place × Fails old new × Overfull old (after (state_of old))
+BuildsIf false old new in_place fits after (Err Memory) = in_place × fits × Fails old new
+BuildsIf false old new in_place fits after (Err _) = ⊥
 
-abbrev pub Builds : PairBuilder → PairBuilder → Type 0 → (List ℕ → Type 0) → Type 0 → Type 0 → (State → State) → Result (Unit {0}) BuildError → Type 0
-Builds old new in_place heaps full fits after r = BuildsIf old.failed old new in_place heaps full fits after r
+abbrev pub Builds : PairBuilder → PairBuilder → Type 0 → Type 0 → (State → State) → Result (Unit {0}) BuildError → Type 0
+Builds old new in_place fits after r = BuildsIf old.failed old new in_place fits after r
 
 -- the call at the end of open bytes
 abbrev pub EndsIf : Bool → PairBuilder → PairBuilder → Result (Unit {0}) BuildError → Type 0
 EndsIf true old new r = (r ≡ Err AlreadyFailed) × (new ≡ old)
-EndsIf false old new (Ok x) = HasAllBytes (state_of old) × HasContent (state_of old) × (heap_so_far new ≡ end_heap old.building old.building.open) × Goes old new (and_end (state_of old))
+EndsIf false old new (Ok x) = HasAllBytes (state_of old) × HasContent (state_of old) × Goes old new (and_end (state_of old))
 EndsIf false old new (Err OutOfPlace) = ¬ HasAllBytes (state_of old) × Fails old new
 EndsIf false old new (Err NotUtf8) = HasAllBytes (state_of old) × ¬ HasContent (state_of old) × Fails old new
-EndsIf false old new (Err HeapFull) = HasAllBytes (state_of old) × HasContent (state_of old) × (4294967295 < length (end_heap old.building old.building.open)) × Fails old new × Overfull old (and_end (state_of old))
+EndsIf false old new (Err HeapFull) = HasAllBytes (state_of old) × HasContent (state_of old) × Fails old new × Overfull old (and_end (state_of old))
 EndsIf false old new (Err Memory) = HasAllBytes (state_of old) × HasContent (state_of old) × Fails old new
 EndsIf false old new (Err _) = ⊥
 
@@ -89,6 +98,7 @@ pub record Finished (old new : PairBuilder) (f : ℕ) : Type 0 where
   pub live : new.failed ≡ false
   pub document : built new ≡ built old ++ (f, tree) ∷ []
   pub state : state_of new ≡ in_lists []
+  pub pairs : new.pairs.items ≡ old.pairs.items ++ pair_at f (tree_place (kept_heap old) tree) ∷ []
   pub heap : heap_so_far new ≡ heap_so_far old
   pub kept : new.kept ≡ length (heap_so_far old)
 

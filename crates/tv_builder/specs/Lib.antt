@@ -12,7 +12,7 @@ pub mod Moves
 pub mod Whole
 pub mod Behind
 pub mod OneState
-pub mod Called
+pub mod Image
 pub mod EncodedPut
 pub mod Builder
 pub mod Finish

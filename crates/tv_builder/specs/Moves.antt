@@ -1,24 +1,21 @@
 -- What a call on a building leaves.
-use Rattle.std.specs.Prelude.{◌≡◌, ◌↔◌, IsTrue, Bool, false, cond, nat_eq, ℕ, ◌+◌, ◌-◌, ◌<◌, ◌≤◌, List, [], ◌∷◌, ◌++◌, length, drop, take, Option, Some, None, Result, Ok, Err}
+use Rattle.std.specs.Prelude.{◌≡◌, ◌↔◌, IsTrue, Bool, false, ℕ, ◌+◌, ◌-◌, ◌<◌, ◌≤◌, List, [], ◌∷◌, ◌++◌, length, drop, take, Option, Some, None, Result, Ok, Err}
 use Rattle.tv_base.specs.Number.{vnum}
 use Rattle.tv_base.specs.Parts.{short_sized}
 use Rattle.tv_base.specs.Sink.{IsPrefix}
-use Rattle.tv_format.specs.Tree.{Leaf, Tree}
+use Rattle.tv_format.specs.Tree.{Leaf}
 use Rattle.tv_heap.specs.LeafBytes.{leaf_bytes}
 use Rattle.tv_builder.specs.declared.build_error.BuildError.{BuildError}
 use Rattle.tv_builder.specs.declared.build_error.BuildError.TheVariants.{OutOfPlace, NotUtf8, HeapFull, Memory}
 use Rattle.tv_builder.specs.declared.building.Building.{Building}
 use Rattle.tv_builder.specs.declared.building.OpenBytes.{OpenBytes}
-use Rattle.tv_builder.specs.declared.bytes_kind.BytesKind.{BytesKind}
-use Rattle.tv_builder.specs.declared.bytes_kind.BytesKind.TheVariants as kinds
 use Rattle.tv_builder.specs.declared.frame.Frame.{Frame}
-use Rattle.tv_builder.specs.declared.frame.ListKind.{ListKind}
 use Rattle.tv_heap.specs.declared.place.Place.{Place}
 use Rattle.tv_builder.specs.Given.{Given, given, one_more, pending_in, AreCut}
-use Rattle.tv_builder.specs.Kinds.{list_type, bytes_type}
+use Rattle.tv_builder.specs.Image.{full_length, held, image_of}
+use Rattle.tv_builder.specs.Kinds.{list_type}
 use Rattle.tv_builder.specs.Parts.{IsContent}
 use Rattle.tv_builder.specs.Shows.{Shows, frames_of}
-use Rattle.tv_builder.specs.TreeBytes.{leaf_place, tree_heap, tree_place}
 use Rattle.tv_builder.specs.State.{State, written, and_end, state_room}
 
 -- ---- a finished value is handed to the lists
@@ -95,78 +92,43 @@ abbrev pub FitsRoom : Option ℕ → ℕ → Bool → Type 0
 FitsRoom None len b = b ≡ false
 FitsRoom (Some n) len b = IsTrue b ↔ (len + n ≤ 4294967295)
 
--- Each state that was held becomes another, and the heap grows by no more than what is written of it weighs.
+-- Each state that was held becomes another, and the heap grows by no more than what is written of it weighs. Where the state was all that
+-- stood behind some heap, so is the other.
 pub record Moves (old new : Building) (after : State → State) : Type 0 where
   pub grows : IsPrefix old.heap.items new.heap.items
   pub shows : (s : State) → Shows old s → Shows new (after s)
   pub within : (s : State) → Shows old s → length new.heap.items + written s ≤ length old.heap.items + written (after s)
+  pub image : (base : List ℕ) (s : State) → Shows old s → held old ≡ image_of base s → held new ≡ image_of base (after s)
 
--- Behind what stood before the state there is no room for the state that the call would leave.
+-- Behind what stood before the state there is no room for the state that the call would leave: its bytes and those that it announces end
+-- above 4294967295.
+abbrev pub IsFull : Building → (State → State) → Type 0
+IsFull old after = (base : List ℕ) (s : State) → Shows old s → held old ≡ image_of base s → 4294967295 < full_length base (after s)
+
+-- and so does the room that it may take
 abbrev pub HasNoRoom : Building → (State → State) → Type 0
 HasNoRoom old after = (s : State) → Shows old s → 4294967295 + written s < length old.heap.items + state_room (after s)
 
--- A call that belongs `in_place`, and for which the heap that it leaves is `heaps`, whatever its length, and is too long where it is
--- `full`. Memory is refused only where `fits` holds. After a refusal what stood in the heap still stands before it.
-abbrev pub Does : Building → Building → Type 0 → (List ℕ → Type 0) → Type 0 → Type 0 → (State → State) → Result (Unit {0}) BuildError → Type 0
-Does old new in_place heaps full fits after (Ok x) = in_place × heaps new.heap.items × Moves old new after
-Does old new in_place heaps full fits after (Err OutOfPlace) = ¬ in_place × IsPrefix old.heap.items new.heap.items
-Does old new in_place heaps full fits after (Err HeapFull) = in_place × full × IsPrefix old.heap.items new.heap.items × HasNoRoom old after
-Does old new in_place heaps full fits after (Err Memory) = in_place × fits × IsPrefix old.heap.items new.heap.items
-Does old new in_place heaps full fits after (Err _) = ⊥
+-- A call that belongs `in_place`. Memory is refused only where `fits` holds. After a refusal what stood in the heap still stands before it.
+abbrev pub Does : Building → Building → Type 0 → Type 0 → (State → State) → Result (Unit {0}) BuildError → Type 0
+Does old new in_place fits after (Ok x) = in_place × Moves old new after
+Does old new in_place fits after (Err OutOfPlace) = ¬ in_place × IsPrefix old.heap.items new.heap.items
+Does old new in_place fits after (Err HeapFull) = in_place × IsFull old after × IsPrefix old.heap.items new.heap.items × HasNoRoom old after
+Does old new in_place fits after (Err Memory) = in_place × fits × IsPrefix old.heap.items new.heap.items
+Does old new in_place fits after (Err _) = ⊥
 
--- a leaf is written, and then the lists that it closes
-abbrev pub leaf_heap : Building → Leaf → List ℕ
-leaf_heap old l = (given (old.heap.items ++ leaf_bytes l) old.places.items (frames_of old) (leaf_place (length old.heap.items) l)).heap
+-- what a leaf, a key, the head of bytes or a list of none writes itself fits behind a heap, whether or not the lists that it closes do
+abbrev pub LeafFits : List ℕ → Leaf → Type 0
+LeafFits heap l = length (heap ++ leaf_bytes l) ≤ 4294967295
 
-abbrev pub LeafHeap : Building → Leaf → List ℕ → Type 0
-LeafHeap old l heap = heap ≡ leaf_heap old l
+abbrev pub KeyFits : List ℕ → List ℕ → Type 0
+KeyFits heap content = length (heap ++ short_sized content) ≤ 4294967295
 
-abbrev pub LeafFull : Building → Leaf → Type 0
-LeafFull old l = 4294967295 < length (leaf_heap old l)
+abbrev pub HeadFits : List ℕ → ℕ → Type 0
+HeadFits heap n = length heap + (length (vnum n) + n) ≤ 4294967295
 
--- the leaf itself fits, whether or not the lists that it closes do
-abbrev pub LeafFits : Building → Leaf → Type 0
-LeafFits old l = length (old.heap.items ++ leaf_bytes l) ≤ 4294967295
-
--- a whole value is written part by part, and then the lists that it closes
-abbrev pub value_heap : Building → Tree → List ℕ
-value_heap old t = (given (tree_heap old.heap.items t) old.places.items (frames_of old) (tree_place old.heap.items t)).heap
-
-abbrev pub ValueHeap : Building → Tree → List ℕ → Type 0
-ValueHeap old t heap = heap ≡ value_heap old t
-
-abbrev pub ValueFull : Building → Tree → Type 0
-ValueFull old t = 4294967295 < length (value_heap old t)
-
--- a list of none is written at once, and then the lists that it closes
-abbrev pub list_heap : Building → ListKind → ℕ → List ℕ
-list_heap old kind n =
-    cond (nat_eq n 0)
-    ((given (old.heap.items ++ short_sized []) old.places.items (frames_of old) (record { value_type = list_type kind; address = length old.heap.items })).heap)
-    old.heap.items
-
-abbrev pub ListHeap : Building → ListKind → ℕ → List ℕ → Type 0
-ListHeap old kind n heap = heap ≡ list_heap old kind n
-
-abbrev pub ListFull : Building → ListKind → ℕ → Type 0
-ListFull old kind n = 4294967295 < length (list_heap old kind n)
-
--- a list of none itself fits, whether or not the lists that it closes do
-abbrev pub ListFits : Building → ℕ → Type 0
-ListFits old n = n ≡ 0 → length (old.heap.items ++ short_sized []) ≤ 4294967295
-
-abbrev pub KeyHeap : Building → List ℕ → List ℕ → Type 0
-KeyHeap old content heap = heap ≡ old.heap.items ++ short_sized content
-
-abbrev pub KeyFull : Building → List ℕ → Type 0
-KeyFull old content = 4294967295 < length (old.heap.items ++ short_sized content)
-
--- the length is written, and there has to be room for all announced bytes
-abbrev pub HeadHeap : Building → ℕ → List ℕ → Type 0
-HeadHeap old n heap = (heap ≡ old.heap.items ++ vnum n) × (length old.heap.items + (length (vnum n) + n) ≤ 4294967295)
-
-abbrev pub HeadFull : Building → ℕ → Type 0
-HeadFull old n = 4294967295 < length old.heap.items + (length (vnum n) + n)
+abbrev pub ListFits : List ℕ → ℕ → Type 0
+ListFits heap n = n ≡ 0 → length (heap ++ short_sized []) ≤ 4294967295
 
 -- bytes are open, and so many at least are missing
 abbrev pub AwaitsChunk : Option OpenBytes → ℕ → Type 0
@@ -187,20 +149,11 @@ abbrev pub EndsWell : Option OpenBytes → List ℕ → Type 0
 EndsWell None heap = ⊥
 EndsWell (Some o) heap = IsContent o.kind (last_bytes o.announced heap)
 
--- the lists that the value closes are written; a key closes none
-abbrev pub content_heap : BytesKind → Building → ℕ → List ℕ
-content_heap kinds.Key old at = old.heap.items
-content_heap kind old at = (given_to old (record { value_type = bytes_type kind; address = at })).heap
-
-abbrev pub end_heap : Building → Option OpenBytes → List ℕ
-end_heap old None = old.heap.items
-end_heap old (Some o) = content_heap o.kind old o.address
-
 -- The end of open bytes: which refusal comes when, in this order, and what the call leaves.
 abbrev pub EndsBytes : Building → Building → Result (Unit {0}) BuildError → Type 0
-EndsBytes old new (Ok x) = AwaitsEnd old.open × EndsWell old.open old.heap.items × (new.heap.items ≡ end_heap old old.open) × Moves old new and_end
+EndsBytes old new (Ok x) = AwaitsEnd old.open × EndsWell old.open old.heap.items × Moves old new and_end
 EndsBytes old new (Err OutOfPlace) = ¬ AwaitsEnd old.open × IsPrefix old.heap.items new.heap.items
 EndsBytes old new (Err NotUtf8) = AwaitsEnd old.open × ¬ EndsWell old.open old.heap.items × IsPrefix old.heap.items new.heap.items
-EndsBytes old new (Err HeapFull) = AwaitsEnd old.open × EndsWell old.open old.heap.items × (4294967295 < length (end_heap old old.open)) × IsPrefix old.heap.items new.heap.items × HasNoRoom old and_end
+EndsBytes old new (Err HeapFull) = AwaitsEnd old.open × EndsWell old.open old.heap.items × IsFull old and_end × IsPrefix old.heap.items new.heap.items × HasNoRoom old and_end
 EndsBytes old new (Err Memory) = AwaitsEnd old.open × EndsWell old.open old.heap.items × IsPrefix old.heap.items new.heap.items
 EndsBytes old new (Err _) = ⊥

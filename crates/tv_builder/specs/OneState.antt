@@ -2,7 +2,7 @@
 use Rattle.std.specs.Prelude.{◌≡◌, ℕ, zero, suc, Bool, true, false, List, [], ◌∷◌, ◌++◌, length, take, drop, Option, Some, None, refl}
 use Rattle.std.specs.Coded.{Coded, code_by, coded×, coded_list, coded_ℕ, coded_bool, Coded-set}
 use Rattle.std.proofs.Common.{ap, sym, ◌∙◌, subst}
-use Rattle.std.proofs.Math.Logic.{∥∥₁_elim, ∥∥₁_prop}
+use Rattle.std.proofs.Math.Logic.{∥∥₁_elim, ∥∥₁_map, ∥∥₁_prop}
 use Rattle.std.proofs.lemmas.List.{append_cancel_left}
 use mathlib.Core.HLevel.{Σ_prop_path}
 use base.Stored.{Gv, gnil, gnum, gcons}
@@ -22,7 +22,8 @@ use Rattle.tv_builder.specs.declared.frame.Frame.{Frame}
 use Rattle.tv_builder.specs.declared.frame.ListKind.{ListKind}
 use Rattle.tv_builder.specs.declared.frame.ListKind.TheVariants.{Array, Object}
 use Rattle.tv_heap.specs.declared.place.Place.{Place}
-use Rattle.tv_builder.specs.Shows.{ShowsLists, ShowsAt, Stands, frames_of}
+use Rattle.tv_builder.specs.Image.{held, image_of}
+use Rattle.tv_builder.specs.Shows.{ShowsLists, ShowsAt, Shows, Stands, frames_of}
 use Rattle.tv_builder.specs.State.{OpenList, State, complete, in_lists, in_bytes}
 
 -- ---- a code for states
@@ -148,3 +149,19 @@ Stands-prop b x y =
 -- the state does not depend on how it was shown
 pub same_state : (b : Building) (x y : Stands b) → x.0 ≡ y.0
 same_state b x y = ap (λ p. p.0) (Stands-prop b x y)
+
+-- ---- a state behind a heap
+
+-- the state that a builder holds, which is all that stands behind this heap
+abbrev pub StandsBehind : List ℕ → Building → Type 0
+StandsBehind base b = (s : State) × ∥ (Shows b s × (held b ≡ image_of base s)) ∥₁
+
+-- of which the state is one that it holds
+abbrev pub stands_of : (base : List ℕ) (b : Building) → StandsBehind base b → Stands b
+stands_of base b h = (h.0, ∥∥₁_map h.1 (λ p. p.0))
+
+pub same_behind : (base other : List ℕ) (b : Building) (x : StandsBehind base b) (y : StandsBehind other b) → x.0 ≡ y.0
+same_behind base other b x y = same_state b (stands_of base b x) (stands_of other b y)
+
+pub StandsBehind-prop : (base : List ℕ) (b : Building) → IsProp (StandsBehind base b)
+StandsBehind-prop base b x y = Σ_prop_path (λ s. ∥∥₁_prop) (same_behind base base b x y)

@@ -1,7 +1,7 @@
 //! A heap, and a value that is written into it part by part.
 
 ghost use Rattle.std.specs.Prelude.{◌≡◌, ℕ, ◌+◌, ◌-◌, ◌<◌, ◌≤◌, ◌^◌, ◌++◌, [], ◌∷◌, ◌↔◌, length};
-ghost use Rattle.std.specs.Prelude.{drop, take, OnOk, OnErr, IfOk, IfErr, IsTrue, IsUtf8};
+ghost use Rattle.std.specs.Prelude.{drop, take, OnOk, OnErr, IfOk, IfErr, IsErrOf, IsTrue, IsUtf8};
 ghost use Rattle.tv_base.specs.Number.{vnum};
 ghost use Rattle.tv_base.specs.Parts.{short_sized};
 ghost use Rattle.tv_base.specs.Sink.{IsPrefix};
@@ -55,14 +55,10 @@ pub struct Building {
 }
 
 impl Building {
-    ghost use Rattle.tv_builder.specs.Called.{held, leaf_called, list_called, key_called};
-    ghost use Rattle.tv_builder.specs.Called.{tree_called};
     ghost use Rattle.tv_builder.specs.Parts.{IsContent};
     ghost use Rattle.tv_builder.specs.Moves.{CanGive, Gives, GivesNot, CanGiveKey, GivesKey};
-    ghost use Rattle.tv_builder.specs.Moves.{Closed, ClosedNot, Does, EndsBytes, LeafHeap};
-    ghost use Rattle.tv_builder.specs.Moves.{LeafFull, LeafFits, ValueHeap, ValueFull, HeadHeap};
-    ghost use Rattle.tv_builder.specs.Moves.{HeadFull, KeyHeap, KeyFull, ListHeap, ListFull};
-    ghost use Rattle.tv_builder.specs.Moves.{ListFits, AwaitsChunk, last_bytes};
+    ghost use Rattle.tv_builder.specs.Moves.{Closed, ClosedNot, Does, EndsBytes, LeafFits, ListFits};
+    ghost use Rattle.tv_builder.specs.Moves.{KeyFits, HeadFits, AwaitsChunk, last_bytes};
     ghost use Rattle.tv_builder.specs.Shows.{Stands, frames_of, awaited_by};
     ghost use Rattle.tv_builder.specs.State.{and_value, and_list, and_key, and_head, and_bytes};
     ghost use Rattle.tv_builder.specs.State.{head_awaits};
@@ -126,11 +122,9 @@ impl Building {
     /// A value without children has come.
     pub fn leaf(&mut self, value: &ReferenceValueLeaf<'_>) -> Result<(), BuildError>
         requires { Stands self.old }
-        ensures does { let l = leaf_of value.now in Does self.old self.new
-            (awaited_by self.old ≡ ValueNext) (LeafHeap self.old l) (LeafFull self.old l)
-            (LeafFits self.old l) (λ s. and_value s (leaf_tree l)) result }
-        ensures exact { OnOk result
-            (held self.new ≡ leaf_called (held self.old) (leaf_of value.now)) }
+        ensures { let l = leaf_of value.now in Does self.old self.new
+            (awaited_by self.old ≡ ValueNext) (LeafFits self.old.heap.items l)
+            (λ s. and_value s (leaf_tree l)) result }
     {
         let Awaits::Value = self.awaits() else {
             return Err(BuildError::OutOfPlace);
@@ -142,11 +136,8 @@ impl Building {
     /// A whole value of any kind has come: what the calls for its parts do.
     pub fn tree<'a, V: Value<'a>>(&mut self, value: &V) -> Result<(), BuildError>
         requires { Stands self.old }
-        ensures does { let t = V.tree value.now in Does self.old self.new
-            (awaited_by self.old ≡ ValueNext) (ValueHeap self.old t) (ValueFull self.old t)
-            (Unit {0}) (λ s. and_value s t) result }
-        ensures exact { OnOk result
-            (held self.new ≡ tree_called (held self.old) (V.tree value.now)) }
+        ensures { let t = V.tree value.now in Does self.old self.new
+            (awaited_by self.old ≡ ValueNext) (Unit {0}) (λ s. and_value s t) result }
     {
         let Awaits::Value = self.awaits() else {
             return Err(BuildError::OutOfPlace);
@@ -158,35 +149,31 @@ impl Building {
     /// A list has come, of which so many elements or entries are announced. One of none closes at once.
     pub fn open_list(&mut self, kind: ListKind, announced: u64) -> Result<(), BuildError>
         requires { Stands self.old }
-        ensures does { Does self.old self.new (awaited_by self.old ≡ ValueNext)
-            (ListHeap self.old kind announced) (ListFull self.old kind announced)
-            (ListFits self.old announced) (λ s. and_list s kind announced) result }
-        ensures exact { OnOk result (held self.new ≡ list_called (held self.old) kind announced) }
+        ensures { Does self.old self.new (awaited_by self.old ≡ ValueNext)
+            (ListFits self.old.heap.items announced) (λ s. and_list s kind announced) result }
     {
         let Awaits::Value = self.awaits() else {
             return Err(BuildError::OutOfPlace);
         };
-        let frame = Frame {
+        let first = self.places.len();
+        if announced == 0 {
+            let place = put_list(&mut self.heap, &mut self.places, kind, first)?;
+            return self.give(place);
+        }
+        self.frames.push(Frame {
             kind,
             announced,
             finished: 0,
-            first: self.places.len(),
-        };
-        if announced == 0 {
-            let place = self.close(frame)?;
-            return self.give(place);
-        }
-        self.frames.push(frame)?;
+            first,
+        })?;
         Ok(())
     }
 
     /// A key has come.
     pub fn key(&mut self, content: &str) -> Result<(), BuildError>
         requires { Stands self.old }
-        ensures does { Does self.old self.new (awaited_by self.old ≡ KeyNext)
-            (KeyHeap self.old content.now) (KeyFull self.old content.now)
-            (¬ KeyFull self.old content.now) (λ s. and_key s content.now) result }
-        ensures exact { OnOk result (held self.new ≡ key_called (held self.old) content.now) }
+        ensures { Does self.old self.new (awaited_by self.old ≡ KeyNext)
+            (KeyFits self.old.heap.items content.now) (λ s. and_key s content.now) result }
     {
         let Awaits::Key = self.awaits() else {
             return Err(BuildError::OutOfPlace);
@@ -203,8 +190,7 @@ impl Building {
     pub fn begin_bytes(&mut self, kind: BytesKind, announced: u64) -> Result<(), BuildError>
         requires { Stands self.old }
         ensures { Does self.old self.new (awaited_by self.old ≡ head_awaits kind)
-            (HeadHeap self.old announced) (HeadFull self.old announced)
-            (¬ HeadFull self.old announced) (λ s. and_head s kind announced) result }
+            (HeadFits self.old.heap.items announced) (λ s. and_head s kind announced) result }
     {
         if !self.awaits_head(kind) {
             return Err(BuildError::OutOfPlace);
@@ -238,9 +224,9 @@ impl Building {
     /// Some of the announced bytes have come.
     pub fn chunk(&mut self, bytes: &[u8]) -> Result<(), BuildError>
         requires { Stands self.old }
-        ensures { Does self.old self.new (AwaitsChunk self.old.open (length bytes.now))
-            (λ heap. heap ≡ self.old.heap.items ++ bytes.now) ⊥ (Unit {0})
-            (λ s. and_bytes s bytes.now) result }
+        ensures does { Does self.old self.new (AwaitsChunk self.old.open (length bytes.now))
+            (Unit {0}) (λ s. and_bytes s bytes.now) result }
+        ensures roomy { ¬ IsErrOf result BuildError.HeapFull }
     {
         let Some(open) = self.open else {
             return Err(BuildError::OutOfPlace);

@@ -1,9 +1,8 @@
 //! Building the values of pairs part by part, in one heap.
 
-ghost use Rattle.std.specs.Prelude.{◌≡◌, ◌+◌, ◌<◌, ◌≤◌, ◌∷◌, [], ◌++◌, OnOk, OnErr, IfErr, length};
+ghost use Rattle.std.specs.Prelude.{◌≡◌, ◌+◌, ◌<◌, ◌≤◌, ◌∷◌, [], ◌++◌, OnOk, OnErr, IfErr, IsErrOf, length};
 ghost use Rattle.std.specs.Prelude.{take, true, false, None};
-ghost use Rattle.tv_builder.specs.OneState.{Stands-prop};
-ghost use Rattle.tv_builder.specs.Shows.{Stands};
+ghost use Rattle.tv_builder.specs.OneState.{StandsBehind, StandsBehind-prop};
 ghost use Rattle.tv_builder.specs.State.{written};
 ghost use Rattle.tv_builder.specs.Finish.{HoldsPrefix, HoldsPrefix-prop, Cleared, Kept, KeptNot};
 ghost use Rattle.tv_builder.specs.Weight.{document_weight, state_weight};
@@ -78,14 +77,12 @@ pub struct PairBuilder {
     pub ghost kept_within: { kept ≤ length building.heap.items },
     pub ghost room: { kept ≤ document_room document.0 },
     pub ghost weight: { kept ≤ document_weight document.0 },
-    pub ghost state: { Stands building } by { Stands-prop building },
+    pub ghost state: { StandsBehind (take kept building.heap.items) building } by { StandsBehind-prop (take kept building.heap.items) building },
     pub ghost written: { length building.heap.items ≤ kept + written state.0 },
 }
 
 impl PairBuilder {
-    ghost use Rattle.tv_builder.specs.Moves.{LeafHeap, LeafFull, LeafFits, ValueHeap, ValueFull};
-    ghost use Rattle.tv_builder.specs.Moves.{ListHeap, ListFull, ListFits, KeyHeap, KeyFull};
-    ghost use Rattle.tv_builder.specs.Moves.{HeadHeap, HeadFull};
+    ghost use Rattle.tv_builder.specs.Moves.{LeafFits, ListFits, KeyFits, HeadFits};
     ghost use Rattle.tv_builder.specs.State.{and_value, and_list, and_key, and_head, and_bytes};
     ghost use Rattle.tv_builder.specs.State.{awaited, head_awaits, in_lists, lists_of, children_of};
     ghost use Rattle.tv_builder.specs.declared.awaits.Awaits.TheVariants.{Value as ValueNext};
@@ -164,8 +161,7 @@ impl PairBuilder {
     /// `HeapFull` of a list that the value closes.
     pub fn leaf(&mut self, value: ReferenceValueLeaf<'_>) -> Result<(), BuildError>
         ensures { let l = leaf_of value.entry in Builds self.old self.new
-            (awaited (state_of self.old) ≡ ValueNext) (LeafHeap self.old.building l)
-            (LeafFull self.old.building l) (LeafFits self.old.building l)
+            (awaited (state_of self.old) ≡ ValueNext) (LeafFits (heap_so_far self.old) l)
             (λ s. and_value s (leaf_tree l)) result }
     {
         if self.failed {
@@ -182,8 +178,7 @@ impl PairBuilder {
     /// value, or of a list that it closes.
     pub fn tree<'a, V: Value<'a>>(&mut self, value: &V) -> Result<(), BuildError>
         ensures { let t = V.tree value.now in Builds self.old self.new
-            (awaited (state_of self.old) ≡ ValueNext) (ValueHeap self.old.building t)
-            (ValueFull self.old.building t) (Unit {0}) (λ s. and_value s t) result }
+            (awaited (state_of self.old) ≡ ValueNext) (Unit {0}) (λ s. and_value s t) result }
     {
         if self.failed {
             return Err(BuildError::AlreadyFailed);
@@ -199,9 +194,7 @@ impl PairBuilder {
     /// before the `HeapFull` of a list that the list closes.
     pub fn open_list(&mut self, kind: ListKind, announced: u64) -> Result<(), BuildError>
         ensures { Builds self.old self.new (awaited (state_of self.old) ≡ ValueNext)
-            (ListHeap self.old.building kind announced)
-            (ListFull self.old.building kind announced) (ListFits self.old.building announced)
-            (λ s. and_list s kind announced) result }
+            (ListFits (heap_so_far self.old) announced) (λ s. and_list s kind announced) result }
     {
         if self.failed {
             return Err(BuildError::AlreadyFailed);
@@ -216,8 +209,7 @@ impl PairBuilder {
     /// `Memory` where memory is refused. `Memory` comes only where the key fits.
     pub fn key(&mut self, content: &str) -> Result<(), BuildError>
         ensures { Builds self.old self.new (awaited (state_of self.old) ≡ KeyNext)
-            (KeyHeap self.old.building content.now) (KeyFull self.old.building content.now)
-            (¬ KeyFull self.old.building content.now) (λ s. and_key s content.now) result }
+            (KeyFits (heap_so_far self.old) content.now) (λ s. and_key s content.now) result }
     {
         if self.failed {
             return Err(BuildError::AlreadyFailed);
@@ -232,8 +224,7 @@ impl PairBuilder {
     /// bytes behind their length would end above 4294967295; else `Memory` where memory is refused. `Memory` comes only where they fit.
     pub fn begin_bytes(&mut self, kind: BytesKind, announced: u64) -> Result<(), BuildError>
         ensures { Builds self.old self.new (awaited (state_of self.old) ≡ head_awaits kind)
-            (HeadHeap self.old.building announced) (HeadFull self.old.building announced)
-            (¬ HeadFull self.old.building announced) (λ s. and_head s kind announced) result }
+            (HeadFits (heap_so_far self.old) announced) (λ s. and_head s kind announced) result }
     {
         if self.failed {
             return Err(BuildError::AlreadyFailed);
@@ -246,9 +237,10 @@ impl PairBuilder {
     ///
     /// `AlreadyFailed` after a refusal; `OutOfPlace` where fewer are missing; else `Memory` where memory is refused.
     pub fn chunk(&mut self, bytes: &[u8]) -> Result<(), BuildError>
-        ensures { Builds self.old self.new (TakesBytes (state_of self.old) (length bytes.now))
-            (λ heap. heap ≡ heap_so_far self.old ++ bytes.now) ⊥ (Unit {0})
+        ensures builds { Builds self.old self.new
+            (TakesBytes (state_of self.old) (length bytes.now)) (Unit {0})
             (λ s. and_bytes s bytes.now) result }
+        ensures roomy { ¬ IsErrOf result BuildError.HeapFull }
     {
         if self.failed {
             return Err(BuildError::AlreadyFailed);

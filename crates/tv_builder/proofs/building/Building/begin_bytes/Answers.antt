@@ -2,7 +2,7 @@ use Rattle.std.proofs.Common.{◌≡◌, ◌<◌, ◌≤◌, ◌+◌, length, re
 use Rattle.tv_base.specs.Number.{vnum}
 use Rattle.tv_builder.specs.Shows.{awaited_by}
 use Rattle.tv_builder.specs.State.{head_awaits}
-use Rattle.tv_builder.proofs.Opening.{begins_bytes, begins_over}
+use Rattle.tv_builder.proofs.Opening.{begins_bytes, begins_full, begins_over}
 use Rattle.tv_builder.proofs.Calls.{over_bound}
 use Rattle.tv_builder.proofs.Giving.{prefix_same}
 use Rattle.tv_builder.proofs.Sound.{fits_of}
@@ -26,4 +26,4 @@ returns-then-not-has_room c =
     let await : awaited_by b ≡ head_awaits c.args.kind = search rules in
     let full : 4294967295 < c.len.result + (length (vnum c.args.announced) + c.args.announced) = over_bound c.len.result _ c.has_room.result c.has_room.ensures c.if-not-has_room.true in
     let over : 4294967295 < length b.heap.items + (length (vnum c.args.announced) + c.args.announced) = omega (arith, full, c.len.ensures, b.heap.ok.0) in
-    (await, over, prefix_same _ _ refl, begins_over b c.args.kind c.args.announced await over)
+    (await, begins_full b c.args.kind c.args.announced await over, prefix_same _ _ refl, begins_over b c.args.kind c.args.announced await over)

@@ -1,47 +1,48 @@
-use Rattle.std.proofs.Common.{◌≡◌, length, refl, sym, ap, arith, rules}
-use Rattle.tv_builder.proofs.Opening.{empty_closed, empty_does, empty_not, opens_list}
-use Rattle.tv_builder.specs.Shows.{frames_of}
-use Rattle.tv_builder.proofs.Sound.{can_give, fits_of, value_none}
-use Rattle.tv_builder.proofs.Calling.{exact_empty, exact_list}
+use Rattle.std.proofs.Common.{◌≡◌, ◌≤◌, [], ◌++◌, drop, length, Err, refl, sym, ◌∙◌, ap, subst, arith, rules}
+use Rattle.std.proofs.lemmas.List.{drop_all, take_all}
+use Rattle.tv_base.specs.Parts.{short_sized}
+use Rattle.tv_builder.specs.declared.build_error.BuildError.TheVariants.{Memory}
+use Rattle.tv_builder.specs.Moves.{ListFits}
+use Rattle.tv_builder.specs.State.{list_tree}
+use Rattle.tv_builder.proofs.Calls.{does_value, value_not}
+use Rattle.tv_builder.proofs.Opening.{empty_put, empty_put_not, empty_does, opens_list}
+use Rattle.tv_builder.proofs.Sound.{can_give, fits_of}
 use Rattle.tv_builder.proofs.building.Building.open_list.Goals as goal
 
-pub close-requires-clause-fits : goal.close-requires-clause-fits
-close-requires-clause-fits c = fits_of c.args.self.now c.requires
+pub put_list-requires-clause-fits : goal.put_list-requires-clause-fits
+put_list-requires-clause-fits c = fits_of c.args.self.now c.requires
 
-pub returns-in_err-place-clause-does : goal.returns-in_err-place-clause-does
-returns-in_err-place-clause-does c =
+pub returns-in_err-place : goal.returns-in_err-place
+returns-in_err-place c =
     let b = c.args.self.now in
-    let not = empty_not b c.close.new.self _ c.args.announced _ c.if-announced-eq0.true (omega (arith, c.len.ensures, b.places.ok.0)) (sym c.in-Value.ensures) c.in_err-place.ensures.err in
-    search (rules, not)
+    let none : drop c.len-first.result b.places.items ≡ [] = drop_all c.len-first.result b.places.items (omega (arith, c.len-first.ensures, b.places.ok.0)) in
+    let fits = ListFits b.heap.items c.args.announced in
+    let holds : c.in_err-place.field-0.0 ≡ Memory → ListFits b.heap.items c.args.announced = λ e z. subst (λ own. length (b.heap.items ++ short_sized own) ≤ 4294967295) none (c.in_err-place.ensures.err.memory e) in
+    let new = record b { heap = c.put_list.new.heap; places = c.put_list.new.places } in
+    let not = value_not b new (list_tree c.args.kind []) fits c.in_err-place.field-0.0 (sym c.in-Value.ensures) holds (empty_put_not b.heap.items c.put_list.new.heap.items _ c.args.kind _ none c.in_err-place.ensures.err) in
+    let whole = empty_does b new c.args.kind c.args.announced fits (Err c.in_err-place.field-0.0) c.if-announced-eq0.true not in
+    search (rules, whole)
 
 pub give-requires : goal.give-requires
 give-requires c =
     let b = c.args.self.now in
-    let e = empty_closed b c.close.new.self _ c.in_ok-place.place (omega (arith, c.len.ensures, b.places.ok.0)) refl c.in_ok-place.ensures.ok in
-    can_give b c.close.new.self c.requires (sym c.in-Value.ensures) e.fits e.pending e.frames e.places e.complete
+    let kept : c.put_list.new.places.items ≡ b.places.items = c.in_ok-place.ensures.places ∙ take_all c.len-first.result b.places.items (omega (arith, c.len-first.ensures, b.places.ok.0)) in
+    can_give b _ c.requires (sym c.in-Value.ensures) c.in_ok-place.ensures.ok.fits refl refl kept refl
 
-pub returns-then-announced-eq0-clause-does : goal.returns-then-announced-eq0-clause-does
-returns-then-announced-eq0-clause-does c =
+pub returns-then-announced-eq0 : goal.returns-then-announced-eq0
+returns-then-announced-eq0 c =
     let b = c.args.self.now in
-    let e = empty_closed b c.close.new.self _ c.in_ok-place.place (omega (arith, c.len.ensures, b.places.ok.0)) refl c.in_ok-place.ensures.ok in
-    empty_does b c.close.new.self c.give.new.self c.args.kind c.args.announced c.in_ok-place.place c.give.result c.if-announced-eq0.true (sym c.in-Value.ensures) e c.give.ensures.ok c.give.ensures.err
+    let none : drop c.len-first.result b.places.items ≡ [] = drop_all c.len-first.result b.places.items (omega (arith, c.len-first.ensures, b.places.ok.0)) in
+    let kept : c.put_list.new.places.items ≡ b.places.items = c.in_ok-place.ensures.places ∙ take_all c.len-first.result b.places.items (omega (arith, c.len-first.ensures, b.places.ok.0)) in
+    let w = c.in_ok-place.ensures.ok in
+    let holds : ListFits b.heap.items c.args.announced = λ z. subst (λ own. length (b.heap.items ++ short_sized own) ≤ 4294967295) none (omega (arith, w.fits, ap length w.heap)) in
+    let put = empty_put b.heap.items c.put_list.new.heap.items _ c.args.kind c.in_ok-place.place none c.in_ok-place.ensures.ok in
+    let whole = does_value b _ c.give.new.self c.in_ok-place.place (list_tree c.args.kind []) (ListFits b.heap.items c.args.announced) c.give.result (sym c.in-Value.ensures) holds put refl kept refl c.give.ensures.ok c.give.ensures.err in
+    empty_does b c.give.new.self c.args.kind c.args.announced _ c.give.result c.if-announced-eq0.true whole
 
-pub returns-clause-does : goal.returns-clause-does
-returns-clause-does c =
+pub returns : goal.returns
+returns c =
     let b = c.args.self.now in
-    let first : c.len.result ≡ length b.places.items = omega (arith, c.len.ensures, b.places.ok.0) in
+    let first : c.len-first.result ≡ length b.places.items = omega (arith, c.len-first.ensures, b.places.ok.0) in
     opens_list b _ c.args.kind c.args.announced _ (omega (arith, c.if-announced-eq0.false)) (ap (λ n. record { kind = c.args.kind; announced = c.args.announced; finished = 0; first = n }) first) (sym c.in-Value.ensures)
     refl refl refl c.in_ok-push.ensures.items refl refl
-
-pub returns-then-announced-eq0-clause-exact : goal.returns-then-announced-eq0-clause-exact
-returns-then-announced-eq0-clause-exact c =
-    let b = c.args.self.now in
-    let e = empty_closed b c.close.new.self _ c.in_ok-place.place (omega (arith, c.len.ensures, b.places.ok.0)) refl c.in_ok-place.ensures.ok in
-    exact_empty c.give.result b c.close.new.self c.give.new.self c.args.kind c.args.announced c.in_ok-place.place c.if-announced-eq0.true e.heap e.places e.frames e.place c.give.ensures.ok
-
-pub returns-clause-exact : goal.returns-clause-exact
-returns-clause-exact c =
-    let b = c.args.self.now in
-    let first : c.len.result ≡ length b.places.items = omega (arith, c.len.ensures, b.places.ok.0) in
-    exact_list b (record b { frames = c.push.new.self }) c.args.kind c.args.announced _ (omega (arith, c.if-announced-eq0.false)) (ap (λ n. record { kind = c.args.kind; announced = c.args.announced; finished = 0; first = n }) first)
-    refl refl c.in_ok-push.ensures.items (value_none b.open b.complete (frames_of b) (sym c.in-Value.ensures)).0

@@ -1,5 +1,7 @@
 use Rattle.std.proofs.Common.{refl}
 use Rattle.tv_builder.proofs.PairBuilding.{Settled, ends_left, fields_left, ends}
+use Rattle.tv_builder.specs.Builder.{kept_heap}
+use Rattle.tv_builder.specs.OneState.{stands_of}
 use Rattle.tv_builder.proofs.pair_builder.PairBuilder.end_bytes.Goals as goal
 
 pub invariant_of-self : goal.invariant_of-self
@@ -14,3 +16,6 @@ returns c =
     let s : Settled c.end_bytes-result.new.self c.settle.new.building c.args.self.now.kept c.args.self.now.failed c.settle.new.failed c.end_bytes-result.result =
     record { ok = c.settle.ensures.ok; live = c.settle.ensures.live; err = c.settle.ensures.err; mark = c.settle.ensures.mark } in
     ends c.args.self.now _ c.end_bytes-result.new.self c.end_bytes-result.result c.settle.result c.if-self.false c.end_bytes-result.ensures s refl refl c.settle.ensures.same
+
+pub end_bytes-result-requires : goal.end_bytes-result-requires
+end_bytes-result-requires c = let b = c.args.self.now in stands_of (kept_heap b) b.building b.state

@@ -1,4 +1,4 @@
-use Rattle.std.proofs.Common.{◌≡◌, length, arith, rules}
+use Rattle.std.proofs.Common.{◌≡◌, ◌≤◌, length, ap, arith, rules}
 use Rattle.tv_builder.proofs.PairBuilding.{new_fields, built_new, new_state}
 use Rattle.tv_builder.proofs.pair_builder.PairBuilder.new.Goals as goal
 
@@ -19,4 +19,5 @@ returns-clause-document c =
 pub returns-clause-state : goal.returns-clause-state
 returns-clause-state c =
     let e = c.new.ensures in
-    search (rules, new_state, e.places, e.pending, e.frames, e.complete, e.closed)
+    let within : length c.new.result.heap.items ≤ c.len-kept.result = omega (arith, c.len-kept.ensures, c.args.finished.heap.ok.0, ap length e.heap) in
+    search (rules, new_state, within, e.places, e.pending, e.frames, e.complete, e.closed)
