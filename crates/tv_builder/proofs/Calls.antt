@@ -12,7 +12,8 @@ use Rattle.tv_builder.specs.declared.building.OpenBytes.{OpenBytes}
 use Rattle.tv_builder.specs.declared.frame.Frame.{Frame}
 use Rattle.tv_heap.specs.declared.place.Place.{Place}
 use Rattle.tv_builder.specs.Given.{Given, given}
-use Rattle.tv_builder.specs.Image.{full_length, held, image_of}
+use Rattle.tv_builder.specs.Image.{held, image_of}
+use Rattle.tv_builder.specs.StateHeap.{full_length}
 use Rattle.tv_builder.specs.Moves.{given_to, Gives, GivesNot, Moves, IsFull, HasNoRoom, Does, FitsRoom}
 use Rattle.tv_builder.specs.TreeBytes.{tree_heap, tree_place}
 use Rattle.tv_builder.specs.Whole.{Put, PutNot, WhyNoTree}

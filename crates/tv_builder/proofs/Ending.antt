@@ -23,7 +23,8 @@ use Rattle.tv_builder.specs.declared.frame.ListKind.{ListKind}
 use Rattle.tv_builder.specs.declared.frame.ListKind.TheVariants.{Array, Object}
 use Rattle.tv_heap.specs.declared.place.Place.{Place}
 use Rattle.tv_builder.specs.Given.{Given, given, pending_in, AreCut}
-use Rattle.tv_builder.specs.Image.{lists_heap, lists_places, lists_frames, held, image_of}
+use Rattle.tv_builder.specs.Image.{lists_places, lists_frames, held, image_of}
+use Rattle.tv_builder.specs.StateHeap.{lists_heap}
 use Rattle.tv_builder.specs.Kinds.{bytes_type}
 use Rattle.tv_builder.specs.Moves.{given_to, CanGive, CanGiveKey, Gives, GivesNot, GivesKey, Moves, IsFull, HasNoRoom, EndsBytes, EndsWell, AwaitsEnd, last_bytes}
 use Rattle.tv_builder.specs.Parts.{IsContent}

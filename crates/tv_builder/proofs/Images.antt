@@ -10,7 +10,8 @@ use Rattle.tv_builder.specs.declared.frame.ListKind.{ListKind}
 use Rattle.tv_builder.specs.declared.frame.ListKind.TheVariants.{Array, Object}
 use Rattle.tv_heap.specs.declared.place.Place.{Place}
 use Rattle.tv_builder.specs.Given.{Given, given, place_bytes, one_more}
-use Rattle.tv_builder.specs.Image.{lists_heap, state_heap, lists_places, list_frame, lists_frames, held, image_of}
+use Rattle.tv_builder.specs.Image.{lists_places, list_frame, lists_frames, held, image_of}
+use Rattle.tv_builder.specs.StateHeap.{lists_heap, state_heap}
 use Rattle.tv_builder.specs.Kinds.{list_type, total}
 use Rattle.tv_builder.specs.Moves.{given_to, Gives}
 use Rattle.tv_builder.specs.State.{OpenList, State, complete, in_lists, in_bytes, with_child, with_value, list_tree, pairs_of, AreEntries, AreChildren, AreLists, AllAwait}

@@ -16,9 +16,11 @@ use Rattle.tv_builder.specs.declared.bytes_kind.BytesKind.TheVariants as kinds
 use Rattle.tv_builder.specs.declared.frame.Frame.{Frame}
 use Rattle.tv_heap.specs.declared.place.Place.{Place}
 use Rattle.tv_builder.specs.Given.{Given, place_bytes, one_more, pending_in}
-use Rattle.tv_builder.specs.Image.{lists_heap, full_length, lists_places, list_frame, lists_frames, held, image_of}
+use Rattle.tv_builder.specs.Image.{lists_places, list_frame, lists_frames, held, image_of}
+use Rattle.tv_builder.specs.StateHeap.{lists_heap, full_length}
 use Rattle.tv_builder.specs.Kinds.{bytes_type}
-use Rattle.tv_builder.specs.Moves.{GivesKey, Moves, IsFull, Does, KeyFits}
+use Rattle.tv_builder.specs.Moves.{GivesKey, Moves, IsFull, Does}
+use Rattle.tv_builder.specs.Fits.{KeyFits}
 use Rattle.tv_builder.specs.Parts.{IsContent}
 use Rattle.tv_builder.specs.Shows.{Placed, ShowsLists, Shows, frames_of, awaited_by}
 use Rattle.tv_builder.specs.State.{OpenList, State, complete, in_lists, in_bytes, next_in, with_key, and_key, with_child, AreLists, OthersAwait, lists_written, written}

@@ -18,7 +18,7 @@ pub mod Paid
 pub mod Weighing
 pub mod Encoding
 pub mod JsonValues
-pub mod HeldPairs
+pub mod Documents
 pub mod PairBuilding
 pub mod CallPlaces
 pub mod Finishing

@@ -18,9 +18,11 @@ use Rattle.tv_builder.specs.declared.frame.ListKind.{ListKind}
 use Rattle.tv_builder.specs.declared.frame.ListKind.TheVariants.{Array, Object}
 use Rattle.tv_heap.specs.declared.place.Place.{Place}
 use Rattle.tv_builder.specs.Given.{Given, pending_in}
-use Rattle.tv_builder.specs.Image.{lists_heap, full_length, lists_places, list_frame, held, image_of}
+use Rattle.tv_builder.specs.Image.{lists_places, list_frame, held, image_of}
+use Rattle.tv_builder.specs.StateHeap.{lists_heap, full_length}
 use Rattle.tv_builder.specs.Kinds.{total}
-use Rattle.tv_builder.specs.Moves.{WhyNot, Moves, IsFull, HasNoRoom, Does, ListFits, HeadFits, AwaitsChunk}
+use Rattle.tv_builder.specs.Moves.{WhyNot, Moves, IsFull, HasNoRoom, Does, AwaitsChunk}
+use Rattle.tv_builder.specs.Fits.{ListFits, HeadFits}
 use Rattle.tv_builder.specs.Shows.{Placed, ShowsList, ShowsLists, Shows, frames_of, awaited_by}
 use Rattle.tv_builder.specs.State.{OpenList, State, complete, in_lists, in_bytes, next_in, and_value, with_list, and_list, and_head, and_bytes, head_awaits, HeadNext, list_tree, OthersAwait, AreChildren, written}
 use Rattle.tv_builder.specs.TreeBytes.{tree_heap}

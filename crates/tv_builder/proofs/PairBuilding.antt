@@ -13,7 +13,8 @@ use Rattle.tv_builder.specs.declared.build_error.BuildError.{BuildError}
 use Rattle.tv_builder.specs.declared.build_error.BuildError.TheVariants.{AlreadyFailed, OutOfPlace, NotUtf8, HeapFull, Memory}
 use Rattle.tv_builder.specs.declared.building.Building.{Building}
 use Rattle.tv_builder.specs.declared.awaits.Awaits.{Awaits}
-use Rattle.tv_builder.specs.Image.{state_heap, full_length, missing, held, image_of}
+use Rattle.tv_builder.specs.Image.{held, image_of}
+use Rattle.tv_builder.specs.StateHeap.{state_heap, full_length, missing}
 use Rattle.tv_builder.specs.Moves.{Moves, IsFull, HasNoRoom, Does, EndsBytes, AwaitsChunk, AwaitsEnd, EndsWell}
 use Rattle.tv_builder.specs.OneState.{StandsBehind, stands_of, same_behind}
 use Rattle.tv_builder.specs.Given.{Given, pending_in}
@@ -24,11 +25,11 @@ use Rattle.tv_builder.specs.declared.heap_pairs.HeapPairs.{HeapPairs}
 use Rattle.tv_builder.specs.declared.heap_pair.HeapPair.{HeapPair}
 use Rattle.tv_builder.specs.Finish.{HoldsPrefix, Cleared}
 use Rattle.tv_builder.specs.Builder.{built, state_of, heap_so_far, kept_heap, TakesBytes, HasAllBytes, HasContent, Goes, Fails, Overfull, BuildsIf, Builds, EndsIf, Ends}
-use Rattle.tv_builder.specs.HeapPairs.{document_of}
+use Rattle.tv_builder.specs.HeldPairs.{document_of}
 use Rattle.tv_builder.specs.Holds.{Holds}
 use Rattle.tv_builder.proofs.Counts.{awaited_is}
 use Rattle.tv_builder.proofs.CallPlaces.{does_as, takes_bytes, takes_chunk, has_all, awaits_end, has_content, ends_well}
-use Rattle.tv_builder.proofs.HeldPairs.{same_document}
+use Rattle.tv_builder.proofs.Documents.{same_document}
 
 -- ---- the state
 

@@ -5,7 +5,7 @@ use Rattle.tv_format.specs.Tree.{Tree, Document}
 use Rattle.tv_builder.specs.declared.build_error.BuildError.{BuildError}
 use Rattle.tv_builder.specs.declared.build_error.BuildError.TheVariants.{AlreadyFailed, OutOfPlace, NotUtf8, HeapFull, Memory}
 use Rattle.tv_builder.specs.Holds.{pair_at}
-use Rattle.tv_builder.specs.Image.{state_heap, full_length}
+use Rattle.tv_builder.specs.StateHeap.{state_heap, full_length}
 use Rattle.tv_builder.specs.Parts.{IsContent}
 use Rattle.tv_builder.specs.State.{State, complete, in_lists, in_bytes, and_end, state_room}
 use Rattle.tv_builder.specs.TreeBytes.{tree_place}

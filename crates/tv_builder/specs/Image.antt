@@ -1,6 +1,5 @@
--- What stands in a heap for a state, behind what stood there before: each part is written at the heap's end as it comes, the children of
--- open lists from the outermost on.
-use Rattle.std.specs.Prelude.{ℕ, ◌+◌, ◌-◌, List, [], ◌∷◌, ◌++◌, length, Some, None}
+-- All that a building holds for a state, behind what stood in the heap before.
+use Rattle.std.specs.Prelude.{ℕ, List, [], ◌∷◌, ◌++◌, length, Some, None}
 use Rattle.tv_base.specs.Number.{vnum}
 use Rattle.tv_format.specs.Tree.{elements}
 use Rattle.tv_builder.specs.declared.building.Building.{Building}
@@ -8,29 +7,8 @@ use Rattle.tv_builder.specs.declared.frame.Frame.{Frame}
 use Rattle.tv_builder.specs.Given.{Given}
 use Rattle.tv_builder.specs.Shows.{frames_of}
 use Rattle.tv_builder.specs.State.{OpenList, State, complete, in_lists, in_bytes}
-use Rattle.tv_builder.specs.TreeBytes.{tree_heap, tree_place, elements_heap, elements_places}
-
--- the heap behind the finished children of open lists
-abbrev pub lists_heap : List ℕ → List OpenList → List ℕ
-lists_heap base [] = base
-lists_heap base (l ∷ ls) = elements_heap (lists_heap base ls) (elements l.children)
-
--- the heap behind a state
-abbrev pub state_heap : List ℕ → State → List ℕ
-state_heap base (complete t) = tree_heap base t
-state_heap base (in_lists ls) = lists_heap base ls
-state_heap base (in_bytes ls kind n bs) = lists_heap base ls ++ (vnum n ++ bs)
-
--- how many of the announced bytes have not come
-abbrev pub missing : State → ℕ
-missing (in_bytes ls kind n bs) = n - length bs
-missing _ = 0
-
--- the length of the heap behind a state, with all bytes that are announced
-abbrev pub full_length : List ℕ → State → ℕ
-full_length base s = length (state_heap base s) + missing s
-
--- ---- for private clauses: all that a building holds
+use Rattle.tv_builder.specs.StateHeap.{lists_heap}
+use Rattle.tv_builder.specs.TreeBytes.{tree_heap, tree_place, elements_places}
 
 -- the places of the children of open lists
 abbrev pub lists_places : List ℕ → List OpenList → List ℕ

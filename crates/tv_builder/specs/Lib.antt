@@ -1,6 +1,6 @@
 pub mod Kinds
 pub mod Holds
-pub mod HeapPairs
+pub mod HeldPairs
 pub mod Parts
 pub mod Prefix
 pub mod State
@@ -13,6 +13,8 @@ pub mod Whole
 pub mod Behind
 pub mod OneState
 pub mod Image
+pub mod StateHeap
+pub mod Fits
 pub mod EncodedPut
 pub mod Builder
 pub mod Finish

@@ -4,7 +4,6 @@ use Rattle.tv_base.specs.Number.{vnum}
 use Rattle.tv_base.specs.Parts.{short_sized}
 use Rattle.tv_base.specs.Sink.{IsPrefix}
 use Rattle.tv_format.specs.Tree.{Leaf}
-use Rattle.tv_heap.specs.LeafBytes.{leaf_bytes}
 use Rattle.tv_builder.specs.declared.build_error.BuildError.{BuildError}
 use Rattle.tv_builder.specs.declared.build_error.BuildError.TheVariants.{OutOfPlace, NotUtf8, HeapFull, Memory}
 use Rattle.tv_builder.specs.declared.building.Building.{Building}
@@ -12,7 +11,8 @@ use Rattle.tv_builder.specs.declared.building.OpenBytes.{OpenBytes}
 use Rattle.tv_builder.specs.declared.frame.Frame.{Frame}
 use Rattle.tv_heap.specs.declared.place.Place.{Place}
 use Rattle.tv_builder.specs.Given.{Given, given, one_more, pending_in, AreCut}
-use Rattle.tv_builder.specs.Image.{full_length, held, image_of}
+use Rattle.tv_builder.specs.StateHeap.{full_length}
+use Rattle.tv_builder.specs.Image.{held, image_of}
 use Rattle.tv_builder.specs.Kinds.{list_type}
 use Rattle.tv_builder.specs.Parts.{IsContent}
 use Rattle.tv_builder.specs.Shows.{Shows, frames_of}
@@ -116,19 +116,6 @@ Does old new in_place fits after (Err OutOfPlace) = ¬ in_place × IsPrefix old.
 Does old new in_place fits after (Err HeapFull) = in_place × IsFull old after × IsPrefix old.heap.items new.heap.items × HasNoRoom old after
 Does old new in_place fits after (Err Memory) = in_place × fits × IsPrefix old.heap.items new.heap.items
 Does old new in_place fits after (Err _) = ⊥
-
--- what a leaf, a key, the head of bytes or a list of none writes itself fits behind a heap, whether or not the lists that it closes do
-abbrev pub LeafFits : List ℕ → Leaf → Type 0
-LeafFits heap l = length (heap ++ leaf_bytes l) ≤ 4294967295
-
-abbrev pub KeyFits : List ℕ → List ℕ → Type 0
-KeyFits heap content = length (heap ++ short_sized content) ≤ 4294967295
-
-abbrev pub HeadFits : List ℕ → ℕ → Type 0
-HeadFits heap n = length heap + (length (vnum n) + n) ≤ 4294967295
-
-abbrev pub ListFits : List ℕ → ℕ → Type 0
-ListFits heap n = n ≡ 0 → length (heap ++ short_sized []) ≤ 4294967295
 
 -- bytes are open, and so many at least are missing
 abbrev pub AwaitsChunk : Option OpenBytes → ℕ → Type 0

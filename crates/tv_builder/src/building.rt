@@ -57,8 +57,10 @@ pub struct Building {
 impl Building {
     ghost use Rattle.tv_builder.specs.Parts.{IsContent};
     ghost use Rattle.tv_builder.specs.Moves.{CanGive, Gives, GivesNot, CanGiveKey, GivesKey};
-    ghost use Rattle.tv_builder.specs.Moves.{Closed, ClosedNot, Does, EndsBytes, LeafFits, ListFits};
-    ghost use Rattle.tv_builder.specs.Moves.{KeyFits, HeadFits, AwaitsChunk, last_bytes};
+    ghost use Rattle.tv_builder.specs.Moves.{Closed, ClosedNot, Does, EndsBytes};
+    ghost use Rattle.tv_builder.specs.Fits.{LeafFits, ListFits};
+    ghost use Rattle.tv_builder.specs.Moves.{AwaitsChunk, last_bytes};
+    ghost use Rattle.tv_builder.specs.Fits.{KeyFits, HeadFits};
     ghost use Rattle.tv_builder.specs.Shows.{Stands, frames_of, awaited_by};
     ghost use Rattle.tv_builder.specs.State.{and_value, and_list, and_key, and_head, and_bytes};
     ghost use Rattle.tv_builder.specs.State.{head_awaits};

@@ -15,7 +15,6 @@ use crate::bytes_kind::BytesKind;
 use crate::frame::ListKind;
 use crate::heap_pair::HeapPair;
 use crate::heap_pairs::{HeapPairs, push_pair};
-use std::alloc::Global;
 use tv_value::leaf::ReferenceValueLeaf;
 use tv_value::value::Value;
 
@@ -82,25 +81,27 @@ pub struct PairBuilder {
 }
 
 impl PairBuilder {
-    ghost use Rattle.tv_builder.specs.Moves.{LeafFits, ListFits, KeyFits, HeadFits};
+    ghost use Rattle.tv_builder.specs.Fits.{LeafFits, ListFits, KeyFits, HeadFits};
     ghost use Rattle.tv_builder.specs.State.{and_value, and_list, and_key, and_head, and_bytes};
     ghost use Rattle.tv_builder.specs.State.{awaited, head_awaits, in_lists, lists_of, children_of};
     ghost use Rattle.tv_builder.specs.declared.awaits.Awaits.TheVariants.{Value as ValueNext};
     ghost use Rattle.tv_builder.specs.declared.awaits.Awaits.TheVariants.{Key as KeyNext};
-    ghost use Rattle.tv_builder.specs.Builder.{built, state_of, heap_so_far, TakesBytes, Builds, Ends};
+    ghost use Rattle.tv_builder.specs.Builder.{built, state_of, heap_so_far, kept_heap};
+    ghost use Rattle.tv_builder.specs.Builder.{TakesBytes, Builds, Ends};
     ghost use Rattle.tv_builder.specs.Builder.{Finishes};
-    ghost use Rattle.tv_builder.specs.HeapPairs.{document_of, heap_of};
+    ghost use Rattle.tv_builder.specs.HeldPairs.{document_of, heap_of};
     ghost use Rattle.tv_format.specs.Tree.{leaf as leaf_tree};
     ghost use Rattle.tv_value.specs.Lent.{leaf_of};
 
     /// A builder behind these pairs. It takes no memory.
-    pub fn new(alloc: Global, finished: HeapPairs) -> PairBuilder
+    pub fn new(finished: HeapPairs) -> PairBuilder
         ensures document { built result ≡ document_of finished }
         ensures heap { heap_so_far result ≡ heap_of finished }
-        ensures kept { result.kept ≡ length (heap_of finished) }
+        ensures kept { kept_heap result ≡ heap_of finished }
         ensures state { state_of result ≡ in_lists [] }
         ensures live { result.failed ≡ false }
     {
+        let alloc = *finished.heap.allocator();
         let kept = finished.heap.len();
         PairBuilder {
             building: Building::new(alloc, finished.heap),
@@ -113,7 +114,7 @@ impl PairBuilder {
     /// The finished pairs, at any time, also after a refusal. Their heap ends behind the last of their values.
     pub fn into_pairs(self) -> HeapPairs
         ensures document { document_of result ≡ built self }
-        ensures heap { heap_of result ≡ take self.kept (heap_so_far self) }
+        ensures heap { heap_of result ≡ kept_heap self }
     {
         let building = self.building;
         let mut heap = building.heap;

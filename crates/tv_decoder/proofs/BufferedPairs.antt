@@ -10,7 +10,7 @@ use Rattle.tv_builder.specs.Behind.{pairs_parts, document_parts}
 use Rattle.tv_builder.specs.Prefix.{EncodesPart, Encoded}
 use Rattle.tv_builder.specs.Parts.{Part, number, pair}
 use Rattle.tv_builder.proofs.Grammar.{each_append}
-use Rattle.tv_doc.specs.Builder.{built, state_of}
+use Rattle.tv_builder.specs.Builder.{built, state_of}
 use Rattle.tv_legacy.specs.Legacy.{Legacy}
 use Rattle.tv_reader.specs.Error.{store_stop}
 use Rattle.tv_reader.specs.Finds.{Finds}
@@ -19,9 +19,9 @@ use Rattle.tv_format.specs.InputError.{corrupted}
 use Rattle.tv_format.specs.Encoding.{Encodes, EncodesElements, EncodesEntries, EncodesPair, NoLegacy}
 use Rattle.tv_format.specs.Tree.{Tree, leaf, array, object, Elements, no_elements, element, Entries, no_entries, entry, Document}
 use Rattle.tv_format.specs.Version.{Version}
-use Rattle.tv_doc.specs.Document.{document_of, heap_of, IsUnchanged}
-use Rattle.tv_doc.specs.Encoded.{AddsEncoded, StoodIn}
-use Rattle.tv_doc.specs.declared.document.CompactDoc.{CompactDoc}
+use Rattle.tv_builder.specs.HeldPairs.{document_of, heap_of, IsUnchanged}
+use Rattle.tv_builder.specs.EncodedPairs.{AddsEncoded, StoodIn}
+use Rattle.tv_builder.specs.declared.heap_pairs.HeapPairs.{HeapPairs}
 use Rattle.tv_decoder.specs.Buffered.{AddsPairs, Nothing}
 use Rattle.tv_decoder.specs.Prefix.{parts_at, parts_read}
 use Rattle.tv_decoder.specs.Steps.{Advances}
@@ -84,19 +84,19 @@ taken_prefix : (whole prefix rest : List ℕ) → whole ≡ prefix ++ rest → t
 taken_prefix whole prefix rest joined = ap (take (length whole - length rest)) joined ∙ take_at prefix rest (length whole - length rest) (omega (arith, ap length joined, length-append prefix rest))
 
 -- none at all
-pub no_pairs : (v : Version) (d : CompactDoc) → AddsPairs v d d [] 0
+pub no_pairs : (v : Version) (d : HeapPairs) → AddsPairs v d d [] 0
 no_pairs v d = record { pairs = []; counted = refl; encoded = refl; document = sym (append-nil (document_of d)) }
 
 -- what the document was before, by what was added since
-pub stood_in : {v : Version} {whole rest : List ℕ} {n : ℕ} (old now : CompactDoc) (pairs heap : ℕ) → AddsEncoded v old now whole rest n → pairs ≡ length (document_of old) → heap ≡ length (heap_of old) → StoodIn old now pairs heap
+pub stood_in : {v : Version} {whole rest : List ℕ} {n : ℕ} (old now : HeapPairs) (pairs heap : ℕ) → AddsEncoded v old now whole rest n → pairs ≡ length (document_of old) → heap ≡ length (heap_of old) → StoodIn old now pairs heap
 stood_in old now pairs heap h p q = record { counted = sym p; heap_length = sym q; start = h.start }
 
 -- or they were taken back
-pub none_kept : (v : Version) (old new : CompactDoc) → IsUnchanged old new → AddsPairs v old new [] 0
+pub none_kept : (v : Version) (old new : HeapPairs) → IsUnchanged old new → AddsPairs v old new [] 0
 none_kept v old new u = record { pairs = []; counted = refl; encoded = refl; document = u.document ∙ sym (append-nil (document_of old)) }
 
 -- as many as were added, of the bytes before those that are left over
-pub pairs_taken : (v : Version) (old new : CompactDoc) (whole rest : List ℕ) (n : ℕ) → AddsEncoded v old new whole rest n → AddsPairs v old new (take (length whole - length rest) whole) n
+pub pairs_taken : (v : Version) (old new : HeapPairs) (whole rest : List ℕ) (n : ℕ) → AddsEncoded v old new whole rest n → AddsPairs v old new (take (length whole - length rest) whole) n
 pairs_taken v old new whole rest n h = record {
   pairs = h.pairs;
   counted = h.counted;
@@ -104,11 +104,11 @@ pairs_taken v old new whole rest n h = record {
   document = h.document;
 }
 
-pub pairs_counted : (v : Version) (old new : CompactDoc) (whole rest : List ℕ) (n : ℕ) → AddsEncoded v old new whole rest n → length (document_of new) ≡ length (document_of old) + n
+pub pairs_counted : (v : Version) (old new : HeapPairs) (whole rest : List ℕ) (n : ℕ) → AddsEncoded v old new whole rest n → length (document_of new) ≡ length (document_of old) + n
 pairs_counted v old new whole rest n h = ap length h.document ∙ length-append (document_of old) h.pairs ∙ ap (λ z. length (document_of old) + z) h.counted
 
 -- the reading goes on with them
-pub reading_goes : (v : Version) (r new : Reading) (n m : ℕ) (document more : CompactDoc) (taken : List ℕ) → r.announced ≡ Some n → r.field ≡ None → document_of document ≡ built r.builder → AddsPairs v document more taken m
+pub reading_goes : (v : Version) (r new : Reading) (n m : ℕ) (document more : HeapPairs) (taken : List ℕ) → r.announced ≡ Some n → r.field ≡ None → document_of document ≡ built r.builder → AddsPairs v document more taken m
     → parts_read new ≡ document_parts n (document_of more) → Advances Legacy v r new taken
 reading_goes v r new n m document more taken announced none is h parts = λ bytes p.
     subst (λ z. Encoded Legacy v (bytes ++ taken) z) (sym parts)

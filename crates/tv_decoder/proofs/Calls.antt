@@ -16,8 +16,8 @@ use Rattle.tv_builder.specs.State.{OpenList, State, complete, in_lists, in_bytes
 use Rattle.tv_builder.proofs.Children.{child_key, key_lacks}
 use Rattle.tv_builder.proofs.Giving.{value_is}
 use Rattle.tv_builder.proofs.Sound.{all_await, next_key}
-use Rattle.tv_doc.specs.declared.builder.TreeBuilder.{TreeBuilder}
-use Rattle.tv_doc.specs.Builder.{built, state_of, Overfull, Builds}
+use Rattle.tv_builder.specs.declared.pair_builder.PairBuilder.{PairBuilder}
+use Rattle.tv_builder.specs.Builder.{built, state_of, Overfull, Builds}
 use Rattle.tv_heap.specs.Room.{document_room}
 use Rattle.tv_reader.specs.declared.error.DeserializeError.{DeserializeError}
 use Rattle.tv_format.specs.Tree.{Tree, leaf, text, Document}
@@ -106,24 +106,24 @@ fills r s ps sound has is t full =
 
 -- ---- the call, and what it answers
 
-module _ (r : Reading) (b : TreeBuilder) (what : Awaits) (in_place full fits : Type 0) (heaps : List ℕ → Type 0) (after : State → State) (ps : List Part) where
-  pub call_opens : (x : Unit {0}) → Awaiting r what → in_place → Builds r.builder b in_place heaps full fits after (Ok x) → MayStand (after (state_of r.builder)) → IsOpen (with_builder r b)
-  call_opens x h here c stands = opened r b (after (state_of r.builder)) h.sound h.field (called r.builder b in_place full fits heaps after (Ok x) h.sound.live here c) stands
+module _ (r : Reading) (b : PairBuilder) (what : Awaits) (in_place fits : Type 0) (after : State → State) (ps : List Part) where
+  pub call_opens : (x : Unit {0}) → Awaiting r what → in_place → Builds r.builder b in_place fits after (Ok x) → MayStand (after (state_of r.builder)) → IsOpen (with_builder r b)
+  call_opens x h here c stands = opened r b (after (state_of r.builder)) h.sound h.field (called r.builder b in_place fits after (Ok x) h.sound.live here c) stands
 
-  pub call_lead : (x : Unit {0}) → Awaiting r what → in_place → Builds r.builder b in_place heaps full fits after (Ok x) → Trades (parts_of (state_of r.builder) ++ ps) (parts_of (after (state_of r.builder))) → Leads r (with_builder r b) ps
-  call_lead x h here c t = call_leads r b (after (state_of r.builder)) ps h.sound h.field (called r.builder b in_place full fits heaps after (Ok x) h.sound.live here c) t
+  pub call_lead : (x : Unit {0}) → Awaiting r what → in_place → Builds r.builder b in_place fits after (Ok x) → Trades (parts_of (state_of r.builder) ++ ps) (parts_of (after (state_of r.builder))) → Leads r (with_builder r b) ps
+  call_lead x h here c t = call_leads r b (after (state_of r.builder)) ps h.sound h.field (called r.builder b in_place fits after (Ok x) h.sound.live here c) t
 
-  pub call_puts : (x : Unit {0}) (new : Reading) (result : Result (Unit {0}) DeserializeError) → Awaiting r what → in_place → Builds r.builder b in_place heaps full fits after (Ok x) → Trades (parts_of (state_of r.builder) ++ ps) (parts_of (after (state_of r.builder)))
+  pub call_puts : (x : Unit {0}) (new : Reading) (result : Result (Unit {0}) DeserializeError) → Awaiting r what → in_place → Builds r.builder b in_place fits after (Ok x) → Trades (parts_of (state_of r.builder) ++ ps) (parts_of (after (state_of r.builder)))
       → Puts (with_builder r b) new [] result → Puts r new ps result
   call_puts x new result h here c t p = puts_on r (with_builder r b) new ps result (call_lead x h here c t) p
 
-  pub call_left : (x : Unit {0}) (new : Reading) (result : Result (Unit {0}) DeserializeError) → Awaiting r what → in_place → Builds r.builder b in_place heaps full fits after (Ok x) → OnErr result (LetGo (with_builder r b) new) → OnErr result (LetGo r new)
+  pub call_left : (x : Unit {0}) (new : Reading) (result : Result (Unit {0}) DeserializeError) → Awaiting r what → in_place → Builds r.builder b in_place fits after (Ok x) → OnErr result (LetGo (with_builder r b) new) → OnErr result (LetGo r new)
   call_left x new (Ok y) h here c l = tt
-  call_left x new (Err e) h here c l = goes_let_go r b (after (state_of r.builder)) new (called r.builder b in_place full fits heaps after (Ok x) h.sound.live here c) l
+  call_left x new (Err e) h here c l = goes_let_go r b (after (state_of r.builder)) new (called r.builder b in_place fits after (Ok x) h.sound.live here c) l
 
-  pub call_refused : (e : BuildError) (new : Reading) → Awaiting r what → in_place → Builds r.builder b in_place heaps full fits after (Err e) → IsState (after (state_of r.builder)) → Trades (parts_of (state_of r.builder) ++ ps) (parts_of (after (state_of r.builder)))
+  pub call_refused : (e : BuildError) (new : Reading) → Awaiting r what → in_place → Builds r.builder b in_place fits after (Err e) → IsState (after (state_of r.builder)) → Trades (parts_of (state_of r.builder) ++ ps) (parts_of (after (state_of r.builder)))
       → Puts r new ps (Err (build_error e))
-  call_refused e new h here c is t = refused e (called r.builder b in_place full fits heaps after (Err e) h.sound.live here c)
+  call_refused e new h here c is t = refused e (called r.builder b in_place fits after (Err e) h.sound.live here c)
     where
       refused : (e : BuildError) → Called r.builder b (after (state_of r.builder)) (Err e) → Puts r new ps (Err (build_error e))
       refused HeapFull k = fills r (after (state_of r.builder)) ps h.sound h.field is t k

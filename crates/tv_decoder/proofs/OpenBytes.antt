@@ -14,8 +14,8 @@ use Rattle.tv_builder.specs.Parts.{Part, bytes_head, some_bytes, IsContent, Trad
 use Rattle.tv_builder.specs.State.{State, complete, in_lists, in_bytes, and_head, and_bytes, and_end, awaited, head_awaits, IsState, state_room, lists_parts, parts_of}
 use Rattle.tv_builder.proofs.CallsTrade.{heads_trade, bytes_trade, ends_trade}
 use Rattle.tv_builder.proofs.Trading.{trades_as, trades_from}
-use Rattle.tv_doc.specs.declared.builder.TreeBuilder.{TreeBuilder}
-use Rattle.tv_doc.specs.Builder.{built, state_of, Goes, BuildsIf, Builds, TakesBytes, HasAllBytes, HasContent, Ends}
+use Rattle.tv_builder.specs.declared.pair_builder.PairBuilder.{PairBuilder}
+use Rattle.tv_builder.specs.Builder.{built, state_of, Goes, BuildsIf, Builds, TakesBytes, HasAllBytes, HasContent, Ends}
 use Rattle.tv_heap.specs.Room.{document_room}
 use Rattle.tv_reader.specs.declared.error.DeserializeError.{DeserializeError}
 use Rattle.tv_reader.specs.declared.error.DeserializeError.TheVariants as errors
@@ -130,12 +130,12 @@ all_bytes (Some n) (Some f) d s h = h.1
 pub ends_all : (r : Reading) → AtEnd r → HasAllBytes (state_of r.builder)
 ends_all r h = all_bytes r.announced r.field (built r.builder) (state_of r.builder) h.ending
 
-pub record EndOpens (r : Reading) (b : TreeBuilder) : Type 0 where
+pub record EndOpens (r : Reading) (b : PairBuilder) : Type 0 where
   pub open_is : IsOpen (with_builder r b)
   pub goes : Goes r.builder b (and_end (state_of r.builder))
   pub leads : Leads r (with_builder r b) []
 
-pub end_opens : (r : Reading) (b : TreeBuilder) (x : Unit {0}) → AtEnd r → Ends r.builder b (Ok x) → EndOpens r b
+pub end_opens : (r : Reading) (b : PairBuilder) (x : Unit {0}) → AtEnd r → Ends r.builder b (Ok x) → EndOpens r b
 end_opens r b x h c =
     let s = state_of r.builder in
     let all = ends_all r h in
@@ -154,7 +154,7 @@ end_opens r b x h c =
     }
 
 -- what is let go of when a pair can't be finished
-pub end_left : (r : Reading) (b : TreeBuilder) (new : Reading) (result : Result (Unit {0}) DeserializeError) → EndOpens r b → OnErr result (LetGo (with_builder r b) new) → OnErr result (LetGo r new)
+pub end_left : (r : Reading) (b : PairBuilder) (new : Reading) (result : Result (Unit {0}) DeserializeError) → EndOpens r b → OnErr result (LetGo (with_builder r b) new) → OnErr result (LetGo r new)
 end_left r b new (Ok x) o l = tt
 end_left r b new (Err e) o l = goes_let_go r b (and_end (state_of r.builder)) new o.goes l
 
@@ -164,7 +164,7 @@ end_fills_at None f d s finished h is t full = absurd h
 end_fills_at (Some n) None d s finished h is t full = absurd h
 end_fills_at (Some n) (Some f) d s finished h is t full = record { announced = n; field = f; state = and_end s; less = h.0; is = is; trades = open_trades n d f s (and_end s) [] t; full = full }
 
-pub end_refused : (r new : Reading) (b : TreeBuilder) (e : BuildError) → AtEnd r → Ends r.builder b (Err e) → PutsEnd r new (Err (build_error e))
+pub end_refused : (r new : Reading) (b : PairBuilder) (e : BuildError) → AtEnd r → Ends r.builder b (Err e) → PutsEnd r new (Err (build_error e))
 end_refused r new b e h c = refused e c (ended r.builder b (Err e) h.live (ends_all r h) c)
   where
     s : State
@@ -227,11 +227,11 @@ bytes_from_end r mid new more ps (Err (errors.Io k)) t map h = absurd h
 bytes_from_end r mid new more ps (Err errors.AlreadyFailed) t map h = absurd h
 
 -- some bytes were refused: for want of memory alone
-pub bytes_refused : (r new : Reading) (b : TreeBuilder) (in_place fits : Type 0) (heaps : List ℕ → Type 0) (after : State → State) (more : List ℕ) (ps : List Part) (e : BuildError) → r.builder.failed ≡ false → in_place → Builds r.builder b in_place heaps ⊥ fits after (Err e)
+pub bytes_refused : (r new : Reading) (b : PairBuilder) (in_place fits : Type 0) (after : State → State) (more : List ℕ) (ps : List Part) (e : BuildError) → r.builder.failed ≡ false → in_place → Builds r.builder b in_place fits after (Err e)
     → PutsBytes r new more ps (Err (build_error e))
-bytes_refused r new b in_place fits heaps after more ps e live here c = refused e (subst (λ z. BuildsIf z r.builder b in_place heaps ⊥ fits after (Err e)) live c)
+bytes_refused r new b in_place fits after more ps e live here c = refused e (subst (λ z. BuildsIf z r.builder b in_place fits after (Err e)) live c)
   where
-    refused : (e : BuildError) → BuildsIf false r.builder b in_place heaps ⊥ fits after (Err e) → PutsBytes r new more ps (Err (build_error e))
+    refused : (e : BuildError) → BuildsIf false r.builder b in_place fits after (Err e) → PutsBytes r new more ps (Err (build_error e))
     refused HeapFull k = absurd k.1
     refused Memory k = tt
     refused NotUtf8 k = absurd k
@@ -244,7 +244,7 @@ ending_at None (Some f) d old new has h all = absurd h
 ending_at (Some n) None d old new has h all = absurd has
 ending_at (Some n) (Some f) d old new has h all = (h.0, all)
 
-pub at_end : (r : Reading) (b : TreeBuilder) (s : State) → IsSound r → HasField r.field → Goes r.builder b s → HasAllBytes s → AtEnd (with_builder r b)
+pub at_end : (r : Reading) (b : PairBuilder) (s : State) → IsSound r → HasField r.field → Goes r.builder b s → HasAllBytes s → AtEnd (with_builder r b)
 at_end r b s h has g all = record {
   live = g.live;
   counted = h.counted ∙ ap length (sym g.document);

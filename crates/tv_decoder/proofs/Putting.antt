@@ -9,10 +9,10 @@ use Rattle.tv_builder.specs.Behind.{open_parts}
 use Rattle.tv_builder.specs.Parts.{Part, Trades, same}
 use Rattle.tv_builder.specs.State.{OpenList, State, complete, in_lists, in_bytes, awaited, lacks_more, with_child, list_tree, with_value, with_key, with_content, and_value, and_list, and_end, parts_of}
 use Rattle.tv_builder.proofs.Trading.{trades_as, trades_from, trades_then}
-use Rattle.tv_doc.specs.declared.builder.TreeBuilder.{TreeBuilder}
+use Rattle.tv_builder.specs.declared.pair_builder.PairBuilder.{PairBuilder}
 use Rattle.tv_base.specs.Sink.{IsPrefix}
 use Rattle.tv_builder.proofs.Giving.{prefix_then}
-use Rattle.tv_doc.specs.Builder.{built, state_of, heap_so_far, Goes, HasAllBytes, IsComplete, Finished}
+use Rattle.tv_builder.specs.Builder.{built, state_of, heap_so_far, Goes, HasAllBytes, IsComplete, Finished}
 use Rattle.tv_reader.specs.declared.error.DeserializeError.{DeserializeError}
 use Rattle.tv_reader.specs.declared.error.DeserializeError.TheVariants as errors
 use Rattle.tv_format.specs.Tree.{Tree, Document}
@@ -24,7 +24,7 @@ use Rattle.tv_decoder.proofs.States.{no_finish_next}
 use Rattle.tv_decoder.proofs.Trading.{open_trades, pair_trades}
 
 -- the same with another builder
-abbrev pub with_builder : Reading → TreeBuilder → Reading
+abbrev pub with_builder : Reading → PairBuilder → Reading
 with_builder r b = record { announced = r.announced; finished = r.finished; field = r.field; builder = b }
 
 -- ---- a complete value becomes that of a pair
@@ -78,7 +78,7 @@ place_at None d f s other h = absurd h
 
 -- the same builder
 pub same_grows : (r new : Reading) → new.builder ≡ r.builder → Grows r new
-same_grows r new e = record { heap = ([], ap heap_so_far e ∙ sym (append-nil (heap_so_far r.builder))); ends = inl (ap built e, ap (λ (b : TreeBuilder). b.kept) e) }
+same_grows r new e = record { heap = ([], ap heap_so_far e ∙ sym (append-nil (heap_so_far r.builder))); ends = inl (ap built e, ap (λ (b : PairBuilder). b.kept) e) }
 
 pub stays : (r : Reading) → IsOpen r → awaited (state_of r.builder) ≢ awaits.Finish → Put r r []
 stays r h other = record {
@@ -124,7 +124,7 @@ within_at None (Some f) d old new has h stands = absurd h
 within_at (Some n) None d old new has h stands = absurd has
 within_at (Some n) (Some f) d old new has h stands = (h.0, stands)
 
-pub opened : (r : Reading) (b : TreeBuilder) (s : State) → IsSound r → HasField r.field → Goes r.builder b s → MayStand s → IsOpen (with_builder r b)
+pub opened : (r : Reading) (b : PairBuilder) (s : State) → IsSound r → HasField r.field → Goes r.builder b s → MayStand s → IsOpen (with_builder r b)
 opened r b s h has g stands = record {
   live = g.live;
   counted = h.counted ∙ ap length (sym g.document);
@@ -140,10 +140,10 @@ pub record Leads (r mid : Reading) (ps : List Part) : Type 0 where
   pub document : built mid.builder ≡ built r.builder
   pub kept : mid.builder.kept ≡ r.builder.kept
 
-pub leads : (r : Reading) (b : TreeBuilder) (s : State) (ps : List Part) → Goes r.builder b s → Trades (parts_read r ++ ps) (parts_read (with_builder r b)) → Leads r (with_builder r b) ps
+pub leads : (r : Reading) (b : PairBuilder) (s : State) (ps : List Part) → Goes r.builder b s → Trades (parts_read r ++ ps) (parts_read (with_builder r b)) → Leads r (with_builder r b) ps
 leads r b s ps g t = record { trades = t; heap = g.grows; document = g.document; kept = g.kept }
 
-pub call_leads : (r : Reading) (b : TreeBuilder) (s : State) (ps : List Part) → IsSound r → HasField r.field → Goes r.builder b s → Trades (parts_of (state_of r.builder) ++ ps) (parts_of s) → Leads r (with_builder r b) ps
+pub call_leads : (r : Reading) (b : PairBuilder) (s : State) (ps : List Part) → IsSound r → HasField r.field → Goes r.builder b s → Trades (parts_of (state_of r.builder) ++ ps) (parts_of s) → Leads r (with_builder r b) ps
 call_leads r b s ps h has g t =
     let now : parts_at r.announced (built r.builder) r.field s ≡ parts_read (with_builder r b) = λ i. parts_at r.announced (sym g.document i) r.field (sym g.state i) in
     leads r b s ps g (trades_as _ now (trades_at r.announced r.field (built r.builder) (state_of r.builder) s ps has h.place t))
@@ -158,7 +158,7 @@ grows_on r mid new ps l g = record {
 }
 
 -- and what is let go of then
-pub goes_let_go : (r : Reading) (b : TreeBuilder) (s : State) (new : Reading) → Goes r.builder b s → LetGo (with_builder r b) new → LetGo r new
+pub goes_let_go : (r : Reading) (b : PairBuilder) (s : State) (new : Reading) → Goes r.builder b s → LetGo (with_builder r b) new → LetGo r new
 goes_let_go r b s new g l = record {
   document = l.document ∙ g.document;
   kept = l.kept ∙ g.kept;

@@ -11,8 +11,8 @@ use Rattle.tv_builder.specs.declared.bytes_kind.BytesKind.TheVariants as kinds
 use Rattle.tv_builder.specs.declared.frame.ListKind.{ListKind}
 use Rattle.tv_builder.specs.declared.frame.ListKind.TheVariants.{Array, Object}
 use Rattle.tv_builder.specs.State.{OpenList, State, complete, in_lists, in_bytes, next_at, IsKey, AreEntries, AreValues, AreChildren, IsList, AreLists, IsValueNext, IsKeyNext, AllAwait, OthersAwait, HeadNext, IsState}
-use Rattle.tv_doc.specs.declared.builder.TreeBuilder.{TreeBuilder}
-use Rattle.tv_doc.specs.Builder.{state_of}
+use Rattle.tv_builder.specs.declared.pair_builder.PairBuilder.{PairBuilder}
+use Rattle.tv_builder.specs.Builder.{state_of}
 use Rattle.tv_format.specs.Tree.{Tree, leaf, text}
 
 key_prop : (t : Tree) → IsProp (IsKey t)
@@ -65,7 +65,7 @@ state_prop (complete t) x y = refl
 state_prop (in_lists ls) x y = λ i. (lists_prop ls x.0 y.0 i, others_prop ls x.1 y.1 i)
 state_prop (in_bytes ls kind n bs) x y = λ i. (lists_prop ls x.0 y.0 i, others_prop ls x.1 y.1 i, head_prop kind ls x.2 y.2 i, le_prop x.3 y.3 i)
 
-pub is_state : (b : TreeBuilder) → IsState (state_of b)
+pub is_state : (b : PairBuilder) → IsState (state_of b)
 is_state b = ∥∥₁_elim b.state.1 (state_prop (state_of b)) (λ s. s.is)
 
 -- behind an open list no bytes are awaited

@@ -12,8 +12,8 @@ use Rattle.tv_builder.specs.Parts.{Part, number, field, value, array_head, objec
 use Rattle.tv_builder.specs.State.{parts_of}
 use Rattle.tv_builder.proofs.Grammar.{each_append, trades_sound}
 use Rattle.tv_builder.proofs.Trading.{trades_as, trades_from}
-use Rattle.tv_doc.specs.declared.builder.TreeBuilder.{TreeBuilder}
-use Rattle.tv_doc.specs.Builder.{built, state_of}
+use Rattle.tv_builder.specs.declared.pair_builder.PairBuilder.{PairBuilder}
+use Rattle.tv_builder.specs.Builder.{built, state_of}
 use Rattle.tv_legacy.specs.Legacy.{Legacy}
 use Rattle.tv_reader.specs.Finds.{Finds}
 use Rattle.tv_reader.specs.HeadReading.{head_part}
@@ -69,7 +69,7 @@ number_put r new n sound none announced finished field_is builder =
     let after : number n ∷ [] ≡ parts_read new = sym k.1 ∙ λ i. parts_at (sym announced i) (sym none_built i) (sym field_is i) (sym state i) in
     record {
       sound = record {
-        live = ap (λ (b : TreeBuilder). b.failed) builder ∙ sound.live;
+        live = ap (λ (b : PairBuilder). b.failed) builder ∙ sound.live;
         counted = finished ∙ sound.counted ∙ ap length (sym none_built);
         place =
             subst (λ z. IsPlace z (built new.builder) new.field (state_of new.builder)) (sym announced)
@@ -96,7 +96,7 @@ field_put r new f sound none lacks announced finished field_is builder =
     let after : parts_at r.announced (built r.builder) None (state_of r.builder) ++ field f ∷ [] ≡ parts_read new = k.1 ∙ λ i. parts_at (sym announced i) (sym built_is i) (sym field_is i) (sym state i) in
     record {
       sound = record {
-        live = ap (λ (b : TreeBuilder). b.failed) builder ∙ sound.live;
+        live = ap (λ (b : PairBuilder). b.failed) builder ∙ sound.live;
         counted = finished ∙ sound.counted ∙ ap length (sym built_is);
         place =
             subst (λ z. IsPlace z (built new.builder) new.field (state_of new.builder)) (sym announced)

@@ -14,9 +14,9 @@ use Rattle.tv_builder.specs.declared.frame.ListKind.TheVariants.{Array, Object}
 use Rattle.tv_builder.specs.Behind.{pairs_parts, document_parts}
 use Rattle.tv_builder.specs.Prefix.{EncodesPart, Encoded}
 use Rattle.tv_builder.specs.State.{State, complete, in_lists, in_bytes, next_at, next_in, awaited}
-use Rattle.tv_doc.specs.declared.document.CompactDoc.{CompactDoc}
-use Rattle.tv_doc.specs.Document.{document_of}
-use Rattle.tv_doc.specs.Builder.{built, state_of}
+use Rattle.tv_builder.specs.declared.heap_pairs.HeapPairs.{HeapPairs}
+use Rattle.tv_builder.specs.HeldPairs.{document_of}
+use Rattle.tv_builder.specs.Builder.{built, state_of}
 use Rattle.tv_legacy.specs.Legacy.{Legacy, ErrorInLegacy}
 use Rattle.tv_legacy.proofs.Unique.{one_legacy, legacy_excludes, single_legacy}
 use Rattle.tv_reader.specs.Finds.{Finds}
@@ -52,7 +52,7 @@ done_at v (Some n) None d s finished b counted h done p =
     record { prefix = p.prefix; rest = p.rest; joined = p.joined; first = subst (λ z. VNum p.prefix z) many p.first; second = pairs_encode v d p.rest p.second }
 done_at v (Some n) (Some f) d s finished b counted h done p = absurd (omega (arith, h.0, done, counted))
 
-pub done_encodes : (v : Version) (r : Reading) (document : CompactDoc) (b : List ℕ) → IsSound r → IsDone r → document_of document ≡ built r.builder → Encoded Legacy v b (parts_read r) → EncodesRead v b document
+pub done_encodes : (v : Version) (r : Reading) (document : HeapPairs) (b : List ℕ) → IsSound r → IsDone r → document_of document ≡ built r.builder → Encoded Legacy v b (parts_read r) → EncodesRead v b document
 done_encodes v r document b sound done is p = subst (λ d. EncodesDocument Legacy v b d) (sym is) (done_at v r.announced r.field (built r.builder) (state_of r.builder) r.finished b sound.counted sound.place done p)
 
 -- ---- at the end of the bytes more is awaited
@@ -142,7 +142,7 @@ module _ {S : Type 0} {is_known : S → Type 0} {left : S → List ℕ} {failure
   pairs_fail e p h = finds_then (EncodesBehind v begun) (NoPrefix v begun) (λ a b z q s. absurd s) (λ a w c q f. absurd f) (λ a f q _ none start byte last. absurd none) p (finds_fails (λ b z. ⊥) Nothing (λ w c f. f) h)
 
   -- all pairs are finished
-  pub all_finished : {old mid : S} {i j : ℕ} (document : CompactDoc) → IsSound r → IsDone r → document_of document ≡ built r.builder → Finds is_known left failures old i mid j (Ok r) (Goes v begun) Nothing
+  pub all_finished : {old mid : S} {i j : ℕ} (document : HeapPairs) → IsSound r → IsDone r → document_of document ≡ built r.builder → Finds is_known left failures old i mid j (Ok r) (Goes v begun) Nothing
       → Finds is_known left failures old i mid j (Ok document) (EncodesBehind v begun) (NoPrefix v begun)
   all_finished document sound done is p = finds_as document (EncodesBehind v begun) (NoPrefix v begun) (λ a s. λ bytes q. done_encodes v r document (bytes ++ a) sound done is (s bytes q)) p
 
@@ -155,7 +155,7 @@ module _ {S : Type 0} {is_known : S → Type 0} {left : S → List ℕ} {failure
 
   -- so many steps that no more can be counted
   pub too_many : {old mid : S} {i j : ℕ} (counter : ℕ) → j < 2 ^ 64 → 2 ^ 64 - 1 ≤ counter → (is_known old → counter + i ≤ j) → Finds is_known left failures old i mid j (Ok r) (Goes v begun) Nothing
-      → Finds {X = CompactDoc} is_known left failures old i mid 18446744073709551615 (Err (errors.CorruptedValue causes.TooLong)) (EncodesBehind v begun) (NoPrefix v begun)
+      → Finds {X = HeapPairs} is_known left failures old i mid 18446744073709551615 (Err (errors.CorruptedValue causes.TooLong)) (EncodesBehind v begun) (NoPrefix v begun)
   too_many counter second many counts p = record {
     found = λ t. λ few. absurd (omega (arith, few));
     taken = λ t. let g = p.taken t in record { prefix = g.prefix; joined = g.joined; counted = omega (arith, g.counted, counts t, many, second) };
@@ -167,15 +167,15 @@ module _ {S : Type 0} {is_known : S → Type 0} {left : S → List ℕ} {failure
 -- ---- the number, and buffered pairs behind it
 
 -- behind the number these pairs are finished
-abbrev Begun : Version → ℕ → CompactDoc → List ℕ → ℕ → Type 0
+abbrev Begun : Version → ℕ → HeapPairs → List ℕ → ℕ → Type 0
 Begun v n document b finished = Encoded Legacy v b (document_parts n (document_of document)) × (length (document_of document) ≡ finished)
 
-begun_encodes : (v : Version) (n m : ℕ) (empty document : CompactDoc) (a b : List ℕ) → document_of empty ≡ [] → VNum a n → AddsPairs v empty document b m → Begun v n document (a ++ b) m
+begun_encodes : (v : Version) (n m : ℕ) (empty document : HeapPairs) (a b : List ℕ) → document_of empty ≡ [] → VNum a n → AddsPairs v empty document b m → Begun v n document (a ++ b) m
 begun_encodes v n m empty document a b none number h =
     let is : document_of document ≡ h.pairs = h.document ∙ ap (λ z. z ++ h.pairs) none in
     (record { prefix = a; rest = b; joined = refl; first = number; second = subst (λ z. Each (EncodesPart Legacy v) b (pairs_parts z)) (sym is) (pairs_as_parts Legacy v h.pairs b h.encoded) }, ap length is ∙ h.counted)
 
-module _ {S : Type 0} {is_known : S → Type 0} {left : S → List ℕ} {failures : S → Failures} (v : Version) (n : ℕ) (empty document : CompactDoc) (none : document_of empty ≡ []) where
+module _ {S : Type 0} {is_known : S → Type 0} {left : S → List ℕ} {failures : S → Failures} (v : Version) (n : ℕ) (empty document : HeapPairs) (none : document_of empty ≡ []) where
   pub begun_finds : {old mid new : S} {i j k : ℕ} (m : ℕ) → Finds is_known left failures old i mid j (Ok n) VNum (Corrupt ErrorInNumber) → Finds is_known left failures mid j new k (Ok m) (λ b z. AddsPairs v empty document b z) Nothing → Finds is_known left failures old i new k (Ok m) (Begun v n document) Nothing
   begun_finds m p h = finds_then (Begun v n document) Nothing (λ a b z q s. begun_encodes v n z empty document a b none q s) (λ a w c q f. f) (λ a f q _ never start byte last. never) p h
 
@@ -189,7 +189,7 @@ module _ {S : Type 0} {is_known : S → Type 0} {left : S → List ℕ} {failure
       (λ a s. record { prefix = s.0.prefix; rest = s.0.rest; joined = s.0.joined; first = subst (λ z. VNum s.0.prefix z) (sym (s.1 ∙ all)) s.0.first; second = pairs_encode v (document_of document) s.0.rest s.0.second }) p
 
   -- and the rest behind them
-  pub begun_then : {old mid new : S} {i j k : ℕ} (m : ℕ) (begun : Reading) (result : Result CompactDoc DeserializeError) → parts_read begun ≡ document_parts n (document_of document) → Finds is_known left failures old i mid j (Ok m) (Begun v n document) Nothing
+  pub begun_then : {old mid new : S} {i j k : ℕ} (m : ℕ) (begun : Reading) (result : Result HeapPairs DeserializeError) → parts_read begun ≡ document_parts n (document_of document) → Finds is_known left failures old i mid j (Ok m) (Begun v n document) Nothing
       → Finds is_known left failures mid j new k result (EncodesBehind v begun) (NoPrefix v begun) → IsSound begun → ¬ IsDone begun → Finds is_known left failures old i new k result (EncodesRead v) (NoDocument v)
   begun_then m begun result is p h sound more =
       let encoded : (a : List ℕ) → Encoded Legacy v a (document_parts n (document_of document)) → Encoded Legacy v a (parts_read begun) = λ a q. subst (λ z. Encoded Legacy v a z) (sym is) q in

@@ -2,7 +2,7 @@
 use Rattle.std.specs.Prelude.{◌⊎◌, ◌≡◌, ℕ, List, [], ◌∷◌, ◌++◌, length, take}
 use Rattle.tv_base.specs.Sink.{IsPrefix}
 use Rattle.tv_builder.specs.State.{in_lists}
-use Rattle.tv_doc.specs.Builder.{built, state_of, heap_so_far}
+use Rattle.tv_builder.specs.Builder.{built, state_of, heap_so_far}
 use Rattle.tv_format.specs.Tree.{Tree}
 use Rattle.tv_decoder.specs.declared.reading.Reading.{Reading}
 

@@ -5,6 +5,5 @@ pub mod Puts
 pub mod Steps
 pub mod Sound
 pub mod Paid
-pub mod Decoder
 pub mod Documents
 pub mod Buffered

@@ -5,7 +5,7 @@ use Rattle.tv_builder.specs.Prefix.{Encoded}
 use Rattle.tv_builder.specs.Parts.{Part}
 use Rattle.tv_builder.specs.State.{State, complete, in_lists, in_bytes, IsState, awaited, state_room}
 use Rattle.tv_builder.specs.declared.awaits.Awaits.TheVariants as awaits
-use Rattle.tv_doc.specs.Builder.{built, state_of}
+use Rattle.tv_builder.specs.Builder.{built, state_of}
 use Rattle.tv_heap.specs.Room.{document_room}
 use Rattle.tv_legacy.specs.Legacy.{Legacy, ErrorInLegacy}
 use Rattle.tv_format.specs.InputError.{Refusal, ErrorInDocument}

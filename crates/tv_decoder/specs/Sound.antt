@@ -4,7 +4,7 @@ use Rattle.std.specs.Coded.{coded_bool, Coded-set, le_prop}
 use Rattle.std.proofs.Math.Nat.{ℕ_set}
 use Rattle.tv_builder.specs.OneState.{coded_state}
 use Rattle.tv_builder.specs.State.{State, complete, in_lists, in_bytes}
-use Rattle.tv_doc.specs.Builder.{built, state_of}
+use Rattle.tv_builder.specs.Builder.{built, state_of}
 use Rattle.tv_format.specs.Tree.{Document}
 use Rattle.tv_format.specs.TreeCode.{coded_document}
 use Rattle.tv_decoder.specs.Prefix.{Lacks, IsPlace, IsSound}

@@ -2,13 +2,14 @@
 
 ghost use Rattle.std.specs.Prelude.{◌≡◌, ◌+◌, ◌≤◌, length, Ok, MatchOption};
 ghost use Rattle.tv_decoder.specs.Buffered.{AddsPairs, Nothing};
-ghost use Rattle.tv_doc.specs.Document.{document_of};
+ghost use Rattle.tv_builder.specs.HeldPairs.{document_of};
 ghost use Rattle.tv_format.specs.WriteVersion.{written_version};
 ghost use Rattle.tv_reader.specs.Finds.{Finds};
 ghost use Rattle.tv_reader.specs.Version.{version_of};
 
+use std::alloc::Global;
 use tv_base::ByteSource;
-use tv_doc::document::CompactDoc;
+use tv_builder::heap_pairs::HeapPairs;
 use tv_format::version::WriteVersion;
 use tv_reader::DocStoreVersion;
 
@@ -28,7 +29,8 @@ fn written(version: DocStoreVersion) -> Option<WriteVersion>
 // Adds the next pairs that the source has buffered whole, at once, up to so many, and says how many they are. It may add none: where the
 // source doesn't give the bytes that it has buffered, the pairs are taken back, so that they are read part by part.
 pub(crate) fn take_buffered_pairs<S: ByteSource>(
-    document: &mut CompactDoc,
+    alloc: Global,
+    document: &mut HeapPairs,
     source: &mut S,
     count: &mut u64,
     version: DocStoreVersion,
@@ -48,9 +50,9 @@ pub(crate) fn take_buffered_pairs<S: ByteSource>(
     if u64::MAX - *count < lent.len() as u64 {
         return 0;
     }
-    let pairs = document.len();
-    let heap = document.node_data().len();
-    let (rest, added) = document.add_encoded(lent, known, most);
+    let pairs = document.pairs.len();
+    let heap = document.heap.len();
+    let (rest, added) = document.add_encoded(alloc, lent, known, most);
     let taken = lent.len() - rest.len();
     if taken == 0 {
         return added;

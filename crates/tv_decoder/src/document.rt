@@ -13,7 +13,7 @@ use crate::buffered::take_buffered_pairs;
 use crate::reading::Reading;
 use std::alloc::Global;
 use tv_base::{ByteSource, Cause};
-use tv_doc::document::CompactDoc;
+use tv_builder::heap_pairs::HeapPairs;
 use tv_heap::write::FIRST_ROOM;
 use tv_reader::heads::take_document_head;
 use tv_reader::{DeserializeError, DocStoreVersion};
@@ -25,7 +25,7 @@ fn take_rest<S: ByteSource>(
     count: &mut u64,
     version: DocStoreVersion,
     begun: Reading,
-) -> Result<CompactDoc, DeserializeError>
+) -> Result<HeapPairs, DeserializeError>
     requires { IsSound begun }
     ensures finds { Finds S.is_known S.left S.failures source.old count.old source.new count.new
         result (EncodesBehind (version_of version) begun) (NoPrefix (version_of version) begun) }
@@ -39,10 +39,10 @@ fn take_rest<S: ByteSource>(
     // each part takes a byte at least
     for _ in 0..u64::MAX {
         if reading.is_done() {
-            return Ok(reading.into_doc());
+            return Ok(reading.into_pairs());
         }
         reading.advance(alloc, source, count, version, &mut legacy_seen, &mut bytes)?;
-        reading = reading.with_buffered_pairs(source, count, version);
+        reading = reading.with_buffered_pairs(alloc, source, count, version);
     }
     let _taken = *count;
     *count = u64::MAX;
@@ -60,7 +60,7 @@ pub fn take_document<S: ByteSource>(
     source: &mut S,
     count: &mut u64,
     version: DocStoreVersion,
-) -> Result<CompactDoc, DeserializeError>
+) -> Result<HeapPairs, DeserializeError>
     ensures finds { Finds S.is_known S.left S.failures source.old count.old source.new count.new
         result (EncodesRead (version_of version)) (NoDocument (version_of version)) }
     ensures full { S.is_known source.old → IsErrOf result HeapFull
@@ -68,8 +68,8 @@ pub fn take_document<S: ByteSource>(
     ensures too_long { IsErrOf result (CorruptedValue TooLong) → count.new ≡ 2 ^ 64 - 1 }
 {
     let announced = take_document_head(source, count)?;
-    let mut document = CompactDoc::with_capacity(alloc, FIRST_ROOM)?;
-    let finished = take_buffered_pairs(&mut document, source, count, version, announced);
+    let mut document = HeapPairs::with_capacity(alloc, FIRST_ROOM)?;
+    let finished = take_buffered_pairs(alloc, &mut document, source, count, version, announced);
     if finished == announced {
         return Ok(document);
     }

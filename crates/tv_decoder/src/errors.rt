@@ -4,7 +4,7 @@ ghost use Rattle.std.specs.Prelude.{◌≡◌};
 ghost use Rattle.tv_decoder.specs.Errors.{Comes, build_error};
 
 use tv_base::Cause;
-use tv_doc::builder::BuildError;
+use tv_builder::build_error::BuildError;
 use tv_reader::DeserializeError;
 
 // The error of a reader whose next part a builder refused.

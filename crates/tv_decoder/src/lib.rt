@@ -2,7 +2,6 @@
 #![tactic(auto)]
 
 mod buffered;
-pub mod direct_decoder;
 pub mod document;
 mod errors;
 pub mod reading;

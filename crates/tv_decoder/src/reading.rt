@@ -4,9 +4,9 @@ ghost use Rattle.std.specs.Prelude.{◌≡◌, ◌≢◌, ◌↔◌, ◌-◌, �
 ghost use Rattle.std.specs.Prelude.{IsTrue, IsErrOf, Ok, OnOk, OnErr, Some, None, false};
 ghost use Rattle.tv_base.specs.declared.cause.Cause.TheVariants.{TooLong};
 ghost use Rattle.tv_builder.specs.Behind.{document_parts};
-ghost use Rattle.tv_builder.specs.Parts.{value as value_part, array_head, object_head, some_bytes};
+ghost use Rattle.tv_builder.specs.Parts.{value as value_part, some_bytes};
 ghost use Rattle.tv_builder.specs.Parts.{bytes_head};
-ghost use Rattle.tv_builder.specs.State.{awaited, head_awaits, lists_of, children_of};
+ghost use Rattle.tv_builder.specs.State.{awaited, head_awaits, list_head, lists_of, children_of};
 ghost use Rattle.tv_builder.specs.declared.awaits.Awaits.TheVariants.{Value as ValueAwaited};
 ghost use Rattle.tv_builder.specs.declared.awaits.Awaits.TheVariants.{Key as KeyAwaited};
 ghost use Rattle.tv_builder.specs.declared.awaits.Awaits.TheVariants.{Bytes as BytesAwaited};
@@ -18,8 +18,8 @@ ghost use Rattle.tv_decoder.specs.Puts.{IsOpen, AtEnd, Awaiting, Puts, PutsEnd, 
 ghost use Rattle.tv_decoder.specs.Puts.{bytes_kind, head_parts};
 ghost use Rattle.tv_decoder.specs.Kept.{Grows, LetGo, KeepsPairs};
 ghost use Rattle.tv_decoder.specs.Steps.{Advances, Stepped, Sees, IsFew};
-ghost use Rattle.tv_doc.specs.Builder.{built, state_of, heap_so_far};
-ghost use Rattle.tv_doc.specs.Document.{document_of, heap_of};
+ghost use Rattle.tv_builder.specs.Builder.{built, state_of, heap_so_far};
+ghost use Rattle.tv_builder.specs.HeldPairs.{document_of, heap_of};
 ghost use Rattle.tv_reader.specs.Finds.{Finds};
 ghost use Rattle.tv_reader.specs.HeadReading.{head_part};
 ghost use Rattle.tv_reader.specs.declared.error.DeserializeError.TheVariants.{CorruptedValue};
@@ -35,15 +35,17 @@ use crate::errors::store_error;
 use std::alloc::Global;
 use tv_base::ByteSource;
 use tv_base::take::take_pieces;
-use tv_doc::builder::{Awaits, BuildError, BytesKind, TreeBuilder};
-use tv_doc::document::CompactDoc;
+use tv_builder::awaits::Awaits;
+use tv_builder::bytes_kind::BytesKind;
+use tv_builder::frame::ListKind;
+use tv_builder::heap_pairs::HeapPairs;
+use tv_builder::pair_builder::PairBuilder;
 use tv_format::leaf_type::LeafType;
 use tv_reader::encoded_tokens::take_gathered;
 use tv_reader::fields::take_field;
 use tv_reader::heads::{Head, take_document_head, take_head, take_key_head};
 use tv_reader::trees::take_behind;
 use tv_reader::{DeserializeError, DocStoreVersion, ValueType};
-use tv_value::field::Field;
 use tv_value::leaf::ReferenceValueLeaf;
 use tv_value::value::Value;
 
@@ -71,7 +73,7 @@ pub struct Reading {
     /// The field of the next pair, once that was read.
     field: Option<u32>,
     /// The finished pairs, and what has come of the next value.
-    builder: TreeBuilder,
+    builder: PairBuilder,
 }
 
 impl Reading {
@@ -85,12 +87,12 @@ impl Reading {
             announced: None,
             finished: 0,
             field: None,
-            builder: TreeBuilder::new(CompactDoc::new(alloc)),
+            builder: PairBuilder::new(HeapPairs::new(alloc)),
         }
     }
 
     // So many of the announced pairs are finished, and of the next one nothing has come.
-    pub(crate) fn between_pairs(announced: u64, finished: u64, document: CompactDoc) -> Reading
+    pub(crate) fn between_pairs(announced: u64, finished: u64, document: HeapPairs) -> Reading
         requires counted { finished ≡ length (document_of document) }
         requires within { finished ≤ announced }
         ensures parts { parts_read result ≡ document_parts announced (document_of document) }
@@ -101,13 +103,14 @@ impl Reading {
             announced: Some(announced),
             finished,
             field: None,
-            builder: TreeBuilder::new(document),
+            builder: PairBuilder::new(document),
         }
     }
 
     // Where a pair is awaited, the next pairs that the source has buffered whole, at once, as far as that can be. It may read none.
     pub(crate) fn with_buffered_pairs<S: ByteSource>(
         self,
+        alloc: Global,
         source: &mut S,
         count: &mut u64,
         version: DocStoreVersion,
@@ -124,18 +127,18 @@ impl Reading {
             return self;
         }
         let finished = self.finished;
-        let mut document = self.builder.into_doc();
+        let mut document = self.builder.into_pairs();
         let most = announced - finished;
-        let more = take_buffered_pairs(&mut document, source, count, version, most);
+        let more = take_buffered_pairs(alloc, &mut document, source, count, version, most);
         Reading::between_pairs(announced, finished + more, document)
     }
 
-    /// The document of the finished pairs. Its heap ends behind the last of their values.
-    pub fn into_doc(self) -> CompactDoc
+    /// The finished pairs. Their heap ends behind the last of their values.
+    pub fn into_pairs(self) -> HeapPairs
         ensures document { document_of result ≡ built self.builder }
         ensures heap { heap_of result ≡ take self.builder.kept (heap_so_far self.builder) }
     {
-        self.builder.into_doc()
+        self.builder.into_pairs()
     }
 
     /// The length of the heap, in bytes.
@@ -182,7 +185,7 @@ impl Reading {
             return Ok(());
         };
         prove!(self.finished < announced);
-        match self.builder.finish(Field::from_field_id(field)) {
+        match self.builder.finish(field) {
             Ok(()) => {
                 self.finished += 1;
                 self.field = None;
@@ -217,25 +220,13 @@ impl Reading {
         }
     }
 
-    // The head of an array has come.
-    fn put_array(&mut self, announced: u64) -> Result<(), DeserializeError>
+    // The head of a list has come.
+    fn put_list(&mut self, kind: ListKind, announced: u64) -> Result<(), DeserializeError>
         requires { Awaiting self.old ValueAwaited }
-        ensures puts { Puts self.old self.new (array_head announced ∷ []) result }
+        ensures puts { Puts self.old self.new (list_head kind announced ∷ []) result }
         ensures left { OnErr result (LetGo self.old self.new) }
     {
-        match self.builder.open_array(announced) {
-            Ok(()) => self.close_pair(),
-            Err(error) => Err(store_error(error)),
-        }
-    }
-
-    // The head of an object has come.
-    fn put_object(&mut self, announced: u64) -> Result<(), DeserializeError>
-        requires { Awaiting self.old ValueAwaited }
-        ensures puts { Puts self.old self.new (object_head announced ∷ []) result }
-        ensures left { OnErr result (LetGo self.old self.new) }
-    {
-        match self.builder.open_object(announced) {
+        match self.builder.open_list(kind, announced) {
             Ok(()) => self.close_pair(),
             Err(error) => Err(store_error(error)),
         }
@@ -294,8 +285,8 @@ impl Reading {
         match head {
             Head::Leaf(value) => self.put_leaf(value),
             Head::Length(leaf_type, len) => self.put_bytes_head(bytes_kind(leaf_type), len),
-            Head::Array(announced) => self.put_array(announced),
-            Head::Object(announced) => self.put_object(announced),
+            Head::Array(announced) => self.put_list(ListKind::Array, announced),
+            Head::Object(announced) => self.put_list(ListKind::Object, announced),
             Head::Tokenized | Head::Legacy => unreachable!(),
         }
     }

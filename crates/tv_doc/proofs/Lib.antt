@@ -13,9 +13,6 @@ pub mod PairsSoFar
 pub mod FieldTexts
 pub mod NamedBack
 pub mod Spans
-pub mod CallPlaces
-pub mod TreeBuilding
-pub mod Finishing
 pub mod Belonging
 pub mod WholeRoom
 pub mod NamedErrors

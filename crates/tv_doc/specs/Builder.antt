@@ -1,106 +1,32 @@
--- What a tree builder is seen as, and what its calls return and leave.
-use Rattle.std.specs.Prelude.{◌≡◌, ℕ, ◌+◌, ◌<◌, ◌≤◌, Bool, true, false, List, [], ◌∷◌, ◌++◌, length, take, Result, Ok, Err}
-use Rattle.tv_base.specs.Sink.{IsPrefix}
-use Rattle.tv_format.specs.Tree.{Tree, Document}
+-- What a tree builder is seen as, and what its calls return and leave: that of the builder of pairs which it holds.
+use Rattle.std.specs.Prelude.{ℕ, List, Result}
+use Rattle.tv_builder.specs.Builder as pairs
+pub use Rattle.tv_builder.specs.Builder.{TakesBytes, HasAllBytes, HasContent, IsComplete}
+use Rattle.tv_builder.specs.State.{State}
 use Rattle.tv_builder.specs.declared.build_error.BuildError.{BuildError}
-use Rattle.tv_builder.specs.declared.build_error.BuildError.TheVariants.{AlreadyFailed, OutOfPlace, NotUtf8, HeapFull, Memory}
-use Rattle.tv_builder.specs.Moves.{end_heap}
-use Rattle.tv_builder.specs.Parts.{IsContent}
-use Rattle.tv_builder.specs.State.{State, complete, in_lists, in_bytes, and_end, state_room}
-use Rattle.tv_heap.specs.Room.{document_room}
 use Rattle.tv_doc.specs.declared.builder.TreeBuilder.{TreeBuilder}
+use Rattle.tv_format.specs.Tree.{Document}
 
 -- the finished pairs
 abbrev pub built : TreeBuilder → Document
-built b = b.document.0
+built b = pairs.built b.builder
 
 -- what has come so far of the next value
 abbrev pub state_of : TreeBuilder → State
-state_of b = b.state.0
+state_of b = pairs.state_of b.builder
 
 abbrev pub heap_so_far : TreeBuilder → List ℕ
-heap_so_far b = b.building.heap.items
+heap_so_far b = pairs.heap_so_far b.builder
 
--- bytes are open, and so many more are announced
-abbrev pub TakesBytes : State → ℕ → Type 0
-TakesBytes (in_bytes ls kind n bs) more = length bs + more ≤ n
-TakesBytes _ more = ⊥
+-- the heap of the finished pairs
+abbrev pub kept_heap : TreeBuilder → List ℕ
+kept_heap b = pairs.kept_heap b.builder
 
--- all announced bytes have come
-abbrev pub HasAllBytes : State → Type 0
-HasAllBytes (in_bytes ls kind n bs) = length bs ≡ n
-HasAllBytes _ = ⊥
-
--- and a text is one
-abbrev pub HasContent : State → Type 0
-HasContent (in_bytes ls kind n bs) = IsContent kind bs
-HasContent _ = ⊥
-
--- A call that goes on to this state. `kept` stays at the end of the last finished pair.
-pub record Goes (old new : TreeBuilder) (after : State) : Type 0 where
-  pub live : new.failed ≡ false
-  pub document : built new ≡ built old
-  pub kept : new.kept ≡ old.kept
-  pub state : state_of new ≡ after
-  pub grows : IsPrefix (heap_so_far old) (heap_so_far new)
-
--- After a refusal nothing is open, and the heap ends behind the last finished pair.
-pub record Fails (old new : TreeBuilder) : Type 0 where
-  pub failed : new.failed ≡ true
-  pub document : built new ≡ built old
-  pub kept : new.kept ≡ old.kept
-  pub state : state_of new ≡ in_lists []
-  pub heap : heap_so_far new ≡ take old.kept (heap_so_far old)
-
--- the finished pairs and this state have more room than a heap has
-abbrev pub Overfull : TreeBuilder → State → Type 0
-Overfull old s = 4294967295 < document_room (built old) + state_room s
-
--- A call that belongs `in_place`, for which the heap that it leaves is `heaps`, whatever its length, and is too long where it is `full`.
--- Memory is refused only where `fits` holds.
-abbrev pub BuildsIf : Bool → TreeBuilder → TreeBuilder → Type 0 → (List ℕ → Type 0) → Type 0 → Type 0 → (State → State) → Result (Unit {0}) BuildError → Type 0
-BuildsIf true old new in_place heaps full fits after r = (r ≡ Err AlreadyFailed) × (new ≡ old)
-BuildsIf false old new in_place heaps full fits after (Ok x) = in_place × heaps (heap_so_far new) × Goes old new (after (state_of old))
-BuildsIf false old new in_place heaps full fits after (Err OutOfPlace) = ¬ in_place × Fails old new
-BuildsIf false old new in_place heaps full fits after (Err HeapFull) = in_place × full × Fails old new × Overfull old (after (state_of old))
-BuildsIf false old new in_place heaps full fits after (Err Memory) = in_place × fits × Fails old new
-BuildsIf false old new in_place heaps full fits after (Err _) = ⊥
-
-abbrev pub Builds : TreeBuilder → TreeBuilder → Type 0 → (List ℕ → Type 0) → Type 0 → Type 0 → (State → State) → Result (Unit {0}) BuildError → Type 0
-Builds old new in_place heaps full fits after r = BuildsIf old.failed old new in_place heaps full fits after r
-
--- the call at the end of open bytes
-abbrev pub EndsIf : Bool → TreeBuilder → TreeBuilder → Result (Unit {0}) BuildError → Type 0
-EndsIf true old new r = (r ≡ Err AlreadyFailed) × (new ≡ old)
-EndsIf false old new (Ok x) = HasAllBytes (state_of old) × HasContent (state_of old) × (heap_so_far new ≡ end_heap old.building old.building.open) × Goes old new (and_end (state_of old))
-EndsIf false old new (Err OutOfPlace) = ¬ HasAllBytes (state_of old) × Fails old new
-EndsIf false old new (Err NotUtf8) = HasAllBytes (state_of old) × ¬ HasContent (state_of old) × Fails old new
-EndsIf false old new (Err HeapFull) = HasAllBytes (state_of old) × HasContent (state_of old) × (4294967295 < length (end_heap old.building old.building.open)) × Fails old new × Overfull old (and_end (state_of old))
-EndsIf false old new (Err Memory) = HasAllBytes (state_of old) × HasContent (state_of old) × Fails old new
-EndsIf false old new (Err _) = ⊥
+abbrev pub Builds : TreeBuilder → TreeBuilder → Type 0 → Type 0 → (State → State) → Result (Unit {0}) BuildError → Type 0
+Builds old new in_place fits after r = pairs.Builds old.builder new.builder in_place fits after r
 
 abbrev pub Ends : TreeBuilder → TreeBuilder → Result (Unit {0}) BuildError → Type 0
-Ends old new r = EndsIf old.failed old new r
-
--- the complete tree became a pair
-pub record Finished (old new : TreeBuilder) (f : ℕ) : Type 0 where
-  pub tree : Tree
-  pub was : state_of old ≡ complete tree
-  pub live : new.failed ≡ false
-  pub document : built new ≡ built old ++ (f, tree) ∷ []
-  pub state : state_of new ≡ in_lists []
-  pub heap : heap_so_far new ≡ heap_so_far old
-  pub kept : new.kept ≡ length (heap_so_far old)
-
-abbrev pub IsComplete : State → Type 0
-IsComplete s = (tree : Tree) × (s ≡ complete tree)
-
-abbrev pub FinishesIf : Bool → TreeBuilder → TreeBuilder → ℕ → Result (Unit {0}) BuildError → Type 0
-FinishesIf true old new f r = (r ≡ Err AlreadyFailed) × (new ≡ old)
-FinishesIf false old new f (Ok x) = Finished old new f
-FinishesIf false old new f (Err OutOfPlace) = ¬ IsComplete (state_of old) × Fails old new
-FinishesIf false old new f (Err Memory) = IsComplete (state_of old) × Fails old new
-FinishesIf false old new f (Err _) = ⊥
+Ends old new r = pairs.Ends old.builder new.builder r
 
 abbrev pub Finishes : TreeBuilder → TreeBuilder → ℕ → Result (Unit {0}) BuildError → Type 0
-Finishes old new f r = FinishesIf old.failed old new f r
+Finishes old new f r = pairs.Finishes old.builder new.builder f r

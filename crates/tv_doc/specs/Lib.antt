@@ -1,5 +1,4 @@
 pub mod Holds
-pub mod Building
 pub mod Builder
 pub mod Document
 pub mod FieldValues

@@ -1,71 +1,17 @@
 //! Building the values of a document part by part.
 
-ghost use Rattle.std.specs.Prelude.{◌≡◌, ◌+◌, ◌<◌, ◌≤◌, ◌∷◌, [], ◌++◌, OnOk, OnErr, IfErr, length};
-ghost use Rattle.std.specs.Prelude.{take, true, false, None};
-ghost use Rattle.tv_builder.specs.OneState.{Stands-prop};
-ghost use Rattle.tv_builder.specs.Shows.{Stands};
-ghost use Rattle.tv_builder.specs.State.{written};
-ghost use Rattle.tv_doc.specs.Building.{HoldsPrefix, HoldsPrefix-prop, Cleared, Kept, KeptNot};
+ghost use Rattle.std.specs.Prelude.{◌≡◌, ◌+◌, ◌≤◌, length, take, false, IsErrOf};
 ghost use Rattle.tv_builder.specs.Weight.{document_weight, state_weight};
-ghost use Rattle.tv_heap.specs.Room.{document_room};
 
-use crate::document::{CompactDoc, push_pair};
-use crate::place::FieldValueAddr;
-use std::alloc::Global;
+use crate::document::CompactDoc;
 pub use tv_builder::awaits::Awaits;
 pub use tv_builder::build_error::BuildError;
-use tv_builder::building::Building;
 pub use tv_builder::bytes_kind::BytesKind;
 use tv_builder::frame::ListKind;
+use tv_builder::pair_builder::PairBuilder;
 use tv_value::field::Field;
 use tv_value::leaf::ReferenceValueLeaf;
 use tv_value::value::Value;
-
-// After a refusal, lets go of what isn't finished and marks it.
-fn settle(
-    building: &mut Building,
-    failed: &mut bool,
-    kept: usize,
-    answer: Result<(), BuildError>,
-) -> Result<(), BuildError>
-    ensures same { result ≡ answer }
-    ensures ok { OnOk answer (building.new ≡ building.old) }
-    ensures live { OnOk answer (failed.new ≡ failed.old) }
-    ensures err { OnErr answer (Cleared building.old building.new kept) }
-    ensures mark { OnErr answer (failed.new ≡ true) }
-{
-    if answer.is_err() {
-        building.clear(kept);
-        *failed = true;
-    }
-    answer
-}
-
-// Makes the complete value that of a pair.
-fn keep_tree(
-    building: &mut Building,
-    pairs: &mut Vec<FieldValueAddr>,
-    kept: &mut usize,
-    field: Field,
-) -> Result<(), BuildError>
-    ensures ok { OnOk result
-        (Kept building.old building.new pairs.old.items pairs.new.items kept.new field.id) }
-    ensures err { IfErr result
-        (λ e. KeptNot building.old building.new pairs.old.items pairs.new.items kept.old kept.new e) }
-{
-    let Some(place) = building.complete else {
-        return Err(BuildError::OutOfPlace);
-    };
-    let pair = FieldValueAddr {
-        field: field.field_id(),
-        value_type: place.value_type,
-        address: place.address,
-    };
-    push_pair(pairs, pair)?;
-    building.complete = None;
-    *kept = building.heap.len();
-    Ok(())
-}
 
 /// A document, and a value of any depth that is written into its heap as its parts arrive. (Not in tantivy.)
 ///
@@ -89,31 +35,18 @@ fn keep_tree(
 /// ```
 #[derive(Debug, Drop)]
 pub struct TreeBuilder {
-    alloc: Global,
-    building: Building,
-    pairs: Vec<FieldValueAddr>,
-    // The length of the heap behind the last finished pair.
-    kept: usize,
-    failed: bool,
-    pub ghost document: { HoldsPrefix building.heap.items kept pairs.items } by { HoldsPrefix-prop building.heap.items kept pairs.items },
-    pub ghost kept_within: { kept ≤ length building.heap.items },
-    pub ghost room: { kept ≤ document_room document.0 },
-    pub ghost weight: { kept ≤ document_weight document.0 },
-    pub ghost state: { Stands building } by { Stands-prop building },
-    pub ghost written: { length building.heap.items ≤ kept + written state.0 },
+    builder: PairBuilder,
 }
 
 impl TreeBuilder {
-    ghost use Rattle.tv_builder.specs.Moves.{LeafHeap, LeafFull, LeafFits, ValueHeap, ValueFull};
-    ghost use Rattle.tv_builder.specs.Moves.{ListHeap, ListFull, ListFits, KeyHeap, KeyFull};
-    ghost use Rattle.tv_builder.specs.Moves.{HeadHeap, HeadFull};
+    ghost use Rattle.tv_builder.specs.Moves.{LeafFits, ListFits, KeyFits, HeadFits};
     ghost use Rattle.tv_builder.specs.State.{and_value, and_list, and_key, and_head, and_bytes};
     ghost use Rattle.tv_builder.specs.State.{awaited, head_awaits, in_lists, lists_of, children_of};
     ghost use Rattle.tv_builder.specs.declared.awaits.Awaits.TheVariants.{Value as ValueNext};
     ghost use Rattle.tv_builder.specs.declared.awaits.Awaits.TheVariants.{Key as KeyNext};
     ghost use Rattle.tv_builder.specs.declared.frame.ListKind.TheVariants.{Array, Object};
-    ghost use Rattle.tv_doc.specs.Builder.{built, state_of, heap_so_far, TakesBytes, Builds, Ends};
-    ghost use Rattle.tv_doc.specs.Builder.{Finishes};
+    ghost use Rattle.tv_doc.specs.Builder.{built, state_of, heap_so_far, kept_heap, TakesBytes};
+    ghost use Rattle.tv_doc.specs.Builder.{Builds, Ends, Finishes};
     ghost use Rattle.tv_doc.specs.Document.{document_of, heap_of};
     ghost use Rattle.tv_format.specs.Tree.{leaf as leaf_tree};
     ghost use Rattle.tv_value.specs.Lent.{leaf_of};
@@ -122,34 +55,21 @@ impl TreeBuilder {
     pub fn new(doc: CompactDoc) -> TreeBuilder
         ensures document { built result ≡ document_of doc }
         ensures heap { heap_so_far result ≡ heap_of doc }
-        ensures kept { result.kept ≡ length (heap_of doc) }
+        ensures kept { kept_heap result ≡ heap_of doc }
         ensures state { state_of result ≡ in_lists [] }
-        ensures live { result.failed ≡ false }
+        ensures live { result.builder.failed ≡ false }
     {
-        let alloc = doc.alloc;
-        let kept = doc.node_data.len();
         TreeBuilder {
-            alloc,
-            building: Building::new(alloc, doc.node_data),
-            pairs: doc.pairs,
-            kept,
-            failed: false,
+            builder: PairBuilder::new(doc.values),
         }
     }
 
     /// The document of the finished pairs, at any time, also after a refusal. Its heap ends behind the last of their values.
     pub fn into_doc(self) -> CompactDoc
         ensures document { document_of result ≡ built self }
-        ensures heap { heap_of result ≡ take self.kept (heap_so_far self) }
+        ensures heap { heap_of result ≡ kept_heap self }
     {
-        let building = self.building;
-        let mut node_data = building.heap;
-        node_data.truncate(self.kept);
-        CompactDoc {
-            alloc: self.alloc,
-            node_data,
-            pairs: self.pairs,
-        }
+        CompactDoc::from_pairs(self.builder.into_pairs())
     }
 
     /// The length of the heap, in bytes: at most what the finished pairs and the value that comes next weigh.
@@ -158,28 +78,28 @@ impl TreeBuilder {
         ensures within { result
             ≤ document_weight (built self.now) + state_weight (state_of self.now) }
     {
-        self.building.heap.len()
+        self.builder.heap_len()
     }
 
     /// How many finished children the open lists have, keys among them.
     pub fn pending(&self) -> usize
         ensures { result ≡ children_of (lists_of (state_of self.now)) }
     {
-        self.building.pending
+        self.builder.pending()
     }
 
     /// How many lists are open.
     pub fn frames(&self) -> usize
         ensures { result ≡ length (lists_of (state_of self.now)) }
     {
-        self.building.frames.len()
+        self.builder.frames()
     }
 
     /// What the next call must be; after a refusal, what it would have to be at first. (Not in tantivy.)
     pub fn awaits(&self) -> Awaits
         ensures { result ≡ awaited (state_of self.now) }
     {
-        self.building.awaits()
+        self.builder.awaits()
     }
 
     /// A value without children.
@@ -189,15 +109,10 @@ impl TreeBuilder {
     /// `HeapFull` of a list that the value closes.
     pub fn leaf(&mut self, value: ReferenceValueLeaf<'_>) -> Result<(), BuildError>
         ensures { let l = leaf_of value.entry in Builds self.old self.new
-            (awaited (state_of self.old) ≡ ValueNext) (LeafHeap self.old.building l)
-            (LeafFull self.old.building l) (LeafFits self.old.building l)
+            (awaited (state_of self.old) ≡ ValueNext) (LeafFits (heap_so_far self.old) l)
             (λ s. and_value s (leaf_tree l)) result }
     {
-        if self.failed {
-            return Err(BuildError::AlreadyFailed);
-        }
-        let result = self.building.leaf(&value);
-        settle(&mut self.building, &mut self.failed, self.kept, result)
+        self.builder.leaf(value)
     }
 
     /// A whole value of any kind: what the calls for its parts do.
@@ -207,14 +122,9 @@ impl TreeBuilder {
     /// value, or of a list that it closes.
     pub fn tree<'a, V: Value<'a>>(&mut self, value: &V) -> Result<(), BuildError>
         ensures { let t = V.tree value.now in Builds self.old self.new
-            (awaited (state_of self.old) ≡ ValueNext) (ValueHeap self.old.building t)
-            (ValueFull self.old.building t) (Unit {0}) (λ s. and_value s t) result }
+            (awaited (state_of self.old) ≡ ValueNext) (Unit {0}) (λ s. and_value s t) result }
     {
-        if self.failed {
-            return Err(BuildError::AlreadyFailed);
-        }
-        let result = self.building.tree(value);
-        settle(&mut self.building, &mut self.failed, self.kept, result)
+        self.builder.tree(value)
     }
 
     /// An array opens, of which so many elements are announced. One of none closes at once. Nothing is reserved.
@@ -224,30 +134,18 @@ impl TreeBuilder {
     /// before the `HeapFull` of a list that the array closes.
     pub fn open_array(&mut self, announced: u64) -> Result<(), BuildError>
         ensures { Builds self.old self.new (awaited (state_of self.old) ≡ ValueNext)
-            (ListHeap self.old.building Array announced)
-            (ListFull self.old.building Array announced) (ListFits self.old.building announced)
-            (λ s. and_list s Array announced) result }
+            (ListFits (heap_so_far self.old) announced) (λ s. and_list s Array announced) result }
     {
-        if self.failed {
-            return Err(BuildError::AlreadyFailed);
-        }
-        let result = self.building.open_list(ListKind::Array, announced);
-        settle(&mut self.building, &mut self.failed, self.kept, result)
+        self.builder.open_list(ListKind::Array, announced)
     }
 
     /// An object opens, of which so many entries are announced. One of none closes at once. Nothing is reserved. The errors are those
     /// of `open_array`.
     pub fn open_object(&mut self, announced: u64) -> Result<(), BuildError>
         ensures { Builds self.old self.new (awaited (state_of self.old) ≡ ValueNext)
-            (ListHeap self.old.building Object announced)
-            (ListFull self.old.building Object announced) (ListFits self.old.building announced)
-            (λ s. and_list s Object announced) result }
+            (ListFits (heap_so_far self.old) announced) (λ s. and_list s Object announced) result }
     {
-        if self.failed {
-            return Err(BuildError::AlreadyFailed);
-        }
-        let result = self.building.open_list(ListKind::Object, announced);
-        settle(&mut self.building, &mut self.failed, self.kept, result)
+        self.builder.open_list(ListKind::Object, announced)
     }
 
     /// A key of the innermost object.
@@ -256,14 +154,9 @@ impl TreeBuilder {
     /// `Memory` where memory is refused. `Memory` comes only where the key fits.
     pub fn key(&mut self, content: &str) -> Result<(), BuildError>
         ensures { Builds self.old self.new (awaited (state_of self.old) ≡ KeyNext)
-            (KeyHeap self.old.building content.now) (KeyFull self.old.building content.now)
-            (¬ KeyFull self.old.building content.now) (λ s. and_key s content.now) result }
+            (KeyFits (heap_so_far self.old) content.now) (λ s. and_key s content.now) result }
     {
-        if self.failed {
-            return Err(BuildError::AlreadyFailed);
-        }
-        let result = self.building.key(content);
-        settle(&mut self.building, &mut self.failed, self.kept, result)
+        self.builder.key(content)
     }
 
     /// The bytes of a value or of a key begin, of which so many are announced. Nothing is reserved.
@@ -272,29 +165,21 @@ impl TreeBuilder {
     /// bytes behind their length would end above 4294967295; else `Memory` where memory is refused. `Memory` comes only where they fit.
     pub fn begin_bytes(&mut self, kind: BytesKind, announced: u64) -> Result<(), BuildError>
         ensures { Builds self.old self.new (awaited (state_of self.old) ≡ head_awaits kind)
-            (HeadHeap self.old.building announced) (HeadFull self.old.building announced)
-            (¬ HeadFull self.old.building announced) (λ s. and_head s kind announced) result }
+            (HeadFits (heap_so_far self.old) announced) (λ s. and_head s kind announced) result }
     {
-        if self.failed {
-            return Err(BuildError::AlreadyFailed);
-        }
-        let result = self.building.begin_bytes(kind, announced);
-        settle(&mut self.building, &mut self.failed, self.kept, result)
+        self.builder.begin_bytes(kind, announced)
     }
 
     /// Some of the announced bytes.
     ///
     /// `AlreadyFailed` after a refusal; `OutOfPlace` where fewer are missing; else `Memory` where memory is refused.
     pub fn chunk(&mut self, bytes: &[u8]) -> Result<(), BuildError>
-        ensures { Builds self.old self.new (TakesBytes (state_of self.old) (length bytes.now))
-            (λ heap. heap ≡ heap_so_far self.old ++ bytes.now) ⊥ (Unit {0})
+        ensures builds { Builds self.old self.new
+            (TakesBytes (state_of self.old) (length bytes.now)) (Unit {0})
             (λ s. and_bytes s bytes.now) result }
+        ensures roomy { ¬ IsErrOf result BuildError.HeapFull }
     {
-        if self.failed {
-            return Err(BuildError::AlreadyFailed);
-        }
-        let result = self.building.chunk(bytes);
-        settle(&mut self.building, &mut self.failed, self.kept, result)
+        self.builder.chunk(bytes)
     }
 
     /// All announced bytes have come, and are a finished value or key.
@@ -305,11 +190,7 @@ impl TreeBuilder {
     pub fn end_bytes(&mut self) -> Result<(), BuildError>
         ensures { Ends self.old self.new result }
     {
-        if self.failed {
-            return Err(BuildError::AlreadyFailed);
-        }
-        let result = self.building.end_bytes();
-        settle(&mut self.building, &mut self.failed, self.kept, result)
+        self.builder.end_bytes()
     }
 
     /// The complete value becomes that of a pair.
@@ -318,10 +199,6 @@ impl TreeBuilder {
     pub fn finish(&mut self, field: Field) -> Result<(), BuildError>
         ensures { Finishes self.old self.new field.id result }
     {
-        if self.failed {
-            return Err(BuildError::AlreadyFailed);
-        }
-        let result = keep_tree(&mut self.building, &mut self.pairs, &mut self.kept, field);
-        settle(&mut self.building, &mut self.failed, self.kept, result)
+        self.builder.finish(field.field_id())
     }
 }

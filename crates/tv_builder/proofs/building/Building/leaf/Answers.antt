@@ -1,7 +1,7 @@
 use Rattle.std.proofs.Common.{length, refl, sym, ap, arith, rules}
 use Rattle.tv_value.specs.Lent.{leaf_of}
 use Rattle.tv_format.specs.Tree.{leaf}
-use Rattle.tv_builder.specs.Moves.{LeafFits}
+use Rattle.tv_builder.specs.Fits.{LeafFits}
 use Rattle.tv_builder.proofs.Calls.{does_value, value_not}
 use Rattle.tv_builder.proofs.Sound.{can_give, fits_of}
 use Rattle.tv_builder.proofs.building.Building.leaf.Goals as goal

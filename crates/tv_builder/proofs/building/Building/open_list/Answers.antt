@@ -2,7 +2,7 @@ use Rattle.std.proofs.Common.{◌≡◌, ◌≤◌, [], ◌++◌, drop, length, 
 use Rattle.std.proofs.lemmas.List.{drop_all, take_all}
 use Rattle.tv_base.specs.Parts.{short_sized}
 use Rattle.tv_builder.specs.declared.build_error.BuildError.TheVariants.{Memory}
-use Rattle.tv_builder.specs.Moves.{ListFits}
+use Rattle.tv_builder.specs.Fits.{ListFits}
 use Rattle.tv_builder.specs.State.{list_tree}
 use Rattle.tv_builder.proofs.Calls.{does_value, value_not}
 use Rattle.tv_builder.proofs.Opening.{empty_put, empty_put_not, empty_does, opens_list}

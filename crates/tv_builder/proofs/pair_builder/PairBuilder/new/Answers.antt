@@ -1,4 +1,5 @@
-use Rattle.std.proofs.Common.{◌≡◌, ◌≤◌, length, ap, arith, rules}
+use Rattle.std.proofs.Common.{◌≡◌, ◌≤◌, length, take, ap, ◌∙◌, arith, rules}
+use Rattle.std.proofs.lemmas.List.{take_all}
 use Rattle.tv_builder.proofs.PairBuilding.{new_fields, built_new, new_state}
 use Rattle.tv_builder.proofs.pair_builder.PairBuilder.new.Goals as goal
 
@@ -21,3 +22,6 @@ returns-clause-state c =
     let e = c.new.ensures in
     let within : length c.new.result.heap.items ≤ c.len-kept.result = omega (arith, c.len-kept.ensures, c.args.finished.heap.ok.0, ap length e.heap) in
     search (rules, new_state, within, e.places, e.pending, e.frames, e.complete, e.closed)
+
+pub returns-clause-kept : goal.returns-clause-kept
+returns-clause-kept c = ap (λ z. take c.len-kept.result z) c.new.ensures.heap ∙ take_all c.len-kept.result c.args.finished.heap.items (omega (arith, c.len-kept.ensures, c.args.finished.heap.ok.0))

@@ -1,9 +1,9 @@
 -- What a decoder returns and leaves.
 use Rattle.std.specs.Prelude.{◌≡◌, Result}
 use Rattle.tv_reader.specs.declared.error.DeserializeError.{DeserializeError}
-use Rattle.tv_decoder.specs.declared.direct_decoder.DirectDecoder.{DirectDecoder}
-use Rattle.tv_decoder.specs.declared.direct_decoder.Step.{Step}
-use Rattle.tv_decoder.specs.declared.direct_decoder.Step.TheVariants.{More, Done}
+use Rattle.tv_store.specs.declared.direct_decoder.DirectDecoder.{DirectDecoder}
+use Rattle.tv_store.specs.declared.direct_decoder.Step.{Step}
+use Rattle.tv_store.specs.declared.direct_decoder.Step.TheVariants.{More, Done}
 
 abbrev pub SaysDone : Step → Type 0
 SaysDone More = ⊥

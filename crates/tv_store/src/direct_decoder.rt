@@ -8,7 +8,7 @@ ghost use Rattle.tv_decoder.specs.Paid.{PaidBy};
 ghost use Rattle.tv_decoder.specs.Kept.{Grows, KeepsPairs};
 ghost use Rattle.tv_decoder.specs.Sound.{SoundUnless-prop};
 ghost use Rattle.tv_decoder.specs.Steps.{Stepped, Sees, IsFew};
-ghost use Rattle.tv_doc.specs.Builder.{built, state_of, heap_so_far};
+ghost use Rattle.tv_builder.specs.Builder.{built, state_of, heap_so_far};
 ghost use Rattle.tv_doc.specs.Document.{document_of, heap_of};
 ghost use Rattle.tv_builder.specs.Prefix.{Encoded};
 ghost use Rattle.tv_builder.specs.State.{lists_of, children_of};
@@ -19,7 +19,7 @@ ghost use Rattle.tv_reader.specs.declared.error.DeserializeError.TheVariants.{Co
 ghost use Rattle.tv_reader.specs.declared.error.DeserializeError.TheVariants.{HeapFull};
 ghost use Rattle.tv_format.specs.Encoding.{NoLegacy};
 
-use crate::reading::Reading;
+use tv_decoder::reading::Reading;
 use std::alloc::Global;
 use tv_base::ByteSource;
 use tv_doc::document::CompactDoc;
@@ -66,7 +66,7 @@ pub struct DirectDecoder {
 }
 
 impl DirectDecoder {
-    ghost use Rattle.tv_decoder.specs.Decoder.{SaysDone, Rests};
+    ghost use Rattle.tv_store.specs.Decoder.{SaysDone, Rests};
 
     /// A decoder of a document of this version. It reads nothing and takes no memory.
     pub fn new(alloc: Global, version: DocStoreVersion) -> DirectDecoder
@@ -161,7 +161,7 @@ impl DirectDecoder {
         ensures heap { heap_of result
             ≡ take self.reading.builder.kept (heap_so_far self.reading.builder) }
     {
-        self.reading.into_doc()
+        CompactDoc::from_pairs(self.reading.into_pairs())
     }
 
     /// How many bytes were read.

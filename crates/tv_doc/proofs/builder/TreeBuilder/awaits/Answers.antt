@@ -1,6 +1,0 @@
-use Rattle.std.proofs.Common.{◌∙◌}
-use Rattle.tv_builder.proofs.Counts.{awaited_is}
-use Rattle.tv_doc.proofs.builder.TreeBuilder.awaits.Goals as goal
-
-pub returns : goal.returns
-returns c = let b = c.args.self.now in c.awaits.ensures ∙ awaited_is b.building b.state

@@ -1,6 +1,0 @@
-use Rattle.std.proofs.Common.{arith}
-use Rattle.tv_builder.proofs.Counts.{frames_are}
-use Rattle.tv_doc.proofs.builder.TreeBuilder.frames.Goals as goal
-
-pub returns : goal.returns
-returns c = let b = c.args.self.now in omega (arith, c.len.ensures, frames_are b.building b.state, b.building.frames.ok.0)

@@ -1,8 +1,0 @@
-use Rattle.std.proofs.Common.{arith}
-use Rattle.tv_builder.proofs.Weighing.{written_weighs}
-use Rattle.tv_doc.proofs.builder.TreeBuilder.heap_len.Goals as goal
-
-pub returns-clause-within : goal.returns-clause-within
-returns-clause-within c =
-    let b = c.args.self.now in
-    omega (arith, c.len.ensures, b.building.heap.ok.0, b.written, b.weight, written_weighs b.building b.state)

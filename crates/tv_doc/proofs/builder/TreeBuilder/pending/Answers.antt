@@ -1,5 +1,0 @@
-use Rattle.tv_builder.proofs.Counts.{pending_is}
-use Rattle.tv_doc.proofs.builder.TreeBuilder.pending.Goals as goal
-
-pub returns : goal.returns
-returns c = let b = c.args.self.now in pending_is b.building b.state
