@@ -7,6 +7,7 @@ pub mod Handing
 pub mod NoRoom
 pub mod Putting
 pub mod Calls
+pub mod Calling
 pub mod Keys
 pub mod Opening
 pub mod Ending

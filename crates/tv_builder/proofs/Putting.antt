@@ -211,11 +211,14 @@ pub flat_append : (es fs : List (List ℕ × Tree)) → flat (es ++ fs) ≡ flat
 flat_append [] fs = refl
 flat_append (e ∷ es) fs = ap (λ z. leaf (text e.0) ∷ e.1 ∷ z) (flat_append es fs)
 
+pub flat_push : (es : List (List ℕ × Tree)) (k : List ℕ) (t : Tree) → (flat es ++ leaf (text k) ∷ []) ++ t ∷ [] ≡ flat (es ++ (k, t) ∷ [])
+flat_push es k t = append_assoc (flat es) (leaf (text k) ∷ []) (t ∷ []) ∙ sym (flat_append es ((k, t) ∷ []))
+
 flat_pairs : (es : List (List ℕ × Tree)) → pairs_of (flat es) ≡ es
 flat_pairs [] = refl
 flat_pairs (e ∷ es) = ap (λ z. e ∷ z) (flat_pairs es)
 
-flat_length : (es : List (List ℕ × Tree)) → length (flat es) ≡ 2 * length es
+pub flat_length : (es : List (List ℕ × Tree)) → length (flat es) ≡ 2 * length es
 flat_length [] = refl
 flat_length (e ∷ es) = omega (arith, flat_length es)
 
@@ -223,7 +226,7 @@ flat_are : (es : List (List ℕ × Tree)) → AreEntries (flat es)
 flat_are [] = tt
 flat_are (e ∷ es) = (tt, flat_are es)
 
-flat_tree : (es : List (List ℕ × Tree)) → list_tree Object (flat es) ≡ object (entries es)
+pub flat_tree : (es : List (List ℕ × Tree)) → list_tree Object (flat es) ≡ object (entries es)
 flat_tree es = ap (λ z. object (entries z)) (flat_pairs es)
 
 object_room : (es : List (List ℕ × Tree)) → room (object (entries es)) ≡ 5 + children_room (flat es)
@@ -246,12 +249,11 @@ object_step old heap list mid new es fs all k t q p s e v w =
     let sizes : entries_size (entries es) ≡ suc (size t + entries_size (entries fs)) = ap (λ z. entries_size (entries z)) e in
     let keyed = children_push old heap list mid (flat s.done) (leaf (text k)) q s.children v in
     let both = children_push old mid (list ++ place_bytes q) new (flat s.done ++ leaf (text k) ∷ []) t p keyed w in
-    let same_done : (flat s.done ++ leaf (text k) ∷ []) ++ t ∷ [] ≡ flat (s.done ++ (k, t) ∷ []) = append_assoc (flat s.done) (leaf (text k) ∷ []) (t ∷ []) ∙ sym (flat_append s.done ((k, t) ∷ [])) in
     let left = entries_places new (entries fs) in
     record {
       done = s.done ++ (k, t) ∷ [];
       whole = append_assoc s.done ((k, t) ∷ []) fs ∙ ap (λ z. s.done ++ z) (sym e) ∙ s.whole;
-      children = subst (Children old new ((list ++ place_bytes q) ++ place_bytes p)) same_done both;
+      children = subst (Children old new ((list ++ place_bytes q) ++ place_bytes p)) (flat_push s.done k t) both;
       heap_is = s.heap_is ∙ ap (λ z. entries_heap heap (entries z)) e ∙ ap (λ z. entries_heap (tree_heap z t) (entries fs)) (sym v.heap) ∙ ap (λ z. entries_heap z (entries fs)) (sym w.heap);
       places_are = s.places_are ∙ ap (λ z. list ++ entries_places heap (entries z)) e ∙
           (λ i. list ++ (place_bytes (sym v.place i) ++ (place_bytes (tree_place (sym v.heap i) t) ++ entries_places (tree_heap (sym v.heap i) t) (entries fs)))) ∙

@@ -15,6 +15,7 @@ pub mod OneState
 pub mod Image
 pub mod StateHeap
 pub mod Fits
+pub mod Called
 pub mod EncodedPut
 pub mod Builder
 pub mod Finish

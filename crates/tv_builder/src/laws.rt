@@ -4,6 +4,7 @@ ghost use Rattle.std.specs.Prelude.{◌≡◌, ◌+◌, ◌*◌, ◌≤◌, ℕ,
 ghost use Rattle.tv_format.specs.Encoding.{NoLegacy};
 ghost use Rattle.tv_format.specs.Tree.{Tree, Document};
 ghost use Rattle.tv_format.specs.Version.{Version};
+ghost use Rattle.tv_builder.specs.Called.{parts_called};
 ghost use Rattle.tv_builder.specs.Behind.{document_parts, open_parts};
 ghost use Rattle.tv_builder.specs.Prefix.{Encoded};
 ghost use Rattle.tv_builder.specs.Parts.{Part, Trades, IsContent, value, key, bytes_head};
@@ -63,4 +64,9 @@ pub fn open_lists_are_paid()
     ensures { (v : Version) (n : ℕ) (d : Document) (f : ℕ) (s : State) (b : List ℕ)
         → Encoded NoLegacy v b (open_parts n d f s)
         → (2 * length (lists_of s) ≤ length b) × (children_of (lists_of s) ≤ length b) }
+{}
+
+/// The calls for the parts of a value, one after the other, make of a state what the value itself makes of it.
+pub fn parts_make_values()
+    ensures { (s : State) (t : Tree) → awaited s ≡ Value → parts_called s t ≡ and_value s t }
 {}
