@@ -1,5 +1,5 @@
 -- The calls for the parts of a value make what the value itself makes.
-use Rattle.std.proofs.Common.{◌≡◌, ℕ, suc, ◌+◌, ◌*◌, ◌<◌, nat_eq, List, [], ◌∷◌, ◌++◌, length, refl, ◌∙◌, ap, append_assoc, length-append, arith}
+use Rattle.std.proofs.Common.{◌≡◌, ℕ, suc, ◌+◌, ◌<◌, nat_eq, List, [], ◌∷◌, ◌++◌, length, refl, ◌∙◌, ap, length-append, arith}
 use Rattle.std.proofs.lemmas.Bool.{cond-false, ne_eqb, lt-ltb, le-ltb}
 use Rattle.tv_format.specs.Tree.{Tree, leaf, text, array, object, Elements, no_elements, element, Entries, no_entries, entry, elements, entries, element_count, entry_count}
 use Rattle.tv_builder.specs.declared.awaits.Awaits.TheVariants as awaits
@@ -7,7 +7,7 @@ use Rattle.tv_builder.specs.declared.frame.ListKind.{ListKind}
 use Rattle.tv_builder.specs.declared.frame.ListKind.TheVariants.{Array, Object}
 use Rattle.tv_builder.specs.Called.{parts_called, elements_called, entries_called}
 use Rattle.tv_builder.specs.Kinds.{total}
-use Rattle.tv_builder.specs.State.{OpenList, State, complete, in_lists, in_bytes, awaited, with_value, with_list, with_child, and_value, and_list, and_key, list_tree}
+use Rattle.tv_builder.specs.State.{OpenList, State, complete, in_lists, in_bytes, awaited, with_value, with_list, and_value, list_tree}
 use Rattle.tv_builder.proofs.Giving.{value_waits, value_closes}
 use Rattle.tv_builder.proofs.Putting.{flat, flat_length, flat_tree, flat_push}
 

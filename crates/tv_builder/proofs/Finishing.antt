@@ -26,11 +26,11 @@ use Rattle.tv_builder.specs.TreeBytes.{tree_place}
 use Rattle.tv_builder.specs.State.{State, complete, in_lists, in_bytes, written}
 use Rattle.tv_builder.specs.declared.pair_builder.PairBuilder.{PairBuilder}
 use Rattle.tv_builder.specs.declared.heap_pair.HeapPair.{HeapPair}
-use Rattle.tv_builder.specs.Finish.{HoldsPrefix, Kept, KeptNot, WhyNoPair}
+use Rattle.tv_builder.specs.Finish.{HoldsPrefix, Settled, Kept, KeptNot, WhyNoPair}
 use Rattle.tv_builder.specs.Builder.{built, state_of, heap_so_far, kept_heap, Fails, Finished, FinishesIf, Finishes, IsComplete}
 use Rattle.tv_builder.specs.Holds.{ReadsPairs, Holds, pair_at}
 use Rattle.tv_builder.proofs.Documents.{same_document, pairs_grown, pairs_push}
-use Rattle.tv_builder.proofs.PairBuilding.{Answer, Left, Settled, Fields, none_shows, fields_left, fails_now}
+use Rattle.tv_builder.proofs.PairBuilding.{Answer, Left, Fields, none_shows, fields_left, fails_now}
 
 both : {A : Type 0} (x : Option A) (a : A) → x ≡ Some a → x ≡ None → ⊥
 both x a e f = absurd (let g : Some a ≡ None = sym e ∙ f in cc)

@@ -1,5 +1,5 @@
 -- What a call leaves of a tree builder.
-use Rattle.std.proofs.Common.{◌≡◌, ℕ, ◌+◌, ◌^◌, ◌<◌, ◌≤◌, Bool, true, false, List, [], ◌++◌, length, reverse, take, None, Result, Ok, Err, OnOk, OnErr, length-append, refl, sym, ◌∙◌, ap, subst, arith}
+use Rattle.std.proofs.Common.{◌≡◌, ℕ, ◌+◌, ◌^◌, ◌<◌, ◌≤◌, Bool, false, List, [], ◌++◌, length, reverse, take, None, Result, Ok, Err, OnOk, OnErr, length-append, refl, sym, ◌∙◌, ap, subst, arith}
 use Rattle.std.specs.Coded.{Coded-set, le_prop}
 use Rattle.tv_base.specs.Number.{vnum}
 use Rattle.tv_format.specs.TreeCode.{coded_text}
@@ -23,7 +23,7 @@ use Rattle.tv_builder.specs.State.{State, complete, in_lists, in_bytes, state_ro
 use Rattle.tv_builder.specs.declared.pair_builder.PairBuilder.{PairBuilder}
 use Rattle.tv_builder.specs.declared.heap_pairs.HeapPairs.{HeapPairs}
 use Rattle.tv_builder.specs.declared.heap_pair.HeapPair.{HeapPair}
-use Rattle.tv_builder.specs.Finish.{HoldsPrefix, Cleared}
+use Rattle.tv_builder.specs.Finish.{HoldsPrefix, Cleared, Settled}
 use Rattle.tv_builder.specs.Builder.{built, state_of, heap_so_far, kept_heap, TakesBytes, HasAllBytes, HasContent, Goes, Fails, Overfull, BuildsIf, Builds, EndsIf, Ends}
 use Rattle.tv_builder.specs.HeldPairs.{document_of}
 use Rattle.tv_builder.specs.Holds.{Holds}
@@ -97,13 +97,6 @@ ends_left old mid (Err HeapFull) h = record { moves = tt; prefix = h.3 }
 ends_left old mid (Err Memory) h = record { moves = tt; prefix = h.2 }
 ends_left old mid (Err AlreadyFailed) h = absurd h
 
--- and how it is settled
-pub record Settled (mid new : Building) (kept : ℕ) (failed failed_new : Bool) (r : Answer) : Type 0 where
-  pub ok : OnOk r (new ≡ mid)
-  pub live : OnOk r (failed_new ≡ failed)
-  pub err : OnErr r (Cleared mid new kept)
-  pub mark : OnErr r (failed_new ≡ true)
-
 prefix_kept : (kept : ℕ) (old new : List ℕ) → IsPrefix old new → kept ≤ length old → take kept new ≡ take kept old
 prefix_kept kept old new f h = ap (λ z. take kept z) f.1 ∙ take-append-le kept old f.0 h
 
@@ -167,6 +160,9 @@ fields_left old mid new failed_new after r l s =
       state = state.0;
       written_within = state.1;
     }
+
+pub fields_does : (old : PairBuilder) (mid new : Building) (failed_new : Bool) (in_place fits : Type 0) (after : State → State) (r : Answer) → Does old.building mid in_place fits after r → Settled mid new old.kept old.failed failed_new r → Fields new old.kept old.pairs.items
+fields_does old mid new failed_new in_place fits after r d s = fields_left old mid new failed_new after r (does_left old.building mid in_place fits after r d) s
 
 -- ---- what the call says
 

@@ -1,5 +1,5 @@
 -- What is left of a value that comes part by part where it is let go of, or becomes that of a pair.
-use Rattle.std.specs.Prelude.{◌≡◌, ℕ, ◌<◌, ◌^◌, List, [], ◌∷◌, ◌++◌, length, take, Some, None}
+use Rattle.std.specs.Prelude.{◌≡◌, ℕ, ◌<◌, ◌^◌, List, [], ◌∷◌, ◌++◌, length, take, Some, None, Bool, true, Result, OnOk, OnErr}
 use Rattle.tv_builder.specs.declared.build_error.BuildError.{BuildError}
 use Rattle.tv_builder.specs.declared.build_error.BuildError.TheVariants.{OutOfPlace, Memory}
 use Rattle.tv_builder.specs.declared.building.Building.{Building}
@@ -22,6 +22,13 @@ pub record Cleared (old new : Building) (kept : ℕ) : Type 0 where
   pub frames : new.frames.items ≡ []
   pub complete : new.complete ≡ None
   pub closed : new.open ≡ None
+
+-- After a refusal what isn't finished is let go of, and that is marked; else nothing changes.
+pub record Settled (old new : Building) (kept : ℕ) (failed failed_new : Bool) (answer : Result (Unit {0}) BuildError) : Type 0 where
+  pub ok : OnOk answer (new ≡ old)
+  pub live : OnOk answer (failed_new ≡ failed)
+  pub err : OnErr answer (Cleared old new kept)
+  pub mark : OnErr answer (failed_new ≡ true)
 
 -- the complete value became that of a pair
 pub record Kept (old new : Building) (ps qs : List HeapPair) (kept f : ℕ) : Type 0 where

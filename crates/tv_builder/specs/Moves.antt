@@ -1,9 +1,8 @@
 -- What a call on a building leaves.
-use Rattle.std.specs.Prelude.{◌≡◌, ◌↔◌, IsTrue, Bool, false, ℕ, ◌+◌, ◌-◌, ◌<◌, ◌≤◌, List, [], ◌∷◌, ◌++◌, length, drop, take, Option, Some, None, Result, Ok, Err}
+use Rattle.std.specs.Prelude.{◌≡◌, ◌↔◌, IsTrue, Bool, false, ℕ, ◌+◌, ◌-◌, ◌<◌, ◌≤◌, List, ◌∷◌, ◌++◌, length, drop, take, Option, Some, None, Result, Ok, Err}
 use Rattle.tv_base.specs.Number.{vnum}
 use Rattle.tv_base.specs.Parts.{short_sized}
 use Rattle.tv_base.specs.Sink.{IsPrefix}
-use Rattle.tv_format.specs.Tree.{Leaf}
 use Rattle.tv_builder.specs.declared.build_error.BuildError.{BuildError}
 use Rattle.tv_builder.specs.declared.build_error.BuildError.TheVariants.{OutOfPlace, NotUtf8, HeapFull, Memory}
 use Rattle.tv_builder.specs.declared.building.Building.{Building}

@@ -4,7 +4,7 @@ ghost use Rattle.std.specs.Prelude.{◌≡◌, ◌+◌, ◌<◌, ◌≤◌, ◌�
 ghost use Rattle.std.specs.Prelude.{take, true, false, None};
 ghost use Rattle.tv_builder.specs.OneState.{StandsBehind, StandsBehind-prop};
 ghost use Rattle.tv_builder.specs.State.{written};
-ghost use Rattle.tv_builder.specs.Finish.{HoldsPrefix, HoldsPrefix-prop, Cleared, Kept, KeptNot};
+ghost use Rattle.tv_builder.specs.Finish.{HoldsPrefix, HoldsPrefix-prop, Settled, Kept, KeptNot};
 ghost use Rattle.tv_builder.specs.Weight.{document_weight, state_weight};
 ghost use Rattle.tv_heap.specs.Room.{document_room};
 
@@ -26,10 +26,7 @@ fn settle(
     answer: Result<(), BuildError>,
 ) -> Result<(), BuildError>
     ensures same { result ≡ answer }
-    ensures ok { OnOk answer (building.new ≡ building.old) }
-    ensures live { OnOk answer (failed.new ≡ failed.old) }
-    ensures err { OnErr answer (Cleared building.old building.new kept) }
-    ensures mark { OnErr answer (failed.new ≡ true) }
+    ensures settled { Settled building.old building.new kept failed.old failed.new answer }
 {
     if answer.is_err() {
         building.clear(kept);
