@@ -18,8 +18,10 @@ pub mod CallsTrade
 pub mod Paid
 pub mod Weighing
 pub mod Encoding
-pub mod JsonValues
 pub mod Documents
 pub mod PairBuilding
 pub mod CallPlaces
 pub mod Finishing
+pub mod Rooms
+pub mod Kept
+pub mod EncodedPairs

@@ -19,3 +19,5 @@ pub mod Called
 pub mod EncodedPut
 pub mod Builder
 pub mod Finish
+pub mod Keeping
+pub mod EncodedPairs
