@@ -1,6 +1,7 @@
 -- Readers one after the other, told by the grammar.
 use Rattle.std.proofs.Common.{◌≡◌, ◌≢◌, ℕ, List, [], ◌∷◌, ◌++◌, Result, Ok, Err, refl, sym, ap, subst, ◌∙◌, arith, append_assoc}
 use Rattle.std.proofs.lemmas.List.{append-nil}
+use Rattle.std.proofs.lemmas.Result.{IfErr-weaker}
 use Rattle.tv_base.specs.declared.cause.Cause.{Cause}
 use Rattle.tv_base.specs.declared.cause.Cause.TheVariants.{UnexpectedEnd}
 use Rattle.tv_base.specs.declared.read_error.ReadError.{ReadError}
@@ -115,6 +116,12 @@ stop_map end P Q (InputError f) old new count map h = λ few. record { stands = 
 stop_map end P Q (Failed kind) old new count map h = tt
 stop_map end P Q Short old new count map h = tt
 stop_map end P Q Never old new count map h = h
+
+-- less may stop a part than the whole
+pub finds_any : {S E F X : Type 0} {stop : E → Stop F} {May0 May : E → ℕ → Type 0} {end : F} {is_known : S → Type 0} {left : S → List ℕ} {failures : S → Failures} {old new : S} {i k : ℕ} {result : Result X E} {B : List ℕ → X → Type 0} {Q : List ℕ → F → Type 0}
+    → ((e : E) (n : ℕ) → May0 e n → May e n) → FindsBy stop May0 end is_known left failures old i new k result B Q → FindsBy stop May end is_known left failures old i new k result B Q
+finds_any {k = k} {result = result} less p =
+    record { found = p.found; taken = p.taken; stays_known = p.stays_known; counts = p.counts; rises = p.rises; may_stop = IfErr-weaker result _ _ (λ e may. less e k may) p.may_stop }
 
 -- a refusal of a part is one of the whole
 pub finds_fails : {S E F X Y : Type 0} {stop : E → Stop F} {May : E → ℕ → Type 0} {end : F} {is_known : S → Type 0} {left : S → List ℕ} {failures : S → Failures} {old new : S} {i k : ℕ} {e : E} {R : List ℕ → X → Type 0} {P : List ℕ → F → Type 0} (B : List ℕ → Y → Type 0) (Q : List ℕ → F → Type 0)

@@ -3,7 +3,6 @@
 ghost use Rattle.std.specs.Prelude.{◌≤◌, ◌+◌};
 ghost use Rattle.tv_reader.specs.Error.{TakesLean};
 ghost use Rattle.tv_reader.specs.Fields.{field_at};
-ghost use Rattle.tv_reader.specs.declared.error.DeserializeError.TheVariants.{CorruptedValue};
 
 use crate::error::DeserializeError;
 use tv_base::ByteSource;

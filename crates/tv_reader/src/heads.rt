@@ -8,7 +8,6 @@ ghost use Rattle.tv_reader.specs.Heads.{EncodesHead, EncodesKeyHead, CodedLength
 ghost use Rattle.tv_reader.specs.HeadReading.{head_part};
 ghost use Rattle.tv_reader.specs.Trees.{NoValue};
 ghost use Rattle.tv_reader.specs.Version.{version_of};
-ghost use Rattle.tv_reader.specs.declared.error.DeserializeError.TheVariants.{CorruptedValue};
 ghost use Rattle.tv_format.specs.InputError.{Corrupt, ErrorInCodedKey, ErrorInKey};
 
 use crate::error::DeserializeError;

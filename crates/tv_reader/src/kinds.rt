@@ -2,7 +2,6 @@
 
 ghost use Rattle.std.specs.Prelude.{◌<◌, ◌≤◌, ◌+◌, OnOk};
 ghost use Rattle.tv_base.specs.Take.{TakesLean};
-ghost use Rattle.tv_base.specs.declared.read_error.ReadError.TheVariants.{Corrupted};
 ghost use Rattle.tv_reader.specs.Kinds.{extension_at, kind_at};
 
 use crate::type_codes::{EXT_CODE, F64_CODE, TOK_STR_EXT_CODE};

@@ -5,7 +5,6 @@ ghost use Rattle.std.specs.Prelude.{◌≤◌, ◌+◌, map};
 ghost use Rattle.std.specs.Net.Addr.{ipv6_bits};
 ghost use Rattle.tv_base.specs.Reading.{u128_at};
 ghost use Rattle.tv_base.specs.Take.{TakesBy, TakesLean};
-ghost use Rattle.tv_base.specs.declared.read_error.ReadError.TheVariants.{Corrupted};
 ghost use Rattle.tv_reader.specs.Leaves.{date_at, token_at, tokens_at, counted_tokens_at};
 ghost use Rattle.tv_reader.specs.Leaves.{tokenized_at};
 ghost use Rattle.tv_reader.specs.Version.{version_of};

@@ -2,7 +2,6 @@
 
 ghost use Rattle.std.specs.Prelude.{◌≤◌, ◌+◌, string_bytes};
 ghost use Rattle.tv_base.specs.Take as reads;
-ghost use Rattle.tv_base.specs.declared.read_error.ReadError.TheVariants.{Corrupted};
 ghost use Rattle.tv_format.specs.Encoding.{Key};
 ghost use Rattle.tv_format.specs.InputError.{ErrorInCodedKey, ErrorInKey};
 ghost use Rattle.tv_reader.specs.Counts.{half_at, entry_count_at};
@@ -11,7 +10,6 @@ ghost use Rattle.tv_reader.specs.Trees.{EncodesValue, NoValue, EncodesBehind, No
 ghost use Rattle.tv_reader.specs.Trees.{EncodesItems, NoItems, EncodesMember, NoMember};
 ghost use Rattle.tv_reader.specs.Trees.{EncodesMembers, NoMembers, CodedKey};
 ghost use Rattle.tv_reader.specs.Version.{version_of};
-ghost use Rattle.tv_reader.specs.declared.error.DeserializeError.TheVariants.{CorruptedValue};
 
 use crate::error::{DeserializeError, ValueType};
 use crate::kinds::take_kind;
