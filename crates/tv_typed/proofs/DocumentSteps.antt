@@ -1,6 +1,6 @@
 -- Pairs of a document by their parts.
 use Rattle.std.proofs.Common.{◌≡◌, ℕ, ◌<◌, true, false, List, Result, Ok, Err, refl, sym, subst, ◌∙◌, inl, inr}
-use Rattle.std.specs.Prelude.{is_err, IsErrOf}
+use Rattle.std.specs.Prelude.{is_err}
 use Rattle.tv_base.specs.ErrorInPart.{ErrorInBytes}
 use Rattle.tv_base.specs.Number.{Fixed}
 use Rattle.tv_base.specs.Source.{AllBytes, Failures}
