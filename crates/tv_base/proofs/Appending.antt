@@ -6,7 +6,7 @@ use Rattle.tv_base.specs.declared.read_error.ReadError.TheVariants.{Corrupted}
 use Rattle.tv_base.specs.Append.{Moves}
 use Rattle.tv_base.specs.Source.{Failures}
 use Rattle.tv_base.specs.Stop.{◌>>=◌, Taken, Takes}
-use Rattle.tv_base.specs.Take.{read_stop}
+use Rattle.tv_base.specs.Take.{read_stop, MayStop}
 use Rattle.tv_base.specs.Reading.{more_at}
 use Rattle.tv_base.proofs.AgreeWidths.{more_agrees}
 use Rattle.tv_base.proofs.Chunks.{chunk, short}
@@ -38,7 +38,7 @@ module _ {P : Type 0} {is_known : P → Type 0} {left : P → List ℕ} {count :
 
   -- no byte is left
   pub piece_ends : {X : Type 0} (view : X → List ℕ) (before after : List ℕ) (missing most n : ℕ) → n ≡ 0 → 0 < missing → 0 < most → SoFar is_known left count failures old mid whole (more_at before missing)
-      → (is_known mid → Moves (left mid) (left new) before after most n) → (is_known mid → is_known new) → failures new ≡ failures mid → count new ≡ count mid → Takes read_stop is_known left count failures old new view (Err (Corrupted UnexpectedEnd)) whole
+      → (is_known mid → Moves (left mid) (left new) before after most n) → (is_known mid → is_known new) → failures new ≡ failures mid → count new ≡ count mid → Takes read_stop MayStop is_known left count failures old new view (Err (Corrupted UnexpectedEnd)) whole
   piece_ends view before after missing most n zero some wanted h moves still same counted = record {
     gives = λ told few.
         let m = moves (h.stays_known told) in
@@ -48,6 +48,7 @@ module _ {P : Type 0} {is_known : P → Type 0} {left : P → List ℕ} {count :
     stays_known = λ told. still (h.stays_known told);
     counts = same ∙ h.counts;
     rises = omega (arith, h.rises, counted);
+    may_stop = tt;
   }
     where
       nothing_new : (a b : List ℕ) → [] ≡ a ++ b → b ≡ []

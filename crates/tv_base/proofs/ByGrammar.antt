@@ -1,15 +1,17 @@
 -- A reader that gives what a reading gives reads by the grammar that the reading agrees with.
-use Rattle.std.proofs.Common.{◌≡◌, ℕ, ◌-◌, ◌^◌, ◌<◌, List, ◌++◌, length, Result, Ok, Err, sym, ap, subst, ◌∙◌, arith, length-append}
+use Rattle.std.proofs.Common.{◌≡◌, ℕ, ◌-◌, ◌^◌, ◌<◌, List, ◌++◌, length, Result, Ok, Err, refl, sym, ap, subst, ◌∙◌, arith, length-append}
 use Rattle.std.specs.Prelude.{IfOk, IsErrOf}
+use Rattle.std.proofs.lemmas.Result.{IfErr-at_err}
 use Rattle.tv_base.specs.declared.cause.Cause.{Cause}
-use Rattle.tv_base.specs.declared.cause.Cause.TheVariants.{UnexpectedEnd, TooLong}
+use Rattle.tv_base.specs.declared.cause.Cause.TheVariants.{UnexpectedEnd}
 use Rattle.tv_base.specs.declared.read_error.ReadError.{ReadError}
 use Rattle.tv_base.specs.declared.read_error.ReadError.TheVariants.{Corrupted, Io, Memory}
 use Rattle.tv_base.specs.Source.{AllBytes, Failures}
 use Rattle.tv_base.specs.Stop.{Gives, Taken}
-use Rattle.tv_base.specs.Take.{TakesBy, read_stop}
-use Rattle.tv_base.specs.ReadsAs.{Known, IsRead, Shows, ReadsAs}
+use Rattle.tv_base.specs.Take.{TakesBy, TakesLean, MayStop, MayStopLean, read_stop}
+use Rattle.tv_base.specs.ReadsAs.{Known, IsRead, Shows, ReadsAs, ReadsLean}
 use Rattle.tv_base.proofs.SmallBytes.{bytes_before}
+use Rattle.tv_base.proofs.TakeSteps.{lean}
 use Rattle.tv_base.proofs.Agrees.{Agrees, ok_is, no_ok}
 
 found_by : {X Y : Type 0} {reading : List ℕ → Result (Y × List ℕ) (Cause × List ℕ)} {Encodes : List ℕ → Y → Type 0} {HasError : List ℕ → Cause → Type 0} (view : X → Y)
@@ -45,18 +47,21 @@ is_read view (Err Memory) read y rest now count few e h = tt
 pub few_taken : {old new : List ℕ} {now : ℕ} → length old < 2 ^ 64 - 1 → Taken old new 0 now → now < 2 ^ 64 - 1
 few_taken {new = new} few t = omega (arith, t.counted, ap length t.joined, length-append t.prefix new)
 
-pub by_grammar : {S X Y : Type 0} (is_known : S → Type 0) (left : S → List ℕ) (failures : S → Failures) (are_bytes : (source : S) → is_known source → AllBytes (left source)) (old new : S) (new_count : ℕ) (view : X → Y) (result : Result X ReadError)
-    {reading : List ℕ → Result (Y × List ℕ) (Cause × List ℕ)} {Encodes : List ℕ → Y → Type 0} {HasError : List ℕ → Cause → Type 0}
-    → Agrees UnexpectedEnd reading Encodes HasError → TakesBy is_known left failures old 0 new new_count view result reading → (IsErrOf result (Corrupted TooLong) → new_count ≡ 2 ^ 64 - 1) → ReadsAs is_known left failures old new view result Encodes HasError
-by_grammar is_known left failures are_bytes old new new_count view result {reading = reading} agrees h most =
-    let error = λ (known : Known is_known left old) (c : Cause) (e : IsErrOf result (Corrupted c)). refused_by view (reading (left old)) (left new) new_count result (few_taken known.1 (h.taken known.0)) (h.gives known.0) c e in
-    record {
-      found = λ told. found_by view agrees (left old) (left new) new_count result (are_bytes old told) (h.gives told);
-      only = λ known prefix y rest encodes e. is_read view result (reading (left old)) y rest (left new) new_count (few_taken known.1 (h.taken known.0)) (ap reading e ∙ agrees.complete prefix y rest encodes) (h.gives known.0);
-      cause = λ known c e. agrees.refused (left old) c (left new) (are_bytes old known.0) (error known c e);
-      shows = λ known c e. shows_by agrees (left old) (left new) c (are_bytes old known.0) (error known c e);
-      taken = λ told. let t = h.taken told in (t.prefix, t.joined);
-      too_long = λ told e. let t = h.taken told in (t.prefix, t.joined, omega (arith, t.counted, most e));
-      stays_known = h.stays_known;
-      counts = h.counts;
-    }
+module _ {S X Y : Type 0} (is_known : S → Type 0) (left : S → List ℕ) (failures : S → Failures) (are_bytes : (source : S) → is_known source → AllBytes (left source)) (old new : S) (new_count : ℕ) (view : X → Y) (result : Result X ReadError)
+    {reading : List ℕ → Result (Y × List ℕ) (Cause × List ℕ)} {Encodes : List ℕ → Y → Type 0} {HasError : List ℕ → Cause → Type 0} (agrees : Agrees UnexpectedEnd reading Encodes HasError) where
+  pub by_grammar : TakesBy is_known left failures old 0 new new_count view result reading → ReadsAs is_known left failures old new view result Encodes HasError
+  by_grammar h =
+      let error = λ (known : Known is_known left old) (c : Cause) (e : IsErrOf result (Corrupted c)). refused_by view (reading (left old)) (left new) new_count result (few_taken known.1 (h.taken known.0)) (h.gives known.0) c e in
+      record {
+        found = λ told. found_by view agrees (left old) (left new) new_count result (are_bytes old told) (h.gives told);
+        only = λ known prefix y rest encodes e. is_read view result (reading (left old)) y rest (left new) new_count (few_taken known.1 (h.taken known.0)) (ap reading e ∙ agrees.complete prefix y rest encodes) (h.gives known.0);
+        cause = λ known c e. agrees.refused (left old) c (left new) (are_bytes old known.0) (error known c e);
+        shows = λ known c e. shows_by agrees (left old) (left new) c (are_bytes old known.0) (error known c e);
+        taken = λ told. let t = h.taken told in (t.prefix, t.joined);
+        too_long = λ told e. let t = h.taken told in (t.prefix, t.joined, omega (arith, t.counted, IfErr-at_err (λ x. MayStop x new_count) e h.may_stop));
+        stays_known = h.stays_known;
+        counts = h.counts;
+      }
+
+  pub by_grammar_lean : TakesLean is_known left failures old 0 new new_count view result reading → ReadsLean is_known left failures old new view result Encodes HasError
+  by_grammar_lean h = (by_grammar (lean h), λ is. (IfErr-at_err (λ e. MayStopLean e new_count) is h.may_stop).1 refl)

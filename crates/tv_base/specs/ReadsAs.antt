@@ -46,3 +46,7 @@ pub record ReadsAs {S X Y : Type 0} (is_known : S → Type 0) (left : S → List
   pub too_long : is_known old → IsErrOf result (Corrupted TooLong) → TakesMost (left old) (left new)
   pub stays_known : is_known old → is_known new
   pub counts : Counts read_stop result (failures old) (failures new)
+
+-- a reader that takes no memory
+abbrev pub ReadsLean : {S X Y : Type 0} (is_known : S → Type 0) (left : S → List ℕ) (failures : S → Failures) (old new : S) (view : X → Y) (result : Result X ReadError) (Encodes : List ℕ → Y → Type 0) (HasError : List ℕ → Cause → Type 0) → Type 0
+ReadsLean is_known left failures old new view result Encodes HasError = ReadsAs is_known left failures old new view result Encodes HasError × (¬ IsErrOf result Memory)

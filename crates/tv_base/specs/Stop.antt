@@ -1,5 +1,5 @@
 -- Why a reader or a writer stopped, whatever its error type is: one set of definitions for each layer.
-use Rattle.std.specs.Prelude.{◌≡◌, ℕ, ◌+◌, ◌-◌, ◌^◌, ◌<◌, ◌≤◌, List, ◌++◌, length, Result, Ok, Err}
+use Rattle.std.specs.Prelude.{◌≡◌, ℕ, ◌+◌, ◌-◌, ◌^◌, ◌<◌, ◌≤◌, List, ◌++◌, length, Result, Ok, Err, IfErr}
 use Rattle.std.specs.declared.io.ErrorKind.{ErrorKind}
 use Rattle.tv_base.specs.Source.{Failures, HasFailed}
 
@@ -48,9 +48,11 @@ pub record Taken (old new : List ℕ) (count now : ℕ) : Type 0 where
   pub joined : old ≡ prefix ++ new
   pub counted : now ≡ count + length prefix
 
-pub record Takes {P E F X Y : Type 0} (stop : E → Stop F) (is_known : P → Type 0) (left : P → List ℕ) (count : P → ℕ) (failures : P → Failures) (old new : P) (view : X → Y) (result : Result X E) (reading : List ℕ → Result (Y × List ℕ) (F × List ℕ)) : Type 0 where
+-- What a reader does. Its error may stop it after the bytes that are counted then.
+pub record Takes {P E F X Y : Type 0} (stop : E → Stop F) (MayStop : E → ℕ → Type 0) (is_known : P → Type 0) (left : P → List ℕ) (count : P → ℕ) (failures : P → Failures) (old new : P) (view : X → Y) (result : Result X E) (reading : List ℕ → Result (Y × List ℕ) (F × List ℕ)) : Type 0 where
   pub gives : is_known old → Gives stop view result (reading (left old)) (left new) (count new)
   pub taken : is_known old → Taken (left old) (left new) (count old) (count new)
   pub stays_known : is_known old → is_known new
   pub counts : Counts stop result (failures old) (failures new)
   pub rises : count old ≤ count new
+  pub may_stop : IfErr result (λ e. MayStop e (count new))

@@ -1,6 +1,7 @@
 -- What a reader does to a source that it is lent, and to the count of the bytes that were taken of it.
-use Rattle.std.specs.Prelude.{ℕ, List, Result}
+use Rattle.std.specs.Prelude.{◌≡◌, ◌≢◌, ℕ, ◌-◌, ◌^◌, List, Result}
 use Rattle.tv_base.specs.declared.cause.Cause.{Cause}
+use Rattle.tv_base.specs.declared.cause.Cause.TheVariants.{TooLong}
 use Rattle.tv_base.specs.declared.read_error.ReadError.{ReadError}
 use Rattle.tv_base.specs.declared.read_error.ReadError.TheVariants.{Corrupted, Io, Memory}
 use Rattle.tv_base.specs.Source.{Failures}
@@ -21,7 +22,27 @@ read_stop (Corrupted c) = InputError c
 read_stop (Io kind) = Failed kind
 read_stop Memory = Short
 
+-- `TooLong` comes only where 2 ^ 64 - 1 bytes are counted
+abbrev pub CauseMayStop : Cause → ℕ → Type 0
+CauseMayStop TooLong count = count ≡ 2 ^ 64 - 1
+CauseMayStop _ count = Unit {0}
+
+abbrev pub MayStop : ReadError → ℕ → Type 0
+MayStop (Corrupted c) count = CauseMayStop c count
+MayStop _ count = Unit {0}
+
+-- a lean reader takes no memory, so none is refused
+abbrev pub MayStopLean : ReadError → ℕ → Type 0
+MayStopLean e count = MayStop e count × (e ≢ Memory)
+
 -- The result, seen by view, is what the reading gives of the bytes that were left, and what follows them is left now.
+abbrev pub TakesIf : {S X Y : Type 0} (May : ReadError → ℕ → Type 0) (is_known : S → Type 0) (left : S → List ℕ) (failures : S → Failures) (old : S) (old_count : ℕ) (new : S) (new_count : ℕ) (view : X → Y) (result : Result X ReadError) (reading : List ℕ → Result (Y × List ℕ) (Cause × List ℕ)) → Type 0
+TakesIf May is_known left failures old old_count new new_count view result reading =
+    Takes read_stop May (told is_known) (λ p. left p.source) (λ p. p.count) (λ p. failures p.source) (record { source = old; count = old_count }) (record { source = new; count = new_count }) view result reading
+
 abbrev pub TakesBy : {S X Y : Type 0} (is_known : S → Type 0) (left : S → List ℕ) (failures : S → Failures) (old : S) (old_count : ℕ) (new : S) (new_count : ℕ) (view : X → Y) (result : Result X ReadError) (reading : List ℕ → Result (Y × List ℕ) (Cause × List ℕ)) → Type 0
-TakesBy is_known left failures old old_count new new_count view result reading =
-    Takes read_stop (told is_known) (λ p. left p.source) (λ p. p.count) (λ p. failures p.source) (record { source = old; count = old_count }) (record { source = new; count = new_count }) view result reading
+TakesBy is_known left failures old old_count new new_count view result reading = TakesIf MayStop is_known left failures old old_count new new_count view result reading
+
+-- a lean reader
+abbrev pub TakesLean : {S X Y : Type 0} (is_known : S → Type 0) (left : S → List ℕ) (failures : S → Failures) (old : S) (old_count : ℕ) (new : S) (new_count : ℕ) (view : X → Y) (result : Result X ReadError) (reading : List ℕ → Result (Y × List ℕ) (Cause × List ℕ)) → Type 0
+TakesLean is_known left failures old old_count new new_count view result reading = TakesIf MayStopLean is_known left failures old old_count new new_count view result reading

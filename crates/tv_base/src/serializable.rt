@@ -9,10 +9,10 @@ ghost use Rattle.tv_base.specs.Number.{sixteen_bytes, Signed, signed_bytes, Trut
 ghost use Rattle.tv_base.specs.Parts.{Sized, Text, short_sized};
 ghost use Rattle.tv_base.specs.ErrorInPart.{ErrorInNumber, ErrorInBytes, ErrorInTruth};
 ghost use Rattle.tv_base.specs.ErrorInPart.{ErrorInSized, ErrorInText};
-ghost use Rattle.tv_base.specs.ReadsAs.{ReadsAs};
+ghost use Rattle.tv_base.specs.ReadsAs.{ReadsAs, ReadsLean};
 ghost use Rattle.tv_base.specs.Reading.{vint_at};
 ghost use Rattle.tv_base.specs.Sink.{Writes};
-ghost use Rattle.tv_base.specs.Take.{TakesBy};
+ghost use Rattle.tv_base.specs.Take.{TakesLean};
 
 use crate::facet::Facet;
 use crate::read_error::ReadError;
@@ -79,9 +79,8 @@ impl BinarySerializable for VInt {
     }
 
     fn deserialize<S: ByteSource>(alloc: Global, source: &mut S) -> Result<VInt, ReadError>
-        ensures reads { ReadsAs S.is_known S.left S.failures source.old source.new (λ x. x.0) result
+        ensures reads { ReadsLean S.is_known S.left S.failures source.old source.new (λ x. x.0) result
             VNum ErrorInNumber }
-        ensures spares { ¬ IsErrOf result Memory }
     {
         let mut count = 0;
         take_wrapped(source, &mut count)
@@ -89,10 +88,8 @@ impl BinarySerializable for VInt {
 }
 
 fn take_wrapped<S: ByteSource>(source: &mut S, count: &mut u64) -> Result<VInt, ReadError>
-    ensures takes { TakesBy S.is_known S.left S.failures source.old count.old source.new count.new
+    ensures takes { TakesLean S.is_known S.left S.failures source.old count.old source.new count.new
         (λ x. x.0) result vint_at }
-    ensures too_long { IsErrOf result (Corrupted TooLong) → count.new ≡ 2 ^ 64 - 1 }
-    ensures spares { ¬ IsErrOf result Memory }
 {
     Ok(VInt(take_vint(source, count)?))
 }
@@ -113,9 +110,8 @@ impl BinarySerializable for u8 {
     }
 
     fn deserialize<S: ByteSource>(alloc: Global, source: &mut S) -> Result<u8, ReadError>
-        ensures reads { ReadsAs S.is_known S.left S.failures source.old source.new (λ n. n) result
+        ensures reads { ReadsLean S.is_known S.left S.failures source.old source.new (λ n. n) result
             (Fixed 1) (ErrorInBytes 1) }
-        ensures spares { ¬ IsErrOf result Memory }
     {
         let mut count = 0;
         take_u8(source, &mut count)
@@ -138,9 +134,8 @@ impl BinarySerializable for u32 {
     }
 
     fn deserialize<S: ByteSource>(alloc: Global, source: &mut S) -> Result<u32, ReadError>
-        ensures reads { ReadsAs S.is_known S.left S.failures source.old source.new (λ n. n) result
+        ensures reads { ReadsLean S.is_known S.left S.failures source.old source.new (λ n. n) result
             (Fixed 4) (ErrorInBytes 4) }
-        ensures spares { ¬ IsErrOf result Memory }
     {
         let mut count = 0;
         take_u32(source, &mut count)
@@ -163,9 +158,8 @@ impl BinarySerializable for u64 {
     }
 
     fn deserialize<S: ByteSource>(alloc: Global, source: &mut S) -> Result<u64, ReadError>
-        ensures reads { ReadsAs S.is_known S.left S.failures source.old source.new (λ n. n) result
+        ensures reads { ReadsLean S.is_known S.left S.failures source.old source.new (λ n. n) result
             (Fixed 8) (ErrorInBytes 8) }
-        ensures spares { ¬ IsErrOf result Memory }
     {
         let mut count = 0;
         take_u64(source, &mut count)
@@ -209,9 +203,8 @@ impl BinarySerializable for u128 {
     }
 
     fn deserialize<S: ByteSource>(alloc: Global, source: &mut S) -> Result<u128, ReadError>
-        ensures reads { ReadsAs S.is_known S.left S.failures source.old source.new (λ n. n) result
+        ensures reads { ReadsLean S.is_known S.left S.failures source.old source.new (λ n. n) result
             (Fixed 16) (ErrorInBytes 16) }
-        ensures spares { ¬ IsErrOf result Memory }
     {
         let mut count = 0;
         take_u128(source, &mut count)
@@ -234,9 +227,8 @@ impl BinarySerializable for i64 {
     }
 
     fn deserialize<S: ByteSource>(alloc: Global, source: &mut S) -> Result<i64, ReadError>
-        ensures reads { ReadsAs S.is_known S.left S.failures source.old source.new (λ n. n) result
+        ensures reads { ReadsLean S.is_known S.left S.failures source.old source.new (λ n. n) result
             Signed (ErrorInBytes 8) }
-        ensures spares { ¬ IsErrOf result Memory }
     {
         let mut count = 0;
         take_i64(source, &mut count)
@@ -259,9 +251,8 @@ impl BinarySerializable for bool {
     }
 
     fn deserialize<S: ByteSource>(alloc: Global, source: &mut S) -> Result<bool, ReadError>
-        ensures reads { ReadsAs S.is_known S.left S.failures source.old source.new (λ truth. truth)
+        ensures reads { ReadsLean S.is_known S.left S.failures source.old source.new (λ truth. truth)
             result Truth ErrorInTruth }
-        ensures spares { ¬ IsErrOf result Memory }
     {
         let mut count = 0;
         take_bool(source, &mut count)

@@ -11,7 +11,7 @@ ghost use Rattle.tv_base.specs.declared.cause.Cause.{Cause};
 ghost use Rattle.tv_base.specs.declared.cause.Cause.TheVariants.{UnexpectedEnd, BadNumber, BadBool};
 ghost use Rattle.tv_base.specs.declared.cause.Cause.TheVariants.{NotUtf8, TooLong};
 ghost use Rattle.tv_base.specs.declared.read_error.ReadError.TheVariants.{Corrupted, Memory};
-ghost use Rattle.tv_base.specs.Take.{TakesBy};
+ghost use Rattle.tv_base.specs.Take.{TakesBy, TakesLean};
 ghost use Rattle.tv_base.specs.Reading.{bytes_at, more_at, u8_at, u32_at, u64_at, u128_at, i64_at};
 ghost use Rattle.tv_base.specs.Reading.{truth_at, vint_at, sized_at, text_at};
 
@@ -29,14 +29,12 @@ use std::mem;
 /// What `buf` then holds is unspecified.
 #[inline]
 pub fn take<S: ByteSource>(source: &mut S, count: &mut u64, buf: &mut [u8]) -> Result<(), ReadError>
-    ensures takes { TakesBy S.is_known S.left S.failures source.old count.old source.new count.new
+    ensures takes { TakesLean S.is_known S.left S.failures source.old count.old source.new count.new
         (λ _. buf.new) result (bytes_at (length buf.old)) }
     ensures causes { (cause : Cause) → IsErrOf result (Corrupted cause)
         → (cause ≡ UnexpectedEnd) ⊎ (cause ≡ TooLong) }
     ensures counted { OnOk result (count.new ≡ count.old + length buf.old) }
     ensures few { count.new ≤ count.old + length buf.old }
-    ensures too_long { IsErrOf result (Corrupted TooLong) → count.new ≡ 2 ^ 64 - 1 }
-    ensures spares { ¬ IsErrOf result Memory }
 {
     let len = buf.len() as u64;
     if u64::MAX - *count < len {
@@ -55,14 +53,12 @@ fn take_by_reads<S: ByteSource>(
     count: &mut u64,
     buf: &mut [u8],
 ) -> Result<(), ReadError>
-    ensures takes { TakesBy S.is_known S.left S.failures source.old count.old source.new count.new
+    ensures takes { TakesLean S.is_known S.left S.failures source.old count.old source.new count.new
         (λ _. buf.new) result (bytes_at (length buf.old)) }
     ensures causes { (cause : Cause) → IsErrOf result (Corrupted cause)
         → (cause ≡ UnexpectedEnd) ⊎ (cause ≡ TooLong) }
     ensures counted { OnOk result (count.new ≡ count.old + length buf.old) }
     ensures few { count.new ≤ count.old + length buf.old }
-    ensures too_long { IsErrOf result (Corrupted TooLong) → count.new ≡ 2 ^ 64 - 1 }
-    ensures spares { ¬ IsErrOf result Memory }
 {
     let mut filled = 0;
     while filled < buf.len() {
@@ -87,14 +83,12 @@ fn take_by_reads<S: ByteSource>(
 #[inline]
 #[tactic(auto, unfolding(crate::specs::Reading::u8_at))]
 pub fn take_u8<S: ByteSource>(source: &mut S, count: &mut u64) -> Result<u8, ReadError>
-    ensures takes { TakesBy S.is_known S.left S.failures source.old count.old source.new count.new
+    ensures takes { TakesLean S.is_known S.left S.failures source.old count.old source.new count.new
         (λ x. x) result u8_at }
     ensures causes { (cause : Cause) → IsErrOf result (Corrupted cause)
         → (cause ≡ UnexpectedEnd) ⊎ (cause ≡ TooLong) }
     ensures refused { OnErr result (count.new ≡ count.old) }
     ensures counted { OnOk result (count.new ≡ count.old + 1) }
-    ensures too_long { IsErrOf result (Corrupted TooLong) → count.new ≡ 2 ^ 64 - 1 }
-    ensures spares { ¬ IsErrOf result Memory }
 {
     if *count == u64::MAX {
         return Err(ReadError::Corrupted(Cause::TooLong));
@@ -112,12 +106,10 @@ pub fn take_u8<S: ByteSource>(source: &mut S, count: &mut u64) -> Result<u8, Rea
 /// Takes a number in four bytes, the lowest first. Errors: those of [`take`].
 #[tactic(auto, unfolding(crate::specs::Reading::number_at))]
 pub fn take_u32<S: ByteSource>(source: &mut S, count: &mut u64) -> Result<u32, ReadError>
-    ensures takes { TakesBy S.is_known S.left S.failures source.old count.old source.new count.new
+    ensures takes { TakesLean S.is_known S.left S.failures source.old count.old source.new count.new
         (λ x. x) result u32_at }
     ensures counted { OnOk result (count.new ≡ count.old + 4) }
     ensures few { count.new ≤ count.old + 4 }
-    ensures too_long { IsErrOf result (Corrupted TooLong) → count.new ≡ 2 ^ 64 - 1 }
-    ensures spares { ¬ IsErrOf result Memory }
 {
     let mut bytes = [0; 4];
     take(source, count, &mut bytes)?;
@@ -127,12 +119,10 @@ pub fn take_u32<S: ByteSource>(source: &mut S, count: &mut u64) -> Result<u32, R
 /// Takes a number in eight bytes, the lowest first. Errors: those of [`take`].
 #[tactic(auto, unfolding(crate::specs::Reading::number_at))]
 pub fn take_u64<S: ByteSource>(source: &mut S, count: &mut u64) -> Result<u64, ReadError>
-    ensures takes { TakesBy S.is_known S.left S.failures source.old count.old source.new count.new
+    ensures takes { TakesLean S.is_known S.left S.failures source.old count.old source.new count.new
         (λ x. x) result u64_at }
     ensures counted { OnOk result (count.new ≡ count.old + 8) }
     ensures few { count.new ≤ count.old + 8 }
-    ensures too_long { IsErrOf result (Corrupted TooLong) → count.new ≡ 2 ^ 64 - 1 }
-    ensures spares { ¬ IsErrOf result Memory }
 {
     let mut bytes = [0; 8];
     take(source, count, &mut bytes)?;
@@ -142,12 +132,10 @@ pub fn take_u64<S: ByteSource>(source: &mut S, count: &mut u64) -> Result<u64, R
 /// Takes a number in sixteen bytes, the lowest first. Errors: those of [`take`].
 #[tactic(auto, unfolding(crate::specs::Reading::number_at))]
 pub fn take_u128<S: ByteSource>(source: &mut S, count: &mut u64) -> Result<u128, ReadError>
-    ensures takes { TakesBy S.is_known S.left S.failures source.old count.old source.new count.new
+    ensures takes { TakesLean S.is_known S.left S.failures source.old count.old source.new count.new
         (λ x. x) result u128_at }
     ensures counted { OnOk result (count.new ≡ count.old + 16) }
     ensures few { count.new ≤ count.old + 16 }
-    ensures too_long { IsErrOf result (Corrupted TooLong) → count.new ≡ 2 ^ 64 - 1 }
-    ensures spares { ¬ IsErrOf result Memory }
 {
     let mut bytes = [0; 16];
     take(source, count, &mut bytes)?;
@@ -157,12 +145,10 @@ pub fn take_u128<S: ByteSource>(source: &mut S, count: &mut u64) -> Result<u128,
 /// Takes a signed number in eight bytes, the lowest first, in two's complement. Errors: those of [`take`].
 #[tactic(auto, unfolding(crate::specs::Reading::i64_at))]
 pub fn take_i64<S: ByteSource>(source: &mut S, count: &mut u64) -> Result<i64, ReadError>
-    ensures takes { TakesBy S.is_known S.left S.failures source.old count.old source.new count.new
+    ensures takes { TakesLean S.is_known S.left S.failures source.old count.old source.new count.new
         (λ x. x) result i64_at }
     ensures counted { OnOk result (count.new ≡ count.old + 8) }
     ensures few { count.new ≤ count.old + 8 }
-    ensures too_long { IsErrOf result (Corrupted TooLong) → count.new ≡ 2 ^ 64 - 1 }
-    ensures spares { ¬ IsErrOf result Memory }
 {
     let number = take_u64(source, count)?;
     Ok(number.cast_signed())
@@ -173,13 +159,11 @@ pub fn take_i64<S: ByteSource>(source: &mut S, count: &mut u64) -> Result<i64, R
 /// Errors: those of [`take`], and `Corrupted(BadBool)` where the byte is neither.
 #[tactic(auto, unfolding(crate::specs::Reading::truth_at))]
 pub fn take_bool<S: ByteSource>(source: &mut S, count: &mut u64) -> Result<bool, ReadError>
-    ensures takes { TakesBy S.is_known S.left S.failures source.old count.old source.new count.new
+    ensures takes { TakesLean S.is_known S.left S.failures source.old count.old source.new count.new
         (λ x. x) result truth_at }
     ensures counted { OnOk result (count.new ≡ count.old + 1) }
-    ensures too_long { IsErrOf result (Corrupted TooLong) → count.new ≡ 2 ^ 64 - 1 }
     ensures few { count.new ≤ count.old + 1 }
     ensures other { IsErrOf result (Corrupted BadBool) → count.new ≡ count.old + 1 }
-    ensures spares { ¬ IsErrOf result Memory }
 {
     match take_u8(source, count)? {
         0 => Ok(false),
@@ -196,10 +180,8 @@ const LONGEST_NUMBER: u64 = 10;
 /// Errors: those of [`take`], and `Corrupted(BadNumber)` where the number has more than ten bytes or is 2^64 or more.
 #[inline]
 pub fn take_vint<S: ByteSource>(source: &mut S, count: &mut u64) -> Result<u64, ReadError>
-    ensures takes { TakesBy S.is_known S.left S.failures source.old count.old source.new count.new
+    ensures takes { TakesLean S.is_known S.left S.failures source.old count.old source.new count.new
         (λ x. x) result vint_at }
-    ensures too_long { IsErrOf result (Corrupted TooLong) → count.new ≡ 2 ^ 64 - 1 }
-    ensures spares { ¬ IsErrOf result Memory }
     ensures few { count.new ≤ count.old + 10 }
     ensures ten { IsErrOf result (Corrupted BadNumber) → count.new ≡ count.old + 10 }
 {
@@ -220,10 +202,8 @@ const MORE_GROUPS: u32 = 9;
 
 // The same, group by group.
 fn take_groups<S: ByteSource>(source: &mut S, count: &mut u64) -> Result<u64, ReadError>
-    ensures takes { TakesBy S.is_known S.left S.failures source.old count.old source.new count.new
+    ensures takes { TakesLean S.is_known S.left S.failures source.old count.old source.new count.new
         (λ x. x) result vint_at }
-    ensures too_long { IsErrOf result (Corrupted TooLong) → count.new ≡ 2 ^ 64 - 1 }
-    ensures spares { ¬ IsErrOf result Memory }
     ensures few { count.new ≤ count.old + 10 }
     ensures ten { IsErrOf result (Corrupted BadNumber) → count.new ≡ count.old + 10 }
 {
@@ -260,7 +240,6 @@ pub fn take_pieces<S: ByteSource>(
         (λ _. bytes.new.items) result (more_at bytes.old.items len) }
     ensures longer { OnOk result (length bytes.new.items ≡ length bytes.old.items + len) }
     ensures few { count.new ≤ count.old + len }
-    ensures too_long { IsErrOf result (Corrupted TooLong) → count.new ≡ 2 ^ 64 - 1 }
 {
     let mut missing = len;
     while missing > 0 {
@@ -290,7 +269,6 @@ pub fn take_sized<S: ByteSource>(
 ) -> Result<(), ReadError>
     ensures takes { TakesBy S.is_known S.left S.failures source.old count.old source.new count.new
         (λ _. bytes.new.items) result sized_at }
-    ensures too_long { IsErrOf result (Corrupted TooLong) → count.new ≡ 2 ^ 64 - 1 }
 {
     let len = take_vint(source, count)?;
     bytes.clear();
@@ -305,7 +283,6 @@ pub fn take_bytes<S: ByteSource>(
 ) -> Result<Vec<u8>, ReadError>
     ensures takes { TakesBy S.is_known S.left S.failures source.old count.old source.new count.new
         (λ bytes. bytes.items) result sized_at }
-    ensures too_long { IsErrOf result (Corrupted TooLong) → count.new ≡ 2 ^ 64 - 1 }
 {
     let mut bytes = Vec::new(alloc);
     take_sized(source, count, &mut bytes)?;
@@ -325,7 +302,6 @@ pub fn take_text<S: ByteSource>(
 ) -> Result<(), ReadError>
     ensures takes { TakesBy S.is_known S.left S.failures source.old count.old source.new count.new
         (λ _. string_bytes text.new) result text_at }
-    ensures too_long { IsErrOf result (Corrupted TooLong) → count.new ≡ 2 ^ 64 - 1 }
     ensures empty { OnErr result (string_bytes text.new ≡ []) }
 {
     let mut bytes = mem::replace(text, String::new(alloc)).into_bytes();
@@ -342,7 +318,6 @@ pub fn take_string<S: ByteSource>(
 ) -> Result<String, ReadError>
     ensures takes { TakesBy S.is_known S.left S.failures source.old count.old source.new count.new
         (λ s. string_bytes s) result text_at }
-    ensures too_long { IsErrOf result (Corrupted TooLong) → count.new ≡ 2 ^ 64 - 1 }
 {
     let mut text = String::new(alloc);
     take_text(alloc, source, count, &mut text)?;
@@ -357,7 +332,6 @@ pub fn take_facet<S: ByteSource>(
 ) -> Result<Facet, ReadError>
     ensures takes { TakesBy S.is_known S.left S.failures source.old count.old source.new count.new
         (λ facet. facet) result text_at }
-    ensures too_long { IsErrOf result (Corrupted TooLong) → count.new ≡ 2 ^ 64 - 1 }
 {
     let encoded = take_string(alloc, source, count)?;
     Ok(Facet::from_encoded_string(encoded))

@@ -1,9 +1,8 @@
 //! The types of values in a heap.
 
-ghost use Rattle.std.specs.Prelude.{◌≡◌, ◌≢◌, IfSome, IfNone, IsErrOf};
-ghost use Rattle.tv_base.specs.declared.read_error.ReadError.TheVariants.{Memory};
+ghost use Rattle.std.specs.Prelude.{◌≡◌, ◌≢◌, IfSome, IfNone};
 ghost use Rattle.tv_base.specs.Number.{Fixed, one_byte};
-ghost use Rattle.tv_base.specs.ReadsAs.{ReadsAs};
+ghost use Rattle.tv_base.specs.ReadsAs.{ReadsLean};
 ghost use Rattle.tv_value.specs.Lent.{leaf_of, tree_of};
 ghost use Rattle.tv_heap.specs.Reads.{leaf_type, tree_type};
 
@@ -151,9 +150,8 @@ impl BinarySerializable for ValueType {
     }
 
     fn deserialize<S: ByteSource>(alloc: Global, source: &mut S) -> Result<ValueType, ReadError>
-        ensures reads { ReadsAs S.is_known S.left S.failures source.old source.new (λ t. t) result
+        ensures reads { ReadsLean S.is_known S.left S.failures source.old source.new (λ t. t) result
             (λ bytes t. Fixed 1 bytes (type_code t)) ErrorInType }
-        ensures spares { ¬ IsErrOf result Memory }
     {
         let code = u8::deserialize(alloc, source)?;
         match ValueType::from_code(code) {

@@ -1,9 +1,7 @@
 //! Taking a legacy object from a source that is lent, with the count of the bytes that were taken of it.
 
-ghost use Rattle.std.specs.Prelude.{◌≡◌, ◌-◌, ◌^◌, [], ◌∷◌, IsErrOf};
-ghost use Rattle.tv_base.specs.Take.{TakesBy};
-ghost use Rattle.tv_base.specs.declared.cause.Cause.TheVariants.{TooLong};
-ghost use Rattle.tv_base.specs.declared.read_error.ReadError.TheVariants.{Corrupted, Memory};
+ghost use Rattle.std.specs.Prelude.{◌≡◌, ℕ, [], ◌∷◌, IfErr};
+ghost use Rattle.tv_base.specs.Take.{TakesBy, TakesLean, MayStop};
 ghost use Rattle.tv_legacy.specs.LegacyReading.{is_blank as is_blank_byte, nonblank_at, slice_at};
 ghost use Rattle.tv_legacy.specs.LegacyReading.{legacy_at, rest_at, AnswersSlice};
 ghost use Rattle.tv_value.specs.Owned.{owned_tree};
@@ -26,10 +24,8 @@ fn is_blank(byte: u8) -> bool
 
 // The first byte that is no blank.
 fn take_nonblank<S: ByteSource>(source: &mut S, count: &mut u64) -> Result<u8, ReadError>
-    ensures takes { TakesBy S.is_known S.left S.failures source.old count.old source.new count.new
+    ensures takes { TakesLean S.is_known S.left S.failures source.old count.old source.new count.new
         (λ x. x) result nonblank_at }
-    ensures too_long { IsErrOf result (Corrupted TooLong) → count.new ≡ 2 ^ 64 - 1 }
-    ensures spares { ¬ IsErrOf result Memory }
 {
     loop {
         let before = *count;
@@ -51,7 +47,6 @@ fn take_rest<S: ByteSource>(
     requires { slice.old.items ≡ 123 ∷ [] }
     ensures takes { TakesBy S.is_known S.left S.failures source.old count.old source.new count.new
         (λ _. slice.new.items) result (rest_at slice.old.items) }
-    ensures too_long { IsErrOf result (Corrupted TooLong) → count.new ≡ 2 ^ 64 - 1 }
 {
     let mut scan = Scan::opened();
     while scan.depth > 0 {
@@ -73,7 +68,6 @@ fn take_slice<S: ByteSource>(
 ) -> Result<Vec<u8>, ReadError>
     ensures takes { TakesBy S.is_known S.left S.failures source.old count.old source.new count.new
         (λ slice. slice.items) result slice_at }
-    ensures too_long { IsErrOf result (Corrupted TooLong) → count.new ≡ 2 ^ 64 - 1 }
 {
     let first = take_nonblank(source, count)?;
     if first != b'{' {
@@ -88,7 +82,7 @@ fn take_slice<S: ByteSource>(
 // The object that a slice reads as.
 fn object_of(alloc: Global, slice: &[u8]) -> Result<OwnedValue, ReadError>
     ensures answers { AnswersSlice slice.now result }
-    ensures bounded { ¬ IsErrOf result (Corrupted TooLong) }
+    ensures bounded { (count : ℕ) → IfErr result (λ e. MayStop e count) }
 {
     let Ok(text) = str::from_utf8(slice) else {
         return Err(ReadError::Corrupted(Cause::LegacyJson));
@@ -123,7 +117,6 @@ pub fn take_legacy<S: ByteSource>(
 ) -> Result<OwnedValue, ReadError>
     ensures takes { TakesBy S.is_known S.left S.failures source.old count.old source.new count.new
         owned_tree result legacy_at }
-    ensures too_long { IsErrOf result (Corrupted TooLong) → count.new ≡ 2 ^ 64 - 1 }
 {
     let slice = take_slice(alloc, source, count)?;
     object_of(alloc, &slice)

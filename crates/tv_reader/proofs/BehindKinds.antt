@@ -11,7 +11,7 @@ use Rattle.tv_format.specs.Leaves.{store_code}
 use Rattle.tv_format.specs.Encoding.{Encodes}
 use Rattle.tv_format.specs.Tree.{Tree}
 use Rattle.tv_format.specs.Version.{Version}
-use Rattle.tv_reader.specs.Finds.{Finds}
+use Rattle.tv_reader.specs.Finds.{FindsIf}
 use Rattle.tv_reader.specs.Kinds.{kind_at}
 use Rattle.tv_reader.specs.LeafBodies.{LeafOf, ErrorInLeafOf}
 use Rattle.tv_reader.specs.Leaves.{is_leaf_type}
@@ -36,9 +36,9 @@ kind_edge end Q none seven types.PreTokStr start byte last = subst (λ l. Q l en
 kind_edge end Q none seven kind start byte last = subst (λ l. Q l end) (sym (same_start start [] byte (type_code kind) (sym last))) none
 
 -- the type was taken, and then what stands behind it
-pub finds_behind : {S Y : Type 0} {is_known : S → Type 0} {left : S → List ℕ} {failures : S → Failures} {old mid new : S} {i j k : ℕ} {kind : ValueType} {result : Result Y DeserializeError} (B : List ℕ → Y → Type 0) (Q : List ℕ → Refusal → Type 0)
-    → ((source : S) → is_known source → AllBytes (left source)) → Q [] end → Q (7 ∷ []) end → reads.TakesBy is_known left failures old i mid j (λ x. x) (Ok kind) kind_at
-    → Finds is_known left failures mid j new k result (λ b y. B (coded kind ++ b) y) (λ w r. Q (coded kind ++ w) r) → Finds is_known left failures old i new k result B Q
+pub finds_behind : {S Y : Type 0} {May : DeserializeError → ℕ → Type 0} {is_known : S → Type 0} {left : S → List ℕ} {failures : S → Failures} {old mid new : S} {i j k : ℕ} {kind : ValueType} {result : Result Y DeserializeError} (B : List ℕ → Y → Type 0) (Q : List ℕ → Refusal → Type 0)
+    → ((source : S) → is_known source → AllBytes (left source)) → Q [] end → Q (7 ∷ []) end → reads.TakesLean is_known left failures old i mid j (λ x. x) (Ok kind) kind_at
+    → FindsIf May is_known left failures mid j new k result (λ b y. B (coded kind ++ b) y) (λ w r. Q (coded kind ++ w) r) → FindsIf May is_known left failures old i new k result B Q
 finds_behind {kind = kind} B Q are_bytes none seven part h =
     finds_then B Q
     (λ a b y is p. subst (λ l. B (l ++ b) y) (sym is) p)

@@ -1,6 +1,7 @@
 -- Readers one after the other, told by the grammar.
 use Rattle.std.proofs.Common.{◌≡◌, ◌≢◌, ℕ, List, [], ◌∷◌, ◌++◌, Result, Ok, Err, refl, sym, ap, subst, ◌∙◌, arith, append_assoc}
 use Rattle.std.proofs.lemmas.List.{append-nil}
+use Rattle.std.proofs.lemmas.Result.{IfErr-weaker}
 use Rattle.tv_base.specs.declared.cause.Cause.{Cause}
 use Rattle.tv_base.specs.declared.cause.Cause.TheVariants.{UnexpectedEnd}
 use Rattle.tv_base.specs.declared.read_error.ReadError.{ReadError}
@@ -10,15 +11,15 @@ use Rattle.tv_base.specs.ReadsAs.{Shows}
 use Rattle.tv_base.specs.Source.{Failures, AllBytes}
 use Rattle.tv_base.specs.Stop.{Stop, Stops, CountsStop, Counts}
 use Rattle.tv_base.specs.Stop.Stop.{InputError, Failed, Short, Never}
-use Rattle.tv_base.specs.Take.{TakesBy, read_stop}
+use Rattle.tv_base.specs.Take.{TakesIf, MayStop, MayStopLean, read_stop}
 use Rattle.tv_base.proofs.Agrees.{Agrees, empty, ends_in, ends, same_start, no_last}
 use Rattle.tv_base.proofs.ByGrammar.{shows_by}
 use Rattle.tv_base.proofs.TakeSteps.{Taken_none, Taken_then, CountsStop-from}
 use Rattle.tv_format.specs.InputError.{Refusal, corrupted}
-use Rattle.tv_reader.specs.Error.{read_error, store_stop}
+use Rattle.tv_reader.specs.Error.{read_error, store_stop, StoreMayStopRoomy, StoreMayStopLean}
 use Rattle.tv_reader.specs.Error as store
 use Rattle.tv_reader.specs.declared.error.DeserializeError.{DeserializeError}
-use Rattle.tv_reader.specs.Finds.{Refuses, GivesStop, Found, FindsBy, Finds}
+use Rattle.tv_reader.specs.Finds.{Refuses, GivesStop, Found, FindsBy, FindsIf, Finds, FindsLean}
 
 -- ---- bytes that show an error
 
@@ -84,28 +85,30 @@ found_behind stop end R P Q A B x (Err e) old mid new count join behind edge p h
     stop_behind end P Q (stop e) p.prefix old mid new count p.joined (λ w c q. behind p.prefix w c p.encoded q) (λ f. edge p.prefix f p.encoded) h
 
 -- a first part was read, and then the reader went on
-pub finds_then : {S E F X Y : Type 0} {stop : E → Stop F} {end : F} {is_known : S → Type 0} {left : S → List ℕ} {failures : S → Failures} {old mid new : S} {i j k : ℕ} {x : X} {result : Result Y E}
+pub finds_then : {S E F X Y : Type 0} {stop : E → Stop F} {May0 May : E → ℕ → Type 0} {end : F} {is_known : S → Type 0} {left : S → List ℕ} {failures : S → Failures} {old mid new : S} {i j k : ℕ} {x : X} {result : Result Y E}
     {R : List ℕ → X → Type 0} {I : List ℕ → F → Type 0} {A : List ℕ → Y → Type 0} {P : List ℕ → F → Type 0} (B : List ℕ → Y → Type 0) (Q : List ℕ → F → Type 0)
     → ((a b : List ℕ) (y : Y) → R a x → A b y → B (a ++ b) y) → ((a w : List ℕ) (c : F) → R a x → P w c → Q (a ++ w) c)
     → ((a : List ℕ) (f : F) → R a x → f ≢ end → P [] f → (start : List ℕ) (byte : ℕ) → a ≡ start ++ byte ∷ [] → Q start end)
-    → FindsBy stop end is_known left failures old i mid j (Ok x) R I → FindsBy stop end is_known left failures mid j new k result A P → FindsBy stop end is_known left failures old i new k result B Q
+    → FindsBy stop May0 end is_known left failures old i mid j (Ok x) R I → FindsBy stop May end is_known left failures mid j new k result A P → FindsBy stop May end is_known left failures old i new k result B Q
 finds_then {stop = stop} {end = end} {left = left} {failures = failures} {old = old} {mid = mid} {new = new} {k = k} {x = x} {result = result} {R = R} {A = A} {P = P} B Q join behind edge p h = record {
   found = λ t. found_behind stop end R P Q A B x result (left old) (left mid) (left new) k join behind edge (p.found t) (h.found (p.stays_known t));
   taken = λ t. Taken_then (p.taken t) (h.taken (p.stays_known t));
   stays_known = λ t. h.stays_known (p.stays_known t);
   counts = counts_from stop result (failures old) (failures mid) (failures new) p.counts h.counts;
   rises = omega (arith, p.rises, h.rises);
+  may_stop = h.may_stop;
 }
 
 -- the same of what is read, in other words
-pub finds_as : {S E F X Y : Type 0} {stop : E → Stop F} {end : F} {is_known : S → Type 0} {left : S → List ℕ} {failures : S → Failures} {old new : S} {i k : ℕ} {x : X} {R : List ℕ → X → Type 0} {I : List ℕ → F → Type 0} (y : Y) (B : List ℕ → Y → Type 0) (Q : List ℕ → F → Type 0)
-    → ((a : List ℕ) → R a x → B a y) → FindsBy stop end is_known left failures old i new k (Ok x) R I → FindsBy stop end is_known left failures old i new k (Ok y) B Q
+pub finds_as : {S E F X Y : Type 0} {stop : E → Stop F} {May0 May : E → ℕ → Type 0} {end : F} {is_known : S → Type 0} {left : S → List ℕ} {failures : S → Failures} {old new : S} {i k : ℕ} {x : X} {R : List ℕ → X → Type 0} {I : List ℕ → F → Type 0} (y : Y) (B : List ℕ → Y → Type 0) (Q : List ℕ → F → Type 0)
+    → ((a : List ℕ) → R a x → B a y) → FindsBy stop May0 end is_known left failures old i new k (Ok x) R I → FindsBy stop May end is_known left failures old i new k (Ok y) B Q
 finds_as y B Q map p = record {
   found = λ t. let h = p.found t in record { prefix = h.prefix; joined = h.joined; encoded = map h.prefix h.encoded };
   taken = p.taken;
   stays_known = p.stays_known;
   counts = p.counts;
   rises = p.rises;
+  may_stop = tt;
 }
 
 pub stop_map : {F : Type 0} (end : F) (P Q : List ℕ → F → Type 0) (s : Stop F) (old new : List ℕ) (count : ℕ) → ((w : List ℕ) (c : F) → P w c → Q w c) → GivesStop end P old new count s → GivesStop end Q old new count s
@@ -114,54 +117,64 @@ stop_map end P Q (Failed kind) old new count map h = tt
 stop_map end P Q Short old new count map h = tt
 stop_map end P Q Never old new count map h = h
 
+-- less may stop a part than the whole
+pub finds_any : {S E F X : Type 0} {stop : E → Stop F} {May0 May : E → ℕ → Type 0} {end : F} {is_known : S → Type 0} {left : S → List ℕ} {failures : S → Failures} {old new : S} {i k : ℕ} {result : Result X E} {B : List ℕ → X → Type 0} {Q : List ℕ → F → Type 0}
+    → ((e : E) (n : ℕ) → May0 e n → May e n) → FindsBy stop May0 end is_known left failures old i new k result B Q → FindsBy stop May end is_known left failures old i new k result B Q
+finds_any {k = k} {result = result} less p =
+    record { found = p.found; taken = p.taken; stays_known = p.stays_known; counts = p.counts; rises = p.rises; may_stop = IfErr-weaker result _ _ (λ e may. less e k may) p.may_stop }
+
 -- a refusal of a part is one of the whole
-pub finds_fails : {S E F X Y : Type 0} {stop : E → Stop F} {end : F} {is_known : S → Type 0} {left : S → List ℕ} {failures : S → Failures} {old new : S} {i k : ℕ} {e : E} {R : List ℕ → X → Type 0} {P : List ℕ → F → Type 0} (B : List ℕ → Y → Type 0) (Q : List ℕ → F → Type 0)
-    → ((w : List ℕ) (c : F) → P w c → Q w c) → FindsBy stop end is_known left failures old i new k (Err e) R P → FindsBy stop end is_known left failures old i new k (Err e) B Q
+pub finds_fails : {S E F X Y : Type 0} {stop : E → Stop F} {May : E → ℕ → Type 0} {end : F} {is_known : S → Type 0} {left : S → List ℕ} {failures : S → Failures} {old new : S} {i k : ℕ} {e : E} {R : List ℕ → X → Type 0} {P : List ℕ → F → Type 0} (B : List ℕ → Y → Type 0) (Q : List ℕ → F → Type 0)
+    → ((w : List ℕ) (c : F) → P w c → Q w c) → FindsBy stop May end is_known left failures old i new k (Err e) R P → FindsBy stop May end is_known left failures old i new k (Err e) B Q
 finds_fails {stop = stop} {end = end} {left = left} {old = old} {new = new} {k = k} {e = e} {P = P} B Q map p = record {
   found = λ t. stop_map end P Q (stop e) (left old) (left new) k map (p.found t);
   taken = p.taken;
   stays_known = p.stays_known;
   counts = p.counts;
   rises = p.rises;
+  may_stop = p.may_stop;
 }
 
 -- what was read can't be kept
-pub finds_short : {S E F X Y : Type 0} {stop : E → Stop F} {end : F} {is_known : S → Type 0} {left : S → List ℕ} {failures : S → Failures} {old new : S} {i k : ℕ} {x : X} {R : List ℕ → X → Type 0} {I : List ℕ → F → Type 0} (e : E) (B : List ℕ → Y → Type 0) (Q : List ℕ → F → Type 0)
-    → stop e ≡ Short → FindsBy stop end is_known left failures old i new k (Ok x) R I → FindsBy stop end is_known left failures old i new k (Err e) B Q
-finds_short {end = end} {left = left} {failures = failures} {old = old} {new = new} {k = k} e B Q is p = record {
+pub finds_short : {S E F X Y : Type 0} {stop : E → Stop F} {May0 May : E → ℕ → Type 0} {end : F} {is_known : S → Type 0} {left : S → List ℕ} {failures : S → Failures} {old new : S} {i k : ℕ} {x : X} {R : List ℕ → X → Type 0} {I : List ℕ → F → Type 0} (e : E) (B : List ℕ → Y → Type 0) (Q : List ℕ → F → Type 0)
+    → stop e ≡ Short → May e k → FindsBy stop May0 end is_known left failures old i new k (Ok x) R I → FindsBy stop May end is_known left failures old i new k (Err e) B Q
+finds_short {end = end} {left = left} {failures = failures} {old = old} {new = new} {k = k} e B Q is may p = record {
   found = λ t. subst (GivesStop end Q (left old) (left new) k) (sym is) tt;
   taken = p.taken;
   stays_known = p.stays_known;
   counts = subst (λ s. CountsStop s (failures old) (failures new)) (sym is) p.counts;
   rises = p.rises;
+  may_stop = may;
 }
 
 -- two parts were read, and can't be kept
-pub finds_short_then : {S F E X Y Z : Type 0} {stop : E → Stop F} {end : F} {is_known : S → Type 0} {left : S → List ℕ} {failures : S → Failures} {old mid new : S} {i j k : ℕ} {x : X} {y : Y} {R : List ℕ → X → Type 0} {I : List ℕ → F → Type 0} {A : List ℕ → Y → Type 0} {P : List ℕ → F → Type 0}
+pub finds_short_then : {S F E X Y Z : Type 0} {stop : E → Stop F} {May0 May1 May : E → ℕ → Type 0} {end : F} {is_known : S → Type 0} {left : S → List ℕ} {failures : S → Failures} {old mid new : S} {i j k : ℕ} {x : X} {y : Y} {R : List ℕ → X → Type 0} {I : List ℕ → F → Type 0} {A : List ℕ → Y → Type 0} {P : List ℕ → F → Type 0}
     (e : E) (B : List ℕ → Z → Type 0) (Q : List ℕ → F → Type 0)
-    → stop e ≡ Short → FindsBy stop end is_known left failures old i mid j (Ok x) R I → FindsBy stop end is_known left failures mid j new k (Ok y) A P → FindsBy stop end is_known left failures old i new k (Err e) B Q
-finds_short_then e B Q is p h = finds_short e B Q is (finds_then (λ b y. Unit {0}) (λ w r. Unit {0}) (λ a b y r s. tt) (λ a w c r f. tt) (λ a f r _ _ start byte last. tt) p h)
+    → stop e ≡ Short → May e k → FindsBy stop May0 end is_known left failures old i mid j (Ok x) R I → FindsBy stop May1 end is_known left failures mid j new k (Ok y) A P → FindsBy stop May end is_known left failures old i new k (Err e) B Q
+finds_short_then e B Q is may p h = finds_short e B Q is may (finds_then (λ b y. Unit {0}) (λ w r. Unit {0}) (λ a b y r s. tt) (λ a w c r f. tt) (λ a f r _ _ start byte last. tt) p h)
 
 -- nothing was read yet
-pub finds_nothing : {S E F X : Type 0} (stop : E → Stop F) (end : F) (is_known : S → Type 0) (left : S → List ℕ) (failures : S → Failures) (p : S) (i : ℕ) (x : X) (R : List ℕ → X → Type 0) (Q : List ℕ → F → Type 0)
-    → R [] x → FindsBy stop end is_known left failures p i p i (Ok x) R Q
+pub finds_nothing : {S E F X : Type 0} (stop : E → Stop F) {May : E → ℕ → Type 0} (end : F) (is_known : S → Type 0) (left : S → List ℕ) (failures : S → Failures) (p : S) (i : ℕ) (x : X) (R : List ℕ → X → Type 0) (Q : List ℕ → F → Type 0)
+    → R [] x → FindsBy stop May end is_known left failures p i p i (Ok x) R Q
 finds_nothing stop end is_known left failures p i x R Q r = record {
   found = λ t. record { prefix = []; joined = refl; encoded = r };
   taken = λ t. Taken_none (left p) i;
   stays_known = λ t. t;
   counts = refl;
   rises = omega arith;
+  may_stop = tt;
 }
 
 -- a refusal that takes no byte
-pub finds_refused : {S E F X : Type 0} (stop : E → Stop F) (end : F) (is_known : S → Type 0) (left : S → List ℕ) (failures : S → Failures) (p : S) (i : ℕ) (e : E) (f : F) (R : List ℕ → X → Type 0) (Q : List ℕ → F → Type 0)
-    → stop e ≡ InputError f → f ≢ end → ((w : List ℕ) → Q w f) → FindsBy stop end is_known left failures p i p i (Err e) R Q
-finds_refused stop end is_known left failures p i e f R Q is other q = record {
+pub finds_refused : {S E F X : Type 0} (stop : E → Stop F) {May : E → ℕ → Type 0} (end : F) (is_known : S → Type 0) (left : S → List ℕ) (failures : S → Failures) (p : S) (i : ℕ) (e : E) (f : F) (R : List ℕ → X → Type 0) (Q : List ℕ → F → Type 0)
+    → stop e ≡ InputError f → May e i → f ≢ end → ((w : List ℕ) → Q w f) → FindsBy stop May end is_known left failures p i p i (Err e) R Q
+finds_refused stop end is_known left failures p i e f R Q is may other q = record {
   found = λ t. subst (GivesStop end Q (left p) (left p) i) (sym is) (λ few. record { stands = q (left p); shows = record { taken = []; joined = refl; shown = q []; all = λ same. absurd (other same); early = λ _ start byte last. absurd (no_last start byte last) } });
   taken = λ t. Taken_none (left p) i;
   stays_known = λ t. t;
   counts = subst (λ s. CountsStop s (failures p) (failures p)) (sym is) refl;
   rises = omega arith;
+  may_stop = may;
 }
 
 -- ---- parts that a reading of lists gives
@@ -174,8 +187,8 @@ part_found : {X Y : Type 0} (view : X → Y) {reading : List ℕ → Result (Y �
 part_found view agrees x old new small e = let p = agrees.sound old (view x, new) small e in record { prefix = p.0; joined = p.2; encoded = p.1 }
 
 -- a part was read
-pub finds_part : {S X Y : Type 0} {is_known : S → Type 0} {left : S → List ℕ} {failures : S → Failures} {old new : S} {i k : ℕ} {view : X → Y} {x : X} {reading : List ℕ → Result (Y × List ℕ) (Cause × List ℕ)} {Encodes : List ℕ → Y → Type 0} {HasError : List ℕ → Cause → Type 0}
-    → ((source : S) → is_known source → AllBytes (left source)) → Agrees UnexpectedEnd reading Encodes HasError → TakesBy is_known left failures old i new k view (Ok x) reading
+pub finds_part : {S X Y : Type 0} {May : ReadError → ℕ → Type 0} {is_known : S → Type 0} {left : S → List ℕ} {failures : S → Failures} {old new : S} {i k : ℕ} {view : X → Y} {x : X} {reading : List ℕ → Result (Y × List ℕ) (Cause × List ℕ)} {Encodes : List ℕ → Y → Type 0} {HasError : List ℕ → Cause → Type 0}
+    → ((source : S) → is_known source → AllBytes (left source)) → Agrees UnexpectedEnd reading Encodes HasError → TakesIf May is_known left failures old i new k view (Ok x) reading
     → Finds is_known left failures old i new k (Ok x) (λ b x. Encodes b (view x)) (λ w f. ⊥)
 finds_part {left = left} {old = old} {new = new} {view = view} {x = x} are_bytes agrees h = record {
   found = λ t. part_found view agrees x (left old) (left new) (are_bytes old t) (h.gives t);
@@ -183,6 +196,7 @@ finds_part {left = left} {old = old} {new = new} {view = view} {x = x} are_bytes
   stays_known = h.stays_known;
   counts = h.counts;
   rises = h.rises;
+  may_stop = tt;
 }
 
 part_shown : {Y : Type 0} {reading : List ℕ → Result (Y × List ℕ) (Cause × List ℕ)} {Encodes : List ℕ → Y → Type 0} {HasError : List ℕ → Cause → Type 0} (e : ReadError) (Q : List ℕ → Refusal → Type 0)
@@ -197,16 +211,28 @@ raised_counts (reads.Corrupted c) old new h = h
 raised_counts (reads.Io kind) old new h = h
 raised_counts reads.Memory old new h = h
 
+-- what may stop the lower layer may stop this one
+pub raised_roomy : (e : ReadError) (count : ℕ) → MayStop e count → StoreMayStopRoomy (read_error e) count
+raised_roomy (reads.Corrupted c) count may = (may, λ is. cc)
+raised_roomy (reads.Io kind) count may = (tt, λ is. cc)
+raised_roomy reads.Memory count may = (tt, λ is. cc)
+
+pub raised_lean : (e : ReadError) (count : ℕ) → MayStopLean e count → StoreMayStopLean (read_error e) count
+raised_lean (reads.Corrupted c) count may = ((may.0, λ is. cc), λ is. cc)
+raised_lean (reads.Io kind) count may = ((tt, λ is. cc), λ is. cc)
+raised_lean reads.Memory count may = absurd (may.1 refl)
+
 -- a part was refused
-pub finds_part_fails : {S X Y Z : Type 0} {is_known : S → Type 0} {left : S → List ℕ} {failures : S → Failures} {old new : S} {i k : ℕ} {view : X → Y} {e : ReadError} {reading : List ℕ → Result (Y × List ℕ) (Cause × List ℕ)} {Encodes : List ℕ → Y → Type 0} {HasError : List ℕ → Cause → Type 0}
-    (B : List ℕ → Z → Type 0) (Q : List ℕ → Refusal → Type 0) → ((source : S) → is_known source → AllBytes (left source)) → Agrees UnexpectedEnd reading Encodes HasError → ((w : List ℕ) (c : Cause) → HasError w c → Q w (corrupted c))
-    → TakesBy is_known left failures old i new k view (Err e) reading → Finds is_known left failures old i new k (Err (read_error e)) B Q
-finds_part_fails {left = left} {failures = failures} {old = old} {new = new} {k = k} {e = e} B Q are_bytes agrees map h = record {
+pub finds_part_fails : {S X Y Z : Type 0} {May : ReadError → ℕ → Type 0} {StoreMay : DeserializeError → ℕ → Type 0} {is_known : S → Type 0} {left : S → List ℕ} {failures : S → Failures} {old new : S} {i k : ℕ} {view : X → Y} {e : ReadError} {reading : List ℕ → Result (Y × List ℕ) (Cause × List ℕ)} {Encodes : List ℕ → Y → Type 0} {HasError : List ℕ → Cause → Type 0}
+    (B : List ℕ → Z → Type 0) (Q : List ℕ → Refusal → Type 0) → ((e : ReadError) (n : ℕ) → May e n → StoreMay (read_error e) n) → ((source : S) → is_known source → AllBytes (left source)) → Agrees UnexpectedEnd reading Encodes HasError → ((w : List ℕ) (c : Cause) → HasError w c → Q w (corrupted c))
+    → TakesIf May is_known left failures old i new k view (Err e) reading → FindsIf StoreMay is_known left failures old i new k (Err (read_error e)) B Q
+finds_part_fails {left = left} {failures = failures} {old = old} {new = new} {k = k} {e = e} B Q raise are_bytes agrees map h = record {
   found = λ t. part_shown e Q agrees map (left old) (left new) k (are_bytes old t) (h.gives t);
   taken = h.taken;
   stays_known = h.stays_known;
   counts = raised_counts e (failures old) (failures new) h.counts;
   rises = h.rises;
+  may_stop = raise e k h.may_stop;
 }
 
 -- ---- parts of the store's own
@@ -217,7 +243,7 @@ read_found view agrees x old new small e = let p = agrees.sound old (view x, new
 
 -- a part was read
 pub finds_read : {S X Y : Type 0} {is_known : S → Type 0} {left : S → List ℕ} {failures : S → Failures} {old new : S} {i k : ℕ} {view : X → Y} {x : X} {reading : List ℕ → Result (Y × List ℕ) (Refusal × List ℕ)} {Encodes : List ℕ → Y → Type 0} {HasError : List ℕ → Refusal → Type 0}
-    → ((source : S) → is_known source → AllBytes (left source)) → Agrees (corrupted UnexpectedEnd) reading Encodes HasError → store.TakesBy is_known left failures old i new k view (Ok x) reading
+    → ((source : S) → is_known source → AllBytes (left source)) → Agrees (corrupted UnexpectedEnd) reading Encodes HasError → store.TakesLean is_known left failures old i new k view (Ok x) reading
     → Finds is_known left failures old i new k (Ok x) (λ b x. Encodes b (view x)) (λ w f. ⊥)
 finds_read {left = left} {old = old} {new = new} {view = view} {x = x} are_bytes agrees h = record {
   found = λ t. read_found view agrees x (left old) (left new) (are_bytes old t) (h.gives t);
@@ -225,6 +251,7 @@ finds_read {left = left} {old = old} {new = new} {view = view} {x = x} are_bytes
   stays_known = h.stays_known;
   counts = h.counts;
   rises = h.rises;
+  may_stop = tt;
 }
 
 read_shown : {Y : Type 0} {reading : List ℕ → Result (Y × List ℕ) (Refusal × List ℕ)} {Encodes : List ℕ → Y → Type 0} {HasError : List ℕ → Refusal → Type 0} (s : Stop Refusal) (Q : List ℕ → Refusal → Type 0)
@@ -241,11 +268,12 @@ read_shown Never Q agrees map old new count small h = h
 -- a part was refused
 pub finds_read_fails : {S X Y Z : Type 0} {is_known : S → Type 0} {left : S → List ℕ} {failures : S → Failures} {old new : S} {i k : ℕ} {view : X → Y} {e : DeserializeError} {reading : List ℕ → Result (Y × List ℕ) (Refusal × List ℕ)} {Encodes : List ℕ → Y → Type 0} {HasError : List ℕ → Refusal → Type 0}
     (B : List ℕ → Z → Type 0) (Q : List ℕ → Refusal → Type 0) → ((source : S) → is_known source → AllBytes (left source)) → Agrees (corrupted UnexpectedEnd) reading Encodes HasError → ((w : List ℕ) (r : Refusal) → HasError w r → Q w r)
-    → store.TakesBy is_known left failures old i new k view (Err e) reading → Finds is_known left failures old i new k (Err e) B Q
+    → store.TakesLean is_known left failures old i new k view (Err e) reading → FindsLean is_known left failures old i new k (Err e) B Q
 finds_read_fails {left = left} {old = old} {new = new} {k = k} {e = e} B Q are_bytes agrees map h = record {
   found = λ t. read_shown (store_stop e) Q agrees map (left old) (left new) k (are_bytes old t) (h.gives t);
   taken = h.taken;
   stays_known = h.stays_known;
   counts = h.counts;
   rises = h.rises;
+  may_stop = h.may_stop;
 }

@@ -3,7 +3,7 @@ use Rattle.std.proofs.Common.{ℕ, List, Ok, refl}
 use Rattle.tv_base.specs.Reading.{vint_at, text_at}
 use Rattle.tv_base.specs.Source.{Failures}
 use Rattle.tv_base.specs.Stop.{◌>>=◌, Takes}
-use Rattle.tv_base.specs.Take.{read_stop}
+use Rattle.tv_base.specs.Take.{read_stop, MayStopLean}
 use Rattle.tv_base.proofs.TakeSteps.{SoFar, SoFar-start, SoFar-step}
 use Rattle.tv_format.specs.Tree.{Token}
 use Rattle.tv_reader.specs.Leaves.{token_at}
@@ -13,12 +13,12 @@ token_with from to position content positions = record { offset_from = from; off
 
 -- the first two numbers were taken, and so were all three
 pub offsets_taken : {P : Type 0} {is_known : P → Type 0} {left : P → List ℕ} {count : P → ℕ} {failures : P → Failures} {a b c : P} {from to : ℕ}
-    → Takes read_stop is_known left count failures a b (λ x. x) (Ok from) vint_at → Takes read_stop is_known left count failures b c (λ x. x) (Ok to) vint_at
+    → Takes read_stop MayStopLean is_known left count failures a b (λ x. x) (Ok from) vint_at → Takes read_stop MayStopLean is_known left count failures b c (λ x. x) (Ok to) vint_at
     → SoFar is_known left count failures a c token_at (λ w. vint_at w >>= λ position. text_at position.1 >>= λ content. vint_at content.1 >>= λ positions. Ok (token_with from to position.0 content.0 positions.0, positions.1))
 unfolding token_at
 offsets_taken x y = SoFar-step _ (λ _. refl) (SoFar-step _ (λ _. refl) (SoFar-start _ _ _ _ _ token_at token_at (λ _. refl)) x) y
 
 pub position_taken : {P : Type 0} {is_known : P → Type 0} {left : P → List ℕ} {count : P → ℕ} {failures : P → Failures} {a b c d : P} {from to position : ℕ}
-    → Takes read_stop is_known left count failures a b (λ x. x) (Ok from) vint_at → Takes read_stop is_known left count failures b c (λ x. x) (Ok to) vint_at → Takes read_stop is_known left count failures c d (λ x. x) (Ok position) vint_at
+    → Takes read_stop MayStopLean is_known left count failures a b (λ x. x) (Ok from) vint_at → Takes read_stop MayStopLean is_known left count failures b c (λ x. x) (Ok to) vint_at → Takes read_stop MayStopLean is_known left count failures c d (λ x. x) (Ok position) vint_at
     → SoFar is_known left count failures a d token_at (λ w. text_at w >>= λ content. vint_at content.1 >>= λ positions. Ok (token_with from to position content.0 positions.0, positions.1))
 position_taken x y z = SoFar-step _ (λ _. refl) (offsets_taken x y) z

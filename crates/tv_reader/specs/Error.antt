@@ -1,12 +1,12 @@
 -- What the errors of the lower layers are called in the store, and which of them stop a reader for what reason.
-use Rattle.std.specs.Prelude.{ℕ, Result, List}
+use Rattle.std.specs.Prelude.{◌≢◌, ℕ, Result, List}
 use Rattle.tv_base.specs.declared.cause.Cause.{Cause}
 use Rattle.tv_base.specs.declared.read_error.ReadError.{ReadError}
 use Rattle.tv_base.specs.declared.read_error.ReadError.TheVariants as reads
 use Rattle.tv_base.specs.Source.{Failures}
 use Rattle.tv_base.specs.Stop.{Stop, Takes}
 use Rattle.tv_base.specs.Stop.Stop.{InputError, Failed, Short, Never}
-use Rattle.tv_base.specs.Take.{told}
+use Rattle.tv_base.specs.Take.{told, CauseMayStop}
 use Rattle.tv_format.specs.InputError.{Refusal, corrupted, no_text_key}
 use Rattle.tv_reader.specs.ValueType.{type_code}
 use Rattle.tv_reader.specs.declared.error.DeserializeError.{DeserializeError}
@@ -36,12 +36,25 @@ store_stop (errors.Custom s) = Never
 store_stop (errors.UnsupportedVersion m n) = Never
 store_stop errors.AlreadyFailed = Never
 
+-- which of them may stop it after so many bytes
+abbrev pub StoreMayStop : DeserializeError → ℕ → Type 0
+StoreMayStop (errors.CorruptedValue c) count = CauseMayStop c count
+StoreMayStop _ count = Unit {0}
+
+-- where no heap is filled
+abbrev pub StoreMayStopRoomy : DeserializeError → ℕ → Type 0
+StoreMayStopRoomy e count = StoreMayStop e count × (e ≢ errors.HeapFull)
+
+-- where no memory is taken
+abbrev pub StoreMayStopLean : DeserializeError → ℕ → Type 0
+StoreMayStopLean e count = StoreMayStopRoomy e count × (e ≢ errors.Memory)
+
 -- The error in the bytes that an error says: what is corrupt, or in a key's place a value of another type than a text.
 pub data IsRefusal : DeserializeError → Refusal → Type 0 where
   is_corrupted : {c : Cause} → IsRefusal (errors.CorruptedValue c) (corrupted c)
   is_no_text : {actual : ValueType} → IsRefusal (errors.TypeMismatch types.String actual) (no_text_key (type_code actual))
 
--- what a reader of the store returned and did, by a reading of lists
-abbrev pub TakesBy : {S X Y : Type 0} (is_known : S → Type 0) (left : S → List ℕ) (failures : S → Failures) (old : S) (old_count : ℕ) (new : S) (new_count : ℕ) (view : X → Y) (result : Result X DeserializeError) (reading : List ℕ → Result (Y × List ℕ) (Refusal × List ℕ)) → Type 0
-TakesBy is_known left failures old old_count new new_count view result reading =
-    Takes store_stop (told is_known) (λ p. left p.source) (λ p. p.count) (λ p. failures p.source) (record { source = old; count = old_count }) (record { source = new; count = new_count }) view result reading
+-- what a lean reader of the store returned and did, by a reading of lists
+abbrev pub TakesLean : {S X Y : Type 0} (is_known : S → Type 0) (left : S → List ℕ) (failures : S → Failures) (old : S) (old_count : ℕ) (new : S) (new_count : ℕ) (view : X → Y) (result : Result X DeserializeError) (reading : List ℕ → Result (Y × List ℕ) (Refusal × List ℕ)) → Type 0
+TakesLean is_known left failures old old_count new new_count view result reading =
+    Takes store_stop StoreMayStopLean (told is_known) (λ p. left p.source) (λ p. p.count) (λ p. failures p.source) (record { source = old; count = old_count }) (record { source = new; count = new_count }) view result reading

@@ -1,5 +1,5 @@
 -- What a reader gives, where it is told by the grammar of the bytes and not by a reading of lists.
-use Rattle.std.specs.Prelude.{ℕ, ◌-◌, ◌^◌, ◌<◌, ◌≤◌, List, Result, Ok, Err}
+use Rattle.std.specs.Prelude.{ℕ, ◌-◌, ◌^◌, ◌<◌, ◌≤◌, List, Result, Ok, Err, IfErr}
 use Rattle.tv_base.specs.declared.cause.Cause.TheVariants.{UnexpectedEnd}
 use Rattle.tv_base.specs.Parts.{Begins}
 use Rattle.tv_base.specs.ReadsAs.{Shows}
@@ -7,7 +7,7 @@ use Rattle.tv_base.specs.Source.{Failures}
 use Rattle.tv_base.specs.Stop.{Stop, Counts, Taken}
 use Rattle.tv_base.specs.Stop.Stop.{InputError, Failed, Short, Never}
 use Rattle.tv_format.specs.InputError.{Refusal, corrupted}
-use Rattle.tv_reader.specs.Error.{store_stop}
+use Rattle.tv_reader.specs.Error.{store_stop, StoreMayStop, StoreMayStopRoomy, StoreMayStopLean}
 use Rattle.tv_reader.specs.declared.error.DeserializeError.{DeserializeError}
 
 -- the error stands in the bytes that were left, and just those that show it were taken
@@ -28,14 +28,26 @@ Found stop end Encodes HasError old new count (Ok x) = Begins (λ b. Encodes b x
 Found stop end Encodes HasError old new count (Err e) = GivesStop end HasError old new count (stop e)
 
 -- A reader of a source, with the count of the bytes that were taken of it: a slice of the bytes was taken and counted, after a
--- refusal too, and a failure is told with its kind, where there was one and only there.
-pub record FindsBy {S E F X : Type 0} (stop : E → Stop F) (end : F) (is_known : S → Type 0) (left : S → List ℕ) (failures : S → Failures) (old : S) (old_count : ℕ) (new : S) (new_count : ℕ) (result : Result X E) (Encodes : List ℕ → X → Type 0) (HasError : List ℕ → F → Type 0) : Type 0 where
+-- refusal too, a failure is told with its kind, where there was one and only there, and an error comes only where it may.
+pub record FindsBy {S E F X : Type 0} (stop : E → Stop F) (MayStop : E → ℕ → Type 0) (end : F) (is_known : S → Type 0) (left : S → List ℕ) (failures : S → Failures) (old : S) (old_count : ℕ) (new : S) (new_count : ℕ) (result : Result X E) (Encodes : List ℕ → X → Type 0) (HasError : List ℕ → F → Type 0) : Type 0 where
   pub found : is_known old → Found stop end Encodes HasError (left old) (left new) new_count result
   pub taken : is_known old → Taken (left old) (left new) old_count new_count
   pub stays_known : is_known old → is_known new
   pub counts : Counts stop result (failures old) (failures new)
   pub rises : old_count ≤ new_count
+  pub may_stop : IfErr result (λ e. MayStop e new_count)
 
 -- the same of values, whose errors are refusals
+abbrev pub FindsIf : {S X : Type 0} (May : DeserializeError → ℕ → Type 0) (is_known : S → Type 0) (left : S → List ℕ) (failures : S → Failures) (old : S) (old_count : ℕ) (new : S) (new_count : ℕ) (result : Result X DeserializeError) (Encodes : List ℕ → X → Type 0) (HasError : List ℕ → Refusal → Type 0) → Type 0
+FindsIf May is_known left failures old old_count new new_count result Encodes HasError = FindsBy store_stop May (corrupted UnexpectedEnd) is_known left failures old old_count new new_count result Encodes HasError
+
 abbrev pub Finds : {S X : Type 0} (is_known : S → Type 0) (left : S → List ℕ) (failures : S → Failures) (old : S) (old_count : ℕ) (new : S) (new_count : ℕ) (result : Result X DeserializeError) (Encodes : List ℕ → X → Type 0) (HasError : List ℕ → Refusal → Type 0) → Type 0
-Finds is_known left failures old old_count new new_count result Encodes HasError = FindsBy store_stop (corrupted UnexpectedEnd) is_known left failures old old_count new new_count result Encodes HasError
+Finds is_known left failures old old_count new new_count result Encodes HasError = FindsIf StoreMayStop is_known left failures old old_count new new_count result Encodes HasError
+
+-- a reader that fills no heap
+abbrev pub FindsRoomy : {S X : Type 0} (is_known : S → Type 0) (left : S → List ℕ) (failures : S → Failures) (old : S) (old_count : ℕ) (new : S) (new_count : ℕ) (result : Result X DeserializeError) (Encodes : List ℕ → X → Type 0) (HasError : List ℕ → Refusal → Type 0) → Type 0
+FindsRoomy is_known left failures old old_count new new_count result Encodes HasError = FindsIf StoreMayStopRoomy is_known left failures old old_count new new_count result Encodes HasError
+
+-- a lean reader, which takes no memory
+abbrev pub FindsLean : {S X : Type 0} (is_known : S → Type 0) (left : S → List ℕ) (failures : S → Failures) (old : S) (old_count : ℕ) (new : S) (new_count : ℕ) (result : Result X DeserializeError) (Encodes : List ℕ → X → Type 0) (HasError : List ℕ → Refusal → Type 0) → Type 0
+FindsLean is_known left failures old old_count new new_count result Encodes HasError = FindsIf StoreMayStopLean is_known left failures old old_count new new_count result Encodes HasError

@@ -1,16 +1,12 @@
 //! Taking texts with their tokens, which are gathered in their shortest encoding and not owned one by one.
 
-ghost use Rattle.std.specs.Prelude.{◌≡◌, ◌-◌, ◌^◌, IsErrOf, string_bytes};
+ghost use Rattle.std.specs.Prelude.{string_bytes};
 ghost use Rattle.tv_base.specs.Take.{TakesBy};
-ghost use Rattle.tv_base.specs.declared.cause.Cause.TheVariants.{TooLong};
-ghost use Rattle.tv_base.specs.declared.read_error.ReadError.TheVariants.{Corrupted};
 ghost use Rattle.tv_reader.specs.EncodedTokens.{EncodesTokenized};
-ghost use Rattle.tv_reader.specs.Finds.{Finds};
+ghost use Rattle.tv_reader.specs.Finds.{FindsRoomy};
 ghost use Rattle.tv_reader.specs.Leaves.{token_at, tokens_at, counted_tokens_at, tokenized_at};
 ghost use Rattle.tv_reader.specs.Trees.{NoneBehind};
 ghost use Rattle.tv_reader.specs.Version.{version_of};
-ghost use Rattle.tv_reader.specs.declared.error.DeserializeError.TheVariants.{CorruptedValue};
-ghost use Rattle.tv_reader.specs.declared.error.DeserializeError.TheVariants.{HeapFull};
 ghost use Rattle.tv_reader.specs.declared.value_type.ValueType.TheVariants as types;
 ghost use Rattle.tv_value.specs.EncodedTokens.{gathered};
 ghost use Rattle.tv_value.specs.TokenRef.{ref_of};
@@ -33,7 +29,6 @@ fn take_lent_token<'t, S: ByteSource>(
 ) -> Result<TokenRef<'t>, ReadError>
     ensures takes { TakesBy S.is_known S.left S.failures source.old count.old source.new count.new
         (λ token. ref_of token) result token_at }
-    ensures too_long { IsErrOf result (Corrupted TooLong) → count.new ≡ 2 ^ 64 - 1 }
 {
     let offset_from = take_vint(source, count)?;
     let offset_to = take_vint(source, count)?;
@@ -58,7 +53,6 @@ fn gather_tokens<S: ByteSource>(
 ) -> Result<EncodedTokens, ReadError>
     ensures takes { TakesBy S.is_known S.left S.failures source.old count.old source.new count.new
         (λ tokens. gathered tokens) result (tokens_at announced) }
-    ensures too_long { IsErrOf result (Corrupted TooLong) → count.new ≡ 2 ^ 64 - 1 }
 {
     let mut tokens = EncodedTokens::new(alloc);
     let mut text = String::new(alloc);
@@ -78,7 +72,6 @@ fn gather_counted_tokens<S: ByteSource>(
 ) -> Result<EncodedTokens, ReadError>
     ensures takes { TakesBy S.is_known S.left S.failures source.old count.old source.new count.new
         (λ tokens. gathered tokens) result counted_tokens_at }
-    ensures too_long { IsErrOf result (Corrupted TooLong) → count.new ≡ 2 ^ 64 - 1 }
 {
     let announced = take_vint(source, count)?;
     gather_tokens(alloc, source, count, announced)
@@ -93,7 +86,6 @@ fn gather_tokenized<S: ByteSource>(
 ) -> Result<(String, EncodedTokens), ReadError>
     ensures takes { TakesBy S.is_known S.left S.failures source.old count.old source.new count.new
         (λ x. (string_bytes x.0, gathered x.1)) result tokenized_at }
-    ensures too_long { IsErrOf result (Corrupted TooLong) → count.new ≡ 2 ^ 64 - 1 }
 {
     let text = take_string(alloc, source, count)?;
     let tokens = gather_counted_tokens(alloc, source, count)?;
@@ -110,11 +102,9 @@ pub fn take_gathered<S: ByteSource>(
     count: &mut u64,
     version: DocStoreVersion,
 ) -> Result<(String, EncodedTokens), DeserializeError>
-    ensures finds { Finds S.is_known S.left S.failures source.old count.old source.new count.new
+    ensures finds { FindsRoomy S.is_known S.left S.failures source.old count.old source.new count.new
         result (EncodesTokenized (version_of version))
         (NoneBehind (version_of version) types.PreTokStr) }
-    ensures too_long { IsErrOf result (CorruptedValue TooLong) → count.new ≡ 2 ^ 64 - 1 }
-    ensures roomy { ¬ IsErrOf result HeapFull }
 {
     let _ = version;
     let tokenized = gather_tokenized(alloc, source, count)?;

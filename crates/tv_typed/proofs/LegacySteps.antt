@@ -1,7 +1,6 @@
 -- Legacy objects as lists and maps: a code and the object behind it are read, and then the encoding of its tree.
-use Rattle.std.proofs.Common.{◌≡◌, ◌≢◌, ℕ, ◌-◌, ◌^◌, ◌<◌, Bool, true, false, List, [], ◌∷◌, ◌++◌, Some, None, Result, Ok, Err, refl, sym, ap, subst, ◌∙◌, append_assoc, length, length-append, arith, inl, inr}
+use Rattle.std.proofs.Common.{◌≡◌, ◌≢◌, ℕ, ◌-◌, ◌^◌, ◌<◌, Bool, true, false, List, [], ◌∷◌, ◌++◌, Some, None, Result, Ok, Err, refl, sym, ap, subst, ◌∙◌, length, length-append, arith, inl, inr}
 use Rattle.std.specs.Prelude.{OnOk}
-use Rattle.std.specs.List.{AllByRecursion}
 use Rattle.std.specs.declared.io.ErrorKind.{ErrorKind}
 use Rattle.std.proofs.lemmas.List.{append-nil}
 use Rattle.tv_base.specs.declared.cause.Cause.TheVariants.{UnexpectedEnd}
@@ -9,15 +8,13 @@ use Rattle.tv_base.specs.Source.{Failures}
 use Rattle.tv_base.specs.Stop.{Stop, CountsStop, Counts, Taken}
 use Rattle.tv_base.specs.Stop.Stop.{InputError, Failed, Short, Never}
 use Rattle.tv_base.proofs.TakeSteps.{Taken_none}
-use Rattle.tv_legacy.specs.Legacy.{IsBlank, IsClosed, Legacy, ErrorInLegacy, only_blanks, not_closed}
+use Rattle.tv_legacy.specs.Legacy.{Legacy}
 use Rattle.tv_legacy.proofs.Unique.{one_legacy}
-use Rattle.tv_format.specs.InputError.{corrupted, in_legacy}
-use Rattle.tv_format.specs.Leaves.{type_of, store_code}
-use Rattle.tv_format.specs.LeavesLaws.{small_code}
+use Rattle.tv_format.specs.InputError.{corrupted}
 use Rattle.tv_value.specs.Owned.{owned_tree}
 use Rattle.tv_format.specs.Short.{short, IsValue}
 use Rattle.tv_format.specs.Encoding.{Encodes}
-use Rattle.tv_format.specs.Tree.{Tree, leaf, array, object}
+use Rattle.tv_format.specs.Tree.{Tree}
 use Rattle.tv_format.specs.Version.{Version, V2}
 use Rattle.tv_value.specs.declared.owned_value.OwnedValue.{OwnedValue}
 use Rattle.tv_format.proofs.ShortEncodings.{short_encodes}

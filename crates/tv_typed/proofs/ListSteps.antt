@@ -1,6 +1,6 @@
 -- The number of an array's or an object's values, and the entries of an object.
 use Rattle.std.proofs.Common.{◌≡◌, ℕ, true, false, List, [], ◌∷◌, ◌++◌, String, string_bytes, Result, Ok, Err, refl, sym, ap, subst, ◌∙◌, append_assoc, inl, inr}
-use Rattle.std.specs.Prelude.{is_err, IsErrOf}
+use Rattle.std.specs.Prelude.{is_err}
 use Rattle.std.specs.declared.alloc.Global.{Global}
 use Rattle.tv_base.specs.declared.cause.Cause.{Cause}
 use Rattle.tv_base.specs.declared.cause.Cause.TheVariants.{UnexpectedEnd}
@@ -16,7 +16,7 @@ use Rattle.tv_format.specs.Tree.{Tree}
 use Rattle.tv_format.specs.Version.{Version, entry_total}
 use Rattle.tv_reader.specs.Counts.{entry_count_at}
 use Rattle.tv_reader.specs.Error.{IsRefusal, is_corrupted, is_no_text}
-use Rattle.tv_reader.specs.Finds.{Finds}
+use Rattle.tv_reader.specs.Finds.{FindsRoomy}
 use Rattle.tv_reader.specs.Trees.{ErrorInEntryCount, in_count_number, odd_count_number}
 use Rattle.tv_reader.specs.ValueType.{coded, ErrorInCode, no_code, unknown_type, float_type, no_extension_code, unknown_extension}
 use Rattle.tv_reader.specs.Version.{version_of}
@@ -40,7 +40,7 @@ use Rattle.tv_typed.proofs.TypedSteps.{reads_mismatch, reads_then, told_reads}
 pub length_mismatch : {S X : Type 0} (is_known : S → Type 0) (left : S → List ℕ) (failures : S → Failures) (old new : StoreReader S) (kind collection : ValueType) (total : ℕ → ℕ) (e : DeserializeError) (B : List ℕ → X → Type 0)
     → IsMismatch old.has_failed kind collection (errors.UnsupportedType kind) e → new.source ≡ old.source → new.count ≡ old.count → new.version ≡ old.version → new.has_failed ≡ true → Reads is_known left failures old new (Err e) B (LengthRefused collection total kind)
 length_mismatch is_known left failures old new kind collection total e B h source count version marks =
-    reads_mismatch is_known left failures old new kind collection (errors.UnsupportedType kind) e B (LengthRefused collection total kind) refl (λ same. cc) (λ other w. other_collection other) h source count version marks
+    reads_mismatch is_known left failures old new kind collection (errors.UnsupportedType kind) e B (LengthRefused collection total kind) refl tt (λ same. cc) (λ other w. other_collection other) h source count version marks
 
 pub elements_read : {S : Type 0} {is_known : S → Type 0} {left : S → List ℕ} {failures : S → Failures} {s : S} {k : ℕ} {answer : Result ℕ ReadError} (old mid new : StoreReader S) (result : Result ℕ DeserializeError) (kind : ValueType)
     → ((source : S) → is_known source → AllBytes (left source)) → kind ≡ types.Array → old.has_failed ≡ false → mid.source ≡ old.source → mid.count ≡ old.count → mid.version ≡ old.version
@@ -67,10 +67,10 @@ entries_read {is_known = is_known} {left = left} {failures = failures} {s = s} {
 -- ---- keys
 
 pub key_reads : {S : Type 0} {is_known : S → Type 0} {left : S → List ℕ} {failures : S → Failures} {s : S} {k : ℕ} (old new : StoreReader S) (result : Result (String Global) DeserializeError)
-    → old.has_failed ≡ false → Finds is_known left failures old.source old.count s k result (λ b key. Key (version_of old.version) b (string_bytes key)) (ErrorInKey (version_of old.version)) → (IsErrOf result errors.HeapFull → ⊥) → new.source ≡ s → new.count ≡ k → new.version ≡ old.version → new.has_failed ≡ is_err result
+    → old.has_failed ≡ false → FindsRoomy is_known left failures old.source old.count s k result (λ b key. Key (version_of old.version) b (string_bytes key)) (ErrorInKey (version_of old.version)) → new.source ≡ s → new.count ≡ k → new.version ≡ old.version → new.has_failed ≡ is_err result
     → Reads is_known left failures old new result (λ b key. Key (version_of old.version) b (string_bytes key)) (KeyRefused (version_of old.version))
-key_reads old new result is_open h roomy source count version marks =
-    told_reads old new result (λ b key. Key (version_of old.version) b (string_bytes key)) (ErrorInKey (version_of old.version)) is_open h roomy source count version marks
+key_reads old new result is_open h source count version marks =
+    told_reads old new result (λ b key. Key (version_of old.version) b (string_bytes key)) (ErrorInKey (version_of old.version)) is_open h source count version marks
 
 -- ---- no bytes
 

@@ -1,6 +1,7 @@
 -- Typed reads by the parts that they take.
 use Rattle.std.proofs.Common.{◌≡◌, ◌≢◌, ℕ, ◌-◌, ◌^◌, ◌<◌, Bool, true, false, List, ◌++◌, Result, Ok, Err, refl, sym, ap, subst, ◌∙◌}
-use Rattle.std.specs.Prelude.{is_err, IsErrOf}
+use Rattle.std.specs.Prelude.{is_err, IfErr, IsErrOf}
+use Rattle.std.proofs.lemmas.Result.{IfErr-weaker}
 use Rattle.tv_base.specs.declared.cause.Cause.{Cause}
 use Rattle.tv_base.specs.declared.cause.Cause.TheVariants.{UnexpectedEnd}
 use Rattle.tv_base.specs.declared.read_error.ReadError.{ReadError}
@@ -9,7 +10,7 @@ use Rattle.tv_base.specs.ReadsAs.{Shows}
 use Rattle.tv_base.specs.Source.{AllBytes, Failures}
 use Rattle.tv_base.specs.Stop.{CountsStop, Counts, Gives}
 use Rattle.tv_base.specs.Stop.Stop.{InputError}
-use Rattle.tv_base.specs.Take.{TakesBy, read_stop}
+use Rattle.tv_base.specs.Take.{TakesBy, MayStop, MayStopLean, read_stop}
 use Rattle.tv_base.proofs.Agrees.{Agrees}
 use Rattle.tv_base.proofs.ByGrammar.{shows_by}
 use Rattle.tv_legacy.specs.Legacy.{Legacy}
@@ -17,8 +18,8 @@ use Rattle.tv_format.specs.InputError.{Refusal, corrupted}
 use Rattle.tv_format.specs.Encoding.{Encodes}
 use Rattle.tv_format.specs.Tree.{Leaf, leaf}
 use Rattle.tv_format.specs.Version.{Version}
-use Rattle.tv_reader.specs.Error.{key_stop, store_stop, IsRefusal, is_corrupted, is_no_text}
-use Rattle.tv_reader.specs.Finds.{Refuses, GivesStop, Found, FindsBy, Finds}
+use Rattle.tv_reader.specs.Error.{key_stop, store_stop, StoreMayStop, StoreMayStopRoomy, IsRefusal, is_corrupted, is_no_text}
+use Rattle.tv_reader.specs.Finds.{Refuses, GivesStop, Found, FindsBy, FindsRoomy}
 use Rattle.tv_reader.specs.LeafBodies.{LeafOf, ErrorInLeafOf}
 use Rattle.tv_reader.specs.Leaves.{is_leaf_type}
 use Rattle.tv_reader.specs.Trees.{NoneBehind}
@@ -31,7 +32,7 @@ use Rattle.tv_reader.specs.declared.value_type.ValueType.{ValueType}
 use Rattle.tv_reader.specs.declared.value_type.ValueType.TheVariants as types
 use Rattle.tv_typed.specs.declared.store_reader.StoreReader.{StoreReader}
 use Rattle.tv_reader.proofs.BehindKinds.{leaf_encoded, leaf_refused}
-use Rattle.tv_reader.proofs.Finding.{shows_map, finds_refused}
+use Rattle.tv_reader.proofs.Finding.{shows_map, raised_roomy, finds_refused}
 
 abbrev end : DeserializeError
 end = errors.CorruptedValue UnexpectedEnd
@@ -56,15 +57,20 @@ typed_counts (Err (reads.Corrupted c)) old new h = h
 typed_counts (Err (reads.Io kind)) old new h = h
 typed_counts (Err reads.Memory) old new h = h
 
+typed_may : {X : Type 0} (answer : Result X ReadError) (count : ℕ) → IfErr answer (λ e. MayStop e count) → IfErr (raised answer) (λ e. StoreMayStop e count)
+typed_may (Ok x) count may = tt
+typed_may (Err e) count may = (raised_roomy e count may).0
+
 typed_part : {S X Y : Type 0} (is_known : S → Type 0) (left : S → List ℕ) (failures : S → Failures) (old new : S) (i k : ℕ) (view : X → Y) (answer : Result X ReadError) {reading : List ℕ → Result (Y × List ℕ) (Cause × List ℕ)} {Encodes : List ℕ → Y → Type 0} {HasError : List ℕ → Cause → Type 0} (B : List ℕ → X → Type 0) (Q : List ℕ → DeserializeError → Type 0)
     → ((source : S) → is_known source → AllBytes (left source)) → Agrees UnexpectedEnd reading Encodes HasError → ((a : List ℕ) (x : X) → Encodes a (view x) → B a x) → ((w : List ℕ) (c : Cause) → HasError w c → Q w (errors.CorruptedValue c))
-    → TakesBy is_known left failures old i new k view answer reading → FindsBy typed_stop end is_known left failures old i new k (raised answer) B Q
+    → TakesBy is_known left failures old i new k view answer reading → FindsBy typed_stop StoreMayStop end is_known left failures old i new k (raised answer) B Q
 typed_part is_known left failures old new i k view answer B Q are_bytes agrees join map h = record {
   found = λ t. typed_found view answer B Q agrees join map (left old) (left new) k (are_bytes old t) (h.gives t);
   taken = h.taken;
   stays_known = h.stays_known;
   counts = typed_counts answer (failures old) (failures new) h.counts;
   rises = h.rises;
+  may_stop = typed_may answer k h.may_stop;
 }
 
 both : (b : Bool) → b ≡ false → b ≡ true → ⊥
@@ -78,9 +84,9 @@ pub reads_part : {S X Y : Type 0} {is_known : S → Type 0} {left : S → List �
     → Reads is_known left failures old new result B Q
 reads_part {is_known = is_known} {left = left} {failures = failures} {s = s} {k = k} {view = view} {answer = answer} old new result B Q are_bytes agrees join map is_open part source count version marks told = record {
   closed = λ failed. absurd (both old.has_failed is_open failed);
-  finds = λ _. subst (λ r. FindsBy typed_stop end is_known left failures old.source old.count new.source new.count r B Q) (sym told)
-      (subst (λ z. FindsBy typed_stop end is_known left failures old.source old.count z new.count (raised answer) B Q) (sym source)
-      (subst (λ n. FindsBy typed_stop end is_known left failures old.source old.count s n (raised answer) B Q) (sym count)
+  finds = λ _. subst (λ r. FindsBy typed_stop StoreMayStop end is_known left failures old.source old.count new.source new.count r B Q) (sym told)
+      (subst (λ z. FindsBy typed_stop StoreMayStop end is_known left failures old.source old.count z new.count (raised answer) B Q) (sym source)
+      (subst (λ n. FindsBy typed_stop StoreMayStop end is_known left failures old.source old.count s n (raised answer) B Q) (sym count)
       (typed_part is_known left failures old.source s old.count k view answer B Q are_bytes agrees join map part)));
   marks = marks;
   same_version = version;
@@ -88,19 +94,19 @@ reads_part {is_known = is_known} {left = left} {failures = failures} {s = s} {k 
 
 -- the reader was refused before, or the type is another than that which is expected
 pub reads_mismatch : {S X Kind : Type 0} (is_known : S → Type 0) (left : S → List ℕ) (failures : S → Failures) (old new : StoreReader S) (kind expected : Kind) (refusal e : DeserializeError) (B : List ℕ → X → Type 0) (Q : List ℕ → DeserializeError → Type 0)
-    → typed_stop refusal ≡ InputError refusal → refusal ≢ end → (kind ≢ expected → (w : List ℕ) → Q w refusal)
+    → typed_stop refusal ≡ InputError refusal → StoreMayStop refusal old.count → refusal ≢ end → (kind ≢ expected → (w : List ℕ) → Q w refusal)
     → IsMismatch old.has_failed kind expected refusal e → new.source ≡ old.source → new.count ≡ old.count → new.version ≡ old.version → new.has_failed ≡ true → Reads is_known left failures old new (Err e) B Q
-reads_mismatch is_known left failures old new kind expected refusal _ B Q is other shows (failed_before failed) source count version marks = record {
+reads_mismatch is_known left failures old new kind expected refusal _ B Q is may other shows (failed_before failed) source count version marks = record {
   closed = λ _. (refl, source, count);
   finds = λ is_open. absurd (both old.has_failed is_open failed);
   marks = marks;
   same_version = version;
 }
-reads_mismatch is_known left failures old new kind expected refusal _ B Q is other shows (mismatched is_open apart) source count version marks = record {
+reads_mismatch is_known left failures old new kind expected refusal _ B Q is may other shows (mismatched is_open apart) source count version marks = record {
   closed = λ failed. absurd (both old.has_failed is_open failed);
-  finds = λ _. subst (λ z. FindsBy typed_stop end is_known left failures old.source old.count z new.count (Err refusal) B Q) (sym source)
-      (subst (λ n. FindsBy typed_stop end is_known left failures old.source old.count old.source n (Err refusal) B Q) (sym count)
-      (finds_refused typed_stop end is_known left failures old.source old.count refusal refusal B Q is other (shows apart)));
+  finds = λ _. subst (λ z. FindsBy typed_stop StoreMayStop end is_known left failures old.source old.count z new.count (Err refusal) B Q) (sym source)
+      (subst (λ n. FindsBy typed_stop StoreMayStop end is_known left failures old.source old.count old.source n (Err refusal) B Q) (sym count)
+      (finds_refused typed_stop end is_known left failures old.source old.count refusal refusal B Q is may other (shows apart)));
   marks = marks;
   same_version = version;
 }
@@ -109,7 +115,7 @@ reads_mismatch is_known left failures old new kind expected refusal _ B Q is oth
 pub leaf_mismatch : {S X : Type 0} (is_known : S → Type 0) (left : S → List ℕ) (failures : S → Failures) (old new : StoreReader S) (kind expected : ValueType) (v : Version) (e : DeserializeError) (B : List ℕ → X → Type 0)
     → IsMismatch old.has_failed kind expected (errors.TypeMismatch expected kind) e → new.source ≡ old.source → new.count ≡ old.count → new.version ≡ old.version → new.has_failed ≡ true → Reads is_known left failures old new (Err e) B (LeafRefused expected v kind)
 leaf_mismatch is_known left failures old new kind expected v e B h source count version marks =
-    reads_mismatch is_known left failures old new kind expected (errors.TypeMismatch expected kind) e B (LeafRefused expected v kind) refl (λ same. cc) (λ other w. other_type other) h source count version marks
+    reads_mismatch is_known left failures old new kind expected (errors.TypeMismatch expected kind) e B (LeafRefused expected v kind) refl tt (λ same. cc) (λ other w. other_type other) h source count version marks
 
 -- the reader was refused before
 pub reads_closed : {S X : Type 0} (is_known : S → Type 0) (left : S → List ℕ) (failures : S → Failures) (old new : StoreReader S) (e : DeserializeError) (B : List ℕ → X → Type 0) (Q : List ℕ → DeserializeError → Type 0)
@@ -177,44 +183,45 @@ mismatch_counts : (expected actual : ValueType) (old new : Failures) → CountsS
 mismatch_counts types.String actual old new h = h
 mismatch_counts _ actual old new h = absurd h
 
-told_found : {X : Type 0} (B : List ℕ → X → Type 0) (F : List ℕ → Refusal → Type 0) (result : Result X DeserializeError) (old new : List ℕ) (count : ℕ) → (IsErrOf result errors.HeapFull → ⊥) → Found store_stop (corrupted UnexpectedEnd) B F old new count result
+told_found : {X : Type 0} (B : List ℕ → X → Type 0) (F : List ℕ → Refusal → Type 0) (result : Result X DeserializeError) (old new : List ℕ) (count : ℕ) → IfErr result (λ e. StoreMayStopRoomy e count) → Found store_stop (corrupted UnexpectedEnd) B F old new count result
     → Found typed_stop end B (GivesError F) old new count result
 told_found B F (Ok x) old new count roomy h = h
 told_found B F (Err (errors.CorruptedValue c)) old new count roomy h = λ few. told_refuses _ _ old new is_corrupted (h few)
 told_found B F (Err (errors.TypeMismatch expected actual)) old new count roomy h = mismatch_found expected actual old new count h
 told_found B F (Err (errors.Io k)) old new count roomy h = tt
 told_found B F (Err errors.Memory) old new count roomy h = tt
-told_found B F (Err errors.HeapFull) old new count roomy h = absurd (roomy refl)
+told_found B F (Err errors.HeapFull) old new count roomy h = absurd (roomy.1 refl)
 told_found B F (Err (errors.UnsupportedType t)) old new count roomy h = absurd h
 told_found B F (Err (errors.Custom s)) old new count roomy h = absurd h
 told_found B F (Err (errors.UnsupportedVersion m n)) old new count roomy h = absurd h
 told_found B F (Err errors.AlreadyFailed) old new count roomy h = absurd h
 
-told_counts : {X : Type 0} (result : Result X DeserializeError) (old new : Failures) → (IsErrOf result errors.HeapFull → ⊥) → Counts store_stop result old new → Counts typed_stop result old new
-told_counts (Ok x) old new roomy h = h
-told_counts (Err (errors.CorruptedValue c)) old new roomy h = h
-told_counts (Err (errors.TypeMismatch expected actual)) old new roomy h = mismatch_counts expected actual old new h
-told_counts (Err (errors.Io k)) old new roomy h = h
-told_counts (Err errors.Memory) old new roomy h = h
-told_counts (Err errors.HeapFull) old new roomy h = absurd (roomy refl)
-told_counts (Err (errors.UnsupportedType t)) old new roomy h = absurd h
-told_counts (Err (errors.Custom s)) old new roomy h = absurd h
-told_counts (Err (errors.UnsupportedVersion m n)) old new roomy h = absurd h
-told_counts (Err errors.AlreadyFailed) old new roomy h = absurd h
+told_counts : {X : Type 0} (result : Result X DeserializeError) (old new : Failures) (count : ℕ) → IfErr result (λ e. StoreMayStopRoomy e count) → Counts store_stop result old new → Counts typed_stop result old new
+told_counts (Ok x) old new count roomy h = h
+told_counts (Err (errors.CorruptedValue c)) old new count roomy h = h
+told_counts (Err (errors.TypeMismatch expected actual)) old new count roomy h = mismatch_counts expected actual old new h
+told_counts (Err (errors.Io k)) old new count roomy h = h
+told_counts (Err errors.Memory) old new count roomy h = h
+told_counts (Err errors.HeapFull) old new count roomy h = absurd (roomy.1 refl)
+told_counts (Err (errors.UnsupportedType t)) old new count roomy h = absurd h
+told_counts (Err (errors.Custom s)) old new count roomy h = absurd h
+told_counts (Err (errors.UnsupportedVersion m n)) old new count roomy h = absurd h
+told_counts (Err errors.AlreadyFailed) old new count roomy h = absurd h
 
 pub told_reads : {S X : Type 0} {is_known : S → Type 0} {left : S → List ℕ} {failures : S → Failures} {s : S} {k : ℕ} (old new : StoreReader S) (result : Result X DeserializeError) (B : List ℕ → X → Type 0) (F : List ℕ → Refusal → Type 0)
-    → old.has_failed ≡ false → Finds is_known left failures old.source old.count s k result B F → (IsErrOf result errors.HeapFull → ⊥) → new.source ≡ s → new.count ≡ k → new.version ≡ old.version → new.has_failed ≡ is_err result
+    → old.has_failed ≡ false → FindsRoomy is_known left failures old.source old.count s k result B F → new.source ≡ s → new.count ≡ k → new.version ≡ old.version → new.has_failed ≡ is_err result
     → Reads is_known left failures old new result B (GivesError F)
-told_reads {is_known = is_known} {left = left} {failures = failures} {s = s} {k = k} old new result B F is_open h roomy source count version marks = record {
+told_reads {is_known = is_known} {left = left} {failures = failures} {s = s} {k = k} old new result B F is_open h source count version marks = record {
   closed = λ failed. absurd (both old.has_failed is_open failed);
-  finds = λ _. subst (λ z. FindsBy typed_stop end is_known left failures old.source old.count z new.count result B (GivesError F)) (sym source)
-      (subst (λ n. FindsBy typed_stop end is_known left failures old.source old.count s n result B (GivesError F)) (sym count)
+  finds = λ _. subst (λ z. FindsBy typed_stop StoreMayStop end is_known left failures old.source old.count z new.count result B (GivesError F)) (sym source)
+      (subst (λ n. FindsBy typed_stop StoreMayStop end is_known left failures old.source old.count s n result B (GivesError F)) (sym count)
       (record {
-        found = λ t. told_found B F result (left old.source) (left s) k roomy (h.found t);
+        found = λ t. told_found B F result (left old.source) (left s) k h.may_stop (h.found t);
         taken = h.taken;
         stays_known = h.stays_known;
-        counts = told_counts result (failures old.source) (failures s) roomy h.counts;
+        counts = told_counts result (failures old.source) (failures s) k h.may_stop h.counts;
         rises = h.rises;
+        may_stop = IfErr-weaker result _ _ (λ e may. may.0) h.may_stop;
       }));
   marks = marks;
   same_version = version;
@@ -223,11 +230,11 @@ told_reads {is_known = is_known} {left = left} {failures = failures} {s = s} {k 
 -- ---- calls that are given no memory
 
 -- what was taken without memory is told without it
-pub raised_spares : {X : Type 0} (answer : Result X ReadError) (result : Result X DeserializeError) → result ≡ raised answer → (IsErrOf answer reads.Memory → ⊥) → IsErrOf result errors.Memory → ⊥
-raised_spares (Ok x) result told none is = let e = sym told ∙ is in absurd cc
-raised_spares (Err (reads.Corrupted c)) result told none is = let e = sym told ∙ is in absurd cc
-raised_spares (Err (reads.Io kind)) result told none is = let e = sym told ∙ is in absurd cc
-raised_spares (Err reads.Memory) result told none is = none refl
+pub raised_spares : {X : Type 0} (answer : Result X ReadError) (result : Result X DeserializeError) (count : ℕ) → result ≡ raised answer → IfErr answer (λ e. MayStopLean e count) → IsErrOf result errors.Memory → ⊥
+raised_spares (Ok x) result count told none is = let e = sym told ∙ is in absurd cc
+raised_spares (Err (reads.Corrupted c)) result count told none is = let e = sym told ∙ is in absurd cc
+raised_spares (Err (reads.Io kind)) result count told none is = let e = sym told ∙ is in absurd cc
+raised_spares (Err reads.Memory) result count told none is = none.1 refl
 
 -- the reader was refused before, or the type is another than that which is expected
 pub mismatch_spares : {X Kind : Type 0} {has_failed : Bool} {kind expected : Kind} {refusal e : DeserializeError} → refusal ≢ errors.Memory → IsMismatch has_failed kind expected refusal e → IsErrOf {T = X} (Err e) errors.Memory → ⊥

@@ -5,7 +5,7 @@ use Rattle.tv_base.specs.Source.{AllBytes, Failures}
 use Rattle.tv_base.specs.declared.cause.Cause.{Cause}
 use Rattle.tv_base.specs.declared.read_error.ReadError.{ReadError}
 use Rattle.tv_base.specs.Stop.{CountsStop, Counts, Takes}
-use Rattle.tv_base.specs.Take.{TakesBy, read_stop}
+use Rattle.tv_base.specs.Take.{TakesBy, MayStop, read_stop}
 use Rattle.tv_base.proofs.EarlyNumbers.{number_early}
 use Rattle.tv_format.specs.Encoding.{Encodes, NoLegacy}
 use Rattle.tv_value.specs.Owned.{owned_tree}
@@ -65,18 +65,19 @@ single_is (object es) h = absurd h
 
 -- the value that was taken is a leaf, or none was taken
 pub leaf_taken : {P : Type 0} {is_known : P → Type 0} {left : P → List ℕ} {count : P → ℕ} {failures : P → Failures} {old new : P} {value : OwnedValue} {reading : List ℕ → Result (Tree × List ℕ) (Cause × List ℕ)}
-    → IsSingle (owned_tree value) → Takes read_stop is_known left count failures old new owned_tree (Ok value) reading → Takes read_stop is_known left count failures old new leaf (Ok (single_leaf (owned_tree value))) reading
+    → IsSingle (owned_tree value) → Takes read_stop MayStop is_known left count failures old new owned_tree (Ok value) reading → Takes read_stop MayStop is_known left count failures old new leaf (Ok (single_leaf (owned_tree value))) reading
 leaf_taken {left = left} {new = new} {value = value} single h = record {
   gives = λ told. h.gives told ∙ ap (λ t. Ok (t, left new)) (single_is (owned_tree value) single);
   taken = h.taken;
   stays_known = h.stays_known;
   counts = h.counts;
   rises = h.rises;
+  may_stop = tt;
 }
 
 pub none_taken : {P : Type 0} {is_known : P → Type 0} {left : P → List ℕ} {count : P → ℕ} {failures : P → Failures} {old new : P} {e : ReadError} {reading : List ℕ → Result (Tree × List ℕ) (Cause × List ℕ)}
-    → Takes {X = OwnedValue} read_stop is_known left count failures old new owned_tree (Err e) reading → Takes read_stop is_known left count failures old new leaf (Err e) reading
-none_taken h = record { gives = h.gives; taken = h.taken; stays_known = h.stays_known; counts = h.counts; rises = h.rises }
+    → Takes {X = OwnedValue} read_stop MayStop is_known left count failures old new owned_tree (Err e) reading → Takes read_stop MayStop is_known left count failures old new leaf (Err e) reading
+none_taken h = record { gives = h.gives; taken = h.taken; stays_known = h.stays_known; counts = h.counts; rises = h.rises; may_stop = h.may_stop }
 
 -- a leaf was taken, and this is the answer to it
 pub leaf_visits : {S X : Type 0} {is_known : S → Type 0} {left : S → List ℕ} {failures : S → Failures} (old new : StoreReader S) (kind : ValueType) (answers : Leaf → Result X DeserializeError → Type 0) (result : Result X DeserializeError) (answer : Result Leaf ReadError)

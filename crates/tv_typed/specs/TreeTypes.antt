@@ -2,7 +2,7 @@
 use Rattle.std.specs.Prelude.{◌≡◌, ℕ, List, ◌++◌}
 use Rattle.std.proofs.Common.{sym, ap, subst, ◌∙◌, append_assoc, inl, inr}
 use Rattle.tv_base.specs.ErrorInPart.{InThen}
-use Rattle.tv_format.specs.Encoding.{Encodes, NoLegacy}
+use Rattle.tv_format.specs.Encoding.{Encodes}
 use Rattle.tv_format.specs.Tree.{Tree}
 use Rattle.tv_format.specs.Version.{Version}
 use Rattle.tv_format.proofs.Trees.{one_tree}

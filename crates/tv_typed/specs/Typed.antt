@@ -5,7 +5,7 @@ use Rattle.tv_base.specs.declared.read_error.ReadError.{ReadError}
 use Rattle.tv_base.specs.Source.{Failures}
 use Rattle.tv_base.specs.Stop.{Stop, Counts, Taken}
 use Rattle.tv_base.specs.Stop.Stop.{InputError, Failed, Short, Never}
-use Rattle.tv_reader.specs.Error.{read_error}
+use Rattle.tv_reader.specs.Error.{read_error, StoreMayStop}
 use Rattle.tv_reader.specs.Finds.{Found, FindsBy}
 use Rattle.tv_reader.specs.declared.error.DeserializeError.{DeserializeError}
 use Rattle.tv_reader.specs.declared.error.DeserializeError.TheVariants as errors
@@ -27,7 +27,7 @@ typed_stop errors.AlreadyFailed = Never
 -- why nothing is; and a refusal is marked.
 pub record Reads {S X : Type 0} (is_known : S → Type 0) (left : S → List ℕ) (failures : S → Failures) (old new : StoreReader S) (result : Result X DeserializeError) (Encodes : List ℕ → X → Type 0) (HasError : List ℕ → DeserializeError → Type 0) : Type 0 where
   pub closed : old.has_failed ≡ true → IsErrOf result errors.AlreadyFailed × (new.source ≡ old.source) × (new.count ≡ old.count)
-  pub finds : old.has_failed ≡ false → FindsBy typed_stop (errors.CorruptedValue UnexpectedEnd) is_known left failures old.source old.count new.source new.count result Encodes HasError
+  pub finds : old.has_failed ≡ false → FindsBy typed_stop StoreMayStop (errors.CorruptedValue UnexpectedEnd) is_known left failures old.source old.count new.source new.count result Encodes HasError
   pub marks : new.has_failed ≡ is_err result
   pub same_version : new.version ≡ old.version
 

@@ -1,8 +1,7 @@
 //! What is read of one type of values, in the same way for each.
 
-ghost use Rattle.std.specs.Prelude.{◌≡◌, true, IsErrOf};
-ghost use Rattle.tv_base.specs.Take.{TakesBy};
-ghost use Rattle.tv_base.specs.declared.read_error.ReadError.TheVariants as reads;
+ghost use Rattle.std.specs.Prelude.{◌≡◌, true, IsErrOf, IfErr};
+ghost use Rattle.tv_base.specs.Take.{TakesBy, MayStopLean};
 ghost use Rattle.tv_format.specs.Tree.{Leaf, leaf};
 ghost use Rattle.tv_reader.specs.Leaves.{is_leaf_type, leaf_at};
 ghost use Rattle.tv_reader.specs.ValueType.{coded, leaf_type as held_type};
@@ -38,7 +37,8 @@ pub(crate) trait LeafValue: Sized + Drop {
             reader.new.source reader.new.count (λ x. leaf (make x)) result
             (leaf_at (version_of reader.old.version) expected) }
         ensures version { reader.new.version ≡ reader.old.version }
-        ensures spares { IsFixed (held_type expected) → ¬ IsErrOf result reads.Memory };
+        ensures spares { IsFixed (held_type expected)
+            → IfErr result (λ e. MayStopLean e reader.new.count) };
 
     /// It is a type of leaves, and the leaf is of this type.
     ghost typed: { (is_leaf_type expected ≡ true) × ((x : Self) → leaf_type (make x) ≡ expected) };

@@ -1,10 +1,9 @@
 //! The number of a field.
 
-ghost use Rattle.std.specs.Prelude.{◌≡◌, ℕ, IsErrOf};
-ghost use Rattle.tv_base.specs.declared.read_error.ReadError.TheVariants.{Memory};
+ghost use Rattle.std.specs.Prelude.{◌≡◌, ℕ};
 ghost use Rattle.tv_base.specs.Number.{Fixed, four_bytes};
 ghost use Rattle.tv_base.specs.ErrorInPart.{ErrorInBytes};
-ghost use Rattle.tv_base.specs.ReadsAs.{ReadsAs};
+ghost use Rattle.tv_base.specs.ReadsAs.{ReadsLean};
 
 use std::alloc::Global;
 use std::io;
@@ -49,9 +48,8 @@ impl BinarySerializable for Field {
     }
 
     fn deserialize<S: ByteSource>(alloc: Global, source: &mut S) -> Result<Field, ReadError>
-        ensures reads { ReadsAs S.is_known S.left S.failures source.old source.new
+        ensures reads { ReadsLean S.is_known S.left S.failures source.old source.new
             (λ field. field.id) result (Fixed 4) (ErrorInBytes 4) }
-        ensures spares { ¬ IsErrOf result Memory }
     {
         match u32::deserialize(alloc, source) {
             Ok(id) => Ok(Field { id }),

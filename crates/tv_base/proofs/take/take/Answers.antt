@@ -10,4 +10,5 @@ returns-then-fill-clause-takes g c =
       stays_known = c.if-fill.ensures.is_known;
       counts = c.if-fill.ensures.failures;
       rises = omega arith;
+      may_stop = tt;
     }

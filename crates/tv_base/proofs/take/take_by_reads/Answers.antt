@@ -12,6 +12,7 @@ returns-then-room-eq0-clause-takes g c =
       stays_known = before.stays_known;
       counts = before.counts;
       rises = omega (arith, before.taken);
+      may_stop = (omega arith, λ is. cc);
     }
 
 pub returns-in-Ok-eq0-clause-takes : goal.returns-in-Ok-eq0-clause-takes
@@ -27,6 +28,7 @@ returns-in-Ok-eq0-clause-takes g c =
       stays_known = λ told. c.in-Ok-eq0.ensures.is_known (before.stays_known told);
       counts = c.in-Ok-eq0.ensures.failures ∙ before.counts;
       rises = omega (arith, before.taken);
+      may_stop = (tt, λ is. cc);
     }
 
 pub loop-filled-preserved : goal.loop-filled-preserved
@@ -52,6 +54,7 @@ returns-clause-takes g c =
       stays_known = before.stays_known;
       counts = before.counts;
       rises = omega (arith, before.taken);
+      may_stop = tt;
     }
 
 pub returns-in-Err-clause-takes : goal.returns-in-Err-clause-takes
@@ -64,4 +67,5 @@ returns-in-Err-clause-takes g c =
       stays_known = λ told. c.in-Err.ensures.is_known (before.stays_known told);
       counts = failed_since before.counts c.in-Err.ensures.failures;
       rises = omega (arith, before.taken);
+      may_stop = (tt, λ is. cc);
     }

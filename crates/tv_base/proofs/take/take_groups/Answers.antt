@@ -65,8 +65,8 @@ returns-then-last-lt128-clause-takes g c =
     let l = c.loop in
     let step = SoFar-step (λ last. with_low l.value l.weight (last_group last.0 last.1)) (tenth_group l.value l.weight l.counter (omega arith)) l.invariant.so_far c.in_ok-last.ensures.takes in
     elim c.then-last-lt128.branch [
-      | then-last-lt128-via-then-last-lt128 w ↦ SoFar-refuses read_stop _ _ _ refl (is_low l.value l.weight c.in_ok-last.last w.if-last-lt128.true) step
-      | then-last-lt128-via-else-last-lt128+then-last-gt1 w ↦ SoFar-refuses read_stop _ _ _ refl (is_large l.value l.weight c.in_ok-last.last w.if-last-gt1.true) step
+      | then-last-lt128-via-then-last-lt128 w ↦ SoFar-refuses read_stop _ _ _ refl (tt, λ is. cc) (is_low l.value l.weight c.in_ok-last.last w.if-last-lt128.true) step
+      | then-last-lt128-via-else-last-lt128+then-last-gt1 w ↦ SoFar-refuses read_stop _ _ _ refl (tt, λ is. cc) (is_large l.value l.weight c.in_ok-last.last w.if-last-gt1.true) step
     ]
 
 pub returns-clause-takes : goal.returns-clause-takes

@@ -11,4 +11,5 @@ returns-in-Ok-Some-clause-takes g c =
       stays_known = c.in-Ok-Some.ensures.is_known;
       counts = c.in-Ok-Some.ensures.failures;
       rises = omega arith;
+      may_stop = tt;
     }

@@ -11,4 +11,5 @@ returns-in-Some-clause-takes g c =
       stays_known = gave.is_known;
       counts = gave.failures;
       rises = omega arith;
+      may_stop = tt;
     }

@@ -8,17 +8,17 @@ use Rattle.tv_legacy.proofs.take.take_nonblank.Goals as goal
 pub loop-byte-init : goal.loop-byte-init
 loop-byte-init g c = SoFar-start _ _ _ _ _ _ _ (λ bytes. refl)
 
-pub returns-in_err-byte-clause-takes : goal.returns-in_err-byte-clause-takes
-returns-in_err-byte-clause-takes g c =
+pub returns-in_err-byte : goal.returns-in_err-byte
+returns-in_err-byte g c =
     let p = err_from_is_err_and c.from_residual.result c.from_residual.ensures.1 in
-    rw (p.1, p.2) (SoFar-fails _ _ (λ x. nonblank_from x.0 x.1) by_byte c.loop-byte.invariant c.in_err-byte.ensures.takes)
+    record { takes = rw (p.1, p.2) (SoFar-fails _ _ (λ x. nonblank_from x.0 x.1) by_byte c.loop-byte.invariant c.in_err-byte.ensures.takes) }
 
 pub loop-byte-preserved : goal.loop-byte-preserved
 loop-byte-preserved g c =
     let step = SoFar-step (λ x. nonblank_from x.0 x.1) by_byte c.loop-byte.invariant c.in_ok-byte.ensures.takes in
     SoFar-is _ (is_skipped c.in_ok-byte.byte (sym c.is_blank.ensures ∙ c.if-not-is_blank.false)) step
 
-pub returns-then-not-is_blank-clause-takes : goal.returns-then-not-is_blank-clause-takes
-returns-then-not-is_blank-clause-takes g c =
+pub returns-then-not-is_blank : goal.returns-then-not-is_blank
+returns-then-not-is_blank g c =
     let step = SoFar-step (λ x. nonblank_from x.0 x.1) by_byte c.loop-byte.invariant c.in_ok-byte.ensures.takes in
-    SoFar-returns read_stop _ _ (is_nonblank c.in_ok-byte.byte (sym c.is_blank.ensures ∙ c.if-not-is_blank.true)) step
+    record { takes = SoFar-returns read_stop _ _ (is_nonblank c.in_ok-byte.byte (sym c.is_blank.ensures ∙ c.if-not-is_blank.true)) step }

@@ -1,7 +1,7 @@
 use Rattle.std.proofs.Common.{◌≡◌, ◌+◌, arith, ap, refl, subst, length, ◌∙◌, ◌++◌, ◌∷◌, []}
 use Rattle.std.proofs.lemmas.Result.{err_from_is_err_and}
 use Rattle.tv_base.specs.Take.{read_stop}
-use Rattle.tv_base.proofs.TakeSteps.{SoFar-start, SoFar-is, SoFar-step, SoFar-fails, SoFar-stops}
+use Rattle.tv_base.proofs.TakeSteps.{lean, SoFar-start, SoFar-is, SoFar-step, SoFar-fails, SoFar-stops}
 use Rattle.tv_legacy.proofs.Steps.{rest_from, rest_by_byte, is_open, first_brace, first_depth, first_place, next_depth, next_place, next_bound}
 use Rattle.tv_base.specs.declared.read_error.ReadError.TheVariants.{Memory}
 use Rattle.tv_legacy.specs.LegacyScan.{brace_count}
@@ -15,20 +15,20 @@ loop-scan-init g c = record {
   so_far = SoFar-start _ _ _ _ _ _ _ (first_brace _ c.requires);
 }
 
-pub returns-in_err-byte-clause-takes : goal.returns-in_err-byte-clause-takes
-returns-in_err-byte-clause-takes g c =
+pub returns-in_err-byte : goal.returns-in_err-byte
+returns-in_err-byte g c =
     let l = c.loop-scan in
     let p = err_from_is_err_and c.from_residual.result c.from_residual.ensures.1 in
     let going = SoFar-is _ (is_open l.slice.items l.scan.depth l.invariant.depth c.loop-scan-test.true) l.invariant.so_far in
-    rw (p.1, p.2) (SoFar-fails _ _ (λ x. rest_from (l.slice.items ++ x.0 ∷ []) x.1) (rest_by_byte l.slice.items) going c.in_err-byte.ensures.takes)
+    record { takes = rw (p.1, p.2) (SoFar-fails _ _ (λ x. rest_from (l.slice.items ++ x.0 ∷ []) x.1) (rest_by_byte l.slice.items) going (lean c.in_err-byte.ensures.takes)) }
 
-pub returns-in_err-push-clause-takes : goal.returns-in_err-push-clause-takes
-returns-in_err-push-clause-takes g c =
+pub returns-in_err-push : goal.returns-in_err-push
+returns-in_err-push g c =
     let l = c.loop-scan in
     let going = SoFar-is _ (is_open l.slice.items l.scan.depth l.invariant.depth c.loop-scan-test.true) l.invariant.so_far in
     let step = SoFar-step (λ x. rest_from (l.slice.items ++ x.0 ∷ []) x.1) (rest_by_byte l.slice.items) going c.in_ok-byte.ensures.takes in
     let p = err_from_is_err_and c.from_residual-in_err-push.result c.from_residual-in_err-push.ensures.1 in
-    rw (p.1, p.2) (SoFar-stops read_stop _ Memory refl step)
+    record { takes = rw (p.1, p.2) (SoFar-stops read_stop _ Memory refl tt step) }
 
 pub loop-scan-preserved : goal.loop-scan-preserved
 loop-scan-preserved g c =

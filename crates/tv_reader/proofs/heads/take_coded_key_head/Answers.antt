@@ -3,14 +3,14 @@ use Rattle.tv_format.specs.InputError.{ErrorInCodedKey}
 use Rattle.tv_reader.specs.Heads.{CodedLength}
 use Rattle.tv_reader.proofs.AgreeKinds.{kind_agrees}
 use Rattle.tv_reader.proofs.BehindKinds.{code_key}
-use Rattle.tv_reader.proofs.Finding.{finds_part_fails}
+use Rattle.tv_reader.proofs.Finding.{finds_part_fails, raised_lean}
 use Rattle.tv_reader.proofs.HeadSteps.{key_length_found, key_length_fails, key_length_refused}
 use Rattle.tv_reader.proofs.heads.take_coded_key_head.Goals as goal
 
 pub returns-in_err-kind-clause-finds : goal.returns-in_err-kind-clause-finds
 returns-in_err-kind-clause-finds g c =
     let p = err_from_is_err_and c.from_residual.result c.from_residual.ensures.1 in
-    rw (p.1, p.2) (finds_part_fails CodedLength ErrorInCodedKey g.met.S.ByteSource.are_bytes kind_agrees code_key c.in_err-kind.ensures.takes)
+    rw (p.1, p.2) (finds_part_fails CodedLength ErrorInCodedKey raised_lean g.met.S.ByteSource.are_bytes kind_agrees code_key c.in_err-kind.ensures.takes)
 
 pub returns-in_err-len-in-String-clause-finds : goal.returns-in_err-len-in-String-clause-finds
 returns-in_err-len-in-String-clause-finds g c =

@@ -3,7 +3,7 @@ use Rattle.tv_reader.specs.Trees.{NoValue}
 use Rattle.tv_reader.specs.Version.{version_of}
 use Rattle.tv_reader.proofs.AgreeKinds.{kind_agrees}
 use Rattle.tv_reader.proofs.BehindKinds.{code_value}
-use Rattle.tv_reader.proofs.Finding.{finds_part_fails}
+use Rattle.tv_reader.proofs.Finding.{finds_part_fails, raised_lean}
 use Rattle.tv_reader.proofs.HeadSteps.{HeadEncoded, head_found, head_fails}
 use Rattle.tv_reader.proofs.heads.take_head.Goals as goal
 
@@ -11,7 +11,7 @@ pub returns-in_err-kind-clause-finds : goal.returns-in_err-kind-clause-finds
 returns-in_err-kind-clause-finds g c =
     let p = err_from_is_err_and c.from_residual.result c.from_residual.ensures.1 in
     let v = version_of c.args.version in
-    rw (p.1, p.2) (finds_part_fails (HeadEncoded c.args.version) (NoValue v) g.met.S.ByteSource.are_bytes kind_agrees (code_value v) c.in_err-kind.ensures.takes)
+    rw (p.1, p.2) (finds_part_fails (HeadEncoded c.args.version) (NoValue v) raised_lean g.met.S.ByteSource.are_bytes kind_agrees (code_value v) c.in_err-kind.ensures.takes)
 
 pub returns-in_err-head-clause-finds : goal.returns-in_err-head-clause-finds
 returns-in_err-head-clause-finds g c =

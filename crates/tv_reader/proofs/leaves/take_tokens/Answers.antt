@@ -12,20 +12,20 @@ use Rattle.tv_reader.proofs.leaves.take_tokens.Goals as goal
 pub loop-init : goal.loop-init
 loop-init g c = rw c.new-tokens.ensures.items (SoFar-start _ _ _ _ _ _ _ (start token_at c.args.announced))
 
-pub returns-in_err-token-clause-takes : goal.returns-in_err-token-clause-takes
-returns-in_err-token-clause-takes g c =
+pub returns-in_err-token : goal.returns-in_err-token
+returns-in_err-token g c =
     let p = err_from_is_err_and c.from_residual.result c.from_residual.ensures.1 in
     let l = c.loop in
     let prefix = map token_of l.tokens.items in
-    rw (p.1, p.2) (SoFar-fails _ _ (λ x. with_prefix (prefix ++ x.0 ∷ []) (tokens_at (c.args.announced - (l.counter + 1)) x.1)) (next token_at prefix c.args.announced l.counter c.loop-test.true) l.invariant c.in_err-token.ensures.takes)
+    record { takes = rw (p.1, p.2) (SoFar-fails _ _ (λ x. with_prefix (prefix ++ x.0 ∷ []) (tokens_at (c.args.announced - (l.counter + 1)) x.1)) (next token_at prefix c.args.announced l.counter c.loop-test.true) l.invariant c.in_err-token.ensures.takes) }
 
-pub returns-in_err-push-clause-takes : goal.returns-in_err-push-clause-takes
-returns-in_err-push-clause-takes g c =
+pub returns-in_err-push : goal.returns-in_err-push
+returns-in_err-push g c =
     let p = err_from_is_err_and c.from_residual-in_err-push.result c.from_residual-in_err-push.ensures.1 in
     let l = c.loop in
     let prefix = map token_of l.tokens.items in
     let step = SoFar-step (λ x. with_prefix (prefix ++ x.0 ∷ []) (tokens_at (c.args.announced - (l.counter + 1)) x.1)) (next token_at prefix c.args.announced l.counter c.loop-test.true) l.invariant c.in_ok-token.ensures.takes in
-    rw (p.1, p.2) (SoFar-stops read_stop _ Memory refl step)
+    record { takes = rw (p.1, p.2) (SoFar-stops read_stop _ Memory refl tt step) }
 
 pub loop-preserved : goal.loop-preserved
 loop-preserved g c =
@@ -35,7 +35,7 @@ loop-preserved g c =
     let more : map token_of c.push.new.self.items ≡ prefix ++ token_of c.in_ok-token.token ∷ [] = ap (map token_of) c.in_ok-push.ensures.items ∙ map_push token_of l.tokens.items c.in_ok-token.token in
     rw more step
 
-pub returns-clause-takes : goal.returns-clause-takes
-returns-clause-takes g c =
+pub returns : goal.returns
+returns g c =
     let l = c.loop in
-    SoFar-returns read_stop _ _ (none token_at (map token_of l.tokens.items) c.args.announced l.counter (omega arith)) l.invariant
+    record { takes = SoFar-returns read_stop _ _ (none token_at (map token_of l.tokens.items) c.args.announced l.counter (omega arith)) l.invariant }

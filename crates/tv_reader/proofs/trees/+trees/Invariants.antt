@@ -1,5 +1,5 @@
 use Rattle.std.proofs.Common.{◌-◌, ◌+◌, ◌*◌, ◌^◌, Ok}
-use Rattle.tv_reader.specs.Finds.{Finds}
+use Rattle.tv_reader.specs.Finds.{FindsRoomy}
 use Rattle.tv_reader.specs.Trees.{EncodesItems, EncodesMembers}
 use Rattle.tv_reader.specs.Version.{version_of}
 use Rattle.tv_reader.proofs.trees.+trees.Given as goal
@@ -23,10 +23,10 @@ decreases-take_behind g l = 4 * (2 ^ 64 - l.count.now) + 3
 abbrev pub invariant-take_items-loop : goal.invariant-take_items-loop
 invariant-take_items-loop g l =
     let source = g.S.ByteSource in
-    Finds source.is_known source.left source.failures l.initial.source l.initial.count l.source l.count (Ok l.items) (EncodesItems (version_of l.version) l.counter) (λ w r. ⊥)
+    FindsRoomy source.is_known source.left source.failures l.initial.source l.initial.count l.source l.count (Ok l.items) (EncodesItems (version_of l.version) l.counter) (λ w r. ⊥)
 
 -- the keys and values so far are
 abbrev pub invariant-take_members-loop : goal.invariant-take_members-loop
 invariant-take_members-loop g l =
     let source = g.S.ByteSource in
-    Finds source.is_known source.left source.failures l.initial.source l.initial.count l.source l.count (Ok l.members) (EncodesMembers (version_of l.version) l.counter) (λ w r. ⊥)
+    FindsRoomy source.is_known source.left source.failures l.initial.source l.initial.count l.source l.count (Ok l.members) (EncodesMembers (version_of l.version) l.counter) (λ w r. ⊥)

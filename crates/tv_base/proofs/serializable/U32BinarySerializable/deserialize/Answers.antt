@@ -1,8 +1,8 @@
-use Rattle.tv_base.proofs.ByGrammar.{by_grammar}
+use Rattle.tv_base.proofs.ByGrammar.{by_grammar_lean}
 use Rattle.tv_base.proofs.AgreeWidths.{u32_agrees}
 use Rattle.tv_base.proofs.serializable.U32BinarySerializable.deserialize.Goals as goal
 
-pub returns-clause-reads : goal.returns-clause-reads
-returns-clause-reads g c =
+pub returns : goal.returns
+returns g c =
     let source = g.S.ByteSource in
-    by_grammar source.is_known source.left source.failures g.met.S.ByteSource.are_bytes _ _ _ _ _ u32_agrees c.take_u32.ensures.takes c.take_u32.ensures.too_long
+    record { reads = by_grammar_lean source.is_known source.left source.failures g.met.S.ByteSource.are_bytes _ _ _ _ _ u32_agrees c.take_u32.ensures.takes }

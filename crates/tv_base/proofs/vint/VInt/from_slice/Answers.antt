@@ -1,4 +1,4 @@
-use Rattle.std.proofs.Common.{◌≡◌, ◌≤◌, length, take, Err, None, refl, ap, subst, ◌∙◌, arith}
+use Rattle.std.proofs.Common.{◌≡◌, ◌≤◌, length, take, Err, None, refl, subst, ◌∙◌, arith}
 use Rattle.tv_base.specs.declared.cause.Cause.{Cause}
 use Rattle.tv_base.specs.Number.{VNum}
 use Rattle.tv_base.specs.ErrorInPart.{ErrorInNumber}
@@ -20,7 +20,7 @@ returns-in-Ok-clause-only c = λ m prefix tail joined encodes.
 refused : (c : goal.In-Err) → (cause : Cause) × (vint_at c.new-source.result.rest.now ≡ Err (cause, c.take_vint.new.source.rest.now))
 refused c =
     let takes = c.in-Err.ensures.takes in
-    number_refused c.new-source.result.rest.now c.take_vint.new.source.rest.now c.take_vint.new.count c.in-Err.field-0 (record { number = 0; last = None }) refl (omega (arith, c.take_vint.ensures.few)) (λ is. c.in-Err.ensures.spares (ap (λ e. Err e) is)) (takes.gives tt) takes.counts
+    number_refused c.new-source.result.rest.now c.take_vint.new.source.rest.now c.take_vint.new.count c.in-Err.field-0 (record { number = 0; last = None }) refl (omega (arith, c.take_vint.ensures.few)) c.in-Err.ensures.takes.may_stop.1 (takes.gives tt) takes.counts
 
 pub returns-in-Err-clause-only : goal.returns-in-Err-clause-only
 returns-in-Err-clause-only c = λ m prefix tail joined encodes. no_number c.new-source.result.rest.now c.take_vint.new.source.rest.now (refused c) m prefix tail (c.new-source.ensures ∙ joined) encodes

@@ -2,13 +2,13 @@ use Rattle.std.proofs.lemmas.Result.{err_from_is_err_and}
 use Rattle.tv_heap.proofs.TypeBytes.{no_byte_read, other_byte_read}
 use Rattle.tv_heap.proofs.value_type.ValueTypeBinarySerializable.deserialize.Goals as goal
 
-pub returns-in_err-code-clause-reads : goal.returns-in_err-code-clause-reads
-returns-in_err-code-clause-reads g c =
+pub returns-in_err-code : goal.returns-in_err-code
+returns-in_err-code g c =
     let p = err_from_is_err_and c.from_residual.result c.from_residual.ensures.1 in
     let source = g.S.ByteSource in
-    rw (p.1, p.2) (no_byte_read source.is_known source.left source.failures _ _ _ c.in_err-code.ensures.reads)
+    record { reads = rw (p.1, p.2) (no_byte_read source.is_known source.left source.failures _ _ _ c.in_err-code.ensures.reads) }
 
-pub returns-in-None-clause-reads : goal.returns-in-None-clause-reads
-returns-in-None-clause-reads g c =
+pub returns-in-None : goal.returns-in-None
+returns-in-None g c =
     let source = g.S.ByteSource in
-    other_byte_read source.is_known source.left source.failures _ _ _ c.in-None.ensures.none c.in_ok-code.ensures.reads
+    record { reads = other_byte_read source.is_known source.left source.failures _ _ _ c.in-None.ensures.none c.in_ok-code.ensures.reads }

@@ -15,7 +15,7 @@ returns-in_err-go_on-clause-reads g c =
 pub returns-clause-reads : goal.returns-clause-reads
 returns-clause-reads g c =
     let t = c.take_behind-answer.ensures in
-    told_reads c.args.self.reader.now _ c.take_behind-answer.result (EncodesBehind (version_of c.args.self.reader.now.version) c.args.self.kind) (NoneBehind (version_of c.args.self.reader.now.version) c.args.self.kind) c.in_ok-go_on.ensures.ok t.finds t.roomy refl refl refl c.is_err-reader.ensures.value
+    told_reads c.args.self.reader.now _ c.take_behind-answer.result (EncodesBehind (version_of c.args.self.reader.now.version) c.args.self.kind) (NoneBehind (version_of c.args.self.reader.now.version) c.args.self.kind) c.in_ok-go_on.ensures.ok t.finds refl refl refl c.is_err-reader.ensures.value
 
 pub returns-in_err-go_on-clause-only : goal.returns-in_err-go_on-clause-only
 returns-in_err-go_on-clause-only g c = tree_only (version_of c.args.self.reader.now.version) c.args.self.kind (returns-in_err-go_on-clause-reads g c)

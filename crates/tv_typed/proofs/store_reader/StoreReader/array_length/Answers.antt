@@ -2,6 +2,7 @@ use Rattle.std.proofs.lemmas.Result.{err_from_is_err_and}
 use Rattle.tv_reader.specs.declared.value_type.ValueType.TheVariants as types
 use Rattle.tv_typed.specs.Lists.{element_total}
 use Rattle.tv_typed.proofs.ListSteps.{length_mismatch, elements_read}
+use Rattle.tv_base.proofs.TakeSteps.{lean}
 use Rattle.tv_typed.proofs.TypedSteps.{raised_spares, mismatch_spares}
 use Rattle.tv_typed.proofs.store_reader.StoreReader.array_length.Goals as goal
 
@@ -15,7 +16,7 @@ pub returns-clause-reads : goal.returns-clause-reads
 returns-clause-reads g c =
     let e = c.in_ok-expect.ensures in
     let m = c.marked.ensures in
-    elements_read c.args.self.now c.expect.new.self c.marked.new.self c.marked.result c.args.kind g.met.S.ByteSource.are_bytes e.ok.2 e.ok.0 e.source e.count e.version c.take_vint-answer.ensures.takes m.source m.count m.version m.marks m.told
+    elements_read c.args.self.now c.expect.new.self c.marked.new.self c.marked.result c.args.kind g.met.S.ByteSource.are_bytes e.ok.2 e.ok.0 e.source e.count e.version (lean c.take_vint-answer.ensures.takes) m.source m.count m.version m.marks m.told
 
 pub returns-in_err-expect-clause-spares : goal.returns-in_err-expect-clause-spares
 returns-in_err-expect-clause-spares g c =
@@ -23,4 +24,4 @@ returns-in_err-expect-clause-spares g c =
     rw (p.1, p.2) (mismatch_spares (λ same. cc) c.in_err-expect.ensures.err)
 
 pub returns-clause-spares : goal.returns-clause-spares
-returns-clause-spares g c = raised_spares c.take_vint-answer.result c.marked.result c.marked.ensures.told c.take_vint-answer.ensures.spares
+returns-clause-spares g c = raised_spares c.take_vint-answer.result c.marked.result _ c.marked.ensures.told c.take_vint-answer.ensures.takes.may_stop

@@ -3,6 +3,7 @@ use Rattle.std.proofs.lemmas.Result.{err_from_is_err_and}
 use Rattle.tv_reader.specs.ValueType.{IsCoded}
 use Rattle.tv_typed.specs.Values.{CodeRefused, in_code}
 use Rattle.tv_reader.proofs.AgreeKinds.{kind_agrees}
+use Rattle.tv_base.proofs.TakeSteps.{lean}
 use Rattle.tv_typed.proofs.TypedSteps.{reads_closed, reads_part, raised_spares}
 use Rattle.tv_typed.proofs.store_reader.StoreReader.code.Goals as goal
 
@@ -15,7 +16,7 @@ returns-in_err-go_on-clause-reads g c =
 pub returns-clause-reads : goal.returns-clause-reads
 returns-clause-reads g c =
     let m = c.marked.ensures in
-    reads_part c.args.self.now c.marked.new.self c.marked.result IsCoded CodeRefused g.met.S.ByteSource.are_bytes kind_agrees (λ a x h. h) (λ w d f. in_code f) c.in_ok-go_on.ensures.ok c.take_kind-answer.ensures.takes m.source m.count m.version m.marks m.told
+    reads_part c.args.self.now c.marked.new.self c.marked.result IsCoded CodeRefused g.met.S.ByteSource.are_bytes kind_agrees (λ a x h. h) (λ w d f. in_code f) c.in_ok-go_on.ensures.ok (lean c.take_kind-answer.ensures.takes) m.source m.count m.version m.marks m.told
 
 pub returns-in_err-go_on-clause-spares : goal.returns-in_err-go_on-clause-spares
 returns-in_err-go_on-clause-spares g c =
@@ -23,4 +24,4 @@ returns-in_err-go_on-clause-spares g c =
     rw (p.1, p.2, c.in_err-go_on.ensures.err.0) (λ is. absurd cc)
 
 pub returns-clause-spares : goal.returns-clause-spares
-returns-clause-spares g c = raised_spares c.take_kind-answer.result c.marked.result c.marked.ensures.told c.take_kind-answer.ensures.spares
+returns-clause-spares g c = raised_spares c.take_kind-answer.result c.marked.result _ c.marked.ensures.told c.take_kind-answer.ensures.takes.may_stop

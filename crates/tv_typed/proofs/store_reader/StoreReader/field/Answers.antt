@@ -13,7 +13,7 @@ returns-in_err-go_on-clause-reads g c =
 pub returns-clause-reads : goal.returns-clause-reads
 returns-clause-reads g c =
     let t = c.take_field-answer.ensures in
-    field_reads c.args.self.now _ c.take_field-answer.result g.met.S.ByteSource.are_bytes c.in_ok-go_on.ensures.ok t.takes t.roomy refl refl refl c.is_err-self.ensures.value
+    field_reads c.args.self.now _ c.take_field-answer.result g.met.S.ByteSource.are_bytes c.in_ok-go_on.ensures.ok t.takes refl refl refl c.is_err-self.ensures.value
 
 pub returns-in_err-go_on-clause-spares : goal.returns-in_err-go_on-clause-spares
 returns-in_err-go_on-clause-spares g c =

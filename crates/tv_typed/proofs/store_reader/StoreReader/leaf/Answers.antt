@@ -47,4 +47,4 @@ returns-in_err-expect-clause-spares g c =
     λ spared. rw (p.1, p.2) (mismatch_spares (λ same. cc) c.in_err-expect.ensures.err)
 
 pub returns-clause-spares : goal.returns-clause-spares
-returns-clause-spares g c = λ spared. raised_spares c.take-answer.result c.marked.result c.marked.ensures.told (c.take-answer.ensures.spares spared)
+returns-clause-spares g c = λ spared. raised_spares c.take-answer.result c.marked.result _ c.marked.ensures.told (c.take-answer.ensures.spares spared)
