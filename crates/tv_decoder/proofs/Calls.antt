@@ -101,7 +101,7 @@ fills_at (Some n) (Some f) d old new ps has h is t full = record { announced = n
 
 pub fills : (r : Reading) (s : State) (ps : List Part) → IsSound r → HasField r.field → IsState s → Trades (parts_of (state_of r.builder) ++ ps) (parts_of s) → Overfull r.builder s → Fills r ps
 fills r s ps sound has is t full =
-    let k = fills_at r.announced r.field (built r.builder) (state_of r.builder) s ps has sound.place is t full in
+    let k = fills_at r.announced r.field (built r.builder) (state_of r.builder) s ps has sound.place is t full.room in
     record { announced = k.announced; finished = built r.builder; field = k.field; state = k.state; less = k.less; is = k.is; trades = k.trades; full = k.full }
 
 -- ---- the call, and what it answers

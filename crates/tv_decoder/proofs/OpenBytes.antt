@@ -172,7 +172,7 @@ end_refused r new b e h c = refused e c (ended r.builder b (Err e) h.live (ends_
 
     refused : (e : BuildError) → Ends r.builder b (Err e) → CalledEnd r.builder b (Err e) → PutsEnd r new (Err (build_error e))
     refused HeapFull c k =
-        let f = end_fills_at r.announced r.field (built r.builder) s 0 h.ending (and_end_is s (is_state r.builder)) (end_trades s (is_state r.builder) (ends_all r h) k.0) k.1 in
+        let f = end_fills_at r.announced r.field (built r.builder) s 0 h.ending (and_end_is s (is_state r.builder)) (end_trades s (is_state r.builder) (ends_all r h) k.0) (k.1).room in
         record { announced = f.announced; finished = built r.builder; field = f.field; state = f.state; less = f.less; is = f.is; trades = f.trades; full = f.full }
     refused Memory c k = tt
     refused NotUtf8 c k = k
@@ -227,16 +227,16 @@ bytes_from_end r mid new more ps (Err (errors.Io k)) t map h = absurd h
 bytes_from_end r mid new more ps (Err errors.AlreadyFailed) t map h = absurd h
 
 -- some bytes were refused: for want of memory alone
-pub bytes_refused : (r new : Reading) (b : PairBuilder) (in_place fits : Type 0) (after : State → State) (more : List ℕ) (ps : List Part) (e : BuildError) → r.builder.failed ≡ false → in_place → Builds r.builder b in_place fits after (Err e)
+pub bytes_refused : (r new : Reading) (b : PairBuilder) (in_place fits : Type 0) (after : State → State) (more : List ℕ) (ps : List Part) (e : BuildError) → r.builder.failed ≡ false → in_place → Builds r.builder b in_place fits after (Err e) → ¬ IsErrOf {T = Unit {0}} (Err e) HeapFull
     → PutsBytes r new more ps (Err (build_error e))
-bytes_refused r new b in_place fits after more ps e live here c = refused e (subst (λ z. BuildsIf z r.builder b in_place fits after (Err e)) live c)
+bytes_refused r new b in_place fits after more ps e live here c roomy = refused e roomy (subst (λ z. BuildsIf z r.builder b in_place fits after (Err e)) live c)
   where
-    refused : (e : BuildError) → BuildsIf false r.builder b in_place fits after (Err e) → PutsBytes r new more ps (Err (build_error e))
-    refused HeapFull k = absurd k.1
-    refused Memory k = tt
-    refused NotUtf8 k = absurd k
-    refused AlreadyFailed k = absurd k
-    refused OutOfPlace k = absurd (k.0 here)
+    refused : (e : BuildError) → ¬ IsErrOf {T = Unit {0}} (Err e) HeapFull → BuildsIf false r.builder b in_place fits after (Err e) → PutsBytes r new more ps (Err (build_error e))
+    refused HeapFull roomy k = absurd (roomy refl)
+    refused Memory roomy k = tt
+    refused NotUtf8 roomy k = absurd k
+    refused AlreadyFailed roomy k = absurd k
+    refused OutOfPlace roomy k = absurd (k.0 here)
 
 ending_at : (a f : Option ℕ) (d : Document) (old new : State) → HasField f → IsPlace a d f old → HasAllBytes new → IsEnding a d f new
 ending_at None None d old new has h all = absurd has

@@ -1,4 +1,5 @@
-use Rattle.std.proofs.Common.{◌-◌, length, ap, subst, refl, take, arith}
+use Rattle.std.proofs.Common.{◌-◌, length, subst, refl, take, arith}
+use Rattle.tv_builder.proofs.Documents.{document_length}
 use Rattle.tv_format.specs.WriteVersion.{written_version}
 use Rattle.tv_reader.specs.Version.{version_of}
 use Rattle.tv_decoder.specs.Buffered.{AddsPairs}
@@ -24,14 +25,14 @@ returns-then-taken-eq0-clause-finds g c =
     none_passed (λ b m. AddsPairs v old new b m) n (subst (λ z. AddsPairs v old new (take z lent) n) c.if-taken-eq0.true here)
 
 pub take_back-requires : goal.take_back-requires
-take_back-requires g c = (c.args.document.now, stood_in c.args.document.now c.add_encoded-added.new.self _ _ c.add_encoded-added.ensures.added c.len-pairs.ensures (ap length c.node_data-heap.ensures))
+take_back-requires g c = (c.args.document.now, stood_in c.args.document.now c.add_encoded-added.new.self _ _ c.add_encoded-added.ensures.added (omega (arith, c.len-pairs.ensures, c.args.document.now.pairs.ok.0, document_length c.args.document.now)) (omega (arith, c.len-heap.ensures, c.args.document.now.heap.ok.0)))
 
 pub returns-then-not-pass-clause-finds : goal.returns-then-not-pass-clause-finds
 returns-then-not-pass-clause-finds g c =
     let v = version_of c.args.version in
     let old = c.args.document.now in
     let new = c.take_back.new.self in
-    let stood = stood_in old c.add_encoded-added.new.self _ _ c.add_encoded-added.ensures.added c.len-pairs.ensures (ap length c.node_data-heap.ensures) in
+    let stood = stood_in old c.add_encoded-added.new.self _ _ c.add_encoded-added.ensures.added (omega (arith, c.len-pairs.ensures, c.args.document.now.pairs.ok.0, document_length c.args.document.now)) (omega (arith, c.len-heap.ensures, c.args.document.now.heap.ok.0)) in
     let back = none_kept v old new (c.take_back.ensures old stood) in
     let pass = c.if-not-pass.ensures in
     not_passed (λ b m. AddsPairs v old new b m) 0 back pass.bytes pass.is_known pass.failures

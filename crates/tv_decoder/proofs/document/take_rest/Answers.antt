@@ -20,7 +20,7 @@ loop-init g c =
 
 pub returns-then-is_done-clause-finds : goal.returns-then-is_done-clause-finds
 returns-then-is_done-clause-finds g c =
-    all_finished (version_of c.args.version) c.args.begun c.loop.reading c.into_doc.result c.loop.invariant.0 (c.is_done.ensures.0 c.if-is_done.true) c.into_doc.ensures.document c.loop.invariant.1
+    all_finished (version_of c.args.version) c.args.begun c.loop.reading c.into_pairs.result c.loop.invariant.0 (c.is_done.ensures.0 c.if-is_done.true) c.into_pairs.ensures.document c.loop.invariant.1
 
 pub returns-in_err-advance-clause-finds : goal.returns-in_err-advance-clause-finds
 returns-in_err-advance-clause-finds g c =

@@ -14,7 +14,7 @@ returns-in-Err-clause-puts c =
     let r = c.args.self.now in
     let w = c.requires.awaiting in
     let refused = bytes_refused r (with_builder r c.chunk.new.self) c.chunk.new.self _ _ (λ s. and_bytes s c.args.bytes.now) c.args.bytes.now (some_bytes c.args.bytes.now ∷ []) c.in-Err.error w.sound.live
-    (takes_bytes (state_of r.builder) c.args.missing (length c.args.bytes.now) (is_state r.builder) w.next c.requires.few) c.in-Err.ensures in
+    (takes_bytes (state_of r.builder) c.args.missing (length c.args.bytes.now) (is_state r.builder) w.next c.requires.few) c.in-Err.ensures.builds c.in-Err.ensures.roomy in
     rw (c.store_error.ensures) refused
 
 pub returns-then-bytes-missing : goal.returns-then-bytes-missing
@@ -26,11 +26,11 @@ returns-then-bytes-missing c =
     let bytes = c.args.bytes.now in
     let takes = takes_bytes s c.args.missing (length bytes) (is_state r.builder) w.next c.requires.few in
     let mid = with_builder r b in
-    let g = called r.builder b _ _ (λ s. and_bytes s bytes) (Ok c.in_default.field-0) w.sound.live takes c.in_default.ensures in
-    let opened = call_opens r b _ _ _ (λ s. and_bytes s bytes) [] c.in_default.field-0 w takes c.in_default.ensures (bytes_stand s bytes c.args.missing (is_state r.builder) w.next takes c.if-bytes-missing.true) in
+    let g = called r.builder b _ _ (λ s. and_bytes s bytes) (Ok c.in_default.field-0) w.sound.live takes c.in_default.ensures.builds in
+    let opened = call_opens r b _ _ _ (λ s. and_bytes s bytes) [] c.in_default.field-0 w takes c.in_default.ensures.builds (bytes_stand s bytes c.args.missing (is_state r.builder) w.next takes c.if-bytes-missing.true) in
     let more = stays mid opened (bytes_await_more s (state_of b) bytes takes g.state) in
     record {
-      puts = call_puts r b _ _ _ (λ s. and_bytes s bytes) (some_bytes bytes ∷ []) c.in_default.field-0 mid (Ok tt) w takes c.in_default.ensures (bytes_trades s bytes takes) more;
+      puts = call_puts r b _ _ _ (λ s. and_bytes s bytes) (some_bytes bytes ∷ []) c.in_default.field-0 mid (Ok tt) w takes c.in_default.ensures.builds (bytes_trades s bytes takes) more;
       left = tt;
     }
 
@@ -42,7 +42,7 @@ put_end-requires c =
     let w = c.requires.awaiting in
     let bytes = c.args.bytes.now in
     let takes = takes_bytes s c.args.missing (length bytes) (is_state r.builder) w.next c.requires.few in
-    let g = called r.builder b _ _ (λ s. and_bytes s bytes) (Ok c.in_default.field-0) w.sound.live takes c.in_default.ensures in
+    let g = called r.builder b _ _ (λ s. and_bytes s bytes) (Ok c.in_default.field-0) w.sound.live takes c.in_default.ensures.builds in
     at_end r b (and_bytes s bytes) w.sound w.field g (bytes_all s bytes c.args.missing (is_state r.builder) w.next takes c.if-bytes-missing.false)
 
 pub returns-clause-puts : goal.returns-clause-puts
@@ -53,10 +53,10 @@ returns-clause-puts c =
     let w = c.requires.awaiting in
     let bytes = c.args.bytes.now in
     let takes = takes_bytes s c.args.missing (length bytes) (is_state r.builder) w.next c.requires.few in
-    let g = called r.builder b _ _ (λ s. and_bytes s bytes) (Ok c.in_default.field-0) w.sound.live takes c.in_default.ensures in
+    let g = called r.builder b _ _ (λ s. and_bytes s bytes) (Ok c.in_default.field-0) w.sound.live takes c.in_default.ensures.builds in
     let all = subst HasAllBytes (sym g.state) (bytes_all s bytes c.args.missing (is_state r.builder) w.next takes c.if-bytes-missing.false) in
     bytes_from_end r (with_builder r b) c.put_end.new.self bytes (some_bytes bytes ∷ []) c.put_end.result
-    (call_lead r b _ _ _ (λ s. and_bytes s bytes) (some_bytes bytes ∷ []) c.in_default.field-0 w takes c.in_default.ensures (bytes_trades s bytes takes))
+    (call_lead r b _ _ _ (λ s. and_bytes s bytes) (some_bytes bytes ∷ []) c.in_default.field-0 w takes c.in_default.ensures.builds (bytes_trades s bytes takes))
     (λ none. end_no_text s (state_of b) bytes takes all g.state none) c.put_end.ensures.puts
 
 pub returns-clause-left : goal.returns-clause-left
@@ -64,4 +64,4 @@ returns-clause-left c =
     let r = c.args.self.now in
     let w = c.requires.awaiting in
     let takes = takes_bytes (state_of r.builder) c.args.missing (length c.args.bytes.now) (is_state r.builder) w.next c.requires.few in
-    call_left r c.chunk.new.self _ _ _ (λ s. and_bytes s c.args.bytes.now) [] c.in_default.field-0 c.put_end.new.self c.put_end.result w takes c.in_default.ensures c.put_end.ensures.left
+    call_left r c.chunk.new.self _ _ _ (λ s. and_bytes s c.args.bytes.now) [] c.in_default.field-0 c.put_end.new.self c.put_end.result w takes c.in_default.ensures.builds c.put_end.ensures.left

@@ -25,5 +25,5 @@ returns-clause-finds g c =
     let r = c.args.self in
     let new = c.between_pairs.result in
     finds_as new (λ b z. Advances Legacy v r z b) Nothing
-    (λ a h. reading_goes v r new c.in-Some-None.announced _ c.into_doc-document.result c.take_buffered_pairs-more.new.document a c.in-Some-None.is-0 c.in-Some-None.is-1 c.into_doc-document.ensures.document h c.between_pairs.ensures.parts)
+    (λ a h. reading_goes v r new c.in-Some-None.announced _ c.into_pairs-document.result c.take_buffered_pairs-more.new.document a c.in-Some-None.is-0 c.in-Some-None.is-1 c.into_pairs-document.ensures.document h c.between_pairs.ensures.parts)
     c.take_buffered_pairs-more.ensures.finds
