@@ -17,4 +17,7 @@ pub mod CallsTrade
 pub mod Paid
 pub mod Weighing
 pub mod Encoding
-pub mod JsonValues
+pub mod Rooms
+pub mod Documents
+pub mod Kept
+pub mod EncodedPairs

@@ -13,3 +13,6 @@ pub mod Behind
 pub mod OneState
 pub mod Called
 pub mod EncodedPut
+pub mod Keeping
+pub mod HeldPairs
+pub mod EncodedPairs

@@ -3,11 +3,13 @@
 use Rattle.std.specs.Prelude.{ℕ, List, [], ◌∷◌, ◌++◌, length}
 use Rattle.tv_base.specs.Number.{vnum}
 use Rattle.tv_base.specs.Parts.{short_sized}
-use Rattle.tv_format.specs.Tree.{Leaf, Tree, leaf, array, object, Elements, no_elements, element, Entries, no_entries, entry}
+use Rattle.tv_format.specs.Tree.{Leaf, Tree, leaf, array, object, Elements, no_elements, element, Entries, no_entries, entry, Document}
 use Rattle.tv_heap.specs.LeafBytes.{leaf_bytes, leaf_value_type, leaf_address}
 use Rattle.tv_heap.specs.declared.value_type.ValueType.TheVariants as types
 use Rattle.tv_heap.specs.declared.place.Place.{Place}
 use Rattle.tv_builder.specs.Given.{place_bytes}
+use Rattle.tv_builder.specs.Holds.{pair_at}
+use Rattle.tv_builder.specs.declared.heap_pair.HeapPair.{HeapPair}
 
 -- where a leaf stands that is written at the end of a heap of this length
 abbrev pub leaf_place : ℕ → Leaf → Place
@@ -43,3 +45,13 @@ abbrev mutual
   pub entries_places : List ℕ → Entries → List ℕ
   entries_places heap no_entries = []
   entries_places heap (entry k t es) = (1 ∷ vnum (length heap)) ++ (place_bytes (tree_place (heap ++ short_sized k) t) ++ entries_places (tree_heap (heap ++ short_sized k) t) es)
+
+-- the heap behind the trees of pairs, one after the other
+abbrev pub document_heap : List ℕ → Document → List ℕ
+document_heap heap [] = heap
+document_heap heap (pair ∷ d) = document_heap (tree_heap heap pair.1) d
+
+-- their fields and places
+abbrev pub document_pairs : List ℕ → Document → List HeapPair
+document_pairs heap [] = []
+document_pairs heap (pair ∷ d) = pair_at pair.0 (tree_place heap pair.1) ∷ document_pairs (tree_heap heap pair.1) d

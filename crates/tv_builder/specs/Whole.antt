@@ -5,6 +5,8 @@ use Rattle.tv_base.specs.Sink.{IsPrefix}
 use Rattle.tv_format.specs.Tree.{Tree}
 use Rattle.tv_heap.specs.Room.{room}
 use Rattle.tv_heap.specs.Weight.{tree_weight}
+use Rattle.tv_builder.specs.declared.add_error.AddError.{AddError}
+use Rattle.tv_builder.specs.declared.add_error.AddError.TheVariants as adds
 use Rattle.tv_builder.specs.declared.build_error.BuildError.{BuildError}
 use Rattle.tv_builder.specs.declared.build_error.BuildError.TheVariants.{HeapFull, Memory}
 use Rattle.tv_builder.specs.declared.frame.ListKind.{ListKind}
@@ -31,6 +33,20 @@ WhyNoTree old t _ = ⊥
 pub record PutNot (old : List ℕ) (t : Tree) (new : List ℕ) (e : BuildError) : Type 0 where
   pub prefix : IsPrefix old new
   pub why : WhyNoTree old t e
+
+-- its room, and not only its bytes, is free behind the heap
+pub record PutWithin (old : List ℕ) (t : Tree) (new : List ℕ) (p : Place) : Type 0 where
+  pub put : Put old t new p
+  pub within : length old + room t ≤ 4294967295
+
+-- it isn't, or memory was refused
+abbrev pub WhyNotWithin : List ℕ → Tree → AddError → Type 0
+WhyNotWithin old t adds.HeapFull = 4294967295 < length old + room t
+WhyNotWithin old t adds.Memory = length old + room t ≤ 4294967295
+
+pub record PutNotWithin (old : List ℕ) (t : Tree) (new : List ℕ) (e : AddError) : Type 0 where
+  pub prefix : IsPrefix old new
+  pub why : WhyNotWithin old t e
 
 -- the same of a list's own bytes
 pub record ListPut (old : List ℕ) (kind : ListKind) (own new : List ℕ) (p : Place) : Type 0 where

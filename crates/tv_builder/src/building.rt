@@ -13,10 +13,10 @@ use crate::build_error::BuildError;
 use crate::bytes_kind::BytesKind;
 use crate::fits::has_room;
 use crate::frame::{Frame, ListKind};
-use tv_heap::place::Place;
 use crate::whole::{put_leaf, put_list, put_tree};
 use std::alloc::Global;
 use std::convert::AsStr;
+use tv_heap::place::Place;
 use tv_heap::value_type::ValueType;
 use tv_heap::write::push_place;
 use tv_value::encode::{push_number, push_sized};
@@ -313,7 +313,13 @@ impl Building {
         let Some(mut frame) = self.frames.pop() else {
             return Err(BuildError::Memory);
         };
-        push_place(&mut self.places, ValueType::Str, address)?;
+        push_place(
+            &mut self.places,
+            Place {
+                value_type: ValueType::Str,
+                address,
+            },
+        )?;
         self.pending += 1;
         frame.finished += 1;
         self.frames.push(frame)?;
@@ -328,7 +334,7 @@ impl Building {
     {
         let mut finished = place;
         while let Some(mut frame) = self.frames.pop() {
-            push_place(&mut self.places, finished.value_type, finished.address)?;
+            push_place(&mut self.places, finished)?;
             self.pending += 1;
             frame.finished += 1;
             if frame.lacks() {

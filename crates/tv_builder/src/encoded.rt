@@ -16,11 +16,11 @@ ghost use Rattle.tv_format.specs.WriteVersion.{written_version};
 ghost use Rattle.tv_format.specs.declared.version.WriteVersion.{WriteVersion};
 
 use crate::frame::ListKind;
-use tv_heap::place::Place;
 use crate::whole::{put, put_list};
 use tv_format::leaf_type::{Form, LeafType};
 use tv_format::type_codes::{ARRAY_CODE, OBJECT_CODE, TEXT_CODE, TOK_STR_EXT_CODE};
 use tv_format::version::WriteVersion;
+use tv_heap::place::Place;
 use tv_heap::write::push_place;
 use tv_value::content::LeafContent;
 use tv_value::in_place::{number_at, text_at};
@@ -270,7 +270,7 @@ fn put_encoded_array<'a>(
     let mut rest = behind;
     for _i in 0..announced {
         let (after, place) = put_encoded(rest, version, levels - 1, heap, places)?;
-        let Ok(()) = push_place(places, place.value_type, place.address) else {
+        let Ok(()) = push_place(places, place) else {
             return None;
         };
         rest = after;
@@ -307,11 +307,11 @@ fn put_encoded_object<'a>(
     for _i in 0..announced {
         let (key, behind_key) = key_at(rest, version)?;
         let name = put(heap, &ReferenceValueLeaf::Str(key))?;
-        let Ok(()) = push_place(places, name.value_type, name.address) else {
+        let Ok(()) = push_place(places, name) else {
             return None;
         };
         let (after, place) = put_encoded(behind_key, version, levels - 1, heap, places)?;
-        let Ok(()) = push_place(places, place.value_type, place.address) else {
+        let Ok(()) = push_place(places, place) else {
             return None;
         };
         rest = after;

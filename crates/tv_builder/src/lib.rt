@@ -1,6 +1,7 @@
 //! A value of any depth, written into a heap of bytes as its parts arrive.
 #![tactic(auto)]
 
+pub mod add_error;
 pub mod awaits;
 pub mod build_error;
 pub mod building;
@@ -8,8 +9,7 @@ pub mod bytes_kind;
 pub mod encoded;
 mod fits;
 pub mod frame;
-pub mod json;
-pub mod laws;
 pub mod heap_pair;
 pub mod heap_pairs;
+pub mod laws;
 mod whole;

@@ -5,17 +5,21 @@ ghost use Rattle.tv_base.specs.Sink.{IsPrefix};
 ghost use Rattle.tv_heap.specs.LeafBytes.{leaf_bytes};
 ghost use Rattle.tv_value.specs.Lent.{leaf_of, nested_tree};
 ghost use Rattle.tv_format.specs.Tree.{leaf as leaf_tree, array, object, elements, entries};
-ghost use Rattle.tv_builder.specs.Whole.{Put, PutNot, ListPut, ListPutNot};
+ghost use Rattle.tv_builder.specs.Whole.{Put, PutNot, PutWithin, PutNotWithin};
+ghost use Rattle.tv_builder.specs.Whole.{ListPut, ListPutNot};
 
+use crate::add_error::AddError;
 use crate::build_error::BuildError;
-use crate::fits::{has_room, has_value_room};
+use crate::fits::{has_room, has_ten_times, has_tree_room, has_value_room};
 use crate::frame::ListKind;
-use tv_heap::place::Place;
+use std::alloc::Global;
 use std::convert::AsStr;
 use tv_heap::len::leaf_len;
+use tv_heap::place::Place;
 use tv_heap::write::{push_place, write_leaf, write_list};
 use tv_value::leaf::ReferenceValueLeaf;
-use tv_value::nested::{Nested, NestedValue};
+use tv_value::nested::{Nested, NestedValue, lend};
+use tv_value::value::Value;
 
 // Writes a value without children, and returns its place. After an error the old heap is still a prefix of the new.
 #[inline(always)]
@@ -35,11 +39,8 @@ pub(crate) fn put_leaf(
     if !has_value_room(heap.len(), leaf_len(value)) {
         return Err(BuildError::HeapFull);
     }
-    let (value_type, address) = write_leaf(heap, value)?;
-    Ok(Place {
-        value_type,
-        address,
-    })
+    let place = write_leaf(heap, value)?;
+    Ok(place)
 }
 
 // The same, where the reason of a refusal isn't asked for. After `None` the old heap is still a prefix of the new.
@@ -128,7 +129,7 @@ fn put_array<N: Nested>(
     let first = places.len();
     for item in items {
         let place = put_tree(heap, places, item.as_nested())?;
-        push_place(places, place.value_type, place.address)?;
+        push_place(places, place)?;
     }
     put_list(heap, places, ListKind::Array, first)
 }
@@ -152,9 +153,48 @@ fn put_object<N: Nested>(
     let first = places.len();
     for (key, item) in members {
         let name = put_leaf(heap, &ReferenceValueLeaf::Str(key.as_str()))?;
-        push_place(places, name.value_type, name.address)?;
+        push_place(places, name)?;
         let place = put_tree(heap, places, item.as_nested())?;
-        push_place(places, place.value_type, place.address)?;
+        push_place(places, place)?;
     }
     put_list(heap, places, ListKind::Object, first)
+}
+
+// Writes a value behind a heap where its room is free there, and returns its place.
+//
+// `HeapFull` where the heap's length and the value's room are together above 4294967295; else `Memory` where memory is refused. The old
+// heap is then still a prefix of the new. The value is walked once, and for its room only where ten times its bytes would not fit, or
+// where writing it failed.
+#[inline(always)]
+pub(crate) fn put_within<'a, V: Value<'a>>(
+    alloc: Global,
+    heap: &mut Vec<u8>,
+    value: &V,
+) -> Result<Place, AddError>
+    requires { length heap.old.items ≤ 4294967295 }
+    ensures ok { IfOk result
+        (λ place. PutWithin heap.old.items (V.tree value.now) heap.new.items place) }
+    ensures err { IfErr result
+        (λ e. PutNotWithin heap.old.items (V.tree value.now) heap.new.items e) }
+{
+    let len = heap.len();
+    let mut places = Vec::new(alloc);
+    match put_tree(heap, &mut places, lend(value)) {
+        Ok(place) => {
+            if has_ten_times(len, heap.len()) {
+                return Ok(place);
+            }
+            if !has_tree_room(len, value) {
+                return Err(AddError::HeapFull);
+            }
+            Ok(place)
+        }
+        Err(_) => {
+            if has_tree_room(len, value) {
+                Err(AddError::Memory)
+            } else {
+                Err(AddError::HeapFull)
+            }
+        }
+    }
 }

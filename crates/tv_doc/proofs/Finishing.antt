@@ -20,11 +20,11 @@ use Rattle.tv_builder.specs.OneState.{same_state}
 use Rattle.tv_builder.specs.Shows.{Shows, Stands}
 use Rattle.tv_builder.specs.State.{State, complete, in_lists, in_bytes, written}
 use Rattle.tv_doc.specs.declared.builder.TreeBuilder.{TreeBuilder}
-use Rattle.tv_doc.specs.declared.place.FieldValueAddr.{FieldValueAddr}
+use Rattle.tv_builder.specs.declared.heap_pair.HeapPair.{HeapPair}
 use Rattle.tv_doc.specs.Building.{HoldsPrefix, Kept, KeptNot, WhyNoPair}
 use Rattle.tv_doc.specs.Builder.{built, state_of, heap_so_far, Fails, Finished, FinishesIf, Finishes, IsComplete}
-use Rattle.tv_doc.specs.Holds.{ReadsPairs, Holds, pair_at}
-use Rattle.tv_doc.proofs.Documents.{same_document, pairs_grown, pairs_push}
+use Rattle.tv_builder.specs.Holds.{ReadsPairs, Holds, pair_at}
+use Rattle.tv_builder.proofs.Documents.{same_document, pairs_grown, pairs_push}
 use Rattle.tv_doc.proofs.TreeBuilding.{Answer, Left, Settled, Fields, shows_none, fields_left, fails_now}
 
 both : {A : Type 0} (x : Option A) (a : A) → x ≡ Some a → x ≡ None → ⊥
@@ -66,24 +66,24 @@ reads_at b t at e s =
     let same_at : s.at.at ≡ at = cc in
     subst (λ (p : Place). Reads b.heap.items (type_code p.value_type) p.address t) same_at s.at.placed.reads
 
-abbrev with_pair : (old : TreeBuilder) (mid : Building) (ps : List FieldValueAddr) (kept f : ℕ) (k : Kept old.building mid old.pairs.items ps kept f) → Holds (heap_so_far old) ps
+abbrev with_pair : (old : TreeBuilder) (mid : Building) (ps : List HeapPair) (kept f : ℕ) (k : Kept old.building mid old.pairs.items ps kept f) → Holds (heap_so_far old) ps
 with_pair old mid ps kept f k =
     let w = whole old k.at k.is in
     let heap = heap_so_far old in (
       built old ++ (f, w.tree) ∷ [],
       ∥∥₁_elim old.document.1 ∥∥₁_prop (λ r. ∥∥₁_map w.shows (λ s.
           subst (λ z. ReadsPairs heap z (built old ++ (f, w.tree) ∷ [])) (sym k.pairs)
-          (pairs_push heap old.pairs.items (built old) (pair_at f (k.at.value_type, k.at.address)) (f, w.tree)
+          (pairs_push heap old.pairs.items (built old) (pair_at f k.at) (f, w.tree)
           (pairs_grown (take old.kept heap) heap (drop old.kept heap) old.pairs.items (built old) (sym (take-append-drop old.kept heap)) r)
           (record { field = refl; fits = k.fits; reads = reads_at old.building w.tree k.at k.is s })))),
     )
 
-prefix_is : (old : TreeBuilder) (mid new : Building) (ps : List FieldValueAddr) (kept f : ℕ) → Kept old.building mid old.pairs.items ps kept f → new ≡ mid → take kept new.heap.items ≡ heap_so_far old
+prefix_is : (old : TreeBuilder) (mid new : Building) (ps : List HeapPair) (kept f : ℕ) → Kept old.building mid old.pairs.items ps kept f → new ≡ mid → take kept new.heap.items ≡ heap_so_far old
 prefix_is old mid new ps kept f k e =
     let same_heap : new.heap.items ≡ heap_so_far old = ap (λ (b : Building). b.heap.items) e ∙ k.heap in
     ap (λ z. take kept z) same_heap ∙ take_all kept (heap_so_far old) (omega (arith, k.kept_is))
 
-abbrev after_pair : (old : TreeBuilder) (mid new : Building) (ps : List FieldValueAddr) (kept f : ℕ) → Kept old.building mid old.pairs.items ps kept f → new ≡ mid → Stands new
+abbrev after_pair : (old : TreeBuilder) (mid new : Building) (ps : List HeapPair) (kept f : ℕ) → Kept old.building mid old.pairs.items ps kept f → new ≡ mid → Stands new
 after_pair old mid new ps kept f k e =
     let w = whole old k.at k.is in (
       in_lists [],
@@ -91,7 +91,7 @@ after_pair old mid new ps kept f k e =
           (shows_none mid (omega (arith, ap length k.heap, s.fits)) (k.places ∙ s.at.places_none) (k.pending ∙ s.counted ∙ ap pending_in s.at.frames) (ap reverse k.frames ∙ s.at.frames) k.complete (k.same_bytes ∙ s.at.closed))),
     )
 
-finish_fields_ok : (old : TreeBuilder) (mid new : Building) (ps : List FieldValueAddr) (kept f : ℕ) → Kept old.building mid old.pairs.items ps kept f → new ≡ mid → Fields new kept ps
+finish_fields_ok : (old : TreeBuilder) (mid new : Building) (ps : List HeapPair) (kept f : ℕ) → Kept old.building mid old.pairs.items ps kept f → new ≡ mid → Fields new kept ps
 finish_fields_ok old mid new ps kept f k e =
     let w = whole old k.at k.is in
     let same_heap : new.heap.items ≡ heap_so_far old = ap (λ (b : Building). b.heap.items) e ∙ k.heap in
@@ -113,7 +113,7 @@ left_same old mid e same_is = record { moves = tt; prefix = ([], ap (λ (b : Bui
 settled_as : (mid new : Building) (kept other : ℕ) (failed failed_new : Bool) (r : Answer) → kept ≡ other → Settled mid new kept failed failed_new r → Settled mid new other failed failed_new r
 settled_as mid new kept other failed failed_new r e s = subst (λ n. Settled mid new n failed failed_new r) e s
 
-pub finish_fields : (old : TreeBuilder) (mid new : Building) (ps : List FieldValueAddr) (kept f : ℕ) (failed_new : Bool) (r : Answer) → OnOk r (Kept old.building mid old.pairs.items ps kept f)
+pub finish_fields : (old : TreeBuilder) (mid new : Building) (ps : List HeapPair) (kept f : ℕ) (failed_new : Bool) (r : Answer) → OnOk r (Kept old.building mid old.pairs.items ps kept f)
     → IfErr r (λ e. KeptNot old.building mid old.pairs.items ps old.kept kept e) → Settled mid new kept old.failed failed_new r → Fields new kept ps
 finish_fields old mid new ps kept f failed_new (Ok x) ok err s = finish_fields_ok old mid new ps kept f ok s.ok
 finish_fields old mid new ps kept f failed_new (Err e) ok err s =

@@ -1,7 +1,3 @@
-pub mod Documents
-pub mod Kept
-pub mod PutPairs
-pub mod EncodedPairs
 pub mod Grouping
 pub mod Valid
 pub mod Pairs
@@ -17,5 +13,5 @@ pub mod CallPlaces
 pub mod TreeBuilding
 pub mod Finishing
 pub mod Belonging
-pub mod WholeRoom
 pub mod NamedErrors
+pub mod LentBorrowed

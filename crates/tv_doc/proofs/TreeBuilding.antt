@@ -17,14 +17,14 @@ use Rattle.tv_builder.specs.Shows.{ShowsLists, Shows, Stands, frames_of, awaited
 use Rattle.tv_builder.specs.State.{State, in_lists, state_room, written, and_end, awaited}
 use Rattle.tv_doc.specs.declared.builder.TreeBuilder.{TreeBuilder}
 use Rattle.tv_doc.specs.declared.document.CompactDoc.{CompactDoc}
-use Rattle.tv_doc.specs.declared.place.FieldValueAddr.{FieldValueAddr}
+use Rattle.tv_builder.specs.declared.heap_pair.HeapPair.{HeapPair}
 use Rattle.tv_doc.specs.Building.{HoldsPrefix, Cleared}
 use Rattle.tv_doc.specs.Builder.{built, state_of, heap_so_far, TakesBytes, HasAllBytes, HasContent, Goes, Fails, Overfull, BuildsIf, Builds, EndsIf, Ends}
 use Rattle.tv_doc.specs.Document.{document_of}
-use Rattle.tv_doc.specs.Holds.{Holds}
+use Rattle.tv_builder.specs.Holds.{Holds}
 use Rattle.tv_builder.proofs.Counts.{awaited_is}
 use Rattle.tv_doc.proofs.CallPlaces.{does_as, takes_bytes, takes_chunk, has_all, awaits_end, has_content, ends_well}
-use Rattle.tv_doc.proofs.Documents.{same_document}
+use Rattle.tv_builder.proofs.Documents.{same_document}
 
 -- ---- the state
 
@@ -95,7 +95,7 @@ pub cut_heap : (old mid new : Building) (kept : ℕ) (after : State → State) (
 cut_heap old mid new kept after e h l c = c.heap ∙ prefix_kept kept old.heap.items mid.heap.items l.prefix h
 
 -- what is known of each builder
-pub record Fields (b : Building) (kept : ℕ) (ps : List FieldValueAddr) : Type 0 where
+pub record Fields (b : Building) (kept : ℕ) (ps : List HeapPair) : Type 0 where
   pub document : HoldsPrefix b.heap.items kept ps
   pub kept_within : kept ≤ length b.heap.items
   pub room : kept ≤ document_room document.0
@@ -230,29 +230,29 @@ ends old new mid r t live d s kept pairs e = subst (λ z. EndsIf z old new t) (s
 
 -- ---- a new builder
 
-pub new_document : (doc : CompactDoc) (n : ℕ) → length doc.node_data.items ≡ n → HoldsPrefix doc.node_data.items n doc.pairs.items
-new_document doc n e = subst (λ z. Holds z doc.pairs.items) (sym (take_all n doc.node_data.items (omega (arith, e)))) doc.document
+pub new_document : (doc : CompactDoc) (n : ℕ) → length doc.values.heap.items ≡ n → HoldsPrefix doc.values.heap.items n doc.values.pairs.items
+new_document doc n e = subst (λ z. Holds z doc.values.pairs.items) (sym (take_all n doc.values.heap.items (omega (arith, e)))) doc.values.document
 
-pub new_same : (doc : CompactDoc) (n : ℕ) (h : HoldsPrefix doc.node_data.items n doc.pairs.items) → length doc.node_data.items ≡ n → h.0 ≡ document_of doc
-new_same doc n h e = same_document (take n doc.node_data.items) doc.node_data.items doc.pairs.items doc.pairs.items h doc.document (take_all n doc.node_data.items (omega (arith, e))) refl
+pub new_same : (doc : CompactDoc) (n : ℕ) (h : HoldsPrefix doc.values.heap.items n doc.values.pairs.items) → length doc.values.heap.items ≡ n → h.0 ≡ document_of doc
+new_same doc n h e = same_document (take n doc.values.heap.items) doc.values.heap.items doc.values.pairs.items doc.values.pairs.items h doc.values.document (take_all n doc.values.heap.items (omega (arith, e))) refl
 
-pub new_fields : (doc : CompactDoc) (b : Building) (n : ℕ) → length doc.node_data.items ≡ n → b.heap.items ≡ doc.node_data.items → b.places.items ≡ [] → b.pending ≡ 0 → b.frames.items ≡ [] → b.complete ≡ None → b.open ≡ None
-    → Fields b n doc.pairs.items
+pub new_fields : (doc : CompactDoc) (b : Building) (n : ℕ) → length doc.values.heap.items ≡ n → b.heap.items ≡ doc.values.heap.items → b.places.items ≡ [] → b.pending ≡ 0 → b.frames.items ≡ [] → b.complete ≡ None → b.open ≡ None
+    → Fields b n doc.values.pairs.items
 new_fields doc b n e heap places pending frames none closed =
-    let document : HoldsPrefix b.heap.items n doc.pairs.items = subst (λ z. HoldsPrefix z n doc.pairs.items) (sym heap) (new_document doc n e) in
+    let document : HoldsPrefix b.heap.items n doc.values.pairs.items = subst (λ z. HoldsPrefix z n doc.values.pairs.items) (sym heap) (new_document doc n e) in
     record {
       document = document;
       kept_within = omega (arith, e, ap length heap);
-      room = omega (arith, e, doc.room, ap document_room (same_document (take n b.heap.items) doc.node_data.items doc.pairs.items doc.pairs.items document doc.document (ap (λ z. take n z) heap ∙ take_all n doc.node_data.items (omega (arith, e))) refl));
-      weight = omega (arith, e, doc.weight, ap document_weight (same_document (take n b.heap.items) doc.node_data.items doc.pairs.items doc.pairs.items document doc.document (ap (λ z. take n z) heap ∙ take_all n doc.node_data.items (omega (arith, e))) refl));
-      state = stands_none b (omega (arith, doc.fits, ap length heap)) places pending frames none closed;
+      room = omega (arith, e, doc.values.room, ap document_room (same_document (take n b.heap.items) doc.values.heap.items doc.values.pairs.items doc.values.pairs.items document doc.values.document (ap (λ z. take n z) heap ∙ take_all n doc.values.heap.items (omega (arith, e))) refl));
+      weight = omega (arith, e, doc.values.weight, ap document_weight (same_document (take n b.heap.items) doc.values.heap.items doc.values.pairs.items doc.values.pairs.items document doc.values.document (ap (λ z. take n z) heap ∙ take_all n doc.values.heap.items (omega (arith, e))) refl));
+      state = stands_none b (omega (arith, doc.values.fits, ap length heap)) places pending frames none closed;
       written_within = omega (arith, e, ap length heap);
     }
 
-pub built_new : (doc : CompactDoc) (b : TreeBuilder) → heap_so_far b ≡ doc.node_data.items → b.pairs.items ≡ doc.pairs.items → b.kept ≡ length doc.node_data.items → built b ≡ document_of doc
+pub built_new : (doc : CompactDoc) (b : TreeBuilder) → heap_so_far b ≡ doc.values.heap.items → b.pairs.items ≡ doc.values.pairs.items → b.kept ≡ length doc.values.heap.items → built b ≡ document_of doc
 built_new doc b heap pairs kept =
-    same_document (take b.kept (heap_so_far b)) doc.node_data.items b.pairs.items doc.pairs.items b.document doc.document
-    (ap (λ z. take b.kept z) heap ∙ take_all b.kept doc.node_data.items (omega (arith, kept))) pairs
+    same_document (take b.kept (heap_so_far b)) doc.values.heap.items b.pairs.items doc.values.pairs.items b.document doc.values.document
+    (ap (λ z. take b.kept z) heap ∙ take_all b.kept doc.values.heap.items (omega (arith, kept))) pairs
 
 -- ---- the document at the end
 
@@ -271,8 +271,8 @@ end_room b heap e = omega (arith, (end_length b heap e).0, b.room, ap document_r
 pub end_weight : (b : TreeBuilder) (heap : List ℕ) (e : heap ≡ take b.kept (heap_so_far b)) → length heap ≤ document_weight ((end_document b heap e).0)
 end_weight b heap e = omega (arith, (end_length b heap e).0, b.weight, ap document_weight (end_same b heap (end_document b heap e) e))
 
-pub end_built : (b : TreeBuilder) (d : CompactDoc) → d.node_data.items ≡ take b.kept (heap_so_far b) → d.pairs.items ≡ b.pairs.items → document_of d ≡ built b
-end_built b d heap pairs = same_document d.node_data.items (take b.kept (heap_so_far b)) d.pairs.items b.pairs.items d.document b.document heap pairs
+pub end_built : (b : TreeBuilder) (d : CompactDoc) → d.values.heap.items ≡ take b.kept (heap_so_far b) → d.values.pairs.items ≡ b.pairs.items → document_of d ≡ built b
+end_built b d heap pairs = same_document d.values.heap.items (take b.kept (heap_so_far b)) d.values.pairs.items b.pairs.items d.values.document b.document heap pairs
 
 pub none_state : (b : Building) (h : Stands b) → b.places.items ≡ [] → b.pending ≡ 0 → b.frames.items ≡ [] → b.complete ≡ None → b.open ≡ None → h.0 ≡ in_lists []
 none_state b h places pending frames none closed = same_state b h (stands_none b (fits_of b h) places pending frames none closed)

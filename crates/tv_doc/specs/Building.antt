@@ -4,14 +4,14 @@ use Rattle.tv_builder.specs.declared.build_error.BuildError.{BuildError}
 use Rattle.tv_builder.specs.declared.build_error.BuildError.TheVariants.{OutOfPlace, Memory}
 use Rattle.tv_builder.specs.declared.building.Building.{Building}
 use Rattle.tv_heap.specs.declared.place.Place.{Place}
-use Rattle.tv_doc.specs.declared.place.FieldValueAddr.{FieldValueAddr}
-use Rattle.tv_doc.specs.Holds.{Holds, Holds-prop, pair_at}
+use Rattle.tv_builder.specs.declared.heap_pair.HeapPair.{HeapPair}
+use Rattle.tv_builder.specs.Holds.{Holds, Holds-prop, pair_at}
 
 -- the finished pairs stand at the start of the heap that is kept
-abbrev pub HoldsPrefix : List ℕ → ℕ → List FieldValueAddr → Type 0
+abbrev pub HoldsPrefix : List ℕ → ℕ → List HeapPair → Type 0
 HoldsPrefix heap kept ps = Holds (take kept heap) ps
 
-pub HoldsPrefix-prop : (heap : List ℕ) (kept : ℕ) (ps : List FieldValueAddr) → IsProp (HoldsPrefix heap kept ps)
+pub HoldsPrefix-prop : (heap : List ℕ) (kept : ℕ) (ps : List HeapPair) → IsProp (HoldsPrefix heap kept ps)
 HoldsPrefix-prop heap kept ps = Holds-prop (take kept heap) ps
 
 -- nothing is open, and the heap is cut
@@ -24,11 +24,11 @@ pub record Cleared (old new : Building) (kept : ℕ) : Type 0 where
   pub closed : new.open ≡ None
 
 -- the complete value became that of a pair
-pub record Kept (old new : Building) (ps qs : List FieldValueAddr) (kept f : ℕ) : Type 0 where
+pub record Kept (old new : Building) (ps qs : List HeapPair) (kept f : ℕ) : Type 0 where
   pub at : Place
   pub is : old.complete ≡ Some at
   pub fits : f < 2 ^ 32
-  pub pairs : qs ≡ ps ++ pair_at f (at.value_type, at.address) ∷ []
+  pub pairs : qs ≡ ps ++ pair_at f at ∷ []
   pub kept_is : kept ≡ length old.heap.items
   pub heap : new.heap.items ≡ old.heap.items
   pub places : new.places.items ≡ old.places.items
@@ -43,7 +43,7 @@ WhyNoPair old OutOfPlace = old.complete ≡ None
 WhyNoPair old Memory = ¬ (old.complete ≡ None)
 WhyNoPair old _ = ⊥
 
-pub record KeptNot (old new : Building) (ps qs : List FieldValueAddr) (kept kept_new : ℕ) (e : BuildError) : Type 0 where
+pub record KeptNot (old new : Building) (ps qs : List HeapPair) (kept kept_new : ℕ) (e : BuildError) : Type 0 where
   pub same : new ≡ old
   pub pairs : qs ≡ ps
   pub kept_same : kept_new ≡ kept

@@ -1,40 +1,13 @@
 -- Pairs that are encoded at the start of bytes, and are added to a document.
-use Rattle.std.specs.Prelude.{◌≡◌, ℕ, ◌+◌, ◌≤◌, List, ◌++◌, length}
-use Rattle.tv_base.specs.Parts.{Begins, Each}
-use Rattle.tv_base.specs.Sink.{IsPrefix}
-use Rattle.tv_heap.specs.Room.{document_room}
-use Rattle.tv_format.specs.Encoding.{EncodesPair, NoLegacy}
-use Rattle.tv_format.specs.Tree.{Tree, Document}
+use Rattle.std.specs.Prelude.{ℕ, List}
+use Rattle.tv_builder.specs.EncodedPairs as pairs
 use Rattle.tv_format.specs.Version.{Version}
-use Rattle.tv_doc.specs.Document.{document_of, heap_of, Added, IsUnchanged}
 use Rattle.tv_doc.specs.declared.document.CompactDoc.{CompactDoc}
-use Rattle.tv_doc.specs.declared.place.FieldValueAddr.{FieldValueAddr}
 
--- The old heap is a prefix of the heap now, and the old pairs, with their fields, types and addresses, come before all others.
-pub record IsStart (old now : CompactDoc) : Type 0 where
-  pub heap : IsPrefix (heap_of old) (heap_of now)
-  pub later : List FieldValueAddr
-  pub pairs : now.pairs.items ≡ old.pairs.items ++ later
+-- so many pairs are added
+abbrev pub AddsEncoded : Version → CompactDoc → CompactDoc → List ℕ → List ℕ → ℕ → Type 0
+AddsEncoded v old new whole rest count = pairs.AddsEncoded v old.values new.values whole rest count
 
--- So many pairs are added. The heap grows by at most the room of their trees. Where there is none, the document is unchanged.
-pub record AddsEncoded (v : Version) (old new : CompactDoc) (whole rest : List ℕ) (count : ℕ) : Type 0 where
-  pub pairs : Document
-  pub counted : length pairs ≡ count
-  pub encoded : Begins (λ b. Each (EncodesPair NoLegacy v) b pairs) whole rest
-  pub document : document_of new ≡ document_of old ++ pairs
-  pub start : IsStart old new
-  pub within : length (heap_of new) ≤ length (heap_of old) + document_room pairs
-  pub none : count ≡ 0 → IsUnchanged old new
-
--- the same of one pair
-pub record AddsPair (v : Version) (old new : CompactDoc) (whole rest : List ℕ) : Type 0 where
-  pub pair : ℕ × Tree
-  pub encoded : Begins (λ b. EncodesPair NoLegacy v b pair) whole rest
-  pub added : Added old new pair.0 pair.1
-  pub start : IsStart old new
-
--- It had so many pairs and so long a heap, and nothing of it was changed since then but that more was added.
-pub record StoodIn (old now : CompactDoc) (pairs heap : ℕ) : Type 0 where
-  pub counted : length (document_of old) ≡ pairs
-  pub heap_length : length (heap_of old) ≡ heap
-  pub start : IsStart old now
+-- it had so many pairs and so long a heap, and nothing of it was changed since then but that more was added
+abbrev pub StoodIn : CompactDoc → CompactDoc → ℕ → ℕ → Type 0
+StoodIn old now count len = pairs.StoodIn old.values now.values count len

@@ -1,4 +1,3 @@
-pub mod Holds
 pub mod Building
 pub mod Builder
 pub mod Document

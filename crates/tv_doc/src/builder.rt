@@ -9,14 +9,15 @@ ghost use Rattle.tv_doc.specs.Building.{HoldsPrefix, HoldsPrefix-prop, Cleared, 
 ghost use Rattle.tv_builder.specs.Weight.{document_weight, state_weight};
 ghost use Rattle.tv_heap.specs.Room.{document_room};
 
-use crate::document::{CompactDoc, push_pair};
-use crate::place::FieldValueAddr;
+use crate::document::CompactDoc;
 use std::alloc::Global;
 pub use tv_builder::awaits::Awaits;
 pub use tv_builder::build_error::BuildError;
 use tv_builder::building::Building;
 pub use tv_builder::bytes_kind::BytesKind;
 use tv_builder::frame::ListKind;
+use tv_builder::heap_pair::HeapPair;
+use tv_builder::heap_pairs::{HeapPairs, push_pair};
 use tv_value::field::Field;
 use tv_value::leaf::ReferenceValueLeaf;
 use tv_value::value::Value;
@@ -44,7 +45,7 @@ fn settle(
 // Makes the complete value that of a pair.
 fn keep_tree(
     building: &mut Building,
-    pairs: &mut Vec<FieldValueAddr>,
+    pairs: &mut Vec<HeapPair>,
     kept: &mut usize,
     field: Field,
 ) -> Result<(), BuildError>
@@ -56,10 +57,9 @@ fn keep_tree(
     let Some(place) = building.complete else {
         return Err(BuildError::OutOfPlace);
     };
-    let pair = FieldValueAddr {
+    let pair = HeapPair {
         field: field.field_id(),
-        value_type: place.value_type,
-        address: place.address,
+        place,
     };
     push_pair(pairs, pair)?;
     building.complete = None;
@@ -91,7 +91,7 @@ fn keep_tree(
 pub struct TreeBuilder {
     alloc: Global,
     building: Building,
-    pairs: Vec<FieldValueAddr>,
+    pairs: Vec<HeapPair>,
     // The length of the heap behind the last finished pair.
     kept: usize,
     failed: bool,
@@ -127,11 +127,12 @@ impl TreeBuilder {
         ensures live { result.failed ≡ false }
     {
         let alloc = doc.alloc;
-        let kept = doc.node_data.len();
+        let values = doc.values;
+        let kept = values.heap.len();
         TreeBuilder {
             alloc,
-            building: Building::new(alloc, doc.node_data),
-            pairs: doc.pairs,
+            building: Building::new(alloc, values.heap),
+            pairs: values.pairs,
             kept,
             failed: false,
         }
@@ -143,12 +144,12 @@ impl TreeBuilder {
         ensures heap { heap_of result ≡ take self.kept (heap_so_far self) }
     {
         let building = self.building;
-        let mut node_data = building.heap;
-        node_data.truncate(self.kept);
+        let mut heap = building.heap;
+        heap.truncate(self.kept);
+        let pairs = self.pairs;
         CompactDoc {
             alloc: self.alloc,
-            node_data,
-            pairs: self.pairs,
+            values: HeapPairs { heap, pairs },
         }
     }
 

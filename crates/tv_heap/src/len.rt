@@ -15,9 +15,9 @@ use tv_value::content::LeafContent;
 use tv_value::leaf::ReferenceValueLeaf;
 use tv_value::pre_tokenized::{PreTokenizedStr, TokenIter, TokenRef};
 
-// The length of the shortest encoding of a number.
+/// The length of the shortest encoding of a number. (Not in tantivy.)
 #[inline(always)]
-fn number_len(number: u64) -> u32
+pub fn number_len(number: u64) -> u32
     ensures len { result ≡ length (vnum number) }
     ensures small { result ≤ 10 }
 {

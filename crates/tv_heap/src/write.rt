@@ -5,27 +5,25 @@ ghost use Rattle.std.specs.Prelude.{take, drop};
 ghost use Rattle.tv_base.specs.Number.{vnum, eight_bytes, sixteen_bytes};
 ghost use Rattle.tv_base.specs.Parts.{short_sized};
 ghost use Rattle.tv_base.specs.Sink.{IsPrefix};
-ghost use Rattle.tv_value.specs.Lent.{leaf_of, nested_tree};
+ghost use Rattle.tv_value.specs.Lent.{leaf_of};
 ghost use Rattle.tv_value.specs.PreTokenized.{text_of, tokens_of};
 ghost use Rattle.std.specs.Int.{w64, cast_unsigned};
 ghost use Rattle.tv_value.specs.LeafParts.{content_of};
 ghost use Rattle.tv_format.specs.Short.{short_token, short_tokenized, IsContent};
 ghost use Rattle.tv_value.specs.TokenRef.{ref_of};
-ghost use Rattle.tv_format.specs.Tree.{leaf, array, object, elements, entries};
+ghost use Rattle.tv_format.specs.Tree.{leaf};
 ghost use Rattle.tv_heap.specs.LeafBytes.{content_bytes, content_address, leaf_bytes};
 ghost use Rattle.tv_heap.specs.LeafBytes.{leaf_value_type, leaf_address};
-ghost use Rattle.tv_heap.specs.Room.{room};
 ghost use Rattle.tv_heap.specs.TypeCode.{type_code};
 ghost use Rattle.tv_heap.specs.Wrote.{Wrote};
 
+use crate::place::Place;
 use crate::value_type::ValueType;
 use std::alloc::AllocError;
-use std::convert::AsStr;
 use tv_value::content::LeafContent;
 use tv_value::encode::{push_number, push_sized, push_token};
 use tv_value::laws::pre_tokenized_texts_encode;
 use tv_value::leaf::ReferenceValueLeaf;
-use tv_value::nested::{Nested, NestedValue};
 use tv_value::pre_tokenized::PreTokenizedStr;
 
 // Adds the eight bytes of a number, the lowest first.
@@ -68,16 +66,14 @@ fn make_room(bytes: &mut Vec<u8>, room: usize) -> Result<(), AllocError>
 /// Adds a child's type and address. (Not in tantivy.) The addresses in a short document have one byte or two. The only error is that memory
 /// was refused; what `places` holds then is unspecified.
 #[inline(always)]
-pub fn push_place(
-    places: &mut Vec<u8>,
-    value_type: ValueType,
-    address: u32,
-) -> Result<(), AllocError>
+pub fn push_place(places: &mut Vec<u8>, place: Place) -> Result<(), AllocError>
     ensures { OnOk result
-        (places.new.items ≡ places.old.items ++ (type_code value_type ∷ vnum address)) }
+        (places.new.items
+        ≡ places.old.items ++ (type_code place.value_type ∷ vnum place.address)) }
 {
     make_room(places, FIRST_PLACES)?;
-    let code = value_type.to_code();
+    let address = place.address;
+    let code = place.value_type.to_code();
     if address < 128 {
         places.extend_from_slice(&[code, address as u8 + 128])?;
         return Ok(());
@@ -89,21 +85,6 @@ pub fn push_place(
     }
     places.push(code)?;
     push_number(places, u64::from(address))
-}
-
-// Writes a key, and adds its type and address.
-#[inline(always)]
-fn write_key(heap: &mut Vec<u8>, places: &mut Vec<u8>, key: &str) -> Result<(), AllocError>
-    requires { length heap.old.items + (5 + length key.now) < 2 ^ 32 }
-    ensures heap { OnOk result (heap.new.items ≡ heap.old.items ++ short_sized key.now) }
-    ensures places { OnOk result
-        (places.new.items ≡ places.old.items ++ (1 ∷ vnum (length heap.old.items))) }
-    ensures err { OnErr result (IsPrefix heap.old.items heap.new.items) }
-{
-    make_room(heap, FIRST_ROOM)?;
-    let at = heap.len() as u32;
-    push_sized(heap, key.as_bytes())?;
-    push_place(places, ValueType::Str, at)
 }
 
 #[inline(always)]
@@ -209,54 +190,25 @@ fn write_content(heap: &mut Vec<u8>, content: LeafContent<'_>) -> Result<u32, Al
     }
 }
 
-/// Writes a value without children, and returns its type and its address. After an error the old heap is still a prefix of the
-/// new.
+/// Writes a value without children, and returns its place. (Not in tantivy.) After an error the old heap is still a prefix of the new.
 #[inline(always)]
-pub fn write_leaf(
-    heap: &mut Vec<u8>,
-    value: &ReferenceValueLeaf<'_>,
-) -> Result<(ValueType, u32), AllocError>
+pub fn write_leaf(heap: &mut Vec<u8>, value: &ReferenceValueLeaf<'_>) -> Result<Place, AllocError>
     requires { length heap.old.items + length (leaf_bytes (leaf_of value.now)) < 2 ^ 32 }
     ensures heap { OnOk result (heap.new.items ≡ heap.old.items ++ leaf_bytes (leaf_of value.now)) }
     ensures place { IfOk result
-        (λ r. (r.0 ≡ leaf_value_type (leaf_of value.now))
-        × (r.1 ≡ leaf_address (length heap.old.items) (leaf_of value.now))) }
+        (λ place. (place.value_type ≡ leaf_value_type (leaf_of value.now))
+        × (place.address ≡ leaf_address (length heap.old.items) (leaf_of value.now))) }
     ensures ok { IfOk result
-        (λ r. Wrote heap.old.items heap.new.items (type_code r.0) r.1 (leaf (leaf_of value.now))) }
+        (λ place. Wrote heap.old.items heap.new.items (type_code place.value_type) place.address
+        (leaf (leaf_of value.now))) }
     ensures err { OnErr result (IsPrefix heap.old.items heap.new.items) }
 {
     make_room(heap, FIRST_ROOM)?;
     let address = write_content(heap, value.content())?;
-    Ok((ValueType::of_leaf(value.leaf_type()), address))
-}
-
-/// Writes a value behind its children, and returns its type and its address. The places of children whose list is not yet
-/// written stand at the end of `places`, which is afterwards as it was. After an error the old heap is still a prefix of the
-/// new, and what `places` holds is unspecified.
-#[inline(always)]
-#[cycle(values)]
-pub fn write_tree<N: Nested>(
-    heap: &mut Vec<u8>,
-    places: &mut Vec<u8>,
-    value: NestedValue<'_, N>,
-) -> Result<(ValueType, u32), AllocError>
-    requires { length heap.old.items + room (nested_tree N.array_rest N.object_rest value)
-        < 2 ^ 32 }
-    ensures ok { IfOk result
-        (λ r. Wrote heap.old.items heap.new.items (type_code r.0) r.1
-        (nested_tree N.array_rest N.object_rest value.entry)) }
-    ensures places { OnOk result (places.new.items ≡ places.old.items) }
-    ensures err { OnErr result (IsPrefix heap.old.items heap.new.items) }
-{
-    match value {
-        NestedValue::Leaf(single) => write_leaf(heap, &single),
-        NestedValue::Array(items) => {
-            Ok((ValueType::Array, write_array::<N>(heap, places, items)?))
-        }
-        NestedValue::Object(members) => {
-            Ok((ValueType::Object, write_object::<N>(heap, places, members)?))
-        }
-    }
+    Ok(Place {
+        value_type: ValueType::of_leaf(value.leaf_type()),
+        address,
+    })
 }
 
 /// Writes a list behind its children, whose places are those from `first` on, and returns its address. (Not in tantivy.) The places are taken
@@ -275,50 +227,4 @@ pub fn write_list(heap: &mut Vec<u8>, places: &mut Vec<u8>, first: usize) -> Res
     push_sized(heap, &places[first..])?;
     places.truncate(first);
     Ok(at)
-}
-
-// Writes an array behind its values, and returns its address.
-#[inline(never)]
-#[cycle(values)]
-fn write_array<N: Nested>(
-    heap: &mut Vec<u8>,
-    places: &mut Vec<u8>,
-    items: N::ArrayIter,
-) -> Result<u32, AllocError>
-    requires { length heap.old.items + room (array (elements (N.array_rest items))) < 2 ^ 32 }
-    ensures ok { IfOk result
-        (λ at. Wrote heap.old.items heap.new.items 12 at (array (elements (N.array_rest items)))) }
-    ensures places { OnOk result (places.new.items ≡ places.old.items) }
-    ensures err { OnErr result (IsPrefix heap.old.items heap.new.items) }
-{
-    let first = places.len();
-    for item in items {
-        let (code, address) = write_tree(heap, places, item.as_nested())?;
-        push_place(places, code, address)?;
-    }
-    write_list(heap, places, first)
-}
-
-// Writes an object behind its keys and values, and returns its address.
-#[inline(never)]
-#[cycle(values)]
-fn write_object<N: Nested>(
-    heap: &mut Vec<u8>,
-    places: &mut Vec<u8>,
-    members: N::ObjectIter,
-) -> Result<u32, AllocError>
-    requires { length heap.old.items + room (object (entries (N.object_rest members))) < 2 ^ 32 }
-    ensures ok { IfOk result
-        (λ at. Wrote heap.old.items heap.new.items 11 at
-        (object (entries (N.object_rest members)))) }
-    ensures places { OnOk result (places.new.items ≡ places.old.items) }
-    ensures err { OnErr result (IsPrefix heap.old.items heap.new.items) }
-{
-    let first = places.len();
-    for (key, item) in members {
-        write_key(heap, places, key.as_str())?;
-        let (code, address) = write_tree(heap, places, item.as_nested())?;
-        push_place(places, code, address)?;
-    }
-    write_list(heap, places, first)
 }

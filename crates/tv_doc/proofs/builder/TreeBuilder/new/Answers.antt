@@ -5,7 +5,7 @@ use Rattle.tv_doc.proofs.builder.TreeBuilder.new.Goals as goal
 pub invariant_of-result : goal.invariant_of-result
 invariant_of-result c =
     let doc = c.args.doc in
-    let len : length doc.node_data.items ≡ c.len-kept.result = omega (arith, c.len-kept.ensures, doc.node_data.ok.0) in
+    let len : length doc.values.heap.items ≡ c.len-kept.result = omega (arith, c.len-kept.ensures, doc.values.heap.ok.0) in
     let e = c.new.ensures in
     let f = new_fields doc c.new.result c.len-kept.result len e.heap e.places e.pending e.frames e.complete e.closed in
     record { document = f.document; kept_within = f.kept_within; room = f.room; weight = f.weight; state = f.state; written = f.written_within }
@@ -13,7 +13,7 @@ invariant_of-result c =
 pub returns-clause-document : goal.returns-clause-document
 returns-clause-document c =
     let doc = c.args.doc in
-    let len : c.len-kept.result ≡ length doc.node_data.items = omega (arith, c.len-kept.ensures, doc.node_data.ok.0) in
+    let len : c.len-kept.result ≡ length doc.values.heap.items = omega (arith, c.len-kept.ensures, doc.values.heap.ok.0) in
     search (rules, built_new, len)
 
 pub returns-clause-state : goal.returns-clause-state

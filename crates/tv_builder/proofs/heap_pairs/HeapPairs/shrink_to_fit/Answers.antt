@@ -1,0 +1,21 @@
+use Rattle.std.proofs.Common.{ap, length, arith}
+use Rattle.tv_builder.proofs.Documents.{document_length, kept, kept_room, kept_weight, kept_fits, unchanged}
+use Rattle.tv_builder.proofs.heap_pairs.HeapPairs.shrink_to_fit.Goals as goal
+
+pub invariant_of-self : goal.invariant_of-self
+invariant_of-self c =
+    let old = c.args.self.now in
+    let heap = c.shrink_to_fit.ensures.items in
+    let pairs = c.shrink_to_fit-2.ensures.items in
+    record { document = kept old _ _ heap pairs; room = kept_room old _ _ heap pairs; weight = kept_weight old _ _ heap pairs; fits = kept_fits old _ heap }
+
+pub returns-clause-same : goal.returns-clause-same
+returns-clause-same c = unchanged c.args.self.now _ c.shrink_to_fit.ensures.items c.shrink_to_fit-2.ensures.items
+
+pub returns-clause-frees_bytes : goal.returns-clause-frees_bytes
+returns-clause-frees_bytes c = λ e. c.shrink_to_fit.ensures.frees (omega (arith, c.args.self.now.heap.ok.0, ap length e))
+
+pub returns-clause-frees_places : goal.returns-clause-frees_places
+returns-clause-frees_places c = λ e.
+    let d = c.args.self.now in
+    c.shrink_to_fit-2.ensures.frees (omega (arith, d.pairs.ok.0, document_length d, ap length e))

@@ -1,0 +1,72 @@
+-- What pairs in a heap are seen as, and what an addition leaves.
+use Rattle.std.specs.Prelude.{◌≡◌, ◌≢◌, ℕ, ◌+◌, ◌<◌, ◌≤◌, List, [], ◌∷◌, ◌++◌, length, map, slice_get, Option, Some, None, Result, Ok, Err}
+use Rattle.std.specs.Vec.{vec_capacity}
+use Rattle.tv_format.specs.Tree.{Tree, Document}
+use Rattle.tv_heap.specs.Reads.{Reads}
+use Rattle.tv_heap.specs.Room.{room}
+use Rattle.tv_heap.specs.TypeCode.{type_code}
+use Rattle.tv_builder.specs.Holds.{pair_at}
+use Rattle.tv_builder.specs.TreeBytes.{tree_heap, tree_place}
+use Rattle.tv_builder.specs.declared.add_error.AddError.{AddError}
+use Rattle.tv_builder.specs.declared.add_error.AddError.TheVariants.{HeapFull, Memory}
+use Rattle.tv_builder.specs.declared.heap_pairs.HeapPairs.{HeapPairs}
+
+-- the fields and trees, in order
+abbrev pub document_of : HeapPairs → Document
+document_of d = d.document.0
+
+-- the bytes in which the trees stand
+abbrev pub heap_of : HeapPairs → List ℕ
+heap_of d = d.heap.items
+
+-- for how many bytes of the heap, and for how many pairs, there is memory
+abbrev pub heap_capacity : HeapPairs → ℕ
+heap_capacity d = vec_capacity d.heap
+
+abbrev pub pairs_capacity : HeapPairs → ℕ
+pairs_capacity d = vec_capacity d.pairs
+
+-- each pair's type byte and address
+abbrev pub places_of : HeapPairs → List (ℕ × ℕ)
+places_of d = map (λ p. (type_code p.place.value_type, p.place.address)) d.pairs.items
+
+-- One pair is added. The new heap and the new pair's place are those that writing the tree behind the old heap gives: the old heap is kept
+-- as a prefix, and grew by the tree's room at most. The old places are kept, and the new one is behind the old heap, unless it is that of
+-- null or a truth value.
+pub record Added (old new : HeapPairs) (field : ℕ) (t : Tree) : Type 0 where
+  pub document : document_of new ≡ document_of old ++ (field, t) ∷ []
+  pub bytes : heap_of new ≡ tree_heap (heap_of old) t
+  pub pair : new.pairs.items ≡ old.pairs.items ++ pair_at field (tree_place (heap_of old) t) ∷ []
+  pub added : List ℕ
+  pub heap : heap_of new ≡ heap_of old ++ added
+  pub within : length added ≤ room t
+  pub code : ℕ
+  pub at : ℕ
+  pub places : places_of new ≡ places_of old ++ (code, at) ∷ []
+  pub behind : code ≢ 0 → code ≢ 9 → length (heap_of old) ≤ at
+
+-- the same heap and the same pairs at the same places
+pub record IsUnchanged (old new : HeapPairs) : Type 0 where
+  pub document : document_of new ≡ document_of old
+  pub heap : heap_of new ≡ heap_of old
+  pub pairs : new.pairs.items ≡ old.pairs.items
+  pub places : places_of new ≡ places_of old
+
+-- the heap has no room for the tree
+abbrev pub IsFull : HeapPairs → Tree → Type 0
+IsFull d t = 4294967295 < length (heap_of d) + room t
+
+-- when which refusal comes
+abbrev pub Refuses : HeapPairs → Tree → AddError → Type 0
+Refuses d t HeapFull = IsFull d t
+Refuses d t Memory = length (heap_of d) + room t ≤ 4294967295
+
+-- what an addition returns, and what it leaves
+abbrev pub Adds : {T : Type 0} → HeapPairs → HeapPairs → ℕ → Tree → Result T AddError → Type 0
+Adds old new field t (Ok x) = (length (heap_of old) + room t ≤ 4294967295) × Added old new field t
+Adds old new field t (Err e) = Refuses old t e × IsUnchanged old new
+
+-- the type byte and the address of the pair at a place, whose tree the heap reads there
+abbrev pub ReadsAt : HeapPairs → ℕ → Option (ℕ × ℕ) → Type 0
+ReadsAt d i None = slice_get (document_of d) i ≡ None
+ReadsAt d i (Some p) = (pair : ℕ × Tree) × ((slice_get (document_of d) i ≡ Some pair) × ∥ Reads (heap_of d) p.0 p.1 pair.1 ∥₁)
