@@ -8,10 +8,11 @@ use tv_base::{BinarySerializable, SliceSource, VecSink};
 use tv_borrowed::Scratch;
 use tv_borrowed::read::read_borrowed;
 use tv_builder::encoded::put_encoded;
-use tv_builder::json::put_json;
-use tv_heap::place::Place;
+use tv_builder::heap_pairs::HeapPairs;
+use tv_doc::lent_borrowed::LentBorrowed;
 use tv_format::version::WriteVersion;
 use tv_heap::len::leaf_len;
+use tv_heap::place::Place;
 use tv_heap::value_type::ValueType;
 use tv_value::value::Value;
 
@@ -25,7 +26,7 @@ pub fn answer(alloc: Global, call: &[&str]) -> Result<String> {
             let bytes = words::bytes(alloc, bytes)?;
             encoded(alloc, heap, words::number(levels)?, bytes.as_slice())
         }
-        ["json", heap, json] => json_value(alloc, heap, json),
+        ["json", text, json] => json_value(alloc, text, json),
         ["leaf", value] => leaf(alloc, value),
         ["type", "default"] => value_type(alloc, ValueType::default()),
         ["type", digits] => type_of_bytes(alloc, words::bytes(alloc, digits)?.as_slice()),
@@ -69,35 +70,43 @@ fn put(alloc: Global, before: &str, levels: u32, bytes: &[u8]) -> Result<Option<
     Ok(Some(format!(in alloc; "{placed}\t{rest}")?))
 }
 
-// The heap behind which a JSON value is written, its type's code and its address.
-fn json_value(alloc: Global, before: &str, json: &str) -> Result<String> {
-    match put_value(alloc, before, json)? {
+// The heap in which a JSON value stands behind a text, its type's code and its address.
+fn json_value(alloc: Global, text: &str, json: &str) -> Result<String> {
+    match add_json(alloc, text, json)? {
         Some(answer) => Ok(answer),
-        None => nothing(alloc, put_value(alloc, before, json)?),
+        None => nothing(alloc, add_json(alloc, text, json)?),
     }
 }
 
-// What the calls give that read a JSON value and write it behind a heap.
-fn put_value(alloc: Global, before: &str, json: &str) -> Result<Option<String>> {
-    let mut heap = words::bytes(alloc, before)?;
-    let mut places = OPEN.to_vec(alloc)?;
+// What the calls give that read a JSON value and add it behind a text.
+fn add_json(alloc: Global, text: &str, json: &str) -> Result<Option<String>> {
     let mut scratch = Scratch::new(alloc);
     let Some(json) = read_borrowed(alloc, json, &mut scratch) else {
         return Ok(None);
     };
-    if heap.len() > 4_294_967_295 {
-        return Err(anyhow!("a heap is too long"));
-    }
-    let Some(place) = put_json(&json, &mut heap, &mut places) else {
+    let mut pairs = HeapPairs::new(alloc);
+    if pairs.add_text(0, text).is_err() {
         return Ok(None);
-    };
-    let placed = placed(alloc, heap.as_slice(), place, places.as_slice())?;
-    Ok(Some(placed))
+    }
+    if pairs
+        .add_value(alloc, 1, &LentBorrowed::new(&json))
+        .is_err()
+    {
+        return Ok(None);
+    }
+    let last = pairs.pairs.last().context("a pair")?;
+    let shown = shown(alloc, pairs.heap.as_slice(), last.place)?;
+    Ok(Some(shown))
 }
 
 // A heap, and the place of a value in it. The places of open lists have to be as they were.
 fn placed(alloc: Global, heap: &[u8], place: Place, places: &[u8]) -> Result<String> {
     ensure!(places == OPEN, "the places of open lists have changed");
+    shown(alloc, heap, place)
+}
+
+// A heap, and the place of a value in it.
+fn shown(alloc: Global, heap: &[u8], place: Place) -> Result<String> {
     let heap = hex::encode(alloc, heap)?;
     let code = place.value_type.to_code();
     let address = place.address;

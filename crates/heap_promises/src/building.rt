@@ -11,6 +11,7 @@ use tv_builder::awaits::Awaits;
 use tv_builder::build_error::BuildError;
 use tv_builder::building::Building;
 use tv_builder::frame::ListKind;
+use tv_heap::place::Place;
 use tv_heap::value_type::ValueType;
 use tv_heap::write::push_place;
 

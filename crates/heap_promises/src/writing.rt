@@ -8,6 +8,7 @@ ghost use Rattle.tv_value.specs.Lent.{leaf_of};
 ghost use Rattle.tv_format.specs.Tree.{leaf};
 
 use std::alloc::AllocError;
+use tv_heap::place::Place;
 use tv_heap::value_type::ValueType;
 use tv_heap::write::write_leaf;
 use tv_value::leaf::ReferenceValueLeaf;
@@ -16,7 +17,7 @@ use tv_value::leaf::ReferenceValueLeaf;
 pub fn equal_texts_are_written_anew(
     heap: &mut Vec<u8>,
     value: &ReferenceValueLeaf<'_>,
-) -> Result<(ValueType, u32), AllocError>
+) -> Result<Place, AllocError>
     requires { length heap.old.items + length (leaf_bytes (leaf_of value.now)) < 2 ^ 32 }
     ensures { OnOk result (heap.new.items ≡ heap.old.items ++ leaf_bytes (leaf_of value.now)) }
 {
@@ -31,11 +32,12 @@ pub fn values_stand_in_the_heap(
     heap: &mut Vec<u8>,
     beside: &mut Vec<u8>,
     value: &ReferenceValueLeaf<'_>,
-) -> Result<(ValueType, u32), AllocError>
+) -> Result<Place, AllocError>
     requires heap { length heap.old.items + length (leaf_bytes (leaf_of value.now)) < 2 ^ 32 }
     requires beside { length beside.old.items + length (leaf_bytes (leaf_of value.now)) < 2 ^ 32 }
     ensures { IfOk result
-        (λ r. Wrote heap.old.items heap.new.items (type_code r.0) r.1 (leaf (leaf_of value.now))) }
+        (λ place. Wrote heap.old.items heap.new.items (type_code place.value_type) place.address
+        (leaf (leaf_of value.now))) }
 {
     let place = write_leaf(heap, value)?;
     beside.clear();

@@ -13,7 +13,7 @@ pub use Rattle.tv_builder.specs.declared.frame.Frame
 pub use Rattle.tv_builder.specs.declared.frame.ListKind
 pub use Rattle.tv_heap.specs.declared.place.Place
 pub use Rattle.tv_doc.specs.declared.builder.TreeBuilder
-pub use Rattle.tv_doc.specs.declared.add_error.AddError
+pub use Rattle.tv_builder.specs.declared.add_error.AddError
 pub use Rattle.tv_doc.specs.declared.doc_parsing_error.DocParsingError
 pub use Rattle.tv_field.specs.declared.json_value.JsonRefusal
 pub use Rattle.tv_field.specs.declared.schema_error.SchemaError

@@ -79,7 +79,7 @@ mutual
       let keyed = list_of Object n (flat done ++ leaf (text k) ∷ []) in
       let counted = length-append (flat done) (leaf (text k) ∷ []) in
       ap (λ s. entries_called s (entry l u es)) (parts_are t (keyed ∷ ls) ∙ value_waits keyed ls t (lt-ltb (suc (length keyed.children)) (total Object n) (omega (arith, all, counted, flat_length done))) ∙
-          ap (λ z. in_lists (list_of Object n z ∷ ls)) (flat_push done k t)) ∙
+      ap (λ z. in_lists (list_of Object n z ∷ ls)) (flat_push done k t)) ∙
       entries_come (entry l u es) (done ++ (k, t) ∷ []) ls n (omega arith) (omega (arith, all, length-append done ((k, t) ∷ []))) ∙
       ap (λ z. with_value ls (object z)) (next_entry done k t (entry l u es))
 

@@ -96,10 +96,10 @@ key_image mid new at k base [] g next heap at_is places frames none = absurd (cc
 key_image mid new at k base (l ∷ ls) g next heap at_is places frames none =
     let first : g.frame ∷ g.rest ≡ list_frame base l ls ∷ lists_frames base ls = sym g.was ∙ frames in
     (λ i. record {
-        heap = (g.heap ∙ heap) i;
-        places = (g.places ∙ (λ j. places j ++ (1 ∷ vnum (at_is j)))) i;
-        frames = (g.frames ∙ ap more_in first) i;
-        complete = (g.complete ∙ none) i;
+      heap = (g.heap ∙ heap) i;
+      places = (g.places ∙ (λ j. places j ++ (1 ∷ vnum (at_is j)))) i;
+      frames = (g.frames ∙ ap more_in first) i;
+      complete = (g.complete ∙ none) i;
     }) ∙ child_image base l ls (leaf (text k))
   where
     more_in : List Frame → List Frame

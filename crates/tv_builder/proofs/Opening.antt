@@ -161,10 +161,10 @@ opens_list old new kind n f some is await heap places pending frames whole close
         let places_are : new.places.items ≡ lists_places base ls = places ∙ ap (λ (z : Given). z.places) shown in
         let frame_is : f ≡ list_frame base opened ls = is ∙ ap (λ m. record { kind = kind; announced = n; finished = 0; first = m }) (ap length (sym places ∙ places_are)) in
         (λ i. record {
-            heap = (heap ∙ ap (λ (z : Given). z.heap) shown) i;
-            places = (places_are ∙ sym (append-nil (lists_places base ls))) i;
-            frames = (now ∙ (λ j. frame_is j ∷ (shown j).frames)) i;
-            complete = (whole ∙ ap (λ (z : Given). z.complete) shown) i;
+          heap = (heap ∙ ap (λ (z : Given). z.heap) shown) i;
+          places = (places_are ∙ sym (append-nil (lists_places base ls))) i;
+          frames = (now ∙ (λ j. frame_is j ∷ (shown j).frames)) i;
+          complete = (whole ∙ ap (λ (z : Given). z.complete) shown) i;
         }) ∙ ap (λ z. image_of base z) (sym (cond-false (nat_eq n 0) _ _ test))
 
 -- ---- bytes

@@ -173,12 +173,7 @@ impl HeapPairs {
     ///
     /// `HeapFull` where the heap's length and the value's room are together above 4294967295; else `Memory` where memory is refused. After
     /// each of these the pairs and the heap are unchanged.
-    pub fn add_value<'a, V: Value<'a>>(
-        &mut self,
-        alloc: Global,
-        field: u32,
-        value: &V,
-    ) -> Result<(), AddError>
+    pub fn add_value<'a, V: Value<'a>>(&mut self, field: u32, value: &V) -> Result<(), AddError>
         ensures { Adds self.old self.new field (V.tree value.now) result }
     {
         // The commonest leaves are handed on without standing in memory before.
@@ -187,18 +182,14 @@ impl HeapPairs {
             ReferenceValue::Leaf(ReferenceValueLeaf::U64(number)) => self.add_u64(field, number),
             ReferenceValue::Leaf(ReferenceValueLeaf::I64(number)) => self.add_i64(field, number),
             ReferenceValue::Leaf(single) => self.add_leaf(field, &single),
-            _ => self.add_whole(alloc, field, value),
+            _ => self.add_whole(field, value),
         }
     }
 
-    fn add_whole<'a, V: Value<'a>>(
-        &mut self,
-        alloc: Global,
-        field: u32,
-        value: &V,
-    ) -> Result<(), AddError>
+    fn add_whole<'a, V: Value<'a>>(&mut self, field: u32, value: &V) -> Result<(), AddError>
         ensures { Adds self.old self.new field (V.tree value.now) result }
     {
+        let alloc = *self.heap.allocator();
         let len = self.heap.len();
         match put_within(alloc, &mut self.heap, value) {
             Ok(place) => keep_pair(&mut self.heap, &mut self.pairs, len, field, place),
@@ -216,7 +207,6 @@ impl HeapPairs {
     /// than 64 levels, and where the heap has no room or memory is refused: what it doesn't add may still be a pair.
     pub fn add_encoded<'a>(
         &mut self,
-        alloc: Global,
         bytes: &'a [u8],
         version: WriteVersion,
         most: u64,
@@ -225,7 +215,7 @@ impl HeapPairs {
             result.0.now result.1 }
         ensures most { result.1 ≤ most }
     {
-        let mut places = Vec::new(alloc);
+        let mut places = Vec::new(*self.heap.allocator());
         let mut rest = bytes;
         for count in 0..most {
             let Some(behind) = self.add_encoded_pair(rest, version, &mut places) else {

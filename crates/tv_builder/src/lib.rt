@@ -11,6 +11,6 @@ mod fits;
 pub mod frame;
 pub mod heap_pair;
 pub mod heap_pairs;
-pub mod pair_builder;
 pub mod laws;
+pub mod pair_builder;
 mod whole;

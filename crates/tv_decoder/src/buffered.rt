@@ -7,7 +7,6 @@ ghost use Rattle.tv_format.specs.WriteVersion.{written_version};
 ghost use Rattle.tv_reader.specs.Finds.{Finds};
 ghost use Rattle.tv_reader.specs.Version.{version_of};
 
-use std::alloc::Global;
 use tv_base::ByteSource;
 use tv_builder::heap_pairs::HeapPairs;
 use tv_format::version::WriteVersion;
@@ -29,7 +28,6 @@ fn written(version: DocStoreVersion) -> Option<WriteVersion>
 // Adds the next pairs that the source has buffered whole, at once, up to so many, and says how many they are. It may add none: where the
 // source doesn't give the bytes that it has buffered, the pairs are taken back, so that they are read part by part.
 pub(crate) fn take_buffered_pairs<S: ByteSource>(
-    alloc: Global,
     document: &mut HeapPairs,
     source: &mut S,
     count: &mut u64,
@@ -52,7 +50,7 @@ pub(crate) fn take_buffered_pairs<S: ByteSource>(
     }
     let pairs = document.pairs.len();
     let heap = document.heap.len();
-    let (rest, added) = document.add_encoded(alloc, lent, known, most);
+    let (rest, added) = document.add_encoded(lent, known, most);
     let taken = lent.len() - rest.len();
     if taken == 0 {
         return added;

@@ -39,7 +39,7 @@ fn take_rest<S: ByteSource>(
             return Ok(reading.into_pairs());
         }
         reading.advance(alloc, source, count, version, &mut legacy_seen, &mut bytes)?;
-        reading = reading.with_buffered_pairs(alloc, source, count, version);
+        reading = reading.with_buffered_pairs(source, count, version);
     }
     let _taken = *count;
     *count = u64::MAX;
@@ -65,7 +65,7 @@ pub fn take_document<S: ByteSource>(
 {
     let announced = take_document_head(source, count)?;
     let mut document = HeapPairs::with_capacity(alloc, FIRST_ROOM)?;
-    let finished = take_buffered_pairs(alloc, &mut document, source, count, version, announced);
+    let finished = take_buffered_pairs(&mut document, source, count, version, announced);
     if finished == announced {
         return Ok(document);
     }

@@ -108,7 +108,6 @@ impl Reading {
     // Where a pair is awaited, the next pairs that the source has buffered whole, at once, as far as that can be. It may read none.
     pub(crate) fn with_buffered_pairs<S: ByteSource>(
         self,
-        alloc: Global,
         source: &mut S,
         count: &mut u64,
         version: DocStoreVersion,
@@ -127,7 +126,7 @@ impl Reading {
         let finished = self.finished;
         let mut document = self.builder.into_pairs();
         let most = announced - finished;
-        let more = take_buffered_pairs(alloc, &mut document, source, count, version, most);
+        let more = take_buffered_pairs(&mut document, source, count, version, most);
         Reading::between_pairs(announced, finished + more, document)
     }
 

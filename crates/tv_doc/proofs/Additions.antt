@@ -1,7 +1,9 @@
 -- What a list of additions leaves.
 use Rattle.std.proofs.Common.{◌≡◌, ℕ, List, [], ◌∷◌, ◌++◌, length, Result, Ok, Err, refl, sym, subst, ◌∙◌, ap, append_assoc, append-nil, arith}
+use Rattle.tv_builder.specs.Holds.{pair_at}
+use Rattle.tv_builder.specs.TreeBytes.{tree_heap, tree_place}
 use Rattle.tv_format.specs.Tree.{Tree, Document}
-use Rattle.tv_doc.specs.declared.add_error.AddError.{AddError}
+use Rattle.tv_builder.specs.declared.add_error.AddError.{AddError}
 use Rattle.tv_doc.specs.declared.document.CompactDoc.{CompactDoc}
 use Rattle.tv_doc.specs.Additions.{Addition, pair_of, accepted, Runs, Keeps, Accepts, AddsEach, IsEmpty, IsMade}
 use Rattle.tv_doc.specs.Document.{document_of, heap_of, places_of, Adds, IsUnchanged}
@@ -38,10 +40,10 @@ runs_keep (a ∷ rest) old new run =
 -- ---- pairs that are all accepted
 
 pub unchanged_same : (d : CompactDoc) → IsUnchanged d d
-unchanged_same d = record { document = refl; heap = refl; places = refl }
+unchanged_same d = record { document = refl; heap = refl; pairs = refl; places = refl }
 
 pub unchanged_from : (a b c : CompactDoc) → IsUnchanged a b → IsUnchanged b c → IsUnchanged a c
-unchanged_from a b c u v = record { document = v.document ∙ u.document; heap = v.heap ∙ u.heap; places = v.places ∙ u.places }
+unchanged_from a b c u v = record { document = v.document ∙ u.document; heap = v.heap ∙ u.heap; pairs = v.pairs ∙ u.pairs; places = v.places ∙ u.places }
 
 pub adds_from : (field : ℕ) (t : Tree) (a b c : CompactDoc) → IsUnchanged a b → Accepts b c field t → Accepts a c field t
 adds_from field t a b c u h =
@@ -50,6 +52,8 @@ adds_from field t a b c u h =
       omega (arith, same, h.0),
       record {
         document = k.document ∙ ap (λ d. d ++ (field, t) ∷ []) u.document;
+        bytes = k.bytes ∙ ap (λ h. tree_heap h t) u.heap;
+        pair = k.pair ∙ (λ i. u.pairs i ++ pair_at field (tree_place (u.heap i) t) ∷ []);
         added = k.added;
         heap = k.heap ∙ ap (λ l. l ++ k.added) u.heap;
         within = k.within;

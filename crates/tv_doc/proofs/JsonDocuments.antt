@@ -1,5 +1,5 @@
 -- Values that are added one after the other.
-use Rattle.std.proofs.Common.{◌≡◌, ℕ, ◌<◌, List, [], ◌∷◌, ◌++◌, Option, Some, Result, Ok, Err, subst, refl, sym, ap, ◌∙◌, append_assoc, append-nil}
+use Rattle.std.proofs.Common.{◌≡◌, ℕ, List, [], ◌∷◌, ◌++◌, Option, Some, Result, Ok, Err, subst, refl, sym, ap, ◌∙◌, append_assoc, append-nil}
 use Rattle.std.specs.Prelude.{OnSome}
 use Rattle.std.specs.Result.{result_ok}
 use Rattle.std.specs.Option.{IfSome}
@@ -17,8 +17,8 @@ use Rattle.tv_doc.specs.AddsRow.{AddsRow}
 use Rattle.tv_doc.specs.Document.{IsUnchanged, Refuses}
 use Rattle.tv_doc.specs.JsonObject.{FieldJson, Pairs, IsRefused, StopsAt, IsValueError, MakesDocument, Parses, AddsPairs, AddsValues, object_values}
 use Rattle.tv_doc.specs.JsonObject.IsShort.{for_pair, for_value, for_error}
-use Rattle.tv_doc.specs.declared.add_error.AddError.{AddError}
-use Rattle.tv_doc.specs.declared.add_error.AddError.TheVariants.{HeapFull, Memory}
+use Rattle.tv_builder.specs.declared.add_error.AddError.{AddError}
+use Rattle.tv_builder.specs.declared.add_error.AddError.TheVariants.{HeapFull, Memory}
 use Rattle.tv_doc.specs.declared.doc_parsing_error.DocParsingError.{DocParsingError}
 use Rattle.tv_doc.specs.declared.doc_parsing_error.DocParsingError.TheVariants as error
 use Rattle.tv_doc.specs.declared.document.CompactDoc.{CompactDoc}

@@ -1,7 +1,3 @@
-pub mod Documents
-pub mod Kept
-pub mod PutPairs
-pub mod EncodedPairs
 pub mod Grouping
 pub mod Valid
 pub mod Pairs
@@ -14,5 +10,5 @@ pub mod FieldTexts
 pub mod NamedBack
 pub mod Spans
 pub mod Belonging
-pub mod WholeRoom
 pub mod NamedErrors
+pub mod LentBorrowed

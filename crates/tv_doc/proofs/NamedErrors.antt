@@ -1,22 +1,19 @@
 -- Why values by name aren't converted back.
-use Rattle.std.proofs.Common.{◌≡◌, ◌≢◌, ◌⊎◌, ℕ, ◌+◌, ◌<◌, ◌≤◌, Bool, true, false, List, [], ◌∷◌, ◌++◌, Err, refl, sym, ap, subst, ◌∙◌, arith, inl, inr}
+use Rattle.std.proofs.Common.{◌≡◌, ◌≢◌, ◌⊎◌, ℕ, ◌+◌, ◌≤◌, Bool, true, false, List, [], ◌∷◌, ◌++◌, Err, refl, sym, ap, subst, ◌∙◌, arith, inl, inr}
 use Rattle.std.specs.Prelude.{nat_eq}
-use Rattle.std.specs.List.{AllByRecursion}
 use Rattle.std.proofs.lemmas.Bool.Decides.{Decides-eqb}
 use Rattle.std.proofs.lemmas.List.Sums.{sum_by-cons, sum_by-append}
 use Rattle.tv_heap.specs.Room.{room, document_room}
-use Rattle.tv_format.specs.Short.{IsPair, IsDocument}
 use Rattle.tv_format.specs.Tree.{Tree, Document}
 use Rattle.tv_doc.specs.AdditionError.{addition_error}
 use Rattle.tv_doc.specs.Additions.{IsEmpty}
 use Rattle.tv_doc.specs.FieldValues.{values_of}
 use Rattle.tv_doc.specs.NamedPairs.{StopsAtPair, MakesPairs, IsBackError}
-use Rattle.tv_doc.specs.declared.add_error.AddError.{AddError}
-use Rattle.tv_doc.specs.declared.add_error.AddError.TheVariants.{HeapFull, Memory}
+use Rattle.tv_builder.specs.declared.add_error.AddError.{AddError}
+use Rattle.tv_builder.specs.declared.add_error.AddError.TheVariants.{HeapFull, Memory}
 use Rattle.tv_doc.specs.declared.doc_parsing_error.DocParsingError.{DocParsingError}
 use Rattle.tv_doc.specs.declared.document.CompactDoc.{CompactDoc}
 use Rattle.tv_doc.proofs.Additions.{from_empty}
-use Rattle.tv_doc.proofs.NamedBack.{values_append}
 use Rattle.tv_doc.proofs.Pairs.{value_first, other_first}
 
 room-cons : (p : ℕ × Tree) (d : Document) → document_room (p ∷ d) ≡ room p.1 + document_room d
@@ -99,7 +96,7 @@ middle_room p before behind = omega (arith, sum_by-append (λ (pair : ℕ × Tre
 refusal_back : (pairs d : Document) (start : CompactDoc) (r : AddError) → Parts pairs d → IsEmpty start → StopsAtPair pairs start r → IsBackError d (addition_error r)
 refusal_back pairs d start HeapFull h none s =
     let mid = s.mid in
-    let within = mid.room in
+    let within = mid.values.room in
     omega (arith, s.refused, within, ap document_room (from_empty s.before start mid none s.added), middle_room s.at s.before s.behind, ap document_room s.joined, room_within pairs d h)
 refusal_back pairs d start Memory h none s = tt
 

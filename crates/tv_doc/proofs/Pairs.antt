@@ -4,23 +4,23 @@ use Rattle.std.proofs.Math.Logic.{∥∥₁_elim, ∥∥₁_map}
 use Rattle.std.proofs.Math.Nat.{ℕ_set}
 use mathlib.Core.HLevel.{⊥_prop}
 use Rattle.tv_format.specs.Tree.{Tree, Document}
-use Rattle.tv_doc.specs.declared.place.FieldValueAddr.{FieldValueAddr}
+use Rattle.tv_builder.specs.declared.heap_pair.HeapPair.{HeapPair}
 use Rattle.tv_heap.specs.Held.{Held}
-use Rattle.tv_doc.specs.Holds.{ReadsPair, ReadsPairs, Holds}
+use Rattle.tv_builder.specs.Holds.{ReadsPair, ReadsPairs, Holds}
 use Rattle.tv_heap.specs.Reads.{Reads}
 use Rattle.tv_heap.specs.TypeCode.{type_code}
 use Rattle.tv_doc.specs.FieldValues.{values_of}
-use Rattle.tv_doc.proofs.Documents.{same_document}
+use Rattle.tv_builder.proofs.Documents.{same_document}
 
-pub record FirstPair (heap : List ℕ) (p : FieldValueAddr) (ps : List FieldValueAddr) (d : Document) : Type 0 where
+pub record FirstPair (heap : List ℕ) (p : HeapPair) (ps : List HeapPair) (d : Document) : Type 0 where
   pub pair : ℕ × Tree
   pub others : Document
   pub is : d ≡ pair ∷ others
   pub field : p.field ≡ pair.0
-  pub reads : ∥ Reads heap (type_code p.value_type) p.address pair.1 ∥₁
+  pub reads : ∥ Reads heap (type_code p.place.value_type) p.place.address pair.1 ∥₁
   pub left : ∥ ReadsPairs heap ps others ∥₁
 
-pub first_pair : (heap : List ℕ) (ps qs : List FieldValueAddr) (p : FieldValueAddr) (d : Document) → ∥ ReadsPairs heap ps d ∥₁ → ps ≡ p ∷ qs → FirstPair heap p qs d
+pub first_pair : (heap : List ℕ) (ps qs : List HeapPair) (p : HeapPair) (d : Document) → ∥ ReadsPairs heap ps d ∥₁ → ps ≡ p ∷ qs → FirstPair heap p qs d
 first_pair heap [] qs p d h e = absurd (cc)
 first_pair heap (q ∷ ps) qs p [] h e = absurd (∥∥₁_elim h ⊥_prop (λ r. r))
 first_pair heap (q ∷ ps) qs p (x ∷ d) h e =
@@ -36,21 +36,21 @@ first_pair heap (q ∷ ps) qs p (x ∷ d) h e =
       left = ∥∥₁_map reads (λ r. r.1);
     }
 
-pub no_pair : (heap : List ℕ) (ps : List FieldValueAddr) (d : Document) → ∥ ReadsPairs heap ps d ∥₁ → ps ≡ [] → d ≡ []
+pub no_pair : (heap : List ℕ) (ps : List HeapPair) (d : Document) → ∥ ReadsPairs heap ps d ∥₁ → ps ≡ [] → d ≡ []
 no_pair heap [] [] h e = refl
 no_pair heap [] (x ∷ d) h e = absurd (∥∥₁_elim h ⊥_prop (λ r. r))
 no_pair heap (p ∷ ps) d h e = absurd (cc)
 
 -- `t` is what is lent of the first pair
-pub pair_steps : (heap : List ℕ) (p : FieldValueAddr) (ps : List FieldValueAddr) (d : Document) → FirstPair heap p ps d → (field : ℕ) → field ≡ p.field
-    → (t : Tree) → ((held : Held heap (type_code p.value_type) p.address) → t ≡ held.0) → (y : Holds heap ps) → d ≡ (field, t) ∷ y.0
+pub pair_steps : (heap : List ℕ) (p : HeapPair) (ps : List HeapPair) (d : Document) → FirstPair heap p ps d → (field : ℕ) → field ≡ p.field
+    → (t : Tree) → ((held : Held heap (type_code p.place.value_type) p.place.address) → t ≡ held.0) → (y : Holds heap ps) → d ≡ (field, t) ∷ y.0
 pair_steps heap p ps d f field is t same y =
     let number : f.pair.0 ≡ field = sym f.field ∙ sym is in
     let tree : f.pair.1 ≡ t = sym (same (f.pair.1, f.reads)) in
     let left = same_document heap heap ps ps (f.others, f.left) y refl refl in
     f.is ∙ (λ i. (number i, tree i) ∷ left i)
 
-pub pairs_fewer : (heap : List ℕ) (p : FieldValueAddr) (ps : List FieldValueAddr) (d : Document) → FirstPair heap p ps d → (y : Holds heap ps) → length y.0 < length d
+pub pairs_fewer : (heap : List ℕ) (p : HeapPair) (ps : List HeapPair) (d : Document) → FirstPair heap p ps d → (y : Holds heap ps) → length y.0 < length d
 pairs_fewer heap p ps d f y =
     let left = same_document heap heap ps ps (f.others, f.left) y refl refl in
     omega (arith, ap length f.is, ap length left)

@@ -11,12 +11,12 @@ use Rattle.tv_format.specs.Leaves.{content}
 use Rattle.tv_format.specs.Short.{IsSized, IsText, IsToken, AreTokens, IsContent, IsValue, AreElements, AreEntries, IsPair, IsDocument}
 use Rattle.tv_format.specs.Tree.{Token, Tree, leaf, array, object, Elements, no_elements, element, Entries, no_entries, entry, element_count, entry_count, Document}
 use Rattle.tv_doc.specs.declared.document.CompactDoc.{CompactDoc}
-use Rattle.tv_doc.specs.declared.place.FieldValueAddr.{FieldValueAddr}
+use Rattle.tv_builder.specs.declared.heap_pair.HeapPair.{HeapPair}
 use Rattle.tv_doc.specs.Document.{document_of}
-use Rattle.tv_doc.specs.Holds.{ReadsPairs}
+use Rattle.tv_builder.specs.Holds.{ReadsPairs}
 use Rattle.tv_heap.specs.Reads.{ShortText, ContentStands, Reads, ReadsElements, ReadsEntries}
 use Rattle.tv_heap.specs.TypeCode.{type_code}
-use Rattle.tv_doc.proofs.Documents.{document_length}
+use Rattle.tv_builder.proofs.Documents.{document_length}
 
 -- there is one proof at most of each of these
 
@@ -121,17 +121,17 @@ mutual
       let q = p.others in
       (text_valid k p.reads.1.whole p.reads.1.stands, reads_valid heap q.code q.at t q.reads, entries_valid heap parent q.rest es q.others)
 
-pairs_valid : (heap : List ℕ) (ps : List FieldValueAddr) (d : Document) → ReadsPairs heap ps d → AllByRecursion IsPair d
+pairs_valid : (heap : List ℕ) (ps : List HeapPair) (d : Document) → ReadsPairs heap ps d → AllByRecursion IsPair d
 pairs_valid heap [] [] r = tt
 pairs_valid heap (p ∷ ps) (x ∷ d) r =
-    (record { field = r.0.fits; value = reads_valid heap (type_code p.value_type) p.address x.1 r.0.reads }, pairs_valid heap ps d r.1)
+    (record { field = r.0.fits; value = reads_valid heap (type_code p.place.value_type) p.place.address x.1 r.0.reads }, pairs_valid heap ps d r.1)
 pairs_valid heap [] (x ∷ d) r = absurd r
 pairs_valid heap (p ∷ ps) [] r = absurd r
 
 pub document_valid : (d : CompactDoc) → IsDocument (document_of d)
 document_valid d =
-    let len = d.pairs.ok in
-    ∥∥₁_elim d.document.1 (IsDocument-prop (document_of d)) (λ r. record {
-      count = omega (arith, len.0, len.1, d.pairs.small, document_length d);
-      each = pairs_valid d.node_data.items d.pairs.items (document_of d) r;
+    let len = d.values.pairs.ok in
+    ∥∥₁_elim d.values.document.1 (IsDocument-prop (document_of d)) (λ r. record {
+      count = omega (arith, len.0, len.1, d.values.pairs.small, document_length d.values);
+      each = pairs_valid d.values.heap.items d.values.pairs.items (document_of d) r;
     })

@@ -2,7 +2,7 @@
 use Rattle.std.specs.Prelude.{◌≡◌, ℕ, List, [], ◌∷◌, ◌++◌, Result, Ok, Err}
 use Rattle.tv_base.specs.Sink.{IsPrefix}
 use Rattle.tv_format.specs.Tree.{Tree, Document}
-use Rattle.tv_doc.specs.declared.add_error.AddError.{AddError}
+use Rattle.tv_builder.specs.declared.add_error.AddError.{AddError}
 use Rattle.tv_doc.specs.declared.document.CompactDoc.{CompactDoc}
 use Rattle.tv_doc.specs.Document.{document_of, heap_of, places_of, Adds, IsUnchanged}
 

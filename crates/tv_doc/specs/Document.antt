@@ -1,66 +1,49 @@
 -- What a document is seen as, and what an addition leaves.
-use Rattle.std.specs.Prelude.{◌≡◌, ◌≢◌, ℕ, ◌+◌, ◌<◌, ◌≤◌, List, [], ◌∷◌, ◌++◌, length, map, slice_get, Option, Some, None, Result, Ok, Err}
-use Rattle.std.specs.Vec.{vec_capacity}
+use Rattle.std.specs.Prelude.{ℕ, List, Option, Result}
+use Rattle.tv_builder.specs.HeldPairs as held
+use Rattle.tv_builder.specs.declared.add_error.AddError.{AddError}
 use Rattle.tv_format.specs.Tree.{Tree, Document}
-use Rattle.tv_doc.specs.declared.add_error.AddError.{AddError}
-use Rattle.tv_doc.specs.declared.add_error.AddError.TheVariants.{HeapFull, Memory}
 use Rattle.tv_doc.specs.declared.document.CompactDoc.{CompactDoc}
-use Rattle.tv_heap.specs.Reads.{Reads}
-use Rattle.tv_heap.specs.Room.{room}
-use Rattle.tv_heap.specs.TypeCode.{type_code}
 
 -- its fields and trees, in order
 abbrev pub document_of : CompactDoc → Document
-document_of d = d.document.0
+document_of d = held.document_of d.values
 
 -- the bytes in which the trees stand
 abbrev pub heap_of : CompactDoc → List ℕ
-heap_of d = d.node_data.items
+heap_of d = held.heap_of d.values
 
 -- for how many bytes of the heap, and for how many pairs, it has memory
 abbrev pub heap_capacity : CompactDoc → ℕ
-heap_capacity d = vec_capacity d.node_data
+heap_capacity d = held.heap_capacity d.values
 
 abbrev pub pairs_capacity : CompactDoc → ℕ
-pairs_capacity d = vec_capacity d.pairs
+pairs_capacity d = held.pairs_capacity d.values
 
 -- each pair's type byte and address
 abbrev pub places_of : CompactDoc → List (ℕ × ℕ)
-places_of d = map (λ p. (type_code p.value_type, p.address)) d.pairs.items
+places_of d = held.places_of d.values
 
--- One pair is added. The old heap is kept as a prefix, and grew by the tree's room at most.
--- The old places are kept, and the new one is behind the old heap, unless it is that of null or a truth value.
-pub record Added (old new : CompactDoc) (field : ℕ) (t : Tree) : Type 0 where
-  pub document : document_of new ≡ document_of old ++ (field, t) ∷ []
-  pub added : List ℕ
-  pub heap : heap_of new ≡ heap_of old ++ added
-  pub within : length added ≤ room t
-  pub code : ℕ
-  pub at : ℕ
-  pub places : places_of new ≡ places_of old ++ (code, at) ∷ []
-  pub behind : code ≢ 0 → code ≢ 9 → length (heap_of old) ≤ at
+-- one pair is added
+abbrev pub Added : CompactDoc → CompactDoc → ℕ → Tree → Type 0
+Added old new field t = held.Added old.values new.values field t
 
 -- the same heap and the same pairs at the same places
-pub record IsUnchanged (old new : CompactDoc) : Type 0 where
-  pub document : document_of new ≡ document_of old
-  pub heap : heap_of new ≡ heap_of old
-  pub places : places_of new ≡ places_of old
+abbrev pub IsUnchanged : CompactDoc → CompactDoc → Type 0
+IsUnchanged old new = held.IsUnchanged old.values new.values
 
 -- the heap has no room for the tree
 abbrev pub IsFull : CompactDoc → Tree → Type 0
-IsFull d t = 4294967295 < length (heap_of d) + room t
+IsFull d t = held.IsFull d.values t
 
 -- when which refusal comes
 abbrev pub Refuses : CompactDoc → Tree → AddError → Type 0
-Refuses d t HeapFull = IsFull d t
-Refuses d t Memory = length (heap_of d) + room t ≤ 4294967295
+Refuses d t e = held.Refuses d.values t e
 
 -- what an addition returns, and what it leaves
 abbrev pub Adds : {T : Type 0} → CompactDoc → CompactDoc → ℕ → Tree → Result T AddError → Type 0
-Adds old new field t (Ok x) = (length (heap_of old) + room t ≤ 4294967295) × Added old new field t
-Adds old new field t (Err e) = Refuses old t e × IsUnchanged old new
+Adds old new field t r = held.Adds old.values new.values field t r
 
 -- the type byte and the address of the pair at a place, whose tree the heap reads there
 abbrev pub ReadsAt : CompactDoc → ℕ → Option (ℕ × ℕ) → Type 0
-ReadsAt d i None = slice_get (document_of d) i ≡ None
-ReadsAt d i (Some p) = (pair : ℕ × Tree) × ((slice_get (document_of d) i ≡ Some pair) × ∥ Reads (heap_of d) p.0 p.1 pair.1 ∥₁)
+ReadsAt d i place = held.ReadsAt d.values i place

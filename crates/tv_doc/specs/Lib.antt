@@ -1,4 +1,3 @@
-pub mod Holds
 pub mod Builder
 pub mod Document
 pub mod FieldValues
@@ -12,4 +11,3 @@ pub mod JsonObject
 pub mod Named
 pub mod NamedPairs
 pub mod SameTexts
-pub mod Encoded

@@ -8,7 +8,7 @@ use Rattle.tv_doc.specs.Additions.{AddsEach, IsEmpty, IsMade}
 use Rattle.tv_doc.specs.Document.{document_of, Refuses}
 use Rattle.tv_doc.specs.Named.{Named}
 use Rattle.tv_heap.specs.Room.{document_room}
-use Rattle.tv_doc.specs.declared.add_error.AddError.{AddError}
+use Rattle.tv_builder.specs.declared.add_error.AddError.{AddError}
 use Rattle.tv_doc.specs.declared.doc_parsing_error.DocParsingError.{DocParsingError}
 use Rattle.tv_doc.specs.declared.doc_parsing_error.DocParsingError.TheVariants as errors
 use Rattle.tv_doc.specs.declared.document.CompactDoc.{CompactDoc}

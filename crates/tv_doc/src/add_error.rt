@@ -1,14 +1,3 @@
 //! Why an addition to a document is refused.
 
-use thiserror::Error;
-
-/// Why a document refuses an addition. After each refusal its pairs and its heap are unchanged.
-#[derive(Clone, Copy, Debug, PartialEq, Eq, Error)]
-pub enum AddError {
-    /// The length of the heap and the room of the value together are above 4294967295 bytes.
-    #[error("the values need more room than 4294967295 bytes")]
-    HeapFull,
-    /// The memory for the value was refused.
-    #[error("memory was refused")]
-    Memory,
-}
+pub use tv_builder::add_error::AddError;

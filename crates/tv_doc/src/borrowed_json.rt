@@ -15,6 +15,7 @@ ghost use Rattle.tv_format.specs.Tree.{leaf};
 
 use crate::document::CompactDoc;
 use crate::json::add_value;
+use crate::lent_borrowed::LentBorrowed;
 use std::alloc::Global;
 use tv_borrowed::Scratch;
 use tv_borrowed::borrowed::BorrowedJson;
@@ -71,7 +72,11 @@ fn add_plain(
             document.add_i64(field, *number).ok()
         }
         (FieldType::Bool(_), BorrowedJson::Bool(truth)) => document.add_bool(field, *truth).ok(),
-        (FieldType::JsonObject(_), BorrowedJson::Object(_)) => document.add_whole_json(field, json),
+        (FieldType::JsonObject(_), BorrowedJson::Object(_)) => {
+            document
+                .add_field_value(field, &LentBorrowed::new(json))
+                .ok()
+        }
         (FieldType::Date(_), BorrowedJson::String(text)) => {
             add_found(document, field, lend_date_text(text))
         }

@@ -1,107 +1,34 @@
 //! Documents: pairs of a field and a value, the values in one heap.
 
-ghost use Rattle.std.specs.Prelude.{◌≡◌, ℕ, ◌+◌, ◌<◌, ◌≤◌, ◌^◌, [], ◌∷◌, ◌++◌, ◌↔◌, IsTrue, OnOk};
-ghost use Rattle.std.specs.Prelude.{OnErr, IfOk, IfErr, IsErrOf, IsOkAnd, IsSomeAnd, MatchOption};
-ghost use Rattle.std.specs.Prelude.{SomeIff, option_map, length, map, slice_get, take};
+ghost use Rattle.std.specs.Prelude.{◌≡◌, ◌≤◌, [], ◌↔◌, IsTrue, IfOk, option_map, length, map};
+ghost use Rattle.std.specs.Prelude.{slice_get};
 ghost use Rattle.std.specs.Net.Addr.{ipv6_bits};
 ghost use Rattle.std.specs.String.{string_bytes};
 ghost use Rattle.tv_value.specs.HeldTokens.{token_of};
 ghost use Rattle.tv_format.specs.Tree.{leaf, text, unsigned, signed, boolean, date, facet, bytes};
 ghost use Rattle.tv_format.specs.Tree.{ip_address, tokenized};
-ghost use Rattle.tv_value.specs.Lent.{leaf_of, nested_tree};
-ghost use Rattle.tv_doc.specs.Holds.{Holds, Holds-prop, pair_at};
-ghost use Rattle.tv_heap.specs.Room.{room, document_room};
-ghost use Rattle.tv_heap.specs.Weight.{document_weight};
+ghost use Rattle.tv_format.specs.WriteVersion.{written_version};
+ghost use Rattle.tv_value.specs.Lent.{leaf_of};
 
 use crate::add_error::AddError;
 use crate::document_trait::Document;
 use crate::field_values::{FieldValueIterRef, GetAllIter};
 use crate::map_value::MapValue;
-use crate::place::FieldValueAddr;
 use std::alloc::{AllocError, Global};
 use std::collections::BTreeMap;
 use std::net::Ipv6Addr;
 use tv_base::Facet;
-use tv_heap::room::{MAX_HEAP_LEN, leaf_room, room};
+use tv_builder::heap_pairs::HeapPairs;
+use tv_format::version::WriteVersion;
 use tv_heap::value::CompactDocValue;
-use tv_heap::value_type::ValueType;
-use tv_heap::write::{write_leaf, write_tree};
 use tv_schema::Schema;
 use tv_value::date_time::DateTime;
 use tv_value::field::Field;
 use tv_value::leaf::ReferenceValueLeaf;
-use tv_value::nested::{Nested, NestedValue, lend};
 use tv_value::owned_value::OwnedValue;
 use tv_value::pre_tokenized::PreTokenizedStr;
 use tv_value::tokenizer::PreTokenizedString;
-use tv_value::value::{ReferenceValue, Value};
-
-// The first pair makes room for so many.
-const FIRST_PAIRS: usize = 16;
-
-// Adds a place behind those that are there.
-#[inline(always)]
-pub(crate) fn push_pair(
-    pairs: &mut Vec<FieldValueAddr>,
-    pair: FieldValueAddr,
-) -> Result<(), AllocError>
-    ensures ok { OnOk result (pairs.new.items ≡ pairs.old.items ++ pair ∷ []) }
-    ensures err { OnErr result (pairs.new.items ≡ pairs.old.items) }
-{
-    if pairs.is_empty() {
-        pairs.reserve(FIRST_PAIRS)?;
-    }
-    pairs.push(pair)?;
-    Ok(())
-}
-
-// Tests that a value of this room fits behind so many bytes.
-#[inline(always)]
-fn admit(room: Option<u32>, len: usize) -> Result<(), AddError>
-    requires { len ≤ 4294967295 }
-    ensures fits { OnOk result (IsSomeAnd room (λ n. len + n ≤ 4294967295)) }
-    ensures full { IsErrOf result AddError.HeapFull
-        → MatchOption room (Unit {0}) (λ n. 4294967295 < len + n) }
-    ensures spares { ¬ IsErrOf result AddError.Memory }
-{
-    match room {
-        Some(room) if u64::from(room) <= MAX_HEAP_LEN - len as u64 => Ok(()),
-        _ => Err(AddError::HeapFull),
-    }
-}
-
-// Keeps the place of a value that was written behind the first `len` bytes of the heap. Where memory was refused or is refused
-// now, the heap is cut back to these, and the pairs stay as they were.
-#[inline(always)]
-pub(crate) fn keep_pair(
-    heap: &mut Vec<u8>,
-    pairs: &mut Vec<FieldValueAddr>,
-    len: usize,
-    field: u32,
-    written: Result<(ValueType, u32), AllocError>,
-) -> Result<(), AddError>
-    ensures pair { OnOk result
-        (IsOkAnd written (λ place. pairs.new.items ≡ pairs.old.items ++ pair_at field place ∷ [])) }
-    ensures heap { OnOk result (heap.new.items ≡ heap.old.items) }
-    ensures same_pairs { OnErr result (pairs.new.items ≡ pairs.old.items) }
-    ensures cut { OnErr result (heap.new.items ≡ take len heap.old.items) }
-    ensures memory { IfErr result (λ error. error ≡ AddError.Memory) }
-{
-    let Ok((value_type, address)) = written else {
-        heap.truncate(len);
-        return Err(AddError::Memory);
-    };
-    let pair = FieldValueAddr {
-        field,
-        value_type,
-        address,
-    };
-    if push_pair(pairs, pair).is_err() {
-        heap.truncate(len);
-        return Err(AddError::Memory);
-    }
-    Ok(())
-}
+use tv_value::value::Value;
 
 /// Pairs of a field and a value, in order. The values stand in one heap of bytes, in which each addition is kept apart.
 ///
@@ -117,13 +44,7 @@ pub(crate) fn keep_pair(
 /// ```
 #[derive(Debug, Drop)]
 pub struct CompactDoc {
-    pub(crate) alloc: Global,
-    pub(crate) node_data: Vec<u8>,
-    pub(crate) pairs: Vec<FieldValueAddr>,
-    pub ghost document: { Holds node_data.items pairs.items } by { Holds-prop node_data.items pairs.items },
-    pub ghost room: { length node_data.items ≤ document_room document.0 },
-    pub ghost weight: { length node_data.items ≤ document_weight document.0 },
-    pub ghost fits: { length node_data.items < 2 ^ 32 },
+    pub(crate) values: HeapPairs,
 }
 
 impl CompactDoc {
@@ -142,9 +63,7 @@ impl CompactDoc {
         ensures no_places { pairs_capacity result ≡ 0 }
     {
         CompactDoc {
-            alloc,
-            node_data: Vec::new(alloc),
-            pairs: Vec::new(alloc),
+            values: HeapPairs::new(alloc),
         }
     }
 
@@ -155,12 +74,15 @@ impl CompactDoc {
         ensures capacity { IfOk result (λ made. heap_capacity made ≡ bytes) }
         ensures no_places { IfOk result (λ made. pairs_capacity made ≡ 0) }
     {
-        let node_data = Vec::with_capacity(alloc, bytes)?;
-        Ok(CompactDoc {
-            alloc,
-            node_data,
-            pairs: Vec::new(alloc),
-        })
+        let values = HeapPairs::with_capacity(alloc, bytes)?;
+        Ok(CompactDoc { values })
+    }
+
+    /// The document of these pairs. (Not in tantivy.)
+    pub fn from_pairs(values: HeapPairs) -> CompactDoc
+        ensures { result.values ≡ values }
+    {
+        CompactDoc { values }
     }
 
     /// A copy: the same pairs, and their values at the same places of the same heap. The only error is that memory was
@@ -168,13 +90,8 @@ impl CompactDoc {
     pub fn try_clone(&self, alloc: Global) -> Result<CompactDoc, AllocError>
         ensures { IfOk result (λ copy. IsUnchanged self.now copy) }
     {
-        let node_data = Vec::from_slice(alloc, self.node_data.as_slice())?;
-        let pairs = Vec::from_slice(alloc, self.pairs.as_slice())?;
-        Ok(CompactDoc {
-            alloc,
-            node_data,
-            pairs,
-        })
+        let values = self.values.try_clone(alloc)?;
+        Ok(CompactDoc { values })
     }
 
     /// Gives memory back that neither the values nor the pairs need, as far as the allocator takes it; where there is no value or no pair,
@@ -186,29 +103,28 @@ impl CompactDoc {
         ensures frees_bytes { heap_of self.old ≡ [] → heap_capacity self.new ≡ 0 }
         ensures frees_places { document_of self.old ≡ [] → pairs_capacity self.new ≡ 0 }
     {
-        self.node_data.shrink_to_fit();
-        self.pairs.shrink_to_fit();
+        self.values.shrink_to_fit();
     }
 
     /// The number of pairs.
     pub fn len(&self) -> usize
         ensures { result ≡ length (document_of self.now) }
     {
-        self.pairs.len()
+        self.values.pairs.len()
     }
 
     /// Whether it has no pairs.
     pub fn is_empty(&self) -> bool
         ensures { IsTrue result ↔ (document_of self.now ≡ []) }
     {
-        self.pairs.is_empty()
+        self.values.pairs.is_empty()
     }
 
     /// The bytes of the heap, in which all values stand.
     pub fn node_data(&self) -> &[u8]
         ensures { result.now ≡ heap_of self.now }
     {
-        self.node_data.as_slice()
+        self.values.heap.as_slice()
     }
 
     /// The type byte and the address of the value of pair `i`, counted from 0; past the last pair, `None`.
@@ -216,8 +132,8 @@ impl CompactDoc {
         ensures place { result ≡ slice_get (places_of self.now) i }
         ensures reads { ReadsAt self.now i result }
     {
-        let pair = self.pairs.get(i)?;
-        Some((pair.value_type.to_code(), pair.address))
+        let pair = self.values.pairs.get(i)?;
+        Some((pair.place.value_type.to_code(), pair.place.address))
     }
 
     /// Adds a pair of a field and a text.
@@ -227,21 +143,21 @@ impl CompactDoc {
     pub fn add_text(&mut self, field: Field, content: &str) -> Result<(), AddError>
         ensures { Adds self.old self.new field.id (leaf (text content.now)) result }
     {
-        self.add_leaf(field, &ReferenceValueLeaf::Str(content))
+        self.values.add_text(field.field_id(), content)
     }
 
     /// Adds a pair of a field and an unsigned number, whose room is 8 bytes. The errors are those of `add_text`.
     pub fn add_u64(&mut self, field: Field, number: u64) -> Result<(), AddError>
         ensures { Adds self.old self.new field.id (leaf (unsigned number)) result }
     {
-        self.add_leaf(field, &ReferenceValueLeaf::U64(number))
+        self.values.add_u64(field.field_id(), number)
     }
 
     /// Adds a pair of a field and a signed number, whose room is 8 bytes. The errors are those of `add_text`.
     pub fn add_i64(&mut self, field: Field, number: i64) -> Result<(), AddError>
         ensures { Adds self.old self.new field.id (leaf (signed number)) result }
     {
-        self.add_leaf(field, &ReferenceValueLeaf::I64(number))
+        self.values.add_i64(field.field_id(), number)
     }
 
     /// Adds a pair of a field and a truth value, which takes no room. The errors are those of `add_text`.
@@ -306,14 +222,7 @@ impl CompactDoc {
     ) -> Result<(), AddError>
         ensures { Adds self.old self.new field.id (V.tree value.now) result }
     {
-        // The commonest leaves are handed on without standing in memory before.
-        match value.as_value() {
-            ReferenceValue::Leaf(ReferenceValueLeaf::Str(content)) => self.add_text(field, content),
-            ReferenceValue::Leaf(ReferenceValueLeaf::U64(number)) => self.add_u64(field, number),
-            ReferenceValue::Leaf(ReferenceValueLeaf::I64(number)) => self.add_i64(field, number),
-            ReferenceValue::Leaf(single) => self.add_leaf_field_value(field, single),
-            _ => self.add_tree(field, room(value), lend(value)),
-        }
+        self.values.add_value(field.field_id(), value)
     }
 
     /// Adds a pair of a field and an object: the entries of a map, in byte order of the keys. The errors are those of
@@ -332,7 +241,7 @@ impl CompactDoc {
     pub fn field_values(&self) -> FieldValueIterRef<'_>
         ensures { pairs_left result ≡ document_of self.now }
     {
-        FieldValueIterRef::new(self.node_data.as_slice(), self.pairs.as_slice())
+        FieldValueIterRef::new(self.values.heap.as_slice(), self.values.pairs.as_slice())
     }
 
     /// The values of a field, in the order in which they were added.
@@ -396,30 +305,7 @@ impl CompactDoc {
     ) -> Result<(), AddError>
         ensures { Adds self.old self.new field.id (leaf (leaf_of value.now)) result }
     {
-        let len = self.node_data.len();
-        admit(leaf_room(value), len)?;
-        let written = write_leaf(&mut self.node_data, value);
-        let number = field.field_id();
-        keep_pair(&mut self.node_data, &mut self.pairs, len, number, written)
-    }
-
-    fn add_tree<N: Nested>(
-        &mut self,
-        field: Field,
-        room_found: Option<u32>,
-        value: NestedValue<'_, N>,
-    ) -> Result<(), AddError>
-        requires { let n = room (nested_tree N.array_rest N.object_rest value) in SomeIff room_found
-            (n < 2 ^ 32) n }
-        ensures { Adds self.old self.new field.id
-            (nested_tree N.array_rest N.object_rest value.entry) result }
-    {
-        let len = self.node_data.len();
-        admit(room_found, len)?;
-        let mut places = Vec::new(self.alloc);
-        let written = write_tree(&mut self.node_data, &mut places, value);
-        let number = field.field_id();
-        keep_pair(&mut self.node_data, &mut self.pairs, len, number, written)
+        self.values.add_leaf(field.field_id(), value)
     }
 }
 

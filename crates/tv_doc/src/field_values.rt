@@ -2,9 +2,9 @@
 
 ghost use Rattle.std.specs.Prelude.{◌≡◌};
 ghost use Rattle.std.specs.Iterator.{YieldsFirstBy, item_count};
-ghost use Rattle.tv_doc.specs.Holds.{Holds, Holds-prop};
+ghost use Rattle.tv_builder.specs.Holds.{Holds, Holds-prop};
 
-use crate::place::FieldValueAddr;
+use tv_builder::heap_pair::HeapPair;
 use tv_heap::value::CompactDocValue;
 use tv_value::field::Field;
 
@@ -12,12 +12,12 @@ use tv_value::field::Field;
 #[derive(Clone, Copy)]
 pub struct FieldValueIterRef<'a> {
     heap: &'a [u8],
-    pairs: &'a [FieldValueAddr],
+    pairs: &'a [HeapPair],
     pub ghost held: { Holds heap.now pairs.now } by { Holds-prop heap.now pairs.now },
 }
 
 impl<'a> FieldValueIterRef<'a> {
-    pub(crate) fn new(heap: &'a [u8], pairs: &'a [FieldValueAddr]) -> FieldValueIterRef<'a>
+    pub(crate) fn new(heap: &'a [u8], pairs: &'a [HeapPair]) -> FieldValueIterRef<'a>
         requires held { Holds heap.now pairs.now }
         ensures heap { result.heap.now ≡ heap.now }
         ensures pairs { result.pairs.now ≡ pairs.now }
@@ -41,7 +41,7 @@ impl<'a> Iterator for FieldValueIterRef<'a> {
         let field = Field::from_field_id(u32::from(pair.field));
         Some((
             field,
-            CompactDocValue::new(heap, pair.value_type, pair.address),
+            CompactDocValue::new(heap, pair.place.value_type, pair.place.address),
         ))
     }
 }

@@ -9,12 +9,12 @@ use Rattle.tv_base.specs.Stop.{CountsStop}
 use Rattle.tv_doc.specs.Additions.{Addition, Runs, accepted, pair_of, IsEmpty}
 use Rattle.tv_doc.specs.Belongs.{Belongs}
 use Rattle.tv_doc.specs.Document.{document_of, places_of, Adds, IsUnchanged, ReadsAt}
-use Rattle.tv_doc.specs.declared.add_error.AddError.{AddError}
-use Rattle.tv_doc.specs.declared.add_error.AddError.TheVariants as adds
+use Rattle.tv_builder.specs.declared.add_error.AddError.{AddError}
+use Rattle.tv_builder.specs.declared.add_error.AddError.TheVariants as adds
 use Rattle.tv_doc.specs.declared.document.CompactDoc.{CompactDoc}
-use Rattle.tv_doc.specs.declared.place.FieldValueAddr.{FieldValueAddr}
+use Rattle.tv_builder.specs.declared.heap_pair.HeapPair.{HeapPair}
 use Rattle.tv_doc.proofs.Additions.{runs_keep, unchanged_same, unchanged_from, adds_from}
-use Rattle.tv_doc.proofs.Documents.{read_at, none_at, place_at, no_place}
+use Rattle.tv_builder.proofs.Documents.{read_at, none_at, place_at, no_place}
 use Rattle.tv_field.specs.Entry.{Entry}
 use Rattle.tv_heap.specs.Room.{room, document_room}
 use Rattle.tv_reader.specs.Error.{store_stop, IsRefusal}
@@ -84,13 +84,13 @@ none_within (x ∷ xs) zero e = absurd (cc)
 none_within (x ∷ xs) (suc i) e = omega (arith, none_within xs i e)
 
 pub each_read : (d : CompactDoc) (i : ℕ) → ReadsAt d i (slice_get (places_of d) i)
-each_read d i = by_pair (slice_get d.pairs.items i) refl
+each_read d i = by_pair (slice_get d.values.pairs.items i) refl
   where
-    by_pair : (found : Option FieldValueAddr) → slice_get d.pairs.items i ≡ found → ReadsAt d i (slice_get (places_of d) i)
-    by_pair (Some p) e = subst (ReadsAt d i) (sym (place_at d.pairs.items i p e)) (read_at d i p e)
+    by_pair : (found : Option HeapPair) → slice_get d.values.pairs.items i ≡ found → ReadsAt d i (slice_get (places_of d) i)
+    by_pair (Some p) e = subst (ReadsAt d i) (sym (place_at d.values.pairs.items i p e)) (read_at d.values i p e)
     by_pair None e =
-        let past = none_within d.pairs.items i e in
-        subst (ReadsAt d i) (sym (no_place d.pairs.items i past)) (none_at d i past)
+        let past = none_within d.values.pairs.items i e in
+        subst (ReadsAt d i) (sym (no_place d.values.pairs.items i past)) (none_at d.values i past)
 
 -- ---- the accepted pairs are some of those that were asked for
 

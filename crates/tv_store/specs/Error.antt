@@ -1,6 +1,6 @@
 -- What the errors of the lower layers are called in the store, and which of them stop a writer for what reason.
-use Rattle.tv_doc.specs.declared.add_error.AddError.{AddError}
-use Rattle.tv_doc.specs.declared.add_error.AddError.TheVariants as adds
+use Rattle.tv_builder.specs.declared.add_error.AddError.{AddError}
+use Rattle.tv_builder.specs.declared.add_error.AddError.TheVariants as adds
 use Rattle.tv_reader.specs.declared.error.DeserializeError.{DeserializeError}
 use Rattle.tv_reader.specs.declared.error.DeserializeError.TheVariants as errors
 pub use Rattle.tv_writer.specs.Error.{write_error, Unwritten, write_stop, Writes, IsIo}

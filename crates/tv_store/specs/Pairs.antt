@@ -1,6 +1,6 @@
 -- What the addition of a pair that was read returns, and what it leaves.
 use Rattle.std.specs.Prelude.{◌≡◌, ℕ, Result, Ok, Err}
-use Rattle.tv_doc.specs.declared.add_error.AddError.{AddError}
+use Rattle.tv_builder.specs.declared.add_error.AddError.{AddError}
 use Rattle.tv_doc.specs.declared.document.CompactDoc.{CompactDoc}
 use Rattle.tv_doc.specs.Document.{Adds}
 use Rattle.tv_format.specs.Tree.{Tree}

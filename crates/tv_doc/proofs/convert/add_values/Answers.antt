@@ -1,4 +1,4 @@
-use Rattle.std.proofs.Common.{◌≡◌, ◌+◌, ◌∷◌, ◌∙◌, [], List, map, drop, ap, sym, arith}
+use Rattle.std.proofs.Common.{◌+◌, ◌∷◌, ◌∙◌, [], List, map, drop, ap, sym, arith}
 use Rattle.std.proofs.lemmas.List.{drop_more}
 use Rattle.tv_value.specs.Owned.{owned_tree}
 use Rattle.tv_format.specs.Tree.{Document}
