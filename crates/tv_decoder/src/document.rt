@@ -1,6 +1,6 @@
 //! Reading whole documents from a source that is lent, with the count of the bytes that were taken of it.
 
-ghost use Rattle.std.specs.Prelude.{◌≡◌, ◌-◌, ◌^◌, IsErrOf};
+ghost use Rattle.std.specs.Prelude.{IsErrOf};
 ghost use Rattle.tv_decoder.specs.Documents.{EncodesRead, EncodesBehind, NoDocument};
 ghost use Rattle.tv_decoder.specs.Prefix.{IsSound, NoPrefix, HasNoRoom, NoRoomBehind};
 ghost use Rattle.tv_reader.specs.Finds.{Finds};

@@ -1,6 +1,6 @@
 //! What has been read of a document, and what its next part does to that.
 
-ghost use Rattle.std.specs.Prelude.{◌≡◌, ◌≢◌, ◌↔◌, ◌-◌, ◌^◌, ◌≤◌, ◌<◌, [], ◌∷◌, ◌+◌, length, take};
+ghost use Rattle.std.specs.Prelude.{◌≡◌, ◌≢◌, ◌↔◌, ◌≤◌, ◌<◌, [], ◌∷◌, ◌+◌, length, take};
 ghost use Rattle.std.specs.Prelude.{IsTrue, IsErrOf, Ok, OnOk, OnErr, Some, None, false};
 ghost use Rattle.tv_builder.specs.Behind.{document_parts};
 ghost use Rattle.tv_builder.specs.Parts.{value as value_part, some_bytes};

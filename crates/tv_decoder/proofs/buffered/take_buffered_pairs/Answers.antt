@@ -1,4 +1,4 @@
-use Rattle.std.proofs.Common.{◌-◌, length, subst, refl, take, arith}
+use Rattle.std.proofs.Common.{◌-◌, length, ap, subst, refl, take, arith}
 use Rattle.tv_builder.proofs.Documents.{document_length}
 use Rattle.tv_format.specs.WriteVersion.{written_version}
 use Rattle.tv_reader.specs.Version.{version_of}
@@ -50,3 +50,9 @@ returns-clause-finds g c =
     let here = subst (λ z. AddsPairs z old new (take (length lent - length rest) lent) n) c.in-Some.ensures pairs in
     let pass = c.if-not-pass.ensures in
     passed_finds (λ b m. AddsPairs v old new b m) n lent (length lent - length rest) c.buffered-lent.ensures (omega arith) here pass.bytes pass.is_known pass.failures refl
+
+pub returns-then-not-pass-clause-counted : goal.returns-then-not-pass-clause-counted
+returns-then-not-pass-clause-counted g c =
+    let old = c.args.document.now in
+    let stood = stood_in old c.add_encoded-added.new.self _ _ c.add_encoded-added.ensures.added (omega (arith, c.len-pairs.ensures, old.pairs.ok.0, document_length old)) (omega (arith, c.len-heap.ensures, old.heap.ok.0)) in
+    omega (arith, ap length (c.take_back.ensures old stood).document)
