@@ -1,7 +1,8 @@
 //! Values that come part by part.
 
-ghost use Rattle.std.specs.Prelude.{◌≡◌, ◌++◌, length};
-ghost use Rattle.tv_builder.specs.Moves.{AwaitsChunk, Does, ListFits, ListFull, ListHeap};
+ghost use Rattle.std.specs.Prelude.{◌≡◌, length};
+ghost use Rattle.tv_builder.specs.Fits.{ListFits};
+ghost use Rattle.tv_builder.specs.Moves.{AwaitsChunk, Does};
 ghost use Rattle.tv_builder.specs.Shows.{Stands, awaited_by};
 ghost use Rattle.tv_builder.specs.State.{and_bytes, and_list};
 ghost use Rattle.tv_builder.specs.declared.awaits.Awaits.TheVariants.{Value};
@@ -23,8 +24,7 @@ pub fn bytes_stand_in_the_heap_at_once(
 ) -> Result<(), BuildError>
     requires { Stands building.old }
     ensures { Does building.old building.new (AwaitsChunk building.old.open (length bytes.now))
-        (λ heap. heap ≡ building.old.heap.items ++ bytes.now) ⊥ (Unit {0})
-        (λ s. and_bytes s bytes.now) result }
+        (Unit {0}) (λ s. and_bytes s bytes.now) result }
 {
     let is_kept = later.extend_from_slice(bytes).is_ok();
     match building.awaits() {
@@ -40,8 +40,7 @@ pub fn announced_elements_take_nothing(
 ) -> Result<(), BuildError>
     requires { Stands building.old }
     ensures { Does building.old building.new (awaited_by building.old ≡ Value)
-        (ListHeap building.old Array announced) (ListFull building.old Array announced)
-        (ListFits building.old announced) (λ s. and_list s Array announced) result }
+        (ListFits building.old.heap.items announced) (λ s. and_list s Array announced) result }
 {
     match building.open_list(ListKind::Array, announced) {
         Ok(()) => Ok(()),

@@ -7,9 +7,10 @@ pub use Rattle.tv_base.specs.declared.read_error.ReadError
 pub use Rattle.tv_date.specs.declared.date_error.DateError
 pub use Rattle.tv_builder.specs.declared.awaits.Awaits
 pub use Rattle.tv_builder.specs.declared.build_error.BuildError
-pub use Rattle.tv_builder.specs.declared.building.Building
+pub use Rattle.tv_builder.specs.declared.heap_pair.HeapPair
+pub use Rattle.tv_builder.specs.declared.heap_pairs.HeapPairs
+pub use Rattle.tv_builder.specs.declared.pair_builder.PairBuilder
 pub use Rattle.tv_builder.specs.declared.bytes_kind.BytesKind
-pub use Rattle.tv_builder.specs.declared.frame.Frame
 pub use Rattle.tv_builder.specs.declared.frame.ListKind
 pub use Rattle.tv_heap.specs.declared.place.Place
 pub use Rattle.tv_doc.specs.declared.builder.TreeBuilder

@@ -101,11 +101,12 @@ pub use Rattle.tv_heap.specs.Weight
 pub use Rattle.tv_builder.specs.Behind
 pub use Rattle.tv_builder.specs.Called
 pub use Rattle.tv_builder.specs.Prefix
-pub use Rattle.tv_builder.specs.Given
+pub use Rattle.tv_builder.specs.Fits
+pub use Rattle.tv_builder.specs.HeldPairs
 pub use Rattle.tv_builder.specs.Kinds as BuilderKinds
-pub use Rattle.tv_builder.specs.Moves
+pub use Rattle.tv_builder.specs.Builder as PairsBuilder
 pub use Rattle.tv_builder.specs.Parts as ValueParts
-pub use Rattle.tv_builder.specs.Shows
+pub use Rattle.tv_builder.specs.StateHeap
 pub use Rattle.tv_builder.specs.State
 pub use Rattle.tv_builder.specs.TreeBytes
 pub use Rattle.tv_builder.specs.Weight as StateWeight
@@ -113,7 +114,7 @@ pub use Rattle.tv_builder.specs.Weight as StateWeight
 pub use Rattle.tv_store.specs.Documents
 pub use Rattle.tv_store.specs.Migrate
 pub use Rattle.tv_store.specs.Error as StoreError
-pub use Rattle.tv_decoder.specs.Decoder
+pub use Rattle.tv_store.specs.Decoder
 pub use Rattle.tv_decoder.specs.Documents as DecodedDocuments
 pub use Rattle.tv_decoder.specs.Prefix as DecoderPrefix
 pub use Rattle.tv_decoder.specs.Paid

@@ -179,6 +179,7 @@ goes_on old new mid after live l s kept pairs =
     record {
       live = s.live ∙ live;
       document = built_same old new base pairs;
+      pairs = pairs;
       kept = kept;
       state = same_behind (take new.kept new.building.heap.items) (kept_heap old) new.building new.state state;
       heap = heap_behind (kept_heap old) new.building state;
@@ -194,6 +195,7 @@ fails_now old new mid after e l s kept pairs =
     record {
       failed = s.mark;
       document = built_same old new (ap (λ z. take z new.building.heap.items) kept ∙ prefix.0) pairs;
+      pairs = pairs;
       kept = kept;
       state = same_behind (take new.kept new.building.heap.items) (take old.kept new.building.heap.items) new.building new.state (cleared_stands mid new.building old.kept (omega (arith, small, old.kept_within)) s.err);
       heap = cut_heap old.building mid new.building old.kept after e old.kept_within l s.err;

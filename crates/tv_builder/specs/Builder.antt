@@ -10,6 +10,7 @@ use Rattle.tv_builder.specs.Parts.{IsContent}
 use Rattle.tv_builder.specs.State.{State, complete, in_lists, in_bytes, and_end, state_room}
 use Rattle.tv_builder.specs.TreeBytes.{tree_place}
 use Rattle.tv_heap.specs.Room.{document_room}
+use Rattle.tv_builder.specs.declared.heap_pair.HeapPair.{HeapPair}
 use Rattle.tv_builder.specs.declared.pair_builder.PairBuilder.{PairBuilder}
 
 -- the finished pairs
@@ -22,6 +23,10 @@ state_of b = b.state.0
 
 abbrev pub heap_so_far : PairBuilder → List ℕ
 heap_so_far b = b.building.heap.items
+
+-- where the values of the finished pairs stand
+abbrev pub pairs_so_far : PairBuilder → List HeapPair
+pairs_so_far b = b.pairs.items
 
 -- the heap of the finished pairs
 abbrev pub kept_heap : PairBuilder → List ℕ
@@ -47,6 +52,7 @@ HasContent _ = ⊥
 pub record Goes (old new : PairBuilder) (after : State) : Type 0 where
   pub live : new.failed ≡ false
   pub document : built new ≡ built old
+  pub pairs : pairs_so_far new ≡ pairs_so_far old
   pub kept : new.kept ≡ old.kept
   pub state : state_of new ≡ after
   pub heap : heap_so_far new ≡ state_heap (kept_heap old) after
@@ -57,6 +63,7 @@ pub record Goes (old new : PairBuilder) (after : State) : Type 0 where
 pub record Fails (old new : PairBuilder) : Type 0 where
   pub failed : new.failed ≡ true
   pub document : built new ≡ built old
+  pub pairs : pairs_so_far new ≡ pairs_so_far old
   pub kept : new.kept ≡ old.kept
   pub state : state_of new ≡ in_lists []
   pub heap : heap_so_far new ≡ take old.kept (heap_so_far old)
@@ -98,7 +105,7 @@ pub record Finished (old new : PairBuilder) (f : ℕ) : Type 0 where
   pub live : new.failed ≡ false
   pub document : built new ≡ built old ++ (f, tree) ∷ []
   pub state : state_of new ≡ in_lists []
-  pub pairs : new.pairs.items ≡ old.pairs.items ++ pair_at f (tree_place (kept_heap old) tree) ∷ []
+  pub pairs : pairs_so_far new ≡ pairs_so_far old ++ pair_at f (tree_place (kept_heap old) tree) ∷ []
   pub heap : heap_so_far new ≡ heap_so_far old
   pub kept : new.kept ≡ length (heap_so_far old)
 

@@ -4,7 +4,10 @@ ghost use Rattle.std.specs.Prelude.{◌≡◌, ◌+◌, ◌*◌, ◌≤◌, ℕ,
 ghost use Rattle.tv_format.specs.Encoding.{NoLegacy};
 ghost use Rattle.tv_format.specs.Tree.{Tree, Document};
 ghost use Rattle.tv_format.specs.Version.{Version};
+ghost use Rattle.tv_builder.specs.Builder.{state_of};
 ghost use Rattle.tv_builder.specs.Called.{parts_called};
+ghost use Rattle.tv_builder.specs.Shows.{Shows};
+ghost use Rattle.tv_builder.specs.declared.pair_builder.PairBuilder.{PairBuilder};
 ghost use Rattle.tv_builder.specs.Behind.{document_parts, open_parts};
 ghost use Rattle.tv_builder.specs.Prefix.{Encoded};
 ghost use Rattle.tv_builder.specs.Parts.{Part, Trades, IsContent, value, key, bytes_head};
@@ -69,4 +72,10 @@ pub fn open_lists_are_paid()
 /// The calls for the parts of a value, one after the other, make of a state what the value itself makes of it.
 pub fn parts_make_values()
     ensures { (s : State) (t : Tree) → awaited s ≡ Value → parts_called s t ≡ and_value s t }
+{}
+
+/// All of a builder's state stands in its heap: each finished child and the complete tree reads at its place, and open bytes so far, behind
+/// their length's shortest encoding, are the heap's last.
+pub fn states_stand_in_the_heap()
+    ensures { (b : PairBuilder) → ∥ Shows b.building (state_of b) ∥₁ }
 {}

@@ -84,6 +84,7 @@ impl PairBuilder {
     ghost use Rattle.tv_builder.specs.declared.awaits.Awaits.TheVariants.{Value as ValueNext};
     ghost use Rattle.tv_builder.specs.declared.awaits.Awaits.TheVariants.{Key as KeyNext};
     ghost use Rattle.tv_builder.specs.Builder.{built, state_of, heap_so_far, kept_heap};
+    ghost use Rattle.tv_builder.specs.Builder.{pairs_so_far};
     ghost use Rattle.tv_builder.specs.Builder.{TakesBytes, Builds, Ends};
     ghost use Rattle.tv_builder.specs.Builder.{Finishes};
     ghost use Rattle.tv_builder.specs.HeldPairs.{document_of, heap_of};
@@ -95,6 +96,7 @@ impl PairBuilder {
         ensures document { built result ≡ document_of finished }
         ensures heap { heap_so_far result ≡ heap_of finished }
         ensures kept { kept_heap result ≡ heap_of finished }
+        ensures pairs { pairs_so_far result ≡ finished.pairs.items }
         ensures state { state_of result ≡ in_lists [] }
         ensures live { result.failed ≡ false }
     {
@@ -112,6 +114,7 @@ impl PairBuilder {
     pub fn into_pairs(self) -> HeapPairs
         ensures document { document_of result ≡ built self }
         ensures heap { heap_of result ≡ kept_heap self }
+        ensures pairs { result.pairs.items ≡ pairs_so_far self }
     {
         let building = self.building;
         let mut heap = building.heap;

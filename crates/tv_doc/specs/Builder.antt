@@ -3,6 +3,7 @@ use Rattle.std.specs.Prelude.{ℕ, List, Result}
 use Rattle.tv_builder.specs.Builder as pairs
 pub use Rattle.tv_builder.specs.Builder.{TakesBytes, HasAllBytes, HasContent, IsComplete}
 use Rattle.tv_builder.specs.State.{State}
+use Rattle.tv_builder.specs.declared.heap_pair.HeapPair.{HeapPair}
 use Rattle.tv_builder.specs.declared.build_error.BuildError.{BuildError}
 use Rattle.tv_doc.specs.declared.builder.TreeBuilder.{TreeBuilder}
 use Rattle.tv_format.specs.Tree.{Document}
@@ -21,6 +22,10 @@ heap_so_far b = pairs.heap_so_far b.builder
 -- the heap of the finished pairs
 abbrev pub kept_heap : TreeBuilder → List ℕ
 kept_heap b = pairs.kept_heap b.builder
+
+-- where the values of the finished pairs stand
+abbrev pub pairs_so_far : TreeBuilder → List HeapPair
+pairs_so_far b = pairs.pairs_so_far b.builder
 
 abbrev pub Builds : TreeBuilder → TreeBuilder → Type 0 → Type 0 → (State → State) → Result (Unit {0}) BuildError → Type 0
 Builds old new in_place fits after r = pairs.Builds old.builder new.builder in_place fits after r

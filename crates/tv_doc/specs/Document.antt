@@ -2,6 +2,7 @@
 use Rattle.std.specs.Prelude.{ℕ, List, Option, Result}
 use Rattle.tv_builder.specs.HeldPairs as held
 use Rattle.tv_builder.specs.declared.add_error.AddError.{AddError}
+use Rattle.tv_builder.specs.declared.heap_pair.HeapPair.{HeapPair}
 use Rattle.tv_format.specs.Tree.{Tree, Document}
 use Rattle.tv_doc.specs.declared.document.CompactDoc.{CompactDoc}
 
@@ -12,6 +13,10 @@ document_of d = held.document_of d.values
 -- the bytes in which the trees stand
 abbrev pub heap_of : CompactDoc → List ℕ
 heap_of d = held.heap_of d.values
+
+-- the fields, and where their values stand in it
+abbrev pub pairs_of : CompactDoc → List HeapPair
+pairs_of d = d.values.pairs.items
 
 -- for how many bytes of the heap, and for how many pairs, it has memory
 abbrev pub heap_capacity : CompactDoc → ℕ

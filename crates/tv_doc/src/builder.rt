@@ -1,6 +1,6 @@
 //! Building the values of a document part by part.
 
-ghost use Rattle.std.specs.Prelude.{◌≡◌, ◌+◌, ◌≤◌, length, take, false, IsErrOf};
+ghost use Rattle.std.specs.Prelude.{◌≡◌, ◌+◌, ◌≤◌, [], ◌++◌, length, false, IsErrOf};
 ghost use Rattle.tv_builder.specs.Weight.{document_weight, state_weight};
 
 use crate::document::CompactDoc;
@@ -39,15 +39,15 @@ pub struct TreeBuilder {
 }
 
 impl TreeBuilder {
-    ghost use Rattle.tv_builder.specs.Moves.{LeafFits, ListFits, KeyFits, HeadFits};
+    ghost use Rattle.tv_builder.specs.Fits.{LeafFits, ListFits, KeyFits, HeadFits};
     ghost use Rattle.tv_builder.specs.State.{and_value, and_list, and_key, and_head, and_bytes};
     ghost use Rattle.tv_builder.specs.State.{awaited, head_awaits, in_lists, lists_of, children_of};
     ghost use Rattle.tv_builder.specs.declared.awaits.Awaits.TheVariants.{Value as ValueNext};
     ghost use Rattle.tv_builder.specs.declared.awaits.Awaits.TheVariants.{Key as KeyNext};
     ghost use Rattle.tv_builder.specs.declared.frame.ListKind.TheVariants.{Array, Object};
     ghost use Rattle.tv_doc.specs.Builder.{built, state_of, heap_so_far, kept_heap, TakesBytes};
-    ghost use Rattle.tv_doc.specs.Builder.{Builds, Ends, Finishes};
-    ghost use Rattle.tv_doc.specs.Document.{document_of, heap_of};
+    ghost use Rattle.tv_doc.specs.Builder.{pairs_so_far, Builds, Ends, Finishes};
+    ghost use Rattle.tv_doc.specs.Document.{document_of, heap_of, pairs_of};
     ghost use Rattle.tv_format.specs.Tree.{leaf as leaf_tree};
     ghost use Rattle.tv_value.specs.Lent.{leaf_of};
 
@@ -56,6 +56,7 @@ impl TreeBuilder {
         ensures document { built result ≡ document_of doc }
         ensures heap { heap_so_far result ≡ heap_of doc }
         ensures kept { kept_heap result ≡ heap_of doc }
+        ensures pairs { pairs_so_far result ≡ pairs_of doc }
         ensures state { state_of result ≡ in_lists [] }
         ensures live { result.builder.failed ≡ false }
     {
@@ -68,6 +69,7 @@ impl TreeBuilder {
     pub fn into_doc(self) -> CompactDoc
         ensures document { document_of result ≡ built self }
         ensures heap { heap_of result ≡ kept_heap self }
+        ensures pairs { pairs_of result ≡ pairs_so_far self }
     {
         CompactDoc::from_pairs(self.builder.into_pairs())
     }

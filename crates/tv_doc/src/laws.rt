@@ -1,30 +1,35 @@
 //! Laws of documents, each the contract of a function that does nothing.
 
-ghost use Rattle.std.specs.Prelude.{◌≡◌, ◌+◌, ◌<◌, ◌≤◌, ℕ, List, [], length, IfOk, IfErr};
+ghost use Rattle.std.specs.Prelude.{◌≡◌, ◌+◌, ◌<◌, ◌≤◌, ℕ, List, [], length, IfOk, IfErr, IfSome};
 ghost use Rattle.tv_field.specs.Entry.{Entry};
 ghost use Rattle.tv_schema.specs.Schema.{IsSchema};
 ghost use Rattle.tv_format.specs.Short.{IsDocument};
 ghost use Rattle.tv_format.specs.Tree.{Tree, Document as Pairs};
 ghost use Rattle.tv_doc.specs.declared.document.CompactDoc.{CompactDoc};
-ghost use Rattle.tv_builder.specs.Shows.{Shows};
-ghost use Rattle.tv_builder.specs.State.{written};
+ghost use Rattle.tv_builder.specs.State.{complete, written};
+ghost use Rattle.tv_builder.specs.StateHeap.{state_heap};
+ghost use Rattle.tv_builder.specs.TreeBytes.{tree_place};
 ghost use Rattle.tv_doc.specs.declared.builder.TreeBuilder.{TreeBuilder};
-ghost use Rattle.tv_doc.specs.Builder.{built, heap_so_far, state_of};
+ghost use Rattle.tv_doc.specs.Builder.{built, heap_so_far, kept_heap, state_of};
 ghost use Rattle.tv_doc.specs.Additions.{Addition, Runs, Keeps, accepted};
 ghost use Rattle.tv_doc.specs.Belongs.{Belongs};
-ghost use Rattle.tv_doc.specs.Document.{document_of, heap_of};
+ghost use Rattle.tv_doc.specs.Document.{document_of, heap_of, pairs_of};
 ghost use Rattle.tv_doc.specs.Named.{IsNamed, Named, field_names};
 ghost use Rattle.tv_doc.specs.NamedPairs.{IsBackError, named_pairs};
 ghost use Rattle.tv_heap.specs.Reads.{Reads};
 ghost use Rattle.tv_heap.specs.Room.{document_room};
+ghost use Rattle.tv_heap.specs.TypeCode.{type_code};
 ghost use Rattle.tv_doc.specs.FieldValues.{values_of};
 
+use crate::builder::TreeBuilder;
 use crate::doc_parsing_error::DocParsingError;
 use crate::document::CompactDoc;
 use crate::document_trait::Document;
 use std::alloc::Global;
 use tv_schema::Schema;
 use tv_schema::laws::names_are_of_one_field;
+use tv_value::field::Field;
+use tv_value::value::Value;
 
 /// Each document has an encoding in the store: its fields are numbers below 2^32, and its numbers, texts and lists fit.
 pub fn documents_are_valid()
@@ -81,10 +86,44 @@ pub fn named_documents_are_converted_back(
     CompactDoc::convert_named_doc(alloc, schema, &named)
 }
 
-/// All of a builder's state stands in its heap: each finished child and the complete tree reads at its place, and open bytes so far, behind
-/// their length's shortest encoding, are the heap's last. The heap takes at most the room of the pairs and of what is written.
+/// All of a builder's state stands in its heap: behind the finished pairs its bytes are those of the state, and the complete tree reads at its
+/// place. The heap takes at most the room of the pairs and of what is written.
 pub fn builders_hold_their_state()
-    ensures shown { (b : TreeBuilder) → ∥ Shows b.building (state_of b) ∥₁ }
+    ensures bytes { (b : TreeBuilder) → heap_so_far b ≡ state_heap (kept_heap b) (state_of b) }
+    ensures reads { (b : TreeBuilder) (t : Tree) → state_of b ≡ complete t
+        → let place = tree_place (kept_heap b) t in
+        ∥ Reads (heap_so_far b) (type_code place.value_type) place.address t ∥₁ }
     ensures room { (b : TreeBuilder)
         → length (heap_so_far b) ≤ document_room (built b) + written (state_of b) }
 {}
+
+/// A value that is built whole and finished leaves what its addition leaves: the same heap, byte for byte, and the same pairs at the same
+/// places. `None` where an addition or a call of the builder was refused.
+pub fn built_values_are_as_added<'a, V: Value<'a>>(
+    alloc: Global,
+    document: &CompactDoc,
+    field: Field,
+    value: &V,
+) -> Option<(CompactDoc, CompactDoc)>
+    ensures heap { IfSome result (λ made. heap_of made.0 ≡ heap_of made.1) }
+    ensures pairs { IfSome result (λ made. pairs_of made.0 ≡ pairs_of made.1) }
+    ensures document { IfSome result (λ made. document_of made.0 ≡ document_of made.1) }
+{
+    let Ok(mut added) = document.try_clone(alloc) else {
+        return None;
+    };
+    let Ok(()) = added.add_field_value(field, value) else {
+        return None;
+    };
+    let Ok(copy) = document.try_clone(alloc) else {
+        return None;
+    };
+    let mut builder = TreeBuilder::new(copy);
+    let Ok(()) = builder.tree(value) else {
+        return None;
+    };
+    let Ok(()) = builder.finish(field) else {
+        return None;
+    };
+    Some((added, builder.into_doc()))
+}

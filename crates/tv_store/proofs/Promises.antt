@@ -23,8 +23,7 @@ use Rattle.tv_format.specs.Tree.{Document}
 use Rattle.tv_format.specs.Version.{Version}
 use Rattle.tv_format.proofs.ExcludingTrees.{document_excludes}
 use Rattle.tv_format.proofs.Trees.{one_document}
-use Rattle.tv_store.specs.Documents.{BeginsWith, Answers, NoDocument, IsReadingError}
-use Rattle.tv_decoder.specs.Documents.{EncodesRead}
+use Rattle.tv_store.specs.Documents.{EncodesRead, BeginsWith, Answers, NoDocument, IsReadingError}
 use Rattle.tv_decoder.specs.Prefix.{HasNoRoom}
 use Rattle.tv_decoder.proofs.RoomWithin.{document_within}
 

@@ -20,6 +20,10 @@ pub use Rattle.tv_decoder.specs.Prefix.{HasNoRoom}
 abbrev pub BeginsWith : Version → List ℕ → List ℕ → Document → Type 0
 BeginsWith v bytes rest d = Begins (λ prefix. EncodesDocument Legacy v prefix d) bytes rest
 
+-- these bytes encode the document
+abbrev pub EncodesRead : Version → List ℕ → CompactDoc → Type 0
+EncodesRead v b document = EncodesDocument Legacy v b (document_of document)
+
 -- this document is returned and this rest left, unless the source failed or memory was refused
 abbrev pub Answers : Result CompactDoc DeserializeError → Document → List ℕ → List ℕ → Type 0
 Answers (Ok found) d rest left = (document_of found ≡ d) × (left ≡ rest)

@@ -8,13 +8,14 @@ ghost use Rattle.tv_doc.specs.Document.{document_of};
 ghost use Rattle.tv_decoder.specs.Prefix.{HasNoRoom};
 ghost use Rattle.tv_heap.specs.Room.{document_room};
 ghost use Rattle.tv_legacy.specs.Legacy.{Legacy};
+ghost use Rattle.tv_reader.specs.Finds.{Finds};
 ghost use Rattle.tv_reader.specs.Error.{store_stop};
 ghost use Rattle.tv_reader.specs.Error.{IsRefusal};
 ghost use Rattle.tv_reader.specs.Version.{version_of};
 ghost use Rattle.tv_reader.specs.declared.error.DeserializeError.{DeserializeError};
 ghost use Rattle.tv_reader.specs.declared.error.DeserializeError.TheVariants.{CorruptedValue};
 ghost use Rattle.tv_reader.specs.declared.error.DeserializeError.TheVariants.{HeapFull};
-ghost use Rattle.tv_store.specs.Documents.{BeginsWith, Answers, NoDocument, ShowsRefusal};
+ghost use Rattle.tv_store.specs.Documents.{BeginsWith, Answers, NoDocument, ShowsRefusal, EncodesRead};
 ghost use Rattle.tv_store.specs.Documents.{IsReadingError};
 ghost use Rattle.tv_format.specs.InputError.{Refusal};
 ghost use Rattle.tv_format.specs.Encoding.{EncodesDocument};
@@ -23,10 +24,28 @@ ghost use Rattle.tv_format.specs.Tree.{Document};
 use crate::error::DeserializeError;
 use std::alloc::Global;
 use tv_base::ByteSource;
-pub use tv_decoder::direct_decoder::{DirectDecoder, Step};
 use tv_decoder::document::take_document;
 use tv_doc::document::CompactDoc;
 pub use tv_reader::version::DocStoreVersion;
+
+// Takes a document, with the count of the bytes that were taken.
+#[inline(always)]
+fn take_compact<S: ByteSource>(
+    alloc: Global,
+    source: &mut S,
+    count: &mut u64,
+    version: DocStoreVersion,
+) -> Result<CompactDoc, DeserializeError>
+    ensures finds { Finds S.is_known S.left S.failures source.old count.old source.new count.new
+        result (EncodesRead (version_of version)) (NoDocument (version_of version)) }
+    ensures full { S.is_known source.old → IsErrOf result HeapFull
+        → HasNoRoom (version_of version) (S.left source.old) }
+{
+    match take_document(alloc, source, count, version) {
+        Ok(values) => Ok(CompactDoc::from_pairs(values)),
+        Err(error) => Err(error),
+    }
+}
 
 /// Reads a document, however the source cuts its bytes, and takes no byte behind it. Values of every type are read, to any
 /// depth, straight into the document's heap, by a recursion of 64 levels at most; and objects as older stores hold them.
@@ -85,5 +104,5 @@ pub fn read_document<S: ByteSource>(
     ensures stays_known { S.is_known source.old → S.is_known source.new }
 {
     let mut count = 0;
-    take_document(alloc, source, &mut count, version)
+    take_compact(alloc, source, &mut count, version)
 }

@@ -8,7 +8,7 @@ ghost use Rattle.tv_decoder.specs.Paid.{PaidBy};
 ghost use Rattle.tv_decoder.specs.Kept.{Grows, KeepsPairs};
 ghost use Rattle.tv_decoder.specs.Sound.{SoundUnless-prop};
 ghost use Rattle.tv_decoder.specs.Steps.{Stepped, Sees, IsFew};
-ghost use Rattle.tv_builder.specs.Builder.{built, state_of, heap_so_far};
+ghost use Rattle.tv_builder.specs.Builder.{built, state_of, heap_so_far, kept_heap};
 ghost use Rattle.tv_doc.specs.Document.{document_of, heap_of};
 ghost use Rattle.tv_builder.specs.Prefix.{Encoded};
 ghost use Rattle.tv_builder.specs.State.{lists_of, children_of};
@@ -19,9 +19,9 @@ ghost use Rattle.tv_reader.specs.declared.error.DeserializeError.TheVariants.{Co
 ghost use Rattle.tv_reader.specs.declared.error.DeserializeError.TheVariants.{HeapFull};
 ghost use Rattle.tv_format.specs.Encoding.{NoLegacy};
 
-use tv_decoder::reading::Reading;
 use std::alloc::Global;
 use tv_base::ByteSource;
+use tv_decoder::reading::Reading;
 use tv_doc::document::CompactDoc;
 use tv_reader::{DeserializeError, DocStoreVersion};
 
@@ -158,8 +158,7 @@ impl DirectDecoder {
     /// The document of the finished pairs, at any time, also after a refusal. Its heap ends behind the last of their values.
     pub fn into_doc(self) -> CompactDoc
         ensures document { document_of result ≡ built self.reading.builder }
-        ensures heap { heap_of result
-            ≡ take self.reading.builder.kept (heap_so_far self.reading.builder) }
+        ensures heap { heap_of result ≡ kept_heap self.reading.builder }
     {
         CompactDoc::from_pairs(self.reading.into_pairs())
     }

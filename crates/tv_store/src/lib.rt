@@ -2,6 +2,7 @@
 #![tactic(auto)]
 
 pub mod de;
+pub mod direct_decoder;
 mod encoded_writer;
 pub mod error;
 pub mod laws;
@@ -12,7 +13,8 @@ pub mod pairs_given;
 pub mod round_trip;
 pub mod se;
 
-pub use de::{DirectDecoder, DocStoreVersion, Step, read_document};
+pub use de::{DocStoreVersion, read_document};
+pub use direct_decoder::{DirectDecoder, Step};
 pub use error::{DeserializeError, SerializeError, ValueType};
 pub use migration::{MigrateError, migrate};
 pub use pairs_given::DocumentDeserialize;

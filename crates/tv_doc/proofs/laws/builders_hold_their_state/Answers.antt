@@ -1,8 +1,28 @@
-use Rattle.std.proofs.Common.{arith}
+use Rattle.std.proofs.Common.{◌≡◌, Some, sym, ◌∙◌, ap, subst, arith}
+use Rattle.std.proofs.Math.Logic.{∥∥₁_map}
+use Rattle.tv_heap.specs.declared.place.Place.{Place}
+use Rattle.tv_heap.specs.Reads.{Reads}
+use Rattle.tv_heap.specs.TypeCode.{type_code}
+use Rattle.tv_builder.specs.Given.{Given}
+use Rattle.tv_builder.specs.Image.{held, image_of}
+use Rattle.tv_builder.specs.Shows.{Shows}
+use Rattle.tv_builder.specs.State.{complete}
+use Rattle.tv_builder.specs.TreeBytes.{tree_place}
+use Rattle.tv_builder.proofs.PairBuilding.{heap_behind}
+use Rattle.tv_doc.specs.Builder.{kept_heap, heap_so_far}
 use Rattle.tv_doc.proofs.laws.builders_hold_their_state.Goals as goal
 
-pub returns-clause-shown : goal.returns-clause-shown
-returns-clause-shown c = λ b. b.state.1
+pub returns-clause-bytes : goal.returns-clause-bytes
+returns-clause-bytes c = λ b. heap_behind (kept_heap b) b.builder.building b.builder.state
+
+pub returns-clause-reads : goal.returns-clause-reads
+returns-clause-reads c = λ b t e. ∥∥₁_map b.builder.state.1 (λ p.
+    let base = kept_heap b in
+    let shown : Shows b.builder.building (complete t) = subst (Shows b.builder.building) e p.0 in
+    let drawn : held b.builder.building ≡ image_of base (complete t) = p.1 ∙ ap (λ s. image_of base s) e in
+    let whole : Some shown.at.at ≡ Some (tree_place base t) = sym shown.at.is ∙ ap (λ (g : Given). g.complete) drawn in
+    let same : shown.at.at ≡ tree_place base t = cc in
+    subst (λ (q : Place). Reads (heap_so_far b) (type_code q.value_type) q.address t) same shown.at.placed.reads)
 
 pub returns-clause-room : goal.returns-clause-room
-returns-clause-room c = λ b. omega (arith, b.written, b.room)
+returns-clause-room c = λ b. omega (arith, b.builder.written, b.builder.room)
