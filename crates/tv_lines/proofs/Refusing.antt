@@ -50,7 +50,7 @@ pairs-snoc (v ∷ vs) at tree pairs made row =
 -- the heap has no room, so the pairs have none
 full_room : (pairs : Document) (start mid : CompactDoc) (field : ℕ) (t : Tree) → IsEmpty start → AddsEach pairs start mid → IsFull mid t → 4294967295 < document_room (pairs ++ (field, t) ∷ [])
 full_room pairs start mid field t none adds full =
-    let within = mid.room in
+    let within = mid.values.room in
     omega (arith, full, within, ap document_room (from_empty pairs start mid none adds), sum_by_push (λ (pair : ℕ × Tree). room pair.1) pairs (field, t))
 
 -- ---- the answer for an error
