@@ -129,6 +129,7 @@ module _ {S X : Type 0} {is_known : S → Type 0} {left : S → List ℕ} {failu
     stays_known = told;
     counts = same;
     rises = omega (arith, counted);
+    may_stop = tt;
   }
 
   -- or they weren't, and nothing was
@@ -139,6 +140,7 @@ module _ {S X : Type 0} {is_known : S → Type 0} {left : S → List ℕ} {failu
     stays_known = told;
     counts = same;
     rises = omega arith;
+    may_stop = tt;
   }
 
   -- or there were none

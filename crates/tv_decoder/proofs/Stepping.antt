@@ -15,7 +15,7 @@ use Rattle.tv_builder.proofs.Trading.{trades_as, trades_from}
 use Rattle.tv_doc.specs.declared.builder.TreeBuilder.{TreeBuilder}
 use Rattle.tv_doc.specs.Builder.{built, state_of}
 use Rattle.tv_legacy.specs.Legacy.{Legacy}
-use Rattle.tv_reader.specs.Finds.{Finds}
+use Rattle.tv_reader.specs.Finds.{Finds, FindsIf}
 use Rattle.tv_reader.specs.HeadReading.{head_part}
 use Rattle.tv_reader.specs.Heads.{HeadPart, leaf_head, length_head, HasWidth, array_head as array_number, object_head as object_number, tokenized_head, legacy_head, EncodesHead, EncodesKeyHead}
 use Rattle.tv_reader.specs.declared.error.DeserializeError.{DeserializeError}
@@ -128,11 +128,11 @@ pub record IsPart (v : Version) (legacy : Bool) (old : Reading) (taken : List �
 pub part_steps : (v : Version) (legacy : Bool) (old new : Reading) (ps : List Part) (taken : List ℕ) → IsPart v legacy old taken ps → Put old new ps → Stepped v legacy old new taken
 part_steps v legacy old new ps taken h p = stepped v legacy old new ps taken p h.some h.few h.encoded h.plain
 
-pub puts_found : {S X : Type 0} {is_known : S → Type 0} {left : S → List ℕ} {failures : S → Failures} {os ns : S} {i k : ℕ} {x : X} {A : List ℕ → X → Type 0} {I : List ℕ → Refusal → Type 0} (v : Version) (legacy : Bool) (old new : Reading) (ps : List Part) (result : Result (Unit {0}) DeserializeError)
-    → ((a : List ℕ) → A a x → IsPart v legacy old a ps) → Finds is_known left failures os i ns k (Ok x) A I → Puts old new ps result → Finds is_known left failures os i ns k result (λ b _. Stepped v legacy old new b) (NoPrefix v old)
+pub puts_found : {S X : Type 0} {May : DeserializeError → ℕ → Type 0} {is_known : S → Type 0} {left : S → List ℕ} {failures : S → Failures} {os ns : S} {i k : ℕ} {x : X} {A : List ℕ → X → Type 0} {I : List ℕ → Refusal → Type 0} (v : Version) (legacy : Bool) (old new : Reading) (ps : List Part) (result : Result (Unit {0}) DeserializeError)
+    → ((a : List ℕ) → A a x → IsPart v legacy old a ps) → FindsIf May is_known left failures os i ns k (Ok x) A I → Puts old new ps result → Finds is_known left failures os i ns k result (λ b _. Stepped v legacy old new b) (NoPrefix v old)
 puts_found v legacy old new ps (Ok y) part h p = finds_as y (λ b _. Stepped v legacy old new b) (NoPrefix v old) (λ a s. part_steps v legacy old new ps a (part a s) p) h
-puts_found v legacy old new ps (Err errors.HeapFull) part h p = finds_short errors.HeapFull (λ b _. Stepped v legacy old new b) (NoPrefix v old) refl h
-puts_found v legacy old new ps (Err errors.Memory) part h p = finds_short errors.Memory (λ b _. Stepped v legacy old new b) (NoPrefix v old) refl h
+puts_found v legacy old new ps (Err errors.HeapFull) part h p = finds_short errors.HeapFull (λ b _. Stepped v legacy old new b) (NoPrefix v old) refl tt h
+puts_found v legacy old new ps (Err errors.Memory) part h p = finds_short errors.Memory (λ b _. Stepped v legacy old new b) (NoPrefix v old) refl tt h
 puts_found v legacy old new ps (Err (errors.CorruptedValue c)) part h p = absurd p
 puts_found v legacy old new ps (Err (errors.UnsupportedType t)) part h p = absurd p
 puts_found v legacy old new ps (Err (errors.TypeMismatch t u)) part h p = absurd p
@@ -160,8 +160,8 @@ no_room v old ps whole rest taken joined encoded f = λ bytes p. record {
 full_by : (v : Version) (old new : Reading) (ps : List Part) (result : Result (Unit {0}) DeserializeError) → IsErrOf result errors.HeapFull → Puts old new ps result → Fills old ps
 full_by v old new ps result is p = subst (λ z. Puts old new ps z) is p
 
-pub puts_full : {S X : Type 0} {is_known : S → Type 0} {left : S → List ℕ} {failures : S → Failures} {os ns : S} {i k : ℕ} {x : X} {A : List ℕ → X → Type 0} {I : List ℕ → Refusal → Type 0} (v : Version) (legacy : Bool) (old new : Reading) (ps : List Part) (result : Result (Unit {0}) DeserializeError)
-    → ((a : List ℕ) → A a x → IsPart v legacy old a ps) → Finds is_known left failures os i ns k (Ok x) A I → Puts old new ps result → is_known os → IsErrOf result errors.HeapFull → NoRoomBehind v old (left os)
+pub puts_full : {S X : Type 0} {May : DeserializeError → ℕ → Type 0} {is_known : S → Type 0} {left : S → List ℕ} {failures : S → Failures} {os ns : S} {i k : ℕ} {x : X} {A : List ℕ → X → Type 0} {I : List ℕ → Refusal → Type 0} (v : Version) (legacy : Bool) (old new : Reading) (ps : List Part) (result : Result (Unit {0}) DeserializeError)
+    → ((a : List ℕ) → A a x → IsPart v legacy old a ps) → FindsIf May is_known left failures os i ns k (Ok x) A I → Puts old new ps result → is_known os → IsErrOf result errors.HeapFull → NoRoomBehind v old (left os)
 puts_full {left = left} {os = os} {ns = ns} v legacy old new ps result part h p t is =
     let f = h.found t in
     no_room v old ps (left os) (left ns) f.prefix f.joined (part f.prefix f.encoded).encoded (full_by v old new ps result is p)

@@ -19,7 +19,7 @@ use Rattle.tv_doc.specs.Document.{document_of}
 use Rattle.tv_doc.specs.Builder.{built, state_of}
 use Rattle.tv_legacy.specs.Legacy.{Legacy, ErrorInLegacy}
 use Rattle.tv_legacy.proofs.Unique.{one_legacy, legacy_excludes, single_legacy}
-use Rattle.tv_reader.specs.Finds.{Finds}
+use Rattle.tv_reader.specs.Finds.{Finds, FindsLean}
 use Rattle.tv_reader.specs.declared.error.DeserializeError.{DeserializeError}
 use Rattle.tv_reader.specs.declared.error.DeserializeError.TheVariants as errors
 use Rattle.tv_reader.proofs.Finding.{finds_then, finds_as, finds_fails}
@@ -162,6 +162,7 @@ module _ {S : Type 0} {is_known : S → Type 0} {left : S → List ℕ} {failure
     stays_known = p.stays_known;
     counts = p.counts;
     rises = omega (arith, p.rises, second);
+    may_stop = refl;
   }
 
 -- ---- the number, and buffered pairs behind it
@@ -176,10 +177,10 @@ begun_encodes v n m empty document a b none number h =
     (record { prefix = a; rest = b; joined = refl; first = number; second = subst (λ z. Each (EncodesPart Legacy v) b (pairs_parts z)) (sym is) (pairs_as_parts Legacy v h.pairs b h.encoded) }, ap length is ∙ h.counted)
 
 module _ {S : Type 0} {is_known : S → Type 0} {left : S → List ℕ} {failures : S → Failures} (v : Version) (n : ℕ) (empty document : CompactDoc) (none : document_of empty ≡ []) where
-  pub begun_finds : {old mid new : S} {i j k : ℕ} (m : ℕ) → Finds is_known left failures old i mid j (Ok n) VNum (Corrupt ErrorInNumber) → Finds is_known left failures mid j new k (Ok m) (λ b z. AddsPairs v empty document b z) Nothing → Finds is_known left failures old i new k (Ok m) (Begun v n document) Nothing
+  pub begun_finds : {old mid new : S} {i j k : ℕ} (m : ℕ) → FindsLean is_known left failures old i mid j (Ok n) VNum (Corrupt ErrorInNumber) → Finds is_known left failures mid j new k (Ok m) (λ b z. AddsPairs v empty document b z) Nothing → Finds is_known left failures old i new k (Ok m) (Begun v n document) Nothing
   begun_finds m p h = finds_then (Begun v n document) Nothing (λ a b z q s. begun_encodes v n z empty document a b none q s) (λ a w c q f. f) (λ a f q _ never start byte last. never) p h
 
-  pub begun_fails : {old mid new : S} {i j k : ℕ} (e : DeserializeError) → Finds is_known left failures old i mid j (Ok n) VNum (Corrupt ErrorInNumber) → Finds {X = ℕ} is_known left failures mid j new k (Err e) (λ b z. AddsPairs v empty document b z) Nothing
+  pub begun_fails : {old mid new : S} {i j k : ℕ} (e : DeserializeError) → FindsLean is_known left failures old i mid j (Ok n) VNum (Corrupt ErrorInNumber) → Finds {X = ℕ} is_known left failures mid j new k (Err e) (λ b z. AddsPairs v empty document b z) Nothing
       → Finds is_known left failures old i new k (Err e) (EncodesRead v) (NoDocument v)
   begun_fails e p h = finds_then (EncodesRead v) (NoDocument v) (λ a b z q s. absurd s) (λ a w c q f. absurd f) (λ a f q _ never start byte last. absurd never) p (finds_fails (λ b z. ⊥) Nothing (λ w c f. f) h)
 

@@ -11,11 +11,11 @@ use Rattle.tv_builder.specs.Parts.{Part, some_bytes}
 use Rattle.tv_builder.specs.State.{State, complete, in_lists, in_bytes, awaited}
 use Rattle.tv_doc.specs.Builder.{built, state_of}
 use Rattle.tv_legacy.specs.Legacy.{Legacy}
-use Rattle.tv_reader.specs.Finds.{Refuses, Found, Finds}
+use Rattle.tv_reader.specs.Finds.{Refuses, Found, Finds, FindsRoomy, FindsLean}
 use Rattle.tv_reader.specs.HeadReading.{head_part}
 use Rattle.tv_reader.specs.Heads.{EncodesHead}
 use Rattle.tv_reader.specs.Trees.{NoValue, NoneBehind}
-use Rattle.tv_reader.specs.Error.{store_stop}
+use Rattle.tv_reader.specs.Error.{store_stop, StoreMayStop}
 use Rattle.tv_reader.specs.ValueType.{coded}
 use Rattle.tv_reader.specs.declared.error.DeserializeError.{DeserializeError}
 use Rattle.tv_reader.specs.declared.error.DeserializeError.TheVariants as errors
@@ -24,7 +24,7 @@ use Rattle.tv_reader.specs.declared.heads.Head.{Head}
 use Rattle.tv_reader.specs.declared.heads.Head.TheVariants as heads
 use Rattle.tv_reader.proofs.BehindKinds.{kind_edge, held_error}
 use Rattle.tv_format.specs.declared.leaf_type.LeafType.TheVariants as leaves
-use Rattle.tv_reader.proofs.Finding.{finds_then, finds_as, finds_fails, finds_short}
+use Rattle.tv_reader.proofs.Finding.{finds_then, finds_as, finds_any, finds_fails, finds_short}
 use Rattle.tv_format.specs.InputError.{Refusal, corrupted, value_ends, no_extension}
 use Rattle.tv_format.specs.Encoding.{Encodes, NoLegacy}
 use Rattle.tv_value.specs.EncodedTokens.{gathered}
@@ -71,9 +71,6 @@ pub keeps_of : (old new : Reading) (result : Result (Unit {0}) DeserializeError)
 keeps_of old new (Ok x) h = tt
 keeps_of old new (Err e) h = inl h
 
-pub no_cause : {C : Type 0} (c : Cause) (old new : Reading) (ps : List Part) (result : Result (Unit {0}) DeserializeError) → Puts old new ps result → IsErrOf result (errors.CorruptedValue c) → C
-no_cause c old new ps result h is = absurd (subst (λ z. Puts old new ps z) is h)
-
 pub head_parts_are : (head : Head) → head ≢ heads.Tokenized → head ≢ heads.Legacy → IsParts (head_part head)
 head_parts_are heads.Tokenized t l = absurd (t refl)
 head_parts_are heads.Legacy t l = absurd (l refl)
@@ -87,7 +84,7 @@ seen_as v legacy old new (Err e) Q a b k h = h
 pub finds_seen : {S : Type 0} {is_known : S → Type 0} {left : S → List ℕ} {failures : S → Failures} {os ns : S} {i k : ℕ} {result : Result (Unit {0}) DeserializeError} (v : Version) (legacy : Bool) (old new : Reading)
     → Finds is_known left failures os i ns k result (λ b _. Stepped v false old new b) (NoPrefix v old) → Finds is_known left failures os i ns k result (λ b _. Stepped v legacy old new b) (NoPrefix v old)
 finds_seen {left = left} {os = os} {ns = ns} {k = k} {result = result} v legacy old new h =
-    record { found = λ t. seen_as v legacy old new result (NoPrefix v old) (left os) (left ns) k (h.found t); taken = h.taken; stays_known = h.stays_known; counts = h.counts; rises = h.rises }
+    record { found = λ t. seen_as v legacy old new result (NoPrefix v old) (left os) (left ns) k (h.found t); taken = h.taken; stays_known = h.stays_known; counts = h.counts; rises = h.rises; may_stop = h.may_stop }
 
 -- ---- a value behind its codes
 
@@ -100,24 +97,24 @@ value_edge : (v : Version) (old : Reading) (kind : ValueType) → Awaiting old a
 value_edge v old kind h a start byte is last = kind_edge end (NoPrefix v old) (value_at_error v old [] end h value_ends) (value_at_error v old (7 ∷ []) end h (held_error leaves.PreTokStr (no_extension refl))) kind start byte (sym is ∙ last)
 
 pub whole_found : {S X : Type 0} {is_known : S → Type 0} {left : S → List ℕ} {failures : S → Failures} {os ms ns : S} {i j k : ℕ} {head : Head} {x : X} {I : List ℕ → Refusal → Type 0} (view : X → Tree) (v : Version) (old : Reading) (kind : ValueType) → Awaiting old awaits.Value
-    → ((a : List ℕ) → EncodesHead v a (head_part head) → a ≡ coded kind) → Finds is_known left failures os i ms j (Ok head) (λ b x. EncodesHead v b (head_part x)) I → Finds is_known left failures ms j ns k (Ok x) (λ b y. Encodes Legacy v (coded kind ++ b) (view y)) (NoneBehind v kind)
-    → Finds is_known left failures os i ns k (Ok x) (IsBehind view v kind) (NoPrefix v old)
+    → ((a : List ℕ) → EncodesHead v a (head_part head) → a ≡ coded kind) → FindsLean is_known left failures os i ms j (Ok head) (λ b x. EncodesHead v b (head_part x)) I → FindsRoomy is_known left failures ms j ns k (Ok x) (λ b y. Encodes Legacy v (coded kind ++ b) (view y)) (NoneBehind v kind)
+    → FindsRoomy is_known left failures os i ns k (Ok x) (IsBehind view v kind) (NoPrefix v old)
 whole_found {head = head} view v old kind h is p q =
     finds_then (IsBehind view v kind) (NoPrefix v old)
     (λ a b y r s. record { body = b; joined = ap (λ (z : List ℕ). z ++ b) r; encoded = subst (λ z. Encodes Legacy v (z ++ b) (view y)) (sym r) s })
     (λ a w c r f. value_at_error v old (a ++ w) c h (subst (λ z. NoValue v (z ++ w) c) (sym r) f))
     (λ a f r other _ start byte last. value_edge v old kind h a start byte r last)
-    (finds_as head (λ a _. a ≡ coded kind) (λ w r. Unit {0}) is p) q
+    (finds_as {May = StoreMayStop} head (λ a _. a ≡ coded kind) (λ w r. Unit {0}) is p) q
 
 pub whole_fails : {S X : Type 0} {A : List ℕ → X → Type 0} {is_known : S → Type 0} {left : S → List ℕ} {failures : S → Failures} {os ms ns : S} {i j k : ℕ} {head : Head} {e : DeserializeError} {I : List ℕ → Refusal → Type 0} (v : Version) (legacy : Bool) (old new : Reading) (kind : ValueType) → Awaiting old awaits.Value
-    → ((a : List ℕ) → EncodesHead v a (head_part head) → a ≡ coded kind) → Finds is_known left failures os i ms j (Ok head) (λ b x. EncodesHead v b (head_part x)) I → Finds {X = X} is_known left failures ms j ns k (Err e) A (NoneBehind v kind)
+    → ((a : List ℕ) → EncodesHead v a (head_part head) → a ≡ coded kind) → FindsLean is_known left failures os i ms j (Ok head) (λ b x. EncodesHead v b (head_part x)) I → FindsRoomy {X = X} is_known left failures ms j ns k (Err e) A (NoneBehind v kind)
     → Finds {X = Unit {0}} is_known left failures os i ns k (Err e) (λ b _. Stepped v legacy old new b) (NoPrefix v old)
 whole_fails {head = head} v legacy old new kind h is p q =
     finds_then (λ b _. Stepped v legacy old new b) (NoPrefix v old)
     (λ a b y r s. absurd s)
     (λ a w c r f. value_at_error v old (a ++ w) c h (subst (λ z. NoValue v (z ++ w) c) (sym r) f))
     (λ a f r other _ start byte last. value_edge v old kind h a start byte r last)
-    (finds_as head (λ a _. a ≡ coded kind) (λ w r. Unit {0}) is p) (finds_fails (λ b z. ⊥) (NoneBehind v kind) (λ w c f. f) q)
+    (finds_as {May = StoreMayStop} head (λ a _. a ≡ coded kind) (λ w r. Unit {0}) is p) (finds_fails (λ b z. ⊥) (NoneBehind v kind) (λ w c f. f) (finds_any (λ e n may. may.0) q))
 
 -- a text with its tokens, lent out of what was gathered
 pub lent_is : (s : PreTokenizedStr) (content : String Global) (tokens : EncodedTokens) → text_of s ≡ string_bytes content → tokens_of s ≡ gathered tokens → leaf (tokenized_leaf s) ≡ tokenized_tree (content, tokens)
@@ -185,14 +182,15 @@ module _ {S X : Type 0} {is_known : S → Type 0} {left : S → List ℕ} {failu
     stays_known = p.stays_known;
     counts = p.counts;
     rises = p.rises;
+    may_stop = tt;
   }
   text_refused _ h few none p = absurd none
 
   pub bytes_found : (result : Result (Unit {0}) DeserializeError) → Awaiting old (awaits.Bytes missing) → 0 < n → n ≤ missing → n ≤ 4096 → Finds is_known left failures os i ns k (Ok x) (λ a _. Piece n bytes a) I → PutsBytes old new bytes (some_bytes bytes ∷ []) result
       → Finds is_known left failures os i ns k result (λ b _. Stepped v false old new b) (NoPrefix v old)
   bytes_found (Ok y) h some few small p q = finds_as y (λ b _. Stepped v false old new b) (NoPrefix v old) (λ a s. part_steps v false old new (some_bytes bytes ∷ []) a (piece_part v false old n bytes a some small s) q) p
-  bytes_found (Err errors.HeapFull) h some few small p q = finds_short errors.HeapFull (λ b _. Stepped v false old new b) (NoPrefix v old) refl p
-  bytes_found (Err errors.Memory) h some few small p q = finds_short errors.Memory (λ b _. Stepped v false old new b) (NoPrefix v old) refl p
+  bytes_found (Err errors.HeapFull) h some few small p q = finds_short errors.HeapFull (λ b _. Stepped v false old new b) (NoPrefix v old) refl tt p
+  bytes_found (Err errors.Memory) h some few small p q = finds_short errors.Memory (λ b _. Stepped v false old new b) (NoPrefix v old) refl tt p
   bytes_found (Err (errors.CorruptedValue c)) h some few small p q = text_refused c h few q p
   bytes_found (Err (errors.UnsupportedType t)) h some few small p q = absurd q
   bytes_found (Err (errors.TypeMismatch t u)) h some few small p q = absurd q
@@ -205,6 +203,3 @@ module _ {S X : Type 0} {is_known : S → Type 0} {left : S → List ℕ} {failu
   bytes_full result some small p q t is =
       let f = p.found t in
       no_room v old (some_bytes bytes ∷ []) (left os) (left ns) f.prefix f.joined (piece_part v false old n bytes f.prefix some small f.encoded).encoded (bytes_fill old new bytes result is q)
-
-pub not_too_long : {C : Type 0} (old new : Reading) (more : List ℕ) (ps : List Part) (result : Result (Unit {0}) DeserializeError) → PutsBytes old new more ps result → IsErrOf result (errors.CorruptedValue causes.TooLong) → C
-not_too_long old new more ps result h is = absurd (subst (λ z. PutsBytes old new more ps z) is h)

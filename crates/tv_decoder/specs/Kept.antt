@@ -1,5 +1,5 @@
 -- What is kept of the finished pairs, and of the heap in which they stand.
-use Rattle.std.specs.Prelude.{◌⊎◌, ◌≡◌, ℕ, List, [], ◌∷◌, ◌++◌, length, take}
+use Rattle.std.specs.Prelude.{◌⊎◌, ◌≡◌, ℕ, [], ◌∷◌, ◌++◌, length, take}
 use Rattle.tv_base.specs.Sink.{IsPrefix}
 use Rattle.tv_builder.specs.State.{in_lists}
 use Rattle.tv_doc.specs.Builder.{built, state_of, heap_so_far}

@@ -1,12 +1,10 @@
 //! Reading whole documents from a source that is lent, with the count of the bytes that were taken of it.
 
-ghost use Rattle.std.specs.Prelude.{◌≡◌, ◌-◌, ◌^◌, IsErrOf};
-ghost use Rattle.tv_base.specs.declared.cause.Cause.TheVariants.{TooLong};
+ghost use Rattle.std.specs.Prelude.{IsErrOf};
 ghost use Rattle.tv_decoder.specs.Documents.{EncodesRead, EncodesBehind, NoDocument};
 ghost use Rattle.tv_decoder.specs.Prefix.{IsSound, NoPrefix, HasNoRoom, NoRoomBehind};
 ghost use Rattle.tv_reader.specs.Finds.{Finds};
 ghost use Rattle.tv_reader.specs.Version.{version_of};
-ghost use Rattle.tv_reader.specs.declared.error.DeserializeError.TheVariants.{CorruptedValue};
 ghost use Rattle.tv_reader.specs.declared.error.DeserializeError.TheVariants.{HeapFull};
 
 use crate::buffered::take_buffered_pairs;
@@ -31,7 +29,6 @@ fn take_rest<S: ByteSource>(
         result (EncodesBehind (version_of version) begun) (NoPrefix (version_of version) begun) }
     ensures full { S.is_known source.old → IsErrOf result HeapFull
         → NoRoomBehind (version_of version) begun (S.left source.old) }
-    ensures too_long { IsErrOf result (CorruptedValue TooLong) → count.new ≡ 2 ^ 64 - 1 }
 {
     let mut reading = begun;
     let mut legacy_seen = false;
@@ -65,7 +62,6 @@ pub fn take_document<S: ByteSource>(
         result (EncodesRead (version_of version)) (NoDocument (version_of version)) }
     ensures full { S.is_known source.old → IsErrOf result HeapFull
         → HasNoRoom (version_of version) (S.left source.old) }
-    ensures too_long { IsErrOf result (CorruptedValue TooLong) → count.new ≡ 2 ^ 64 - 1 }
 {
     let announced = take_document_head(source, count)?;
     let mut document = CompactDoc::with_capacity(alloc, FIRST_ROOM)?;

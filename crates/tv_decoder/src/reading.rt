@@ -1,8 +1,7 @@
 //! What has been read of a document, and what its next part does to that.
 
-ghost use Rattle.std.specs.Prelude.{◌≡◌, ◌≢◌, ◌↔◌, ◌-◌, ◌^◌, ◌≤◌, ◌<◌, [], ◌∷◌, ◌+◌, length, take};
+ghost use Rattle.std.specs.Prelude.{◌≡◌, ◌≢◌, ◌↔◌, ◌≤◌, ◌<◌, [], ◌∷◌, ◌+◌, length, take};
 ghost use Rattle.std.specs.Prelude.{IsTrue, IsErrOf, Ok, OnOk, OnErr, Some, None, false};
-ghost use Rattle.tv_base.specs.declared.cause.Cause.TheVariants.{TooLong};
 ghost use Rattle.tv_builder.specs.Behind.{document_parts};
 ghost use Rattle.tv_builder.specs.Parts.{value as value_part, array_head, object_head, some_bytes};
 ghost use Rattle.tv_builder.specs.Parts.{bytes_head};
@@ -20,9 +19,8 @@ ghost use Rattle.tv_decoder.specs.Kept.{Grows, LetGo, KeepsPairs};
 ghost use Rattle.tv_decoder.specs.Steps.{Advances, Stepped, Sees, IsFew};
 ghost use Rattle.tv_doc.specs.Builder.{built, state_of, heap_so_far};
 ghost use Rattle.tv_doc.specs.Document.{document_of, heap_of};
-ghost use Rattle.tv_reader.specs.Finds.{Finds};
+ghost use Rattle.tv_reader.specs.Finds.{Finds, FindsLean};
 ghost use Rattle.tv_reader.specs.HeadReading.{head_part};
-ghost use Rattle.tv_reader.specs.declared.error.DeserializeError.TheVariants.{CorruptedValue};
 ghost use Rattle.tv_reader.specs.declared.error.DeserializeError.TheVariants.{HeapFull};
 ghost use Rattle.tv_legacy.specs.Legacy.{Legacy};
 ghost use Rattle.tv_reader.specs.Version.{version_of};
@@ -312,10 +310,8 @@ impl Reading {
         ensures grows { OnOk result (Grows self.old self.new) }
         ensures left { OnErr result (KeepsPairs self.old self.new) }
         ensures finds { (v : Version)
-            → Finds S.is_known S.left S.failures source.old count.old source.new count.new result
+            → FindsLean S.is_known S.left S.failures source.old count.old source.new count.new result
             (λ b _. Stepped v false self.old self.new b) (NoPrefix v self.old) }
-        ensures too_long { IsErrOf result (CorruptedValue TooLong) → count.new ≡ 2 ^ 64 - 1 }
-        ensures roomy { ¬ IsErrOf result HeapFull }
         ensures few { count.new ≤ count.old + 4096 }
     {
         let announced = take_document_head(source, count)?;
@@ -336,10 +332,8 @@ impl Reading {
         ensures grows { OnOk result (Grows self.old self.new) }
         ensures left { OnErr result (KeepsPairs self.old self.new) }
         ensures finds { (v : Version)
-            → Finds S.is_known S.left S.failures source.old count.old source.new count.new result
+            → FindsLean S.is_known S.left S.failures source.old count.old source.new count.new result
             (λ b _. Stepped v false self.old self.new b) (NoPrefix v self.old) }
-        ensures too_long { IsErrOf result (CorruptedValue TooLong) → count.new ≡ 2 ^ 64 - 1 }
-        ensures roomy { ¬ IsErrOf result HeapFull }
         ensures few { count.new ≤ count.old + 4096 }
     {
         let field = take_field(source, count)?;
@@ -365,7 +359,6 @@ impl Reading {
             (NoPrefix (version_of version) self.old) }
         ensures full { S.is_known source.old → IsErrOf result HeapFull
             → NoRoomBehind (version_of version) self.old (S.left source.old) }
-        ensures too_long { IsErrOf result (CorruptedValue TooLong) → count.new ≡ 2 ^ 64 - 1 }
         ensures seen { S.is_known source.old
             → Sees self.old (S.left source.old) legacy_seen.old legacy_seen.new }
         ensures few { S.is_known source.old
@@ -402,7 +395,6 @@ impl Reading {
             (NoPrefix (version_of version) self.old) }
         ensures full { S.is_known source.old → IsErrOf result HeapFull
             → NoRoomBehind (version_of version) self.old (S.left source.old) }
-        ensures too_long { IsErrOf result (CorruptedValue TooLong) → count.new ≡ 2 ^ 64 - 1 }
         ensures few { count.new ≤ count.old + 4096 }
     {
         let len = take_key_head(source, count, version)?;
@@ -426,7 +418,6 @@ impl Reading {
             (λ b _. Stepped v false self.old self.new b) (NoPrefix v self.old) }
         ensures full { (v : Version) → S.is_known source.old → IsErrOf result HeapFull
             → NoRoomBehind v self.old (S.left source.old) }
-        ensures too_long { IsErrOf result (CorruptedValue TooLong) → count.new ≡ 2 ^ 64 - 1 }
         ensures few { count.new ≤ count.old + 4096 }
     {
         let len = missing.min(PIECE);
@@ -461,7 +452,6 @@ impl Reading {
             (NoPrefix (version_of version) self.old) }
         ensures full { S.is_known source.old → IsErrOf result HeapFull
             → NoRoomBehind (version_of version) self.old (S.left source.old) }
-        ensures too_long { IsErrOf result (CorruptedValue TooLong) → count.new ≡ 2 ^ 64 - 1 }
         ensures seen { S.is_known source.old
             → Sees self.old (S.left source.old) legacy_seen.old legacy_seen.new }
         ensures few { S.is_known source.old

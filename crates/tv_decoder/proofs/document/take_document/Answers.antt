@@ -1,6 +1,6 @@
 use Rattle.std.proofs.Common.{refl, inl, arith}
 use Rattle.std.proofs.lemmas.Result.{err_from_is_err_and}
-use Rattle.tv_reader.proofs.Finding.{finds_fails, finds_short}
+use Rattle.tv_reader.proofs.Finding.{finds_any, finds_fails, finds_short}
 use Rattle.tv_reader.specs.Version.{version_of}
 use Rattle.tv_decoder.specs.Documents.{EncodesRead, NoDocument}
 use Rattle.tv_decoder.proofs.WholeDocuments.{begun_finds, begun_ends, begun_then, begun_no_room}
@@ -9,12 +9,12 @@ use Rattle.tv_decoder.proofs.document.take_document.Goals as goal
 pub returns-in_err-announced-clause-finds : goal.returns-in_err-announced-clause-finds
 returns-in_err-announced-clause-finds g c =
     let p = err_from_is_err_and c.from_residual.result c.from_residual.ensures.1 in
-    rw (p.1, p.2) (finds_fails _ (NoDocument (version_of c.args.version)) (λ w e f. inl f) c.in_err-announced.ensures.finds)
+    rw (p.1, p.2) (finds_fails _ (NoDocument (version_of c.args.version)) (λ w e f. inl f) (finds_any (λ e n may. may.0.0) c.in_err-announced.ensures.finds))
 
 pub returns-in_err-document-clause-finds : goal.returns-in_err-document-clause-finds
 returns-in_err-document-clause-finds g c =
     let p = err_from_is_err_and c.from_residual-in_err-document.result c.from_residual-in_err-document.ensures.1 in
-    rw (p.1, p.2) (finds_short _ (EncodesRead (version_of c.args.version)) (NoDocument (version_of c.args.version)) refl c.in_ok-announced.ensures.finds)
+    rw (p.1, p.2) (finds_short _ (EncodesRead (version_of c.args.version)) (NoDocument (version_of c.args.version)) refl tt c.in_ok-announced.ensures.finds)
 
 pub returns-then-finished-announced-clause-finds : goal.returns-then-finished-announced-clause-finds
 returns-then-finished-announced-clause-finds g c =

@@ -1,8 +1,7 @@
 use Rattle.std.proofs.Common.{◌≡◌, [], ◌∷◌, true, false, inl, arith, sym, ◌∙◌, subst}
 use Rattle.std.proofs.lemmas.Result.{err_from_is_err_and}
-use Rattle.tv_base.specs.declared.cause.Cause.TheVariants.{TooLong}
 use Rattle.tv_builder.specs.Parts.{value}
-use Rattle.tv_reader.proofs.Finding.{finds_fails}
+use Rattle.tv_reader.proofs.Finding.{finds_any, finds_fails}
 use Rattle.tv_reader.specs.HeadReading.{head_part}
 use Rattle.tv_reader.specs.Heads.{EncodesHead}
 use Rattle.tv_reader.specs.Version.{version_of}
@@ -15,14 +14,14 @@ use Rattle.tv_decoder.specs.Prefix.{NoPrefix}
 use Rattle.tv_decoder.specs.Puts.{Puts, head_parts}
 use Rattle.tv_decoder.proofs.WithErrors.{value_at_error}
 use Rattle.tv_decoder.proofs.Stepping.{head_is_part, tokenized_part, legacy_part, puts_found, puts_full}
-use Rattle.tv_decoder.proofs.Wholes.{whole_found, whole_fails, sound_of, grows_of, keeps_of, no_cause, head_parts_are, lent_is}
+use Rattle.tv_decoder.proofs.Wholes.{whole_found, whole_fails, sound_of, grows_of, keeps_of, head_parts_are, lent_is}
 use Rattle.tv_decoder.proofs.reading.Reading.step_value.Goals as goal
 
 pub returns-in_err-head-clause-finds : goal.returns-in_err-head-clause-finds
 returns-in_err-head-clause-finds g c =
     let p = err_from_is_err_and c.from_residual.result c.from_residual.ensures.1 in
     let v = version_of c.args.version in
-    rw (p.1, p.2) (finds_fails _ (NoPrefix v c.args.self.now) (λ w e f. value_at_error v c.args.self.now w e c.requires f) c.in_err-head.ensures.finds)
+    rw (p.1, p.2) (finds_fails _ (NoPrefix v c.args.self.now) (λ w e f. value_at_error v c.args.self.now w e c.requires f) (finds_any (λ e n may. may.0.0) c.in_err-head.ensures.finds))
 
 pub returns-in_err-text-in-Tokenized-clause-finds : goal.returns-in_err-text-in-Tokenized-clause-finds
 returns-in_err-text-in-Tokenized-clause-finds g c =
@@ -93,7 +92,6 @@ returns-in_default g c =
       left = keeps_of old new c.put_head.result c.put_head.ensures.left;
       finds = puts_found v legacy old new ps c.put_head.result (λ a h. head_is_part v legacy old head a are h) c.in_ok-head.ensures.finds c.put_head.ensures.puts;
       full = λ told is. puts_full v legacy old new ps c.put_head.result (λ a h. head_is_part v legacy old head a are h) c.in_ok-head.ensures.finds c.put_head.ensures.puts told is;
-      too_long = λ is. no_cause TooLong old new ps c.put_head.result c.put_head.ensures.puts is;
       few = λ told. inl (omega (arith, c.in_ok-head.ensures.few));
       seen = λ told. record { still = λ e. e; first = λ e f. absurd (let k : false ≡ true = sym e ∙ f in cc) };
     }
