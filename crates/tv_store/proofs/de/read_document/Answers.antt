@@ -1,4 +1,5 @@
 use Rattle.std.proofs.Common.{arith}
+use Rattle.std.proofs.lemmas.Result.{IfErr-at_err}
 use Rattle.tv_base.proofs.ByGrammar.{few_taken}
 use Rattle.tv_reader.specs.Version.{version_of}
 use Rattle.tv_store.proofs.Promises.{found_by, refused_by, errors_by, only_by}
@@ -31,4 +32,4 @@ returns-clause-taken g c = λ told. let t = c.take_document.ensures.finds.taken 
 pub returns-clause-too_long : goal.returns-clause-too_long
 returns-clause-too_long g c = λ told e.
     let t = c.take_document.ensures.finds.taken told in
-    (t.prefix, t.joined, omega (arith, t.counted, c.take_document.ensures.too_long e))
+    (t.prefix, t.joined, omega (arith, t.counted, IfErr-at_err _ e c.take_document.ensures.finds.may_stop))
