@@ -67,25 +67,14 @@ SoFar-is other same h = record { goes = λ told. h.goes told ∙ same _; taken =
 pub SoFar-step : {P E F X Y Z : Type 0} {stop : E → Stop F} {May : E → ℕ → Type 0} {is_known : P → Type 0} {left : P → List ℕ} {count : P → ℕ} {failures : P → Failures} {old mid new : P} {whole rest : List ℕ → Result (Y × List ℕ) (F × List ℕ)} {first : List ℕ → Result (Z × List ℕ) (F × List ℕ)} {view : X → Z} {x : X}
     (f : Z × List ℕ → Result (Y × List ℕ) (F × List ℕ)) → ((bytes : List ℕ) → rest bytes ≡ (first bytes >>= f))
     → SoFar is_known left count failures old mid whole rest → Takes stop May is_known left count failures mid new view (Ok x) first → SoFar is_known left count failures old new whole (λ bytes. f (view x, bytes))
-SoFar-step f parts h read = record {
-  goes = λ told. h.goes told ∙ parts _ ∙ ap (λ r. r >>= f) (read.gives (h.stays_known told));
-  taken = λ told. Taken_then (h.taken told) (read.taken (h.stays_known told));
-  stays_known = λ told. read.stays_known (h.stays_known told);
-  counts = read.counts ∙ h.counts;
-  rises = omega (arith, h.rises, read.rises);
-}
+SoFar-step f parts h read =
+    record { goes = λ told. h.goes told ∙ parts _ ∙ ap (λ r. r >>= f) (read.gives (h.stays_known told)); taken = λ told. Taken_then (h.taken told) (read.taken (h.stays_known told)); stays_known = λ told. read.stays_known (h.stays_known told); counts = read.counts ∙ h.counts; rises = omega (arith, h.rises, read.rises) }
 
 pub SoFar-fails : {P E F X Y Z W : Type 0} {stop : E → Stop F} {May : E → ℕ → Type 0} {is_known : P → Type 0} {left : P → List ℕ} {count : P → ℕ} {failures : P → Failures} {old mid new : P} {whole rest : List ℕ → Result (Y × List ℕ) (F × List ℕ)} {first : List ℕ → Result (Z × List ℕ) (F × List ℕ)} {view : X → Z} (other : W → Y) (e : E)
     (f : Z × List ℕ → Result (Y × List ℕ) (F × List ℕ)) → ((bytes : List ℕ) → rest bytes ≡ (first bytes >>= f))
     → SoFar is_known left count failures old mid whole rest → Takes stop May is_known left count failures mid new view (Err e) first → Takes stop May is_known left count failures old new other (Err e) whole
-SoFar-fails {stop = stop} other e f parts h read = record {
-  gives = λ told. Stops-then (stop e) _ f _ _ _ (h.goes told ∙ parts _) (read.gives (h.stays_known told));
-  taken = λ told. Taken_then (h.taken told) (read.taken (h.stays_known told));
-  stays_known = λ told. read.stays_known (h.stays_known told);
-  counts = CountsStop-from (stop e) _ _ _ h.counts read.counts;
-  rises = omega (arith, h.rises, read.rises);
-  may_stop = read.may_stop;
-}
+SoFar-fails {stop = stop} other e f parts h read =
+    record { gives = λ told. Stops-then (stop e) _ f _ _ _ (h.goes told ∙ parts _) (read.gives (h.stays_known told)); taken = λ told. Taken_then (h.taken told) (read.taken (h.stays_known told)); stays_known = λ told. read.stays_known (h.stays_known told); counts = CountsStop-from (stop e) _ _ _ h.counts read.counts; rises = omega (arith, h.rises, read.rises); may_stop = read.may_stop }
 
 pub SoFar-returns : {P E F X Y : Type 0} (stop : E → Stop F) {May : E → ℕ → Type 0} {is_known : P → Type 0} {left : P → List ℕ} {count : P → ℕ} {failures : P → Failures} {old now : P} {whole rest : List ℕ → Result (Y × List ℕ) (F × List ℕ)} (view : X → Y) (x : X)
     → ((bytes : List ℕ) → rest bytes ≡ Ok (view x, bytes)) → SoFar is_known left count failures old now whole rest → Takes stop May is_known left count failures old now view (Ok x) whole
@@ -93,22 +82,10 @@ SoFar-returns stop view x done h = record { gives = λ told. h.goes told ∙ don
 
 pub SoFar-refuses : {P E F X Y : Type 0} (stop : E → Stop F) {May : E → ℕ → Type 0} {is_known : P → Type 0} {left : P → List ℕ} {count : P → ℕ} {failures : P → Failures} {old now : P} {whole rest : List ℕ → Result (Y × List ℕ) (F × List ℕ)} (view : X → Y) (e : E) (c : F)
     → stop e ≡ InputError c → May e (count now) → ((bytes : List ℕ) → rest bytes ≡ Err (c, bytes)) → SoFar is_known left count failures old now whole rest → Takes stop May is_known left count failures old now view (Err e) whole
-SoFar-refuses stop {left = left} {count = count} {failures = failures} {old = old} {now = now} {whole = whole} view e c is may refused h = record {
-  gives = λ told. subst (λ s. Stops s (whole (left old)) (left now) (count now)) (sym is) (λ few. h.goes told ∙ refused _);
-  taken = h.taken;
-  stays_known = h.stays_known;
-  counts = subst (λ s. CountsStop s (failures old) (failures now)) (sym is) h.counts;
-  rises = h.rises;
-  may_stop = may;
-}
+SoFar-refuses stop {left = left} {count = count} {failures = failures} {old = old} {now = now} {whole = whole} view e c is may refused h =
+    record { gives = λ told. subst (λ s. Stops s (whole (left old)) (left now) (count now)) (sym is) (λ few. h.goes told ∙ refused _); taken = h.taken; stays_known = h.stays_known; counts = subst (λ s. CountsStop s (failures old) (failures now)) (sym is) h.counts; rises = h.rises; may_stop = may }
 
 pub SoFar-stops : {P E F X Y : Type 0} (stop : E → Stop F) {May : E → ℕ → Type 0} {is_known : P → Type 0} {left : P → List ℕ} {count : P → ℕ} {failures : P → Failures} {old now : P} {whole rest : List ℕ → Result (Y × List ℕ) (F × List ℕ)} (view : X → Y) (e : E)
     → stop e ≡ Short → May e (count now) → SoFar is_known left count failures old now whole rest → Takes stop May is_known left count failures old now view (Err e) whole
-SoFar-stops stop {left = left} {count = count} {failures = failures} {old = old} {now = now} {whole = whole} view e is may h = record {
-  gives = λ told. subst (λ s. Stops s (whole (left old)) (left now) (count now)) (sym is) tt;
-  taken = h.taken;
-  stays_known = h.stays_known;
-  counts = subst (λ s. CountsStop s (failures old) (failures now)) (sym is) h.counts;
-  rises = h.rises;
-  may_stop = may;
-}
+SoFar-stops stop {left = left} {count = count} {failures = failures} {old = old} {now = now} {whole = whole} view e is may h =
+    record { gives = λ told. subst (λ s. Stops s (whole (left old)) (left now) (count now)) (sym is) tt; taken = h.taken; stays_known = h.stays_known; counts = subst (λ s. CountsStop s (failures old) (failures now)) (sym is) h.counts; rises = h.rises; may_stop = may }

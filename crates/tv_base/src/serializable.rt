@@ -1,9 +1,7 @@
 //! Values that are written and read by a grammar of their own.
 
-ghost use Rattle.std.specs.Prelude.{◌≡◌, ◌-◌, ◌^◌, ℕ, ℤ, Bool, List, IsErrOf, string_bytes};
+ghost use Rattle.std.specs.Prelude.{ℕ, ℤ, Bool, List, string_bytes};
 ghost use Rattle.tv_base.specs.declared.cause.Cause.{Cause};
-ghost use Rattle.tv_base.specs.declared.cause.Cause.TheVariants.{TooLong};
-ghost use Rattle.tv_base.specs.declared.read_error.ReadError.TheVariants.{Corrupted, Memory};
 ghost use Rattle.tv_base.specs.Number.{VNum, vnum, Fixed, one_byte, four_bytes, eight_bytes};
 ghost use Rattle.tv_base.specs.Number.{sixteen_bytes, Signed, signed_bytes, Truth, truth_byte};
 ghost use Rattle.tv_base.specs.Parts.{Sized, Text, short_sized};

@@ -4,13 +4,13 @@
 //! 2^64 - 1 it returns `Corrupted(TooLong)`. After an error `count` has risen by the number of the bytes that were taken up
 //! to there.
 
-ghost use Rattle.std.specs.Prelude.{◌≡◌, ◌⊎◌, ◌≤◌, ◌+◌, ◌-◌, ◌^◌, [], length, true, false, IfOk};
+ghost use Rattle.std.specs.Prelude.{◌≡◌, ◌⊎◌, ◌≤◌, ◌+◌, [], length, true, false, IfOk};
 ghost use Rattle.std.specs.Prelude.{IfErr, IsErrOf, OnOk, OnErr, string_bytes};
 ghost use Rattle.std.specs.Str.{is_utf8};
 ghost use Rattle.tv_base.specs.declared.cause.Cause.{Cause};
 ghost use Rattle.tv_base.specs.declared.cause.Cause.TheVariants.{UnexpectedEnd, BadNumber, BadBool};
 ghost use Rattle.tv_base.specs.declared.cause.Cause.TheVariants.{NotUtf8, TooLong};
-ghost use Rattle.tv_base.specs.declared.read_error.ReadError.TheVariants.{Corrupted, Memory};
+ghost use Rattle.tv_base.specs.declared.read_error.ReadError.TheVariants.{Corrupted};
 ghost use Rattle.tv_base.specs.Take.{TakesBy, TakesLean};
 ghost use Rattle.tv_base.specs.Reading.{bytes_at, more_at, u8_at, u32_at, u64_at, u128_at, i64_at};
 ghost use Rattle.tv_base.specs.Reading.{truth_at, vint_at, sized_at, text_at};

@@ -104,7 +104,7 @@ whole_found {head = head} view v old kind h is p q =
     (λ a b y r s. record { body = b; joined = ap (λ (z : List ℕ). z ++ b) r; encoded = subst (λ z. Encodes Legacy v (z ++ b) (view y)) (sym r) s })
     (λ a w c r f. value_at_error v old (a ++ w) c h (subst (λ z. NoValue v (z ++ w) c) (sym r) f))
     (λ a f r other _ start byte last. value_edge v old kind h a start byte r last)
-    (finds_as head (λ a _. a ≡ coded kind) (λ w r. Unit {0}) is p) q
+    (finds_as {May = StoreMayStop} head (λ a _. a ≡ coded kind) (λ w r. Unit {0}) is p) q
 
 pub whole_fails : {S X : Type 0} {A : List ℕ → X → Type 0} {is_known : S → Type 0} {left : S → List ℕ} {failures : S → Failures} {os ms ns : S} {i j k : ℕ} {head : Head} {e : DeserializeError} {I : List ℕ → Refusal → Type 0} (v : Version) (legacy : Bool) (old new : Reading) (kind : ValueType) → Awaiting old awaits.Value
     → ((a : List ℕ) → EncodesHead v a (head_part head) → a ≡ coded kind) → FindsLean is_known left failures os i ms j (Ok head) (λ b x. EncodesHead v b (head_part x)) I → FindsRoomy {X = X} is_known left failures ms j ns k (Err e) A (NoneBehind v kind)

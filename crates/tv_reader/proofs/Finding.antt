@@ -102,14 +102,8 @@ finds_then {stop = stop} {end = end} {left = left} {failures = failures} {old = 
 -- the same of what is read, in other words
 pub finds_as : {S E F X Y : Type 0} {stop : E → Stop F} {May0 May : E → ℕ → Type 0} {end : F} {is_known : S → Type 0} {left : S → List ℕ} {failures : S → Failures} {old new : S} {i k : ℕ} {x : X} {R : List ℕ → X → Type 0} {I : List ℕ → F → Type 0} (y : Y) (B : List ℕ → Y → Type 0) (Q : List ℕ → F → Type 0)
     → ((a : List ℕ) → R a x → B a y) → FindsBy stop May0 end is_known left failures old i new k (Ok x) R I → FindsBy stop May end is_known left failures old i new k (Ok y) B Q
-finds_as y B Q map p = record {
-  found = λ t. let h = p.found t in record { prefix = h.prefix; joined = h.joined; encoded = map h.prefix h.encoded };
-  taken = p.taken;
-  stays_known = p.stays_known;
-  counts = p.counts;
-  rises = p.rises;
-  may_stop = tt;
-}
+finds_as y B Q map p =
+    record { found = λ t. let h = p.found t in record { prefix = h.prefix; joined = h.joined; encoded = map h.prefix h.encoded }; taken = p.taken; stays_known = p.stays_known; counts = p.counts; rises = p.rises; may_stop = tt }
 
 pub stop_map : {F : Type 0} (end : F) (P Q : List ℕ → F → Type 0) (s : Stop F) (old new : List ℕ) (count : ℕ) → ((w : List ℕ) (c : F) → P w c → Q w c) → GivesStop end P old new count s → GivesStop end Q old new count s
 stop_map end P Q (InputError f) old new count map h = λ few. record { stands = map old f (h few).stands; shows = shows_map (λ c. c) (λ f e. e) old new f map (h few).shows }
@@ -126,26 +120,14 @@ finds_any {k = k} {result = result} less p =
 -- a refusal of a part is one of the whole
 pub finds_fails : {S E F X Y : Type 0} {stop : E → Stop F} {May : E → ℕ → Type 0} {end : F} {is_known : S → Type 0} {left : S → List ℕ} {failures : S → Failures} {old new : S} {i k : ℕ} {e : E} {R : List ℕ → X → Type 0} {P : List ℕ → F → Type 0} (B : List ℕ → Y → Type 0) (Q : List ℕ → F → Type 0)
     → ((w : List ℕ) (c : F) → P w c → Q w c) → FindsBy stop May end is_known left failures old i new k (Err e) R P → FindsBy stop May end is_known left failures old i new k (Err e) B Q
-finds_fails {stop = stop} {end = end} {left = left} {old = old} {new = new} {k = k} {e = e} {P = P} B Q map p = record {
-  found = λ t. stop_map end P Q (stop e) (left old) (left new) k map (p.found t);
-  taken = p.taken;
-  stays_known = p.stays_known;
-  counts = p.counts;
-  rises = p.rises;
-  may_stop = p.may_stop;
-}
+finds_fails {stop = stop} {end = end} {left = left} {old = old} {new = new} {k = k} {e = e} {P = P} B Q map p =
+    record { found = λ t. stop_map end P Q (stop e) (left old) (left new) k map (p.found t); taken = p.taken; stays_known = p.stays_known; counts = p.counts; rises = p.rises; may_stop = p.may_stop }
 
 -- what was read can't be kept
 pub finds_short : {S E F X Y : Type 0} {stop : E → Stop F} {May0 May : E → ℕ → Type 0} {end : F} {is_known : S → Type 0} {left : S → List ℕ} {failures : S → Failures} {old new : S} {i k : ℕ} {x : X} {R : List ℕ → X → Type 0} {I : List ℕ → F → Type 0} (e : E) (B : List ℕ → Y → Type 0) (Q : List ℕ → F → Type 0)
     → stop e ≡ Short → May e k → FindsBy stop May0 end is_known left failures old i new k (Ok x) R I → FindsBy stop May end is_known left failures old i new k (Err e) B Q
-finds_short {end = end} {left = left} {failures = failures} {old = old} {new = new} {k = k} e B Q is may p = record {
-  found = λ t. subst (GivesStop end Q (left old) (left new) k) (sym is) tt;
-  taken = p.taken;
-  stays_known = p.stays_known;
-  counts = subst (λ s. CountsStop s (failures old) (failures new)) (sym is) p.counts;
-  rises = p.rises;
-  may_stop = may;
-}
+finds_short {end = end} {left = left} {failures = failures} {old = old} {new = new} {k = k} e B Q is may p =
+    record { found = λ t. subst (GivesStop end Q (left old) (left new) k) (sym is) tt; taken = p.taken; stays_known = p.stays_known; counts = subst (λ s. CountsStop s (failures old) (failures new)) (sym is) p.counts; rises = p.rises; may_stop = may }
 
 -- two parts were read, and can't be kept
 pub finds_short_then : {S F E X Y Z : Type 0} {stop : E → Stop F} {May0 May1 May : E → ℕ → Type 0} {end : F} {is_known : S → Type 0} {left : S → List ℕ} {failures : S → Failures} {old mid new : S} {i j k : ℕ} {x : X} {y : Y} {R : List ℕ → X → Type 0} {I : List ℕ → F → Type 0} {A : List ℕ → Y → Type 0} {P : List ℕ → F → Type 0}
@@ -156,14 +138,8 @@ finds_short_then e B Q is may p h = finds_short e B Q is may (finds_then (λ b y
 -- nothing was read yet
 pub finds_nothing : {S E F X : Type 0} (stop : E → Stop F) {May : E → ℕ → Type 0} (end : F) (is_known : S → Type 0) (left : S → List ℕ) (failures : S → Failures) (p : S) (i : ℕ) (x : X) (R : List ℕ → X → Type 0) (Q : List ℕ → F → Type 0)
     → R [] x → FindsBy stop May end is_known left failures p i p i (Ok x) R Q
-finds_nothing stop end is_known left failures p i x R Q r = record {
-  found = λ t. record { prefix = []; joined = refl; encoded = r };
-  taken = λ t. Taken_none (left p) i;
-  stays_known = λ t. t;
-  counts = refl;
-  rises = omega arith;
-  may_stop = tt;
-}
+finds_nothing stop end is_known left failures p i x R Q r =
+    record { found = λ t. record { prefix = []; joined = refl; encoded = r }; taken = λ t. Taken_none (left p) i; stays_known = λ t. t; counts = refl; rises = omega arith; may_stop = tt }
 
 -- a refusal that takes no byte
 pub finds_refused : {S E F X : Type 0} (stop : E → Stop F) {May : E → ℕ → Type 0} (end : F) (is_known : S → Type 0) (left : S → List ℕ) (failures : S → Failures) (p : S) (i : ℕ) (e : E) (f : F) (R : List ℕ → X → Type 0) (Q : List ℕ → F → Type 0)
@@ -190,14 +166,8 @@ part_found view agrees x old new small e = let p = agrees.sound old (view x, new
 pub finds_part : {S X Y : Type 0} {May : ReadError → ℕ → Type 0} {is_known : S → Type 0} {left : S → List ℕ} {failures : S → Failures} {old new : S} {i k : ℕ} {view : X → Y} {x : X} {reading : List ℕ → Result (Y × List ℕ) (Cause × List ℕ)} {Encodes : List ℕ → Y → Type 0} {HasError : List ℕ → Cause → Type 0}
     → ((source : S) → is_known source → AllBytes (left source)) → Agrees UnexpectedEnd reading Encodes HasError → TakesIf May is_known left failures old i new k view (Ok x) reading
     → Finds is_known left failures old i new k (Ok x) (λ b x. Encodes b (view x)) (λ w f. ⊥)
-finds_part {left = left} {old = old} {new = new} {view = view} {x = x} are_bytes agrees h = record {
-  found = λ t. part_found view agrees x (left old) (left new) (are_bytes old t) (h.gives t);
-  taken = h.taken;
-  stays_known = h.stays_known;
-  counts = h.counts;
-  rises = h.rises;
-  may_stop = tt;
-}
+finds_part {left = left} {old = old} {new = new} {view = view} {x = x} are_bytes agrees h =
+    record { found = λ t. part_found view agrees x (left old) (left new) (are_bytes old t) (h.gives t); taken = h.taken; stays_known = h.stays_known; counts = h.counts; rises = h.rises; may_stop = tt }
 
 part_shown : {Y : Type 0} {reading : List ℕ → Result (Y × List ℕ) (Cause × List ℕ)} {Encodes : List ℕ → Y → Type 0} {HasError : List ℕ → Cause → Type 0} (e : ReadError) (Q : List ℕ → Refusal → Type 0)
     → Agrees UnexpectedEnd reading Encodes HasError → ((w : List ℕ) (c : Cause) → HasError w c → Q w (corrupted c)) → (old new : List ℕ) (count : ℕ) → AllBytes old → Stops (read_stop e) (reading old) new count
@@ -214,26 +184,18 @@ raised_counts reads.Memory old new h = h
 -- what may stop the lower layer may stop this one
 pub raised_roomy : (e : ReadError) (count : ℕ) → MayStop e count → StoreMayStopRoomy (read_error e) count
 raised_roomy (reads.Corrupted c) count may = (may, λ is. cc)
-raised_roomy (reads.Io kind) count may = (tt, λ is. cc)
-raised_roomy reads.Memory count may = (tt, λ is. cc)
+raised_roomy _ count may = (tt, λ is. cc)
 
 pub raised_lean : (e : ReadError) (count : ℕ) → MayStopLean e count → StoreMayStopLean (read_error e) count
-raised_lean (reads.Corrupted c) count may = ((may.0, λ is. cc), λ is. cc)
-raised_lean (reads.Io kind) count may = ((tt, λ is. cc), λ is. cc)
 raised_lean reads.Memory count may = absurd (may.1 refl)
+raised_lean e count may = (raised_roomy e count may.0, λ is. cc)
 
 -- a part was refused
 pub finds_part_fails : {S X Y Z : Type 0} {May : ReadError → ℕ → Type 0} {StoreMay : DeserializeError → ℕ → Type 0} {is_known : S → Type 0} {left : S → List ℕ} {failures : S → Failures} {old new : S} {i k : ℕ} {view : X → Y} {e : ReadError} {reading : List ℕ → Result (Y × List ℕ) (Cause × List ℕ)} {Encodes : List ℕ → Y → Type 0} {HasError : List ℕ → Cause → Type 0}
     (B : List ℕ → Z → Type 0) (Q : List ℕ → Refusal → Type 0) → ((e : ReadError) (n : ℕ) → May e n → StoreMay (read_error e) n) → ((source : S) → is_known source → AllBytes (left source)) → Agrees UnexpectedEnd reading Encodes HasError → ((w : List ℕ) (c : Cause) → HasError w c → Q w (corrupted c))
     → TakesIf May is_known left failures old i new k view (Err e) reading → FindsIf StoreMay is_known left failures old i new k (Err (read_error e)) B Q
-finds_part_fails {left = left} {failures = failures} {old = old} {new = new} {k = k} {e = e} B Q raise are_bytes agrees map h = record {
-  found = λ t. part_shown e Q agrees map (left old) (left new) k (are_bytes old t) (h.gives t);
-  taken = h.taken;
-  stays_known = h.stays_known;
-  counts = raised_counts e (failures old) (failures new) h.counts;
-  rises = h.rises;
-  may_stop = raise e k h.may_stop;
-}
+finds_part_fails {left = left} {failures = failures} {old = old} {new = new} {k = k} {e = e} B Q raise are_bytes agrees map h =
+    record { found = λ t. part_shown e Q agrees map (left old) (left new) k (are_bytes old t) (h.gives t); taken = h.taken; stays_known = h.stays_known; counts = raised_counts e (failures old) (failures new) h.counts; rises = h.rises; may_stop = raise e k h.may_stop }
 
 -- ---- parts of the store's own
 
@@ -245,14 +207,8 @@ read_found view agrees x old new small e = let p = agrees.sound old (view x, new
 pub finds_read : {S X Y : Type 0} {is_known : S → Type 0} {left : S → List ℕ} {failures : S → Failures} {old new : S} {i k : ℕ} {view : X → Y} {x : X} {reading : List ℕ → Result (Y × List ℕ) (Refusal × List ℕ)} {Encodes : List ℕ → Y → Type 0} {HasError : List ℕ → Refusal → Type 0}
     → ((source : S) → is_known source → AllBytes (left source)) → Agrees (corrupted UnexpectedEnd) reading Encodes HasError → store.TakesLean is_known left failures old i new k view (Ok x) reading
     → Finds is_known left failures old i new k (Ok x) (λ b x. Encodes b (view x)) (λ w f. ⊥)
-finds_read {left = left} {old = old} {new = new} {view = view} {x = x} are_bytes agrees h = record {
-  found = λ t. read_found view agrees x (left old) (left new) (are_bytes old t) (h.gives t);
-  taken = h.taken;
-  stays_known = h.stays_known;
-  counts = h.counts;
-  rises = h.rises;
-  may_stop = tt;
-}
+finds_read {left = left} {old = old} {new = new} {view = view} {x = x} are_bytes agrees h =
+    record { found = λ t. read_found view agrees x (left old) (left new) (are_bytes old t) (h.gives t); taken = h.taken; stays_known = h.stays_known; counts = h.counts; rises = h.rises; may_stop = tt }
 
 read_shown : {Y : Type 0} {reading : List ℕ → Result (Y × List ℕ) (Refusal × List ℕ)} {Encodes : List ℕ → Y → Type 0} {HasError : List ℕ → Refusal → Type 0} (s : Stop Refusal) (Q : List ℕ → Refusal → Type 0)
     → Agrees (corrupted UnexpectedEnd) reading Encodes HasError → ((w : List ℕ) (r : Refusal) → HasError w r → Q w r) → (old new : List ℕ) (count : ℕ) → AllBytes old → Stops s (reading old) new count
@@ -269,11 +225,5 @@ read_shown Never Q agrees map old new count small h = h
 pub finds_read_fails : {S X Y Z : Type 0} {is_known : S → Type 0} {left : S → List ℕ} {failures : S → Failures} {old new : S} {i k : ℕ} {view : X → Y} {e : DeserializeError} {reading : List ℕ → Result (Y × List ℕ) (Refusal × List ℕ)} {Encodes : List ℕ → Y → Type 0} {HasError : List ℕ → Refusal → Type 0}
     (B : List ℕ → Z → Type 0) (Q : List ℕ → Refusal → Type 0) → ((source : S) → is_known source → AllBytes (left source)) → Agrees (corrupted UnexpectedEnd) reading Encodes HasError → ((w : List ℕ) (r : Refusal) → HasError w r → Q w r)
     → store.TakesLean is_known left failures old i new k view (Err e) reading → FindsLean is_known left failures old i new k (Err e) B Q
-finds_read_fails {left = left} {old = old} {new = new} {k = k} {e = e} B Q are_bytes agrees map h = record {
-  found = λ t. read_shown (store_stop e) Q agrees map (left old) (left new) k (are_bytes old t) (h.gives t);
-  taken = h.taken;
-  stays_known = h.stays_known;
-  counts = h.counts;
-  rises = h.rises;
-  may_stop = h.may_stop;
-}
+finds_read_fails {left = left} {old = old} {new = new} {k = k} {e = e} B Q are_bytes agrees map h =
+    record { found = λ t. read_shown (store_stop e) Q agrees map (left old) (left new) k (are_bytes old t) (h.gives t); taken = h.taken; stays_known = h.stays_known; counts = h.counts; rises = h.rises; may_stop = h.may_stop }

@@ -2,7 +2,6 @@
 
 ghost use Rattle.std.specs.Prelude.{◌≡◌, ◌≤◌, ◌+◌, IsTrue, IfOk};
 ghost use Rattle.tv_base.specs.Take.{TakesBy, TakesLean};
-ghost use Rattle.tv_base.specs.declared.read_error.ReadError.TheVariants.{Memory};
 ghost use Rattle.tv_reader.specs.HeadReading.{head_part, head_at};
 ghost use Rattle.tv_reader.specs.Leaves.{leaf_at, is_leaf_type, IsSingle};
 ghost use Rattle.tv_reader.specs.ValueType.{of_leaf, leaf_type, type_with};

@@ -64,14 +64,8 @@ typed_may (Err e) count may = (raised_roomy e count may).0
 typed_part : {S X Y : Type 0} (is_known : S → Type 0) (left : S → List ℕ) (failures : S → Failures) (old new : S) (i k : ℕ) (view : X → Y) (answer : Result X ReadError) {reading : List ℕ → Result (Y × List ℕ) (Cause × List ℕ)} {Encodes : List ℕ → Y → Type 0} {HasError : List ℕ → Cause → Type 0} (B : List ℕ → X → Type 0) (Q : List ℕ → DeserializeError → Type 0)
     → ((source : S) → is_known source → AllBytes (left source)) → Agrees UnexpectedEnd reading Encodes HasError → ((a : List ℕ) (x : X) → Encodes a (view x) → B a x) → ((w : List ℕ) (c : Cause) → HasError w c → Q w (errors.CorruptedValue c))
     → TakesBy is_known left failures old i new k view answer reading → FindsBy typed_stop StoreMayStop end is_known left failures old i new k (raised answer) B Q
-typed_part is_known left failures old new i k view answer B Q are_bytes agrees join map h = record {
-  found = λ t. typed_found view answer B Q agrees join map (left old) (left new) k (are_bytes old t) (h.gives t);
-  taken = h.taken;
-  stays_known = h.stays_known;
-  counts = typed_counts answer (failures old) (failures new) h.counts;
-  rises = h.rises;
-  may_stop = typed_may answer k h.may_stop;
-}
+typed_part is_known left failures old new i k view answer B Q are_bytes agrees join map h =
+    record { found = λ t. typed_found view answer B Q agrees join map (left old) (left new) k (are_bytes old t) (h.gives t); taken = h.taken; stays_known = h.stays_known; counts = typed_counts answer (failures old) (failures new) h.counts; rises = h.rises; may_stop = typed_may answer k h.may_stop }
 
 both : (b : Bool) → b ≡ false → b ≡ true → ⊥
 both b p q = let e = sym p ∙ q in absurd cc
@@ -191,10 +185,7 @@ told_found B F (Err (errors.TypeMismatch expected actual)) old new count roomy h
 told_found B F (Err (errors.Io k)) old new count roomy h = tt
 told_found B F (Err errors.Memory) old new count roomy h = tt
 told_found B F (Err errors.HeapFull) old new count roomy h = absurd (roomy.1 refl)
-told_found B F (Err (errors.UnsupportedType t)) old new count roomy h = absurd h
-told_found B F (Err (errors.Custom s)) old new count roomy h = absurd h
-told_found B F (Err (errors.UnsupportedVersion m n)) old new count roomy h = absurd h
-told_found B F (Err errors.AlreadyFailed) old new count roomy h = absurd h
+told_found B F (Err _) old new count roomy h = absurd h
 
 told_counts : {X : Type 0} (result : Result X DeserializeError) (old new : Failures) (count : ℕ) → IfErr result (λ e. StoreMayStopRoomy e count) → Counts store_stop result old new → Counts typed_stop result old new
 told_counts (Ok x) old new count roomy h = h
@@ -203,10 +194,7 @@ told_counts (Err (errors.TypeMismatch expected actual)) old new count roomy h = 
 told_counts (Err (errors.Io k)) old new count roomy h = h
 told_counts (Err errors.Memory) old new count roomy h = h
 told_counts (Err errors.HeapFull) old new count roomy h = absurd (roomy.1 refl)
-told_counts (Err (errors.UnsupportedType t)) old new count roomy h = absurd h
-told_counts (Err (errors.Custom s)) old new count roomy h = absurd h
-told_counts (Err (errors.UnsupportedVersion m n)) old new count roomy h = absurd h
-told_counts (Err errors.AlreadyFailed) old new count roomy h = absurd h
+told_counts (Err _) old new count roomy h = absurd h
 
 pub told_reads : {S X : Type 0} {is_known : S → Type 0} {left : S → List ℕ} {failures : S → Failures} {s : S} {k : ℕ} (old new : StoreReader S) (result : Result X DeserializeError) (B : List ℕ → X → Type 0) (F : List ℕ → Refusal → Type 0)
     → old.has_failed ≡ false → FindsRoomy is_known left failures old.source old.count s k result B F → new.source ≡ s → new.count ≡ k → new.version ≡ old.version → new.has_failed ≡ is_err result
