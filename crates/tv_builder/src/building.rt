@@ -1,10 +1,7 @@
 //! A heap, and a value that is written into it part by part.
 
-ghost use Rattle.std.specs.Prelude.{◌≡◌, ℕ, ◌+◌, ◌-◌, ◌<◌, ◌≤◌, ◌^◌, ◌++◌, [], ◌∷◌, ◌↔◌, length};
-ghost use Rattle.std.specs.Prelude.{drop, take, OnOk, OnErr, IfOk, IfErr, IsErrOf, IsTrue, IsUtf8};
-ghost use Rattle.tv_base.specs.Number.{vnum};
-ghost use Rattle.tv_base.specs.Parts.{short_sized};
-ghost use Rattle.tv_base.specs.Sink.{IsPrefix};
+ghost use Rattle.std.specs.Prelude.{◌≡◌, ◌+◌, ◌-◌, ◌<◌, ◌≤◌, [], ◌↔◌, length};
+ghost use Rattle.std.specs.Prelude.{take, OnOk, IfOk, IfErr, IsErrOf, IsTrue, IsUtf8};
 ghost use Rattle.tv_format.specs.Tree.{leaf as leaf_tree};
 ghost use Rattle.tv_value.specs.Lent.{leaf_of};
 
@@ -61,7 +58,7 @@ impl Building {
     ghost use Rattle.tv_builder.specs.Fits.{LeafFits, ListFits};
     ghost use Rattle.tv_builder.specs.Moves.{AwaitsChunk, last_bytes};
     ghost use Rattle.tv_builder.specs.Fits.{KeyFits, HeadFits};
-    ghost use Rattle.tv_builder.specs.Shows.{Stands, frames_of, awaited_by};
+    ghost use Rattle.tv_builder.specs.Shows.{Stands, awaited_by};
     ghost use Rattle.tv_builder.specs.State.{and_value, and_list, and_key, and_head, and_bytes};
     ghost use Rattle.tv_builder.specs.State.{head_awaits};
     ghost use Rattle.tv_builder.specs.declared.awaits.Awaits.TheVariants.{Value as ValueNext};

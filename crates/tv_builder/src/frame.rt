@@ -1,6 +1,6 @@
 //! Open lists.
 
-ghost use Rattle.std.specs.Prelude.{◌≡◌, suc};
+ghost use Rattle.std.specs.Prelude.{◌≡◌};
 
 use crate::awaits::Awaits;
 use tv_heap::value_type::ValueType;

@@ -1,6 +1,6 @@
 //! Building the values of pairs part by part, in one heap.
 
-ghost use Rattle.std.specs.Prelude.{◌≡◌, ◌+◌, ◌<◌, ◌≤◌, ◌∷◌, [], ◌++◌, OnOk, OnErr, IfErr, IsErrOf, length};
+ghost use Rattle.std.specs.Prelude.{◌≡◌, ◌+◌, ◌<◌, ◌≤◌, [], OnOk, IfErr, IsErrOf, length};
 ghost use Rattle.std.specs.Prelude.{take, true, false, None};
 ghost use Rattle.tv_builder.specs.OneState.{StandsBehind, StandsBehind-prop};
 ghost use Rattle.tv_builder.specs.State.{written};

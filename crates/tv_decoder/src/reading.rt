@@ -1,6 +1,6 @@
 //! What has been read of a document, and what its next part does to that.
 
-ghost use Rattle.std.specs.Prelude.{◌≡◌, ◌≢◌, ◌↔◌, ◌≤◌, ◌<◌, [], ◌∷◌, ◌+◌, length, take};
+ghost use Rattle.std.specs.Prelude.{◌≡◌, ◌↔◌, ◌≤◌, ◌<◌, [], ◌∷◌, ◌+◌, length, take};
 ghost use Rattle.std.specs.Prelude.{IsTrue, IsErrOf, Ok, OnOk, OnErr, Some, None, false};
 ghost use Rattle.tv_builder.specs.Behind.{document_parts};
 ghost use Rattle.tv_builder.specs.Parts.{value as value_part, some_bytes};
@@ -9,7 +9,6 @@ ghost use Rattle.tv_builder.specs.State.{awaited, head_awaits, list_head, lists_
 ghost use Rattle.tv_builder.specs.declared.awaits.Awaits.TheVariants.{Value as ValueAwaited};
 ghost use Rattle.tv_builder.specs.declared.awaits.Awaits.TheVariants.{Key as KeyAwaited};
 ghost use Rattle.tv_builder.specs.declared.awaits.Awaits.TheVariants.{Bytes as BytesAwaited};
-ghost use Rattle.tv_builder.specs.declared.bytes_kind.BytesKind.TheVariants.{Key as KeyKind};
 ghost use Rattle.tv_decoder.specs.Buffered.{Nothing};
 ghost use Rattle.tv_decoder.specs.Prefix.{parts_read, IsSound, IsDone, LacksPair, NoPrefix};
 ghost use Rattle.tv_decoder.specs.Prefix.{NoRoomBehind};
@@ -26,7 +25,7 @@ ghost use Rattle.tv_legacy.specs.Legacy.{Legacy};
 ghost use Rattle.tv_reader.specs.Version.{version_of};
 ghost use Rattle.tv_value.specs.Lent.{leaf_of};
 ghost use Rattle.tv_format.specs.Tree.{leaf as leaf_tree};
-ghost use Rattle.tv_format.specs.Version.{Version, V2};
+ghost use Rattle.tv_format.specs.Version.{Version};
 
 use crate::buffered::take_buffered_pairs;
 use crate::errors::store_error;

@@ -2,7 +2,6 @@
 
 ghost use Rattle.std.specs.Prelude.{◌∷◌, [], Some, Ok, IfSome, IfNone, OnSome, IsOkAnd};
 ghost use Rattle.serde_json.specs.Data.{object};
-ghost use Rattle.serde_json.specs.Read.{read as read_text};
 ghost use Rattle.tv_borrowed.specs.BorrowedData.{data_of, members_data};
 ghost use Rattle.tv_doc.specs.AddsRow.{AddsRow};
 ghost use Rattle.tv_doc.specs.Additions.{Accepts};

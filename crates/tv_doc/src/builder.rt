@@ -1,6 +1,6 @@
 //! Building the values of a document part by part.
 
-ghost use Rattle.std.specs.Prelude.{◌≡◌, ◌+◌, ◌≤◌, [], ◌++◌, length, false, IsErrOf};
+ghost use Rattle.std.specs.Prelude.{◌≡◌, ◌+◌, ◌≤◌, [], length, false, IsErrOf};
 ghost use Rattle.tv_builder.specs.Weight.{document_weight, state_weight};
 
 use crate::document::CompactDoc;

@@ -7,7 +7,6 @@ ghost use Rattle.std.specs.String.{string_bytes};
 ghost use Rattle.tv_value.specs.HeldTokens.{token_of};
 ghost use Rattle.tv_format.specs.Tree.{leaf, text, unsigned, signed, boolean, date, facet, bytes};
 ghost use Rattle.tv_format.specs.Tree.{ip_address, tokenized};
-ghost use Rattle.tv_format.specs.WriteVersion.{written_version};
 ghost use Rattle.tv_value.specs.Lent.{leaf_of};
 
 use crate::add_error::AddError;

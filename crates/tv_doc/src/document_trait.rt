@@ -3,7 +3,7 @@
 ghost use Rattle.std.specs.Prelude.{◌≡◌, Option, IfOk, map, string_bytes};
 ghost use Rattle.std.specs.Iterator.{IsFinite, YieldsFirstBy};
 ghost use Rattle.tv_value.specs.declared.field.Field.{Field};
-ghost use Rattle.tv_format.specs.Tree.{Tree, Document as Pairs};
+ghost use Rattle.tv_format.specs.Tree.{Document as Pairs};
 ghost use Rattle.tv_doc.specs.Grouped.{IsGrouped, group_seen};
 ghost use Rattle.tv_doc.specs.Named.{IsNamed, IsJsonText, named_of};
 ghost use Rattle.tv_doc.specs.FieldValues.{pair_seen};

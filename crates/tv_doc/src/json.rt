@@ -1,10 +1,10 @@
 //! Documents from JSON objects.
 
-ghost use Rattle.std.specs.Prelude.{◌≡◌, ◌<◌, ◌∷◌, [], IfOk, length, string_bytes, slice_get, Some};
+ghost use Rattle.std.specs.Prelude.{◌≡◌, ◌<◌, ◌∷◌, [], IfOk, length, string_bytes, Some};
 ghost use Rattle.serde_json.specs.View.{view as data_of, items_view, members_view};
 ghost use Rattle.tv_schema.specs.Schema.{field_named};
 ghost use Rattle.tv_field.specs.JsonAnswer.{lent_tree};
-ghost use Rattle.tv_doc.specs.JsonObject.{FieldJson, item_values, values_for, values_at};
+ghost use Rattle.tv_doc.specs.JsonObject.{item_values, values_at};
 ghost use Rattle.tv_doc.specs.JsonObject.{object_values, AddsValues, IsInvalidJson, IsValueError};
 ghost use Rattle.tv_doc.specs.JsonObject.{MakesDocument, Parses};
 ghost use Rattle.std.specs.Fmt.{take_chars};

@@ -1,6 +1,5 @@
 //! A map, lent as an object: its entries in the order of the keys, each value in place.
 
-ghost use Rattle.std.specs.Prelude.{◌≡◌};
 ghost use Rattle.std.specs.Iterator.{YieldsFirstBy, item_count};
 ghost use Rattle.tv_value.specs.Lent.{entry_of};
 

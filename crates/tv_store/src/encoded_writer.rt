@@ -3,7 +3,7 @@
 //! Each function hands on the error of a failed write. The sink then holds what it held before, and a beginning of what was
 //! to be written.
 
-ghost use Rattle.std.specs.Prelude.{◌≡◌, ◌∷◌};
+ghost use Rattle.std.specs.Prelude.{◌∷◌};
 ghost use Rattle.tv_base.specs.Sink.{Writes};
 ghost use Rattle.tv_format.specs.Short.{short_elements, short_entries};
 ghost use Rattle.tv_format.specs.Tree.{elements, entries};

@@ -3,7 +3,7 @@
 //! Each function hands on the error of a failed write. The sink then holds what it held before, and a beginning of what was
 //! to be written.
 
-ghost use Rattle.std.specs.Prelude.{◌≡◌, ◌∷◌, ◌++◌};
+ghost use Rattle.std.specs.Prelude.{◌∷◌, ◌++◌};
 ghost use Rattle.std.specs.List.{flat_map};
 ghost use Rattle.tv_base.specs.Number.{four_bytes, eight_bytes};
 ghost use Rattle.tv_base.specs.Sink.{Writes};

@@ -1,6 +1,5 @@
-use Rattle.std.proofs.Common.{sym, ap, subst}
+use Rattle.std.proofs.Common.{sym, subst}
 use Rattle.tv_format.specs.Encoding.{EncodesDocument}
-use Rattle.tv_format.specs.Tree.{Document}
 use Rattle.tv_legacy.specs.Legacy.{Legacy}
 use Rattle.tv_reader.specs.Version.{version_of}
 use Rattle.tv_reader.proofs.Finding.{finds_as, finds_fails}

@@ -1,5 +1,5 @@
-use Rattle.std.proofs.Common.{Ok, refl, sym, ◌∙◌, subst}
-use Rattle.tv_builder.specs.Builder.{Finishes, state_of}
+use Rattle.std.proofs.Common.{Ok, refl, sym, ◌∙◌}
+use Rattle.tv_builder.specs.Builder.{state_of}
 use Rattle.tv_decoder.proofs.Building.{finished}
 use Rattle.tv_decoder.proofs.Putting.{closed, stays, finish_awaited}
 use Rattle.tv_decoder.proofs.reading.Reading.close_pair.Goals as goal
