@@ -77,8 +77,8 @@ impl BinarySerializable for VInt {
     }
 
     fn deserialize<S: ByteSource>(alloc: Global, source: &mut S) -> Result<VInt, ReadError>
-        ensures reads { ReadsLean S.is_known S.left S.failures source.old source.new (λ x. x.0) result
-            VNum ErrorInNumber }
+        ensures reads { ReadsLean S.is_known S.left S.failures source.old source.new (λ x. x.0)
+            result VNum ErrorInNumber }
     {
         let mut count = 0;
         take_wrapped(source, &mut count)
@@ -249,8 +249,8 @@ impl BinarySerializable for bool {
     }
 
     fn deserialize<S: ByteSource>(alloc: Global, source: &mut S) -> Result<bool, ReadError>
-        ensures reads { ReadsLean S.is_known S.left S.failures source.old source.new (λ truth. truth)
-            result Truth ErrorInTruth }
+        ensures reads { ReadsLean S.is_known S.left S.failures source.old source.new
+            (λ truth. truth) result Truth ErrorInTruth }
     {
         let mut count = 0;
         take_bool(source, &mut count)

@@ -299,8 +299,8 @@ impl Reading {
         ensures grows { OnOk result (Grows self.old self.new) }
         ensures left { OnErr result (KeepsPairs self.old self.new) }
         ensures finds { (v : Version)
-            → FindsLean S.is_known S.left S.failures source.old count.old source.new count.new result
-            (λ b _. Stepped v false self.old self.new b) (NoPrefix v self.old) }
+            → FindsLean S.is_known S.left S.failures source.old count.old source.new count.new
+            result (λ b _. Stepped v false self.old self.new b) (NoPrefix v self.old) }
         ensures few { count.new ≤ count.old + 4096 }
     {
         let announced = take_document_head(source, count)?;
@@ -321,8 +321,8 @@ impl Reading {
         ensures grows { OnOk result (Grows self.old self.new) }
         ensures left { OnErr result (KeepsPairs self.old self.new) }
         ensures finds { (v : Version)
-            → FindsLean S.is_known S.left S.failures source.old count.old source.new count.new result
-            (λ b _. Stepped v false self.old self.new b) (NoPrefix v self.old) }
+            → FindsLean S.is_known S.left S.failures source.old count.old source.new count.new
+            result (λ b _. Stepped v false self.old self.new b) (NoPrefix v self.old) }
         ensures few { count.new ≤ count.old + 4096 }
     {
         let field = take_field(source, count)?;

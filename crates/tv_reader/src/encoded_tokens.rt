@@ -102,8 +102,8 @@ pub fn take_gathered<S: ByteSource>(
     count: &mut u64,
     version: DocStoreVersion,
 ) -> Result<(String, EncodedTokens), DeserializeError>
-    ensures finds { FindsRoomy S.is_known S.left S.failures source.old count.old source.new count.new
-        result (EncodesTokenized (version_of version))
+    ensures finds { FindsRoomy S.is_known S.left S.failures source.old count.old source.new
+        count.new result (EncodesTokenized (version_of version))
         (NoneBehind (version_of version) types.PreTokStr) }
 {
     let _ = version;

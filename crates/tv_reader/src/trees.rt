@@ -67,8 +67,8 @@ pub fn take_key<S: ByteSource>(
     count: &mut u64,
     version: DocStoreVersion,
 ) -> Result<String, DeserializeError>
-    ensures finds { FindsRoomy S.is_known S.left S.failures source.old count.old source.new count.new
-        result (λ b key. Key (version_of version) b (string_bytes key))
+    ensures finds { FindsRoomy S.is_known S.left S.failures source.old count.old source.new
+        count.new result (λ b key. Key (version_of version) b (string_bytes key))
         (ErrorInKey (version_of version)) }
 {
     match version {
@@ -88,8 +88,8 @@ fn take_coded_key<S: ByteSource>(
     source: &mut S,
     count: &mut u64,
 ) -> Result<String, DeserializeError>
-    ensures finds { FindsRoomy S.is_known S.left S.failures source.old count.old source.new count.new
-        result CodedKey ErrorInCodedKey }
+    ensures finds { FindsRoomy S.is_known S.left S.failures source.old count.old source.new
+        count.new result CodedKey ErrorInCodedKey }
 {
     let kind = take_kind(source, count)?;
     match kind {
@@ -115,8 +115,8 @@ pub fn take_tree<S: ByteSource>(
     count: &mut u64,
     version: DocStoreVersion,
 ) -> Result<OwnedValue, DeserializeError>
-    ensures finds { FindsRoomy S.is_known S.left S.failures source.old count.old source.new count.new
-        result (EncodesValue (version_of version)) (NoValue (version_of version)) }
+    ensures finds { FindsRoomy S.is_known S.left S.failures source.old count.old source.new
+        count.new result (EncodesValue (version_of version)) (NoValue (version_of version)) }
 {
     let before = *count;
     let kind = take_kind(source, count)?;
@@ -134,8 +134,9 @@ pub fn take_behind<S: ByteSource>(
     version: DocStoreVersion,
     kind: ValueType,
 ) -> Result<OwnedValue, DeserializeError>
-    ensures finds { FindsRoomy S.is_known S.left S.failures source.old count.old source.new count.new
-        result (EncodesBehind (version_of version) kind) (NoneBehind (version_of version) kind) }
+    ensures finds { FindsRoomy S.is_known S.left S.failures source.old count.old source.new
+        count.new result (EncodesBehind (version_of version) kind)
+        (NoneBehind (version_of version) kind) }
 {
     match kind {
         ValueType::Array => {
@@ -168,8 +169,8 @@ fn take_items<S: ByteSource>(
     version: DocStoreVersion,
     announced: u64,
 ) -> Result<Vec<OwnedValue>, DeserializeError>
-    ensures finds { FindsRoomy S.is_known S.left S.failures source.old count.old source.new count.new
-        result (EncodesItems (version_of version) announced)
+    ensures finds { FindsRoomy S.is_known S.left S.failures source.old count.old source.new
+        count.new result (EncodesItems (version_of version) announced)
         (NoItems (version_of version) announced) }
 {
     let mut items = Vec::new(alloc);
@@ -188,8 +189,8 @@ fn take_member<S: ByteSource>(
     count: &mut u64,
     version: DocStoreVersion,
 ) -> Result<(String, OwnedValue), DeserializeError>
-    ensures finds { FindsRoomy S.is_known S.left S.failures source.old count.old source.new count.new
-        result (EncodesMember (version_of version)) (NoMember (version_of version)) }
+    ensures finds { FindsRoomy S.is_known S.left S.failures source.old count.old source.new
+        count.new result (EncodesMember (version_of version)) (NoMember (version_of version)) }
 {
     let key = take_key(alloc, source, count, version)?;
     let value = take_tree(alloc, source, count, version)?;
@@ -205,8 +206,8 @@ fn take_members<S: ByteSource>(
     version: DocStoreVersion,
     announced: u64,
 ) -> Result<Vec<(String, OwnedValue)>, DeserializeError>
-    ensures finds { FindsRoomy S.is_known S.left S.failures source.old count.old source.new count.new
-        result (EncodesMembers (version_of version) announced)
+    ensures finds { FindsRoomy S.is_known S.left S.failures source.old count.old source.new
+        count.new result (EncodesMembers (version_of version) announced)
         (NoMembers (version_of version) announced) }
 {
     let mut members = Vec::new(alloc);
