@@ -82,7 +82,7 @@ pub use Rattle.tv_doc.specs.Additions
 pub use Rattle.tv_doc.specs.Belongs
 pub use Rattle.tv_doc.specs.Builder
 pub use Rattle.tv_doc.specs.Document
-pub use Rattle.tv_doc.specs.Encoded as EncodedPairs
+pub use Rattle.tv_builder.specs.EncodedPairs
 pub use Rattle.tv_doc.specs.FieldValues
 pub use Rattle.tv_doc.specs.Grouped
 pub use Rattle.tv_heap.specs.Encoded as EncodedInHeap
