@@ -1,5 +1,8 @@
 //! The words of a line of a conformance suite, and how answers are written. A text is a JSON string with its quotes, bytes are
 //! hexadecimal digits, and a number is decimal.
+//!
+//! A value of many parts, as an `OwnedValue` or a `FieldType`, is best let go by a call that takes it, as `drop`: that is one step of the
+//! caller, where each place at which it goes out of scope has a step for each part.
 #![tactic(auto)]
 
 pub mod leaves;
@@ -18,6 +21,13 @@ use tv_value::field::Field;
 /// The text of a JSON string.
 pub fn text(alloc: Global, word: &str) -> Result<String> {
     let json = serde_json::Value::from_str(alloc, word)?;
+    let text = text_of(alloc, &json);
+    drop(json);
+    text
+}
+
+// The text that a JSON value is.
+fn text_of(alloc: Global, json: &serde_json::Value) -> Result<String> {
     let content = json.as_str().context("a text in quotes")?;
     Ok(String::from_str(alloc, content)?)
 }
@@ -43,18 +53,31 @@ pub fn field(word: &str) -> Result<Field> {
 /// The texts of a JSON array.
 pub fn texts(alloc: Global, word: &str) -> Result<Vec<String>> {
     let json = serde_json::Value::from_str(alloc, word)?;
+    let texts = texts_of(alloc, &json);
+    drop(json);
+    texts
+}
+
+// The texts of a JSON value.
+fn texts_of(alloc: Global, json: &serde_json::Value) -> Result<Vec<String>> {
     let mut texts = Vec::new(alloc);
     for item in json.as_array().context("an array of texts")? {
-        let content = item.as_str().context("a text in quotes")?;
-        texts.push(String::from_str(alloc, content)?)?;
+        texts.push(text_of(alloc, item)?)?;
     }
     Ok(texts)
 }
 
+/// The text of a JSON value, which is let go.
+pub fn json_text(alloc: Global, json: serde_json::Value) -> Result<String> {
+    Ok(json.to_string(alloc)?)
+}
+
 /// A text as a JSON string.
 pub fn quoted(alloc: Global, content: &str) -> Result<String> {
-    let json = serde_json::Value::String(String::from_str(alloc, content)?);
-    Ok(json.to_string(alloc)?)
+    json_text(
+        alloc,
+        serde_json::Value::String(String::from_str(alloc, content)?),
+    )
 }
 
 /// Texts as a JSON array.
@@ -64,7 +87,7 @@ pub fn quoted_all<T: AsStr>(alloc: Global, texts: &[T]) -> Result<String> {
         let text = String::from_str(alloc, content.as_str())?;
         items.push(serde_json::Value::String(text))?;
     }
-    Ok(serde_json::Value::Array(items).to_string(alloc)?)
+    json_text(alloc, serde_json::Value::Array(items))
 }
 
 /// The hexadecimal digits of bytes, or `nothing` where there is no byte.
@@ -85,9 +108,24 @@ pub fn none(alloc: Global) -> Result<String> {
     Ok(String::from_str(alloc, "none")?)
 }
 
-/// The answer of a call that failed.
-pub fn error(alloc: Global, error: &impl Debug) -> Result<String> {
+/// The answer of a call that failed. The error is let go.
+pub fn error<E: Debug + Drop>(alloc: Global, error: E) -> Result<String> {
     Ok(format!(in alloc; "error {error:?}")?)
+}
+
+/// A value as Rust prints it. The value is let go.
+pub fn debug<T: Debug + Drop>(alloc: Global, value: T) -> Result<String> {
+    Ok(format!(in alloc; "{value:?}")?)
+}
+
+/// Whether a value is equal to another one, which is let go.
+pub fn is_equal<T: PartialEq + Drop>(value: &T, other: T) -> bool {
+    *value == other
+}
+
+/// Whether two values are equal. Both are let go.
+pub fn are_equal<T: PartialEq + Drop>(one: T, other: T) -> bool {
+    one == other
 }
 
 /// The type of a code, which is a letter.
@@ -126,7 +164,7 @@ pub fn told<T: Display + Drop, E: Debug + Drop>(
 ) -> Result<String> {
     match answer {
         Ok(value) => plain(alloc, &value),
-        Err(failure) => error(alloc, &failure),
+        Err(failure) => error(alloc, failure),
     }
 }
 
@@ -136,7 +174,7 @@ pub fn shown<T: Debug + Drop, E: Debug + Drop>(
     answer: Result<T, E>,
 ) -> Result<String> {
     match answer {
-        Ok(value) => Ok(format!(in alloc; "{value:?}")?),
-        Err(failure) => error(alloc, &failure),
+        Ok(value) => debug(alloc, value),
+        Err(failure) => error(alloc, failure),
     }
 }

@@ -107,14 +107,28 @@ pub fn build(
         "object" => Ok(builder.open_object(words::number(content)?)),
         "key" => Ok(builder.key(words::text(alloc, content)?.as_str())),
         "finish" => Ok(builder.finish(words::field(content)?)),
-        "tree" => Ok(builder.tree(&&value(alloc, content)?)),
-        "leaf" => leaf(builder, &value(alloc, content)?),
+        "tree" => Ok(tree(builder, value(alloc, content)?)),
+        "leaf" => leaf(builder, value(alloc, content)?),
         _ => build_bytes(alloc, builder, call, content),
     }
 }
 
+// Makes a call for a value, which is let go.
+fn tree(builder: &mut TreeBuilder, value: OwnedValue) -> Result<(), BuildError> {
+    let outcome = builder.tree(&&value);
+    drop(value);
+    outcome
+}
+
+// Makes a call for a value without children, which is let go.
+fn leaf(builder: &mut TreeBuilder, value: OwnedValue) -> Result<Result<(), BuildError>> {
+    let outcome = lent_leaf(builder, &value);
+    drop(value);
+    outcome
+}
+
 // Makes a call for a value without children.
-fn leaf(builder: &mut TreeBuilder, value: &OwnedValue) -> Result<Result<(), BuildError>> {
+fn lent_leaf(builder: &mut TreeBuilder, value: &OwnedValue) -> Result<Result<(), BuildError>> {
     let leaf = value.as_leaf().context("a value without children")?;
     Ok(builder.leaf(leaf))
 }
@@ -166,43 +180,72 @@ pub fn add(
     let (number, content) = words::parted(content);
     let field = words::field(number)?;
     let (kind, json) = words::parted(content);
-    if kind == "members" {
-        let members = members(alloc, json)?;
-        return Ok(document.add_object(field, &members));
-    }
-    if kind == "lent" {
-        let json = JsonValue::from_str(alloc, json)?;
-        return Ok(document.add_field_value(field, &LentJson::new(&json)));
-    }
-    Ok(add_typed(document, field, value(alloc, content)?))
+    Ok(match kind {
+        "members" => add_members(document, field, members(alloc, json)?),
+        "lent" => add_lent(document, field, JsonValue::from_str(alloc, json)?),
+        _ => add_value(document, field, value(alloc, content)?),
+    })
+}
+
+// Adds the members of an object, which are let go.
+fn add_members(
+    document: &mut CompactDoc,
+    field: Field,
+    members: BTreeMap<String, OwnedValue>,
+) -> Result<(), AddError> {
+    document.add_object(field, &members)
+}
+
+// Adds a JSON value, which is let go.
+fn add_lent(document: &mut CompactDoc, field: Field, json: JsonValue) -> Result<(), AddError> {
+    let outcome = document.add_field_value(field, &LentJson::new(&json));
+    drop(json);
+    outcome
+}
+
+// Adds a value by the call of its type, and lets it go.
+fn add_value(document: &mut CompactDoc, field: Field, value: OwnedValue) -> Result<(), AddError> {
+    let outcome = add_typed(document, field, &value);
+    drop(value);
+    outcome
 }
 
 // Adds a value by the call of its type.
-fn add_typed(document: &mut CompactDoc, field: Field, value: OwnedValue) -> Result<(), AddError> {
+fn add_typed(document: &mut CompactDoc, field: Field, value: &OwnedValue) -> Result<(), AddError> {
     match value {
         OwnedValue::Null => document.add_leaf_field_value(field, ReferenceValueLeaf::Null),
         OwnedValue::Str(text) => document.add_text(field, text.as_str()),
-        OwnedValue::U64(number) => document.add_u64(field, number),
-        OwnedValue::I64(number) => document.add_i64(field, number),
-        OwnedValue::Bool(truth) => document.add_bool(field, truth),
-        OwnedValue::Date(date) => document.add_date(field, date),
-        OwnedValue::IpAddr(address) => document.add_ip_addr(field, address),
-        OwnedValue::Facet(facet) => document.add_facet(field, &facet),
+        OwnedValue::U64(number) => document.add_u64(field, *number),
+        OwnedValue::I64(number) => document.add_i64(field, *number),
+        OwnedValue::Bool(truth) => document.add_bool(field, *truth),
+        OwnedValue::Date(date) => document.add_date(field, *date),
+        OwnedValue::IpAddr(address) => document.add_ip_addr(field, *address),
+        OwnedValue::Facet(facet) => document.add_facet(field, facet),
         OwnedValue::Bytes(bytes) => document.add_bytes(field, bytes.as_slice()),
-        OwnedValue::PreTokStr(text) => document.add_pre_tokenized_text(field, &text),
-        list => document.add_field_value(field, &&list),
+        OwnedValue::PreTokStr(text) => document.add_pre_tokenized_text(field, text),
+        OwnedValue::Array(_) | OwnedValue::Object(_) => document.add_field_value(field, &value),
     }
 }
 
 // The members of a JSON object.
 fn members(alloc: Global, json: &str) -> Result<BTreeMap<String, OwnedValue>> {
-    let json = JsonValue::from_str(alloc, json)?;
-    let OwnedValue::Object(entries) = OwnedValue::from_json(alloc, json)? else {
-        return Err(anyhow!("a JSON object"));
-    };
+    match OwnedValue::from_json(alloc, JsonValue::from_str(alloc, json)?)? {
+        OwnedValue::Object(entries) => members_of(alloc, entries),
+        other => {
+            drop(other);
+            Err(anyhow!("a JSON object"))
+        }
+    }
+}
+
+// The entries by their keys.
+fn members_of(
+    alloc: Global,
+    entries: Vec<(String, OwnedValue)>,
+) -> Result<BTreeMap<String, OwnedValue>> {
     let mut members = BTreeMap::new(alloc);
     for (key, value) in entries {
-        members.insert(key, value)?;
+        drop(members.insert(key, value)?);
     }
     Ok(members)
 }

@@ -23,7 +23,7 @@ fn read(alloc: Global, word: &str) -> Result<String> {
     let text = words::text(alloc, word)?;
     match DateTime::from_rfc3339(text.as_str()) {
         Ok(date) => words::plain(alloc, &date.into_timestamp_nanos()),
-        Err(error) => words::error(alloc, &error),
+        Err(error) => words::error(alloc, error),
     }
 }
 

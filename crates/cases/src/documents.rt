@@ -3,7 +3,8 @@
 use crate::{builder, json_values, parts, schemas};
 use anyhow::{Context, Result, anyhow, ensure};
 use case_words as words;
-use std::alloc::Global;
+use serde_json::Value as JsonValue;
+use std::alloc::{AllocError, Global};
 use std::fmt::Write;
 use tv_doc::doc_parsing_error::DocParsingError;
 use tv_doc::document::CompactDoc;
@@ -68,14 +69,24 @@ fn print(alloc: Global, description: &str, words: &[&str]) -> Result<String> {
 
 // The document of a JSON object, or its refusal.
 fn parse(alloc: Global, description: &str, json: &str) -> Result<String> {
-    match CompactDoc::parse_json(alloc, &schemas::schema(alloc, description)?, json) {
-        Ok(document) => parsed(alloc, &document),
-        Err(error) => refusal(alloc, &error),
+    let schema = schemas::schema(alloc, description)?;
+    let outcome = CompactDoc::parse_json(alloc, &schema, json);
+    drop(schema);
+    match outcome {
+        Ok(document) => parsed(alloc, document),
+        Err(error) => refused(alloc, error),
     }
 }
 
+// A document. It is let go.
+fn parsed(alloc: Global, document: CompactDoc) -> Result<String> {
+    let answer = shown_by_parts(alloc, &document);
+    drop(document);
+    answer
+}
+
 // The document, which has to be the same where its values come part by part.
-fn parsed(alloc: Global, document: &CompactDoc) -> Result<String> {
+fn shown_by_parts(alloc: Global, document: &CompactDoc) -> Result<String> {
     let text = shown(alloc, document)?;
     for cut in 0..parts::MOST_BYTES {
         let rebuilt = parts::rebuilt(alloc, document, cut)?;
@@ -85,6 +96,13 @@ fn parsed(alloc: Global, document: &CompactDoc) -> Result<String> {
         );
     }
     Ok(text)
+}
+
+// Why there is no document of a JSON object. The error is let go.
+fn refused(alloc: Global, error: DocParsingError) -> Result<String> {
+    let answer = refusal(alloc, &error);
+    drop(error);
+    answer
 }
 
 // Why there is no document of a JSON object.
@@ -114,7 +132,18 @@ fn named(alloc: Global, from: &str, to: &str, calls: &[&str]) -> Result<String> 
     let from = schemas::schema(alloc, from)?;
     let document = builder::document(alloc, calls)?;
     let names = document.to_named_doc(alloc, &from)?;
-    let made = converted(alloc, &from, to, &document, &names)?;
+    named_shown(alloc, &from, to, &document, &names)
+}
+
+// The values by their names, and the document that these make.
+fn named_shown(
+    alloc: Global,
+    from: &Schema,
+    to: &str,
+    document: &CompactDoc,
+    names: &NamedFieldDocument,
+) -> Result<String> {
+    let made = converted(alloc, from, to, document, names)?;
     Ok(format!(in alloc; "{:?}\t{made}", names.0)?)
 }
 
@@ -155,8 +184,7 @@ fn copy(alloc: Global, calls: &[&str]) -> Result<String> {
 
 // A value with its type.
 fn typed(alloc: Global, value: CompactDocValue<'_>) -> Result<String> {
-    let owned = OwnedValue::from_value(alloc, &value)?;
-    Ok(format!(in alloc; "{owned:?}")?)
+    words::debug(alloc, OwnedValue::from_value(alloc, &value)?)
 }
 
 // Appends a value with its type.
@@ -210,13 +238,17 @@ fn values(alloc: Global, calls: &[&str]) -> Result<String> {
 fn tabbed_json(alloc: Global, value: CompactDocValue<'_>) -> Result<String> {
     let mut text = String::from_str(alloc, "\t")?;
     push_json(alloc, &mut text, value)?;
-    let json = to_json_value(alloc, value)?;
-    let owned = OwnedValue::from_value(alloc, &value)?;
-    let is_same = owned.to_json_value(alloc)? == json;
-    let printed = format!(in alloc; "\t{}", json.to_string(alloc)?)?;
-    ensure!(
-        is_same && text == printed,
-        "the JSON values of a value differ"
-    );
+    let printed = words::json_text(alloc, to_json_value(alloc, value)?)?;
+    let is_printed = text.as_str().strip_prefix('\t') == Some(printed.as_str());
+    let is_same = words::are_equal(to_json_value(alloc, value), json_of_copy(alloc, value));
+    ensure!(is_same && is_printed, "the JSON values of a value differ");
     Ok(text)
+}
+
+// The JSON value of a copy of a value.
+fn json_of_copy(alloc: Global, value: CompactDocValue<'_>) -> Result<JsonValue, AllocError> {
+    let copy = OwnedValue::from_value(alloc, &value)?;
+    let json = copy.to_json_value(alloc);
+    drop(copy);
+    json
 }

@@ -36,7 +36,7 @@ fn of_text(alloc: Global, word: &str) -> Result<String> {
     let text = words::text(alloc, word)?;
     match Facet::from_text(alloc, text.as_str()) {
         Ok(facet) => shown(alloc, &facet),
-        Err(error) => words::error(alloc, &error),
+        Err(error) => words::error(alloc, error),
     }
 }
 

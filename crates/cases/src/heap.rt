@@ -14,6 +14,7 @@ use tv_format::version::WriteVersion;
 use tv_heap::len::leaf_len;
 use tv_heap::place::Place;
 use tv_heap::value_type::ValueType;
+use tv_value::owned_value::OwnedValue;
 use tv_value::value::Value;
 
 // What stands at the places of lists that are open.
@@ -116,7 +117,14 @@ fn shown(alloc: Global, heap: &[u8], place: Place) -> Result<String> {
 // The type of a value without children in a heap, and how many bytes it takes there.
 fn leaf(alloc: Global, word: &str) -> Result<String> {
     let value = builder::value(alloc, word)?;
-    let leaf = (&value).as_leaf().context("a value without children")?;
+    let answer = leaf_shown(alloc, &value);
+    drop(value);
+    answer
+}
+
+// The type of a value without children, and how many bytes it takes.
+fn leaf_shown(alloc: Global, value: &OwnedValue) -> Result<String> {
+    let leaf = value.as_leaf().context("a value without children")?;
     let value_type = ValueType::from(&leaf);
     let length = leaf_len(&leaf).context("a length")?;
     Ok(format!(in alloc; "{value_type:?} {length}")?)
@@ -126,7 +134,7 @@ fn leaf(alloc: Global, word: &str) -> Result<String> {
 fn type_of_bytes(alloc: Global, bytes: &[u8]) -> Result<String> {
     match ValueType::deserialize(alloc, &mut SliceSource::new(bytes)) {
         Ok(read) => value_type(alloc, read),
-        Err(error) => words::error(alloc, &error),
+        Err(error) => words::error(alloc, error),
     }
 }
 

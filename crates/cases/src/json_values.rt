@@ -2,9 +2,10 @@
 
 use crate::schemas;
 use anyhow::{Context, Result, anyhow};
+use case_words as words;
 use serde_json::Value as JsonValue;
 use std::alloc::Global;
-use tv_field::ValueParsingError;
+use tv_field::{FieldType, ValueParsingError};
 
 /// What a JSON value is to the first field of a schema: the value with its type, or the refusal.
 pub fn answer(alloc: Global, call: &[&str]) -> Result<String> {
@@ -13,11 +14,22 @@ pub fn answer(alloc: Global, call: &[&str]) -> Result<String> {
     };
     let schema = schemas::schema(alloc, description)?;
     let (_, entry) = schema.fields().next().context("a field")?;
-    let json = JsonValue::from_str(alloc, json)?;
-    match entry.field_type().value_from_json(alloc, json) {
-        Ok(value) => Ok(format!(in alloc; "{value:?}")?),
-        Err(error) => Ok(format!(in alloc; "error {}", refusal(alloc, &error)?.as_str())?),
+    told(alloc, entry.field_type(), JsonValue::from_str(alloc, json)?)
+}
+
+// What a JSON value is to a field of this type.
+fn told(alloc: Global, field_type: &FieldType, json: JsonValue) -> Result<String> {
+    match field_type.value_from_json(alloc, json) {
+        Ok(value) => words::debug(alloc, value),
+        Err(error) => refused(alloc, error),
     }
+}
+
+// The answer of a value that is refused.
+fn refused(alloc: Global, error: ValueParsingError) -> Result<String> {
+    let reason = refusal(alloc, &error);
+    drop(error);
+    Ok(format!(in alloc; "error {}", reason?.as_str())?)
 }
 
 /// The name of a refusal, and what it says.

@@ -131,7 +131,7 @@ fn read_one<S: ByteSource>(alloc: Global, source: &mut S, kind: &str) -> Result<
     match kind {
         "vint" => match VInt::deserialize(alloc, source) {
             Ok(number) => words::plain(alloc, &number.0),
-            Err(error) => words::error(alloc, &error),
+            Err(error) => words::error(alloc, error),
         },
         "u8" => words::told(alloc, u8::deserialize(alloc, source)),
         "u32" => words::told(alloc, u32::deserialize(alloc, source)),
@@ -148,15 +148,15 @@ fn read_bytes<S: ByteSource>(alloc: Global, source: &mut S, kind: &str) -> Resul
     match kind {
         "text" => match String::deserialize(alloc, source) {
             Ok(text) => words::quoted(alloc, text.as_str()),
-            Err(error) => words::error(alloc, &error),
+            Err(error) => words::error(alloc, error),
         },
         "bytes" => match Vec::deserialize(alloc, source) {
             Ok(bytes) => words::digits(alloc, &bytes),
-            Err(error) => words::error(alloc, &error),
+            Err(error) => words::error(alloc, error),
         },
         "facet" => match Facet::deserialize(alloc, source) {
             Ok(facet) => words::quoted(alloc, facet.encoded_str()),
-            Err(error) => words::error(alloc, &error),
+            Err(error) => words::error(alloc, error),
         },
         _ => Err(anyhow!("an unknown kind of value")),
     }

@@ -1,8 +1,10 @@
 //! Options of fields, made of flags and by setters, and the types of values.
 
+use crate::schemas;
 use anyhow::{Context, Result, anyhow, ensure};
 use case_words as words;
 use case_words::parts::{Part, push_parts};
+use serde_json::Value;
 use std::alloc::Global;
 use tv_date::DateTimePrecision;
 use tv_field::{FieldEntry, FieldType};
@@ -30,7 +32,9 @@ fn of_steps(alloc: Global, kind: &str, steps: &str) -> Result<String> {
     for step in steps.split(' ') {
         field_type = changed(alloc, field_type, step)?;
     }
-    shown(alloc, field_type)
+    let answer = shown(alloc, &field_type);
+    drop(field_type);
+    answer
 }
 
 // How two record options compare, and the lesser of both.
@@ -43,10 +47,17 @@ fn compared_records(alloc: Global, one: &str, other: &str) -> Result<String> {
 
 // The name of a tokenizer, and whether it is the default.
 fn tokenizer(alloc: Global, word: &str) -> Result<String> {
-    let text = words::text(alloc, word)?;
-    let name = TokenizerName::from_name(alloc, text.as_str())?;
-    ensure!(name.try_clone(alloc)? == name, "a copy is not equal");
-    let is_default = name == TokenizerName::default();
+    let name = TokenizerName::from_name(alloc, words::text(alloc, word)?.as_str())?;
+    let answer = tokenizer_shown(alloc, &name);
+    drop(name);
+    answer
+}
+
+// The name in quotes, and whether it is the default. A copy has to be equal.
+fn tokenizer_shown(alloc: Global, name: &TokenizerName) -> Result<String> {
+    let is_copied = words::is_equal(name, name.try_clone(alloc)?);
+    ensure!(is_copied, "a copy is not equal");
+    let is_default = words::is_equal(name, TokenizerName::default());
     let name = words::quoted(alloc, name.name())?;
     Ok(format!(in alloc; "{name} {is_default}")?)
 }
@@ -201,15 +212,46 @@ fn changed_text(
         "stored" => options.set_stored(),
         "coerce" => options.set_coerce(),
         "fast" => options.set_fast(alloc, tokenizer_name)?,
-        "frequencies" => options.set_indexing_options(frequencies(alloc, tokenizer_name)?),
+        "frequencies" => return text_with(options, frequencies(alloc, tokenizer_name)),
         "|text" => options | TEXT,
         "|string" => options | STRING,
         "stored|" => STORED | options,
-        "|fast" => options | TextOptions::default().set_fast(alloc, tokenizer_name)?,
+        "|fast" => return text_and_fast(alloc, options, tokenizer_name),
         "|stored+coerce" => options | (STORED | COERCE),
         "|stored+coerce+fast" => options | (STORED | COERCE | FAST),
-        _ => return Err(anyhow!("an unknown step")),
+        _ => return unknown_step(options),
     }))
+}
+
+// The refusal of a step. The options are let go.
+fn unknown_step<T: Drop>(_options: T) -> Result<FieldType> {
+    Err(anyhow!("an unknown step"))
+}
+
+// Texts that are indexed so.
+fn text_with(options: TextOptions, indexing: Result<TextFieldIndexing>) -> Result<FieldType> {
+    match indexing {
+        Ok(indexing) => Ok(FieldType::Str(options.set_indexing_options(indexing))),
+        Err(error) => {
+            drop(options);
+            Err(error)
+        }
+    }
+}
+
+// Texts with their options, and those of a fast field by a tokenizer.
+fn text_and_fast(
+    alloc: Global,
+    options: TextOptions,
+    tokenizer_name: Option<&str>,
+) -> Result<FieldType> {
+    match TextOptions::default().set_fast(alloc, tokenizer_name) {
+        Ok(fast) => Ok(FieldType::Str(options | fast)),
+        Err(error) => {
+            drop(options);
+            Err(error.into())
+        }
+    }
 }
 
 // JSON objects, with their options changed by one step, which may name a tokenizer.
@@ -222,7 +264,7 @@ fn changed_json(
     Ok(FieldType::JsonObject(match step {
         "dots" => options.set_expand_dots_enabled(),
         "fast" => options.set_fast(alloc, tokenizer_name)?,
-        "frequencies" => options.set_indexing_options(frequencies(alloc, tokenizer_name)?),
+        "frequencies" => return json_with(options, frequencies(alloc, tokenizer_name)),
         "|text" => options | TEXT,
         "|string" => options | STRING,
         "|stored|text" => options | (STORED | TEXT),
@@ -230,8 +272,19 @@ fn changed_json(
         "|stored" => options | STORED,
         "|fast" => options | FAST,
         "|fast+stored" => options | (FAST | STORED),
-        _ => return Err(anyhow!("an unknown step")),
+        _ => return unknown_step(options),
     }))
+}
+
+// JSON objects whose texts are indexed so.
+fn json_with(options: JsonObjectOptions, indexing: Result<TextFieldIndexing>) -> Result<FieldType> {
+    match indexing {
+        Ok(indexing) => Ok(FieldType::JsonObject(options.set_indexing_options(indexing))),
+        Err(error) => {
+            drop(options);
+            Err(error)
+        }
+    }
 }
 
 // Indexing by the tokenizer of this name, of documents and frequencies, without field norms.
@@ -246,10 +299,10 @@ fn frequencies(alloc: Global, tokenizer_name: Option<&str>) -> Result<TextFieldI
 }
 
 // The options as JSON, and which queries of the field's type hold.
-fn shown(alloc: Global, field_type: FieldType) -> Result<String> {
-    let copy = field_type.try_clone(alloc)?;
-    ensure!(copy == field_type, "a copy is not equal");
-    let mut answer = json(alloc, copy)?;
+fn shown(alloc: Global, field_type: &FieldType) -> Result<String> {
+    let is_copied = words::is_equal(field_type, field_type.try_clone(alloc)?);
+    ensure!(is_copied, "a copy is not equal");
+    let mut answer = json(alloc, field_type)?;
     let queries = [
         ("stored", Part::from(field_type.is_stored())),
         ("indexed", Part::from(field_type.is_indexed())),
@@ -261,11 +314,26 @@ fn shown(alloc: Global, field_type: FieldType) -> Result<String> {
 }
 
 // The options of a field as they stand in the JSON of its schema.
-fn json(alloc: Global, field_type: FieldType) -> Result<String> {
-    let entry = FieldEntry::new(String::from_str(alloc, "f")?, field_type)?;
+fn json(alloc: Global, field_type: &FieldType) -> Result<String> {
+    let schema = schema_of(alloc, field_type)?.to_json_value(alloc)?;
+    let answer = options_of(alloc, &schema);
+    drop(schema);
+    answer
+}
+
+// The schema of one field of this type.
+fn schema_of(alloc: Global, field_type: &FieldType) -> Result<Schema> {
+    let name = String::from_str(alloc, "f")?;
+    let entry = FieldEntry::new(name, field_type.try_clone(alloc)?)?;
     let mut builder = Schema::builder(alloc);
-    builder.add_field(entry)?;
-    let schema = builder.build()?.to_json_value(alloc)?;
+    match builder.add_field(entry) {
+        Ok(_) => schemas::built(builder, Ok(())),
+        Err(error) => schemas::built(builder, Err(error.into())),
+    }
+}
+
+// The options of the first field in the JSON of a schema.
+fn options_of(alloc: Global, schema: &Value) -> Result<String> {
     let options = schema.pointer("/0/options").context("options")?;
     Ok(options.to_string(alloc)?)
 }

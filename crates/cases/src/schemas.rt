@@ -39,19 +39,44 @@ pub fn answer(alloc: Global, call: &[&str]) -> Result<String> {
 pub fn schema(alloc: Global, word: &str) -> Result<Schema> {
     let description = description_of(word);
     let json = Value::from_str(alloc, description)?;
-    if description.starts_with("[\"") {
-        return schema_of_texts(alloc, &json);
-    }
-    Ok(Schema::from_json_value(alloc, &json)?)
+    let schema = if description.starts_with("[\"") {
+        schema_of_texts(alloc, &json)
+    } else {
+        schema_of_json(alloc, &json)
+    };
+    drop(json);
+    schema
+}
+
+// The schema of a description.
+fn schema_of_json(alloc: Global, description: &Value) -> Result<Schema> {
+    Ok(Schema::from_json_value(alloc, description)?)
 }
 
 // The schema of fields of texts with these names.
 fn schema_of_texts(alloc: Global, names: &Value) -> Result<Schema> {
     let mut builder = Schema::builder(alloc);
+    let outcome = add_texts(&mut builder, names);
+    built(builder, outcome)
+}
+
+// Adds fields of texts with these names.
+fn add_texts(builder: &mut SchemaBuilder, names: &Value) -> Result<()> {
     for name in names.as_array().context("a list of names")? {
         builder.add_text_field(name.as_str().context("a name")?, TEXT)?;
     }
-    Ok(builder.build()?)
+    Ok(())
+}
+
+/// The schema of a builder, if all went well before.
+pub fn built(builder: SchemaBuilder, outcome: Result<()>) -> Result<Schema> {
+    match outcome {
+        Ok(()) => Ok(builder.build()?),
+        Err(error) => {
+            drop(builder);
+            Err(error)
+        }
+    }
 }
 
 // The description that a word stands for: that of a field of each type for `types`, and else the word itself.
@@ -62,9 +87,11 @@ fn description_of(word: &str) -> &str {
 // The JSON of the schema that a description describes, or the refusal.
 fn described(alloc: Global, word: &str) -> Result<String> {
     let description = Value::from_str(alloc, description_of(word))?;
-    match Schema::from_json_value(alloc, &description) {
+    let made = Schema::from_json_value(alloc, &description);
+    drop(description);
+    match made {
         Ok(schema) => described_again(alloc, &schema),
-        Err(error) => words::error(alloc, &error),
+        Err(error) => words::error(alloc, error),
     }
 }
 
@@ -80,26 +107,33 @@ fn described_again(alloc: Global, schema: &Schema) -> Result<String> {
 
 /// The JSON of a schema.
 pub fn printed(alloc: Global, schema: &Schema) -> Result<String> {
-    Ok(schema.to_json_value(alloc)?.to_string(alloc)?)
+    words::json_text(alloc, schema.to_json_value(alloc)?)
 }
 
 // The schema whose fields are added by the calls of their types.
 fn added_again(alloc: Global, schema: &Schema) -> Result<Schema> {
     let mut builder = Schema::builder(alloc);
+    let outcome = add_fields(alloc, &mut builder, schema);
+    built(builder, outcome)
+}
+
+// Adds the fields of a schema by the calls of their types.
+fn add_fields(alloc: Global, builder: &mut SchemaBuilder, schema: &Schema) -> Result<()> {
     for (_, entry) in schema.fields() {
         check_entry(alloc, entry)?;
         let field_type = entry.field_type().try_clone(alloc)?;
-        add_field(&mut builder, entry.name(), field_type)?;
+        add_field(builder, entry.name(), field_type)?;
     }
-    Ok(builder.build()?)
+    Ok(())
 }
 
 // Checks that a copy of an entry is the same, and that the call of its type makes the same.
 fn check_entry(alloc: Global, entry: &FieldEntry) -> Result<()> {
-    let copy = entry.try_clone(alloc)?;
+    let is_copied = words::is_equal(entry, entry.try_clone(alloc)?);
     let name = String::from_str(alloc, entry.name())?;
     let made = new_entry(name, entry.field_type().try_clone(alloc)?)?;
-    ensure!(copy == *entry && made == *entry, "another entry is made");
+    let is_made = words::is_equal(entry, made);
+    ensure!(is_copied && is_made, "another entry is made");
     Ok(())
 }
 
@@ -204,7 +238,7 @@ fn field(alloc: Global, description: &str, word: &str) -> Result<String> {
 fn field_named(alloc: Global, schema: &Schema, name: &str) -> Result<String> {
     match schema.get_field(name) {
         Ok(field) => words::plain(alloc, &field.field_id()),
-        Err(error) => words::error(alloc, &error),
+        Err(error) => words::error(alloc, error),
     }
 }
 
@@ -245,17 +279,28 @@ fn found(alloc: Global, field_and_rest: Option<(Field, &str)>) -> Result<String>
 
 // The numbers or the refusals of fields of texts that are added, and the JSON of the schema that they make.
 fn add(alloc: Global, names: &[&str]) -> Result<String> {
-    let mut builder = Schema::builder(alloc);
     let mut text = String::new(alloc);
+    let mut builder = Schema::builder(alloc);
+    let outcome = push_added(alloc, &mut builder, names, &mut text);
+    let schema = built(builder, outcome)?;
+    text.push_str(printed(alloc, &schema)?.as_str())?;
+    Ok(text)
+}
+
+// Adds fields of texts, and puts their numbers or refusals behind a text. A builder has to be printed as something.
+fn push_added(
+    alloc: Global,
+    builder: &mut SchemaBuilder,
+    names: &[&str],
+    text: &mut String,
+) -> Result<()> {
     for name in names {
-        let added = added(alloc, &mut builder, name)?;
+        let added = added(alloc, builder, name)?;
         write!(text, "{added}\t")?;
     }
     let debug = format!(in alloc; "{builder:?}")?;
     ensure!(!debug.is_empty(), "nothing is printed of a builder");
-    let json = printed(alloc, &builder.build()?)?;
-    text.push_str(json.as_str())?;
-    Ok(text)
+    Ok(())
 }
 
 /// Adds a field of texts, and returns what that call answers.
@@ -272,7 +317,7 @@ pub fn add_text(
 fn added(alloc: Global, builder: &mut SchemaBuilder, word: &str) -> Result<String> {
     match add_text(alloc, builder, word)? {
         Ok(field) => words::plain(alloc, &field.field_id()),
-        Err(error) => words::error(alloc, &error),
+        Err(error) => words::error(alloc, error),
     }
 }
 
@@ -281,7 +326,10 @@ fn name_answer(alloc: Global, word: &str) -> Result<String> {
     let name = words::text(alloc, word)?;
     let is_valid = is_valid_field_name(name.as_str());
     let answer = match FieldEntry::new_text(name, TEXT) {
-        Ok(_) => format!(in alloc; "{is_valid}"),
+        Ok(entry) => {
+            drop(entry);
+            format!(in alloc; "{is_valid}")
+        }
         Err(error) => format!(in alloc; "{is_valid}\terror {error:?}"),
     };
     Ok(answer?)
@@ -290,6 +338,6 @@ fn name_answer(alloc: Global, word: &str) -> Result<String> {
 // Whether two schemas are equal. A copy has to be equal.
 fn equal(alloc: Global, one: &str, other: &str) -> Result<String> {
     let (one, other) = (schema(alloc, one)?, schema(alloc, other)?);
-    ensure!(one.clone()? == one, "a copy is not equal");
+    ensure!(words::is_equal(&one, one.clone()?), "a copy is not equal");
     words::plain(alloc, &(one == other))
 }

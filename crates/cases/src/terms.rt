@@ -1,12 +1,12 @@
 //! Terms, and the values that are read back from them.
 
+use crate::schemas;
 use anyhow::{Context, Result, anyhow, ensure};
 use case_words as words;
 use case_words::leaves;
 use case_words::parts::{Part, push_parts};
 use std::alloc::{AllocError, Global};
 use std::fmt::Write;
-use tv_schema::Schema;
 use tv_term::laws::{
     fast_types_are_of_eight_bytes, fast_values_are_ordered_as_numbers, fast_values_are_read_back,
 };
@@ -35,8 +35,11 @@ pub fn answer(alloc: Global, call: &[&str]) -> Result<String> {
 
 // The term of a field and a value.
 fn of_value(alloc: Global, field: &str, kind: &str, value: &str) -> Result<String> {
+    let field = words::field(field)?;
     let value = leaves::leaf(alloc, kind, value)?;
-    shown(alloc, &term_of(alloc, words::field(field)?, &value)?)
+    let term = term_of(alloc, field, &value);
+    drop(value);
+    shown(alloc, &term?)
 }
 
 // The term of a date that is searched for.
@@ -58,16 +61,20 @@ fn of_path(
     appended: &[&str],
 ) -> Result<String> {
     let (field, path) = (words::field(field)?, words::text(alloc, path)?);
-    let made = Term::from_field_json_path(alloc, field, path.as_str(), dots == "expanded");
-    match (made, appended) {
-        (Ok(term), []) => shown(alloc, &term),
-        (Ok(mut term), [kind, value]) => {
-            append(alloc, &mut term, kind, value)??;
-            shown(alloc, &term)
-        }
-        (Ok(_), _) => Err(anyhow!("an unknown value")),
-        (Err(error), _) => words::error(alloc, &error),
+    match Term::from_field_json_path(alloc, field, path.as_str(), dots == "expanded") {
+        Ok(term) => of_appended(alloc, term, appended),
+        Err(error) => words::error(alloc, error),
     }
+}
+
+// The term to which a value is appended, if there is one.
+fn of_appended(alloc: Global, mut term: Term, appended: &[&str]) -> Result<String> {
+    match appended {
+        [] => {}
+        [kind, value] => append(alloc, &mut term, kind, value)??,
+        _ => return Err(anyhow!("an unknown value")),
+    }
+    shown(alloc, &term)
 }
 
 // The term of bytes.
@@ -75,7 +82,7 @@ fn of_bytes(alloc: Global, digits: &str) -> Result<String> {
     let bytes = words::bytes(alloc, digits)?;
     match Term::wrap(alloc, &bytes) {
         Ok(term) => shown(alloc, &term),
-        Err(error) => words::error(alloc, &error),
+        Err(error) => words::error(alloc, error),
     }
 }
 
@@ -84,7 +91,7 @@ fn value_of_bytes(alloc: Global, digits: &str) -> Result<String> {
     let bytes = words::bytes(alloc, digits)?;
     match ValueBytes::wrap(&bytes) {
         Ok(value) => shown_value(alloc, &value),
-        Err(error) => words::error(alloc, &error),
+        Err(error) => words::error(alloc, error),
     }
 }
 
@@ -119,12 +126,20 @@ fn append(
     kind: &str,
     value: &str,
 ) -> Result<Result<(), AllocError>> {
-    Ok(match leaves::leaf(alloc, kind, value)? {
+    let value = leaves::leaf(alloc, kind, value)?;
+    let outcome = append_value(term, &value);
+    drop(value);
+    outcome
+}
+
+// Appends a value to a term, and returns what that call answers.
+fn append_value(term: &mut Term, value: &OwnedValue) -> Result<Result<(), AllocError>> {
+    Ok(match value {
         OwnedValue::Str(text) => term.append_type_and_str(text.as_str()),
-        OwnedValue::U64(number) => term.append_type_and_fast_value(number),
-        OwnedValue::I64(number) => term.append_type_and_fast_value(number),
-        OwnedValue::Bool(truth) => term.append_type_and_fast_value(truth),
-        OwnedValue::Date(date) => term.append_type_and_fast_value(date),
+        OwnedValue::U64(number) => term.append_type_and_fast_value(*number),
+        OwnedValue::I64(number) => term.append_type_and_fast_value(*number),
+        OwnedValue::Bool(truth) => term.append_type_and_fast_value(*truth),
+        OwnedValue::Date(date) => term.append_type_and_fast_value(*date),
         _ => return Err(anyhow!("a value that isn't appended")),
     })
 }
@@ -196,8 +211,7 @@ fn push_path(alloc: Global, answer: &mut String, value: &ValueBytes<'_>) -> Resu
 
 // The name of a term's field in a schema, and the term's path.
 fn full_path(alloc: Global, schema: &str, term: &Term) -> Result<String> {
-    let json = serde_json::Value::from_str(alloc, schema)?;
-    let schema = Schema::from_json_value(alloc, &json)?;
+    let schema = schemas::schema(alloc, schema)?;
     ensure!(schema.has_field(term.field()), "a field of the schema");
     words::quoted(alloc, term.get_full_path(alloc, &schema)?.as_str())
 }
@@ -245,8 +259,22 @@ fn fill(term: &mut Term, start: usize, byte: u8) -> Result<()> {
 // The type of two fast values, their numbers, and how the values and the numbers compare.
 fn fast_values(alloc: Global, kind: &str, one: &str, other: &str) -> Result<String> {
     let one = leaves::leaf(alloc, kind, one)?;
+    let answer = fast_with(alloc, &one, kind, other);
+    drop(one);
+    answer
+}
+
+// The same of a value and of one that a word stands for.
+fn fast_with(alloc: Global, one: &OwnedValue, kind: &str, other: &str) -> Result<String> {
     let other = leaves::leaf(alloc, kind, other)?;
-    match (&one, &other) {
+    let answer = fast_pair(alloc, one, &other);
+    drop(other);
+    answer
+}
+
+// The same of two values.
+fn fast_pair(alloc: Global, one: &OwnedValue, other: &OwnedValue) -> Result<String> {
+    match (one, other) {
         (OwnedValue::I64(one), OwnedValue::I64(other)) => compared(alloc, *one, *other),
         (OwnedValue::U64(one), OwnedValue::U64(other)) => compared(alloc, *one, *other),
         (OwnedValue::Bool(one), OwnedValue::Bool(other)) => compared(alloc, *one, *other),

@@ -14,13 +14,23 @@ pub fn answer(alloc: Global, call: &[&str]) -> Result<String> {
     match call {
         ["read", digits] => {
             let bytes = words::bytes(alloc, digits)?;
-            match PreTokenizedStr::from_payload(&bytes) {
-                Some((text, length)) => shown(alloc, text, length),
-                None => words::none(alloc),
-            }
+            read(alloc, &bytes)
         }
-        ["same", kept, encoded] => same(alloc, &tokenized(alloc, kept)?, encoded),
+        ["same", kept, encoded] => {
+            let kept = tokenized(alloc, kept)?;
+            let answer = same(alloc, &kept, encoded);
+            drop(kept);
+            answer
+        }
         _ => Err(anyhow!("an unknown call about texts with tokens")),
+    }
+}
+
+// The text that bytes encode.
+fn read(alloc: Global, bytes: &[u8]) -> Result<String> {
+    match PreTokenizedStr::from_payload(bytes) {
+        Some((text, length)) => shown(alloc, text, length),
+        None => words::none(alloc),
     }
 }
 
@@ -28,32 +38,48 @@ pub fn answer(alloc: Global, call: &[&str]) -> Result<String> {
 fn same(alloc: Global, kept: &PreTokenizedString, digits: &str) -> Result<String> {
     let bytes = words::bytes(alloc, digits)?;
     let (encoded, _) = PreTokenizedStr::from_payload(&bytes).context("a payload")?;
-    let copy = encoded.to_owned_string(alloc)?;
     let lent = PreTokenizedStr::from_string(kept);
     let (one_way, other_way) = (lent == encoded, encoded == lent);
-    ensure!((*kept == copy) == one_way, "copies compare otherwise");
+    let (kept_way, lent_way) = compared(kept, encoded.to_owned_string(alloc)?);
     ensure!(
-        (lent == PreTokenizedStr::from_string(&copy)) == one_way,
+        kept_way == one_way && lent_way == one_way,
         "copies compare otherwise"
     );
     Ok(format!(in alloc; "{one_way} {other_way}")?)
 }
 
+// Whether a text is equal to another one, kept and lent. The other one is let go.
+fn compared(kept: &PreTokenizedString, other: PreTokenizedString) -> (bool, bool) {
+    let lent = PreTokenizedStr::from_string(kept);
+    let is_lent = lent == PreTokenizedStr::from_string(&other);
+    (words::is_equal(kept, other), is_lent)
+}
+
 // How many bytes encode a text, how many tokens it has, whether it has none, and the text with its tokens.
 fn shown(alloc: Global, text: PreTokenizedStr<'_>, length: usize) -> Result<String> {
-    let kept = text.to_owned_string(alloc)?;
-    ensure!(
-        kept.try_clone(alloc)? == kept,
-        "a copy of a text is not equal"
-    );
-    for token in kept.tokens.iter() {
-        ensure!(
-            token.try_clone(alloc)? == *token,
-            "a copy of a token is not equal"
-        );
-    }
     let (count, is_empty) = (text.len(), text.is_empty());
     let mut answer = format!(in alloc; "{length} {count} {is_empty} ")?;
-    push_json(alloc, &mut answer, &OwnedValue::PreTokStr(kept))?;
+    push_kept(alloc, &mut answer, text.to_owned_string(alloc)?)?;
     Ok(answer)
+}
+
+// Appends a text with its tokens as JSON, and lets it go.
+fn push_kept(alloc: Global, answer: &mut String, kept: PreTokenizedString) -> Result<()> {
+    let checked = check_copies(alloc, &kept);
+    let value = OwnedValue::PreTokStr(kept);
+    let outcome = push_json(alloc, answer, &value);
+    drop(value);
+    checked?;
+    Ok(outcome?)
+}
+
+// Checks that copies of a text and of its tokens are equal to these.
+fn check_copies(alloc: Global, kept: &PreTokenizedString) -> Result<()> {
+    let is_copied = words::is_equal(kept, kept.try_clone(alloc)?);
+    ensure!(is_copied, "a copy of a text is not equal");
+    for token in kept.tokens.iter() {
+        let is_copied = words::is_equal(token, token.try_clone(alloc)?);
+        ensure!(is_copied, "a copy of a token is not equal");
+    }
+    Ok(())
 }

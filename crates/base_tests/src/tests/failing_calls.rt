@@ -40,28 +40,23 @@ fn first_write_fails<K: ByteSink>(
 fn first_calls_fail(rt: HostRuntime) {
     let kind = io::ErrorKind::PermissionDenied;
     let (answer, source) = first_read_fails(SliceSource::new(b"abc"), kind);
-    assert_eq!(rt; answer, Err(kind));
-    assert_eq!(rt; source.rest(), b"abc".as_slice());
+    assert_eq!(rt; (answer, source.rest()), (Err(kind), b"abc".as_slice()));
     let (answer, sink) = first_write_fails(VecSink::new(rt.alloc()), kind);
-    assert_eq!(rt; answer, Err(kind));
-    assert!(rt; sink.as_slice().is_empty());
+    assert_eq!(rt; (answer, sink.as_slice()), (Err(kind), b"".as_slice()));
 }
 
 #[test]
 fn one_read_fails(rt: HostRuntime) {
     let mut source = FaultSource::new(SliceSource::new(b"abc"), 1, io::ErrorKind::TimedOut);
     let mut buf = [0; 8];
-    assert_eq!(rt; source.read(&mut []), Ok(0));
-    assert_eq!(rt; source.calls(), 0);
+    assert_eq!(rt; (source.read(&mut []), source.calls()), (Ok(0), 0));
     assert!(rt; source.buffered().is_empty() && !source.pass(1));
     let failed = Err(io::ErrorKind::TimedOut);
     for (calls, answer) in [Ok(1), failed, Ok(1), Ok(1), Ok(0)].iter().enumerate() {
-        assert_eq!(rt; source.calls(), calls as u64);
-        assert_eq!(rt; source.read(&mut buf), *answer);
-        assert_eq!(rt; source.read(&mut []), Ok(0));
+        let read = (source.calls(), source.read(&mut buf), source.read(&mut []));
+        assert_eq!(rt; read, (calls as u64, *answer, Ok(0)));
     }
-    assert_eq!(rt; source.calls(), 5);
-    assert_eq!(rt; buf, *b"c\0\0\0\0\0\0\0");
+    assert_eq!(rt; (source.calls(), buf), (5, *b"c\0\0\0\0\0\0\0"));
     assert!(rt; source.into_inner().rest().is_empty());
 }
 
@@ -71,9 +66,8 @@ fn one_write_fails(rt: HostRuntime) {
     let mut sink = FaultSink::new(VecSink::new(rt.alloc()), 2, kind);
     assert_eq!(rt; sink.write(&[]), Ok(0));
     for (calls, answer) in [Ok(1), Ok(1), Err(kind), Ok(1)].iter().enumerate() {
-        assert_eq!(rt; sink.calls(), calls as u64);
-        assert_eq!(rt; sink.write(b"abc"), *answer);
-        assert_eq!(rt; sink.write(&[]), Ok(0));
+        let written = (sink.calls(), sink.write(b"abc"), sink.write(&[]));
+        assert_eq!(rt; written, (calls as u64, *answer, Ok(0)));
     }
     assert_eq!(rt; sink.calls(), 4);
     assert_eq!(rt; sink.into_inner().as_slice(), b"aaa".as_slice());
@@ -120,9 +114,11 @@ fn parts_are_read_up_to_the_call_that_fails(rt: HostRuntime) {
             } else {
                 Err(ReadError::Io(kind))
             };
-            assert_eq!(rt; answer, expected, "at {place}");
-            assert_eq!(rt; count, place as u64);
-            assert_eq!(rt; source.calls(), place as u64 + u64::from(!is_whole));
+            let calls = place as u64 + u64::from(!is_whole);
+            assert_eq!(rt;
+                (answer, count, source.calls()),
+                (expected, place as u64, calls)
+            );
             assert!(rt; Some(source.into_inner().rest()) == PARTS.get(place..));
         }
     }
@@ -135,12 +131,9 @@ fn parts_are_written_up_to_the_call_that_fails(rt: HostRuntime) {
             let mut sink = FaultSink::new(VecSink::new(rt.alloc()), place as u64, kind);
             let answer = write_parts(&mut sink);
             let is_whole = place == PARTS.len();
-            assert_eq!(rt;
-                answer,
-                if is_whole { Ok(()) } else { Err(kind) },
-                "at {place}"
-            );
-            assert_eq!(rt; sink.calls(), place as u64 + u64::from(!is_whole));
+            let expected = if is_whole { Ok(()) } else { Err(kind) };
+            let calls = place as u64 + u64::from(!is_whole);
+            assert_eq!(rt; (answer, sink.calls()), (expected, calls), "at {place}");
             assert!(rt; Some(sink.into_inner().as_slice()) == PARTS.get(..place));
         }
     }
@@ -162,9 +155,9 @@ fn write_failing(alloc: Global, passes: u64) -> (Result<(), io::ErrorKind>, VecS
 
 #[test]
 fn numbers_fail_with_their_call(rt: HostRuntime) -> Result<(), Fail> {
+    let full = Err(io::ErrorKind::StorageFull);
     let (written, sink) = write_failing(rt.alloc(), 3);
-    assert_eq!(rt; written, Err(io::ErrorKind::StorageFull));
-    assert_eq!(rt; sink.as_slice(), [20, 0, 0].as_slice());
+    assert_eq!(rt; (written, sink.as_slice()), (full, [20, 0, 0].as_slice()));
     let (written, sink) = write_failing(rt.alloc(), 8);
     assert_eq!(rt; written, Ok(()));
     let failed = read_failing(rt.alloc(), sink.as_slice(), 3);
