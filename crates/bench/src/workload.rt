@@ -9,15 +9,21 @@ use tantivy_schema::schema::{Field, Schema};
 use tantivy_schema::store::WriteVersion;
 
 /// A pair of a document, with a value of its own.
-#[derive(Drop)]
 pub struct Pair {
     pub field: Field,
     pub value: OwnedValue,
 }
 
+// Written here, so that a pair is let go by one call.
+impl Drop for Pair {
+    fn drop(self) {
+        let Pair { field: _, value } = self;
+        drop(value);
+    }
+}
+
 /// A schema, and the documents that it accepts: as JSON, as documents, as lists of pairs, and as stored bytes of
 /// version 2 and of version 3.
-#[derive(Drop)]
 pub struct Workload {
     pub schema: Schema,
     pub lines: Vec<String>,
@@ -25,6 +31,20 @@ pub struct Workload {
     pub pairs: Vec<Vec<Pair>>,
     pub stored: Vec<Vec<u8>>,
     pub stored_v3: Vec<Vec<u8>>,
+}
+
+// Written here, so that a workload is let go by one call.
+impl Drop for Workload {
+    fn drop(self) {
+        let Workload {
+            schema: _,
+            lines: _,
+            documents: _,
+            pairs: _,
+            stored: _,
+            stored_v3: _,
+        } = self;
+    }
 }
 
 impl Workload {
@@ -36,30 +56,45 @@ impl Workload {
         let alloc = rt.alloc();
         let mut input = BufReader::new(alloc, rt.reader())?.lines(alloc);
         let first = input.next().context("a schema on the first line")??;
-        let json = serde_json::Value::from_str(alloc, first.as_str())?;
-        let schema = Schema::from_json_value(alloc, &json)?;
-        let mut lines = Vec::new(alloc);
+        let mut workload = Workload::empty(alloc, schema_of(alloc, first.as_str())?);
         for line in input {
-            let line = line?;
-            if CompactDoc::parse_json(alloc, &schema, line.as_str()).is_ok() {
-                lines.push(line)?;
-            }
+            workload.put_accepted(alloc, line?)?;
         }
-        let documents = documents_of(alloc, &schema, lines.as_slice())?;
-        let mut pairs = Vec::new(alloc);
-        for document in &documents {
-            pairs.push(pairs_of(alloc, document)?)?;
-        }
-        let stored = stored_of(alloc, &schema, documents.as_slice(), WriteVersion::V2)?;
-        let stored_v3 = stored_of(alloc, &schema, documents.as_slice(), WriteVersion::V3)?;
-        Ok(Workload {
+        workload.fill(alloc)?;
+        Ok(workload)
+    }
+
+    // A schema without documents.
+    fn empty(alloc: Global, schema: Schema) -> Workload {
+        Workload {
             schema,
-            lines,
-            documents,
-            pairs,
-            stored,
-            stored_v3,
-        })
+            lines: Vec::new(alloc),
+            documents: Vec::new(alloc),
+            pairs: Vec::new(alloc),
+            stored: Vec::new(alloc),
+            stored_v3: Vec::new(alloc),
+        }
+    }
+
+    // Keeps a line, if it is a document of the schema.
+    fn put_accepted(&mut self, alloc: Global, line: String) -> Result<()> {
+        let is_accepted = CompactDoc::parse_json(alloc, &self.schema, line.as_str()).is_ok();
+        if is_accepted {
+            self.lines.push(line)?;
+        }
+        Ok(())
+    }
+
+    // Makes each form of the documents of the lines.
+    fn fill(&mut self, alloc: Global) -> Result<()> {
+        self.documents = documents_of(alloc, &self.schema, self.lines.as_slice())?;
+        for document in &self.documents {
+            self.pairs.push(pairs_of(alloc, document)?)?;
+        }
+        let documents = self.documents.as_slice();
+        self.stored = stored_of(alloc, &self.schema, documents, WriteVersion::V2)?;
+        self.stored_v3 = stored_of(alloc, &self.schema, documents, WriteVersion::V3)?;
+        Ok(())
     }
 
     /// How many bytes of JSON the documents have.
@@ -79,6 +114,14 @@ impl Workload {
         }
         sum
     }
+}
+
+// The schema of its JSON.
+fn schema_of(alloc: Global, text: &str) -> Result<Schema> {
+    let json = serde_json::Value::from_str(alloc, text)?;
+    let schema = Schema::from_json_value(alloc, &json);
+    drop(json);
+    Ok(schema?)
 }
 
 fn documents_of(alloc: Global, schema: &Schema, lines: &[String]) -> Result<Vec<CompactDoc>> {

@@ -33,15 +33,32 @@ fn is_array_at(entry: Option<(&str, &OwnedValue)>, key: &str) -> bool {
     entry.is_some_and(|(found, value)| found == key && value.as_array().is_some())
 }
 
+// Whether the copies of a value are equal to it.
+fn are_copies_equal(alloc: Global, value: &OwnedValue) -> Result<bool, AllocError> {
+    let made = OwnedValue::from_value(alloc, &value)?;
+    let is_made = made == *value && is_same(&&made, &value);
+    drop(made);
+    let copy = value.try_clone(alloc)?;
+    let is_copied = copy == *value;
+    drop(copy);
+    Ok(is_made && is_copied)
+}
+
+// Whether a value has two entries, both with an array at the key `k`.
+fn has_two_arrays(value: &OwnedValue) -> bool {
+    let Some(mut entries) = value.as_object() else {
+        return false;
+    };
+    is_array_at(entries.next(), "k") && is_array_at(entries.next(), "k") && entries.next().is_none()
+}
+
 #[test]
 fn values_that_hold_others(rt: HostRuntime) -> Result<(), Fail> {
     let value = nested(rt.alloc())?;
-    let made = OwnedValue::from_value(rt.alloc(), &&value)?;
-    assert!(rt; made == value && is_same(&&made, &&value));
-    assert!(rt; value.try_clone(rt.alloc())? == value);
-    let lent = &value;
-    let mut entries = lent.as_object().ok_or("an object")?;
-    assert!(rt; is_array_at(entries.next(), "k") && is_array_at(entries.next(), "k"));
-    assert!(rt; entries.next().is_none());
+    let are_equal = are_copies_equal(rt.alloc(), &value);
+    let has_two_arrays = has_two_arrays(&value);
+    drop(value);
+    assert!(rt; are_equal?);
+    assert!(rt; has_two_arrays);
     Ok(())
 }
