@@ -89,10 +89,7 @@ fn add_json(alloc: Global, text: &str, json: &str) -> Result<Option<String>> {
     if pairs.add_text(0, text).is_err() {
         return Ok(None);
     }
-    if pairs
-        .add_value(alloc, 1, &LentBorrowed::new(&json))
-        .is_err()
-    {
+    if pairs.add_value(1, &LentBorrowed::new(&json)).is_err() {
         return Ok(None);
     }
     let last = pairs.pairs.last().context("a pair")?;
