@@ -1,6 +1,7 @@
 //! Laws of documents, each the contract of a function that does nothing.
 
-ghost use Rattle.std.specs.Prelude.{◌≡◌, ◌+◌, ◌<◌, ◌≤◌, ℕ, List, [], length, IfOk, IfErr, IfSome};
+ghost use Rattle.std.specs.Prelude.{◌≡◌, ◌+◌, ◌<◌, ◌≤◌, ℕ, List, [], ◌∷◌, ◌++◌, length};
+ghost use Rattle.std.specs.Prelude.{IfOk, IfErr, IfSome};
 ghost use Rattle.tv_field.specs.Entry.{Entry};
 ghost use Rattle.tv_schema.specs.Schema.{IsSchema};
 ghost use Rattle.tv_format.specs.Short.{IsDocument};
@@ -8,7 +9,7 @@ ghost use Rattle.tv_format.specs.Tree.{Tree, Document as Pairs};
 ghost use Rattle.tv_doc.specs.declared.document.CompactDoc.{CompactDoc};
 ghost use Rattle.tv_builder.specs.State.{complete, written};
 ghost use Rattle.tv_builder.specs.StateHeap.{state_heap};
-ghost use Rattle.tv_builder.specs.TreeBytes.{tree_place};
+ghost use Rattle.tv_builder.specs.TreeBytes.{tree_heap, tree_place};
 ghost use Rattle.tv_doc.specs.declared.builder.TreeBuilder.{TreeBuilder};
 ghost use Rattle.tv_doc.specs.Builder.{built, heap_so_far, kept_heap, state_of};
 ghost use Rattle.tv_doc.specs.Additions.{Addition, Runs, Keeps, accepted};
@@ -98,13 +99,17 @@ pub fn builders_hold_their_state()
 {}
 
 /// A value that is built whole and finished leaves what its addition leaves: the same heap, byte for byte, and the same pairs at the same
-/// places. `None` where an addition or a call of the builder was refused.
+/// places. The first document is made by the addition, the second by the builder. `None` where an addition or a call of the builder was refused.
 pub fn built_values_are_as_added<'a, V: Value<'a>>(
     alloc: Global,
     document: &CompactDoc,
     field: Field,
     value: &V,
 ) -> Option<(CompactDoc, CompactDoc)>
+    ensures added_bytes { IfSome result (λ made. heap_of made.0
+        ≡ tree_heap (heap_of document.now) (V.tree value.now)) }
+    ensures added_pair { IfSome result (λ made. document_of made.0
+        ≡ document_of document.now ++ (field.id, V.tree value.now) ∷ []) }
     ensures heap { IfSome result (λ made. heap_of made.0 ≡ heap_of made.1) }
     ensures pairs { IfSome result (λ made. pairs_of made.0 ≡ pairs_of made.1) }
     ensures document { IfSome result (λ made. document_of made.0 ≡ document_of made.1) }
