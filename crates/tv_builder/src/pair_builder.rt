@@ -45,7 +45,8 @@ fn keep_tree(
     ensures ok { OnOk result
         (Kept building.old building.new pairs.old.items pairs.new.items kept.new field) }
     ensures err { IfErr result
-        (λ e. KeptNot building.old building.new pairs.old.items pairs.new.items kept.old kept.new e) }
+        (λ e. KeptNot building.old building.new pairs.old.items pairs.new.items
+        kept.old kept.new e) }
 {
     let Some(place) = building.complete else {
         return Err(BuildError::OutOfPlace);
