@@ -21,7 +21,9 @@ fn no_more_is_counted_than_fits(rt: HostRuntime) {
         );
         let too_long = DeserializeError::CorruptedValue(Cause::TooLong);
         match document {
-            Ok(document) => assert!(rt; is_read && document.heap.as_slice() == b"\x82ab".as_slice()),
+            Ok(document) => assert!(rt;
+                is_read && document.heap.as_slice() == b"\x82ab".as_slice()
+            ),
             Err(error) => assert!(rt; !is_read && error == too_long),
         }
         assert_eq!(rt; count, u64::MAX - room.saturating_sub(14));
