@@ -106,3 +106,8 @@ Writes_both {stop = stop} {is_known = is_known} {held = held} {failures = failur
 pub Writes_some : {S T U E R : Type 0} {stop : E → Stop R} {is_known : S → Type 0} {held : S → List ℕ} {failures : S → Failures} {old new : S} {e : E} {a text : List ℕ} (b : List ℕ)
     → WritesBy {T = T} stop is_known held failures old new (Err e) (Ok a) → text ≡ a ++ b → WritesBy {T = U} stop is_known held failures old new (Err e) (Ok text)
 Writes_some {U = U} {stop = stop} {is_known = is_known} {held = held} {failures = failures} {old = old} {new = new} {e = e} {a = a} b first same = subst (λ (l : List ℕ). WritesBy {T = U} stop is_known held failures old new (Err e) (Ok l)) (sym same) (Writes_prefix a b first)
+
+-- the same text, said otherwise
+pub Writes_as : {S T E R : Type 0} {stop : E → Stop R} {is_known : S → Type 0} {held : S → List ℕ} {failures : S → Failures} {old new : S} {result : Result T E} {a b : List ℕ}
+    → WritesBy stop is_known held failures old new result (Ok a) → a ≡ b → WritesBy stop is_known held failures old new result (Ok b)
+Writes_as {stop = stop} {is_known = is_known} {held = held} {failures = failures} {old = old} {new = new} {result = result} write same = subst (λ (l : List ℕ). WritesBy stop is_known held failures old new result (Ok l)) same write

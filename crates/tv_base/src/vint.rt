@@ -14,21 +14,7 @@ pub struct VInt(pub u64);
 
 impl VInt {
     /// The shortest encoding: so many bytes at the start of the array. What stands behind them is unspecified.
-    #[inline]
     pub fn encoding(self) -> ([u8; 10], usize)
-        ensures len { result.1 ≤ 10 }
-        ensures bytes { take result.1 result.0 ≡ vnum self.0 }
-    {
-        let mut bytes = [0; 10];
-        if self.0 < 128 {
-            bytes[0] = self.0 as u8 + 128;
-            return (bytes, 1);
-        }
-        self.long_encoding()
-    }
-
-    // The same, group by group.
-    fn long_encoding(self) -> ([u8; 10], usize)
         ensures len { result.1 ≤ 10 }
         ensures bytes { take result.1 result.0 ≡ vnum self.0 }
     {

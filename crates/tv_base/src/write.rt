@@ -87,16 +87,20 @@ pub fn write_bool<K: ByteSink>(sink: &mut K, truth: bool) -> Result<(), io::Erro
 }
 
 /// Writes the shortest encoding of a number.
-#[inline]
+// Most have one byte.
+#[inline(always)]
 pub fn write_vint<K: ByteSink>(sink: &mut K, number: u64) -> Result<(), io::ErrorKind>
     ensures { Writes K.is_known K.held K.failures sink.old sink.new result (vnum number) }
 {
+    if number < 128 {
+        return write_u8(sink, number as u8 + 128);
+    }
     let (bytes, len) = VInt(number).encoding();
     write_all(sink, &bytes[..len])
 }
 
 /// Writes bytes behind their length.
-#[inline]
+#[inline(always)]
 #[tactic(auto, using(crate::proofs::Written::Writes_then, crate::proofs::Written::Writes_prefix))]
 pub fn write_sized<K: ByteSink>(sink: &mut K, content: &[u8]) -> Result<(), io::ErrorKind>
     ensures { Writes K.is_known K.held K.failures sink.old sink.new result
@@ -107,7 +111,7 @@ pub fn write_sized<K: ByteSink>(sink: &mut K, content: &[u8]) -> Result<(), io::
 }
 
 /// Writes a text behind its length in bytes.
-#[inline]
+#[inline(always)]
 pub fn write_text<K: ByteSink>(sink: &mut K, text: &str) -> Result<(), io::ErrorKind>
     ensures { Writes K.is_known K.held K.failures sink.old sink.new result (short_sized text.now) }
 {
