@@ -54,6 +54,11 @@ pub(crate) fn is_utf8_prefix(bytes: &[u8], len: usize) -> bool
     requires { len ≤ length bytes.now }
     ensures { IsTrue result ↔ IsUtf8 (take len bytes.now) }
 {
+    // most texts are short, and are one block in a straight line
+    if len <= 64 && bytes.len() >= 64 {
+        let block = prefix_of(u8x64::from_slice(bytes), len);
+        return Checker::new().step(block).finish();
+    }
     let whole = len / 64 * 64;
     if bytes.len() - whole < 64 {
         return simdutf8::is_utf8(&bytes[..len]);
