@@ -97,13 +97,3 @@ unfolding each_at
 each_agrees {end = end} {A = A} item zero = agrees_too (λ bytes. refl) (λ bytes ys small p. none_to A bytes ys p) (none_from A) (λ bytes c small h. h) (nothing_read end [])
 each_agrees {a = a} {A = A} item (suc n) = agrees_too (λ bytes. refl) (λ bytes ys small p. each_to A n bytes ys p) (each_from A n) (λ bytes c small h. h)
     (in_turn {b = λ y bytes. each_at a n bytes >>= make (λ ys. y ∷ ys)} item (λ y. made (λ ys. y ∷ ys) (each_agrees item n)))
-
--- the number of the items, and then each
-pub counted_agrees : {F Y : Type 0} (to : Cause → F) → ((c : Cause) → to c ≡ to UnexpectedEnd → c ≡ UnexpectedEnd) → {a : List ℕ → Result (Y × List ℕ) (F × List ℕ)} {A : List ℕ → Y → Type 0} {FA : List ℕ → F → Type 0}
-    → Agrees (to UnexpectedEnd) a A FA → Agrees (to UnexpectedEnd) (counted_at to a) (Counted A) (InThen (λ bytes f. (c : Cause) × ErrorInNumber bytes c × (f ≡ to c)) VNum (InEach FA A))
-unfolding counted_at
-counted_agrees to apart {A = A} item = agrees_too (λ bytes. refl)
-    (λ bytes ys small p. record { prefix = p.1.prefix; rest = p.1.rest; joined = p.1.joined; first = subst (VNum p.1.prefix) (sym p.1.second.0) p.1.first; second = p.1.second.1 })
-    (λ bytes ys h. (length ys, record { prefix = h.prefix; rest = h.rest; joined = h.joined; first = h.first; second = (refl, h.second) }))
-    (λ bytes c small h. h)
-    (in_turn (raised to apart vint_agrees) (each_agrees item))

@@ -290,8 +290,3 @@ one_encoding {F = F} {reading = reading} agrees a b x y m n first second same =
     let q = ok_is (F × List ℕ) (m, x) (n, y) (sym (agrees.complete a m x first) ∙ ap reading same ∙ agrees.complete b n y second) in
     let rest : x ≡ y = ap (λ z. z.1) q in
     (append_cancel_right a b y (ap (λ (l : List ℕ). a ++ l) (sym rest) ∙ same), ap (λ z. z.0) q)
-
--- where a prefix is encoded, nothing is malformed
-pub no_error : {F Y : Type 0} {end : F} {reading : List ℕ → Result (Y × List ℕ) (F × List ℕ)} {Encodes : List ℕ → Y → Type 0} {HasError : List ℕ → F → Type 0}
-    → Agrees end reading Encodes HasError → (bytes rest : List ℕ) (c : F × List ℕ) (y : Y) → Encodes bytes y → reading (bytes ++ rest) ≡ Err c → ⊥
-no_error agrees bytes rest c y encodes e = let q = sym (agrees.complete bytes y rest encodes) ∙ e in absurd cc

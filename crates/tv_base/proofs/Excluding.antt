@@ -15,10 +15,6 @@ pub record Excludes {C : Type 0} (F : List ℕ → C → Type 0) (P : List ℕ �
 pub excludes_map : {C : Type 0} {F : List ℕ → C → Type 0} {P Q : List ℕ → Type 0} → ((b : List ℕ) → Q b → P b) → Excludes F P → Excludes F Q
 excludes_map f r = record { excludes = λ whole a x c p q e. r.excludes whole a x c p (f a q) e }
 
--- bytes cut in two places
-pub recut : (prefix rest a b x : List ℕ) (whole : List ℕ) → whole ≡ prefix ++ rest → whole ≡ (a ++ b) ++ x → prefix ++ rest ≡ a ++ (b ++ x)
-recut prefix rest a b x whole p q = sym p ∙ q ∙ append_assoc a b x
-
 -- where the prefixes are one, so are the rests
 pub rests : (prefix rest a y : List ℕ) → prefix ≡ a → prefix ++ rest ≡ a ++ y → rest ≡ y
 rests prefix rest a y p e = append_cancel_left a rest y (ap (λ z. z ++ rest) (sym p) ∙ e)

@@ -66,15 +66,6 @@ Written-fails {stop = stop} {held = held} {failures = failures} {old = old} {mid
   counts = CountsStop-from (stop e) (failures old) (failures mid) (failures new) h.counts write.counts;
 }
 
--- nothing is left to write
-pub Written-returns : {S T E R : Type 0} {stop : E → Stop R} {is_known : S → Type 0} {held : S → List ℕ} {failures : S → Failures} {old now : S} {text rest : List ℕ} (x : T)
-    → rest ≡ [] → Written is_known held failures old now text rest → WritesBy stop is_known held failures old now (Ok x) (Ok text)
-Written-returns {held = held} {old = old} x end h = record {
-  appends = λ told. h.appended told ∙ ap (λ (l : List ℕ). held old ++ l) (sym (h.parts ∙ ap (λ (l : List ℕ). h.done ++ l) end ∙ append-nil h.done));
-  stays_known = h.stays_known;
-  counts = h.counts;
-}
-
 -- two texts, one after the other
 pub Writes_then : {S T U E D R Q : Type 0} {stop : E → Stop R} {first_stop : D → Stop Q} {is_known : S → Type 0} {held : S → List ℕ} {failures : S → Failures} {old mid new : S} {x : T} {result : Result U E} (a b : List ℕ)
     → WritesBy first_stop is_known held failures old mid (Ok x) (Ok a) → WritesBy stop is_known held failures mid new result (Ok b) → WritesBy stop is_known held failures old new result (Ok (a ++ b))

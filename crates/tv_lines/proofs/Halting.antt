@@ -11,26 +11,12 @@ use Rattle.tv_lines.specs.declared.run_end.RunEnd.TheVariants.{Done, BadSchema, 
 use Rattle.tv_lines.specs.declared.halt.Halt.{Halt}
 use Rattle.tv_lines.specs.declared.halt.Halt.TheVariants.{Read, Write, Memory, TooLong}
 
-pub taken_none : (a : List ℕ) (n : ℕ) → Taken a a n n
-taken_none a n = record { prefix = []; joined = refl; counted = omega arith }
-
 pub taken_more : (a b c : List ℕ) (m n k : ℕ) → Taken a b m n → Taken b c n k → Taken a c m k
 taken_more a b c m n k s t = record {
   prefix = s.prefix ++ t.prefix;
   joined = s.joined ∙ ap (λ l. s.prefix ++ l) t.joined ∙ sym (append_assoc s.prefix t.prefix c);
   counted = omega (arith, s.counted, t.counted, length-append s.prefix t.prefix);
 }
-
--- nothing failed before
-pub stop_later : (stop : Stop ⊥) (f g h : Failures) → g ≡ f → CountsStop stop g h → CountsStop stop f h
-stop_later stop f g h e c = subst (λ x. CountsStop stop x h) e c
-
--- no write failed
-pub sink_rests : (e : Halt) (f g : Failures) → ((kind : ErrorKind) → e ≡ Write kind → ⊥) → g ≡ f → CountsStop (sink_stop e) f g
-sink_rests (Read kind) f g none same = same
-sink_rests (Write kind) f g none same = absurd (none kind refl)
-sink_rests Memory f g none same = same
-sink_rests TooLong f g none same = same
 
 -- ---- whole runs
 

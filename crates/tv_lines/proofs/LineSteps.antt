@@ -21,25 +21,9 @@ not_empty : (prefix rest : List ℕ) (b : ℕ) → prefix ++ b ∷ rest ≢ []
 not_empty [] rest b = λ e. cc
 not_empty (x ∷ prefix) rest b = λ e. cc
 
-pub ends_line : (input line line' unread unread' left : List ℕ) → IsUnbroken line → input ≡ line ++ (unread ++ left) → Moves unread unread' line line' true → TakesLine input line' (unread' ++ left) true
-ends_line input line line' unread unread' left whole cut moves =
-    let joined : input ≡ line' ++ 10 ∷ (unread' ++ left) =
-    cut ∙ ap (λ (l : List ℕ). line ++ (l ++ left)) moves.2 ∙ ap (λ (l : List ℕ). line ++ l) (append_assoc moves.0 (10 ∷ unread') left)
-    ∙ sym (append_assoc line moves.0 (10 ∷ (unread' ++ left))) ∙ ap (λ (l : List ℕ). l ++ 10 ∷ (unread' ++ left)) (sym moves.3) in (
-      subst (λ (l : List ℕ). l ≢ []) (sym joined) (not_empty line' (unread' ++ left) 10),
-      ended (subst IsUnbroken (sym moves.3) (unbroken-append line moves.0 whole moves.1)) joined,
-    )
-
 no_length : (line : List ℕ) → length line ≡ 0 → line ≡ []
 no_length [] e = refl
 no_length (b ∷ bs) e = absurd (omega (arith, e))
-
-pub last_line : (line : List ℕ) (more : Bool) (input rest : List ℕ) → not (eqb (length line) 0) ≡ more → IsUnbroken line → input ≡ line → rest ≡ [] → TakesLine input line rest more
-last_line line true input rest t whole same none =
-    ((λ e. eqb-false (length line) 0 (not-true _ t) (ap length (sym same ∙ e))), unended whole same none)
-last_line line false input rest t whole same none =
-    let empty : line ≡ [] = no_length line (eqb-true (length line) 0 (not-false _ t)) in
-    (same ∙ empty, empty, none)
 
 -- the first line, whether there is one or not
 pub first_of : (input line rest : List ℕ) (more : Bool) → TakesLine input line rest more → FirstLine input line rest

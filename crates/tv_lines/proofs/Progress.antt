@@ -37,9 +37,6 @@ pub record Answered (schema : List Entry) (input pending before held : List ℕ)
   pub holds : held ≡ before ++ done
   pub follows : (text : List ℕ) → AnswersOf schema pending text → AnswersOf schema input (done ++ text)
 
-pub Answered-start : (schema : List Entry) (input held : List ℕ) → Answered schema input input held held
-Answered-start schema input held = record { done = []; holds = sym (append-nil held); follows = λ text h. h }
-
 -- the answers behind this one
 behind_answer : {schema : List Entry} {pending line rest answer : List ℕ} → TakesLine pending line rest true → Answer schema line answer
     → (text : List ℕ) → AnswersOf schema rest text → AnswersOf schema pending (answer ++ 10 ∷ text)
@@ -89,15 +86,6 @@ Answered-cut {schema = schema} {input = input} {before = before} {rest = rest} {
     )
 
 -- ---- a whole run
-
-pub done_text : {input line rest : List ℕ} {schema : List Entry} (before held : List ℕ) → FirstLine input line rest → ReadsSchema line schema → Leaves (AnswersOf schema rest) before held
-    → Leaves (DoneText input) before held
-done_text {line = line} {rest = rest} {schema = schema} before held first reads leaves =
-    (leaves.0, record { line = line; rest = rest; schema = schema; first = first; reads = reads; answers = leaves.1 }, leaves.2)
-
-pub bad_schema_text : {input line rest text : List ℕ} (before held : List ℕ) → FirstLine input line rest → IsEnded (SchemaRefusal line) text → held ≡ before ++ text
-    → Leaves (BadSchemaText input) before held
-bad_schema_text {line = line} {rest = rest} {text = text} before held first refused e = (text, record { line = line; rest = rest; first = first; refused = refused }, e)
 
 pub broken_lines : {input line rest : List ℕ} {schema : List Entry} (before held : List ℕ) → FirstLine input line rest → ReadsSchema line schema
     → Leaves (PrefixOf (AnswersOf schema rest)) before held → Leaves (BrokenText input) before held

@@ -27,9 +27,6 @@ none_parted : (dot : Bool) (field : Option ℕ) (rest : List ℕ) → (IsTrue do
 none_parted true field rest h = rw (h refl) refl
 none_parted false field rest h = refl
 
-pub find-whole : (schema : List Entry) (path : List ℕ) (field : ℕ) → field_named schema path ≡ Some field → find schema path ≡ Some (field, [])
-find-whole schema path field e = rw e refl
-
 pub find-last : (schema : List Entry) (path : List ℕ) (place field : ℕ) → field_named schema path ≡ None → place < length path → IsTrue (is_splitting_dot path place) → field_of_prefix schema (take place path) ≡ Some field → ((later : ℕ) → place < later → later < length path → IsTrue (is_splitting_dot path later) → field_of_prefix schema (take later path) ≡ None) → find schema path ≡ Some (field, drop (place + 1) path)
 find-last schema path place field whole h dot prefix later =
     let here : parted_at schema path place ≡ Some (field, drop (place + 1) path) = rw (dot, prefix) refl in

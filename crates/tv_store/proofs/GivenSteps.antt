@@ -83,6 +83,3 @@ document_counts errors.AlreadyFailed old new h = h
 addition_counted : (error : AddError) (old new : Failures) → new ≡ old → CountsStop (document_stop (add_error error)) old new
 addition_counted adds.HeapFull old new same = same
 addition_counted adds.Memory old new same = same
-
-pub addition_counts : (error : AddError) (e : DeserializeError) (old new : Failures) → e ≡ add_error error → new ≡ old → CountsStop (document_stop e) old new
-addition_counts error e old new is same = subst (λ z. CountsStop (document_stop z) old new) (sym is) (addition_counted error old new same)

@@ -15,11 +15,6 @@ use Rattle.tv_store.specs.Error.{add_error}
 told_is : {T : Type 0} (result : Result T DeserializeError) (d e : DeserializeError) → result ≡ Err d → IsErrOf result e → e ≡ d
 told_is result d e p q = cc
 
--- an addition stops for want of room
-pub store_stop-add_error : (e : AddError) → store_stop (add_error e) ≡ Short
-store_stop-add_error adds.HeapFull = refl
-store_stop-add_error adds.Memory = refl
-
 heap_is_full : (e : AddError) (doc : CompactDoc) (t : Tree) → errors.HeapFull ≡ add_error e → Refuses doc t e → IsFull doc t
 heap_is_full adds.HeapFull doc t p h = h
 heap_is_full adds.Memory doc t p h = absurd (cc)

@@ -47,9 +47,6 @@ pub record CalledSoFar (values rest : List (Field × OwnedValue)) (old now : Com
   pub asked_for : map asked additions ++ map given rest ≡ map given values
   pub runs : Runs additions old now
 
-pub none_called : (values : List (Field × OwnedValue)) (old : CompactDoc) → CalledSoFar values values old old
-none_called values old = record { additions = []; asked_for = refl; runs = unchanged_same old }
-
 pub one_called : (values rest others : List (Field × OwnedValue)) (value : Field × OwnedValue) (old now next : CompactDoc) (answer : Result (Unit {0}) AddError) → CalledSoFar values rest old now → rest ≡ value ∷ others
     → Adds now next value.0.id (given value).1 answer → CalledSoFar values others old next
 one_called values rest others value old now next answer s parted h =
@@ -61,10 +58,6 @@ one_called values rest others value old now next answer s parted h =
           ∙ ap (λ l. map asked s.additions ++ map given l) (sym parted) ∙ s.asked_for;
       runs = runs_push s.additions a old now next s.runs h;
     }
-
-pub all_called : (values rest : List (Field × OwnedValue)) (old now : CompactDoc) → CalledSoFar values rest old now → rest ≡ [] → IsCalled values old now
-all_called values rest old now s none =
-    (s.additions, sym (append-nil (map asked s.additions)) ∙ ap (λ l. map asked s.additions ++ map given l) (sym none) ∙ s.asked_for, s.runs)
 
 pub kept_of : (values : List (Field × OwnedValue)) (start new : CompactDoc) → IsEmpty start → IsCalled values start new → IsKept values new
 kept_of values start new none h = record {

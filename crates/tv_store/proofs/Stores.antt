@@ -37,18 +37,6 @@ stored_fewer schema (p ∷ d) = rw (stored-cons schema p d) (fewer_case (is_stor
 no : false ≡ true → ⊥
 no e = absurd cc
 
--- a pair whose field is stored, and one whose field is not
-pub written_one : (v : Version) (schema : List Entry) (field : ℕ) (entry : Entry) (t : Tree) → slice_get schema field ≡ Some entry → true ≡ is_stored_type entry.field_type → short_pair v (field, tree_written t) ≡ written_pairs v schema ((field, t) ∷ [])
-written_one v schema field entry t found is =
-    let there : is_stored_field schema field ≡ true = ap is_stored_entry found ∙ sym is in
-    let only : stored schema ((field, t) ∷ []) ≡ (field, tree_written t) ∷ [] = stored-cons schema (field, t) [] ∙ ap (λ b. cond b ((field, tree_written t) ∷ []) []) there in
-    sym (ap (flat_map (short_pair v)) only ∙ flat_map-cons (short_pair v) (field, tree_written t) [] ∙ append-nil (short_pair v (field, tree_written t)))
-
-pub written_none : (v : Version) (schema : List Entry) (field : ℕ) (entry : Entry) (t : Tree) → slice_get schema field ≡ Some entry → false ≡ is_stored_type entry.field_type → [] ≡ written_pairs v schema ((field, t) ∷ [])
-written_none v schema field entry t found is =
-    let there : is_stored_field schema field ≡ false = ap is_stored_entry found ∙ sym is in
-    sym (ap (flat_map (short_pair v)) (stored-cons schema (field, t) [] ∙ ap (λ b. cond b ((field, tree_written t) ∷ []) []) there))
-
 next_case : (v : Version) (b : Bool) (p : ℕ × Tree) (ps : Document) → flat_map (short_pair v) (cond b (p ∷ ps) ps) ≡ flat_map (short_pair v) (cond b (p ∷ []) []) ++ flat_map (short_pair v) ps
 next_case v true p ps = flat_map-cons (short_pair v) p ps ∙ ap (λ (l : List ℕ). l ++ flat_map (short_pair v) ps) (sym (flat_map-cons (short_pair v) p [] ∙ append-nil (short_pair v p)))
 next_case v false p ps = refl

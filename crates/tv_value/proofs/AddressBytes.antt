@@ -51,14 +51,6 @@ segments_of-octets_of : (ss : List ℕ) → segments_of (octets_of ss) ≡ ss
 segments_of-octets_of [] = refl
 segments_of-octets_of (s ∷ ss) = let whole : s / 256 * 256 + s % 256 ≡ s = omega arith in ap (λ x. x ∷ segments_of (octets_of ss)) whole ∙ ap (λ xs. s ∷ xs) (segments_of-octets_of ss)
 
--- what sixteen bytes encode has these bytes
-pub to_be_bytes-from_be_bytes_16 : (bs : List ℕ) → length bs ≡ 16 → AreBytes bs → to_be_bytes w128 (from_be_bytes w128 bs) ≡ bs
-to_be_bytes-from_be_bytes_16 bs l h =
-    let cells = sixteen_items bs l in
-    let value : from_be_bytes w128 bs ≡ be_value bs = subst (λ xs. from_be_bytes w128 xs ≡ be_value xs) (sym cells) (sixteen _ _ _ _ _ _ _ _ _ _ _ _ _ _ _ _) in
-    let none : be_value bs ≡ 0 * 256 ^ length bs + be_value bs = omega arith in
-    ap (to_be_bytes w128) value ∙ ap (λ k. bytes_high_first k (be_value bs)) (sym l) ∙ ap (bytes_high_first (length bs)) none ∙ high_first 0 bs h
-
 length-octets_of : (ss : List ℕ) → length (octets_of ss) ≡ 2 * length ss
 length-octets_of [] = refl
 length-octets_of (s ∷ ss) = omega (arith, length-octets_of ss)
