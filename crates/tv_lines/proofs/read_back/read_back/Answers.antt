@@ -5,7 +5,8 @@ use Rattle.tv_legacy.specs.Legacy.{Legacy}
 use Rattle.tv_format.specs.Short.{short_document}
 use Rattle.tv_format.specs.Encoding.{Derives}
 use Rattle.tv_format.specs.Version.{V2}
-use Rattle.tv_lines.proofs.ReadingBack.{only_short, above, full_answers_none, unwritten_is}
+use Rattle.tv_lines.proofs.ReadingBack.{unwritten_is}
+use Rattle.tv_store.proofs.RoundTrips.{only_short, above, full_answers_none}
 use Rattle.tv_lines.proofs.read_back.read_back.Goals as goal
 
 pub unwritten-requires : goal.unwritten-requires
