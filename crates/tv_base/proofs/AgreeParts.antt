@@ -8,10 +8,10 @@ use Rattle.tv_base.specs.declared.cause.Cause.TheVariants.{UnexpectedEnd, NotUtf
 use Rattle.tv_base.specs.Source.{AllBytes}
 use Rattle.tv_base.specs.Stop.{◌>>=◌}
 use Rattle.tv_base.specs.Number.{VNum}
-use Rattle.tv_base.specs.Parts.{Sized, Text, Each, Counted}
-use Rattle.tv_base.specs.ErrorInPart.{InThen, InEach, ErrorInNumber, ErrorInSized, ErrorInText, in_sized, no_text}
-use Rattle.tv_base.specs.Reading.{sized_at, text_at, each_at, counted_at}
-use Rattle.tv_base.proofs.Agrees.{Agrees, InTurn, agrees_too, in_turn, make, made, chosen, nothing_read, nothing_stands, raised}
+use Rattle.tv_base.specs.Parts.{Sized, Text, Each}
+use Rattle.tv_base.specs.ErrorInPart.{InThen, InEach, ErrorInSized, ErrorInText, in_sized, no_text}
+use Rattle.tv_base.specs.Reading.{sized_at, text_at, each_at}
+use Rattle.tv_base.proofs.Agrees.{Agrees, InTurn, agrees_too, in_turn, make, made, chosen, nothing_read, nothing_stands}
 use Rattle.tv_base.proofs.AgreeWidths.{AreBytes, bytes_agree}
 use Rattle.tv_base.proofs.AgreeNumbers.{vint_agrees}
 

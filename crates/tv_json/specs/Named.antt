@@ -2,7 +2,7 @@
 use Rattle.std.specs.Prelude.{ℕ, List, [], ◌∷◌, map}
 use Rattle.std.specs.Borrow.{Bor}
 use Rattle.serde_json.specs.Data as json
-use Rattle.serde_json.specs.Data.{Data, Members, put}
+use Rattle.serde_json.specs.Data.{Data, Members}
 use Rattle.tv_format.specs.Tree.{Tree, elements}
 use Rattle.tv_value.specs.declared.field.Field.{Field}
 use Rattle.tv_json.specs.JsonOf.{elements_json}

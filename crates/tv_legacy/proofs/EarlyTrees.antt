@@ -1,5 +1,5 @@
 -- A strict prefix of an encoded value or document has the error that it ends too early.
-use Rattle.std.proofs.Common.{◌≡◌, ◌≢◌, ◌⊎◌, ℕ, zero, suc, ◌+◌, ◌<◌, ◌≤◌, List, [], ◌∷◌, ◌++◌, length, refl, sym, ap, subst, ◌∙◌, arith, append_assoc, inl, inr}
+use Rattle.std.proofs.Common.{◌≡◌, ◌≢◌, ◌⊎◌, ℕ, suc, ◌+◌, List, [], ◌∷◌, ◌++◌, length, refl, sym, ap, subst, ◌∙◌, arith, append_assoc, inl, inr}
 use Rattle.tv_base.specs.declared.cause.Cause.{Cause}
 use Rattle.tv_base.specs.declared.cause.Cause.TheVariants.{UnexpectedEnd}
 use Rattle.tv_base.specs.Number.{VNum, Fixed}
@@ -9,13 +9,13 @@ use Rattle.tv_base.proofs.Numbers.{length-fixed}
 use Rattle.tv_format.specs.Content.{Content, no_content, truth_content, unsigned_content, signed_content, wide_content, text_content, bytes_content, tokens_content, form_of}
 use Rattle.tv_format.specs.Encoding.{TokenEncoding, Tokenized, ContentBody, LeafBody, Key, Encodes, EncodesElements, EncodesEntries, EncodesPair, EncodesDocument, leaf_code}
 use Rattle.tv_format.specs.ErrorInList.{ErrorInElements, ErrorInEntries, in_next_key, in_next_value}
-use Rattle.tv_format.specs.InputError.{Refusal, corrupted, Corrupt, corrupt, ErrorInToken, ErrorInTokenized, ErrorInScaled, date_ends, no_extension, in_tokenized, ErrorInContent, ErrorInKey, key_ends, in_key, ErrorInValue, value_ends, in_leaf, in_legacy, in_count, in_element, in_entry_count, in_entry_key, in_entry, ErrorInPair, ErrorInDocument}
+use Rattle.tv_format.specs.InputError.{corrupted, Corrupt, corrupt, ErrorInToken, ErrorInTokenized, date_ends, no_extension, in_tokenized, ErrorInContent, ErrorInKey, key_ends, in_key, ErrorInValue, value_ends, in_leaf, in_legacy, in_count, in_element, in_entry_count, in_entry_key, in_entry, ErrorInPair, ErrorInDocument}
 use Rattle.tv_format.specs.Leaves.{type_of, content, form, scale}
 use Rattle.tv_format.specs.LeavesLaws.{form_of_content}
 use Rattle.tv_format.specs.declared.leaf_type.Form.TheVariants as forms
 use Rattle.tv_format.specs.Tree.{Token, Leaf, Tree, leaf, array, object, Elements, no_elements, element, element_count, Entries, no_entries, entry, entry_count, Document}
-use Rattle.tv_format.specs.Version.{Version, V1, V2, V3, Scale, Scaled, plain, thousands, entry_total}
-use Rattle.tv_legacy.proofs.EarlyParts.{Early, none_cut, Cut, within, behind, cut_at, early_then, early_each, early_number, fewer, early_fixed, early_truth, early_sized, early_text}
+use Rattle.tv_format.specs.Version.{Version, V1, V2, V3, Scale, plain, thousands, entry_total}
+use Rattle.tv_legacy.proofs.EarlyParts.{Early, none_cut, within, behind, cut_at, early_then, early_each, early_number, fewer, early_fixed, early_truth, early_sized, early_text}
 
 -- ---- what leaves hold
 

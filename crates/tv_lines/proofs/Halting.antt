@@ -1,15 +1,13 @@
 -- How often reads and writes failed, and how many bytes were taken, where a run breaks off.
-use Rattle.std.proofs.Common.{◌≡◌, ℕ, ◌+◌, ◌-◌, ◌^◌, List, [], ◌++◌, length, refl, sym, subst, ap, ◌∙◌, append_assoc, arith}
+use Rattle.std.proofs.Common.{◌≡◌, ℕ, ◌+◌, ◌-◌, ◌^◌, List, ◌++◌, sym, subst, ap, ◌∙◌, append_assoc, arith}
 use Rattle.std.proofs.lemmas.List.{length-append}
-use Rattle.std.specs.declared.io.ErrorKind.{ErrorKind}
 use Rattle.tv_base.specs.Source.{Failures}
-use Rattle.tv_base.specs.Stop.{Stop, CountsStop, Taken}
+use Rattle.tv_base.specs.Stop.{Stop, Taken}
 use Rattle.tv_base.specs.ReadsAs.{TakesMost}
-use Rattle.tv_lines.specs.Run.{sink_stop, CountsEnd, IsWhole}
+use Rattle.tv_lines.specs.Run.{CountsEnd, IsWhole}
 use Rattle.tv_lines.specs.declared.run_end.RunEnd.{RunEnd}
 use Rattle.tv_lines.specs.declared.run_end.RunEnd.TheVariants.{Done, BadSchema, Broken}
 use Rattle.tv_lines.specs.declared.halt.Halt.{Halt}
-use Rattle.tv_lines.specs.declared.halt.Halt.TheVariants.{Read, Write, Memory, TooLong}
 
 pub taken_more : (a b c : List ℕ) (m n k : ℕ) → Taken a b m n → Taken b c n k → Taken a c m k
 taken_more a b c m n k s t = record {

@@ -1,12 +1,11 @@
 -- How a line is taken in pieces, and that any input has lines and answers.
 use Rattle.std.proofs.Common.{◌≡◌, ◌≢◌, ℕ, Bool, true, false, List, [], ◌∷◌, ◌++◌, length, refl, sym, ap, ◌∙◌, subst, arith, append_assoc}
-use borrow.Author.Tests.{eqb-true, eqb-false, not-true, not-false}
+use borrow.Author.Tests.{eqb-true, eqb-false}
 use Rattle.std.proofs.Math.Dec.{eqb}
-use Rattle.std.specs.Prelude.{not}
 use Rattle.tv_lines.specs.Lines.{IsUnbroken, FirstLine, Lines}
 use Rattle.tv_lines.specs.Lines.FirstLine.{ended, unended}
 use Rattle.tv_lines.specs.Lines.Lines.{no_lines, next_line}
-use Rattle.tv_lines.specs.Reader.{Moves, TakesLine}
+use Rattle.tv_lines.specs.Reader.{TakesLine}
 
 pub unbroken-append : (xs ys : List ℕ) → IsUnbroken xs → IsUnbroken ys → IsUnbroken (xs ++ ys)
 unbroken-append [] ys g h = h

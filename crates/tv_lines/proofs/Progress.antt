@@ -11,7 +11,7 @@ use Rattle.tv_lines.specs.Answers.SchemaRefusal.{no_memory as no_schema_memory}
 use Rattle.tv_lines.specs.Lines.{FirstLine}
 use Rattle.tv_lines.specs.Lines.Lines.{no_lines, next_line}
 use Rattle.tv_lines.specs.Reader.{TakesLine}
-use Rattle.tv_lines.specs.Run.{AnswersOf, BadSchemaText, BrokenText, DoneText, PrefixOf, IsEnded, Leaves}
+use Rattle.tv_lines.specs.Run.{AnswersOf, BrokenText, PrefixOf, IsEnded, Leaves}
 use Rattle.tv_lines.proofs.LineSteps.{some_lines, some_line}
 use Rattle.tv_field.specs.Entry.{Entry}
 

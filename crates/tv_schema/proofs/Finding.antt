@@ -1,5 +1,5 @@
 -- What a path finds.
-use Rattle.std.proofs.Common.{◌≡◌, ℕ, suc, zero, ◌+◌, ◌<◌, Bool, true, false, cond, List, [], length, take, drop, Option, None, Some, refl, sym, ◌∙◌, ap, arith, IsTrue, inl, inr}
+use Rattle.std.proofs.Common.{◌≡◌, ℕ, suc, zero, ◌+◌, ◌<◌, Bool, true, false, cond, List, length, take, drop, Option, None, Some, refl, sym, ◌∙◌, ap, arith, IsTrue, inl, inr}
 use Rattle.std.specs.Option.{option_map}
 use Rattle.std.proofs.lemmas.Bool.{cases_lt}
 use Rattle.tv_field.specs.Entry.{Entry}

@@ -1,12 +1,10 @@
 -- What stops the addition of a pair: a heap without room.
-use Rattle.std.proofs.Common.{◌≡◌, Result, Err, refl, ◌∙◌}
+use Rattle.std.proofs.Common.{◌≡◌, Result, Err, ◌∙◌}
 use Rattle.std.specs.Prelude.{IsErrOf}
-use Rattle.tv_base.specs.Stop.Stop.{Short}
 use Rattle.tv_builder.specs.declared.add_error.AddError.{AddError}
 use Rattle.tv_builder.specs.declared.add_error.AddError.TheVariants as adds
 use Rattle.tv_doc.specs.declared.document.CompactDoc.{CompactDoc}
 use Rattle.tv_doc.specs.Document.{IsFull, Refuses}
-use Rattle.tv_reader.specs.Error.{store_stop}
 use Rattle.tv_reader.specs.declared.error.DeserializeError.{DeserializeError}
 use Rattle.tv_reader.specs.declared.error.DeserializeError.TheVariants as errors
 use Rattle.tv_format.specs.Tree.{Tree}

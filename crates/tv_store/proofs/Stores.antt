@@ -1,9 +1,8 @@
 -- The stored pairs of a document.
-use Rattle.std.proofs.Common.{◌≡◌, ℕ, suc, ◌≤◌, Bool, true, false, cond, List, [], ◌∷◌, ◌++◌, length, map, Some, slice_get, Ok, Err, refl, sym, ap, ◌∙◌, arith}
+use Rattle.std.proofs.Common.{◌≡◌, ℕ, suc, ◌≤◌, Bool, true, false, cond, List, [], ◌∷◌, ◌++◌, length, map, Ok, Err, refl, sym, ap, ◌∙◌, arith}
 use Rattle.std.specs.List.{filter, flat_map}
 use Rattle.std.proofs.lemmas.List.{append-nil}
 use Rattle.std.proofs.lemmas.List.Concat.{flat_map-cons}
-use Rattle.tv_field.specs.Entry.{is_stored_type}
 use Rattle.std.specs.declared.io.ErrorKind.{ErrorKind}
 use Rattle.tv_base.specs.Number.{four_bytes}
 use Rattle.tv_base.specs.Source.{Failures}
@@ -13,7 +12,7 @@ use Rattle.tv_format.specs.Tree.{Tree, Document}
 use Rattle.tv_format.specs.Short.{short, short_pair}
 use Rattle.tv_format.specs.Version.{Version}
 use Rattle.tv_writer.specs.Error.{write_error, write_stop}
-use Rattle.tv_store.specs.Stored.{stored, tree_written, is_stored_entry, is_stored_field, written_pairs}
+use Rattle.tv_store.specs.Stored.{stored, tree_written, is_stored_field, written_pairs}
 
 abbrev written : ℕ × Tree → ℕ × Tree
 written p = (p.0, tree_written p.1)

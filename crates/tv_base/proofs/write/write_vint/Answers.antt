@@ -1,4 +1,4 @@
-use Rattle.std.proofs.Common.{◌∙◌, refl, sym}
+use Rattle.std.proofs.Common.{sym}
 use Rattle.tv_base.specs.Number.{one_byte}
 use Rattle.tv_base.proofs.Numbers.{vnum-small}
 use Rattle.tv_base.proofs.Written.{Writes_as}

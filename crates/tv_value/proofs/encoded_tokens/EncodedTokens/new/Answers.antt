@@ -1,4 +1,4 @@
-use Rattle.std.proofs.Common.{[], ◌∙◌, rules}
+use Rattle.std.proofs.Common.{[], rules}
 use Rattle.tv_value.proofs.GatheredTokens.{none_held, none_gathered}
 use Rattle.tv_value.proofs.encoded_tokens.EncodedTokens.new.Goals as goal
 

@@ -1,4 +1,4 @@
-use Rattle.std.proofs.Common.{◌≡◌, ◌<◌, ◌^◌, ◌++◌, ◌∷◌, [], length, take, sym, ◌∙◌, ap, arith, rules}
+use Rattle.std.proofs.Common.{◌≡◌, ◌<◌, ◌^◌, ◌++◌, ◌∷◌, [], length, sym, ◌∙◌, ap, arith, rules}
 use Rattle.tv_format.specs.Short.{short_token}
 use Rattle.tv_value.specs.TokenRef.{ref_of}
 use Rattle.tv_value.proofs.GatheredTokens.{few_held, more_held, more_gathered, kept_held, kept_gathered, short_more, back}
