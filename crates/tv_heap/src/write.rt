@@ -206,7 +206,7 @@ pub fn write_leaf(heap: &mut Vec<u8>, value: &ReferenceValueLeaf<'_>) -> Result<
     make_room(heap, FIRST_ROOM)?;
     let address = write_content(heap, value.content())?;
     Ok(Place {
-        value_type: ValueType::of_leaf(value.leaf_type()),
+        value_type: ValueType::Leaf(value.leaf_type()),
         address,
     })
 }
