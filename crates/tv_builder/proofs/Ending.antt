@@ -10,6 +10,7 @@ use Rattle.tv_base.specs.Parts.{short_sized}
 use Rattle.tv_base.specs.Sink.{IsPrefix}
 use Rattle.tv_heap.specs.Weight.{tree_weight}
 use Rattle.tv_heap.specs.declared.value_type.ValueType.{ValueType}
+use Rattle.tv_format.specs.declared.leaf_type.LeafType.TheVariants as leaves
 use Rattle.tv_heap.specs.declared.value_type.ValueType.TheVariants as types
 use Rattle.tv_builder.specs.declared.awaits.Awaits.TheVariants as awaits
 use Rattle.tv_builder.specs.declared.build_error.BuildError.{BuildError}
@@ -143,9 +144,9 @@ all_written b o s i base none is =
 
 content_bytes_are : (kind : BytesKind) (heap content : List ℕ) → IsValueKind kind → (heap ++ short_sized content ≡ tree_heap heap (content_tree kind content))
     × ((at : ℕ) → at ≡ length heap → record { value_type = bytes_type kind; address = at } ≡ tree_place heap (content_tree kind content))
-content_bytes_are _ heap content of_str = (refl, (λ at e. λ i. record { value_type = types.Str; address = e i }))
-content_bytes_are _ heap content of_facet = (refl, (λ at e. λ i. record { value_type = types.Facet; address = e i }))
-content_bytes_are _ heap content of_bytes = (refl, (λ at e. λ i. record { value_type = types.Bytes; address = e i }))
+content_bytes_are _ heap content of_str = (refl, (λ at e. λ i. record { value_type = types.Leaf leaves.Str; address = e i }))
+content_bytes_are _ heap content of_facet = (refl, (λ at e. λ i. record { value_type = types.Leaf leaves.Facet; address = e i }))
+content_bytes_are _ heap content of_bytes = (refl, (λ at e. λ i. record { value_type = types.Leaf leaves.Bytes; address = e i }))
 
 -- where the building has let go of the open bytes
 pub record LetGo (old mid : Building) : Type 0 where
@@ -266,7 +267,7 @@ key_ends old mid new o e none is kind l g = record {
     next s h =
         let i = bytes_state old o s e h in
         let placed = subst (λ k. Placed old.heap.items (record { value_type = bytes_type k; address = o.address }) (content_tree k i.so_far)) kind (content_at old o s i none is) in
-        let placed_mid = subst (λ z. Placed z (record { value_type = types.Str; address = o.address }) (content_tree kinds.Key i.so_far)) (sym l.heap) placed in
+        let placed_mid = subst (λ z. Placed z (record { value_type = types.Leaf leaves.Str; address = o.address }) (content_tree kinds.Key i.so_far)) (sym l.heap) placed in
         let head : HeadNext kinds.Key i.lists = subst (λ k. HeadNext k i.lists) kind i.shows.is.2 in
         let r = key_handed mid new o.address i.so_far i.lists i.shows.is.0 i.shows.is.1 (key_next i.lists head) (lists_let_go old mid i.lists l i.shows.at.lists) placed_mid (l.complete ∙ i.shows.at.none) l.closed
         (omega (arith, ap length l.heap, i.shows.fits)) (l.pending ∙ i.shows.counted ∙ ap pending_in (sym l.frames)) g in

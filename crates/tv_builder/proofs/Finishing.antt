@@ -6,11 +6,11 @@ use Rattle.std.proofs.Math.Logic.{∥∥₁_elim, ∥∥₁_map, ∥∥₁_prop}
 use mathlib.Core.HLevel.{⊥_prop}
 use Rattle.std.specs.Coded.{Coded, code_by, coded×, coded_ℕ, Coded-set, le_prop}
 use Rattle.tv_heap.specs.declared.value_type.ValueType.{ValueType}
-use Rattle.tv_heap.specs.declared.value_type.ValueType.TheVariants as types
 use Rattle.tv_format.specs.Tree.{Tree}
 use Rattle.tv_heap.specs.Reads.{Reads}
 use Rattle.tv_heap.specs.Room.{room, document_room}
 use Rattle.tv_heap.specs.Weight.{tree_weight, document_weight}
+use Rattle.tv_heap.proofs.TypeBytes.{coded_type}
 use Rattle.tv_heap.proofs.Weights.{reads_weigh}
 use Rattle.tv_heap.specs.TypeCode.{type_code}
 use Rattle.tv_builder.specs.declared.build_error.BuildError.{BuildError}
@@ -49,37 +49,9 @@ some_of None n = absurd (n refl)
 some_of (Some p) n = (p, refl)
 
 -- a code for places, so that two are equal in one way at most
-abbrev type_at : ℕ → ValueType
-type_at zero = types.Null
-type_at (suc zero) = types.Str
-type_at (suc (suc zero)) = types.U64
-type_at (suc (suc (suc zero))) = types.I64
-type_at (suc (suc (suc (suc zero)))) = types.Null
-type_at (suc (suc (suc (suc (suc zero))))) = types.Date
-type_at (suc (suc (suc (suc (suc (suc zero)))))) = types.Facet
-type_at (suc (suc (suc (suc (suc (suc (suc zero))))))) = types.Bytes
-type_at (suc (suc (suc (suc (suc (suc (suc (suc zero)))))))) = types.IpAddr
-type_at (suc (suc (suc (suc (suc (suc (suc (suc (suc zero))))))))) = types.Bool
-type_at (suc (suc (suc (suc (suc (suc (suc (suc (suc (suc zero)))))))))) = types.PreTokStr
-type_at (suc (suc (suc (suc (suc (suc (suc (suc (suc (suc (suc zero))))))))))) = types.Object
-type_at (suc (suc (suc (suc (suc (suc (suc (suc (suc (suc (suc (suc n)))))))))))) = types.Array
-
-type_back : (t : ValueType) → type_at (type_code t) ≡ t
-type_back types.Null = refl
-type_back types.Str = refl
-type_back types.U64 = refl
-type_back types.I64 = refl
-type_back types.Date = refl
-type_back types.Facet = refl
-type_back types.Bytes = refl
-type_back types.IpAddr = refl
-type_back types.Bool = refl
-type_back types.PreTokStr = refl
-type_back types.Object = refl
-type_back types.Array = refl
-
 coded_place : Coded Place
-coded_place = code_by (ℕ × ℕ) (coded× coded_ℕ coded_ℕ) (λ p. (type_code p.value_type, p.address)) (λ c. record { value_type = type_at c.0; address = c.1 }) (λ p. λ i. record { value_type = type_back p.value_type i; address = p.address })
+coded_place =
+    code_by (ValueType × ℕ) (coded× coded_type coded_ℕ) (λ p. (p.value_type, p.address)) (λ c. record { value_type = c.0; address = c.1 }) (λ p. refl)
 
 -- ---- the pair
 

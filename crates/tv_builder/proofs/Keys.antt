@@ -5,6 +5,7 @@ use Rattle.tv_base.specs.Parts.{short_sized}
 use Rattle.tv_format.specs.Tree.{Tree, leaf, text, facet, bytes}
 use Rattle.tv_heap.specs.Reads.{Stands, ShortSized, ShortText, Reads}
 use Rattle.tv_heap.specs.TypeCode.{type_code}
+use Rattle.tv_format.specs.declared.leaf_type.LeafType.TheVariants as leaves
 use Rattle.tv_heap.specs.declared.value_type.ValueType.TheVariants as types
 use Rattle.tv_heap.proofs.Writes.{at_end, longer, sized_some}
 use Rattle.tv_builder.specs.declared.awaits.Awaits.TheVariants as awaits
@@ -60,11 +61,11 @@ content_placed kinds.Key old new content at e fits is same =
 -- ---- a finished key is handed to the innermost list
 
 pub key_handed : (mid new : Building) (at : ℕ) (k : List ℕ) (ls : List OpenList) → AreLists ls → OthersAwait ls → next_in ls ≡ awaits.Key → ShowsLists mid.heap.items (frames_of mid) mid.places.items ls
-    → Placed mid.heap.items (record { value_type = types.Str; address = at }) (leaf (text k)) → mid.complete ≡ None → mid.open ≡ None → length mid.heap.items ≤ 4294967295 → mid.pending ≡ pending_in (frames_of mid)
+    → Placed mid.heap.items (record { value_type = types.Leaf leaves.Str; address = at }) (leaf (text k)) → mid.complete ≡ None → mid.open ≡ None → length mid.heap.items ≤ 4294967295 → mid.pending ≡ pending_in (frames_of mid)
     → GivesKey mid at new → Shows new (with_key ls k) × (length new.heap.items + (lists_written ls + length (short_sized k)) ≤ length mid.heap.items + written (with_key ls k))
 key_handed mid new at k [] are others next h placed none closed fits counted g = absurd (cc)
 key_handed mid new at k (l ∷ ls) are others next h placed none closed fits counted g =
-    let p : Place = record { value_type = types.Str; address = at } in
+    let p : Place = record { value_type = types.Leaf leaves.Str; address = at } in
     let heap = mid.heap.items in
     let places = mid.places.items in
     let shown : ShowsLists heap (g.frame ∷ g.rest) places (l ∷ ls) = subst (λ z. ShowsLists heap z places (l ∷ ls)) g.was h in

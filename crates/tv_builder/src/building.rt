@@ -13,6 +13,7 @@ use crate::frame::{Frame, ListKind};
 use crate::whole::{put_leaf, put_list, put_tree};
 use std::alloc::Global;
 use std::convert::AsStr;
+use tv_format::leaf_type::LeafType;
 use tv_heap::place::Place;
 use tv_heap::value_type::ValueType;
 use tv_heap::write::push_place;
@@ -301,7 +302,7 @@ impl Building {
         push_place(
             &mut self.places,
             Place {
-                value_type: ValueType::Str,
+                value_type: ValueType::Leaf(LeafType::Str),
                 address,
             },
         )?;

@@ -1,7 +1,6 @@
--- One element or entry more, behind those that begin the bytes.
+-- One element or entry more.
 use Rattle.std.proofs.Common.{◌≡◌, ℕ, List, [], ◌∷◌, ◌++◌, length, refl, sym, ◌∙◌, ap, arith, append_assoc}
 use Rattle.std.proofs.lemmas.List.{append-nil}
-use Rattle.tv_base.specs.Parts.{Begins}
 use Rattle.tv_format.specs.Encoding.{Key, Encodes, EncodesElements, EncodesEntries}
 use Rattle.tv_format.specs.Tree.{Tree, elements, element_count, Entries, entries, entry_count}
 use Rattle.tv_format.specs.Version.{Version}
@@ -18,15 +17,6 @@ encodes_push Legacy v (u ∷ ts) t a b p q = record {
   joined = ap (λ z. z ++ b) p.joined ∙ append_assoc p.prefix p.rest b;
   first = p.first;
   second = encodes_push Legacy v ts t p.rest b p.second q;
-}
-
--- one element more
-pub begins_push : (Legacy : List ℕ → Entries → Type 0) (v : Version) (ts : List Tree) (t : Tree) (whole rest after : List ℕ) → Begins (λ b. EncodesElements Legacy v b (elements ts)) whole rest
-    → Begins (λ b. Encodes Legacy v b t) rest after → Begins (λ b. EncodesElements Legacy v b (elements (ts ++ t ∷ []))) whole after
-begins_push Legacy v ts t whole rest after p q = record {
-  prefix = p.prefix ++ q.prefix;
-  joined = p.joined ∙ ap (λ z. p.prefix ++ z) q.joined ∙ sym (append_assoc p.prefix q.prefix after);
-  encoded = encodes_push Legacy v ts t p.prefix q.prefix p.encoded q.encoded;
 }
 
 -- entries
@@ -51,15 +41,4 @@ entries_push Legacy v (e ∷ es) k t a key b p q r = record {
     first = p.second.first;
     second = entries_push Legacy v es k t p.second.rest key b p.second.second q r;
   };
-}
-
--- one entry more
-pub begins_entry : (Legacy : List ℕ → Entries → Type 0) (v : Version) (es : List (List ℕ × Tree)) (k : List ℕ) (t : Tree) (whole rest after next : List ℕ)
-    → Begins (λ b. EncodesEntries Legacy v b (entries es)) whole rest → Begins (λ b. Key v b k) rest after → Begins (λ b. Encodes Legacy v b t) after next
-    → Begins (λ b. EncodesEntries Legacy v b (entries (es ++ (k, t) ∷ []))) whole next
-begins_entry Legacy v es k t whole rest after next p q r = record {
-  prefix = p.prefix ++ (q.prefix ++ r.prefix);
-  joined = p.joined ∙ ap (λ z. p.prefix ++ z) (q.joined ∙ ap (λ z. q.prefix ++ z) r.joined ∙ sym (append_assoc q.prefix r.prefix next))
-      ∙ sym (append_assoc p.prefix (q.prefix ++ r.prefix) next);
-  encoded = entries_push Legacy v es k t p.prefix q.prefix r.prefix p.encoded q.encoded r.encoded;
 }

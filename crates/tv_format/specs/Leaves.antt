@@ -1,4 +1,4 @@
--- The types of leaves: the form of what a leaf of each holds, and its code in the store. What is said of leaves elsewhere is said of
+-- The types of leaves: the form of what a leaf of each holds, its code in the store, and its type byte in a heap. What is said of leaves elsewhere is said of
 -- their type and of what they hold.
 use Rattle.std.specs.Prelude.{◌==◌, ℕ, ℤ, Bool, true, false, List, Option, Some, None, if◌then◌else◌}
 use Rattle.tv_format.specs.Content.{Content, no_content, truth_content, unsigned_content, signed_content, wide_content, text_content, bytes_content, tokens_content}
@@ -84,6 +84,19 @@ type_with code =
     if code == 9 then Some types.Bool else (
     if code == 10 then Some types.IpAddr else (
     if code == 11 then Some types.Null else None)))))))))
+
+-- the type byte in a heap; 4 is unused
+abbrev pub heap_code : LeafType → ℕ
+heap_code types.Null = 0
+heap_code types.Str = 1
+heap_code types.U64 = 2
+heap_code types.I64 = 3
+heap_code types.Date = 5
+heap_code types.Facet = 6
+heap_code types.Bytes = 7
+heap_code types.IpAddr = 8
+heap_code types.Bool = 9
+heap_code types.PreTokStr = 10
 
 -- what the number of a leaf counts in a version
 abbrev pub scale : Version → LeafType → Scale

@@ -2,7 +2,7 @@
 use Rattle.std.specs.Prelude.{◌≡◌, ◌≢◌, ℕ, zero, suc, ◌<◌, Option, Some, None, is_some, true, refl}
 use Rattle.std.proofs.Common.{ap, sym, ◌∙◌, arith}
 use Rattle.tv_format.specs.Content.{Content, no_content, form_of}
-use Rattle.tv_format.specs.Leaves.{type_of, content, leaf_with, form, store_code, type_with}
+use Rattle.tv_format.specs.Leaves.{type_of, content, leaf_with, form, store_code, type_with, heap_code}
 use Rattle.tv_format.specs.Tree.{Leaf, null}
 use Rattle.tv_format.specs.declared.leaf_type.LeafType.{LeafType}
 use Rattle.tv_format.specs.declared.leaf_type.LeafType.TheVariants as types
@@ -90,3 +90,17 @@ coded_back _ small there = cc
 -- every other code is one of a leaf
 pub code_of_leaf : (code : ℕ) → code < 12 → code ≢ 6 → code ≢ 8 → (t : LeafType) × (store_code t ≡ code)
 code_of_leaf code small float legacy = (or_text (type_with code), coded_back code small (has_type code small float legacy))
+
+-- a type byte of a heap is that of one type
+same_code : (s t : LeafType) → heap_code s ≡ heap_code t → store_code s ≡ store_code t
+same_code types.Null types.Null e = refl
+same_code _ types.Null e = omega arith
+same_code _ _ e = omega arith
+
+pub one_heap_code : (s t : LeafType) → heap_code s ≡ heap_code t → s ≡ t
+one_heap_code s t e = one_code s t (same_code s t e)
+
+-- those of arrays and objects are above
+pub small_heap_code : (t : LeafType) → heap_code t < 11
+small_heap_code types.Null = omega arith
+small_heap_code _ = omega arith

@@ -49,7 +49,7 @@ pub enum LeafType {
 }
 
 impl LeafType {
-    ghost use Rattle.tv_format.specs.Leaves.{form, store_code};
+    ghost use Rattle.tv_format.specs.Leaves.{form, store_code, heap_code};
     ghost use Rattle.tv_format.specs.declared.leaf_type.LeafType.{LeafType};
 
     /// The form of what its values hold.
@@ -96,6 +96,45 @@ impl LeafType {
             9 => Some(LeafType::Bool),
             10 => Some(LeafType::IpAddr),
             11 => Some(LeafType::Null),
+            _ => None,
+        }
+    }
+    /// The type byte of its values in a heap.
+    #[inline(always)]
+    pub fn heap_code(self) -> u8
+        ensures { result ≡ heap_code self }
+    {
+        match self {
+            LeafType::Null => 0,
+            LeafType::Str => 1,
+            LeafType::U64 => 2,
+            LeafType::I64 => 3,
+            LeafType::Date => 5,
+            LeafType::Facet => 6,
+            LeafType::Bytes => 7,
+            LeafType::IpAddr => 8,
+            LeafType::Bool => 9,
+            LeafType::PreTokStr => 10,
+        }
+    }
+
+    /// The type whose values have this type byte in a heap; `None` where there is none.
+    #[inline(always)]
+    pub fn from_heap_code(code: u8) -> Option<LeafType>
+        ensures some { IfSome result (λ t. heap_code t ≡ code) }
+        ensures none { IfNone result ((t : LeafType) → heap_code t ≢ code) }
+    {
+        match code {
+            0 => Some(LeafType::Null),
+            1 => Some(LeafType::Str),
+            2 => Some(LeafType::U64),
+            3 => Some(LeafType::I64),
+            5 => Some(LeafType::Date),
+            6 => Some(LeafType::Facet),
+            7 => Some(LeafType::Bytes),
+            8 => Some(LeafType::IpAddr),
+            9 => Some(LeafType::Bool),
+            10 => Some(LeafType::PreTokStr),
             _ => None,
         }
     }

@@ -14,7 +14,7 @@ use Rattle.tv_base.specs.Parts.{short_sized}
 use Rattle.tv_base.proofs.Numbers.{vnum_encodes, length-fixed}
 use Rattle.tv_format.specs.Short.{short_content, short_leaf, short, short_elements, short_entries, short_tokenized}
 use Rattle.tv_format.specs.Content.{Content, signed_content, text_content, tokens_content, form_of}
-use Rattle.tv_format.specs.Leaves.{type_of, content, store_code}
+use Rattle.tv_format.specs.Leaves.{type_of, content, store_code, heap_code}
 use Rattle.tv_format.specs.declared.leaf_type.Form.TheVariants as forms
 use Rattle.tv_format.specs.declared.leaf_type.LeafType.{LeafType}
 use Rattle.tv_format.specs.Tree.{Token, Leaf, text, Tree, leaf, array, object, Elements, no_elements, element, elements, element_count, Entries, no_entries, entry, entries, entry_count}
@@ -25,8 +25,8 @@ use Rattle.tv_heap.specs.declared.encoded.Encoded.TheVariants as held
 use Rattle.tv_heap.specs.Encoded.{AreTokens, IsTokenized, SaysTokenized, is_last, last_bytes}
 use Rattle.tv_heap.specs.Held.{Held, HeldElements, HeldEntries}
 use Rattle.tv_heap.specs.Reads.{Stands, ShortSized, ShortTokenized, ContentStands, LeafStands, Reads, ReadsElements, ReadsEntries}
-use Rattle.tv_heap.specs.ReadsLaws.{one_type, type_small, leaf_type_small}
-use Rattle.tv_heap.specs.TypeCode.{type_code, heap_type}
+use Rattle.tv_format.specs.LeavesLaws.{one_heap_code, small_heap_code}
+use Rattle.tv_heap.specs.ReadsLaws.{leaf_type_small}
 use Rattle.tv_format.proofs.Leaves.{agree_tokenized}
 use Rattle.tv_format.specs.Encoding.{Tokenized}
 use Rattle.tv_heap.proofs.Lends.{text_sized, stands_behind, tokenized_stands}
@@ -132,11 +132,11 @@ text_bytes heap at x is _ e p = absurd (cc)
 pub leaf_short : (t : LeafType) (l : Leaf) (code : ℕ) (behind : List ℕ) → type_of l ≡ t → code ≡ store_code t → behind ≡ short_content (content l) → code ∷ behind ≡ short_leaf l
 leaf_short t l code behind same is e = λ i. (is ∙ ap store_code (sym same)) i ∷ e i
 
-leaf_tree_bytes : (v : Version) (heap : List ℕ) (code at : ℕ) (u : Tree) (t : LeafType) (x : List ℕ) → code ≡ type_code (heap_type t) → ((l : Leaf) → type_of l ≡ t → LeafStands heap at l → x ≡ short_leaf l) → Reads heap code at u → x ≡ short v u
-leaf_tree_bytes v heap code at (leaf l) t x e is r = is l (one_type (type_of l) t (sym r.0 ∙ e)) r.1
-leaf_tree_bytes v heap code at _ t x e is r = absurd (omega (arith, r.0, e, type_small t))
+leaf_tree_bytes : (v : Version) (heap : List ℕ) (code at : ℕ) (u : Tree) (t : LeafType) (x : List ℕ) → code ≡ heap_code t → ((l : Leaf) → type_of l ≡ t → LeafStands heap at l → x ≡ short_leaf l) → Reads heap code at u → x ≡ short v u
+leaf_tree_bytes v heap code at (leaf l) t x e is r = is l (one_heap_code (type_of l) t (sym r.0 ∙ e)) r.1
+leaf_tree_bytes v heap code at _ t x e is r = absurd (omega (arith, r.0, e, small_heap_code t))
 
-pub leaf_bytes : (v : Version) (heap : List ℕ) (code at : ℕ) (h : Held heap code at) (t : LeafType) (x : List ℕ) → code ≡ type_code (heap_type t) → ((l : Leaf) → type_of l ≡ t → LeafStands heap at l → x ≡ short_leaf l) → x ≡ short v h.0
+pub leaf_bytes : (v : Version) (heap : List ℕ) (code at : ℕ) (h : Held heap code at) (t : LeafType) (x : List ℕ) → code ≡ heap_code t → ((l : Leaf) → type_of l ≡ t → LeafStands heap at l → x ≡ short_leaf l) → x ≡ short v h.0
 leaf_bytes v heap code at h t x e is = ∥∥₁_elim h.1 (Coded-set coded_text x (short v h.0)) (leaf_tree_bytes v heap code at h.0 t x e is)
 
 -- ---- lists
@@ -174,15 +174,15 @@ tokenized_prop : (t : Tree) → IsProp (IsTokenized t)
 tokenized_prop (leaf l) = are_tokens_prop (content l)
 tokenized_prop _ = λ x y. absurd x
 
-leaf_tree_tokens : (heap : List ℕ) (code at : ℕ) (u : Tree) (t : LeafType) (S : Type 0) → code ≡ type_code (heap_type t) → ((l : Leaf) → type_of l ≡ t → S ↔ AreTokens (content l)) → Reads heap code at u → S ↔ IsTokenized u
-leaf_tree_tokens heap code at (leaf l) t S e is r = is l (one_type (type_of l) t (sym r.0 ∙ e))
-leaf_tree_tokens heap code at _ t S e is r = absurd (omega (arith, r.0, e, type_small t))
+leaf_tree_tokens : (heap : List ℕ) (code at : ℕ) (u : Tree) (t : LeafType) (S : Type 0) → code ≡ heap_code t → ((l : Leaf) → type_of l ≡ t → S ↔ AreTokens (content l)) → Reads heap code at u → S ↔ IsTokenized u
+leaf_tree_tokens heap code at (leaf l) t S e is r = is l (one_heap_code (type_of l) t (sym r.0 ∙ e))
+leaf_tree_tokens heap code at _ t S e is r = absurd (omega (arith, r.0, e, small_heap_code t))
 
 says_prop : (x : Encoded) → IsProp (SaysTokenized x)
 says_prop (held.Tokenized content) x y = refl
 says_prop _ x y = absurd x
 
-pub leaf_tokens : (heap : List ℕ) (code at : ℕ) (h : Held heap code at) (t : LeafType) (x : Encoded) → code ≡ type_code (heap_type t) → ((l : Leaf) → type_of l ≡ t → SaysTokenized x ↔ AreTokens (content l)) → SaysTokenized x ↔ IsTokenized h.0
+pub leaf_tokens : (heap : List ℕ) (code at : ℕ) (h : Held heap code at) (t : LeafType) (x : Encoded) → code ≡ heap_code t → ((l : Leaf) → type_of l ≡ t → SaysTokenized x ↔ AreTokens (content l)) → SaysTokenized x ↔ IsTokenized h.0
 leaf_tokens heap code at h t x e is = (
   λ s. ∥∥₁_elim h.1 (tokenized_prop h.0) (λ r. (leaf_tree_tokens heap code at h.0 t (SaysTokenized x) e is r).0 s),
   λ s. ∥∥₁_elim h.1 (says_prop x) (λ r. (leaf_tree_tokens heap code at h.0 t (SaysTokenized x) e is r).1 s),
@@ -221,13 +221,6 @@ encoded_is heap behind rest prefix at len n s p e is count f =
     let whole : n ≡ length p.whole =
     omega (arith, count, found.0, ap length found.1, ap length parts, length-append (vnum (length s)) (s ++ p.behind), length-append s p.behind, ap length p.stands.is, length-append (vnum (length s)) s) in
     prefix_is heap at _ p behind prefix n e f whole ∙ p.stands.is
-
-pub encoded_short : {A : Type 0} (heap behind rest : List ℕ) (at len : ℕ) (s : List ℕ) → Stands heap at (λ w. ShortSized s w) → behind ≡ drop at heap
-    → ((m : ℕ) (r : List ℕ) → m < 2 ^ 64 → behind ≡ vnum m ++ r → (len ≡ m) × (rest ≡ r)) → length rest < len → A
-encoded_short heap behind rest at len s p e is short =
-    let parts : behind ≡ vnum (length s) ++ (s ++ p.behind) = e ∙ stands_behind heap at _ p ∙ ap (λ z. z ++ p.behind) p.stands.is ∙ append_assoc (vnum (length s)) s p.behind in
-    let found = is (length s) (s ++ p.behind) (omega (arith, p.stands.fits)) parts in
-    absurd (omega (arith, found.0, ap length found.1, length-append s p.behind))
 
 pub tokens_is : (heap behind prefix : List ℕ) (at n : ℕ) (t s : List ℕ) (ts ss : List Token) → Stands heap at (λ w. ShortTokenized s ss w) → behind ≡ drop at heap → Tokenized (take n behind) t ts → prefix ≡ take n behind
     → prefix ≡ short_tokenized s ss

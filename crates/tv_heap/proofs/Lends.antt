@@ -22,11 +22,6 @@ use Rattle.tv_heap.specs.Reads.{Stands, ShortSized, ShortText, ShortTokenized}
 pub stands_behind : (heap : List ℕ) (at : ℕ) (P : List ℕ → Type 0) (p : Stands heap at P) → drop at heap ≡ p.whole ++ p.behind
 stands_behind heap at P p = (λ i. drop (sym p.place i) (p.joined i)) ∙ drop-append_seam p.before (p.whole ++ p.behind)
 
-pub stands_within : (heap : List ℕ) (at : ℕ) (P : List ℕ → Type 0) (p : Stands heap at P) → at + length p.whole ≤ length heap
-stands_within heap at P p =
-    let e = ap length p.joined in
-    omega (arith, p.place, length-append p.before (p.whole ++ p.behind), length-append p.whole p.behind)
-
 pub text_sized : (heap : List ℕ) (at : ℕ) (s : List ℕ) → Stands heap at (λ w. ShortText s w) → Stands heap at (λ w. ShortSized s w)
 text_sized heap at s p = record { before = p.before; whole = p.whole; behind = p.behind; joined = p.joined; place = p.place; stands = p.stands.sized }
 
@@ -59,10 +54,6 @@ wide_is heap behind prefix at n p e f = ap (from_le_bytes w128) (f ∙ fixed_pre
 pub wide_short : {A : Type 0} (heap behind : List ℕ) (at n : ℕ) → Stands heap at (λ w. Fixed 16 w n) → behind ≡ drop at heap → length behind < 16 → A
 wide_short heap behind at n p e l = fixed_short 16 heap behind at n p e l
 
--- a number has bytes
-pub fixed_past : {A : Type 0} (k : ℕ) (heap : List ℕ) (at n : ℕ) → Stands heap at (λ w. Fixed k w n) → length heap < at → A
-fixed_past k heap at n p l = absurd (omega (arith, stands_within heap at _ p))
-
 -- ---- texts with their tokens
 
 pub tokenized_stands : (heap : List ℕ) (at : ℕ) (s : List ℕ) (ss : List Token) (p : Stands heap at (λ w. ShortTokenized s ss w)) → Tokenized p.whole s ss
@@ -76,9 +67,6 @@ tokenized_is heap behind at n s t ss ts p e found =
 
 pub tokenized_none : {A : Type 0} (heap behind : List ℕ) (at : ℕ) (s : List ℕ) (ss : List Token) → Stands heap at (λ w. ShortTokenized s ss w) → behind ≡ drop at heap → NoTokenized behind → A
 tokenized_none heap behind at s ss p e none = absurd ((none s ss).none p.whole p.behind (e ∙ stands_behind heap at _ p) (tokenized_stands heap at s ss p))
-
-pub tokenized_past : {A : Type 0} (heap : List ℕ) (at : ℕ) (s : List ℕ) (ss : List Token) → Stands heap at (λ w. ShortTokenized s ss w) → length heap < at → A
-tokenized_past heap at s ss p l = absurd (omega (arith, stands_within heap at _ p))
 
 -- ---- numbers of one and of two bytes
 

@@ -4,8 +4,7 @@ use Rattle.std.proofs.Math.Logic.{∥∥₁_elim, ∥∥₁_map}
 use mathlib.Core.HLevel.{⊥_prop}
 use base.Stored.{Coded-set}
 use Rattle.tv_format.specs.Content.{Content, text_content, form_of}
-use Rattle.tv_format.specs.Leaves.{type_of, content, form}
-use Rattle.tv_format.specs.LeavesLaws.{form_of_content}
+use Rattle.tv_format.specs.Leaves.{type_of, content, form, heap_code}
 use Rattle.tv_format.specs.declared.leaf_type.Form.TheVariants as forms
 use Rattle.tv_format.specs.declared.leaf_type.LeafType.{LeafType}
 use Rattle.tv_format.specs.Tree.{Leaf, Tree, leaf, array, object, Elements, no_elements, element, elements, element_list, Entries, no_entries, entry, entries, entry_list}
@@ -13,8 +12,8 @@ use Rattle.tv_format.specs.TreeCode.{coded_tree}
 use Rattle.tv_heap.specs.Held.{Held, HeldElements, HeldElements-prop, HeldEntries, HeldEntries-prop}
 use Rattle.tv_heap.specs.Lent.{HasText}
 use Rattle.tv_heap.specs.Reads.{Stands, ShortSized, ShortText, ContentStands, LeafStands, Reads, ReadsElements, ReadsEntries}
-use Rattle.tv_heap.specs.ReadsLaws.{one_type, type_small, leaf_type_small}
-use Rattle.tv_heap.specs.TypeCode.{type_code, heap_type}
+use Rattle.tv_format.specs.LeavesLaws.{form_of_content, one_heap_code, small_heap_code}
+use Rattle.tv_heap.specs.ReadsLaws.{leaf_type_small}
 
 -- ---- leaves
 
@@ -22,24 +21,24 @@ use Rattle.tv_heap.specs.TypeCode.{type_code, heap_type}
 of_form : (t : LeafType) (l : Leaf) → type_of l ≡ t → form_of (content l) ≡ form t
 of_form t l same = form_of_content l ∙ ap form same
 
-leaf_tree : (heap : List ℕ) (code at : ℕ) (u : Tree) (t : LeafType) (x : Leaf) → code ≡ type_code (heap_type t) → ((l : Leaf) → type_of l ≡ t → LeafStands heap at l → x ≡ l) → Reads heap code at u → leaf x ≡ u
-leaf_tree heap code at (leaf l) t x e is r = ap leaf (is l (one_type (type_of l) t (sym r.0 ∙ e)) r.1)
-leaf_tree heap code at _ t x e is r = absurd (omega (arith, r.0, e, type_small t))
+leaf_tree : (heap : List ℕ) (code at : ℕ) (u : Tree) (t : LeafType) (x : Leaf) → code ≡ heap_code t → ((l : Leaf) → type_of l ≡ t → LeafStands heap at l → x ≡ l) → Reads heap code at u → leaf x ≡ u
+leaf_tree heap code at (leaf l) t x e is r = ap leaf (is l (one_heap_code (type_of l) t (sym r.0 ∙ e)) r.1)
+leaf_tree heap code at _ t x e is r = absurd (omega (arith, r.0, e, small_heap_code t))
 
 -- where the type byte is that of a type of leaves, a leaf of it stands there
-pub leaf_is : (heap : List ℕ) (code at : ℕ) (h : Held heap code at) (t : LeafType) (x : Leaf) → code ≡ type_code (heap_type t) → ((l : Leaf) → type_of l ≡ t → LeafStands heap at l → x ≡ l) → leaf x ≡ h.0
+pub leaf_is : (heap : List ℕ) (code at : ℕ) (h : Held heap code at) (t : LeafType) (x : Leaf) → code ≡ heap_code t → ((l : Leaf) → type_of l ≡ t → LeafStands heap at l → x ≡ l) → leaf x ≡ h.0
 leaf_is heap code at h t x e is = ∥∥₁_elim h.1 (Coded-set coded_tree (leaf x) h.0) (leaf_tree heap code at h.0 t x e is)
 
 text_held : (heap : List ℕ) (at : ℕ) (c : Content) → form_of c ≡ forms.Text → ContentStands heap at c → (s : List ℕ) × Stands heap at (λ w. ShortText s w)
 text_held heap at (text_content s) e p = (s, p)
 text_held heap at _ e p = absurd (cc)
 
-text_stands : (heap : List ℕ) (code at : ℕ) (u : Tree) (t : LeafType) → code ≡ type_code (heap_type t) → form t ≡ forms.Text → Reads heap code at u → (s : List ℕ) × Stands heap at (λ w. ShortText s w)
-text_stands heap code at (leaf l) t e f r = text_held heap at (content l) (of_form t l (one_type (type_of l) t (sym r.0 ∙ e)) ∙ f) r.1
-text_stands heap code at _ t e f r = absurd (omega (arith, r.0, e, type_small t))
+text_stands : (heap : List ℕ) (code at : ℕ) (u : Tree) (t : LeafType) → code ≡ heap_code t → form t ≡ forms.Text → Reads heap code at u → (s : List ℕ) × Stands heap at (λ w. ShortText s w)
+text_stands heap code at (leaf l) t e f r = text_held heap at (content l) (of_form t l (one_heap_code (type_of l) t (sym r.0 ∙ e)) ∙ f) r.1
+text_stands heap code at _ t e f r = absurd (omega (arith, r.0, e, small_heap_code t))
 
 -- and where its leaves hold texts, one stands there
-pub text_there : (heap : List ℕ) (code at : ℕ) → Held heap code at → (t : LeafType) → code ≡ type_code (heap_type t) → form t ≡ forms.Text → HasText heap at
+pub text_there : (heap : List ℕ) (code at : ℕ) → Held heap code at → (t : LeafType) → code ≡ heap_code t → form t ≡ forms.Text → HasText heap at
 text_there heap code at h t e f = ∥∥₁_map h.1 (text_stands heap code at h.0 t e f)
 
 -- ---- lists

@@ -20,10 +20,8 @@ use Rattle.tv_value.specs.Lent.{leaf_of}
 use Rattle.tv_value.specs.declared.leaf.ReferenceValueLeaf.{ReferenceValueLeaf}
 use Rattle.tv_value.specs.declared.leaf.ReferenceValueLeaf.TheVariants as lent
 use Rattle.tv_format.specs.Content.{Content, no_content, truth_content, unsigned_content, signed_content, wide_content, text_content, bytes_content, tokens_content}
-use Rattle.tv_format.specs.Leaves.{type_of, content}
+use Rattle.tv_format.specs.Leaves.{type_of, content, heap_code}
 use Rattle.tv_format.specs.declared.leaf_type.LeafType.{LeafType}
-use Rattle.tv_heap.specs.declared.value_type.ValueType.{ValueType}
-use Rattle.tv_heap.specs.TypeCode.{type_code, heap_type}
 use Rattle.tv_format.specs.Tree.{Token, Leaf, null, boolean, Tree, leaf}
 use Rattle.tv_heap.specs.Reads.{Stands, leaf_type, flag, ContentStands}
 use Rattle.tv_heap.specs.LeafBytes.{content_bytes, content_address, leaf_bytes, leaf_address}
@@ -227,9 +225,8 @@ wrote_leaf old new l at e valid small is =
     }) (sym is)
 
 -- after room was made, by the type and by what is held
-pub wrote_parts : (old mid new : List ℕ) (l : Leaf) (held : Content) (of_type : LeafType) (t : ValueType) (at : ℕ) → mid ≡ old → held ≡ content l → of_type ≡ type_of l → t ≡ heap_type of_type → new ≡ mid ++ content_bytes held → IsContent held
-    → length old + length (leaf_bytes l) < 2 ^ 32 → at ≡ content_address (length mid) held → Wrote old new (type_code t) at (leaf l)
-wrote_parts old mid new l held of_type t at same holds typed is_type e valid small is =
-    let code : heap_type (type_of l) ≡ t = ap heap_type (sym typed) ∙ sym is_type in
-    subst (λ k. Wrote old new (type_code k) at (leaf l)) code
+pub wrote_parts : (old mid new : List ℕ) (l : Leaf) (held : Content) (t : LeafType) (at : ℕ) → mid ≡ old → held ≡ content l → t ≡ type_of l → new ≡ mid ++ content_bytes held → IsContent held
+    → length old + length (leaf_bytes l) < 2 ^ 32 → at ≡ content_address (length mid) held → Wrote old new (heap_code t) at (leaf l)
+wrote_parts old mid new l held t at same holds typed e valid small is =
+    subst (λ k. Wrote old new (heap_code k) at (leaf l)) (sym typed)
     (wrote_leaf old new l at (e ∙ (λ i. same i ++ content_bytes (holds i))) (subst IsContent holds valid) small (is ∙ (λ i. content_address (length (same i)) (holds i))))

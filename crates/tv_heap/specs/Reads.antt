@@ -4,8 +4,7 @@ use Rattle.tv_base.specs.Number.{vnum, Fixed, Signed}
 use Rattle.tv_base.specs.Parts.{short_sized}
 use Rattle.tv_format.specs.Short.{short_tokenized, IsText, AreTokens}
 use Rattle.tv_format.specs.Content.{Content, no_content, truth_content, unsigned_content, signed_content, wide_content, text_content, bytes_content, tokens_content}
-use Rattle.tv_format.specs.Leaves.{type_of, content}
-use Rattle.tv_heap.specs.TypeCode.{type_code, heap_type}
+use Rattle.tv_format.specs.Leaves.{type_of, content, heap_code}
 use Rattle.tv_format.specs.Tree.{Token, Leaf, Tree, leaf, array, object, Elements, no_elements, element, Entries, no_entries, entry}
 
 -- bytes of some kind stand at a place of the heap
@@ -34,7 +33,7 @@ pub record ShortTokenized (content : List ℕ) (tokens : List Token) (whole : Li
 
 -- the type bytes
 abbrev pub leaf_type : Leaf → ℕ
-leaf_type l = type_code (heap_type (type_of l))
+leaf_type l = heap_code (type_of l)
 
 abbrev pub tree_type : Tree → ℕ
 tree_type (leaf l) = leaf_type l

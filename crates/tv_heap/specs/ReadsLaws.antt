@@ -8,15 +8,12 @@ use Rattle.tv_base.proofs.Agreement.{Agree}
 use Rattle.tv_base.proofs.Numbers.{one_number, vnum_encodes, agree_fixed}
 use Rattle.tv_base.proofs.Texts.{same_prefix, agree_sized, agree_signed}
 use Rattle.tv_format.specs.Content.{Content, no_content, truth_content, unsigned_content, signed_content, wide_content, text_content, bytes_content, tokens_content, form_of}
-use Rattle.tv_format.specs.Leaves.{type_of, content, form, store_code}
-use Rattle.tv_format.specs.LeavesLaws.{form_of_content, one_code, one_leaf as leaf_of_parts}
+use Rattle.tv_format.specs.Leaves.{type_of, content, form}
+use Rattle.tv_format.specs.LeavesLaws.{form_of_content, one_heap_code, small_heap_code, one_leaf as leaf_of_parts}
 use Rattle.tv_format.specs.Tree.{Token, Leaf, tokenized, Tree, leaf, array, object, Elements, no_elements, element, Entries, no_entries, entry}
 use Rattle.tv_format.specs.Encoding.{Tokenized}
 use Rattle.tv_format.proofs.Leaves.{agree_tokenized}
 use Rattle.tv_format.proofs.ShortEncodings.{tokenized_of}
-use Rattle.tv_format.specs.declared.leaf_type.LeafType.{LeafType}
-use Rattle.tv_format.specs.declared.leaf_type.LeafType.TheVariants as leaves
-use Rattle.tv_heap.specs.TypeCode.{type_code, heap_type}
 use Rattle.tv_heap.specs.Reads.{Stands, ShortSized, ShortText, ShortTokenized, leaf_type, flag, ContentStands, LeafStands, Child, Reads, ReadsElements, ReadsEntries}
 
 -- two cuts of one list at one place
@@ -58,26 +55,13 @@ one_content heap at (bytes_content s) (bytes_content t) e p q = ap bytes_content
 one_content heap at (tokens_content s ss) (tokens_content t ts) e p q = ap content (stands_agree (agree_short_tokenized s t ss ts) p q)
 one_content heap at _ _ e p q = absurd (cc)
 
--- a type byte is that of one type
-same_code : (s t : LeafType) → type_code (heap_type s) ≡ type_code (heap_type t) → store_code s ≡ store_code t
-same_code leaves.Null leaves.Null e = refl
-same_code _ leaves.Null e = omega arith
-same_code _ _ e = omega arith
-
-pub one_type : (s t : LeafType) → type_code (heap_type s) ≡ type_code (heap_type t) → s ≡ t
-one_type s t e = one_code s t (same_code s t e)
-
 pub one_leaf : (heap : List ℕ) (at : ℕ) (l m : Leaf) → leaf_type l ≡ leaf_type m → LeafStands heap at l → LeafStands heap at m → l ≡ m
 one_leaf heap at l m e p q =
-    let same = one_type (type_of l) (type_of m) e in
+    let same = one_heap_code (type_of l) (type_of m) e in
     leaf_of_parts l m same (one_content heap at (content l) (content m) (form_of_content l ∙ ap form same ∙ sym (form_of_content m)) p q)
 
-pub type_small : (t : LeafType) → type_code (heap_type t) < 11
-type_small leaves.Null = omega arith
-type_small _ = omega arith
-
 pub leaf_type_small : (l : Leaf) → leaf_type l < 11
-leaf_type_small l = type_small (type_of l)
+leaf_type_small l = small_heap_code (type_of l)
 
 -- two children that stand first in one list
 pub one_child : (c d m n : ℕ) (x y whole : List ℕ) → m < 2 ^ 32 → n < 2 ^ 32 → whole ≡ c ∷ (vnum m ++ x) → whole ≡ d ∷ (vnum n ++ y) → (c ≡ d) × (m ≡ n) × (x ≡ y)

@@ -8,7 +8,7 @@ ghost use Rattle.tv_heap.specs.TypeCode.{type_code};
 
 use crate::encoded::Encoded;
 use crate::lent::{child_at, children, encoded_at, leaf_at, sized_at, text_at};
-use crate::value_type::{ValueKind, ValueType};
+use crate::value_type::ValueType;
 use tv_value::same::is_same;
 use tv_value::value::{ReferenceValue, Value};
 
@@ -65,13 +65,13 @@ impl<'a> CompactDocValue<'a> {
     {
         let heap = self.heap;
         let address = self.address;
-        match self.value_type.kind() {
-            ValueKind::Leaf(leaf_type) => encoded_at(heap, leaf_type, address),
-            ValueKind::Array => {
+        match self.value_type {
+            ValueType::Leaf(leaf_type) => encoded_at(heap, leaf_type, address),
+            ValueType::Array => {
                 let list = sized_at(heap, address);
                 Encoded::Array(children(list), CompactDocArrayIter { heap, list })
             }
-            ValueKind::Object => {
+            ValueType::Object => {
                 let list = sized_at(heap, address);
                 Encoded::Object(children(list) / 2, CompactDocObjectIter { heap, list })
             }
@@ -149,13 +149,13 @@ impl<'a> Value<'a> for CompactDocValue<'a> {
     fn as_value(&self) -> ReferenceValue<'a, CompactDocValue<'a>> {
         let heap = self.heap;
         let address = self.address;
-        match self.value_type.kind() {
-            ValueKind::Leaf(leaf_type) => ReferenceValue::Leaf(leaf_at(heap, leaf_type, address)),
-            ValueKind::Array => {
+        match self.value_type {
+            ValueType::Leaf(leaf_type) => ReferenceValue::Leaf(leaf_at(heap, leaf_type, address)),
+            ValueType::Array => {
                 let list = sized_at(heap, address);
                 ReferenceValue::Array(CompactDocArrayIter { heap, list })
             }
-            ValueKind::Object => {
+            ValueType::Object => {
                 let list = sized_at(heap, address);
                 ReferenceValue::Object(CompactDocObjectIter { heap, list })
             }

@@ -15,38 +15,8 @@ use tv_value::leaf::ReferenceValueLeaf;
 use tv_value::value::{ReferenceValue, Value};
 
 /// The type of a value that stands in a document's heap.
-#[derive(Clone, Copy, Debug, PartialEq, Eq, Default)]
-pub enum ValueType {
-    /// No value.
-    #[default]
-    Null = 0,
-    /// A text.
-    Str = 1,
-    /// An unsigned number of 64 bits.
-    U64 = 2,
-    /// A signed number of 64 bits.
-    I64 = 3,
-    /// A date, in nanoseconds since 1970.
-    Date = 5,
-    /// The encoded text of a facet.
-    Facet = 6,
-    /// Bytes.
-    Bytes = 7,
-    /// An IPv6 address.
-    IpAddr = 8,
-    /// A truth value.
-    Bool = 9,
-    /// A text and its tokens.
-    PreTokStr = 10,
-    /// Keys and their values, in order.
-    Object = 11,
-    /// Values, in order.
-    Array = 12,
-}
-
-/// The types of values without children, arrays and objects. (Not in tantivy.)
 #[derive(Clone, Copy, Debug, PartialEq, Eq)]
-pub enum ValueKind {
+pub enum ValueType {
     /// A value without children, of this type.
     Leaf(LeafType),
     /// Values, in order.
@@ -57,75 +27,44 @@ pub enum ValueKind {
 
 impl ValueType {
     ghost use Rattle.tv_heap.specs.declared.value_type.ValueType.{ValueType};
-    ghost use Rattle.tv_heap.specs.TypeCode.{type_code, heap_type, kind_type};
+    ghost use Rattle.tv_heap.specs.TypeCode.{type_code};
 
-    /// The type of the values without children of a type. (Not in tantivy.)
+    /// The type byte that stands for it in a heap: that of the type of a value without children, 11 for an object, or 12 for an
+    /// array.
     #[inline(always)]
-    pub fn of_leaf(leaf_type: LeafType) -> ValueType
-        ensures { result ≡ heap_type leaf_type }
-    {
-        match leaf_type {
-            LeafType::Null => ValueType::Null,
-            LeafType::Str => ValueType::Str,
-            LeafType::U64 => ValueType::U64,
-            LeafType::I64 => ValueType::I64,
-            LeafType::Date => ValueType::Date,
-            LeafType::Facet => ValueType::Facet,
-            LeafType::Bytes => ValueType::Bytes,
-            LeafType::IpAddr => ValueType::IpAddr,
-            LeafType::Bool => ValueType::Bool,
-            LeafType::PreTokStr => ValueType::PreTokStr,
-        }
-    }
-
-    /// Whether its values are arrays, objects, or without children, and of which type then. (Not in tantivy.)
-    #[inline(always)]
-    pub fn kind(self) -> ValueKind
-        ensures { kind_type result ≡ self }
-    {
-        match self {
-            ValueType::Null => ValueKind::Leaf(LeafType::Null),
-            ValueType::Str => ValueKind::Leaf(LeafType::Str),
-            ValueType::U64 => ValueKind::Leaf(LeafType::U64),
-            ValueType::I64 => ValueKind::Leaf(LeafType::I64),
-            ValueType::Date => ValueKind::Leaf(LeafType::Date),
-            ValueType::Facet => ValueKind::Leaf(LeafType::Facet),
-            ValueType::Bytes => ValueKind::Leaf(LeafType::Bytes),
-            ValueType::IpAddr => ValueKind::Leaf(LeafType::IpAddr),
-            ValueType::Bool => ValueKind::Leaf(LeafType::Bool),
-            ValueType::PreTokStr => ValueKind::Leaf(LeafType::PreTokStr),
-            ValueType::Array => ValueKind::Array,
-            ValueType::Object => ValueKind::Object,
-        }
-    }
-
-    /// The type byte that stands for it in a heap: 0 to 12 in the order of the variants, without 4.
     pub fn to_code(self) -> u8
         ensures { result ≡ type_code self }
     {
-        self as u8
+        match self {
+            ValueType::Leaf(leaf_type) => leaf_type.heap_code(),
+            ValueType::Array => 12,
+            ValueType::Object => 11,
+        }
     }
 
     /// The type whose byte it is; `None` for 4 and for bytes above 12.
+    #[inline(always)]
     pub fn from_code(code: u8) -> Option<ValueType>
         ensures some { IfSome result (λ t. type_code t ≡ code) }
         ensures none { IfNone result ((t : ValueType) → type_code t ≢ code) }
     {
         match code {
-            0 => Some(ValueType::Null),
-            1 => Some(ValueType::Str),
-            2 => Some(ValueType::U64),
-            3 => Some(ValueType::I64),
-            5 => Some(ValueType::Date),
-            6 => Some(ValueType::Facet),
-            7 => Some(ValueType::Bytes),
-            8 => Some(ValueType::IpAddr),
-            9 => Some(ValueType::Bool),
-            10 => Some(ValueType::PreTokStr),
             11 => Some(ValueType::Object),
             12 => Some(ValueType::Array),
-            _ => None,
+            _ => Some(ValueType::Leaf(LeafType::from_heap_code(code)?)),
         }
+    }
+}
+
+impl Default for ValueType {
+    ghost use Rattle.tv_format.specs.declared.leaf_type.LeafType.TheVariants as types;
+    ghost use Rattle.tv_heap.specs.declared.value_type.ValueType.TheVariants.{Leaf};
+
+    ghost is_default = { λ made. made ≡ Leaf types.Null };
+
+    /// The type of no value.
+    fn default() -> ValueType {
+        ValueType::Leaf(LeafType::Null)
     }
 }
 
@@ -168,7 +107,7 @@ impl From<&ReferenceValueLeaf<'_>> for ValueType {
     ghost from_gives = { λ value made. type_code made ≡ leaf_type (leaf_of value.now) };
 
     fn from(value: &ReferenceValueLeaf<'_>) -> ValueType {
-        ValueType::of_leaf(value.leaf_type())
+        ValueType::Leaf(value.leaf_type())
     }
 }
 

@@ -87,106 +87,51 @@ pub fn push_place(places: &mut Vec<u8>, place: Place) -> Result<(), AllocError>
     push_number(places, u64::from(address))
 }
 
-#[inline(always)]
-fn write_text(heap: &mut Vec<u8>, content: &str) -> Result<u32, AllocError>
-    requires { length heap.old.items + length (short_sized content.now) < 2 ^ 32 }
-    ensures heap { OnOk result (heap.new.items ≡ heap.old.items ++ short_sized content.now) }
-    ensures at { IfOk result (λ at. at ≡ length heap.old.items) }
-    ensures err { OnErr result (IsPrefix heap.old.items heap.new.items) }
-{
-    let at = heap.len() as u32;
-    push_sized(heap, content.as_bytes())?;
-    Ok(at)
-}
-
-fn write_bytes(heap: &mut Vec<u8>, content: &[u8]) -> Result<u32, AllocError>
-    requires { length heap.old.items + length (short_sized content.now) < 2 ^ 32 }
-    ensures heap { OnOk result (heap.new.items ≡ heap.old.items ++ short_sized content.now) }
-    ensures at { IfOk result (λ at. at ≡ length heap.old.items) }
-    ensures err { OnErr result (IsPrefix heap.old.items heap.new.items) }
-{
-    let at = heap.len() as u32;
-    push_sized(heap, content)?;
-    Ok(at)
-}
-
-#[inline(always)]
-fn write_u64(heap: &mut Vec<u8>, number: u64) -> Result<u32, AllocError>
-    requires { length heap.old.items + length (eight_bytes number) < 2 ^ 32 }
-    ensures heap { OnOk result (heap.new.items ≡ heap.old.items ++ eight_bytes number) }
-    ensures at { IfOk result (λ at. at ≡ length heap.old.items) }
-    ensures err { OnErr result (IsPrefix heap.old.items heap.new.items) }
-{
-    let at = heap.len() as u32;
-    push_eight(heap, number)?;
-    Ok(at)
-}
-
-#[inline(always)]
-fn write_i64(heap: &mut Vec<u8>, number: i64) -> Result<u32, AllocError>
-    requires { length heap.old.items + length (eight_bytes (cast_unsigned w64 number)) < 2 ^ 32 }
-    ensures heap { OnOk result
-        (heap.new.items ≡ heap.old.items ++ eight_bytes (cast_unsigned w64 number)) }
-    ensures at { IfOk result (λ at. at ≡ length heap.old.items) }
-    ensures err { OnErr result (IsPrefix heap.old.items heap.new.items) }
-{
-    let at = heap.len() as u32;
-    push_eight(heap, number.cast_unsigned())?;
-    Ok(at)
-}
-
-fn write_u128(heap: &mut Vec<u8>, number: u128) -> Result<u32, AllocError>
-    requires { length heap.old.items + length (sixteen_bytes number) < 2 ^ 32 }
-    ensures heap { OnOk result (heap.new.items ≡ heap.old.items ++ sixteen_bytes number) }
-    ensures at { IfOk result (λ at. at ≡ length heap.old.items) }
-    ensures err { OnErr result (IsPrefix heap.old.items heap.new.items) }
-{
-    let at = heap.len() as u32;
-    push_sixteen(heap, number)?;
-    Ok(at)
-}
-
+// Adds a text, how many tokens it has, and each.
 #[inline(never)]
-fn write_tokenized(heap: &mut Vec<u8>, content: PreTokenizedStr<'_>) -> Result<u32, AllocError>
-    requires { length heap.old.items
-        + length (short_tokenized (text_of content) (tokens_of content))
-        < 2 ^ 32 }
-    ensures heap { OnOk result
+fn push_tokenized(heap: &mut Vec<u8>, content: PreTokenizedStr<'_>) -> Result<(), AllocError>
+    ensures ok { OnOk result
         (heap.new.items
         ≡ heap.old.items ++ short_tokenized (text_of content.entry) (tokens_of content.entry)) }
-    ensures at { IfOk result (λ at. at ≡ length heap.old.items) }
     ensures err { OnErr result (IsPrefix heap.old.items heap.new.items) }
 {
-    let at = heap.len() as u32;
     push_sized(heap, content.text().as_bytes())?;
     push_number(heap, content.len() as u64)?;
     for token in content.tokens() {
         push_token(heap, token)?;
     }
-    Ok(at)
+    Ok(())
 }
 
-// Writes what a value without children holds, and returns its address.
+// Adds the bytes of what a value without children holds.
 #[inline(always)]
-fn write_content(heap: &mut Vec<u8>, content: LeafContent<'_>) -> Result<u32, AllocError>
-    requires { length heap.old.items + length (content_bytes (content_of content)) < 2 ^ 32 }
-    ensures heap { OnOk result
+fn push_content(heap: &mut Vec<u8>, content: LeafContent<'_>) -> Result<(), AllocError>
+    ensures ok { OnOk result
         (heap.new.items ≡ heap.old.items ++ content_bytes (content_of content.entry)) }
-    ensures at { IfOk result
-        (λ at. at ≡ content_address (length heap.old.items) (content_of content.entry)) }
     ensures encodes { IsContent (content_of content.entry) }
     ensures err { OnErr result (IsPrefix heap.old.items heap.new.items) }
 {
     pre_tokenized_texts_encode();
     match content {
-        LeafContent::Nothing => Ok(0),
-        LeafContent::Truth(truth) => Ok(u32::from(truth)),
-        LeafContent::Unsigned(number) => write_u64(heap, number),
-        LeafContent::Signed(number) => write_i64(heap, number),
-        LeafContent::Wide(number) => write_u128(heap, number),
-        LeafContent::Text(text) => write_text(heap, text),
-        LeafContent::Bytes(bytes) => write_bytes(heap, bytes),
-        LeafContent::Tokens(text) => write_tokenized(heap, text),
+        LeafContent::Nothing | LeafContent::Truth(_) => Ok(()),
+        LeafContent::Unsigned(number) => push_eight(heap, number),
+        LeafContent::Signed(number) => push_eight(heap, number.cast_unsigned()),
+        LeafContent::Wide(number) => push_sixteen(heap, number),
+        LeafContent::Text(text) => push_sized(heap, text.as_bytes()),
+        LeafContent::Bytes(bytes) => push_sized(heap, bytes),
+        LeafContent::Tokens(text) => push_tokenized(heap, text),
+    }
+}
+
+// The address of what a value without children holds, which is written at the end of a heap of this length.
+#[inline(always)]
+fn content_address(len: u32, content: LeafContent<'_>) -> u32
+    ensures { result ≡ content_address len (content_of content.entry) }
+{
+    match content {
+        LeafContent::Nothing => 0,
+        LeafContent::Truth(truth) => u32::from(truth),
+        _ => len,
     }
 }
 
@@ -204,9 +149,11 @@ pub fn write_leaf(heap: &mut Vec<u8>, value: &ReferenceValueLeaf<'_>) -> Result<
     ensures err { OnErr result (IsPrefix heap.old.items heap.new.items) }
 {
     make_room(heap, FIRST_ROOM)?;
-    let address = write_content(heap, value.content())?;
+    let content = value.content();
+    let address = content_address(heap.len() as u32, content);
+    push_content(heap, content)?;
     Ok(Place {
-        value_type: ValueType::of_leaf(value.leaf_type()),
+        value_type: ValueType::Leaf(value.leaf_type()),
         address,
     })
 }

@@ -1,5 +1,5 @@
-use Rattle.std.proofs.Common.{◌/◌, ap, sym, ◌∙◌, rules, arith}
-use Rattle.tv_heap.specs.TypeCode.{type_code, kind_type}
+use Rattle.std.proofs.Common.{◌/◌, ap, rules, arith}
+use Rattle.tv_heap.specs.TypeCode.{type_code}
 use Rattle.tv_heap.proofs.Shapes.{array_list, object_list}
 use Rattle.tv_heap.proofs.InPlace.{leaf_bytes, leaf_tokens, array_bytes, object_bytes, no_list_tokens}
 use Rattle.tv_heap.proofs.value.CompactDocValue.encoded.Goals as goal
@@ -7,49 +7,41 @@ use Rattle.tv_heap.proofs.value.CompactDocValue.encoded.Goals as goal
 pub returns-in-Leaf-clause-bytes : goal.returns-in-Leaf-clause-bytes
 returns-in-Leaf-clause-bytes c = λ version.
     let v = c.args.self.now in
-    let code = ap type_code (sym c.kind.ensures ∙ ap kind_type c.in-Leaf.is) in
-    leaf_bytes version v.heap.now (type_code v.value_type) v.address v.held c.in-Leaf.leaf_type _ code (c.encoded_at.ensures.bytes version)
+    leaf_bytes version v.heap.now (type_code v.value_type) v.address v.held c.in-Leaf.leaf_type _ (ap type_code c.in-Leaf.is) (c.encoded_at.ensures.bytes version)
 
 pub returns-in-Leaf-clause-tokens : goal.returns-in-Leaf-clause-tokens
 returns-in-Leaf-clause-tokens c =
     let v = c.args.self.now in
-    let code = ap type_code (sym c.kind.ensures ∙ ap kind_type c.in-Leaf.is) in
-    leaf_tokens v.heap.now (type_code v.value_type) v.address v.held c.in-Leaf.leaf_type c.encoded_at.result code c.encoded_at.ensures.tokens
+    leaf_tokens v.heap.now (type_code v.value_type) v.address v.held c.in-Leaf.leaf_type c.encoded_at.result (ap type_code c.in-Leaf.is) c.encoded_at.ensures.tokens
 
 pub invariant_of-result : goal.invariant_of-result
 invariant_of-result c =
     let v = c.args.self.now in
-    let code = ap type_code (sym c.kind.ensures ∙ ap kind_type c.in-Array.is) in
-    record { held = array_list v.heap.now (type_code v.value_type) v.address v.held.0 v.held.1 code c.sized_at-list.result.now c.sized_at-list.ensures }
+    record { held = array_list v.heap.now (type_code v.value_type) v.address v.held.0 v.held.1 (ap type_code c.in-Array.is) c.sized_at-list.result.now c.sized_at-list.ensures }
 
 pub returns-in-Array-clause-bytes : goal.returns-in-Array-clause-bytes
 returns-in-Array-clause-bytes c = λ version.
     let v = c.args.self.now in
-    let code = ap type_code (sym c.kind.ensures ∙ ap kind_type c.in-Array.is) in
-    let is = array_bytes version v.heap.now (type_code v.value_type) v.address v.held.0 v.held.1 code c.sized_at-list.result.now c.sized_at-list.ensures c.children.result c.children.ensures in
+    let is = array_bytes version v.heap.now (type_code v.value_type) v.address v.held.0 v.held.1 (ap type_code c.in-Array.is) c.sized_at-list.result.now c.sized_at-list.ensures c.children.result c.children.ensures in
     search (rules, is)
 
 pub returns-in-Array-clause-tokens : goal.returns-in-Array-clause-tokens
 returns-in-Array-clause-tokens c =
     let v = c.args.self.now in
-    let code = ap type_code (sym c.kind.ensures ∙ ap kind_type c.in-Array.is) in
-    no_list_tokens v.heap.now (type_code v.value_type) v.address v.held (omega (arith, code))
+    no_list_tokens v.heap.now (type_code v.value_type) v.address v.held (omega (arith, ap type_code c.in-Array.is))
 
 pub invariant_of-result-in-Object : goal.invariant_of-result-in-Object
 invariant_of-result-in-Object c =
     let v = c.args.self.now in
-    let code = ap type_code (sym c.kind.ensures ∙ ap kind_type c.in-Object.is) in
-    record { held = object_list v.heap.now (type_code v.value_type) v.address v.held.0 v.held.1 code c.sized_at-list-in-Object.result.now c.sized_at-list-in-Object.ensures }
+    record { held = object_list v.heap.now (type_code v.value_type) v.address v.held.0 v.held.1 (ap type_code c.in-Object.is) c.sized_at-list-in-Object.result.now c.sized_at-list-in-Object.ensures }
 
 pub returns-in-Object-clause-bytes : goal.returns-in-Object-clause-bytes
 returns-in-Object-clause-bytes c = λ version.
     let v = c.args.self.now in
-    let code = ap type_code (sym c.kind.ensures ∙ ap kind_type c.in-Object.is) in
-    let is = object_bytes version v.heap.now (type_code v.value_type) v.address v.held.0 v.held.1 code c.sized_at-list-in-Object.result.now c.sized_at-list-in-Object.ensures (c.children-in-Object.result / 2) (ap (λ n. n / 2) c.children-in-Object.ensures) in
+    let is = object_bytes version v.heap.now (type_code v.value_type) v.address v.held.0 v.held.1 (ap type_code c.in-Object.is) c.sized_at-list-in-Object.result.now c.sized_at-list-in-Object.ensures (c.children-in-Object.result / 2) (ap (λ n. n / 2) c.children-in-Object.ensures) in
     search (rules, is)
 
 pub returns-in-Object-clause-tokens : goal.returns-in-Object-clause-tokens
 returns-in-Object-clause-tokens c =
     let v = c.args.self.now in
-    let code = ap type_code (sym c.kind.ensures ∙ ap kind_type c.in-Object.is) in
-    no_list_tokens v.heap.now (type_code v.value_type) v.address v.held (omega (arith, code))
+    no_list_tokens v.heap.now (type_code v.value_type) v.address v.held (omega (arith, ap type_code c.in-Object.is))

@@ -1,42 +1,36 @@
-use Rattle.std.proofs.Common.{ap, sym, ◌∙◌, rules}
-use Rattle.tv_heap.specs.TypeCode.{type_code, kind_type}
+use Rattle.std.proofs.Common.{ap, rules}
+use Rattle.tv_heap.specs.TypeCode.{type_code}
 use Rattle.tv_heap.proofs.Shapes.{text_there, leaf_is, array_list, array_is, object_list, object_is}
 use Rattle.tv_heap.proofs.value.CompactDocValueValue.as_value.Goals as goal
 
 pub leaf_at-requires : goal.leaf_at-requires
 leaf_at-requires c =
     let v = c.args.self.now in
-    let code = ap type_code (sym c.kind.ensures ∙ ap kind_type c.in-Leaf.is) in
-    text_there v.heap.now (type_code v.value_type) v.address v.held c.in-Leaf.leaf_type code
+    text_there v.heap.now (type_code v.value_type) v.address v.held c.in-Leaf.leaf_type (ap type_code c.in-Leaf.is)
 
 pub returns-in-Leaf : goal.returns-in-Leaf
 returns-in-Leaf c =
     let v = c.args.self.now in
-    let code = ap type_code (sym c.kind.ensures ∙ ap kind_type c.in-Leaf.is) in
-    leaf_is v.heap.now (type_code v.value_type) v.address v.held c.in-Leaf.leaf_type _ code c.leaf_at.ensures
+    leaf_is v.heap.now (type_code v.value_type) v.address v.held c.in-Leaf.leaf_type _ (ap type_code c.in-Leaf.is) c.leaf_at.ensures
 
 pub invariant_of-result : goal.invariant_of-result
 invariant_of-result c =
     let v = c.args.self.now in
-    let code = ap type_code (sym c.kind.ensures ∙ ap kind_type c.in-Array.is) in
-    record { held = array_list v.heap.now (type_code v.value_type) v.address v.held.0 v.held.1 code c.sized_at-list.result.now c.sized_at-list.ensures }
+    record { held = array_list v.heap.now (type_code v.value_type) v.address v.held.0 v.held.1 (ap type_code c.in-Array.is) c.sized_at-list.result.now c.sized_at-list.ensures }
 
 pub returns-in-Array : goal.returns-in-Array
 returns-in-Array c =
     let v = c.args.self.now in
-    let code = ap type_code (sym c.kind.ensures ∙ ap kind_type c.in-Array.is) in
-    let is = array_is v.heap.now (type_code v.value_type) v.address v.held.0 v.held.1 code c.sized_at-list.result.now c.sized_at-list.ensures in
+    let is = array_is v.heap.now (type_code v.value_type) v.address v.held.0 v.held.1 (ap type_code c.in-Array.is) c.sized_at-list.result.now c.sized_at-list.ensures in
     search (rules, is)
 
 pub invariant_of-result-in-Object : goal.invariant_of-result-in-Object
 invariant_of-result-in-Object c =
     let v = c.args.self.now in
-    let code = ap type_code (sym c.kind.ensures ∙ ap kind_type c.in-Object.is) in
-    record { held = object_list v.heap.now (type_code v.value_type) v.address v.held.0 v.held.1 code c.sized_at-list-in-Object.result.now c.sized_at-list-in-Object.ensures }
+    record { held = object_list v.heap.now (type_code v.value_type) v.address v.held.0 v.held.1 (ap type_code c.in-Object.is) c.sized_at-list-in-Object.result.now c.sized_at-list-in-Object.ensures }
 
 pub returns-in-Object : goal.returns-in-Object
 returns-in-Object c =
     let v = c.args.self.now in
-    let code = ap type_code (sym c.kind.ensures ∙ ap kind_type c.in-Object.is) in
-    let is = object_is v.heap.now (type_code v.value_type) v.address v.held.0 v.held.1 code c.sized_at-list-in-Object.result.now c.sized_at-list-in-Object.ensures in
+    let is = object_is v.heap.now (type_code v.value_type) v.address v.held.0 v.held.1 (ap type_code c.in-Object.is) c.sized_at-list-in-Object.result.now c.sized_at-list-in-Object.ensures in
     search (rules, is)

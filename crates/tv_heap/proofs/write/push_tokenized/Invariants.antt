@@ -3,7 +3,7 @@ use Rattle.std.specs.List.{flat_map}
 use Rattle.tv_base.specs.Sink.{IsPrefix}
 use Rattle.tv_value.specs.PreTokenized.{text_of, tokens_of, tokens_left}
 use Rattle.tv_format.specs.Short.{short_token, short_tokenized}
-use Rattle.tv_heap.proofs.write.write_tokenized.Given as goal
+use Rattle.tv_heap.proofs.write.push_tokenized.Given as goal
 
 -- what is written, and then the tokens that are left
 abbrev pub invariant-loop-token : goal.invariant-loop-token
