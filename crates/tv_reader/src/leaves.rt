@@ -5,15 +5,15 @@ ghost use Rattle.std.specs.Prelude.{◌≤◌, ◌+◌, map};
 ghost use Rattle.std.specs.Net.Addr.{ipv6_bits};
 ghost use Rattle.tv_base.specs.Reading.{u128_at};
 ghost use Rattle.tv_base.specs.Take.{TakesBy, TakesLean};
-ghost use Rattle.tv_reader.specs.Leaves.{date_at, token_at, tokens_at, counted_tokens_at};
-ghost use Rattle.tv_reader.specs.Leaves.{tokenized_at};
+ghost use Rattle.tv_reader.specs.Leaves.{date_at, tokenized_at};
 ghost use Rattle.tv_reader.specs.Version.{version_of};
 ghost use Rattle.tv_value.specs.HeldTokens.{token_of};
 
+use crate::encoded_tokens::gather_tokenized;
 use crate::version::DocStoreVersion;
 use std::alloc::Global;
 use std::net::Ipv6Addr;
-use tv_base::take::{take_i64, take_string, take_u128, take_vint};
+use tv_base::take::{take_i64, take_u128};
 use tv_base::{ByteSource, Cause, ReadError};
 use tv_value::date_time::DateTime;
 use tv_value::ip_addr::address_of;
@@ -74,62 +74,6 @@ pub fn take_ip_address<S: ByteSource>(
     Ok(address_of(bits))
 }
 
-// A token: five parts, one after the other.
-#[tactic(auto, using(tv_base::proofs::TakeSteps::Taken_then), unfolding(crate::specs::Leaves::token_at))]
-fn take_token<S: ByteSource>(
-    alloc: Global,
-    source: &mut S,
-    count: &mut u64,
-) -> Result<Token, ReadError>
-    ensures takes { TakesBy S.is_known S.left S.failures source.old count.old source.new count.new
-        (λ t. token_of t) result token_at }
-{
-    let offset_from = take_vint(source, count)?;
-    let offset_to = take_vint(source, count)?;
-    let position = take_vint(source, count)?;
-    let text = take_string(alloc, source, count)?;
-    let position_length = take_vint(source, count)?;
-    Ok(Token {
-        offset_from: offset_from as usize,
-        offset_to: offset_to as usize,
-        position: position as usize,
-        text,
-        position_length: position_length as usize,
-    })
-}
-
-// So many tokens. Nothing is reserved from their number.
-fn take_tokens<S: ByteSource>(
-    alloc: Global,
-    source: &mut S,
-    count: &mut u64,
-    announced: u64,
-) -> Result<Vec<Token>, ReadError>
-    ensures takes { TakesBy S.is_known S.left S.failures source.old count.old source.new count.new
-        (λ ts. map token_of ts.items) result (tokens_at announced) }
-{
-    let mut tokens = Vec::new(alloc);
-    for _ in 0..announced {
-        let token = take_token(alloc, source, count)?;
-        tokens.push(token)?;
-    }
-    Ok(tokens)
-}
-
-// The number of the tokens, and each.
-#[tactic(auto, using(tv_base::proofs::TakeSteps::Taken_then), unfolding(crate::specs::Leaves::counted_tokens_at))]
-fn take_counted_tokens<S: ByteSource>(
-    alloc: Global,
-    source: &mut S,
-    count: &mut u64,
-) -> Result<Vec<Token>, ReadError>
-    ensures takes { TakesBy S.is_known S.left S.failures source.old count.old source.new count.new
-        (λ ts. map token_of ts.items) result counted_tokens_at }
-{
-    let announced = take_vint(source, count)?;
-    take_tokens(alloc, source, count, announced)
-}
-
 /// Takes a text and its tokens. Nothing is reserved from the number of the tokens.
 ///
 /// Errors: those of `take_string`.
@@ -142,7 +86,6 @@ pub fn take_tokenized<S: ByteSource>(
     ensures takes { TakesBy S.is_known S.left S.failures source.old count.old source.new count.new
         (λ s. (string_bytes s.text, map token_of s.tokens.items)) result tokenized_at }
 {
-    let text = take_string(alloc, source, count)?;
-    let tokens = take_counted_tokens(alloc, source, count)?;
+    let (text, tokens) = gather_tokenized::<Vec<Token>, S>(alloc, source, count)?;
     Ok(PreTokenizedString { text, tokens })
 }

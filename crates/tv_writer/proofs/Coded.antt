@@ -6,7 +6,7 @@ use Rattle.tv_base.proofs.Widths.{four_bytes_is, eight_bytes_is}
 use Rattle.tv_base.specs.Source.{Failures}
 use Rattle.tv_base.specs.Stop.{Stop}
 use Rattle.tv_base.specs.Sink.{WritesBy}
-use Rattle.tv_base.proofs.Written.{Writes_then, Writes_prefix, Written, Written-start, Written-step}
+use Rattle.tv_base.proofs.Written.{Writes_then, Writes_prefix}
 
 -- the code was written, and then what is behind it or a prefix of that
 pub Coded_then : {S T U E D R Q : Type 0} {stop : E → Stop R} {first_stop : D → Stop Q} {is_known : S → Type 0} {held : S → List ℕ} {failures : S → Failures} {old mid new : S} {x : T} {result : Result U E} {code : ℕ} {body : List ℕ}
@@ -17,11 +17,6 @@ Coded_then {code = code} {body = body} first second = Writes_then (code ∷ []) 
 pub Coded_fails : {S T U E R : Type 0} {stop : E → Stop R} {is_known : S → Type 0} {held : S → List ℕ} {failures : S → Failures} {old new : S} {e : E} {code : ℕ} {body : List ℕ}
     → WritesBy {T = T} stop is_known held failures old new (Err e) (Ok (code ∷ [])) → WritesBy {T = U} stop is_known held failures old new (Err e) (Ok (code ∷ body))
 Coded_fails {code = code} {body = body} first = Writes_prefix (code ∷ []) body first
-
--- a head was written, and what is behind it is left
-pub head_written : {S T E R : Type 0} {stop : E → Stop R} {is_known : S → Type 0} {held : S → List ℕ} {failures : S → Failures} {old new : S} {text : List ℕ} {x : T} (head rest : List ℕ)
-    → text ≡ head ++ rest → WritesBy stop is_known held failures old new (Ok x) (Ok head) → Written is_known held failures old new text rest
-head_written {is_known = is_known} {held = held} {failures = failures} {old = old} {text = text} head rest same write = Written-step head rest same (Written-start is_known held failures old text) write
 
 -- the same text, said otherwise
 pub Writes_as : {S T E R : Type 0} {stop : E → Stop R} {is_known : S → Type 0} {held : S → List ℕ} {failures : S → Failures} {old new : S} {result : Result T E} {a b : List ℕ}

@@ -34,59 +34,17 @@ fn is_sized(content: &[u8]) -> bool
     content.len() as u64 <= MOST
 }
 
-// Each 64-bit number has an encoding.
-fn is_unsigned(number: u64) -> bool
-    ensures { MatchBool result (number < 2 ^ 64) (¬ (number < 2 ^ 64)) }
-{
-    number <= u64::MAX
-}
-
-// Each signed 64-bit number has an encoding.
-fn is_signed(number: i64) -> bool
-    ensures { MatchBool result (FitsSigned w64 number) (¬ FitsSigned w64 number) }
-{
-    number <= i64::MAX
-}
-
-// Each 128-bit number has an encoding.
-fn is_wide(number: u128) -> bool
-    ensures { MatchBool result (number < 2 ^ 128) (¬ (number < 2 ^ 128)) }
-{
-    number <= u128::MAX
-}
-
-// Each text with its tokens has an encoding.
-fn is_tokenized(content: PreTokenizedStr<'_>) -> bool
-    ensures { MatchBool result
-        (IsText (text_of content.entry) × AreTokens (tokens_of content.entry))
-        (¬ (IsText (text_of content.entry) × AreTokens (tokens_of content.entry))) }
-{
-    pre_tokenized_texts_encode();
-    let _content = content;
-    true
-}
-
-// Whether what a value without children holds has an encoding.
+// Whether what a value without children holds has an encoding: all has one but texts and bytes that are too long.
 fn is_content(content: LeafContent<'_>) -> bool
     ensures { MatchBool result (IsContent (content_of content.entry))
         (¬ IsContent (content_of content.entry)) }
 {
+    pre_tokenized_texts_encode();
     match content {
-        LeafContent::Nothing | LeafContent::Truth(_) => true,
-        LeafContent::Unsigned(number) => is_unsigned(number),
-        LeafContent::Signed(number) => is_signed(number),
-        LeafContent::Wide(number) => is_wide(number),
         LeafContent::Text(text) => is_text(text),
         LeafContent::Bytes(bytes) => is_sized(bytes),
-        LeafContent::Tokens(text) => is_tokenized(text),
+        _ => true,
     }
-}
-
-// Whether a value without children has an encoding.
-fn is_leaf(value: ReferenceValueLeaf<'_>) -> bool
-    ensures { MatchBool result (IsLeaf (leaf_of value.entry)) (¬ IsLeaf (leaf_of value.entry)) }
-{
-    is_content(value.content())
 }
 
 // Whether a value and all its children have one.
@@ -95,7 +53,7 @@ fn is_encoded<N: Nested>(value: NestedValue<'_, N>) -> bool
         (¬ IsValue (nested_tree N.array_rest N.object_rest value.entry)) }
 {
     match value {
-        NestedValue::Leaf(leaf) => is_leaf(leaf),
+        NestedValue::Leaf(leaf) => is_content(leaf.content()),
         NestedValue::Array(items) => {
             let mut count = 0;
             for item in items {
