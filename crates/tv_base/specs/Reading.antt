@@ -2,7 +2,7 @@
 use Rattle.std.specs.Prelude.{ℕ, ℤ, ◌+◌, ◌*◌, ◌%◌, ◌==◌, Bool, zero, suc, List, [], ◌∷◌, ◌++◌, length, take, drop, Result, Ok, Err, nat_lt, if◌then◌else◌}
 use Rattle.std.specs.Int.{Width, w32, w64, w128, byte_len, from_le_bytes, cast_signed}
 use Rattle.std.specs.Str.{is_utf8}
-use Rattle.tv_base.specs.Stop.{◌>>=◌, lifted}
+use Rattle.tv_base.specs.Stop.{◌>>=◌}
 use Rattle.tv_base.specs.declared.cause.Cause.{Cause}
 use Rattle.tv_base.specs.declared.cause.Cause.TheVariants.{UnexpectedEnd, BadNumber, BadBool, NotUtf8}
 
@@ -88,9 +88,3 @@ each_at item (suc n) bytes = do
   first ← item bytes
   others ← each_at item n first.1
   Ok (first.0 ∷ others.0, others.1)
-
--- the number of the items, and then each
-unfoldable pub counted_at : {F Y : Type 0} → (Cause → F) → (List ℕ → Result (Y × List ℕ) (F × List ℕ)) → List ℕ → Result (List Y × List ℕ) (F × List ℕ)
-counted_at to item bytes = do
-  number ← lifted to (vint_at bytes)
-  each_at item number.0 number.1

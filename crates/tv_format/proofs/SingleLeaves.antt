@@ -5,7 +5,7 @@ use Rattle.tv_base.specs.declared.cause.Cause.TheVariants.{UnknownTypeCode, Unkn
 use Rattle.tv_base.specs.Number.{VNum}
 use Rattle.tv_base.specs.Parts.{Text}
 use Rattle.tv_base.specs.ErrorInPart.{InThen, InEach, ErrorInNumber, ErrorInText, ErrorInTruth, truth_ends, truth_large}
-use Rattle.tv_base.proofs.Numbers.{one_number, agree_fixed, length-fixed}
+use Rattle.tv_base.proofs.Numbers.{one_number, length-fixed}
 use Rattle.tv_base.proofs.Texts.{one_text}
 use Rattle.tv_base.proofs.Excluding.{excludes_number}
 use Rattle.tv_base.proofs.ExcludingParts.{excludes_text}

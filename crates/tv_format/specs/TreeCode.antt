@@ -102,8 +102,5 @@ coded_leaf = record { code = leaf_gv; inj = leaf_same }
 abbrev pub coded_tree : Coded Tree
 coded_tree = record { code = tree_gv; inj = tree_same }
 
-abbrev pub coded_elements : Coded Elements
-coded_elements = record { code = elements_gv; inj = elements_same }
-
 abbrev pub coded_document : Coded (List (ℕ × Tree))
 coded_document = coded_list (coded× coded_ℕ coded_tree)
