@@ -11,7 +11,7 @@ pub use Rattle.tv_builder.specs.declared.heap_pair.HeapPair
 pub use Rattle.tv_builder.specs.declared.heap_pairs.HeapPairs
 pub use Rattle.tv_builder.specs.declared.pair_builder.PairBuilder
 pub use Rattle.tv_builder.specs.declared.bytes_kind.BytesKind
-pub use Rattle.tv_builder.specs.declared.frame.ListKind
+pub use Rattle.tv_builder.specs.declared.list_kind.ListKind
 pub use Rattle.tv_heap.specs.declared.place.Place
 pub use Rattle.tv_doc.specs.declared.builder.TreeBuilder
 pub use Rattle.tv_builder.specs.declared.add_error.AddError

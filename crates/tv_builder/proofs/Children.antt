@@ -10,8 +10,8 @@ use Rattle.tv_heap.specs.Weight.{tree_weight, elements_weight, entries_weight}
 use Rattle.tv_heap.specs.TypeCode.{type_code}
 use Rattle.tv_heap.proofs.Grown.{grown_elements, grown_entries}
 use Rattle.tv_heap.proofs.Writes.{at_end, longer, sized_length, sized_some, vnum_five}
-use Rattle.tv_builder.specs.declared.frame.ListKind.{ListKind}
-use Rattle.tv_builder.specs.declared.frame.ListKind.TheVariants.{Array, Object}
+use Rattle.tv_builder.specs.declared.list_kind.ListKind.{ListKind}
+use Rattle.tv_builder.specs.declared.list_kind.ListKind.TheVariants.{Array, Object}
 use Rattle.tv_builder.specs.Kinds.{list_type, total}
 use Rattle.tv_builder.specs.Parts.{value, key, array_head, object_head, entry_parts, Rule, full_array, full_object}
 use Rattle.tv_builder.specs.Shows.{Placed}

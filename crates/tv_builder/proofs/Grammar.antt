@@ -8,8 +8,8 @@ use Rattle.tv_format.specs.Tree.{Tree, leaf, array, object, Entries, elements, e
 use Rattle.tv_format.specs.Version.{Version, V1, V2, V3, entry_total}
 use Rattle.tv_builder.specs.declared.bytes_kind.BytesKind.{BytesKind}
 use Rattle.tv_builder.specs.declared.bytes_kind.BytesKind.TheVariants as kinds
-use Rattle.tv_builder.specs.declared.frame.ListKind.{ListKind}
-use Rattle.tv_builder.specs.declared.frame.ListKind.TheVariants as lists
+use Rattle.tv_builder.specs.declared.list_kind.ListKind.{ListKind}
+use Rattle.tv_builder.specs.declared.list_kind.ListKind.TheVariants as lists
 use Rattle.tv_builder.specs.State.{OpenList, State, complete, in_lists, in_bytes, lists_of, children_of, list_parts, lists_parts, parts_of, list_head, children_parts, key_parts, value_parts, text_of}
 use Rattle.tv_builder.specs.Prefix.{KeyHead, BytesHead, EncodesPart, Encoded}
 use Rattle.tv_builder.specs.Parts.{Part, pair, value, bytes_head, some_bytes, entry_parts, bytes_part, IsContent, Rule, full_array, full_object, full_bytes, more_bytes, no_bytes, full_pair, Trades, same, by_rule}

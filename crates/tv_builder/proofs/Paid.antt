@@ -19,8 +19,8 @@ use Rattle.tv_heap.specs.Weight.{tree_weight, elements_weight, entries_weight, d
 use Rattle.tv_heap.proofs.Writes.{length_eight, length_sixteen}
 use Rattle.tv_builder.specs.declared.bytes_kind.BytesKind.{BytesKind}
 use Rattle.tv_builder.specs.declared.bytes_kind.BytesKind.TheVariants as kinds
-use Rattle.tv_builder.specs.declared.frame.ListKind.{ListKind}
-use Rattle.tv_builder.specs.declared.frame.ListKind.TheVariants as lists
+use Rattle.tv_builder.specs.declared.list_kind.ListKind.{ListKind}
+use Rattle.tv_builder.specs.declared.list_kind.ListKind.TheVariants as lists
 use Rattle.tv_builder.specs.Behind.{pairs_parts, document_parts, open_parts}
 use Rattle.tv_builder.specs.Prefix.{KeyHead, BytesHead, EncodesPart, Encoded}
 use Rattle.tv_builder.specs.Parts.{value, field}

@@ -6,8 +6,8 @@ use Rattle.tv_base.specs.Parts.{short_sized}
 use Rattle.tv_format.specs.Tree.{Tree, leaf, text}
 use Rattle.tv_heap.specs.Weight.{tree_weight}
 use Rattle.tv_builder.specs.declared.building.Building.{Building}
-use Rattle.tv_builder.specs.declared.frame.ListKind.{ListKind}
-use Rattle.tv_builder.specs.declared.frame.ListKind.TheVariants.{Array, Object}
+use Rattle.tv_builder.specs.declared.list_kind.ListKind.{ListKind}
+use Rattle.tv_builder.specs.declared.list_kind.ListKind.TheVariants.{Array, Object}
 use Rattle.tv_builder.specs.Shows.{Stands}
 use Rattle.tv_builder.specs.State.{OpenList, State, complete, in_lists, in_bytes, text_of, IsKey, AreEntries, AreValues, AreChildren, AreLists, IsState, trees_weight, lists_written, written}
 use Rattle.tv_builder.specs.Weight.{keys_weight, values_weight, children_weight, lists_weight, state_weight}

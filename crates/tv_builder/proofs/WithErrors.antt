@@ -12,8 +12,8 @@ use Rattle.tv_format.specs.Tree.{Tree, elements, element_count, entries, entry_c
 use Rattle.tv_format.specs.Version.{Version, V1, V2, V3}
 use Rattle.tv_builder.specs.declared.bytes_kind.BytesKind.{BytesKind}
 use Rattle.tv_builder.specs.declared.bytes_kind.BytesKind.TheVariants as kinds
-use Rattle.tv_builder.specs.declared.frame.ListKind.{ListKind}
-use Rattle.tv_builder.specs.declared.frame.ListKind.TheVariants as lists
+use Rattle.tv_builder.specs.declared.list_kind.ListKind.{ListKind}
+use Rattle.tv_builder.specs.declared.list_kind.ListKind.TheVariants as lists
 use Rattle.tv_format.specs.declared.leaf_type.LeafType.TheVariants as leaves
 use Rattle.tv_builder.specs.Behind.{pairs_parts, document_parts, open_parts, ErrorsBehind}
 use Rattle.tv_builder.specs.Prefix.{EncodesPart, KeyHead}

@@ -5,8 +5,8 @@ use Rattle.tv_builder.specs.declared.awaits.Awaits.{Awaits}
 use Rattle.tv_builder.specs.declared.awaits.Awaits.TheVariants as awaits
 use Rattle.tv_builder.specs.declared.bytes_kind.BytesKind.{BytesKind}
 use Rattle.tv_builder.specs.declared.bytes_kind.BytesKind.TheVariants as kinds
-use Rattle.tv_builder.specs.declared.frame.ListKind.{ListKind}
-use Rattle.tv_builder.specs.declared.frame.ListKind.TheVariants as lists
+use Rattle.tv_builder.specs.declared.list_kind.ListKind.{ListKind}
+use Rattle.tv_builder.specs.declared.list_kind.ListKind.TheVariants as lists
 use Rattle.tv_builder.specs.Kinds.{total}
 use Rattle.tv_builder.specs.Parts.{Part, value, key, array_head, object_head, bytes_head, some_bytes}
 use Rattle.tv_heap.specs.Room.{room}

@@ -9,7 +9,8 @@ use crate::awaits::Awaits;
 use crate::build_error::BuildError;
 use crate::bytes_kind::BytesKind;
 use crate::fits::has_room;
-use crate::frame::{Frame, ListKind};
+use crate::frame::Frame;
+use crate::list_kind::ListKind;
 use crate::whole::{put_leaf, put_list, put_tree};
 use std::alloc::Global;
 use std::convert::AsStr;
@@ -22,33 +23,33 @@ use tv_value::leaf::ReferenceValueLeaf;
 use tv_value::nested::lend;
 use tv_value::value::Value;
 
-/// The bytes of an open value. (Not in tantivy.)
+// The bytes of an open value.
 #[derive(Clone, Copy, Debug)]
-pub struct OpenBytes {
-    /// What they are.
+pub(crate) struct OpenBytes {
+    // What they are.
     pub kind: BytesKind,
-    /// The address of their length.
+    // The address of their length.
     pub address: u32,
-    /// How many are announced.
+    // How many are announced.
     pub announced: u32,
-    /// How many are still awaited.
+    // How many are still awaited.
     pub missing: u32,
 }
 
-/// A heap, and where what is finished stands in it. (Not in tantivy.)
+// A heap, and where what is finished stands in it.
 #[derive(Debug, Drop)]
-pub struct Building {
-    /// The bytes in which finished values stand, and behind them open bytes so far.
+pub(crate) struct Building {
+    // The bytes in which finished values stand, and behind them open bytes so far.
     pub heap: Vec<u8>,
-    /// The places of the finished children of all open lists, as they will stand in the bytes of their lists.
+    // The places of the finished children of all open lists, as they will stand in the bytes of their lists.
     pub places: Vec<u8>,
-    /// How many they are.
+    // How many they are.
     pub pending: usize,
-    /// The open lists, from the outermost.
+    // The open lists, from the outermost.
     pub frames: Vec<Frame>,
-    /// Where the value stands, once it is complete.
+    // Where the value stands, once it is complete.
     pub complete: Option<Place>,
-    /// The bytes that are open.
+    // The bytes that are open.
     pub open: Option<OpenBytes>,
 }
 
@@ -65,8 +66,8 @@ impl Building {
     ghost use Rattle.tv_builder.specs.declared.awaits.Awaits.TheVariants.{Value as ValueNext};
     ghost use Rattle.tv_builder.specs.declared.awaits.Awaits.TheVariants.{Key as KeyNext};
 
-    /// Behind this heap, where a value is awaited. It takes no memory.
-    pub fn new(alloc: Global, heap: Vec<u8>) -> Building
+    // Behind this heap, where a value is awaited. It takes no memory.
+    pub(crate) fn new(alloc: Global, heap: Vec<u8>) -> Building
         ensures heap { result.heap.items ≡ heap.items }
         ensures places { result.places.items ≡ [] }
         ensures pending { result.pending ≡ 0 }
@@ -84,8 +85,8 @@ impl Building {
         }
     }
 
-    /// Lets go of what isn't finished, and cuts the heap to this length.
-    pub fn clear(&mut self, len: usize)
+    // Lets go of what isn't finished, and cuts the heap to this length.
+    pub(crate) fn clear(&mut self, len: usize)
         ensures heap { self.new.heap.items ≡ take len self.old.heap.items }
         ensures places { self.new.places.items ≡ [] }
         ensures pending { self.new.pending ≡ 0 }
@@ -101,8 +102,8 @@ impl Building {
         self.open = None;
     }
 
-    /// What the next call must be.
-    pub fn awaits(&self) -> Awaits
+    // What the next call must be.
+    pub(crate) fn awaits(&self) -> Awaits
         ensures { result ≡ awaited_by self.now }
     {
         if let Some(open) = self.open {
@@ -119,8 +120,8 @@ impl Building {
         }
     }
 
-    /// A value without children has come.
-    pub fn leaf(&mut self, value: &ReferenceValueLeaf<'_>) -> Result<(), BuildError>
+    // A value without children has come.
+    pub(crate) fn leaf(&mut self, value: &ReferenceValueLeaf<'_>) -> Result<(), BuildError>
         requires { Stands self.old }
         ensures { let l = leaf_of value.now in Does self.old self.new
             (awaited_by self.old ≡ ValueNext) (LeafFits self.old.heap.items l)
@@ -133,8 +134,8 @@ impl Building {
         self.give(place)
     }
 
-    /// A whole value of any kind has come: what the calls for its parts do.
-    pub fn tree<'a, V: Value<'a>>(&mut self, value: &V) -> Result<(), BuildError>
+    // A whole value of any kind has come: what the calls for its parts do.
+    pub(crate) fn tree<'a, V: Value<'a>>(&mut self, value: &V) -> Result<(), BuildError>
         requires { Stands self.old }
         ensures { let t = V.tree value.now in Does self.old self.new
             (awaited_by self.old ≡ ValueNext) (Unit {0}) (λ s. and_value s t) result }
@@ -146,8 +147,8 @@ impl Building {
         self.give(place)
     }
 
-    /// A list has come, of which so many elements or entries are announced. One of none closes at once.
-    pub fn open_list(&mut self, kind: ListKind, announced: u64) -> Result<(), BuildError>
+    // A list has come, of which so many elements or entries are announced. One of none closes at once.
+    pub(crate) fn open_list(&mut self, kind: ListKind, announced: u64) -> Result<(), BuildError>
         requires { Stands self.old }
         ensures { Does self.old self.new (awaited_by self.old ≡ ValueNext)
             (ListFits self.old.heap.items announced) (λ s. and_list s kind announced) result }
@@ -169,8 +170,8 @@ impl Building {
         Ok(())
     }
 
-    /// A key has come.
-    pub fn key(&mut self, content: &str) -> Result<(), BuildError>
+    // A key has come.
+    pub(crate) fn key(&mut self, content: &str) -> Result<(), BuildError>
         requires { Stands self.old }
         ensures { Does self.old self.new (awaited_by self.old ≡ KeyNext)
             (KeyFits self.old.heap.items content.now) (λ s. and_key s content.now) result }
@@ -186,8 +187,8 @@ impl Building {
         self.give_key(address)
     }
 
-    /// The bytes of a value or a key begin, of which so many are announced.
-    pub fn begin_bytes(&mut self, kind: BytesKind, announced: u64) -> Result<(), BuildError>
+    // The bytes of a value or a key begin, of which so many are announced.
+    pub(crate) fn begin_bytes(&mut self, kind: BytesKind, announced: u64) -> Result<(), BuildError>
         requires { Stands self.old }
         ensures { Does self.old self.new (awaited_by self.old ≡ head_awaits kind)
             (HeadFits self.old.heap.items announced) (λ s. and_head s kind announced) result }
@@ -221,8 +222,8 @@ impl Building {
         }
     }
 
-    /// Some of the announced bytes have come.
-    pub fn chunk(&mut self, bytes: &[u8]) -> Result<(), BuildError>
+    // Some of the announced bytes have come.
+    pub(crate) fn chunk(&mut self, bytes: &[u8]) -> Result<(), BuildError>
         requires { Stands self.old }
         ensures does { Does self.old self.new (AwaitsChunk self.old.open (length bytes.now))
             (Unit {0}) (λ s. and_bytes s bytes.now) result }
@@ -244,8 +245,8 @@ impl Building {
         Ok(())
     }
 
-    /// All announced bytes have come.
-    pub fn end_bytes(&mut self) -> Result<(), BuildError>
+    // All announced bytes have come.
+    pub(crate) fn end_bytes(&mut self) -> Result<(), BuildError>
         requires { Stands self.old }
         ensures { EndsBytes self.old self.new result }
     {

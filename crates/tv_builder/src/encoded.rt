@@ -15,7 +15,7 @@ ghost use Rattle.tv_format.specs.Version.{entry_total};
 ghost use Rattle.tv_format.specs.WriteVersion.{written_version};
 ghost use Rattle.tv_format.specs.declared.version.WriteVersion.{WriteVersion};
 
-use crate::frame::ListKind;
+use crate::list_kind::ListKind;
 use crate::whole::{put, put_list};
 use tv_format::leaf_type::{Form, LeafType};
 use tv_format::type_codes::{ARRAY_CODE, OBJECT_CODE, TEXT_CODE, TOK_STR_EXT_CODE};

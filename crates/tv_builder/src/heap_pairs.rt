@@ -64,6 +64,9 @@ fn keep_pair(
 }
 
 /// Pairs of a field and a value, in order, and the heap in which the values stand. (Not in tantivy.)
+///
+/// An addition is refused with `HeapFull` where the heap's length and the value's room are together above 4294967295; else with `Memory`
+/// where memory is refused. After each of these the pairs and the heap are unchanged.
 #[derive(Debug, Drop)]
 pub struct HeapPairs {
     /// The bytes in which the values stand.
@@ -109,8 +112,7 @@ impl HeapPairs {
         })
     }
 
-    /// A copy: the same pairs, and their values at the same places of the same heap. The only error is that memory was
-    /// refused.
+    /// A copy. The only error is that memory was refused.
     pub fn try_clone(&self, alloc: Global) -> Result<HeapPairs, AllocError>
         ensures { IfOk result (λ copy. IsUnchanged self.now copy) }
     {
@@ -119,8 +121,7 @@ impl HeapPairs {
         Ok(HeapPairs { heap, pairs })
     }
 
-    /// Gives memory back that neither the values nor the pairs need, as far as the allocator takes it; where there is no value or no pair,
-    /// all of what was for them. The pairs stay the same.
+    /// Gives memory back that neither the values nor the pairs need, as far as the allocator takes it.
     pub fn shrink_to_fit(&mut self)
         ensures same { IsUnchanged self.old self.new }
         ensures bytes { heap_capacity self.new ≤ heap_capacity self.old }
@@ -132,28 +133,28 @@ impl HeapPairs {
         self.pairs.shrink_to_fit();
     }
 
-    /// Adds a pair of a field and a text. The errors are those of `add_value`.
+    /// Adds a pair of a field and a text.
     pub fn add_text(&mut self, field: u32, content: &str) -> Result<(), AddError>
         ensures { Adds self.old self.new field (leaf (text content.now)) result }
     {
         self.add_leaf(field, &ReferenceValueLeaf::Str(content))
     }
 
-    /// Adds a pair of a field and an unsigned number. The errors are those of `add_value`.
+    /// Adds a pair of a field and an unsigned number.
     pub fn add_u64(&mut self, field: u32, number: u64) -> Result<(), AddError>
         ensures { Adds self.old self.new field (leaf (unsigned number)) result }
     {
         self.add_leaf(field, &ReferenceValueLeaf::U64(number))
     }
 
-    /// Adds a pair of a field and a signed number. The errors are those of `add_value`.
+    /// Adds a pair of a field and a signed number.
     pub fn add_i64(&mut self, field: u32, number: i64) -> Result<(), AddError>
         ensures { Adds self.old self.new field (leaf (signed number)) result }
     {
         self.add_leaf(field, &ReferenceValueLeaf::I64(number))
     }
 
-    /// Adds a pair of a field and a value without children. The errors are those of `add_value`.
+    /// Adds a pair of a field and a value without children.
     #[inline(always)]
     pub fn add_leaf(&mut self, field: u32, value: &ReferenceValueLeaf<'_>) -> Result<(), AddError>
         ensures { Adds self.old self.new field (leaf (leaf_of value.now)) result }
@@ -170,9 +171,6 @@ impl HeapPairs {
     }
 
     /// Adds a pair of a field and a value of any kind.
-    ///
-    /// `HeapFull` where the heap's length and the value's room are together above 4294967295; else `Memory` where memory is refused. After
-    /// each of these the pairs and the heap are unchanged.
     pub fn add_value<'a, V: Value<'a>>(&mut self, field: u32, value: &V) -> Result<(), AddError>
         ensures { Adds self.old self.new field (V.tree value.now) result }
     {

@@ -4,13 +4,14 @@
 pub mod add_error;
 pub mod awaits;
 pub mod build_error;
-pub mod building;
+mod building;
 pub mod bytes_kind;
 pub mod encoded;
 mod fits;
-pub mod frame;
+mod frame;
 pub mod heap_pair;
 pub mod heap_pairs;
 pub mod laws;
+pub mod list_kind;
 pub mod pair_builder;
 mod whole;

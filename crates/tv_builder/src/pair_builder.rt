@@ -12,9 +12,9 @@ use crate::awaits::Awaits;
 use crate::build_error::BuildError;
 use crate::building::Building;
 use crate::bytes_kind::BytesKind;
-use crate::frame::ListKind;
 use crate::heap_pair::HeapPair;
 use crate::heap_pairs::{HeapPairs, push_pair};
+use crate::list_kind::ListKind;
 use tv_value::leaf::ReferenceValueLeaf;
 use tv_value::value::Value;
 
@@ -60,9 +60,12 @@ fn keep_tree(
 /// Pairs in a heap, and a value of any depth that is written into it as its parts arrive. (Not in tantivy.)
 ///
 /// A value comes by one call, or as a list whose children come by as many calls, or as bytes in chunks. A list closes itself with its
-/// last child. The complete value becomes a pair by `finish`. After any refusal nothing is open, and every call that can refuse
-/// returns `AlreadyFailed`; the finished pairs stay. No call's time grows with the number of open lists or of finished pairs; what closes a
-/// list takes as long as its own bytes.
+/// last child. The complete value becomes a pair by `finish`. No call's time grows with the number of open lists or of finished pairs; what
+/// closes a list takes as long as its own bytes.
+///
+/// A call is refused with `OutOfPlace` where another is awaited; with `HeapFull` where what it writes, or a list that it closes, would end
+/// above 4294967295; and with `Memory` where memory is refused. After any refusal nothing is open, the finished pairs stay, and every call
+/// that can refuse returns `AlreadyFailed`.
 #[derive(Debug, Drop)]
 pub struct PairBuilder {
     building: Building,
@@ -149,18 +152,14 @@ impl PairBuilder {
         self.building.frames.len()
     }
 
-    /// What the next call must be; after a refusal, what it would have to be at first. (Not in tantivy.)
+    /// What the next call must be; after a refusal, what it would have to be at first.
     pub fn awaits(&self) -> Awaits
         ensures { result ≡ awaited (state_of self.now) }
     {
         self.building.awaits()
     }
 
-    /// A value without children.
-    ///
-    /// `AlreadyFailed` after a refusal; `OutOfPlace` where no value is awaited; `HeapFull` where the value, or a list that it closes, would
-    /// end above 4294967295; `Memory` where memory is refused. `Memory` comes only where the value itself fits; it may come before the
-    /// `HeapFull` of a list that the value closes.
+    /// A value without children. `Memory` comes only where the value itself fits.
     pub fn leaf(&mut self, value: ReferenceValueLeaf<'_>) -> Result<(), BuildError>
         ensures { let l = leaf_of value.entry in Builds self.old self.new
             (awaited (state_of self.old) ≡ ValueNext) (LeafFits (heap_so_far self.old) l)
@@ -174,10 +173,6 @@ impl PairBuilder {
     }
 
     /// A whole value of any kind: what the calls for its parts do.
-    ///
-    /// `AlreadyFailed` after a refusal; `OutOfPlace` where no value is awaited; `HeapFull` where a part of the value, or a list that it
-    /// closes, would end above 4294967295; `Memory` where memory is refused, which may come before the `HeapFull` of a later part of the
-    /// value, or of a list that it closes.
     pub fn tree<'a, V: Value<'a>>(&mut self, value: &V) -> Result<(), BuildError>
         ensures { let t = V.tree value.now in Builds self.old self.new
             (awaited (state_of self.old) ≡ ValueNext) (Unit {0}) (λ s. and_value s t) result }
@@ -189,11 +184,8 @@ impl PairBuilder {
         settle(&mut self.building, &mut self.failed, self.kept, result)
     }
 
-    /// A list opens, of which so many elements or entries are announced. One of none closes at once. Nothing is reserved.
-    ///
-    /// `AlreadyFailed` after a refusal; `OutOfPlace` where no value is awaited; `HeapFull` where the list, or one that it closes,
-    /// would end above 4294967295; `Memory` where memory is refused. `Memory` comes only where a list of none itself fits; it may come
-    /// before the `HeapFull` of a list that the list closes.
+    /// A list opens, of which so many elements or entries are announced. One of none closes at once. Nothing is reserved. `Memory` comes only
+    /// where a list of none itself fits.
     pub fn open_list(&mut self, kind: ListKind, announced: u64) -> Result<(), BuildError>
         ensures { Builds self.old self.new (awaited (state_of self.old) ≡ ValueNext)
             (ListFits (heap_so_far self.old) announced) (λ s. and_list s kind announced) result }
@@ -205,10 +197,7 @@ impl PairBuilder {
         settle(&mut self.building, &mut self.failed, self.kept, result)
     }
 
-    /// A key of the innermost object.
-    ///
-    /// `AlreadyFailed` after a refusal; `OutOfPlace` where no key is awaited; `HeapFull` where the key would end above 4294967295; else
-    /// `Memory` where memory is refused. `Memory` comes only where the key fits.
+    /// A key of the innermost object. `Memory` comes only where the key fits.
     pub fn key(&mut self, content: &str) -> Result<(), BuildError>
         ensures { Builds self.old self.new (awaited (state_of self.old) ≡ KeyNext)
             (KeyFits (heap_so_far self.old) content.now) (λ s. and_key s content.now) result }
@@ -220,10 +209,7 @@ impl PairBuilder {
         settle(&mut self.building, &mut self.failed, self.kept, result)
     }
 
-    /// The bytes of a value or of a key begin, of which so many are announced. Nothing is reserved.
-    ///
-    /// `AlreadyFailed` after a refusal; `OutOfPlace` where no value, or for a key no key, is awaited; `HeapFull` where the announced
-    /// bytes behind their length would end above 4294967295; else `Memory` where memory is refused. `Memory` comes only where they fit.
+    /// The bytes of a value or of a key begin, of which so many are announced. Nothing is reserved. `Memory` comes only where all of them fit.
     pub fn begin_bytes(&mut self, kind: BytesKind, announced: u64) -> Result<(), BuildError>
         ensures { Builds self.old self.new (awaited (state_of self.old) ≡ head_awaits kind)
             (HeadFits (heap_so_far self.old) announced) (λ s. and_head s kind announced) result }
@@ -235,9 +221,7 @@ impl PairBuilder {
         settle(&mut self.building, &mut self.failed, self.kept, result)
     }
 
-    /// Some of the announced bytes.
-    ///
-    /// `AlreadyFailed` after a refusal; `OutOfPlace` where fewer are missing; else `Memory` where memory is refused.
+    /// Some of the announced bytes. They have room: `HeapFull` doesn't come.
     pub fn chunk(&mut self, bytes: &[u8]) -> Result<(), BuildError>
         ensures builds { Builds self.old self.new
             (TakesBytes (state_of self.old) (length bytes.now)) (Unit {0})
@@ -251,11 +235,8 @@ impl PairBuilder {
         settle(&mut self.building, &mut self.failed, self.kept, result)
     }
 
-    /// All announced bytes have come, and are a finished value or key.
-    ///
-    /// `AlreadyFailed` after a refusal; `OutOfPlace` where no bytes are open, or some are missing; `NotUtf8` where they should be a text,
-    /// a facet or a key and aren't UTF-8; `HeapFull` where a list that the value closes would end above 4294967295; `Memory` where memory is
-    /// refused, which may come before that `HeapFull`.
+    /// All announced bytes have come, and are a finished value or key. `NotUtf8` where they should be a text, a facet or a key and aren't
+    /// UTF-8.
     pub fn end_bytes(&mut self) -> Result<(), BuildError>
         ensures { Ends self.old self.new result }
     {
@@ -267,8 +248,6 @@ impl PairBuilder {
     }
 
     /// The complete value becomes that of a pair.
-    ///
-    /// `AlreadyFailed` after a refusal; `OutOfPlace` where no value is complete; else `Memory` where memory is refused.
     pub fn finish(&mut self, field: u32) -> Result<(), BuildError>
         ensures { Finishes self.old self.new field result }
     {

@@ -11,7 +11,7 @@ ghost use Rattle.tv_builder.specs.Whole.{ListPut, ListPutNot};
 use crate::add_error::AddError;
 use crate::build_error::BuildError;
 use crate::fits::{has_room, has_ten_times, has_tree_room, has_value_room};
-use crate::frame::ListKind;
+use crate::list_kind::ListKind;
 use std::alloc::Global;
 use std::convert::AsStr;
 use tv_heap::len::leaf_len;

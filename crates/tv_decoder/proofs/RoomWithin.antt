@@ -19,8 +19,8 @@ use Rattle.tv_format.proofs.Trees.{one_tree, one_pair}
 use Rattle.tv_heap.specs.Room.{room, content_room, elements_room, entries_room, document_room}
 use Rattle.tv_builder.specs.declared.bytes_kind.BytesKind.{BytesKind}
 use Rattle.tv_builder.specs.declared.bytes_kind.BytesKind.TheVariants as kinds
-use Rattle.tv_builder.specs.declared.frame.ListKind.{ListKind}
-use Rattle.tv_builder.specs.declared.frame.ListKind.TheVariants.{Array, Object}
+use Rattle.tv_builder.specs.declared.list_kind.ListKind.{ListKind}
+use Rattle.tv_builder.specs.declared.list_kind.ListKind.TheVariants.{Array, Object}
 use Rattle.tv_builder.specs.Behind.{pairs_parts, open_parts}
 use Rattle.tv_builder.specs.Prefix.{KeyHead, EncodesPart}
 use Rattle.tv_builder.specs.Kinds.{total}

@@ -34,7 +34,7 @@ use tv_base::ByteSource;
 use tv_base::take::take_pieces;
 use tv_builder::awaits::Awaits;
 use tv_builder::bytes_kind::BytesKind;
-use tv_builder::frame::ListKind;
+use tv_builder::list_kind::ListKind;
 use tv_builder::heap_pairs::HeapPairs;
 use tv_builder::pair_builder::PairBuilder;
 use tv_format::leaf_type::LeafType;

@@ -7,7 +7,7 @@ use crate::document::CompactDoc;
 pub use tv_builder::awaits::Awaits;
 pub use tv_builder::build_error::BuildError;
 pub use tv_builder::bytes_kind::BytesKind;
-use tv_builder::frame::ListKind;
+use tv_builder::list_kind::ListKind;
 use tv_builder::pair_builder::PairBuilder;
 use tv_value::field::Field;
 use tv_value::leaf::ReferenceValueLeaf;
@@ -44,7 +44,7 @@ impl TreeBuilder {
     ghost use Rattle.tv_builder.specs.State.{awaited, head_awaits, in_lists, lists_of, children_of};
     ghost use Rattle.tv_builder.specs.declared.awaits.Awaits.TheVariants.{Value as ValueNext};
     ghost use Rattle.tv_builder.specs.declared.awaits.Awaits.TheVariants.{Key as KeyNext};
-    ghost use Rattle.tv_builder.specs.declared.frame.ListKind.TheVariants.{Array, Object};
+    ghost use Rattle.tv_builder.specs.declared.list_kind.ListKind.TheVariants.{Array, Object};
     ghost use Rattle.tv_doc.specs.Builder.{built, state_of, heap_so_far, kept_heap, TakesBytes};
     ghost use Rattle.tv_doc.specs.Builder.{pairs_so_far, Builds, Ends, Finishes};
     ghost use Rattle.tv_doc.specs.Document.{document_of, heap_of, pairs_of};
