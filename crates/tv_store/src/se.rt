@@ -15,13 +15,13 @@ use crate::error::SerializeError;
 use crate::pair_writer::write_stored_pair;
 use std::io;
 use tv_base::ByteSink;
+use tv_base::write::write_vint;
 use tv_doc::document::CompactDoc;
 use tv_doc::laws::documents_are_valid;
 use tv_format::version::WriteVersion;
 use tv_heap::value::CompactDocValue;
 use tv_schema::Schema;
 use tv_value::field::Field;
-use tv_writer::leaf_writer::write_number;
 pub use tv_writer::serializers::{
     BinaryArraySerializer, BinaryObjectSerializer, BinaryValueSerializer,
 };
@@ -142,7 +142,7 @@ impl<'se, K: ByteSink> BinaryDocumentSerializer<'se, K> {
             (stored self.old.schema.now (document_of document.now)))) }
         ensures io { IfErr result IsIo }
     {
-        write_number(self.sink, stored_count(self.schema, document))?;
+        write_vint(self.sink, stored_count(self.schema, document))?;
         write_stored_pairs(self.sink, self.version, self.schema, document)?;
         Ok(())
     }

@@ -18,11 +18,6 @@ pub Coded_fails : {S T U E R : Type 0} {stop : E → Stop R} {is_known : S → T
     → WritesBy {T = T} stop is_known held failures old new (Err e) (Ok (code ∷ [])) → WritesBy {T = U} stop is_known held failures old new (Err e) (Ok (code ∷ body))
 Coded_fails {code = code} {body = body} first = Writes_prefix (code ∷ []) body first
 
--- the same text, said otherwise
-pub Writes_as : {S T E R : Type 0} {stop : E → Stop R} {is_known : S → Type 0} {held : S → List ℕ} {failures : S → Failures} {old new : S} {result : Result T E} {a b : List ℕ}
-    → WritesBy stop is_known held failures old new result (Ok a) → a ≡ b → WritesBy stop is_known held failures old new result (Ok b)
-Writes_as {stop = stop} {is_known = is_known} {held = held} {failures = failures} {old = old} {new = new} {result = result} write same = subst (λ (l : List ℕ). WritesBy stop is_known held failures old new result (Ok l)) same write
-
 -- the four and the eight bytes of a number, one by one
 pub four_listed : (r : List ℕ) (n : ℕ) (rest : List ℕ) → r ≡ to_le_bytes w32 n → get_or r 0 0 ∷ get_or r 1 0 ∷ get_or r 2 0 ∷ get_or r 3 0 ∷ rest ≡ four_bytes n ++ rest
 four_listed r n rest e = ap (λ z. get_or z 0 0 ∷ get_or z 1 0 ∷ get_or z 2 0 ∷ get_or z 3 0 ∷ rest) e ∙ ap (λ z. z ++ rest) (four_bytes_is n)

@@ -51,35 +51,6 @@ pub fn write_coded_text<K: ByteSink>(
     write_coded_bytes(sink, code, text.as_bytes())
 }
 
-/// Writes a number of variable length in its shortest encoding.
-///
-/// The only error is the kind with which a write failed. The sink then holds what it held before, and a beginning of these bytes.
-/// (Not in tantivy.)
-// Most have one byte.
-#[inline(always)]
-pub fn write_number<K: ByteSink>(sink: &mut K, number: u64) -> Result<(), io::ErrorKind>
-    ensures { Writes K.is_known K.held K.failures sink.old sink.new result (vnum number) }
-{
-    if number < 128 {
-        return write_code(sink, number as u8 + 128);
-    }
-    write_vint(sink, number)
-}
-
-/// Writes a text behind its length.
-///
-/// The only error is the kind with which a write failed. The sink then holds what it held before, and a beginning of these bytes.
-/// (Not in tantivy.)
-#[inline(always)]
-#[tactic(auto, using(tv_base::proofs::Written::Writes_then, tv_base::proofs::Written::Writes_prefix))]
-pub fn write_sized_text<K: ByteSink>(sink: &mut K, text: &str) -> Result<(), io::ErrorKind>
-    ensures { Writes K.is_known K.held K.failures sink.old sink.new result (short_sized text.now) }
-{
-    let content = text.as_bytes();
-    write_number(sink, content.len() as u64)?;
-    write_all(sink, content)
-}
-
 // A code, and bytes behind their length. A length of one byte is written with the code.
 #[inline(always)]
 #[tactic(auto, using(crate::proofs::Coded::Coded_then))]

@@ -14,10 +14,11 @@ ghost use Rattle.tv_format.specs.WriteVersion.{written_version};
 ghost use Rattle.tv_value.specs.Lent.{nested_tree};
 ghost use Rattle.tv_writer.specs.Children.{child_count};
 
-use crate::leaf_writer::{write_coded_count, write_coded_text, write_leaf, write_sized_text};
+use crate::leaf_writer::{write_coded_count, write_coded_text, write_leaf};
 use std::convert::AsStr;
 use std::io;
 use tv_base::ByteSink;
+use tv_base::write::write_text;
 use tv_format::type_codes::{ARRAY_CODE, OBJECT_CODE, TEXT_CODE};
 use tv_format::version::WriteVersion;
 use tv_value::nested::{Lent, Nested, NestedValue, lend};
@@ -38,7 +39,7 @@ pub fn write_key<K: ByteSink>(
 {
     match version {
         WriteVersion::V2 => write_coded_text(sink, TEXT_CODE, key),
-        WriteVersion::V3 => write_sized_text(sink, key),
+        WriteVersion::V3 => write_text(sink, key),
     }
 }
 

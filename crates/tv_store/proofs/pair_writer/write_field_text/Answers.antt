@@ -1,10 +1,9 @@
 use Rattle.std.proofs.Common.{◌++◌, sym, ap, ◌∙◌}
 use Rattle.tv_base.specs.Number.{four_bytes}
-use Rattle.tv_base.proofs.Written.{Writes_then}
+use Rattle.tv_base.proofs.Written.{Writes_then, Writes_as}
 use Rattle.tv_value.specs.Lent.{tree_of}
 use Rattle.tv_format.specs.Short.{short}
 use Rattle.tv_store.specs.Stored.{tree_written}
-use Rattle.tv_writer.proofs.Coded.{Writes_as}
 use Rattle.tv_store.proofs.pair_writer.write_field_text.Goals as goal
 
 pub returns : goal.returns

@@ -4,7 +4,7 @@ use Rattle.tv_heap.specs.Encoded.{SaysTokenized}
 use Rattle.tv_heap.specs.Value.{tree_of}
 use Rattle.tv_format.specs.Short.{short}
 use Rattle.tv_format.specs.WriteVersion.{written_version}
-use Rattle.tv_writer.proofs.Coded.{Writes_as}
+use Rattle.tv_base.proofs.Written.{Writes_as}
 use Rattle.tv_store.proofs.WriterSteps.{plainly_written, says_no_tokens}
 use Rattle.tv_store.proofs.pair_writer.write_stored_pair.Goals as goal
 

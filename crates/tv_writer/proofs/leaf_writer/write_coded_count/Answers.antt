@@ -1,7 +1,8 @@
 use Rattle.std.proofs.Common.{◌∷◌, sym, ap}
 use Rattle.std.proofs.lemmas.Result.{err_from_is_err_and}
 use Rattle.tv_base.proofs.Numbers.{vnum-small}
-use Rattle.tv_writer.proofs.Coded.{Coded_fails, Writes_as}
+use Rattle.tv_base.proofs.Written.{Writes_as}
+use Rattle.tv_writer.proofs.Coded.{Coded_fails}
 use Rattle.tv_writer.proofs.leaf_writer.write_coded_count.Goals as goal
 
 pub returns-then-count-lt128 : goal.returns-then-count-lt128

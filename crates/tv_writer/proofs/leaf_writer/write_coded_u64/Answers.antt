@@ -1,5 +1,6 @@
 use Rattle.std.proofs.Common.{◌∷◌, ap}
-use Rattle.tv_writer.proofs.Coded.{Writes_as, eight_listed}
+use Rattle.tv_base.proofs.Written.{Writes_as}
+use Rattle.tv_writer.proofs.Coded.{eight_listed}
 use Rattle.tv_writer.proofs.leaf_writer.write_coded_u64.Goals as goal
 
 pub returns : goal.returns

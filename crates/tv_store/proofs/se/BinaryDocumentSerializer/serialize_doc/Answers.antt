@@ -6,9 +6,9 @@ use Rattle.tv_store.proofs.se.BinaryDocumentSerializer.serialize_doc.Goals as go
 pub returns-in_err-write_stored_pairs-clause-writes : goal.returns-in_err-write_stored_pairs-clause-writes
 returns-in_err-write_stored_pairs-clause-writes g c =
     let p = err_from_is_err_and c.from_residual-in_err-write_stored_pairs.result c.from_residual-in_err-write_stored_pairs.ensures.1 in
-    rw (p.1, p.2, ← c.stored_count.ensures) (writes_for (Writes_then _ _ c.in_ok-write_number.ensures c.in_err-write_stored_pairs.ensures))
+    rw (p.1, p.2, ← c.stored_count.ensures) (writes_for (Writes_then _ _ c.in_ok-write_vint.ensures c.in_err-write_stored_pairs.ensures))
 
-pub returns-in_err-write_number-clause-writes : goal.returns-in_err-write_number-clause-writes
-returns-in_err-write_number-clause-writes g c =
+pub returns-in_err-write_vint-clause-writes : goal.returns-in_err-write_vint-clause-writes
+returns-in_err-write_vint-clause-writes g c =
     let p = err_from_is_err_and c.from_residual.result c.from_residual.ensures.1 in
-    rw (p.1, p.2, ← c.stored_count.ensures) (writes_for {T = Unit {0}} (Writes_prefix _ _ c.in_err-write_number.ensures))
+    rw (p.1, p.2, ← c.stored_count.ensures) (writes_for {T = Unit {0}} (Writes_prefix _ _ c.in_err-write_vint.ensures))
