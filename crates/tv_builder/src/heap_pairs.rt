@@ -4,7 +4,7 @@ ghost use Rattle.std.specs.Prelude.{◌≡◌, ◌<◌, ◌≤◌, ◌^◌, [], 
 ghost use Rattle.std.specs.Prelude.{IfNone, length};
 ghost use Rattle.tv_builder.specs.Holds.{Holds, Holds-prop};
 ghost use Rattle.tv_builder.specs.Keeping.{KeepsPair};
-ghost use Rattle.tv_format.specs.Tree.{leaf, text, unsigned, signed};
+ghost use Rattle.tv_format.specs.Tree.{leaf};
 ghost use Rattle.tv_format.specs.WriteVersion.{written_version};
 ghost use Rattle.tv_heap.specs.Room.{document_room};
 ghost use Rattle.tv_heap.specs.Weight.{document_weight};
@@ -133,27 +133,6 @@ impl HeapPairs {
         self.pairs.shrink_to_fit();
     }
 
-    /// Adds a pair of a field and a text.
-    pub fn add_text(&mut self, field: u32, content: &str) -> Result<(), AddError>
-        ensures { Adds self.old self.new field (leaf (text content.now)) result }
-    {
-        self.add_leaf(field, &ReferenceValueLeaf::Str(content))
-    }
-
-    /// Adds a pair of a field and an unsigned number.
-    pub fn add_u64(&mut self, field: u32, number: u64) -> Result<(), AddError>
-        ensures { Adds self.old self.new field (leaf (unsigned number)) result }
-    {
-        self.add_leaf(field, &ReferenceValueLeaf::U64(number))
-    }
-
-    /// Adds a pair of a field and a signed number.
-    pub fn add_i64(&mut self, field: u32, number: i64) -> Result<(), AddError>
-        ensures { Adds self.old self.new field (leaf (signed number)) result }
-    {
-        self.add_leaf(field, &ReferenceValueLeaf::I64(number))
-    }
-
     /// Adds a pair of a field and a value without children.
     #[inline(always)]
     pub fn add_leaf(&mut self, field: u32, value: &ReferenceValueLeaf<'_>) -> Result<(), AddError>
@@ -176,9 +155,15 @@ impl HeapPairs {
     {
         // The commonest leaves are handed on without standing in memory before.
         match value.as_value() {
-            ReferenceValue::Leaf(ReferenceValueLeaf::Str(content)) => self.add_text(field, content),
-            ReferenceValue::Leaf(ReferenceValueLeaf::U64(number)) => self.add_u64(field, number),
-            ReferenceValue::Leaf(ReferenceValueLeaf::I64(number)) => self.add_i64(field, number),
+            ReferenceValue::Leaf(ReferenceValueLeaf::Str(content)) => {
+                self.add_leaf(field, &ReferenceValueLeaf::Str(content))
+            }
+            ReferenceValue::Leaf(ReferenceValueLeaf::U64(number)) => {
+                self.add_leaf(field, &ReferenceValueLeaf::U64(number))
+            }
+            ReferenceValue::Leaf(ReferenceValueLeaf::I64(number)) => {
+                self.add_leaf(field, &ReferenceValueLeaf::I64(number))
+            }
             ReferenceValue::Leaf(single) => self.add_leaf(field, &single),
             _ => self.add_whole(field, value),
         }

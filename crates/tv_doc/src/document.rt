@@ -142,21 +142,21 @@ impl CompactDoc {
     pub fn add_text(&mut self, field: Field, content: &str) -> Result<(), AddError>
         ensures { Adds self.old self.new field.id (leaf (text content.now)) result }
     {
-        self.values.add_text(field.field_id(), content)
+        self.add_leaf(field, &ReferenceValueLeaf::Str(content))
     }
 
     /// Adds a pair of a field and an unsigned number, whose room is 8 bytes. The errors are those of `add_text`.
     pub fn add_u64(&mut self, field: Field, number: u64) -> Result<(), AddError>
         ensures { Adds self.old self.new field.id (leaf (unsigned number)) result }
     {
-        self.values.add_u64(field.field_id(), number)
+        self.add_leaf(field, &ReferenceValueLeaf::U64(number))
     }
 
     /// Adds a pair of a field and a signed number, whose room is 8 bytes. The errors are those of `add_text`.
     pub fn add_i64(&mut self, field: Field, number: i64) -> Result<(), AddError>
         ensures { Adds self.old self.new field.id (leaf (signed number)) result }
     {
-        self.values.add_i64(field.field_id(), number)
+        self.add_leaf(field, &ReferenceValueLeaf::I64(number))
     }
 
     /// Adds a pair of a field and a truth value, which takes no room. The errors are those of `add_text`.
