@@ -17,7 +17,7 @@ use Rattle.tv_value.specs.declared.owned_value.OwnedValue.{OwnedValue}
 use Rattle.tv_format.proofs.Trees.{one_tree}
 use Rattle.tv_reader.specs.Finds.{GivesStop, Found}
 use Rattle.tv_reader.specs.Trees.{EncodesBehind}
-use Rattle.tv_reader.specs.ValueType.{IsCoded, coded, no_code, no_extension_code}
+use Rattle.tv_reader.specs.ValueType.{leaf_type as held_type, IsCoded, coded, no_code, no_extension_code}
 use Rattle.tv_reader.specs.Version.{version_of}
 use Rattle.tv_reader.specs.declared.error.DeserializeError.{DeserializeError}
 use Rattle.tv_reader.specs.declared.error.DeserializeError.TheVariants as errors
@@ -27,7 +27,7 @@ use Rattle.tv_reader.proofs.Finding.{found_behind, stop_map}
 use Rattle.tv_typed.specs.Typed.{typed_stop, Reads, Deserializes}
 use Rattle.tv_typed.specs.Excluding.{leaf_type, leaf_excludes, tree_excludes, next_excludes}
 use Rattle.tv_typed.specs.Excluding.{with_legacy}
-use Rattle.tv_typed.specs.Values.{EncodesAs, EncodedAs, IsLeaf, IsTree, EncodesLeaf, LeafRefused, TreeRefused, CodeRefused, in_code, NextRefused, RefusalsExclude, SparesBytes, IsReadOf, Only}
+use Rattle.tv_typed.specs.Values.{EncodesAs, EncodedAs, IsFixed, ReadsLeaf, IsLeaf, IsTree, EncodesLeaf, LeafRefused, TreeRefused, CodeRefused, in_code, NextRefused, RefusalsExclude, SparesBytes, IsReadOf, Only}
 use Rattle.tv_typed.specs.declared.store_reader.StoreReader.{StoreReader}
 
 abbrev pub end : DeserializeError
@@ -204,10 +204,13 @@ pub leaf_deserializes : {S X : Type 0} {is_known : S → Type 0} {left : S → L
     → Reads is_known left failures old new result (EncodesLeaf v kind make) Q → Deserializes is_known left failures old new result (EncodedAs (IsLeaf make) v kind) Q
 leaf_deserializes make v kind h = deserializes (EncodedAs (IsLeaf make) v kind) (λ b x p. (leaf (make x), p, refl)) h
 
-pub leaf_only : {S X : Type 0} {is_known : S → Type 0} {left : S → List ℕ} {failures : S → Failures} {old new : StoreReader S} {result : Result X DeserializeError} (expected : ValueType) (make : X → Leaf) → ((x : X) → leaf_type (make x) ≡ expected) → (v : Version) (kind : ValueType)
-    → Reads is_known left failures old new result (EncodesLeaf v kind make) (LeafRefused expected v kind) → Only is_known left old new result (IsLeaf make) v (coded kind)
-leaf_only expected make is v kind h =
-    only_by (IsLeaf make) v (coded kind) (LeafRefused expected v kind) (λ prefix rest e t x r p same. leaf_excludes expected (make x) (is x) v kind prefix rest e t r p same) (leaf_deserializes make v kind h)
+pub reads_leaf : {S X : Type 0} {is_known : S → Type 0} {left : S → List ℕ} {failures : S → Failures} {old new : StoreReader S} {result : Result X DeserializeError} (expected : ValueType) (make : X → Leaf) → ((x : X) → leaf_type (make x) ≡ expected) → (kind : ValueType)
+    → Reads is_known left failures old new result (EncodesLeaf (version_of old.version) kind make) (LeafRefused expected (version_of old.version) kind) → (IsFixed (held_type expected) → ¬ IsErrOf result errors.Memory)
+    → ReadsLeaf is_known left failures expected make kind old new result
+reads_leaf {old = old} expected make typed kind h spares =
+    let v = version_of old.version in
+    let as_type = leaf_deserializes make v kind h in
+    record { reads = h; only = only_by (IsLeaf make) v (coded kind) (LeafRefused expected v kind) (leaf_excludes expected make typed v kind) as_type; deserializes = as_type; spares = spares }
 
 -- a value of any type behind its code
 pub tree_deserializes : {S : Type 0} {is_known : S → Type 0} {left : S → List ℕ} {failures : S → Failures} {old new : StoreReader S} {result : Result OwnedValue DeserializeError} {Q : List ℕ → DeserializeError → Type 0} (v : Version) (kind : ValueType)
@@ -216,7 +219,7 @@ tree_deserializes v kind h = deserializes (EncodedAs IsTree v kind) (λ b x p. (
 
 pub tree_only : {S : Type 0} {is_known : S → Type 0} {left : S → List ℕ} {failures : S → Failures} {old new : StoreReader S} {result : Result OwnedValue DeserializeError} (v : Version) (kind : ValueType)
     → Reads is_known left failures old new result (EncodesBehind v kind) (TreeRefused v kind) → Only is_known left old new result IsTree v (coded kind)
-tree_only v kind h = only_by IsTree v (coded kind) (TreeRefused v kind) (λ prefix rest e t x r p same. tree_excludes IsTree v kind prefix rest e t x r p same) (tree_deserializes v kind h)
+tree_only v kind h = only_by IsTree v (coded kind) (TreeRefused v kind) (tree_excludes IsTree v kind) (tree_deserializes v kind h)
 
 -- the next value
 pub next_code_fails : {S X : Type 0} {is_known : S → Type 0} {left : S → List ℕ} {failures : S → Failures} {old new : StoreReader S} {e : DeserializeError} (is : Tree → X → Type 0) (refused : Version → ValueType → List ℕ → DeserializeError → Type 0) (v : Version)

@@ -157,7 +157,7 @@ found_more : {X : Type 0} (A : List ℕ → X → Type 0) (P Q : List ℕ → De
 found_more A P Q (Ok x) old new count map h = h
 found_more A P Q (Err e) old new count map h = stop_map end P Q (typed_stop e) old new count map h
 
-goes_more : {S X : Type 0} {is_known : S → Type 0} {left : S → List ℕ} {failures : S → Failures} {old new : StoreReader S} {result : Result X DeserializeError} {A : List ℕ → X → Type 0} {P : List ℕ → DeserializeError → Type 0} (Q : List ℕ → DeserializeError → Type 0)
+pub goes_more : {S X : Type 0} {is_known : S → Type 0} {left : S → List ℕ} {failures : S → Failures} {old new : StoreReader S} {result : Result X DeserializeError} {A : List ℕ → X → Type 0} {P : List ℕ → DeserializeError → Type 0} (Q : List ℕ → DeserializeError → Type 0)
     → ((w : List ℕ) (c : DeserializeError) → P w c → Q w c) → Deserializes is_known left failures old new result A P → Deserializes is_known left failures old new result A Q
 goes_more {left = left} {old = old} {new = new} {result = result} {A = A} {P = P} Q map p = record {
   closed = p.closed;

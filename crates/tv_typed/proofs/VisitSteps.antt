@@ -1,5 +1,5 @@
 -- Values that are handed to visitors.
-use Rattle.std.proofs.Common.{◌≡◌, ℕ, Bool, true, false, List, ◌++◌, Result, Ok, Err, refl, sym, ap, subst, ◌∙◌, inl, inr}
+use Rattle.std.proofs.Common.{◌≡◌, ◌≢◌, ℕ, Bool, true, false, List, ◌++◌, Result, Ok, Err, refl, sym, ap, subst, ◌∙◌, inl, inr}
 use Rattle.std.specs.Prelude.{is_err, OnOk}
 use Rattle.tv_base.specs.Source.{AllBytes, Failures}
 use Rattle.tv_base.specs.declared.cause.Cause.{Cause}
@@ -27,8 +27,8 @@ use Rattle.tv_typed.specs.Excluding.{malformed_behind}
 use Rattle.tv_typed.specs.LegacyObjects.{OfEncoding}
 use Rattle.tv_typed.specs.Typed.{typed_stop, Reads, Deserializes, raised}
 use Rattle.tv_typed.specs.Values.{CodeRefused, in_code, IsLeaf, EncodesLeaf, LeafRefused, other_type, in_body, TreeRefused}
-use Rattle.tv_typed.specs.Lists.{Length, LengthRefused, in_length}
-use Rattle.tv_typed.specs.Visits.{single_leaf, Answered, Visits, EncodesVisited, VisitRefused, Handed, VisitsItems, EncodesNextVisited, NextVisitRefused, GivesEntries, TellsNoFailure, VisitsLegacy}
+use Rattle.tv_typed.specs.Lists.{Length, LengthRefused, in_length, element_total}
+use Rattle.tv_typed.specs.Visits.{single_leaf, Answered, Visits, EncodesVisited, VisitRefused, Handed, VisitsItems, EncodesNextVisited, NextVisitRefused, GivesEntries, TellsNoFailure, VisitsLegacy, VisitsKind}
 use Rattle.tv_typed.specs.declared.store_reader.StoreReader.{StoreReader}
 use Rattle.tv_typed.proofs.DeserializeSteps.{end, deserializes, goes_then, goes_fails, goes_told, only_by, leaf_deserializes}
 use Rattle.tv_typed.proofs.LegacySteps.{counts_here}
@@ -207,3 +207,24 @@ pub legacy_count : {S X : Type 0} {is_known : S → Type 0} {left : S → List �
     → old.has_failed ≡ false → VisitsLegacy is_known left failures old new Made Refused result → Counts typed_stop result (failures old.source) (failures new.source)
 legacy_count {failures = failures} {old = old} {new = new} {Made = Made} {Refused = Refused} {result = result} is_open h =
     subst (λ z. Counts typed_stop result (failures old.source) (failures z)) (sym h.same_source) (legacy_counts Made Refused h.read result (failures old.source) (failures h.behind_object.source) (h.reads.finds is_open).counts h.gives)
+
+-- ---- a value of any type
+
+module _ {S X : Type 0} {is_known : S → Type 0} {left : S → List ℕ} {failures : S → Failures} {kind : ValueType} {answers : Leaf → Result X DeserializeError → Type 0} {of_array : Version → ℕ → List ℕ → X → Type 0} {array_refused : Version → ℕ → List ℕ → DeserializeError → Type 0} {of_object : Version → ℕ → List ℕ → X → Type 0} {object_refused : Version → ℕ → List ℕ → DeserializeError → Type 0} {old new : StoreReader S} {result : Result X DeserializeError} where
+  pub any_array : kind ≡ types.Array → VisitsItems is_known left failures old new types.Array element_total (of_array (version_of old.version)) (array_refused (version_of old.version)) kind result → VisitsKind is_known left failures kind answers of_array array_refused of_object object_refused old new result
+  any_array is h = record { leaf = λ p. let e = ap is_leaf_type is in absurd cc; array = λ p. h; object = λ p. absurd cc; legacy = λ p. absurd cc; counts = λ is_open. items_count is_open h }
+
+  pub any_object : kind ≡ types.Object → VisitsItems is_known left failures old new types.Object (entry_total (version_of old.version)) (of_object (version_of old.version)) (object_refused (version_of old.version)) kind result → VisitsKind is_known left failures kind answers of_array array_refused of_object object_refused old new result
+  any_object is h = record { leaf = λ p. let e = ap is_leaf_type is in absurd cc; array = λ p. absurd cc; object = λ p. h; legacy = λ p. absurd cc; counts = λ is_open. items_count is_open h }
+
+  pub any_legacy : kind ≡ types.JSONObject → VisitsLegacy is_known left failures old new (of_object V2) (object_refused V2) result → VisitsKind is_known left failures kind answers of_array array_refused of_object object_refused old new result
+  any_legacy is h = record { leaf = λ p. let e = ap is_leaf_type is in absurd cc; array = λ p. absurd cc; object = λ p. absurd cc; legacy = λ p. h; counts = λ is_open. legacy_count is_open h }
+
+  pub any_leaf : ((l : Leaf) (r : Result X DeserializeError) → answers l r → TellsNoFailure r) → kind ≢ types.Array → kind ≢ types.Object → kind ≢ types.JSONObject → Visits is_known left failures old new kind answers result → VisitsKind is_known left failures kind answers of_array array_refused of_object object_refused old new result
+  any_leaf calm no_array no_object no_legacy h =
+      record { leaf = λ p. h; array = λ p. absurd (no_array p); object = λ p. absurd (no_object p); legacy = λ p. absurd (no_legacy p); counts = λ is_open. visits_count calm is_open h }
+
+  -- what the visitor refused was marked
+  pub any_marked : (has_failed : Bool) → has_failed ≡ is_err result → VisitsKind is_known left failures kind answers of_array array_refused of_object object_refused old new result → VisitsKind is_known left failures kind answers of_array array_refused of_object object_refused old (record new { has_failed = has_failed }) result
+  any_marked has_failed told h =
+      record { leaf = λ p. visits_marked has_failed (h.leaf p); array = λ p. items_marked has_failed told (h.array p); object = λ p. items_marked has_failed told (h.object p); legacy = λ p. legacy_marked has_failed (h.legacy p); counts = h.counts }

@@ -16,7 +16,7 @@ use Rattle.tv_reader.specs.declared.value_type.ValueType.{ValueType}
 use Rattle.tv_reader.specs.declared.value_type.ValueType.TheVariants as types
 use Rattle.tv_reader.proofs.AgreeKinds.{same_coded}
 use Rattle.tv_reader.proofs.BehindKinds.{code_value}
-use Rattle.tv_typed.specs.Values.{CodeRefused, in_code, LeafRefused, other_type, in_body, TreeRefused, NextRefused, RefusalsExclude}
+use Rattle.tv_typed.specs.Values.{CodeRefused, in_code, IsLeaf, LeafRefused, other_type, in_body, TreeRefused, NextRefused, RefusalsExclude}
 
 -- ---- trees
 
@@ -66,8 +66,8 @@ leaf_excluded expected l is v kind prefix rest e (other_type other) p =
     other ((same_coded kind (leaf_type l) prefix q.0 q.1).0 ∙ is)
 leaf_excluded expected l is v kind prefix rest e (in_body {c} same f) p = malformed_behind v kind prefix rest _ (leaf l) f p
 
-pub leaf_excludes : (expected : ValueType) (l : Leaf) → leaf_type l ≡ expected → (v : Version) (kind : ValueType) (prefix rest : List ℕ) (e : DeserializeError) (t : Tree) → LeafRefused expected v kind (prefix ++ rest) e → Encodes NoLegacy v (coded kind ++ prefix) t → t ≡ leaf l → ⊥
-leaf_excludes expected l is v kind prefix rest e t r p same = leaf_excluded expected l is v kind prefix rest e r (subst (λ z. Encodes NoLegacy v (coded kind ++ prefix) z) same p)
+pub leaf_excludes : {X : Type 0} (expected : ValueType) (make : X → Leaf) → ((x : X) → leaf_type (make x) ≡ expected) → RefusalsExclude (IsLeaf make) (LeafRefused expected)
+leaf_excludes expected make typed v kind prefix rest e t x refused p same = leaf_excluded expected (make x) (typed x) v kind prefix rest e refused (subst (λ z. Encodes NoLegacy v (coded kind ++ prefix) z) same p)
 
 -- ---- the next value
 

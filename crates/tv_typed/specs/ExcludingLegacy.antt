@@ -1,5 +1,6 @@
 -- Where an object is refused, a legacy one among them, no prefix of its bytes encodes without legacy objects one of which something is read.
-use Rattle.std.specs.Prelude.{◌≡◌, List, ℕ, ◌∷◌, ◌++◌}
+use Rattle.std.specs.Prelude.{◌≡◌, List, ℕ, ◌∷◌, ◌++◌, String}
+use Rattle.std.specs.declared.alloc.Global.{Global}
 use Rattle.std.proofs.Common.{subst, inl, inr}
 use Rattle.tv_format.specs.Leaves.{type_of, store_code}
 use Rattle.tv_format.specs.LeavesLaws.{small_code}
@@ -9,6 +10,9 @@ use Rattle.tv_format.specs.Version.{Version}
 use Rattle.tv_reader.specs.ValueType.{coded}
 use Rattle.tv_reader.specs.declared.error.DeserializeError.{DeserializeError}
 use Rattle.tv_reader.specs.declared.value_type.ValueType.{ValueType}
+use Rattle.tv_typed.specs.ExcludingLists.{object_excludes}
+use Rattle.tv_typed.specs.Lists.{ObjectOf, ObjectRefused}
+use Rattle.tv_typed.specs.Values.{RefusalsExclude}
 use Rattle.tv_typed.specs.LegacyObjects.{MembersRefused, in_other, in_legacy_object}
 
 -- behind the code of a legacy object nothing else is encoded
@@ -22,3 +26,10 @@ pub members_exclude : (refused : Version → ValueType → List ℕ → Deserial
     → MembersRefused refused v kind (prefix ++ rest) e → Encodes NoLegacy v (coded kind ++ prefix) t → ⊥
 members_exclude refused v kind prefix rest e t none (in_other other f) p = none f
 members_exclude refused v kind prefix rest e t none (in_legacy_object same f) p = no_other v prefix t (subst (λ k. Encodes NoLegacy v (coded k ++ prefix) t) same p)
+
+-- what is read of the entries of such an object
+pub entries_exclude : {X C : Type 0} (is : Tree → X → Type 0) (refused : Version → ValueType → List ℕ → DeserializeError → Type 0) → RefusalsExclude is refused
+    → (Read : Tree → C → Type 0) → ((t : Tree) (c : C) → Read t c → (pairs : List (String Global × X)) × ObjectOf is t pairs) → RefusalsExclude Read (MembersRefused (ObjectRefused is refused))
+entries_exclude is refused excludes Read parts v kind prefix rest e t c f encoded read =
+    let p = parts t c read in
+    members_exclude (ObjectRefused is refused) v kind prefix rest e t (λ g. object_excludes is refused excludes v kind prefix rest e t p.0 g encoded p.1) f encoded

@@ -1,9 +1,10 @@
 -- What a visitor is handed, and what is done through a reader then.
-use Rattle.std.specs.Prelude.{◌≡◌, ℕ, is_err, List, Result, Ok, Err}
+use Rattle.std.specs.Prelude.{◌≡◌, ℕ, true, false, is_err, List, Result, Ok, Err}
 use Rattle.tv_base.specs.ErrorInPart.{InThen}
 use Rattle.tv_base.specs.Parts.{Then}
 use Rattle.tv_base.specs.Source.{Failures}
 use Rattle.tv_base.specs.Stop.{Counts}
+use Rattle.tv_reader.specs.Leaves.{is_leaf_type}
 use Rattle.tv_reader.specs.Trees.{EncodesBehind}
 use Rattle.tv_reader.specs.ValueType.{coded, IsCoded}
 use Rattle.tv_reader.specs.Version.{version_of}
@@ -13,10 +14,10 @@ use Rattle.tv_reader.specs.declared.value_type.ValueType.TheVariants as types
 use Rattle.tv_value.specs.Owned.{owned_tree}
 use Rattle.tv_format.specs.Short.{short}
 use Rattle.tv_format.specs.Tree.{Leaf, null, Tree, leaf, array, object}
-use Rattle.tv_format.specs.Version.{V2, entry_total}
+use Rattle.tv_format.specs.Version.{Version, V2, entry_total}
 use Rattle.tv_value.specs.declared.owned_value.OwnedValue.{OwnedValue}
 use Rattle.tv_typed.specs.LegacyObjects.{OfEncoding}
-use Rattle.tv_typed.specs.Lists.{Length, LengthRefused}
+use Rattle.tv_typed.specs.Lists.{Length, LengthRefused, element_total}
 use Rattle.tv_typed.specs.Typed.{typed_stop, Reads, Deserializes}
 use Rattle.tv_typed.specs.Values.{CodeRefused, IsLeaf, EncodesLeaf, LeafRefused, TreeRefused, Only}
 use Rattle.tv_typed.specs.declared.store_reader.StoreReader.{StoreReader}
@@ -93,3 +94,14 @@ pub record VisitsLegacy {S X : Type 0} (is_known : S → Type 0) (left : S → L
   pub same_source : new.source ≡ behind_object.source
   pub same_count : new.count ≡ behind_object.count
   pub same_version : new.version ≡ behind_object.version
+
+-- ---- a value of any type
+
+-- What stands behind the code of a type was handed to the visitor's call for it: a leaf, the values of an array, or the entries of an object or of a legacy one.
+-- Each failed read is told.
+pub record VisitsKind {S X : Type 0} (is_known : S → Type 0) (left : S → List ℕ) (failures : S → Failures) (kind : ValueType) (answers : Leaf → Result X DeserializeError → Type 0) (of_array : Version → ℕ → List ℕ → X → Type 0) (array_refused : Version → ℕ → List ℕ → DeserializeError → Type 0) (of_object : Version → ℕ → List ℕ → X → Type 0) (object_refused : Version → ℕ → List ℕ → DeserializeError → Type 0) (old new : StoreReader S) (result : Result X DeserializeError) : Type 0 where
+  pub leaf : is_leaf_type kind ≡ true → Visits is_known left failures old new kind answers result
+  pub array : kind ≡ types.Array → VisitsItems is_known left failures old new types.Array element_total (of_array (version_of old.version)) (array_refused (version_of old.version)) kind result
+  pub object : kind ≡ types.Object → VisitsItems is_known left failures old new types.Object (entry_total (version_of old.version)) (of_object (version_of old.version)) (object_refused (version_of old.version)) kind result
+  pub legacy : kind ≡ types.JSONObject → VisitsLegacy is_known left failures old new (of_object V2) (object_refused V2) result
+  pub counts : old.has_failed ≡ false → Counts typed_stop result (failures old.source) (failures new.source)

@@ -11,23 +11,20 @@
 ghost use Rattle.std.specs.Prelude.{◌≡◌, true, OnErr};
 ghost use Rattle.std.specs.BTreeMap as tree;
 ghost use Rattle.std.specs.HashMap as hash;
-ghost use Rattle.tv_reader.specs.Version.{version_of};
-ghost use Rattle.tv_typed.specs.ExcludingLegacy.{members_exclude};
-ghost use Rattle.tv_typed.specs.ExcludingLists.{array_excludes, object_excludes};
+ghost use Rattle.tv_typed.specs.ExcludingLegacy.{entries_exclude};
+ghost use Rattle.tv_typed.specs.ExcludingLists.{array_excludes};
 ghost use Rattle.tv_typed.specs.LegacyObjects.{MembersRefused};
 ghost use Rattle.tv_typed.specs.Lists.{ArrayOf, ObjectOf, MapOf, ArrayRefused, ObjectRefused};
-ghost use Rattle.tv_typed.specs.Typed.{Deserializes};
-ghost use Rattle.tv_typed.specs.Values.{EncodedAs};
+ghost use Rattle.tv_typed.specs.Values.{DeserializesAs};
 
 use crate::array::read_elements;
 use crate::de::{BinaryValueDeserializer, ValueDeserialize};
-use crate::legacy_object::{CodedObject, read_object};
-use crate::object::read_entries;
-use crate::store_reader::StoreReader;
+use crate::legacy_object::read_object;
+use crate::object::Entries;
 use std::alloc::Global;
 use std::collections::{BTreeMap, HashMap};
 use tv_base::ByteSource;
-use tv_reader::{DeserializeError, ValueType};
+use tv_reader::DeserializeError;
 
 impl<T: ValueDeserialize> ValueDeserialize for Vec<T> {
     ghost is = { λ t list. ArrayOf T.is t list.items };
@@ -38,12 +35,9 @@ impl<T: ValueDeserialize> ValueDeserialize for Vec<T> {
         alloc: Global,
         deserializer: BinaryValueDeserializer<'_, S>,
     ) -> Result<Vec<T>, DeserializeError>
-        ensures deserializes { Deserializes S.is_known S.left S.failures
-            deserializer.entry.reader.now deserializer.exit.1.0.now result
-            (EncodedAs (λ t list. ArrayOf T.is t list.items)
-            (version_of deserializer.entry.reader.now.version) deserializer.entry.kind)
-            (ArrayRefused T.is T.refused (version_of deserializer.entry.reader.now.version)
-            deserializer.entry.kind) }
+        ensures deserializes { DeserializesAs S.is_known S.left S.failures
+            (λ t list. ArrayOf T.is t list.items) (ArrayRefused T.is T.refused)
+            deserializer.entry.kind deserializer.entry.reader.now deserializer.exit.1.0.now result }
         ensures marks { OnErr result (deserializer.exit.1.0.now.has_failed ≡ true) }
     {
         let BinaryValueDeserializer { kind, reader } = deserializer;
@@ -57,22 +51,16 @@ impl<T: ValueDeserialize> ValueDeserialize for Vec<T> {
         T.refused T.excludes v kind prefix rest e t list.items refused encoded is };
 }
 
-impl<T: ValueDeserialize> CodedObject for Vec<(String, T)> {
-    ghost is = { λ t list. ObjectOf T.is t list.items };
-
-    ghost refused = { ObjectRefused T.is T.refused };
-
-    fn behind<S: ByteSource>(
-        alloc: Global,
-        kind: ValueType,
-        reader: &mut StoreReader<S>,
-    ) -> Result<Vec<(String, T)>, DeserializeError>
-        ensures { Deserializes S.is_known S.left S.failures reader.old reader.new result
-            (EncodedAs (λ t list. ObjectOf T.is t list.items) (version_of reader.old.version) kind)
-            (ObjectRefused T.is T.refused (version_of reader.old.version) kind) }
+impl<'de, S: ByteSource> BinaryValueDeserializer<'de, S> {
+    // Reads what the entries of an object are put into, of a legacy object too.
+    fn members<T: ValueDeserialize, C: Entries<T>>(self, alloc: Global) -> Result<C, DeserializeError>
+        ensures deserializes { DeserializesAs S.is_known S.left S.failures C.is
+            (MembersRefused (ObjectRefused T.is T.refused)) self.entry.kind self.entry.reader.now
+            self.exit.1.0.now result }
+        ensures marks { OnErr result (self.exit.1.0.now.has_failed ≡ true) }
     {
-        let announced = reader.object_length(kind)?;
-        let answer = read_entries::<T, Vec<(String, T)>, S>(alloc, reader, announced);
+        let BinaryValueDeserializer { kind, reader } = self;
+        let answer = read_object::<T, C, S>(alloc, kind, reader);
         reader.has_failed = answer.is_err();
         answer
     }
@@ -87,47 +75,16 @@ impl<T: ValueDeserialize> ValueDeserialize for Vec<(String, T)> {
         alloc: Global,
         deserializer: BinaryValueDeserializer<'_, S>,
     ) -> Result<Vec<(String, T)>, DeserializeError>
-        ensures deserializes { Deserializes S.is_known S.left S.failures
-            deserializer.entry.reader.now deserializer.exit.1.0.now result
-            (EncodedAs (λ t list. ObjectOf T.is t list.items)
-            (version_of deserializer.entry.reader.now.version) deserializer.entry.kind)
-            (MembersRefused (ObjectRefused T.is T.refused)
-            (version_of deserializer.entry.reader.now.version) deserializer.entry.kind) }
+        ensures deserializes { DeserializesAs S.is_known S.left S.failures
+            (λ t list. ObjectOf T.is t list.items) (MembersRefused (ObjectRefused T.is T.refused))
+            deserializer.entry.kind deserializer.entry.reader.now deserializer.exit.1.0.now result }
         ensures marks { OnErr result (deserializer.exit.1.0.now.has_failed ≡ true) }
     {
-        let BinaryValueDeserializer { kind, reader } = deserializer;
-        let answer = read_object::<Vec<(String, T)>, S>(alloc, kind, reader);
-        reader.has_failed = answer.is_err();
-        answer
+        deserializer.members::<T, Vec<(String, T)>>(alloc)
     }
 
-    ghost excludes = { λ v kind prefix rest e t list refused encoded is. members_exclude
-        (ObjectRefused T.is T.refused) v kind prefix rest e t
-        (λ f. object_excludes T.is T.refused T.excludes v kind prefix rest e t list.items f encoded
-        is)
-        refused encoded };
-}
-
-impl<T: ValueDeserialize> CodedObject for BTreeMap<String, T> {
-    ghost is = { λ t map. MapOf T.is t (λ key. tree.get_by_text map key) };
-
-    ghost refused = { ObjectRefused T.is T.refused };
-
-    fn behind<S: ByteSource>(
-        alloc: Global,
-        kind: ValueType,
-        reader: &mut StoreReader<S>,
-    ) -> Result<BTreeMap<String, T>, DeserializeError>
-        ensures { Deserializes S.is_known S.left S.failures reader.old reader.new result
-            (EncodedAs (λ t map. MapOf T.is t (λ key. tree.get_by_text map key))
-            (version_of reader.old.version) kind)
-            (ObjectRefused T.is T.refused (version_of reader.old.version) kind) }
-    {
-        let announced = reader.object_length(kind)?;
-        let answer = read_entries::<T, BTreeMap<String, T>, S>(alloc, reader, announced);
-        reader.has_failed = answer.is_err();
-        answer
-    }
+    ghost excludes = { entries_exclude T.is T.refused T.excludes
+        (λ t list. ObjectOf T.is t list.items) (λ t list is. (list.items, is)) };
 }
 
 impl<T: ValueDeserialize> ValueDeserialize for BTreeMap<String, T> {
@@ -139,47 +96,16 @@ impl<T: ValueDeserialize> ValueDeserialize for BTreeMap<String, T> {
         alloc: Global,
         deserializer: BinaryValueDeserializer<'_, S>,
     ) -> Result<BTreeMap<String, T>, DeserializeError>
-        ensures deserializes { Deserializes S.is_known S.left S.failures
-            deserializer.entry.reader.now deserializer.exit.1.0.now result
-            (EncodedAs (λ t map. MapOf T.is t (λ key. tree.get_by_text map key))
-            (version_of deserializer.entry.reader.now.version) deserializer.entry.kind)
-            (MembersRefused (ObjectRefused T.is T.refused)
-            (version_of deserializer.entry.reader.now.version) deserializer.entry.kind) }
+        ensures deserializes { DeserializesAs S.is_known S.left S.failures
+            (λ t map. MapOf T.is t (λ key. tree.get_by_text map key)) (MembersRefused (ObjectRefused T.is T.refused))
+            deserializer.entry.kind deserializer.entry.reader.now deserializer.exit.1.0.now result }
         ensures marks { OnErr result (deserializer.exit.1.0.now.has_failed ≡ true) }
     {
-        let BinaryValueDeserializer { kind, reader } = deserializer;
-        let answer = read_object::<BTreeMap<String, T>, S>(alloc, kind, reader);
-        reader.has_failed = answer.is_err();
-        answer
+        deserializer.members::<T, BTreeMap<String, T>>(alloc)
     }
 
-    ghost excludes = { λ v kind prefix rest e t map refused encoded is. members_exclude
-        (ObjectRefused T.is T.refused) v kind prefix rest e t
-        (λ f. object_excludes T.is T.refused T.excludes v kind prefix rest e t is.pairs f encoded
-        is.read)
-        refused encoded };
-}
-
-impl<T: ValueDeserialize> CodedObject for HashMap<String, T> {
-    ghost is = { λ t map. MapOf T.is t (λ key. hash.get_by_text map key) };
-
-    ghost refused = { ObjectRefused T.is T.refused };
-
-    fn behind<S: ByteSource>(
-        alloc: Global,
-        kind: ValueType,
-        reader: &mut StoreReader<S>,
-    ) -> Result<HashMap<String, T>, DeserializeError>
-        ensures { Deserializes S.is_known S.left S.failures reader.old reader.new result
-            (EncodedAs (λ t map. MapOf T.is t (λ key. hash.get_by_text map key))
-            (version_of reader.old.version) kind)
-            (ObjectRefused T.is T.refused (version_of reader.old.version) kind) }
-    {
-        let announced = reader.object_length(kind)?;
-        let answer = read_entries::<T, HashMap<String, T>, S>(alloc, reader, announced);
-        reader.has_failed = answer.is_err();
-        answer
-    }
+    ghost excludes = { entries_exclude T.is T.refused T.excludes
+        (λ t map. MapOf T.is t (λ key. tree.get_by_text map key)) (λ t map is. (is.pairs, is.read)) };
 }
 
 impl<T: ValueDeserialize> ValueDeserialize for HashMap<String, T> {
@@ -191,23 +117,14 @@ impl<T: ValueDeserialize> ValueDeserialize for HashMap<String, T> {
         alloc: Global,
         deserializer: BinaryValueDeserializer<'_, S>,
     ) -> Result<HashMap<String, T>, DeserializeError>
-        ensures deserializes { Deserializes S.is_known S.left S.failures
-            deserializer.entry.reader.now deserializer.exit.1.0.now result
-            (EncodedAs (λ t map. MapOf T.is t (λ key. hash.get_by_text map key))
-            (version_of deserializer.entry.reader.now.version) deserializer.entry.kind)
-            (MembersRefused (ObjectRefused T.is T.refused)
-            (version_of deserializer.entry.reader.now.version) deserializer.entry.kind) }
+        ensures deserializes { DeserializesAs S.is_known S.left S.failures
+            (λ t map. MapOf T.is t (λ key. hash.get_by_text map key)) (MembersRefused (ObjectRefused T.is T.refused))
+            deserializer.entry.kind deserializer.entry.reader.now deserializer.exit.1.0.now result }
         ensures marks { OnErr result (deserializer.exit.1.0.now.has_failed ≡ true) }
     {
-        let BinaryValueDeserializer { kind, reader } = deserializer;
-        let answer = read_object::<HashMap<String, T>, S>(alloc, kind, reader);
-        reader.has_failed = answer.is_err();
-        answer
+        deserializer.members::<T, HashMap<String, T>>(alloc)
     }
 
-    ghost excludes = { λ v kind prefix rest e t map refused encoded is. members_exclude
-        (ObjectRefused T.is T.refused) v kind prefix rest e t
-        (λ f. object_excludes T.is T.refused T.excludes v kind prefix rest e t is.pairs f encoded
-        is.read)
-        refused encoded };
+    ghost excludes = { entries_exclude T.is T.refused T.excludes
+        (λ t map. MapOf T.is t (λ key. hash.get_by_text map key)) (λ t map is. (is.pairs, is.read)) };
 }

@@ -1,18 +1,16 @@
 //! What is read of one type of values, in the same way for each.
 
-ghost use Rattle.std.specs.Prelude.{◌≡◌, true, IsErrOf, IfErr};
+ghost use Rattle.std.specs.Prelude.{◌≡◌, true, IfErr};
 ghost use Rattle.tv_base.specs.Take.{TakesBy, MayStopLean};
 ghost use Rattle.tv_format.specs.Tree.{Leaf, leaf};
 ghost use Rattle.tv_reader.specs.Leaves.{is_leaf_type, leaf_at};
-ghost use Rattle.tv_reader.specs.ValueType.{coded, leaf_type as held_type};
+ghost use Rattle.tv_reader.specs.ValueType.{leaf_type as held_type};
 ghost use Rattle.tv_reader.specs.Version.{version_of};
-ghost use Rattle.tv_reader.specs.declared.error.DeserializeError.TheVariants as errors;
 ghost use Rattle.tv_reader.specs.declared.value_type.ValueType.{ValueType};
 ghost use Rattle.tv_typed.specs.Excluding.{leaf_type};
-ghost use Rattle.tv_typed.specs.Typed.{Reads, Deserializes};
-ghost use Rattle.tv_typed.specs.Values.{IsFixed, IsLeaf, EncodedAs, EncodesLeaf, LeafRefused};
-ghost use Rattle.tv_typed.specs.Values.{Only};
+ghost use Rattle.tv_typed.specs.Values.{IsFixed, ReadsLeaf};
 
+use crate::de::BinaryValueDeserializer;
 use crate::store_reader::StoreReader;
 use tv_base::{ByteSource, ReadError};
 use tv_reader::{DeserializeError, ValueType};
@@ -44,32 +42,25 @@ pub(crate) trait LeafValue: Sized + Drop {
     ghost typed: { (is_leaf_type expected ≡ true) × ((x : Self) → leaf_type (make x) ≡ expected) };
 }
 
-impl<S: ByteSource> StoreReader<S> {
+impl<'de, S: ByteSource> BinaryValueDeserializer<'de, S> {
     // Reads a value behind its codes, of the type that is expected.
     pub(crate) fn leaf<T: LeafValue>(
-        &mut self,
+        self,
         alloc: T::Alloc,
-        kind: ValueType,
         expected: ValueType,
     ) -> Result<T, DeserializeError>
         requires { expected ≡ T.expected }
-        ensures reads { Reads S.is_known S.left S.failures self.old self.new result
-            (EncodesLeaf (version_of self.old.version) kind T.make)
-            (LeafRefused T.expected (version_of self.old.version) kind) }
-        ensures only { Only S.is_known S.left self.old self.new result (IsLeaf T.make)
-            (version_of self.old.version) (coded kind) }
-        ensures deserializes { Deserializes S.is_known S.left S.failures self.old self.new result
-            (EncodedAs (IsLeaf T.make) (version_of self.old.version) kind)
-            (LeafRefused T.expected (version_of self.old.version) kind) }
-        ensures spares { IsFixed (held_type T.expected) → ¬ IsErrOf result errors.Memory }
+        ensures { ReadsLeaf S.is_known S.left S.failures T.expected T.make self.entry.kind
+            self.entry.reader.now self.exit.1.0.now result }
     {
+        let BinaryValueDeserializer { kind, reader } = self;
         let actual = kind;
-        self.expect(
+        reader.expect(
             kind,
             expected,
             DeserializeError::TypeMismatch { expected, actual },
         )?;
-        let answer = T::take(alloc, self);
-        self.marked(answer)
+        let answer = T::take(alloc, reader);
+        reader.marked(answer)
     }
 }

@@ -1,22 +1,37 @@
-//! The types of values that hold no others, and what is read of each.
+//! The types of values that hold no others: what is read of each, the call that reads it, the Rust type that is read so, and the
+//! visitor's call for it.
 
 #![tactic(auto, using(tv_base::proofs::TakeSteps::Taken_then), unfolding(tv_reader::specs::Leaves::leaf_at))]
 
-ghost use Rattle.std.specs.Prelude.{string_bytes, map, refl};
+ghost use Rattle.std.specs.Prelude.{◌≡◌, List, ℕ, Result, string_bytes, map, false, refl};
 ghost use Rattle.std.specs.Net.Addr.{ipv6_bits};
-ghost use Rattle.tv_reader.specs.declared.value_type.ValueType.TheVariants as types;
 ghost use Rattle.tv_format.specs.Tree.{null, text, unsigned, signed, boolean, date, facet, bytes};
-ghost use Rattle.tv_format.specs.Tree.{ip_address, tokenized};
+ghost use Rattle.tv_format.specs.Tree.{ip_address, tokenized, Leaf};
+ghost use Rattle.tv_format.specs.Version.{Version};
+ghost use Rattle.tv_reader.specs.Leaves.{IsSingle};
+ghost use Rattle.tv_reader.specs.Version.{version_of};
+ghost use Rattle.tv_reader.specs.declared.error.DeserializeError.{DeserializeError};
+ghost use Rattle.tv_reader.specs.declared.value_type.ValueType.TheVariants as types;
+ghost use Rattle.tv_typed.specs.Excluding.{leaf_excludes};
+ghost use Rattle.tv_typed.specs.Typed.{Deserializes};
+ghost use Rattle.tv_typed.specs.Values.{IsLeaf, LeafRefused, ReadsLeaf};
+ghost use Rattle.tv_typed.specs.Visits.{TellsNoFailure, single_leaf};
 ghost use Rattle.tv_value.specs.HeldTokens.{token_of};
+ghost use Rattle.tv_value.specs.Owned.{owned_tree};
 
+use crate::array::BinaryArrayDeserializer;
+use crate::de::{BinaryValueDeserializer, ValueDeserialize};
 use crate::leaf_value::LeafValue;
+use crate::object::BinaryObjectDeserializer;
 use crate::store_reader::StoreReader;
 use std::alloc::Global;
 use std::net::Ipv6Addr;
 use tv_base::take::{take_bool, take_bytes, take_facet, take_i64, take_string, take_u64};
 use tv_base::{ByteSource, Facet, ReadError};
 use tv_reader::leaves::{take_date, take_ip_address, take_tokenized};
+use tv_reader::{DeserializeError, ValueType};
 use tv_value::date_time::DateTime;
+use tv_value::owned_value::OwnedValue;
 use tv_value::tokenizer::PreTokenizedString;
 
 impl LeafValue for () {
@@ -82,10 +97,7 @@ impl LeafValue for String {
 
     ghost make = { λ s. text (string_bytes s) };
 
-    fn take<S: ByteSource>(
-        alloc: Global,
-        reader: &mut StoreReader<S>,
-    ) -> Result<String, ReadError> {
+    fn take<S: ByteSource>(alloc: Global, reader: &mut StoreReader<S>) -> Result<String, ReadError> {
         take_string(alloc, &mut reader.source, &mut reader.count)
     }
 
@@ -113,10 +125,7 @@ impl LeafValue for Vec<u8> {
 
     ghost make = { λ v. bytes v.items };
 
-    fn take<S: ByteSource>(
-        alloc: Global,
-        reader: &mut StoreReader<S>,
-    ) -> Result<Vec<u8>, ReadError> {
+    fn take<S: ByteSource>(alloc: Global, reader: &mut StoreReader<S>) -> Result<Vec<u8>, ReadError> {
         take_bytes(alloc, &mut reader.source, &mut reader.count)
     }
 
@@ -158,12 +167,360 @@ impl LeafValue for PreTokenizedString {
 
     ghost make = { λ s. tokenized (string_bytes s.text) (map token_of s.tokens.items) };
 
-    fn take<S: ByteSource>(
-        alloc: Global,
-        reader: &mut StoreReader<S>,
-    ) -> Result<PreTokenizedString, ReadError> {
+    fn take<S: ByteSource>(alloc: Global, reader: &mut StoreReader<S>) -> Result<PreTokenizedString, ReadError> {
         take_tokenized(alloc, &mut reader.source, &mut reader.count)
     }
 
     ghost typed = { (refl, λ _. refl) };
+}
+
+impl<'de, S: ByteSource> BinaryValueDeserializer<'de, S> {
+    /// Reads null.
+    pub fn deserialize_null(self) -> Result<(), DeserializeError>
+        ensures { ReadsLeaf S.is_known S.left S.failures types.Null (λ _. null) self.entry.kind self.entry.reader.now self.exit.1.0.now result }
+    {
+        self.leaf::<()>((), ValueType::Null)
+    }
+
+    /// Reads a number from 0 to 2^64 - 1.
+    pub fn deserialize_u64(self) -> Result<u64, DeserializeError>
+        ensures { ReadsLeaf S.is_known S.left S.failures types.U64 (λ n. unsigned n) self.entry.kind self.entry.reader.now self.exit.1.0.now result }
+    {
+        self.leaf::<u64>((), ValueType::U64)
+    }
+
+    /// Reads a number from -2^63 to 2^63 - 1.
+    pub fn deserialize_i64(self) -> Result<i64, DeserializeError>
+        ensures { ReadsLeaf S.is_known S.left S.failures types.I64 (λ z. signed z) self.entry.kind self.entry.reader.now self.exit.1.0.now result }
+    {
+        self.leaf::<i64>((), ValueType::I64)
+    }
+
+    /// Reads a truth value.
+    pub fn deserialize_bool(self) -> Result<bool, DeserializeError>
+        ensures { ReadsLeaf S.is_known S.left S.failures types.Bool (λ b. boolean b) self.entry.kind self.entry.reader.now self.exit.1.0.now result }
+    {
+        self.leaf::<bool>((), ValueType::Bool)
+    }
+
+    /// Reads a text.
+    pub fn deserialize_string(self, alloc: Global) -> Result<String, DeserializeError>
+        ensures { ReadsLeaf S.is_known S.left S.failures types.String (λ s. text (string_bytes s)) self.entry.kind self.entry.reader.now self.exit.1.0.now result }
+    {
+        self.leaf::<String>(alloc, ValueType::String)
+    }
+
+    /// Reads a facet.
+    pub fn deserialize_facet(self, alloc: Global) -> Result<Facet, DeserializeError>
+        ensures { ReadsLeaf S.is_known S.left S.failures types.Facet (λ f. facet f) self.entry.kind self.entry.reader.now self.exit.1.0.now result }
+    {
+        self.leaf::<Facet>(alloc, ValueType::Facet)
+    }
+
+    /// Reads bytes.
+    pub fn deserialize_bytes(self, alloc: Global) -> Result<Vec<u8>, DeserializeError>
+        ensures { ReadsLeaf S.is_known S.left S.failures types.Bytes (λ v. bytes v.items) self.entry.kind self.entry.reader.now self.exit.1.0.now result }
+    {
+        self.leaf::<Vec<u8>>(alloc, ValueType::Bytes)
+    }
+
+    /// Reads a date: microseconds in version 1, and nanoseconds in the others.
+    pub fn deserialize_datetime(self) -> Result<DateTime, DeserializeError>
+        ensures { ReadsLeaf S.is_known S.left S.failures types.DateTime (λ d. date d.nanoseconds) self.entry.kind self.entry.reader.now self.exit.1.0.now result }
+    {
+        self.leaf::<DateTime>((), ValueType::DateTime)
+    }
+
+    /// Reads an IP address.
+    pub fn deserialize_ip_address(self) -> Result<Ipv6Addr, DeserializeError>
+        ensures { ReadsLeaf S.is_known S.left S.failures types.IpAddr (λ a. ip_address (ipv6_bits a)) self.entry.kind self.entry.reader.now self.exit.1.0.now result }
+    {
+        self.leaf::<Ipv6Addr>((), ValueType::IpAddr)
+    }
+
+    /// Reads a text and its tokens.
+    pub fn deserialize_pre_tokenized_string(self, alloc: Global) -> Result<PreTokenizedString, DeserializeError>
+        ensures { ReadsLeaf S.is_known S.left S.failures types.PreTokStr (λ s. tokenized (string_bytes s.text) (map token_of s.tokens.items)) self.entry.kind self.entry.reader.now self.exit.1.0.now result }
+    {
+        self.leaf::<PreTokenizedString>(alloc, ValueType::PreTokStr)
+    }
+}
+
+impl ValueDeserialize for u64 {
+    ghost is = { IsLeaf (λ n. unsigned n) };
+
+    ghost refused = { LeafRefused types.U64 };
+
+    fn deserialize<S: ByteSource>(
+        _alloc: Global,
+        deserializer: BinaryValueDeserializer<'_, S>,
+    ) -> Result<u64, DeserializeError>
+        ensures { ReadsLeaf S.is_known S.left S.failures types.U64 (λ n. unsigned n) deserializer.entry.kind deserializer.entry.reader.now deserializer.exit.1.0.now result }
+    {
+        deserializer.deserialize_u64()
+    }
+
+    ghost excludes = { leaf_excludes types.U64 (λ n. unsigned n) (λ _. refl) };
+}
+
+impl ValueDeserialize for i64 {
+    ghost is = { IsLeaf (λ z. signed z) };
+
+    ghost refused = { LeafRefused types.I64 };
+
+    fn deserialize<S: ByteSource>(
+        _alloc: Global,
+        deserializer: BinaryValueDeserializer<'_, S>,
+    ) -> Result<i64, DeserializeError>
+        ensures { ReadsLeaf S.is_known S.left S.failures types.I64 (λ z. signed z) deserializer.entry.kind deserializer.entry.reader.now deserializer.exit.1.0.now result }
+    {
+        deserializer.deserialize_i64()
+    }
+
+    ghost excludes = { leaf_excludes types.I64 (λ z. signed z) (λ _. refl) };
+}
+
+impl ValueDeserialize for bool {
+    ghost is = { IsLeaf (λ b. boolean b) };
+
+    ghost refused = { LeafRefused types.Bool };
+
+    fn deserialize<S: ByteSource>(
+        _alloc: Global,
+        deserializer: BinaryValueDeserializer<'_, S>,
+    ) -> Result<bool, DeserializeError>
+        ensures { ReadsLeaf S.is_known S.left S.failures types.Bool (λ b. boolean b) deserializer.entry.kind deserializer.entry.reader.now deserializer.exit.1.0.now result }
+    {
+        deserializer.deserialize_bool()
+    }
+
+    ghost excludes = { leaf_excludes types.Bool (λ b. boolean b) (λ _. refl) };
+}
+
+impl ValueDeserialize for String {
+    ghost is = { IsLeaf (λ s. text (string_bytes s)) };
+
+    ghost refused = { LeafRefused types.String };
+
+    fn deserialize<S: ByteSource>(
+        alloc: Global,
+        deserializer: BinaryValueDeserializer<'_, S>,
+    ) -> Result<String, DeserializeError>
+        ensures { ReadsLeaf S.is_known S.left S.failures types.String (λ s. text (string_bytes s)) deserializer.entry.kind deserializer.entry.reader.now deserializer.exit.1.0.now result }
+    {
+        deserializer.deserialize_string(alloc)
+    }
+
+    ghost excludes = { leaf_excludes types.String (λ s. text (string_bytes s)) (λ _. refl) };
+}
+
+impl ValueDeserialize for Facet {
+    ghost is = { IsLeaf (λ f. facet f) };
+
+    ghost refused = { LeafRefused types.Facet };
+
+    fn deserialize<S: ByteSource>(
+        alloc: Global,
+        deserializer: BinaryValueDeserializer<'_, S>,
+    ) -> Result<Facet, DeserializeError>
+        ensures { ReadsLeaf S.is_known S.left S.failures types.Facet (λ f. facet f) deserializer.entry.kind deserializer.entry.reader.now deserializer.exit.1.0.now result }
+    {
+        deserializer.deserialize_facet(alloc)
+    }
+
+    ghost excludes = { leaf_excludes types.Facet (λ f. facet f) (λ _. refl) };
+}
+
+impl ValueDeserialize for Vec<u8> {
+    ghost is = { IsLeaf (λ v. bytes v.items) };
+
+    ghost refused = { LeafRefused types.Bytes };
+
+    fn deserialize<S: ByteSource>(
+        alloc: Global,
+        deserializer: BinaryValueDeserializer<'_, S>,
+    ) -> Result<Vec<u8>, DeserializeError>
+        ensures { ReadsLeaf S.is_known S.left S.failures types.Bytes (λ v. bytes v.items) deserializer.entry.kind deserializer.entry.reader.now deserializer.exit.1.0.now result }
+    {
+        deserializer.deserialize_bytes(alloc)
+    }
+
+    ghost excludes = { leaf_excludes types.Bytes (λ v. bytes v.items) (λ _. refl) };
+}
+
+impl ValueDeserialize for DateTime {
+    ghost is = { IsLeaf (λ d. date d.nanoseconds) };
+
+    ghost refused = { LeafRefused types.DateTime };
+
+    fn deserialize<S: ByteSource>(
+        _alloc: Global,
+        deserializer: BinaryValueDeserializer<'_, S>,
+    ) -> Result<DateTime, DeserializeError>
+        ensures { ReadsLeaf S.is_known S.left S.failures types.DateTime (λ d. date d.nanoseconds) deserializer.entry.kind deserializer.entry.reader.now deserializer.exit.1.0.now result }
+    {
+        deserializer.deserialize_datetime()
+    }
+
+    ghost excludes = { leaf_excludes types.DateTime (λ d. date d.nanoseconds) (λ _. refl) };
+}
+
+impl ValueDeserialize for Ipv6Addr {
+    ghost is = { IsLeaf (λ a. ip_address (ipv6_bits a)) };
+
+    ghost refused = { LeafRefused types.IpAddr };
+
+    fn deserialize<S: ByteSource>(
+        _alloc: Global,
+        deserializer: BinaryValueDeserializer<'_, S>,
+    ) -> Result<Ipv6Addr, DeserializeError>
+        ensures { ReadsLeaf S.is_known S.left S.failures types.IpAddr (λ a. ip_address (ipv6_bits a)) deserializer.entry.kind deserializer.entry.reader.now deserializer.exit.1.0.now result }
+    {
+        deserializer.deserialize_ip_address()
+    }
+
+    ghost excludes = { leaf_excludes types.IpAddr (λ a. ip_address (ipv6_bits a)) (λ _. refl) };
+}
+
+impl ValueDeserialize for PreTokenizedString {
+    ghost is = { IsLeaf (λ s. tokenized (string_bytes s.text) (map token_of s.tokens.items)) };
+
+    ghost refused = { LeafRefused types.PreTokStr };
+
+    fn deserialize<S: ByteSource>(
+        alloc: Global,
+        deserializer: BinaryValueDeserializer<'_, S>,
+    ) -> Result<PreTokenizedString, DeserializeError>
+        ensures { ReadsLeaf S.is_known S.left S.failures types.PreTokStr (λ s. tokenized (string_bytes s.text) (map token_of s.tokens.items)) deserializer.entry.kind deserializer.entry.reader.now deserializer.exit.1.0.now result }
+    {
+        deserializer.deserialize_pre_tokenized_string(alloc)
+    }
+
+    ghost excludes = { leaf_excludes types.PreTokStr (λ s. tokenized (string_bytes s.text) (map token_of s.tokens.items)) (λ _. refl) };
+}
+
+/// What makes a value of whatever stands in a store, by a call for each type.
+///
+/// A visitor gives each call, and says what it returns: by `answers` for a value that isn't an array or an object, and for arrays and
+/// objects by the bytes that it reads. Where it takes no value of a type, it returns `UnsupportedType` of that type; for arrays and
+/// objects `unsupported` does so.
+pub trait ValueVisitor {
+    /// What is made.
+    type Value;
+
+    /// What may be returned for a value that isn't an array or an object.
+    ghost answers: { Self → Leaf → Result Self.Value DeserializeError → Type 0 };
+
+    /// None of it tells of a failed read, nor of what only a reader refuses.
+    ghost tells_no_failure: { (visitor : Self) (leaf : Leaf)
+        (result : Result Self.Value DeserializeError) → answers visitor leaf result
+        → TellsNoFailure result };
+
+    /// What is made of an array, by how many values it announces and the bytes behind their number that are read.
+    ghost of_array: { Self → Version → ℕ → List ℕ → Self.Value → Type 0 };
+
+    /// Which refusal bytes behind the number of an array's values have.
+    ghost array_refused: { Self → Version → ℕ → List ℕ → DeserializeError → Type 0 };
+
+    /// What is made of an object, by how many entries it has and the bytes behind their number that are read.
+    ghost of_object: { Self → Version → ℕ → List ℕ → Self.Value → Type 0 };
+
+    /// Which refusal bytes behind the number of an object's entries have.
+    ghost object_refused: { Self → Version → ℕ → List ℕ → DeserializeError → Type 0 };
+
+    /// Null stands there.
+    fn visit_null(&self, value: ()) -> Result<Self::Value, DeserializeError>
+        ensures { answers self.now null result };
+
+    /// A text stands there.
+    fn visit_string(&self, value: String) -> Result<Self::Value, DeserializeError>
+        ensures { answers self.now (text (string_bytes value)) result };
+
+    /// A number from 0 to 2^64 - 1 stands there.
+    fn visit_u64(&self, value: u64) -> Result<Self::Value, DeserializeError>
+        ensures { answers self.now (unsigned value) result };
+
+    /// A number from -2^63 to 2^63 - 1 stands there.
+    fn visit_i64(&self, value: i64) -> Result<Self::Value, DeserializeError>
+        ensures { answers self.now (signed value) result };
+
+    /// A truth value stands there.
+    fn visit_bool(&self, value: bool) -> Result<Self::Value, DeserializeError>
+        ensures { answers self.now (boolean value) result };
+
+    /// A date stands there.
+    fn visit_datetime(&self, value: DateTime) -> Result<Self::Value, DeserializeError>
+        ensures { answers self.now (date value.nanoseconds) result };
+
+    /// An IP address stands there.
+    fn visit_ip_address(&self, value: Ipv6Addr) -> Result<Self::Value, DeserializeError>
+        ensures { answers self.now (ip_address (ipv6_bits value)) result };
+
+    /// A facet stands there.
+    fn visit_facet(&self, value: Facet) -> Result<Self::Value, DeserializeError>
+        ensures { answers self.now (facet value) result };
+
+    /// Bytes stand there.
+    fn visit_bytes(&self, value: Vec<u8>) -> Result<Self::Value, DeserializeError>
+        ensures { answers self.now (bytes value.items) result };
+
+    /// A text with its tokens stands there.
+    fn visit_pre_tokenized_string(
+        &self,
+        value: PreTokenizedString,
+    ) -> Result<Self::Value, DeserializeError>
+        ensures { answers self.now
+            (tokenized (string_bytes value.text) (map token_of value.tokens.items)) result };
+
+    /// An array stands there, whose number of values was read. The errors are those of its values, what the visitor refuses, and
+    /// `Memory`. It returns `Io` exactly where a read failed, with its kind, and none of `HeapFull`, `UnsupportedVersion` and
+    /// `AlreadyFailed`. After a read that was refused it returns an error.
+    fn visit_array<S: ByteSource>(
+        &self,
+        alloc: Global,
+        access: BinaryArrayDeserializer<'_, S>,
+    ) -> Result<Self::Value, DeserializeError>
+        requires first { access.position ≡ 0 }
+        requires open { access.reader.now.has_failed ≡ false }
+        ensures { Deserializes S.is_known S.left S.failures access.entry.reader.now
+            access.exit.1.1.0.now result
+            (of_array self.now (version_of access.entry.reader.now.version) access.entry.announced)
+            (array_refused self.now (version_of access.entry.reader.now.version)
+            access.entry.announced) };
+
+    /// An object stands there, whose number of entries was read. The errors are those of its entries, what the visitor refuses, and
+    /// `Memory`. It returns `Io` exactly where a read failed, with its kind, and none of `HeapFull`, `UnsupportedVersion` and
+    /// `AlreadyFailed`. After a read that was refused it returns an error.
+    fn visit_object<S: ByteSource>(
+        &self,
+        alloc: Global,
+        access: BinaryObjectDeserializer<'_, S>,
+    ) -> Result<Self::Value, DeserializeError>
+        requires first { access.position ≡ 0 }
+        requires open { access.reader.now.has_failed ≡ false }
+        ensures { Deserializes S.is_known S.left S.failures access.entry.reader.now
+            access.exit.1.1.0.now result
+            (of_object self.now (version_of access.entry.reader.now.version) access.entry.announced)
+            (object_refused self.now (version_of access.entry.reader.now.version)
+            access.entry.announced) };
+}
+
+// Hands a value that holds no others to the visitor's call for its type.
+pub(crate) fn hand<V: ValueVisitor>(visitor: &V, value: OwnedValue) -> Result<V::Value, DeserializeError>
+    requires { IsSingle (owned_tree value) }
+    ensures { V.answers visitor.now (single_leaf (owned_tree value)) result }
+{
+    match value {
+        OwnedValue::Null => visitor.visit_null(()),
+        OwnedValue::Str(text) => visitor.visit_string(text),
+        OwnedValue::PreTokStr(text) => visitor.visit_pre_tokenized_string(text),
+        OwnedValue::U64(number) => visitor.visit_u64(number),
+        OwnedValue::I64(number) => visitor.visit_i64(number),
+        OwnedValue::Bool(truth) => visitor.visit_bool(truth),
+        OwnedValue::Date(date) => visitor.visit_datetime(date),
+        OwnedValue::Facet(facet) => visitor.visit_facet(facet),
+        OwnedValue::Bytes(bytes) => visitor.visit_bytes(bytes),
+        OwnedValue::IpAddr(address) => visitor.visit_ip_address(address),
+        OwnedValue::Array(_) | OwnedValue::Object(_) => unreachable!(),
+    }
 }

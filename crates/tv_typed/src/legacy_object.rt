@@ -10,10 +10,12 @@ ghost use Rattle.tv_reader.specs.declared.value_type.ValueType.{ValueType};
 ghost use Rattle.tv_reader.specs.declared.value_type.ValueType.TheVariants as types;
 ghost use Rattle.tv_typed.specs.LegacyObjects.{Retold, OfEncoding, LegacyRefused, MembersRefused};
 ghost use Rattle.tv_typed.specs.Typed.{Deserializes};
-ghost use Rattle.tv_typed.specs.Values.{EncodesAs, EncodedAs, NextRefused};
+ghost use Rattle.tv_typed.specs.Lists.{ObjectRefused};
+ghost use Rattle.tv_typed.specs.Values.{EncodesAs, EncodedAs, DeserializesAs, NextRefused};
 ghost use Rattle.tv_value.specs.Owned.{owned_tree};
 
-use crate::de::BinaryValueDeserializer;
+use crate::de::{BinaryValueDeserializer, ValueDeserialize};
+use crate::object::{Entries, read_coded};
 use crate::store_reader::StoreReader;
 use std::alloc::{AllocError, Global};
 use tv_base::{ByteSource, Cause, SliceSource, VecSink};
@@ -23,36 +25,17 @@ use tv_value::owned_value::OwnedValue;
 use tv_writer::encoding::has_encoding;
 use tv_writer::value_writer::write_value;
 
-// What is read of an object that isn't a legacy one, behind the code of its type.
-pub(crate) trait CodedObject: Sized + Drop {
-    /// Which values are read of which trees.
-    ghost is: { Tree → Self → Type 0 };
-
-    /// Which refusal bytes behind the code of a type have.
-    ghost refused: { Version → ValueType → List ℕ → DeserializeError → Type 0 };
-
-    /// Reads the value behind the code.
-    fn behind<S: ByteSource>(
-        alloc: Global,
-        kind: ValueType,
-        reader: &mut StoreReader<S>,
-    ) -> Result<Self, DeserializeError>
-        ensures { Deserializes S.is_known S.left S.failures reader.old reader.new result
-            (EncodedAs is (version_of reader.old.version) kind)
-            (refused (version_of reader.old.version) kind) };
-}
-
 // The code, and the value behind it.
-fn next_object<V: CodedObject, S: ByteSource>(
+fn next_object<T: ValueDeserialize, C: Entries<T>, S: ByteSource>(
     alloc: Global,
     reader: &mut StoreReader<S>,
-) -> Result<V, DeserializeError>
+) -> Result<C, DeserializeError>
     ensures { Deserializes S.is_known S.left S.failures reader.old reader.new result
-        (EncodesAs V.is (version_of reader.old.version))
-        (NextRefused V.refused (version_of reader.old.version)) }
+        (EncodesAs C.is (version_of reader.old.version))
+        (NextRefused (ObjectRefused T.is T.refused) (version_of reader.old.version)) }
 {
     let kind = reader.code()?;
-    V::behind(alloc, kind, reader)
+    read_coded::<T, C, S>(alloc, kind, reader)
 }
 
 // The shortest encoding of a value in version 2. The only error is that memory was refused, which is told too where it has none.
@@ -82,43 +65,42 @@ pub(crate) fn retold(error: DeserializeError) -> DeserializeError
 }
 
 // What is read of the shortest encoding of a tree.
-fn of_encoding<V: CodedObject>(alloc: Global, bytes: &Vec<u8>) -> Result<V, DeserializeError>
-    ensures { OfEncoding (EncodesAs V.is V2) (NextRefused V.refused V2) bytes.now.items result }
+fn of_encoding<T: ValueDeserialize, C: Entries<T>>(alloc: Global, bytes: &Vec<u8>) -> Result<C, DeserializeError>
+    ensures { OfEncoding (EncodesAs C.is V2) (NextRefused (ObjectRefused T.is T.refused) V2) bytes.now.items result }
 {
     let mut reader = StoreReader::new(SliceSource::new(bytes), DocStoreVersion::V2);
-    match next_object::<V, SliceSource<'_>>(alloc, &mut reader) {
+    match next_object::<T, C, SliceSource<'_>>(alloc, &mut reader) {
         Ok(value) => Ok(value),
         Err(error) => Err(retold(error)),
     }
 }
 
 // The value of a legacy object, behind its code.
-fn legacy_object<V: CodedObject, S: ByteSource>(
+fn legacy_object<T: ValueDeserialize, C: Entries<T>, S: ByteSource>(
     alloc: Global,
     reader: &mut StoreReader<S>,
-) -> Result<V, DeserializeError>
+) -> Result<C, DeserializeError>
     ensures { Deserializes S.is_known S.left S.failures reader.old reader.new result
-        (EncodedAs V.is (version_of reader.old.version) types.JSONObject)
-        (LegacyRefused V.refused (version_of reader.old.version)) }
+        (EncodedAs C.is (version_of reader.old.version) types.JSONObject)
+        (LegacyRefused (ObjectRefused T.is T.refused) (version_of reader.old.version)) }
 {
     let kind = ValueType::JSONObject;
     let tree = BinaryValueDeserializer { kind, reader }.deserialize_tree(alloc)?;
     let bytes = encoded(alloc, &tree)?;
-    of_encoding(alloc, &bytes)
+    of_encoding::<T, C>(alloc, &bytes)
 }
 
 // Reads a value behind its code, of a legacy object too.
-pub(crate) fn read_object<V: CodedObject, S: ByteSource>(
+pub(crate) fn read_object<T: ValueDeserialize, C: Entries<T>, S: ByteSource>(
     alloc: Global,
     kind: ValueType,
     reader: &mut StoreReader<S>,
-) -> Result<V, DeserializeError>
-    ensures { Deserializes S.is_known S.left S.failures reader.old reader.new result
-        (EncodedAs V.is (version_of reader.old.version) kind)
-        (MembersRefused V.refused (version_of reader.old.version) kind) }
+) -> Result<C, DeserializeError>
+    ensures { DeserializesAs S.is_known S.left S.failures C.is
+        (MembersRefused (ObjectRefused T.is T.refused)) kind reader.old reader.new result }
 {
     match kind {
-        ValueType::JSONObject => legacy_object(alloc, reader),
-        kind => V::behind(alloc, kind, reader),
+        ValueType::JSONObject => legacy_object::<T, C, S>(alloc, reader),
+        kind => read_coded::<T, C, S>(alloc, kind, reader),
     }
 }

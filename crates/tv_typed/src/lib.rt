@@ -13,7 +13,8 @@ pub mod store_reader;
 mod visits;
 
 pub use array::BinaryArrayDeserializer;
-pub use de::{BinaryValueDeserializer, ValueDeserialize, ValueVisitor};
+pub use de::{BinaryValueDeserializer, ValueDeserialize};
 pub use document::{BinaryDocumentDeserializer, DocumentDeserializer};
+pub use leaf_values::ValueVisitor;
 pub use object::BinaryObjectDeserializer;
 pub use store_reader::StoreReader;

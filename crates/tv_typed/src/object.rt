@@ -9,9 +9,13 @@ ghost use Rattle.tv_base.specs.ErrorInPart.{InEach};
 ghost use Rattle.tv_reader.specs.Version.{version_of};
 ghost use Rattle.tv_reader.specs.declared.error.DeserializeError.TheVariants as errors;
 ghost use Rattle.tv_reader.specs.declared.value_type.ValueType.TheVariants as types;
+ghost use Rattle.std.proofs.Common.{subst, sym};
+ghost use Rattle.tv_format.specs.Tree.{Tree};
 ghost use Rattle.tv_typed.specs.Lists.{EncodesInto, EncodesEntry, EntryRefused, GivesLast};
+ghost use Rattle.tv_typed.specs.Lists.{MapOf, ObjectOf, ObjectRefused};
 ghost use Rattle.tv_typed.specs.Lists.{NextItem, NextItemRefused, gives_some};
 ghost use Rattle.tv_typed.specs.Typed.{Deserializes};
+ghost use Rattle.tv_typed.specs.Values.{DeserializesAs};
 
 use crate::de::ValueDeserialize;
 use crate::store_reader::StoreReader;
@@ -21,9 +25,12 @@ use tv_base::ByteSource;
 use tv_reader::{DeserializeError, ValueType};
 
 // What the entries of an object are put into, one after the other.
-pub(crate) trait Entries<T>: Sized + Drop {
+pub(crate) trait Entries<T: ValueDeserialize>: Sized + Drop {
     /// It was made of these, in this order.
     ghost made: { Self → List (String Global × T) → Type 0 };
+
+    /// It is read of this tree.
+    ghost is: { Tree → Self → Type 0 };
 
     /// It holds none yet.
     fn none(alloc: Global) -> Self
@@ -33,11 +40,17 @@ pub(crate) trait Entries<T>: Sized + Drop {
     fn put(&mut self, key: String, value: T) -> Result<(), AllocError>
         ensures { OnOk result ((entries : List (String Global × T)) → made self.old entries
             → made self.new (entries ++ (key, value) ∷ [])) };
+
+    /// What is made of the entries of an object is read of it.
+    ghost made_is: { (t : Tree) (c : Self) (entries : List (String Global × T)) → made c entries
+        → ObjectOf T.is t entries → is t c };
 }
 
 // All of them, in order.
-impl<T: Drop> Entries<T> for Vec<(String, T)> {
+impl<T: ValueDeserialize> Entries<T> for Vec<(String, T)> {
     ghost made = { λ list entries. list.items ≡ entries };
+
+    ghost is = { λ t list. ObjectOf T.is t list.items };
 
     fn none(alloc: Global) -> Vec<(String, T)> {
         Vec::new(alloc)
@@ -47,11 +60,15 @@ impl<T: Drop> Entries<T> for Vec<(String, T)> {
         self.push((key, value))?;
         Ok(())
     }
+
+    ghost made_is = { λ t list entries same read. subst (ObjectOf T.is t) (sym same) read };
 }
 
 // Of equal keys the last.
-impl<T: Drop> Entries<T> for BTreeMap<String, T> {
+impl<T: ValueDeserialize> Entries<T> for BTreeMap<String, T> {
     ghost made = { λ map entries. GivesLast (λ key. tree.get_by_text map key) entries };
+
+    ghost is = { λ t map. MapOf T.is t (λ key. tree.get_by_text map key) };
 
     fn none(alloc: Global) -> BTreeMap<String, T> {
         BTreeMap::new(alloc)
@@ -63,11 +80,16 @@ impl<T: Drop> Entries<T> for BTreeMap<String, T> {
             Err(_) => Err(AllocError),
         }
     }
+
+    ghost made_is = { λ t map entries last read. record {
+        pairs = entries; read = read; last = last } };
 }
 
 // The same.
-impl<T: Drop> Entries<T> for HashMap<String, T> {
+impl<T: ValueDeserialize> Entries<T> for HashMap<String, T> {
     ghost made = { λ map entries. GivesLast (λ key. hash.get_by_text map key) entries };
+
+    ghost is = { λ t map. MapOf T.is t (λ key. hash.get_by_text map key) };
 
     fn none(alloc: Global) -> HashMap<String, T> {
         HashMap::new(alloc)
@@ -79,6 +101,9 @@ impl<T: Drop> Entries<T> for HashMap<String, T> {
             Err(_) => Err(AllocError),
         }
     }
+
+    ghost made_is = { λ t map entries last read. record {
+        pairs = entries; read = read; last = last } };
 }
 
 // Reads so many keys with values, in order. Nothing is reserved from their number. That memory was refused isn't marked yet.
@@ -99,6 +124,21 @@ pub(crate) fn read_entries<T: ValueDeserialize, C: Entries<T>, S: ByteSource>(
         entries.put(key, value)?;
     }
     Ok(entries)
+}
+
+// Reads the entries of an object that isn't a legacy one, behind the code of its type.
+pub(crate) fn read_coded<T: ValueDeserialize, C: Entries<T>, S: ByteSource>(
+    alloc: Global,
+    kind: ValueType,
+    reader: &mut StoreReader<S>,
+) -> Result<C, DeserializeError>
+    ensures { DeserializesAs S.is_known S.left S.failures C.is (ObjectRefused T.is T.refused) kind
+        reader.old reader.new result }
+{
+    let announced = reader.object_length(kind)?;
+    let answer = read_entries::<T, C, S>(alloc, reader, announced);
+    reader.has_failed = answer.is_err();
+    answer
 }
 
 /// The keys and values of an object, which are read one after the other.

@@ -10,12 +10,13 @@ ghost use Rattle.tv_reader.specs.declared.version.DocStoreVersion.TheVariants as
 ghost use Rattle.tv_typed.specs.LegacyObjects.{OfEncoding};
 ghost use Rattle.tv_typed.specs.Lists.{element_total};
 ghost use Rattle.tv_typed.specs.Typed.{typed_stop, Deserializes};
-ghost use Rattle.tv_typed.specs.Visits.{Visits, VisitsItems, VisitsLegacy, single_leaf};
+ghost use Rattle.tv_typed.specs.Visits.{Visits, VisitsItems, VisitsKind, VisitsLegacy};
 ghost use Rattle.tv_typed.specs.Visits.{EncodesNextVisited, NextVisitRefused};
 ghost use Rattle.tv_value.specs.Owned.{owned_tree};
 
 use crate::array::BinaryArrayDeserializer;
-use crate::de::{BinaryValueDeserializer, ValueVisitor};
+use crate::de::BinaryValueDeserializer;
+use crate::leaf_values::{ValueVisitor, hand};
 use crate::legacy_object::{encoded, retold};
 use crate::object::BinaryObjectDeserializer;
 use crate::store_reader::StoreReader;
@@ -24,26 +25,6 @@ use tv_base::{ByteSource, SliceSource};
 use tv_reader::value_type::take_leaf;
 use tv_reader::{DeserializeError, DocStoreVersion, ValueType};
 use tv_value::owned_value::OwnedValue;
-
-// Hands a value that holds no others to the visitor's call for its type.
-fn hand<V: ValueVisitor>(visitor: &V, value: OwnedValue) -> Result<V::Value, DeserializeError>
-    requires { IsSingle (owned_tree value) }
-    ensures { V.answers visitor.now (single_leaf (owned_tree value)) result }
-{
-    match value {
-        OwnedValue::Null => visitor.visit_null(()),
-        OwnedValue::Str(text) => visitor.visit_string(text),
-        OwnedValue::PreTokStr(text) => visitor.visit_pre_tokenized_string(text),
-        OwnedValue::U64(number) => visitor.visit_u64(number),
-        OwnedValue::I64(number) => visitor.visit_i64(number),
-        OwnedValue::Bool(truth) => visitor.visit_bool(truth),
-        OwnedValue::Date(date) => visitor.visit_datetime(date),
-        OwnedValue::Facet(facet) => visitor.visit_facet(facet),
-        OwnedValue::Bytes(bytes) => visitor.visit_bytes(bytes),
-        OwnedValue::IpAddr(address) => visitor.visit_ip_address(address),
-        OwnedValue::Array(_) | OwnedValue::Object(_) => unreachable!(),
-    }
-}
 
 // Hands the visitor the entries of an object whose encoding stands in memory.
 fn visit_encoding<V: ValueVisitor>(
@@ -162,23 +143,9 @@ impl<S: ByteSource> StoreReader<S> {
         kind: ValueType,
         visitor: &V,
     ) -> Result<V::Value, DeserializeError>
-        ensures leaf { is_leaf_type kind ≡ true
-            → Visits S.is_known S.left S.failures self.old self.new kind (V.answers visitor.now)
-            result }
-        ensures array { kind ≡ types.Array
-            → VisitsItems S.is_known S.left S.failures self.old self.new types.Array element_total
-            (V.of_array visitor.now (version_of self.old.version))
-            (V.array_refused visitor.now (version_of self.old.version)) kind result }
-        ensures object { kind ≡ types.Object
-            → VisitsItems S.is_known S.left S.failures self.old self.new types.Object
-            (entry_total (version_of self.old.version))
-            (V.of_object visitor.now (version_of self.old.version))
-            (V.object_refused visitor.now (version_of self.old.version)) kind result }
-        ensures legacy { kind ≡ types.JSONObject
-            → VisitsLegacy S.is_known S.left S.failures self.old self.new
-            (V.of_object visitor.now V2) (V.object_refused visitor.now V2) result }
-        ensures counts { self.old.has_failed ≡ false
-            → Counts typed_stop result (S.failures self.old.source) (S.failures self.new.source) }
+        ensures visits { VisitsKind S.is_known S.left S.failures kind (V.answers visitor.now)
+            (V.of_array visitor.now) (V.array_refused visitor.now) (V.of_object visitor.now)
+            (V.object_refused visitor.now) self.old self.new result }
         ensures unmarked { OnOk result (self.new.has_failed ≡ false) }
     {
         match kind {
@@ -204,27 +171,10 @@ impl<'de, S: ByteSource> BinaryValueDeserializer<'de, S> {
         alloc: Global,
         visitor: &V,
     ) -> Result<V::Value, DeserializeError>
-        ensures leaf { is_leaf_type self.entry.kind ≡ true
-            → Visits S.is_known S.left S.failures self.entry.reader.now self.exit.1.0.now
-            self.entry.kind (V.answers visitor.now) result }
-        ensures array { self.entry.kind ≡ types.Array
-            → VisitsItems S.is_known S.left S.failures self.entry.reader.now self.exit.1.0.now
-            types.Array element_total
-            (V.of_array visitor.now (version_of self.entry.reader.now.version))
-            (V.array_refused visitor.now (version_of self.entry.reader.now.version))
-            self.entry.kind result }
-        ensures object { self.entry.kind ≡ types.Object
-            → VisitsItems S.is_known S.left S.failures self.entry.reader.now self.exit.1.0.now
-            types.Object (entry_total (version_of self.entry.reader.now.version))
-            (V.of_object visitor.now (version_of self.entry.reader.now.version))
-            (V.object_refused visitor.now (version_of self.entry.reader.now.version))
-            self.entry.kind result }
-        ensures legacy { self.entry.kind ≡ types.JSONObject
-            → VisitsLegacy S.is_known S.left S.failures self.entry.reader.now self.exit.1.0.now
-            (V.of_object visitor.now V2) (V.object_refused visitor.now V2) result }
-        ensures counts { self.entry.reader.now.has_failed ≡ false
-            → Counts typed_stop result (S.failures self.entry.reader.now.source)
-            (S.failures self.exit.1.0.now.source) }
+        ensures visits { VisitsKind S.is_known S.left S.failures self.entry.kind
+            (V.answers visitor.now) (V.of_array visitor.now) (V.array_refused visitor.now)
+            (V.of_object visitor.now) (V.object_refused visitor.now) self.entry.reader.now
+            self.exit.1.0.now result }
         ensures marks { self.exit.1.0.now.has_failed ≡ is_err result }
     {
         let BinaryValueDeserializer { kind, reader } = self;

@@ -1,8 +1,16 @@
 use Rattle.tv_reader.specs.Version.{version_of}
-use Rattle.tv_typed.proofs.LegacySteps.{legacy_among}
+use Rattle.tv_typed.specs.Lists.{ObjectRefused}
+use Rattle.tv_typed.specs.LegacyObjects.{MembersRefused, in_other}
+use Rattle.tv_typed.proofs.LegacySteps.{legacy_among, goes_more}
 use Rattle.tv_typed.proofs.legacy_object.read_object.Goals as goal
 
 pub returns-in-JSONObject : goal.returns-in-JSONObject
 returns-in-JSONObject g c =
-    let V = g.V.CodedObject in
-    legacy_among V.is V.refused (version_of c.args.reader.now.version) c.args.kind c.in-JSONObject.is c.legacy_object.ensures
+    let T = g.T.ValueDeserialize in
+    let C = g.C.Entries in
+    legacy_among C.is (ObjectRefused T.is T.refused) (version_of c.args.reader.now.version) c.args.kind c.in-JSONObject.is c.legacy_object.ensures
+
+pub returns-in_default : goal.returns-in_default
+returns-in_default g c =
+    let T = g.T.ValueDeserialize in
+    goes_more (MembersRefused (ObjectRefused T.is T.refused) (version_of c.args.reader.now.version) c.args.kind) (λ w d f. in_other c.in_default.not-JSONObject f) c.read_coded.ensures

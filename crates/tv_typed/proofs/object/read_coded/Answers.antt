@@ -1,0 +1,22 @@
+use Rattle.std.proofs.lemmas.Result.{err_from_is_err_and}
+use Rattle.tv_format.specs.Version.{entry_total}
+use Rattle.tv_reader.specs.Version.{version_of}
+use Rattle.tv_reader.specs.declared.value_type.ValueType.TheVariants as types
+use Rattle.tv_typed.specs.Lists.{EncodesEntry, EntryRefused}
+use Rattle.tv_typed.specs.Values.{EncodedAs}
+use Rattle.tv_typed.proofs.DeserializeSteps.{goes_told}
+use Rattle.tv_typed.proofs.ItemSteps.{object_then, collection_fails}
+use Rattle.tv_typed.proofs.object.read_coded.Goals as goal
+
+pub returns-in_err-announced : goal.returns-in_err-announced
+returns-in_err-announced g c =
+    let p = err_from_is_err_and c.from_residual.result c.from_residual.ensures.1 in
+    let T = g.T.ValueDeserialize in
+    let v = version_of c.args.reader.now.version in
+    rw (p.1, p.2) (collection_fails types.Object (entry_total v) c.args.kind (EncodesEntry T.is v) (EntryRefused T.refused v) (EncodedAs g.C.Entries.is v c.args.kind) c.in_err-announced.ensures.reads)
+
+pub returns : goal.returns
+returns g c =
+    let T = g.T.ValueDeserialize in
+    let C = g.C.Entries in
+    goes_told c.is_err-reader.result c.is_err-reader.ensures.value (object_then T.is T.refused C.is C.made g.met.C.Entries.made_is c.args.kind c.in_ok-announced.ensures.reads c.read_entries-answer.ensures)
