@@ -1,149 +1,192 @@
--- What the calls leave.
-use Rattle.std.proofs.Common.{◌≡◌, ℕ, ◌+◌, ◌-◌, ◌^◌, ◌<◌, ◌≤◌, Bool, true, false, List, ◌++◌, length, Option, Some, None, Result, Ok, Err, OnOk, IfErr, SomeIff, refl, sym, ◌∙◌, ap, subst, length-append, arith, inl, inr}
-use Rattle.std.proofs.lemmas.Bool.{cases_lt}
+-- What the calls for values and keys leave.
+use Rattle.std.proofs.Common.{◌≡◌, ℕ, ◌<◌, ◌≤◌, List, [], ◌∷◌, length, None, Result, Ok, Err, OnOk, IfErr, IsErrAnd, refl, sym, ◌∙◌, ap, subst, arith}
 use Rattle.tv_base.specs.Sink.{IsPrefix}
-use Rattle.tv_format.specs.Tree.{Tree}
-use Rattle.tv_heap.specs.Weight.{tree_weight}
+use Rattle.tv_format.specs.Tree.{Tree, leaf, text}
+use Rattle.tv_builder.specs.declared.add_error.AddError.{AddError}
+use Rattle.tv_builder.specs.declared.add_error.AddError.TheVariants as adds
+use Rattle.tv_builder.specs.declared.awaits.Awaits.{Awaits}
 use Rattle.tv_builder.specs.declared.awaits.Awaits.TheVariants as awaits
 use Rattle.tv_builder.specs.declared.build_error.BuildError.{BuildError}
 use Rattle.tv_builder.specs.declared.build_error.BuildError.TheVariants.{AlreadyFailed, OutOfPlace, NotUtf8, HeapFull, Memory}
 use Rattle.tv_builder.specs.declared.building.Building.{Building}
-use Rattle.tv_builder.specs.declared.building.OpenBytes.{OpenBytes}
+use Rattle.tv_builder.specs.declared.bytes_kind.BytesKind.{BytesKind}
+use Rattle.tv_builder.specs.declared.bytes_kind.BytesKind.TheVariants as kinds
 use Rattle.tv_builder.specs.declared.frame.Frame.{Frame}
 use Rattle.tv_heap.specs.declared.place.Place.{Place}
 use Rattle.tv_builder.specs.Given.{Given, given}
-use Rattle.tv_builder.specs.Image.{held, image_of}
+use Rattle.tv_builder.specs.Image.{held, image_of, Behind}
 use Rattle.tv_builder.specs.StateHeap.{full_length}
-use Rattle.tv_builder.specs.Moves.{given_to, Gives, GivesNot, Moves, IsFull, HasNoRoom, Does, FitsRoom}
+use Rattle.tv_builder.specs.Moves.{given_to, Gives, GivesNot, Over, Does}
 use Rattle.tv_builder.specs.TreeBytes.{tree_heap, tree_place}
-use Rattle.tv_builder.specs.Whole.{Put, PutNot, WhyNoTree}
-use Rattle.tv_builder.proofs.Putting.{tree_prefix}
-use Rattle.tv_heap.proofs.Writes.{longer}
-use Rattle.tv_builder.specs.Shows.{Placed, ShowsLists, ShowsAt, Shows, frames_of, awaited_by}
-use Rattle.tv_builder.specs.State.{OpenList, State, complete, in_lists, in_bytes, with_value, and_value, AreLists, AllAwait, lists_written, written}
-use Rattle.tv_builder.proofs.Giving.{prefix_then, prefix_length, given_prefix, lists_grown, given_shows, value_is}
+use Rattle.tv_builder.specs.Whole.{Put, PutNot, WhyUnwritten, as_refused}
+use Rattle.tv_builder.specs.Shows.{Placed, ShowsLists, ShowsAt, frames_of, awaited_by}
+use Rattle.tv_builder.specs.State.{OpenList, State, complete, in_lists, in_bytes, next_in, with_value, and_value, and_key, head_awaits, AreLists, OthersAwait, HeadNext}
+use Rattle.tv_builder.proofs.Giving.{Comes, comes, key_comes, key_waits, prefix_then, prefix_length, given_prefix, lists_grown, given_shows, value_is}
 use Rattle.tv_builder.proofs.Images.{gives_held, value_image, image_heap}
-use Rattle.tv_builder.proofs.NoRoom.{lists_as, value_no_room, value_over}
-use Rattle.tv_builder.proofs.Sound.{awaited_same, value_none, all_await}
+use Rattle.tv_builder.proofs.Putting.{put_grows}
+use Rattle.tv_builder.proofs.Sound.{awaited_same, all_await, next_key}
+use Rattle.tv_builder.proofs.Within.{state_over}
 
--- the same, said otherwise
-shown_as : (s : State) (heap heap_as : List ℕ) (fs fs_as : List Frame) (places places_as : List ℕ) (whole whole_as : Option Place) (bytes bytes_as : Option OpenBytes)
-    → heap_as ≡ heap → fs_as ≡ fs → places_as ≡ places → whole_as ≡ whole → bytes_as ≡ bytes → ShowsAt heap fs places whole bytes s → ShowsAt heap_as fs_as places_as whole_as bytes_as s
-shown_as s heap heap_as fs fs_as places places_as whole whole_as bytes bytes_as a b c d e h =
-    subst (λ z. ShowsAt z fs_as places_as whole_as bytes_as s) (sym a)
-    (subst (λ z. ShowsAt heap z places_as whole_as bytes_as s) (sym b)
-    (subst (λ z. ShowsAt heap fs z whole_as bytes_as s) (sym c)
-    (subst (λ z. ShowsAt heap fs places z bytes_as s) (sym d) (subst (λ z. ShowsAt heap fs places whole z s) (sym e) h))))
+-- ---- the same, said otherwise
 
--- ---- a finished value is handed to the lists
+pub lists_as : (heap : List ℕ) (fs fs_as : List Frame) (places places_as : List ℕ) (ls : List OpenList) → fs_as ≡ fs → places_as ≡ places → ShowsLists heap fs places ls → ShowsLists heap fs_as places_as ls
+lists_as heap fs fs_as places places_as ls a b h = subst (λ z. ShowsLists heap z places_as ls) (sym a) (subst (λ z. ShowsLists heap fs z ls) (sym b) h)
 
-pub handed : (mid new : Building) (p : Place) (t : Tree) (ls : List OpenList) → AreLists ls → AllAwait ls → ShowsLists mid.heap.items (frames_of mid) mid.places.items ls → Placed mid.heap.items p t → mid.open ≡ None
-    → Gives mid p new → Shows new (with_value ls t) × (length new.heap.items + (lists_written ls + tree_weight t) ≤ length mid.heap.items + written (with_value ls t))
-handed mid new p t ls are await h placed closed g =
-    let k = given_shows (frames_of mid) ls mid.heap.items mid.places.items p t are await h placed (omega (arith, g.fits, ap length g.heap)) in (
-      record {
-        fits = g.fits;
-        counted = g.counted;
-        is = value_is ls t are await;
-        at = shown_as (with_value ls t) _ new.heap.items _ (frames_of new) _ new.places.items _ new.complete _ new.open g.heap g.frames g.places g.complete (g.same_bytes ∙ closed) k.shows;
-      },
-      omega (arith, k.within, ap length g.heap),
-    )
+shown_as : (s : State) (b : Building) (g : Given) → held b ≡ g → ShowsAt g.heap g.frames g.places g.complete b.open s → ShowsAt b.heap.items (frames_of b) b.places.items b.complete b.open s
+shown_as s b g e h = subst (λ (z : Given). ShowsAt z.heap z.frames z.places z.complete b.open s) (sym e) h
 
-pub given_grows : (mid new : Building) (p : Place) → Gives mid p new → IsPrefix mid.heap.items new.heap.items
+-- ---- where lists await something
+
+-- what begins where lists are open
+abbrev pub Begins : Awaits → Type 0
+Begins awaits.Value = Unit {0}
+Begins awaits.Key = Unit {0}
+Begins _ = ⊥
+
+pub head_begins : (kind : BytesKind) → Begins (head_awaits kind)
+head_begins kinds.Str = tt
+head_begins kinds.Facet = tt
+head_begins kinds.Bytes = tt
+head_begins kinds.Key = tt
+
+pub record NextIn (base : List ℕ) (b : Building) (s : State) (next : Awaits) : Type 0 where
+  pub lists : List OpenList
+  pub is : s ≡ in_lists lists
+  pub behind : Behind base b (in_lists lists)
+  pub awaited : next_in lists ≡ next
+
+pub lists_next : (base : List ℕ) (b : Building) (s : State) (next : Awaits) → awaited_by b ≡ next → Begins next → Behind base b s → NextIn base b s next
+lists_next base b (complete t) next e begins h = absurd (subst Begins (sym (sym (awaited_same _ _ _ _ _ (complete t) h.shows.at) ∙ e)) begins)
+lists_next base b (in_lists ls) next e begins h = record { lists = ls; is = refl; behind = h; awaited = sym (awaited_same _ _ _ _ _ (in_lists ls) h.shows.at) ∙ e }
+lists_next base b (in_bytes ls kind n bs) next e begins h = absurd (subst Begins (sym (sym (awaited_same _ _ _ _ _ (in_bytes ls kind n bs) h.shows.at) ∙ e)) begins)
+
+pub head_next : (kind : BytesKind) (ls : List OpenList) → next_in ls ≡ head_awaits kind → OthersAwait ls → HeadNext kind ls
+head_next kinds.Str ls e h = all_await ls e h
+head_next kinds.Facet ls e h = all_await ls e h
+head_next kinds.Bytes ls e h = all_await ls e h
+head_next kinds.Key [] e h = absurd (cc)
+head_next kinds.Key (l ∷ ls) e h = next_key l.kind (length l.children) e
+
+-- the tree comes to these lists, and makes this state of them
+pub record Takes (base : List ℕ) (b : Building) (after : State) (t : Tree) : Type 0 where
+  pub lists : List OpenList
+  pub behind : Behind base b (in_lists lists)
+  pub comes : Comes lists t
+  pub is : after ≡ with_value lists t
+
+pub value_taken : (b : Building) (t : Tree) → awaited_by b ≡ awaits.Value → (base : List ℕ) (s : State) → Behind base b s → Takes base b (and_value s t) t
+value_taken b t e base s h =
+    let n = lists_next base b s awaits.Value e tt h in
+    let is = n.behind.shows.is in
+    record { lists = n.lists; behind = n.behind; comes = comes n.lists t is.0 (all_await n.lists n.awaited is.1); is = ap (λ z. and_value z t) n.is }
+
+pub key_taken : (b : Building) (k : List ℕ) → awaited_by b ≡ awaits.Key → (base : List ℕ) (s : State) → Behind base b s → Takes base b (and_key s k) (leaf (text k))
+key_taken b k e base s h =
+    let n = lists_next base b s awaits.Key e tt h in
+    let is = n.behind.shows.is in
+    let next = head_next kinds.Key n.lists n.awaited is.1 in
+    record { lists = n.lists; behind = n.behind; comes = key_comes n.lists k is.0 is.1 next; is = ap (λ z. and_key z k) n.is ∙ key_waits n.lists k is.0 next }
+
+-- ---- a value that was written is handed to the lists
+
+-- it stands at the end of the heap, and these lists do not hold it yet
+pub record Written (base : List ℕ) (mid : Building) (p : Place) (after : State) : Type 0 where
+  pub lists : List OpenList
+  pub tree : Tree
+  pub is : after ≡ with_value lists tree
+  pub are : AreLists lists
+  pub comes : Comes lists tree
+  pub shown : ShowsLists mid.heap.items (frames_of mid) mid.places.items lists
+  pub placed : Placed mid.heap.items p tree
+  pub closed : mid.open ≡ None
+  pub image : given_to mid p ≡ image_of base (with_value lists tree)
+
+handed : (base : List ℕ) (mid new : Building) (p : Place) (after : State) → Written base mid p after → Gives mid p new → Behind base new after
+handed base mid new p after w g =
+    let t = w.tree in
+    let shown = given_shows (frames_of mid) w.lists mid.heap.items mid.places.items p t w.are w.comes w.shown w.placed (omega (arith, g.fits, ap length g.heap)) in
+    let closed : new.open ≡ None = g.same_bytes ∙ w.closed in
+    let at = subst (λ z. ShowsAt (given_to mid p).heap (given_to mid p).frames (given_to mid p).places (given_to mid p).complete z (with_value w.lists t)) (sym closed) shown in
+    let body : Behind base new (with_value w.lists t) = record {
+      shows = record { fits = g.fits; counted = g.counted; is = value_is w.lists t w.are w.comes; at = shown_as (with_value w.lists t) new (given_to mid p) (gives_held mid new p g) at };
+      image = gives_held mid new p g ∙ w.image;
+    } in
+    subst (Behind base new) (sym w.is) body
+
+-- a heap that is too long is so for the state
+pub over_image : (base : List ℕ) (ls : List OpenList) (t : Tree) (after : State) (g : Given) → g ≡ image_of base (with_value ls t) → after ≡ with_value ls t → AreLists ls → Comes ls t → 4294967295 < length g.heap → Over base after
+over_image base ls t after g image is are next over =
+    let s = with_value ls t in
+    let bytes : 4294967295 < full_length base s = omega (arith, over, ap (λ (z : Given). length z.heap) image, ap length (image_heap base s)) in
+    subst (Over base) (sym is) (record { bytes = bytes; room = state_over base s (value_is ls t are next) bytes })
+
+given_grows : (mid new : Building) (p : Place) → Gives mid p new → IsPrefix mid.heap.items new.heap.items
 given_grows mid new p g = let f = given_prefix (frames_of mid) mid.heap.items mid.places.items p in (f.0, g.heap ∙ f.1)
 
--- a value that was written behind what stood before
-pub record ValueStands (old mid : Building) (p : Place) (t : Tree) : Type 0 where
-  pub heap : mid.heap.items ≡ tree_heap old.heap.items t
-  pub place : p ≡ tree_place old.heap.items t
-  pub frames : frames_of mid ≡ frames_of old
-  pub places : mid.places.items ≡ old.places.items
+pub does_give : (old mid new : Building) (p : Place) (here well fits : Type 0) (after : State → State) (r : Result (Unit {0}) BuildError) → here → well → fits → IsPrefix old.heap.items mid.heap.items
+    → ((base : List ℕ) (s : State) → Behind base old s → Written base mid p (after s)) → OnOk r (Gives mid p new) → IfErr r (λ e. GivesNot mid p new e) → Does old new here well fits after r
+does_give old mid new p here well fits after (Ok x) is ends holds prefix written ok err =
+    (is, ends, record { grows = prefix_then old.heap.items mid.heap.items new.heap.items prefix (given_grows mid new p ok); next = λ base s h. handed base mid new p (after s) (written base s h) ok })
+does_give old mid new p here well fits after (Err HeapFull) is ends holds prefix written ok err = (
+  is,
+  ends,
+  prefix_then old.heap.items mid.heap.items new.heap.items prefix err.prefix,
+  (λ base s h. let w = written base s h in over_image base w.lists w.tree (after s) (given_to mid p) w.image w.is w.are w.comes err.why),
+)
+does_give old mid new p here well fits after (Err Memory) is ends holds prefix written ok err = (is, ends, prefix_then old.heap.items mid.heap.items new.heap.items prefix err.prefix, holds)
+does_give old mid new p here well fits after (Err AlreadyFailed) is ends holds prefix written ok err = absurd err.why
+does_give old mid new p here well fits after (Err OutOfPlace) is ends holds prefix written ok err = absurd err.why
+does_give old mid new p here well fits after (Err NotUtf8) is ends holds prefix written ok err = absurd err.why
 
--- what stood before stands for lists, which await a value
-pub value_moves : (old mid new : Building) (p : Place) (t : Tree) (more : List ℕ) → awaited_by old ≡ awaits.Value → mid.heap.items ≡ old.heap.items ++ more → length more ≤ tree_weight t → ValueStands old mid p t
-    → mid.open ≡ old.open → Placed mid.heap.items p t → Gives mid p new → Moves old new (λ s. and_value s t)
-value_moves old mid new p t more await grows small w bytes placed g = record {
-  grows = prefix_then old.heap.items mid.heap.items new.heap.items (more, grows) (given_grows mid new p g);
-  shows = λ s h. (next s h).0;
-  within = λ s h. (next s h).1;
-  image = drawn;
-}
-  where
-    next : (s : State) → Shows old s → Shows new (and_value s t) × (length new.heap.items + written s ≤ length old.heap.items + written (and_value s t))
-    next (complete u) h = absurd (let e : awaits.Finish ≡ awaits.Value = sym (awaited_same _ _ _ _ _ (complete u) h.at) ∙ await in cc)
-    next (in_bytes ls kind n bs) h = absurd (let e : awaits.Bytes (n - length bs) ≡ awaits.Value = sym (awaited_same _ _ _ _ _ (in_bytes ls kind n bs) h.at) ∙ await in cc)
-    next (in_lists ls) h =
-        let all = all_await ls (sym (awaited_same _ _ _ _ _ (in_lists ls) h.at) ∙ await) h.is.1 in
-        let lists = lists_as mid.heap.items (frames_of old) (frames_of mid) old.places.items mid.places.items ls w.frames w.places
-        (lists_grown old.heap.items mid.heap.items more (frames_of old) old.places.items ls grows h.at.lists) in
-        let r = handed mid new p t ls h.is.0 all lists placed (bytes ∙ (value_none old.open old.complete (frames_of old) await).1) g in
-        (r.0, omega (arith, r.1, small, ap length grows, length-append old.heap.items more))
+-- the refusal that a `?` makes of it
+pub refused_as : (old new : Building) (here well fits : Type 0) (after : State → State) (r : Result (Unit {0}) BuildError) (e : AddError) → IsErrAnd r (λ x. x ≡ as_refused e) → Does old new here well fits after (Err (as_refused e)) → Does old new here well fits after r
+refused_as old new here well fits after (Ok x) e is d = absurd is
+refused_as old new here well fits after (Err x) e is d = subst (λ z. Does old new here well fits after (Err z)) (sym is) d
 
-    drawn : (base : List ℕ) (s : State) → Shows old s → held old ≡ image_of base s → held new ≡ image_of base (and_value s t)
-    drawn base (complete u) h is = absurd (let e : awaits.Finish ≡ awaits.Value = sym (awaited_same _ _ _ _ _ (complete u) h.at) ∙ await in cc)
-    drawn base (in_bytes ls kind n bs) h is = absurd (let e : awaits.Bytes (n - length bs) ≡ awaits.Value = sym (awaited_same _ _ _ _ _ (in_bytes ls kind n bs) h.at) ∙ await in cc)
-    drawn base (in_lists ls) h is =
-        gives_held mid new p g ∙ (λ i. given (w.heap i) (w.places i) (w.frames i) (w.place i)) ∙
-        value_image base ls t (held old) h.is.0 (all_await ls (sym (awaited_same _ _ _ _ _ (in_lists ls) h.at) ∙ await) h.is.1) is
+-- ---- a whole value, or a key
 
--- handing it over, or writing it, makes the heap too long
-value_full : (old : Building) (t : Tree) → awaited_by old ≡ awaits.Value → 4294967295 < length (given (tree_heap old.heap.items t) old.places.items (frames_of old) (tree_place old.heap.items t)).heap → IsFull old (λ s. and_value s t)
-value_full old t await over = full
-  where
-    full : (base : List ℕ) (s : State) → Shows old s → held old ≡ image_of base s → 4294967295 < full_length base (and_value s t)
-    full base (complete u) h is = absurd (let e : awaits.Finish ≡ awaits.Value = sym (awaited_same _ _ _ _ _ (complete u) h.at) ∙ await in cc)
-    full base (in_bytes ls kind n bs) h is = absurd (let e : awaits.Bytes (n - length bs) ≡ awaits.Value = sym (awaited_same _ _ _ _ _ (in_bytes ls kind n bs) h.at) ∙ await in cc)
-    full base (in_lists ls) h is =
-        let whole = value_image base ls t (held old) h.is.0 (all_await ls (sym (awaited_same _ _ _ _ _ (in_lists ls) h.at) ∙ await) h.is.1) is in
-        omega (arith, over, ap (λ (z : Given). length z.heap) whole, ap length (image_heap base (with_value ls t)))
-
-given_full : (old mid : Building) (p : Place) (t : Tree) → awaited_by old ≡ awaits.Value → ValueStands old mid p t → 4294967295 < length (given_to mid p).heap → IsFull old (λ s. and_value s t)
-given_full old mid p t await w over = value_full old t await (subst (λ (z : Given). 4294967295 < length z.heap) (λ i. given (w.heap i) (w.places i) (w.frames i) (w.place i)) over)
-
--- what handing it over answers
-pub does_give : (old mid new : Building) (p : Place) (in_place fits : Type 0) (after : State → State) (r : Result (Unit {0}) BuildError) → in_place → (4294967295 < length (given_to mid p).heap → IsFull old after)
-    → (4294967295 < length (given_to mid p).heap → HasNoRoom old after) → fits → IsPrefix old.heap.items mid.heap.items → (Gives mid p new → Moves old new after)
-    → OnOk r (Gives mid p new) → IfErr r (λ e. GivesNot mid p new e) → Does old new in_place fits after r
-does_give old mid new p in_place fits after (Ok x) here over no_room holds prefix moves ok err = (here, moves ok)
-does_give old mid new p in_place fits after (Err HeapFull) here over no_room holds prefix moves ok err = (here, over err.why, prefix_then old.heap.items mid.heap.items new.heap.items prefix err.prefix, no_room err.why)
-does_give old mid new p in_place fits after (Err Memory) here over no_room holds prefix moves ok err = (here, holds, prefix_then old.heap.items mid.heap.items new.heap.items prefix err.prefix)
-does_give old mid new p in_place fits after (Err AlreadyFailed) here over no_room holds prefix moves ok err = absurd err.why
-does_give old mid new p in_place fits after (Err OutOfPlace) here over no_room holds prefix moves ok err = absurd err.why
-does_give old mid new p in_place fits after (Err NotUtf8) here over no_room holds prefix moves ok err = absurd err.why
-
--- ---- a whole value
-
-pub does_value : (old mid new : Building) (p : Place) (t : Tree) (fits : Type 0) (r : Result (Unit {0}) BuildError) → awaited_by old ≡ awaits.Value → fits → Put old.heap.items t mid.heap.items p → frames_of mid ≡ frames_of old → mid.places.items ≡ old.places.items
-    → mid.open ≡ old.open → OnOk r (Gives mid p new) → IfErr r (λ e. GivesNot mid p new e) → Does old new (awaited_by old ≡ awaits.Value) fits (λ s. and_value s t) r
-does_value old mid new p t fits r await holds w frames places bytes ok err =
-    let stands : ValueStands old mid p t = record { heap = w.heap; place = w.place; frames = frames; places = places } in
-    let f = tree_prefix old.heap.items t in
-    let grows : mid.heap.items ≡ old.heap.items ++ f.0 = w.heap ∙ f.1 in
-    let small : length f.0 ≤ tree_weight t = omega (arith, w.weighed, longer old.heap.items mid.heap.items f.0 grows) in
-    does_give old mid new p (awaited_by old ≡ awaits.Value) fits (λ s. and_value s t) r await (given_full old mid p t await stands)
-    (value_no_room old mid p t f.0 await grows small w.fits frames places w.placed) holds (f.0, grows) (λ g. value_moves old mid new p t f.0 await grows small stands bytes w.placed g) ok err
+pub does_value : (old mid new : Building) (p : Place) (t : Tree) (here fits : Type 0) (after : State → State) (r : Result (Unit {0}) BuildError) → here → fits
+    → ((base : List ℕ) (s : State) → Behind base old s → Takes base old (after s) t) → Put old.heap.items t mid.heap.items p → frames_of mid ≡ frames_of old → mid.places.items ≡ old.places.items → mid.open ≡ old.open
+    → OnOk r (Gives mid p new) → IfErr r (λ e. GivesNot mid p new e) → Does old new here (Unit {0}) fits after r
+does_value old mid new p t here fits after r is holds takes w frames places open_is ok err =
+    let f = put_grows old.heap.items t mid.heap.items p w in
+    does_give old mid new p here (Unit {0}) fits after r is tt holds f
+    (λ base s h.
+    let k = takes base s h in
+    let shows = k.behind.shows in
+    record {
+      lists = k.lists;
+      tree = t;
+      is = k.is;
+      are = shows.is.0;
+      comes = k.comes;
+      shown = lists_as mid.heap.items (frames_of old) (frames_of mid) old.places.items mid.places.items k.lists frames places
+          (lists_grown old.heap.items mid.heap.items f.0 (frames_of old) old.places.items k.lists f.1 shows.at.lists);
+      placed = w.placed;
+      closed = open_is ∙ shows.at.closed;
+      image = (λ i. given (w.heap i) (places i) (frames i) (w.place i)) ∙ value_image base k.lists t (held old) shows.is.0 k.comes k.behind.image;
+    })
+    ok err
 
 -- it isn't written
-pub value_not : (old new : Building) (t : Tree) (fits : Type 0) (e : BuildError) → awaited_by old ≡ awaits.Value → (e ≡ Memory → fits) → PutNot old.heap.items t new.heap.items e
-    → Does old new (awaited_by old ≡ awaits.Value) fits (λ s. and_value s t) (Err e)
-value_not old new t fits e await holds w = answer e holds w.why
+pub value_not : (old new : Building) (t : Tree) (here fits : Type 0) (after : State → State) (e : AddError) → here → (e ≡ adds.Memory → fits) → ((base : List ℕ) (s : State) → Behind base old s → Takes base old (after s) t)
+    → PutNot old.heap.items t new.heap.items e → Does old new here (Unit {0}) fits after (Err (as_refused e))
+value_not old new t here fits after e is holds takes w = answer e holds w.why
   where
-    more : length (tree_heap old.heap.items t) ≤ length (given (tree_heap old.heap.items t) old.places.items (frames_of old) (tree_place old.heap.items t)).heap
+    whole : Given
+    whole = given (tree_heap old.heap.items t) old.places.items (frames_of old) (tree_place old.heap.items t)
+
+    more : length (tree_heap old.heap.items t) ≤ length whole.heap
     more = prefix_length _ _ (given_prefix (frames_of old) (tree_heap old.heap.items t) old.places.items (tree_place old.heap.items t))
 
-    answer : (x : BuildError) → (x ≡ Memory → fits) → WhyNoTree old.heap.items t x → Does old new (awaited_by old ≡ awaits.Value) fits (λ s. and_value s t) (Err x)
-    answer HeapFull k h = (await, value_full old t await (omega (arith, h.0, more)), w.prefix, value_over old t await h.1)
-    answer Memory k h = (await, k refl, w.prefix)
-    answer AlreadyFailed k h = absurd h
-    answer OutOfPlace k h = absurd h
-    answer NotUtf8 k h = absurd h
-
--- whether what was found fits
-pub over_bound : (len m : ℕ) (fits : Bool) → FitsRoom (Some m) len fits → fits ≡ false → 4294967295 < len + m
-over_bound len m true h e = absurd (let f : true ≡ false = e in cc)
-over_bound len m false h e = elim (cases_lt 4294967295 (len + m)) [ inl p ↦ p | inr p ↦ absurd (let f : false ≡ true = h.1 (omega (arith, p)) in cc) ]
-
-pub over : (found : Option ℕ) (len n : ℕ) (fits : Bool) → SomeIff found (n < 2 ^ 32) n → FitsRoom found len fits → fits ≡ false → 4294967295 < len + n
-over (Some m) len n fits is h e = omega (arith, is.1, over_bound len m fits h e)
-over None len n fits is h e = elim (cases_lt n (2 ^ 32)) [ inl p ↦ absurd (is p) | inr p ↦ omega (arith, p) ]
+    answer : (x : AddError) → (x ≡ adds.Memory → fits) → WhyUnwritten (tree_heap old.heap.items t) x → Does old new here (Unit {0}) fits after (Err (as_refused x))
+    answer adds.HeapFull k h = (
+      is,
+      tt,
+      w.prefix,
+      (λ base s b.
+          let n = takes base s b in
+          let are = n.behind.shows.is.0 in
+          over_image base n.lists t (after s) whole (value_image base n.lists t (held old) are n.comes n.behind.image) n.is are n.comes (omega (arith, h, more))),
+    )
+    answer adds.Memory k h = (is, tt, w.prefix, k refl)

@@ -10,10 +10,11 @@ use Rattle.tv_builder.specs.declared.bytes_kind.BytesKind.TheVariants as kinds
 use Rattle.tv_builder.specs.declared.list_kind.ListKind.{ListKind}
 use Rattle.tv_builder.specs.declared.list_kind.ListKind.TheVariants.{Array, Object}
 use Rattle.tv_builder.specs.Parts.{value, key, bytes_head, some_bytes, bytes_part, IsContent, Rule, full_bytes, more_bytes, no_bytes, Trades, same}
-use Rattle.tv_builder.specs.State.{OpenList, State, complete, in_lists, in_bytes, next_in, awaited, with_value, with_key, with_list, with_content, and_value, and_list, and_key, AreLists, OthersAwait, HeadNext, IsState, list_tree, list_head, list_parts, lists_parts, parts_of}
+use Rattle.tv_builder.specs.State.{OpenList, State, complete, in_lists, in_bytes, awaited, with_value, with_key, with_list, with_content, and_value, and_list, and_key, AreLists, OthersAwait, HeadNext, IsState, list_tree, list_head, list_parts, lists_parts, parts_of}
 use Rattle.tv_builder.proofs.Children.{child_key, full_list}
 use Rattle.tv_builder.proofs.Giving.{value_trades}
-use Rattle.tv_builder.proofs.Sound.{all_await, next_key}
+use Rattle.tv_builder.proofs.Calls.{head_next}
+use Rattle.tv_builder.proofs.Sound.{all_await}
 use Rattle.tv_builder.proofs.Trading.{trades_as, trades_from, trades_then, trades_last}
 
 pub values_trade : (s : State) (t : Tree) → IsState s → awaited s ≡ awaits.Value → Trades (parts_of s ++ value t ∷ []) (parts_of (and_value s t))
@@ -43,16 +44,16 @@ lists_trade (in_lists ls) kind n is e = elim (eqb_tells n 0) [
       trades_as _ after same
 ]
 
-pub key_trades : (ls : List OpenList) (k : List ℕ) → AreLists ls → next_in ls ≡ awaits.Key → Trades (lists_parts ls ++ key k ∷ []) (parts_of (with_key ls k))
-key_trades [] k is e = absurd (cc)
-key_trades (l ∷ ls) k is e =
-    let child = child_key l.kind l.children (leaf (text k)) (next_key l.kind (length l.children) e) tt is.0.children in
+key_trades : (ls : List OpenList) (k : List ℕ) → AreLists ls → HeadNext kinds.Key ls → Trades (lists_parts ls ++ key k ∷ []) (parts_of (with_key ls k))
+key_trades [] k is next = absurd next
+key_trades (l ∷ ls) k is next =
+    let child = child_key l.kind l.children (leaf (text k)) next tt is.0.children in
     trades_as _ (append_assoc (lists_parts ls) (list_parts l) (key k ∷ []) ∙ ap (λ z. lists_parts ls ++ (list_head l.kind l.announced ∷ z)) (sym child.1)) same
 
 pub keys_trade : (s : State) (k : List ℕ) → IsState s → awaited s ≡ awaits.Key → Trades (parts_of s ++ key k ∷ []) (parts_of (and_key s k))
 keys_trade (complete u) k is e = absurd (cc)
 keys_trade (in_bytes ls kind n bs) k is e = absurd (cc)
-keys_trade (in_lists ls) k is e = key_trades ls k is.0 e
+keys_trade (in_lists ls) k is e = key_trades ls k is.0 (head_next kinds.Key ls e is.1)
 
 pub heads_trade : (ls : List OpenList) (kind : BytesKind) (n : ℕ) → Trades (lists_parts ls ++ bytes_head kind n ∷ []) (lists_parts ls ++ (bytes_head kind n ∷ some_bytes [] ∷ []))
 heads_trade ls kind n =
@@ -69,10 +70,7 @@ pub content_trades : (ls : List OpenList) (kind : BytesKind) (content : List ℕ
 content_trades ls kinds.Str content is others next = value_trades ls _ is next
 content_trades ls kinds.Facet content is others next = value_trades ls _ is next
 content_trades ls kinds.Bytes content is others next = value_trades ls _ is next
-content_trades [] kinds.Key content is others next = absurd next
-content_trades (l ∷ ls) kinds.Key content is others next =
-    let child = child_key l.kind l.children (leaf (text content)) next tt is.0.children in
-    trades_as _ (append_assoc (lists_parts ls) (list_parts l) (key content ∷ []) ∙ ap (λ z. lists_parts ls ++ (list_head l.kind l.announced ∷ z)) (sym child.1)) same
+content_trades ls kinds.Key content is others next = key_trades ls content is next
 
 pub ends_trade : (ls : List OpenList) (kind : BytesKind) (bs : List ℕ) → IsState (in_bytes ls kind (length bs) bs) → IsContent kind bs → Trades (lists_parts ls ++ (bytes_head kind (length bs) ∷ some_bytes bs ∷ [])) (parts_of (with_content ls kind bs))
 ends_trade ls kind bs is content = trades_then (trades_last (lists_parts ls) _ _ (full_bytes kind bs content)) (content_trades ls kind bs is.0 is.1 is.2)

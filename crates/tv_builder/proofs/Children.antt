@@ -1,21 +1,19 @@
--- The finished children of a list: their parts, their bytes, their room and their weight.
-use Rattle.std.proofs.Common.{◌≡◌, ℕ, suc, ◌+◌, ◌*◌, ◌%◌, ◌^◌, ◌<◌, ◌≤◌, List, [], ◌∷◌, ◌++◌, length, map, refl, sym, ◌∙◌, ap, subst, length-append, arith}
+-- The finished children of a list: their parts and their bytes.
+use Rattle.std.proofs.Common.{◌≡◌, ℕ, ◌+◌, ◌*◌, ◌%◌, ◌^◌, ◌<◌, ◌≤◌, List, [], ◌∷◌, ◌++◌, length, map, refl, sym, ap, subst, length-append, arith}
 use Rattle.std.proofs.lemmas.List.{map-append}
 use Rattle.tv_base.specs.Number.{vnum}
 use Rattle.tv_base.specs.Parts.{short_sized}
 use Rattle.tv_format.specs.Tree.{Tree, leaf, text, array, object, elements, entries}
 use Rattle.tv_heap.specs.Reads.{Stands, ShortText, Reads, ReadsElements, ReadsEntries}
-use Rattle.tv_heap.specs.Room.{room, elements_room, entries_room}
-use Rattle.tv_heap.specs.Weight.{tree_weight, elements_weight, entries_weight}
 use Rattle.tv_heap.specs.TypeCode.{type_code}
 use Rattle.tv_heap.proofs.Grown.{grown_elements, grown_entries}
-use Rattle.tv_heap.proofs.Writes.{at_end, longer, sized_length, sized_some, vnum_five}
+use Rattle.tv_heap.proofs.Writes.{at_end, longer, sized_some}
 use Rattle.tv_builder.specs.declared.list_kind.ListKind.{ListKind}
 use Rattle.tv_builder.specs.declared.list_kind.ListKind.TheVariants.{Array, Object}
 use Rattle.tv_builder.specs.Kinds.{list_type, total}
 use Rattle.tv_builder.specs.Parts.{value, key, array_head, object_head, entry_parts, Rule, full_array, full_object}
 use Rattle.tv_builder.specs.Shows.{Placed}
-use Rattle.tv_builder.specs.State.{text_of, pairs_of, list_tree, IsKey, AreEntries, AreValues, AreChildren, IsValueNext, IsKeyNext, key_parts, value_parts, list_head, children_parts, children_room, trees_weight}
+use Rattle.tv_builder.specs.State.{text_of, pairs_of, list_tree, IsKey, AreEntries, AreValues, AreChildren, IsValueNext, IsKeyNext, key_parts, value_parts, list_head, children_parts}
 
 -- ---- parts
 
@@ -103,13 +101,11 @@ entries_read heap parent own (k ∷ t ∷ ts) even are h = record {
   };
 }
 
--- the bytes of a list take two bytes at least and six at most for each child
-pub elements_bytes : (heap : List ℕ) (parent : ℕ) (own : List ℕ) (ts : List Tree) → ReadsElements heap parent own (elements ts) → (length ts ≤ length own) × (length own ≤ 6 * length ts)
-elements_bytes heap parent own [] h = (omega arith, omega (arith, ap length h))
+-- the bytes of a list take one at least for each child
+pub elements_bytes : (heap : List ℕ) (parent : ℕ) (own : List ℕ) (ts : List Tree) → ReadsElements heap parent own (elements ts) → length ts ≤ length own
+elements_bytes heap parent own [] h = omega arith
 elements_bytes heap parent own (t ∷ ts) h =
-    let r = elements_bytes heap parent h.rest ts h.others in
-    let e : length own ≡ suc (length (vnum h.at) + length h.rest) = ap length h.joined ∙ ap suc (length-append (vnum h.at) h.rest) in
-    (omega (arith, e, r.0), omega (arith, e, r.1, vnum_five h.at h.fits))
+    omega (arith, elements_bytes heap parent h.rest ts h.others, ap length h.joined, length-append (vnum h.at) h.rest)
 
 list_reads : (kind : ListKind) (n : ℕ) (heap new own : List ℕ) (ts : List Tree) → length ts ≡ total kind n → AreChildren kind ts → ReadsElements heap (length heap) own (elements ts)
     → new ≡ heap ++ short_sized own → length own < 2 ^ 32 → Reads new (type_code (list_type kind)) (length heap) (list_tree kind ts)
@@ -142,47 +138,3 @@ list_placed kind n heap new own ts full are h e fits =
       below = λ x y. omega (arith, longer heap new _ e, sized_some own small);
       fits = omega (arith, longer heap new _ e, fits);
     }
-
--- ---- room and weight
-
-pub elements_room_is : (ts : List Tree) → elements_room (elements ts) ≡ children_room ts
-elements_room_is [] = refl
-elements_room_is (t ∷ ts) = omega (arith, elements_room_is ts)
-
-pub elements_weight_is : (ts : List Tree) → elements_weight (elements ts) ≡ 6 * length ts + trees_weight ts
-elements_weight_is [] = refl
-elements_weight_is (t ∷ ts) = omega (arith, elements_weight_is ts)
-
-key_room : (k : Tree) → IsKey k → (room k ≡ 5 + length (text_of k)) × (tree_weight k ≡ length (short_sized (text_of k)))
-key_room (leaf (text content)) h = (refl, refl)
-key_room _ h = absurd h
-
-entries_room_is : (ts : List Tree) → length ts % 2 ≡ 0 → AreEntries ts → (entries_room (entries (pairs_of ts)) ≡ children_room ts) × (entries_weight (entries (pairs_of ts)) ≡ 6 * length ts + trees_weight ts)
-entries_room_is [] even h = (refl, refl)
-entries_room_is (k ∷ []) even h = absurd (omega (arith, even))
-entries_room_is (k ∷ t ∷ ts) even h =
-    let others = entries_room_is ts (omega (arith, even)) h.1 in
-    let first = key_room k h.0 in
-    (omega (arith, others.0, first.0), omega (arith, others.1, first.1))
-
-pub list_room : (kind : ListKind) (n : ℕ) (ts : List Tree) → length ts ≡ total kind n → AreChildren kind ts → room (list_tree kind ts) ≡ 5 + children_room ts
-list_room Array n ts full h = omega (arith, elements_room_is ts)
-list_room Object n ts full h = omega (arith, (entries_room_is ts (omega (arith, full)) h).0)
-
-pub list_weight : (kind : ListKind) (n : ℕ) (ts : List Tree) → length ts ≡ total kind n → AreChildren kind ts → tree_weight (list_tree kind ts) ≡ 5 + 6 * length ts + trees_weight ts
-list_weight Array n ts full h = omega (arith, elements_weight_is ts)
-list_weight Object n ts full h = omega (arith, (entries_room_is ts (omega (arith, full)) h).1)
-
--- the bytes of a list are within the weight that it adds to that of its children
-pub list_within : (kind : ListKind) (n : ℕ) (heap new own : List ℕ) (ts : List Tree) → length ts ≡ total kind n → AreChildren kind ts → ReadsElements heap (length heap) own (elements ts)
-    → new ≡ heap ++ short_sized own → length new ≤ 4294967295 → length new + trees_weight ts ≤ length heap + tree_weight (list_tree kind ts)
-list_within kind n heap new own ts full are h e fits =
-    omega (arith, longer heap new _ e, sized_length own (own_small heap new own e fits), (elements_bytes heap (length heap) own ts h).1, list_weight kind n ts full are)
-
-pub trees_weight_push : (ts : List Tree) (t : Tree) → trees_weight (ts ++ t ∷ []) ≡ trees_weight ts + tree_weight t
-trees_weight_push [] t = omega arith
-trees_weight_push (u ∷ ts) t = omega (arith, trees_weight_push ts t)
-
-pub children_room_push : (ts : List Tree) (t : Tree) → children_room (ts ++ t ∷ []) ≡ children_room ts + (6 + room t)
-children_room_push [] t = omega arith
-children_room_push (u ∷ ts) t = omega (arith, children_room_push ts t)

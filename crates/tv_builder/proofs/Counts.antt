@@ -1,12 +1,10 @@
 -- What is seen of a building's state.
 use Rattle.std.proofs.Common.{◌≡◌, ℕ, List, [], ◌∷◌, length, take, Option, refl, sym, ◌∙◌, ap, arith}
-use Rattle.std.specs.Coded.{Coded, Coded-set}
+use Rattle.std.specs.Coded.{Coded-set}
 use Rattle.std.proofs.Math.Logic.{∥∥₁_elim}
 use Rattle.std.proofs.Math.Nat.{ℕ_set}
 use Rattle.std.proofs.lemmas.List.{length-reverse}
-use base.Stored.{Gv, gnil, gnum, gcons}
-use Rattle.tv_builder.specs.declared.awaits.Awaits.{Awaits}
-use Rattle.tv_builder.specs.declared.awaits.Awaits.TheVariants as awaits
+use Rattle.tv_builder.specs.contracts.awaits.Awaits.{the_row}
 use Rattle.tv_builder.specs.declared.building.Building.{Building}
 use Rattle.tv_builder.specs.declared.building.OpenBytes.{OpenBytes}
 use Rattle.tv_builder.specs.declared.frame.Frame.{Frame}
@@ -16,26 +14,8 @@ use Rattle.tv_builder.specs.Shows.{ShowsLists, ShowsAt, Stands, frames_of, await
 use Rattle.tv_builder.specs.State.{OpenList, State, complete, in_lists, in_bytes, awaited, lists_of, children_of}
 use Rattle.tv_builder.proofs.Sound.{awaited_same}
 
--- ---- what comes next
-
-abbrev awaits_gv : Awaits → Gv
-awaits_gv awaits.Value = gnil
-awaits_gv awaits.Key = gcons gnil gnil
-awaits_gv awaits.Finish = gcons (gcons gnil gnil) gnil
-awaits_gv (awaits.Bytes n) = gnum n
-
-awaits_same : (x y : Awaits) → awaits_gv x ≡ awaits_gv y → x ≡ y
-awaits_same awaits.Value awaits.Value e = refl
-awaits_same awaits.Key awaits.Key e = refl
-awaits_same awaits.Finish awaits.Finish e = refl
-awaits_same (awaits.Bytes m) (awaits.Bytes n) e = let f : m ≡ n = cc in ap awaits.Bytes f
-awaits_same _ _ e = absurd (cc)
-
-coded_awaits : Coded Awaits
-coded_awaits = record { code = awaits_gv; inj = awaits_same }
-
 pub awaited_is : (b : Building) (h : Stands b) → awaited_by b ≡ awaited h.0
-awaited_is b h = ∥∥₁_elim h.1 (Coded-set coded_awaits _ _) (λ s. awaited_same b.heap.items (frames_of b) b.places.items b.complete b.open h.0 s.at)
+awaited_is b h = ∥∥₁_elim h.1 (Coded-set the_row.coded _ _) (λ s. awaited_same b.heap.items (frames_of b) b.places.items b.complete b.open h.0 s.at)
 
 -- ---- counts
 

@@ -14,7 +14,7 @@ use Rattle.tv_builder.specs.declared.heap_pairs.HeapPairs.{HeapPairs}
 use Rattle.tv_builder.specs.declared.heap_pair.HeapPair.{HeapPair}
 use Rattle.tv_builder.specs.HeldPairs.{heap_of, document_of, IsUnchanged, Added, ReadsAt}
 use Rattle.tv_builder.specs.Holds.{pair_at, ReadsPair, ReadsPairs, Holds, one_document}
-use Rattle.tv_heap.specs.Room.{room, document_room}
+use Rattle.tv_heap.specs.Room.{room}
 use Rattle.tv_heap.specs.Weight.{tree_weight, document_weight}
 use Rattle.tv_heap.specs.TypeCode.{type_code}
 use Rattle.tv_base.specs.Parts.{short_sized}
@@ -22,11 +22,11 @@ use Rattle.tv_base.specs.Sink.{IsPrefix}
 use Rattle.tv_heap.specs.Reads.{Reads}
 use Rattle.tv_heap.specs.declared.place.Place.{Place}
 use Rattle.tv_heap.proofs.Grown.{grown}
-use Rattle.tv_heap.proofs.Weights.{reads_weigh}
 use Rattle.tv_builder.specs.TreeBytes.{leaf_place, tree_heap, tree_place, elements_heap, entries_heap}
 use Rattle.tv_builder.specs.Whole.{Put}
 use Rattle.tv_builder.proofs.Giving.{prefix_length}
 use Rattle.tv_builder.proofs.Putting.{tree_prefix, put_grows}
+use Rattle.tv_builder.proofs.Within.{tree_within, tree_within_room}
 
 -- one heap and one list of pairs hold one document
 pub same_document : (h k : List ℕ) (ps qs : List HeapPair) (x : Holds h ps) (y : Holds k qs) → h ≡ k → ps ≡ qs → x.0 ≡ y.0
@@ -87,7 +87,7 @@ placed_reads old new at t w = let placed = w.placed in placed.reads
 
 -- it grew by the tree's room at most
 put_within_room : (old new : List ℕ) (at : Place) (t : Tree) → Put old t new at → length new ≤ length old + room t
-put_within_room old new at t w = omega (arith, w.weighed, reads_weigh new (type_code at.value_type) at.address t (omega (arith, w.fits)) (placed_reads old new at t w))
+put_within_room old new at t w = omega (arith, ap length w.heap, tree_within_room old t (omega (arith, w.fits, ap length w.heap)))
 
 put_behind : (old new : List ℕ) (at : Place) (t : Tree) → Put old t new at → type_code at.value_type ≢ 0 → type_code at.value_type ≢ 9 → length old ≤ at.address
 put_behind old new at t w = subst (λ (q : Place). type_code q.value_type ≢ 0 → type_code q.value_type ≢ 9 → length old ≤ q.address) (sym w.place) (tree_behind old t)
@@ -107,17 +107,11 @@ pushed old heap ps at field t fits w e =
           (record { field = refl; fits = fits; reads = placed_reads (heap_of old) heap at t w }))),
     )
 
-pub pushed_room : (old : HeapPairs) (heap : List ℕ) (ps : List HeapPair) (at : Place) (field : ℕ) (t : Tree) (fits : field < 2 ^ 32) (w : Put (heap_of old) t heap at) (e : ps ≡ old.pairs.items ++ pair_at field at ∷ [])
-    → length heap ≤ document_room ((pushed old heap ps at field t fits w e).0)
-unfolding pushed
-pushed_room old heap ps at field t fits w e =
-    omega (arith, old.room, put_within_room (heap_of old) heap at t w, sum_by_push (λ (pair : ℕ × Tree). room pair.1) (document_of old) (field, t))
-
 pub pushed_weight : (old : HeapPairs) (heap : List ℕ) (ps : List HeapPair) (at : Place) (field : ℕ) (t : Tree) (fits : field < 2 ^ 32) (w : Put (heap_of old) t heap at) (e : ps ≡ old.pairs.items ++ pair_at field at ∷ [])
     → length heap ≤ document_weight ((pushed old heap ps at field t fits w e).0)
 unfolding pushed
 pushed_weight old heap ps at field t fits w e =
-    omega (arith, old.weight, w.weighed, sum_by_push (λ (pair : ℕ × Tree). tree_weight pair.1) (document_of old) (field, t))
+    omega (arith, old.weight, ap length w.heap, tree_within (heap_of old) t (omega (arith, w.fits, ap length w.heap)), sum_by_push (λ (pair : ℕ × Tree). tree_weight pair.1) (document_of old) (field, t))
 
 pub added : (old new : HeapPairs) (at : Place) (field : ℕ) (t : Tree) → field < 2 ^ 32 → Put (heap_of old) t (heap_of new) at → new.pairs.items ≡ old.pairs.items ++ pair_at field at ∷ [] → Added old new field t
 unfolding pushed
@@ -140,14 +134,8 @@ added old new at field t fits w e =
 pub kept : (old : HeapPairs) (heap : List ℕ) (ps : List HeapPair) → heap ≡ heap_of old → ps ≡ old.pairs.items → Holds heap ps
 kept old heap ps e f = subst (λ z. Holds z ps) (sym e) (subst (λ z. Holds (heap_of old) z) (sym f) old.document)
 
-pub kept_room : (old : HeapPairs) (heap : List ℕ) (ps : List HeapPair) (e : heap ≡ heap_of old) (f : ps ≡ old.pairs.items) → length heap ≤ document_room ((kept old heap ps e f).0)
-kept_room old heap ps e f = omega (arith, ap length e, old.room, ap document_room (same_document heap (heap_of old) ps old.pairs.items (kept old heap ps e f) old.document e f))
-
 pub kept_weight : (old : HeapPairs) (heap : List ℕ) (ps : List HeapPair) (e : heap ≡ heap_of old) (f : ps ≡ old.pairs.items) → length heap ≤ document_weight ((kept old heap ps e f).0)
 kept_weight old heap ps e f = omega (arith, ap length e, old.weight, ap document_weight (same_document heap (heap_of old) ps old.pairs.items (kept old heap ps e f) old.document e f))
-
-pub kept_fits : (old : HeapPairs) (heap : List ℕ) → heap ≡ heap_of old → length heap < 2 ^ 32
-kept_fits old heap e = omega (arith, ap length e, old.fits)
 
 -- what was written is cut off again
 pub restored : (old mid : List ℕ) (n : ℕ) → IsPrefix old mid → n ≡ length old → take n mid ≡ old

@@ -1,61 +1,100 @@
 -- The end of open bytes.
-use Rattle.std.proofs.Common.{◌≡◌, ◌≢◌, ℕ, ◌+◌, ◌-◌, ◌%◌, ◌<◌, ◌≤◌, nat_eq, List, [], ◌∷◌, ◌++◌, length, drop, Option, Some, None, Result, Ok, Err, OnOk, IfErr, refl, sym, ◌∙◌, ap, subst, append_assoc, length-append, arith}
-use Rattle.std.proofs.Math.Logic.{∥∥₁_elim, ∥∥₁_map}
+use Rattle.std.proofs.Common.{◌≡◌, ℕ, ◌+◌, ◌-◌, ◌^◌, ◌<◌, ◌≤◌, List, ◌++◌, length, drop, Some, None, Result, OnOk, IfErr, refl, sym, ◌∙◌, ap, subst, append_assoc, length-append, arith}
+use Rattle.std.proofs.Math.Logic.{∥∥₁_elim}
 use Rattle.std.specs.Coded.{le_prop}
 use Rattle.std.proofs.Math.Seq.{drop-append_seam}
-use Rattle.std.proofs.lemmas.Bool.{cond-true, eq-eqb}
-use mathlib.Core.HLevel.{⊥_prop}
 use Rattle.tv_base.specs.Number.{vnum}
 use Rattle.tv_base.specs.Parts.{short_sized}
-use Rattle.tv_base.specs.Sink.{IsPrefix}
-use Rattle.tv_heap.specs.Weight.{tree_weight}
+use Rattle.tv_format.specs.Tree.{Tree, leaf, text, facet, bytes}
+use Rattle.tv_heap.specs.Reads.{Stands as StandsAt, ShortSized, ShortText, Reads}
+use Rattle.tv_heap.specs.TypeCode.{type_code}
 use Rattle.tv_heap.specs.declared.value_type.ValueType.{ValueType}
 use Rattle.tv_format.specs.declared.leaf_type.LeafType.TheVariants as leaves
 use Rattle.tv_heap.specs.declared.value_type.ValueType.TheVariants as types
-use Rattle.tv_builder.specs.declared.awaits.Awaits.TheVariants as awaits
+use Rattle.tv_heap.proofs.Writes.{at_end, longer, sized_some}
 use Rattle.tv_builder.specs.declared.build_error.BuildError.{BuildError}
-use Rattle.tv_builder.specs.declared.build_error.BuildError.TheVariants.{AlreadyFailed, OutOfPlace, NotUtf8, HeapFull, Memory}
 use Rattle.tv_builder.specs.declared.building.Building.{Building}
 use Rattle.tv_builder.specs.declared.building.OpenBytes.{OpenBytes}
 use Rattle.tv_builder.specs.declared.bytes_kind.BytesKind.{BytesKind}
 use Rattle.tv_builder.specs.declared.bytes_kind.BytesKind.TheVariants as kinds
-use Rattle.tv_builder.specs.declared.frame.Frame.{Frame}
-use Rattle.tv_builder.specs.declared.list_kind.ListKind.{ListKind}
-use Rattle.tv_builder.specs.declared.list_kind.ListKind.TheVariants.{Array, Object}
 use Rattle.tv_heap.specs.declared.place.Place.{Place}
-use Rattle.tv_builder.specs.Given.{Given, given, pending_in, AreCut}
-use Rattle.tv_builder.specs.Image.{lists_places, lists_frames, held, image_of}
+use Rattle.tv_builder.specs.Builder.{HasAllBytes, HasContent}
+use Rattle.tv_builder.specs.Given.{Given, given}
+use Rattle.tv_builder.specs.Image.{held, image_of, Behind}
 use Rattle.tv_builder.specs.StateHeap.{lists_heap}
 use Rattle.tv_builder.specs.Kinds.{bytes_type}
-use Rattle.tv_builder.specs.Moves.{given_to, CanGive, CanGiveKey, Gives, GivesNot, GivesKey, Moves, IsFull, HasNoRoom, EndsBytes, EndsWell, AwaitsEnd, last_bytes}
+use Rattle.tv_builder.specs.Moves.{InState, CanGive, Gives, GivesNot, Does, last_bytes}
 use Rattle.tv_builder.specs.Parts.{IsContent}
-use Rattle.tv_builder.specs.Shows.{Placed, ShowsLists, Shows, Stands, frames_of}
-use Rattle.tv_builder.specs.State.{OpenList, State, complete, in_lists, in_bytes, next_in, next_at, with_value, with_content, and_end, HeadNext, IsKeyNext, AllAwait, state_room, lists_written, written}
-use Rattle.tv_builder.proofs.Calls.{handed, given_grows}
-use Rattle.tv_builder.proofs.NoRoom.{lists_as, given_over}
-use Rattle.tv_builder.proofs.Giving.{prefix_same}
-use Rattle.tv_builder.proofs.Images.{gives_held, given_image, image_heap}
-use Rattle.tv_builder.proofs.Keys.{content_tree, content_placed, key_handed, key_image}
+use Rattle.tv_builder.specs.Shows.{Placed, ShowsLists, Shows, Stands, frames_of, awaited_at}
+use Rattle.tv_builder.specs.State.{OpenList, State, complete, in_lists, in_bytes, with_value, with_content, and_end, AreLists, OthersAwait, HeadNext}
 use Rattle.tv_builder.specs.TreeBytes.{tree_heap, tree_place}
-use Rattle.tv_builder.proofs.Sound.{cut_of, fits_of, counted_of}
+use Rattle.tv_builder.proofs.Calls.{lists_as, Written, does_give}
+use Rattle.tv_builder.proofs.Giving.{Comes, comes, key_comes, key_waits, prefix_same}
+use Rattle.tv_builder.proofs.Images.{given_image}
+use Rattle.tv_builder.proofs.Opening.{never}
+use Rattle.tv_builder.proofs.Sound.{fits_of, GoesOn, can_give}
 
-some_none : {A : Type 0} (x : Option A) (a : A) → x ≡ Some a → x ≡ None → ⊥
-some_none x a e f = absurd (let g : Some a ≡ None = sym e ∙ f in cc)
+-- ---- texts and bytes at the end of a heap
 
--- what is known where bytes are open
-pub record InBytes (b : Building) (o : OpenBytes) (s : State) : Type 0 where
-  pub lists : List OpenList
-  pub so_far : List ℕ
-  pub is : s ≡ in_bytes lists o.kind o.announced so_far
-  pub shows : Shows b (in_bytes lists o.kind o.announced so_far)
-  pub before : List ℕ
-  pub joined : b.heap.items ≡ before ++ (vnum o.announced ++ so_far)
-  pub place : length before ≡ o.address
-  pub counted : length so_far + o.missing ≡ o.announced
+sized_placed : (old new content : List ℕ) (p : Place) (t : Tree) → new ≡ old ++ short_sized content → length new ≤ 4294967295 → (length content < 2 ^ 32 → Reads new (type_code p.value_type) p.address t) → p.address ≡ length old → Placed new p t
+sized_placed old new content p t e fits reads at =
+    let long = longer old new _ e in
+    let whole = length-append (vnum (length content)) content in
+    let small : length content < 2 ^ 32 = omega (arith, long, whole, fits) in
+    record { reads = reads small; below = λ x y. omega (arith, at, long, sized_some content small); fits = omega (arith, at, long, fits) }
 
-pub bytes_state : (b : Building) (o : OpenBytes) (s : State) → b.open ≡ Some o → Shows b s → InBytes b o s
-bytes_state b o (complete t) e h = absurd (some_none b.open o e h.at.closed)
-bytes_state b o (in_lists ls) e h = absurd (some_none b.open o e h.at.closed)
+text_stands : (old new content : List ℕ) (at : ℕ) → new ≡ old ++ short_sized content → IsContent kinds.Str content → at ≡ length old → length content < 2 ^ 32 → StandsAt new at (λ w. ShortText content w)
+text_stands old new content at e is same small =
+    subst (λ z. StandsAt new z (λ w. ShortText content w)) (sym same) (at_end old new _ _ e (record { sized = record { is = refl; fits = small }; utf8 = is }))
+
+-- what bytes of a kind are, once all have come
+abbrev pub content_tree : BytesKind → List ℕ → Tree
+content_tree kinds.Str content = leaf (text content)
+content_tree kinds.Facet content = leaf (facet content)
+content_tree kinds.Bytes content = leaf (bytes content)
+content_tree kinds.Key content = leaf (text content)
+
+-- what is known of them
+record Content (kind : BytesKind) (old content : List ℕ) (at : ℕ) : Type 0 where
+  heap : old ++ short_sized content ≡ tree_heap old (content_tree kind content)
+  place : record { value_type = bytes_type kind; address = at } ≡ tree_place old (content_tree kind content)
+
+content_written : (kind : BytesKind) (old content : List ℕ) (at : ℕ) → at ≡ length old → Content kind old content at
+content_written kinds.Str old content at e = record { heap = refl; place = λ i. record { value_type = types.Leaf leaves.Str; address = e i } }
+content_written kinds.Facet old content at e = record { heap = refl; place = λ i. record { value_type = types.Leaf leaves.Facet; address = e i } }
+content_written kinds.Bytes old content at e = record { heap = refl; place = λ i. record { value_type = types.Leaf leaves.Bytes; address = e i } }
+content_written kinds.Key old content at e = record { heap = refl; place = λ i. record { value_type = types.Leaf leaves.Str; address = e i } }
+
+content_placed : (kind : BytesKind) (old new content : List ℕ) (at : ℕ) → new ≡ old ++ short_sized content → length new ≤ 4294967295 → IsContent kind content → at ≡ length old
+    → Placed new (record { value_type = bytes_type kind; address = at }) (content_tree kind content)
+content_placed kinds.Str old new content at e fits is same = sized_placed old new content _ _ e fits (λ small. (refl, text_stands old new content at e is same small)) same
+content_placed kinds.Facet old new content at e fits is same = sized_placed old new content _ _ e fits (λ small. (refl, text_stands old new content at e is same small)) same
+content_placed kinds.Key old new content at e fits is same = sized_placed old new content _ _ e fits (λ small. (refl, text_stands old new content at e is same small)) same
+content_placed kinds.Bytes old new content at e fits is same =
+    sized_placed old new content _ _ e fits (λ small. (refl, subst (λ z. StandsAt new z (λ w. ShortSized content w)) (sym same) (at_end old new _ _ e (record { is = refl; fits = small })))) same
+
+-- they come to the lists as a value, or as a key
+pub content_comes : (kind : BytesKind) (ls : List OpenList) (content : List ℕ) → AreLists ls → OthersAwait ls → HeadNext kind ls → Comes ls (content_tree kind content) × (with_content ls kind content ≡ with_value ls (content_tree kind content))
+content_comes kinds.Str ls content are others next = (comes ls (leaf (text content)) are next, refl)
+content_comes kinds.Facet ls content are others next = (comes ls (leaf (facet content)) are next, refl)
+content_comes kinds.Bytes ls content are others next = (comes ls (leaf (bytes content)) are next, refl)
+content_comes kinds.Key ls content are others next = (key_comes ls content are others next, key_waits ls content are next)
+
+-- ---- where bytes are open
+
+record InBytes (b : Building) (o : OpenBytes) (s : State) : Type 0 where
+  lists : List OpenList
+  so_far : List ℕ
+  is : s ≡ in_bytes lists o.kind o.announced so_far
+  shows : Shows b (in_bytes lists o.kind o.announced so_far)
+  before : List ℕ
+  joined : b.heap.items ≡ before ++ (vnum o.announced ++ so_far)
+  place : length before ≡ o.address
+  counted : length so_far + o.missing ≡ o.announced
+
+bytes_state : (b : Building) (o : OpenBytes) (s : State) → b.open ≡ Some o → Shows b s → InBytes b o s
+bytes_state b o (complete t) e h = absurd (let g : Some o ≡ None = sym e ∙ h.at.closed in cc)
+bytes_state b o (in_lists ls) e h = absurd (let g : Some o ≡ None = sym e ∙ h.at.closed in cc)
 bytes_state b o (in_bytes ls kind n bs) e h =
     let f : Some h.at.piece ≡ Some o = sym h.at.is ∙ e in
     let same_piece : h.at.piece ≡ o = cc in
@@ -87,66 +126,29 @@ last_are b o s i none =
     let n : length b.heap.items - o.announced ≡ length prefix = omega (arith, ap length whole, length-append prefix i.so_far, i.counted, none) in
     (λ j. drop (n j) (whole j)) ∙ drop-append_seam prefix i.so_far
 
--- and they stand behind their shortest length
-content_at : (b : Building) (o : OpenBytes) (s : State) (i : InBytes b o s) → o.missing ≡ 0 → IsContent o.kind (last_bytes o.announced b.heap.items)
-    → Placed b.heap.items (record { value_type = bytes_type o.kind; address = o.address }) (content_tree o.kind i.so_far)
-content_at b o s i none is =
-    let same_count : o.announced ≡ length i.so_far = omega (arith, i.counted, none) in
-    content_placed o.kind i.before b.heap.items i.so_far o.address (i.joined ∙ ap (λ z. i.before ++ (vnum z ++ i.so_far)) same_count) i.shows.fits (subst (IsContent o.kind) (last_are b o s i none) is) (sym i.place)
+-- ---- which answer comes when
 
--- ---- a value
+pub has_all : (b : Building) (o : OpenBytes) → b.open ≡ Some o → o.missing ≡ 0 → InState b HasAllBytes
+has_all b o e none s h = let i = bytes_state b o s e h in subst HasAllBytes (sym i.is) (omega (arith, i.counted, none))
 
-data IsValueKind : BytesKind → Type 0 where
-  of_str : IsValueKind kinds.Str
-  of_facet : IsValueKind kinds.Facet
-  of_bytes : IsValueKind kinds.Bytes
+pub has_content : (b : Building) (o : OpenBytes) → b.open ≡ Some o → o.missing ≡ 0 → IsContent o.kind (last_bytes o.announced b.heap.items) → InState b HasContent
+has_content b o e none is s h = let i = bytes_state b o s e h in subst HasContent (sym i.is) (subst (IsContent o.kind) (last_are b o s i none) is)
 
-value_kind : (kind : BytesKind) → kind ≢ kinds.Key → IsValueKind kind
-value_kind kinds.Str n = of_str
-value_kind kinds.Facet n = of_facet
-value_kind kinds.Bytes n = of_bytes
-value_kind kinds.Key n = absurd (n refl)
+pub none_open : (b : Building) → Stands b → b.open ≡ None → ¬ InState b HasAllBytes
+none_open b h e = never b HasAllBytes h not
+  where
+    not : (s : State) → Shows b s → HasAllBytes s → ⊥
+    not (in_bytes ls kind n bs) h k = absurd (let f : Some h.at.piece ≡ None = sym h.at.is ∙ e in cc)
+    not (complete t) h k = k
+    not (in_lists ls) h k = k
 
-all_next : (kind : BytesKind) (ls : List OpenList) → IsValueKind kind → HeadNext kind ls → AllAwait ls
-all_next _ ls of_str h = h
-all_next _ ls of_facet h = h
-all_next _ ls of_bytes h = h
+pub some_missing : (b : Building) (o : OpenBytes) → Stands b → b.open ≡ Some o → 0 < o.missing → ¬ InState b HasAllBytes
+some_missing b o h e some = never b HasAllBytes h (λ s x all. let i = bytes_state b o s e x in let k : length i.so_far ≡ o.announced = subst HasAllBytes i.is all in absurd (omega (arith, k, i.counted, some)))
 
-content_weight : (kind : BytesKind) (content : List ℕ) → tree_weight (content_tree kind content) ≡ length (vnum (length content)) + length content
-content_weight kinds.Str content = length-append (vnum (length content)) content
-content_weight kinds.Facet content = length-append (vnum (length content)) content
-content_weight kinds.Bytes content = length-append (vnum (length content)) content
-content_weight kinds.Key content = length-append (vnum (length content)) content
+pub no_content : (b : Building) (o : OpenBytes) → Stands b → b.open ≡ Some o → o.missing ≡ 0 → ¬ IsContent o.kind (last_bytes o.announced b.heap.items) → ¬ InState b HasContent
+no_content b o h e none not = never b HasContent h (λ s x is. let i = bytes_state b o s e x in not (subst (IsContent o.kind) (sym (last_are b o s i none)) (subst HasContent i.is is)))
 
--- what is written of open bytes is what they weigh, once all have come
-bytes_weight : (b : Building) (o : OpenBytes) (s : State) (i : InBytes b o s) → o.missing ≡ 0 → written s ≡ lists_written i.lists + tree_weight (content_tree o.kind i.so_far)
-bytes_weight b o s i none =
-    let same_count : o.announced ≡ length i.so_far = omega (arith, i.counted, none) in
-    omega (arith, ap written i.is, ap (λ z. length (vnum z)) same_count, content_weight o.kind i.so_far)
-
-with_content_is : (kind : BytesKind) (ls : List OpenList) (content : List ℕ) → IsValueKind kind → with_content ls kind content ≡ with_value ls (content_tree kind content)
-with_content_is _ ls content of_str = refl
-with_content_is _ ls content of_facet = refl
-with_content_is _ ls content of_bytes = refl
-
--- what is held of open bytes that have all come is what is held of a value, or a key, that was written behind the lists
-all_written : (b : Building) (o : OpenBytes) (s : State) (i : InBytes b o s) (base : List ℕ) → o.missing ≡ 0 → held b ≡ image_of base s
-    → (b.heap.items ≡ lists_heap base i.lists ++ short_sized i.so_far) × (o.address ≡ length (lists_heap base i.lists)) × (b.places.items ≡ lists_places base i.lists) × (frames_of b ≡ lists_frames base i.lists)
-all_written b o s i base none is =
-    let shown : held b ≡ image_of base (in_bytes i.lists o.kind o.announced i.so_far) = is ∙ ap (λ z. image_of base z) i.is in
-    let same_count : o.announced ≡ length i.so_far = omega (arith, i.counted, none) in
-    let heap : b.heap.items ≡ lists_heap base i.lists ++ (vnum o.announced ++ i.so_far) = ap (λ (z : Given). z.heap) shown in (
-      heap ∙ ap (λ z. lists_heap base i.lists ++ (vnum z ++ i.so_far)) same_count,
-      omega (arith, i.place, ap length heap, ap length i.joined, length-append (lists_heap base i.lists) (vnum o.announced ++ i.so_far), length-append i.before (vnum o.announced ++ i.so_far)),
-      ap (λ (z : Given). z.places) shown,
-      ap (λ (z : Given). z.frames) shown,
-    )
-
-content_bytes_are : (kind : BytesKind) (heap content : List ℕ) → IsValueKind kind → (heap ++ short_sized content ≡ tree_heap heap (content_tree kind content))
-    × ((at : ℕ) → at ≡ length heap → record { value_type = bytes_type kind; address = at } ≡ tree_place heap (content_tree kind content))
-content_bytes_are _ heap content of_str = (refl, (λ at e. λ i. record { value_type = types.Leaf leaves.Str; address = e i }))
-content_bytes_are _ heap content of_facet = (refl, (λ at e. λ i. record { value_type = types.Leaf leaves.Facet; address = e i }))
-content_bytes_are _ heap content of_bytes = (refl, (λ at e. λ i. record { value_type = types.Leaf leaves.Bytes; address = e i }))
+-- ---- the value or the key is handed over
 
 -- where the building has let go of the open bytes
 pub record LetGo (old mid : Building) : Type 0 where
@@ -157,174 +159,42 @@ pub record LetGo (old mid : Building) : Type 0 where
   pub complete : mid.complete ≡ old.complete
   pub closed : mid.open ≡ None
 
-lists_let_go : (old mid : Building) (ls : List OpenList) → LetGo old mid → ShowsLists old.heap.items (frames_of old) old.places.items ls → ShowsLists mid.heap.items (frames_of mid) mid.places.items ls
-lists_let_go old mid ls l h = lists_as mid.heap.items (frames_of old) (frames_of mid) old.places.items mid.places.items ls l.frames l.places (subst (λ z. ShowsLists z (frames_of old) old.places.items ls) (sym l.heap) h)
+content_stands : (old mid : Building) (o : OpenBytes) → old.open ≡ Some o → o.missing ≡ 0 → IsContent o.kind (last_bytes o.announced old.heap.items) → LetGo old mid → (base : List ℕ) (s : State) → Behind base old s
+    → Written base mid (record { value_type = bytes_type o.kind; address = o.address }) (and_end s)
+content_stands old mid o e none is l base s b =
+    let i = bytes_state old o s e b.shows in
+    let ls = i.lists in
+    let next = content_comes o.kind ls i.so_far i.shows.is.0 i.shows.is.1 i.shows.is.2 in
+    let shown : held old ≡ image_of base (in_bytes ls o.kind o.announced i.so_far) = b.image ∙ ap (λ z. image_of base z) i.is in
+    let same_count : o.announced ≡ length i.so_far = omega (arith, i.counted, none) in
+    let own : vnum o.announced ++ i.so_far ≡ short_sized i.so_far = ap (λ z. vnum z ++ i.so_far) same_count in
+    let heap : old.heap.items ≡ lists_heap base ls ++ (vnum o.announced ++ i.so_far) = ap (λ (z : Given). z.heap) shown in
+    let at : o.address ≡ length (lists_heap base ls) = omega (arith, i.place, ap length heap, ap length i.joined, length-append (lists_heap base ls) (vnum o.announced ++ i.so_far), length-append i.before (vnum o.announced ++ i.so_far)) in
+    let content = content_written o.kind (lists_heap base ls) i.so_far o.address at in
+    let p : Place = record { value_type = bytes_type o.kind; address = o.address } in
+    record {
+      lists = ls;
+      tree = content_tree o.kind i.so_far;
+      is = ap and_end i.is ∙ next.1;
+      are = i.shows.is.0;
+      comes = next.0;
+      shown = lists_as mid.heap.items (frames_of old) (frames_of mid) old.places.items mid.places.items ls l.frames l.places (subst (λ z. ShowsLists z (frames_of old) old.places.items ls) (sym l.heap) i.shows.at.lists);
+      placed = subst (λ z. Placed z p (content_tree o.kind i.so_far)) (sym l.heap)
+          (content_placed o.kind i.before old.heap.items i.so_far o.address (i.joined ∙ ap (λ z. i.before ++ z) own) i.shows.fits (subst (IsContent o.kind) (last_are old o s i none) is) (sym i.place));
+      closed = l.closed;
+      image = (λ j. given ((l.heap ∙ heap ∙ ap (λ z. lists_heap base ls ++ z) own ∙ content.heap) j) ((l.places ∙ ap (λ (z : Given). z.places) shown) j) ((l.frames ∙ ap (λ (z : Given). z.frames) shown) j) (content.place j)) ∙
+          given_image base ls (content_tree o.kind i.so_far) i.shows.is.0 next.0;
+    }
 
-end_given : (old mid : Building) (o : OpenBytes) → old.open ≡ Some o → o.missing ≡ 0 → IsValueKind o.kind → LetGo old mid → (base : List ℕ) (s : State) → Shows old s → held old ≡ image_of base s
-    → given_to mid (record { value_type = bytes_type o.kind; address = o.address }) ≡ image_of base (and_end s)
-end_given old mid o e none kind l base s h shown =
-    let i = bytes_state old o s e h in
-    let w = all_written old o s i base none shown in
-    let t = content_tree o.kind i.so_far in
-    let bytes = content_bytes_are o.kind (lists_heap base i.lists) i.so_far kind in
-    (λ j. given ((l.heap ∙ w.0 ∙ bytes.0) j) ((l.places ∙ w.2) j) ((l.frames ∙ w.3) j) (bytes.1 o.address w.1 j)) ∙ given_image base i.lists t i.shows.is.0 (all_next o.kind i.lists kind i.shows.is.2) ∙
-    ap (λ z. image_of base z) (sym (ap and_end i.is ∙ with_content_is o.kind i.lists i.so_far kind))
-
-value_ends : (old mid new : Building) (o : OpenBytes) → old.open ≡ Some o → o.missing ≡ 0 → IsContent o.kind (last_bytes o.announced old.heap.items) → IsValueKind o.kind → LetGo old mid
-    → Gives mid (record { value_type = bytes_type o.kind; address = o.address }) new → Moves old new and_end
-value_ends old mid new o e none is kind l g = record {
-  grows = subst (λ z. IsPrefix z new.heap.items) l.heap (given_grows mid new _ g);
-  shows = λ s h. (next s h).0;
-  within = λ s h. (next s h).1;
-  image = λ base s h shown. gives_held mid new _ g ∙ end_given old mid o e none kind l base s h shown;
-}
-  where
-    next : (s : State) → Shows old s → Shows new (and_end s) × (length new.heap.items + written s ≤ length old.heap.items + written (and_end s))
-    next s h =
-        let i = bytes_state old o s e h in
-        let t = content_tree o.kind i.so_far in
-        let placed = subst (λ z. Placed z (record { value_type = bytes_type o.kind; address = o.address }) t) (sym l.heap) (content_at old o s i none is) in
-        let r = handed mid new _ t i.lists i.shows.is.0 (all_next o.kind i.lists kind i.shows.is.2) (lists_let_go old mid i.lists l i.shows.at.lists) placed l.closed g in
-        let after : and_end s ≡ with_value i.lists t = ap and_end i.is ∙ with_content_is o.kind i.lists i.so_far kind in
-        (subst (Shows new) (sym after) r.0, omega (arith, r.1, bytes_weight old o s i none, ap written after, ap length l.heap))
-
--- a list that the value closes has no room
-value_end_over : (old mid : Building) (o : OpenBytes) → old.open ≡ Some o → o.missing ≡ 0 → IsContent o.kind (last_bytes o.announced old.heap.items) → IsValueKind o.kind → LetGo old mid
-    → 4294967295 < length (given_to mid (record { value_type = bytes_type o.kind; address = o.address })).heap → HasNoRoom old and_end
-value_end_over old mid o e none is kind l over = λ s h.
-    let i = bytes_state old o s e h in
-    let t = content_tree o.kind i.so_far in
-    let placed = subst (λ z. Placed z (record { value_type = bytes_type o.kind; address = o.address }) t) (sym l.heap) (content_at old o s i none is) in
-    let r = given_over (frames_of mid) i.lists mid.heap.items mid.places.items (record { value_type = bytes_type o.kind; address = o.address }) t i.shows.is.0 (all_next o.kind i.lists kind i.shows.is.2)
-    (lists_let_go old mid i.lists l i.shows.at.lists) placed (omega (arith, ap length l.heap, i.shows.fits)) over in
-    let after : and_end s ≡ with_value i.lists t = ap and_end i.is ∙ with_content_is o.kind i.lists i.so_far kind in
-    omega (arith, r, bytes_weight old o s i none, ap state_room after, ap length l.heap)
-
-pub does_end : (old mid new : Building) (o : OpenBytes) (r : Result (Unit {0}) BuildError) → old.open ≡ Some o → o.missing ≡ 0 → IsContent o.kind (last_bytes o.announced old.heap.items) → o.kind ≢ kinds.Key → LetGo old mid
-    → OnOk r (Gives mid (record { value_type = bytes_type o.kind; address = o.address }) new) → IfErr r (λ x. GivesNot mid (record { value_type = bytes_type o.kind; address = o.address }) new x) → EndsBytes old new r
-does_end old mid new o r e none is not_key l ok err = answer r ok err
-  where
-    p : Place
-    p = record { value_type = bytes_type o.kind; address = o.address }
-
-    here : AwaitsEnd old.open
-    here = subst AwaitsEnd (sym e) none
-
-    well : EndsWell old.open old.heap.items
-    well = subst (λ z. EndsWell z old.heap.items) (sym e) is
-
-    kind : IsValueKind o.kind
-    kind = value_kind o.kind not_key
-
-    full : 4294967295 < length (given_to mid p).heap → IsFull old and_end
-    full over = λ base s h shown. let whole = end_given old mid o e none kind l base s h shown in omega (arith, over, ap (λ (z : Given). length z.heap) whole, ap length (image_heap base (and_end s)))
-
-    prefix : (x : BuildError) → GivesNot mid p new x → IsPrefix old.heap.items new.heap.items
-    prefix x g = subst (λ z. IsPrefix z new.heap.items) l.heap g.prefix
-
-    answer : (r : Result (Unit {0}) BuildError) → OnOk r (Gives mid p new) → IfErr r (λ x. GivesNot mid p new x) → EndsBytes old new r
-    answer (Ok x) ok err = (here, well, value_ends old mid new o e none is kind l ok)
-    answer (Err HeapFull) ok err = (here, well, full err.why, prefix HeapFull err, value_end_over old mid o e none is kind l err.why)
-    answer (Err Memory) ok err = (here, well, prefix Memory err)
-    answer (Err AlreadyFailed) ok err = absurd err.why
-    answer (Err OutOfPlace) ok err = absurd err.why
-    answer (Err NotUtf8) ok err = absurd err.why
-
-pub does_end_at : (old mid new : Building) (o : OpenBytes) (t : ValueType) (r : Result (Unit {0}) BuildError) → old.open ≡ Some o → o.missing ≡ 0 → IsContent o.kind (last_bytes o.announced old.heap.items) → o.kind ≢ kinds.Key → t ≡ bytes_type o.kind → LetGo old mid
-    → OnOk r (Gives mid (record { value_type = t; address = o.address }) new) → IfErr r (λ x. GivesNot mid (record { value_type = t; address = o.address }) new x) → EndsBytes old new r
-does_end_at old mid new o t r e none is not_key same l ok err =
-    does_end old mid new o r e none is not_key l (subst (λ z. OnOk r (Gives mid (record { value_type = z; address = o.address }) new)) same ok)
+pub does_end : (old mid new : Building) (o : OpenBytes) (t : ValueType) (r : Result (Unit {0}) BuildError) → old.open ≡ Some o → o.missing ≡ 0 → IsContent o.kind (last_bytes o.announced old.heap.items) → t ≡ bytes_type o.kind → LetGo old mid
+    → OnOk r (Gives mid (record { value_type = t; address = o.address }) new) → IfErr r (λ x. GivesNot mid (record { value_type = t; address = o.address }) new x)
+    → Does old new (InState old HasAllBytes) (InState old HasContent) (Unit {0}) and_end r
+does_end old mid new o t r e none is same l ok err =
+    does_give old mid new (record { value_type = bytes_type o.kind; address = o.address }) (InState old HasAllBytes) (InState old HasContent) (Unit {0}) and_end r (has_all old o e none) (has_content old o e none is) tt
+    (prefix_same old.heap.items mid.heap.items l.heap) (content_stands old mid o e none is l)
+    (subst (λ z. OnOk r (Gives mid (record { value_type = z; address = o.address }) new)) same ok)
     (subst (λ z. IfErr r (λ x. GivesNot mid (record { value_type = z; address = o.address }) new x)) same err)
 
--- ---- a key
-
-key_next : (ls : List OpenList) → HeadNext kinds.Key ls → next_in ls ≡ awaits.Key
-key_next [] h = absurd h
-key_next (l ∷ ls) h = at_key l.kind (length l.children) h
-  where
-    at_key : (kind : ListKind) (n : ℕ) → IsKeyNext kind n → next_at kind n ≡ awaits.Key
-    at_key Array n h = absurd h
-    at_key Object n h = cond-true (nat_eq (n % 2) 0) awaits.Key awaits.Value (eq-eqb (n % 2) 0 h)
-
-key_ends : (old mid new : Building) (o : OpenBytes) → old.open ≡ Some o → o.missing ≡ 0 → IsContent o.kind (last_bytes o.announced old.heap.items) → o.kind ≡ kinds.Key → LetGo old mid
-    → GivesKey mid o.address new → Moves old new and_end
-key_ends old mid new o e none is kind l g = record {
-  grows = prefix_same old.heap.items new.heap.items (g.heap ∙ l.heap);
-  shows = λ s h. (next s h).0;
-  within = λ s h. (next s h).1;
-  image = drawn;
-}
-  where
-    drawn : (base : List ℕ) (s : State) → Shows old s → held old ≡ image_of base s → held new ≡ image_of base (and_end s)
-    drawn base s h shown =
-        let i = bytes_state old o s e h in
-        let w = all_written old o s i base none shown in
-        let head : HeadNext kinds.Key i.lists = subst (λ k. HeadNext k i.lists) kind i.shows.is.2 in
-        key_image mid new o.address i.so_far base i.lists g (key_next i.lists head) (l.heap ∙ w.0) w.1 (l.places ∙ w.2) (l.frames ∙ w.3) (l.complete ∙ i.shows.at.none) ∙
-        ap (λ z. image_of base z) (sym (ap and_end i.is ∙ ap (λ k. with_content i.lists k i.so_far) kind))
-
-    next : (s : State) → Shows old s → Shows new (and_end s) × (length new.heap.items + written s ≤ length old.heap.items + written (and_end s))
-    next s h =
-        let i = bytes_state old o s e h in
-        let placed = subst (λ k. Placed old.heap.items (record { value_type = bytes_type k; address = o.address }) (content_tree k i.so_far)) kind (content_at old o s i none is) in
-        let placed_mid = subst (λ z. Placed z (record { value_type = types.Leaf leaves.Str; address = o.address }) (content_tree kinds.Key i.so_far)) (sym l.heap) placed in
-        let head : HeadNext kinds.Key i.lists = subst (λ k. HeadNext k i.lists) kind i.shows.is.2 in
-        let r = key_handed mid new o.address i.so_far i.lists i.shows.is.0 i.shows.is.1 (key_next i.lists head) (lists_let_go old mid i.lists l i.shows.at.lists) placed_mid (l.complete ∙ i.shows.at.none) l.closed
-        (omega (arith, ap length l.heap, i.shows.fits)) (l.pending ∙ i.shows.counted ∙ ap pending_in (sym l.frames)) g in
-        let key_weight : written s ≡ lists_written i.lists + length (short_sized i.so_far) = bytes_weight old o s i none ∙ ap (λ k. lists_written i.lists + tree_weight (content_tree k i.so_far)) kind in
-        let after : and_end s ≡ with_content i.lists kinds.Key i.so_far = ap and_end i.is ∙ ap (λ k. with_content i.lists k i.so_far) kind in
-        (subst (Shows new) (sym after) r.0, omega (arith, r.1, key_weight, ap written after, ap length l.heap))
-
-pub does_end_key : (old mid new : Building) (o : OpenBytes) (r : Result (Unit {0}) BuildError) → old.open ≡ Some o → o.missing ≡ 0 → IsContent o.kind (last_bytes o.announced old.heap.items) → o.kind ≡ kinds.Key → LetGo old mid
-    → OnOk r (GivesKey mid o.address new) → IfErr r (λ x. (x ≡ Memory) × (new.heap.items ≡ mid.heap.items)) → EndsBytes old new r
-does_end_key old mid new o r e none is kind l ok err = answer r ok err
-  where
-    here : AwaitsEnd old.open
-    here = subst AwaitsEnd (sym e) none
-
-    well : EndsWell old.open old.heap.items
-    well = subst (λ z. EndsWell z old.heap.items) (sym e) is
-
-    answer : (r : Result (Unit {0}) BuildError) → OnOk r (GivesKey mid o.address new) → IfErr r (λ x. (x ≡ Memory) × (new.heap.items ≡ mid.heap.items)) → EndsBytes old new r
-    answer (Ok x) ok err = (here, well, key_ends old mid new o e none is kind l ok)
-    answer (Err Memory) ok err = (here, well, prefix_same old.heap.items new.heap.items (err.1 ∙ l.heap))
-    answer (Err AlreadyFailed) ok err = absurd (let f = err.0 in cc)
-    answer (Err OutOfPlace) ok err = absurd (let f = err.0 in cc)
-    answer (Err NotUtf8) ok err = absurd (let f = err.0 in cc)
-    answer (Err HeapFull) ok err = absurd (let f = err.0 in cc)
-
--- ---- what is needed to hand them over
-
 pub let_go_gives : (old mid : Building) (o : OpenBytes) → Stands old → old.open ≡ Some o → LetGo old mid → CanGive mid
-let_go_gives old mid o h e l = record {
-  fits = omega (arith, ap length l.heap, fits_of old h);
-  counted = l.pending ∙ counted_of old h ∙ ap pending_in (sym l.frames);
-  cut = subst (λ z. AreCut z mid.places.items) (sym l.frames) (subst (λ z. AreCut (frames_of old) z) (sym l.places) (cut_of old h));
-  none = l.complete ∙ no_tree old o h e;
-}
-  where
-    none_again : (x : Option Place) → ∥ x ≡ None ∥₁ → x ≡ None
-    none_again None h = refl
-    none_again (Some p) h = absurd (∥∥₁_elim h ⊥_prop (λ f. absurd (cc)))
-
-    no_tree : (b : Building) (o : OpenBytes) → Stands b → b.open ≡ Some o → b.complete ≡ None
-    no_tree b o h e = none_again b.complete (∥∥₁_map h.1 (λ s. (bytes_state b o h.0 e s).shows.at.none))
-
-pub let_go_key : (old mid : Building) (o : OpenBytes) → Stands old → old.open ≡ Some o → o.kind ≡ kinds.Key → LetGo old mid → CanGiveKey mid
-let_go_key old mid o h e kind l =
-    let k = some_frame (frames_of old) (∥∥₁_map h.1 (λ s. let i = bytes_state old o h.0 e s in (i.lists, i.shows.at.lists, subst (λ z. HeadNext z i.lists) kind i.shows.is.2))) in
-    record {
-      frame = k.0;
-      rest = k.1;
-      frames = l.frames ∙ k.2;
-      cut = subst (λ z. AreCut z mid.places.items) (sym l.frames) (subst (λ z. AreCut (frames_of old) z) (sym l.places) (cut_of old h));
-      counted = l.pending ∙ counted_of old h ∙ ap pending_in (sym l.frames);
-    }
-  where
-    some_frame : (fs : List Frame) → ∥ ((ls : List OpenList) × ShowsLists old.heap.items fs old.places.items ls × HeadNext kinds.Key ls) ∥₁ → (f : Frame) × (rest : List Frame) × (fs ≡ f ∷ rest)
-    some_frame (f ∷ rest) h = (f, rest, refl)
-    some_frame [] h = absurd (∥∥₁_elim h ⊥_prop (λ x. none x.0 x.1 x.2))
-      where
-        none : (ls : List OpenList) → ShowsLists old.heap.items [] old.places.items ls → HeadNext kinds.Key ls → ⊥
-        none [] a b = b
-        none (l ∷ ls) a b = a
+let_go_gives old mid o h e l =
+    can_give old mid h (subst (λ z. GoesOn (awaited_at z old.complete (frames_of old))) (sym e) tt) (omega (arith, ap length l.heap, fits_of old h)) l.pending l.frames l.places l.complete

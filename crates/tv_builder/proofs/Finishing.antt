@@ -1,26 +1,22 @@
 -- The complete tree becomes the value of a pair.
-use Rattle.std.proofs.Common.{◌≡◌, ℕ, zero, suc, ◌≤◌, Bool, false, List, [], ◌∷◌, ◌++◌, length, reverse, take, drop, Option, Some, None, Ok, Err, OnOk, IfErr, refl, sym, ◌∙◌, ap, subst, arith}
+use Rattle.std.proofs.Common.{◌≡◌, ℕ, Bool, false, List, [], ◌∷◌, ◌++◌, length, reverse, take, drop, Option, Some, None, Ok, Err, OnOk, IfErr, refl, sym, ◌∙◌, ap, subst, arith}
 use Rattle.std.proofs.lemmas.List.{append-nil, take-append-drop, take_all}
 use Rattle.std.proofs.lemmas.List.Sums.{sum_by_push}
 use Rattle.std.proofs.Math.Logic.{∥∥₁_elim, ∥∥₁_map, ∥∥₁_prop}
 use mathlib.Core.HLevel.{⊥_prop}
-use Rattle.std.specs.Coded.{Coded, code_by, coded×, coded_ℕ, Coded-set, le_prop}
-use Rattle.tv_heap.specs.declared.value_type.ValueType.{ValueType}
+use Rattle.std.specs.Coded.{Coded-set}
 use Rattle.tv_format.specs.Tree.{Tree}
 use Rattle.tv_heap.specs.Reads.{Reads}
-use Rattle.tv_heap.specs.Room.{room, document_room}
 use Rattle.tv_heap.specs.Weight.{tree_weight, document_weight}
-use Rattle.tv_heap.proofs.TypeBytes.{coded_type}
-use Rattle.tv_heap.proofs.Weights.{reads_weigh}
 use Rattle.tv_heap.specs.TypeCode.{type_code}
 use Rattle.tv_builder.specs.declared.build_error.BuildError.{BuildError}
 use Rattle.tv_builder.specs.declared.build_error.BuildError.TheVariants.{AlreadyFailed, OutOfPlace, NotUtf8, HeapFull, Memory}
 use Rattle.tv_builder.specs.declared.building.Building.{Building}
+use Rattle.tv_heap.specs.contracts.place.Place.{the_row}
 use Rattle.tv_heap.specs.declared.place.Place.{Place}
-use Rattle.tv_builder.specs.Given.{pending_in}
-use Rattle.tv_builder.specs.Given.{Given}
-use Rattle.tv_builder.specs.Image.{held, image_of}
-use Rattle.tv_builder.specs.OneState.{StandsBehind, stands_of, same_behind}
+use Rattle.tv_builder.specs.Given.{Given, pending_in}
+use Rattle.tv_builder.specs.Image.{held, image_of, Behind}
+use Rattle.tv_builder.specs.OneState.{StandsBehind, same_behind}
 use Rattle.tv_builder.specs.Shows.{Shows}
 use Rattle.tv_builder.specs.TreeBytes.{tree_place}
 use Rattle.tv_builder.specs.State.{State, complete, in_lists, in_bytes, written}
@@ -30,7 +26,7 @@ use Rattle.tv_builder.specs.Finish.{HoldsPrefix, Settled, Kept, KeptNot, WhyNoPa
 use Rattle.tv_builder.specs.Builder.{built, state_of, heap_so_far, kept_heap, Fails, Finished, FinishesIf, Finishes, IsComplete}
 use Rattle.tv_builder.specs.Holds.{ReadsPairs, Holds, pair_at}
 use Rattle.tv_builder.proofs.Documents.{same_document, pairs_grown, pairs_push}
-use Rattle.tv_builder.proofs.PairBuilding.{Answer, Left, Fields, none_shows, fields_left, fails_now}
+use Rattle.tv_builder.proofs.PairBuilding.{Answer, Left, stands, Fields, none_shows, fields_left, heap_within, fails_now}
 
 both : {A : Type 0} (x : Option A) (a : A) → x ≡ Some a → x ≡ None → ⊥
 both x a e f = absurd (let g : Some a ≡ None = sym e ∙ f in cc)
@@ -48,11 +44,6 @@ some_of : (x : Option Place) → ¬ (x ≡ None) → (p : Place) × (x ≡ Some 
 some_of None n = absurd (n refl)
 some_of (Some p) n = (p, refl)
 
--- a code for places, so that two are equal in one way at most
-coded_place : Coded Place
-coded_place =
-    code_by (ValueType × ℕ) (coded× coded_type coded_ℕ) (λ p. (p.value_type, p.address)) (λ c. record { value_type = c.0; address = c.1 }) (λ p. refl)
-
 -- ---- the pair
 
 -- what is known of a builder whose tree is complete
@@ -64,21 +55,17 @@ pub record Whole (old : PairBuilder) (at : Place) : Type 0 where
 
 whole : (old : PairBuilder) (at : Place) → old.building.complete ≡ Some at → Whole old at
 whole old at e =
-    let shown = (stands_of (kept_heap old) old.building old.state).1 in
+    let shown = (stands old).1 in
     let t = tree_state old.building old.state.0 shown at e in
     record {
       tree = t.0;
       is = t.1;
       shows = subst (λ z. ∥ Shows old.building z ∥₁) t.1 shown;
-      place = ∥∥₁_elim old.state.1 (Coded-set coded_place at (tree_place (kept_heap old) t.0)) (λ p.
-          let drawn : held old.building ≡ image_of (kept_heap old) (complete t.0) = p.1 ∙ ap (λ z. image_of (kept_heap old) z) t.1 in
+      place = ∥∥₁_elim old.state.1 (Coded-set the_row.coded at (tree_place (kept_heap old) t.0)) (λ p.
+          let drawn : held old.building ≡ image_of (kept_heap old) (complete t.0) = p.image ∙ ap (λ z. image_of (kept_heap old) z) t.1 in
           let both_are : Some at ≡ Some (tree_place (kept_heap old) t.0) = sym e ∙ ap (λ (g : Given). g.complete) drawn in
           cc);
     }
-
--- it weighs no more than its room
-tree_fits : (old : PairBuilder) (at : Place) (w : Whole old at) → tree_weight w.tree ≤ room w.tree
-tree_fits old at w = ∥∥₁_elim w.shows le_prop (λ s. reads_weigh (heap_so_far old) (type_code s.at.at.value_type) s.at.at.address w.tree (omega (arith, s.fits)) s.at.placed.reads)
 
 reads_at : (b : Building) (t : Tree) (at : Place) → b.complete ≡ Some at → Shows b (complete t) → Reads b.heap.items (type_code at.value_type) at.address t
 reads_at b t at e s =
@@ -107,7 +94,7 @@ abbrev after_pair : (old : PairBuilder) (mid new : Building) (ps : List HeapPair
 after_pair old mid new ps kept f k e =
     let w = whole old k.at k.is in (
       in_lists [],
-      ∥∥₁_map w.shows (λ s. subst (λ (z : Building). Shows z (in_lists []) × (held z ≡ image_of (take kept z.heap.items) (in_lists []))) (sym e)
+      ∥∥₁_map w.shows (λ s. subst (λ (z : Building). Behind (take kept z.heap.items) z (in_lists [])) (sym e)
           (none_shows kept mid (omega (arith, ap length k.heap, k.kept_is)) (omega (arith, ap length k.heap, s.fits)) (k.places ∙ s.at.places_none) (k.pending ∙ s.counted ∙ ap pending_in s.at.frames) (ap reverse k.frames ∙ s.at.frames) k.complete
           (k.same_bytes ∙ s.at.closed))),
     )
@@ -122,10 +109,8 @@ finish_fields_ok old mid new ps kept f k e =
     record {
       document = document;
       kept_within = omega (arith, ap length same_heap, k.kept_is);
-      room = omega (arith, k.kept_is, old.written, old.room, ap written w.is, ap document_room same_doc, sum_by_push (λ (x : ℕ × Tree). room x.1) (built old) (f, w.tree), tree_fits old k.at w);
-      weight = omega (arith, k.kept_is, old.written, old.weight, ap written w.is, ap document_weight same_doc, sum_by_push (λ (x : ℕ × Tree). tree_weight x.1) (built old) (f, w.tree));
+      weight = omega (arith, k.kept_is, heap_within old, old.weight, ap written w.is, ap document_weight same_doc, sum_by_push (λ (x : ℕ × Tree). tree_weight x.1) (built old) (f, w.tree));
       state = after_pair old mid new ps kept f k e;
-      written_within = omega (arith, ap length same_heap, k.kept_is);
     }
 
 left_same : (old : PairBuilder) (mid : Building) (e : BuildError) → mid ≡ old.building → Left old.building mid (λ s. s) (Err e)
@@ -163,13 +148,19 @@ finish_live old new mid f (Ok x) live ok err s = finish_done old new mid f live 
 finish_live old new mid f (Err e) live ok err s = answer e err.why fails
   where
     fails : Fails old new
-    fails = fails_now old new mid (λ s. s) e (left_same old mid e err.same) (settled_as mid new.building new.kept old.kept old.failed new.failed (Err e) err.kept_same s) err.kept_same err.pairs
+    fails = fails_now old new mid (λ s. s) e (record {
+      live = live;
+      left = left_same old mid e err.same;
+      settled = settled_as mid new.building new.kept old.kept old.failed new.failed (Err e) err.kept_same s;
+      kept = err.kept_same;
+      pairs = err.pairs;
+    })
 
     is_complete : ¬ (old.building.complete ≡ None) → IsComplete (state_of old)
-    is_complete n = let p = some_of old.building.complete n in tree_state old.building old.state.0 (stands_of (kept_heap old) old.building old.state).1 p.0 p.1
+    is_complete n = let p = some_of old.building.complete n in tree_state old.building old.state.0 (stands old).1 p.0 p.1
 
     answer : (x : BuildError) → WhyNoPair old.building x → Fails old new → FinishesIf false old new f (Err x)
-    answer OutOfPlace h g = (no_tree old.building old.state.0 (stands_of (kept_heap old) old.building old.state).1 h, g)
+    answer OutOfPlace h g = (no_tree old.building old.state.0 (stands old).1 h, g)
     answer Memory h g = (is_complete h, g)
     answer AlreadyFailed h g = absurd h
     answer NotUtf8 h g = absurd h

@@ -1,24 +1,24 @@
 -- What a finished value does.
-use Rattle.std.proofs.Common.{◌≡◌, ℕ, suc, ◌+◌, ◌<◌, ◌≤◌, true, false, nat_lt, List, [], ◌∷◌, ◌++◌, length, take, drop, None, refl, sym, ◌∙◌, ap, subst, append_assoc, length-append, arith, inl, inr}
+use Rattle.std.proofs.Common.{◌≡◌, ℕ, suc, ◌<◌, ◌≤◌, true, false, nat_lt, List, [], ◌∷◌, ◌++◌, length, take, drop, None, refl, sym, ◌∙◌, ap, subst, append_assoc, length-append, arith, inl, inr}
 use Rattle.std.proofs.lemmas.Bool.{cond-true, cond-false, cases_lt, lt-ltb, le-ltb}
 use Rattle.std.proofs.lemmas.List.{append-nil, take-append-le, drop-append-le}
 use Rattle.tv_base.specs.Parts.{short_sized}
 use Rattle.tv_base.specs.Sink.{IsPrefix}
-use Rattle.tv_format.specs.Tree.{Tree, elements}
+use Rattle.tv_format.specs.Tree.{Tree, leaf, text, elements}
 use Rattle.tv_heap.specs.Reads.{ReadsElements}
-use Rattle.tv_heap.specs.Weight.{tree_weight}
 use Rattle.tv_heap.specs.TypeCode.{type_code}
 use Rattle.tv_heap.proofs.Grown.{grown_elements}
 use Rattle.tv_heap.proofs.Lists.{elements_push}
 use Rattle.tv_heap.proofs.Writes.{longer}
+use Rattle.tv_builder.specs.declared.bytes_kind.BytesKind.TheVariants as kinds
 use Rattle.tv_builder.specs.declared.frame.Frame.{Frame}
 use Rattle.tv_heap.specs.declared.place.Place.{Place}
 use Rattle.tv_builder.specs.Given.{Given, given, place_bytes, still_lacks, one_more}
 use Rattle.tv_builder.specs.Kinds.{list_type, total}
 use Rattle.tv_builder.specs.Parts.{value, Trades, same}
 use Rattle.tv_builder.specs.Shows.{Placed, ShowsList, ShowsLists, ShowsAt}
-use Rattle.tv_builder.specs.State.{OpenList, State, in_lists, with_child, lacks_more, with_value, list_tree, IsList, AreLists, AllAwait, OthersAwait, IsState, list_head, list_parts, lists_parts, parts_of, lists_written, written}
-use Rattle.tv_builder.proofs.Children.{child_value, full_list, list_placed, list_within, trees_weight_push}
+use Rattle.tv_builder.specs.State.{OpenList, State, in_lists, with_child, lacks_more, with_value, with_key, list_tree, AreChildren, IsList, AreLists, AllAwait, OthersAwait, HeadNext, IsState, list_head, list_parts, lists_parts, parts_of}
+use Rattle.tv_builder.proofs.Children.{child_value, child_key, key_lacks, full_list, list_placed}
 use Rattle.tv_builder.proofs.Trading.{trades_as, trades_from, trades_then, trades_last}
 
 -- ---- prefixes
@@ -112,63 +112,66 @@ ShowsGiven g s = ShowsAt g.heap g.frames g.places g.complete None s
 pub same_test : (heap places : List ℕ) (f : Frame) (l : OpenList) → ShowsList heap places f l → lacks_more l ≡ still_lacks f
 same_test heap places f l h = λ i. nat_lt (suc (h.counted i)) (total (h.same_kind i) (h.same_announced i))
 
--- the state that is left stands there, and what was written is within its weight
-pub record GivenShows (g : Given) (s : State) (before weight_before : ℕ) : Type 0 where
-  pub shows : ShowsGiven g s
-  pub within : length g.heap + weight_before ≤ before + written s
+-- a tree may come next to these lists
+abbrev pub Comes : List OpenList → Tree → Type 0
+Comes [] t = Unit {0}
+Comes (l ∷ ls) t = AreChildren l.kind (l.children ++ t ∷ []) × AllAwait ls
 
-pub given_shows : (fs : List Frame) (ls : List OpenList) (heap places : List ℕ) (p : Place) (t : Tree) → AreLists ls → AllAwait ls → ShowsLists heap fs places ls → Placed heap p t
-    → length (given heap places fs p).heap ≤ 4294967295 → GivenShows (given heap places fs p) (with_value ls t) (length heap) (lists_written ls + tree_weight t)
-given_shows [] [] heap places p t are await h g fits = record {
-  shows = record { at = p; is = refl; placed = g; frames = refl; places_none = h; closed = refl };
-  within = omega arith;
-}
-given_shows [] (l ∷ ls) heap places p t are await h g fits = absurd h
-given_shows (f ∷ fs) [] heap places p t are await h g fits = absurd h
-given_shows (f ∷ fs) (l ∷ ls) heap places p t are await h g fits = elim (tested (suc f.finished) (total f.kind f.announced)) [
+pub comes : (ls : List OpenList) (t : Tree) → AreLists ls → AllAwait ls → Comes ls t
+comes [] t are await = tt
+comes (l ∷ ls) t are await = ((child_value l.kind l.children t await.0 are.0.children).0, await.1)
+
+-- a key may, and it closes no list
+pub key_comes : (ls : List OpenList) (k : List ℕ) → AreLists ls → OthersAwait ls → HeadNext kinds.Key ls → Comes ls (leaf (text k))
+key_comes [] k are others next = absurd next
+key_comes (l ∷ ls) k are others next = ((child_key l.kind l.children (leaf (text k)) next tt are.0.children).0, others)
+
+pub key_waits : (ls : List OpenList) (k : List ℕ) → AreLists ls → HeadNext kinds.Key ls → with_key ls k ≡ with_value ls (leaf (text k))
+key_waits [] k are next = absurd next
+key_waits (l ∷ ls) k are next =
+    let lacks = key_lacks l.kind l.announced (length l.children) next are.0.lacks in
+    sym (value_waits l ls (leaf (text k)) (lt-ltb (suc (length l.children)) (total l.kind l.announced) (omega (arith, lacks.0))))
+
+-- the state that is left stands there
+pub given_shows : (fs : List Frame) (ls : List OpenList) (heap places : List ℕ) (p : Place) (t : Tree) → AreLists ls → Comes ls t → ShowsLists heap fs places ls → Placed heap p t
+    → length (given heap places fs p).heap ≤ 4294967295 → ShowsGiven (given heap places fs p) (with_value ls t)
+given_shows [] [] heap places p t are next h g fits = record { at = p; is = refl; placed = g; frames = refl; places_none = h; closed = refl }
+given_shows [] (l ∷ ls) heap places p t are next h g fits = absurd h
+given_shows (f ∷ fs) [] heap places p t are next h g fits = absurd h
+given_shows (f ∷ fs) (l ∷ ls) heap places p t are next h g fits = elim (tested (suc f.finished) (total f.kind f.announced)) [
   | below lt e ↦
       let test = same_test heap places f l h.0 ∙ e in
-      let body : GivenShows (record { heap = heap; places = places ++ place_bytes p; frames = one_more f ∷ fs; complete = None }) (in_lists (with_child l t ∷ ls)) (length heap) (lists_written (l ∷ ls) + tree_weight t) = record {
-        shows = record { none = refl; closed = refl; lists = (pushed_list heap places f l p t h.0 g, pushed_others heap places (place_bytes p) f.first fs ls h.0.cut h.1) };
-        within = omega (arith, trees_weight_push l.children t);
+      let body : ShowsGiven (record { heap = heap; places = places ++ place_bytes p; frames = one_more f ∷ fs; complete = None }) (in_lists (with_child l t ∷ ls)) = record {
+        none = refl;
+        closed = refl;
+        lists = (pushed_list heap places f l p t h.0 g, pushed_others heap places (place_bytes p) f.first fs ls h.0.cut h.1);
       } in
-      subst (λ x. GivenShows x (with_value (l ∷ ls) t) (length heap) (lists_written (l ∷ ls) + tree_weight t)) (sym (given_waits heap places f fs p e))
-      (subst (λ x. GivenShows (record { heap = heap; places = places ++ place_bytes p; frames = one_more f ∷ fs; complete = None }) x (length heap) (lists_written (l ∷ ls) + tree_weight t)) (sym (value_waits l ls t test)) body)
+      subst (λ x. ShowsGiven x (with_value (l ∷ ls) t)) (sym (given_waits heap places f fs p e))
+      (subst (ShowsGiven (record { heap = heap; places = places ++ place_bytes p; frames = one_more f ∷ fs; complete = None })) (sym (value_waits l ls t test)) body)
   | not_below le e ↦
       let test = same_test heap places f l h.0 ∙ e in
       let own = drop f.first (places ++ place_bytes p) in
       let new = heap ++ short_sized own in
       let q : Place = record { value_type = list_type f.kind; address = length heap } in
       let ts = l.children ++ t ∷ [] in
+      let u = list_tree l.kind ts in
       let fits_next : length (given new (take f.first places) fs q).heap ≤ 4294967295 = subst (λ (x : Given). length x.heap ≤ 4294967295) (given_closes heap places f fs p e) fits in
       let fits_new : length new ≤ 4294967295 = omega (arith, prefix_length new _ (given_prefix fs new (take f.first places) q), fits_next) in
       let same_total : total l.kind l.announced ≡ total f.kind f.announced = λ i. total (h.0.same_kind i) (h.0.same_announced i) in
       let all : length ts ≡ total l.kind l.announced = omega (arith, length-append l.children (t ∷ []), are.0.lacks, same_total, le, h.0.counted) in
-      let child = child_value l.kind l.children t await.0 are.0.children in
-      let reads = pushed_reads heap places f l p t h.0 g in
-      let placed : Placed new q (list_tree l.kind ts) = subst (λ k. Placed new (record { value_type = list_type k; address = length heap }) (list_tree l.kind ts)) h.0.same_kind
-      (list_placed l.kind l.announced heap new own ts all child.0 reads refl fits_new) in
-      let within = list_within l.kind l.announced heap new own ts all child.0 reads refl fits_new in
-      let next = given_shows fs ls new (take f.first places) q (list_tree l.kind ts) are.1 await.1 (lists_grown heap new (short_sized own) fs (take f.first places) ls refl h.1) placed fits_next in
-      let body : GivenShows (given new (take f.first places) fs q) (with_value ls (list_tree l.kind ts)) (length heap) (lists_written (l ∷ ls) + tree_weight t) =
-      record { shows = next.shows; within = omega (arith, next.within, within, trees_weight_push l.children t) } in
-      subst (λ x. GivenShows x (with_value (l ∷ ls) t) (length heap) (lists_written (l ∷ ls) + tree_weight t)) (sym (given_closes heap places f fs p e))
-      (subst (λ x. GivenShows (given new (take f.first places) fs q) x (length heap) (lists_written (l ∷ ls) + tree_weight t)) (sym (value_closes l ls t test)) body)
+      let placed : Placed new q u = subst (λ k. Placed new (record { value_type = list_type k; address = length heap }) u) h.0.same_kind
+      (list_placed l.kind l.announced heap new own ts all next.0 (pushed_reads heap places f l p t h.0 g) refl fits_new) in
+      let body = given_shows fs ls new (take f.first places) q u are.1 (comes ls u are.1 next.1) (lists_grown heap new (short_sized own) fs (take f.first places) ls refl h.1) placed fits_next in
+      subst (λ x. ShowsGiven x (with_value (l ∷ ls) t)) (sym (given_closes heap places f fs p e)) (subst (ShowsGiven (given new (take f.first places) fs q)) (sym (value_closes l ls t test)) body)
 ]
 
 -- ---- it is a state, and the parts are traded
 
-others_of : (ls : List OpenList) → AllAwait ls → OthersAwait ls
-others_of [] h = tt
-others_of (l ∷ ls) h = h.1
-
-pub value_is : (ls : List OpenList) (t : Tree) → AreLists ls → AllAwait ls → IsState (with_value ls t)
-value_is [] t are await = tt
-value_is (l ∷ ls) t are await = elim (tested (suc (length l.children)) (total l.kind l.announced)) [
-  | below lt e ↦
-      let child = child_value l.kind l.children t await.0 are.0.children in
-      subst IsState (sym (value_waits l ls t e)) ((record { lacks = omega (arith, lt, length-append l.children (t ∷ [])); children = child.0 }, are.1), await.1)
-  | not_below le e ↦ subst IsState (sym (value_closes l ls t e)) (value_is ls (list_tree l.kind (l.children ++ t ∷ [])) are.1 await.1)
+pub value_is : (ls : List OpenList) (t : Tree) → AreLists ls → Comes ls t → IsState (with_value ls t)
+value_is [] t are next = tt
+value_is (l ∷ ls) t are next = elim (tested (suc (length l.children)) (total l.kind l.announced)) [
+  | below lt e ↦ subst IsState (sym (value_waits l ls t e)) ((record { lacks = omega (arith, lt, length-append l.children (t ∷ [])); children = next.0 }, are.1), next.1)
+  | not_below le e ↦ let u = list_tree l.kind (l.children ++ t ∷ []) in subst IsState (sym (value_closes l ls t e)) (value_is ls u are.1 (comes ls u are.1 next.1))
 ]
 
 -- a list with one child more

@@ -24,6 +24,10 @@ each_append R (x ∷ xs) ys a b p q = record {
   second = each_append R xs ys p.rest b p.second q;
 }
 
+-- bytes that are cut in two
+pub then_length : {P Q : List ℕ → Type 0} {whole : List ℕ} (p : Then P Q whole) → length whole ≡ length p.prefix + length p.rest
+then_length p = ap length p.joined ∙ length-append p.prefix p.rest
+
 pub each_split : {A : Type 0} (R : List ℕ → A → Type 0) (xs ys : List A) (whole : List ℕ) → Each R whole (xs ++ ys) → Then (λ b. Each R b xs) (λ b. Each R b ys) whole
 each_split R [] ys whole p = record { prefix = []; rest = whole; joined = refl; first = refl; second = p }
 each_split R (x ∷ xs) ys whole p =
@@ -133,15 +137,15 @@ module _ (Legacy : List ℕ → Entries → Type 0) (v : Version) where
   mutual
     keys_take : (ts : List Tree) (b : List ℕ) → Encoded Legacy v b (key_parts ts) → length ts ≤ length b
     keys_take [] b h = omega arith
-    keys_take (t ∷ ts) b h = omega (arith, key_takes v h.prefix (text_of t) h.first, values_take ts h.rest h.second, ap length h.joined, length-append h.prefix h.rest)
+    keys_take (t ∷ ts) b h = omega (arith, key_takes v h.prefix (text_of t) h.first, values_take ts h.rest h.second, then_length h)
 
     values_take : (ts : List Tree) (b : List ℕ) → Encoded Legacy v b (value_parts ts) → length ts ≤ length b
     values_take [] b h = omega arith
-    values_take (t ∷ ts) b h = omega (arith, value_takes t h.prefix h.first, keys_take ts h.rest h.second, ap length h.joined, length-append h.prefix h.rest)
+    values_take (t ∷ ts) b h = omega (arith, value_takes t h.prefix h.first, keys_take ts h.rest h.second, then_length h)
 
   elements_take : (ts : List Tree) (b : List ℕ) → Encoded Legacy v b (map value ts) → length ts ≤ length b
   elements_take [] b h = omega arith
-  elements_take (t ∷ ts) b h = omega (arith, value_takes t h.prefix h.first, elements_take ts h.rest h.second, ap length h.joined, length-append h.prefix h.rest)
+  elements_take (t ∷ ts) b h = omega (arith, value_takes t h.prefix h.first, elements_take ts h.rest h.second, then_length h)
 
   children_take : (kind : ListKind) (ts : List Tree) (b : List ℕ) → Encoded Legacy v b (children_parts kind ts) → length ts ≤ length b
   children_take lists.Array ts b h = elements_take ts b h
@@ -153,17 +157,17 @@ module _ (Legacy : List ℕ → Entries → Type 0) (v : Version) where
 
   -- open lists and their finished children are paid for by bytes, whatever is announced
   list_paid : (l : OpenList) (b : List ℕ) → Encoded Legacy v b (list_parts l) → 2 + length l.children ≤ length b
-  list_paid l b h = omega (arith, head_takes l.kind l.announced h.prefix h.first, children_take l.kind l.children h.rest h.second, ap length h.joined, length-append h.prefix h.rest)
+  list_paid l b h = omega (arith, head_takes l.kind l.announced h.prefix h.first, children_take l.kind l.children h.rest h.second, then_length h)
 
   lists_paid : (ls : List OpenList) (b : List ℕ) → Encoded Legacy v b (lists_parts ls) → 2 * length ls + children_of ls ≤ length b
   lists_paid [] b h = omega arith
   lists_paid (l ∷ ls) b h =
       let p = each_split (EncodesPart Legacy v) (lists_parts ls) (list_parts l) b h in
-      omega (arith, lists_paid ls p.prefix p.first, list_paid l p.rest p.second, ap length p.joined, length-append p.prefix p.rest)
+      omega (arith, lists_paid ls p.prefix p.first, list_paid l p.rest p.second, then_length p)
 
   pub frames_paid : (s : State) (b : List ℕ) → Encoded Legacy v b (parts_of s) → 2 * length (lists_of s) + children_of (lists_of s) ≤ length b
   frames_paid (complete t) b h = omega arith
   frames_paid (in_lists ls) b h = lists_paid ls b h
   frames_paid (in_bytes ls kind n bs) b h =
       let p = each_split (EncodesPart Legacy v) (lists_parts ls) (bytes_head kind n ∷ some_bytes bs ∷ []) b h in
-      omega (arith, lists_paid ls p.prefix p.first, ap length p.joined, length-append p.prefix p.rest)
+      omega (arith, lists_paid ls p.prefix p.first, then_length p)

@@ -1,18 +1,21 @@
 -- The loop that hands a finished value from list to list.
-use Rattle.std.proofs.Common.{◌≡◌, ℕ, suc, ◌+◌, ◌≤◌, true, false, nat_lt, List, [], ◌∷◌, ◌++◌, length, reverse, take, drop, Option, Some, None, refl, sym, ◌∙◌, ap, subst, arith}
+use Rattle.std.proofs.Common.{◌≡◌, ℕ, suc, ◌+◌, ◌≤◌, true, false, nat_lt, List, [], ◌∷◌, ◌++◌, length, reverse, take, drop, Option, Some, None, Result, Ok, Err, IfErr, IsErrAnd, refl, sym, ◌∙◌, ap, subst, arith}
 use Rattle.std.proofs.lemmas.List.{reverse-append, take-append-le}
 use Rattle.tv_base.specs.Parts.{short_sized}
 use Rattle.tv_base.specs.Sink.{IsPrefix}
+use Rattle.tv_builder.specs.declared.add_error.AddError.{AddError}
+use Rattle.tv_builder.specs.declared.add_error.AddError.TheVariants as adds
 use Rattle.tv_builder.specs.declared.build_error.BuildError.{BuildError}
-use Rattle.tv_builder.specs.declared.build_error.BuildError.TheVariants.{AlreadyFailed, OutOfPlace, NotUtf8, HeapFull, Memory}
+use Rattle.tv_builder.specs.declared.build_error.BuildError.TheVariants.{Memory}
 use Rattle.tv_builder.specs.declared.building.Building.{Building}
 use Rattle.tv_builder.specs.declared.building.OpenBytes.{OpenBytes}
 use Rattle.tv_builder.specs.declared.frame.Frame.{Frame}
 use Rattle.tv_heap.specs.declared.place.Place.{Place}
 use Rattle.tv_builder.specs.Given.{Given, given, place_bytes, lacks, still_lacks, one_more, AreCut, pending_in}
 use Rattle.tv_builder.specs.Kinds.{list_type, total}
-use Rattle.tv_builder.specs.Moves.{CanGive, given_to, Gives, GivesNot, WhyNot, Closed, ClosedNot}
+use Rattle.tv_builder.specs.Moves.{CanGive, given_to, Gives, GivesNot, WhyNot}
 use Rattle.tv_builder.specs.Shows.{frames_of}
+use Rattle.tv_builder.specs.Whole.{WhyUnwritten, ListPut, ListPutNot, as_refused}
 use Rattle.tv_builder.proofs.Giving.{prefix_same, prefix_then, prefix_length, given_prefix, given_waits, given_closes}
 use Rattle.tv_builder.proofs.Sound.{pending_small}
 
@@ -77,26 +80,25 @@ gives_waits old new p heap places frames rest f pending whole bytes q s is test 
       counted = let c = i.counted in let k : new.pending ≡ pending_in (one_more f ∷ reverse rest) = omega arith in k ∙ ap pending_in (sym now);
     }
 
--- or lacks nothing more, and is closed
-pub gives_closes : (old mid new : Building) (p : Place) (heap places : List ℕ) (frames rest : List Frame) (f : Frame) (pending : ℕ) (whole : Option Place) (bytes : Option OpenBytes) (q r : Place)
-    → GivesSoFar old p heap places frames pending whole bytes q → frames ≡ rest ++ f ∷ [] → lacks (one_more f) ≡ false → mid.heap.items ≡ heap → mid.places.items ≡ places ++ place_bytes q
-    → mid.frames.items ≡ rest → mid.pending ≡ pending + 1 → mid.complete ≡ whole → mid.open ≡ bytes → Closed mid (one_more f) r new
+-- or lacks nothing more, and is written
+pub gives_closes : (old new : Building) (p : Place) (heap places own : List ℕ) (frames rest : List Frame) (f : Frame) (pending : ℕ) (whole : Option Place) (bytes : Option OpenBytes) (q r : Place)
+    → GivesSoFar old p heap places frames pending whole bytes q → frames ≡ rest ++ f ∷ [] → lacks (one_more f) ≡ false → own ≡ places ++ place_bytes q → ListPut heap f.kind (drop f.first own) new.heap.items r
+    → new.places.items ≡ take f.first own → new.frames.items ≡ rest → new.pending + (f.finished + 1) ≡ pending + 1 → new.complete ≡ whole → new.open ≡ bytes
     → GivesSoFar old p new.heap.items new.places.items new.frames.items new.pending new.complete new.open r
-gives_closes old mid new p heap places frames rest f pending whole bytes q r s is test heap_is places_is frames_is pending_is whole_is bytes_is c =
+gives_closes old new p heap places own frames rest f pending whole bytes q r s is test own_is put places_is frames_is pending_is whole_is bytes_is =
     let i = innermost old p heap places frames rest f pending whole bytes q s is in
     let g = i.same ∙ given_closes heap places f (reverse rest) q (sym (test_same f) ∙ test) in
-    let new_heap : new.heap.items ≡ heap ++ short_sized (drop f.first (places ++ place_bytes q)) = c.heap ∙ (λ j. heap_is j ++ short_sized (drop f.first (places_is j))) in
-    let new_places : new.places.items ≡ take f.first places = c.places ∙ ap (λ z. take f.first z) places_is ∙ take-append-le f.first places (place_bytes q) i.first in
-    let new_frames : reverse new.frames.items ≡ reverse rest = ap reverse (ap (λ z. z.items) c.frames ∙ frames_is) in
-    let place : r ≡ record { value_type = list_type f.kind; address = length heap } = c.place ∙ ap (λ (z : List ℕ). record { value_type = list_type f.kind; address = length z }) heap_is in
+    let new_heap : new.heap.items ≡ heap ++ short_sized (drop f.first (places ++ place_bytes q)) = put.heap ∙ ap (λ z. heap ++ short_sized (drop f.first z)) own_is in
+    let new_places : new.places.items ≡ take f.first places = places_is ∙ ap (λ z. take f.first z) own_is ∙ take-append-le f.first places (place_bytes q) i.first in
+    let new_frames : reverse new.frames.items ≡ reverse rest = ap reverse frames_is in
     record {
-      same = g ∙ (λ j. given (sym new_heap j) (sym new_places j) (sym new_frames j) (sym place j));
-      fits = c.fits;
-      counted = let n = i.counted in let m = c.pending in let k : new.pending ≡ pending_in (reverse rest) = omega arith in k ∙ ap pending_in (sym new_frames);
+      same = g ∙ (λ j. given (sym new_heap j) (sym new_places j) (sym new_frames j) (sym put.place j));
+      fits = put.fits;
+      counted = let n = i.counted in let k : new.pending ≡ pending_in (reverse rest) = omega arith in k ∙ ap pending_in (sym new_frames);
       cut = subst (λ z. AreCut z new.places.items) (sym new_frames) (subst (λ z. AreCut (reverse rest) z) (sym new_places) i.cut);
-      none = c.complete ∙ whole_is ∙ s.none;
+      none = whole_is ∙ s.none;
       grows = prefix_then old.heap.items heap new.heap.items s.grows (_, new_heap);
-      same_bytes = c.same_bytes ∙ bytes_is ∙ s.same_bytes;
+      same_bytes = bytes_is ∙ s.same_bytes;
     }
 
 -- or no list is open
@@ -117,38 +119,30 @@ gives_out old new p heap places frames pending whole bytes q s is heap_is places
       counted = pending_is ∙ s.counted ∙ ap pending_in e ∙ ap pending_in (sym now);
     }
 
--- or a list can't be closed
-pub gives_not : (old mid new : Building) (p : Place) (heap places : List ℕ) (frames rest : List Frame) (f : Frame) (pending : ℕ) (whole : Option Place) (bytes : Option OpenBytes) (q : Place) (e : BuildError)
-    → GivesSoFar old p heap places frames pending whole bytes q → frames ≡ rest ++ f ∷ [] → lacks (one_more f) ≡ false → mid.heap.items ≡ heap → mid.places.items ≡ places ++ place_bytes q
-    → ClosedNot mid (one_more f) new e → GivesNot old p new e
-gives_not old mid new p heap places frames rest f pending whole bytes q e s is test heap_is places_is c = record {
-  prefix = prefix_then old.heap.items heap new.heap.items s.grows (c.prefix.0, c.prefix.1 ∙ ap (λ z. z ++ c.prefix.0) heap_is);
-  why = why_not e c.why;
-}
+-- or a list can't be written
+pub gives_not : (old new : Building) (p : Place) (heap places own : List ℕ) (frames rest : List Frame) (f : Frame) (pending : ℕ) (whole : Option Place) (bytes : Option OpenBytes) (q : Place) (e : AddError)
+    → GivesSoFar old p heap places frames pending whole bytes q → frames ≡ rest ++ f ∷ [] → lacks (one_more f) ≡ false → own ≡ places ++ place_bytes q → ListPutNot heap (drop f.first own) new.heap.items e
+    → GivesNot old p new (as_refused e)
+gives_not old new p heap places own frames rest f pending whole bytes q e s is test own_is w = record { prefix = prefix_then old.heap.items heap new.heap.items s.grows w.prefix; why = why e w.why }
   where
-    i : Innermost heap places rest f pending q (given_to old p)
-    i = innermost old p heap places frames rest f pending whole bytes q s is
-
-    written : List ℕ
-    written = heap ++ short_sized (drop f.first (places ++ place_bytes q))
-
-    longer_is : length written ≤ length (given_to old p).heap
-    longer_is =
+    more : length (heap ++ short_sized (drop f.first own)) ≤ length (given_to old p).heap
+    more =
+        let i = innermost old p heap places frames rest f pending whole bytes q s is in
+        let closed = heap ++ short_sized (drop f.first (places ++ place_bytes q)) in
         let g = i.same ∙ given_closes heap places f (reverse rest) q (sym (test_same f) ∙ test) in
-        subst (λ (z : Given). length written ≤ length z.heap) (sym g)
-        (prefix_length written _ (given_prefix (reverse rest) written (take f.first places) (record { value_type = list_type f.kind; address = length heap })))
+        let grown = prefix_length closed _ (given_prefix (reverse rest) closed (take f.first places) (record { value_type = list_type f.kind; address = length heap })) in
+        omega (arith, grown, ap (λ (z : Given). length z.heap) g, ap (λ z. length (heap ++ short_sized (drop f.first z))) own_is)
 
-    written_is : mid.heap.items ++ short_sized (drop f.first mid.places.items) ≡ written
-    written_is = λ j. heap_is j ++ short_sized (drop f.first (places_is j))
-
-    why_not : (x : BuildError) → WhyNot (mid.heap.items ++ short_sized (drop f.first mid.places.items)) x → WhyNot (given_to old p).heap x
-    why_not HeapFull h = omega (arith, h, ap length written_is, longer_is)
-    why_not Memory h = tt
-    why_not AlreadyFailed h = absurd h
-    why_not OutOfPlace h = absurd h
-    why_not NotUtf8 h = absurd h
+    why : (x : AddError) → WhyUnwritten (heap ++ short_sized (drop f.first own)) x → WhyNot (given_to old p).heap (as_refused x)
+    why adds.HeapFull h = omega (arith, h, more)
+    why adds.Memory h = tt
 
 -- memory was refused
 pub gives_none : (old new : Building) (p : Place) (heap places : List ℕ) (frames : List Frame) (pending : ℕ) (whole : Option Place) (bytes : Option OpenBytes) (q : Place)
     → GivesSoFar old p heap places frames pending whole bytes q → new.heap.items ≡ heap → GivesNot old p new Memory
 gives_none old new p heap places frames pending whole bytes q s is = record { prefix = (s.grows.0, is ∙ s.grows.1); why = tt }
+
+-- the refusal that a `?` makes of it
+pub refused : (old new : Building) (p : Place) (r : Result (Unit {0}) BuildError) (e : AddError) → IsErrAnd r (λ x. x ≡ as_refused e) → GivesNot old p new (as_refused e) → IfErr r (λ x. GivesNot old p new x)
+refused old new p (Ok x) e is not = tt
+refused old new p (Err x) e is not = subst (GivesNot old p new) (sym is) not

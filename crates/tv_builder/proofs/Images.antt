@@ -14,10 +14,9 @@ use Rattle.tv_builder.specs.Image.{lists_places, list_frame, lists_frames, held,
 use Rattle.tv_builder.specs.StateHeap.{lists_heap, state_heap}
 use Rattle.tv_builder.specs.Kinds.{list_type, total}
 use Rattle.tv_builder.specs.Moves.{given_to, Gives}
-use Rattle.tv_builder.specs.State.{OpenList, State, complete, in_lists, in_bytes, with_child, with_value, list_tree, pairs_of, AreEntries, AreChildren, AreLists, AllAwait}
+use Rattle.tv_builder.specs.State.{OpenList, State, complete, in_lists, in_bytes, with_child, with_value, list_tree, pairs_of, AreEntries, AreChildren, AreLists}
 use Rattle.tv_builder.specs.TreeBytes.{tree_heap, tree_place, elements_heap, elements_places, entries_heap, entries_places}
-use Rattle.tv_builder.proofs.Children.{child_value}
-use Rattle.tv_builder.proofs.Giving.{below, not_below, tested, given_waits, given_closes, value_waits, value_closes}
+use Rattle.tv_builder.proofs.Giving.{Comes, comes, below, not_below, tested, given_waits, given_closes, value_waits, value_closes}
 
 -- ---- a list with one child more
 
@@ -77,10 +76,10 @@ list_heap_is Object n heap ts e are =
 
 -- ---- a finished value
 
-pub given_image : (base : List ℕ) (ls : List OpenList) (t : Tree) → AreLists ls → AllAwait ls
+pub given_image : (base : List ℕ) (ls : List OpenList) (t : Tree) → AreLists ls → Comes ls t
     → given (tree_heap (lists_heap base ls) t) (lists_places base ls) (lists_frames base ls) (tree_place (lists_heap base ls) t) ≡ image_of base (with_value ls t)
-given_image base [] t are await = refl
-given_image base (l ∷ ls) t are await = elim (tested (suc (length l.children)) (total l.kind l.announced)) [
+given_image base [] t are next = refl
+given_image base (l ∷ ls) t are next = elim (tested (suc (length l.children)) (total l.kind l.announced)) [
   | below lt e ↦
       given_waits (tree_heap (lists_heap base (l ∷ ls)) t) (lists_places base (l ∷ ls)) (list_frame base l ls) (lists_frames base ls) (tree_place (lists_heap base (l ∷ ls)) t) e ∙ child_image base l ls t ∙
       ap (λ s. image_of base s) (sym (value_waits l ls t e))
@@ -91,13 +90,14 @@ given_image base (l ∷ ls) t are await = elim (tested (suc (length l.children))
       let p = tree_place (lists_heap base (l ∷ ls)) t in
       let ts = l.children ++ t ∷ [] in
       let all : length ts ≡ total l.kind l.announced = omega (arith, length-append l.children (t ∷ []), are.0.lacks, le) in
-      let whole = list_heap_is l.kind l.announced outer ts all (child_value l.kind l.children t await.0 are.0.children).0 in
+      let u = list_tree l.kind ts in
+      let whole = list_heap_is l.kind l.announced outer ts all next.0 in
       let own_is : drop (length places) ((places ++ own) ++ place_bytes p) ≡ elements_places outer (elements ts) =
       ap (λ z. drop (length places) z) (append_assoc places own (place_bytes p)) ∙ drop-append_seam places (own ++ place_bytes p) ∙ sym (places_push outer l.children t) in
       let heap_is : tree_heap (lists_heap base (l ∷ ls)) t ≡ elements_heap outer (elements ts) = sym (heap_push outer l.children t) in
       given_closes (tree_heap (lists_heap base (l ∷ ls)) t) (lists_places base (l ∷ ls)) (list_frame base l ls) (lists_frames base ls) p e ∙
       (λ i. given (heap_is i ++ short_sized (own_is i)) (take-append_seam places own i) (lists_frames base ls) (record { value_type = list_type l.kind; address = length (heap_is i) })) ∙
-      (λ i. given (sym whole.0 i) places (lists_frames base ls) (sym whole.1 i)) ∙ given_image base ls (list_tree l.kind ts) are.1 await.1 ∙ ap (λ s. image_of base s) (sym (value_closes l ls t e))
+      (λ i. given (sym whole.0 i) places (lists_frames base ls) (sym whole.1 i)) ∙ given_image base ls u are.1 (comes ls u are.1 next.1) ∙ ap (λ s. image_of base s) (sym (value_closes l ls t e))
 ]
 
 -- handed over
@@ -105,9 +105,9 @@ pub gives_held : (mid new : Building) (p : Place) → Gives mid p new → held n
 gives_held mid new p g = λ i. record { heap = g.heap i; places = g.places i; frames = g.frames i; complete = g.complete i }
 
 -- a value that was written behind these lists
-pub value_image : (base : List ℕ) (ls : List OpenList) (t : Tree) (g : Given) → AreLists ls → AllAwait ls → g ≡ image_of base (in_lists ls)
+pub value_image : (base : List ℕ) (ls : List OpenList) (t : Tree) (g : Given) → AreLists ls → Comes ls t → g ≡ image_of base (in_lists ls)
     → given (tree_heap g.heap t) g.places g.frames (tree_place g.heap t) ≡ image_of base (with_value ls t)
-value_image base ls t g are await is = ap (λ (z : Given). given (tree_heap z.heap t) z.places z.frames (tree_place z.heap t)) is ∙ given_image base ls t are await
+value_image base ls t g are next is = ap (λ (z : Given). given (tree_heap z.heap t) z.places z.frames (tree_place z.heap t)) is ∙ given_image base ls t are next
 
 pub image_heap : (base : List ℕ) (s : State) → (image_of base s).heap ≡ state_heap base s
 image_heap base (complete t) = refl

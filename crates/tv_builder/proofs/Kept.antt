@@ -19,8 +19,9 @@ use Rattle.tv_builder.specs.Keeping.{KeepsPair, PairKept, PairCut}
 use Rattle.tv_builder.specs.Holds.{Holds}
 use Rattle.tv_builder.specs.Moves.{FitsRoom}
 use Rattle.tv_builder.specs.Whole.{Put}
-use Rattle.tv_builder.proofs.Documents.{unchanged, added, pushed, pushed_room, pushed_weight, kept, kept_room, kept_weight, kept_fits, restored}
+use Rattle.tv_builder.proofs.Documents.{unchanged, added, pushed, pushed_weight, kept, kept_weight, restored}
 use Rattle.tv_builder.proofs.Putting.{put_grows, leaf_put}
+use Rattle.tv_builder.proofs.Within.{weight_room}
 
 -- the room that was found is the tree's, and it is free
 pub room_fits : (found : Option ℕ) (len n : ℕ) (fits : Bool) → SomeIff found (n < 2 ^ 32) n → FitsRoom found len fits → fits ≡ true → len + n ≤ 4294967295
@@ -34,10 +35,12 @@ pub record Fields (heap : List ℕ) (ps : List HeapPair) : Type 0 where
   pub weight : length heap ≤ document_weight document.0
   pub fits : length heap < 2 ^ 32
 
+pub known : (heap : List ℕ) (ps : List HeapPair) (document : Holds heap ps) → length heap ≤ document_weight document.0 → length heap ≤ 4294967295 → Fields heap ps
+known heap ps document weight small = record { document = document; room = weight_room (length heap) document.0 weight small; weight = weight; fits = omega (arith, small) }
+
 -- neither the heap nor the pairs changed
 pub same_fields : (old : HeapPairs) (heap : List ℕ) (ps : List HeapPair) → heap ≡ heap_of old → ps ≡ old.pairs.items → Fields heap ps
-same_fields old heap ps same same_pairs =
-    record { document = kept old heap ps same same_pairs; room = kept_room old heap ps same same_pairs; weight = kept_weight old heap ps same same_pairs; fits = kept_fits old heap same }
+same_fields old heap ps same same_pairs = known heap ps (kept old heap ps same same_pairs) (kept_weight old heap ps same same_pairs) (omega (arith, old.fits, ap length same))
 
 -- what was written is cut off again
 pub cut_fields : (old : HeapPairs) (mid heap : List ℕ) (ps : List HeapPair) (len : ℕ) → IsPrefix (heap_of old) mid → len ≡ length (heap_of old) → heap ≡ take len mid → ps ≡ old.pairs.items → Fields heap ps
@@ -73,12 +76,7 @@ pub kept_fields : (old : HeapPairs) (mid heap : List ℕ) (ps : List HeapPair) (
     → KeepsPair mid heap old.pairs.items ps len field at result → Fields heap ps
 kept_fields old mid heap ps len field t at (Ok x) w k =
     let put = put_at old mid heap len field t at w k.heap in
-    record {
-      document = pushed old heap ps at field t w.field_fits put k.pairs;
-      room = pushed_room old heap ps at field t w.field_fits put k.pairs;
-      weight = pushed_weight old heap ps at field t w.field_fits put k.pairs;
-      fits = omega (arith, put.fits);
-    }
+    known heap ps (pushed old heap ps at field t w.field_fits put k.pairs) (pushed_weight old heap ps at field t w.field_fits put k.pairs) put.fits
 kept_fields old mid heap ps len field t at (Err e) w k = cut_fields old mid heap ps len (put_grows (heap_of old) t mid at w.put) w.len_is k.heap k.pairs
 
 pub kept_added : (old new : HeapPairs) (mid : List ℕ) (len field : ℕ) (t : Tree) (at : Place) → Written old mid len field t at → PairKept mid (heap_of new) old.pairs.items new.pairs.items field at → Added old new field t

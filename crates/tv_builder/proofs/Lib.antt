@@ -4,11 +4,10 @@ pub mod Giving
 pub mod Images
 pub mod Sound
 pub mod Handing
-pub mod NoRoom
+pub mod Within
 pub mod Putting
 pub mod Calls
 pub mod Calling
-pub mod Keys
 pub mod Opening
 pub mod Ending
 pub mod WithErrors
@@ -20,7 +19,6 @@ pub mod Weighing
 pub mod Encoding
 pub mod Documents
 pub mod PairBuilding
-pub mod CallPlaces
 pub mod Finishing
 pub mod Rooms
 pub mod Kept

@@ -26,7 +26,8 @@ use Rattle.tv_builder.specs.Prefix.{KeyHead, BytesHead, EncodesPart, Encoded}
 use Rattle.tv_builder.specs.Parts.{value, field}
 use Rattle.tv_builder.specs.State.{OpenList, State, complete, in_lists, in_bytes, key_parts, value_parts, children_parts, list_parts, lists_parts, parts_of, text_of, lists_of, children_of}
 use Rattle.tv_builder.specs.Weight.{keys_weight, values_weight, children_weight, lists_weight, state_weight}
-use Rattle.tv_builder.proofs.Grammar.{each_split, head_takes, frames_paid}
+use Rattle.tv_builder.proofs.Grammar.{then_length, each_split, head_takes, frames_paid}
+use Rattle.tv_builder.proofs.Within.{token_parts}
 
 groups_take : {b : List ℕ} {n : ℕ} → Groups b n → 0 < length b
 groups_take (last l) = omega arith
@@ -48,28 +49,21 @@ token_paid token b h =
     let r = q.second in
     omega (
       arith,
+      token_parts token,
       vnum_shortest token.offset_from h.prefix h.first,
       vnum_shortest token.offset_to p.prefix p.first,
       vnum_shortest token.position q.prefix q.first,
       text_shortest token.text r.prefix r.first,
       vnum_shortest token.position_length r.rest r.second,
-      ap length h.joined,
-      length-append h.prefix h.rest,
-      ap length p.joined,
-      length-append p.prefix p.rest,
-      ap length q.joined,
-      length-append q.prefix q.rest,
-      ap length r.joined,
-      length-append r.prefix r.rest,
-      length-append (vnum token.offset_from) (vnum token.offset_to ++ (vnum token.position ++ (short_sized token.text ++ vnum token.position_length))),
-      length-append (vnum token.offset_to) (vnum token.position ++ (short_sized token.text ++ vnum token.position_length)),
-      length-append (vnum token.position) (short_sized token.text ++ vnum token.position_length),
-      length-append (short_sized token.text) (vnum token.position_length),
+      then_length h,
+      then_length p,
+      then_length q,
+      then_length r,
     )
 
 tokens_paid : (tokens : List Token) (b : List ℕ) → Each TokenEncoding b tokens → length (flat_map short_token tokens) ≤ length b
 tokens_paid [] b h = omega arith
-tokens_paid (t ∷ ts) b h = omega (arith, token_paid t h.prefix h.first, tokens_paid ts h.rest h.second, ap length h.joined, length-append h.prefix h.rest, length-append (short_token t) (flat_map short_token ts))
+tokens_paid (t ∷ ts) b h = omega (arith, token_paid t h.prefix h.first, tokens_paid ts h.rest h.second, then_length h, length-append (short_token t) (flat_map short_token ts))
 
 tokenized_paid : (t : List ℕ) (ts : List Token) (b : List ℕ) → Tokenized b t ts → length (short_tokenized t ts) ≤ length b
 tokenized_paid t ts b h =
@@ -80,10 +74,8 @@ tokenized_paid t ts b h =
       text_shortest t h.prefix h.first,
       vnum_shortest (length ts) p.prefix p.first,
       tokens_paid ts p.rest p.second,
-      ap length h.joined,
-      length-append h.prefix h.rest,
-      ap length p.joined,
-      length-append p.prefix p.rest,
+      then_length h,
+      then_length p,
       length-append (short_sized t) (vnum (length ts) ++ body),
       length-append (vnum (length ts)) body,
     )
@@ -117,38 +109,38 @@ module _ (v : Version) where
     value_paid (leaf l) b h = omega (arith, leaf_paid v l h.body h.encoded, ap length h.joined)
     value_paid (array ts) b h =
         let p = h.encoded in
-        omega (arith, number_takes p.prefix _ p.first, elements_paid ts p.rest p.second, ap length h.joined, ap length p.joined, length-append p.prefix p.rest)
+        omega (arith, number_takes p.prefix _ p.first, elements_paid ts p.rest p.second, ap length h.joined, then_length p)
     value_paid (object es) b h = elim h [
       | inl q ↦
           let p = q.encoded in
-          omega (arith, number_takes p.prefix _ p.first, entries_paid es p.rest p.second, ap length q.joined, ap length p.joined, length-append p.prefix p.rest)
+          omega (arith, number_takes p.prefix _ p.first, entries_paid es p.rest p.second, ap length q.joined, then_length p)
       | inr q ↦ absurd q.encoded
     ]
 
     elements_paid : (ts : Elements) (b : List ℕ) → EncodesElements NoLegacy v b ts → elements_weight ts ≤ 7 * length b
     elements_paid no_elements b h = omega arith
-    elements_paid (element t ts) b h = omega (arith, value_paid t h.prefix h.first, elements_paid ts h.rest h.second, ap length h.joined, length-append h.prefix h.rest)
+    elements_paid (element t ts) b h = omega (arith, value_paid t h.prefix h.first, elements_paid ts h.rest h.second, then_length h)
 
     entries_paid : (es : Entries) (b : List ℕ) → EncodesEntries NoLegacy v b es → entries_weight es ≤ 7 * length b
     entries_paid no_entries b h = omega arith
     entries_paid (entry k t es) b h =
         let p = h.second in
-        omega (arith, key_paid v k h.prefix h.first, value_paid t p.prefix p.first, entries_paid es p.rest p.second, ap length h.joined, length-append h.prefix h.rest, ap length p.joined, length-append p.prefix p.rest)
+        omega (arith, key_paid v k h.prefix h.first, value_paid t p.prefix p.first, entries_paid es p.rest p.second, then_length h, then_length p)
 
   -- ---- a state
 
   array_paid : (ts : List Tree) (b : List ℕ) → Encoded NoLegacy v b (map value ts) → elements_weight (elements ts) ≤ 7 * length b
   array_paid [] b h = omega arith
-  array_paid (t ∷ ts) b h = omega (arith, value_paid t h.prefix h.first, array_paid ts h.rest h.second, ap length h.joined, length-append h.prefix h.rest)
+  array_paid (t ∷ ts) b h = omega (arith, value_paid t h.prefix h.first, array_paid ts h.rest h.second, then_length h)
 
   mutual
     keys_paid : (ts : List Tree) (b : List ℕ) → Encoded NoLegacy v b (key_parts ts) → keys_weight ts ≤ 7 * length b
     keys_paid [] b h = omega arith
-    keys_paid (t ∷ ts) b h = omega (arith, key_paid v (text_of t) h.prefix h.first, values_paid ts h.rest h.second, ap length h.joined, length-append h.prefix h.rest)
+    keys_paid (t ∷ ts) b h = omega (arith, key_paid v (text_of t) h.prefix h.first, values_paid ts h.rest h.second, then_length h)
 
     values_paid : (ts : List Tree) (b : List ℕ) → Encoded NoLegacy v b (value_parts ts) → values_weight ts ≤ 7 * length b
     values_paid [] b h = omega arith
-    values_paid (t ∷ ts) b h = omega (arith, value_paid t h.prefix h.first, keys_paid ts h.rest h.second, ap length h.joined, length-append h.prefix h.rest)
+    values_paid (t ∷ ts) b h = omega (arith, value_paid t h.prefix h.first, keys_paid ts h.rest h.second, then_length h)
 
   children_paid : (kind : ListKind) (ts : List Tree) (b : List ℕ) → Encoded NoLegacy v b (children_parts kind ts) → children_weight kind ts ≤ 7 * length b
   children_paid lists.Array ts b h = array_paid ts b h
@@ -159,16 +151,7 @@ module _ (v : Version) where
   lists_paid (l ∷ ls) b h =
       let p = each_split (EncodesPart NoLegacy v) (lists_parts ls) (list_parts l) b h in
       let q = p.second in
-      omega (
-        arith,
-        lists_paid ls p.prefix p.first,
-        head_takes NoLegacy v l.kind l.announced q.prefix q.first,
-        children_paid l.kind l.children q.rest q.second,
-        ap length p.joined,
-        length-append p.prefix p.rest,
-        ap length q.joined,
-        length-append q.prefix q.rest,
-      )
+      omega (arith, lists_paid ls p.prefix p.first, head_takes NoLegacy v l.kind l.announced q.prefix q.first, children_paid l.kind l.children q.rest q.second, then_length p, then_length q)
 
   key_head_paid : (w : Version) (b : List ℕ) (n : ℕ) → KeyHead w b n → length (vnum n) ≤ length b
   key_head_paid V1 b n h = omega (arith, vnum_shortest n h.body h.encoded, ap length h.joined)
@@ -182,24 +165,13 @@ module _ (v : Version) where
   bytes_head_paid kinds.Key b n h = key_head_paid v b n h
 
   state_paid : (s : State) (b : List ℕ) → Encoded NoLegacy v b (parts_of s) → state_weight s ≤ 7 * length b
-  state_paid (complete t) b h = omega (arith, value_paid t h.prefix h.first, ap length h.joined, length-append h.prefix h.rest)
+  state_paid (complete t) b h = omega (arith, value_paid t h.prefix h.first, then_length h)
   state_paid (in_lists ls) b h = lists_paid ls b h
   state_paid (in_bytes ls kind n bs) b h =
       let p = each_split (EncodesPart NoLegacy v) (lists_parts ls) _ b h in
       let q = p.second in
       let r = q.second in
-      omega (
-        arith,
-        lists_paid ls p.prefix p.first,
-        bytes_head_paid kind q.prefix n q.first,
-        ap length r.first,
-        ap length p.joined,
-        length-append p.prefix p.rest,
-        ap length q.joined,
-        length-append q.prefix q.rest,
-        ap length r.joined,
-        length-append r.prefix r.rest,
-      )
+      omega (arith, lists_paid ls p.prefix p.first, bytes_head_paid kind q.prefix n q.first, ap length r.first, then_length p, then_length q, then_length r)
 
   -- ---- a document
 
@@ -207,30 +179,21 @@ module _ (v : Version) where
   pairs_paid [] b h = omega arith
   pairs_paid (p ∷ d) b h =
       let x = h.first in
-      omega (
-        arith,
-        value_paid p.1 x.rest x.second,
-        pairs_paid d h.rest h.second,
-        ap length h.joined,
-        length-append h.prefix h.rest,
-        ap length x.joined,
-        length-append x.prefix x.rest,
-        sum_by-cons (λ (pair : ℕ × Tree). tree_weight pair.1) p d,
-      )
+      omega (arith, value_paid p.1 x.rest x.second, pairs_paid d h.rest h.second, then_length h, then_length x, sum_by-cons (λ (pair : ℕ × Tree). tree_weight pair.1) p d)
 
   pub document_paid : (n : ℕ) (d : Document) (b : List ℕ) → Encoded NoLegacy v b (document_parts n d) → document_weight d ≤ 7 * length b
-  document_paid n d b h = omega (arith, pairs_paid d h.rest h.second, ap length h.joined, length-append h.prefix h.rest)
+  document_paid n d b h = omega (arith, pairs_paid d h.rest h.second, then_length h)
 
   pub open_paid : (n : ℕ) (d : Document) (f : ℕ) (s : State) (b : List ℕ) → Encoded NoLegacy v b (open_parts n d f s) → document_weight d + state_weight s ≤ 7 * length b
   open_paid n d f s b h =
       let p = each_split (EncodesPart NoLegacy v) (document_parts n d) (field f ∷ parts_of s) b h in
       let q = p.second in
-      omega (arith, document_paid n d p.prefix p.first, state_paid s q.rest q.second, ap length p.joined, length-append p.prefix p.rest, ap length q.joined, length-append q.prefix q.rest)
+      omega (arith, document_paid n d p.prefix p.first, state_paid s q.rest q.second, then_length p, then_length q)
 
   pub open_lists_paid : (n : ℕ) (d : Document) (f : ℕ) (s : State) (b : List ℕ) → Encoded NoLegacy v b (open_parts n d f s) → (2 * length (lists_of s) ≤ length b) × (children_of (lists_of s) ≤ length b)
   open_lists_paid n d f s b h =
       let p = each_split (EncodesPart NoLegacy v) (document_parts n d) (field f ∷ parts_of s) b h in
       let q = p.second in
       let paid = frames_paid NoLegacy v s q.rest q.second in
-      let long : length q.rest ≤ length b = omega (arith, ap length p.joined, length-append p.prefix p.rest, ap length q.joined, length-append q.prefix q.rest) in
+      let long : length q.rest ≤ length b = omega (arith, then_length p, then_length q) in
       (omega (arith, paid, long), omega (arith, paid, long))

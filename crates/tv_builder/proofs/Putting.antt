@@ -1,34 +1,29 @@
 -- How children that are written make a whole value.
-use Rattle.std.proofs.Common.{◌≡◌, ℕ, suc, ◌+◌, ◌*◌, ◌<◌, ◌≤◌, List, [], ◌∷◌, ◌++◌, length, drop, Result, Ok, Err, IfOk, IfErr, refl, sym, ◌∙◌, ap, subst, append_assoc, length-append, arith}
+use Rattle.std.proofs.Common.{◌≡◌, ℕ, suc, ◌+◌, ◌*◌, ◌<◌, ◌≤◌, List, [], ◌∷◌, ◌++◌, length, take, drop, Result, Ok, Err, IfOk, OnOk, IfErr, IsErrAnd, refl, sym, ◌∙◌, ap, subst, append_assoc, length-append, arith}
 use Rattle.std.proofs.lemmas.List.{append-nil}
-use Rattle.std.proofs.Math.Seq.{drop-append_seam}
+use Rattle.std.proofs.Math.Seq.{drop-append_seam, take-append_seam}
 use Rattle.tv_base.specs.Parts.{short_sized}
 use Rattle.tv_base.specs.Sink.{IsPrefix}
 use Rattle.tv_format.specs.Size.{size, elements_size, entries_size}
 use Rattle.tv_format.specs.Tree.{Leaf, text, Tree, leaf, array, object, Elements, no_elements, element, Entries, no_entries, entry, elements, entries}
 use Rattle.tv_heap.specs.LeafBytes.{leaf_bytes}
 use Rattle.tv_heap.specs.Reads.{ReadsElements}
-use Rattle.tv_heap.specs.Room.{room}
 use Rattle.tv_heap.specs.TypeCode.{type_code}
-use Rattle.tv_heap.specs.Weight.{tree_weight}
 use Rattle.tv_heap.specs.Wrote.{Wrote}
 use Rattle.tv_heap.specs.declared.value_type.ValueType.TheVariants as types
 use Rattle.tv_heap.proofs.Grown.{grown_elements}
 use Rattle.tv_heap.proofs.Lists.{elements_push}
-use Rattle.tv_heap.proofs.Writes.{longer}
-use Rattle.tv_builder.specs.declared.build_error.BuildError.{BuildError}
-use Rattle.tv_builder.specs.declared.build_error.BuildError.TheVariants.{AlreadyFailed, OutOfPlace, NotUtf8, HeapFull, Memory}
+use Rattle.tv_builder.specs.declared.add_error.AddError.{AddError}
+use Rattle.tv_builder.specs.declared.add_error.AddError.TheVariants.{HeapFull, Memory}
 use Rattle.tv_builder.specs.declared.list_kind.ListKind.TheVariants.{Array, Object}
 use Rattle.tv_heap.specs.declared.place.Place.{Place}
 use Rattle.tv_builder.specs.Given.{place_bytes}
-use Rattle.tv_builder.specs.Moves.{WhyNot}
 use Rattle.tv_builder.specs.Shows.{Placed}
-use Rattle.tv_builder.specs.State.{pairs_of, list_tree, AreEntries, children_room, trees_weight}
+use Rattle.tv_builder.specs.State.{pairs_of, list_tree, AreEntries}
 use Rattle.tv_builder.specs.TreeBytes.{leaf_place, tree_heap, tree_place, elements_heap, elements_places, entries_heap, entries_places}
-use Rattle.tv_builder.specs.Whole.{Put, PutNot, WhyNoTree, ListPut, ListPutNot}
-use Rattle.tv_builder.proofs.Children.{list_placed, list_within, list_room, elements_bytes, elements_room_is, trees_weight_push}
+use Rattle.tv_builder.specs.Whole.{Put, PutNot, Puts, WhyUnwritten, ListPut, ListPutNot}
+use Rattle.tv_builder.proofs.Children.{list_placed}
 use Rattle.tv_builder.proofs.Giving.{prefix_same, prefix_then, prefix_length}
-use Rattle.tv_builder.proofs.NoRoom.{children_fit, list_over}
 
 -- ---- the heap only grows
 
@@ -51,6 +46,11 @@ mutual
 pub put_grows : (old : List ℕ) (t : Tree) (new : List ℕ) (p : Place) → Put old t new p → IsPrefix old new
 put_grows old t new p w = let f = tree_prefix old t in (f.0, w.heap ∙ f.1)
 
+-- where there is no room, there is none for more
+unwritten_as : (heap longer : List ℕ) (e : AddError) → length heap ≤ length longer → WhyUnwritten heap e → WhyUnwritten longer e
+unwritten_as heap longer HeapFull more h = omega (arith, h, more)
+unwritten_as heap longer Memory more h = tt
+
 -- ---- a leaf
 
 pub leaf_put : (old new : List ℕ) (l : Leaf) (p : Place) → new ≡ old ++ leaf_bytes l → p ≡ leaf_place (length old) l → length new ≤ 4294967295 → Wrote old new (type_code p.value_type) p.address (leaf l) → Put old (leaf l) new p
@@ -59,7 +59,6 @@ leaf_put old new l p grows place fits w = record {
   place = place;
   fits = fits;
   placed = record { reads = w.reads; below = w.below; fits = w.fits };
-  weighed = omega (arith, w.weighed, longer old new w.added w.grows);
 }
 
 -- ---- children
@@ -68,11 +67,10 @@ leaf_put old new l p grows place fits w = record {
 pub record Children (old heap list : List ℕ) (done : List Tree) : Type 0 where
   pub fits : length heap ≤ 4294967295
   pub prefix : IsPrefix old heap
-  pub weighed : length heap ≤ length old + trees_weight done
   pub reads : ReadsElements heap (length heap) list (elements done)
 
 pub no_children : (heap : List ℕ) → length heap ≤ 4294967295 → Children heap heap [] []
-no_children heap fits = record { fits = fits; prefix = prefix_same heap heap refl; weighed = omega arith; reads = refl }
+no_children heap fits = record { fits = fits; prefix = prefix_same heap heap refl; reads = refl }
 
 pub children_push : (old heap list new : List ℕ) (done : List Tree) (t : Tree) (p : Place) → Children old heap list done → Put heap t new p → Children old new (list ++ place_bytes p) (done ++ t ∷ [])
 children_push old heap list new done t p c w =
@@ -81,26 +79,12 @@ children_push old heap list new done t p c w =
     record {
       fits = w.fits;
       prefix = prefix_then old heap new c.prefix grows;
-      weighed = omega (arith, c.weighed, w.weighed, trees_weight_push done t);
       reads = elements_push new (length new) list done (type_code p.value_type) p.address t (grown_elements heap new grows.0 (length heap) (length new) list (elements done) grows.1 le c.reads) w.placed.reads w.placed.fits w.placed.below;
     }
 
-children_room_more : (done : List Tree) (t : Tree) (us : List Tree) → children_room (done ++ t ∷ us) ≡ children_room done + (6 + room t + children_room us)
-children_room_more [] t us = omega arith
-children_room_more (u ∷ done) t us = omega (arith, children_room_more done t us)
-
--- where a child has no room, its list has none
-child_over : (old heap list : List ℕ) (done us : List Tree) (t : Tree) → Children old heap list done → 4294967295 < length heap + room t → 4294967295 < length old + (5 + children_room (done ++ t ∷ us))
-child_over old heap list done us t c over =
-    let fits = c.fits in
-    omega (arith, over, c.weighed, children_fit heap (length heap) list done (omega (arith, fits)) c.reads, children_room_more done t us)
-
--- nor where its own bytes have none
-own_over : (old heap list : List ℕ) (done : List Tree) → Children old heap list done → 4294967295 < length (heap ++ short_sized list) → 4294967295 < length old + (5 + children_room done)
-own_over old heap list done c over =
-    let fits = c.fits in
-    let r = list_over (length heap) list (length done) (omega (arith, over, length-append heap (short_sized list))) (elements_bytes heap (length heap) list done c.reads).1 in
-    omega (arith, r, c.weighed, children_fit heap (length heap) list done (omega (arith, fits)) c.reads)
+-- the places behind those of others
+pub own_places : (start places list : List ℕ) (n : ℕ) → places ≡ start ++ list → n ≡ length start → drop n places ≡ list
+own_places start places list n e is = (λ i. drop (is i) (e i)) ∙ drop-append_seam start list
 
 -- ---- arrays
 
@@ -147,58 +131,33 @@ array_put old heap list new ts all p s none w =
     let c = s.children in
     let reads = c.reads in
     let placed = list_placed Array (length s.done) heap new list s.done refl tt reads w.heap w.fits in
-    let within = list_within Array (length s.done) heap new list s.done refl tt reads w.heap w.fits in
     record {
       heap = w.heap ∙ (λ i. sym a.1 i ++ short_sized (sym a.2 i));
       place = w.place ∙ (λ i. record { value_type = types.Array; address = length (sym a.1 i) });
       fits = w.fits;
       placed = subst (λ q. Placed new q (array (elements all))) (sym w.place) (subst (λ z. Placed new (record { value_type = types.Array; address = length heap }) (array (elements z))) (sym a.0) placed);
-      weighed = omega (arith, within, c.weighed, ap (λ z. tree_weight (array (elements z))) a.0);
     }
 
-array_room : (all : List Tree) → room (array (elements all)) ≡ 5 + children_room all
-array_room all = omega (arith, elements_room_is all)
-
-pub array_child_not : (old heap list new : List ℕ) (ts us all : List Tree) (t : Tree) (e : BuildError) → ArrayPut old heap list ts all → ts ≡ t ∷ us → PutNot heap t new e → PutNot old (array (elements all)) new e
-array_child_not old heap list new ts us all t e s is w = record { prefix = prefix_then old heap new s.children.prefix w.prefix; why = why e w.why }
+pub array_child_not : (old heap list new : List ℕ) (ts us all : List Tree) (t : Tree) (e : AddError) → ArrayPut old heap list ts all → ts ≡ t ∷ us → PutNot heap t new e → PutNot old (array (elements all)) new e
+array_child_not old heap list new ts us all t e s is w = record { prefix = prefix_then old heap new s.children.prefix w.prefix; why = unwritten_as _ _ e longer_is w.why }
   where
     longer_is : length (tree_heap heap t) ≤ length (tree_heap old (array (elements all)))
     longer_is =
         let same : elements_heap old (elements all) ≡ elements_heap (tree_heap heap t) (elements us) = s.heap_is ∙ ap (λ z. elements_heap heap (elements z)) is in
         omega (arith, prefix_length (tree_heap heap t) _ (elements_prefix (tree_heap heap t) (elements us)), ap length same, length-append (elements_heap old (elements all)) (short_sized (elements_places old (elements all))))
 
-    all_is : all ≡ s.done ++ t ∷ us
-    all_is = sym s.whole ∙ ap (λ z. s.done ++ z) is
-
-    why : (x : BuildError) → WhyNoTree heap t x → WhyNoTree old (array (elements all)) x
-    why HeapFull h = (omega (arith, h.0, longer_is), omega (arith, child_over old heap list s.done us t s.children h.1, array_room all, ap children_room all_is))
-    why Memory h = tt
-    why AlreadyFailed h = absurd h
-    why OutOfPlace h = absurd h
-    why NotUtf8 h = absurd h
-
-array_own_not : (old heap list new : List ℕ) (ts all : List Tree) (e : BuildError) → ArrayPut old heap list ts all → ts ≡ [] → ListPutNot heap list new e → PutNot old (array (elements all)) new e
-array_own_not old heap list new ts all e s none w = record { prefix = prefix_then old heap new s.children.prefix w.prefix; why = why e w.why }
+array_own_not : (old heap list new : List ℕ) (ts all : List Tree) (e : AddError) → ArrayPut old heap list ts all → ts ≡ [] → ListPutNot heap list new e → PutNot old (array (elements all)) new e
+array_own_not old heap list new ts all e s none w = record { prefix = prefix_then old heap new s.children.prefix w.prefix; why = subst (λ z. WhyUnwritten z e) (sym same) w.why }
   where
     same : tree_heap old (array (elements all)) ≡ heap ++ short_sized list
     same = let a = array_all old heap list ts all s none in λ i. a.1 i ++ short_sized (a.2 i)
 
-    why : (x : BuildError) → WhyNot (heap ++ short_sized list) x → WhyNoTree old (array (elements all)) x
-    why HeapFull h = (omega (arith, h, ap length same), omega (arith, own_over old heap list s.done s.children h, array_room all, ap children_room (array_all old heap list ts all s none).0))
-    why Memory h = tt
-    why AlreadyFailed h = absurd h
-    why OutOfPlace h = absurd h
-    why NotUtf8 h = absurd h
-
-pub array_written : (r : Result Place BuildError) (old heap list new own : List ℕ) (ts all : List Tree) → ArrayPut old heap list ts all → ts ≡ [] → own ≡ list
-    → IfOk r (λ p. ListPut heap Array own new p) → IfOk r (λ p. Put old (array (elements all)) new p)
-array_written (Ok p) old heap list new own ts all s none e h = array_put old heap list new ts all p s none (subst (λ z. ListPut heap Array z new p) e h)
-array_written (Err x) old heap list new own ts all s none e h = tt
-
-pub array_not_written : (r : Result Place BuildError) (old heap list new own : List ℕ) (ts all : List Tree) → ArrayPut old heap list ts all → ts ≡ [] → own ≡ list
-    → IfErr r (λ x. ListPutNot heap own new x) → IfErr r (λ x. PutNot old (array (elements all)) new x)
-array_not_written (Ok p) old heap list new own ts all s none e h = tt
-array_not_written (Err x) old heap list new own ts all s none e h = array_own_not old heap list new ts all x s none (subst (λ z. ListPutNot heap z new x) e h)
+pub array_puts : (r : Result Place AddError) (old heap list new start places left : List ℕ) (n : ℕ) (ts all : List Tree) → ArrayPut old heap list ts all → ts ≡ [] → places ≡ start ++ list → n ≡ length start
+    → IfOk r (λ p. ListPut heap Array (drop n places) new p) → OnOk r (left ≡ take n places) → IfErr r (λ x. ListPutNot heap (drop n places) new x) → Puts old start (array (elements all)) new left r
+array_puts (Ok p) old heap list new start places left n ts all s none e is ok kept err =
+    (array_put old heap list new ts all p s none (subst (λ z. ListPut heap Array z new p) (own_places start places list n e is) ok), kept ∙ (λ i. take (is i) (e i)) ∙ take-append_seam start list)
+array_puts (Err x) old heap list new start places left n ts all s none e is ok kept err =
+    array_own_not old heap list new ts all x s none (subst (λ z. ListPutNot heap z new x) (own_places start places list n e is) err)
 
 -- ---- objects
 
@@ -228,9 +187,6 @@ flat_are (e ∷ es) = (tt, flat_are es)
 
 pub flat_tree : (es : List (List ℕ × Tree)) → list_tree Object (flat es) ≡ object (entries es)
 flat_tree es = ap (λ z. object (entries z)) (flat_pairs es)
-
-object_room : (es : List (List ℕ × Tree)) → room (object (entries es)) ≡ 5 + children_room (flat es)
-object_room es = omega (arith, ap room (flat_tree es), list_room Object (length es) (flat es) (flat_length es) (flat_are es))
 
 pub record ObjectPut (old heap list : List ℕ) (rest all : List (List ℕ × Tree)) : Type 0 where
   pub done : List (List ℕ × Tree)
@@ -281,76 +237,48 @@ object_put old heap list new es all p s none w =
     let reads = c.reads in
     let same : list_tree Object (flat s.done) ≡ object (entries all) = flat_tree s.done ∙ ap (λ z. object (entries z)) (sym a.0) in
     let placed = list_placed Object (length s.done) heap new list (flat s.done) (flat_length s.done) (flat_are s.done) reads w.heap w.fits in
-    let within = list_within Object (length s.done) heap new list (flat s.done) (flat_length s.done) (flat_are s.done) reads w.heap w.fits in
     record {
       heap = w.heap ∙ (λ i. sym a.1 i ++ short_sized (sym a.2 i));
       place = w.place ∙ (λ i. record { value_type = types.Object; address = length (sym a.1 i) });
       fits = w.fits;
       placed = subst (λ q. Placed new q (object (entries all))) (sym w.place) (subst (Placed new (record { value_type = types.Object; address = length heap })) same placed);
-      weighed = omega (arith, within, c.weighed, ap tree_weight same);
     }
 
 -- a refusal at a key or at its value
-object_not : (old heap list new : List ℕ) (trees us : List Tree) (all : List (List ℕ × Tree)) (t : Tree) (e : BuildError) → Children old heap list trees → flat all ≡ trees ++ t ∷ us → IsPrefix (tree_heap heap t) (entries_heap old (entries all))
-    → PutNot heap t new e → PutNot old (object (entries all)) new e
-object_not old heap list new trees us all t e c is prefix w = record { prefix = prefix_then old heap new c.prefix w.prefix; why = why e w.why }
-  where
-    longer_is : length (tree_heap heap t) ≤ length (tree_heap old (object (entries all)))
-    longer_is = omega (arith, prefix_length _ _ prefix, length-append (entries_heap old (entries all)) (short_sized (entries_places old (entries all))))
+object_not : (old heap list new : List ℕ) (trees : List Tree) (all : List (List ℕ × Tree)) (t : Tree) (e : AddError) → Children old heap list trees → IsPrefix (tree_heap heap t) (entries_heap old (entries all)) → PutNot heap t new e
+    → PutNot old (object (entries all)) new e
+object_not old heap list new trees all t e c prefix w = record {
+  prefix = prefix_then old heap new c.prefix w.prefix;
+  why = unwritten_as _ _ e (omega (arith, prefix_length _ _ prefix, length-append (entries_heap old (entries all)) (short_sized (entries_places old (entries all))))) w.why;
+}
 
-    why : (x : BuildError) → WhyNoTree heap t x → WhyNoTree old (object (entries all)) x
-    why HeapFull h = (omega (arith, h.0, longer_is), omega (arith, child_over old heap list trees us t c h.1, object_room all, ap children_room is))
-    why Memory h = tt
-    why AlreadyFailed h = absurd h
-    why OutOfPlace h = absurd h
-    why NotUtf8 h = absurd h
-
-flat_all : (old heap list : List ℕ) (es fs all : List (List ℕ × Tree)) (k : List ℕ) (t : Tree) (s : ObjectPut old heap list es all) → es ≡ (k, t) ∷ fs → flat all ≡ flat s.done ++ leaf (text k) ∷ t ∷ flat fs
-flat_all old heap list es fs all k t s e = ap flat (sym s.whole ∙ ap (λ z. s.done ++ z) e) ∙ flat_append s.done ((k, t) ∷ fs)
-
-pub object_key_not : (old heap list new : List ℕ) (es fs all : List (List ℕ × Tree)) (k : List ℕ) (t : Tree) (e : BuildError) → ObjectPut old heap list es all → es ≡ (k, t) ∷ fs → PutNot heap (leaf (text k)) new e
+pub object_key_not : (old heap list new : List ℕ) (es fs all : List (List ℕ × Tree)) (k : List ℕ) (t : Tree) (e : AddError) → ObjectPut old heap list es all → es ≡ (k, t) ∷ fs → PutNot heap (leaf (text k)) new e
     → PutNot old (object (entries all)) new e
 object_key_not old heap list new es fs all k t e s is w =
     let mid = heap ++ short_sized k in
     let f = prefix_then mid (tree_heap mid t) _ (tree_prefix mid t) (entries_prefix (tree_heap mid t) (entries fs)) in
     let same : entries_heap old (entries all) ≡ entries_heap (tree_heap mid t) (entries fs) = s.heap_is ∙ ap (λ z. entries_heap heap (entries z)) is in
-    object_not old heap list new (flat s.done) (t ∷ flat fs) all (leaf (text k)) e s.children (flat_all old heap list es fs all k t s is) (f.0, same ∙ f.1) w
+    object_not old heap list new (flat s.done) all (leaf (text k)) e s.children (f.0, same ∙ f.1) w
 
--- behind the key
-pub object_keyed : (old heap list mid : List ℕ) (es all : List (List ℕ × Tree)) (k : List ℕ) (q : Place) (s : ObjectPut old heap list es all) → Put heap (leaf (text k)) mid q
-    → Children old mid (list ++ place_bytes q) (flat s.done ++ leaf (text k) ∷ [])
-object_keyed old heap list mid es all k q s v = children_push old heap list mid (flat s.done) (leaf (text k)) q s.children v
-
-pub object_value_not : (old heap list mid new : List ℕ) (es fs all : List (List ℕ × Tree)) (k : List ℕ) (t : Tree) (q : Place) (e : BuildError) → ObjectPut old heap list es all → es ≡ (k, t) ∷ fs → Put heap (leaf (text k)) mid q
+pub object_value_not : (old heap list mid new : List ℕ) (es fs all : List (List ℕ × Tree)) (k : List ℕ) (t : Tree) (q : Place) (e : AddError) → ObjectPut old heap list es all → es ≡ (k, t) ∷ fs → Put heap (leaf (text k)) mid q
     → PutNot mid t new e → PutNot old (object (entries all)) new e
 object_value_not old heap list mid new es fs all k t q e s is v w =
     let f = entries_prefix (tree_heap mid t) (entries fs) in
     let same : entries_heap old (entries all) ≡ entries_heap (tree_heap mid t) (entries fs) = s.heap_is ∙ ap (λ z. entries_heap heap (entries z)) is ∙ ap (λ z. entries_heap (tree_heap z t) (entries fs)) (sym v.heap) in
-    object_not old mid (list ++ place_bytes q) new (flat s.done ++ leaf (text k) ∷ []) (flat fs) all t e (object_keyed old heap list mid es all k q s v)
-    (flat_all old heap list es fs all k t s is ∙ sym (append_assoc (flat s.done) (leaf (text k) ∷ []) (t ∷ flat fs))) (f.0, same ∙ f.1) w
+    object_not old mid (list ++ place_bytes q) new (flat s.done ++ leaf (text k) ∷ []) all t e (children_push old heap list mid (flat s.done) (leaf (text k)) q s.children v) (f.0, same ∙ f.1) w
 
-object_own_not : (old heap list new : List ℕ) (es all : List (List ℕ × Tree)) (e : BuildError) → ObjectPut old heap list es all → es ≡ [] → ListPutNot heap list new e → PutNot old (object (entries all)) new e
-object_own_not old heap list new es all e s none w = record { prefix = prefix_then old heap new s.children.prefix w.prefix; why = why e w.why }
+object_own_not : (old heap list new : List ℕ) (es all : List (List ℕ × Tree)) (e : AddError) → ObjectPut old heap list es all → es ≡ [] → ListPutNot heap list new e → PutNot old (object (entries all)) new e
+object_own_not old heap list new es all e s none w = record { prefix = prefix_then old heap new s.children.prefix w.prefix; why = subst (λ z. WhyUnwritten z e) (sym same) w.why }
   where
     same : tree_heap old (object (entries all)) ≡ heap ++ short_sized list
     same = let a = object_all old heap list es all s none in λ i. a.1 i ++ short_sized (a.2 i)
 
-    why : (x : BuildError) → WhyNot (heap ++ short_sized list) x → WhyNoTree old (object (entries all)) x
-    why HeapFull h = (omega (arith, h, ap length same), omega (arith, own_over old heap list (flat s.done) s.children h, object_room all, ap (λ z. children_room (flat z)) (object_all old heap list es all s none).0))
-    why Memory h = tt
-    why AlreadyFailed h = absurd h
-    why OutOfPlace h = absurd h
-    why NotUtf8 h = absurd h
-
-pub object_written : (r : Result Place BuildError) (old heap list new own : List ℕ) (es all : List (List ℕ × Tree)) → ObjectPut old heap list es all → es ≡ [] → own ≡ list
-    → IfOk r (λ p. ListPut heap Object own new p) → IfOk r (λ p. Put old (object (entries all)) new p)
-object_written (Ok p) old heap list new own es all s none e h = object_put old heap list new es all p s none (subst (λ z. ListPut heap Object z new p) e h)
-object_written (Err x) old heap list new own es all s none e h = tt
-
-pub object_not_written : (r : Result Place BuildError) (old heap list new own : List ℕ) (es all : List (List ℕ × Tree)) → ObjectPut old heap list es all → es ≡ [] → own ≡ list
-    → IfErr r (λ x. ListPutNot heap own new x) → IfErr r (λ x. PutNot old (object (entries all)) new x)
-object_not_written (Ok p) old heap list new own es all s none e h = tt
-object_not_written (Err x) old heap list new own es all s none e h = object_own_not old heap list new es all x s none (subst (λ z. ListPutNot heap z new x) e h)
+pub object_puts : (r : Result Place AddError) (old heap list new start places left : List ℕ) (n : ℕ) (es all : List (List ℕ × Tree)) → ObjectPut old heap list es all → es ≡ [] → places ≡ start ++ list → n ≡ length start
+    → IfOk r (λ p. ListPut heap Object (drop n places) new p) → OnOk r (left ≡ take n places) → IfErr r (λ x. ListPutNot heap (drop n places) new x) → Puts old start (object (entries all)) new left r
+object_puts (Ok p) old heap list new start places left n es all s none e is ok kept err =
+    (object_put old heap list new es all p s none (subst (λ z. ListPut heap Object z new p) (own_places start places list n e is) ok), kept ∙ (λ i. take (is i) (e i)) ∙ take-append_seam start list)
+object_puts (Err x) old heap list new start places left n es all s none e is ok kept err =
+    object_own_not old heap list new es all x s none (subst (λ z. ListPutNot heap z new x) (own_places start places list n e is) err)
 
 -- ---- for the walk
 
@@ -358,6 +286,12 @@ object_not_written (Err x) old heap list new own es all s none e h = object_own_
 pub memory_not : (old new : List ℕ) (t : Tree) → IsPrefix old new → PutNot old t new Memory
 memory_not old new t f = record { prefix = f; why = tt }
 
--- the places behind those of others
-pub own_places : (start places list : List ℕ) (n : ℕ) → places ≡ start ++ list → n ≡ length start → drop n places ≡ list
-own_places start places list n e is = (λ i. drop (is i) (e i)) ∙ drop-append_seam start list
+-- a leaf writes no places
+pub leaf_puts : (r : Result Place AddError) (old places : List ℕ) (t : Tree) (new : List ℕ) → IfOk r (λ p. Put old t new p) → IfErr r (λ e. PutNot old t new e) → Puts old places t new places r
+leaf_puts (Ok p) old places t new ok err = (ok, refl)
+leaf_puts (Err e) old places t new ok err = err
+
+-- what the exit of a `?` returns
+pub refused : (r : Result Place AddError) (old places : List ℕ) (t : Tree) (new left : List ℕ) (e : AddError) → IsErrAnd r (λ x. x ≡ e) → PutNot old t new e → Puts old places t new left r
+refused (Ok p) old places t new left e is not = absurd is
+refused (Err x) old places t new left e is not = subst (PutNot old t new) (sym is) not

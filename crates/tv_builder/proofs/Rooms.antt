@@ -1,5 +1,5 @@
 -- The room of a value is at most ten times the bytes that writing it adds to a heap.
-use Rattle.std.proofs.Common.{◌≡◌, ℕ, ◌+◌, ◌*◌, ◌<◌, ◌≤◌, Bool, true, false, ap, List, [], ◌∷◌, ◌++◌, length, length-append, arith, inl, inr}
+use Rattle.std.proofs.Common.{◌≡◌, ℕ, ◌+◌, ◌*◌, ◌^◌, ◌<◌, ◌≤◌, Bool, true, false, Option, Some, None, SomeIff, ap, List, [], ◌∷◌, ◌++◌, length, length-append, arith, inl, inr}
 use Rattle.std.specs.Prelude.{IsTrue, ◌↔◌}
 use Rattle.std.specs.List.{flat_map, sum_by}
 use Rattle.std.specs.Int.{w64, cast_unsigned}
@@ -17,6 +17,8 @@ use Rattle.tv_heap.specs.Room.{content_room, token_room, room, elements_room, en
 use Rattle.tv_heap.specs.declared.place.Place.{Place}
 use Rattle.tv_heap.proofs.Writes.{length_eight, length_sixteen}
 use Rattle.tv_builder.specs.Given.{place_bytes}
+use Rattle.tv_builder.proofs.Within.{token_parts}
+use Rattle.tv_builder.specs.Moves.{FitsRoom}
 use Rattle.tv_builder.specs.Whole.{Put, PutWithin}
 use Rattle.tv_builder.specs.TreeBytes.{tree_heap, tree_place, elements_heap, elements_places, entries_heap, entries_places}
 
@@ -28,19 +30,8 @@ vnum_some n = elim (cases_lt n 128) [ inl p ↦ rw (groups_small 9 n p) (omega a
 -- a token takes a byte at least for each of its five numbers
 token_paid : (token : Token) → token_room token ≤ 10 * length (short_token token)
 token_paid token =
-    omega (
-      arith,
-      vnum_some token.offset_from,
-      vnum_some token.offset_to,
-      vnum_some token.position,
-      vnum_some (length token.text),
-      vnum_some token.position_length,
-      length-append (vnum token.offset_from) (vnum token.offset_to ++ (vnum token.position ++ (short_sized token.text ++ vnum token.position_length))),
-      length-append (vnum token.offset_to) (vnum token.position ++ (short_sized token.text ++ vnum token.position_length)),
-      length-append (vnum token.position) (short_sized token.text ++ vnum token.position_length),
-      length-append (short_sized token.text) (vnum token.position_length),
-      length-append (vnum (length token.text)) token.text,
-    )
+    let sized = length-append (vnum (length token.text)) token.text in
+    omega (arith, token_parts token, sized, vnum_some token.offset_from, vnum_some token.offset_to, vnum_some token.position, vnum_some (length token.text), vnum_some token.position_length)
 
 tokens_paid : (tokens : List Token) → sum_by token_room tokens ≤ 10 * length (flat_map short_token tokens)
 tokens_paid [] = omega arith
@@ -111,6 +102,12 @@ mutual
 pub paid_within : (old : List ℕ) (t : Tree) (new : List ℕ) (p : Place) → Put old t new p → 10 * length new ≤ 4294967295 + 9 * length old → PutWithin old t new p
 paid_within old t new p w h = record { put = w; within = omega (arith, h, tree_paid old t, ap length w.heap) }
 
+-- ---- what was found doesn't fit
+
 pub no_room : (b : Bool) (m : ℕ) → IsTrue b ↔ (m ≤ 4294967295) → b ≡ false → 4294967295 < m
 no_room true m h e = absurd (let f : true ≡ false = e in cc)
 no_room false m h e = elim (cases_lt 4294967295 m) [ inl p ↦ p | inr p ↦ absurd (let f : false ≡ true = h.1 (omega (arith, p)) in cc) ]
+
+pub over : (found : Option ℕ) (len n : ℕ) (fits : Bool) → SomeIff found (n < 2 ^ 32) n → FitsRoom found len fits → fits ≡ false → 4294967295 < len + n
+over (Some m) len n fits is h e = omega (arith, is.1, no_room fits (len + m) h e)
+over None len n fits is h e = elim (cases_lt n (2 ^ 32)) [ inl p ↦ absurd (is p) | inr p ↦ omega (arith, p) ]

@@ -1,11 +1,13 @@
 -- What holds of a building that holds a state.
 use Rattle.std.proofs.Common.{◌≡◌, ℕ, zero, suc, ◌%◌, ◌≤◌, nat_eq, List, [], ◌∷◌, length, take, Option, Some, None, refl, sym, ◌∙◌, ap, subst, arith, inl, inr}
 use Rattle.std.specs.Coded.{le_prop}
-use Rattle.std.proofs.Math.Logic.{∥∥₁_elim}
+use Rattle.std.proofs.Math.Logic.{∥∥₁_elim, ∥∥₁_map}
 use Rattle.std.proofs.Math.Nat.{ℕ_set}
 use Rattle.std.proofs.lemmas.Bool.{cond-true, cond-false}
 use Rattle.std.proofs.lemmas.Bool.Decides.{eqb_tells}
 use Rattle.std.proofs.lemmas.List.{length-drop}
+use mathlib.Core.HLevel.{⊥_prop}
+use Rattle.tv_builder.specs.declared.awaits.Awaits.{Awaits}
 use Rattle.tv_builder.specs.declared.awaits.Awaits.TheVariants as awaits
 use Rattle.tv_builder.specs.declared.building.Building.{Building}
 use Rattle.tv_builder.specs.declared.building.OpenBytes.{OpenBytes}
@@ -15,7 +17,7 @@ use Rattle.tv_builder.specs.declared.list_kind.ListKind.TheVariants.{Array, Obje
 use Rattle.tv_heap.specs.declared.place.Place.{Place}
 use Rattle.tv_builder.specs.Given.{AreCut, pending_in}
 use Rattle.tv_builder.specs.Kinds.{total}
-use Rattle.tv_builder.specs.Moves.{CanGive, CanGiveKey}
+use Rattle.tv_builder.specs.Moves.{CanGive}
 use Rattle.tv_builder.specs.Shows.{ShowsLists, ShowsAt, Stands, frames_of, next_frame, awaited_at, awaited_by}
 use Rattle.tv_builder.specs.State.{OpenList, State, complete, in_lists, in_bytes, next_at, next_in, awaited, AreLists, AllAwait, OthersAwait, IsState, IsValueNext, IsKeyNext}
 use Rattle.tv_builder.proofs.Children.{elements_bytes}
@@ -27,7 +29,7 @@ lists_cut heap [] places ls are h = tt
 lists_cut heap (f ∷ fs) places [] are h = absurd h
 lists_cut heap (f ∷ fs) places (l ∷ ls) are h =
     let same : total l.kind l.announced ≡ total f.kind f.announced = λ i. total (h.0.same_kind i) (h.0.same_announced i) in
-    (h.0.cut, omega (arith, (elements_bytes heap (length heap) _ l.children h.0.reads).0, h.0.counted), omega (arith, are.0.lacks, h.0.counted, same), lists_cut heap fs (take f.first places) ls are.1 h.1)
+    (h.0.cut, omega (arith, elements_bytes heap (length heap) _ l.children h.0.reads, h.0.counted), omega (arith, are.0.lacks, h.0.counted, same), lists_cut heap fs (take f.first places) ls are.1 h.1)
 
 at_cut : (heap : List ℕ) (fs : List Frame) (places : List ℕ) (whole : Option Place) (bytes : Option OpenBytes) (s : State) → IsState s → ShowsAt heap fs places whole bytes s → AreCut fs places
 at_cut heap fs places whole bytes (complete t) is h = subst (λ z. AreCut z places) (sym h.frames) tt
@@ -71,17 +73,6 @@ awaited_same heap fs places whole bytes (in_lists ls) h = (λ i. awaited_at (h.c
 awaited_same heap fs places whole bytes (in_bytes ls kind n bs) h =
     (λ i. awaited_at (h.is i) whole fs) ∙ ap awaits.Bytes (omega (arith, h.stand.counted))
 
-pub value_none : (o : Option OpenBytes) (p : Option Place) (fs : List Frame) → awaited_at o p fs ≡ awaits.Value → (p ≡ None) × (o ≡ None)
-value_none (Some o) p fs e = absurd (cc)
-value_none None (Some p) fs e = absurd (cc)
-value_none None None fs e = (refl, refl)
-
-pub key_none : (o : Option OpenBytes) (p : Option Place) (fs : List Frame) → awaited_at o p fs ≡ awaits.Key → (p ≡ None) × (o ≡ None) × ((f : Frame) × (rest : List Frame) × (fs ≡ f ∷ rest))
-key_none (Some o) p fs e = absurd (cc)
-key_none None (Some p) fs e = absurd (cc)
-key_none None None [] e = absurd (cc)
-key_none None None (f ∷ rest) e = (refl, refl, (f, rest, refl))
-
 pub next_value : (kind : ListKind) (n : ℕ) → next_at kind n ≡ awaits.Value → IsValueNext kind n
 next_value Array n e = tt
 next_value Object n e = elim (eqb_tells (n % 2) 0) [
@@ -102,21 +93,33 @@ all_await (l ∷ ls) e h = (next_value l.kind (length l.children) e, h)
 
 -- ---- a value or a key can be handed over
 
-pub can_give : (b mid : Building) → Stands b → awaited_by b ≡ awaits.Value → length mid.heap.items ≤ 4294967295 → mid.pending ≡ b.pending → frames_of mid ≡ frames_of b → mid.places.items ≡ b.places.items → mid.complete ≡ b.complete → CanGive mid
-can_give b mid h e fits pending frames places whole = record {
+-- this isn't the end of the whole value
+abbrev pub GoesOn : Awaits → Type 0
+GoesOn awaits.Finish = ⊥
+GoesOn _ = Unit {0}
+
+pub on_value : (b : Building) → awaited_by b ≡ awaits.Value → GoesOn (awaited_by b)
+on_value b e = subst GoesOn (sym e) tt
+
+pub on_key : (b : Building) → awaited_by b ≡ awaits.Key → GoesOn (awaited_by b)
+on_key b e = subst GoesOn (sym e) tt
+
+none_whole : (b : Building) → Stands b → GoesOn (awaited_by b) → b.complete ≡ None
+none_whole b h on = none_of b.complete (∥∥₁_map h.1 (λ s. none_at h.0 s.at))
+  where
+    none_at : (s : State) → ShowsAt b.heap.items (frames_of b) b.places.items b.complete b.open s → b.complete ≡ None
+    none_at (complete t) h = absurd (subst GoesOn (awaited_same _ _ _ _ _ (complete t) h) on)
+    none_at (in_lists ls) h = h.none
+    none_at (in_bytes ls kind n bs) h = h.none
+
+    none_of : (x : Option Place) → ∥ x ≡ None ∥₁ → x ≡ None
+    none_of None h = refl
+    none_of (Some p) h = absurd (∥∥₁_elim h ⊥_prop (λ e. absurd (cc)))
+
+pub can_give : (b mid : Building) → Stands b → GoesOn (awaited_by b) → length mid.heap.items ≤ 4294967295 → mid.pending ≡ b.pending → frames_of mid ≡ frames_of b → mid.places.items ≡ b.places.items → mid.complete ≡ b.complete → CanGive mid
+can_give b mid h on fits pending frames places whole = record {
   fits = fits;
   counted = pending ∙ counted_of b h ∙ ap pending_in (sym frames);
   cut = subst (λ z. AreCut z mid.places.items) (sym frames) (subst (λ z. AreCut (frames_of b) z) (sym places) (cut_of b h));
-  none = whole ∙ (value_none b.open b.complete (frames_of b) e).0;
+  none = whole ∙ none_whole b h on;
 }
-
-pub can_give_key : (b mid : Building) → Stands b → awaited_by b ≡ awaits.Key → mid.pending ≡ b.pending → frames_of mid ≡ frames_of b → mid.places.items ≡ b.places.items → CanGiveKey mid
-can_give_key b mid h e pending frames places =
-    let k = key_none b.open b.complete (frames_of b) e in
-    record {
-      frame = k.2.0;
-      rest = k.2.1;
-      frames = frames ∙ k.2.2;
-      cut = subst (λ z. AreCut z mid.places.items) (sym frames) (subst (λ z. AreCut (frames_of b) z) (sym places) (cut_of b h));
-      counted = pending ∙ counted_of b h ∙ ap pending_in (sym frames);
-    }

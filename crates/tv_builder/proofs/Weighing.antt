@@ -3,15 +3,14 @@ use Rattle.std.proofs.Common.{◌≡◌, ◌+◌, ◌*◌, ◌≤◌, List, [], 
 use Rattle.std.specs.Coded.{le_prop}
 use Rattle.std.proofs.Math.Logic.{∥∥₁_elim}
 use Rattle.tv_base.specs.Parts.{short_sized}
-use Rattle.tv_format.specs.Tree.{Tree, leaf, text}
-use Rattle.tv_heap.specs.Weight.{tree_weight}
+use Rattle.tv_format.specs.Tree.{Tree, leaf, text, elements}
+use Rattle.tv_heap.specs.Weight.{tree_weight, elements_weight}
 use Rattle.tv_builder.specs.declared.building.Building.{Building}
 use Rattle.tv_builder.specs.declared.list_kind.ListKind.{ListKind}
 use Rattle.tv_builder.specs.declared.list_kind.ListKind.TheVariants.{Array, Object}
 use Rattle.tv_builder.specs.Shows.{Stands}
 use Rattle.tv_builder.specs.State.{OpenList, State, complete, in_lists, in_bytes, text_of, IsKey, AreEntries, AreValues, AreChildren, AreLists, IsState, trees_weight, lists_written, written}
 use Rattle.tv_builder.specs.Weight.{keys_weight, values_weight, children_weight, lists_weight, state_weight}
-use Rattle.tv_builder.proofs.Children.{elements_weight_is}
 
 key_weighs : (k : Tree) → IsKey k → tree_weight k ≡ length (short_sized (text_of k))
 key_weighs (leaf (text content)) h = refl
@@ -26,8 +25,12 @@ mutual
   values_weigh [] h = refl
   values_weigh (t ∷ ts) h = omega (arith, keys_weigh ts h)
 
+elements_weigh : (ts : List Tree) → elements_weight (elements ts) ≡ 6 * length ts + trees_weight ts
+elements_weigh [] = refl
+elements_weigh (t ∷ ts) = omega (arith, elements_weigh ts)
+
 children_weigh : (kind : ListKind) (ts : List Tree) → AreChildren kind ts → children_weight kind ts ≡ 6 * length ts + trees_weight ts
-children_weigh Array ts h = elements_weight_is ts
+children_weigh Array ts h = elements_weigh ts
 children_weigh Object ts h = keys_weigh ts h
 
 lists_weigh : (ls : List OpenList) → AreLists ls → lists_written ls ≤ lists_weight ls

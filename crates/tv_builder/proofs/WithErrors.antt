@@ -5,7 +5,7 @@ use Rattle.tv_base.specs.declared.cause.Cause.{Cause}
 use Rattle.tv_base.specs.declared.cause.Cause.TheVariants.{NotUtf8, UnexpectedEnd}
 use Rattle.tv_base.specs.Number.{VNum}
 use Rattle.tv_base.specs.ErrorInPart.{InEach, ErrorInBytes, ErrorInText, ErrorInSized, bytes_end, in_sized, no_text}
-use Rattle.tv_base.specs.Parts.{Then, Each}
+use Rattle.tv_base.specs.Parts.{Each}
 use Rattle.tv_format.specs.InputError.{Refusal, corrupted, corrupt, ErrorInKey, in_key, ErrorInValue, in_leaf, in_element, in_entry_key, in_entry, ErrorInPair, ErrorInDocument}
 use Rattle.tv_format.specs.Encoding.{Key, EncodesElements, EncodesEntries, EncodesPair}
 use Rattle.tv_format.specs.Tree.{Tree, elements, element_count, entries, entry_count, Entries, Document}
@@ -20,18 +20,7 @@ use Rattle.tv_builder.specs.Prefix.{EncodesPart, KeyHead}
 use Rattle.tv_builder.specs.Kinds.{total, IsTextKind}
 use Rattle.tv_builder.specs.Parts.{Part, field, value, bytes_head, some_bytes}
 use Rattle.tv_builder.specs.State.{OpenList, in_lists, in_bytes, text_of, pairs_of, IsValueNext, IsKeyNext, AllAwait, AreLists, OthersAwait, HeadNext, key_parts, list_head, children_parts, list_parts, lists_parts}
-
-each_split : {A : Type 0} (R : List ℕ → A → Type 0) (xs ys : List A) (whole : List ℕ) → Each R whole (xs ++ ys) → Then (λ b. Each R b xs) (λ b. Each R b ys) whole
-each_split R [] ys whole p = record { prefix = []; rest = whole; joined = refl; first = refl; second = p }
-each_split R (x ∷ xs) ys whole p =
-    let q = each_split R xs ys p.rest p.second in
-    record {
-      prefix = p.prefix ++ q.prefix;
-      rest = q.rest;
-      joined = p.joined ∙ ap (λ z. p.prefix ++ z) q.joined ∙ sym (append_assoc p.prefix q.prefix q.rest);
-      first = record { prefix = p.prefix; rest = q.prefix; joined = refl; first = p.first; second = q.first };
-      second = q.second;
-    }
+use Rattle.tv_builder.proofs.Grammar.{each_split}
 
 -- bytes of two parts, with others behind them
 behind_both : (whole a b rest : List ℕ) → whole ≡ a ++ b → a ++ (b ++ rest) ≡ whole ++ rest

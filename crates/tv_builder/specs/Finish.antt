@@ -14,20 +14,20 @@ HoldsPrefix heap kept ps = Holds (take kept heap) ps
 pub HoldsPrefix-prop : (heap : List ℕ) (kept : ℕ) (ps : List HeapPair) → IsProp (HoldsPrefix heap kept ps)
 HoldsPrefix-prop heap kept ps = Holds-prop (take kept heap) ps
 
--- nothing is open, and the heap is cut
-pub record Cleared (old new : Building) (kept : ℕ) : Type 0 where
-  pub heap : new.heap.items ≡ take kept old.heap.items
-  pub places : new.places.items ≡ []
-  pub pending : new.pending ≡ 0
-  pub frames : new.frames.items ≡ []
-  pub complete : new.complete ≡ None
-  pub closed : new.open ≡ None
+-- nothing stands behind this heap
+pub record Empty (heap : List ℕ) (b : Building) : Type 0 where
+  pub heap_is : b.heap.items ≡ heap
+  pub places : b.places.items ≡ []
+  pub pending : b.pending ≡ 0
+  pub frames : b.frames.items ≡ []
+  pub complete : b.complete ≡ None
+  pub closed : b.open ≡ None
 
 -- After a refusal what isn't finished is let go of, and that is marked; else nothing changes.
 pub record Settled (old new : Building) (kept : ℕ) (failed failed_new : Bool) (answer : Result (Unit {0}) BuildError) : Type 0 where
   pub ok : OnOk answer (new ≡ old)
   pub live : OnOk answer (failed_new ≡ failed)
-  pub err : OnErr answer (Cleared old new kept)
+  pub err : OnErr answer (Empty (take kept old.heap.items) new)
   pub mark : OnErr answer (failed_new ≡ true)
 
 -- the complete value became that of a pair

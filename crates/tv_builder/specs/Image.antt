@@ -1,11 +1,11 @@
 -- All that a building holds for a state, behind what stood in the heap before.
-use Rattle.std.specs.Prelude.{ℕ, List, [], ◌∷◌, ◌++◌, length, Some, None}
+use Rattle.std.specs.Prelude.{◌≡◌, ℕ, List, [], ◌∷◌, ◌++◌, length, Some, None}
 use Rattle.tv_base.specs.Number.{vnum}
 use Rattle.tv_format.specs.Tree.{elements}
 use Rattle.tv_builder.specs.declared.building.Building.{Building}
 use Rattle.tv_builder.specs.declared.frame.Frame.{Frame}
 use Rattle.tv_builder.specs.Given.{Given}
-use Rattle.tv_builder.specs.Shows.{frames_of}
+use Rattle.tv_builder.specs.Shows.{Shows, frames_of}
 use Rattle.tv_builder.specs.State.{OpenList, State, complete, in_lists, in_bytes}
 use Rattle.tv_builder.specs.StateHeap.{lists_heap}
 use Rattle.tv_builder.specs.TreeBytes.{tree_heap, tree_place, elements_places}
@@ -30,3 +30,8 @@ abbrev pub image_of : List ℕ → State → Given
 image_of base (complete t) = record { heap = tree_heap base t; places = []; frames = []; complete = Some (tree_place base t) }
 image_of base (in_lists ls) = record { heap = lists_heap base ls; places = lists_places base ls; frames = lists_frames base ls; complete = None }
 image_of base (in_bytes ls kind n bs) = record { heap = lists_heap base ls ++ (vnum n ++ bs); places = lists_places base ls; frames = lists_frames base ls; complete = None }
+
+-- the state stands there, and all that a building holds is that state behind this heap
+pub record Behind (base : List ℕ) (b : Building) (s : State) : Type 0 where
+  pub shows : Shows b s
+  pub image : held b ≡ image_of base s

@@ -1,6 +1,6 @@
 -- A building holds one state at most.
-use Rattle.std.specs.Prelude.{◌≡◌, ℕ, zero, suc, Bool, true, false, List, [], ◌∷◌, ◌++◌, length, take, drop, Option, Some, None, refl}
-use Rattle.std.specs.Coded.{Coded, code_by, coded×, coded_list, coded_ℕ, coded_bool, Coded-set}
+use Rattle.std.specs.Prelude.{◌≡◌, ℕ, List, [], ◌∷◌, ◌++◌, length, take, drop, Option, Some, None, refl}
+use Rattle.std.specs.Coded.{Coded, code_by, coded×, coded_list, coded_ℕ, Coded-set}
 use Rattle.std.proofs.Common.{ap, sym, ◌∙◌, subst}
 use Rattle.std.proofs.Math.Logic.{∥∥₁_elim, ∥∥₁_map, ∥∥₁_prop}
 use Rattle.std.proofs.lemmas.List.{append_cancel_left}
@@ -14,59 +14,23 @@ use Rattle.tv_heap.specs.Held.{same_list}
 use Rattle.tv_heap.specs.ReadsLaws.{one_tree, one_elements}
 use Rattle.tv_heap.specs.Reads.{Reads}
 use Rattle.tv_heap.specs.TypeCode.{type_code}
+use Rattle.tv_builder.specs.contracts.bytes_kind.BytesKind.{the_row as bytes_row}
+use Rattle.tv_builder.specs.contracts.list_kind.ListKind.{the_row as list_row}
 use Rattle.tv_builder.specs.declared.building.Building.{Building}
 use Rattle.tv_builder.specs.declared.building.OpenBytes.{OpenBytes}
 use Rattle.tv_builder.specs.declared.bytes_kind.BytesKind.{BytesKind}
-use Rattle.tv_builder.specs.declared.bytes_kind.BytesKind.TheVariants as kinds
 use Rattle.tv_builder.specs.declared.frame.Frame.{Frame}
 use Rattle.tv_builder.specs.declared.list_kind.ListKind.{ListKind}
-use Rattle.tv_builder.specs.declared.list_kind.ListKind.TheVariants.{Array, Object}
 use Rattle.tv_heap.specs.declared.place.Place.{Place}
-use Rattle.tv_builder.specs.Image.{held, image_of}
-use Rattle.tv_builder.specs.Shows.{ShowsLists, ShowsAt, Shows, Stands, frames_of}
+use Rattle.tv_builder.specs.Image.{Behind}
+use Rattle.tv_builder.specs.Shows.{ShowsLists, ShowsAt, Stands, frames_of}
 use Rattle.tv_builder.specs.State.{OpenList, State, complete, in_lists, in_bytes}
 
 -- ---- a code for states
 
-abbrev is_object : ListKind → Bool
-is_object Array = false
-is_object Object = true
-
-abbrev list_kind : Bool → ListKind
-list_kind false = Array
-list_kind true = Object
-
-pub list_kind_back : (k : ListKind) → list_kind (is_object k) ≡ k
-list_kind_back Array = refl
-list_kind_back Object = refl
-
-abbrev coded_list_kind : Coded ListKind
-coded_list_kind = code_by Bool coded_bool is_object list_kind list_kind_back
-
-abbrev kind_number : BytesKind → ℕ
-kind_number kinds.Str = 0
-kind_number kinds.Facet = 1
-kind_number kinds.Bytes = 2
-kind_number kinds.Key = 3
-
-abbrev bytes_kind : ℕ → BytesKind
-bytes_kind zero = kinds.Str
-bytes_kind (suc zero) = kinds.Facet
-bytes_kind (suc (suc zero)) = kinds.Bytes
-bytes_kind (suc (suc (suc n))) = kinds.Key
-
-pub bytes_kind_back : (k : BytesKind) → bytes_kind (kind_number k) ≡ k
-bytes_kind_back kinds.Str = refl
-bytes_kind_back kinds.Facet = refl
-bytes_kind_back kinds.Bytes = refl
-bytes_kind_back kinds.Key = refl
-
-abbrev coded_bytes_kind : Coded BytesKind
-coded_bytes_kind = code_by ℕ coded_ℕ kind_number bytes_kind bytes_kind_back
-
 abbrev coded_open : Coded OpenList
 coded_open =
-    code_by (ListKind × (ℕ × List Tree)) (coded× coded_list_kind (coded× coded_ℕ (coded_list coded_tree)))
+    code_by (ListKind × (ℕ × List Tree)) (coded× list_row.coded (coded× coded_ℕ (coded_list coded_tree)))
     (λ l. (l.kind, (l.announced, l.children))) (λ p. record { kind = p.0; announced = p.1.0; children = p.1.1 }) (λ _. refl)
 
 abbrev coded_lists : Coded (List OpenList)
@@ -76,7 +40,7 @@ abbrev Piece : Type 0
 Piece = List OpenList × (BytesKind × (ℕ × List ℕ))
 
 abbrev coded_piece : Coded Piece
-coded_piece = coded× coded_lists (coded× coded_bytes_kind (coded× coded_ℕ coded_text))
+coded_piece = coded× coded_lists (coded× bytes_row.coded (coded× coded_ℕ coded_text))
 
 abbrev state_gv : State → Gv
 state_gv (complete t) = gcons (gnum 0) (coded_tree.code t)
@@ -154,11 +118,11 @@ same_state b x y = ap (λ p. p.0) (Stands-prop b x y)
 
 -- the state that a builder holds, which is all that stands behind this heap
 abbrev pub StandsBehind : List ℕ → Building → Type 0
-StandsBehind base b = (s : State) × ∥ (Shows b s × (held b ≡ image_of base s)) ∥₁
+StandsBehind base b = (s : State) × ∥ Behind base b s ∥₁
 
 -- of which the state is one that it holds
 abbrev pub stands_of : (base : List ℕ) (b : Building) → StandsBehind base b → Stands b
-stands_of base b h = (h.0, ∥∥₁_map h.1 (λ p. p.0))
+stands_of base b h = (h.0, ∥∥₁_map h.1 (λ p. p.shows))
 
 pub same_behind : (base other : List ℕ) (b : Building) (x : StandsBehind base b) (y : StandsBehind other b) → x.0 ≡ y.0
 same_behind base other b x y = same_state b (stands_of base b x) (stands_of other b y)

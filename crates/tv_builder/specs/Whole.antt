@@ -1,18 +1,16 @@
 -- What writing a whole value leaves.
-use Rattle.std.specs.Prelude.{◌≡◌, ℕ, ◌+◌, ◌<◌, ◌≤◌, List, ◌++◌, length}
+use Rattle.std.specs.Prelude.{◌≡◌, ℕ, ◌+◌, ◌<◌, ◌≤◌, List, ◌++◌, length, Result, Ok, Err}
 use Rattle.tv_base.specs.Parts.{short_sized}
 use Rattle.tv_base.specs.Sink.{IsPrefix}
 use Rattle.tv_format.specs.Tree.{Tree}
 use Rattle.tv_heap.specs.Room.{room}
-use Rattle.tv_heap.specs.Weight.{tree_weight}
 use Rattle.tv_builder.specs.declared.add_error.AddError.{AddError}
-use Rattle.tv_builder.specs.declared.add_error.AddError.TheVariants as adds
+use Rattle.tv_builder.specs.declared.add_error.AddError.TheVariants.{HeapFull, Memory}
 use Rattle.tv_builder.specs.declared.build_error.BuildError.{BuildError}
-use Rattle.tv_builder.specs.declared.build_error.BuildError.TheVariants.{HeapFull, Memory}
+use Rattle.tv_builder.specs.declared.build_error.BuildError.TheVariants as builds
 use Rattle.tv_builder.specs.declared.list_kind.ListKind.{ListKind}
 use Rattle.tv_heap.specs.declared.place.Place.{Place}
 use Rattle.tv_builder.specs.Kinds.{list_type}
-use Rattle.tv_builder.specs.Moves.{WhyNot}
 use Rattle.tv_builder.specs.Shows.{Placed}
 use Rattle.tv_builder.specs.TreeBytes.{tree_heap, tree_place}
 
@@ -22,17 +20,20 @@ pub record Put (old : List ℕ) (t : Tree) (new : List ℕ) (p : Place) : Type 0
   pub place : p ≡ tree_place old t
   pub fits : length new ≤ 4294967295
   pub placed : Placed new p t
-  pub weighed : length new ≤ length old + tree_weight t
 
--- it has no room, or memory was refused
-abbrev pub WhyNoTree : List ℕ → Tree → BuildError → Type 0
-WhyNoTree old t HeapFull = (4294967295 < length (tree_heap old t)) × (4294967295 < length old + room t)
-WhyNoTree old t Memory = Unit {0}
-WhyNoTree old t _ = ⊥
+-- the heap would be too long, or memory was refused
+abbrev pub WhyUnwritten : List ℕ → AddError → Type 0
+WhyUnwritten heap HeapFull = 4294967295 < length heap
+WhyUnwritten heap Memory = Unit {0}
 
-pub record PutNot (old : List ℕ) (t : Tree) (new : List ℕ) (e : BuildError) : Type 0 where
+pub record PutNot (old : List ℕ) (t : Tree) (new : List ℕ) (e : AddError) : Type 0 where
   pub prefix : IsPrefix old new
-  pub why : WhyNoTree old t e
+  pub why : WhyUnwritten (tree_heap old t) e
+
+-- one of them, where the places of other children are as they were
+abbrev pub Puts : List ℕ → List ℕ → Tree → List ℕ → List ℕ → Result Place AddError → Type 0
+Puts old places t new left (Ok p) = Put old t new p × (left ≡ places)
+Puts old places t new left (Err e) = PutNot old t new e
 
 -- its room, and not only its bytes, is free behind the heap
 pub record PutWithin (old : List ℕ) (t : Tree) (new : List ℕ) (p : Place) : Type 0 where
@@ -41,8 +42,8 @@ pub record PutWithin (old : List ℕ) (t : Tree) (new : List ℕ) (p : Place) : 
 
 -- it isn't, or memory was refused
 abbrev pub WhyNotWithin : List ℕ → Tree → AddError → Type 0
-WhyNotWithin old t adds.HeapFull = 4294967295 < length old + room t
-WhyNotWithin old t adds.Memory = length old + room t ≤ 4294967295
+WhyNotWithin old t HeapFull = 4294967295 < length old + room t
+WhyNotWithin old t Memory = length old + room t ≤ 4294967295
 
 pub record PutNotWithin (old : List ℕ) (t : Tree) (new : List ℕ) (e : AddError) : Type 0 where
   pub prefix : IsPrefix old new
@@ -54,7 +55,12 @@ pub record ListPut (old : List ℕ) (kind : ListKind) (own new : List ℕ) (p : 
   pub place : p ≡ record { value_type = list_type kind; address = length old }
   pub fits : length new ≤ 4294967295
 
-pub record ListPutNot (old own new : List ℕ) (e : BuildError) : Type 0 where
+pub record ListPutNot (old own new : List ℕ) (e : AddError) : Type 0 where
   pub prefix : IsPrefix old new
-  pub why : WhyNot (old ++ short_sized own) e
+  pub why : WhyUnwritten (old ++ short_sized own) e
   pub memory : e ≡ Memory → length (old ++ short_sized own) ≤ 4294967295
+
+-- how a builder's call says why what it was to write isn't written
+abbrev pub as_refused : AddError → BuildError
+as_refused HeapFull = builds.HeapFull
+as_refused Memory = builds.Memory

@@ -1,5 +1,8 @@
 //! Why an addition to a document is refused.
 
+ghost use Rattle.std.specs.Prelude.{◌≡◌};
+
+use std::alloc::AllocError;
 use thiserror::Error;
 
 /// Why a document refuses an addition. After each refusal its pairs and its heap are unchanged.
@@ -11,4 +14,14 @@ pub enum AddError {
     /// The memory for the value was refused.
     #[error("memory was refused")]
     Memory,
+}
+
+impl From<AllocError> for AddError {
+    ghost use Rattle.tv_builder.specs.declared.add_error.AddError.TheVariants.{Memory};
+
+    ghost from_gives = { λ _ e. e ≡ Memory };
+
+    fn from(_error: AllocError) -> AddError {
+        AddError::Memory
+    }
 }

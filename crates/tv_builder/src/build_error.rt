@@ -2,6 +2,7 @@
 
 ghost use Rattle.std.specs.Prelude.{◌≡◌};
 
+use crate::add_error::AddError;
 use std::alloc::{AllocError, AllocFailed};
 use thiserror::Error;
 
@@ -42,5 +43,18 @@ impl<T: Drop> From<AllocFailed<T>> for BuildError {
 
     fn from(_error: AllocFailed<T>) -> BuildError {
         BuildError::Memory
+    }
+}
+
+impl From<AddError> for BuildError {
+    ghost use Rattle.tv_builder.specs.Whole.{as_refused};
+
+    ghost from_gives = { λ error e. e ≡ as_refused error };
+
+    fn from(error: AddError) -> BuildError {
+        match error {
+            AddError::HeapFull => BuildError::HeapFull,
+            AddError::Memory => BuildError::Memory,
+        }
     }
 }

@@ -1,7 +1,7 @@
 //! A heap, and a value that is written into it part by part.
 
-ghost use Rattle.std.specs.Prelude.{◌≡◌, ◌+◌, ◌-◌, ◌<◌, ◌≤◌, [], ◌↔◌, length};
-ghost use Rattle.std.specs.Prelude.{take, OnOk, IfOk, IfErr, IsErrOf, IsTrue, IsUtf8};
+ghost use Rattle.std.specs.Prelude.{◌≡◌, ◌≤◌, [], ◌↔◌, length, take, OnOk, IfErr, IsErrOf};
+ghost use Rattle.std.specs.Prelude.{IsTrue};
 ghost use Rattle.tv_format.specs.Tree.{leaf as leaf_tree};
 ghost use Rattle.tv_value.specs.Lent.{leaf_of};
 
@@ -13,12 +13,9 @@ use crate::frame::Frame;
 use crate::list_kind::ListKind;
 use crate::whole::{put_leaf, put_list, put_tree};
 use std::alloc::Global;
-use std::convert::AsStr;
-use tv_format::leaf_type::LeafType;
 use tv_heap::place::Place;
-use tv_heap::value_type::ValueType;
 use tv_heap::write::push_place;
-use tv_value::encode::{push_number, push_sized};
+use tv_value::encode::push_number;
 use tv_value::leaf::ReferenceValueLeaf;
 use tv_value::nested::lend;
 use tv_value::value::Value;
@@ -55,25 +52,19 @@ pub(crate) struct Building {
 
 impl Building {
     ghost use Rattle.tv_builder.specs.Parts.{IsContent};
-    ghost use Rattle.tv_builder.specs.Moves.{CanGive, Gives, GivesNot, CanGiveKey, GivesKey};
-    ghost use Rattle.tv_builder.specs.Moves.{Closed, ClosedNot, Does, EndsBytes};
-    ghost use Rattle.tv_builder.specs.Fits.{LeafFits, ListFits};
-    ghost use Rattle.tv_builder.specs.Moves.{AwaitsChunk, last_bytes};
-    ghost use Rattle.tv_builder.specs.Fits.{KeyFits, HeadFits};
+    ghost use Rattle.tv_builder.specs.Builder.{HasAllBytes, HasContent, TakesBytes};
+    ghost use Rattle.tv_builder.specs.Finish.{Empty};
+    ghost use Rattle.tv_builder.specs.Moves.{CanGive, Gives, GivesNot, Does, InState, last_bytes};
+    ghost use Rattle.tv_builder.specs.Fits.{LeafFits, ListFits, KeyFits, HeadFits};
     ghost use Rattle.tv_builder.specs.Shows.{Stands, awaited_by};
     ghost use Rattle.tv_builder.specs.State.{and_value, and_list, and_key, and_head, and_bytes};
-    ghost use Rattle.tv_builder.specs.State.{head_awaits};
+    ghost use Rattle.tv_builder.specs.State.{and_end, head_awaits};
     ghost use Rattle.tv_builder.specs.declared.awaits.Awaits.TheVariants.{Value as ValueNext};
     ghost use Rattle.tv_builder.specs.declared.awaits.Awaits.TheVariants.{Key as KeyNext};
 
     // Behind this heap, where a value is awaited. It takes no memory.
     pub(crate) fn new(alloc: Global, heap: Vec<u8>) -> Building
-        ensures heap { result.heap.items ≡ heap.items }
-        ensures places { result.places.items ≡ [] }
-        ensures pending { result.pending ≡ 0 }
-        ensures frames { result.frames.items ≡ [] }
-        ensures complete { result.complete ≡ None }
-        ensures closed { result.open ≡ None }
+        ensures { Empty heap.items result }
     {
         Building {
             heap,
@@ -87,12 +78,7 @@ impl Building {
 
     // Lets go of what isn't finished, and cuts the heap to this length.
     pub(crate) fn clear(&mut self, len: usize)
-        ensures heap { self.new.heap.items ≡ take len self.old.heap.items }
-        ensures places { self.new.places.items ≡ [] }
-        ensures pending { self.new.pending ≡ 0 }
-        ensures frames { self.new.frames.items ≡ [] }
-        ensures complete { self.new.complete ≡ None }
-        ensures closed { self.new.open ≡ None }
+        ensures { Empty (take len self.old.heap.items) self.new }
     {
         self.heap.truncate(len);
         self.places.clear();
@@ -124,7 +110,7 @@ impl Building {
     pub(crate) fn leaf(&mut self, value: &ReferenceValueLeaf<'_>) -> Result<(), BuildError>
         requires { Stands self.old }
         ensures { let l = leaf_of value.now in Does self.old self.new
-            (awaited_by self.old ≡ ValueNext) (LeafFits self.old.heap.items l)
+            (awaited_by self.old ≡ ValueNext) (Unit {0}) (LeafFits self.old.heap.items l)
             (λ s. and_value s (leaf_tree l)) result }
     {
         let Awaits::Value = self.awaits() else {
@@ -138,7 +124,7 @@ impl Building {
     pub(crate) fn tree<'a, V: Value<'a>>(&mut self, value: &V) -> Result<(), BuildError>
         requires { Stands self.old }
         ensures { let t = V.tree value.now in Does self.old self.new
-            (awaited_by self.old ≡ ValueNext) (Unit {0}) (λ s. and_value s t) result }
+            (awaited_by self.old ≡ ValueNext) (Unit {0}) (Unit {0}) (λ s. and_value s t) result }
     {
         let Awaits::Value = self.awaits() else {
             return Err(BuildError::OutOfPlace);
@@ -150,7 +136,7 @@ impl Building {
     // A list has come, of which so many elements or entries are announced. One of none closes at once.
     pub(crate) fn open_list(&mut self, kind: ListKind, announced: u64) -> Result<(), BuildError>
         requires { Stands self.old }
-        ensures { Does self.old self.new (awaited_by self.old ≡ ValueNext)
+        ensures { Does self.old self.new (awaited_by self.old ≡ ValueNext) (Unit {0})
             (ListFits self.old.heap.items announced) (λ s. and_list s kind announced) result }
     {
         let Awaits::Value = self.awaits() else {
@@ -170,27 +156,23 @@ impl Building {
         Ok(())
     }
 
-    // A key has come.
+    // A key has come: a text that closes no list.
     pub(crate) fn key(&mut self, content: &str) -> Result<(), BuildError>
         requires { Stands self.old }
-        ensures { Does self.old self.new (awaited_by self.old ≡ KeyNext)
+        ensures { Does self.old self.new (awaited_by self.old ≡ KeyNext) (Unit {0})
             (KeyFits self.old.heap.items content.now) (λ s. and_key s content.now) result }
     {
         let Awaits::Key = self.awaits() else {
             return Err(BuildError::OutOfPlace);
         };
-        if !has_room(self.heap.len(), content.len() as u64) {
-            return Err(BuildError::HeapFull);
-        }
-        let address = self.heap.len() as u32;
-        push_sized(&mut self.heap, content.as_bytes())?;
-        self.give_key(address)
+        let place = put_leaf(&mut self.heap, &ReferenceValueLeaf::Str(content))?;
+        self.give(place)
     }
 
     // The bytes of a value or a key begin, of which so many are announced.
     pub(crate) fn begin_bytes(&mut self, kind: BytesKind, announced: u64) -> Result<(), BuildError>
         requires { Stands self.old }
-        ensures { Does self.old self.new (awaited_by self.old ≡ head_awaits kind)
+        ensures { Does self.old self.new (awaited_by self.old ≡ head_awaits kind) (Unit {0})
             (HeadFits self.old.heap.items announced) (λ s. and_head s kind announced) result }
     {
         if !self.awaits_head(kind) {
@@ -225,8 +207,9 @@ impl Building {
     // Some of the announced bytes have come.
     pub(crate) fn chunk(&mut self, bytes: &[u8]) -> Result<(), BuildError>
         requires { Stands self.old }
-        ensures does { Does self.old self.new (AwaitsChunk self.old.open (length bytes.now))
-            (Unit {0}) (λ s. and_bytes s bytes.now) result }
+        ensures does { Does self.old self.new
+            (InState self.old (λ s. TakesBytes s (length bytes.now))) (Unit {0}) (Unit {0})
+            (λ s. and_bytes s bytes.now) result }
         ensures roomy { ¬ IsErrOf result BuildError.HeapFull }
     {
         let Some(open) = self.open else {
@@ -248,7 +231,8 @@ impl Building {
     // All announced bytes have come.
     pub(crate) fn end_bytes(&mut self) -> Result<(), BuildError>
         requires { Stands self.old }
-        ensures { EndsBytes self.old self.new result }
+        ensures { Does self.old self.new (InState self.old HasAllBytes) (InState self.old HasContent)
+            (Unit {0}) and_end result }
     {
         let Some(open) = self.open else {
             return Err(BuildError::OutOfPlace);
@@ -260,13 +244,10 @@ impl Building {
             return Err(BuildError::NotUtf8);
         }
         self.open = None;
-        match open.kind {
-            BytesKind::Key => self.give_key(open.address),
-            kind => self.give(Place {
-                value_type: kind.value_type(),
-                address: open.address,
-            }),
-        }
+        self.give(Place {
+            value_type: open.kind.value_type(),
+            address: open.address,
+        })
     }
 
     // Whether the bytes that were open are what they are announced to be.
@@ -275,45 +256,13 @@ impl Building {
         ensures { IsTrue result
             ↔ IsContent ended.kind (last_bytes ended.announced self.now.heap.items) }
     {
-        !ended.kind.is_text() || self.ends_in_text(ended.announced as usize)
+        let start = self.heap.len() - ended.announced as usize;
+        let (_, content) = self.heap.as_slice().split_at(start);
+        !ended.kind.is_text() || str::from_utf8(content).is_ok()
     }
 
-    // Whether the last so many bytes of the heap are UTF-8.
-    fn ends_in_text(&self, len: usize) -> bool
-        requires { len ≤ length self.now.heap.items }
-        ensures { IsTrue result ↔ IsUtf8 (last_bytes len self.now.heap.items) }
-    {
-        let (_, content) = self.heap.as_slice().split_at(self.heap.len() - len);
-        match str::from_utf8(content) {
-            Ok(_) => true,
-            Err(_) => false,
-        }
-    }
-
-    // Hands a finished key to the innermost list.
-    fn give_key(&mut self, address: u32) -> Result<(), BuildError>
-        requires { CanGiveKey self.old }
-        ensures ok { OnOk result (GivesKey self.old address self.new) }
-        ensures err { IfErr result
-            (λ e. (e ≡ BuildError.Memory) × (self.new.heap.items ≡ self.old.heap.items)) }
-    {
-        let Some(mut frame) = self.frames.pop() else {
-            return Err(BuildError::Memory);
-        };
-        push_place(
-            &mut self.places,
-            Place {
-                value_type: ValueType::Leaf(LeafType::Str),
-                address,
-            },
-        )?;
-        self.pending += 1;
-        frame.finished += 1;
-        self.frames.push(frame)?;
-        Ok(())
-    }
-
-    // Hands a finished value to the innermost list, and closes each list that lacks nothing more.
+    // Hands a finished value or key to the innermost list, and closes each list that lacks nothing more: a list is written behind its
+    // children, of which the places are the last.
     fn give(&mut self, place: Place) -> Result<(), BuildError>
         requires { CanGive self.old }
         ensures ok { OnOk result (Gives self.old place self.new) }
@@ -328,22 +277,10 @@ impl Building {
                 self.frames.push(frame)?;
                 return Ok(());
             }
-            finished = self.close(frame)?;
+            finished = put_list(&mut self.heap, &mut self.places, frame.kind, frame.first)?;
+            self.pending -= frame.finished;
         }
         self.complete = Some(finished);
         Ok(())
-    }
-
-    // Writes a list of which the places are the last at the heap's end.
-    fn close(&mut self, frame: Frame) -> Result<Place, BuildError>
-        requires fits { length self.old.heap.items ≤ 4294967295 }
-        requires first { frame.first ≤ length self.old.places.items }
-        requires counted { frame.finished ≤ self.old.pending }
-        ensures ok { IfOk result (λ place. Closed self.old frame place self.new) }
-        ensures err { IfErr result (λ e. ClosedNot self.old frame self.new e) }
-    {
-        let place = put_list(&mut self.heap, &mut self.places, frame.kind, frame.first)?;
-        self.pending -= frame.finished;
-        Ok(place)
     }
 }

@@ -3,10 +3,8 @@
 ghost use Rattle.std.specs.Prelude.{◌≡◌, ◌+◌, ◌<◌, ◌≤◌, [], OnOk, IfErr, IsErrOf, length};
 ghost use Rattle.std.specs.Prelude.{take, true, false, None};
 ghost use Rattle.tv_builder.specs.OneState.{StandsBehind, StandsBehind-prop};
-ghost use Rattle.tv_builder.specs.State.{written};
 ghost use Rattle.tv_builder.specs.Finish.{HoldsPrefix, HoldsPrefix-prop, Settled, Kept, KeptNot};
 ghost use Rattle.tv_builder.specs.Weight.{document_weight, state_weight};
-ghost use Rattle.tv_heap.specs.Room.{document_room};
 
 use crate::awaits::Awaits;
 use crate::build_error::BuildError;
@@ -75,12 +73,11 @@ pub struct PairBuilder {
     failed: bool,
     pub ghost document: { HoldsPrefix building.heap.items kept pairs.items } by { HoldsPrefix-prop building.heap.items kept pairs.items },
     pub ghost kept_within: { kept ≤ length building.heap.items },
-    pub ghost room: { kept ≤ document_room document.0 },
     pub ghost weight: { kept ≤ document_weight document.0 },
     pub ghost state: { StandsBehind (take kept building.heap.items) building } by { StandsBehind-prop (take kept building.heap.items) building },
-    pub ghost written: { length building.heap.items ≤ kept + written state.0 },
 }
 
+#[tactic(auto, using(crate::proofs::PairBuilding::stands))]
 impl PairBuilder {
     ghost use Rattle.tv_builder.specs.Fits.{LeafFits, ListFits, KeyFits, HeadFits};
     ghost use Rattle.tv_builder.specs.State.{and_value, and_list, and_key, and_head, and_bytes};

@@ -5,11 +5,10 @@ ghost use Rattle.tv_base.specs.Sink.{IsPrefix};
 ghost use Rattle.tv_heap.specs.LeafBytes.{leaf_bytes};
 ghost use Rattle.tv_value.specs.Lent.{leaf_of, nested_tree};
 ghost use Rattle.tv_format.specs.Tree.{leaf as leaf_tree, array, object, elements, entries};
-ghost use Rattle.tv_builder.specs.Whole.{Put, PutNot, PutWithin, PutNotWithin};
+ghost use Rattle.tv_builder.specs.Whole.{Put, PutNot, Puts, PutWithin, PutNotWithin};
 ghost use Rattle.tv_builder.specs.Whole.{ListPut, ListPutNot};
 
 use crate::add_error::AddError;
-use crate::build_error::BuildError;
 use crate::fits::{has_room, has_ten_times, has_tree_room, has_value_room};
 use crate::list_kind::ListKind;
 use std::alloc::Global;
@@ -26,18 +25,18 @@ use tv_value::value::Value;
 pub(crate) fn put_leaf(
     heap: &mut Vec<u8>,
     value: &ReferenceValueLeaf<'_>,
-) -> Result<Place, BuildError>
+) -> Result<Place, AddError>
     requires { length heap.old.items ≤ 4294967295 }
     ensures ok { IfOk result
         (λ place. Put heap.old.items (leaf_tree (leaf_of value.now)) heap.new.items place) }
     ensures err { IfErr result
         (λ e. PutNot heap.old.items (leaf_tree (leaf_of value.now)) heap.new.items e) }
     ensures memory { IfErr result
-        (λ e. e ≡ BuildError.Memory
+        (λ e. e ≡ AddError.Memory
         → length (heap.old.items ++ leaf_bytes (leaf_of value.now)) ≤ 4294967295) }
 {
     if !has_value_room(heap.len(), leaf_len(value)) {
-        return Err(BuildError::HeapFull);
+        return Err(AddError::HeapFull);
     }
     let place = write_leaf(heap, value)?;
     Ok(place)
@@ -65,7 +64,7 @@ pub(crate) fn put_list(
     places: &mut Vec<u8>,
     kind: ListKind,
     first: usize,
-) -> Result<Place, BuildError>
+) -> Result<Place, AddError>
     requires fits { length heap.old.items ≤ 4294967295 }
     requires first { first ≤ length places.old.items }
     ensures ok { IfOk result
@@ -76,7 +75,7 @@ pub(crate) fn put_list(
 {
     let len = places.len() - first;
     if !has_room(heap.len(), len as u64) {
-        return Err(BuildError::HeapFull);
+        return Err(AddError::HeapFull);
     }
     let address = write_list(heap, places, first)?;
     Ok(Place {
@@ -94,15 +93,10 @@ pub(crate) fn put_tree<N: Nested>(
     heap: &mut Vec<u8>,
     places: &mut Vec<u8>,
     value: NestedValue<'_, N>,
-) -> Result<Place, BuildError>
+) -> Result<Place, AddError>
     requires { length heap.old.items ≤ 4294967295 }
-    ensures ok { IfOk result
-        (λ place. Put heap.old.items (nested_tree N.array_rest N.object_rest value.entry)
-        heap.new.items place) }
-    ensures places { OnOk result (places.new.items ≡ places.old.items) }
-    ensures err { IfErr result
-        (λ e. PutNot heap.old.items (nested_tree N.array_rest N.object_rest value.entry)
-        heap.new.items e) }
+    ensures { let t = nested_tree N.array_rest N.object_rest value.entry in
+        Puts heap.old.items places.old.items t heap.new.items places.new.items result }
 {
     match value {
         NestedValue::Leaf(single) => put_leaf(heap, &single),
@@ -118,13 +112,10 @@ fn put_array<N: Nested>(
     heap: &mut Vec<u8>,
     places: &mut Vec<u8>,
     items: N::ArrayIter,
-) -> Result<Place, BuildError>
+) -> Result<Place, AddError>
     requires { length heap.old.items ≤ 4294967295 }
-    ensures ok { IfOk result
-        (λ place. Put heap.old.items (array (elements (N.array_rest items))) heap.new.items place) }
-    ensures places { OnOk result (places.new.items ≡ places.old.items) }
-    ensures err { IfErr result
-        (λ e. PutNot heap.old.items (array (elements (N.array_rest items))) heap.new.items e) }
+    ensures { let t = array (elements (N.array_rest items)) in
+        Puts heap.old.items places.old.items t heap.new.items places.new.items result }
 {
     let first = places.len();
     for item in items {
@@ -141,14 +132,10 @@ fn put_object<N: Nested>(
     heap: &mut Vec<u8>,
     places: &mut Vec<u8>,
     members: N::ObjectIter,
-) -> Result<Place, BuildError>
+) -> Result<Place, AddError>
     requires { length heap.old.items ≤ 4294967295 }
-    ensures ok { IfOk result
-        (λ place. Put heap.old.items (object (entries (N.object_rest members))) heap.new.items
-        place) }
-    ensures places { OnOk result (places.new.items ≡ places.old.items) }
-    ensures err { IfErr result
-        (λ e. PutNot heap.old.items (object (entries (N.object_rest members))) heap.new.items e) }
+    ensures { let t = object (entries (N.object_rest members)) in
+        Puts heap.old.items places.old.items t heap.new.items places.new.items result }
 {
     let first = places.len();
     for (key, item) in members {

@@ -13,9 +13,10 @@ use Rattle.tv_builder.specs.declared.list_kind.ListKind.TheVariants.{Array, Obje
 use Rattle.tv_builder.specs.Behind.{open_parts}
 use Rattle.tv_builder.specs.Parts.{Part, Trades}
 use Rattle.tv_builder.specs.State.{OpenList, State, complete, in_lists, in_bytes, list_tree, with_content, and_value, and_list, and_head, and_end, awaited, head_awaits, next_in, AreLists, OthersAwait, HeadNext, IsState, state_room, parts_of}
-use Rattle.tv_builder.proofs.Children.{child_key, key_lacks}
-use Rattle.tv_builder.proofs.Giving.{value_is}
-use Rattle.tv_builder.proofs.Sound.{all_await, next_key}
+use Rattle.tv_builder.proofs.Calls.{head_next}
+use Rattle.tv_builder.proofs.Ending.{content_comes}
+use Rattle.tv_builder.proofs.Giving.{comes, value_is}
+use Rattle.tv_builder.proofs.Sound.{all_await}
 use Rattle.tv_builder.specs.declared.pair_builder.PairBuilder.{PairBuilder}
 use Rattle.tv_builder.specs.Builder.{built, state_of, Overfull, Builds}
 use Rattle.tv_heap.specs.Room.{document_room}
@@ -32,13 +33,13 @@ use Rattle.tv_decoder.proofs.Putting.{with_builder, trades_at, opened, Leads, ca
 -- ---- the state that is left, or would be
 
 pub and_value_is : (s : State) (t : Tree) → IsState s → awaited s ≡ awaits.Value → IsState (and_value s t)
-and_value_is (in_lists ls) t is e = value_is ls t is.0 (all_await ls e is.1)
+and_value_is (in_lists ls) t is e = value_is ls t is.0 (comes ls t is.0 (all_await ls e is.1))
 and_value_is (complete u) t is e = tt
 and_value_is (in_bytes ls kind n bs) t is e = absurd cc
 
 pub and_list_is : (s : State) (kind : ListKind) (n : ℕ) → IsState s → awaited s ≡ awaits.Value → IsState (and_list s kind n)
 and_list_is (in_lists ls) kind n is e = elim (eqb_tells n 0) [
-  | inl p ↦ subst IsState (sym (cond-true (nat_eq n 0) _ _ p.0)) (value_is ls (list_tree kind []) is.0 (all_await ls e is.1))
+  | inl p ↦ subst IsState (sym (cond-true (nat_eq n 0) _ _ p.0)) (value_is ls (list_tree kind []) is.0 (comes ls (list_tree kind []) is.0 (all_await ls e is.1)))
   | inr p ↦ subst IsState (sym (cond-false (nat_eq n 0) _ _ p.0)) (opened_is kind (omega (arith, p.1)))
 ]
   where
@@ -47,11 +48,6 @@ and_list_is (in_lists ls) kind n is e = elim (eqb_tells n 0) [
     opened_is Object some = ((record { lacks = omega (arith, some); children = tt }, is.0), all_await ls e is.1)
 and_list_is (complete u) kind n is e = tt
 and_list_is (in_bytes ls k m bs) kind n is e = absurd cc
-
-head_next : (kind : BytesKind) (ls : List OpenList) → OthersAwait ls → next_in ls ≡ head_awaits kind → HeadNext kind ls
-head_next kinds.Key [] others e = absurd cc
-head_next kinds.Key (l ∷ ls) others e = next_key l.kind (length l.children) e
-head_next _ ls others e = all_await ls e others
 
 pub not_finish : (kind : BytesKind) → awaits.Finish ≡ head_awaits kind → ⊥
 not_finish kinds.Key e = cc
@@ -62,20 +58,12 @@ not_bytes kinds.Key n e = cc
 not_bytes _ n e = cc
 
 pub and_head_is : (s : State) (kind : BytesKind) (n : ℕ) → IsState s → awaited s ≡ head_awaits kind → IsState (and_head s kind n)
-and_head_is (in_lists ls) kind n is e = (is.0, is.1, head_next kind ls is.1 e, omega arith)
+and_head_is (in_lists ls) kind n is e = (is.0, is.1, head_next kind ls e is.1, omega arith)
 and_head_is (complete u) kind n is e = tt
 and_head_is (in_bytes ls k m bs) kind n is e = absurd (not_bytes kind (m - length bs) e)
 
-key_is : (ls : List OpenList) (content : List ℕ) → AreLists ls → OthersAwait ls → HeadNext kinds.Key ls → IsState (with_content ls kinds.Key content)
-key_is [] content are others next = absurd next
-key_is (l ∷ ls) content are others next =
-    let child = child_key l.kind l.children (leaf (text content)) next tt are.0.children in
-    let lacks = key_lacks l.kind l.announced (length l.children) next are.0.lacks in
-    ((record { lacks = omega (arith, lacks.0, length-append l.children (leaf (text content) ∷ [])); children = child.0 }, are.1), others)
-
 content_is : (ls : List OpenList) (kind : BytesKind) (content : List ℕ) → AreLists ls → OthersAwait ls → HeadNext kind ls → IsState (with_content ls kind content)
-content_is ls kinds.Key content are others next = key_is ls content are others next
-content_is ls _ content are others next = value_is ls _ are next
+content_is ls kind content are others next = let c = content_comes kind ls content are others next in subst IsState (sym c.1) (value_is ls _ are c.0)
 
 pub and_end_is : (s : State) → IsState s → IsState (and_end s)
 and_end_is (in_bytes ls kind n bs) is = content_is ls kind bs is.0 is.1 is.2

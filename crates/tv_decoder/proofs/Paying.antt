@@ -5,10 +5,8 @@ use Rattle.tv_builder.specs.Prefix.{Encoded}
 use Rattle.tv_builder.specs.State.{State, lists_of, children_of}
 use Rattle.tv_builder.specs.Weight.{document_weight, state_weight}
 use Rattle.tv_builder.proofs.Paid.{document_paid, open_paid, open_lists_paid}
-use Rattle.tv_builder.proofs.Weighing.{written_weighs}
-use Rattle.tv_builder.specs.declared.pair_builder.PairBuilder.{PairBuilder}
-use Rattle.tv_builder.specs.Builder.{built, state_of, heap_so_far, kept_heap}
-use Rattle.tv_builder.specs.OneState.{stands_of}
+use Rattle.tv_builder.proofs.PairBuilding.{heap_weighs}
+use Rattle.tv_builder.specs.Builder.{built, state_of}
 use Rattle.tv_reader.specs.Finds.{Finds}
 use Rattle.tv_format.specs.Encoding.{NoLegacy}
 use Rattle.tv_format.specs.Tree.{Document}
@@ -18,9 +16,6 @@ use Rattle.tv_decoder.specs.Paid.{PaidBy}
 use Rattle.tv_decoder.specs.Kept.{KeepsPairs}
 use Rattle.tv_decoder.specs.Steps.{Stepped}
 use Rattle.tv_decoder.specs.declared.reading.Reading.{Reading}
-
-heap_weighs : (b : PairBuilder) → length (heap_so_far b) ≤ document_weight (built b) + state_weight (state_of b)
-heap_weighs b = omega (arith, b.written, b.weight, written_weighs b.building (stands_of (kept_heap b) b.building b.state))
 
 record Paid (d : Document) (s : State) (n : ℕ) : Type 0 where
   weight : document_weight d + state_weight s ≤ 7 * n

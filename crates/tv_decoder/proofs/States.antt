@@ -66,7 +66,7 @@ state_prop (in_lists ls) x y = λ i. (lists_prop ls x.0 y.0 i, others_prop ls x.
 state_prop (in_bytes ls kind n bs) x y = λ i. (lists_prop ls x.0 y.0 i, others_prop ls x.1 y.1 i, head_prop kind ls x.2 y.2 i, le_prop x.3 y.3 i)
 
 pub is_state : (b : PairBuilder) → IsState (state_of b)
-is_state b = ∥∥₁_elim b.state.1 (state_prop (state_of b)) (λ p. p.0.is)
+is_state b = ∥∥₁_elim b.state.1 (state_prop (state_of b)) (λ p. p.shows.is)
 
 -- behind an open list no bytes are awaited
 pub no_bytes_next : (kind : ListKind) (k missing : ℕ) → next_at kind k ≡ awaits.Bytes missing → ⊥

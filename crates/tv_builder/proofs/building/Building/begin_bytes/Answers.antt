@@ -2,9 +2,8 @@ use Rattle.std.proofs.Common.{◌≡◌, ◌<◌, ◌≤◌, ◌+◌, length, re
 use Rattle.tv_base.specs.Number.{vnum}
 use Rattle.tv_builder.specs.Shows.{awaited_by}
 use Rattle.tv_builder.specs.State.{head_awaits}
-use Rattle.tv_builder.proofs.Opening.{begins_bytes, begins_full, begins_over}
-use Rattle.tv_builder.proofs.Calls.{over_bound}
-use Rattle.tv_builder.proofs.Giving.{prefix_same}
+use Rattle.tv_builder.proofs.Opening.{begins_bytes, begins_full}
+use Rattle.tv_builder.proofs.Rooms.{no_room}
 use Rattle.tv_builder.proofs.Sound.{fits_of}
 use Rattle.tv_builder.proofs.building.Building.begin_bytes.Goals as goal
 
@@ -24,6 +23,5 @@ pub returns-then-not-has_room : goal.returns-then-not-has_room
 returns-then-not-has_room c =
     let b = c.args.self.now in
     let await : awaited_by b ≡ head_awaits c.args.kind = search rules in
-    let full : 4294967295 < c.len.result + (length (vnum c.args.announced) + c.args.announced) = over_bound c.len.result _ c.has_room.result c.has_room.ensures c.if-not-has_room.true in
-    let over : 4294967295 < length b.heap.items + (length (vnum c.args.announced) + c.args.announced) = omega (arith, full, c.len.ensures, b.heap.ok.0) in
-    (await, begins_full b c.args.kind c.args.announced await over, prefix_same _ _ refl, begins_over b c.args.kind c.args.announced await over)
+    let full : 4294967295 < c.len.result + (length (vnum c.args.announced) + c.args.announced) = no_room c.has_room.result _ c.has_room.ensures c.if-not-has_room.true in
+    begins_full b c.args.kind c.args.announced await (omega (arith, full, c.len.ensures, b.heap.ok.0))

@@ -1,24 +1,29 @@
-use Rattle.std.proofs.Common.{refl, sym, subst, rules}
+use Rattle.std.proofs.Common.{refl, sym, subst}
 use Rattle.tv_builder.specs.Whole.{Put, PutNot}
-use Rattle.tv_builder.proofs.Calls.{does_value, value_not}
-use Rattle.tv_builder.proofs.Sound.{can_give, fits_of}
+use Rattle.tv_builder.proofs.Calls.{does_value, value_not, refused_as, value_taken}
+use Rattle.tv_builder.proofs.Sound.{can_give, on_value, fits_of}
 use Rattle.tv_builder.proofs.building.Building.tree.Goals as goal
 
 pub put_tree-requires : goal.put_tree-requires
 put_tree-requires g c = fits_of c.args.self.now c.requires
 
 pub give-requires : goal.give-requires
-give-requires g c = can_give c.args.self.now _ c.requires (sym c.in-Value.ensures) c.in_ok-place.ensures.ok.fits refl refl c.in_ok-place.ensures.places refl
+give-requires g c = let b = c.args.self.now in can_give b _ c.requires (on_value b (sym c.in-Value.ensures)) c.in_ok-place.ensures.0.fits refl refl c.in_ok-place.ensures.1 refl
 
 pub returns-in_err-place : goal.returns-in_err-place
 returns-in_err-place g c =
     let b = c.args.self.now in
-    let not = value_not b (record b { heap = c.put_tree.new.heap; places = c.put_tree.new.places }) (g.V.Value.tree c.args.value.now) (Unit {0}) c.in_err-place.field-0.0 (sym c.in-Value.ensures) (λ e. tt)
-    (subst (λ t. PutNot b.heap.items t c.put_tree.new.heap.items c.in_err-place.field-0.0) c.lend.ensures c.in_err-place.ensures.err) in
-    search (rules, not)
+    let t = g.V.Value.tree c.args.value.now in
+    let await = sym c.in-Value.ensures in
+    let e = c.in_err-place in
+    let not = subst (λ z. PutNot b.heap.items z c.put_tree.new.heap.items e.field-0.0) c.lend.ensures e.ensures in
+    refused_as _ _ _ _ _ _ _ e.field-0.0 c.from_residual.ensures.1 (value_not b (record b { heap = c.put_tree.new.heap; places = c.put_tree.new.places }) t _ _ _ e.field-0.0 await (λ x. tt) (value_taken b t await) not)
 
 pub returns : goal.returns
 returns g c =
     let b = c.args.self.now in
-    let wrote = subst (λ t. Put b.heap.items t c.put_tree.new.heap.items c.in_ok-place.place) c.lend.ensures c.in_ok-place.ensures.ok in
-    does_value b _ c.give.new.self c.in_ok-place.place (g.V.Value.tree c.args.value.now) (Unit {0}) c.give.result (sym c.in-Value.ensures) tt wrote refl c.in_ok-place.ensures.places refl c.give.ensures.ok c.give.ensures.err
+    let t = g.V.Value.tree c.args.value.now in
+    let await = sym c.in-Value.ensures in
+    let x = c.in_ok-place in
+    let wrote = subst (λ z. Put b.heap.items z c.put_tree.new.heap.items x.place) c.lend.ensures x.ensures.0 in
+    does_value b _ c.give.new.self x.place t _ _ _ c.give.result await tt (value_taken b t await) wrote refl x.ensures.1 refl c.give.ensures.ok c.give.ensures.err

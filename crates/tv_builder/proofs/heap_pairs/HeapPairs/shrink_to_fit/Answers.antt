@@ -1,5 +1,6 @@
 use Rattle.std.proofs.Common.{ap, length, arith}
-use Rattle.tv_builder.proofs.Documents.{document_length, kept, kept_room, kept_weight, kept_fits, unchanged}
+use Rattle.tv_builder.proofs.Documents.{document_length, unchanged}
+use Rattle.tv_builder.proofs.Kept.{same_fields}
 use Rattle.tv_builder.proofs.heap_pairs.HeapPairs.shrink_to_fit.Goals as goal
 
 pub invariant_of-self : goal.invariant_of-self
@@ -7,7 +8,8 @@ invariant_of-self c =
     let old = c.args.self.now in
     let heap = c.shrink_to_fit.ensures.items in
     let pairs = c.shrink_to_fit-2.ensures.items in
-    record { document = kept old _ _ heap pairs; room = kept_room old _ _ heap pairs; weight = kept_weight old _ _ heap pairs; fits = kept_fits old _ heap }
+    let f = same_fields old _ _ heap pairs in
+    record { document = f.document; room = f.room; weight = f.weight; fits = f.fits }
 
 pub returns-clause-same : goal.returns-clause-same
 returns-clause-same c = unchanged c.args.self.now _ c.shrink_to_fit.ensures.items c.shrink_to_fit-2.ensures.items

@@ -7,9 +7,8 @@ pub invariant_of-result : goal.invariant_of-result
 invariant_of-result c =
     let doc = c.args.finished in
     let len : length doc.heap.items ≡ c.len-kept.result = omega (arith, c.len-kept.ensures, doc.heap.ok.0) in
-    let e = c.new.ensures in
-    let f = new_fields doc c.new.result c.len-kept.result len e.heap e.places e.pending e.frames e.complete e.closed in
-    record { document = f.document; kept_within = f.kept_within; room = f.room; weight = f.weight; state = f.state; written = f.written_within }
+    let f = new_fields doc c.new.result c.len-kept.result len c.new.ensures in
+    record { document = f.document; kept_within = f.kept_within; weight = f.weight; state = f.state }
 
 pub returns-clause-document : goal.returns-clause-document
 returns-clause-document c =
@@ -19,9 +18,9 @@ returns-clause-document c =
 
 pub returns-clause-state : goal.returns-clause-state
 returns-clause-state c =
-    let e = c.new.ensures in
-    let within : length c.new.result.heap.items ≤ c.len-kept.result = omega (arith, c.len-kept.ensures, c.args.finished.heap.ok.0, ap length e.heap) in
-    search (rules, new_state, within, e.places, e.pending, e.frames, e.complete, e.closed)
+    let empty = c.new.ensures in
+    let within : length c.new.result.heap.items ≤ c.len-kept.result = omega (arith, c.len-kept.ensures, c.args.finished.heap.ok.0, ap length empty.heap_is) in
+    search (rules, new_state, within, empty)
 
 pub returns-clause-kept : goal.returns-clause-kept
-returns-clause-kept c = ap (λ z. take c.len-kept.result z) c.new.ensures.heap ∙ take_all c.len-kept.result c.args.finished.heap.items (omega (arith, c.len-kept.ensures, c.args.finished.heap.ok.0))
+returns-clause-kept c = ap (λ z. take c.len-kept.result z) c.new.ensures.heap_is ∙ take_all c.len-kept.result c.args.finished.heap.items (omega (arith, c.len-kept.ensures, c.args.finished.heap.ok.0))
