@@ -65,8 +65,12 @@ pub(crate) fn retold(error: DeserializeError) -> DeserializeError
 }
 
 // What is read of the shortest encoding of a tree.
-fn of_encoding<T: ValueDeserialize, C: Entries<T>>(alloc: Global, bytes: &Vec<u8>) -> Result<C, DeserializeError>
-    ensures { OfEncoding (EncodesAs C.is V2) (NextRefused (ObjectRefused T.is T.refused) V2) bytes.now.items result }
+fn of_encoding<T: ValueDeserialize, C: Entries<T>>(
+    alloc: Global,
+    bytes: &Vec<u8>,
+) -> Result<C, DeserializeError>
+    ensures { OfEncoding (EncodesAs C.is V2) (NextRefused (ObjectRefused T.is T.refused) V2)
+        bytes.now.items result }
 {
     let mut reader = StoreReader::new(SliceSource::new(bytes), DocStoreVersion::V2);
     match next_object::<T, C, SliceSource<'_>>(alloc, &mut reader) {
