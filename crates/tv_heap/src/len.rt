@@ -3,7 +3,6 @@
 ghost use Rattle.std.specs.Prelude.{◌≡◌, ◌+◌, ◌<◌, ◌≤◌, ◌^◌, SomeIff, length};
 ghost use Rattle.std.specs.List.{flat_map};
 ghost use Rattle.tv_base.specs.Number.{vnum};
-ghost use Rattle.tv_base.specs.Parts.{short_sized};
 ghost use Rattle.tv_heap.specs.LeafBytes.{leaf_bytes};
 ghost use Rattle.tv_value.specs.Lent.{leaf_of};
 ghost use Rattle.tv_value.specs.PreTokenized.{text_of, tokens_of, tokens_left};

@@ -17,7 +17,7 @@ ghost use Rattle.tv_heap.specs.declared.value_type.ValueType.{ValueType};
 ghost use Rattle.tv_heap.specs.Encoded.{encoded_bytes, last_bytes, AreTokens, HasFewEntries};
 ghost use Rattle.tv_heap.specs.Encoded.{SaysTokenized};
 ghost use Rattle.tv_heap.specs.Lent.{GivesChild, HasText};
-ghost use Rattle.tv_heap.specs.Reads.{Stands, ShortSized, ShortText, ShortTokenized, ContentStands};
+ghost use Rattle.tv_heap.specs.Reads.{Stands, ShortSized, ShortText, ShortTokenized};
 ghost use Rattle.tv_heap.specs.Reads.{LeafStands};
 ghost use Rattle.tv_heap.specs.TypeCode.{type_code};
 

@@ -53,7 +53,10 @@ impl<T: ValueDeserialize> ValueDeserialize for Vec<T> {
 
 impl<'de, S: ByteSource> BinaryValueDeserializer<'de, S> {
     // Reads what the entries of an object are put into, of a legacy object too.
-    fn members<T: ValueDeserialize, C: Entries<T>>(self, alloc: Global) -> Result<C, DeserializeError>
+    fn members<T: ValueDeserialize, C: Entries<T>>(
+        self,
+        alloc: Global,
+    ) -> Result<C, DeserializeError>
         ensures deserializes { DeserializesAs S.is_known S.left S.failures C.is
             (MembersRefused (ObjectRefused T.is T.refused)) self.entry.kind self.entry.reader.now
             self.exit.1.0.now result }
@@ -97,7 +100,8 @@ impl<T: ValueDeserialize> ValueDeserialize for BTreeMap<String, T> {
         deserializer: BinaryValueDeserializer<'_, S>,
     ) -> Result<BTreeMap<String, T>, DeserializeError>
         ensures deserializes { DeserializesAs S.is_known S.left S.failures
-            (λ t map. MapOf T.is t (λ key. tree.get_by_text map key)) (MembersRefused (ObjectRefused T.is T.refused))
+            (λ t map. MapOf T.is t (λ key. tree.get_by_text map key))
+            (MembersRefused (ObjectRefused T.is T.refused))
             deserializer.entry.kind deserializer.entry.reader.now deserializer.exit.1.0.now result }
         ensures marks { OnErr result (deserializer.exit.1.0.now.has_failed ≡ true) }
     {
@@ -105,7 +109,8 @@ impl<T: ValueDeserialize> ValueDeserialize for BTreeMap<String, T> {
     }
 
     ghost excludes = { entries_exclude T.is T.refused T.excludes
-        (λ t map. MapOf T.is t (λ key. tree.get_by_text map key)) (λ t map is. (is.pairs, is.read)) };
+        (λ t map. MapOf T.is t (λ key. tree.get_by_text map key))
+        (λ t map is. (is.pairs, is.read)) };
 }
 
 impl<T: ValueDeserialize> ValueDeserialize for HashMap<String, T> {
@@ -118,7 +123,8 @@ impl<T: ValueDeserialize> ValueDeserialize for HashMap<String, T> {
         deserializer: BinaryValueDeserializer<'_, S>,
     ) -> Result<HashMap<String, T>, DeserializeError>
         ensures deserializes { DeserializesAs S.is_known S.left S.failures
-            (λ t map. MapOf T.is t (λ key. hash.get_by_text map key)) (MembersRefused (ObjectRefused T.is T.refused))
+            (λ t map. MapOf T.is t (λ key. hash.get_by_text map key))
+            (MembersRefused (ObjectRefused T.is T.refused))
             deserializer.entry.kind deserializer.entry.reader.now deserializer.exit.1.0.now result }
         ensures marks { OnErr result (deserializer.exit.1.0.now.has_failed ≡ true) }
     {
@@ -126,5 +132,6 @@ impl<T: ValueDeserialize> ValueDeserialize for HashMap<String, T> {
     }
 
     ghost excludes = { entries_exclude T.is T.refused T.excludes
-        (λ t map. MapOf T.is t (λ key. hash.get_by_text map key)) (λ t map is. (is.pairs, is.read)) };
+        (λ t map. MapOf T.is t (λ key. hash.get_by_text map key))
+        (λ t map is. (is.pairs, is.read)) };
 }

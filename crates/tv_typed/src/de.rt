@@ -17,7 +17,6 @@ ghost use Rattle.tv_typed.specs.Values.{CodeRefused, IsTree, TreeRefused, Only, 
 ghost use Rattle.tv_typed.specs.Values.{DeserializesAs, NextRefused, RefusalsExclude};
 
 pub use crate::leaf_values::ValueVisitor;
-
 use crate::store_reader::StoreReader;
 use std::alloc::Global;
 use tv_base::ByteSource;
@@ -94,7 +93,8 @@ pub trait ValueDeserialize: Sized + Drop {
         deserializer: BinaryValueDeserializer<'_, S>,
     ) -> Result<Self, DeserializeError>
         ensures deserializes { DeserializesAs S.is_known S.left S.failures is refused
-            deserializer.entry.kind deserializer.entry.reader.now deserializer.exit.1.0.now result };
+            deserializer.entry.kind deserializer.entry.reader.now
+            deserializer.exit.1.0.now result };
 
     /// Where bytes behind the code of a type are refused, no prefix of them encodes a tree of which a value is read.
     ghost excludes: { RefusalsExclude is refused };

@@ -97,7 +97,10 @@ impl LeafValue for String {
 
     ghost make = { λ s. text (string_bytes s) };
 
-    fn take<S: ByteSource>(alloc: Global, reader: &mut StoreReader<S>) -> Result<String, ReadError> {
+    fn take<S: ByteSource>(
+        alloc: Global,
+        reader: &mut StoreReader<S>,
+    ) -> Result<String, ReadError> {
         take_string(alloc, &mut reader.source, &mut reader.count)
     }
 
@@ -125,7 +128,10 @@ impl LeafValue for Vec<u8> {
 
     ghost make = { λ v. bytes v.items };
 
-    fn take<S: ByteSource>(alloc: Global, reader: &mut StoreReader<S>) -> Result<Vec<u8>, ReadError> {
+    fn take<S: ByteSource>(
+        alloc: Global,
+        reader: &mut StoreReader<S>,
+    ) -> Result<Vec<u8>, ReadError> {
         take_bytes(alloc, &mut reader.source, &mut reader.count)
     }
 
@@ -167,7 +173,10 @@ impl LeafValue for PreTokenizedString {
 
     ghost make = { λ s. tokenized (string_bytes s.text) (map token_of s.tokens.items) };
 
-    fn take<S: ByteSource>(alloc: Global, reader: &mut StoreReader<S>) -> Result<PreTokenizedString, ReadError> {
+    fn take<S: ByteSource>(
+        alloc: Global,
+        reader: &mut StoreReader<S>,
+    ) -> Result<PreTokenizedString, ReadError> {
         take_tokenized(alloc, &mut reader.source, &mut reader.count)
     }
 
@@ -177,70 +186,85 @@ impl LeafValue for PreTokenizedString {
 impl<'de, S: ByteSource> BinaryValueDeserializer<'de, S> {
     /// Reads null.
     pub fn deserialize_null(self) -> Result<(), DeserializeError>
-        ensures { ReadsLeaf S.is_known S.left S.failures types.Null (λ _. null) self.entry.kind self.entry.reader.now self.exit.1.0.now result }
+        ensures { ReadsLeaf S.is_known S.left S.failures types.Null (λ _. null) self.entry.kind
+            self.entry.reader.now self.exit.1.0.now result }
     {
         self.leaf::<()>((), ValueType::Null)
     }
 
     /// Reads a number from 0 to 2^64 - 1.
     pub fn deserialize_u64(self) -> Result<u64, DeserializeError>
-        ensures { ReadsLeaf S.is_known S.left S.failures types.U64 (λ n. unsigned n) self.entry.kind self.entry.reader.now self.exit.1.0.now result }
+        ensures { ReadsLeaf S.is_known S.left S.failures types.U64 (λ n. unsigned n) self.entry.kind
+            self.entry.reader.now self.exit.1.0.now result }
     {
         self.leaf::<u64>((), ValueType::U64)
     }
 
     /// Reads a number from -2^63 to 2^63 - 1.
     pub fn deserialize_i64(self) -> Result<i64, DeserializeError>
-        ensures { ReadsLeaf S.is_known S.left S.failures types.I64 (λ z. signed z) self.entry.kind self.entry.reader.now self.exit.1.0.now result }
+        ensures { ReadsLeaf S.is_known S.left S.failures types.I64 (λ z. signed z) self.entry.kind
+            self.entry.reader.now self.exit.1.0.now result }
     {
         self.leaf::<i64>((), ValueType::I64)
     }
 
     /// Reads a truth value.
     pub fn deserialize_bool(self) -> Result<bool, DeserializeError>
-        ensures { ReadsLeaf S.is_known S.left S.failures types.Bool (λ b. boolean b) self.entry.kind self.entry.reader.now self.exit.1.0.now result }
+        ensures { ReadsLeaf S.is_known S.left S.failures types.Bool (λ b. boolean b) self.entry.kind
+            self.entry.reader.now self.exit.1.0.now result }
     {
         self.leaf::<bool>((), ValueType::Bool)
     }
 
     /// Reads a text.
     pub fn deserialize_string(self, alloc: Global) -> Result<String, DeserializeError>
-        ensures { ReadsLeaf S.is_known S.left S.failures types.String (λ s. text (string_bytes s)) self.entry.kind self.entry.reader.now self.exit.1.0.now result }
+        ensures { ReadsLeaf S.is_known S.left S.failures types.String (λ s. text (string_bytes s))
+            self.entry.kind self.entry.reader.now self.exit.1.0.now result }
     {
         self.leaf::<String>(alloc, ValueType::String)
     }
 
     /// Reads a facet.
     pub fn deserialize_facet(self, alloc: Global) -> Result<Facet, DeserializeError>
-        ensures { ReadsLeaf S.is_known S.left S.failures types.Facet (λ f. facet f) self.entry.kind self.entry.reader.now self.exit.1.0.now result }
+        ensures { ReadsLeaf S.is_known S.left S.failures types.Facet (λ f. facet f) self.entry.kind
+            self.entry.reader.now self.exit.1.0.now result }
     {
         self.leaf::<Facet>(alloc, ValueType::Facet)
     }
 
     /// Reads bytes.
     pub fn deserialize_bytes(self, alloc: Global) -> Result<Vec<u8>, DeserializeError>
-        ensures { ReadsLeaf S.is_known S.left S.failures types.Bytes (λ v. bytes v.items) self.entry.kind self.entry.reader.now self.exit.1.0.now result }
+        ensures { ReadsLeaf S.is_known S.left S.failures types.Bytes (λ v. bytes v.items)
+            self.entry.kind self.entry.reader.now self.exit.1.0.now result }
     {
         self.leaf::<Vec<u8>>(alloc, ValueType::Bytes)
     }
 
     /// Reads a date: microseconds in version 1, and nanoseconds in the others.
     pub fn deserialize_datetime(self) -> Result<DateTime, DeserializeError>
-        ensures { ReadsLeaf S.is_known S.left S.failures types.DateTime (λ d. date d.nanoseconds) self.entry.kind self.entry.reader.now self.exit.1.0.now result }
+        ensures { ReadsLeaf S.is_known S.left S.failures types.DateTime (λ d. date d.nanoseconds)
+            self.entry.kind self.entry.reader.now self.exit.1.0.now result }
     {
         self.leaf::<DateTime>((), ValueType::DateTime)
     }
 
     /// Reads an IP address.
     pub fn deserialize_ip_address(self) -> Result<Ipv6Addr, DeserializeError>
-        ensures { ReadsLeaf S.is_known S.left S.failures types.IpAddr (λ a. ip_address (ipv6_bits a)) self.entry.kind self.entry.reader.now self.exit.1.0.now result }
+        ensures { ReadsLeaf S.is_known S.left S.failures types.IpAddr
+            (λ a. ip_address (ipv6_bits a)) self.entry.kind self.entry.reader.now self.exit.1.0.now
+            result }
     {
         self.leaf::<Ipv6Addr>((), ValueType::IpAddr)
     }
 
     /// Reads a text and its tokens.
-    pub fn deserialize_pre_tokenized_string(self, alloc: Global) -> Result<PreTokenizedString, DeserializeError>
-        ensures { ReadsLeaf S.is_known S.left S.failures types.PreTokStr (λ s. tokenized (string_bytes s.text) (map token_of s.tokens.items)) self.entry.kind self.entry.reader.now self.exit.1.0.now result }
+    pub fn deserialize_pre_tokenized_string(
+        self,
+        alloc: Global,
+    ) -> Result<PreTokenizedString, DeserializeError>
+        ensures { ReadsLeaf S.is_known S.left S.failures types.PreTokStr
+            (λ s. tokenized (string_bytes s.text) (map token_of s.tokens.items)) self.entry.kind
+            self.entry.reader.now self.exit.1.0.now result }
     {
         self.leaf::<PreTokenizedString>(alloc, ValueType::PreTokStr)
     }
@@ -255,7 +279,8 @@ impl ValueDeserialize for u64 {
         _alloc: Global,
         deserializer: BinaryValueDeserializer<'_, S>,
     ) -> Result<u64, DeserializeError>
-        ensures { ReadsLeaf S.is_known S.left S.failures types.U64 (λ n. unsigned n) deserializer.entry.kind deserializer.entry.reader.now deserializer.exit.1.0.now result }
+        ensures { ReadsLeaf S.is_known S.left S.failures types.U64 (λ n. unsigned n)
+            deserializer.entry.kind deserializer.entry.reader.now deserializer.exit.1.0.now result }
     {
         deserializer.deserialize_u64()
     }
@@ -272,7 +297,8 @@ impl ValueDeserialize for i64 {
         _alloc: Global,
         deserializer: BinaryValueDeserializer<'_, S>,
     ) -> Result<i64, DeserializeError>
-        ensures { ReadsLeaf S.is_known S.left S.failures types.I64 (λ z. signed z) deserializer.entry.kind deserializer.entry.reader.now deserializer.exit.1.0.now result }
+        ensures { ReadsLeaf S.is_known S.left S.failures types.I64 (λ z. signed z)
+            deserializer.entry.kind deserializer.entry.reader.now deserializer.exit.1.0.now result }
     {
         deserializer.deserialize_i64()
     }
@@ -289,7 +315,8 @@ impl ValueDeserialize for bool {
         _alloc: Global,
         deserializer: BinaryValueDeserializer<'_, S>,
     ) -> Result<bool, DeserializeError>
-        ensures { ReadsLeaf S.is_known S.left S.failures types.Bool (λ b. boolean b) deserializer.entry.kind deserializer.entry.reader.now deserializer.exit.1.0.now result }
+        ensures { ReadsLeaf S.is_known S.left S.failures types.Bool (λ b. boolean b)
+            deserializer.entry.kind deserializer.entry.reader.now deserializer.exit.1.0.now result }
     {
         deserializer.deserialize_bool()
     }
@@ -306,7 +333,8 @@ impl ValueDeserialize for String {
         alloc: Global,
         deserializer: BinaryValueDeserializer<'_, S>,
     ) -> Result<String, DeserializeError>
-        ensures { ReadsLeaf S.is_known S.left S.failures types.String (λ s. text (string_bytes s)) deserializer.entry.kind deserializer.entry.reader.now deserializer.exit.1.0.now result }
+        ensures { ReadsLeaf S.is_known S.left S.failures types.String (λ s. text (string_bytes s))
+            deserializer.entry.kind deserializer.entry.reader.now deserializer.exit.1.0.now result }
     {
         deserializer.deserialize_string(alloc)
     }
@@ -323,7 +351,8 @@ impl ValueDeserialize for Facet {
         alloc: Global,
         deserializer: BinaryValueDeserializer<'_, S>,
     ) -> Result<Facet, DeserializeError>
-        ensures { ReadsLeaf S.is_known S.left S.failures types.Facet (λ f. facet f) deserializer.entry.kind deserializer.entry.reader.now deserializer.exit.1.0.now result }
+        ensures { ReadsLeaf S.is_known S.left S.failures types.Facet (λ f. facet f)
+            deserializer.entry.kind deserializer.entry.reader.now deserializer.exit.1.0.now result }
     {
         deserializer.deserialize_facet(alloc)
     }
@@ -340,7 +369,8 @@ impl ValueDeserialize for Vec<u8> {
         alloc: Global,
         deserializer: BinaryValueDeserializer<'_, S>,
     ) -> Result<Vec<u8>, DeserializeError>
-        ensures { ReadsLeaf S.is_known S.left S.failures types.Bytes (λ v. bytes v.items) deserializer.entry.kind deserializer.entry.reader.now deserializer.exit.1.0.now result }
+        ensures { ReadsLeaf S.is_known S.left S.failures types.Bytes (λ v. bytes v.items)
+            deserializer.entry.kind deserializer.entry.reader.now deserializer.exit.1.0.now result }
     {
         deserializer.deserialize_bytes(alloc)
     }
@@ -357,7 +387,8 @@ impl ValueDeserialize for DateTime {
         _alloc: Global,
         deserializer: BinaryValueDeserializer<'_, S>,
     ) -> Result<DateTime, DeserializeError>
-        ensures { ReadsLeaf S.is_known S.left S.failures types.DateTime (λ d. date d.nanoseconds) deserializer.entry.kind deserializer.entry.reader.now deserializer.exit.1.0.now result }
+        ensures { ReadsLeaf S.is_known S.left S.failures types.DateTime (λ d. date d.nanoseconds)
+            deserializer.entry.kind deserializer.entry.reader.now deserializer.exit.1.0.now result }
     {
         deserializer.deserialize_datetime()
     }
@@ -374,7 +405,9 @@ impl ValueDeserialize for Ipv6Addr {
         _alloc: Global,
         deserializer: BinaryValueDeserializer<'_, S>,
     ) -> Result<Ipv6Addr, DeserializeError>
-        ensures { ReadsLeaf S.is_known S.left S.failures types.IpAddr (λ a. ip_address (ipv6_bits a)) deserializer.entry.kind deserializer.entry.reader.now deserializer.exit.1.0.now result }
+        ensures { ReadsLeaf S.is_known S.left S.failures types.IpAddr
+            (λ a. ip_address (ipv6_bits a)) deserializer.entry.kind deserializer.entry.reader.now
+            deserializer.exit.1.0.now result }
     {
         deserializer.deserialize_ip_address()
     }
@@ -391,12 +424,15 @@ impl ValueDeserialize for PreTokenizedString {
         alloc: Global,
         deserializer: BinaryValueDeserializer<'_, S>,
     ) -> Result<PreTokenizedString, DeserializeError>
-        ensures { ReadsLeaf S.is_known S.left S.failures types.PreTokStr (λ s. tokenized (string_bytes s.text) (map token_of s.tokens.items)) deserializer.entry.kind deserializer.entry.reader.now deserializer.exit.1.0.now result }
+        ensures { ReadsLeaf S.is_known S.left S.failures types.PreTokStr
+            (λ s. tokenized (string_bytes s.text) (map token_of s.tokens.items))
+            deserializer.entry.kind deserializer.entry.reader.now deserializer.exit.1.0.now result }
     {
         deserializer.deserialize_pre_tokenized_string(alloc)
     }
 
-    ghost excludes = { leaf_excludes types.PreTokStr (λ s. tokenized (string_bytes s.text) (map token_of s.tokens.items)) (λ _. refl) };
+    ghost excludes = { leaf_excludes types.PreTokStr
+        (λ s. tokenized (string_bytes s.text) (map token_of s.tokens.items)) (λ _. refl) };
 }
 
 /// What makes a value of whatever stands in a store, by a call for each type.
@@ -506,7 +542,10 @@ pub trait ValueVisitor {
 }
 
 // Hands a value that holds no others to the visitor's call for its type.
-pub(crate) fn hand<V: ValueVisitor>(visitor: &V, value: OwnedValue) -> Result<V::Value, DeserializeError>
+pub(crate) fn hand<V: ValueVisitor>(
+    visitor: &V,
+    value: OwnedValue,
+) -> Result<V::Value, DeserializeError>
     requires { IsSingle (owned_tree value) }
     ensures { V.answers visitor.now (single_leaf (owned_tree value)) result }
 {

@@ -1,12 +1,9 @@
 //! Legacy objects, read as lists and maps: the object's tree is encoded in memory, and read from there.
 
-ghost use Rattle.std.specs.Prelude.{◌≡◌, List, ℕ, IfOk, OnOk};
+ghost use Rattle.std.specs.Prelude.{◌≡◌, IfOk, OnOk};
 ghost use Rattle.tv_format.specs.Short.{short, IsValue};
-ghost use Rattle.tv_format.specs.Tree.{Tree};
-ghost use Rattle.tv_format.specs.Version.{Version, V2};
+ghost use Rattle.tv_format.specs.Version.{V2};
 ghost use Rattle.tv_reader.specs.Version.{version_of};
-ghost use Rattle.tv_reader.specs.declared.error.DeserializeError.{DeserializeError};
-ghost use Rattle.tv_reader.specs.declared.value_type.ValueType.{ValueType};
 ghost use Rattle.tv_reader.specs.declared.value_type.ValueType.TheVariants as types;
 ghost use Rattle.tv_typed.specs.LegacyObjects.{Retold, OfEncoding, LegacyRefused, MembersRefused};
 ghost use Rattle.tv_typed.specs.Typed.{Deserializes};
@@ -65,8 +62,12 @@ pub(crate) fn retold(error: DeserializeError) -> DeserializeError
 }
 
 // What is read of the shortest encoding of a tree.
-fn of_encoding<T: ValueDeserialize, C: Entries<T>>(alloc: Global, bytes: &Vec<u8>) -> Result<C, DeserializeError>
-    ensures { OfEncoding (EncodesAs C.is V2) (NextRefused (ObjectRefused T.is T.refused) V2) bytes.now.items result }
+fn of_encoding<T: ValueDeserialize, C: Entries<T>>(
+    alloc: Global,
+    bytes: &Vec<u8>,
+) -> Result<C, DeserializeError>
+    ensures { OfEncoding (EncodesAs C.is V2) (NextRefused (ObjectRefused T.is T.refused) V2)
+        bytes.now.items result }
 {
     let mut reader = StoreReader::new(SliceSource::new(bytes), DocStoreVersion::V2);
     match next_object::<T, C, SliceSource<'_>>(alloc, &mut reader) {

@@ -82,7 +82,10 @@ impl<T: ValueDeserialize> Entries<T> for BTreeMap<String, T> {
     }
 
     ghost made_is = { λ t map entries last read. record {
-        pairs = entries; read = read; last = last } };
+      pairs = entries;
+      read = read;
+      last = last;
+    } };
 }
 
 // The same.
@@ -103,7 +106,10 @@ impl<T: ValueDeserialize> Entries<T> for HashMap<String, T> {
     }
 
     ghost made_is = { λ t map entries last read. record {
-        pairs = entries; read = read; last = last } };
+      pairs = entries;
+      read = read;
+      last = last;
+    } };
 }
 
 // Reads so many keys with values, in order. Nothing is reserved from their number. That memory was refused isn't marked yet.

@@ -1,18 +1,16 @@
 //! Handing what stands in a store to a visitor.
 
-ghost use Rattle.std.specs.Prelude.{◌≡◌, true, false, is_err, IsTrue, OnOk};
-ghost use Rattle.tv_base.specs.Stop.{Counts};
+ghost use Rattle.std.specs.Prelude.{◌≡◌, false, is_err, IsTrue, OnOk};
 ghost use Rattle.tv_format.specs.Version.{V2, entry_total};
-ghost use Rattle.tv_reader.specs.Leaves.{is_leaf_type, IsSingle};
+ghost use Rattle.tv_reader.specs.Leaves.{is_leaf_type};
 ghost use Rattle.tv_reader.specs.Version.{version_of};
 ghost use Rattle.tv_reader.specs.declared.value_type.ValueType.TheVariants as types;
 ghost use Rattle.tv_reader.specs.declared.version.DocStoreVersion.TheVariants as stores;
 ghost use Rattle.tv_typed.specs.LegacyObjects.{OfEncoding};
 ghost use Rattle.tv_typed.specs.Lists.{element_total};
-ghost use Rattle.tv_typed.specs.Typed.{typed_stop, Deserializes};
+ghost use Rattle.tv_typed.specs.Typed.{Deserializes};
 ghost use Rattle.tv_typed.specs.Visits.{Visits, VisitsItems, VisitsKind, VisitsLegacy};
 ghost use Rattle.tv_typed.specs.Visits.{EncodesNextVisited, NextVisitRefused};
-ghost use Rattle.tv_value.specs.Owned.{owned_tree};
 
 use crate::array::BinaryArrayDeserializer;
 use crate::de::BinaryValueDeserializer;
@@ -24,7 +22,6 @@ use std::alloc::Global;
 use tv_base::{ByteSource, SliceSource};
 use tv_reader::value_type::take_leaf;
 use tv_reader::{DeserializeError, DocStoreVersion, ValueType};
-use tv_value::owned_value::OwnedValue;
 
 // Hands the visitor the entries of an object whose encoding stands in memory.
 fn visit_encoding<V: ValueVisitor>(

@@ -1,20 +1,14 @@
 //! Whether values have an encoding.
 
-ghost use Rattle.std.specs.Prelude.{◌+◌, ◌<◌, ◌^◌};
 ghost use Rattle.std.specs.Bool.{MatchBool};
 ghost use Rattle.tv_value.specs.LeafParts.{content_of};
-ghost use Rattle.tv_value.specs.Lent.{leaf_of, nested_tree};
-ghost use Rattle.tv_value.specs.PreTokenized.{text_of, tokens_of};
-ghost use Rattle.tv_format.specs.Short.{AreTokens, IsContent, IsLeaf, IsText, IsSized, IsValue};
-ghost use Rattle.std.specs.Int.{w64};
-ghost use Rattle.std.specs.Prelude.{FitsSigned};
+ghost use Rattle.tv_value.specs.Lent.{nested_tree};
+ghost use Rattle.tv_format.specs.Short.{IsContent, IsText, IsSized, IsValue};
 
 use std::convert::AsStr;
 use tv_value::content::LeafContent;
 use tv_value::laws::pre_tokenized_texts_encode;
-use tv_value::leaf::ReferenceValueLeaf;
 use tv_value::nested::{Nested, NestedValue, lend};
-use tv_value::pre_tokenized::PreTokenizedStr;
 use tv_value::value::Value;
 
 // No more bytes, and no more children, have an encoding.
