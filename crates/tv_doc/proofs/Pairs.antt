@@ -36,11 +36,6 @@ first_pair heap (q ∷ ps) qs p (x ∷ d) h e =
       left = ∥∥₁_map reads (λ r. r.1);
     }
 
-pub no_pair : (heap : List ℕ) (ps : List HeapPair) (d : Document) → ∥ ReadsPairs heap ps d ∥₁ → ps ≡ [] → d ≡ []
-no_pair heap [] [] h e = refl
-no_pair heap [] (x ∷ d) h e = absurd (∥∥₁_elim h ⊥_prop (λ r. r))
-no_pair heap (p ∷ ps) d h e = absurd (cc)
-
 -- `t` is what is lent of the first pair
 pub pair_steps : (heap : List ℕ) (p : HeapPair) (ps : List HeapPair) (d : Document) → FirstPair heap p ps d → (field : ℕ) → field ≡ p.field
     → (t : Tree) → ((held : Held heap (type_code p.place.value_type) p.place.address) → t ≡ held.0) → (y : Holds heap ps) → d ≡ (field, t) ∷ y.0

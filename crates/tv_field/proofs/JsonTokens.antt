@@ -29,9 +29,6 @@ same_option : (o : Option (List Token)) → o ≡ option_map (λ ts. [] ++ ts) o
 same_option None = refl
 same_option (Some ts) = refl
 
-pub no_tokens_so_far : (all : Items) (old : List ℕ) → TokensSoFar all all old old
-no_tokens_so_far all old = record { done = []; parted = same_option (tokens_in all); valid = tt; grown = sym (append-nil old) }
-
 one_more_at : (done : List Token) (t : Token) (o : Option (List Token)) → option_map (λ ts. done ++ ts) (option_map (λ ts. t ∷ ts) o) ≡ option_map (λ ts. (done ++ t ∷ []) ++ ts) o
 one_more_at done t None = refl
 one_more_at done t (Some ts) = ap Some (sym (append_assoc done (t ∷ []) ts))
@@ -53,16 +50,6 @@ one_more_token all rest others d t old mid new s first is valid grown = record {
   valid = all_and_one s.done t s.valid valid;
   grown = grown ∙ ap (λ bs. bs ++ short_token t) s.grown ∙ append_assoc old (flat_map short_token s.done) (short_token t) ∙ ap (λ bs. old ++ bs) (sym (flat_and_one s.done t));
 }
-
-pub no_token_more : (all rest others : Items) (d : Data) (old mid : List ℕ) → TokensSoFar all rest old mid → rest ≡ json.item d others → token_in d ≡ None → tokens_in all ≡ None
-no_token_more all rest others d old mid s first is =
-    s.parted ∙ ap (λ xs. option_map (λ ts. s.done ++ ts) (tokens_in xs)) first
-    ∙ ap (λ o. option_map (λ ts. s.done ++ ts) (option_and_then (λ x. option_map (λ ts. x ∷ ts) (tokens_in others)) o)) is
-
-pub all_tokens : (all rest : Items) (old new : List ℕ) → TokensSoFar all rest old new → rest ≡ json.no_items
-    → (ts : List Token) × (tokens_in all ≡ Some ts) × AllByRecursion IsToken ts × (new ≡ old ++ flat_map short_token ts)
-all_tokens all rest old new s none =
-    (s.done, s.parted ∙ ap (λ xs. option_map (λ ts. s.done ++ ts) (tokens_in xs)) none ∙ ap Some (append-nil s.done), s.valid, s.grown)
 
 -- what a prefix of the shortest encoding encodes
 pub encoded_once : (bytes content t : List ℕ) (tokens ts : List Token) (n : ℕ) → IsText content → AreTokens tokens → bytes ≡ short_tokenized content tokens → Tokenized (take n bytes) t ts

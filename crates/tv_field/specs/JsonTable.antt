@@ -9,7 +9,7 @@ use Rattle.base64.specs.Engines.{standard}
 use Rattle.base64.specs.GeneralPurpose.{decode_of}
 use Rattle.base64.specs.declared.decode.DecodeError.{DecodeError}
 use Rattle.serde_json.specs.Data as json
-use Rattle.serde_json.specs.Data.{Num, Data, Members}
+use Rattle.serde_json.specs.Data.{Num, Data}
 use Rattle.serde_json.specs.Find.{as_u64, as_i64}
 use Rattle.tv_base.specs.Facet.{parse}
 use Rattle.tv_date.specs.Rfc3339.{rfc}

@@ -1,7 +1,7 @@
 -- Texts with their tokens, as JSON objects. Keys that aren't asked for are ignored.
 use Rattle.std.specs.Prelude.{ℕ, List, [], ◌∷◌, ◌++◌, ◌≡◌, Bool, true, false, Result, Ok, Err, Option, Some, None, option_map, option_and_then, codes}
 use Rattle.serde_json.specs.Data as json
-use Rattle.serde_json.specs.Data.{Data, Items, Members}
+use Rattle.serde_json.specs.Data.{Data, Items}
 use Rattle.serde_json.specs.Find.{get, as_str, as_array, as_number, as_u64}
 use Rattle.tv_date.specs.Rfc3339.{◌>>=◌}
 use Rattle.std.specs.List.{AllByRecursion, flat_map}
