@@ -22,7 +22,7 @@ use Rattle.tv_value.specs.declared.leaf.ReferenceValueLeaf.TheVariants as lent
 use Rattle.tv_format.specs.Content.{Content, no_content, truth_content, unsigned_content, signed_content, wide_content, text_content, bytes_content, tokens_content}
 use Rattle.tv_format.specs.Leaves.{type_of, content, heap_code}
 use Rattle.tv_format.specs.declared.leaf_type.LeafType.{LeafType}
-use Rattle.tv_format.specs.Tree.{Token, Leaf, null, boolean, leaf}
+use Rattle.tv_format.specs.Tree.{Token, Leaf, null, boolean, Tree, leaf}
 use Rattle.tv_heap.specs.Reads.{Stands, leaf_type, flag, ContentStands}
 use Rattle.tv_heap.specs.LeafBytes.{content_bytes, content_address, leaf_bytes, leaf_address}
 use Rattle.tv_heap.specs.Room.{content_room, leaf_room, token_room}
@@ -62,6 +62,10 @@ sized_some content h = omega (arith, length-append (vnum (length content)) conte
 -- what fits with its length fits
 pub sized_fits : (content : List ℕ) → length (short_sized content) < 2 ^ 32 → length content < 2 ^ 32
 sized_fits content h = omega (arith, length-append (vnum (length content)) content)
+
+-- at the same address, said otherwise
+pub wrote_at : {old new : List ℕ} {code at to : ℕ} {t : Tree} → Wrote old new code at t → at ≡ to → Wrote old new code to t
+wrote_at {old} {new} {code} {at} {to} {t} w e = subst (λ m. Wrote old new code m t) e w
 
 -- ---- texts with their tokens
 

@@ -1,7 +1,7 @@
 -- The order of bytes is the order of what they encode.
 use Rattle.std.proofs.Common.{◌≡◌, ◌≢◌, ℕ, suc, zero, ◌+◌, ◌*◌, ◌/◌, ◌%◌, ◌^◌, ◌<◌, Bool, true, false, List, [], ◌∷◌, ◌++◌, length, refl, sym, ◌∙◌, ap, arith}
 use Rattle.std.specs.Prelude.{ℤ, FitsSigned}
-use Rattle.std.specs.Int.{bytes_high_first, byte_at, w64}
+use Rattle.std.specs.Int.{to_be_bytes, bytes_high_first, byte_at, w32, w64}
 use Rattle.std.specs.Ordering.{nat_cmp, int_cmp, bool_cmp, ordering_then}
 use Rattle.std.specs.declared.cmp.Ordering.{Ordering}
 use Rattle.std.specs.declared.cmp.Ordering.TheVariants.{Less, Equal, Greater}
@@ -103,6 +103,11 @@ coded-order (Address a) (Address b) h k = number-order 16 a b h k
 coded-order (Json p a) (Json q b) h k =
     slice_cmp-zero p q (coded a) (coded b) h.0 k.0 ∙ ap (ordering_then (slice_cmp nat_cmp p q)) (coded-order a b h.1 k.1)
 coded-order a b h k = refl
+
+pub field-order : (f g : ℕ) → f < 2 ^ 32 → g < 2 ^ 32 → (x y : List ℕ) → slice_cmp nat_cmp (to_be_bytes w32 f ++ x) (to_be_bytes w32 g ++ y) ≡ ordering_then (nat_cmp f g) (slice_cmp nat_cmp x y)
+field-order f g h k x y =
+    slice_cmp-append (to_be_bytes w32 f) (to_be_bytes w32 g) x y refl
+    ∙ both (slice_cmp nat_cmp (to_be_bytes w32 f) (to_be_bytes w32 g)) (nat_cmp f g) (slice_cmp nat_cmp x y) (slice_cmp nat_cmp x y) (number-order 4 f g h k) refl
 
 pub term-order : (f g : ℕ) (a b : TermValue) → f < 2 ^ 32 → g < 2 ^ 32 → Fits a → Fits b → slice_cmp nat_cmp (term f a) (term g b) ≡ ordering_then (nat_cmp f g) (value_cmp a b)
 term-order f g a b hf hg ha hb =

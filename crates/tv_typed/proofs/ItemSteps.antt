@@ -6,6 +6,7 @@ use Rattle.tv_base.specs.Number.{VNum}
 use Rattle.tv_base.specs.Parts.{Each}
 use Rattle.tv_base.specs.ErrorInPart.{InEach}
 use Rattle.tv_base.specs.Source.{Failures}
+use Rattle.tv_base.proofs.EarlyNumbers.{number_early}
 use Rattle.tv_base.proofs.TakeSteps.{Taken_none}
 use Rattle.tv_legacy.specs.Legacy.{Legacy}
 use Rattle.tv_format.specs.Encoding.{Encodes, EncodesElements, EncodesEntries}
@@ -21,7 +22,7 @@ use Rattle.tv_reader.specs.declared.value_type.ValueType.{ValueType}
 use Rattle.tv_reader.specs.declared.value_type.ValueType.TheVariants as types
 use Rattle.tv_typed.specs.Typed.{Reads, Deserializes}
 use Rattle.tv_typed.specs.Values.{EncodesAs, EncodedAs, NextRefused}
-use Rattle.tv_typed.specs.Lists.{ArrayOf, IsEntry, ObjectOf, GivesLast, Length, element_total, EncodesInto, EncodesEntry, LengthRefused, ItemsRefused, ArrayRefused, EntryRefused, ObjectRefused, NextItem, NextItemRefused}
+use Rattle.tv_typed.specs.Lists.{ArrayOf, IsEntry, ObjectOf, GivesLast, Length, element_total, EncodesInto, EncodesEntry, LengthRefused, in_length, ItemsRefused, ArrayRefused, EntryRefused, ObjectRefused, NextItem, NextItemRefused}
 use Rattle.tv_typed.specs.declared.store_reader.StoreReader.{StoreReader}
 use Rattle.tv_typed.proofs.DeserializeSteps.{end, deserializes, goes_then, goes_as, goes_fails, goes_short}
 use Rattle.tv_typed.proofs.ListSteps.{at_version}
@@ -75,6 +76,16 @@ pub into_short : {S C D X : Type 0} {is_known : S → Type 0} {left : S → List
 into_short Made Item B Q p q = goes_short B Q (goes_then (λ b z. Unit {0}) (λ w e. Unit {0}) (λ a b z r s. tt) (λ a w c r f. tt) (λ a f r _ _ start byte last. tt) p q)
 
 -- ---- the number, and then the items
+
+pub collection_then : {S C X : Type 0} {is_known : S → Type 0} {left : S → List ℕ} {failures : S → Failures} {old mid new : StoreReader S} {n : ℕ} {result : Result C DeserializeError} (collection : ValueType) (total : ℕ → ℕ) (kind : ValueType) (Made : C → List X → Type 0) (Item : List ℕ → X → Type 0) (Refused : List ℕ → DeserializeError → Type 0) (B : List ℕ → C → Type 0)
+    → ((a b : List ℕ) (m : ℕ) (c : C) → Length collection total kind a m → EncodesInto Made Item m b c → B (a ++ b) c)
+    → Reads is_known left failures old mid (Ok n) (Length collection total kind) (LengthRefused collection total kind) → Deserializes is_known left failures mid new result (EncodesInto Made Item n) (InEach Refused Item n)
+    → Deserializes is_known left failures old new result B (ItemsRefused collection total Item Refused kind)
+collection_then {n = n} collection total kind Made Item Refused B make p h =
+    goes_then B (ItemsRefused collection total Item Refused kind) (λ a b c r s. make a b n c r s)
+    (λ a w e r f. inr (n, record { prefix = a; rest = w; joined = refl; first = r; second = f }))
+    (λ a f r _ _ start byte last. inl (in_length r.0 (number_early a (total n) r.1 start byte last)))
+    (deserializes (Length collection total kind) (λ b k q. q) p) h
 
 pub collection_fails : {S C X : Type 0} {is_known : S → Type 0} {left : S → List ℕ} {failures : S → Failures} {old new : StoreReader S} {e : DeserializeError} (collection : ValueType) (total : ℕ → ℕ) (kind : ValueType) (Item : List ℕ → X → Type 0) (Refused : List ℕ → DeserializeError → Type 0) (B : List ℕ → C → Type 0)
     → Reads {X = ℕ} is_known left failures old new (Err e) (Length collection total kind) (LengthRefused collection total kind) → Deserializes {X = C} is_known left failures old new (Err e) B (ItemsRefused collection total Item Refused kind)

@@ -1,9 +1,10 @@
 -- An address, its segments and its number.
-use Rattle.std.proofs.Common.{◌≡◌, ℕ, zero, suc, ◌+◌, ◌*◌, ◌/◌, ◌%◌, ◌^◌, ◌<◌, ◌≤◌, List, [], ◌∷◌, length, get_or, refl, sym, ap, ◌∙◌, arith}
+use Rattle.std.proofs.Common.{◌≡◌, ℕ, zero, suc, ◌+◌, ◌*◌, ◌/◌, ◌%◌, ◌^◌, ◌<◌, ◌≤◌, List, [], ◌∷◌, length, get_or, subst, refl, sym, ap, ◌∙◌, arith}
 use Rattle.std.specs.Int.{w128, to_be_bytes, from_be_bytes}
 use Rattle.std.specs.Int.{byte_at, bytes_high_first}
 use Rattle.std.specs.Net.Addr.{segments_of, octets_of, ipv6_segments, ipv6_octets, ipv6_bits}
 use Rattle.std.specs.declared.net.ipv6_addr.Ipv6Addr.{Ipv6Addr}
+use Rattle.std.proofs.NetLemmas.Arrays.{sixteen_items}
 use Rattle.std.proofs.lemmas.Nat.{div-mul-add, mod-mul-add}
 use Rattle.std.proofs.Math.Nat.{pow-suc, mul-le-mul_right, mul_comm, mul_assoc, add-mul}
 
@@ -49,6 +50,14 @@ sixteen a b c d e f g h i j k l m n o p = omega arith
 segments_of-octets_of : (ss : List ℕ) → segments_of (octets_of ss) ≡ ss
 segments_of-octets_of [] = refl
 segments_of-octets_of (s ∷ ss) = let whole : s / 256 * 256 + s % 256 ≡ s = omega arith in ap (λ x. x ∷ segments_of (octets_of ss)) whole ∙ ap (λ xs. s ∷ xs) (segments_of-octets_of ss)
+
+-- what sixteen bytes encode has these bytes
+pub to_be_bytes-from_be_bytes_16 : (bs : List ℕ) → length bs ≡ 16 → AreBytes bs → to_be_bytes w128 (from_be_bytes w128 bs) ≡ bs
+to_be_bytes-from_be_bytes_16 bs l h =
+    let cells = sixteen_items bs l in
+    let value : from_be_bytes w128 bs ≡ be_value bs = subst (λ xs. from_be_bytes w128 xs ≡ be_value xs) (sym cells) (sixteen _ _ _ _ _ _ _ _ _ _ _ _ _ _ _ _) in
+    let none : be_value bs ≡ 0 * 256 ^ length bs + be_value bs = omega arith in
+    ap (to_be_bytes w128) value ∙ ap (λ k. bytes_high_first k (be_value bs)) (sym l) ∙ ap (bytes_high_first (length bs)) none ∙ high_first 0 bs h
 
 length-octets_of : (ss : List ℕ) → length (octets_of ss) ≡ 2 * length ss
 length-octets_of [] = refl
