@@ -30,7 +30,7 @@ abbrev pub PointRefused : Version → ValueType → List ℕ → DeserializeErro
 PointRefused = MembersRefused (ObjectRefused IsNumber (LeafRefused types.U64))
 
 number_excludes : RefusalsExclude IsNumber (LeafRefused types.U64)
-number_excludes v kind prefix rest e t n refused encoded is = leaf_excludes types.U64 (unsigned n) refl v kind prefix rest e t refused encoded is
+number_excludes = leaf_excludes types.U64 (λ n. unsigned n) (λ _. refl)
 
 -- of refused bytes no prefix encodes such an object
 pub point_excludes : RefusalsExclude IsPoint PointRefused

@@ -29,6 +29,5 @@ impl ValueDeserialize for Score {
         Ok(Score(number))
     }
 
-    ghost excludes = { λ v kind prefix rest e t score refused encoded is. leaf_excludes types.U64
-        (unsigned score.0) refl v kind prefix rest e t refused encoded is };
+    ghost excludes = { leaf_excludes types.U64 (λ score. unsigned score.0) (λ _. refl) };
 }
