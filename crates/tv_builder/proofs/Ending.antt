@@ -25,10 +25,10 @@ use Rattle.tv_builder.specs.StateHeap.{lists_heap}
 use Rattle.tv_builder.specs.Kinds.{bytes_type}
 use Rattle.tv_builder.specs.Moves.{InState, CanGive, Gives, GivesNot, Does, last_bytes}
 use Rattle.tv_builder.specs.Parts.{IsContent}
-use Rattle.tv_builder.specs.Shows.{Placed, ShowsLists, Shows, Stands, frames_of, awaited_at}
+use Rattle.tv_builder.specs.Shows.{Placed, Shows, Stands, frames_of, awaited_at}
 use Rattle.tv_builder.specs.State.{OpenList, State, complete, in_lists, in_bytes, with_value, with_content, and_end, AreLists, OthersAwait, HeadNext}
 use Rattle.tv_builder.specs.TreeBytes.{tree_heap, tree_place}
-use Rattle.tv_builder.proofs.Calls.{lists_as, Written, does_give}
+use Rattle.tv_builder.proofs.Calls.{Written, does_give}
 use Rattle.tv_builder.proofs.Giving.{Comes, comes, key_comes, key_waits, prefix_same}
 use Rattle.tv_builder.proofs.Images.{given_image}
 use Rattle.tv_builder.proofs.Opening.{never}
@@ -150,20 +150,16 @@ no_content b o h e none not = never b HasContent h (λ s x is. let i = bytes_sta
 
 -- ---- the value or the key is handed over
 
--- where the building has let go of the open bytes
-pub record LetGo (old mid : Building) : Type 0 where
-  pub heap : mid.heap.items ≡ old.heap.items
-  pub places : mid.places.items ≡ old.places.items
-  pub pending : mid.pending ≡ old.pending
-  pub frames : frames_of mid ≡ frames_of old
-  pub complete : mid.complete ≡ old.complete
-  pub closed : mid.open ≡ None
+-- the building lets go of the open bytes
+abbrev let_go : Building → Building
+let_go b = record b { «open» = None }
 
-content_stands : (old mid : Building) (o : OpenBytes) → old.open ≡ Some o → o.missing ≡ 0 → IsContent o.kind (last_bytes o.announced old.heap.items) → LetGo old mid → (base : List ℕ) (s : State) → Behind base old s
-    → Written base mid (record { value_type = bytes_type o.kind; address = o.address }) (and_end s)
-content_stands old mid o e none is l base s b =
+content_stands : (old : Building) (o : OpenBytes) → old.open ≡ Some o → o.missing ≡ 0 → IsContent o.kind (last_bytes o.announced old.heap.items) → (base : List ℕ) (s : State) → Behind base old s
+    → Written base (let_go old) (record { value_type = bytes_type o.kind; address = o.address }) (and_end s)
+content_stands old o e none is base s b =
     let i = bytes_state old o s e b.shows in
     let ls = i.lists in
+    let t = content_tree o.kind i.so_far in
     let next = content_comes o.kind ls i.so_far i.shows.is.0 i.shows.is.1 i.shows.is.2 in
     let shown : held old ≡ image_of base (in_bytes ls o.kind o.announced i.so_far) = b.image ∙ ap (λ z. image_of base z) i.is in
     let same_count : o.announced ≡ length i.so_far = omega (arith, i.counted, none) in
@@ -171,30 +167,26 @@ content_stands old mid o e none is l base s b =
     let heap : old.heap.items ≡ lists_heap base ls ++ (vnum o.announced ++ i.so_far) = ap (λ (z : Given). z.heap) shown in
     let at : o.address ≡ length (lists_heap base ls) = omega (arith, i.place, ap length heap, ap length i.joined, length-append (lists_heap base ls) (vnum o.announced ++ i.so_far), length-append i.before (vnum o.announced ++ i.so_far)) in
     let content = content_written o.kind (lists_heap base ls) i.so_far o.address at in
-    let p : Place = record { value_type = bytes_type o.kind; address = o.address } in
     record {
       lists = ls;
-      tree = content_tree o.kind i.so_far;
+      tree = t;
       is = ap and_end i.is ∙ next.1;
       are = i.shows.is.0;
       comes = next.0;
-      shown = lists_as mid.heap.items (frames_of old) (frames_of mid) old.places.items mid.places.items ls l.frames l.places (subst (λ z. ShowsLists z (frames_of old) old.places.items ls) (sym l.heap) i.shows.at.lists);
-      placed = subst (λ z. Placed z p (content_tree o.kind i.so_far)) (sym l.heap)
-          (content_placed o.kind i.before old.heap.items i.so_far o.address (i.joined ∙ ap (λ z. i.before ++ z) own) i.shows.fits (subst (IsContent o.kind) (last_are old o s i none) is) (sym i.place));
-      closed = l.closed;
-      image = (λ j. given ((l.heap ∙ heap ∙ ap (λ z. lists_heap base ls ++ z) own ∙ content.heap) j) ((l.places ∙ ap (λ (z : Given). z.places) shown) j) ((l.frames ∙ ap (λ (z : Given). z.frames) shown) j) (content.place j)) ∙
-          given_image base ls (content_tree o.kind i.so_far) i.shows.is.0 next.0;
+      shown = i.shows.at.lists;
+      placed = content_placed o.kind i.before old.heap.items i.so_far o.address (i.joined ∙ ap (λ z. i.before ++ z) own) i.shows.fits (subst (IsContent o.kind) (last_are old o s i none) is) (sym i.place);
+      closed = refl;
+      image = (λ j. given ((heap ∙ ap (λ z. lists_heap base ls ++ z) own ∙ content.heap) j) (shown j).places (shown j).frames (content.place j)) ∙ given_image base ls t i.shows.is.0 next.0;
     }
 
-pub does_end : (old mid new : Building) (o : OpenBytes) (t : ValueType) (r : Result (Unit {0}) BuildError) → old.open ≡ Some o → o.missing ≡ 0 → IsContent o.kind (last_bytes o.announced old.heap.items) → t ≡ bytes_type o.kind → LetGo old mid
-    → OnOk r (Gives mid (record { value_type = t; address = o.address }) new) → IfErr r (λ x. GivesNot mid (record { value_type = t; address = o.address }) new x)
+pub does_end : (old new : Building) (o : OpenBytes) (t : ValueType) (r : Result (Unit {0}) BuildError) → old.open ≡ Some o → o.missing ≡ 0 → IsContent o.kind (last_bytes o.announced old.heap.items) → t ≡ bytes_type o.kind
+    → OnOk r (Gives (let_go old) (record { value_type = t; address = o.address }) new) → IfErr r (λ x. GivesNot (let_go old) (record { value_type = t; address = o.address }) new x)
     → Does old new (InState old HasAllBytes) (InState old HasContent) (Unit {0}) and_end r
-does_end old mid new o t r e none is same l ok err =
-    does_give old mid new (record { value_type = bytes_type o.kind; address = o.address }) (InState old HasAllBytes) (InState old HasContent) (Unit {0}) and_end r (has_all old o e none) (has_content old o e none is) tt
-    (prefix_same old.heap.items mid.heap.items l.heap) (content_stands old mid o e none is l)
-    (subst (λ z. OnOk r (Gives mid (record { value_type = z; address = o.address }) new)) same ok)
-    (subst (λ z. IfErr r (λ x. GivesNot mid (record { value_type = z; address = o.address }) new x)) same err)
+does_end old new o t r e none is same ok err =
+    does_give old (let_go old) new (record { value_type = bytes_type o.kind; address = o.address }) (InState old HasAllBytes) (InState old HasContent) (Unit {0}) and_end r (has_all old o e none) (has_content old o e none is) tt
+    (prefix_same old.heap.items old.heap.items refl) (content_stands old o e none is)
+    (subst (λ z. OnOk r (Gives (let_go old) (record { value_type = z; address = o.address }) new)) same ok)
+    (subst (λ z. IfErr r (λ x. GivesNot (let_go old) (record { value_type = z; address = o.address }) new x)) same err)
 
-pub let_go_gives : (old mid : Building) (o : OpenBytes) → Stands old → old.open ≡ Some o → LetGo old mid → CanGive mid
-let_go_gives old mid o h e l =
-    can_give old mid h (subst (λ z. GoesOn (awaited_at z old.complete (frames_of old))) (sym e) tt) (omega (arith, ap length l.heap, fits_of old h)) l.pending l.frames l.places l.complete
+pub let_go_gives : (old : Building) (o : OpenBytes) → Stands old → old.open ≡ Some o → CanGive (let_go old)
+let_go_gives old o h e = can_give old (let_go old) h (subst (λ z. GoesOn (awaited_at z old.complete (frames_of old))) (sym e) tt) (fits_of old h) refl refl refl refl

@@ -1,5 +1,5 @@
 -- The complete tree becomes the value of a pair.
-use Rattle.std.proofs.Common.{◌≡◌, ℕ, Bool, false, List, [], ◌∷◌, ◌++◌, length, reverse, take, drop, Option, Some, None, Ok, Err, OnOk, IfErr, refl, sym, ◌∙◌, ap, subst, arith}
+use Rattle.std.proofs.Common.{◌≡◌, ℕ, Bool, false, List, [], ◌∷◌, ◌++◌, length, take, drop, Option, Some, None, Ok, Err, OnOk, IfErr, refl, sym, ◌∙◌, ap, subst, arith}
 use Rattle.std.proofs.lemmas.List.{append-nil, take-append-drop, take_all}
 use Rattle.std.proofs.lemmas.List.Sums.{sum_by_push}
 use Rattle.std.proofs.Math.Logic.{∥∥₁_elim, ∥∥₁_map, ∥∥₁_prop}
@@ -87,22 +87,21 @@ with_pair old mid ps kept f k =
 
 prefix_is : (old : PairBuilder) (mid new : Building) (ps : List HeapPair) (kept f : ℕ) → Kept old.building mid old.pairs.items ps kept f → new ≡ mid → take kept new.heap.items ≡ heap_so_far old
 prefix_is old mid new ps kept f k e =
-    let same_heap : new.heap.items ≡ heap_so_far old = ap (λ (b : Building). b.heap.items) e ∙ k.heap in
+    let same_heap : new.heap.items ≡ heap_so_far old = ap (λ (b : Building). b.heap.items) (e ∙ k.rest) in
     ap (λ z. take kept z) same_heap ∙ take_all kept (heap_so_far old) (omega (arith, k.kept_is))
 
 abbrev after_pair : (old : PairBuilder) (mid new : Building) (ps : List HeapPair) (kept f : ℕ) → Kept old.building mid old.pairs.items ps kept f → new ≡ mid → StandsBehind (take kept new.heap.items) new
 after_pair old mid new ps kept f k e =
     let w = whole old k.at k.is in (
       in_lists [],
-      ∥∥₁_map w.shows (λ s. subst (λ (z : Building). Behind (take kept z.heap.items) z (in_lists [])) (sym e)
-          (none_shows kept mid (omega (arith, ap length k.heap, k.kept_is)) (omega (arith, ap length k.heap, s.fits)) (k.places ∙ s.at.places_none) (k.pending ∙ s.counted ∙ ap pending_in s.at.frames) (ap reverse k.frames ∙ s.at.frames) k.complete
-          (k.same_bytes ∙ s.at.closed))),
+      ∥∥₁_map w.shows (λ s. subst (λ (z : Building). Behind (take kept z.heap.items) z (in_lists [])) (sym (e ∙ k.rest))
+          (none_shows kept (record old.building { complete = None }) (omega (arith, k.kept_is)) (omega (arith, s.fits)) s.at.places_none (s.counted ∙ ap pending_in s.at.frames) s.at.frames refl s.at.closed)),
     )
 
 finish_fields_ok : (old : PairBuilder) (mid new : Building) (ps : List HeapPair) (kept f : ℕ) → Kept old.building mid old.pairs.items ps kept f → new ≡ mid → Fields new kept ps
 finish_fields_ok old mid new ps kept f k e =
     let w = whole old k.at k.is in
-    let same_heap : new.heap.items ≡ heap_so_far old = ap (λ (b : Building). b.heap.items) e ∙ k.heap in
+    let same_heap : new.heap.items ≡ heap_so_far old = ap (λ (b : Building). b.heap.items) (e ∙ k.rest) in
     let prefix = prefix_is old mid new ps kept f k e in
     let document : HoldsPrefix new.heap.items kept ps = subst (λ z. Holds z ps) (sym prefix) (with_pair old mid ps kept f k) in
     let same_doc = same_document (take kept new.heap.items) (heap_so_far old) ps ps document (with_pair old mid ps kept f k) prefix refl in
@@ -138,7 +137,7 @@ finish_done old new mid f live k s =
       document = same_document (take new.kept (heap_so_far new)) (heap_so_far old) new.pairs.items new.pairs.items new.document (with_pair old mid new.pairs.items new.kept f k) (prefix_is old mid new.building new.pairs.items new.kept f k s.ok) refl;
       state = same_behind (take new.kept new.building.heap.items) (take new.kept new.building.heap.items) new.building new.state (after_pair old mid new.building new.pairs.items new.kept f k s.ok);
       pairs = k.pairs ∙ ap (λ (p : Place). old.pairs.items ++ pair_at f p ∷ []) w.place;
-      heap = ap (λ (b : Building). b.heap.items) s.ok ∙ k.heap;
+      heap = ap (λ (b : Building). b.heap.items) (s.ok ∙ k.rest);
       kept = k.kept_is;
     }
 

@@ -1,22 +1,20 @@
 -- The loop that hands a finished value from list to list.
-use Rattle.std.proofs.Common.{◌≡◌, ℕ, suc, ◌+◌, ◌≤◌, true, false, nat_lt, List, [], ◌∷◌, ◌++◌, length, reverse, take, drop, Option, Some, None, Result, Ok, Err, IfErr, IsErrAnd, refl, sym, ◌∙◌, ap, subst, arith}
-use Rattle.std.proofs.lemmas.List.{reverse-append, take-append-le}
+use Rattle.std.proofs.Common.{◌≡◌, ℕ, suc, ◌+◌, ◌≤◌, false, nat_lt, List, [], ◌∷◌, ◌++◌, length, reverse, take, drop, Option, None, Result, Ok, Err, IfErr, IsErrAnd, sym, ◌∙◌, ap, subst, arith}
+use Rattle.std.proofs.lemmas.List.{reverse-append}
 use Rattle.tv_base.specs.Parts.{short_sized}
 use Rattle.tv_base.specs.Sink.{IsPrefix}
 use Rattle.tv_builder.specs.declared.add_error.AddError.{AddError}
 use Rattle.tv_builder.specs.declared.add_error.AddError.TheVariants as adds
 use Rattle.tv_builder.specs.declared.build_error.BuildError.{BuildError}
-use Rattle.tv_builder.specs.declared.build_error.BuildError.TheVariants.{Memory}
 use Rattle.tv_builder.specs.declared.building.Building.{Building}
 use Rattle.tv_builder.specs.declared.building.OpenBytes.{OpenBytes}
 use Rattle.tv_builder.specs.declared.frame.Frame.{Frame}
 use Rattle.tv_heap.specs.declared.place.Place.{Place}
 use Rattle.tv_builder.specs.Given.{Given, given, place_bytes, lacks, still_lacks, one_more, AreCut, pending_in}
 use Rattle.tv_builder.specs.Kinds.{list_type, total}
-use Rattle.tv_builder.specs.Moves.{CanGive, given_to, Gives, GivesNot, WhyNot}
-use Rattle.tv_builder.specs.Shows.{frames_of}
-use Rattle.tv_builder.specs.Whole.{WhyUnwritten, ListPut, ListPutNot, as_refused}
-use Rattle.tv_builder.proofs.Giving.{prefix_same, prefix_then, prefix_length, given_prefix, given_waits, given_closes}
+use Rattle.tv_builder.specs.Moves.{given_to, GivesNot, WhyNot}
+use Rattle.tv_builder.specs.Whole.{WhyUnwritten, ListPutNot, as_refused}
+use Rattle.tv_builder.proofs.Giving.{prefix_then, prefix_length, given_prefix, given_closes}
 use Rattle.tv_builder.proofs.Sound.{pending_small}
 
 -- some lists are closed, and the last of them comes to the next
@@ -28,9 +26,6 @@ pub record GivesSoFar (old : Building) (p : Place) (heap places : List ℕ) (fra
   pub none : whole ≡ None
   pub grows : IsPrefix old.heap.items heap
   pub same_bytes : bytes ≡ old.open
-
-pub so_far_start : (old : Building) (p : Place) → CanGive old → GivesSoFar old p old.heap.items old.places.items old.frames.items old.pending old.complete old.open p
-so_far_start old p h = record { same = refl; fits = h.fits; counted = h.counted; cut = h.cut; none = h.none; grows = prefix_same old.heap.items old.heap.items refl; same_bytes = refl }
 
 reverse_last : (rest : List Frame) (f : Frame) → reverse (rest ++ f ∷ []) ≡ f ∷ reverse rest
 reverse_last rest f = reverse-append rest (f ∷ [])
@@ -62,63 +57,6 @@ innermost old p heap places frames rest f pending whole bytes q s is =
 test_same : (f : Frame) → lacks (one_more f) ≡ still_lacks f
 test_same f = let e : f.finished + 1 ≡ suc f.finished = omega arith in ap (λ n. nat_lt n (total f.kind f.announced)) e
 
--- it waits for more
-pub gives_waits : (old new : Building) (p : Place) (heap places : List ℕ) (frames rest : List Frame) (f : Frame) (pending : ℕ) (whole : Option Place) (bytes : Option OpenBytes) (q : Place)
-    → GivesSoFar old p heap places frames pending whole bytes q → frames ≡ rest ++ f ∷ [] → lacks (one_more f) ≡ true → new.heap.items ≡ heap → new.places.items ≡ places ++ place_bytes q
-    → new.frames.items ≡ rest ++ one_more f ∷ [] → new.pending ≡ pending + 1 → new.complete ≡ whole → new.open ≡ bytes → Gives old p new
-gives_waits old new p heap places frames rest f pending whole bytes q s is test heap_is places_is frames_is pending_is whole_is bytes_is =
-    let i = innermost old p heap places frames rest f pending whole bytes q s is in
-    let g = i.same ∙ given_waits heap places f (reverse rest) q (sym (test_same f) ∙ test) in
-    let now : frames_of new ≡ one_more f ∷ reverse rest = ap reverse frames_is ∙ reverse_last rest (one_more f) in
-    record {
-      fits = omega (arith, s.fits, ap length heap_is);
-      heap = heap_is ∙ ap (λ (z : Given). z.heap) (sym g);
-      places = places_is ∙ ap (λ (z : Given). z.places) (sym g);
-      frames = now ∙ ap (λ (z : Given). z.frames) (sym g);
-      complete = whole_is ∙ s.none ∙ ap (λ (z : Given). z.complete) (sym g);
-      same_bytes = bytes_is ∙ s.same_bytes;
-      counted = let c = i.counted in let k : new.pending ≡ pending_in (one_more f ∷ reverse rest) = omega arith in k ∙ ap pending_in (sym now);
-    }
-
--- or lacks nothing more, and is written
-pub gives_closes : (old new : Building) (p : Place) (heap places own : List ℕ) (frames rest : List Frame) (f : Frame) (pending : ℕ) (whole : Option Place) (bytes : Option OpenBytes) (q r : Place)
-    → GivesSoFar old p heap places frames pending whole bytes q → frames ≡ rest ++ f ∷ [] → lacks (one_more f) ≡ false → own ≡ places ++ place_bytes q → ListPut heap f.kind (drop f.first own) new.heap.items r
-    → new.places.items ≡ take f.first own → new.frames.items ≡ rest → new.pending + (f.finished + 1) ≡ pending + 1 → new.complete ≡ whole → new.open ≡ bytes
-    → GivesSoFar old p new.heap.items new.places.items new.frames.items new.pending new.complete new.open r
-gives_closes old new p heap places own frames rest f pending whole bytes q r s is test own_is put places_is frames_is pending_is whole_is bytes_is =
-    let i = innermost old p heap places frames rest f pending whole bytes q s is in
-    let g = i.same ∙ given_closes heap places f (reverse rest) q (sym (test_same f) ∙ test) in
-    let new_heap : new.heap.items ≡ heap ++ short_sized (drop f.first (places ++ place_bytes q)) = put.heap ∙ ap (λ z. heap ++ short_sized (drop f.first z)) own_is in
-    let new_places : new.places.items ≡ take f.first places = places_is ∙ ap (λ z. take f.first z) own_is ∙ take-append-le f.first places (place_bytes q) i.first in
-    let new_frames : reverse new.frames.items ≡ reverse rest = ap reverse frames_is in
-    record {
-      same = g ∙ (λ j. given (sym new_heap j) (sym new_places j) (sym new_frames j) (sym put.place j));
-      fits = put.fits;
-      counted = let n = i.counted in let k : new.pending ≡ pending_in (reverse rest) = omega arith in k ∙ ap pending_in (sym new_frames);
-      cut = subst (λ z. AreCut z new.places.items) (sym new_frames) (subst (λ z. AreCut (reverse rest) z) (sym new_places) i.cut);
-      none = whole_is ∙ s.none;
-      grows = prefix_then old.heap.items heap new.heap.items s.grows (_, new_heap);
-      same_bytes = bytes_is ∙ s.same_bytes;
-    }
-
--- or no list is open
-pub gives_out : (old new : Building) (p : Place) (heap places : List ℕ) (frames : List Frame) (pending : ℕ) (whole : Option Place) (bytes : Option OpenBytes) (q : Place)
-    → GivesSoFar old p heap places frames pending whole bytes q → frames ≡ [] → new.heap.items ≡ heap → new.places.items ≡ places → new.frames.items ≡ []
-    → new.pending ≡ pending → new.complete ≡ Some q → new.open ≡ bytes → Gives old p new
-gives_out old new p heap places frames pending whole bytes q s is heap_is places_is frames_is pending_is whole_is bytes_is =
-    let e : reverse frames ≡ [] = ap reverse is in
-    let g = s.same ∙ ap (λ z. given heap places z q) e in
-    let now : frames_of new ≡ [] = ap reverse frames_is in
-    record {
-      fits = omega (arith, s.fits, ap length heap_is);
-      heap = heap_is ∙ ap (λ (z : Given). z.heap) (sym g);
-      places = places_is ∙ ap (λ (z : Given). z.places) (sym g);
-      frames = now ∙ ap (λ (z : Given). z.frames) (sym g);
-      complete = whole_is ∙ ap (λ (z : Given). z.complete) (sym g);
-      same_bytes = bytes_is ∙ s.same_bytes;
-      counted = pending_is ∙ s.counted ∙ ap pending_in e ∙ ap pending_in (sym now);
-    }
-
 -- or a list can't be written
 pub gives_not : (old new : Building) (p : Place) (heap places own : List ℕ) (frames rest : List Frame) (f : Frame) (pending : ℕ) (whole : Option Place) (bytes : Option OpenBytes) (q : Place) (e : AddError)
     → GivesSoFar old p heap places frames pending whole bytes q → frames ≡ rest ++ f ∷ [] → lacks (one_more f) ≡ false → own ≡ places ++ place_bytes q → ListPutNot heap (drop f.first own) new.heap.items e
@@ -136,11 +74,6 @@ gives_not old new p heap places own frames rest f pending whole bytes q e s is t
     why : (x : AddError) → WhyUnwritten (heap ++ short_sized (drop f.first own)) x → WhyNot (given_to old p).heap (as_refused x)
     why adds.HeapFull h = omega (arith, h, more)
     why adds.Memory h = tt
-
--- memory was refused
-pub gives_none : (old new : Building) (p : Place) (heap places : List ℕ) (frames : List Frame) (pending : ℕ) (whole : Option Place) (bytes : Option OpenBytes) (q : Place)
-    → GivesSoFar old p heap places frames pending whole bytes q → new.heap.items ≡ heap → GivesNot old p new Memory
-gives_none old new p heap places frames pending whole bytes q s is = record { prefix = (s.grows.0, is ∙ s.grows.1); why = tt }
 
 -- the refusal that a `?` makes of it
 pub refused : (old new : Building) (p : Place) (r : Result (Unit {0}) BuildError) (e : AddError) → IsErrAnd r (λ x. x ≡ as_refused e) → GivesNot old p new (as_refused e) → IfErr r (λ x. GivesNot old p new x)

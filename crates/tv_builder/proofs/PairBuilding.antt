@@ -295,9 +295,6 @@ ends old new mid r t live d s kept pairs e =
 pub new_document : (doc : HeapPairs) (n : ℕ) → length doc.heap.items ≡ n → HoldsPrefix doc.heap.items n doc.pairs.items
 new_document doc n e = subst (λ z. Holds z doc.pairs.items) (sym (take_all n doc.heap.items (omega (arith, e)))) doc.document
 
-pub new_same : (doc : HeapPairs) (n : ℕ) (h : HoldsPrefix doc.heap.items n doc.pairs.items) → length doc.heap.items ≡ n → h.0 ≡ document_of doc
-new_same doc n h e = same_document (take n doc.heap.items) doc.heap.items doc.pairs.items doc.pairs.items h doc.document (take_all n doc.heap.items (omega (arith, e))) refl
-
 pub new_fields : (doc : HeapPairs) (b : Building) (n : ℕ) → length doc.heap.items ≡ n → Empty doc.heap.items b → Fields b n doc.pairs.items
 new_fields doc b n e empty =
     let heap = empty.heap_is in

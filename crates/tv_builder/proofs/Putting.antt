@@ -1,5 +1,5 @@
 -- How children that are written make a whole value.
-use Rattle.std.proofs.Common.{◌≡◌, ℕ, suc, ◌+◌, ◌*◌, ◌<◌, ◌≤◌, List, [], ◌∷◌, ◌++◌, length, take, drop, Result, Ok, Err, IfOk, OnOk, IfErr, IsErrAnd, refl, sym, ◌∙◌, ap, subst, append_assoc, length-append, arith}
+use Rattle.std.proofs.Common.{◌≡◌, ℕ, suc, ◌+◌, ◌*◌, ◌≤◌, List, [], ◌∷◌, ◌++◌, length, take, drop, Result, Ok, Err, IfOk, OnOk, IfErr, IsErrAnd, refl, sym, ◌∙◌, ap, subst, append_assoc, length-append, arith}
 use Rattle.std.proofs.lemmas.List.{append-nil}
 use Rattle.std.proofs.Math.Seq.{drop-append_seam, take-append_seam}
 use Rattle.tv_base.specs.Parts.{short_sized}
@@ -112,12 +112,6 @@ array_step old heap list new ts us all t p s e w =
       smaller = omega (arith, s.smaller, sizes);
     }
 
--- a child is smaller
-pub array_next : (old heap list : List ℕ) (ts us all : List Tree) (t : Tree) → ArrayPut old heap list ts all → ts ≡ t ∷ us → size t < elements_size (elements all)
-array_next old heap list ts us all t s e =
-    let sizes : elements_size (elements ts) ≡ suc (size t + elements_size (elements us)) = ap (λ z. elements_size (elements z)) e in
-    omega (arith, s.smaller, sizes)
-
 array_all : (old heap list : List ℕ) (ts all : List Tree) (s : ArrayPut old heap list ts all) → ts ≡ [] → (all ≡ s.done) × (elements_heap old (elements all) ≡ heap) × (elements_places old (elements all) ≡ list)
 array_all old heap list ts all s none = (
   sym s.whole ∙ ap (λ z. s.done ++ z) none ∙ append-nil s.done,
@@ -217,11 +211,6 @@ object_step old heap list mid new es fs all k t q p s e v w =
           sym (append_assoc list (place_bytes q) (place_bytes p ++ left)) ∙ sym (append_assoc (list ++ place_bytes q) (place_bytes p) left);
       smaller = omega (arith, s.smaller, sizes);
     }
-
-pub object_next : (old heap list : List ℕ) (es fs all : List (List ℕ × Tree)) (k : List ℕ) (t : Tree) → ObjectPut old heap list es all → es ≡ (k, t) ∷ fs → size t < entries_size (entries all)
-object_next old heap list es fs all k t s e =
-    let sizes : entries_size (entries es) ≡ suc (size t + entries_size (entries fs)) = ap (λ z. entries_size (entries z)) e in
-    omega (arith, s.smaller, sizes)
 
 object_all : (old heap list : List ℕ) (es all : List (List ℕ × Tree)) (s : ObjectPut old heap list es all) → es ≡ [] → (all ≡ s.done) × (entries_heap old (entries all) ≡ heap) × (entries_places old (entries all) ≡ list)
 object_all old heap list es all s none = (

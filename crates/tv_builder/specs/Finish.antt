@@ -37,12 +37,7 @@ pub record Kept (old new : Building) (ps qs : List HeapPair) (kept f : ℕ) : Ty
   pub fits : f < 2 ^ 32
   pub pairs : qs ≡ ps ++ pair_at f at ∷ []
   pub kept_is : kept ≡ length old.heap.items
-  pub heap : new.heap.items ≡ old.heap.items
-  pub places : new.places.items ≡ old.places.items
-  pub pending : new.pending ≡ old.pending
-  pub frames : new.frames.items ≡ old.frames.items
-  pub complete : new.complete ≡ None
-  pub same_bytes : new.open ≡ old.open
+  pub rest : new ≡ record old { complete = None }
 
 -- why there is no pair
 abbrev pub WhyNoPair : Building → BuildError → Type 0

@@ -50,6 +50,7 @@ pub(crate) struct Building {
     pub open: Option<OpenBytes>,
 }
 
+#[tactic(auto, using(crate::proofs::Sound::fits_of))]
 impl Building {
     ghost use Rattle.tv_builder.specs.Parts.{IsContent};
     ghost use Rattle.tv_builder.specs.Builder.{HasAllBytes, HasContent, TakesBytes};

@@ -50,10 +50,7 @@ pub(crate) fn put(heap: &mut Vec<u8>, value: &ReferenceValueLeaf<'_>) -> Option<
         (λ place. Put heap.old.items (leaf_tree (leaf_of value.now)) heap.new.items place) }
     ensures prefix { IsPrefix heap.old.items heap.new.items }
 {
-    match put_leaf(heap, value) {
-        Ok(place) => Some(place),
-        Err(_) => None,
-    }
+    put_leaf(heap, value).ok()
 }
 
 // Writes a list behind its children, whose places are those from `first` on, takes these off, and returns its own place. After an

@@ -4,11 +4,7 @@ use Rattle.tv_builder.specs.Shows.{awaited_by}
 use Rattle.tv_builder.specs.State.{head_awaits}
 use Rattle.tv_builder.proofs.Opening.{begins_bytes, begins_full}
 use Rattle.tv_builder.proofs.Rooms.{no_room}
-use Rattle.tv_builder.proofs.Sound.{fits_of}
 use Rattle.tv_builder.proofs.building.Building.begin_bytes.Goals as goal
-
-pub has_room-requires : goal.has_room-requires
-has_room-requires c = let b = c.args.self.now in omega (arith, fits_of b c.requires, c.len.ensures, b.heap.ok.0)
 
 pub returns : goal.returns
 returns c =

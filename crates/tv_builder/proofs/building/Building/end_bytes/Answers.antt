@@ -7,7 +7,7 @@ pub ends_well-requires : goal.ends_well-requires
 ends_well-requires c = announced_small c.args.self.now c.in-Some.open c.requires c.in-Some.is (omega (arith, c.if-open-gt0.false))
 
 pub give-requires : goal.give-requires
-give-requires c = let_go_gives c.args.self.now _ c.in-Some.open c.requires c.in-Some.is (record { heap = refl; places = refl; pending = refl; frames = refl; complete = refl; closed = refl })
+give-requires c = let_go_gives c.args.self.now c.in-Some.open c.requires c.in-Some.is
 
 pub returns-in_default : goal.returns-in_default
 returns-in_default c = let b = c.args.self.now in (none_open b c.requires c.in_default.is, prefix_same b.heap.items b.heap.items refl)
@@ -29,5 +29,4 @@ returns-then-not-ends_well c =
 
 pub returns : goal.returns
 returns c =
-    does_end c.args.self.now _ c.give.new.self c.in-Some.open _ c.give.result c.in-Some.is (omega (arith, c.if-open-gt0.false)) (c.ends_well.ensures.0 c.if-not-ends_well.false) c.value_type.ensures
-    (record { heap = refl; places = refl; pending = refl; frames = refl; complete = refl; closed = refl }) c.give.ensures.ok c.give.ensures.err
+    does_end c.args.self.now c.give.new.self c.in-Some.open _ c.give.result c.in-Some.is (omega (arith, c.if-open-gt0.false)) (c.ends_well.ensures.0 c.if-not-ends_well.false) c.value_type.ensures c.give.ensures.ok c.give.ensures.err

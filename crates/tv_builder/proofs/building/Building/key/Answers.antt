@@ -1,11 +1,8 @@
 use Rattle.std.proofs.Common.{length, refl, sym, ap, arith}
 use Rattle.tv_format.specs.Tree.{leaf, text}
 use Rattle.tv_builder.proofs.Calls.{does_value, value_not, refused_as, key_taken}
-use Rattle.tv_builder.proofs.Sound.{can_give, on_key, fits_of}
+use Rattle.tv_builder.proofs.Sound.{can_give, on_key}
 use Rattle.tv_builder.proofs.building.Building.key.Goals as goal
-
-pub put_leaf-requires : goal.put_leaf-requires
-put_leaf-requires c = fits_of c.args.self.now c.requires
 
 pub give-requires : goal.give-requires
 give-requires c = let b = c.args.self.now in can_give b _ c.requires (on_key b (sym c.in-Key.ensures)) c.in_ok-place.ensures.ok.fits refl refl refl refl

@@ -2,11 +2,8 @@ use Rattle.std.proofs.Common.{length, refl, sym, ap, arith}
 use Rattle.tv_value.specs.Lent.{leaf_of}
 use Rattle.tv_format.specs.Tree.{leaf}
 use Rattle.tv_builder.proofs.Calls.{does_value, value_not, refused_as, value_taken}
-use Rattle.tv_builder.proofs.Sound.{can_give, on_value, fits_of}
+use Rattle.tv_builder.proofs.Sound.{can_give, on_value}
 use Rattle.tv_builder.proofs.building.Building.leaf.Goals as goal
-
-pub put_leaf-requires : goal.put_leaf-requires
-put_leaf-requires c = fits_of c.args.self.now c.requires
 
 pub give-requires : goal.give-requires
 give-requires c = let b = c.args.self.now in can_give b _ c.requires (on_value b (sym c.in-Value.ensures)) c.in_ok-place.ensures.ok.fits refl refl refl refl

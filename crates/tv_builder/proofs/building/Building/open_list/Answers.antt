@@ -5,11 +5,8 @@ use Rattle.tv_builder.specs.Fits.{ListFits}
 use Rattle.tv_builder.specs.State.{list_tree}
 use Rattle.tv_builder.proofs.Calls.{does_value, value_not, refused_as}
 use Rattle.tv_builder.proofs.Opening.{empty_taken, empty_put, empty_put_not, opens_list}
-use Rattle.tv_builder.proofs.Sound.{can_give, on_value, fits_of}
+use Rattle.tv_builder.proofs.Sound.{can_give, on_value}
 use Rattle.tv_builder.proofs.building.Building.open_list.Goals as goal
-
-pub put_list-requires-clause-fits : goal.put_list-requires-clause-fits
-put_list-requires-clause-fits c = fits_of c.args.self.now c.requires
 
 pub returns-in_err-place : goal.returns-in_err-place
 returns-in_err-place c =

@@ -1,11 +1,8 @@
 use Rattle.std.proofs.Common.{refl, sym, subst}
 use Rattle.tv_builder.specs.Whole.{Put, PutNot}
 use Rattle.tv_builder.proofs.Calls.{does_value, value_not, refused_as, value_taken}
-use Rattle.tv_builder.proofs.Sound.{can_give, on_value, fits_of}
+use Rattle.tv_builder.proofs.Sound.{can_give, on_value}
 use Rattle.tv_builder.proofs.building.Building.tree.Goals as goal
-
-pub put_tree-requires : goal.put_tree-requires
-put_tree-requires g c = fits_of c.args.self.now c.requires
 
 pub give-requires : goal.give-requires
 give-requires g c = let b = c.args.self.now in can_give b _ c.requires (on_value b (sym c.in-Value.ensures)) c.in_ok-place.ensures.0.fits refl refl c.in_ok-place.ensures.1 refl
