@@ -14,6 +14,7 @@ use tv_format::version::WriteVersion;
 use tv_heap::len::leaf_len;
 use tv_heap::place::Place;
 use tv_heap::value_type::ValueType;
+use tv_value::leaf::ReferenceValueLeaf;
 use tv_value::owned_value::OwnedValue;
 use tv_value::value::Value;
 
@@ -86,7 +87,7 @@ fn add_json(alloc: Global, text: &str, json: &str) -> Result<Option<String>> {
         return Ok(None);
     };
     let mut pairs = HeapPairs::new(alloc);
-    if pairs.add_text(0, text).is_err() {
+    if pairs.add_leaf(0, &ReferenceValueLeaf::Str(text)).is_err() {
         return Ok(None);
     }
     if pairs.add_value(1, &LentBorrowed::new(&json)).is_err() {
