@@ -8,13 +8,13 @@ use Rattle.tv_base.specs.Parts.{OneReading, Behind, Each, Text, Sized}
 use Rattle.tv_base.proofs.Numbers.{one_number, one_fixed}
 use Rattle.tv_format.specs.Content.{Content, text_content, bytes_content, form_of}
 use Rattle.tv_format.specs.Leaves.{type_of, content, form, store_code, scale}
-use Rattle.tv_format.specs.LeavesLaws.{form_of_content, one_code, small_code}
+use Rattle.tv_format.specs.LeavesLaws.{form_of_content, one_code, leaf_coded}
 use Rattle.tv_format.specs.Encoding.{Key, Encodes, EncodesElements, EncodesEntries, EncodesPair, EncodesDocument, leaf_code, ContentBody}
 use Rattle.tv_format.specs.Tree.{Tree, leaf, text, array, object, Elements, no_elements, element, element_count, Entries, no_entries, entry, entry_count, Document}
 use Rattle.tv_format.specs.Version.{Version, V1, V2, V3, Scale, entry_total}
 use Rattle.tv_format.specs.declared.leaf_type.LeafType.{LeafType}
 use Rattle.tv_format.specs.declared.leaf_type.LeafType.TheVariants as types
-use Rattle.tv_format.proofs.Leaves.{agree_key, total_same, leaf_code_small}
+use Rattle.tv_format.proofs.Leaves.{agree_key, total_same}
 use Rattle.tv_format.proofs.Trees.{one_tree, one_pair}
 use Rattle.tv_heap.specs.Room.{room, content_room, elements_room, entries_room, document_room}
 use Rattle.tv_builder.specs.declared.bytes_kind.BytesKind.{BytesKind}
@@ -174,7 +174,7 @@ module _ (L : List ℕ → Entries → Type 0) (v : Version) (one_l : OneReading
     joined : c ++ q ≡ d ++ y
 
   is_array : (n : ℕ) (whole h c q b y : List ℕ) (t : Tree) → whole ≡ h ++ c → Behind 12 (λ z. VNum z n) h → whole ++ q ≡ b ++ y → Encodes L v b t → IsArray n c q t
-  is_array n whole h c q b y (leaf l) cut p e s = absurd (let k = behind_codes 12 (leaf_code l) whole b h c p.body s.body q y cut p.joined s.joined e in omega (arith, k.0, (leaf_code_small l).1))
+  is_array n whole h c q b y (leaf l) cut p e s = absurd ((leaf_coded (type_of l)).no_array (sym (behind_codes 12 (leaf_code l) whole b h c p.body s.body q y cut p.joined s.joined e).0))
   is_array n whole h c q b y (array us) cut p e s =
       let k = behind_codes 12 12 whole b h c p.body s.body q y cut p.joined s.joined e in
       let parts = s.encoded in
@@ -187,7 +187,7 @@ module _ (L : List ℕ → Entries → Type 0) (v : Version) (one_l : OneReading
   ]
 
   is_object : (n : ℕ) (whole h c q b y : List ℕ) (t : Tree) → whole ≡ h ++ c → Behind 13 (λ z. VNum z (entry_total v n)) h → whole ++ q ≡ b ++ y → Encodes L v b t → IsObject n c q t
-  is_object n whole h c q b y (leaf l) cut p e s = absurd (let k = behind_codes 13 (leaf_code l) whole b h c p.body s.body q y cut p.joined s.joined e in omega (arith, k.0, (leaf_code_small l).1))
+  is_object n whole h c q b y (leaf l) cut p e s = absurd ((leaf_coded (type_of l)).no_object (sym (behind_codes 13 (leaf_code l) whole b h c p.body s.body q y cut p.joined s.joined e).0))
   is_object n whole h c q b y (array us) cut p e s = absurd (let k = behind_codes 13 12 whole b h c p.body s.body q y cut p.joined s.joined e in omega (arith, k.0))
   is_object n whole h c q b y (object es) cut p e s = elim s [
     | inl o ↦
@@ -264,10 +264,10 @@ module _ (L : List ℕ → Entries → Type 0) (v : Version) (one_l : OneReading
       let k = coded (store_code ty) (leaf_code l) h b p.body s.body x y p.joined s.joined e in
       let form_is : form ty ≡ form_of (content l) = ap form (one_code ty (type_of l) k.0) ∙ sym (form_of_content l) in
       content_length (scale v (type_of l)) (content l) n p.body x s.body y (subst HasLength form_is has) p.encoded s.encoded k.1
-  coded_room ty n h x b y (array us) has p e s = absurd (let k = coded (store_code ty) 12 h b p.body s.body x y p.joined s.joined e in omega (arith, k.0, (small_code ty).0))
+  coded_room ty n h x b y (array us) has p e s = absurd ((leaf_coded ty).no_array (coded (store_code ty) 12 h b p.body s.body x y p.joined s.joined e).0)
   coded_room ty n h x b y (object es) has p e s = elim s [
-    | inl o ↦ absurd (let k = coded (store_code ty) 13 h b p.body o.body x y p.joined o.joined e in omega (arith, k.0, (small_code ty).0))
-    | inr o ↦ absurd ((small_code ty).1 (coded (store_code ty) 8 h b p.body o.body x y p.joined o.joined e).0)
+    | inl o ↦ absurd ((leaf_coded ty).no_object (coded (store_code ty) 13 h b p.body o.body x y p.joined o.joined e).0)
+    | inr o ↦ absurd ((leaf_coded ty).no_legacy (coded (store_code ty) 8 h b p.body o.body x y p.joined o.joined e).0)
   ]
 
   key_length : (w : Version) (n : ℕ) (h x b y k : List ℕ) → KeyHead w h n → Key w b k → h ++ x ≡ b ++ y → n ≡ length k

@@ -20,7 +20,7 @@ use Rattle.tv_base.proofs.SmallBytes.{bytes_after}
 use Rattle.tv_format.specs.InputError.{corrupted, no_text_key, Corrupt, corrupt, ErrorInToken, ErrorInTokenized, ErrorInMicroseconds, date_ends, date_range, ErrorInScaled, ErrorInExtension, no_extension, other_extension, in_tokenized, ErrorInContent, ErrorInBody, ErrorInLeaf, ErrorInCodedKey, key_ends, key_unknown, key_float, key_other, key_no_extension, key_tokenized, key_other_extension, in_key, ErrorInKey}
 use Rattle.tv_format.specs.Encoding.{TokenEncoding, Tokenized, leaf_code, ContentBody, LeafBody, Key}
 use Rattle.tv_format.specs.Content.{Content, no_content, truth_content, unsigned_content, signed_content, wide_content, text_content, bytes_content, tokens_content, form_of}
-use Rattle.tv_format.specs.Leaves.{content, form, store_code, scale}
+use Rattle.tv_format.specs.Leaves.{content, form, store_code, last_code, scale}
 use Rattle.tv_format.specs.LeavesLaws.{making}
 use Rattle.tv_format.specs.Tree.{Token, Leaf}
 use Rattle.tv_format.specs.Version.{Version, V1, V2, V3, Scale, plain, thousands, Scaled, Microseconds}
@@ -149,9 +149,9 @@ extended_key (zero ∷ rest) = malformed (no_text_key 7) key_tokenized
 extended_key (suc n ∷ rest) = malformed (corrupted (UnknownExtCode (suc n))) (key_other_extension (λ e. omega (arith, e)))
 
 other_key : (b : ℕ) (rest : List ℕ) → b ≢ 0 → b ≢ 6 → b ≢ 7 → Decided CodedKey ErrorInCodedKey (b ∷ rest)
-other_key b rest not_text not_float not_extended = elim (cases_lt b 14) as (λ _. Decided CodedKey ErrorInCodedKey (b ∷ rest)) [
-  | inl less ↦ malformed (no_text_key b) (key_other (omega arith) less not_float not_extended)
-  | inr more ↦ malformed (corrupted (UnknownTypeCode b)) (key_unknown (omega arith))
+other_key b rest not_text not_float not_extended = elim (cases_lt b (suc last_code)) as (λ _. Decided CodedKey ErrorInCodedKey (b ∷ rest)) [
+  | inl less ↦ malformed (no_text_key b) (key_other (omega arith) (omega (arith, less)) not_float not_extended)
+  | inr more ↦ malformed (corrupted (UnknownTypeCode b)) (key_unknown (omega (arith, more)))
 ]
 
 key_behind : (most b : ℕ) (rest : List ℕ) → AllBytes rest → length rest ≤ most → Decided CodedKey ErrorInCodedKey (b ∷ rest)

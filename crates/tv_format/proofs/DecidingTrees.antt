@@ -16,7 +16,7 @@ use Rattle.tv_format.specs.ErrorInList.{ErrorInElements, ErrorInEntries, in_next
 use Rattle.tv_format.specs.Encoding.{Key, Encodes, EncodesElements, EncodesEntries, EncodesPair, EncodesDocument}
 use Rattle.tv_format.specs.Tree.{Tree, leaf, array, object, Elements, no_elements, element, element_count, Entries, no_entries, entry, entry_count}
 use Rattle.tv_format.specs.Version.{Version, V1, V2, V3, entry_total}
-use Rattle.tv_format.specs.Leaves.{store_code}
+use Rattle.tv_format.specs.Leaves.{store_code, last_code}
 use Rattle.tv_format.specs.LeavesLaws.{code_of_leaf}
 use Rattle.tv_format.proofs.DecidingLeaves.{LeafAt, LeafWrong, decides_leaf, decides_key, decides_field}
 
@@ -186,23 +186,12 @@ module _ (Legacy : List ℕ → Entries → Type 0) (ErrorInLegacy : List ℕ �
       counted (begins n count after joined number) = halved n count after joined number (entries_of v n)
       counted (malformed c f) = malformed (corrupted c) (in_entry_count f)
 
-  above_leaves : (most : ℕ) → Decides most Value InputError → (code : ℕ) (rest : List ℕ) → AllBytes rest → length rest ≤ most → 12 ≤ code → Decided Value InputError (code ∷ rest)
-  above_leaves most value code rest small le above =
-      let Goal = λ (n : ℕ). Decided Value InputError (n ∷ rest) in
-      elim (eqb_tells code 12) as (λ _. Goal code) [
-        | inl p ↦ subst Goal (sym p.1) (of_array most value rest small le)
-        | inr p ↦ elim (eqb_tells code 13) as (λ _. Goal code) [
-          | inl q ↦ subst Goal (sym q.1) (of_object most value rest small le)
-          | inr q ↦ malformed (corrupted (UnknownTypeCode code)) (unknown_code (omega (arith, above, p.1, q.1)))
-        ]
-      ]
-
-  other_code : (most : ℕ) → Decides most Value InputError → (code : ℕ) (rest : List ℕ) → AllBytes rest → length rest ≤ most → code ≢ 6 → code ≢ 8 → Decided Value InputError (code ∷ rest)
-  other_code most value code rest small le not_float not_legacy = elim (cases_lt code 12) as (λ _. Decided Value InputError (code ∷ rest)) [
+  leaf_or_unknown : (most code : ℕ) (rest : List ℕ) → AllBytes rest → length rest ≤ most → code ≢ 6 → code ≢ 8 → code ≢ 12 → code ≢ 13 → Decided Value InputError (code ∷ rest)
+  leaf_or_unknown most code rest small le not_float not_legacy not_array not_object = elim (cases_lt code (suc last_code)) as (λ _. Decided Value InputError (code ∷ rest)) [
     | inl less ↦
-        let k = code_of_leaf code less not_float not_legacy in
+        let k = code_of_leaf code (record { known = omega (arith, less); no_float = not_float; no_legacy = not_legacy; no_array = not_array; no_object = not_object }) in
         subst (λ (n : ℕ). Decided Value InputError (n ∷ rest)) k.1 (of_leaf most (store_code k.0) (decides_leaf most v k.0) rest small le)
-    | inr more ↦ above_leaves most value code rest small le (omega (arith, more))
+    | inr more ↦ malformed (corrupted (UnknownTypeCode code)) (unknown_code (omega (arith, more)))
   ]
 
   of_code : (most : ℕ) → Decides most Value InputError → (code : ℕ) (rest : List ℕ) → AllBytes rest → length rest ≤ most → Decided Value InputError (code ∷ rest)
@@ -212,7 +201,10 @@ module _ (Legacy : List ℕ → Entries → Type 0) (ErrorInLegacy : List ℕ �
         | inl p ↦ subst Goal (sym p.1) (malformed (corrupted FloatCode) float_code)
         | inr p ↦ elim (eqb_tells code 8) as (λ _. Goal code) [
           | inl q ↦ subst Goal (sym q.1) (of_legacy most rest small le)
-          | inr q ↦ other_code most value code rest small le p.1 q.1
+          | inr q ↦ elim (eqb_tells code 12) as (λ _. Goal code) [
+            | inl r ↦ subst Goal (sym r.1) (of_array most value rest small le)
+            | inr r ↦ elim (eqb_tells code 13) as (λ _. Goal code) [ inl s ↦ subst Goal (sym s.1) (of_object most value rest small le) | inr s ↦ leaf_or_unknown most code rest small le p.1 q.1 r.1 s.1 ]
+          ]
         ]
       ]
 

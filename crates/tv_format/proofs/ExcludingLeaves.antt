@@ -6,7 +6,7 @@ use Rattle.std.proofs.lemmas.Int.{ints}
 use Rattle.tv_base.specs.declared.cause.Cause.{Cause}
 use Rattle.tv_format.specs.Content.{Content, no_content, truth_content, unsigned_content, signed_content, wide_content, text_content, bytes_content, tokens_content, form_of}
 use Rattle.tv_format.specs.Leaves.{type_of, content, scale}
-use Rattle.tv_format.specs.LeavesLaws.{one_code, form_of_content, small_code}
+use Rattle.tv_format.specs.LeavesLaws.{one_code, form_of_content, IsLeafCode, leaf_coded}
 use Rattle.tv_format.specs.Tree.{Token, Leaf}
 use Rattle.tv_base.specs.Number.{VNum, Fixed, Truth}
 use Rattle.tv_format.specs.Version.{Version, V1, V2, V3, Scale, plain, thousands, Scaled, Microseconds}
@@ -88,8 +88,8 @@ leaf_excludes v {whole} {c = c} f l k a x p e =
     content_excludes (scale v (type_of l)) (content l) whole a x c (subst (λ t. ErrorInContent (scale v (type_of l)) t whole c) (sym (form_of_content l)) error) p e
 
 -- no error of a leaf stands behind the code of an array, an object or a legacy object, or that of floating-point numbers
-pub leaf_error_code : {v : Version} {whole : List ℕ} {code : ℕ} {c : Cause} → ErrorInLeaf v whole code c → (code < 12) × (code ≡ 8 → ⊥) × (code ≡ 6 → ⊥)
-leaf_error_code f = let small = small_code f.of_type in (omega (arith, f.coded, small.0), λ e. small.1 (f.coded ∙ e), λ e. small.2 (f.coded ∙ e))
+pub leaf_error_code : {v : Version} {whole : List ℕ} {code : ℕ} {c : Cause} → ErrorInLeaf v whole code c → IsLeafCode code
+leaf_error_code f = subst IsLeafCode f.coded (leaf_coded f.of_type)
 
 coded_key_excludes : {whole : List ℕ} {r : Refusal} → ErrorInCodedKey whole r → (k a x : List ℕ) → Behind 0 (λ b. Text b k) a → whole ≡ a ++ x → ⊥
 coded_key_excludes key_ends k a x p e = behind_some 0 [] a x refl p e

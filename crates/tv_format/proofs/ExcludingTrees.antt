@@ -1,16 +1,16 @@
 -- Where a value or a document is malformed, no prefix of the bytes encodes one.
-use Rattle.std.proofs.Common.{subst, ◌≡◌, ℕ, ◌<◌, List, [], ◌∷◌, ◌++◌, length, refl, sym, ◌∙◌, ap, arith, append_assoc, inl, inr}
+use Rattle.std.proofs.Common.{subst, ◌≡◌, ◌≢◌, ℕ, ◌<◌, ◌≤◌, List, [], ◌∷◌, ◌++◌, length, refl, sym, ◌∙◌, ap, arith, append_assoc, inl, inr}
 use Rattle.tv_base.specs.declared.cause.Cause.{Cause}
 use Rattle.tv_base.specs.Parts.{OneReading}
-use Rattle.tv_format.specs.Tree.{Leaf, Tree, leaf, array, object, Elements, no_elements, element, Entries, no_entries, entry, element_count, entry_count, Document}
+use Rattle.tv_format.specs.Tree.{Tree, leaf, array, object, Elements, no_elements, element, Entries, no_entries, entry, element_count, entry_count, Document}
 use Rattle.tv_base.specs.Number.{VNum, Fixed}
 use Rattle.tv_format.specs.Version.{Version, entry_total}
 use Rattle.tv_format.specs.Encoding.{leaf_code, Key, Encodes, EncodesElements, EncodesEntries, EncodesPair, EncodesDocument, NoLegacy}
 use Rattle.tv_format.specs.InputError.{Refusal, Corrupt, ErrorInLeaf, ErrorInValue, value_ends, unknown_code, float_code, in_leaf, in_legacy, in_count, in_element, in_entry_count, odd_count, in_entry_key, in_entry, ErrorInPair, ErrorInDocument, NoErrorInLegacy}
 use Rattle.tv_base.proofs.Numbers.{agree_number, agree_fixed, one_number, length-fixed}
-use Rattle.tv_format.specs.Leaves.{type_of}
-use Rattle.tv_format.specs.LeavesLaws.{small_code}
-use Rattle.tv_format.proofs.Leaves.{agree_key, leaf_code_small, total_same}
+use Rattle.tv_format.specs.Leaves.{type_of, last_code}
+use Rattle.tv_format.specs.LeavesLaws.{leaf_coded}
+use Rattle.tv_format.proofs.Leaves.{agree_key, total_same}
 use Rattle.tv_format.proofs.Trees.{agree_tree, one_pair}
 use Rattle.tv_base.proofs.Excluding.{Excludes, rests, excludes_then, excludes_each, excludes_number}
 use Rattle.tv_base.proofs.ExcludingParts.{behind_head, excludes_bytes}
@@ -25,14 +25,11 @@ module _ (Legacy : List ℕ → Entries → Type 0) (ErrorInLegacy : List ℕ �
     code : ℕ
     body : List ℕ
     joined : whole ≡ code ∷ body
-    small : code < 14
-    known : code ≡ 6 → ⊥
-
-  leaf_head : (l : Leaf) → (leaf_code l < 14) × (leaf_code l ≡ 6 → ⊥)
-  leaf_head l = let small = small_code (type_of l) in (omega (arith, small.0), small.2)
+    small : code ≤ last_code
+    known : code ≢ 6
 
   head : (t : Tree) (a : List ℕ) → Encodes Legacy v a t → Head a
-  head (leaf l) a p = record { code = leaf_code l; body = p.body; joined = p.joined; small = (leaf_head l).0; known = (leaf_head l).1 }
+  head (leaf l) a p = record { code = leaf_code l; body = p.body; joined = p.joined; small = (leaf_coded (type_of l)).known; known = (leaf_coded (type_of l)).no_float }
   head (array ts) a p = record { code = 12; body = p.body; joined = p.joined; small = omega arith; known = λ e. omega arith }
   head (object es) a p = elim p as (λ _. Head a) [
     | inl q ↦ record { code = 13; body = q.body; joined = q.joined; small = omega arith; known = λ e. omega arith }
@@ -91,7 +88,7 @@ module _ (Legacy : List ℕ → Entries → Type 0) (ErrorInLegacy : List ℕ �
   array_body : (code : ℕ) (rest : List ℕ) (t : Tree) (a x : List ℕ) → code ≡ 12 → Encodes Legacy v a t → code ∷ rest ≡ a ++ x
       → (us : Elements) × (body : List ℕ) × Then (λ b. VNum b (element_count us)) (λ b. EncodesElements Legacy v b us) body × (rest ≡ body ++ x)
   array_body code rest (array us) a x is p e = (us, p.body, p.encoded, (behind_head code 12 rest a x p e).1)
-  array_body code rest (leaf l) a x is p e = absurd (omega (arith, (behind_head code (leaf_code l) rest a x p e).0, (leaf_code_small l).1))
+  array_body code rest (leaf l) a x is p e = absurd ((leaf_coded (type_of l)).no_array (sym (behind_head code (leaf_code l) rest a x p e).0 ∙ is))
   array_body code rest (object es) a x is p e = elim p [
     | inl q ↦ absurd (omega (arith, (behind_head code 13 rest a x q e).0))
     | inr q ↦ absurd (omega (arith, (behind_head code 8 rest a x q e).0))
@@ -100,7 +97,7 @@ module _ (Legacy : List ℕ → Entries → Type 0) (ErrorInLegacy : List ℕ �
   object_body : (code : ℕ) (rest : List ℕ) (t : Tree) (a x : List ℕ) → code ≡ 13 → Encodes Legacy v a t → code ∷ rest ≡ a ++ x
       → (es : Entries) × (body : List ℕ) × Then (λ b. VNum b (entry_total v (entry_count es))) (λ b. EncodesEntries Legacy v b es) body × (rest ≡ body ++ x)
   object_body code rest (array us) a x is p e = absurd (omega (arith, (behind_head code 12 rest a x p e).0))
-  object_body code rest (leaf l) a x is p e = absurd (omega (arith, (behind_head code (leaf_code l) rest a x p e).0, (leaf_code_small l).1))
+  object_body code rest (leaf l) a x is p e = absurd ((leaf_coded (type_of l)).no_object (sym (behind_head code (leaf_code l) rest a x p e).0 ∙ is))
   object_body code rest (object es) a x is p e = elim p [
     | inl q ↦ (es, q.body, q.encoded, (behind_head code 13 rest a x q e).1)
     | inr q ↦ absurd (omega (arith, (behind_head code 8 rest a x q e).0))
@@ -108,14 +105,14 @@ module _ (Legacy : List ℕ → Entries → Type 0) (ErrorInLegacy : List ℕ �
 
   leaf_error : {rest : List ℕ} {code : ℕ} {c : Cause} → ErrorInLeaf v rest code c → (t : Tree) (a x : List ℕ) → Encodes Legacy v a t → code ∷ rest ≡ a ++ x → ⊥
   leaf_error {rest} {code} f (leaf l) a x p e = let h = behind_head code (leaf_code l) rest a x p e in leaf_excludes v f l h.0 p.body x p.encoded h.1
-  leaf_error {rest} {code} f (array us) a x p e = omega (arith, (leaf_error_code f).0, (behind_head code 12 rest a x p e).0)
+  leaf_error {rest} {code} f (array us) a x p e = (leaf_error_code f).no_array (behind_head code 12 rest a x p e).0
   leaf_error {rest} {code} f (object es) a x p e = elim p [
-    | inl q ↦ omega (arith, (leaf_error_code f).0, (behind_head code 13 rest a x q e).0)
-    | inr q ↦ (leaf_error_code f).1 (behind_head code 8 rest a x q e).0
+    | inl q ↦ (leaf_error_code f).no_object (behind_head code 13 rest a x q e).0
+    | inr q ↦ (leaf_error_code f).no_legacy (behind_head code 8 rest a x q e).0
   ]
 
   legacy_error : {rest : List ℕ} {c : Cause} → ErrorInLegacy rest c → (t : Tree) (a x : List ℕ) → Encodes Legacy v a t → 8 ∷ rest ≡ a ++ x → ⊥
-  legacy_error {rest} f (leaf l) a x p e = (leaf_code_small l).0 (sym (behind_head 8 (leaf_code l) rest a x p e).0)
+  legacy_error {rest} f (leaf l) a x p e = (leaf_coded (type_of l)).no_legacy (sym (behind_head 8 (leaf_code l) rest a x p e).0)
   legacy_error {rest} f (array us) a x p e = omega (arith, (behind_head 8 12 rest a x p e).0)
   legacy_error {rest} {c} f (object es) a x p e = elim p [
     | inl q ↦ omega (arith, (behind_head 8 13 rest a x q e).0)

@@ -1,11 +1,11 @@
 -- Leaves have one reading.
-use Rattle.std.proofs.Common.{◌≡◌, ℕ, ◌<◌, Bool, true, false, List, [], ◌∷◌, ◌++◌, refl, sym, ◌∙◌, ap, subst, arith}
+use Rattle.std.proofs.Common.{◌≡◌, ℕ, Bool, true, false, List, [], ◌∷◌, ◌++◌, refl, sym, ◌∙◌, ap, subst, arith}
 use Rattle.std.specs.Prelude.{ℤ, pos, negsuc, ◌*ℤ◌, ◌≤ℤ◌, FitsSigned}
 use Rattle.std.specs.Int.{w64, cast_unsigned}
 use Rattle.std.proofs.lemmas.Int.{ints}
 use Rattle.tv_format.specs.Content.{Content, no_content, truth_content, unsigned_content, signed_content, wide_content, text_content, bytes_content, tokens_content, form_of}
 use Rattle.tv_format.specs.Leaves.{type_of, content, form, scale}
-use Rattle.tv_format.specs.LeavesLaws.{one_leaf, form_of_content, one_code, small_code}
+use Rattle.tv_format.specs.LeavesLaws.{one_leaf, form_of_content, one_code}
 use Rattle.tv_format.specs.Tree.{Token, Leaf, tokenized}
 use Rattle.tv_format.specs.Version.{Version, V1, V2, V3, Scale, plain, thousands, Scaled, Microseconds, entry_total}
 use Rattle.tv_base.specs.Number.{Truth}
@@ -69,7 +69,3 @@ pub total_same : (v : Version) (m n : ℕ) → entry_total v m ≡ entry_total v
 total_same V1 m n e = omega arith
 total_same V2 m n e = omega arith
 total_same V3 m n e = e
-
--- no leaf has the code of an array or an object
-pub leaf_code_small : (l : Leaf) → (leaf_code l ≡ 8 → ⊥) × (leaf_code l < 12)
-leaf_code_small l = let small = small_code (type_of l) in (small.1, small.0)

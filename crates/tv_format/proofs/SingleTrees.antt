@@ -10,6 +10,7 @@ use Rattle.tv_base.proofs.Numbers.{agree_number, one_number}
 use Rattle.tv_base.proofs.Excluding.{Excludes, rests, excludes_number}
 use Rattle.tv_base.proofs.Single.{Single, single_then, single_each, single_number, single_bytes}
 use Rattle.tv_format.specs.Tree.{Tree, Elements, Entries, element_count, entry_count}
+use Rattle.tv_format.specs.Leaves.{last_code}
 use Rattle.tv_format.specs.Version.{Version, entry_total}
 use Rattle.tv_format.specs.Encoding.{Key, Encodes, EncodesElements, EncodesEntries, EncodesPair}
 use Rattle.tv_format.specs.InputError.{Refusal, corrupted, Corrupt, corrupt, ErrorInKey, ErrorInLeaf, ErrorInValue, value_ends, unknown_code, float_code, in_leaf, in_legacy, in_count, in_element, in_entry_count, odd_count, in_entry_key, in_entry, ErrorInPair, ErrorInDocument, NoErrorInLegacy}
@@ -58,7 +59,7 @@ module _ (Legacy : List ℕ → Entries → Type 0) (ErrorInLegacy : List ℕ �
   -- by the first byte
   data Kind (whole : List ℕ) (r : Refusal) : Type 0 where
     ended : whole ≡ [] → r ≡ corrupted UnexpectedEnd → Kind whole r
-    unknown : (b : ℕ) (rest : List ℕ) → whole ≡ b ∷ rest → 13 < b → r ≡ corrupted (UnknownTypeCode b) → Kind whole r
+    unknown : (b : ℕ) (rest : List ℕ) → whole ≡ b ∷ rest → last_code < b → r ≡ corrupted (UnknownTypeCode b) → Kind whole r
     float : (rest : List ℕ) → whole ≡ 6 ∷ rest → r ≡ corrupted FloatCode → Kind whole r
     of_leaf : (code : ℕ) (rest : List ℕ) (c : Cause) → whole ≡ code ∷ rest → ErrorInLeaf v rest code c → r ≡ corrupted c → Kind whole r
     of_legacy : (rest : List ℕ) (c : Cause) → whole ≡ 8 ∷ rest → ErrorInLegacy rest c → r ≡ corrupted c → Kind whole r
@@ -91,17 +92,17 @@ module _ (Legacy : List ℕ → Entries → Type 0) (ErrorInLegacy : List ℕ �
   at_end (of_array rest e f) = absurd cc
   at_end (of_object rest e f) = absurd cc
 
-  at_unknown : (b : ℕ) (rest : List ℕ) → 13 < b → {s : Refusal} → Kind (b ∷ rest) s → corrupted (UnknownTypeCode b) ≡ s
+  at_unknown : (b : ℕ) (rest : List ℕ) → last_code < b → {s : Refusal} → Kind (b ∷ rest) s → corrupted (UnknownTypeCode b) ≡ s
   at_unknown b rest l (unknown d r e k is) = ap (λ (n : ℕ). corrupted (UnknownTypeCode n)) (heads e).0 ∙ sym is
   at_unknown b rest l (ended e is) = absurd cc
   at_unknown b rest l (float r e is) = absurd (omega (arith, (heads e).0))
-  at_unknown b rest l (of_leaf code r c e f is) = absurd (omega (arith, (heads e).0, (leaf_error_code f).0))
+  at_unknown b rest l (of_leaf code r c e f is) = absurd (omega (arith, (heads e).0, (leaf_error_code f).known))
   at_unknown b rest l (of_legacy r c e f is) = absurd (omega (arith, (heads e).0))
   at_unknown b rest l (of_array r e f) = absurd (omega (arith, (heads e).0))
   at_unknown b rest l (of_object r e f) = absurd (omega (arith, (heads e).0))
 
   no_float : {rest : List ℕ} {code : ℕ} {c : Cause} → ErrorInLeaf v rest code c → 6 ≡ code → ⊥
-  no_float f e = (leaf_error_code f).2 (sym e)
+  no_float f e = (leaf_error_code f).no_float (sym e)
 
   at_float : {rest : List ℕ} {s : Refusal} → Kind (6 ∷ rest) s → corrupted FloatCode ≡ s
   at_float (float r e is) = sym is
@@ -114,16 +115,16 @@ module _ (Legacy : List ℕ → Entries → Type 0) (ErrorInLegacy : List ℕ �
 
   at_leaf : {code : ℕ} {rest : List ℕ} {c : Cause} → ErrorInLeaf v rest code c → {s : Refusal} → Kind (code ∷ rest) s → corrupted c ≡ s
   at_leaf f (of_leaf d r c e g is) = ap corrupted (leaf_single v f g (heads e).0 (heads e).1) ∙ sym is
-  at_leaf f (unknown d r e k is) = absurd (omega (arith, (heads e).0, (leaf_error_code f).0))
+  at_leaf f (unknown d r e k is) = absurd (omega (arith, (heads e).0, (leaf_error_code f).known))
   at_leaf f (float r e is) = absurd (no_float f (sym (heads e).0))
   at_leaf f (ended e is) = absurd cc
-  at_leaf f (of_legacy r c e g is) = absurd ((leaf_error_code f).1 (heads e).0)
-  at_leaf f (of_array r e g) = absurd (omega (arith, (heads e).0, (leaf_error_code f).0))
-  at_leaf f (of_object r e g) = absurd (omega (arith, (heads e).0, (leaf_error_code f).0))
+  at_leaf f (of_legacy r c e g is) = absurd ((leaf_error_code f).no_legacy (heads e).0)
+  at_leaf f (of_array r e g) = absurd ((leaf_error_code f).no_array (heads e).0)
+  at_leaf f (of_object r e g) = absurd ((leaf_error_code f).no_object (heads e).0)
 
   at_legacy : {rest : List ℕ} {c : Cause} → ErrorInLegacy rest c → {s : Refusal} → Kind (8 ∷ rest) s → corrupted c ≡ s
   at_legacy {rest} {c} f (of_legacy r d e g is) = ap corrupted (legacy_single.single rest c d f (subst (λ l. ErrorInLegacy l d) (sym (heads e).1) g)) ∙ sym is
-  at_legacy f (of_leaf d r c e g is) = absurd ((leaf_error_code g).1 (sym (heads e).0))
+  at_legacy f (of_leaf d r c e g is) = absurd ((leaf_error_code g).no_legacy (sym (heads e).0))
   at_legacy f (unknown d r e k is) = absurd (omega (arith, (heads e).0))
   at_legacy f (float r e is) = absurd (omega (arith, (heads e).0))
   at_legacy f (ended e is) = absurd cc
@@ -133,7 +134,7 @@ module _ (Legacy : List ℕ → Entries → Type 0) (ErrorInLegacy : List ℕ �
   at_array : {rest : List ℕ} {s : Refusal} → Kind (12 ∷ rest) s → Corrupt ErrorInNumber rest s ⊎ AtElement rest s
   at_array {s = s} (of_array r e g) = subst (λ l. Corrupt ErrorInNumber l s ⊎ AtElement l s) (sym (heads e).1) g
   at_array (of_legacy r d e g is) = absurd (omega (arith, (heads e).0))
-  at_array (of_leaf d r c e g is) = absurd (omega (arith, (heads e).0, (leaf_error_code g).0))
+  at_array (of_leaf d r c e g is) = absurd ((leaf_error_code g).no_array (sym (heads e).0))
   at_array (unknown d r e k is) = absurd (omega (arith, (heads e).0))
   at_array (float r e is) = absurd (omega (arith, (heads e).0))
   at_array (ended e is) = absurd cc
@@ -142,7 +143,7 @@ module _ (Legacy : List ℕ → Entries → Type 0) (ErrorInLegacy : List ℕ �
   at_object : {rest : List ℕ} {s : Refusal} → Kind (13 ∷ rest) s → AtCount rest s ⊎ AtEntry rest s
   at_object {s = s} (of_object r e g) = subst (λ l. AtCount l s ⊎ AtEntry l s) (sym (heads e).1) g
   at_object (of_legacy r d e g is) = absurd (omega (arith, (heads e).0))
-  at_object (of_leaf d r c e g is) = absurd (omega (arith, (heads e).0, (leaf_error_code g).0))
+  at_object (of_leaf d r c e g is) = absurd ((leaf_error_code g).no_object (sym (heads e).0))
   at_object (unknown d r e k is) = absurd (omega (arith, (heads e).0))
   at_object (float r e is) = absurd (omega (arith, (heads e).0))
   at_object (ended e is) = absurd cc

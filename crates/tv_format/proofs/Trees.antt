@@ -3,19 +3,21 @@ use Rattle.std.proofs.Common.{◌≡◌, ℕ, List, refl, sym, ap, arith}
 use Rattle.tv_base.specs.Parts.{OneReading}
 use Rattle.tv_format.specs.Tree.{Tree, leaf, array, object, Elements, no_elements, element, Entries, no_entries, entry, element_count, entry_count}
 use Rattle.tv_format.specs.Version.{Version, entry_total}
+use Rattle.tv_format.specs.Leaves.{type_of}
+use Rattle.tv_format.specs.LeavesLaws.{leaf_coded}
 use Rattle.tv_format.specs.Encoding.{Encodes, EncodesElements, EncodesEntries, EncodesPair, EncodesDocument, NoLegacy}
 use Rattle.tv_base.proofs.Agreement.{Agree, agree_from, one_from, agree_map, agree_empty, agree_then, agree_behind, agree_left, agree_right}
 use Rattle.tv_base.proofs.Numbers.{agree_number, agree_counted, agree_fixed}
-use Rattle.tv_format.proofs.Leaves.{agree_leaf, agree_key, leaf_code_small, total_same}
+use Rattle.tv_format.proofs.Leaves.{agree_leaf, agree_key, total_same}
 
 module _ (Legacy : List ℕ → Entries → Type 0) (v : Version) (one_legacy : OneReading Legacy) where
   mutual
     pub agree_tree : (s t : Tree) → Agree (λ b. Encodes Legacy v b s) (λ b. Encodes Legacy v b t) (s ≡ t)
     agree_tree (leaf l) (leaf m) = agree_map (ap leaf) (agree_behind (λ e. agree_leaf v l m e))
-    agree_tree (leaf l) (array us) = agree_behind (λ e. absurd (omega (arith, leaf_code_small l)))
-    agree_tree (array ts) (leaf m) = agree_behind (λ e. absurd (omega (arith, leaf_code_small m)))
-    agree_tree (leaf l) (object fs) = agree_right (agree_behind (λ e. absurd (omega (arith, leaf_code_small l)))) (agree_behind (λ e. absurd ((leaf_code_small l).0 e)))
-    agree_tree (object es) (leaf m) = agree_left (agree_behind (λ e. absurd (omega (arith, leaf_code_small m)))) (agree_behind (λ e. absurd ((leaf_code_small m).0 (sym e))))
+    agree_tree (leaf l) (array us) = agree_behind (λ e. absurd ((leaf_coded (type_of l)).no_array e))
+    agree_tree (array ts) (leaf m) = agree_behind (λ e. absurd ((leaf_coded (type_of m)).no_array (sym e)))
+    agree_tree (leaf l) (object fs) = agree_right (agree_behind (λ e. absurd ((leaf_coded (type_of l)).no_object e))) (agree_behind (λ e. absurd ((leaf_coded (type_of l)).no_legacy e)))
+    agree_tree (object es) (leaf m) = agree_left (agree_behind (λ e. absurd ((leaf_coded (type_of m)).no_object (sym e)))) (agree_behind (λ e. absurd ((leaf_coded (type_of m)).no_legacy (sym e))))
     agree_tree (array ts) (array us) = agree_map (λ e. ap array e.1) (agree_behind (λ _. agree_then (agree_number (element_count ts) (element_count us)) (λ e. agree_elements ts us e)))
     agree_tree (array ts) (object fs) = agree_right (agree_behind (λ e. absurd (omega arith))) (agree_behind (λ e. absurd (omega arith)))
     agree_tree (object es) (array us) = agree_left (agree_behind (λ e. absurd (omega arith))) (agree_behind (λ e. absurd (omega arith)))

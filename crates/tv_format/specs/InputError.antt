@@ -1,5 +1,5 @@
 -- What is wrong with bytes that encode no value: the first parts are encoded, and the next part is malformed.
-use Rattle.std.specs.Prelude.{◌≡◌, ◌≢◌, ℕ, ◌<◌, ◌⊎◌, List, [], ◌∷◌, ◌++◌, length, ℤ, pos, negsuc, ◌<ℤ◌, FitsSigned}
+use Rattle.std.specs.Prelude.{◌≡◌, ◌≢◌, ℕ, ◌<◌, ◌≤◌, ◌⊎◌, List, [], ◌∷◌, ◌++◌, length, ℤ, pos, negsuc, ◌<ℤ◌, FitsSigned}
 use Rattle.std.specs.Int.{w64, cast_unsigned}
 use Rattle.tv_base.specs.declared.cause.Cause.{Cause}
 use Rattle.tv_base.specs.declared.cause.Cause.TheVariants.{UnexpectedEnd, UnknownTypeCode, FloatCode, UnknownExtCode, OddObject, DateRange}
@@ -7,7 +7,7 @@ use Rattle.tv_base.specs.Number.{VNum, Fixed}
 use Rattle.tv_base.specs.Parts.{Text}
 use Rattle.tv_base.specs.ErrorInPart.{InThen, InEach, ErrorInNumber, ErrorInBytes, ErrorInSized, ErrorInText, ErrorInTruth}
 use Rattle.tv_format.specs.Tree.{Elements, Entries, element_count, entry_count}
-use Rattle.tv_format.specs.Leaves.{form, store_code, scale}
+use Rattle.tv_format.specs.Leaves.{form, store_code, last_code, scale}
 use Rattle.tv_format.specs.Version.{Version, V1, V2, V3, Scale, plain, thousands, date_scale, entry_total}
 use Rattle.tv_format.specs.Encoding.{TokenEncoding, Key, EncodesElements, EncodesEntries, EncodesPair}
 use Rattle.tv_format.specs.declared.leaf_type.Form.{Form}
@@ -78,10 +78,10 @@ pub record ErrorInLeaf (v : Version) (whole : List ℕ) (code : ℕ) (c : Cause)
 -- in a key's place, of versions 1 and 2
 pub data ErrorInCodedKey : List ℕ → Refusal → Type 0 where
   key_ends : ErrorInCodedKey [] (corrupted UnexpectedEnd)
-  key_unknown : {b : ℕ} {rest : List ℕ} → 13 < b → ErrorInCodedKey (b ∷ rest) (corrupted (UnknownTypeCode b))
+  key_unknown : {b : ℕ} {rest : List ℕ} → last_code < b → ErrorInCodedKey (b ∷ rest) (corrupted (UnknownTypeCode b))
   key_float : {rest : List ℕ} → ErrorInCodedKey (6 ∷ rest) (corrupted FloatCode)
   -- a value of a type that isn't a text
-  key_other : {b : ℕ} {rest : List ℕ} → 0 < b → b < 14 → b ≢ 6 → b ≢ 7 → ErrorInCodedKey (b ∷ rest) (no_text_key b)
+  key_other : {b : ℕ} {rest : List ℕ} → 0 < b → b ≤ last_code → b ≢ 6 → b ≢ 7 → ErrorInCodedKey (b ∷ rest) (no_text_key b)
   key_no_extension : ErrorInCodedKey (7 ∷ []) (corrupted UnexpectedEnd)
   key_tokenized : {rest : List ℕ} → ErrorInCodedKey (7 ∷ 0 ∷ rest) (no_text_key 7)
   key_other_extension : {b : ℕ} {rest : List ℕ} → b ≢ 0 → ErrorInCodedKey (7 ∷ b ∷ rest) (corrupted (UnknownExtCode b))
@@ -97,7 +97,7 @@ ErrorInKey V3 = Corrupt ErrorInText
 module _ (Legacy : List ℕ → Entries → Type 0) (ErrorInLegacy : List ℕ → Cause → Type 0) (v : Version) where
   pub data ErrorInValue : List ℕ → Refusal → Type 0 where
     value_ends : ErrorInValue [] (corrupted UnexpectedEnd)
-    unknown_code : {b : ℕ} {rest : List ℕ} → 13 < b → ErrorInValue (b ∷ rest) (corrupted (UnknownTypeCode b))
+    unknown_code : {b : ℕ} {rest : List ℕ} → last_code < b → ErrorInValue (b ∷ rest) (corrupted (UnknownTypeCode b))
     float_code : {rest : List ℕ} → ErrorInValue (6 ∷ rest) (corrupted FloatCode)
     in_leaf : {code : ℕ} {rest : List ℕ} {c : Cause} → ErrorInLeaf v rest code c → ErrorInValue (code ∷ rest) (corrupted c)
     in_legacy : {rest : List ℕ} {c : Cause} → ErrorInLegacy rest c → ErrorInValue (8 ∷ rest) (corrupted c)

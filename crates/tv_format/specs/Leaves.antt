@@ -1,6 +1,6 @@
 -- The types of leaves: the form of what a leaf of each holds, its code in the store, and its type byte in a heap. What is said of leaves elsewhere is said of
 -- their type and of what they hold.
-use Rattle.std.specs.Prelude.{◌==◌, ℕ, ℤ, Bool, true, false, List, Option, Some, None, if◌then◌else◌}
+use Rattle.std.specs.Prelude.{◌==◌, ℕ, ℤ, Bool, true, false, List, [], ◌∷◌, Option, Some, None, if◌then◌else◌}
 use Rattle.tv_format.specs.Content.{Content, no_content, truth_content, unsigned_content, signed_content, wide_content, text_content, bytes_content, tokens_content}
 use Rattle.tv_format.specs.Tree.{Token, Leaf, null, text, unsigned, signed, boolean, date, facet, bytes, ip_address, tokenized}
 use Rattle.tv_format.specs.Version.{Version, Scale, plain, date_scale}
@@ -59,7 +59,7 @@ form types.Bytes = forms.Bytes
 form types.IpAddr = forms.Wide
 form types.PreTokStr = forms.Tokens
 
--- the code in the store, and the type of a code
+-- the code in the store
 abbrev pub store_code : LeafType → ℕ
 store_code types.Str = 0
 store_code types.U64 = 1
@@ -72,18 +72,21 @@ store_code types.Bool = 9
 store_code types.IpAddr = 10
 store_code types.Null = 11
 
+-- the largest code of a value in the store: no type is known above it
+abbrev pub last_code : ℕ
+last_code = 13
+
+abbrev pub leaf_types : List LeafType
+leaf_types =
+    types.Str ∷ types.U64 ∷ types.I64 ∷ types.Facet ∷ types.Bytes ∷ types.Date ∷ types.PreTokStr ∷ types.Bool ∷ types.IpAddr ∷ types.Null ∷ []
+
+-- the first of these types that has the code, and the type of a code
+abbrev pub first_with : ℕ → List LeafType → Option LeafType
+first_with code [] = None
+first_with code (t ∷ ts) = if store_code t == code then Some t else first_with code ts
+
 abbrev pub type_with : ℕ → Option LeafType
-type_with code =
-    if code == 0 then Some types.Str else (
-    if code == 1 then Some types.U64 else (
-    if code == 2 then Some types.I64 else (
-    if code == 3 then Some types.Facet else (
-    if code == 4 then Some types.Bytes else (
-    if code == 5 then Some types.Date else (
-    if code == 7 then Some types.PreTokStr else (
-    if code == 9 then Some types.Bool else (
-    if code == 10 then Some types.IpAddr else (
-    if code == 11 then Some types.Null else None)))))))))
+type_with code = first_with code leaf_types
 
 -- the type byte in a heap; 4 is unused
 abbrev pub heap_code : LeafType → ℕ

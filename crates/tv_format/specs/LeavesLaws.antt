@@ -1,8 +1,10 @@
 -- A leaf is its type and what it holds, and a code is that of one type.
-use Rattle.std.specs.Prelude.{◌≡◌, ◌≢◌, ℕ, zero, suc, ◌<◌, Option, Some, None, is_some, true, refl}
-use Rattle.std.proofs.Common.{ap, sym, ◌∙◌, arith}
+use Rattle.std.specs.Prelude.{◌≡◌, ◌≢◌, ◌==◌, ◌||◌, ◌&&◌, ℕ, zero, suc, ◌<◌, ◌≤◌, Bool, true, false, Option, Some, None, is_some, refl}
+use Rattle.std.proofs.Common.{ap, sym, ◌∙◌, arith, subst, inl, inr}
+use Rattle.std.proofs.lemmas.Bool.{cases_lt}
+use Rattle.std.proofs.lemmas.Bool.Decides.{eqb_tells}
 use Rattle.tv_format.specs.Content.{Content, no_content, form_of}
-use Rattle.tv_format.specs.Leaves.{type_of, content, leaf_with, form, store_code, type_with, heap_code}
+use Rattle.tv_format.specs.Leaves.{type_of, content, leaf_with, form, store_code, last_code, type_with, heap_code}
 use Rattle.tv_format.specs.Tree.{Leaf, null}
 use Rattle.tv_format.specs.declared.leaf_type.LeafType.{LeafType}
 use Rattle.tv_format.specs.declared.leaf_type.LeafType.TheVariants as types
@@ -68,28 +70,63 @@ one_code s t e = some_is s t (sym (coded s) ∙ ap type_with e ∙ coded t)
     some_is : (s t : LeafType) → Some s ≡ Some t → s ≡ t
     some_is s t e = cc
 
--- codes above are those of arrays and objects, and 8 that of legacy objects
-pub small_code : (t : LeafType) → (store_code t < 12) × (store_code t ≡ 8 → ⊥) × (store_code t ≡ 6 → ⊥)
-small_code types.Null = (omega arith, λ e. omega arith, λ e. omega arith)
-small_code _ = (omega arith, λ e. omega arith, λ e. omega arith)
+-- what a leaf's code is: at most the last one, and not that of floating-point numbers, legacy objects, arrays or objects
+pub record IsLeafCode (code : ℕ) : Type 0 where
+  pub known : code ≤ last_code
+  pub no_float : code ≢ 6
+  pub no_legacy : code ≢ 8
+  pub no_array : code ≢ 12
+  pub no_object : code ≢ 13
+
+pub leaf_coded : (t : LeafType) → IsLeafCode (store_code t)
+leaf_coded types.Null = record { known = omega arith; no_float = λ e. omega arith; no_legacy = λ e. omega arith; no_array = λ e. omega arith; no_object = λ e. omega arith }
+leaf_coded _ = record { known = omega arith; no_float = λ e. omega arith; no_legacy = λ e. omega arith; no_array = λ e. omega arith; no_object = λ e. omega arith }
 
 abbrev or_text : Option LeafType → LeafType
 or_text (Some t) = t
 or_text None = types.Str
 
-has_type : (code : ℕ) → code < 12 → code ≢ 6 → code ≢ 8 → is_some (type_with code) ≡ true
-has_type (suc (suc (suc (suc (suc (suc zero)))))) small float legacy = absurd (float refl)
-has_type (suc (suc (suc (suc (suc (suc (suc (suc zero)))))))) small float legacy = absurd (legacy refl)
-has_type (suc (suc (suc (suc (suc (suc (suc (suc (suc (suc (suc (suc n)))))))))))) small float legacy = absurd (omega (arith, small))
-has_type _ small float legacy = refl
+-- the code is that of a leaf's type, or one of the four others
+abbrev is_known : ℕ → Bool
+is_known code = (code == 6) || ((code == 8) || ((code == 12) || ((code == 13) || (store_code (or_text (type_with code)) == code))))
 
-coded_back : (code : ℕ) → code < 12 → is_some (type_with code) ≡ true → store_code (or_text (type_with code)) ≡ code
-coded_back (suc (suc (suc (suc (suc (suc (suc (suc (suc (suc (suc (suc n)))))))))))) small there = absurd (omega (arith, small))
-coded_back _ small there = cc
+abbrev all_known : ℕ → Bool
+all_known zero = is_known zero
+all_known (suc n) = is_known (suc n) && all_known n
 
--- every other code is one of a leaf
-pub code_of_leaf : (code : ℕ) → code < 12 → code ≢ 6 → code ≢ 8 → (t : LeafType) × (store_code t ≡ code)
-code_of_leaf code small float legacy = (or_text (type_with code), coded_back code small (has_type code small float legacy))
+both : (a b : Bool) → (a && b) ≡ true → (a ≡ true) × (b ≡ true)
+both true true e = (refl, refl)
+both true false e = cc
+both false b e = cc
+
+up_to : (n code : ℕ) → all_known n ≡ true → code ≤ n → is_known code ≡ true
+up_to zero code all small = let e : code ≡ 0 = omega arith in subst (λ m. is_known m ≡ true) (sym e) all
+up_to (suc n) code all small =
+    let tests = both (is_known (suc n)) (all_known n) all in
+    elim (cases_lt code (suc n)) [
+      | inl less ↦ up_to n code tests.1 (omega (arith, less))
+      | inr more ↦ let e : code ≡ suc n = omega (arith, more, small) in subst (λ m. is_known m ≡ true) (sym e) tests.0
+    ]
+
+differs : (m n : ℕ) → m ≢ n → (m == n) ≡ false
+differs m n h = elim (eqb_tells m n) [ inl p ↦ absurd (h p.1) | inr p ↦ p.0 ]
+
+or_else : (a b : Bool) → (a || b) ≡ true → a ≡ false → b ≡ true
+or_else true b e f = cc
+or_else false b e f = e
+
+is_same : (m n : ℕ) → (m == n) ≡ true → m ≡ n
+is_same m n e = elim (eqb_tells m n) [ inl p ↦ p.1 | inr p ↦ absurd (let f : true ≡ false = sym e ∙ p.0 in cc) ]
+
+-- every such code is one of a leaf
+pub code_of_leaf : (code : ℕ) → IsLeafCode code → (t : LeafType) × (store_code t ≡ code)
+code_of_leaf code c =
+    let found = up_to last_code code refl c.known in
+    let no_float = or_else (code == 6) _ found (differs code 6 c.no_float) in
+    let no_legacy = or_else (code == 8) _ no_float (differs code 8 c.no_legacy) in
+    let no_array = or_else (code == 12) _ no_legacy (differs code 12 c.no_array) in
+    let same = or_else (code == 13) _ no_array (differs code 13 c.no_object) in
+    (or_text (type_with code), is_same (store_code (or_text (type_with code))) code same)
 
 -- a type byte of a heap is that of one type
 same_code : (s t : LeafType) → heap_code s ≡ heap_code t → store_code s ≡ store_code t

@@ -99,6 +99,7 @@ impl LeafType {
             _ => None,
         }
     }
+
     /// The type byte of its values in a heap.
     #[inline(always)]
     pub fn heap_code(self) -> u8

@@ -1,14 +1,20 @@
 -- Reading the type of a value agrees with its codes.
-use Rattle.std.proofs.Common.{◌≡◌, ◌≢◌, ◌<◌, if◌then◌else◌, ℕ, zero, suc, Bool, true, false, eqb, List, [], ◌∷◌, ◌++◌, Option, Some, None, Result, Ok, Err, refl, sym, ap, subst, ◌∙◌, arith}
+use Rattle.std.proofs.Common.{◌≡◌, ◌≢◌, ◌<◌, if◌then◌else◌, ℕ, zero, suc, Bool, true, false, eqb, List, [], ◌∷◌, ◌++◌, Result, Ok, Err, refl, sym, ap, subst, ◌∙◌, arith, inl, inr}
+use Rattle.std.proofs.lemmas.Bool.{cases_lt}
+use Rattle.std.proofs.lemmas.Bool.Decides.{eqb_tells}
 use Rattle.tv_base.specs.declared.cause.Cause.{Cause}
 use Rattle.tv_base.specs.declared.cause.Cause.TheVariants.{UnexpectedEnd, UnknownTypeCode, FloatCode, UnknownExtCode}
 use Rattle.tv_base.specs.Reading.{u8_at}
 use Rattle.tv_base.proofs.Agrees.{Agrees, Shown, ok_is, err_is, no_ok, same_start}
 use Rattle.tv_base.proofs.AgreeWidths.{ended_shown}
+use Rattle.tv_format.specs.Leaves.{store_code, last_code}
+use Rattle.tv_format.specs.LeavesLaws.{code_of_leaf}
+use Rattle.tv_format.specs.declared.leaf_type.LeafType.{LeafType}
+use Rattle.tv_format.specs.declared.leaf_type.LeafType.TheVariants as leaves
 use Rattle.tv_reader.specs.declared.value_type.ValueType.{ValueType}
 use Rattle.tv_reader.specs.declared.value_type.ValueType.TheVariants as types
 use Rattle.tv_reader.specs.Kinds.{extension_of, extension_at, known_kind, kind_of, kind_at}
-use Rattle.tv_reader.specs.ValueType.{type_code, type_with, coded, IsCoded, ErrorInCode, no_code, unknown_type, float_type, no_extension_code, unknown_extension}
+use Rattle.tv_reader.specs.ValueType.{of_leaf, type_code, type_with, coded, IsCoded, ErrorInCode, no_code, unknown_type, float_type, no_extension_code, unknown_extension}
 use Rattle.tv_reader.proofs.Codes.{differs, above, no_type}
 
 passes : {A : Type 0} (test : Bool) (x y : A) → test ≡ false → (if test then x else y) ≡ y
@@ -16,7 +22,7 @@ passes true x y e = absurd (let f : true ≡ false = e in cc)
 passes false x y e = refl
 
 -- a code above the largest
-far : (code : ℕ) (bytes : List ℕ) → 13 < code → kind_of code bytes ≡ Err (UnknownTypeCode code, bytes)
+far : (code : ℕ) (bytes : List ℕ) → last_code < code → kind_of code bytes ≡ Err (UnknownTypeCode code, bytes)
 far code bytes h =
     let known = known_kind code bytes (type_with code) in
     let no_float : Result (ValueType × List ℕ) (Cause × List ℕ) = if eqb code 6 then Err (FloatCode, bytes) else known in
@@ -84,7 +90,7 @@ extension_coding (suc n ∷ rest) =
     let other : suc n ≢ 0 = λ p. omega (arith, p) in
     malformed_extension (suc n) rest (UnknownExtCode (suc n)) (λ e. cc) (extension_far (suc n) rest other) (extension_far (suc n) [] other) (unknown_extension other)
 
-far_coding : (code : ℕ) (rest : List ℕ) → 13 < code → Coding (code ∷ rest)
+far_coding : (code : ℕ) (rest : List ℕ) → last_code < code → Coding (code ∷ rest)
 unfolding kind_at u8_at
 far_coding code rest h = malformed_byte code rest (UnknownTypeCode code) (λ e. cc) (far code rest h) (far code [] h) (unknown_type h)
 
@@ -92,15 +98,39 @@ float_coding : (rest : List ℕ) → Coding (6 ∷ rest)
 unfolding kind_at u8_at
 float_coding rest = malformed_byte 6 rest FloatCode (λ e. cc) refl refl float_type
 
-abbrev kind_or_string : Option ValueType → ValueType
-kind_or_string (Some kind) = kind
-kind_or_string None = types.String
+-- but for that of a text with its tokens, all that stands before a leaf is its code
+before_leaf : (t : LeafType) → store_code t ≢ 7 → coded (of_leaf t) ≡ store_code t ∷ []
+before_leaf leaves.PreTokStr other = absurd (other refl)
+before_leaf _ other = refl
+
+leaf_coding : (code : ℕ) (rest : List ℕ) → code ≢ 7 → (found : (t : LeafType) × (store_code t ≡ code)) → Coding (code ∷ rest)
+leaf_coding code rest other found =
+    known (of_leaf found.0) rest (ap (λ n. n ∷ rest) (sym found.1) ∙ ap (λ (l : List ℕ). l ++ rest) (sym (before_leaf found.0 (λ e. other (sym found.1 ∙ e)))))
+
+leaf_or_far : (code : ℕ) (rest : List ℕ) → code ≢ 6 → code ≢ 7 → code ≢ 8 → code ≢ 12 → code ≢ 13 → Coding (code ∷ rest)
+leaf_or_far code rest not_float not_extended not_legacy not_array not_object = elim (cases_lt code (suc last_code)) as (λ _. Coding (code ∷ rest)) [
+  | inl less ↦ leaf_coding code rest not_extended (code_of_leaf code (record { known = omega (arith, less); no_float = not_float; no_legacy = not_legacy; no_array = not_array; no_object = not_object }))
+  | inr more ↦ far_coding code rest (omega (arith, more))
+]
+
+behind_extension : (code : ℕ) (rest : List ℕ) → code ≢ 6 → code ≢ 7 → Coding (code ∷ rest)
+behind_extension code rest not_float not_extended =
+    let Goal = λ (n : ℕ). Coding (n ∷ rest) in
+    elim (eqb_tells code 8) as (λ _. Goal code) [
+      | inl p ↦ subst Goal (sym p.1) (known types.JSONObject rest refl)
+      | inr p ↦ elim (eqb_tells code 12) as (λ _. Goal code) [
+        | inl q ↦ subst Goal (sym q.1) (known types.Array rest refl)
+        | inr q ↦ elim (eqb_tells code 13) as (λ _. Goal code) [ inl r ↦ subst Goal (sym r.1) (known types.Object rest refl) | inr r ↦ leaf_or_far code rest not_float not_extended p.1 q.1 r.1 ]
+      ]
+    ]
 
 code_coding : (code : ℕ) (rest : List ℕ) → Coding (code ∷ rest)
-code_coding (suc (suc (suc (suc (suc (suc zero)))))) rest = float_coding rest
-code_coding (suc (suc (suc (suc (suc (suc (suc zero))))))) rest = extension_coding rest
-code_coding (suc (suc (suc (suc (suc (suc (suc (suc (suc (suc (suc (suc (suc (suc n)))))))))))))) rest = far_coding (suc (suc (suc (suc (suc (suc (suc (suc (suc (suc (suc (suc (suc (suc n)))))))))))))) rest (omega arith)
-code_coding code rest = known (kind_or_string (type_with code)) rest refl
+code_coding code rest =
+    let Goal = λ (n : ℕ). Coding (n ∷ rest) in
+    elim (eqb_tells code 6) as (λ _. Goal code) [
+      | inl p ↦ subst Goal (sym p.1) (float_coding rest)
+      | inr p ↦ elim (eqb_tells code 7) as (λ _. Goal code) [ inl q ↦ subst Goal (sym q.1) (extension_coding rest) | inr q ↦ behind_extension code rest p.1 q.1 ]
+    ]
 
 coding : (bytes : List ℕ) → Coding bytes
 coding [] = malformed UnexpectedEnd [] nothing_read no_code (ended_shown kind_at [] [] UnexpectedEnd nothing_read nothing_read)

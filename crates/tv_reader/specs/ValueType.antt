@@ -3,7 +3,7 @@ use Rattle.std.specs.Prelude.{◌==◌, ◌≡◌, ◌≢◌, ◌<◌, ℕ, List
 use Rattle.tv_base.specs.declared.cause.Cause.{Cause}
 use Rattle.tv_base.specs.declared.cause.Cause.TheVariants.{UnexpectedEnd, UnknownTypeCode, FloatCode, UnknownExtCode}
 use Rattle.tv_format.specs.Leaves as coded_leaves
-use Rattle.tv_format.specs.Leaves.{store_code}
+use Rattle.tv_format.specs.Leaves.{store_code, last_code}
 use Rattle.tv_format.specs.declared.leaf_type.LeafType.{LeafType}
 use Rattle.tv_format.specs.declared.leaf_type.LeafType.TheVariants as leaves
 use Rattle.tv_reader.specs.declared.value_type.ValueType.{ValueType}
@@ -64,7 +64,7 @@ IsCoded b kind = b ≡ coded kind
 -- of a value's code: there is none, it is unknown, or it is that of floating-point numbers
 pub data ErrorInCode : List ℕ → Cause → Type 0 where
   no_code : ErrorInCode [] UnexpectedEnd
-  unknown_type : {b : ℕ} {rest : List ℕ} → 13 < b → ErrorInCode (b ∷ rest) (UnknownTypeCode b)
+  unknown_type : {b : ℕ} {rest : List ℕ} → last_code < b → ErrorInCode (b ∷ rest) (UnknownTypeCode b)
   float_type : {rest : List ℕ} → ErrorInCode (6 ∷ rest) FloatCode
   no_extension_code : ErrorInCode (7 ∷ []) UnexpectedEnd
   unknown_extension : {b : ℕ} {rest : List ℕ} → b ≢ 0 → ErrorInCode (7 ∷ b ∷ rest) (UnknownExtCode b)

@@ -3,7 +3,7 @@ use Rattle.std.specs.Prelude.{◌≡◌, List, ℕ, ◌∷◌, ◌++◌, String}
 use Rattle.std.specs.declared.alloc.Global.{Global}
 use Rattle.std.proofs.Common.{subst, inl, inr}
 use Rattle.tv_format.specs.Leaves.{type_of, store_code}
-use Rattle.tv_format.specs.LeavesLaws.{small_code}
+use Rattle.tv_format.specs.LeavesLaws.{leaf_coded}
 use Rattle.tv_format.specs.Encoding.{Encodes, NoLegacy}
 use Rattle.tv_format.specs.Tree.{Tree, leaf, array, object}
 use Rattle.tv_format.specs.Version.{Version}
@@ -17,7 +17,7 @@ use Rattle.tv_typed.specs.LegacyObjects.{MembersRefused, in_other, in_legacy_obj
 
 -- behind the code of a legacy object nothing else is encoded
 no_other : (v : Version) (a : List ℕ) (t : Tree) → Encodes NoLegacy v (8 ∷ a) t → ⊥
-no_other v a (leaf l) p = let e = p.joined in let same : store_code (type_of l) ≡ 8 = cc in (small_code (type_of l)).1 same
+no_other v a (leaf l) p = let e = p.joined in let same : store_code (type_of l) ≡ 8 = cc in (leaf_coded (type_of l)).no_legacy same
 no_other v a (array ts) p = let e = p.joined in absurd cc
 no_other v a (object es) (inl p) = let e = p.joined in absurd cc
 no_other v a (object es) (inr p) = p.encoded
