@@ -60,9 +60,6 @@ pub key_found : (version : WriteVersion) (bytes behind rest k : List ℕ) → (v
 key_found versions.V2 bytes behind rest k coded bare h = coded_found bytes behind rest k (coded refl) h
 key_found versions.V3 bytes behind rest k coded bare h = subst (λ z. Begins (λ b. Text b k) z rest) (sym (bare refl)) h
 
-pub number_as : (bytes rest : List ℕ) (m n : ℕ) → m ≡ n → Begins (λ b. VNum b m) bytes rest → Begins (λ b. VNum b n) bytes rest
-number_as bytes rest m n e h = subst (λ k. Begins (λ b. VNum b k) bytes rest) e h
-
 -- ---- a leaf
 
 -- the versions that are written have no scale

@@ -104,9 +104,6 @@ pairs_taken v old new whole rest n h = record {
   document = h.document;
 }
 
-pub pairs_counted : (v : Version) (old new : HeapPairs) (whole rest : List ℕ) (n : ℕ) → AddsEncoded v old new whole rest n → length (document_of new) ≡ length (document_of old) + n
-pairs_counted v old new whole rest n h = ap length h.document ∙ length-append (document_of old) h.pairs ∙ ap (λ z. length (document_of old) + z) h.counted
-
 -- the reading goes on with them
 pub reading_goes : (v : Version) (r new : Reading) (n m : ℕ) (document more : HeapPairs) (taken : List ℕ) → r.announced ≡ Some n → r.field ≡ None → document_of document ≡ built r.builder → AddsPairs v document more taken m
     → parts_read new ≡ document_parts n (document_of more) → Advances Legacy v r new taken

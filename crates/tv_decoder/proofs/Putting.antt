@@ -87,29 +87,6 @@ stays r h other = record {
   trades = trades_from _ (append-nil (parts_read r)) same;
 }
 
--- a field was read
-pub no_field : (r : Reading) → IsOpen r → r.field ≡ None → ⊥
-no_field r h e = none r.announced (subst (λ z. IsWithin r.announced (built r.builder) z (state_of r.builder)) e h.within)
-  where
-    none : (a : Option ℕ) → IsWithin a (built r.builder) None (state_of r.builder) → ⊥
-    none None w = w
-    none (Some n) w = w
-
-pub no_number : (r : Reading) → IsOpen r → r.announced ≡ None → ⊥
-no_number r h e = subst (λ z. IsWithin z (built r.builder) r.field (state_of r.builder)) e h.within
-
--- the next pair can be counted
-pub lacks_pair : (r : Reading) → IsOpen r → (n : ℕ) × (r.announced ≡ Some n) × (r.finished < n)
-lacks_pair r h = lacks r.announced refl h.within
-  where
-    lacks : (a : Option ℕ) → r.announced ≡ a → IsWithin a (built r.builder) r.field (state_of r.builder) → (n : ℕ) × (r.announced ≡ Some n) × (r.finished < n)
-    lacks None e w = absurd w
-    lacks (Some n) e w = (n, e, omega (arith, less r.field w, h.counted))
-      where
-        less : (f : Option ℕ) → IsWithin (Some n) (built r.builder) f (state_of r.builder) → length (built r.builder) < n
-        less None w = absurd w
-        less (Some f) w = w.0
-
 -- ---- a call of the builder, and then what it closes
 
 pub trades_at : (a f : Option ℕ) (d : Document) (old new : State) (ps : List Part) → HasField f → IsPlace a d f old → Trades (parts_of old ++ ps) (parts_of new) → Trades (parts_at a d f old ++ ps) (parts_at a d f new)

@@ -137,10 +137,6 @@ module _ {S : Type 0} {is_known : S → Type 0} {left : S → List ℕ} {failure
   pub pairs_more : {old mid new : S} {i j k : ℕ} (after : Reading) → Finds is_known left failures old i mid j (Ok r) (Goes v begun) Nothing → Finds is_known left failures mid j new k (Ok after) (λ b z. Advances Legacy v r z b) Nothing → Finds is_known left failures old i new k (Ok after) (Goes v begun) Nothing
   pairs_more after p h = finds_then (Goes v begun) Nothing (λ a b z q s. two_steps v begun r z a b q s) (λ a w c q f. f) (λ a f q _ none start byte last. none) p h
 
-  pub pairs_fail : {old mid new : S} {i j k : ℕ} (e : DeserializeError) → Finds is_known left failures old i mid j (Ok r) (Goes v begun) Nothing → Finds {X = Reading} is_known left failures mid j new k (Err e) (λ b z. Advances Legacy v r z b) Nothing
-      → Finds is_known left failures old i new k (Err e) (EncodesBehind v begun) (NoPrefix v begun)
-  pairs_fail e p h = finds_then (EncodesBehind v begun) (NoPrefix v begun) (λ a b z q s. absurd s) (λ a w c q f. absurd f) (λ a f q _ none start byte last. absurd none) p (finds_fails (λ b z. ⊥) Nothing (λ w c f. f) h)
-
   -- all pairs are finished
   pub all_finished : {old mid : S} {i j : ℕ} (document : HeapPairs) → IsSound r → IsDone r → document_of document ≡ built r.builder → Finds is_known left failures old i mid j (Ok r) (Goes v begun) Nothing
       → Finds is_known left failures old i mid j (Ok document) (EncodesBehind v begun) (NoPrefix v begun)
@@ -179,10 +175,6 @@ begun_encodes v n m empty document a b none number h =
 module _ {S : Type 0} {is_known : S → Type 0} {left : S → List ℕ} {failures : S → Failures} (v : Version) (n : ℕ) (empty document : HeapPairs) (none : document_of empty ≡ []) where
   pub begun_finds : {old mid new : S} {i j k : ℕ} (m : ℕ) → FindsLean is_known left failures old i mid j (Ok n) VNum (Corrupt ErrorInNumber) → Finds is_known left failures mid j new k (Ok m) (λ b z. AddsPairs v empty document b z) Nothing → Finds is_known left failures old i new k (Ok m) (Begun v n document) Nothing
   begun_finds m p h = finds_then (Begun v n document) Nothing (λ a b z q s. begun_encodes v n z empty document a b none q s) (λ a w c q f. f) (λ a f q _ never start byte last. never) p h
-
-  pub begun_fails : {old mid new : S} {i j k : ℕ} (e : DeserializeError) → FindsLean is_known left failures old i mid j (Ok n) VNum (Corrupt ErrorInNumber) → Finds {X = ℕ} is_known left failures mid j new k (Err e) (λ b z. AddsPairs v empty document b z) Nothing
-      → Finds is_known left failures old i new k (Err e) (EncodesRead v) (NoDocument v)
-  begun_fails e p h = finds_then (EncodesRead v) (NoDocument v) (λ a b z q s. absurd s) (λ a w c q f. absurd f) (λ a f q _ never start byte last. absurd never) p (finds_fails (λ b z. ⊥) Nothing (λ w c f. f) h)
 
   -- these are all
   pub begun_ends : {old new : S} {i k : ℕ} (m : ℕ) → m ≡ n → Finds is_known left failures old i new k (Ok m) (Begun v n document) Nothing → Finds is_known left failures old i new k (Ok document) (EncodesRead v) (NoDocument v)

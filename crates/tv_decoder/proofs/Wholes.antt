@@ -59,14 +59,6 @@ pub grows_of : (old new : Reading) (ps : List Part) (result : Result (Unit {0}) 
 grows_of old new ps (Ok x) h = h.grows
 grows_of old new ps (Err e) h = tt
 
-pub bytes_grow : (old new : Reading) (more : List ℕ) (ps : List Part) (result : Result (Unit {0}) DeserializeError) → PutsBytes old new more ps result → OnOk result (Grows old new)
-bytes_grow old new more ps (Ok x) h = h.grows
-bytes_grow old new more ps (Err e) h = tt
-
-pub bytes_sound : (old new : Reading) (more : List ℕ) (ps : List Part) (result : Result (Unit {0}) DeserializeError) → PutsBytes old new more ps result → OnOk result (IsSound new)
-bytes_sound old new more ps (Ok x) h = h.sound
-bytes_sound old new more ps (Err e) h = tt
-
 pub keeps_of : (old new : Reading) (result : Result (Unit {0}) DeserializeError) → OnErr result (LetGo old new) → OnErr result (KeepsPairs old new)
 keeps_of old new (Ok x) h = tt
 keeps_of old new (Err e) h = inl h

@@ -1,7 +1,6 @@
 -- Reading a type is reading a byte, and types have a code.
 use Rattle.std.proofs.Common.{◌≡◌, ◌≢◌, ℕ, List, [], ◌∷◌, ◌++◌, Result, Ok, Err, refl, sym, ap, subst, ◌∙◌, add-zero, arith}
-use Rattle.std.specs.Prelude.{IsErrOf, ◌==◌, Option, Some, None, if◌then◌else◌}
-use Rattle.std.specs.Coded.{Coded, code_by, coded_ℕ}
+use Rattle.std.specs.Prelude.{IsErrOf}
 use Rattle.tv_base.specs.declared.cause.Cause.{Cause}
 use Rattle.tv_base.specs.declared.cause.Cause.TheVariants.{UnexpectedEnd, UnknownTypeCode, TooLong}
 use Rattle.tv_base.specs.declared.read_error.ReadError.{ReadError}
@@ -10,11 +9,7 @@ use Rattle.tv_base.specs.Number.{Fixed, no_bytes, low_byte}
 use Rattle.tv_base.specs.ErrorInPart.{ErrorInBytes, bytes_end}
 use Rattle.tv_base.specs.ReadsAs.{IsRead, Shows, ReadsAs}
 use Rattle.tv_base.specs.Source.{Failures}
-use Rattle.tv_format.specs.Leaves.{store_code, type_with}
-use Rattle.tv_format.specs.declared.leaf_type.LeafType.{LeafType}
-use Rattle.tv_format.specs.declared.leaf_type.LeafType.TheVariants as leaves
 use Rattle.tv_heap.specs.declared.value_type.ValueType.{ValueType}
-use Rattle.tv_heap.specs.declared.value_type.ValueType.TheVariants as types
 use Rattle.tv_heap.specs.TypeByte.{ErrorInType, no_byte, no_type}
 use Rattle.tv_heap.specs.TypeCode.{type_code}
 
@@ -86,26 +81,3 @@ other_byte_read is_known left failures old new code other r = record {
   stays_known = r.stays_known;
   counts = r.counts;
 }
-
--- ---- a code for types, so that two are equal in one way at most
-
-abbrev number : ValueType → ℕ
-number (types.Leaf t) = store_code t
-number types.Array = 12
-number types.Object = 13
-
-abbrev of_number : ℕ → Option LeafType → ValueType
-of_number n (Some t) = types.Leaf t
-of_number n None = if n == 12 then types.Array else types.Object
-
-leaf_back : (t : LeafType) → type_with (store_code t) ≡ Some t
-leaf_back leaves.Null = refl
-leaf_back _ = refl
-
-type_back : (t : ValueType) → of_number (number t) (type_with (number t)) ≡ t
-type_back (types.Leaf t) = ap (of_number (store_code t)) (leaf_back t)
-type_back types.Array = refl
-type_back types.Object = refl
-
-pub coded_type : Coded ValueType
-coded_type = code_by ℕ coded_ℕ number (λ n. of_number n (type_with n)) type_back

@@ -1,21 +1,18 @@
 -- The weight of what stands in a heap is within its room.
-use Rattle.std.proofs.Common.{◌≡◌, ℕ, ◌+◌, ◌^◌, ◌<◌, ◌≤◌, List, ◌++◌, length, ap, arith, inl, inr}
+use Rattle.std.proofs.Common.{◌≡◌, ℕ, ◌+◌, ◌^◌, ◌<◌, ◌≤◌, List, ◌++◌, length, ap, arith}
 use Rattle.std.specs.List.{flat_map}
-use Rattle.std.proofs.lemmas.Bool.{cases_lt}
 use Rattle.std.proofs.lemmas.List.{length-append}
 use Rattle.tv_base.specs.Number.{vnum}
 use Rattle.tv_base.specs.Parts.{short_sized}
-use Rattle.tv_value.specs.Lent.{leaf_of}
 use Rattle.tv_format.specs.Short.{short_token, short_tokenized}
 use Rattle.tv_format.specs.Content.{Content, text_content, bytes_content, tokens_content}
 use Rattle.tv_format.specs.Leaves.{content}
 use Rattle.tv_format.specs.Tree.{Leaf, Tree, leaf, array, object, Elements, no_elements, element, Entries, no_entries, entry}
-use Rattle.tv_value.specs.declared.leaf.ReferenceValueLeaf.{ReferenceValueLeaf}
 use Rattle.tv_heap.specs.LeafBytes.{leaf_bytes}
 use Rattle.tv_heap.specs.Reads.{Stands, ContentStands, LeafStands, Reads, ReadsElements, ReadsEntries}
 use Rattle.tv_heap.specs.Room.{leaf_room, room, elements_room, entries_room}
 use Rattle.tv_heap.specs.Weight.{tree_weight, elements_weight, entries_weight}
-use Rattle.tv_heap.proofs.Writes.{vnum_five, sized_length, FitsHeap, content_within, leaf_within}
+use Rattle.tv_heap.proofs.Writes.{sized_length, FitsHeap, content_within}
 
 -- what stands in a heap isn't longer
 stands_length : (heap : List ℕ) (at : ℕ) (P : List ℕ → Type 0) (s : Stands heap at P) → length s.whole ≤ length heap
@@ -49,11 +46,3 @@ mutual
       let s = h.reads.1.stands in
       let q = h.others in
       omega (arith, sized_length k s.sized.fits, reads_weigh heap q.code q.at t small q.reads, entries_weigh heap parent q.rest es small q.others)
-
--- what has no room by its bytes has none by its room
-pub leaf_over : (len : ℕ) (l : ReferenceValueLeaf) → 4294967295 < len + length (leaf_bytes (leaf_of l)) → 4294967295 < len + leaf_room (leaf_of l)
-leaf_over len l h = elim (cases_lt (leaf_room (leaf_of l)) (2 ^ 32)) [ inl p ↦ omega (arith, h, leaf_within l p) | inr p ↦ omega (arith, p) ]
-
--- and so have bytes behind their length
-pub sized_over : (len n : ℕ) → 4294967295 < len + (length (vnum n) + n) → 4294967295 < len + (5 + n)
-sized_over len n h = elim (cases_lt n (2 ^ 32)) [ inl p ↦ omega (arith, h, vnum_five n p) | inr p ↦ omega (arith, p) ]

@@ -1,5 +1,5 @@
 -- What a call that writes a value at the end of a heap leaves.
-use Rattle.std.specs.Prelude.{◌≡◌, ◌≢◌, ℕ, ◌+◌, ◌<◌, ◌≤◌, ◌^◌, List, ◌++◌, length}
+use Rattle.std.specs.Prelude.{◌≡◌, ◌≢◌, ℕ, ◌<◌, ◌≤◌, ◌^◌, List, ◌++◌, length}
 use Rattle.tv_format.specs.Tree.{Tree}
 use Rattle.tv_heap.specs.Room.{room}
 use Rattle.tv_heap.specs.Reads.{Reads}
