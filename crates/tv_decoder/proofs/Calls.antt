@@ -1,5 +1,5 @@
 -- A call of the builder, as it leaves what is read.
-use Rattle.std.proofs.Common.{◌≡◌, ℕ, ◌+◌, ◌-◌, ◌<◌, nat_eq, List, [], ◌∷◌, ◌++◌, length, Option, Some, None, Result, Ok, Err, OnErr, sym, subst, length-append, arith, inl, inr}
+use Rattle.std.proofs.Common.{◌≡◌, ℕ, ◌+◌, ◌-◌, ◌<◌, nat_eq, List, [], ◌∷◌, ◌++◌, length, Option, Some, None, Result, Ok, Err, OnErr, sym, subst, arith, inl, inr}
 use Rattle.std.proofs.lemmas.Bool.{cond-true, cond-false}
 use Rattle.std.proofs.lemmas.Bool.Decides.{eqb_tells}
 use Rattle.tv_builder.specs.declared.awaits.Awaits.{Awaits}
@@ -12,7 +12,7 @@ use Rattle.tv_builder.specs.declared.list_kind.ListKind.{ListKind}
 use Rattle.tv_builder.specs.declared.list_kind.ListKind.TheVariants.{Array, Object}
 use Rattle.tv_builder.specs.Behind.{open_parts}
 use Rattle.tv_builder.specs.Parts.{Part, Trades}
-use Rattle.tv_builder.specs.State.{OpenList, State, complete, in_lists, in_bytes, list_tree, with_content, and_value, and_list, and_head, and_end, awaited, head_awaits, next_in, AreLists, OthersAwait, HeadNext, IsState, state_room, parts_of}
+use Rattle.tv_builder.specs.State.{OpenList, State, complete, in_lists, in_bytes, list_tree, with_content, and_value, and_list, and_head, and_end, awaited, head_awaits, AreLists, OthersAwait, HeadNext, IsState, state_room, parts_of}
 use Rattle.tv_builder.proofs.Calls.{head_next}
 use Rattle.tv_builder.proofs.Ending.{content_comes}
 use Rattle.tv_builder.proofs.Giving.{comes, value_is}
@@ -21,7 +21,7 @@ use Rattle.tv_builder.specs.declared.pair_builder.PairBuilder.{PairBuilder}
 use Rattle.tv_builder.specs.Builder.{built, state_of, Overfull, Builds}
 use Rattle.tv_heap.specs.Room.{document_room}
 use Rattle.tv_reader.specs.declared.error.DeserializeError.{DeserializeError}
-use Rattle.tv_format.specs.Tree.{Tree, leaf, text, Document}
+use Rattle.tv_format.specs.Tree.{Tree, Document}
 use Rattle.tv_decoder.specs.Errors.{build_error}
 use Rattle.tv_decoder.specs.Prefix.{parts_at, IsPlace, IsSound, HasField}
 use Rattle.tv_decoder.specs.Puts.{MayStand, IsOpen, Awaiting, Fills, Puts}
