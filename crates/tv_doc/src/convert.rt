@@ -28,10 +28,7 @@ fn add_values(
         document.new result }
 {
     for value in values {
-        match document.add_field_value(field, &value) {
-            Ok(()) => {}
-            Err(refused) => return Err(refused),
-        }
+        document.add_field_value(field, &value)?;
     }
     Ok(())
 }

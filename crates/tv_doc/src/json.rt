@@ -92,10 +92,7 @@ fn add_items(
         document.old document.new result }
 {
     for item in items {
-        match add_value(alloc, document, scratch, name, field, field_type, item) {
-            Ok(()) => {}
-            Err(error) => return Err(error),
-        }
+        add_value(alloc, document, scratch, name, field, field_type, item)?;
     }
     Ok(())
 }
@@ -194,17 +191,14 @@ impl CompactDoc {
         let mut document = CompactDoc::new(alloc);
         let mut scratch = JsonScratch::new(alloc);
         for (key, json) in object {
-            match add_member(
+            add_member(
                 alloc,
                 &mut document,
                 &mut scratch,
                 schema,
                 key.as_str(),
                 json,
-            ) {
-                Ok(()) => {}
-                Err(error) => return Err(error),
-            }
+            )?;
         }
         Ok(document)
     }

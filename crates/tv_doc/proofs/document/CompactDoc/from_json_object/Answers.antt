@@ -1,4 +1,5 @@
 use Rattle.std.proofs.Common.{◌≡◌, ap, rules, subst, sym, List, ℕ, String, string_bytes}
+use Rattle.std.proofs.lemmas.Result.{err_from_is_err_and}
 use Rattle.serde_json.specs.View.{view as data_of, members_view}
 use Rattle.tv_schema.specs.Schema.{field_named}
 use Rattle.std.specs.declared.alloc.Global.{Global}
@@ -16,24 +17,25 @@ loop-key-preserved c =
     let at : List ℕ → List FieldJson = λ k. values_at schema k (field_named schema k) d in
     let all : List (String Global × Value) → List FieldJson = λ es. object_values schema (members_view es) in
     let so_far = c.loop-key.invariant in
-    let added = subst (λ k. AddsPairs (at k) c.loop-key.document c.add_member.new.document) c.as_str.ensures.value c.in-Ok.ensures in (
+    let added = subst (λ k. AddsPairs (at k) c.loop-key.document c.add_member.new.document) c.as_str.ensures.value c.in_ok-add_member.ensures in (
       so_far.0,
       so_far.1,
       more_so_far _ (all c.loop-key.key-iterator) (at (string_bytes c.in-Some.key)) (all c.next.new.self) so_far.0 c.loop-key.document
           c.add_member.new.document so_far.2 (ap all c.in-Some.ensures.steps) added,
     )
 
-pub returns-in-Err : goal.returns-in-Err
-returns-in-Err c =
+pub returns-in_err-add_member-clause-makes : goal.returns-in_err-add_member-clause-makes
+returns-in_err-add_member-clause-makes c =
+    let p = err_from_is_err_and c.from_residual.result c.from_residual.ensures.1 in
     let schema = c.args.schema.now in
     let d = data_of c.in-Some.json in
     let at : List ℕ → List FieldJson = λ k. values_at schema k (field_named schema k) d in
     let all : List (String Global × Value) → List FieldJson = λ es. object_values schema (members_view es) in
     let so_far = c.loop-key.invariant in
-    let stopped = subst (λ k. StopsAt (at k) c.loop-key.document c.in-Err.error) c.as_str.ensures.value c.in-Err.ensures in
+    let stopped = subst (λ k. StopsAt (at k) c.loop-key.document c.in_err-add_member.field-0.0) c.as_str.ensures.value c.in_err-add_member.ensures in
     let stops = stops_later _ (all c.loop-key.key-iterator) (at (string_bytes c.in-Some.key)) (all c.next.new.self) so_far.0 c.loop-key.document
-    c.in-Err.error so_far.2 (ap all c.in-Some.ensures.steps) stopped in
-    record { makes = (so_far.0, so_far.1, stops); belongs = tt }
+    c.in_err-add_member.field-0.0 so_far.2 (ap all c.in-Some.ensures.steps) stopped in
+    rw (p.1, p.2) (so_far.0, so_far.1, stops)
 
 pub loop-key-init : goal.loop-key-init
 loop-key-init c =
