@@ -11,8 +11,11 @@ use std::cmp::Ordering;
 // The members of an object that is being read.
 pub(crate) type Members<'a> = Vec<(&'a str, BorrowedJson<'a>)>;
 
+// A key that isn't above the last one is put among fewer members than this, since those above it are moved.
+const MOST_MEMBERS: usize = 1024;
+
 // Puts a member where its key belongs, in place of the one that has the key already. `None` where memory is
-// refused.
+// refused, and where there are 1024 members or more and the key isn't above the last one's.
 pub(crate) fn put_member<'a>(
     members: &mut Members<'a>,
     key: &'a str,
@@ -25,6 +28,9 @@ pub(crate) fn put_member<'a>(
 {
     if is_above_last(members.as_slice(), key) {
         return members.push((key, value)).ok();
+    }
+    if members.len() >= MOST_MEMBERS {
+        return None;
     }
     put_among(members, key, value)
 }
