@@ -1,9 +1,8 @@
 -- Members that stand before others.
-use Rattle.std.proofs.Common.{◌≡◌, ℕ, ◌+◌, ◌<◌, ◌≤◌, List, [], ◌∷◌, ◌++◌, length, take, drop, take_all, get_or, set, nat_cmp, Greater, Less, Equal, Bor, cond, Option, Some, None, OnSome, Result, Ok, Err, is_ok, refl, sym, ap, ap₂, subst, ◌∙◌, arith}
-use Rattle.std.proofs.lemmas.List.{at_drop_all, at_drop_more, drop-set-lt, get_or-set_same, length-set, take-append-drop, take-set, take_more}
+use Rattle.std.proofs.Common.{◌≡◌, ℕ, ◌+◌, ◌<◌, List, [], ◌∷◌, ◌++◌, length, take, drop, get_or, set, nat_cmp, Greater, Equal, Bor, cond, Option, Some, None, OnSome, Result, Ok, Err, is_ok, refl, sym, ap, ap₂, subst, ◌∙◌, arith}
+use Rattle.std.proofs.lemmas.List.{at_drop_more, drop-set-lt, get_or-set_same, length-set, take-append-drop, take-set, take_more}
 use Rattle.std.specs.Cmp.Lexicographic.{slice_cmp}
 use Rattle.std.specs.FinMap.{nat_cmp-IsAntisymmetric, slice_cmp-IsAntisymmetric}
-use Rattle.std.specs.List.{insert}
 use Rattle.std.specs.Result.{result_ok}
 use Rattle.serde_json.specs.Data.{Items, no_items, item, Members, member, put}
 use Rattle.tv_borrowed.specs.BorrowedData.{data_of, items_data, members_data}
@@ -29,7 +28,7 @@ split_at : (i : ℕ) (ms : List Entry) → members_data ms ≡ put_before (take 
 split_at i ms = ap members_data (sym (take-append-drop i ms)) ∙ put_before-append (take i ms) (drop i ms)
 
 module _ (ms : List Entry) (i : ℕ) (m : Entry) (within : i < length ms) (here : get_or ms i m ≡ m) where
-  from_here : drop i ms ≡ m ∷ drop (i + 1) ms
+  pub from_here : drop i ms ≡ m ∷ drop (i + 1) ms
   from_here = at_drop_more (λ l. l) ms i m within ∙ ap (λ e. e ∷ drop (i + 1) ms) here
 
   up_to_here : take (i + 1) ms ≡ take i ms ++ m ∷ []
@@ -56,19 +55,6 @@ module _ (ms : List Entry) (i : ℕ) (m : Entry) (within : i < length ms) (here 
         let one_key : key.now ≡ m.0.now = slice_cmp-IsAntisymmetric nat_cmp-IsAntisymmetric key.now m.0.now same in
         let replaced : put key.now (data_of v) (member m.0.now (data_of m.1) later) ≡ member key.now (data_of v) later = rw same (ap (λ k. member k (data_of v) later) (sym one_key)) in
         split_at i l ∙ ap₂ (λ x y. put_before x (members_data y)) (take-set ms i e) there ∙ sym (placed ∙ ap (put_before (take i ms)) replaced)
-
-    pub put_below : slice_cmp nat_cmp key.now m.0.now ≡ Less → members_data (insert ms i (key, v)) ≡ put key.now (data_of v) (members_data ms)
-    put_below below =
-        let before : put key.now (data_of v) (member m.0.now (data_of m.1) later) ≡ member key.now (data_of v) (member m.0.now (data_of m.1) later) = rw below in
-        put_before-append (take i ms) ((key, v) ∷ drop i ms)
-        ∙ ap (λ l. put_before (take i ms) (member key.now (data_of v) (members_data l))) from_here
-        ∙ sym (placed ∙ ap (put_before (take i ms)) before)
-
-pub put_last : (ms : List Entry) (i : ℕ) → length ms ≤ i → (key : Bor (List ℕ)) (v : BorrowedJson) → put key.now (data_of v) (members_data ms) ≡ put_before (take i ms) (put key.now (data_of v) (members_data (drop i ms)))
-    → members_data (ms ++ (key, v) ∷ []) ≡ put key.now (data_of v) (members_data ms)
-put_last ms i all key v passed =
-    put_before-append ms ((key, v) ∷ [])
-    ∙ sym (passed ∙ ap₂ (λ x y. put_before x (put key.now (data_of v) (members_data y))) (take_all i ms all) (at_drop_all (λ l. l) ms i all))
 
 -- what is said of the entries after an addition, where it was made
 pub where_added : {T E : Type 0} (P : List Entry → Type 0) (r : Result T E) (o : Option T) (old added new : List Entry) → o ≡ result_ok r → new ≡ cond (is_ok r) added old → P added → OnSome o (P new)

@@ -11,11 +11,11 @@ use std::cmp::Ordering;
 // The members of an object that is being read.
 pub(crate) type Members<'a> = Vec<(&'a str, BorrowedJson<'a>)>;
 
-// A key that isn't above the last one is looked for among fewer members than this.
-const MOST_MEMBERS: usize = 128;
+// A key that isn't above the last one is put among fewer members than this, since those above it are moved.
+const MOST_MEMBERS: usize = 1024;
 
 // Puts a member where its key belongs, in place of the one that has the key already. `None` where memory is
-// refused, and where there are 128 members or more and the key isn't above the last one's.
+// refused, and where there are 1024 members or more and the key isn't above the last one's.
 pub(crate) fn put_member<'a>(
     members: &mut Members<'a>,
     key: &'a str,
@@ -45,21 +45,25 @@ fn is_above_last(members: &[(&str, BorrowedJson<'_>)], key: &str) -> bool
     }
 }
 
-// The same of any number of members, by a walk over all of them.
+// The same of any key, by a search that halves the places that are left.
 fn put_among<'a>(members: &mut Members<'a>, key: &'a str, value: BorrowedJson<'a>) -> Option<()>
+    requires { Rise (members_data members.old.items) }
     ensures { OnSome result
         (members_data members.new.items
         ≡ put key.now (data_of value.entry) (members_data members.old.items)) }
 {
-    for i in 0..members.len() {
-        match key.cmp(members[i].0) {
-            Ordering::Less => return members.insert(i, (key, value)).ok(),
+    let mut low = 0;
+    let mut high = members.len();
+    'halves: while low < high {
+        let middle = low + (high - low) / 2;
+        match key.cmp(members[middle].0) {
+            Ordering::Less => high = middle,
             Ordering::Equal => {
-                members[i] = (key, value);
+                members[middle] = (key, value);
                 return Some(());
             }
-            Ordering::Greater => {}
+            Ordering::Greater => low = middle + 1,
         }
     }
-    members.push((key, value)).ok()
+    members.insert(low, (key, value)).ok()
 }

@@ -18,7 +18,7 @@ const MAX_DEPTH: usize = 127;
 
 /// Reads the JSON value that the text is, without copying its texts. (Not in tantivy.) The scratch is used for texts with escapes.
 ///
-/// `None` where the text is no JSON, and where a number in it isn't whole or doesn't fit 64 bits, an object has 128 members or more before a key
+/// `None` where the text is no JSON, and where a number in it isn't whole or doesn't fit 64 bits, an object has 1024 members or more before a key
 /// that isn't above all of theirs, arrays and objects nest deeper than 127, or memory is refused: what isn't read here may still be JSON.
 pub fn read_borrowed<'a>(
     alloc: Global,

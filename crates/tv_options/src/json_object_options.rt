@@ -70,13 +70,6 @@ impl From<TextOptions> for JsonObjectOptions {
 
     /// Stored, indexed and fast as the texts are, with dots in keys as they stand.
     fn from(text: TextOptions) -> JsonObjectOptions {
-        TextualOptions {
-            indexing: text.indexing,
-            stored: text.stored,
-            fast: text.fast,
-            part: DotExpansion {
-                expand_dots_enabled: false,
-            },
-        }
+        JsonObjectOptions::from_parts(text.stored, text.indexing, text.fast, false)
     }
 }

@@ -141,12 +141,9 @@ impl<Part: OwnPart> From<FastFlag> for TextualOptions<Part> {
 
     /// A fast field of whole texts alone.
     fn from(_: FastFlag) -> TextualOptions<Part> {
-        TextualOptions {
-            indexing: None,
-            stored: false,
-            fast: FastFieldTextOptions::IsEnabled(true),
-            part: Part::unset(),
-        }
+        let mut options = TextualOptions::default();
+        options.fast = FastFieldTextOptions::IsEnabled(true);
+        options
     }
 }
 

@@ -134,23 +134,6 @@ pub struct BinaryArraySerializer<'se, K: ByteSink> {
 }
 
 impl<'se, K: ByteSink> BinaryArraySerializer<'se, K> {
-    fn awaiting(
-        sink: &'se mut K,
-        awaited: u64,
-        version: WriteVersion,
-    ) -> BinaryArraySerializer<'se, K>
-        ensures same_sink { result.sink.ghost_name ≡ sink.entry.ghost_name }
-        ensures sink { result.sink.now ≡ sink.old }
-        ensures awaited { result.awaited ≡ awaited }
-        ensures version { result.version ≡ version }
-    {
-        BinaryArraySerializer {
-            sink,
-            awaited,
-            version,
-        }
-    }
-
     /// Appends the number of values, all of which are then awaited, each as version 2 has it. It takes no memory.
     ///
     /// The only error is `Io`, where the sink failed. The sink then holds what it held before, and a beginning of the number. Its
@@ -190,7 +173,11 @@ impl<'se, K: ByteSink> BinaryArraySerializer<'se, K> {
             (λ e. FailsToWrite K.is_known K.held K.failures sink.old e (vnum count)) }
     {
         write_vint(sink, count)?;
-        Ok(BinaryArraySerializer::awaiting(sink, count, version))
+        Ok(BinaryArraySerializer {
+            sink,
+            awaited: count,
+            version,
+        })
     }
 
     /// Appends a value, of which one less is then awaited. It takes no memory.
@@ -236,23 +223,6 @@ pub struct BinaryObjectSerializer<'se, K: ByteSink> {
 }
 
 impl<'se, K: ByteSink> BinaryObjectSerializer<'se, K> {
-    fn awaiting(
-        sink: &'se mut K,
-        awaited: u64,
-        version: WriteVersion,
-    ) -> BinaryObjectSerializer<'se, K>
-        ensures same_sink { result.sink.ghost_name ≡ sink.entry.ghost_name }
-        ensures sink { result.sink.now ≡ sink.old }
-        ensures awaited { result.awaited ≡ awaited }
-        ensures version { result.version ≡ version }
-    {
-        BinaryObjectSerializer {
-            sink,
-            awaited,
-            version,
-        }
-    }
-
     /// Appends twice the number of entries, all of which are then awaited, each as version 2 has it. It takes no memory.
     ///
     /// Errors: `TooMany` where twice the number is above 2^64 - 1, and nothing is written; else `Io` where the sink failed. The
@@ -303,7 +273,11 @@ impl<'se, K: ByteSink> BinaryObjectSerializer<'se, K> {
             return Err(SerializeError::TooMany);
         };
         write_vint(sink, total)?;
-        Ok(BinaryObjectSerializer::awaiting(sink, count, version))
+        Ok(BinaryObjectSerializer {
+            sink,
+            awaited: count,
+            version,
+        })
     }
 
     /// Appends a key and a value, of which one less is then awaited. It takes no memory.

@@ -1,11 +1,16 @@
-use Rattle.std.proofs.Common.{◌≡◌, take, drop}
-use Rattle.serde_json.specs.Data.{put}
-use Rattle.tv_borrowed.specs.BorrowedData.{data_of, members_data}
-use Rattle.tv_borrowed.proofs.Places.{put_before}
+use Rattle.std.proofs.Common.{◌≡◌, ◌-◌, ◌≤◌, length, drop}
+use Rattle.tv_borrowed.proofs.Rising.{IsBelow, Passed}
 use Rattle.tv_borrowed.proofs.members.put_among.Given as goal
 
--- the key belongs behind the members that were passed
-abbrev pub invariant-loop-i : goal.invariant-loop-i
-invariant-loop-i l =
-    (put l.key (data_of l.value) (members_data l.members.items) ≡ put_before (take l.i l.members.items) (put l.key (data_of l.value) (members_data (drop l.i l.members.items))))
-    × (l.members.items ≡ l.fn.members.items)
+-- the key belongs between the two places
+abbrev pub invariant-halves : goal.invariant-halves
+invariant-halves l = record {
+  passed : Passed l.key l.value l.members.items l.low;
+  below : IsBelow l.key (drop l.high l.members.items);
+  ordered : l.low ≤ l.high;
+  within : l.high ≤ length l.members.items;
+  same : l.members.items ≡ l.fn.members.items;
+}
+
+abbrev pub decreases-halves : goal.decreases-halves
+decreases-halves l = l.high - l.low
