@@ -31,16 +31,10 @@ fn value_refusal(error: &ValueParsingError) -> &'static str
     ensures { result.now ≡ value_error_text error.now }
 {
     match error {
-        ValueParsingError::OverflowError {
-            expected: _,
-            json: _,
-        } => { "error ValueError OverflowError" }
-        ValueParsingError::TypeError {
-            expected: _,
-            json: _,
-        } => "error ValueError TypeError",
-        ValueParsingError::ParseError { cause: _, json: _ } => "error ValueError ParseError",
-        ValueParsingError::InvalidBase64 { base64: _ } => "error ValueError InvalidBase64",
+        ValueParsingError::OverflowError { .. } => "error ValueError OverflowError",
+        ValueParsingError::TypeError { .. } => "error ValueError TypeError",
+        ValueParsingError::ParseError { .. } => "error ValueError ParseError",
+        ValueParsingError::InvalidBase64 { .. } => "error ValueError InvalidBase64",
         ValueParsingError::FloatNumber => "error ValueError FloatNumber",
         ValueParsingError::Memory => "error Memory",
     }
@@ -147,8 +141,7 @@ fn put_line(text: &mut Vec<u8>, answer: &str) -> Result<(), AllocError>
 {
     text.clear();
     text.extend_from_slice(answer.as_bytes())?;
-    text.push(b'\n')?;
-    Ok(())
+    text.push(b'\n')
 }
 
 // Puts what is answered for a document's line, with a line feed, in the place of what `text` holds. `bytes` is for what is stored.

@@ -19,8 +19,8 @@ fn error_line(error: SchemaError) -> &'static str
         SchemaError::TooManyFields => "error TooManyFields\n",
         SchemaError::Memory => "error Memory\n",
         SchemaError::FieldNotFound => "error FieldNotFound\n",
-        SchemaError::BadJson { entry: _ } => "error BadJson\n",
-        SchemaError::FloatField { entry: _ } => "error FloatField\n",
+        SchemaError::BadJson { .. } => "error BadJson\n",
+        SchemaError::FloatField { .. } => "error FloatField\n",
     }
 }
 
