@@ -141,7 +141,8 @@ fn put_line(text: &mut Vec<u8>, answer: &str) -> Result<(), AllocError>
 {
     text.clear();
     text.extend_from_slice(answer.as_bytes())?;
-    text.push(b'\n')
+    text.push(b'\n')?;
+    Ok(())
 }
 
 // Puts what is answered for a document's line, with a line feed, in the place of what `text` holds. `bytes` is for what is stored.
