@@ -1,2 +1,3 @@
 pub mod BorrowedData
 pub mod Rising
+pub mod Found

@@ -1,38 +1,98 @@
 //! The members of an object, in byte order of their keys.
 
-ghost use Rattle.std.specs.Prelude.{◌≡◌, OnSome, IsTrue};
-ghost use Rattle.serde_json.specs.Data.{put};
+ghost use Rattle.std.specs.Prelude.{◌≡◌, OnSome, IfSome, IsTrue};
+ghost use Rattle.serde_json.specs.Data.{no_members, put};
 ghost use Rattle.tv_borrowed.specs.BorrowedData.{data_of, members_data};
+ghost use Rattle.tv_borrowed.specs.Found.{found_data};
 ghost use Rattle.tv_borrowed.specs.Rising.{Rise, EndsBelow};
 
 use crate::borrowed::BorrowedJson;
+use std::alloc::Global;
 use std::cmp::Ordering;
+use std::collections::BTreeMap;
+use std::mem::replace;
 
-// The members of an object that is being read.
+// The members of an object in byte order of their keys, each key once.
 pub(crate) type Members<'a> = Vec<(&'a str, BorrowedJson<'a>)>;
 
-// A key that isn't above the last one is put among fewer members than this, since those above it are moved.
-const MOST_MEMBERS: usize = 1024;
+// The members of an object that is being read.
+#[derive(Drop)]
+pub(crate) enum FoundMembers<'a> {
+    // While they are few, or their keys come in byte order.
+    Listed(Members<'a>),
+    // Any others: there are too many to move those above a key.
+    Mapped(BTreeMap<&'a str, BorrowedJson<'a>>),
+}
 
-// Puts a member where its key belongs, in place of the one that has the key already. `None` where memory is
-// refused, and where there are 1024 members or more and the key isn't above the last one's.
-pub(crate) fn put_member<'a>(
-    members: &mut Members<'a>,
-    key: &'a str,
-    value: BorrowedJson<'a>,
-) -> Option<()>
-    requires { Rise (members_data members.old.items) }
-    ensures { OnSome result
-        (members_data members.new.items
-        ≡ put key.now (data_of value.entry) (members_data members.old.items)) }
+// A key that isn't above the last one is put into a list of fewer members than this, since those above it are moved.
+const MOST_MOVED: usize = 128;
+
+impl<'a> FoundMembers<'a> {
+    // None.
+    pub(crate) fn new(alloc: Global) -> FoundMembers<'a>
+        ensures { found_data result ≡ no_members }
+    {
+        FoundMembers::Listed(Vec::new(alloc))
+    }
+
+    // Puts a member where its key belongs, in place of the one that has the key already. `None` where memory is refused.
+    pub(crate) fn put(
+        &mut self,
+        alloc: Global,
+        key: &'a str,
+        value: BorrowedJson<'a>,
+    ) -> Option<()>
+        requires { Rise (found_data self.old) }
+        ensures { OnSome result
+            (found_data self.new ≡ put key.now (data_of value.entry) (found_data self.old)) }
+    {
+        match self {
+            FoundMembers::Listed(list) => {
+                if is_above_last(list.as_slice(), key) {
+                    return list.push((key, value)).ok();
+                }
+                if list.len() < MOST_MOVED {
+                    return put_among(list, key, value);
+                }
+                let mut map = mapped(alloc, replace(list, Vec::new(alloc)))?;
+                drop(map.insert(key, value).ok()?);
+                *self = FoundMembers::Mapped(map);
+            }
+            FoundMembers::Mapped(map) => drop(map.insert(key, value).ok()?),
+        }
+        Some(())
+    }
+
+    // All of them. `None` where memory is refused.
+    pub(crate) fn into_list(self, alloc: Global) -> Option<Members<'a>>
+        ensures { IfSome result (λ list. members_data list.items ≡ found_data self.entry) }
+    {
+        match self {
+            FoundMembers::Listed(list) => Some(list),
+            FoundMembers::Mapped(map) => {
+                let mut list = Vec::with_capacity(alloc, map.len()).ok()?;
+                for member in map {
+                    list.push(member).ok()?;
+                }
+                Some(list)
+            }
+        }
+    }
+}
+
+// The members of a list as a map.
+fn mapped<'a>(
+    alloc: Global,
+    list: Members<'a>,
+) -> Option<BTreeMap<&'a str, BorrowedJson<'a>>>
+    requires { Rise (members_data list.items) }
+    ensures { IfSome result (λ map. members_data map.entries ≡ members_data list.entry.items) }
 {
-    if is_above_last(members.as_slice(), key) {
-        return members.push((key, value)).ok();
+    let mut map = BTreeMap::new(alloc);
+    for (key, value) in list {
+        drop(map.insert(key, value).ok()?);
     }
-    if members.len() >= MOST_MEMBERS {
-        return None;
-    }
-    put_among(members, key, value)
+    Some(map)
 }
 
 // Whether a key is above the last one, if there is one.
@@ -45,7 +105,8 @@ fn is_above_last(members: &[(&str, BorrowedJson<'_>)], key: &str) -> bool
     }
 }
 
-// The same of any key, by a search that halves the places that are left.
+// Puts a member where its key belongs, in place of the one that has the key already, by a search that halves the places that are left. `None` where
+// memory is refused.
 fn put_among<'a>(members: &mut Members<'a>, key: &'a str, value: BorrowedJson<'a>) -> Option<()>
     requires { Rise (members_data members.old.items) }
     ensures { OnSome result

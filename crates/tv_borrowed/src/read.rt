@@ -8,7 +8,7 @@ ghost use Rattle.serde_json.specs.Read.{read as read_text};
 ghost use Rattle.tv_borrowed.specs.BorrowedData.{data_of, items_data, members_data};
 
 use crate::borrowed::BorrowedJson;
-use crate::members::{Members, put_member};
+use crate::members::{FoundMembers, Members};
 use crate::number::whole_number;
 use json::{Reader, Scratch, Token};
 use std::alloc::Global;
@@ -18,8 +18,8 @@ const MAX_DEPTH: usize = 127;
 
 /// Reads the JSON value that the text is, without copying its texts. (Not in tantivy.) The scratch is used for texts with escapes.
 ///
-/// `None` where the text is no JSON, and where a number in it isn't whole or doesn't fit 64 bits, an object has 1024 members or more before a key
-/// that isn't above all of theirs, arrays and objects nest deeper than 127, or memory is refused: what isn't read here may still be JSON.
+/// `None` where the text is no JSON, and where a number in it isn't whole or doesn't fit 64 bits, arrays and objects nest deeper than 127, or
+/// memory is refused: what isn't read here may still be JSON.
 pub fn read_borrowed<'a>(
     alloc: Global,
     text: &'a str,
@@ -93,10 +93,10 @@ fn read_members<'a>(alloc: Global, reader: &mut Reader<'a>, depth: usize) -> Opt
         ≡ Some (members_data v.items, reader.new)) }
     ensures shorter { OnSome result (length reader.new < length reader.old) }
 {
-    let mut found = Vec::new(alloc);
+    let mut found = FoundMembers::new(alloc);
     'members: while let Some(key) = reader.next_key().ok()? {
         let member = read(alloc, reader, depth)?;
-        put_member(&mut found, key, member)?;
+        found.put(alloc, key, member)?;
     }
-    Some(found)
+    found.into_list(alloc)
 }

@@ -6,6 +6,7 @@ use Rattle.json.specs.Token.{Token}
 use Rattle.json.proofs.Grammar.{read_key-shorter}
 use Rattle.serde_json.specs.Data.{item, put}
 use Rattle.serde_json.specs.Read.{of_json, converted}
+use Rattle.tv_borrowed.specs.Found.{found_data}
 use Rattle.tv_borrowed.specs.BorrowedData.{data_of, members_data}
 use Rattle.tv_borrowed.proofs.Levels.{data_of-Null, data_of-Bool, data_of-String, data_of-Array, data_of-Object}
 use Rattle.tv_borrowed.proofs.Rising.{put_rises}
@@ -95,13 +96,13 @@ read_members-members-preserved t c =
     let shorter = read_key-shorter l.reader (Some k) v named in
     let less : length s < length l.reader = omega (arith, shorter, done.shorter) in
     let some : 0 < n = omega (arith, l.invariant.enough) in
-    let grown : members_data c.put_member.new.members.items ≡ put k d (members_data l.found.items) = c.in_ok-put_member.ensures in
+    let grown : found_data c.put.new.self ≡ put k d (found_data l.found) = c.in_ok-put.ensures in
     record {
       turns = n - 1;
       enough = omega (arith, l.invariant.enough);
-      rises = rw grown (put_rises k d (members_data l.found.items) l.invariant.rises);
+      rises = rw grown (put_rises k d (found_data l.found) l.invariant.rises);
       rest = λ ds r more.
-          l.invariant.rest ds r (member-read p n (members_data l.found.items) k l.reader v s r d ds some named done.found (rw grown at more));
+          l.invariant.rest ds r (member-read p n (found_data l.found) k l.reader v s r d ds some named done.found (rw grown at more));
       less = omega (arith, l.invariant.less);
     }
 
@@ -110,4 +111,5 @@ read_members-returns-clause-found t c =
     let l = c.members in
     let r = c.next_key.new.self in
     let ended : read_key l.reader ≡ Some (None, r) = grind arith in
-    l.invariant.rest _ r (no_members-read (value c.args.depth) l.invariant.turns (members_data l.found.items) l.reader r l.invariant.enough ended)
+    IfSome_then c.into_list.result c.into_list.ensures
+    (λ list same. l.invariant.rest _ r (no_members-read (value c.args.depth) l.invariant.turns (found_data l.found) l.reader r l.invariant.enough ended) ∙ ap (λ ds. Some (ds, r)) (sym same))

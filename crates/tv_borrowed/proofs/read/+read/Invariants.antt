@@ -3,6 +3,7 @@ use Rattle.json.specs.Json.{items, members, value}
 use Rattle.json.specs.Token.{Token}
 use Rattle.serde_json.specs.Data.{Items, Members, no_members}
 use Rattle.serde_json.specs.Read.{of_items, of_members, converted}
+use Rattle.tv_borrowed.specs.Found.{found_data}
 use Rattle.tv_borrowed.specs.BorrowedData.{members_data}
 use Rattle.tv_borrowed.specs.Rising.{Rise}
 use Rattle.tv_borrowed.proofs.Places.{items_before}
@@ -34,9 +35,9 @@ decreases-read_items-items l = length l.reader
 abbrev pub invariant-read_members-members : goal.invariant-read_members-members
 invariant-read_members-members l = record {
   turns : ℕ;
-  rises : Rise (members_data l.found.items);
+  rises : Rise (found_data l.found);
   enough : length l.reader ≤ turns;
-  rest : (ds : Members) (r : List Token) → converted (λ ms. of_members ms (members_data l.found.items)) (members (value l.depth) turns l.reader) ≡ Some (ds, r)
+  rest : (ds : Members) (r : List Token) → converted (λ ms. of_members ms (found_data l.found)) (members (value l.depth) turns l.reader) ≡ Some (ds, r)
       → converted (λ ms. of_members ms no_members) (members (value l.depth) (length l.initial.reader) l.initial.reader) ≡ Some (ds, r);
   less : length l.reader ≤ length l.initial.reader;
 }
