@@ -1,14 +1,19 @@
 -- The texts of a document's values, beside their fields.
-use Rattle.std.proofs.Common.{◌≡◌, ◌⊎◌, ◌↔◌, ℕ, ◌+◌, ◌<◌, Bool, true, false, cond, IsTrue, String, Global, List, [], ◌∷◌, ◌++◌, length, take, get_or, map, refl, sym, ap, subst, ◌∙◌, arith, inl, inr}
+use Rattle.std.proofs.Common.{◌≡◌, ◌⊎◌, ◌↔◌, ◌||◌, ℕ, Bool, true, false, cond, IsTrue, String, Global, string_bytes, string_cmp, Ordering, Less, Equal, Greater, nat_cmp, List, [], ◌∷◌, ◌++◌, map, refl, sym, ap, subst, ◌∙◌, arith, inl, inr}
 use Rattle.std.specs.Prelude.{nat_eq}
 use Rattle.std.specs.List.{Contains, filter}
-use Rattle.std.proofs.lemmas.Bool.{eqb-true}
+use Rattle.std.specs.BTreeSet.{insert_key}
+use Rattle.std.specs.Cmp.Lexicographic.{slice_cmp}
+use Rattle.std.specs.FinMap.{nat_cmp-IsAntisymmetric, slice_cmp-IsAntisymmetric}
+use Rattle.std.specs.List.{list_any}
+use Rattle.std.specs.Ordering.{is_eq, match_ordering, ordering_reverse, ordering_then}
+use Rattle.std.proofs.lemmas.Bool.{eqb-true, false≢true}
+use Rattle.std.proofs.lemmas.Cmp.{nat_cmp_total, nat_list_cmp_total}
 use Rattle.std.proofs.lemmas.Bool.Decides.{Decides-eqb}
-use Rattle.std.proofs.lemmas.List.{get_or-map, length-map, map-append, take_more}
 use Rattle.std.proofs.lemmas.List.Elements.{Contains-append_left, Contains-append_right, Contains-append_cases, Contains-push, Contains-push_cases}
 use Rattle.tv_format.specs.Tree.{Document}
 use Rattle.tv_value.specs.declared.field.Field.{Field}
-use Rattle.tv_doc.specs.SameTexts.{HasAll, SameTexts, field_texts, json_text, text_seen, texts_seen}
+use Rattle.tv_doc.specs.SameTexts.{HasAll, IsSameSet, SameTexts, field_texts, json_text, text_seen}
 use Rattle.tv_doc.specs.FieldValues.{values_of}
 use Rattle.tv_doc.proofs.Grouping.{values_seen}
 
@@ -75,20 +80,124 @@ has_all d e same pair c = (text_contain d pair.0 pair.1).0 ((same pair.0 pair.1)
 pub has_all_back : (d e : Document) → SameTexts d e → HasAll (field_texts e) (field_texts d)
 has_all_back d e same pair c = (text_contain e pair.0 pair.1).0 ((same pair.0 pair.1).0 ((text_contain d pair.0 pair.1).1 c))
 
--- ---- texts that are passed over, one after the other
+-- ---- texts in a set
 
-pub seen_at : (texts : List (Field × String Global)) (i : ℕ) (pair : Field × String Global) → i < length texts → pair ≡ get_or texts i pair → Contains (texts_seen texts) (text_seen pair)
-seen_at texts i pair within is = (i, omega (arith, length-map texts text_seen), get_or-map text_seen texts i pair (text_seen pair) within ∙ ap text_seen (sym is))
+abbrev Text : Type 0
+Text = Field × String Global
 
-pub seen_more : (texts : List (Field × String Global)) (i : ℕ) (pair : Field × String Global) → i < length texts → pair ≡ get_or texts i pair → texts_seen (take (i + 1) texts) ≡ texts_seen (take i texts) ++ text_seen pair ∷ []
-seen_more texts i pair within is = ap texts_seen (take_more texts i pair within ∙ ap (λ p. take i texts ++ p ∷ []) (sym is)) ∙ map-append text_seen (take i texts) (pair ∷ [])
+-- the order of the set
+abbrev pub text_cmp : Text → Text → Ordering
+text_cmp x y = ordering_then (nat_cmp x.0.id y.0.id) (string_cmp x.1 y.1)
 
-pub none_more : (texts : List (Field × String Global)) (i : ℕ) (pair : Field × String Global) (wanted : ℕ × List ℕ) → i < length texts → pair ≡ get_or texts i pair → (Contains (texts_seen (take i texts)) wanted → ⊥) → (text_seen pair ≡ wanted → ⊥) → Contains (texts_seen (take (i + 1) texts)) wanted → ⊥
-none_more texts i pair wanted within is before not_this c = by_place (Contains-push_cases (texts_seen (take i texts)) (text_seen pair) wanted (subst (λ l. Contains l wanted) (seen_more texts i pair within is) c))
+both_equal : (a b : Ordering) → is_eq (ordering_then a b) ≡ true → (a ≡ Equal) × (b ≡ Equal)
+both_equal Less b e = absurd (cc)
+both_equal Greater b e = absurd (cc)
+both_equal Equal Less e = absurd (cc)
+both_equal Equal Greater e = absurd (cc)
+both_equal Equal Equal e = (refl, refl)
+
+turned_equal : (o : Ordering) → o ≡ ordering_reverse o → o ≡ Equal
+turned_equal Less e = absurd (cc)
+turned_equal Equal e = refl
+turned_equal Greater e = absurd (cc)
+
+same_seen : (x y : Text) → is_eq (text_cmp x y) ≡ true → text_seen x ≡ text_seen y
+same_seen x y e =
+    let both = both_equal (nat_cmp x.0.id y.0.id) (string_cmp x.1 y.1) e in
+    let number = nat_cmp-IsAntisymmetric x.0.id y.0.id both.0 in
+    let bytes = slice_cmp-IsAntisymmetric nat_cmp-IsAntisymmetric (string_bytes x.1) (string_bytes y.1) both.1 in
+    λ i. (number i, bytes i)
+
+seen_same : (x y : Text) → text_seen y ≡ text_seen x → is_eq (text_cmp x y) ≡ true
+seen_same x y same =
+    let number : nat_cmp x.0.id y.0.id ≡ Equal = ap (nat_cmp x.0.id) (ap (λ p. p.0) same) ∙ turned_equal _ (nat_cmp_total.antisymm x.0.id x.0.id) in
+    let bytes : string_cmp x.1 y.1 ≡ Equal = ap (slice_cmp nat_cmp (string_bytes x.1)) (ap (λ p. p.1) same) ∙ turned_equal _ (nat_list_cmp_total.antisymm (string_bytes x.1) (string_bytes x.1)) in
+    rw (number, bytes) refl
+
+found : (x : Text) (ks : List Text) → list_any (λ y. is_eq (text_cmp x y)) ks ≡ true → Contains (map text_seen ks) (text_seen x)
+found x [] e = absurd (false≢true e)
+found x (k ∷ ks) e = by_test (is_eq (text_cmp x k)) refl e
   where
-    by_place : Contains (texts_seen (take i texts)) wanted ⊎ (text_seen pair ≡ wanted) → ⊥
-    by_place (inl earlier) = before earlier
-    by_place (inr same) = not_this same
+    by_test : (b : Bool) → is_eq (text_cmp x k) ≡ b → (b || list_any (λ y. is_eq (text_cmp x y)) ks) ≡ true → Contains (map text_seen (k ∷ ks)) (text_seen x)
+    by_test true is e = subst (Contains (map text_seen (k ∷ ks))) (sym (same_seen x k is)) (first_in (text_seen k) (map text_seen ks))
+    by_test false is e = later_in (text_seen k) (map text_seen ks) (text_seen x) (found x ks e)
 
-pub all_moved : (b : Bool) (xs ys xs' ys' : List (ℕ × List ℕ)) → xs ≡ xs' → ys ≡ ys' → IsTrue b ↔ HasAll xs ys → IsTrue b ↔ HasAll xs' ys'
-all_moved b xs ys xs' ys' e f h = subst (λ l. IsTrue b ↔ HasAll xs' l) f (subst (λ l. IsTrue b ↔ HasAll l ys) e h)
+held : (x : Text) (ks : List Text) → Contains (map text_seen ks) (text_seen x) → list_any (λ y. is_eq (text_cmp x y)) ks ≡ true
+held x [] c = absurd (omega (arith, c.1))
+held x (k ∷ ks) c = by_case (is_eq (text_cmp x k)) refl (in_cases (text_seen k) (map text_seen ks) (text_seen x) c)
+  where
+    by_case : (b : Bool) → is_eq (text_cmp x k) ≡ b → (text_seen k ≡ text_seen x) ⊎ Contains (map text_seen ks) (text_seen x) → (b || list_any (λ y. is_eq (text_cmp x y)) ks) ≡ true
+    by_case true is c = refl
+    by_case false is (inl same) = absurd (false≢true (sym is ∙ seen_same x k same))
+    by_case false is (inr later) = held x ks later
+
+-- the set has a text exactly where it is seen among its texts
+pub is_seen : (x : Text) (ks : List Text) → list_any (λ y. is_eq (text_cmp x y)) ks ≡ true ↔ Contains (map text_seen ks) (text_seen x)
+is_seen x ks = (found x ks, held x ks)
+
+-- ---- a text that is inserted
+
+inserted : (k : Text) (ks : List Text) (p : ℕ × List ℕ) → Contains (map text_seen (insert_key text_cmp ks k)) p → (text_seen k ≡ p) ⊎ Contains (map text_seen ks) p
+inserted k [] p c = in_cases (text_seen k) [] p c
+inserted k (x ∷ ks) p c = by_order (text_cmp k x) refl c
+  where
+    by_later : (text_seen x ≡ p) ⊎ Contains (map text_seen (insert_key text_cmp ks k)) p → (text_seen k ≡ p) ⊎ Contains (map text_seen (x ∷ ks)) p
+    by_later (inl same) = inr (subst (Contains (map text_seen (x ∷ ks))) same (first_in (text_seen x) (map text_seen ks)))
+    by_later (inr later) = by_rest (inserted k ks p later)
+      where
+        by_rest : (text_seen k ≡ p) ⊎ Contains (map text_seen ks) p → (text_seen k ≡ p) ⊎ Contains (map text_seen (x ∷ ks)) p
+        by_rest (inl same) = inl same
+        by_rest (inr rest) = inr (later_in (text_seen x) (map text_seen ks) p rest)
+
+    by_order : (o : Ordering) → text_cmp k x ≡ o → Contains (map text_seen (match_ordering o (k ∷ x ∷ ks) (x ∷ ks) (x ∷ insert_key text_cmp ks k))) p → (text_seen k ≡ p) ⊎ Contains (map text_seen (x ∷ ks)) p
+    by_order Less is c = in_cases (text_seen k) (map text_seen (x ∷ ks)) p c
+    by_order Equal is c = inr c
+    by_order Greater is c = by_later (in_cases (text_seen x) (map text_seen (insert_key text_cmp ks k)) p c)
+
+stays : (k : Text) (ks : List Text) (p : ℕ × List ℕ) → (text_seen k ≡ p) ⊎ Contains (map text_seen ks) p → Contains (map text_seen (insert_key text_cmp ks k)) p
+stays k [] p (inl same) = subst (Contains (text_seen k ∷ [])) same (first_in (text_seen k) [])
+stays k [] p (inr none) = absurd (omega (arith, none.1))
+stays k (x ∷ ks) p c = by_order (text_cmp k x) refl c
+  where
+    by_later : (text_seen k ≡ p) ⊎ ((text_seen x ≡ p) ⊎ Contains (map text_seen ks) p) → Contains (map text_seen (x ∷ insert_key text_cmp ks k)) p
+    by_later (inl same) = later_in (text_seen x) (map text_seen (insert_key text_cmp ks k)) p (stays k ks p (inl same))
+    by_later (inr (inl same)) = subst (Contains (map text_seen (x ∷ insert_key text_cmp ks k))) same (first_in (text_seen x) (map text_seen (insert_key text_cmp ks k)))
+    by_later (inr (inr rest)) = later_in (text_seen x) (map text_seen (insert_key text_cmp ks k)) p (stays k ks p (inr rest))
+
+    among : (text_seen k ≡ p) ⊎ Contains (map text_seen (x ∷ ks)) p → (text_seen k ≡ p) ⊎ ((text_seen x ≡ p) ⊎ Contains (map text_seen ks) p)
+    among (inl same) = inl same
+    among (inr c) = inr (in_cases (text_seen x) (map text_seen ks) p c)
+
+    by_order : (o : Ordering) → text_cmp k x ≡ o → (text_seen k ≡ p) ⊎ Contains (map text_seen (x ∷ ks)) p → Contains (map text_seen (match_ordering o (k ∷ x ∷ ks) (x ∷ ks) (x ∷ insert_key text_cmp ks k))) p
+    by_order Less is (inl same) = subst (Contains (map text_seen (k ∷ x ∷ ks))) same (first_in (text_seen k) (map text_seen (x ∷ ks)))
+    by_order Less is (inr c) = later_in (text_seen k) (map text_seen (x ∷ ks)) p c
+    by_order Equal is (inl same) =
+        let one : text_seen k ≡ text_seen x = same_seen k x (ap is_eq is) in
+        subst (Contains (map text_seen (x ∷ ks))) (sym one ∙ same) (first_in (text_seen x) (map text_seen ks))
+    by_order Equal is (inr c) = c
+    by_order Greater is c = by_later (among c)
+
+-- the text goes over from those that are left to the set
+pub text_moved : (k : Text) (ks : List Text) (rest whole : List (ℕ × List ℕ)) → IsSameSet (map text_seen ks ++ text_seen k ∷ rest) whole → IsSameSet (map text_seen (insert_key text_cmp ks k) ++ rest) whole
+text_moved k ks rest whole same p = (λ c. (same p).0 (to (Contains-append_cases _ rest p c)), λ c. back (Contains-append_cases (map text_seen ks) (text_seen k ∷ rest) p ((same p).1 c)))
+  where
+    to_set : (text_seen k ≡ p) ⊎ Contains (map text_seen ks) p → Contains (map text_seen ks ++ text_seen k ∷ rest) p
+    to_set (inl one) = Contains-append_right (map text_seen ks) (text_seen k ∷ rest) p (subst (Contains (text_seen k ∷ rest)) one (first_in (text_seen k) rest))
+    to_set (inr before) = Contains-append_left (map text_seen ks) (text_seen k ∷ rest) p before
+
+    to : Contains (map text_seen (insert_key text_cmp ks k)) p ⊎ Contains rest p → Contains (map text_seen ks ++ text_seen k ∷ rest) p
+    to (inl c) = to_set (inserted k ks p c)
+    to (inr c) = Contains-append_right (map text_seen ks) (text_seen k ∷ rest) p (later_in (text_seen k) rest p c)
+
+    back_rest : (text_seen k ≡ p) ⊎ Contains rest p → Contains (map text_seen (insert_key text_cmp ks k) ++ rest) p
+    back_rest (inl one) = Contains-append_left (map text_seen (insert_key text_cmp ks k)) rest p (stays k ks p (inl one))
+    back_rest (inr c) = Contains-append_right (map text_seen (insert_key text_cmp ks k)) rest p c
+
+    back : Contains (map text_seen ks) p ⊎ Contains (text_seen k ∷ rest) p → Contains (map text_seen (insert_key text_cmp ks k) ++ rest) p
+    back (inl c) = Contains-append_left (map text_seen (insert_key text_cmp ks k)) rest p (stays k ks p (inr c))
+    back (inr c) = back_rest (in_cases (text_seen k) rest p c)
+
+-- ---- one set after the other
+
+pub all_moved : (b : Bool) (xs ys xs' ys' : List (ℕ × List ℕ)) → IsSameSet xs xs' → IsSameSet ys ys' → IsTrue b ↔ HasAll xs ys → IsTrue b ↔ HasAll xs' ys'
+all_moved b xs ys xs' ys' e f h = (λ is p c. (e p).0 (h.0 is p ((f p).1 c)), λ all. h.1 (λ p c. (e p).1 (all p ((f p).0 c))))

@@ -1,5 +1,6 @@
 -- Documents that have the same texts of JSON.
 use Rattle.std.specs.Prelude.{ℕ, List, map, ◌↔◌, String, string_bytes}
+use Rattle.std.specs.BTreeSet.{BTreeSet}
 use Rattle.std.specs.List.{Contains}
 use Rattle.std.specs.declared.alloc.Global.{Global}
 use Rattle.serde_json.specs.Written.{compact_text}
@@ -25,9 +26,13 @@ field_texts d = map (λ pair. (pair.0, json_text pair.1)) d
 abbrev pub text_seen : Field × String Global → ℕ × List ℕ
 text_seen pair = (pair.0.id, string_bytes pair.1)
 
-abbrev pub texts_seen : List (Field × String Global) → List (ℕ × List ℕ)
-texts_seen texts = map text_seen texts
+abbrev pub texts_seen : BTreeSet (Field × String Global) → List (ℕ × List ℕ)
+texts_seen texts = map text_seen texts.keys
 
 -- all of the second list are in the first
 abbrev pub HasAll : List (ℕ × List ℕ) → List (ℕ × List ℕ) → Type 0
 HasAll texts others = (pair : ℕ × List ℕ) → Contains others pair → Contains texts pair
+
+-- the same are in both, in whatever order and however often
+abbrev pub IsSameSet : List (ℕ × List ℕ) → List (ℕ × List ℕ) → Type 0
+IsSameSet texts others = (pair : ℕ × List ℕ) → Contains texts pair ↔ Contains others pair

@@ -1,11 +1,11 @@
-use Rattle.std.proofs.Common.{◌≡◌, ◌↔◌, ◌∙◌, Bool, false, IsTrue, subst, ap, sym}
+use Rattle.std.proofs.Common.{◌≡◌, ◌↔◌, ◌∙◌, Bool, false, IsTrue, subst, sym}
 use Rattle.std.proofs.lemmas.Bool.{false≢true}
 use Rattle.tv_format.specs.Tree.{Document}
 use Rattle.tv_doc.specs.Document.{document_of}
-use Rattle.tv_doc.specs.SameTexts.{HasAll, SameTexts, field_texts, texts_seen}
+use Rattle.tv_doc.specs.SameTexts.{HasAll, SameTexts, field_texts}
 use Rattle.tv_doc.proofs.FieldTexts.{same_texts, has_all, has_all_back, all_moved}
 use Rattle.tv_doc.proofs.document.CompactDoc.same_as.Goals as goal
-use Rattle.tv_doc.proofs.document.CompactDoc.same_as.Goals.{then-has_texts, else-has_texts}
+use Rattle.tv_doc.proofs.document.CompactDoc.same_as.Goals.{then-has_all, else-has_all}
 
 both : (d e : Document) (b : Bool) → (IsTrue b ↔ HasAll (field_texts e) (field_texts d)) → HasAll (field_texts d) (field_texts e) → IsTrue b ↔ SameTexts d e
 both d e b back there = (λ is. same_texts d e there (back.0 is), λ same. back.1 (has_all_back d e same))
@@ -17,16 +17,12 @@ pub returns : goal.returns
 returns c =
     let d = document_of c.args.self.now in
     let e = document_of c.args.other.now in
-    let one : texts_seen c.in_ok-texts.texts.items ≡ field_texts d = c.in_ok-texts.ensures in
-    let other : texts_seen c.in_ok-others.others.items ≡ field_texts e = c.in_ok-others.ensures in
-    let first : texts_seen c.as_slice.result.now ≡ field_texts d = ap texts_seen c.as_slice.ensures.value ∙ one in
-    let second : texts_seen c.as_slice-2.result.now ≡ field_texts e = ap texts_seen c.as_slice-2.ensures.value ∙ other in
-    let there = all_moved c.has_texts.result _ _ (field_texts d) (field_texts e) first second c.has_texts.ensures in
-    elim c.if-has_texts.branch [
-      | then-has_texts w ↦
-          let third : texts_seen w.as_slice-then-has_texts.result.now ≡ field_texts e = ap texts_seen w.as_slice-then-has_texts.ensures.value ∙ other in
-          let fourth : texts_seen w.as_slice-then-has_texts-2.result.now ≡ field_texts d = ap texts_seen w.as_slice-then-has_texts-2.ensures.value ∙ one in
-          let back = all_moved w.has_texts-then-has_texts.result _ _ (field_texts e) (field_texts d) third fourth w.has_texts-then-has_texts.ensures in
-          subst (λ b. IsTrue b ↔ SameTexts d e) (sym w.result-is) (both d e w.has_texts-then-has_texts.result back (there.0 w.if-has_texts.true))
-      | else-has_texts w ↦ subst (λ b. IsTrue b ↔ SameTexts d e) (sym (w.result-is ∙ w.if-has_texts.false)) (neither d e (λ has. false≢true (sym w.if-has_texts.false ∙ there.1 has)))
+    let one = c.in_ok-texts.ensures in
+    let other = c.in_ok-others.ensures in
+    let there = all_moved c.has_all.result _ _ (field_texts d) (field_texts e) one other c.has_all.ensures in
+    elim c.if-has_all.branch [
+      | then-has_all w ↦
+          let back = all_moved w.has_all-then-has_all.result _ _ (field_texts e) (field_texts d) other one w.has_all-then-has_all.ensures in
+          subst (λ b. IsTrue b ↔ SameTexts d e) (sym w.result-is) (both d e w.has_all-then-has_all.result back (there.0 w.if-has_all.true))
+      | else-has_all w ↦ subst (λ b. IsTrue b ↔ SameTexts d e) (sym (w.result-is ∙ w.if-has_all.false)) (neither d e (λ has. false≢true (sym w.if-has_all.false ∙ there.1 has)))
     ]

@@ -1,0 +1,134 @@
+//! The calls that are made.
+
+use crate::shape::Workload;
+use anyhow::{Result, anyhow};
+use serde_json::Value;
+use std::alloc::Global;
+use tantivy_schema::common::{SliceSource, VecSink};
+use tantivy_schema::schema::document::{BinaryDocumentSerializer, CompactDoc, Document};
+use tantivy_schema::schema::Schema;
+use tantivy_schema::store::{DocStoreVersion, WriteVersion, migrate, read_document};
+
+/// A call.
+#[derive(Clone, Copy)]
+pub enum Call {
+    /// From JSON to a document.
+    Parse,
+    /// From stored bytes to a document.
+    Read,
+    /// From a document to stored bytes.
+    Serialize,
+    /// From stored bytes of version 2 to those of version 3.
+    Migrate,
+    /// From a document to its JSON.
+    Print,
+    /// Whether a document has the same values as itself.
+    Compare,
+    /// From JSON to a schema.
+    ReadSchema,
+    /// Each field of a schema, by its name.
+    FindFields,
+}
+
+impl Call {
+    /// The name under which it is told.
+    pub fn name(self) -> &'static str {
+        match self {
+            Call::Parse => "parse",
+            Call::Read => "read",
+            Call::Serialize => "serialize",
+            Call::Migrate => "migrate",
+            Call::Print => "print",
+            Call::Compare => "compare",
+            Call::ReadSchema => "read schema",
+            Call::FindFields => "find fields",
+        }
+    }
+
+    /// Makes the call, and says how many bytes or fields its answer has.
+    pub fn make(self, alloc: Global, workload: &Workload) -> Result<usize> {
+        let document = &workload.document;
+        match self {
+            Call::Parse => parse(alloc, workload),
+            Call::Read => {
+                let mut source = SliceSource::new(workload.stored.as_slice());
+                let read = read_document(alloc, &mut source, DocStoreVersion::V2)?;
+                Ok(read.node_data().len())
+            }
+            Call::Serialize => serialize(alloc, workload),
+            Call::Migrate => {
+                let mut source = SliceSource::new(workload.stored.as_slice());
+                let mut sink = VecSink::new(alloc);
+                migrate(
+                    alloc,
+                    &mut source,
+                    DocStoreVersion::V2,
+                    &mut sink,
+                    WriteVersion::V3,
+                )?;
+                Ok(sink.as_slice().len())
+            }
+            Call::Print => print(alloc, workload),
+            Call::Compare => {
+                if document.same_as(alloc, document)? {
+                    Ok(document.len())
+                } else {
+                    Err(anyhow!("a document differs from itself"))
+                }
+            }
+            Call::ReadSchema => read_schema(alloc, workload),
+            Call::FindFields => find_fields(alloc, workload),
+        }
+    }
+}
+
+fn parse(alloc: Global, workload: &Workload) -> Result<usize> {
+    let parsed = CompactDoc::parse_json(alloc, &workload.schema, workload.json.as_str())?;
+    Ok(parsed.node_data().len())
+}
+
+fn serialize(alloc: Global, workload: &Workload) -> Result<usize> {
+    let mut sink = VecSink::new(alloc);
+    if workload.document.fits(&workload.schema) {
+        BinaryDocumentSerializer::new(&mut sink, &workload.schema)
+            .serialize_doc(&workload.document)?;
+    }
+    if sink.as_slice() != workload.stored.as_slice() {
+        return Err(anyhow!("other bytes are written than were read"));
+    }
+    Ok(sink.as_slice().len())
+}
+
+// Prints the document. Where it was made of JSON objects, the JSON library prints its values in the same way.
+fn print(alloc: Global, workload: &Workload) -> Result<usize> {
+    let printed = workload.document.to_json(alloc, &workload.schema)?;
+    if let Ok(json) = Value::from_str(alloc, workload.json.as_str()) {
+        if let Some(tree) = json.get("tree") {
+            let other = format!(in alloc; "{{\"tree\":[{}]}}", tree.to_string(alloc)?)?;
+            if printed.as_str() != other.as_str() {
+                return Err(anyhow!("the JSON library prints another text"));
+            }
+        }
+    }
+    Ok(printed.len())
+}
+
+fn read_schema(alloc: Global, workload: &Workload) -> Result<usize> {
+    let json = Value::from_str(alloc, workload.schema_json.as_str())?;
+    let schema = Schema::from_json_value(alloc, &json)?;
+    drop(json);
+    Ok(schema.num_fields())
+}
+
+fn find_fields(alloc: Global, workload: &Workload) -> Result<usize> {
+    let mut found: usize = 0;
+    for (_, entry) in workload.schema.fields() {
+        let path = format!(in alloc; "{}.step", entry.name())?;
+        if workload.schema.find_field(entry.name()).is_some()
+            && workload.schema.find_field(path.as_str()).is_some()
+        {
+            found = found.saturating_add(1);
+        }
+    }
+    Ok(found)
+}
