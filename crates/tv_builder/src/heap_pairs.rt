@@ -112,6 +112,17 @@ impl HeapPairs {
         })
     }
 
+    /// Takes all pairs off, and keeps the memory for more.
+    pub fn clear(&mut self)
+        ensures document { document_of self.new ≡ [] }
+        ensures heap { heap_of self.new ≡ [] }
+        ensures bytes { heap_capacity self.new ≡ heap_capacity self.old }
+        ensures places { pairs_capacity self.new ≡ pairs_capacity self.old }
+    {
+        self.pairs.clear();
+        self.heap.clear();
+    }
+
     /// A copy. The only error is that memory was refused.
     pub fn try_clone(&self, alloc: Global) -> Result<HeapPairs, AllocError>
         ensures { IfOk result (λ copy. IsUnchanged self.now copy) }

@@ -1,6 +1,7 @@
 //! Reading whole documents from a source that is lent, with the count of the bytes that were taken of it.
 
-ghost use Rattle.std.specs.Prelude.{IsErrOf};
+ghost use Rattle.std.specs.Prelude.{◌≡◌, [], IsErrOf};
+ghost use Rattle.tv_builder.specs.HeldPairs.{document_of};
 ghost use Rattle.tv_decoder.specs.Documents.{EncodesRead, EncodesBehind, NoDocument};
 ghost use Rattle.tv_decoder.specs.Prefix.{IsSound, NoPrefix, HasNoRoom, NoRoomBehind};
 ghost use Rattle.tv_reader.specs.Finds.{Finds};
@@ -63,8 +64,27 @@ pub fn take_document<S: ByteSource>(
     ensures full { S.is_known source.old → IsErrOf result HeapFull
         → HasNoRoom (version_of version) (S.left source.old) }
 {
+    let empty = HeapPairs::with_capacity(alloc, FIRST_ROOM)?;
+    take_document_into(alloc, empty, source, count, version)
+}
+
+/// Takes a document as `take_document` does, in the memory of pairs that were taken off.
+#[inline(always)]
+pub fn take_document_into<S: ByteSource>(
+    alloc: Global,
+    empty: HeapPairs,
+    source: &mut S,
+    count: &mut u64,
+    version: DocStoreVersion,
+) -> Result<HeapPairs, DeserializeError>
+    requires { document_of empty ≡ [] }
+    ensures finds { Finds S.is_known S.left S.failures source.old count.old source.new count.new
+        result (EncodesRead (version_of version)) (NoDocument (version_of version)) }
+    ensures full { S.is_known source.old → IsErrOf result HeapFull
+        → HasNoRoom (version_of version) (S.left source.old) }
+{
     let announced = take_document_head(source, count)?;
-    let mut document = HeapPairs::with_capacity(alloc, FIRST_ROOM)?;
+    let mut document = empty;
     let finished = take_buffered_pairs(&mut document, source, count, version, announced);
     if finished == announced {
         return Ok(document);

@@ -10,6 +10,7 @@ use Rattle.std.specs.Ordering.{is_eq, match_ordering, ordering_reverse, ordering
 use Rattle.std.proofs.lemmas.Bool.{eqb-true, false≢true}
 use Rattle.std.proofs.lemmas.Cmp.{nat_cmp_total, nat_list_cmp_total}
 use Rattle.std.proofs.lemmas.Bool.Decides.{Decides-eqb}
+use Rattle.std.proofs.lemmas.List.{map-append}
 use Rattle.std.proofs.lemmas.List.Elements.{Contains-append_left, Contains-append_right, Contains-append_cases, Contains-push, Contains-push_cases}
 use Rattle.tv_format.specs.Tree.{Document}
 use Rattle.tv_value.specs.declared.field.Field.{Field}
@@ -116,20 +117,21 @@ seen_same x y same =
 
 found : (x : Text) (ks : List Text) → list_any (λ y. is_eq (text_cmp x y)) ks ≡ true → Contains (map text_seen ks) (text_seen x)
 found x [] e = absurd (false≢true e)
-found x (k ∷ ks) e = by_test (is_eq (text_cmp x k)) refl e
+found x (k ∷ ks) e = by_test (found x ks) (is_eq (text_cmp x k)) refl e
   where
-    by_test : (b : Bool) → is_eq (text_cmp x k) ≡ b → (b || list_any (λ y. is_eq (text_cmp x y)) ks) ≡ true → Contains (map text_seen (k ∷ ks)) (text_seen x)
-    by_test true is e = subst (Contains (map text_seen (k ∷ ks))) (sym (same_seen x k is)) (first_in (text_seen k) (map text_seen ks))
-    by_test false is e = later_in (text_seen k) (map text_seen ks) (text_seen x) (found x ks e)
+    by_test : (list_any (λ y. is_eq (text_cmp x y)) ks ≡ true → Contains (map text_seen ks) (text_seen x)) → (b : Bool) → is_eq (text_cmp x k) ≡ b → (b || list_any (λ y. is_eq (text_cmp x y)) ks) ≡ true
+        → Contains (map text_seen (k ∷ ks)) (text_seen x)
+    by_test later true is e = subst (Contains (map text_seen (k ∷ ks))) (sym (same_seen x k is)) (first_in (text_seen k) (map text_seen ks))
+    by_test later false is e = later_in (text_seen k) (map text_seen ks) (text_seen x) (later e)
 
 held : (x : Text) (ks : List Text) → Contains (map text_seen ks) (text_seen x) → list_any (λ y. is_eq (text_cmp x y)) ks ≡ true
 held x [] c = absurd (omega (arith, c.1))
-held x (k ∷ ks) c = by_case (is_eq (text_cmp x k)) refl (in_cases (text_seen k) (map text_seen ks) (text_seen x) c)
+held x (k ∷ ks) c = by_case (held x ks) (is_eq (text_cmp x k)) refl (in_cases (text_seen k) (map text_seen ks) (text_seen x) c)
   where
-    by_case : (b : Bool) → is_eq (text_cmp x k) ≡ b → (text_seen k ≡ text_seen x) ⊎ Contains (map text_seen ks) (text_seen x) → (b || list_any (λ y. is_eq (text_cmp x y)) ks) ≡ true
-    by_case true is c = refl
-    by_case false is (inl same) = absurd (false≢true (sym is ∙ seen_same x k same))
-    by_case false is (inr later) = held x ks later
+    by_case : (Contains (map text_seen ks) (text_seen x) → list_any (λ y. is_eq (text_cmp x y)) ks ≡ true) → (b : Bool) → is_eq (text_cmp x k) ≡ b → (text_seen k ≡ text_seen x) ⊎ Contains (map text_seen ks) (text_seen x) → (b || list_any (λ y. is_eq (text_cmp x y)) ks) ≡ true
+    by_case later true is c = refl
+    by_case later false is (inl same) = absurd (false≢true (sym is ∙ seen_same x k same))
+    by_case later false is (inr rest) = later rest
 
 -- the set has a text exactly where it is seen among its texts
 pub is_seen : (x : Text) (ks : List Text) → list_any (λ y. is_eq (text_cmp x y)) ks ≡ true ↔ Contains (map text_seen ks) (text_seen x)
@@ -139,43 +141,46 @@ is_seen x ks = (found x ks, held x ks)
 
 inserted : (k : Text) (ks : List Text) (p : ℕ × List ℕ) → Contains (map text_seen (insert_key text_cmp ks k)) p → (text_seen k ≡ p) ⊎ Contains (map text_seen ks) p
 inserted k [] p c = in_cases (text_seen k) [] p c
-inserted k (x ∷ ks) p c = by_order (text_cmp k x) refl c
+inserted k (x ∷ ks) p c = by_order (inserted k ks p) (text_cmp k x) refl c
   where
-    by_later : (text_seen x ≡ p) ⊎ Contains (map text_seen (insert_key text_cmp ks k)) p → (text_seen k ≡ p) ⊎ Contains (map text_seen (x ∷ ks)) p
-    by_later (inl same) = inr (subst (Contains (map text_seen (x ∷ ks))) same (first_in (text_seen x) (map text_seen ks)))
-    by_later (inr later) = by_rest (inserted k ks p later)
-      where
-        by_rest : (text_seen k ≡ p) ⊎ Contains (map text_seen ks) p → (text_seen k ≡ p) ⊎ Contains (map text_seen (x ∷ ks)) p
-        by_rest (inl same) = inl same
-        by_rest (inr rest) = inr (later_in (text_seen x) (map text_seen ks) p rest)
+    by_rest : (text_seen k ≡ p) ⊎ Contains (map text_seen ks) p → (text_seen k ≡ p) ⊎ Contains (map text_seen (x ∷ ks)) p
+    by_rest (inl same) = inl same
+    by_rest (inr rest) = inr (later_in (text_seen x) (map text_seen ks) p rest)
 
-    by_order : (o : Ordering) → text_cmp k x ≡ o → Contains (map text_seen (match_ordering o (k ∷ x ∷ ks) (x ∷ ks) (x ∷ insert_key text_cmp ks k))) p → (text_seen k ≡ p) ⊎ Contains (map text_seen (x ∷ ks)) p
-    by_order Less is c = in_cases (text_seen k) (map text_seen (x ∷ ks)) p c
-    by_order Equal is c = inr c
-    by_order Greater is c = by_later (in_cases (text_seen x) (map text_seen (insert_key text_cmp ks k)) p c)
+    by_later : (Contains (map text_seen (insert_key text_cmp ks k)) p → (text_seen k ≡ p) ⊎ Contains (map text_seen ks) p) → (text_seen x ≡ p) ⊎ Contains (map text_seen (insert_key text_cmp ks k)) p
+        → (text_seen k ≡ p) ⊎ Contains (map text_seen (x ∷ ks)) p
+    by_later later (inl same) = inr (subst (Contains (map text_seen (x ∷ ks))) same (first_in (text_seen x) (map text_seen ks)))
+    by_later later (inr rest) = by_rest (later rest)
+
+    by_order : (Contains (map text_seen (insert_key text_cmp ks k)) p → (text_seen k ≡ p) ⊎ Contains (map text_seen ks) p) → (o : Ordering) → text_cmp k x ≡ o → Contains (map text_seen (match_ordering o (k ∷ x ∷ ks) (x ∷ ks) (x ∷ insert_key text_cmp ks k))) p → (text_seen k ≡ p) ⊎ Contains (map text_seen (x ∷ ks)) p
+    by_order later Less is c = in_cases (text_seen k) (map text_seen (x ∷ ks)) p c
+    by_order later Equal is c = inr c
+    by_order later Greater is c = by_later later (in_cases (text_seen x) (map text_seen (insert_key text_cmp ks k)) p c)
 
 stays : (k : Text) (ks : List Text) (p : ℕ × List ℕ) → (text_seen k ≡ p) ⊎ Contains (map text_seen ks) p → Contains (map text_seen (insert_key text_cmp ks k)) p
 stays k [] p (inl same) = subst (Contains (text_seen k ∷ [])) same (first_in (text_seen k) [])
 stays k [] p (inr none) = absurd (omega (arith, none.1))
-stays k (x ∷ ks) p c = by_order (text_cmp k x) refl c
+stays k (x ∷ ks) p c = by_order (stays k ks p) (text_cmp k x) refl c
   where
-    by_later : (text_seen k ≡ p) ⊎ ((text_seen x ≡ p) ⊎ Contains (map text_seen ks) p) → Contains (map text_seen (x ∷ insert_key text_cmp ks k)) p
-    by_later (inl same) = later_in (text_seen x) (map text_seen (insert_key text_cmp ks k)) p (stays k ks p (inl same))
-    by_later (inr (inl same)) = subst (Contains (map text_seen (x ∷ insert_key text_cmp ks k))) same (first_in (text_seen x) (map text_seen (insert_key text_cmp ks k)))
-    by_later (inr (inr rest)) = later_in (text_seen x) (map text_seen (insert_key text_cmp ks k)) p (stays k ks p (inr rest))
+    by_later : ((text_seen k ≡ p) ⊎ Contains (map text_seen ks) p → Contains (map text_seen (insert_key text_cmp ks k)) p) → (text_seen k ≡ p) ⊎ ((text_seen x ≡ p) ⊎ Contains (map text_seen ks) p)
+        → Contains (map text_seen (x ∷ insert_key text_cmp ks k)) p
+    by_later later (inl same) = later_in (text_seen x) (map text_seen (insert_key text_cmp ks k)) p (later (inl same))
+    by_later later (inr (inl same)) = subst (Contains (map text_seen (x ∷ insert_key text_cmp ks k))) same (first_in (text_seen x) (map text_seen (insert_key text_cmp ks k)))
+    by_later later (inr (inr rest)) = later_in (text_seen x) (map text_seen (insert_key text_cmp ks k)) p (later (inr rest))
 
     among : (text_seen k ≡ p) ⊎ Contains (map text_seen (x ∷ ks)) p → (text_seen k ≡ p) ⊎ ((text_seen x ≡ p) ⊎ Contains (map text_seen ks) p)
     among (inl same) = inl same
     among (inr c) = inr (in_cases (text_seen x) (map text_seen ks) p c)
 
-    by_order : (o : Ordering) → text_cmp k x ≡ o → (text_seen k ≡ p) ⊎ Contains (map text_seen (x ∷ ks)) p → Contains (map text_seen (match_ordering o (k ∷ x ∷ ks) (x ∷ ks) (x ∷ insert_key text_cmp ks k))) p
-    by_order Less is (inl same) = subst (Contains (map text_seen (k ∷ x ∷ ks))) same (first_in (text_seen k) (map text_seen (x ∷ ks)))
-    by_order Less is (inr c) = later_in (text_seen k) (map text_seen (x ∷ ks)) p c
-    by_order Equal is (inl same) =
+    by_order : ((text_seen k ≡ p) ⊎ Contains (map text_seen ks) p → Contains (map text_seen (insert_key text_cmp ks k)) p) → (o : Ordering) → text_cmp k x ≡ o → (text_seen k ≡ p) ⊎ Contains (map text_seen (x ∷ ks)) p
+        → Contains (map text_seen (match_ordering o (k ∷ x ∷ ks) (x ∷ ks) (x ∷ insert_key text_cmp ks k))) p
+    by_order later Less is (inl same) = subst (Contains (map text_seen (k ∷ x ∷ ks))) same (first_in (text_seen k) (map text_seen (x ∷ ks)))
+    by_order later Less is (inr c) = later_in (text_seen k) (map text_seen (x ∷ ks)) p c
+    by_order later Equal is (inl same) =
         let one : text_seen k ≡ text_seen x = same_seen k x (ap is_eq is) in
         subst (Contains (map text_seen (x ∷ ks))) (sym one ∙ same) (first_in (text_seen x) (map text_seen ks))
-    by_order Equal is (inr c) = c
-    by_order Greater is c = by_later (among c)
+    by_order later Equal is (inr c) = c
+    by_order later Greater is c = by_later later (among c)
 
 -- the text goes over from those that are left to the set
 pub text_moved : (k : Text) (ks : List Text) (rest whole : List (ℕ × List ℕ)) → IsSameSet (map text_seen ks ++ text_seen k ∷ rest) whole → IsSameSet (map text_seen (insert_key text_cmp ks k) ++ rest) whole
@@ -196,6 +201,20 @@ text_moved k ks rest whole same p = (λ c. (same p).0 (to (Contains-append_cases
     back : Contains (map text_seen ks) p ⊎ Contains (text_seen k ∷ rest) p → Contains (map text_seen (insert_key text_cmp ks k) ++ rest) p
     back (inl c) = Contains-append_left (map text_seen (insert_key text_cmp ks k)) rest p (stays k ks p (inr c))
     back (inr c) = back_rest (in_cases (text_seen k) rest p c)
+
+-- ---- texts that are looked for, one after the other
+
+pub seen_among : (before : List Text) (k : Text) (rest : List Text) → Contains (map text_seen (before ++ k ∷ rest)) (text_seen k)
+seen_among before k rest =
+    subst (λ l. Contains l (text_seen k)) (sym (map-append text_seen before (k ∷ rest)))
+    (Contains-append_right (map text_seen before) (text_seen k ∷ map text_seen rest) (text_seen k) (first_in (text_seen k) (map text_seen rest)))
+
+pub all_more : (texts : List (ℕ × List ℕ)) (before : List Text) (k : Text) → HasAll texts (map text_seen before) → Contains texts (text_seen k) → HasAll texts (map text_seen (before ++ k ∷ []))
+all_more texts before k all this p c = by_part (Contains-push_cases (map text_seen before) (text_seen k) p (subst (λ l. Contains l p) (map-append text_seen before (k ∷ [])) c))
+  where
+    by_part : Contains (map text_seen before) p ⊎ (text_seen k ≡ p) → Contains texts p
+    by_part (inl earlier) = all p earlier
+    by_part (inr same) = subst (Contains texts) same this
 
 -- ---- one set after the other
 

@@ -84,6 +84,23 @@ impl CompactDoc {
         CompactDoc { values }
     }
 
+    /// Its pairs, and their heap. (Not in tantivy.)
+    pub fn into_pairs(self) -> HeapPairs
+        ensures { result ≡ self.values }
+    {
+        self.values
+    }
+
+    /// Takes all pairs off, and keeps the memory for more. (Not in tantivy.)
+    pub fn clear(&mut self)
+        ensures document { document_of self.new ≡ [] }
+        ensures heap { heap_of self.new ≡ [] }
+        ensures bytes { heap_capacity self.new ≡ heap_capacity self.old }
+        ensures places { pairs_capacity self.new ≡ pairs_capacity self.old }
+    {
+        self.values.clear();
+    }
+
     /// A copy: the same pairs, and their values at the same places of the same heap. The only error is that memory was
     /// refused.
     pub fn try_clone(&self, alloc: Global) -> Result<CompactDoc, AllocError>
