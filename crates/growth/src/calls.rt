@@ -5,8 +5,8 @@ use anyhow::{Result, anyhow};
 use serde_json::Value;
 use std::alloc::Global;
 use tantivy_schema::common::{SliceSource, VecSink};
-use tantivy_schema::schema::document::{BinaryDocumentSerializer, CompactDoc, Document};
 use tantivy_schema::schema::Schema;
+use tantivy_schema::schema::document::{BinaryDocumentSerializer, CompactDoc, Document};
 use tantivy_schema::store::{DocStoreVersion, WriteVersion, migrate, read_document};
 
 /// A call.
@@ -90,8 +90,9 @@ fn parse(alloc: Global, workload: &Workload) -> Result<usize> {
 fn serialize(alloc: Global, workload: &Workload) -> Result<usize> {
     let mut sink = VecSink::new(alloc);
     if workload.document.fits(&workload.schema) {
-        BinaryDocumentSerializer::new(&mut sink, &workload.schema)
-            .serialize_doc(&workload.document)?;
+        BinaryDocumentSerializer::new(&mut sink, &workload.schema).serialize_doc(
+            &workload.document,
+        )?;
     }
     if sink.as_slice() != workload.stored.as_slice() {
         return Err(anyhow!("other bytes are written than were read"));

@@ -1,4 +1,6 @@
 //! The document store.
 
 pub use tv_format::version::WriteVersion;
-pub use tv_store::{DirectDecoder, DocStoreVersion, MigrateError, Step, migrate, read_document};
+pub use tv_store::{
+    DirectDecoder, DocStoreVersion, MigrateError, Step, migrate, read_document, read_document_into,
+};

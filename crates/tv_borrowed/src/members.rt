@@ -36,12 +36,7 @@ impl<'a> FoundMembers<'a> {
     }
 
     // Puts a member where its key belongs, in place of the one that has the key already. `None` where memory is refused.
-    pub(crate) fn put(
-        &mut self,
-        alloc: Global,
-        key: &'a str,
-        value: BorrowedJson<'a>,
-    ) -> Option<()>
+    pub(crate) fn put(&mut self, alloc: Global, key: &'a str, value: BorrowedJson<'a>) -> Option<()>
         requires { Rise (found_data self.old) }
         ensures { OnSome result
             (found_data self.new ≡ put key.now (data_of value.entry) (found_data self.old)) }
@@ -81,10 +76,7 @@ impl<'a> FoundMembers<'a> {
 }
 
 // The members of a list as a map.
-fn mapped<'a>(
-    alloc: Global,
-    list: Members<'a>,
-) -> Option<BTreeMap<&'a str, BorrowedJson<'a>>>
+fn mapped<'a>(alloc: Global, list: Members<'a>) -> Option<BTreeMap<&'a str, BorrowedJson<'a>>>
     requires { Rise (members_data list.items) }
     ensures { IfSome result (λ map. members_data map.entries ≡ members_data list.entry.items) }
 {

@@ -13,7 +13,7 @@ pub mod pairs_given;
 pub mod round_trip;
 pub mod se;
 
-pub use de::{DocStoreVersion, read_document};
+pub use de::{DocStoreVersion, read_document, read_document_into};
 pub use direct_decoder::{DirectDecoder, Step};
 pub use error::{DeserializeError, SerializeError, ValueType};
 pub use migration::{MigrateError, migrate};
