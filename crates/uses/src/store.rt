@@ -6,7 +6,9 @@ use std::collections::BTreeMap;
 use tantivy_schema::common::{SliceSource, VecSink};
 use tantivy_schema::schema::document::{BinaryDocumentSerializer, StoreReader};
 use tantivy_schema::schema::{Schema, TantivyDocument};
-use tantivy_schema::store::{DirectDecoder, DocStoreVersion, Step, read_document};
+use tantivy_schema::store::{
+    DirectDecoder, DocStoreVersion, Step, read_document, read_document_into,
+};
 
 /// The bytes of documents, one after the other.
 pub fn block(alloc: Global, schema: &Schema, documents: &[TantivyDocument]) -> Result<Vec<u8>> {
@@ -34,6 +36,18 @@ pub fn documents_of(alloc: Global, bytes: &[u8], count: usize) -> Result<Vec<Tan
         documents.push(read_document(alloc, &mut source, DocStoreVersion::V2)?)?;
     }
     Ok(documents)
+}
+
+/// How many values the documents of such bytes have, each read into the memory of the one before.
+pub fn values_in(alloc: Global, bytes: &[u8], count: usize) -> Result<usize> {
+    let mut source = SliceSource::new(bytes);
+    let mut document = TantivyDocument::new(alloc);
+    let mut values: usize = 0;
+    for _ in 0..count {
+        read_document_into(alloc, &mut document, &mut source, DocStoreVersion::V2)?;
+        values = values.saturating_add(document.len());
+    }
+    Ok(values)
 }
 
 /// The first document of such bytes, read in short steps: between two of them the caller may do something else.
