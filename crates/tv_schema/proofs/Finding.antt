@@ -23,7 +23,7 @@ module _ {A : Type 0} (give : ℕ → Option A) where
   last_given-none zero h = refl
   last_given-none (suc n) h = rw (h n (omega arith)) (last_given-none n (λ k l. h k (omega arith)))
 
-none_parted : (dot : Bool) (field : Option ℕ) (rest : List ℕ) → (IsTrue dot → field ≡ None) → cond dot (option_map {U = ℕ × List ℕ} (λ n. (n, rest)) field) None ≡ None
+pub none_parted : (dot : Bool) (field : Option ℕ) (rest : List ℕ) → (IsTrue dot → field ≡ None) → cond dot (option_map {U = ℕ × List ℕ} (λ n. (n, rest)) field) None ≡ None
 none_parted true field rest h = rw (h refl) refl
 none_parted false field rest h = refl
 

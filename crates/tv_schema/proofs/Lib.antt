@@ -5,3 +5,4 @@ pub mod Schemas
 pub mod Names
 pub mod Finding
 pub mod Equality
+pub mod LongPaths

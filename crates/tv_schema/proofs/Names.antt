@@ -8,7 +8,7 @@ use Rattle.std.proofs.lemmas.Option.{get_or_from_slice_get}
 use Rattle.tv_field.specs.Entry.{Entry}
 use Rattle.tv_schema.specs.Schema.{IsSchema, place_from, field_named}
 
-apart_names : (one other : List ℕ) → one ≢ other → bytes_eq one other ≡ false
+pub apart_names : (one other : List ℕ) → one ≢ other → bytes_eq one other ≡ false
 apart_names one other h = false_from_ne_true (bytes_eq one other) (λ t. h ((bytes_eq-Decides one other).0 t))
 
 found_case : (b : Bool) (n m : ℕ) (rest : Option ℕ) → b ≡ false → rest ≡ Some m → cond b (Some n) rest ≡ Some m

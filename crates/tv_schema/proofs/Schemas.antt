@@ -1,9 +1,10 @@
 -- A schema with one more entry.
-use Rattle.std.proofs.Common.{◌≡◌, ◌≢◌, ℕ, suc, zero, ◌+◌, ◌<◌, ◌^◌, Bool, true, false, cond, List, [], ◌∷◌, ◌++◌, length, get_or, Option, None, Some, refl, sym, ◌∙◌, ap, arith, add-zero, zero-add}
+use Rattle.std.proofs.Common.{◌≡◌, ◌≢◌, ℕ, suc, zero, ◌+◌, ◌<◌, ◌≤◌, ◌^◌, Bool, true, false, cond, List, [], ◌∷◌, ◌++◌, length, get_or, Option, None, Some, refl, sym, ◌∙◌, ap, arith, add-zero, zero-add}
 use Rattle.std.proofs.lemmas.List.{length-append}
 use Rattle.std.proofs.lemmas.List.Elements.{All-push}
 use Rattle.std.proofs.lemmas.List.Quantifiers.{all_pairs_push}
 use Rattle.std.proofs.lemmas.Slice.Eq.{bytes_eq-Decides}
+use Rattle.std.specs.List.{AllByRecursion}
 use Rattle.std.specs.Str.{bytes_eq}
 use Rattle.tv_field.specs.Entry.{Entry, IsValidName}
 use Rattle.std.specs.Prelude.{String}
@@ -54,11 +55,18 @@ update_case None b n new = refl
 update_case (Some m) true n new = let no = new refl in cc
 update_case (Some m) false n new = refl
 
-module _ (m n : HashMap (String Global) ℕ (BuildHasherDefault FoldHasher)) (name : String Global) (field : ℕ) where
-  pub IsTable-push : (es : List Entry) (e : Entry) → IsTable es m → IsValidName e.name → field_named es e.name ≡ None → length es + 1 < 2 ^ 32 → string_bytes name ≡ e.name → field ≡ length es → Updates string_eq m n name (Some field) → IsTable (es ++ e ∷ []) n
-  IsTable-push es e is valid new few same number updates = record {
+-- names of any length are within a greater one
+names_push : (old new : ℕ) (es : List Entry) (e : Entry) → old ≤ new → length e.name ≤ new → AllByRecursion (λ entry. length entry.name ≤ old) es → AllByRecursion (λ entry. length entry.name ≤ new) (es ++ e ∷ [])
+names_push old new [] e more this all = (this, tt)
+names_push old new (d ∷ es) e more this all = (omega (arith, all.0), names_push old new es e more this all.1)
+
+module _ (m n : HashMap (String Global) ℕ (BuildHasherDefault FoldHasher)) (name : String Global) (field old_longest longest : ℕ) where
+  pub IsTable-push : (es : List Entry) (e : Entry) → old_longest ≤ longest → length e.name ≤ longest → longest < 2 ^ 63 → IsTable es m old_longest → IsValidName e.name → field_named es e.name ≡ None → length es + 1 < 2 ^ 32 → string_bytes name ≡ e.name → field ≡ length es → Updates string_eq m n name (Some field) → IsTable (es ++ e ∷ []) n longest
+  IsTable-push es e more this small is valid new few same number updates = record {
     schema = IsSchema-push es e is.schema valid new few;
     numbered = λ q. numbered-push q;
+    names = names_push old_longest longest es e more this is.names;
+    small = small;
   }
     where
       numbered-push : (q : List ℕ) → get_by_text n q ≡ field_named (es ++ e ∷ []) q

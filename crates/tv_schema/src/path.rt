@@ -19,7 +19,9 @@ pub(crate) fn find<'a>(table: &FieldTable, path: &'a str) -> Option<(u32, &'a st
     if let Some(field) = table.field_named(path) {
         return Some((field, ""));
     }
-    for place in (0..path.len()).rev() {
+    // behind these places stands no dot whose prefix names a field
+    let places = path.len().min(table.longest_prefix().saturating_add(1));
+    for place in (0..places).rev() {
         if let Some(found) = parted_at(table, path, place) {
             return Some(found);
         }

@@ -1,8 +1,10 @@
 //! The entries of a schema, and their numbers by name.
 
 ghost use Rattle.std.specs.Prelude.{◌≡◌, ◌<◌, ◌+◌, ◌^◌, ◌++◌, ◌∷◌, [], length, None, Some, IfOk};
+ghost use Rattle.std.specs.Prelude.{ℕ, List};
 ghost use Rattle.std.specs.Prelude.{IfSome, OnOk, OnErr, slice_get, vec_len};
 ghost use Rattle.tv_field.specs.Entry.{IsValidName};
+ghost use Rattle.tv_schema.specs.Path.{field_of_prefix};
 ghost use Rattle.tv_schema.specs.Schema.{IsSchema, field_named};
 
 use std::alloc::{AllocError, Global};
@@ -15,6 +17,8 @@ use tv_field::field_entry::FieldEntry;
 pub(crate) struct FieldTable {
     entries: Vec<FieldEntry>,
     numbers: HashMap<String, u32>,
+    // The length of the longest name.
+    longest: usize,
 }
 
 impl Model for FieldTable {
@@ -27,7 +31,7 @@ impl Model for FieldTable {
 
     ghost view = { λ table. table.entries.items };
 
-    ghost invariant = { λ table. IsTable table.entries.items table.numbers };
+    ghost invariant = { λ table. IsTable table.entries.items table.numbers table.longest };
 }
 
 impl FieldTable {
@@ -37,6 +41,7 @@ impl FieldTable {
         FieldTable {
             entries: Vec::new(alloc),
             numbers: HashMap::new(alloc),
+            longest: 0,
         }
     }
 
@@ -68,6 +73,14 @@ impl FieldTable {
         self.numbers.get(name).copied()
     }
 
+    // A longer prefix of a path names no field, since its escapes are half of it at most.
+    pub(crate) fn longest_prefix(&self) -> usize
+        ensures { (prefix : List ℕ) → result < length prefix
+            → field_of_prefix self.now prefix ≡ None }
+    {
+        2 * self.longest + 1
+    }
+
     // Adds an entry, or leaves the table as it is where there is no memory.
     pub(crate) fn push(&mut self, entry: FieldEntry) -> Result<u32, AllocError>
         requires valid { IsValidName entry.name }
@@ -78,12 +91,14 @@ impl FieldTable {
         ensures err { OnErr result (self.new ≡ self.old) }
     {
         let number = self.entries.len() as u32;
+        let longest = self.longest.max(entry.name().len());
         let name = String::from_str(*self.entries.allocator(), entry.name())?;
         self.entries.push(entry)?;
         if self.numbers.insert(name, number).is_err() {
             let _ = self.entries.pop();
             return Err(AllocError);
         }
+        self.longest = longest;
         Ok(number)
     }
 }
