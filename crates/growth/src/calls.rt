@@ -1,10 +1,10 @@
 //! The calls that are made.
 
 use crate::shape::Workload;
-use anyhow::{Result, anyhow};
+use anyhow::{Context, Result, anyhow};
 use serde_json::Value;
 use std::alloc::Global;
-use tantivy_schema::common::{SliceSource, VecSink};
+use tantivy_schema::common::{SliceSource, VecSink, split_json_path};
 use tantivy_schema::schema::Schema;
 use tantivy_schema::schema::document::{BinaryDocumentSerializer, CompactDoc, Document};
 use tantivy_schema::store::{DocStoreVersion, WriteVersion, migrate, read_document};
@@ -28,6 +28,10 @@ pub enum Call {
     ReadSchema,
     /// Each field of a schema, by its name.
     FindFields,
+    /// The field that a path names.
+    FindPath,
+    /// The steps of a path.
+    SplitPath,
 }
 
 impl Call {
@@ -42,6 +46,8 @@ impl Call {
             Call::Compare => "compare",
             Call::ReadSchema => "read schema",
             Call::FindFields => "find fields",
+            Call::FindPath => "find path",
+            Call::SplitPath => "split path",
         }
     }
 
@@ -78,6 +84,11 @@ impl Call {
             }
             Call::ReadSchema => read_schema(alloc, workload),
             Call::FindFields => find_fields(alloc, workload),
+            Call::FindPath => {
+                let found = workload.schema.find_field(workload.path.as_str());
+                Ok(found.context("a field")?.1.len())
+            }
+            Call::SplitPath => Ok(split_json_path(alloc, workload.path.as_str())?.len()),
         }
     }
 }

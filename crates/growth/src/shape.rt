@@ -27,6 +27,8 @@ pub enum Shape {
     Levels,
     /// Fields with a value each.
     Fields,
+    /// Steps of a path.
+    Steps,
 }
 
 /// A schema, and a document of it.
@@ -37,6 +39,8 @@ pub struct Workload {
     pub json: String,
     pub document: CompactDoc,
     pub stored: Vec<u8>,
+    // A path into a field of JSON objects.
+    pub path: String,
 }
 
 // Written here, so that a workload is let go by one call.
@@ -48,12 +52,13 @@ impl Drop for Workload {
             json: _,
             document: _,
             stored: _,
+            path: _,
         } = self;
     }
 }
 
 impl Shape {
-    const ALL: [Shape; 8] = [
+    const ALL: [Shape; 9] = [
         Shape::Values,
         Shape::Items,
         Shape::Rising,
@@ -62,6 +67,7 @@ impl Shape {
         Shape::Mixed,
         Shape::Levels,
         Shape::Fields,
+        Shape::Steps,
     ];
 
     /// The name under which it is asked for.
@@ -75,6 +81,7 @@ impl Shape {
             Shape::Mixed => "mixed",
             Shape::Levels => "levels",
             Shape::Fields => "fields",
+            Shape::Steps => "steps",
         }
     }
 
@@ -106,6 +113,7 @@ impl Shape {
                 Call::Serialize,
                 Call::Print,
             ],
+            Shape::Steps => &[Call::FindPath, Call::SplitPath],
             _ => &[
                 Call::Parse,
                 Call::Read,
@@ -145,6 +153,7 @@ impl Workload {
             json,
             document,
             stored,
+            path: path_of(alloc, shape, count)?,
         })
     }
 }
@@ -186,8 +195,22 @@ fn push_levels(stored: &mut Vec<u8>, count: u32) -> Result<()> {
     Ok(())
 }
 
+// A path of so many steps; of other shapes of none.
+fn path_of(alloc: Global, shape: Shape, count: u32) -> Result<String> {
+    let mut path = String::from_str(alloc, "tree")?;
+    if shape == Shape::Steps {
+        for _ in 0..count {
+            path.push_str(".a")?;
+        }
+    }
+    Ok(path)
+}
+
 // The JSON of a document.
 fn push_json(json: &mut String, shape: Shape, count: u32) -> Result<()> {
+    if shape == Shape::Steps {
+        return Ok(json.push_str("{}")?);
+    }
     let (start, end) = match shape {
         Shape::Values => ("{\"numbers\":[", "]}"),
         Shape::Items => ("{\"tree\":{\"items\":[", "]}}"),
