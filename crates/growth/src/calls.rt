@@ -51,46 +51,54 @@ impl Call {
         }
     }
 
-    /// Makes the call, and says how many bytes or fields its answer has.
+    /// Makes the call, and says how many bytes, values, fields or steps its answer has.
     pub fn make(self, alloc: Global, workload: &Workload) -> Result<usize> {
-        let document = &workload.document;
         match self {
             Call::Parse => parse(alloc, workload),
-            Call::Read => {
-                let mut source = SliceSource::new(workload.stored.as_slice());
-                let read = read_document(alloc, &mut source, DocStoreVersion::V2)?;
-                Ok(read.node_data().len())
-            }
+            Call::Read => read(alloc, workload),
             Call::Serialize => serialize(alloc, workload),
-            Call::Migrate => {
-                let mut source = SliceSource::new(workload.stored.as_slice());
-                let mut sink = VecSink::new(alloc);
-                migrate(
-                    alloc,
-                    &mut source,
-                    DocStoreVersion::V2,
-                    &mut sink,
-                    WriteVersion::V3,
-                )?;
-                Ok(sink.as_slice().len())
-            }
+            Call::Migrate => migrated(alloc, workload),
             Call::Print => print(alloc, workload),
-            Call::Compare => {
-                if document.same_as(alloc, document)? {
-                    Ok(document.len())
-                } else {
-                    Err(anyhow!("a document differs from itself"))
-                }
-            }
+            Call::Compare => compare(alloc, workload),
             Call::ReadSchema => read_schema(alloc, workload),
             Call::FindFields => find_fields(alloc, workload),
-            Call::FindPath => {
-                let found = workload.schema.find_field(workload.path.as_str());
-                Ok(found.context("a field")?.1.len())
-            }
+            Call::FindPath => find_path(workload),
             Call::SplitPath => Ok(split_json_path(alloc, workload.path.as_str())?.len()),
         }
     }
+}
+
+fn read(alloc: Global, workload: &Workload) -> Result<usize> {
+    let mut source = SliceSource::new(workload.stored.as_slice());
+    let read = read_document(alloc, &mut source, DocStoreVersion::V2)?;
+    Ok(read.node_data().len())
+}
+
+fn migrated(alloc: Global, workload: &Workload) -> Result<usize> {
+    let mut source = SliceSource::new(workload.stored.as_slice());
+    let mut sink = VecSink::new(alloc);
+    migrate(
+        alloc,
+        &mut source,
+        DocStoreVersion::V2,
+        &mut sink,
+        WriteVersion::V3,
+    )?;
+    Ok(sink.as_slice().len())
+}
+
+fn compare(alloc: Global, workload: &Workload) -> Result<usize> {
+    let document = &workload.document;
+    if document.same_as(alloc, document)? {
+        Ok(document.len())
+    } else {
+        Err(anyhow!("a document differs from itself"))
+    }
+}
+
+fn find_path(workload: &Workload) -> Result<usize> {
+    let found = workload.schema.find_field(workload.path.as_str());
+    Ok(found.context("a field")?.1.len())
 }
 
 fn parse(alloc: Global, workload: &Workload) -> Result<usize> {
