@@ -1,103 +1,108 @@
 -- Open lists, written part by part.
-use Rattle.std.proofs.Common.{◌≡◌, ◌≤◌, ◌<◌, ℕ, suc, ◌+◌, List, [], ◌∷◌, ◌++◌, append_assoc, append-nil, sym, ap, ◌∙◌, arith}
+use Rattle.std.proofs.Common.{◌≡◌, ◌≤◌, ◌<◌, ℕ, suc, ◌+◌, length, get_or, take, set, List, [], ◌∷◌, ◌++◌, append_assoc, append-nil, sym, ap, ◌∙◌, arith}
 use Rattle.std.specs.Prelude.{Some, None}
+use Rattle.std.proofs.lemmas.List.{take_all}
+use Rattle.std.proofs.Math.ListN.{length-set}
+use Rattle.std.proofs.Math.Seq.{take-suc, take-suc-set}
 use Rattle.json.specs.Token as token
 use Rattle.json.specs.Token.{Token}
 use Rattle.tv_format.specs.Size.{size}
 use Rattle.tv_format.specs.Tree.{Tree}
 use Rattle.tv_json.specs.JsonOf.{json_of}
-use Rattle.tv_json.specs.Open.{Left, Opens, Advances}
+use Rattle.tv_json.specs.Open.{Left, open_left, value_left, Writes, Finds}
 use Rattle.tv_json.specs.Rising.{data_tokens}
 
 -- ---- the children of a list
 
--- of a list that had `was` left, it has `is` left
-pub record SoFar (old now : List Token) (was is : Left) : Type 0 where
-  pub tokens : now ++ is.tokens ≡ old ++ was.tokens
-  pub size : is.size ≤ was.size
-
--- what is left before a child
+-- a child, of whatever key, before the rest of its list
 abbrev pub child_left : Tree → Left → Left
 child_left t rest = record { tokens = data_tokens (json_of t) ++ rest.tokens; size = suc (size t + rest.size) }
 
--- what is left before a key and a child
 abbrev pub keyed_left : List ℕ → Tree → Left → Left
 keyed_left k t rest = record { tokens = token.key k ∷ (data_tokens (json_of t) ++ rest.tokens); size = suc (size t + rest.size) }
 
-pub key_written : (old before named : List Token) (k : List ℕ) (t : Tree) (was rest : Left) → named ≡ before ++ token.key k ∷ [] → SoFar old before was (keyed_left k t rest)
-    → SoFar old named was (child_left t rest)
+pub key_written : (old before named : List Token) (k : List ℕ) (t : Tree) (was rest : Left) → named ≡ before ++ token.key k ∷ [] → Writes old before was (keyed_left k t rest)
+    → Writes old named was (child_left t rest)
 key_written old before named k t was rest keyed so_far =
     let child = data_tokens (json_of t) ++ rest.tokens in
     record { tokens = ap (λ z. z ++ child) keyed ∙ append_assoc before (token.key k ∷ []) child ∙ so_far.tokens; size = so_far.size }
 
-pub child_written : (old before now : List Token) (t : Tree) (was rest : Left) → now ≡ before ++ data_tokens (json_of t) → SoFar old before was (child_left t rest) → SoFar old now was rest
+pub child_written : (old before now : List Token) (t : Tree) (was rest : Left) → now ≡ before ++ data_tokens (json_of t) → Writes old before was (child_left t rest) → Writes old now was rest
 child_written old before now t was rest written so_far =
     record { tokens = ap (λ z. z ++ rest.tokens) written ∙ append_assoc before (data_tokens (json_of t)) rest.tokens ∙ so_far.tokens; size = let s = so_far.size in omega (arith, s) }
 
-pub child_opened : (old before now : List Token) (t : Tree) (was rest list : Left) → Opens before now t list → SoFar old before was (child_left t rest)
-    → (now ++ (list.tokens ++ rest.tokens) ≡ old ++ was.tokens) × (suc (suc (list.size + rest.size)) ≤ was.size)
-child_opened old before now t was rest list opens so_far =
-    let s = so_far.size in
-    let o = opens.1 in (
-      sym (append_assoc now list.tokens rest.tokens) ∙ ap (λ z. z ++ rest.tokens) opens.0 ∙ append_assoc before (data_tokens (json_of t)) rest.tokens ∙ so_far.tokens,
-      omega (arith, s, o),
-    )
+pub child_found : (old now : List Token) (t : Tree) (was rest : Left) → Writes old now was (child_left t rest)
+    → (now ++ (value_left t rest).tokens ≡ old ++ was.tokens) × ((value_left t rest).size < was.size)
+child_found old now t was rest so_far = let s = so_far.size in (so_far.tokens, omega (arith, s))
 
-pub list_ended : (old now last end : List Token) (was left : Left) → left.tokens ≡ end → last ≡ now ++ end → SoFar old now was left → last ≡ old ++ was.tokens
-list_ended old now last end was left none ends so_far = ends ∙ ap (λ z. now ++ z) (sym none) ∙ so_far.tokens
+-- ---- all open lists
 
--- ---- all open lists, from the outermost
+pub open_tokens-push : {R : Type 0} (left : R → Left) (rs : List R) (r : R) → (open_left left (rs ++ r ∷ [])).tokens ≡ (left r).tokens ++ (open_left left rs).tokens
+open_tokens-push left [] r = sym (append-nil (left r).tokens)
+open_tokens-push left (q ∷ rs) r = ap (λ z. z ++ (left q).tokens) (open_tokens-push left rs r) ∙ append_assoc (left r).tokens (open_left left rs).tokens (left q).tokens
 
-abbrev pub outer_tokens : {R : Type 0} → (R → Left) → List R → List Token
-outer_tokens left [] = []
-outer_tokens left (r ∷ rs) = outer_tokens left rs ++ (left r).tokens
+pub open_size-push : {R : Type 0} (left : R → Left) (rs : List R) (r : R) → (open_left left (rs ++ r ∷ [])).size ≡ suc ((left r).size + (open_left left rs).size)
+open_size-push left [] r = omega arith
+open_size-push left (q ∷ rs) r = let more = open_size-push left rs r in omega (arith, more)
 
-abbrev pub outer_size : {R : Type 0} → (R → Left) → List R → ℕ
-outer_size left [] = 0
-outer_size left (r ∷ rs) = suc ((left r).size + outer_size left rs)
+-- a list is opened
+pub list_opened : {R : Type 0} (left : R → Left) (old now bracket : List Token) (t : Tree) (lists more : List R) (list : R) → now ≡ old ++ bracket → more ≡ lists ++ list ∷ []
+    → bracket ++ (left list).tokens ≡ data_tokens (json_of t) → suc (left list).size ≤ size t → Writes old now (value_left t (open_left left lists)) (open_left left more)
+list_opened left old now bracket t lists more list begins pushes whole small =
+    let above = (open_left left lists).tokens in
+    let sizes = ap (λ rs. (open_left left rs).size) pushes in
+    let sum = open_size-push left lists list in
+    record {
+      tokens = (λ i. begins i ++ (ap (λ rs. (open_left left rs).tokens) pushes ∙ open_tokens-push left lists list) i) ∙ append_assoc old bracket ((left list).tokens ++ above)
+          ∙ ap (λ z. old ++ z) (sym (append_assoc bracket (left list).tokens above) ∙ ap (λ z. z ++ above) whole);
+      size = omega (arith, sizes, sum, small);
+    }
 
-outer_tokens-push : {R : Type 0} (left : R → Left) (rs : List R) (r : R) → outer_tokens left (rs ++ r ∷ []) ≡ (left r).tokens ++ outer_tokens left rs
-outer_tokens-push left [] r = sym (append-nil (left r).tokens)
-outer_tokens-push left (q ∷ rs) r = ap (λ z. z ++ (left q).tokens) (outer_tokens-push left rs r) ∙ append_assoc (left r).tokens (outer_tokens left rs) (left q).tokens
+-- the innermost list, which is the last
+pub last_was : {R : Type 0} (lists : List R) (n : ℕ) (was : R) → suc n ≡ length lists → was ≡ get_or lists n was → lists ≡ take n lists ++ was ∷ []
+last_was lists n was last is =
+    let within : n < length lists = omega arith in
+    sym (take_all (suc n) lists (omega arith)) ∙ take-suc lists n was within ∙ ap (λ r. take n lists ++ r ∷ []) (sym is)
 
-outer_size-push : {R : Type 0} (left : R → Left) (rs : List R) (r : R) → outer_size left (rs ++ r ∷ []) ≡ suc ((left r).size + outer_size left rs)
-outer_size-push left [] r = omega arith
-outer_size-push left (q ∷ rs) r = let more = outer_size-push left rs r in omega (arith, more)
+pub last_now : {R : Type 0} (lists : List R) (n : ℕ) (now : R) → suc n ≡ length lists → set lists n now ≡ take n lists ++ now ∷ []
+last_now lists n now last =
+    let within : n < length lists = omega arith in
+    let same : length (set lists n now) ≡ length lists = length-set lists n now in
+    sym (take_all (suc n) (set lists n now) (omega arith)) ∙ take-suc-set lists n now within
 
 -- a list in the innermost is opened
-pub pushed : {R : Type 0} (left : R → Left) (before now whole : List Token) (was inner list : R) (outer more : List R) → Advances left before now (left was) (left inner) (Some list) → more ≡ outer ++ inner ∷ []
-    → before ++ ((left was).tokens ++ outer_tokens left outer) ≡ whole → now ++ ((left list).tokens ++ outer_tokens left more) ≡ whole
-pushed left before now whole was inner list outer more advances pushes so_far =
-    let above = outer_tokens left outer in
-    ap (λ rs. now ++ ((left list).tokens ++ outer_tokens left rs)) pushes ∙ ap (λ z. now ++ ((left list).tokens ++ z)) (outer_tokens-push left outer inner)
-    ∙ ap (λ z. now ++ z) (sym (append_assoc (left list).tokens (left inner).tokens above)) ∙ sym (append_assoc now ((left list).tokens ++ (left inner).tokens) above)
-    ∙ ap (λ z. z ++ above) advances.0 ∙ append_assoc before (left was).tokens above ∙ so_far
+pub child_opened : {R : Type 0} (left : R → Left) (before now later whole : List Token) (t : Tree) (was is : R) (outer lists kept more : List R)
+    → lists ≡ outer ++ was ∷ [] → kept ≡ outer ++ is ∷ [] → now ++ (value_left t (left is)).tokens ≡ before ++ (left was).tokens → Writes now later (value_left t (open_left left kept)) (open_left left more)
+    → before ++ (open_left left lists).tokens ≡ whole → later ++ (open_left left more).tokens ≡ whole
+child_opened left before now later whole t was is outer lists kept more first second found opens so_far =
+    let above = (open_left left outer).tokens in
+    let child = data_tokens (json_of t) in
+    opens.tokens ∙ ap (λ z. now ++ (child ++ z)) (ap (λ rs. (open_left left rs).tokens) second ∙ open_tokens-push left outer is)
+    ∙ ap (λ z. now ++ z) (sym (append_assoc child (left is).tokens above)) ∙ sym (append_assoc now (child ++ (left is).tokens) above)
+    ∙ ap (λ z. z ++ above) found ∙ append_assoc before (left was).tokens above
+    ∙ ap (λ z. before ++ z) (sym (ap (λ rs. (open_left left rs).tokens) first ∙ open_tokens-push left outer was)) ∙ so_far
 
-pub pushed-smaller : {R : Type 0} (left : R → Left) (before now : List Token) (was inner list : R) (outer more : List R) → Advances left before now (left was) (left inner) (Some list) → more ≡ outer ++ inner ∷ []
-    → suc ((left list).size + outer_size left more) < suc ((left was).size + outer_size left outer)
-pushed-smaller left before now was inner list outer more advances pushes =
-    let sizes = ap (outer_size left) pushes in
-    let sum = outer_size-push left outer inner in
-    let smaller = advances.1 in
-    omega (arith, sizes, sum, smaller)
+pub opened-smaller : {R : Type 0} (left : R → Left) (now later : List Token) (t : Tree) (was is : R) (outer lists kept more : List R)
+    → lists ≡ outer ++ was ∷ [] → kept ≡ outer ++ is ∷ [] → (value_left t (left is)).size < (left was).size → Writes now later (value_left t (open_left left kept)) (open_left left more)
+    → (open_left left more).size < (open_left left lists).size
+opened-smaller left now later t was is outer lists kept more first second found opens =
+    let sizes-was = ap (λ rs. (open_left left rs).size) first in
+    let sizes-is = ap (λ rs. (open_left left rs).size) second in
+    let sum-was = open_size-push left outer was in
+    let sum-is = open_size-push left outer is in
+    let o = opens.size in
+    omega (arith, sizes-was, sizes-is, sum-was, sum-is, o, found)
 
 -- the innermost list is closed
-pub popped : {R : Type 0} (left : R → Left) (before now whole : List Token) (was list : R) (outer fewer : List R) → now ≡ before ++ (left was).tokens → outer ≡ fewer ++ list ∷ []
-    → before ++ ((left was).tokens ++ outer_tokens left outer) ≡ whole → now ++ ((left list).tokens ++ outer_tokens left fewer) ≡ whole
-popped left before now whole was list outer fewer written pops so_far =
-    let above = (left list).tokens ++ outer_tokens left fewer in
+pub list_closed : {R : Type 0} (left : R → Left) (before now whole : List Token) (was : R) (outer lists : List R) → lists ≡ outer ++ was ∷ [] → now ≡ before ++ (left was).tokens
+    → before ++ (open_left left lists).tokens ≡ whole → now ++ (open_left left outer).tokens ≡ whole
+list_closed left before now whole was outer lists first written so_far =
+    let above = (open_left left outer).tokens in
     ap (λ z. z ++ above) written ∙ append_assoc before (left was).tokens above
-    ∙ ap (λ z. before ++ ((left was).tokens ++ z)) (sym (ap (outer_tokens left) pops ∙ outer_tokens-push left fewer list)) ∙ so_far
+    ∙ ap (λ z. before ++ z) (sym (ap (λ rs. (open_left left rs).tokens) first ∙ open_tokens-push left outer was)) ∙ so_far
 
-pub popped-smaller : {R : Type 0} (left : R → Left) (was list : R) (outer fewer : List R) → outer ≡ fewer ++ list ∷ []
-    → suc ((left list).size + outer_size left fewer) < suc ((left was).size + outer_size left outer)
-popped-smaller left was list outer fewer pops =
-    let sizes = ap (outer_size left) pops in
-    let sum = outer_size-push left fewer list in
+pub closed-smaller : {R : Type 0} (left : R → Left) (was : R) (outer lists : List R) → lists ≡ outer ++ was ∷ [] → (open_left left outer).size < (open_left left lists).size
+closed-smaller left was outer lists first =
+    let sizes = ap (λ rs. (open_left left rs).size) first in
+    let sum = open_size-push left outer was in
     omega (arith, sizes, sum)
-
--- all lists are closed
-pub all_written : {R : Type 0} (left : R → Left) (before now whole : List Token) (was : R) (outer : List R) → now ≡ before ++ (left was).tokens → outer ≡ []
-    → before ++ ((left was).tokens ++ outer_tokens left outer) ≡ whole → now ≡ whole
-all_written left before now whole was outer written none so_far =
-    written ∙ ap (λ z. before ++ z) (sym (append-nil (left was).tokens)) ∙ ap (λ rs. before ++ ((left was).tokens ++ outer_tokens left rs)) (sym none) ∙ so_far

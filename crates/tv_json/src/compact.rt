@@ -6,7 +6,7 @@ ghost use Rattle.serde_json.specs.Data.{no_members};
 ghost use Rattle.serde_json.specs.Written.{compact_text};
 ghost use Rattle.tv_json.specs.JsonOf.{json_of, entries_json};
 ghost use Rattle.tv_json.specs.Open.{rest_left, items_left, members_left, pairs_left, pairs_size};
-ghost use Rattle.tv_json.specs.Open.{Opens, Begins, Advances};
+ghost use Rattle.tv_json.specs.Open.{open_left, value_left, Writes, Finds};
 ghost use Rattle.tv_json.specs.Rising.{KeysRise, entries_of, data_tokens, pairs_json};
 ghost use Rattle.tv_format.specs.Size.{entries_size};
 ghost use Rattle.tv_format.specs.Tree.{array, object, elements, entries};
@@ -29,7 +29,7 @@ enum Rest<N: Nested> {
     // The members as they come, each key below the next.
     Object(N::ObjectIter),
     // The members by byte order of their keys, of equal keys the last.
-    ByKey(IntoIter<String, N>),
+    ByKey(Box<IntoIter<String, N>>),
 }
 
 // Whether each key is below the next in byte order.
@@ -82,77 +82,81 @@ fn by_key<N: Nested>(
 // Writes the opening bracket of an array.
 fn begin_array<N: Nested>(
     json: &mut JsonWriter,
+    lists: &mut Vec<Rest<N>>,
     items: N::ArrayIter,
-) -> Result<Rest<N>, AllocError>
-    ensures ok { IfOk result
-        (λ list. Opens json.old.out.tokens json.new.out.tokens
-        (array (elements (N.array_rest items)))
-        (rest_left N.tree N.array_rest N.object_rest list)) }
+) -> Result<(), AllocError>
+    ensures ok { OnOk result (Writes json.old.out.tokens json.new.out.tokens
+        (value_left (array (elements (N.array_rest items)))
+        (open_left (rest_left N.tree N.array_rest N.object_rest) lists.old.items))
+        (open_left (rest_left N.tree N.array_rest N.object_rest) lists.new.items)) }
     ensures before { json.new.out.before ≡ json.old.out.before }
 {
     json.out.begin_array()?;
-    Ok(Rest::Array(items))
+    lists.push(Rest::Array(items))?;
+    Ok(())
 }
 
-// Writes the opening bracket of an object. If its keys are in order, it is written as it stands.
+// Writes the opening bracket of an object. If its keys are in order, its members are written as they come.
 fn begin_object<N: Nested>(
     json: &mut JsonWriter,
+    lists: &mut Vec<Rest<N>>,
     members: N::ObjectIter,
     in_order: bool,
-) -> Result<Rest<N>, AllocError>
+) -> Result<(), AllocError>
     requires { IsTrue in_order → KeysRise (entries (N.object_rest members)) }
-    ensures ok { IfOk result
-        (λ list. Opens json.old.out.tokens json.new.out.tokens
-        (object (entries (N.object_rest members)))
-        (rest_left N.tree N.array_rest N.object_rest list)) }
+    ensures ok { OnOk result (Writes json.old.out.tokens json.new.out.tokens
+        (value_left (object (entries (N.object_rest members)))
+        (open_left (rest_left N.tree N.array_rest N.object_rest) lists.old.items))
+        (open_left (rest_left N.tree N.array_rest N.object_rest) lists.new.items)) }
     ensures before { json.new.out.before ≡ json.old.out.before }
 {
     json.out.begin_object()?;
     if in_order {
-        return Ok(Rest::Object(members));
+        lists.push(Rest::Object(members))?;
+        return Ok(());
     }
     let sorted = by_key::<N>(json.alloc, members)?;
-    Ok(Rest::ByKey(sorted.into_iter()))
+    let pairs = Box::new(json.alloc, sorted.into_iter())?;
+    lists.push(Rest::ByKey(pairs))?;
+    Ok(())
 }
 
 // Writes a leaf, or the opening bracket of a list.
-#[inline(always)]
-fn begin<N: Nested>(json: &mut JsonWriter, value: &N) -> Result<Option<Rest<N>>, AllocError>
-    ensures ok { IfOk result (Begins (rest_left N.tree N.array_rest N.object_rest)
-        json.old.out.tokens json.new.out.tokens (N.tree value.now)) }
+fn begin<N: Nested>(
+    json: &mut JsonWriter,
+    lists: &mut Vec<Rest<N>>,
+    value: NestedValue<'_, N>,
+    in_order: bool,
+) -> Result<(), AllocError>
+    requires { IsTrue in_order → KeysRise
+        (entries_of (nested_tree N.array_rest N.object_rest value)) }
+    ensures ok { OnOk result (Writes json.old.out.tokens json.new.out.tokens
+        (value_left (nested_tree N.array_rest N.object_rest value.entry)
+        (open_left (rest_left N.tree N.array_rest N.object_rest) lists.old.items))
+        (open_left (rest_left N.tree N.array_rest N.object_rest) lists.new.items)) }
     ensures before { json.new.out.before ≡ json.old.out.before }
 {
-    match value.as_nested() {
-        NestedValue::Leaf(leaf) => {
-            write_leaf(json, &leaf)?;
-            Ok(None)
-        }
-        NestedValue::Array(items) => {
-            let list = begin_array(json, items)?;
-            Ok(Some(list))
-        }
-        NestedValue::Object(members) => {
-            let in_order = is_in_order(value.as_nested());
-            let list = begin_object(json, members, in_order)?;
-            Ok(Some(list))
-        }
+    match value {
+        NestedValue::Leaf(leaf) => write_leaf(json, &leaf),
+        NestedValue::Array(items) => begin_array(json, lists, items),
+        NestedValue::Object(members) => begin_object(json, lists, members, in_order),
     }
 }
 
-// Writes the values of an array up to the next list, of which it writes the opening bracket. If there is no list, it closes the array.
+// Writes the values of an array up to the next list, which is returned. If there is none, the array is closed.
 fn write_items<N: Nested>(
     json: &mut JsonWriter,
     items: &mut N::ArrayIter,
-) -> Result<Option<Rest<N>>, AllocError>
-    ensures ok { IfOk result (Advances (rest_left N.tree N.array_rest N.object_rest)
-        json.old.out.tokens json.new.out.tokens
+) -> Result<Option<N>, AllocError>
+    ensures ok { IfOk result (Finds N.tree json.old.out.tokens json.new.out.tokens
         (items_left (N.array_rest items.old)) (items_left (N.array_rest items.new))) }
     ensures before { json.new.out.before ≡ json.old.out.before }
 {
     while let Some(item) = items.next() {
-        if let Some(list) = begin(json, &item)? {
-            return Ok(Some(list));
-        }
+        let NestedValue::Leaf(leaf) = item.as_nested() else {
+            return Ok(Some(item));
+        };
+        write_leaf(json, &leaf)?;
     }
     json.out.end_array()?;
     Ok(None)
@@ -162,17 +166,17 @@ fn write_items<N: Nested>(
 fn write_members<N: Nested>(
     json: &mut JsonWriter,
     members: &mut N::ObjectIter,
-) -> Result<Option<Rest<N>>, AllocError>
-    ensures ok { IfOk result (Advances (rest_left N.tree N.array_rest N.object_rest)
-        json.old.out.tokens json.new.out.tokens
+) -> Result<Option<N>, AllocError>
+    ensures ok { IfOk result (Finds N.tree json.old.out.tokens json.new.out.tokens
         (members_left (N.object_rest members.old)) (members_left (N.object_rest members.new))) }
     ensures before { json.new.out.before ≡ json.old.out.before }
 {
     while let Some((key, value)) = members.next() {
         json.out.key(key.as_str())?;
-        if let Some(list) = begin(json, &value)? {
-            return Ok(Some(list));
-        }
+        let NestedValue::Leaf(leaf) = value.as_nested() else {
+            return Ok(Some(value));
+        };
+        write_leaf(json, &leaf)?;
     }
     json.out.end_object()?;
     Ok(None)
@@ -182,29 +186,28 @@ fn write_members<N: Nested>(
 fn write_pairs<N: Nested>(
     json: &mut JsonWriter,
     pairs: &mut IntoIter<String, N>,
-) -> Result<Option<Rest<N>>, AllocError>
-    ensures ok { IfOk result (Advances (rest_left N.tree N.array_rest N.object_rest)
-        json.old.out.tokens json.new.out.tokens
+) -> Result<Option<N>, AllocError>
+    ensures ok { IfOk result (Finds N.tree json.old.out.tokens json.new.out.tokens
         (pairs_left N.tree pairs.old) (pairs_left N.tree pairs.new)) }
     ensures before { json.new.out.before ≡ json.old.out.before }
 {
     while let Some((key, value)) = pairs.next() {
         json.out.key(key.as_str())?;
-        if let Some(list) = begin(json, &value)? {
-            return Ok(Some(list));
-        }
+        let NestedValue::Leaf(leaf) = value.as_nested() else {
+            return Ok(Some(value));
+        };
+        write_leaf(json, &leaf)?;
     }
     json.out.end_object()?;
     Ok(None)
 }
 
-// Writes what an open list has left, up to the next list in it, which is opened. If there is none, the list is closed.
+// Writes the children of an open list up to the next list, which is returned. If there is none, the open list is closed.
 fn write_rest<N: Nested>(
     json: &mut JsonWriter,
     rest: &mut Rest<N>,
-) -> Result<Option<Rest<N>>, AllocError>
-    ensures ok { IfOk result (Advances (rest_left N.tree N.array_rest N.object_rest)
-        json.old.out.tokens json.new.out.tokens
+) -> Result<Option<N>, AllocError>
+    ensures ok { IfOk result (Finds N.tree json.old.out.tokens json.new.out.tokens
         (rest_left N.tree N.array_rest N.object_rest rest.old)
         (rest_left N.tree N.array_rest N.object_rest rest.new)) }
     ensures before { json.new.out.before ≡ json.old.out.before }
@@ -212,28 +215,33 @@ fn write_rest<N: Nested>(
     match rest {
         Rest::Array(items) => write_items::<N>(json, items),
         Rest::Object(members) => write_members::<N>(json, members),
-        Rest::ByKey(pairs) => write_pairs::<N>(json, pairs),
+        Rest::ByKey(pairs) => write_pairs::<N>(json, &mut **pairs),
     }
 }
 
-// Writes what an open list has left, and all lists in it.
-fn write_open<N: Nested>(json: &mut JsonWriter, first: Rest<N>) -> Result<(), AllocError>
-    ensures ok { OnOk result
-        (json.new.out.tokens ≡ json.old.out.tokens
-        ++ (rest_left N.tree N.array_rest N.object_rest first).tokens) }
+// Writes a value.
+fn write_nested<N: Nested>(
+    json: &mut JsonWriter,
+    value: NestedValue<'_, N>,
+    in_order: bool,
+) -> Result<(), AllocError>
+    requires { IsTrue in_order → KeysRise
+        (entries_of (nested_tree N.array_rest N.object_rest value)) }
+    ensures ok { OnOk result (json.new.out.tokens ≡ json.old.out.tokens
+        ++ data_tokens (json_of (nested_tree N.array_rest N.object_rest value.entry))) }
     ensures before { json.new.out.before ≡ json.old.out.before }
 {
-    let mut outer = Vec::new(json.alloc);
-    let mut inner = first;
-    'lists: loop {
-        if let Some(list) = write_rest(json, &mut inner)? {
-            outer.push(replace(&mut inner, list))?;
-        } else if let Some(list) = outer.pop() {
-            inner = list;
+    let mut lists = Vec::new(json.alloc);
+    begin(json, &mut lists, value, in_order)?;
+    while let Some(list) = lists.last_mut() {
+        if let Some(child) = write_rest(json, list)? {
+            let rises = is_in_order(child.as_nested());
+            begin(json, &mut lists, child.as_nested(), rises)?;
         } else {
-            return Ok(());
+            drop(lists.pop());
         }
     }
+    Ok(())
 }
 
 // Writes a value from where it is lent.
@@ -247,14 +255,9 @@ pub(crate) fn write_lent<'a, V: Value<'a>>(
 {
     match lend(value) {
         NestedValue::Leaf(leaf) => write_leaf(json, &leaf),
-        NestedValue::Array(items) => {
-            let list = begin_array::<Lent<'a, V>>(json, items)?;
-            write_open(json, list)
-        }
-        NestedValue::Object(members) => {
+        list => {
             let in_order = is_in_order(lend(value));
-            let list = begin_object::<Lent<'a, V>>(json, members, in_order)?;
-            write_open(json, list)
+            write_nested::<Lent<'a, V>>(json, list, in_order)
         }
     }
 }
