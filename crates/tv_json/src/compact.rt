@@ -143,6 +143,27 @@ fn begin<N: Nested>(
     }
 }
 
+// Writes a child that is a leaf, or the opening bracket of one that is a list.
+fn begin_child<N: Nested>(
+    json: &mut JsonWriter,
+    lists: &mut Vec<Rest<N>>,
+    child: &N,
+) -> Result<(), AllocError>
+    ensures ok { OnOk result (Writes json.old.out.tokens json.new.out.tokens
+        (value_left (N.tree child.now)
+        (open_left (rest_left N.tree N.array_rest N.object_rest) lists.old.items))
+        (open_left (rest_left N.tree N.array_rest N.object_rest) lists.new.items)) }
+    ensures before { json.new.out.before ≡ json.old.out.before }
+{
+    match child.as_nested() {
+        NestedValue::Object(members) => {
+            let in_order = is_in_order(child.as_nested());
+            begin_object(json, lists, members, in_order)
+        }
+        other => begin(json, lists, other, false),
+    }
+}
+
 // Writes the values of an array up to the next list, which is returned. If there is none, the array is closed.
 fn write_items<N: Nested>(
     json: &mut JsonWriter,
@@ -235,8 +256,7 @@ fn write_nested<N: Nested>(
     begin(json, &mut lists, value, in_order)?;
     while let Some(list) = lists.last_mut() {
         if let Some(child) = write_rest(json, list)? {
-            let rises = is_in_order(child.as_nested());
-            begin(json, &mut lists, child.as_nested(), rises)?;
+            begin_child(json, &mut lists, &child)?;
         } else {
             drop(lists.pop());
         }

@@ -45,10 +45,10 @@ loop-list-smaller-in-Some-2 g c =
     let item = c.in-Some.ensures.item.3 in
     let last : suc n ≡ length lists.items = omega (arith, item.0, lists.ok.0) in
     let found = subst (Finds g.N.Nested.tree before now (left was) (left is)) c.in-Some-2.is c.in_ok-child.ensures.ok in
-    let later = c.begin-in-Some-2.new.json.out.tokens in
+    let later = c.begin_child.new.json.out.tokens in
     let kept = set lists.items n is in
-    let more = c.begin-in-Some-2.new.lists.items in
-    let opens = subst (λ t. Writes now later (value_left t (open_left left kept)) (open_left left more)) c.as_nested-in-Some-2.ensures c.in_ok-begin-2.ensures.ok in
+    let more = c.begin_child.new.lists.items in
+    let opens = c.in_ok-begin_child.ensures.ok in
     opened-smaller left now later (g.N.Nested.tree c.in-Some-2.child) was is (take n lists.items) lists.items kept more (last_was lists.items n was last (item.1 was)) (last_now lists.items n is last) found.1 opens
 
 pub loop-list-preserved-in-Some-2 : goal.loop-list-preserved-in-Some-2
@@ -63,12 +63,12 @@ loop-list-preserved-in-Some-2 g c =
     let item = c.in-Some.ensures.item.3 in
     let last : suc n ≡ length lists.items = omega (arith, item.0, lists.ok.0) in
     let found = subst (Finds g.N.Nested.tree before now (left was) (left is)) c.in-Some-2.is c.in_ok-child.ensures.ok in
-    let later = c.begin-in-Some-2.new.json.out.tokens in
+    let later = c.begin_child.new.json.out.tokens in
     let kept = set lists.items n is in
-    let more = c.begin-in-Some-2.new.lists.items in
-    let opens = subst (λ t. Writes now later (value_left t (open_left left kept)) (open_left left more)) c.as_nested-in-Some-2.ensures c.in_ok-begin-2.ensures.ok in
+    let more = c.begin_child.new.lists.items in
+    let opens = c.in_ok-begin_child.ensures.ok in
     record {
       tokens = child_opened left before now later _ (g.N.Nested.tree c.in-Some-2.child) was is (take n lists.items) lists.items kept more (last_was lists.items n was last (item.1 was)) (last_now lists.items n is last)
           found.0 opens c.loop-list.invariant.tokens;
-      before = c.begin-in-Some-2.ensures.before ∙ c.write_rest.ensures.before ∙ c.loop-list.invariant.before;
+      before = c.begin_child.ensures.before ∙ c.write_rest.ensures.before ∙ c.loop-list.invariant.before;
     }
