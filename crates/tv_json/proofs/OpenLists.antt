@@ -1,47 +1,20 @@
 -- Open lists, written part by part.
 use Rattle.std.proofs.Common.{◌≡◌, ◌≤◌, ◌<◌, ℕ, suc, ◌+◌, length, get_or, take, set, List, [], ◌∷◌, ◌++◌, append_assoc, append-nil, sym, ap, ◌∙◌, arith}
-use Rattle.std.specs.Prelude.{Some, None}
 use Rattle.std.proofs.lemmas.List.{take_all}
 use Rattle.std.proofs.Math.ListN.{length-set}
 use Rattle.std.proofs.Math.Seq.{take-suc, take-suc-set}
-use Rattle.json.specs.Token as token
 use Rattle.json.specs.Token.{Token}
 use Rattle.tv_format.specs.Size.{size}
 use Rattle.tv_format.specs.Tree.{Tree}
 use Rattle.tv_json.specs.JsonOf.{json_of}
-use Rattle.tv_json.specs.Open.{Left, open_left, value_left, Writes, Finds}
+use Rattle.tv_json.specs.Open.{Left, open_left, value_left, Writes}
 use Rattle.tv_json.specs.Rising.{data_tokens}
 
--- ---- the children of a list
-
--- a child, of whatever key, before the rest of its list
-abbrev pub child_left : Tree → Left → Left
-child_left t rest = record { tokens = data_tokens (json_of t) ++ rest.tokens; size = suc (size t + rest.size) }
-
-abbrev pub keyed_left : List ℕ → Tree → Left → Left
-keyed_left k t rest = record { tokens = token.key k ∷ (data_tokens (json_of t) ++ rest.tokens); size = suc (size t + rest.size) }
-
-pub key_written : (old before named : List Token) (k : List ℕ) (t : Tree) (was rest : Left) → named ≡ before ++ token.key k ∷ [] → Writes old before was (keyed_left k t rest)
-    → Writes old named was (child_left t rest)
-key_written old before named k t was rest keyed so_far =
-    let child = data_tokens (json_of t) ++ rest.tokens in
-    record { tokens = ap (λ z. z ++ child) keyed ∙ append_assoc before (token.key k ∷ []) child ∙ so_far.tokens; size = so_far.size }
-
-pub child_written : (old before now : List Token) (t : Tree) (was rest : Left) → now ≡ before ++ data_tokens (json_of t) → Writes old before was (child_left t rest) → Writes old now was rest
-child_written old before now t was rest written so_far =
-    record { tokens = ap (λ z. z ++ rest.tokens) written ∙ append_assoc before (data_tokens (json_of t)) rest.tokens ∙ so_far.tokens; size = let s = so_far.size in omega (arith, s) }
-
-pub child_found : (old now : List Token) (t : Tree) (was rest : Left) → Writes old now was (child_left t rest)
-    → (now ++ (value_left t rest).tokens ≡ old ++ was.tokens) × ((value_left t rest).size < was.size)
-child_found old now t was rest so_far = let s = so_far.size in (so_far.tokens, omega (arith, s))
-
--- ---- all open lists
-
-pub open_tokens-push : {R : Type 0} (left : R → Left) (rs : List R) (r : R) → (open_left left (rs ++ r ∷ [])).tokens ≡ (left r).tokens ++ (open_left left rs).tokens
+open_tokens-push : {R : Type 0} (left : R → Left) (rs : List R) (r : R) → (open_left left (rs ++ r ∷ [])).tokens ≡ (left r).tokens ++ (open_left left rs).tokens
 open_tokens-push left [] r = sym (append-nil (left r).tokens)
 open_tokens-push left (q ∷ rs) r = ap (λ z. z ++ (left q).tokens) (open_tokens-push left rs r) ∙ append_assoc (left r).tokens (open_left left rs).tokens (left q).tokens
 
-pub open_size-push : {R : Type 0} (left : R → Left) (rs : List R) (r : R) → (open_left left (rs ++ r ∷ [])).size ≡ suc ((left r).size + (open_left left rs).size)
+open_size-push : {R : Type 0} (left : R → Left) (rs : List R) (r : R) → (open_left left (rs ++ r ∷ [])).size ≡ suc ((left r).size + (open_left left rs).size)
 open_size-push left [] r = omega arith
 open_size-push left (q ∷ rs) r = let more = open_size-push left rs r in omega (arith, more)
 

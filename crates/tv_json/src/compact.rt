@@ -79,23 +79,6 @@ fn by_key<N: Nested>(
     Ok(found)
 }
 
-// Writes the opening bracket of an array.
-fn begin_array<N: Nested>(
-    json: &mut JsonWriter,
-    lists: &mut Vec<Rest<N>>,
-    items: N::ArrayIter,
-) -> Result<(), AllocError>
-    ensures ok { OnOk result (Writes json.old.out.tokens json.new.out.tokens
-        (value_left (array (elements (N.array_rest items)))
-        (open_left (rest_left N.tree N.array_rest N.object_rest) lists.old.items))
-        (open_left (rest_left N.tree N.array_rest N.object_rest) lists.new.items)) }
-    ensures before { json.new.out.before ≡ json.old.out.before }
-{
-    json.out.begin_array()?;
-    lists.push(Rest::Array(items))?;
-    Ok(())
-}
-
 // Writes the opening bracket of an object. If its keys are in order, its members are written as they come.
 fn begin_object<N: Nested>(
     json: &mut JsonWriter,
@@ -138,7 +121,11 @@ fn begin<N: Nested>(
 {
     match value {
         NestedValue::Leaf(leaf) => write_leaf(json, &leaf),
-        NestedValue::Array(items) => begin_array(json, lists, items),
+        NestedValue::Array(items) => {
+            json.out.begin_array()?;
+            lists.push(Rest::Array(items))?;
+            Ok(())
+        }
         NestedValue::Object(members) => begin_object(json, lists, members, in_order),
     }
 }
@@ -224,10 +211,7 @@ fn write_pairs<N: Nested>(
 }
 
 // Writes the children of an open list up to the next list, which is returned. If there is none, the open list is closed.
-fn write_rest<N: Nested>(
-    json: &mut JsonWriter,
-    rest: &mut Rest<N>,
-) -> Result<Option<N>, AllocError>
+fn write_rest<N: Nested>(json: &mut JsonWriter, rest: &mut Rest<N>) -> Result<Option<N>, AllocError>
     ensures ok { IfOk result (Finds N.tree json.old.out.tokens json.new.out.tokens
         (rest_left N.tree N.array_rest N.object_rest rest.old)
         (rest_left N.tree N.array_rest N.object_rest rest.new)) }

@@ -1,4 +1,4 @@
-use Rattle.std.proofs.Common.{◌≡◌, ◌≤◌, ◌∷◌, [], refl, ap, ◌∙◌, sym, suc, subst, arith}
+use Rattle.std.proofs.Common.{◌≡◌, ◌≤◌, ◌∷◌, [], ap, ◌∙◌, sym, subst, arith}
 use Rattle.json.specs.Token.{begin_object}
 use Rattle.serde_json.specs.Data.{no_members}
 use Rattle.tv_format.specs.Size.{entries_size}

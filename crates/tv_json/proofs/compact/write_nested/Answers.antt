@@ -1,6 +1,6 @@
 use Rattle.std.proofs.Common.{◌≡◌, ◌∷◌, [], ◌++◌, ◌-◌, suc, length, take, set, arith, sym, subst, ◌∙◌}
 use Rattle.std.proofs.lemmas.List.{take-set}
-use Rattle.tv_json.specs.Open.{rest_left, open_left, value_left, Writes, Finds}
+use Rattle.tv_json.specs.Open.{rest_left, Finds}
 use Rattle.tv_json.proofs.OpenLists.{last_was, last_now, child_opened, opened-smaller, list_closed, closed-smaller}
 use Rattle.tv_json.proofs.compact.write_nested.Goals as goal
 
