@@ -1,16 +1,16 @@
 -- Entries whose keys rise are the members of their object, one after the other.
-use Rattle.std.proofs.Common.{◌≡◌, ℕ, List, [], ◌∷◌, String, Global, string_bytes, string_cmp, Ordering, Less, Equal, Greater, refl, sym, ap, subst, ◌∙◌}
+use Rattle.std.proofs.Common.{◌≡◌, ◌≤◌, ℕ, suc, ◌+◌, arith, List, [], ◌∷◌, String, Global, string_bytes, string_cmp, Ordering, Less, Equal, Greater, refl, sym, ap, ◌∙◌}
 use Rattle.std.proofs.lemmas.Cmp.{nat_list_cmp_total}
 use Rattle.std.specs.BTreeMap.{insert_entry}
-use Rattle.std.specs.List.{AllByRecursion}
 use Rattle.std.specs.Ordering.{match_ordering, ordering_reverse}
 use Rattle.std.specs.Cmp.Lexicographic.{slice_cmp}
 use Rattle.std.specs.Ordering.{nat_cmp}
-use Rattle.serde_json.specs.Data as json
 use Rattle.serde_json.specs.Data.{Data, Members, no_members, member, put}
-use Rattle.tv_format.specs.Tree.{Tree, object, Entries, no_entries, entry}
+use Rattle.tv_format.specs.Size.{size}
+use Rattle.tv_format.specs.Tree.{Tree, Entries, no_entries, entry}
 use Rattle.tv_json.specs.JsonOf.{json_of, entries_json}
-use Rattle.tv_json.specs.Rising.{Below, RiseFrom, KeysRise, entries_of, listed_json, pairs_json}
+use Rattle.tv_json.specs.Open.{pairs_size}
+use Rattle.tv_json.specs.Rising.{Below, RiseFrom, KeysRise, listed_json, pairs_json}
 
 -- ---- members behind others
 
@@ -68,10 +68,6 @@ above_nothing (entry k t es) = tt
 pub in_order : (es : Entries) → KeysRise es → listed_json es ≡ entries_json es no_members
 in_order es r = sym (in_order_behind no_members es (above_nothing es) r)
 
--- the entries of an object that rise are its members, one after the other
-pub object_in_order : (t : Tree) (es : Entries) → object es ≡ t → KeysRise (entries_of t) → json.object (listed_json es) ≡ json_of t
-object_in_order t es whole r = ap json.object (in_order es (subst KeysRise (ap entries_of (sym whole)) r)) ∙ ap json_of whole
-
 -- ---- pairs that are put into a map
 
 abbrev pub Pair : Type 0 → Type 0
@@ -88,13 +84,16 @@ pub pairs_json-insert_entry : {N : Type 0} (tree : N → Tree) (ps : List (Pair 
 pairs_json-insert_entry tree [] k v = refl
 pairs_json-insert_entry tree (p ∷ ps) k v = pairs_json-match_ordering tree (string_cmp k p.0) _ _ _ ∙ rw (pairs_json-insert_entry tree ps k v)
 
-all-match_ordering : {A : Type 0} (P : A → Type 0) (o : Ordering) (a b c : List A) → AllByRecursion P a → AllByRecursion P b → AllByRecursion P c → AllByRecursion P (match_ordering o a b c)
-all-match_ordering P Less a b c x y z = x
-all-match_ordering P Equal a b c x y z = y
-all-match_ordering P Greater a b c x y z = z
+pairs_size-match_ordering : {N : Type 0} (tree : N → Tree) (o : Ordering) (a b c : List (Pair N)) (n : ℕ) → pairs_size tree a ≤ n → pairs_size tree b ≤ n → pairs_size tree c ≤ n
+    → pairs_size tree (match_ordering o a b c) ≤ n
+pairs_size-match_ordering tree Less a b c n x y z = x
+pairs_size-match_ordering tree Equal a b c n x y z = y
+pairs_size-match_ordering tree Greater a b c n x y z = z
 
--- a fact of values stays
-pub all-insert_entry : {N : Type 0} (P : N → Type 0) (ps : List (Pair N)) (k : String Global) (v : N) → P v → AllByRecursion (λ p. P p.1) ps
-    → AllByRecursion (λ p. P p.1) (insert_entry string_cmp ps k v)
-all-insert_entry P [] k v h a = (h, tt)
-all-insert_entry P (p ∷ ps) k v h a = all-match_ordering (λ q. P q.1) (string_cmp k p.0) _ _ _ (h, a) (h, a.1) (a.0, all-insert_entry P ps k v h a.1)
+-- the sizes of a map's pairs with one more are at most the sum
+pub pairs_size-insert_entry : {N : Type 0} (tree : N → Tree) (ps : List (Pair N)) (k : String Global) (v : N)
+    → pairs_size tree (insert_entry string_cmp ps k v) ≤ suc (size (tree v) + pairs_size tree ps)
+pairs_size-insert_entry tree [] k v = omega arith
+pairs_size-insert_entry tree (p ∷ ps) k v =
+    let more = pairs_size-insert_entry tree ps k v in
+    pairs_size-match_ordering tree (string_cmp k p.0) _ _ _ _ (omega arith) (omega arith) (omega (arith, more))

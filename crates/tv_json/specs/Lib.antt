@@ -1,3 +1,4 @@
 pub mod JsonOf
 pub mod Rising
 pub mod Named
+pub mod Open

@@ -1,11 +1,11 @@
-use Rattle.std.proofs.Common.{rules, suc, ◌+◌, ◌≡◌, ◌∷◌, ◌<◌, ap, sym, ◌∙◌, arith, string_bytes, subst}
-use Rattle.std.specs.List.{AllByRecursion}
+use Rattle.std.proofs.Common.{rules, suc, ◌+◌, ◌≡◌, ◌∷◌, ◌≤◌, ap, sym, ◌∙◌, arith, string_bytes, subst}
 use Rattle.serde_json.specs.Data.{put}
 use Rattle.tv_format.specs.Size.{size, entries_size}
 use Rattle.tv_format.specs.Tree.{entries, entry}
 use Rattle.tv_json.specs.JsonOf.{json_of, entries_json}
+use Rattle.tv_json.specs.Open.{pairs_size}
 use Rattle.tv_json.specs.Rising.{pairs_json}
-use Rattle.tv_json.proofs.InOrder.{pairs_json-insert_entry, all-insert_entry}
+use Rattle.tv_json.proofs.InOrder.{pairs_json-insert_entry, pairs_size-insert_entry}
 use Rattle.tv_json.proofs.compact.by_key.Goals as goal
 
 pub loop-key-preserved : goal.loop-key-preserved
@@ -22,10 +22,11 @@ loop-key-preserved g c =
     ap (pairs_json tree) c.in_ok-insert.ensures.entries ∙ pairs_json-insert_entry tree c.loop-key.found.entries c.in_ok-name.name value
     ∙ ap (λ k. put k (json_of (tree value)) found) named in
     let sizes : entries_size (entries (rest c.loop-key.key-iterator)) ≡ suc (size (tree value) + entries_size (entries (rest c.next.new.self))) = ap entries_size whole in
-    let left = c.loop-key.invariant.left in
+    let put_size : pairs_size tree c.insert.new.self.entries ≤ suc (size (tree value) + pairs_size tree c.loop-key.found.entries) =
+    subst (λ ps. pairs_size tree ps ≤ suc (size (tree value) + pairs_size tree c.loop-key.found.entries)) (sym c.in_ok-insert.ensures.entries)
+    (pairs_size-insert_entry tree c.loop-key.found.entries c.in_ok-name.name value) in
+    let before = c.loop-key.invariant.size in
     record {
       members = ap (entries_json (entries (rest c.next.new.self))) put_in ∙ ap (λ es. entries_json es found) (sym whole) ∙ c.loop-key.invariant.members;
-      left = omega (arith, sizes, left);
-      smaller = subst (AllByRecursion (λ pair. size (tree pair.1) < entries_size (entries (rest c.args.members)))) (sym c.in_ok-insert.ensures.entries)
-          (all-insert_entry (λ v. size (tree v) < entries_size (entries (rest c.args.members))) c.loop-key.found.entries c.in_ok-name.name value (omega (arith, sizes, left)) c.loop-key.invariant.smaller);
+      size = omega (arith, sizes, put_size, before);
     }

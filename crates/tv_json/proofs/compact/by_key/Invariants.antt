@@ -1,9 +1,9 @@
-use Rattle.std.proofs.Common.{◌≡◌, ◌≤◌, ◌<◌}
-use Rattle.std.specs.List.{AllByRecursion}
+use Rattle.std.proofs.Common.{◌≡◌, ◌≤◌, ◌+◌}
 use Rattle.serde_json.specs.Data.{no_members}
-use Rattle.tv_format.specs.Size.{size, entries_size}
+use Rattle.tv_format.specs.Size.{entries_size}
 use Rattle.tv_format.specs.Tree.{entries}
 use Rattle.tv_json.specs.JsonOf.{entries_json}
+use Rattle.tv_json.specs.Open.{pairs_size}
 use Rattle.tv_json.specs.Rising.{pairs_json}
 use Rattle.tv_json.proofs.compact.by_key.Given as goal
 
@@ -13,6 +13,5 @@ invariant-loop-key g l =
     let rest = entries (g.N.Nested.object_rest l.key-iterator) in
     record {
       members : entries_json rest (pairs_json g.N.Nested.tree l.found.entries) ≡ entries_json all no_members;
-      left : entries_size rest ≤ entries_size all;
-      smaller : AllByRecursion (λ pair. size (g.N.Nested.tree pair.1) < entries_size all) l.found.entries;
+      size : pairs_size g.N.Nested.tree l.found.entries + entries_size rest ≤ entries_size all;
     }
