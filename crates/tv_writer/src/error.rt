@@ -3,7 +3,7 @@
 ghost use Rattle.std.specs.Prelude.{◌≡◌};
 ghost use Rattle.tv_writer.specs.Error.{write_error};
 
-use std::alloc::AllocError;
+use std::alloc::AllocFailed;
 use std::io;
 use thiserror::Error;
 
@@ -32,12 +32,12 @@ impl From<io::ErrorKind> for SerializeError {
     }
 }
 
-impl From<AllocError> for SerializeError {
+impl<T: Drop> From<AllocFailed<T>> for SerializeError {
     ghost use Rattle.tv_writer.specs.declared.error.SerializeError.TheVariants.{Memory};
 
     ghost from_gives = { λ _ told. told ≡ Memory };
 
-    fn from(_error: AllocError) -> SerializeError {
+    fn from(_error: AllocFailed<T>) -> SerializeError {
         SerializeError::Memory
     }
 }
