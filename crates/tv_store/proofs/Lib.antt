@@ -6,3 +6,5 @@ pub mod StoredLaws
 pub mod WriterSteps
 pub mod RoundTrips
 pub mod Migrations
+pub mod Nesting
+pub mod NestedSteps
