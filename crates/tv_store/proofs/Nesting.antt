@@ -1,5 +1,5 @@
 -- A value's children nest as deep as its tree does, since its encoding tells them.
-use Rattle.std.proofs.Common.{◌≡◌, ◌≢◌, ℕ, zero, suc, ◌-◌, ◌*◌, ◌/◌, ◌<◌, List, [], ◌∷◌, ◌++◌, length, refl, sym, ap, subst, ◌∙◌, inl, inr, arith}
+use Rattle.std.proofs.Common.{◌≡◌, ℕ, zero, suc, ◌*◌, ◌/◌, ◌<◌, List, [], ◌∷◌, ◌++◌, length, refl, sym, ap, subst, ◌∙◌, inl, inr, arith}
 use Rattle.std.proofs.lemmas.Bool.{cases_lt}
 use Rattle.std.proofs.lemmas.List.{append_cancel_left, length-append}
 use Rattle.std.proofs.Math.Logic.{∥∥₁_elim}
@@ -23,17 +23,7 @@ use Rattle.tv_heap.specs.Encoded.{encoded_bytes}
 use Rattle.tv_heap.specs.Reads.{Reads, ReadsElements, ReadsEntries}
 use Rattle.tv_heap.specs.Value.{tree_of}
 use Rattle.tv_store.specs.Nested.{HeldNestsWithin}
-use Rattle.tv_writer.specs.Nesting.{NestsWithin, ElementsNestWithin, EntriesNestWithin}
-
--- ---- the children of a list nest one less
-
-pub elements_within : (n : ℕ) (ts : Elements) → n ≢ 0 → NestsWithin n (array ts) → ElementsNestWithin (n - 1) ts
-elements_within zero ts some h = absurd h
-elements_within (suc n) ts some h = let e : suc n - 1 ≡ n = omega arith in subst (λ k. ElementsNestWithin k ts) (sym e) h
-
-pub entries_within : (n : ℕ) (es : Entries) → n ≢ 0 → NestsWithin n (object es) → EntriesNestWithin (n - 1) es
-entries_within zero es some h = absurd h
-entries_within (suc n) es some h = let e : suc n - 1 ≡ n = omega arith in subst (λ k. EntriesNestWithin k es) (sym e) h
+use Rattle.tv_writer.specs.Nesting.{NestsWithin}
 
 -- ---- bytes that encode children encode no others
 

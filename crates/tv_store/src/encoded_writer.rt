@@ -188,10 +188,11 @@ fn write_nested<K: ByteSink>(
     let mut lists = Vec::new(alloc);
     lists.push(first)?;
     while let Some(list) = lists.pop() {
-        if let Some((outer, inner)) = write_to_list(sink, version, list)? {
-            lists.push(outer)?;
-            lists.push(inner)?;
-        }
+        let Some((outer, inner)) = write_to_list(sink, version, list)? else {
+            continue;
+        };
+        lists.push(outer)?;
+        lists.push(inner)?;
     }
     Ok(())
 }

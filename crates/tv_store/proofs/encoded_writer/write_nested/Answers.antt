@@ -21,19 +21,19 @@ returns-in_err-outer-clause-writes g c =
     let cut = ap (all_left v) c.in-Some.ensures.items ∙ innermost_left v others c.in-Some.list in
     rw (p.1, p.2) (writes_for (Written-fails {U = Unit {0}} _ _ cut l.invariant c.in_err-outer.ensures.writes))
 
-pub loop-list-preserved : goal.loop-list-preserved
-loop-list-preserved g c =
+pub loop-list-preserved-in_default-2 : goal.loop-list-preserved-in_default-2
+loop-list-preserved-in_default-2 g c =
     let l = c.loop-list in
     let v = written_version c.args.version in
     let others = c.pop.new.self.items in
     let cut = ap (all_left v) c.in-Some.ensures.items ∙ innermost_left v others c.in-Some.list in
     Written-before (inner_left v) [] (all_left v others) cut (none_inner v _ c.in_default-2.not-Some) l.invariant c.in_ok-outer.ensures.writes
 
-pub loop-list-smaller : goal.loop-list-smaller
-loop-list-smaller g c = one_fewer (written_version c.args.version) _ c.pop.new.self.items c.in-Some.list c.in-Some.ensures.items
+pub loop-list-smaller-in_default-2 : goal.loop-list-smaller-in_default-2
+loop-list-smaller-in_default-2 g c = one_fewer (written_version c.args.version) _ c.pop.new.self.items c.in-Some.list c.in-Some.ensures.items
 
-pub loop-list-smaller-in-Continue-branch-5 : goal.loop-list-smaller-in-Continue-branch-5
-loop-list-smaller-in-Continue-branch-5 g c =
+pub loop-list-smaller : goal.loop-list-smaller
+loop-list-smaller g c =
     let v = written_version c.args.version in
     let outer = c.in-Some-2.outer in
     let inner = c.in-Some-2.inner in
@@ -42,8 +42,8 @@ loop-list-smaller-in-Continue-branch-5 g c =
     subst (λ m. IfSome m (λ both. length (inner_left v m) < length (bytes_left v c.in-Some.list))) c.in-Some-2.is c.in_ok-outer.ensures.fewer in
     two_fewer v _ c.pop.new.self.items _ c.in-Some.list outer inner c.in-Some.ensures.items pushed fewer
 
-pub loop-list-preserved-in-Continue-branch-5 : goal.loop-list-preserved-in-Continue-branch-5
-loop-list-preserved-in-Continue-branch-5 g c =
+pub loop-list-preserved : goal.loop-list-preserved
+loop-list-preserved g c =
     let l = c.loop-list in
     let v = written_version c.args.version in
     let outer = c.in-Some-2.outer in
