@@ -15,7 +15,8 @@ ghost use Rattle.tantivy_schema.specs.Short.{short_document};
 ghost use Rattle.tantivy_schema.specs.Encoding.{EncodesDocument};
 ghost use Rattle.tantivy_schema.specs.Stop.{Counts};
 ghost use Rattle.tantivy_schema.specs.Stored.{stored};
-ghost use Rattle.tantivy_schema.specs.StoreError.{IsIo, Writes};
+ghost use Rattle.tantivy_schema.specs.StoreError.{IsIo, IsIoOrMemory, Writes};
+ghost use Rattle.tantivy_schema.specs.Nesting.{AllNestWithin};
 ghost use Rattle.tantivy_schema.specs.ReaderError.{IsRefusal, store_stop};
 ghost use Rattle.tantivy_schema.specs.Tree.{Document};
 ghost use Rattle.tantivy_schema.specs.Version.{V2};
@@ -30,8 +31,8 @@ use tantivy_schema::store::{DocStoreVersion, read_document};
 
 /// Appends a document's stored pairs to a sink. The document's fields are the schema's, as `fits` tests.
 ///
-/// The only error is `Io`, where the sink failed. The sink then holds a beginning of what was to be written, behind what it
-/// held.
+/// Errors: `Io` where the sink failed; `Memory` where memory was refused for a value that nests deeper than 64 levels. The sink
+/// then holds a beginning of what was to be written, behind what it held.
 pub fn store_document<K: ByteSink>(
     sink: &mut K,
     schema: &Schema,
@@ -40,7 +41,8 @@ pub fn store_document<K: ByteSink>(
     requires { Belongs schema.now (document_of document.now) }
     ensures writes { Writes K.is_known K.held K.failures sink.old sink.new result
         (Ok (short_document V2 (stored schema.now (document_of document.now)))) }
-    ensures io { IfErr result IsIo }
+    ensures errors { IfErr result IsIoOrMemory }
+    ensures io { AllNestWithin 64 (document_of document.now) → IfErr result IsIo }
 {
     BinaryDocumentSerializer::new(sink, schema).serialize_doc(document)
 }

@@ -4,7 +4,7 @@ ghost use Rattle.std.specs.Prelude.{◌≡◌, IfErr, IfOk};
 ghost use Rattle.tantivy_schema.specs.Belongs.{Belongs};
 ghost use Rattle.tantivy_schema.specs.Document.{document_of};
 ghost use Rattle.tantivy_schema.specs.Short.{short_document};
-ghost use Rattle.tantivy_schema.specs.StoreError.{IsIo};
+ghost use Rattle.tantivy_schema.specs.StoreError.{IsIoOrMemory};
 ghost use Rattle.tantivy_schema.specs.Stored.{stored};
 ghost use Rattle.tantivy_schema.specs.Version.{V2};
 ghost use Rattle.tantivy_schema.specs.WriteVersion.{written_version};
@@ -26,7 +26,7 @@ pub fn stored_pairs_are_written(
     ensures bytes { IfOk result
         (λ bytes. bytes.items ≡
         short_document V2 (stored schema.now (document_of document.now))) }
-    ensures io { IfErr result IsIo }
+    ensures errors { IfErr result IsIoOrMemory }
 {
     let mut sink = VecSink::new(alloc);
     let used = if document.fits(other) { schema } else { schema };
@@ -45,7 +45,7 @@ pub fn stored_pairs_are_written_in_versions(
     ensures bytes { IfOk result
         (λ bytes. bytes.items ≡
         short_document (written_version version) (stored schema.now (document_of document.now))) }
-    ensures io { IfErr result IsIo }
+    ensures errors { IfErr result IsIoOrMemory }
 {
     let mut sink = VecSink::new(alloc);
     let format = match version {

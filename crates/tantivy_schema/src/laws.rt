@@ -1,6 +1,6 @@
 //! What is proved above single calls: laws of the definitions, and of what calls leave.
 
-ghost use Rattle.std.specs.Prelude.{◌≡◌, ◌≤◌, ◌++◌, List, ℕ, IfOk, IfErr};
+ghost use Rattle.std.specs.Prelude.{◌≡◌, ◌≤◌, ◌⊎◌, ◌++◌, List, ℕ, IfOk, IfErr};
 ghost use Rattle.std.specs.declared.io.ErrorKind.TheVariants.{OutOfMemory};
 ghost use Rattle.tv_base.specs.ReadsAs.{Known};
 ghost use Rattle.tv_base.specs.Stop.{Counts};
@@ -10,7 +10,7 @@ ghost use Rattle.tv_heap.specs.Room.{document_room};
 ghost use Rattle.tv_reader.specs.Error.{store_stop};
 ghost use Rattle.tv_store.specs.Documents.{Answers};
 ghost use Rattle.tv_store.specs.Stored.{stored};
-ghost use Rattle.tv_writer.specs.declared.error.SerializeError.TheVariants.{Io};
+ghost use Rattle.tv_writer.specs.declared.error.SerializeError.TheVariants.{Io, Memory};
 ghost use Rattle.tv_format.specs.Short.{short_document};
 ghost use Rattle.tv_format.specs.Version.{V2};
 
@@ -77,8 +77,8 @@ pub use tv_value::laws::comparisons_of_fields_agree;
 
 /// What `serialize_doc` writes of a document is its stored pairs in the shortest encoding: here, in memory.
 ///
-/// The fields are those of the schema, as `fits` tests. The only error is `Io` of the kind `OutOfMemory`, with which the sink in memory
-/// says that memory was refused.
+/// The fields are those of the schema, as `fits` tests. Errors: `Io` of the kind `OutOfMemory`, with which the sink in memory says that
+/// memory was refused, and `Memory` where it was refused for a value that nests deeper than 64 levels.
 pub fn written_documents_are_shortest(
     alloc: Global,
     schema: &Schema,
@@ -87,7 +87,7 @@ pub fn written_documents_are_shortest(
     requires { Belongs schema.now (document_of document.now) }
     ensures bytes { IfOk result
         (λ bytes. bytes.items ≡ short_document V2 (stored schema.now (document_of document.now))) }
-    ensures memory { IfErr result (λ error. error ≡ Io OutOfMemory) }
+    ensures memory { IfErr result (λ error. (error ≡ Io OutOfMemory) ⊎ (error ≡ Memory)) }
 {
     let mut sink = VecSink::new(alloc);
     BinaryDocumentSerializer::new(&mut sink, schema).serialize_doc(document)?;

@@ -136,6 +136,11 @@ impl CompactDoc {
         self.values.pairs.is_empty()
     }
 
+    /// The allocator from which its memory is taken. (Not in tantivy.)
+    pub fn allocator(&self) -> Global {
+        *self.values.heap.allocator()
+    }
+
     /// The bytes of the heap, in which all values stand.
     pub fn node_data(&self) -> &[u8]
         ensures { result.now ≡ heap_of self.now }

@@ -7,3 +7,5 @@ pub mod WriterSteps
 pub mod RoundTrips
 pub mod Migrations
 mod InPlace
+pub mod Nesting
+pub mod NestedSteps

@@ -1,8 +1,9 @@
 -- What comes of a document that is read in one version and written in another.
-use Rattle.std.proofs.Common.{◌≡◌, ℕ, List, Result, Err, Some, None, refl, sym, ◌∙◌, ap}
+use Rattle.std.proofs.Common.{◌≡◌, ℕ, List, Result, Ok, Err, Some, None, refl, sym, ◌∙◌, ap}
 use Rattle.std.specs.Prelude.{IsErrOf}
 use Rattle.tv_base.specs.declared.cause.Cause.TheVariants.{TooLong}
 use Rattle.tv_base.specs.ReadsAs.{Known, TakesMost}
+use Rattle.tv_base.specs.Sink.{Begins, Halts}
 use Rattle.tv_base.specs.Source.{Failures}
 use Rattle.tv_base.specs.Stop.{CountsStop}
 use Rattle.tv_decoder.specs.Prefix.{HasNoRoom}
@@ -22,6 +23,8 @@ use Rattle.tv_format.specs.Version.{Version, IsWritten}
 use Rattle.tv_format.specs.WriteVersion.{written_version}
 use Rattle.tv_format.specs.declared.version.WriteVersion.{WriteVersion}
 use Rattle.tv_format.specs.declared.version.WriteVersion.TheVariants as versions
+use Rattle.tv_writer.specs.Error.{write_stop, IsIoOrMemory}
+use Rattle.tv_writer.specs.declared.error.SerializeError.{SerializeError}
 use Rattle.tv_writer.specs.declared.error.SerializeError.TheVariants as writes
 
 -- ---- what isn't read
@@ -51,6 +54,21 @@ unread_of v is_known left old new x error shows full long = record {
   too_long = λ told same. long told (ap (λ (z : DeserializeError). Err z) same);
 }
 
+-- ---- what is read and isn't written
+
+-- a beginning of the text is appended
+pub unwritten_begins : (e : SerializeError) (text old new : List ℕ) → IsIoOrMemory e → Halts (write_stop e) old new (Ok text) → Begins old new text
+unwritten_begins (writes.Io kind) text old new is h = h
+unwritten_begins writes.WrongCount text old new is h = absurd is
+unwritten_begins writes.TooMany text old new is h = absurd is
+unwritten_begins writes.Memory text old new is h = h
+
+pub unwritten_appends : (e : SerializeError) (text rest left old new : List ℕ) → IsIoOrMemory e → left ≡ rest → Begins old new text → AppendsMigrated {T = Unit {0}} (Err (Write e)) text rest left old new
+unwritten_appends (writes.Io kind) text rest left old new is same h = (same, h)
+unwritten_appends writes.WrongCount text rest left old new is same h = absurd is
+unwritten_appends writes.TooMany text rest left old new is same h = absurd is
+unwritten_appends writes.Memory text rest left old new is same h = (same, h)
+
 pub read_of : {T : Type 0} (r : Result T MigrateError) (y : MigrateError) (x e : DeserializeError) → r ≡ Err y → y ≡ Read x → IsErrOf r (Read e) → x ≡ e
 read_of r y x e is same told = cc
 
@@ -71,6 +89,7 @@ only_memory (Read (errors.UnsupportedVersion m n)) text rest left old new f g h 
 only_memory (Read errors.HeapFull) text rest left old new f g h last counts = absurd h
 only_memory (Read errors.AlreadyFailed) text rest left old new f g h last counts = absurd h
 only_memory (Write (writes.Io k)) text rest left old new f g h last counts = tt
+only_memory (Write writes.Memory) text rest left old new f g h last counts = tt
 only_memory (Write writes.WrongCount) text rest left old new f g h last counts = absurd h
 only_memory (Write writes.TooMany) text rest left old new f g h last counts = absurd h
 

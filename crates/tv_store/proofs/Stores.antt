@@ -54,3 +54,7 @@ pair_next v field t bytes rest d cut is = ap (flat_map (short_pair v)) cut ∙ f
 pub writes_for : {S T U : Type 0} {is_known : S → Type 0} {held : S → List ℕ} {failures : S → Failures} {old new : S} {kind : ErrorKind} {text : List ℕ}
     → Writes {T = T} is_known held failures old new (Err kind) text → WritesBy {T = U} write_stop is_known held failures old new (Err (write_error kind)) (Ok text)
 writes_for w = record { appends = w.appends; stays_known = w.stays_known; counts = w.counts }
+
+pub writes_all : {S T U : Type 0} {is_known : S → Type 0} {held : S → List ℕ} {failures : S → Failures} {old new : S} {x : T} {y : U} {text : List ℕ}
+    → Writes is_known held failures old new (Ok x) text → WritesBy write_stop is_known held failures old new (Ok y) (Ok text)
+writes_all w = record { appends = w.appends; stays_known = w.stays_known; counts = w.counts }

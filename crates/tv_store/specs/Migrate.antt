@@ -16,7 +16,7 @@ use Rattle.tv_format.specs.InputError.{Refusal}
 use Rattle.tv_format.specs.Short.{short_document, IsDocument}
 use Rattle.tv_format.specs.Tree.{Document}
 use Rattle.tv_format.specs.Version.{Version}
-use Rattle.tv_writer.specs.Error.{Unwritten, write_stop, IsIo}
+use Rattle.tv_writer.specs.Error.{Unwritten, write_stop, IsIoOrMemory}
 use Rattle.tv_writer.specs.declared.error.SerializeError.TheVariants as writes
 
 -- A prefix of the bytes encodes a document in the one version, and the rest is left. The document has an encoding in the other, and P
@@ -27,11 +27,12 @@ pub record Transcribes (from to : Version) (bytes rest : List ℕ) (P : List ℕ
   pub valid : IsDocument document
   pub written : P (short_document to document)
 
--- This text is appended and this rest left, unless the source or the sink failed or memory was refused. Where the sink failed, a
--- beginning of the text is appended.
+-- This text is appended and this rest left, unless the source or the sink failed or memory was refused. Where the sink failed, or memory
+-- was refused in writing, a beginning of the text is appended.
 abbrev pub AppendsMigrated : {T : Type 0} → Result T MigrateError → List ℕ → List ℕ → List ℕ → List ℕ → List ℕ → Type 0
 AppendsMigrated (Ok x) text rest left old new = (left ≡ rest) × (new ≡ old ++ text)
 AppendsMigrated (Err (Write (writes.Io kind))) text rest left old new = (left ≡ rest) × Begins old new text
+AppendsMigrated (Err (Write writes.Memory)) text rest left old new = (left ≡ rest) × Begins old new text
 AppendsMigrated (Err (Read (errors.Io kind))) text rest left old new = Unit {0}
 AppendsMigrated (Err (Read errors.Memory)) text rest left old new = Unit {0}
 AppendsMigrated (Err _) text rest left old new = ⊥
@@ -46,7 +47,7 @@ pub record IsUnread {S : Type 0} (version : Version) (is_known : S → Type 0) (
 -- the errors that a migration has
 abbrev pub IsMigrationError : MigrateError → Type 0
 IsMigrationError (Read e) = IsReadingError e
-IsMigrationError (Write e) = IsIo e
+IsMigrationError (Write e) = IsIoOrMemory e
 
 -- why it stopped, as its source sees it, and as its sink does
 abbrev pub source_stop : MigrateError → Stop Refusal
@@ -61,4 +62,5 @@ sink_stop (Write e) = write_stop e
 abbrev pub IsMemory : MigrateError → Type 0
 IsMemory (Read errors.Memory) = Unit {0}
 IsMemory (Write (writes.Io kind)) = Unit {0}
+IsMemory (Write writes.Memory) = Unit {0}
 IsMemory _ = ⊥

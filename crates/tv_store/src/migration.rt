@@ -54,11 +54,20 @@ impl From<io::ErrorKind> for MigrateError {
     }
 }
 
+impl From<SerializeError> for MigrateError {
+    ghost from_gives = { λ error told. told ≡ MigrateError.Write error };
+
+    fn from(error: SerializeError) -> MigrateError {
+        MigrateError::Write(error)
+    }
+}
+
 /// Reads a document in one version of the store, as `read_document` does, and then appends all its pairs to the sink in the shortest
 /// encoding of the other. A text with its tokens keeps them, also where it is a pair's value. (Not in tantivy.)
 ///
-/// Errors: `Read` with an error of `read_document`, and then nothing was written; else `Write` with `Io` where the sink failed. The
-/// source then stands behind the document, and the sink holds what it held before and a beginning of what was to be written.
+/// Errors: `Read` with an error of `read_document`, and then nothing was written; else `Write` with `Io` where the sink failed, and
+/// with `Memory` where memory was refused for a value that nests deeper than 64 levels. The source then stands behind the document,
+/// and the sink holds what it held before and a beginning of what was to be written.
 pub fn migrate<S: ByteSource, K: ByteSink>(
     alloc: Global,
     source: &mut S,
@@ -84,7 +93,7 @@ pub fn migrate<S: ByteSource, K: ByteSink>(
         → IsUnread (version_of from) S.is_known S.left source.old source.new e
         × (sink.new ≡ sink.old) }
 
-    // where the sink failed, the document was read, and a beginning of it is appended
+    // where the sink failed or memory was refused in writing, the document was read, and a beginning of it is appended
     ensures unwritten { S.is_known source.old → K.is_known sink.old → (e : SerializeError)
         → IsErrOf result (MigrateError.Write e)
         → Transcribes (version_of from) (written_version to) (S.left source.old) (S.left source.new)

@@ -64,6 +64,7 @@ fn memory_error(error: &MigrateError) -> RoundTripError
     match error {
         MigrateError::Read(DeserializeError::Memory) => RoundTripError::Memory,
         MigrateError::Write(SerializeError::Io(_)) => RoundTripError::Memory,
+        MigrateError::Write(SerializeError::Memory) => RoundTripError::Memory,
         _ => unreachable!(),
     }
 }

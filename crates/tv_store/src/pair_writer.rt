@@ -1,23 +1,29 @@
 //! Writing the pairs of a document, in either version of the store that is written.
 //!
-//! Each function hands on the error of a failed write. The sink then holds what it held before, and a beginning of what was
-//! to be written.
+//! Each function hands on the error of a failed write, and of memory that was refused. The sink then holds what it held before,
+//! and a beginning of what was to be written.
 
-ghost use Rattle.std.specs.Prelude.{◌∷◌, ◌++◌};
+ghost use Rattle.std.specs.Prelude.{◌∷◌, ◌++◌, Ok, IfErr};
 ghost use Rattle.std.specs.List.{flat_map};
 ghost use Rattle.tv_base.specs.Number.{four_bytes, eight_bytes};
 ghost use Rattle.tv_base.specs.Sink.{Writes};
 ghost use Rattle.tv_doc.specs.Document.{document_of};
 ghost use Rattle.tv_heap.specs.Encoded.{encoded_bytes, HasFewEntries, IsTokenized};
 ghost use Rattle.tv_heap.specs.Value.{tree_of};
+ghost use Rattle.tv_store.specs.Nested.{HeldNestsWithin};
 ghost use Rattle.tv_store.specs.Stored.{leaf_written, tree_written};
 ghost use Rattle.tv_value.specs.Lent.{leaf_of};
 ghost use Rattle.tv_format.specs.Short.{short_document, short_leaf, short_pair};
 ghost use Rattle.tv_format.specs.Version.{Version};
 ghost use Rattle.tv_format.specs.WriteVersion.{written_version};
+ghost use Rattle.tv_writer.specs.Error as store;
+ghost use Rattle.tv_writer.specs.Error.{IsIo, IsIoOrMemory};
+ghost use Rattle.tv_writer.specs.Nesting.{AllNestWithin, NestsWithin};
 
-use crate::encoded_writer::write_encoded;
+use crate::encoded_writer::{LEVELS, write_encoded};
+use crate::error::SerializeError;
 use crate::type_codes::TEXT_CODE;
+use std::alloc::Global;
 use std::io;
 use tv_base::ByteSink;
 use tv_base::write::{write_all, write_u32, write_vint};
@@ -65,38 +71,44 @@ fn write_field_u64<K: ByteSink>(
 
 // Writes a field and what the version has for a value.
 #[inline(always)]
-#[tactic(auto, using(tv_base::proofs::Written::Writes_then, tv_base::proofs::Written::Writes_prefix))]
 fn write_field_encoded<K: ByteSink>(
     sink: &mut K,
+    alloc: Global,
     version: WriteVersion,
     field: Field,
     encoded: Encoded<'_>,
-) -> Result<(), io::ErrorKind>
+) -> Result<(), SerializeError>
     requires { HasFewEntries encoded }
-    ensures { Writes K.is_known K.held K.failures sink.old sink.new result
-        (four_bytes field.id ++ encoded_bytes (written_version version) encoded.entry) }
+    ensures writes { store.Writes K.is_known K.held K.failures sink.old sink.new result
+        (Ok (four_bytes field.id ++ encoded_bytes (written_version version) encoded.entry)) }
+    ensures errors { IfErr result IsIoOrMemory }
+    ensures lean { HeldNestsWithin 64 encoded.entry → IfErr result IsIo }
 {
     write_u32(sink, field.field_id())?;
-    write_encoded(sink, version, encoded)
+    write_encoded(sink, alloc, version, encoded, LEVELS)
 }
 
 // The same. What is commonest is written with the field, at once.
 #[inline(always)]
 pub(crate) fn write_pair<K: ByteSink>(
     sink: &mut K,
+    alloc: Global,
     version: WriteVersion,
     field: Field,
     encoded: Encoded<'_>,
-) -> Result<(), io::ErrorKind>
+) -> Result<(), SerializeError>
     requires { HasFewEntries encoded }
-    ensures { Writes K.is_known K.held K.failures sink.old sink.new result
-        (four_bytes field.id ++ encoded_bytes (written_version version) encoded.entry) }
+    ensures writes { store.Writes K.is_known K.held K.failures sink.old sink.new result
+        (Ok (four_bytes field.id ++ encoded_bytes (written_version version) encoded.entry)) }
+    ensures errors { IfErr result IsIoOrMemory }
+    ensures lean { HeldNestsWithin 64 encoded.entry → IfErr result IsIo }
 {
     match encoded {
-        Encoded::Number(code, number) => write_field_u64(sink, field, code, number),
-        Encoded::Bytes(code, content) => write_field_bytes(sink, field, code, content),
-        other => write_field_encoded(sink, version, field, other),
+        Encoded::Number(code, number) => write_field_u64(sink, field, code, number)?,
+        Encoded::Bytes(code, content) => write_field_bytes(sink, field, code, content)?,
+        other => write_field_encoded(sink, alloc, version, field, other)?,
     }
+    Ok(())
 }
 
 // Writes a value without children, of a text with tokens the text alone.
@@ -135,17 +147,21 @@ fn write_field_text<K: ByteSink>(
 // Writes a pair as it is stored: its field, and its value, of a text with tokens the text alone.
 pub(crate) fn write_stored_pair<K: ByteSink>(
     sink: &mut K,
+    alloc: Global,
     version: WriteVersion,
     field: Field,
     value: CompactDocValue<'_>,
-) -> Result<(), io::ErrorKind>
-    ensures { Writes K.is_known K.held K.failures sink.old sink.new result
-        (short_pair (written_version version) (field.id, tree_written (tree_of value.entry))) }
+) -> Result<(), SerializeError>
+    ensures writes { store.Writes K.is_known K.held K.failures sink.old sink.new result
+        (Ok (short_pair (written_version version) (field.id, tree_written (tree_of value.entry)))) }
+    ensures errors { IfErr result IsIoOrMemory }
+    ensures lean { NestsWithin 64 (tree_of value.entry) → IfErr result IsIo }
 {
     match value.encoded() {
-        Encoded::Tokenized(_) => write_field_text(sink, field, value),
-        encoded => write_pair(sink, version, field, encoded),
+        Encoded::Tokenized(_) => write_field_text(sink, field, value)?,
+        encoded => write_pair(sink, alloc, version, field, encoded)?,
     }
+    Ok(())
 }
 
 // Writes all pairs of a document, in order.
@@ -153,25 +169,29 @@ fn write_pairs<K: ByteSink>(
     sink: &mut K,
     version: WriteVersion,
     document: &CompactDoc,
-) -> Result<(), io::ErrorKind>
-    ensures { Writes K.is_known K.held K.failures sink.old sink.new result
-        (flat_map (short_pair (written_version version)) (document_of document.now)) }
+) -> Result<(), SerializeError>
+    ensures writes { store.Writes K.is_known K.held K.failures sink.old sink.new result
+        (Ok (flat_map (short_pair (written_version version)) (document_of document.now))) }
+    ensures errors { IfErr result IsIoOrMemory }
+    ensures lean { AllNestWithin 64 (document_of document.now) → IfErr result IsIo }
 {
+    let alloc = document.allocator();
     for (field, value) in document.field_values() {
-        write_pair(sink, version, field, value.encoded())?;
+        write_pair(sink, alloc, version, field, value.encoded())?;
     }
     Ok(())
 }
 
 // Writes a document with all its pairs, a text with tokens with them.
-#[tactic(auto, using(tv_base::proofs::Written::Writes_then, tv_base::proofs::Written::Writes_prefix))]
 pub(crate) fn write_document<K: ByteSink>(
     sink: &mut K,
     version: WriteVersion,
     document: &CompactDoc,
-) -> Result<(), io::ErrorKind>
-    ensures { Writes K.is_known K.held K.failures sink.old sink.new result
-        (short_document (written_version version) (document_of document.now)) }
+) -> Result<(), SerializeError>
+    ensures writes { store.Writes K.is_known K.held K.failures sink.old sink.new result
+        (Ok (short_document (written_version version) (document_of document.now))) }
+    ensures errors { IfErr result IsIoOrMemory }
+    ensures lean { AllNestWithin 64 (document_of document.now) → IfErr result IsIo }
 {
     write_vint(sink, document.len() as u64)?;
     write_pairs(sink, version, document)

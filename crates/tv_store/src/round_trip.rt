@@ -86,7 +86,7 @@ fn stored_bytes(
     let mut sink = VecSink::new(alloc);
     match BinaryDocumentSerializer::new(&mut sink, schema).serialize_doc(document) {
         Ok(()) => Ok(sink.into_vec()),
-        Err(SerializeError::Io(_)) => Err(RoundTripError::Memory),
+        Err(SerializeError::Io(_) | SerializeError::Memory) => Err(RoundTripError::Memory),
         Err(_) => unreachable!(),
     }
 }

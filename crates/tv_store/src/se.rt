@@ -1,7 +1,6 @@
 //! Writing documents into the store.
 
 ghost use Rattle.std.specs.Prelude.{◌≡◌, ◌<◌, [], ◌∷◌, Ok, IfErr, length};
-ghost use Rattle.tv_base.specs.Sink.{Writes};
 ghost use Rattle.tv_doc.specs.Belongs.{Belongs};
 ghost use Rattle.tv_doc.specs.Document.{document_of};
 ghost use Rattle.tv_heap.specs.Value.{tree_of};
@@ -9,11 +8,12 @@ ghost use Rattle.tv_store.specs.Stored.{stored, written_pairs};
 ghost use Rattle.tv_format.specs.Short.{short_document};
 ghost use Rattle.tv_format.specs.WriteVersion.{written_version};
 ghost use Rattle.tv_writer.specs.Error as store;
-ghost use Rattle.tv_writer.specs.Error.{IsIo};
+ghost use Rattle.tv_writer.specs.Error.{IsIo, IsIoOrMemory};
+ghost use Rattle.tv_writer.specs.Nesting.{AllNestWithin, NestsWithin};
 
 use crate::error::SerializeError;
 use crate::pair_writer::write_stored_pair;
-use std::io;
+use std::alloc::Global;
 use tv_base::ByteSink;
 use tv_base::write::write_vint;
 use tv_doc::document::CompactDoc;
@@ -45,18 +45,21 @@ fn stored_count(schema: &Schema, document: &CompactDoc) -> u64
 #[inline(always)]
 fn write_if_stored<K: ByteSink>(
     sink: &mut K,
+    alloc: Global,
     version: WriteVersion,
     schema: &Schema,
     field: Field,
     value: CompactDocValue<'_>,
-) -> Result<(), io::ErrorKind>
+) -> Result<(), SerializeError>
     requires { field.id < length schema.now }
-    ensures { Writes K.is_known K.held K.failures sink.old sink.new result
-        (written_pairs (written_version version) schema.now
-        ((field.id, tree_of value.entry) ∷ [])) }
+    ensures writes { store.Writes K.is_known K.held K.failures sink.old sink.new result
+        (Ok (written_pairs (written_version version) schema.now
+        ((field.id, tree_of value.entry) ∷ []))) }
+    ensures errors { IfErr result IsIoOrMemory }
+    ensures lean { NestsWithin 64 (tree_of value.entry) → IfErr result IsIo }
 {
     if schema.get_field_entry(field).is_stored() {
-        write_stored_pair(sink, version, field, value)
+        write_stored_pair(sink, alloc, version, field, value)
     } else {
         Ok(())
     }
@@ -68,13 +71,16 @@ fn write_stored_pairs<K: ByteSink>(
     version: WriteVersion,
     schema: &Schema,
     document: &CompactDoc,
-) -> Result<(), io::ErrorKind>
+) -> Result<(), SerializeError>
     requires { Belongs schema.now (document_of document.now) }
-    ensures { Writes K.is_known K.held K.failures sink.old sink.new result
-        (written_pairs (written_version version) schema.now (document_of document.now)) }
+    ensures writes { store.Writes K.is_known K.held K.failures sink.old sink.new result
+        (Ok (written_pairs (written_version version) schema.now (document_of document.now))) }
+    ensures errors { IfErr result IsIoOrMemory }
+    ensures lean { AllNestWithin 64 (document_of document.now) → IfErr result IsIo }
 {
+    let alloc = document.allocator();
     for (field, value) in document.field_values() {
-        write_if_stored(sink, version, schema, field, value)?;
+        write_if_stored(sink, alloc, version, schema, field, value)?;
     }
     Ok(())
 }
@@ -116,11 +122,11 @@ impl<'se, K: ByteSink> BinaryDocumentSerializer<'se, K> {
         }
     }
 
-    /// Appends the stored pairs of a document whose fields belong to the schema, in the shortest encoding. It takes no memory
-    /// of its own.
+    /// Appends the stored pairs of a document whose fields belong to the schema, in the shortest encoding. It takes memory only
+    /// for a value that nests deeper than 64 levels.
     ///
-    /// The only error is `Io`, where the sink failed. The sink then holds what it held before, and a beginning of what was to
-    /// be written; a later call appends to that.
+    /// Errors: `Io` where the sink failed; `Memory` where memory was refused for such a value. The sink then holds what it held
+    /// before, and a beginning of what was to be written; a later call appends to that.
     ///
     /// ```
     /// fn append(sink: &mut VecSink, schema: &Schema, document: &TantivyDocument) -> Result<()> {
@@ -140,10 +146,10 @@ impl<'se, K: ByteSink> BinaryDocumentSerializer<'se, K> {
             self.new.sink.now result
             (Ok (short_document (written_version self.old.version)
             (stored self.old.schema.now (document_of document.now)))) }
-        ensures io { IfErr result IsIo }
+        ensures errors { IfErr result IsIoOrMemory }
+        ensures io { AllNestWithin 64 (document_of document.now) → IfErr result IsIo }
     {
         write_vint(self.sink, stored_count(self.schema, document))?;
-        write_stored_pairs(self.sink, self.version, self.schema, document)?;
-        Ok(())
+        write_stored_pairs(self.sink, self.version, self.schema, document)
     }
 }

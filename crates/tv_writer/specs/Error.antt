@@ -4,7 +4,7 @@ use Rattle.std.specs.declared.io.ErrorKind.{ErrorKind}
 use Rattle.tv_base.specs.Sink.{WritesBy}
 use Rattle.tv_base.specs.Source.{Failures}
 use Rattle.tv_base.specs.Stop.{Stop}
-use Rattle.tv_base.specs.Stop.Stop.{InputError, Failed}
+use Rattle.tv_base.specs.Stop.Stop.{InputError, Failed, Short}
 use Rattle.tv_writer.specs.declared.error.SerializeError.{SerializeError}
 use Rattle.tv_writer.specs.declared.error.SerializeError.TheVariants as writes
 
@@ -15,11 +15,12 @@ write_error kind = writes.Io kind
 pub data Unwritten : Type 0 where
   wrong_count too_many : Unwritten
 
--- Why a writer of the store stopped: the sink failed, or what it was given is refused.
+-- Why a writer of the store stopped: the sink failed, what it was given is refused, or memory was refused.
 abbrev pub write_stop : SerializeError → Stop Unwritten
 write_stop (writes.Io kind) = Failed kind
 write_stop writes.WrongCount = InputError wrong_count
 write_stop writes.TooMany = InputError too_many
+write_stop writes.Memory = Short
 
 -- what a writer of the store returned and did, by what is to be written
 abbrev pub Writes : {S T : Type 0} (is_known : S → Type 0) (held : S → List ℕ) (failures : S → Failures) (old new : S) (result : Result T SerializeError) (writing : Result (List ℕ) (Unwritten × List ℕ)) → Type 0
@@ -30,3 +31,11 @@ abbrev pub IsIo : SerializeError → Type 0
 IsIo (writes.Io kind) = Unit {0}
 IsIo writes.WrongCount = ⊥
 IsIo writes.TooMany = ⊥
+IsIo writes.Memory = ⊥
+
+-- the sink failed, or memory was refused
+abbrev pub IsIoOrMemory : SerializeError → Type 0
+IsIoOrMemory (writes.Io kind) = Unit {0}
+IsIoOrMemory writes.WrongCount = ⊥
+IsIoOrMemory writes.TooMany = ⊥
+IsIoOrMemory writes.Memory = Unit {0}

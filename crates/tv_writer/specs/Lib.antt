@@ -1,3 +1,4 @@
 pub mod Error
 pub mod Serialized
 pub mod Children
+pub mod Nesting

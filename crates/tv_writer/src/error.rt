@@ -3,6 +3,7 @@
 ghost use Rattle.std.specs.Prelude.{◌≡◌};
 ghost use Rattle.tv_writer.specs.Error.{write_error};
 
+use std::alloc::AllocFailed;
 use std::io;
 use thiserror::Error;
 
@@ -18,6 +19,9 @@ pub enum SerializeError {
     /// An object announces a number above 2^64 - 1, or a value has an array, an object, a text or bytes that are too long for it.
     #[error("there are too many entries")]
     TooMany,
+    /// Memory was refused, for a value that nests deeper than 64 levels.
+    #[error("memory was refused")]
+    Memory,
 }
 
 impl From<io::ErrorKind> for SerializeError {
@@ -25,5 +29,15 @@ impl From<io::ErrorKind> for SerializeError {
 
     fn from(kind: io::ErrorKind) -> SerializeError {
         SerializeError::Io(kind)
+    }
+}
+
+impl<T: Drop> From<AllocFailed<T>> for SerializeError {
+    ghost use Rattle.tv_writer.specs.declared.error.SerializeError.TheVariants.{Memory};
+
+    ghost from_gives = { λ _ told. told ≡ Memory };
+
+    fn from(_error: AllocFailed<T>) -> SerializeError {
+        SerializeError::Memory
     }
 }

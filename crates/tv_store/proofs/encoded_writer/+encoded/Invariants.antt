@@ -1,9 +1,10 @@
-use Rattle.std.proofs.Common.{suc, ◌*◌, ◌≤◌, length}
+use Rattle.std.proofs.Common.{suc, ◌*◌, ◌-◌, ◌≤◌, length}
 use Rattle.tv_base.proofs.Written.{Written}
 use Rattle.tv_heap.specs.Encoded.{encoded_bytes}
 use Rattle.tv_format.specs.Short.{short_elements, short_entries}
-use Rattle.tv_format.specs.Tree.{elements, entries}
+use Rattle.tv_format.specs.Tree.{array, object, elements, entries}
 use Rattle.tv_format.specs.WriteVersion.{written_version}
+use Rattle.tv_writer.specs.Nesting.{NestsWithin, ElementsNestWithin, EntriesNestWithin}
 use Rattle.tv_store.proofs.encoded_writer.+encoded.Given as goal
 
 -- twice the bytes that are to be written, and one more for the children of a list
@@ -26,6 +27,7 @@ invariant-write_encoded_items-loop-item g l =
       is_finite : (goal.iterator-write_encoded_items-loop-item g).is_finite l.item-iterator;
       fewer : length rest ≤ length all;
       written : Written g.K.ByteSink.is_known g.K.ByteSink.held g.K.ByteSink.failures l.fn.sink l.sink all rest;
+      within : NestsWithin l.levels (array (elements l.fn.items.held.0)) → ElementsNestWithin (l.levels - 1) (elements l.item-iterator.held.0);
     }
 
 -- the keys and values that are left are
@@ -38,4 +40,5 @@ invariant-write_encoded_members-loop-key g l =
       is_finite : (goal.iterator-write_encoded_members-loop-key g).is_finite l.key-iterator;
       fewer : length rest ≤ length all;
       written : Written g.K.ByteSink.is_known g.K.ByteSink.held g.K.ByteSink.failures l.fn.sink l.sink all rest;
+      within : NestsWithin l.levels (object (entries l.fn.members.held.0)) → EntriesNestWithin (l.levels - 1) (entries l.key-iterator.held.0);
     }

@@ -6,7 +6,7 @@ use Rattle.tv_reader.specs.Version.{version_of}
 use Rattle.tv_format.specs.Short.{short_document}
 use Rattle.tv_format.specs.WriteVersion.{written_version}
 use Rattle.tv_store.specs.Migrate.{IsUnread}
-use Rattle.tv_store.proofs.Migrations.{unread_appends, unread_of, read_of}
+use Rattle.tv_store.proofs.Migrations.{unread_appends, unread_of, read_of, unwritten_begins, unwritten_appends}
 use Rattle.tv_store.proofs.migration.migrate.Goals as goal
 
 -- the document isn't read
@@ -37,15 +37,21 @@ returns-in_err-write_document-clause-only g c =
     let K = g.K.ByteSink in
     λ known told d prefix rest joined encoded small.
     let a = c.in_ok-document.ensures.only known d prefix rest joined encoded small in
-    rw (p.1, p.2) (a.1, subst (λ z. Begins (K.held c.args.sink.now) (K.held c.write_document.new.sink) (short_document v z)) a.0 (c.in_err-write_document.ensures.appends told))
+    let e = c.in_err-write_document.field-0.0 in
+    let h = c.in_err-write_document.ensures in
+    let old = K.held c.args.sink.now in
+    let new = K.held c.write_document.new.sink in
+    let begins = unwritten_begins e (short_document v (document_of c.in_ok-document.document)) old new h.errors (h.writes.appends told) in
+    rw (p.1, p.2) (unwritten_appends e (short_document v d) rest _ old new h.errors a.1 (subst (λ z. Begins old new (short_document v z)) a.0 begins))
 
 pub returns-in_err-write_document-clause-unwritten : goal.returns-in_err-write_document-clause-unwritten
 returns-in_err-write_document-clause-unwritten g c = λ known told e is.
+    let h = c.in_err-write_document.ensures in
     record {
       document = document_of c.in_ok-document.document;
       read = c.in_ok-document.ensures.found known;
       valid = c.documents_are_valid.ensures c.in_ok-document.document;
-      written = c.in_err-write_document.ensures.appends told;
+      written = unwritten_begins c.in_err-write_document.field-0.0 _ _ _ h.errors (h.writes.appends told);
     }
 
 pub returns-clause-only : goal.returns-clause-only
@@ -54,7 +60,7 @@ returns-clause-only g c =
     let K = g.K.ByteSink in
     λ known told d prefix rest joined encoded small.
     let a = c.in_ok-document.ensures.only known d prefix rest joined encoded small in
-    (a.1, c.in_ok-write_document.ensures.appends told ∙ ap (λ z. K.held c.args.sink.now ++ short_document v z) a.0)
+    (a.1, c.in_ok-write_document.ensures.writes.appends told ∙ ap (λ z. K.held c.args.sink.now ++ short_document v z) a.0)
 
 pub returns-clause-migrated : goal.returns-clause-migrated
 returns-clause-migrated g c = λ known told.
@@ -62,5 +68,5 @@ returns-clause-migrated g c = λ known told.
       document = document_of c.in_ok-document.document;
       read = c.in_ok-document.ensures.found known;
       valid = c.documents_are_valid.ensures c.in_ok-document.document;
-      written = c.in_ok-write_document.ensures.appends told;
+      written = c.in_ok-write_document.ensures.writes.appends told;
     }

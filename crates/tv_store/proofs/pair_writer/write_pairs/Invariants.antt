@@ -4,6 +4,7 @@ use Rattle.tv_doc.specs.Document.{document_of}
 use Rattle.tv_doc.specs.FieldValues.{pairs_left}
 use Rattle.tv_format.specs.Short.{short_pair}
 use Rattle.tv_format.specs.WriteVersion.{written_version}
+use Rattle.tv_writer.specs.Nesting.{AllNestWithin}
 use Rattle.tv_store.proofs.pair_writer.write_pairs.Given as goal
 
 abbrev pub invariant-loop-field : goal.invariant-loop-field
@@ -12,4 +13,5 @@ invariant-loop-field g l = record {
   is_finite : (goal.iterator-loop-field g).is_finite l.field-iterator;
   written : Written g.K.ByteSink.is_known g.K.ByteSink.held g.K.ByteSink.failures l.initial.sink l.sink
       (flat_map (short_pair (written_version l.version)) (document_of l.document)) (flat_map (short_pair (written_version l.version)) (pairs_left l.field-iterator));
+  within : AllNestWithin 64 (document_of l.document) → AllNestWithin 64 (pairs_left l.field-iterator);
 }

@@ -4,6 +4,7 @@ use Rattle.tv_doc.specs.FieldValues.{pairs_left}
 use Rattle.tv_doc.specs.Belongs.{Belongs}
 use Rattle.tv_store.specs.Stored.{written_pairs}
 use Rattle.tv_format.specs.WriteVersion.{written_version}
+use Rattle.tv_writer.specs.Nesting.{AllNestWithin}
 use Rattle.tv_store.proofs.se.write_stored_pairs.Given as goal
 
 abbrev pub invariant-loop-field : goal.invariant-loop-field
@@ -13,4 +14,5 @@ invariant-loop-field g l = record {
   belongs : Belongs l.schema (pairs_left l.field-iterator);
   written : Written g.K.ByteSink.is_known g.K.ByteSink.held g.K.ByteSink.failures l.initial.sink l.sink
       (written_pairs (written_version l.version) l.schema (document_of l.document)) (written_pairs (written_version l.version) l.schema (pairs_left l.field-iterator));
+  within : AllNestWithin 64 (document_of l.document) → AllNestWithin 64 (pairs_left l.field-iterator);
 }
