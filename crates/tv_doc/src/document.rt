@@ -137,7 +137,9 @@ impl CompactDoc {
     }
 
     /// The allocator from which its memory is taken. (Not in tantivy.)
-    pub fn allocator(&self) -> Global {
+    pub fn allocator(&self) -> Global
+        ensures { result ≡ self.now.values.heap.alloc }
+    {
         *self.values.heap.allocator()
     }
 
