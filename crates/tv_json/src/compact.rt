@@ -105,6 +105,7 @@ fn begin_object<N: Nested>(
 }
 
 // Writes a leaf, or the opening bracket of a list.
+#[inline(always)]
 fn begin<N: Nested>(
     json: &mut JsonWriter,
     lists: &mut Vec<Rest<N>>,
@@ -131,6 +132,7 @@ fn begin<N: Nested>(
 }
 
 // Writes a child that is a leaf, or the opening bracket of one that is a list.
+#[inline(always)]
 fn begin_child<N: Nested>(
     json: &mut JsonWriter,
     lists: &mut Vec<Rest<N>>,
