@@ -1,16 +1,17 @@
 -- Entries whose keys rise are the members of their object, one after the other.
-use Rattle.std.proofs.Common.{◌≡◌, ◌≤◌, ℕ, suc, ◌+◌, arith, List, [], ◌∷◌, String, Global, string_bytes, string_cmp, Ordering, Less, Equal, Greater, refl, sym, ap, ◌∙◌}
+use Rattle.std.proofs.Common.{◌≡◌, ◌≤◌, ℕ, suc, ◌+◌, arith, List, [], ◌∷◌, String, Global, string_bytes, string_cmp, Ordering, Less, Equal, Greater, refl, sym, ap, subst, ◌∙◌}
 use Rattle.std.proofs.lemmas.Cmp.{nat_list_cmp_total}
 use Rattle.std.specs.BTreeMap.{insert_entry}
 use Rattle.std.specs.Ordering.{match_ordering, ordering_reverse}
 use Rattle.std.specs.Cmp.Lexicographic.{slice_cmp}
 use Rattle.std.specs.Ordering.{nat_cmp}
+use Rattle.serde_json.specs.Data as json
 use Rattle.serde_json.specs.Data.{Data, Members, no_members, member, put}
 use Rattle.tv_format.specs.Size.{size}
-use Rattle.tv_format.specs.Tree.{Tree, Entries, no_entries, entry}
+use Rattle.tv_format.specs.Tree.{Tree, object, Entries, no_entries, entry}
 use Rattle.tv_json.specs.JsonOf.{json_of, entries_json}
 use Rattle.tv_json.specs.Open.{pairs_size}
-use Rattle.tv_json.specs.Rising.{Below, RiseFrom, KeysRise, listed_json, pairs_json}
+use Rattle.tv_json.specs.Rising.{Below, RiseFrom, KeysRise, entries_of, listed_json, pairs_json}
 
 -- ---- members behind others
 
@@ -67,6 +68,10 @@ above_nothing (entry k t es) = tt
 
 pub in_order : (es : Entries) → KeysRise es → listed_json es ≡ entries_json es no_members
 in_order es r = sym (in_order_behind no_members es (above_nothing es) r)
+
+-- the entries of an object that rise are its members, one after the other
+pub object_in_order : (t : Tree) (es : Entries) → object es ≡ t → KeysRise (entries_of t) → json.object (listed_json es) ≡ json_of t
+object_in_order t es whole r = ap json.object (in_order es (subst KeysRise (ap entries_of (sym whole)) r)) ∙ ap json_of whole
 
 -- ---- pairs that are put into a map
 

@@ -6,8 +6,8 @@ use Rattle.tv_format.specs.Size.{size, elements_size, entries_size}
 use Rattle.tv_format.specs.Tree.{Tree, elements, entries}
 use Rattle.tv_json.specs.JsonOf.{json_of, elements_json}
 use Rattle.tv_json.specs.Rising.{data_tokens, rest_of_array, rest_of_object, listed_json, pairs_json}
-use Rattle.tv_json.specs.declared.compact.Rest.{Rest}
-use Rattle.tv_json.specs.declared.compact.Rest.TheVariants as rest
+use Rattle.tv_json.specs.declared.open_lists.Rest.{Rest}
+use Rattle.tv_json.specs.declared.open_lists.Rest.TheVariants as rest
 
 -- how many leaves and lists a map's pairs have
 abbrev pub pairs_size : {N : Type 0} → (N → Tree) → List (String Global × N) → ℕ

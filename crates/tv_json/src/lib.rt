@@ -4,5 +4,7 @@
 pub mod compact;
 pub mod json_value;
 mod leaf_text;
+mod member_order;
 pub mod named;
+mod open_lists;
 mod write;

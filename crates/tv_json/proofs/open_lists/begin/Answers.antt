@@ -3,9 +3,9 @@ use Rattle.json.specs.Token.{begin_array}
 use Rattle.tv_format.specs.Tree.{array, elements}
 use Rattle.tv_value.specs.Lent.{nested_tree}
 use Rattle.tv_json.specs.Open.{rest_left, open_left, value_left, Writes}
-use Rattle.tv_json.specs.declared.compact.Rest.TheVariants.{Array}
+use Rattle.tv_json.specs.declared.open_lists.Rest.TheVariants.{Array}
 use Rattle.tv_json.proofs.OpenLists.{list_opened}
-use Rattle.tv_json.proofs.compact.begin.Goals as goal
+use Rattle.tv_json.proofs.open_lists.begin.Goals as goal
 
 pub returns-in_ok-push-in-Array-clause-ok : goal.returns-in_ok-push-in-Array-clause-ok
 returns-in_ok-push-in-Array-clause-ok g c =

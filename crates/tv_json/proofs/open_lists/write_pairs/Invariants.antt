@@ -1,6 +1,6 @@
 use Rattle.std.proofs.Common.{◌≡◌}
 use Rattle.tv_json.specs.Open.{pairs_left, Writes}
-use Rattle.tv_json.proofs.compact.write_pairs.Given as goal
+use Rattle.tv_json.proofs.open_lists.write_pairs.Given as goal
 
 abbrev pub invariant-loop-key : goal.invariant-loop-key
 invariant-loop-key g l = record {

@@ -4,7 +4,7 @@ use Rattle.std.specs.Ordering.{nat_cmp}
 use Rattle.std.specs.Prelude.{Some}
 use Rattle.tv_format.specs.Tree.{entries}
 use Rattle.tv_json.specs.Rising.{Below, KeysRise, RiseFrom}
-use Rattle.tv_json.proofs.compact.keys_rise.Goals as goal
+use Rattle.tv_json.proofs.member_order.keys_rise.Goals as goal
 
 below : (a b k l : List ℕ) → a ≡ k → b ≡ l → Less ≡ slice_cmp nat_cmp a b → Below k l
 below a b k l p q e = (λ i. slice_cmp nat_cmp (sym p i) (sym q i)) ∙ sym e

@@ -1,6 +1,6 @@
 use Rattle.std.proofs.Common.{◌≡◌}
 use Rattle.tv_json.specs.Open.{items_left, Writes}
-use Rattle.tv_json.proofs.compact.write_items.Given as goal
+use Rattle.tv_json.proofs.open_lists.write_items.Given as goal
 
 abbrev pub invariant-loop-item : goal.invariant-loop-item
 invariant-loop-item g l = record {

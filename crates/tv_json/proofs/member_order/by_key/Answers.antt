@@ -6,7 +6,7 @@ use Rattle.tv_json.specs.JsonOf.{json_of, entries_json}
 use Rattle.tv_json.specs.Open.{pairs_size}
 use Rattle.tv_json.specs.Rising.{pairs_json}
 use Rattle.tv_json.proofs.InOrder.{pairs_json-insert_entry, pairs_size-insert_entry}
-use Rattle.tv_json.proofs.compact.by_key.Goals as goal
+use Rattle.tv_json.proofs.member_order.by_key.Goals as goal
 
 pub loop-key-preserved : goal.loop-key-preserved
 loop-key-preserved g c =

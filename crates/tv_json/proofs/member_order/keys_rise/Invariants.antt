@@ -1,6 +1,6 @@
 use Rattle.tv_json.specs.Rising.{KeysRise, RiseFrom}
 use Rattle.tv_format.specs.Tree.{entries}
-use Rattle.tv_json.proofs.compact.keys_rise.Given as goal
+use Rattle.tv_json.proofs.member_order.keys_rise.Given as goal
 
 abbrev pub invariant-loop-key : goal.invariant-loop-key
 invariant-loop-key g l =

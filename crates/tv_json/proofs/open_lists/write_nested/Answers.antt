@@ -2,7 +2,7 @@ use Rattle.std.proofs.Common.{◌≡◌, ◌∷◌, [], ◌++◌, ◌-◌, suc, 
 use Rattle.std.proofs.lemmas.List.{take-set}
 use Rattle.tv_json.specs.Open.{rest_left, Finds}
 use Rattle.tv_json.proofs.OpenLists.{last_was, last_now, child_opened, opened-smaller, list_closed, closed-smaller}
-use Rattle.tv_json.proofs.compact.write_nested.Goals as goal
+use Rattle.tv_json.proofs.open_lists.write_nested.Goals as goal
 
 pub loop-list-smaller : goal.loop-list-smaller
 loop-list-smaller g c =

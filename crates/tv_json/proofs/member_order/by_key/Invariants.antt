@@ -5,7 +5,7 @@ use Rattle.tv_format.specs.Tree.{entries}
 use Rattle.tv_json.specs.JsonOf.{entries_json}
 use Rattle.tv_json.specs.Open.{pairs_size}
 use Rattle.tv_json.specs.Rising.{pairs_json}
-use Rattle.tv_json.proofs.compact.by_key.Given as goal
+use Rattle.tv_json.proofs.member_order.by_key.Given as goal
 
 abbrev pub invariant-loop-key : goal.invariant-loop-key
 invariant-loop-key g l =

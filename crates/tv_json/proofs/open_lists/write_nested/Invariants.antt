@@ -1,6 +1,6 @@
 use Rattle.std.proofs.Common.{◌≡◌, ◌++◌}
 use Rattle.tv_json.specs.Open.{rest_left, open_left}
-use Rattle.tv_json.proofs.compact.write_nested.Given as goal
+use Rattle.tv_json.proofs.open_lists.write_nested.Given as goal
 
 abbrev pub invariant-loop-list : goal.invariant-loop-list
 invariant-loop-list g l =

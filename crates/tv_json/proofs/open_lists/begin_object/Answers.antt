@@ -6,10 +6,10 @@ use Rattle.tv_format.specs.Tree.{object, entries}
 use Rattle.tv_json.specs.JsonOf.{entries_json}
 use Rattle.tv_json.specs.Open.{rest_left, pairs_size}
 use Rattle.tv_json.specs.Rising.{rest_of_object, listed_json, pairs_json}
-use Rattle.tv_json.specs.declared.compact.Rest.TheVariants.{Object, ByKey}
+use Rattle.tv_json.specs.declared.open_lists.Rest.TheVariants.{Object, ByKey}
 use Rattle.tv_json.proofs.InOrder.{in_order}
 use Rattle.tv_json.proofs.OpenLists.{list_opened}
-use Rattle.tv_json.proofs.compact.begin_object.Goals as goal
+use Rattle.tv_json.proofs.open_lists.begin_object.Goals as goal
 
 pub returns-then-in_order-clause-ok : goal.returns-then-in_order-clause-ok
 returns-then-in_order-clause-ok g c =

@@ -1,0 +1,63 @@
+//! The order in which the members of an object are written.
+
+ghost use Rattle.std.specs.Prelude.{◌≡◌, ◌≤◌, IsTrue, IfOk};
+ghost use Rattle.serde_json.specs.Data.{no_members};
+ghost use Rattle.tv_json.specs.JsonOf.{entries_json};
+ghost use Rattle.tv_json.specs.Open.{pairs_size};
+ghost use Rattle.tv_json.specs.Rising.{KeysRise, entries_of, pairs_json};
+ghost use Rattle.tv_format.specs.Size.{entries_size};
+ghost use Rattle.tv_format.specs.Tree.{entries};
+ghost use Rattle.tv_value.specs.Lent.{nested_tree};
+
+use std::alloc::{AllocError, Global};
+use std::cmp::Ordering;
+use std::collections::BTreeMap;
+use std::convert::AsStr;
+use tv_value::nested::{Nested, NestedValue};
+
+// Whether each key is below the next in byte order.
+fn keys_rise<N: Nested>(mut members: N::ObjectIter) -> bool
+    ensures { IsTrue result → KeysRise (entries (N.object_rest members)) }
+{
+    let Some((first, _)) = members.next() else {
+        return true;
+    };
+    let mut last = first;
+    for (key, _) in members {
+        match last.as_str().cmp(key.as_str()) {
+            Ordering::Less => last = key,
+            _ => return false,
+        }
+    }
+    true
+}
+
+// Whether a value is an object whose keys are each below the next.
+pub(crate) fn is_in_order<N: Nested>(value: NestedValue<'_, N>) -> bool
+    ensures { IsTrue result → KeysRise
+        (entries_of (nested_tree N.array_rest N.object_rest value.entry)) }
+{
+    match value {
+        NestedValue::Object(members) => keys_rise::<N>(members),
+        _ => false,
+    }
+}
+
+// The members by byte order of their keys, of equal keys the last.
+pub(crate) fn by_key<N: Nested>(
+    alloc: Global,
+    members: N::ObjectIter,
+) -> Result<BTreeMap<String, N>, AllocError>
+    ensures members { IfOk result
+        (λ found. pairs_json N.tree found.entries
+        ≡ entries_json (entries (N.object_rest members)) no_members) }
+    ensures size { IfOk result
+        (λ found. pairs_size N.tree found.entries ≤ entries_size (entries (N.object_rest members))) }
+{
+    let mut found = BTreeMap::new(alloc);
+    for (key, value) in members {
+        let name = String::from_str(alloc, key.as_str())?;
+        drop(found.insert(name, value)?);
+    }
+    Ok(found)
+}
