@@ -88,7 +88,8 @@ fn write_head<'a, K: ByteSink>(
         (encoded_bytes v encoded.entry) }
     ensures fewer { let v = written_version version in
         IfOk result
-        (λ met. IfSome met (λ list. length (bytes_left v list) < length (encoded_bytes v encoded.entry))) }
+        (λ met. IfSome met
+        (λ list. length (bytes_left v list) < length (encoded_bytes v encoded.entry))) }
 {
     match encoded {
         Encoded::Array(count, items) => {
@@ -119,7 +120,8 @@ fn write_items_to_list<'a, K: ByteSink>(
     ensures fewer { let v = written_version version in
         IfOk result
         (λ met. IfSome met
-        (λ both. length (inner_left v met) < length (short_elements v (elements items.entry.held.0)))) }
+        (λ both. length (inner_left v met)
+        < length (short_elements v (elements items.entry.held.0)))) }
 {
     let mut left = items;
     while let Some(item) = left.next() {
@@ -142,7 +144,8 @@ fn write_members_to_list<'a, K: ByteSink>(
     ensures fewer { let v = written_version version in
         IfOk result
         (λ met. IfSome met
-        (λ both. length (inner_left v met) < length (short_entries v (entries members.entry.held.0)))) }
+        (λ both. length (inner_left v met)
+        < length (short_entries v (entries members.entry.held.0)))) }
 {
     let mut left = members;
     while let Some((key, item)) = left.next() {
