@@ -6,3 +6,4 @@ pub mod StoredLaws
 pub mod WriterSteps
 pub mod RoundTrips
 pub mod Migrations
+pub mod WithinLimits

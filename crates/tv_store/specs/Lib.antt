@@ -6,4 +6,5 @@ pub mod Pairs
 pub mod PairsGiven
 pub mod RoundTrip
 pub mod Migrate
+pub mod Limits
 pub use Rattle.tv_writer.specs.Serialized
