@@ -15,8 +15,9 @@ use tv_base::{ByteSource, ReadError};
 /// the bytes that it gives. Where all of them were taken it is at its end, and the other source isn't read any more. (Not in tantivy.)
 ///
 /// ```
-/// pub fn first_number(alloc: Global, source: &mut ReadSource<File>, limit: u64) -> Result<u64, ReadError> {
-///     let mut first = LimitedSource::new(source, limit);
+/// pub fn number_within(alloc: Global, bytes: &[u8], limit: u64) -> Result<u64, ReadError> {
+///     let mut source = SliceSource::new(bytes);
+///     let mut first = LimitedSource::new(&mut source, limit);
 ///     u64::deserialize(alloc, &mut first)
 /// }
 /// ```

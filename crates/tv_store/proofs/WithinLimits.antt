@@ -7,7 +7,7 @@ use Rattle.tv_base.specs.Parts.{Begins}
 use Rattle.tv_base.specs.Source.{Failures}
 use Rattle.tv_base.specs.Stop.{Taken}
 use Rattle.tv_builder.specs.Builder.{built, state_of, heap_so_far}
-use Rattle.tv_builder.specs.State.{State, in_lists, lists_of}
+use Rattle.tv_builder.specs.State.{State, in_lists, IsState, lists_of}
 use Rattle.tv_doc.specs.Document.{document_of}
 use Rattle.tv_doc.specs.declared.document.CompactDoc.{CompactDoc}
 use Rattle.tv_builder.specs.Prefix.{Encoded}
@@ -25,6 +25,8 @@ use Rattle.tv_decoder.specs.Prefix.{parts_at, parts_read, IsPlace, IsSound, AllF
 use Rattle.tv_decoder.specs.Steps.{Advances, Stepped}
 use Rattle.tv_decoder.specs.declared.reading.Reading.{Reading}
 use Rattle.tv_decoder.proofs.BufferedPairs.{none_passed}
+use Rattle.tv_decoder.proofs.States.{is_state}
+use Rattle.tv_builder.proofs.PairBuilding.{heap_weighs}
 use Rattle.tv_decoder.proofs.WholeDocuments.{Goes, step_more, step_fails, step_takes, done_encodes}
 use Rattle.tv_store.proofs.Promises.{refused_by}
 use Rattle.tv_store.specs.Documents.{BeginsWith, NoDocument, HasNoRoom}
@@ -74,6 +76,10 @@ pub ended : (v : Version) (limits : ReadLimits) (begun r : Reading) (d : Compact
 ended v limits begun r d old new none sound done is f =
     record { taken = f.prefix; joined = f.joined; outcome = done_encodes v r d.values f.prefix sound done is (f.encoded [] (at_start v begun none)) }
 
+past_more : (most : Option ℕ) (m n : ℕ) → m ≤ n → IsPast most m → IsPast most n
+past_more None m n le h = h
+past_more (Some k) m n le h = omega arith
+
 past_none : (most : Option ℕ) → IsPast most 0 → ⊥
 past_none None h = h
 past_none (Some n) h = omega arith
@@ -81,18 +87,18 @@ past_none (Some n) h = omega arith
 none_open : (most : Option ℕ) (s : State) → s ≡ in_lists [] → IsPast most (length (lists_of s)) → ⊥
 none_open most s e past = past_none most (subst (λ z. IsPast most (length (lists_of z))) e past)
 
-deep_at : (v : Version) (most : Option ℕ) (taken : List ℕ) (a f : Option ℕ) (d : Document) (s : State) → IsPlace a d f s → Encoded Legacy v taken (parts_at a d f s) → IsPast most (length (lists_of s)) → IsDeep v most taken
-deep_at v most taken None None d s place p past = absurd (none_open most s place.1 past)
-deep_at v most taken None (Some f) d s place p past = absurd place
-deep_at v most taken (Some n) None d s place p past = absurd (none_open most s place.1 past)
-deep_at v most taken (Some n) (Some f) d s place p past = record { announced = n; finished = d; field = f; state = s; less = place.0; encoded = p; deep = past }
+deep_at : (v : Version) (most : Option ℕ) (taken : List ℕ) (a f : Option ℕ) (d : Document) (s : State) → IsState s → IsPlace a d f s → Encoded Legacy v taken (parts_at a d f s) → IsPast most (length (lists_of s)) → IsDeep v most taken
+deep_at v most taken None None d s is place p past = absurd (none_open most s place.1 past)
+deep_at v most taken None (Some f) d s is place p past = absurd place
+deep_at v most taken (Some n) None d s is place p past = absurd (none_open most s place.1 past)
+deep_at v most taken (Some n) (Some f) d s is place p past = record { announced = n; finished = d; field = f; state = s; less = place.0; is = is; encoded = p; deep = past }
 
 pub passed : (v : Version) (limits : ReadLimits) (begun r : Reading) (l : ReadLimit) (old new : List ℕ) → parts_read begun ≡ [] → IsSound r
     → Checks limits (length (heap_so_far r.builder)) (length (lists_of (state_of r.builder))) (Some l) → Begins (λ b. Advances Legacy v begun r b) old new → Comes v limits old new (Err (limited.Limit l))
 passed v limits begun r limit.Depth old new none sound check f =
-    record { taken = f.prefix; joined = f.joined; outcome = deep_at v limits.depth f.prefix r.announced r.field (built r.builder) (state_of r.builder) sound.place (f.encoded [] (at_start v begun none)) check }
+    record { taken = f.prefix; joined = f.joined; outcome = deep_at v limits.depth f.prefix r.announced r.field (built r.builder) (state_of r.builder) (is_state r.builder) sound.place (f.encoded [] (at_start v begun none)) check }
 passed v limits begun r limit.HeapBytes old new none sound check f =
-    record { taken = f.prefix; joined = f.joined; outcome = record { reading = r; sound = sound; encoded = f.encoded [] (at_start v begun none); large = check.1 } }
+    record { taken = f.prefix; joined = f.joined; outcome = record { reading = r; sound = sound; encoded = f.encoded [] (at_start v begun none); large = check.1; weighs = past_more limits.heap_bytes _ _ (heap_weighs r.builder) check.1 } }
 
 pub refused : (v : Version) (limits : ReadLimits) (begun : Reading) (e : DeserializeError) (old new : List ℕ) (count : ℕ) → parts_read begun ≡ []
     → GivesStop (corrupted UnexpectedEnd) (NoPrefix v begun) old new count (store_stop e) → Taken old new 0 count → (e ≡ errors.HeapFull → NoRoomBehind v begun old) → Comes v limits old new (Err (limited.Read e))
@@ -113,10 +119,6 @@ past_set (Some m) n h = search rules
 pub set_by_check : (limits : ReadLimits) (heap lists : ℕ) (l : ReadLimit) → Checks limits heap lists (Some l) → IsLimitedError limits (limited.Limit l)
 set_by_check limits heap lists limit.Depth h = past_set limits.depth lists h
 set_by_check limits heap lists limit.HeapBytes h = past_set limits.heap_bytes heap h.1
-
-past_more : (most : Option ℕ) (m n : ℕ) → m ≤ n → IsPast most m → IsPast most n
-past_more None m n le h = h
-past_more (Some k) m n le h = omega arith
 
 pub kept_small : (most : Option ℕ) (kept : ℕ) (whole heap : List ℕ) → heap ≡ take kept whole → ¬ IsPast most (length whole) → ¬ IsPast most (length heap)
 kept_small most kept whole heap is within past = within (past_more most (length heap) (length whole) (omega (arith, ap length is, length-take kept whole)) past)

@@ -1,15 +1,17 @@
 -- What reading a document within limits returns.
-use Rattle.std.specs.Prelude.{◌≡◌, ℕ, ◌<◌, List, ◌++◌, length, Option, Some, None, Result, Ok, Err, IsSome}
+use Rattle.std.specs.Prelude.{◌≡◌, ℕ, ◌+◌, ◌<◌, List, ◌++◌, length, Option, Some, None, Result, Ok, Err, IsSome}
 use Rattle.tv_base.specs.declared.cause.Cause.TheVariants.{UnexpectedEnd}
 use Rattle.tv_base.specs.Source.{Failures}
 use Rattle.tv_base.specs.Stop.{Stop}
 use Rattle.tv_base.specs.Stop.Stop.{Short}
 use Rattle.tv_builder.specs.Behind.{open_parts}
-use Rattle.tv_builder.specs.Builder.{heap_so_far}
+use Rattle.tv_builder.specs.Builder.{built, state_of, heap_so_far}
 use Rattle.tv_builder.specs.Prefix.{Encoded}
-use Rattle.tv_builder.specs.State.{State, lists_of}
+use Rattle.tv_builder.specs.State.{State, IsState, lists_of}
 use Rattle.tv_decoder.specs.Prefix.{parts_read, IsSound, HasNoRoom}
 use Rattle.tv_decoder.specs.declared.reading.Reading.{Reading}
+use Rattle.tv_builder.specs.Weight.{state_weight}
+use Rattle.tv_heap.specs.Weight.{document_weight}
 use Rattle.tv_doc.specs.Document.{document_of}
 use Rattle.tv_doc.specs.declared.document.CompactDoc.{CompactDoc}
 use Rattle.tv_legacy.specs.Legacy.{Legacy}
@@ -47,22 +49,24 @@ FindsWithin is_known left failures old old_count new new_count result Encodes Ha
 
 -- ---- what comes of a document
 
--- More than so many lists are open in what the bytes encode: a field, and a part of its value behind the finished pairs.
+-- More than so many lists are open in what the bytes encode: the finished pairs, a field, and what has come of its value.
 pub record IsDeep (v : Version) (most : Option ℕ) (taken : List ℕ) : Type 0 where
   pub announced : ℕ
   pub finished : Document
   pub field : ℕ
   pub state : State
   pub less : length finished < announced
+  pub is : IsState state
   pub encoded : Encoded Legacy v taken (open_parts announced finished field state)
   pub deep : IsPast most (length (lists_of state))
 
--- The heap of a reading takes more than so many bytes once these have come.
+-- The heap takes more than so many bytes once these have come, and so what has come weighs more.
 pub record IsLarge (v : Version) (most : Option ℕ) (taken : List ℕ) : Type 0 where
   pub reading : Reading
   pub sound : IsSound reading
   pub encoded : Encoded Legacy v taken (parts_read reading)
   pub large : IsPast most (length (heap_so_far reading.builder))
+  pub weighs : IsPast most (document_weight (built reading.builder) + state_weight (state_of reading.builder))
 
 -- What couldn't be read, of bytes of which so many were taken.
 pub record Unread (v : Version) (old new : List ℕ) (count : ℕ) (e : DeserializeError) : Type 0 where
