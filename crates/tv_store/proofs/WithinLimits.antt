@@ -1,6 +1,6 @@
 -- Steps within limits, one after the other.
-use Rattle.std.proofs.Common.{◌≡◌, ℕ, ◌-◌, ◌^◌, ◌<◌, ◌≤◌, Bool, List, [], length, take, Option, Some, None, Result, Ok, Err, refl, sym, ap, subst, arith, rules, append-nil, length-append}
-use Rattle.std.specs.Prelude.{IsSome, IfOk, IsErrOf}
+use Rattle.std.proofs.Common.{◌≡◌, ℕ, ◌-◌, ◌^◌, ◌<◌, ◌≤◌, Bool, List, [], ◌++◌, length, take, Option, Some, None, Result, Ok, Err, refl, sym, ap, subst, arith, rules, append-nil, length-append}
+use Rattle.std.specs.Prelude.{IsSome, IfOk, IfErr, IsErrOf}
 use Rattle.std.proofs.lemmas.List.{length-take}
 use Rattle.tv_base.specs.declared.cause.Cause.TheVariants.{UnexpectedEnd}
 use Rattle.tv_base.specs.Parts.{Begins}
@@ -18,7 +18,9 @@ use Rattle.tv_reader.specs.declared.error.DeserializeError.{DeserializeError}
 use Rattle.tv_reader.specs.declared.error.DeserializeError.TheVariants as errors
 use Rattle.tv_reader.proofs.Finding.{finds_as, finds_any, finds_fails, stop_map}
 use Rattle.tv_format.specs.InputError.{Refusal, corrupted}
+use Rattle.tv_format.specs.Encoding.{EncodesDocument}
 use Rattle.tv_format.specs.Tree.{Document}
+use Rattle.tv_heap.specs.Room.{document_room}
 use Rattle.tv_format.specs.Version.{Version}
 use Rattle.tv_decoder.specs.Buffered.{Nothing}
 use Rattle.tv_decoder.specs.Prefix.{parts_at, parts_read, IsPlace, IsSound, AllFinished, IsDone, NoPrefix, NoRoomBehind}
@@ -28,9 +30,9 @@ use Rattle.tv_decoder.proofs.BufferedPairs.{none_passed}
 use Rattle.tv_decoder.proofs.States.{is_state}
 use Rattle.tv_builder.proofs.PairBuilding.{heap_weighs}
 use Rattle.tv_decoder.proofs.WholeDocuments.{Goes, step_more, step_fails, step_takes, done_encodes}
-use Rattle.tv_store.proofs.Promises.{refused_by}
+use Rattle.tv_store.proofs.Promises.{refused_by, only_by}
 use Rattle.tv_store.specs.Documents.{BeginsWith, NoDocument, HasNoRoom}
-use Rattle.tv_store.specs.Limits.{IsPast, Checks, FindsWithin, IsDeep, IsLarge, Unread, Comes, IsLimitedError}
+use Rattle.tv_store.specs.Limits.{IsPast, Checks, FindsWithin, IsDeep, IsLarge, Unread, Comes, IsLimitedError, AnswersWithin}
 use Rattle.tv_store.specs.declared.limits.ReadLimits.{ReadLimits}
 use Rattle.tv_store.specs.declared.limits.ReadLimit.{ReadLimit}
 use Rattle.tv_store.specs.declared.limits.ReadLimit.TheVariants as limit
@@ -149,3 +151,12 @@ pub refused_in : (v : Version) (limits : ReadLimits) (old new : List ℕ) (resul
 refused_in v limits old new result few comes e r is refusal =
     let h = subst (λ z. Comes v limits old new z) is comes in
     refused_by v (Err e) old new (length h.taken) (omega (arith, few, ap length h.joined, length-append h.taken new)) h.outcome.stop e r refl refusal
+
+pub only_in : (v : Version) (limits : ReadLimits) (old new : List ℕ) (result : Result CompactDoc LimitedReadError) → length old < 2 ^ 64 - 1 → Comes v limits old new result → IfErr result (IsLimitedError limits)
+    → (d : Document) (prefix rest : List ℕ) → old ≡ prefix ++ rest → EncodesDocument Legacy v prefix d → document_room d ≤ 4294967295 → AnswersWithin result d rest new
+only_in v limits old new (Ok x) few h errors d prefix rest joined encoded small =
+    only_by v (Ok x) old new 0 (record { prefix = h.taken; joined = h.joined; encoded = h.outcome }) (λ is. absurd (cc)) tt (omega arith) d prefix rest joined encoded small
+only_in v limits old new (Err (limited.Read e)) few h errors d prefix rest joined encoded small =
+    let few_taken : length h.taken < 2 ^ 64 - 1 = omega (arith, few, ap length h.joined, length-append h.taken new) in
+    only_by v (Err e) old new (length h.taken) h.outcome.stop (λ is. h.outcome.full (cc)) errors few_taken d prefix rest joined encoded small
+only_in v limits old new (Err (limited.Limit l)) few h errors d prefix rest joined encoded small = tt

@@ -23,7 +23,7 @@ use Rattle.tv_format.specs.Encoding.{EncodesDocument}
 use Rattle.tv_format.specs.InputError.{Refusal, corrupted}
 use Rattle.tv_format.specs.Tree.{Document}
 use Rattle.tv_format.specs.Version.{Version}
-use Rattle.tv_store.specs.Documents.{NoDocument, IsReadingError}
+use Rattle.tv_store.specs.Documents.{Answers, NoDocument, IsReadingError}
 use Rattle.tv_store.specs.declared.limits.ReadLimits.{ReadLimits}
 use Rattle.tv_store.specs.declared.limits.ReadLimit.{ReadLimit}
 use Rattle.tv_store.specs.declared.limits.ReadLimit.TheVariants as limit
@@ -95,3 +95,9 @@ abbrev pub IsLimitedError : ReadLimits → LimitedReadError → Type 0
 IsLimitedError limits (limited.Read e) = IsReadingError e
 IsLimitedError limits (limited.Limit limit.HeapBytes) = IsSome limits.heap_bytes
 IsLimitedError limits (limited.Limit limit.Depth) = IsSome limits.depth
+
+-- this document is returned and this rest left, unless a limit is passed, the source failed or memory was refused
+abbrev pub AnswersWithin : Result CompactDoc LimitedReadError → Document → List ℕ → List ℕ → Type 0
+AnswersWithin (Ok found) d rest left = Answers (Ok found) d rest left
+AnswersWithin (Err (limited.Read e)) d rest left = Answers (Err e) d rest left
+AnswersWithin (Err (limited.Limit l)) d rest left = Unit {0}

@@ -1,6 +1,6 @@
 //! Reading a document within limits.
 
-ghost use Rattle.std.specs.Prelude.{◌≡◌, ◌++◌, ℕ, List, None, length, false};
+ghost use Rattle.std.specs.Prelude.{◌≡◌, ◌≤◌, ◌++◌, ℕ, List, None, length, false};
 ghost use Rattle.std.specs.Prelude.{IfOk, IfErr, IsErrOf};
 ghost use Rattle.tv_base.specs.Parts.{Begins};
 ghost use Rattle.tv_base.specs.ReadsAs.{Known};
@@ -16,8 +16,11 @@ ghost use Rattle.tv_reader.specs.declared.error.DeserializeError.{DeserializeErr
 ghost use Rattle.tv_reader.specs.Version.{version_of};
 ghost use Rattle.tv_reader.specs.declared.error.DeserializeError.TheVariants.{HeapFull};
 ghost use Rattle.tv_format.specs.InputError.{Refusal};
+ghost use Rattle.tv_format.specs.Encoding.{EncodesDocument};
+ghost use Rattle.tv_format.specs.Tree.{Document};
+ghost use Rattle.tv_heap.specs.Room.{document_room};
 ghost use Rattle.tv_store.specs.Limits.{Checks, FindsWithin, IsPast, IsDeep, IsLarge};
-ghost use Rattle.tv_store.specs.Limits.{Comes, IsLimitedError, limited_stop};
+ghost use Rattle.tv_store.specs.Limits.{AnswersWithin, Comes, IsLimitedError, limited_stop};
 ghost use Rattle.tv_store.specs.Documents.{BeginsWith, NoDocument, ShowsRefusal};
 ghost use Rattle.tv_store.specs.declared.limits.LimitedReadError.{LimitedReadError};
 ghost use Rattle.tv_store.specs.declared.limits.LimitedReadError.TheVariants.{Read, Limit};
@@ -184,6 +187,11 @@ pub fn read_document_within<S: ByteSource>(
         (λ d. BeginsWith (version_of version) (S.left source.old) (S.left source.new)
         (document_of d)) }
     ensures small { IfOk result (λ d. ¬ IsPast limits.heap_bytes (length (heap_of d))) }
+
+    // wherever a prefix encodes a document that has room, that one is returned, unless a limit is passed
+    ensures only { Known S.is_known S.left source.old → (d : Document) (prefix rest : List ℕ)
+        → S.left source.old ≡ prefix ++ rest → EncodesDocument Legacy (version_of version) prefix d
+        → document_room d ≤ 4294967295 → AnswersWithin result d rest (S.left source.new) }
 
     // what was taken passes the limit
     ensures depth { S.is_known source.old → IsErrOf result (Limit ReadLimit.Depth)

@@ -1,9 +1,12 @@
 use Rattle.tv_reader.specs.Version.{version_of}
-use Rattle.tv_store.proofs.WithinLimits.{found_in, deep_in, large_in, full_in, refused_in}
+use Rattle.tv_store.proofs.WithinLimits.{found_in, only_in, deep_in, large_in, full_in, refused_in}
 use Rattle.tv_store.proofs.limits.read_document_within.Goals as goal
 
 pub returns-clause-found : goal.returns-clause-found
 returns-clause-found g c = λ told. found_in (version_of c.args.version) c.args.limits _ _ _ (c.read_parts.ensures.comes told)
+
+pub returns-clause-only : goal.returns-clause-only
+returns-clause-only g c = λ known d prefix rest joined encoded small. only_in (version_of c.args.version) c.args.limits _ _ _ known.1 (c.read_parts.ensures.comes known.0) c.read_parts.ensures.errors d prefix rest joined encoded small
 
 pub returns-clause-depth : goal.returns-clause-depth
 returns-clause-depth g c = λ told is. deep_in (version_of c.args.version) c.args.limits _ _ _ (c.read_parts.ensures.comes told) is
