@@ -1,1 +1,2 @@
 pub mod Remaining
+pub mod Limiting

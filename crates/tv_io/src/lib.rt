@@ -4,11 +4,13 @@
 mod failures;
 pub mod fault_sink;
 pub mod fault_source;
+pub mod limited_source;
 mod planned_failure;
 pub mod read_source;
 pub mod write_sink;
 
 pub use fault_sink::FaultSink;
 pub use fault_source::FaultSource;
+pub use limited_source::LimitedSource;
 pub use read_source::ReadSource;
 pub use write_sink::WriteSink;

@@ -9,3 +9,4 @@ pub mod Migrations
 mod InPlace
 pub mod Nesting
 pub mod NestedSteps
+pub mod WithinLimits

@@ -7,4 +7,5 @@ pub mod PairsGiven
 pub mod RoundTrip
 pub mod Migrate
 pub mod Nested
+pub mod Limits
 pub use Rattle.tv_writer.specs.Serialized

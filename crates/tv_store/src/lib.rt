@@ -6,6 +6,7 @@ pub mod direct_decoder;
 mod encoded_writer;
 pub mod error;
 pub mod laws;
+pub mod limits;
 pub mod migration;
 pub mod migration_trip;
 mod pair_writer;
@@ -16,6 +17,7 @@ pub mod se;
 pub use de::{DocStoreVersion, read_document, read_document_into};
 pub use direct_decoder::{DirectDecoder, Step};
 pub use error::{DeserializeError, SerializeError, ValueType};
+pub use limits::{LimitedReadError, ReadLimit, ReadLimits, read_document_within};
 pub use migration::{MigrateError, migrate};
 pub use pairs_given::DocumentDeserialize;
 pub use se::{

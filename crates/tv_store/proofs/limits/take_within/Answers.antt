@@ -1,0 +1,44 @@
+use Rattle.std.proofs.Common.{arith, rules, ap, ◌∙◌}
+use Rattle.std.proofs.lemmas.Result.{err_from_is_err_and}
+use Rattle.tv_decoder.specs.Prefix.{NoPrefix}
+use Rattle.tv_decoder.specs.Steps.{Advances}
+use Rattle.tv_legacy.specs.Legacy.{Legacy}
+use Rattle.tv_reader.specs.Version.{version_of}
+use Rattle.tv_reader.proofs.Finding.{finds_as}
+use Rattle.tv_store.proofs.WithinLimits.{goes_on, takes_one, fails}
+use Rattle.tv_store.proofs.limits.take_within.Goals as goal
+
+pub returns-in_err-step-clause-finds : goal.returns-in_err-step-clause-finds
+returns-in_err-step-clause-finds g c =
+    let p = err_from_is_err_and c.from_residual.result c.from_residual.ensures.1 in
+    let v = version_of c.args.decoder.now.version in
+    let l = c.loop in
+    rw (p.1, p.2) (fails v (version_of l.decoder.version) (ap version_of l.invariant.version) c.args.decoder.now.reading l.decoder.reading _ c.step.new.self.legacy_seen c.step.new.self.reading (λ b x. Advances Legacy v c.args.decoder.now.reading c.step.new.self.reading b)
+    (l.decoder.sound l.invariant.live) l.invariant.more l.invariant.finds (c.in_err-step.ensures.finds l.invariant.live l.invariant.more))
+
+pub returns-then-is_some-clause-finds : goal.returns-then-is_some-clause-finds
+returns-then-is_some-clause-finds g c =
+    let v = version_of c.args.decoder.now.version in
+    let l = c.loop in
+    finds_as _ (λ b x. Advances Legacy v c.args.decoder.now.reading c.step.new.self.reading b) (NoPrefix v c.args.decoder.now.reading) (λ a s. s)
+    (goes_on v (version_of l.decoder.version) (ap version_of l.invariant.version) c.args.decoder.now.reading l.decoder.reading c.in_ok-step.step c.step.new.self.legacy_seen c.step.new.self.reading l.invariant.finds (c.in_ok-step.ensures.finds l.invariant.live l.invariant.more))
+
+pub returns-in-Done-clause-finds : goal.returns-in-Done-clause-finds
+returns-in-Done-clause-finds g c =
+    let v = version_of c.args.decoder.now.version in
+    let l = c.loop in
+    finds_as _ (λ b x. Advances Legacy v c.args.decoder.now.reading c.step.new.self.reading b) (NoPrefix v c.args.decoder.now.reading) (λ a s. s)
+    (goes_on v (version_of l.decoder.version) (ap version_of l.invariant.version) c.args.decoder.now.reading l.decoder.reading c.in_ok-step.step c.step.new.self.legacy_seen c.step.new.self.reading l.invariant.finds (c.in_ok-step.ensures.finds l.invariant.live l.invariant.more))
+
+pub loop-preserved : goal.loop-preserved
+loop-preserved g c =
+    let v = version_of c.args.decoder.now.version in
+    let l = c.loop in
+    let did = c.in_ok-step.ensures.finds l.invariant.live l.invariant.more in
+    record {
+      live = search rules;
+      more = search rules;
+      version = c.in_ok-step.ensures.version ∙ l.invariant.version;
+      finds = goes_on v (version_of l.decoder.version) (ap version_of l.invariant.version) c.args.decoder.now.reading l.decoder.reading c.in_ok-step.step c.step.new.self.legacy_seen c.step.new.self.reading l.invariant.finds did;
+      counted = λ told. omega (arith, l.invariant.counted told, takes_one v (version_of l.decoder.version) (ap version_of l.invariant.version) c.args.decoder.now.reading l.decoder.reading c.in_ok-step.step c.step.new.self.legacy_seen c.step.new.self.reading did (l.invariant.finds.stays_known told));
+    }

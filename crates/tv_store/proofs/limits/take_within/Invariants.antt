@@ -1,0 +1,19 @@
+use Rattle.std.proofs.Common.{◌≡◌, ◌+◌, ◌≤◌, Ok, false}
+use Rattle.tv_reader.specs.Finds.{Finds}
+use Rattle.tv_reader.specs.Version.{version_of}
+use Rattle.tv_decoder.specs.Buffered.{Nothing}
+use Rattle.tv_decoder.specs.Prefix.{IsDone}
+use Rattle.tv_decoder.proofs.WholeDocuments.{Goes}
+use Rattle.tv_store.proofs.limits.take_within.Given as goal
+
+-- what was taken encodes what has come since, and each part took a byte
+abbrev pub invariant-loop : goal.invariant-loop
+invariant-loop g l =
+    let source = g.S.ByteSource in
+    record {
+      live : l.decoder.failed ≡ false;
+      more : ¬ IsDone l.decoder.reading;
+      version : l.decoder.version ≡ l.initial.decoder.version;
+      finds : Finds source.is_known source.left source.failures l.initial.source l.initial.decoder.count l.source l.decoder.count (Ok l.decoder.reading) (Goes (version_of l.initial.decoder.version) l.initial.decoder.reading) Nothing;
+      counted : source.is_known l.initial.source → l.counter + l.initial.decoder.count ≤ l.decoder.count;
+    }

@@ -1,0 +1,103 @@
+-- What reading a document within limits returns.
+use Rattle.std.specs.Prelude.{◌≡◌, ℕ, ◌+◌, ◌<◌, List, ◌++◌, length, Option, Some, None, Result, Ok, Err, IsSome}
+use Rattle.tv_base.specs.declared.cause.Cause.TheVariants.{UnexpectedEnd}
+use Rattle.tv_base.specs.Source.{Failures}
+use Rattle.tv_base.specs.Stop.{Stop}
+use Rattle.tv_base.specs.Stop.Stop.{Short}
+use Rattle.tv_builder.specs.Behind.{open_parts}
+use Rattle.tv_builder.specs.Builder.{built, state_of, heap_so_far}
+use Rattle.tv_builder.specs.Prefix.{Encoded}
+use Rattle.tv_builder.specs.State.{State, IsState, lists_of}
+use Rattle.tv_decoder.specs.Prefix.{parts_read, IsSound, HasNoRoom}
+use Rattle.tv_decoder.specs.declared.reading.Reading.{Reading}
+use Rattle.tv_builder.specs.Weight.{state_weight}
+use Rattle.tv_heap.specs.Weight.{document_weight}
+use Rattle.tv_doc.specs.Document.{document_of}
+use Rattle.tv_doc.specs.declared.document.CompactDoc.{CompactDoc}
+use Rattle.tv_legacy.specs.Legacy.{Legacy}
+use Rattle.tv_reader.specs.Error.{store_stop}
+use Rattle.tv_reader.specs.Finds.{FindsBy, GivesStop}
+use Rattle.tv_reader.specs.declared.error.DeserializeError.{DeserializeError}
+use Rattle.tv_reader.specs.declared.error.DeserializeError.TheVariants as errors
+use Rattle.tv_format.specs.Encoding.{EncodesDocument}
+use Rattle.tv_format.specs.InputError.{Refusal, corrupted}
+use Rattle.tv_format.specs.Tree.{Document}
+use Rattle.tv_format.specs.Version.{Version}
+use Rattle.tv_store.specs.Documents.{Answers, NoDocument, IsReadingError}
+use Rattle.tv_store.specs.declared.limits.ReadLimits.{ReadLimits}
+use Rattle.tv_store.specs.declared.limits.ReadLimit.{ReadLimit}
+use Rattle.tv_store.specs.declared.limits.ReadLimit.TheVariants as limit
+use Rattle.tv_store.specs.declared.limits.LimitedReadError.{LimitedReadError}
+use Rattle.tv_store.specs.declared.limits.LimitedReadError.TheVariants as limited
+
+-- ---- which limit is passed
+
+abbrev pub IsPast : Option ℕ → ℕ → Type 0
+IsPast None n = ⊥
+IsPast (Some most) n = most < n
+
+-- The limit that is passed where the heap has so many bytes and so many lists are open: that of the lists before that of the heap.
+abbrev pub Checks : ReadLimits → ℕ → ℕ → Option ReadLimit → Type 0
+Checks limits heap open_lists (Some limit.Depth) = IsPast limits.depth open_lists
+Checks limits heap open_lists (Some limit.HeapBytes) = (¬ IsPast limits.depth open_lists) × IsPast limits.heap_bytes heap
+Checks limits heap open_lists None = (¬ IsPast limits.depth open_lists) × (¬ IsPast limits.heap_bytes heap)
+
+-- ---- what is found
+
+abbrev pub FindsWithin : {S X : Type 0} (is_known : S → Type 0) (left : S → List ℕ) (failures : S → Failures) (old : S) (old_count : ℕ) (new : S) (new_count : ℕ) (result : Result X DeserializeError) (Encodes : List ℕ → X → Type 0) (HasError : List ℕ → Refusal → Type 0) → Type 0
+FindsWithin is_known left failures old old_count new new_count result Encodes HasError = FindsBy store_stop (λ _ _. Unit {0}) (corrupted UnexpectedEnd) is_known left failures old old_count new new_count result Encodes HasError
+
+-- ---- what comes of a document
+
+-- More than so many lists are open in what the bytes encode: the finished pairs, a field, and what has come of its value.
+pub record IsDeep (v : Version) (most : Option ℕ) (taken : List ℕ) : Type 0 where
+  pub announced : ℕ
+  pub finished : Document
+  pub field : ℕ
+  pub state : State
+  pub less : length finished < announced
+  pub is : IsState state
+  pub encoded : Encoded Legacy v taken (open_parts announced finished field state)
+  pub deep : IsPast most (length (lists_of state))
+
+-- The heap takes more than so many bytes once these have come, and so what has come weighs more.
+pub record IsLarge (v : Version) (most : Option ℕ) (taken : List ℕ) : Type 0 where
+  pub reading : Reading
+  pub sound : IsSound reading
+  pub encoded : Encoded Legacy v taken (parts_read reading)
+  pub large : IsPast most (length (heap_so_far reading.builder))
+  pub weighs : IsPast most (document_weight (built reading.builder) + state_weight (state_of reading.builder))
+
+-- What couldn't be read, of bytes of which so many were taken.
+pub record Unread (v : Version) (old new : List ℕ) (count : ℕ) (e : DeserializeError) : Type 0 where
+  pub stop : GivesStop (corrupted UnexpectedEnd) (NoDocument v) old new count (store_stop e)
+  pub full : e ≡ errors.HeapFull → HasNoRoom v old
+
+-- by what was taken
+abbrev pub Outcome : Version → ReadLimits → List ℕ → List ℕ → List ℕ → Result CompactDoc LimitedReadError → Type 0
+Outcome v limits old new taken (Ok d) = EncodesDocument Legacy v taken (document_of d)
+Outcome v limits old new taken (Err (limited.Read e)) = Unread v old new (length taken) e
+Outcome v limits old new taken (Err (limited.Limit limit.HeapBytes)) = IsLarge v limits.heap_bytes taken
+Outcome v limits old new taken (Err (limited.Limit limit.Depth)) = IsDeep v limits.depth taken
+
+pub record Comes (v : Version) (limits : ReadLimits) (old new : List ℕ) (result : Result CompactDoc LimitedReadError) : Type 0 where
+  pub taken : List ℕ
+  pub joined : old ≡ taken ++ new
+  pub outcome : Outcome v limits old new taken result
+
+-- why it stopped, as its source sees it
+abbrev pub limited_stop : LimitedReadError → Stop Refusal
+limited_stop (limited.Read e) = store_stop e
+limited_stop (limited.Limit l) = Short
+
+-- the errors that come: those of reading, and a limit that is set
+abbrev pub IsLimitedError : ReadLimits → LimitedReadError → Type 0
+IsLimitedError limits (limited.Read e) = IsReadingError e
+IsLimitedError limits (limited.Limit limit.HeapBytes) = IsSome limits.heap_bytes
+IsLimitedError limits (limited.Limit limit.Depth) = IsSome limits.depth
+
+-- this document is returned and this rest left, unless a limit is passed, the source failed or memory was refused
+abbrev pub AnswersWithin : Result CompactDoc LimitedReadError → Document → List ℕ → List ℕ → Type 0
+AnswersWithin (Ok found) d rest left = Answers (Ok found) d rest left
+AnswersWithin (Err (limited.Read e)) d rest left = Answers (Err e) d rest left
+AnswersWithin (Err (limited.Limit l)) d rest left = Unit {0}

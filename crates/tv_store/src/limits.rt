@@ -1,0 +1,223 @@
+//! Reading a document within limits.
+
+ghost use Rattle.std.specs.Prelude.{◌≡◌, ◌≤◌, ◌++◌, ℕ, List, None, length, false};
+ghost use Rattle.std.specs.Prelude.{IfOk, IfErr, IsErrOf};
+ghost use Rattle.tv_base.specs.Parts.{Begins};
+ghost use Rattle.tv_base.specs.ReadsAs.{Known};
+ghost use Rattle.tv_base.specs.Stop.{Counts};
+ghost use Rattle.tv_builder.specs.Builder.{state_of, heap_so_far};
+ghost use Rattle.tv_builder.specs.State.{lists_of};
+ghost use Rattle.tv_doc.specs.Document.{document_of, heap_of};
+ghost use Rattle.tv_decoder.specs.Prefix.{IsDone, NoPrefix, NoRoomBehind, HasNoRoom};
+ghost use Rattle.tv_decoder.specs.Steps.{Advances};
+ghost use Rattle.tv_legacy.specs.Legacy.{Legacy};
+ghost use Rattle.tv_reader.specs.Error.{IsRefusal};
+ghost use Rattle.tv_reader.specs.declared.error.DeserializeError.{DeserializeError};
+ghost use Rattle.tv_reader.specs.Version.{version_of};
+ghost use Rattle.tv_reader.specs.declared.error.DeserializeError.TheVariants.{HeapFull};
+ghost use Rattle.tv_format.specs.InputError.{Refusal};
+ghost use Rattle.tv_format.specs.Encoding.{EncodesDocument};
+ghost use Rattle.tv_format.specs.Tree.{Document};
+ghost use Rattle.tv_heap.specs.Room.{document_room};
+ghost use Rattle.tv_store.specs.Limits.{Checks, FindsWithin, IsPast, IsDeep, IsLarge};
+ghost use Rattle.tv_store.specs.Limits.{AnswersWithin, Comes, IsLimitedError, limited_stop};
+ghost use Rattle.tv_store.specs.Documents.{BeginsWith, NoDocument, ShowsRefusal};
+ghost use Rattle.tv_store.specs.declared.limits.LimitedReadError.{LimitedReadError};
+ghost use Rattle.tv_store.specs.declared.limits.LimitedReadError.TheVariants.{Read, Limit};
+
+use crate::de::DocStoreVersion;
+use crate::direct_decoder::{DirectDecoder, Step};
+use crate::error::DeserializeError;
+use std::alloc::Global;
+use std::fmt;
+use std::fmt::{Display, Formatter, Write};
+use thiserror::Error;
+use tv_base::{ByteSource, Cause};
+use tv_doc::document::CompactDoc;
+
+/// What reading one document may take. `None` doesn't limit. (Not in tantivy.)
+#[derive(Clone, Copy, Debug, Default, PartialEq, Eq)]
+pub struct ReadLimits {
+    /// The bytes of heap that the document takes.
+    pub heap_bytes: Option<u64>,
+    /// The lists, arrays or objects, that are open at once.
+    pub depth: Option<u32>,
+}
+
+/// Which limit was passed. (Not in tantivy.)
+#[derive(Clone, Copy, Debug, PartialEq, Eq)]
+pub enum ReadLimit {
+    /// That of the bytes of heap.
+    HeapBytes,
+    /// That of the lists that are open.
+    Depth,
+}
+
+impl Display for ReadLimit {
+    fn fmt<W: Write>(&self, f: &mut Formatter<W>) -> fmt::Result {
+        f.write_str(match self {
+            ReadLimit::HeapBytes => "bytes of heap",
+            ReadLimit::Depth => "open lists",
+        })
+    }
+}
+
+/// Why a document wasn't read within limits. (Not in tantivy.)
+#[derive(Debug, PartialEq, Drop, Error)]
+pub enum LimitedReadError {
+    /// The document couldn't be read.
+    #[error("{0}")]
+    Read(DeserializeError),
+    /// It passes a limit.
+    #[error("the document passes the limit of its {0}")]
+    Limit(ReadLimit),
+}
+
+impl From<DeserializeError> for LimitedReadError {
+    ghost from_gives = { λ error told. told ≡ LimitedReadError.Read error };
+
+    fn from(error: DeserializeError) -> LimitedReadError {
+        LimitedReadError::Read(error)
+    }
+}
+
+// The limit that was passed by what has come so far, if any was: that of the open lists before that of the heap.
+fn passed_limit(decoder: &DirectDecoder, limits: ReadLimits) -> Option<ReadLimit>
+    ensures { Checks limits (length (heap_so_far decoder.now.reading.builder))
+        (length (lists_of (state_of decoder.now.reading.builder))) result }
+{
+    if let Some(depth) = limits.depth {
+        if decoder.frames() > depth as usize {
+            return Some(ReadLimit::Depth);
+        }
+    }
+    if let Some(most) = limits.heap_bytes {
+        if decoder.heap_len() as u64 > most {
+            return Some(ReadLimit::HeapBytes);
+        }
+    }
+    None
+}
+
+// Takes what is left of a document, part by part, until a limit is passed, and says which.
+fn take_within<S: ByteSource>(
+    decoder: &mut DirectDecoder,
+    source: &mut S,
+    limits: ReadLimits,
+) -> Result<Option<ReadLimit>, DeserializeError>
+    requires live { decoder.old.failed ≡ false }
+    requires more { ¬ IsDone decoder.old.reading }
+    ensures finds { FindsWithin S.is_known S.left S.failures source.old decoder.old.count source.new
+        decoder.new.count result
+        (λ b _. Advances Legacy (version_of decoder.old.version) decoder.old.reading
+        decoder.new.reading b)
+        (NoPrefix (version_of decoder.old.version) decoder.old.reading) }
+    ensures full { S.is_known source.old → IsErrOf result HeapFull
+        → NoRoomBehind (version_of decoder.old.version) decoder.old.reading (S.left source.old) }
+    ensures checked { IfOk result
+        (Checks limits (length (heap_so_far decoder.new.reading.builder))
+        (length (lists_of (state_of decoder.new.reading.builder)))) }
+    ensures done { IfOk result (λ passed. passed ≡ None → IsDone decoder.new.reading) }
+    ensures live { IfOk result (λ _. decoder.new.failed ≡ false) }
+    ensures version { decoder.new.version ≡ decoder.old.version }
+{
+    // each part takes a byte at least
+    for _ in 0..u64::MAX {
+        let step = decoder.step(source)?;
+        let passed = passed_limit(decoder, limits);
+        if passed.is_some() {
+            return Ok(passed);
+        }
+        if let Step::Done = step {
+            return Ok(None);
+        }
+    }
+    Err(DeserializeError::CorruptedValue(Cause::TooLong))
+}
+
+// Reads a document, part by part, until a limit is passed.
+fn read_parts<S: ByteSource>(
+    alloc: Global,
+    source: &mut S,
+    version: DocStoreVersion,
+    limits: ReadLimits,
+) -> Result<CompactDoc, LimitedReadError>
+    ensures comes { S.is_known source.old
+        → Comes (version_of version) limits (S.left source.old) (S.left source.new) result }
+    ensures small { IfOk result (λ d. ¬ IsPast limits.heap_bytes (length (heap_of d))) }
+    ensures errors { IfErr result (IsLimitedError limits) }
+    ensures failures { Counts limited_stop result (S.failures source.old) (S.failures source.new) }
+    ensures stays_known { S.is_known source.old → S.is_known source.new }
+{
+    let mut decoder = DirectDecoder::new(alloc, version);
+    match take_within(&mut decoder, source, limits) {
+        Ok(None) => Ok(decoder.into_doc()),
+        Ok(Some(limit)) => Err(LimitedReadError::Limit(limit)),
+        Err(error) => Err(LimitedReadError::Read(error)),
+    }
+}
+
+/// Reads a document as `read_document` does, and stops where it passes a limit. An object as stores of versions 1 and 2 may hold it, a
+/// JSON text with code 8, counts as no list, and nests at most 127 levels by itself. Without limits `read_document` is faster. What is
+/// taken of the source is limited by a source that ends, as `LimitedSource` of `tv_io`. (Not in tantivy.)
+///
+/// Errors: `Limit(Depth)` right behind the head of the list with which more than `depth` lists are open, `Limit(HeapBytes)` right behind
+/// the part with which the document's heap takes more than `heap_bytes` bytes, and the first of them where both hold; else `Read` with the
+/// error of `read_document`.
+///
+/// ```
+/// pub fn read_untrusted(alloc: Global, bytes: &[u8]) -> Result<TantivyDocument, LimitedReadError> {
+///     let limits = ReadLimits {
+///         heap_bytes: Some(1 << 20),
+///         depth: Some(32),
+///     };
+///     let mut source = SliceSource::new(bytes);
+///     read_document_within(alloc, &mut source, DocStoreVersion::V2, limits)
+/// }
+/// ```
+pub fn read_document_within<S: ByteSource>(
+    alloc: Global,
+    source: &mut S,
+    version: DocStoreVersion,
+    limits: ReadLimits,
+) -> Result<CompactDoc, LimitedReadError>
+    // a prefix of the bytes encodes what is returned, the rest is left, and the heap is within its limit
+    ensures found { S.is_known source.old
+        → IfOk result
+        (λ d. BeginsWith (version_of version) (S.left source.old) (S.left source.new)
+        (document_of d)) }
+    ensures small { IfOk result (λ d. ¬ IsPast limits.heap_bytes (length (heap_of d))) }
+
+    // wherever a prefix encodes a document that has room, that one is returned, unless a limit is passed
+    ensures only { Known S.is_known S.left source.old → (d : Document) (prefix rest : List ℕ)
+        → S.left source.old ≡ prefix ++ rest → EncodesDocument Legacy (version_of version) prefix d
+        → document_room d ≤ 4294967295 → AnswersWithin result d rest (S.left source.new) }
+
+    // what was taken passes the limit
+    ensures depth { S.is_known source.old → IsErrOf result (Limit ReadLimit.Depth)
+        → Begins (IsDeep (version_of version) limits.depth) (S.left source.old) (S.left source.new) }
+    ensures heap { S.is_known source.old → IsErrOf result (Limit ReadLimit.HeapBytes)
+        → Begins (IsLarge (version_of version) limits.heap_bytes) (S.left source.old)
+        (S.left source.new) }
+
+    // refusals of the bytes are true of them, and others don't come
+    ensures error { Known S.is_known S.left source.old → (e : DeserializeError) (r : Refusal)
+        → IsErrOf result (Read e) → IsRefusal e r
+        → NoDocument (version_of version) (S.left source.old) r }
+    ensures full { S.is_known source.old → IsErrOf result (Read HeapFull)
+        → HasNoRoom (version_of version) (S.left source.old) }
+    ensures errors { IfErr result (IsLimitedError limits) }
+
+    // just the bytes that show the error were taken, and after every error a slice of what was left
+    ensures shows { Known S.is_known S.left source.old → (e : DeserializeError) (r : Refusal)
+        → IsErrOf result (Read e) → IsRefusal e r
+        → ShowsRefusal (version_of version) (S.left source.old) (S.left source.new) r }
+    ensures taken { S.is_known source.old
+        → (prefix : List ℕ) × (S.left source.old ≡ prefix ++ S.left source.new) }
+
+    // the source failed exactly where its count of failures rose, with the kind that it returned
+    ensures failures { Counts limited_stop result (S.failures source.old) (S.failures source.new) }
+    ensures stays_known { S.is_known source.old → S.is_known source.new }
+{
+    read_parts(alloc, source, version, limits)
+}
