@@ -3,8 +3,9 @@
 ghost use Rattle.std.specs.Prelude.{◌≡◌, IfErr, IfOk};
 ghost use Rattle.tantivy_schema.specs.Belongs.{Belongs};
 ghost use Rattle.tantivy_schema.specs.Document.{document_of};
+ghost use Rattle.tantivy_schema.specs.Nesting.{AllNestWithin};
 ghost use Rattle.tantivy_schema.specs.Short.{short_document};
-ghost use Rattle.tantivy_schema.specs.StoreError.{IsIoOrMemory};
+ghost use Rattle.tantivy_schema.specs.StoreError.{IsIo, IsIoOrMemory};
 ghost use Rattle.tantivy_schema.specs.Stored.{stored};
 ghost use Rattle.tantivy_schema.specs.Version.{V2};
 ghost use Rattle.tantivy_schema.specs.WriteVersion.{written_version};
@@ -27,6 +28,7 @@ pub fn stored_pairs_are_written(
         (λ bytes. bytes.items ≡
         short_document V2 (stored schema.now (document_of document.now))) }
     ensures errors { IfErr result IsIoOrMemory }
+    ensures io { AllNestWithin 64 (document_of document.now) → IfErr result IsIo }
 {
     let mut sink = VecSink::new(alloc);
     let used = if document.fits(other) { schema } else { schema };
@@ -46,6 +48,7 @@ pub fn stored_pairs_are_written_in_versions(
         (λ bytes. bytes.items ≡
         short_document (written_version version) (stored schema.now (document_of document.now))) }
     ensures errors { IfErr result IsIoOrMemory }
+    ensures io { AllNestWithin 64 (document_of document.now) → IfErr result IsIo }
 {
     let mut sink = VecSink::new(alloc);
     let format = match version {

@@ -1,4 +1,4 @@
-//! Values of great depth, documents read in place, the laws of calls in use, a store of one's own, and calls that fail.
+//! Values of great depth, documents read in place and within limits, the laws of calls in use, a store of one's own, and calls that fail.
 
 mod deep;
 mod embedded;
@@ -6,4 +6,5 @@ mod failing_reads;
 mod failing_runs;
 mod failing_writes;
 mod laws;
+mod limits;
 mod reused;

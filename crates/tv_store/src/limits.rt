@@ -157,9 +157,10 @@ fn read_parts<S: ByteSource>(
     }
 }
 
-/// Reads a document as `read_document` does, and stops where it passes a limit. An object as stores of versions 1 and 2 may hold it, a
-/// JSON text with code 8, counts as no list, and nests at most 127 levels by itself. Without limits `read_document` is faster. What is
-/// taken of the source is limited by a source that ends, as `LimitedSource` of `tv_io`. (Not in tantivy.)
+/// Reads a document as `read_document` does, and stops where it passes a limit. The parts are those that a step of `DirectDecoder` reads,
+/// so a text with its tokens is one part, and so is an object as stores of versions 1 and 2 may hold it, a JSON text with code 8. Such an
+/// object counts as no list, and nests at most 127 levels by itself. Without limits `read_document` is faster. The bytes that are
+/// taken of the source are limited by a source that ends, as `LimitedSource` of `tv_io`. (Not in tantivy.)
 ///
 /// Errors: `Limit(Depth)` right behind the head of the list with which more than `depth` lists are open, `Limit(HeapBytes)` right behind
 /// the part with which the document's heap takes more than `heap_bytes` bytes, and the first of them where both hold; else `Read` with the

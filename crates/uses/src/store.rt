@@ -3,11 +3,12 @@
 use anyhow::{Result, anyhow};
 use std::alloc::Global;
 use std::collections::BTreeMap;
-use tantivy_schema::common::{SliceSource, VecSink};
+use tantivy_schema::common::{BinarySerializable, LimitedSource, ReadError, SliceSource, VecSink};
 use tantivy_schema::schema::document::{BinaryDocumentSerializer, StoreReader};
 use tantivy_schema::schema::{Schema, TantivyDocument};
 use tantivy_schema::store::{
-    DirectDecoder, DocStoreVersion, Step, read_document, read_document_into,
+    DirectDecoder, DocStoreVersion, LimitedReadError, ReadLimits, Step, read_document,
+    read_document_into, read_document_within,
 };
 
 /// The bytes of documents, one after the other.
@@ -48,6 +49,23 @@ pub fn values_in(alloc: Global, bytes: &[u8], count: usize) -> Result<usize> {
         values = values.saturating_add(document.len());
     }
     Ok(values)
+}
+
+/// A document of bytes that others wrote: one that nests deep or takes much memory is refused.
+pub fn read_untrusted(alloc: Global, bytes: &[u8]) -> Result<TantivyDocument, LimitedReadError> {
+    let limits = ReadLimits {
+        heap_bytes: Some(1 << 20),
+        depth: Some(32),
+    };
+    let mut source = SliceSource::new(bytes);
+    read_document_within(alloc, &mut source, DocStoreVersion::V2, limits)
+}
+
+/// A number that is encoded by the first bytes.
+pub fn number_within(alloc: Global, bytes: &[u8], limit: u64) -> Result<u64, ReadError> {
+    let mut source = SliceSource::new(bytes);
+    let mut first = LimitedSource::new(&mut source, limit);
+    u64::deserialize(alloc, &mut first)
 }
 
 /// The first document of such bytes, read in short steps: between two of them the caller may do something else.

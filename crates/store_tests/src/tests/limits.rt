@@ -1,0 +1,83 @@
+//! Documents that are read within limits.
+
+use std::alloc::Global;
+use std::test::Fail;
+use tantivy_schema::common::LimitedSource;
+use tv_base::{ByteSource, Cause, SliceSource};
+use tv_doc::document::CompactDoc;
+use tv_store::{
+    DeserializeError, DocStoreVersion, LimitedReadError, ReadLimit, ReadLimits,
+    read_document_within,
+};
+
+// One pair: an array of an array of "abc" and null, and then two bytes that belong to no document.
+const BYTES: &[u8] = b"\x81\0\0\0\0\x0c\x82\x0c\x81\0\x83abc\x0b\xff\xff";
+
+// Reads it within limits, and says how many bytes are left then.
+fn read(
+    alloc: Global,
+    heap_bytes: Option<u64>,
+    depth: Option<u32>,
+) -> (Result<CompactDoc, LimitedReadError>, usize) {
+    let mut source = SliceSource::new(BYTES);
+    let limits = ReadLimits { heap_bytes, depth };
+    let result = read_document_within(alloc, &mut source, DocStoreVersion::V2, limits);
+    (result, source.rest().len())
+}
+
+#[test]
+fn documents_are_read_within_limits(rt: HostRuntime) -> Result<(), Fail> {
+    let alloc = rt.alloc();
+    let limits = [
+        (None, None),
+        (Some(100), Some(2)),
+        (Some(100), None),
+        (None, Some(2)),
+    ];
+    for (heap_bytes, depth) in limits {
+        let (result, left) = read(alloc, heap_bytes, depth);
+        assert!(rt; result.is_ok_and(|document| document.len() == 1));
+        assert_eq!(rt; left, 2);
+    }
+    Ok(())
+}
+
+#[test]
+fn lists_past_the_limit_are_refused_behind_their_head(rt: HostRuntime) -> Result<(), Fail> {
+    let deep = Err(LimitedReadError::Limit(ReadLimit::Depth));
+    let (result, left) = read(rt.alloc(), None, Some(1));
+    assert!(rt; result.map(|document| document.len()) == deep);
+    assert_eq!(rt; left, 8);
+    let (result, left) = read(rt.alloc(), Some(0), Some(0));
+    assert!(rt; result.map(|document| document.len()) == deep);
+    assert_eq!(rt; left, 10);
+    Ok(())
+}
+
+// The text takes four bytes of the heap, with its length.
+#[test]
+fn heaps_past_the_limit_are_refused(rt: HostRuntime) -> Result<(), Fail> {
+    let large = Err(LimitedReadError::Limit(ReadLimit::HeapBytes));
+    let (result, left) = read(rt.alloc(), Some(3), None);
+    assert!(rt; result.map(|document| document.len()) == large);
+    assert_eq!(rt; left, 3);
+    Ok(())
+}
+
+#[test]
+fn a_limited_source_ends(rt: HostRuntime) -> Result<(), Fail> {
+    let mut source = SliceSource::new(BYTES);
+    let mut first = LimitedSource::new(&mut source, 8);
+    let result = read_document_within(
+        rt.alloc(),
+        &mut first,
+        DocStoreVersion::V2,
+        ReadLimits::default(),
+    );
+    let cut = DeserializeError::CorruptedValue(Cause::UnexpectedEnd);
+    assert!(rt; result.map(|document| document.len()) == Err(LimitedReadError::Read(cut)));
+    assert_eq!(rt; first.limit(), 0);
+    assert!(rt; first.next_byte() == Ok(None));
+    assert_eq!(rt; source.rest().len(), 9);
+    Ok(())
+}
