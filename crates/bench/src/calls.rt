@@ -6,7 +6,9 @@ use serde_json::Value;
 use std::alloc::Global;
 use tantivy_schema::common::{SliceSource, VecSink};
 use tantivy_schema::schema::document::{AddError, CompactDoc, Document};
-use tantivy_schema::store::{DocStoreVersion, WriteVersion, migrate, read_document};
+use tantivy_schema::store::{
+    DocStoreVersion, WriteVersion, migrate, read_document, read_document_into,
+};
 
 /// A call that is made for each document.
 #[derive(Clone, Copy)]
@@ -19,6 +21,8 @@ pub enum Call {
     Serialize,
     /// From stored bytes to a document.
     Deserialize,
+    /// From stored bytes to a document, each in the memory of the one before.
+    DeserializeInto,
     /// From a document to its JSON.
     ToJson,
     /// From values to a document.
@@ -60,11 +64,12 @@ impl Round {
 }
 
 impl Call {
-    pub const ALL: [Call; 9] = [
+    pub const ALL: [Call; 10] = [
         Call::ReadJson,
         Call::ParseJson,
         Call::Serialize,
         Call::Deserialize,
+        Call::DeserializeInto,
         Call::ToJson,
         Call::Add,
         Call::SerializeV3,
@@ -79,6 +84,7 @@ impl Call {
             Call::ParseJson => "parse_json",
             Call::Serialize => "serialize",
             Call::Deserialize => "deserialize",
+            Call::DeserializeInto => "deserialize_into",
             Call::ToJson => "to_json",
             Call::Add => "add",
             Call::SerializeV3 => "serialize_v3",
@@ -94,6 +100,7 @@ impl Call {
             Call::ParseJson => parse_each(alloc, workload),
             Call::Serialize => serialize_each(alloc, workload, WriteVersion::V2),
             Call::Deserialize => deserialize_each(alloc, &workload.stored, DocStoreVersion::V2),
+            Call::DeserializeInto => deserialize_each_into(alloc, &workload.stored),
             Call::ToJson => print_each(alloc, workload),
             Call::Add => add_each(alloc, workload),
             Call::SerializeV3 => serialize_each(alloc, workload, WriteVersion::V3),
@@ -145,6 +152,20 @@ fn deserialize_each(alloc: Global, stored: &[Vec<u8>], version: DocStoreVersion)
         let mut source = SliceSource::new(bytes.as_slice());
         match read_document(alloc, &mut source, version) {
             Ok(document) => round.made(document.node_data().len()),
+            Err(_) => round.left_out(),
+        }
+    }
+    Ok(round)
+}
+
+// All documents are read into one, one after the other: its memory is used again.
+fn deserialize_each_into(alloc: Global, stored: &[Vec<u8>]) -> Result<Round> {
+    let mut round = Round::new();
+    let mut document = CompactDoc::new(alloc);
+    for bytes in stored {
+        let mut source = SliceSource::new(bytes.as_slice());
+        match read_document_into(alloc, &mut document, &mut source, DocStoreVersion::V2) {
+            Ok(()) => round.made(document.node_data().len()),
             Err(_) => round.left_out(),
         }
     }
