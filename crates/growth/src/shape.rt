@@ -233,7 +233,7 @@ fn push_part(json: &mut String, shape: Shape, count: u32, number: u32) -> Result
     match shape {
         Shape::Fields => write!(json, "\"field{number}\":\"text\"")?,
         Shape::Rising => write!(json, "\"{number:08}\":{number}")?,
-        Shape::Falling => write!(json, "\"{:08}\":{number}", count - number)?,
+        Shape::Falling => write!(json, "\"{:08}\":{number}", count.saturating_sub(number))?,
         Shape::Equal => write!(json, "\"key\":{number}")?,
         Shape::Mixed => write!(json, "\"{:08}\":{number}", mixed(number, count))?,
         _ => write!(json, "{number}")?,
