@@ -25,6 +25,9 @@ pub use Rattle.tv_writer.specs.declared.error.SerializeError
 pub use Rattle.tv_store.specs.declared.round_trip.RoundTrip
 pub use Rattle.tv_store.specs.declared.round_trip.RoundTripError
 pub use Rattle.tv_store.specs.declared.migration.MigrateError
+pub use Rattle.tv_store.specs.declared.limits.LimitedReadError
+pub use Rattle.tv_store.specs.declared.limits.ReadLimit
+pub use Rattle.tv_store.specs.declared.limits.ReadLimits
 pub use Rattle.tv_store.specs.declared.migration_trip.MigrationTrip
 pub use Rattle.tv_format.specs.declared.version.WriteVersion
 pub use Rattle.tv_reader.specs.declared.value_type.ValueType
