@@ -10,3 +10,4 @@ pub mod Lent
 pub mod Encoded
 pub mod Wrote
 pub mod Value
+pub mod Same

@@ -7,6 +7,7 @@ pub mod len;
 mod lent;
 pub mod place;
 pub mod room;
+mod same;
 pub mod value;
 pub mod value_type;
 pub mod write;

@@ -8,8 +8,8 @@ ghost use Rattle.tv_heap.specs.TypeCode.{type_code};
 
 use crate::encoded::Encoded;
 use crate::lent::{child_at, children, encoded_at, leaf_at, sized_at, text_at};
+use crate::same::same_value;
 use crate::value_type::ValueType;
-use tv_value::same::is_same;
 use tv_value::value::{ReferenceValue, Value};
 
 /// A value of a document, which stands in the heap that it is lent from.
@@ -54,6 +54,11 @@ impl<'a> CompactDocValue<'a> {
             value_type,
             address,
         }
+    }
+
+    // Where in the heap it stands; of what has no bytes there it is some small number.
+    pub(crate) fn address(&self) -> u32 {
+        self.address
     }
 
     /// What each version of the store has for the value: its shortest encoding, out of the heap and without memory. (Not in tantivy.)
@@ -176,6 +181,6 @@ impl PartialEq for CompactDocValue<'_> {
     ghost laws = { on_per tree_of (deciding_per tree_eq-Decides) };
 
     fn eq(&self, other: &Self) -> bool {
-        is_same(self, other)
+        same_value(*self, *other)
     }
 }
