@@ -1,11 +1,12 @@
 -- Steps within limits, one after the other.
-use Rattle.std.proofs.Common.{◌≡◌, ℕ, ◌-◌, ◌^◌, ◌<◌, ◌≤◌, Bool, List, [], ◌++◌, length, take, Option, Some, None, Result, Ok, Err, refl, sym, ap, subst, arith, rules, append-nil, length-append}
-use Rattle.std.specs.Prelude.{IsSome, IfOk, IfErr, IsErrOf}
+use Rattle.std.proofs.Common.{◌≡◌, ℕ, ◌+◌, ◌-◌, ◌^◌, ◌<◌, ◌≤◌, Bool, List, [], ◌++◌, length, take, Option, Some, None, Result, Ok, Err, refl, sym, ◌∙◌, ap, subst, arith, rules, append-nil, length-append}
+use Rattle.std.specs.Prelude.{◌↔◌, IsTrue, IsSome, IfOk, IfErr, IsErrOf}
 use Rattle.std.proofs.lemmas.List.{length-take}
 use Rattle.tv_base.specs.declared.cause.Cause.TheVariants.{UnexpectedEnd}
 use Rattle.tv_base.specs.Parts.{Begins}
 use Rattle.tv_base.specs.Source.{Failures}
-use Rattle.tv_base.specs.Stop.{Taken}
+use Rattle.tv_base.specs.Stop.{Stop, CountsStop, Taken}
+use Rattle.tv_base.specs.Stop.Stop.{InputError, Failed, Short, Never}
 use Rattle.tv_builder.specs.Builder.{built, state_of, heap_so_far}
 use Rattle.tv_builder.specs.State.{State, in_lists, IsState, lists_of}
 use Rattle.tv_doc.specs.Document.{document_of}
@@ -32,7 +33,8 @@ use Rattle.tv_builder.proofs.PairBuilding.{heap_weighs}
 use Rattle.tv_decoder.proofs.WholeDocuments.{Goes, step_more, step_fails, step_takes, done_encodes}
 use Rattle.tv_store.proofs.Promises.{refused_by, only_by}
 use Rattle.tv_store.specs.Documents.{BeginsWith, NoDocument, HasNoRoom}
-use Rattle.tv_store.specs.Limits.{IsPast, Checks, FindsWithin, IsDeep, IsLarge, Unread, Comes, IsLimitedError, AnswersWithin}
+use Rattle.tv_store.specs.Limits.{IsPast, Checks, FindsWithin, IsDeep, IsLarge, IsAll, Unread, Comes, IsLimitedError, AnswersWithin}
+use Rattle.tv_store.specs.Limits.{first_count, limited_stop, IsOfBytes, Told}
 use Rattle.tv_store.specs.declared.limits.ReadLimits.{ReadLimits}
 use Rattle.tv_store.specs.declared.limits.ReadLimit.{ReadLimit}
 use Rattle.tv_store.specs.declared.limits.ReadLimit.TheVariants as limit
@@ -68,15 +70,31 @@ module _ {S : Type 0} {is_known : S → Type 0} {left : S → List ℕ} {failure
       finds_any (λ f n may. tt) (finds_fails B (NoPrefix v begun) (λ a f q. q)
       (step_fails v begun r e legacy after sound more p (finds_fails (λ b _. Stepped v legacy r after b) (NoPrefix v r) (λ a f q. subst (λ z. NoPrefix z r a f) same q) h)))
 
+-- ---- how many bytes are taken
+
+-- no more than may be taken, since no more can be counted
+no_more : (most : Option ℕ) (n count : ℕ) → count ≡ first_count most + n → count < 2 ^ 64 → ¬ IsPast most n
+no_more None n count is below past = past
+no_more (Some k) n count is below past = omega arith
+
+pub taken_within : (most : Option ℕ) (taken old new : List ℕ) (count : ℕ) → old ≡ taken ++ new → Taken old new (first_count most) count → count < 2 ^ 64 → ¬ IsPast most (length taken)
+taken_within most taken old new count joined t below =
+    let same : length taken ≡ length t.prefix = omega (arith, ap length joined, ap length t.joined, length-append taken new, length-append t.prefix new) in
+    no_more most (length taken) count (omega (arith, t.counted, same)) below
+
+all_of : (most : Option ℕ) (n : ℕ) → IsSome most → ((m : ℕ) → most ≡ Some m → first_count most + m ≡ 2 ^ 64 - 1) → first_count most + n ≡ 2 ^ 64 - 1 → most ≡ Some n
+all_of None n is sum counted = absurd (cc is)
+all_of (Some m) n is sum counted = let same : m ≡ n = omega (arith, sum m refl, counted) in ap (λ k. Some k) same
+
 -- ---- from steps to what comes of a document
 
 at_start : (v : Version) (r : Reading) → parts_read r ≡ [] → Encoded Legacy v [] (parts_read r)
 at_start v r none = subst (λ ps. Encoded Legacy v [] ps) (sym none) refl
 
-pub ended : (v : Version) (limits : ReadLimits) (begun r : Reading) (d : CompactDoc) (old new : List ℕ) → parts_read begun ≡ [] → IsSound r → IsDone r → document_of d ≡ built r.builder
-    → Begins (λ b. Advances Legacy v begun r b) old new → Comes v limits old new (Ok d)
-ended v limits begun r d old new none sound done is f =
-    record { taken = f.prefix; joined = f.joined; outcome = done_encodes v r d.values f.prefix sound done is (f.encoded [] (at_start v begun none)) }
+pub ended : (v : Version) (limits : ReadLimits) (begun r : Reading) (d : CompactDoc) (old new : List ℕ) (count : ℕ) → parts_read begun ≡ [] → IsSound r → IsDone r → document_of d ≡ built r.builder
+    → Begins (λ b. Advances Legacy v begun r b) old new → Taken old new (first_count limits.bytes) count → count < 2 ^ 64 → Comes v limits old new (Ok d)
+ended v limits begun r d old new count none sound done is f t below =
+    record { taken = f.prefix; joined = f.joined; most = taken_within limits.bytes f.prefix old new count f.joined t below; outcome = done_encodes v r d.values f.prefix sound done is (f.encoded [] (at_start v begun none)) }
 
 past_more : (most : Option ℕ) (m n : ℕ) → m ≤ n → IsPast most m → IsPast most n
 past_more None m n le h = h
@@ -95,22 +113,65 @@ deep_at v most taken None (Some f) d s is place p past = absurd place
 deep_at v most taken (Some n) None d s is place p past = absurd (none_open most s place.1 past)
 deep_at v most taken (Some n) (Some f) d s is place p past = record { announced = n; finished = d; field = f; state = s; less = place.0; is = is; encoded = p; deep = past }
 
-pub passed : (v : Version) (limits : ReadLimits) (begun r : Reading) (l : ReadLimit) (old new : List ℕ) → parts_read begun ≡ [] → IsSound r
-    → Checks limits (length (heap_so_far r.builder)) (length (lists_of (state_of r.builder))) (Some l) → Begins (λ b. Advances Legacy v begun r b) old new → Comes v limits old new (Err (limited.Limit l))
-passed v limits begun r limit.Depth old new none sound check f =
-    record { taken = f.prefix; joined = f.joined; outcome = deep_at v limits.depth f.prefix r.announced r.field (built r.builder) (state_of r.builder) (is_state r.builder) sound.place (f.encoded [] (at_start v begun none)) check }
-passed v limits begun r limit.HeapBytes old new none sound check f =
-    record { taken = f.prefix; joined = f.joined; outcome = record { reading = r; sound = sound; encoded = f.encoded [] (at_start v begun none); large = check.1; weighs = past_more limits.heap_bytes _ _ (heap_weighs r.builder) check.1 } }
+pub passed : (v : Version) (limits : ReadLimits) (begun r : Reading) (l : ReadLimit) (old new : List ℕ) (count : ℕ) → parts_read begun ≡ [] → IsSound r
+    → Checks limits (length (heap_so_far r.builder)) (length (lists_of (state_of r.builder))) (Some l) → Begins (λ b. Advances Legacy v begun r b) old new
+    → Taken old new (first_count limits.bytes) count → count < 2 ^ 64 → Comes v limits old new (Err (limited.Limit l))
+passed v limits begun r limit.Bytes old new count none sound check f t below = absurd check
+passed v limits begun r limit.Depth old new count none sound check f t below =
+    record { taken = f.prefix; joined = f.joined; most = taken_within limits.bytes f.prefix old new count f.joined t below; outcome = deep_at v limits.depth f.prefix r.announced r.field (built r.builder) (state_of r.builder) (is_state r.builder) sound.place (f.encoded [] (at_start v begun none)) check }
+passed v limits begun r limit.HeapBytes old new count none sound check f t below =
+    record { taken = f.prefix; joined = f.joined; most = taken_within limits.bytes f.prefix old new count f.joined t below; outcome = record { reading = r; sound = sound; encoded = f.encoded [] (at_start v begun none); large = check.1; weighs = past_more limits.heap_bytes _ _ (heap_weighs r.builder) check.1 } }
 
-pub refused : (v : Version) (limits : ReadLimits) (begun : Reading) (e : DeserializeError) (old new : List ℕ) (count : ℕ) → parts_read begun ≡ []
-    → GivesStop (corrupted UnexpectedEnd) (NoPrefix v begun) old new count (store_stop e) → Taken old new 0 count → (e ≡ errors.HeapFull → NoRoomBehind v begun old) → Comes v limits old new (Err (limited.Read e))
-refused v limits begun e old new count none stop t full =
-    let counted : count ≡ length t.prefix = omega (arith, t.counted) in
-    let unread : Unread v old new count e = record {
-      stop = stop_map (corrupted UnexpectedEnd) (NoPrefix v begun) (NoDocument v) (store_stop e) old new count (λ w r h. h [] (at_start v begun none)) stop;
+-- An error of the bytes is told where fewer are counted than can be, so it stands in them.
+few_counted : (most : Option ℕ) (n count : ℕ) → count ≡ first_count most + n → count < 2 ^ 64 → ¬ (IsSome most × (count ≡ 2 ^ 64 - 1)) → n < 2 ^ 64 - 1 → count < 2 ^ 64 - 1
+few_counted None n count is below told few = omega arith
+few_counted (Some m) n count is below told few =
+    let not_all : ¬ (count ≡ 2 ^ 64 - 1) = λ all. told (search rules, all) in
+    omega (arith, not_all)
+
+counted_again : (HasError : List ℕ → Refusal → Type 0) (most : Option ℕ) (old new : List ℕ) (count n : ℕ) (s : Stop Refusal) → count ≡ first_count most + n → count < 2 ^ 64 → (IsOfBytes s → ¬ (IsSome most × (count ≡ 2 ^ 64 - 1)))
+    → GivesStop (corrupted UnexpectedEnd) HasError old new count s → GivesStop (corrupted UnexpectedEnd) HasError old new n s
+counted_again HasError most old new count n (InputError r) is below told gives = λ few. gives (few_counted most n count is below (told tt) few)
+counted_again HasError most old new count n (Failed k) is below told gives = tt
+counted_again HasError most old new count n Short is below told gives = tt
+counted_again HasError most old new count n Never is below told gives = gives
+
+refused : (v : Version) (limits : ReadLimits) (begun : Reading) (e : DeserializeError) (old new : List ℕ) (count : ℕ) → parts_read begun ≡ []
+    → GivesStop (corrupted UnexpectedEnd) (NoPrefix v begun) old new count (store_stop e) → Taken old new (first_count limits.bytes) count → count < 2 ^ 64
+    → (IsOfBytes (store_stop e) → ¬ (IsSome limits.bytes × (count ≡ 2 ^ 64 - 1))) → (e ≡ errors.HeapFull → NoRoomBehind v begun old) → Comes v limits old new (Err (limited.Read e))
+refused v limits begun e old new count none stop t below told full =
+    let unread : Unread v old new (length t.prefix) e = record {
+      stop = counted_again (NoDocument v) limits.bytes old new count (length t.prefix) (store_stop e) t.counted below told (stop_map (corrupted UnexpectedEnd) (NoPrefix v begun) (NoDocument v) (store_stop e) old new count (λ w r h. h [] (at_start v begun none)) stop);
       full = λ is. full is [] (at_start v begun none);
     } in
-    record { taken = t.prefix; joined = t.joined; outcome = subst (λ n. Unread v old new n e) counted unread }
+    record { taken = t.prefix; joined = t.joined; most = taken_within limits.bytes t.prefix old new count t.joined t below; outcome = unread }
+
+took_all : (v : Version) (limits : ReadLimits) (old new : List ℕ) (count : ℕ) → Taken old new (first_count limits.bytes) count → count < 2 ^ 64 → IsSome limits.bytes → ((m : ℕ) → limits.bytes ≡ Some m → first_count limits.bytes + m ≡ 2 ^ 64 - 1)
+    → count ≡ 2 ^ 64 - 1 → Comes v limits old new (Err (limited.Limit limit.Bytes))
+took_all v limits old new count t below is sum all =
+    record { taken = t.prefix; joined = t.joined; most = taken_within limits.bytes t.prefix old new count t.joined t below; outcome = all_of limits.bytes (length t.prefix) is sum (omega (arith, t.counted, all)) }
+
+-- an error is told where not all were taken, or as the limit
+pub told_of : (v : Version) (limits : ReadLimits) (begun : Reading) (e : DeserializeError) (old new : List ℕ) (count : ℕ) (all : Bool) (said : LimitedReadError) → Told all e said → parts_read begun ≡ []
+    → GivesStop (corrupted UnexpectedEnd) (NoPrefix v begun) old new count (store_stop e) → Taken old new (first_count limits.bytes) count → count < 2 ^ 64
+    → IsTrue all ↔ (IsSome limits.bytes × (count ≡ 2 ^ 64 - 1)) → ((m : ℕ) → limits.bytes ≡ Some m → first_count limits.bytes + m ≡ 2 ^ 64 - 1)
+    → (e ≡ errors.HeapFull → NoRoomBehind v begun old) → Comes v limits old new (Err said)
+told_of v limits begun e old new count all (limited.Read f) told none stop t below same sum full =
+    subst (λ z. Comes v limits old new (Err (limited.Read z))) (sym told.0) (refused v limits begun e old new count none stop t below (λ of_bytes both. told.1 of_bytes (same.1 both)) full)
+told_of v limits begun e old new count all (limited.Limit limit.Bytes) told none stop t below same sum full =
+    let both = same.0 told.0 in took_all v limits old new count t below both.0 sum both.1
+told_of v limits begun e old new count all (limited.Limit limit.HeapBytes) told none stop t below same sum full = absurd told
+told_of v limits begun e old new count all (limited.Limit limit.Depth) told none stop t below same sum full = absurd told
+
+-- how often the source failed is not changed by what is said
+pub told_counts : (e : DeserializeError) (all : Bool) (said : LimitedReadError) (s : Stop Refusal) (old new : Failures) → store_stop e ≡ s → Told all e said → CountsStop s old new → CountsStop (limited_stop said) old new
+told_counts e all (limited.Read f) s old new is told counts = subst (λ z. CountsStop z old new) (sym is ∙ ap store_stop (sym told.0)) counts
+told_counts e all (limited.Limit limit.Bytes) (InputError r) old new is told counts = counts
+told_counts e all (limited.Limit limit.Bytes) (Failed k) old new is told counts = absurd (subst IsOfBytes is told.1)
+told_counts e all (limited.Limit limit.Bytes) Short old new is told counts = counts
+told_counts e all (limited.Limit limit.Bytes) Never old new is told counts = absurd counts
+told_counts e all (limited.Limit limit.HeapBytes) s old new is told counts = absurd told
+told_counts e all (limited.Limit limit.Depth) s old new is told counts = absurd told
 
 -- ---- which errors come, and how large the heap is
 
@@ -121,6 +182,7 @@ past_set (Some m) n h = search rules
 pub set_by_check : (limits : ReadLimits) (heap lists : ℕ) (l : ReadLimit) → Checks limits heap lists (Some l) → IsLimitedError limits (limited.Limit l)
 set_by_check limits heap lists limit.Depth h = past_set limits.depth lists h
 set_by_check limits heap lists limit.HeapBytes h = past_set limits.heap_bytes heap h.1
+set_by_check limits heap lists limit.Bytes h = absurd h
 
 pub kept_small : (most : Option ℕ) (kept : ℕ) (whole heap : List ℕ) → heap ≡ take kept whole → ¬ IsPast most (length whole) → ¬ IsPast most (length heap)
 kept_small most kept whole heap is within past = within (past_more most (length heap) (length whole) (omega (arith, ap length is, length-take kept whole)) past)
@@ -140,6 +202,12 @@ deep_in v limits old new result comes is =
 pub large_in : (v : Version) (limits : ReadLimits) (old new : List ℕ) (result : Result CompactDoc LimitedReadError) → Comes v limits old new result → IsErrOf result (limited.Limit limit.HeapBytes)
     → Begins (IsLarge v limits.heap_bytes) old new
 large_in v limits old new result comes is =
+    let h = subst (λ z. Comes v limits old new z) is comes in
+    record { prefix = h.taken; joined = h.joined; encoded = h.outcome }
+
+pub all_in : (v : Version) (limits : ReadLimits) (old new : List ℕ) (result : Result CompactDoc LimitedReadError) → Comes v limits old new result → IsErrOf result (limited.Limit limit.Bytes)
+    → Begins (IsAll limits.bytes) old new
+all_in v limits old new result comes is =
     let h = subst (λ z. Comes v limits old new z) is comes in
     record { prefix = h.taken; joined = h.joined; encoded = h.outcome }
 

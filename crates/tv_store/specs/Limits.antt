@@ -1,9 +1,9 @@
 -- What reading a document within limits returns.
-use Rattle.std.specs.Prelude.{◌≡◌, ℕ, ◌+◌, ◌<◌, List, ◌++◌, length, Option, Some, None, Result, Ok, Err, IsSome}
+use Rattle.std.specs.Prelude.{◌≡◌, ℕ, Bool, IsTrue, ◌+◌, ◌-◌, ◌^◌, ◌<◌, List, ◌++◌, length, Option, Some, None, Result, Ok, Err, IsSome}
 use Rattle.tv_base.specs.declared.cause.Cause.TheVariants.{UnexpectedEnd}
 use Rattle.tv_base.specs.Source.{Failures}
 use Rattle.tv_base.specs.Stop.{Stop}
-use Rattle.tv_base.specs.Stop.Stop.{Short}
+use Rattle.tv_base.specs.Stop.Stop.{InputError, Failed, Short, Never}
 use Rattle.tv_builder.specs.Behind.{open_parts}
 use Rattle.tv_builder.specs.Builder.{built, state_of, heap_so_far}
 use Rattle.tv_builder.specs.Prefix.{Encoded}
@@ -40,7 +40,29 @@ IsPast (Some most) n = most < n
 abbrev pub Checks : ReadLimits → ℕ → ℕ → Option ReadLimit → Type 0
 Checks limits heap open_lists (Some limit.Depth) = IsPast limits.depth open_lists
 Checks limits heap open_lists (Some limit.HeapBytes) = (¬ IsPast limits.depth open_lists) × IsPast limits.heap_bytes heap
+Checks limits heap open_lists (Some limit.Bytes) = ⊥
 Checks limits heap open_lists None = (¬ IsPast limits.depth open_lists) × (¬ IsPast limits.heap_bytes heap)
+
+-- ---- how many bytes are taken
+
+-- the count from which so many bytes can be counted, as 2 ^ 64 - 1 can be in all
+abbrev pub first_count : Option ℕ → ℕ
+first_count None = 0
+first_count (Some most) = 2 ^ 64 - 1 - most
+
+-- it is an error of the bytes
+abbrev pub IsOfBytes : Stop Refusal → Type 0
+IsOfBytes (InputError error) = Unit {0}
+IsOfBytes (Failed kind) = ⊥
+IsOfBytes Short = ⊥
+IsOfBytes Never = ⊥
+
+-- What is said of an error: where all bytes were taken that may be, that it is one of the bytes isn't said.
+abbrev pub Told : Bool → DeserializeError → LimitedReadError → Type 0
+Told took_all e (limited.Read told) = (told ≡ e) × (IsOfBytes (store_stop e) → ¬ IsTrue took_all)
+Told took_all e (limited.Limit limit.Bytes) = IsTrue took_all × IsOfBytes (store_stop e)
+Told took_all e (limited.Limit limit.HeapBytes) = ⊥
+Told took_all e (limited.Limit limit.Depth) = ⊥
 
 -- ---- what is found
 
@@ -68,6 +90,10 @@ pub record IsLarge (v : Version) (most : Option ℕ) (taken : List ℕ) : Type 0
   pub large : IsPast most (length (heap_so_far reading.builder))
   pub weighs : IsPast most (document_weight (built reading.builder) + state_weight (state_of reading.builder))
 
+-- as many bytes as may be taken
+abbrev pub IsAll : Option ℕ → List ℕ → Type 0
+IsAll most taken = most ≡ Some (length taken)
+
 -- What couldn't be read, of bytes of which so many were taken.
 pub record Unread (v : Version) (old new : List ℕ) (count : ℕ) (e : DeserializeError) : Type 0 where
   pub stop : GivesStop (corrupted UnexpectedEnd) (NoDocument v) old new count (store_stop e)
@@ -79,10 +105,12 @@ Outcome v limits old new taken (Ok d) = EncodesDocument Legacy v taken (document
 Outcome v limits old new taken (Err (limited.Read e)) = Unread v old new (length taken) e
 Outcome v limits old new taken (Err (limited.Limit limit.HeapBytes)) = IsLarge v limits.heap_bytes taken
 Outcome v limits old new taken (Err (limited.Limit limit.Depth)) = IsDeep v limits.depth taken
+Outcome v limits old new taken (Err (limited.Limit limit.Bytes)) = IsAll limits.bytes taken
 
 pub record Comes (v : Version) (limits : ReadLimits) (old new : List ℕ) (result : Result CompactDoc LimitedReadError) : Type 0 where
   pub taken : List ℕ
   pub joined : old ≡ taken ++ new
+  pub most : ¬ IsPast limits.bytes (length taken)
   pub outcome : Outcome v limits old new taken result
 
 -- why it stopped, as its source sees it
@@ -95,6 +123,7 @@ abbrev pub IsLimitedError : ReadLimits → LimitedReadError → Type 0
 IsLimitedError limits (limited.Read e) = IsReadingError e
 IsLimitedError limits (limited.Limit limit.HeapBytes) = IsSome limits.heap_bytes
 IsLimitedError limits (limited.Limit limit.Depth) = IsSome limits.depth
+IsLimitedError limits (limited.Limit limit.Bytes) = IsSome limits.bytes
 
 -- this document is returned and this rest left, unless a limit is passed, the source failed or memory was refused
 abbrev pub AnswersWithin : Result CompactDoc LimitedReadError → Document → List ℕ → List ℕ → Type 0

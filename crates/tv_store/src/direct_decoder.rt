@@ -76,11 +76,27 @@ impl DirectDecoder {
         ensures live { result.failed ≡ false }
         ensures none_seen { result.legacy_seen ≡ false }
     {
+        DirectDecoder::counting_from(alloc, version, 0)
+    }
+
+    // The same, which counts from this number on.
+    pub(crate) fn counting_from(
+        alloc: Global,
+        version: DocStoreVersion,
+        count: u64,
+    ) -> DirectDecoder
+        ensures parts { parts_read result.reading ≡ [] }
+        ensures document { built result.reading.builder ≡ [] }
+        ensures version { result.version ≡ version }
+        ensures count { result.count ≡ count }
+        ensures live { result.failed ≡ false }
+        ensures none_seen { result.legacy_seen ≡ false }
+    {
         DirectDecoder {
             alloc,
             version,
             reading: Reading::new(alloc),
-            count: 0,
+            count,
             failed: false,
             legacy_seen: false,
             bytes: Vec::new(alloc),

@@ -1,7 +1,7 @@
 //! Reading a document within limits.
 
-ghost use Rattle.std.specs.Prelude.{◌≡◌, ◌≤◌, ◌++◌, ℕ, List, None, length, false};
-ghost use Rattle.std.specs.Prelude.{IfOk, IfErr, IsErrOf};
+ghost use Rattle.std.specs.Prelude.{◌≡◌, ◌↔◌, ◌≤◌, ◌++◌, ◌+◌, ◌-◌, ◌^◌, ℕ, List, None, length, IsTrue, false};
+ghost use Rattle.std.specs.Prelude.{IfOk, IfErr, IsErrOf, IsSome, Some};
 ghost use Rattle.tv_base.specs.Parts.{Begins};
 ghost use Rattle.tv_base.specs.ReadsAs.{Known};
 ghost use Rattle.tv_base.specs.Stop.{Counts};
@@ -11,7 +11,7 @@ ghost use Rattle.tv_doc.specs.Document.{document_of, heap_of};
 ghost use Rattle.tv_decoder.specs.Prefix.{IsDone, NoPrefix, NoRoomBehind, HasNoRoom};
 ghost use Rattle.tv_decoder.specs.Steps.{Advances};
 ghost use Rattle.tv_legacy.specs.Legacy.{Legacy};
-ghost use Rattle.tv_reader.specs.Error.{IsRefusal};
+ghost use Rattle.tv_reader.specs.Error.{IsRefusal, store_stop};
 ghost use Rattle.tv_reader.specs.declared.error.DeserializeError.{DeserializeError};
 ghost use Rattle.tv_reader.specs.Version.{version_of};
 ghost use Rattle.tv_reader.specs.declared.error.DeserializeError.TheVariants.{HeapFull};
@@ -19,8 +19,9 @@ ghost use Rattle.tv_format.specs.InputError.{Refusal};
 ghost use Rattle.tv_format.specs.Encoding.{EncodesDocument};
 ghost use Rattle.tv_format.specs.Tree.{Document};
 ghost use Rattle.tv_heap.specs.Room.{document_room};
-ghost use Rattle.tv_store.specs.Limits.{Checks, FindsWithin, IsPast, IsDeep, IsLarge};
+ghost use Rattle.tv_store.specs.Limits.{Checks, FindsWithin, IsPast, IsDeep, IsLarge, IsAll};
 ghost use Rattle.tv_store.specs.Limits.{AnswersWithin, Comes, IsLimitedError, limited_stop};
+ghost use Rattle.tv_store.specs.Limits.{first_count, IsOfBytes, Told};
 ghost use Rattle.tv_store.specs.Documents.{BeginsWith, NoDocument, ShowsRefusal};
 ghost use Rattle.tv_store.specs.declared.limits.LimitedReadError.{LimitedReadError};
 ghost use Rattle.tv_store.specs.declared.limits.LimitedReadError.TheVariants.{Read, Limit};
@@ -34,10 +35,13 @@ use std::fmt::{Display, Formatter, Write};
 use thiserror::Error;
 use tv_base::{ByteSource, Cause};
 use tv_doc::document::CompactDoc;
+use tv_reader::ValueType;
 
 /// What reading one document may take. `None` doesn't limit. (Not in tantivy.)
 #[derive(Clone, Copy, Debug, Default, PartialEq, Eq)]
 pub struct ReadLimits {
+    /// The bytes that are taken of the source.
+    pub bytes: Option<u64>,
     /// The bytes of heap that the document takes.
     pub heap_bytes: Option<u64>,
     /// The lists, arrays or objects, that are open at once.
@@ -47,6 +51,8 @@ pub struct ReadLimits {
 /// Which limit was passed. (Not in tantivy.)
 #[derive(Clone, Copy, Debug, PartialEq, Eq)]
 pub enum ReadLimit {
+    /// That of the bytes that are taken.
+    Bytes,
     /// That of the bytes of heap.
     HeapBytes,
     /// That of the lists that are open.
@@ -56,6 +62,7 @@ pub enum ReadLimit {
 impl Display for ReadLimit {
     fn fmt<W: Write>(&self, f: &mut Formatter<W>) -> fmt::Result {
         f.write_str(match self {
+            ReadLimit::Bytes => "bytes",
             ReadLimit::HeapBytes => "bytes of heap",
             ReadLimit::Depth => "open lists",
         })
@@ -135,6 +142,49 @@ fn take_within<S: ByteSource>(
     Err(DeserializeError::CorruptedValue(Cause::TooLong))
 }
 
+// The count from which so many bytes can be counted, as 2^64 - 1 can be in all.
+fn first_count(most: Option<u64>) -> u64
+    ensures count { result ≡ first_count most }
+    ensures sum { (bytes : ℕ) → most ≡ Some bytes → result + bytes ≡ 2 ^ 64 - 1 }
+{
+    match most {
+        Some(bytes) => u64::MAX - bytes,
+        None => 0,
+    }
+}
+
+// Whether all bytes were taken that may be, by the count.
+fn is_all(most: Option<u64>, count: u64) -> bool
+    ensures { IsTrue result ↔ (IsSome most × (count ≡ 2 ^ 64 - 1)) }
+{
+    count == u64::MAX && most.is_some()
+}
+
+// Whether the error is one of the bytes that were taken.
+fn is_of_bytes(error: &DeserializeError) -> bool
+    ensures { IsTrue result ↔ IsOfBytes (store_stop error.now) }
+{
+    match error {
+        DeserializeError::CorruptedValue(_) => true,
+        DeserializeError::TypeMismatch {
+            expected: ValueType::String,
+            ..
+        } => true,
+        _ => false,
+    }
+}
+
+// What is said of an error, where all bytes were taken that may be taken, or not.
+fn refused(error: DeserializeError, took_all: bool) -> LimitedReadError
+    ensures { Told took_all error result }
+{
+    if took_all && is_of_bytes(&error) {
+        LimitedReadError::Limit(ReadLimit::Bytes)
+    } else {
+        LimitedReadError::Read(error)
+    }
+}
+
 // Reads a document, part by part, until a limit is passed.
 fn read_parts<S: ByteSource>(
     alloc: Global,
@@ -149,26 +199,33 @@ fn read_parts<S: ByteSource>(
     ensures failures { Counts limited_stop result (S.failures source.old) (S.failures source.new) }
     ensures stays_known { S.is_known source.old → S.is_known source.new }
 {
-    let mut decoder = DirectDecoder::new(alloc, version);
-    match take_within(&mut decoder, source, limits) {
-        Ok(None) => Ok(decoder.into_doc()),
-        Ok(Some(limit)) => Err(LimitedReadError::Limit(limit)),
-        Err(error) => Err(LimitedReadError::Read(error)),
+    let first = first_count(limits.bytes);
+    let mut decoder = DirectDecoder::counting_from(alloc, version, first);
+    let taken = take_within(&mut decoder, source, limits);
+    let count = decoder.bytes_read();
+    let passed = match taken {
+        Ok(passed) => passed,
+        Err(error) => return Err(refused(error, is_all(limits.bytes, count))),
+    };
+    match passed {
+        Some(limit) => Err(LimitedReadError::Limit(limit)),
+        None => Ok(decoder.into_doc()),
     }
 }
 
 /// Reads a document as `read_document` does, and stops where it passes a limit. The parts are those that a step of `DirectDecoder` reads,
 /// so a text with its tokens is one part, and so is an object as stores of versions 1 and 2 may hold it, a JSON text with code 8. Such an
-/// object counts as no list, and nests at most 127 levels by itself. Without limits `read_document` is faster. The bytes that are
-/// taken of the source are limited by a source that ends, as `LimitedSource` of `tv_io`. (Not in tantivy.)
+/// object counts as no list, and nests at most 127 levels by itself. Without limits `read_document` is faster. Never more than `bytes` bytes
+/// are taken of the source, also within a part. (Not in tantivy.)
 ///
-/// Errors: `Limit(Depth)` right behind the head of the list with which more than `depth` lists are open, `Limit(HeapBytes)` right behind
+/// Errors: `Limit(Bytes)` where all these were taken and the document isn't complete; `Limit(Depth)` right behind the head of the list with which more than `depth` lists are open, `Limit(HeapBytes)` right behind
 /// the part with which the document's heap takes more than `heap_bytes` bytes, and the first of them where both hold; else `Read` with the
 /// error of `read_document`.
 ///
 /// ```
 /// pub fn read_untrusted(alloc: Global, bytes: &[u8]) -> Result<TantivyDocument, LimitedReadError> {
 ///     let limits = ReadLimits {
+///         bytes: Some(1 << 20),
 ///         heap_bytes: Some(1 << 20),
 ///         depth: Some(32),
 ///     };
@@ -200,6 +257,12 @@ pub fn read_document_within<S: ByteSource>(
     ensures heap { S.is_known source.old → IsErrOf result (Limit ReadLimit.HeapBytes)
         → Begins (IsLarge (version_of version) limits.heap_bytes) (S.left source.old)
         (S.left source.new) }
+    ensures bytes { S.is_known source.old → IsErrOf result (Limit ReadLimit.Bytes)
+        → Begins (IsAll limits.bytes) (S.left source.old) (S.left source.new) }
+
+    // no more bytes are taken than may be, whatever is returned
+    ensures most { S.is_known source.old
+        → Begins (λ b. ¬ IsPast limits.bytes (length b)) (S.left source.old) (S.left source.new) }
 
     // refusals of the bytes are true of them, and others don't come
     ensures error { Known S.is_known S.left source.old → (e : DeserializeError) (r : Refusal)

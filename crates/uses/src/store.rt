@@ -51,9 +51,10 @@ pub fn values_in(alloc: Global, bytes: &[u8], count: usize) -> Result<usize> {
     Ok(values)
 }
 
-/// A document of bytes that others wrote: one that nests deep or takes much memory is refused.
+/// A document of bytes that others wrote: one that is long, nests deep or takes much memory is refused.
 pub fn read_untrusted(alloc: Global, bytes: &[u8]) -> Result<TantivyDocument, LimitedReadError> {
     let limits = ReadLimits {
+        bytes: Some(1 << 20),
         heap_bytes: Some(1 << 20),
         depth: Some(32),
     };

@@ -14,15 +14,27 @@ use tv_store::{
 const BYTES: &[u8] = b"\x81\0\0\0\0\x0c\x82\x0c\x81\0\x83abc\x0b\xff\xff";
 
 // Reads it within limits, and says how many bytes are left then.
+fn read_within(
+    alloc: Global,
+    limits: ReadLimits,
+) -> (Result<CompactDoc, LimitedReadError>, usize) {
+    let mut source = SliceSource::new(BYTES);
+    let result = read_document_within(alloc, &mut source, DocStoreVersion::V2, limits);
+    (result, source.rest().len())
+}
+
+// The same, where any number of bytes may be taken.
 fn read(
     alloc: Global,
     heap_bytes: Option<u64>,
     depth: Option<u32>,
 ) -> (Result<CompactDoc, LimitedReadError>, usize) {
-    let mut source = SliceSource::new(BYTES);
-    let limits = ReadLimits { heap_bytes, depth };
-    let result = read_document_within(alloc, &mut source, DocStoreVersion::V2, limits);
-    (result, source.rest().len())
+    let limits = ReadLimits {
+        bytes: None,
+        heap_bytes,
+        depth,
+    };
+    read_within(alloc, limits)
 }
 
 #[test]
@@ -61,6 +73,29 @@ fn heaps_past_the_limit_are_refused(rt: HostRuntime) -> Result<(), Fail> {
     let (result, left) = read(rt.alloc(), Some(3), None);
     assert!(rt; result.map(|document| document.len()) == large);
     assert_eq!(rt; left, 3);
+    Ok(())
+}
+
+// The document has 15 bytes, and bytes 11 to 13 are those of the text.
+#[test]
+fn no_more_bytes_are_taken_than_the_limit(rt: HostRuntime) -> Result<(), Fail> {
+    let long = Err(LimitedReadError::Limit(ReadLimit::Bytes));
+    for (bytes, left) in [(0, 17), (1, 16), (12, 5), (14, 3)] {
+        let limits = ReadLimits {
+            bytes: Some(bytes),
+            ..ReadLimits::default()
+        };
+        let (result, rest) = read_within(rt.alloc(), limits);
+        assert!(rt; result.map(|document| document.len()) == long);
+        assert_eq!(rt; rest, left);
+    }
+    let limits = ReadLimits {
+        bytes: Some(15),
+        ..ReadLimits::default()
+    };
+    let (result, rest) = read_within(rt.alloc(), limits);
+    assert!(rt; result.is_ok_and(|document| document.len() == 1));
+    assert_eq!(rt; rest, 2);
     Ok(())
 }
 
