@@ -184,13 +184,13 @@ pub(crate) fn put_within<'a, V: Value<'a>>(
             if has_ten_times(len, heap.len()) {
                 return Ok(place);
             }
-            if !has_tree_room(len, value) {
+            if !has_tree_room(alloc, len, value) {
                 return Err(AddError::HeapFull);
             }
             Ok(place)
         }
         Err(_) => {
-            if has_tree_room(len, value) {
+            if has_tree_room(alloc, len, value) {
                 Err(AddError::Memory)
             } else {
                 Err(AddError::HeapFull)
