@@ -23,3 +23,4 @@ pub mod Finishing
 pub mod Rooms
 pub mod Kept
 pub mod EncodedPairs
+pub mod NestedLists

@@ -18,6 +18,7 @@ use Rattle.tv_builder.specs.declared.add_error.AddError.TheVariants.{HeapFull, M
 use Rattle.tv_builder.specs.declared.list_kind.ListKind.TheVariants.{Array, Object}
 use Rattle.tv_heap.specs.declared.place.Place.{Place}
 use Rattle.tv_builder.specs.Given.{place_bytes}
+pub use Rattle.tv_builder.specs.Nested.{flat}
 use Rattle.tv_builder.specs.Shows.{Placed}
 use Rattle.tv_builder.specs.State.{pairs_of, list_tree, AreEntries}
 use Rattle.tv_builder.specs.TreeBytes.{leaf_place, tree_heap, tree_place, elements_heap, elements_places, entries_heap, entries_places}
@@ -33,7 +34,7 @@ mutual
   tree_prefix heap (array ts) = prefix_then heap (elements_heap heap ts) _ (elements_prefix heap ts) (short_sized (elements_places heap ts), refl)
   tree_prefix heap (object es) = prefix_then heap (entries_heap heap es) _ (entries_prefix heap es) (short_sized (entries_places heap es), refl)
 
-  elements_prefix : (heap : List ℕ) (ts : Elements) → IsPrefix heap (elements_heap heap ts)
+  pub elements_prefix : (heap : List ℕ) (ts : Elements) → IsPrefix heap (elements_heap heap ts)
   elements_prefix heap no_elements = prefix_same heap heap refl
   elements_prefix heap (element t ts) = prefix_then heap (tree_heap heap t) _ (tree_prefix heap t) (elements_prefix (tree_heap heap t) ts)
 
@@ -47,7 +48,7 @@ pub put_grows : (old : List ℕ) (t : Tree) (new : List ℕ) (p : Place) → Put
 put_grows old t new p w = let f = tree_prefix old t in (f.0, w.heap ∙ f.1)
 
 -- where there is no room, there is none for more
-unwritten_as : (heap longer : List ℕ) (e : AddError) → length heap ≤ length longer → WhyUnwritten heap e → WhyUnwritten longer e
+pub unwritten_as : (heap longer : List ℕ) (e : AddError) → length heap ≤ length longer → WhyUnwritten heap e → WhyUnwritten longer e
 unwritten_as heap longer HeapFull more h = omega (arith, h, more)
 unwritten_as heap longer Memory more h = tt
 
@@ -154,11 +155,6 @@ array_puts (Err x) old heap list new start places left n ts all s none e is ok k
     array_own_not old heap list new ts all x s none (subst (λ z. ListPutNot heap z new x) (own_places start places list n e is) err)
 
 -- ---- objects
-
--- keys and values in turn
-abbrev pub flat : List (List ℕ × Tree) → List Tree
-flat [] = []
-flat (e ∷ es) = leaf (text e.0) ∷ e.1 ∷ flat es
 
 pub flat_append : (es fs : List (List ℕ × Tree)) → flat (es ++ fs) ≡ flat es ++ flat fs
 flat_append [] fs = refl

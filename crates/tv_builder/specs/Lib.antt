@@ -10,6 +10,7 @@ pub mod Shows
 pub mod TreeBytes
 pub mod Moves
 pub mod Whole
+pub mod Nested
 pub mod Behind
 pub mod OneState
 pub mod Image

@@ -11,7 +11,7 @@ use crate::bytes_kind::BytesKind;
 use crate::fits::has_room;
 use crate::frame::Frame;
 use crate::list_kind::ListKind;
-use crate::whole::{put_leaf, put_list, put_tree};
+use crate::whole::{LEVELS, put_leaf, put_list, put_tree};
 use std::alloc::Global;
 use tv_heap::place::Place;
 use tv_heap::write::push_place;
@@ -130,7 +130,9 @@ impl Building {
         let Awaits::Value = self.awaits() else {
             return Err(BuildError::OutOfPlace);
         };
-        let place = put_tree(&mut self.heap, &mut self.places, lend(value))?;
+        let alloc = *self.heap.allocator();
+        let (heap, places) = (&mut self.heap, &mut self.places);
+        let place = put_tree(alloc, heap, places, lend(value), LEVELS)?;
         self.give(place)
     }
 

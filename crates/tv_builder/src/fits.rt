@@ -5,6 +5,7 @@ ghost use Rattle.tv_base.specs.Number.{vnum};
 ghost use Rattle.tv_builder.specs.Moves.{FitsRoom};
 ghost use Rattle.tv_heap.specs.Room.{room};
 
+use std::alloc::Global;
 use tv_heap::len::number_len;
 use tv_heap::room::{MAX_HEAP_LEN, room};
 use tv_value::value::Value;
@@ -43,9 +44,9 @@ pub(crate) fn has_ten_times(len: usize, with_value: usize) -> bool
 
 // Whether the room of a value is free behind a heap of this length. The value is walked.
 #[inline(never)]
-pub(crate) fn has_tree_room<'a, V: Value<'a>>(len: usize, value: &V) -> bool
+pub(crate) fn has_tree_room<'a, V: Value<'a>>(alloc: Global, len: usize, value: &V) -> bool
     requires { len ≤ 4294967295 }
     ensures { IsTrue result ↔ (len + room (V.tree value.now) ≤ 4294967295) }
 {
-    has_value_room(len, room(value))
+    has_value_room(len, room(alloc, value))
 }

@@ -13,5 +13,6 @@ pub mod heap_pair;
 pub mod heap_pairs;
 pub mod laws;
 pub mod list_kind;
+mod nested;
 pub mod pair_builder;
 mod whole;

@@ -11,6 +11,7 @@ ghost use Rattle.tv_builder.specs.Whole.{ListPut, ListPutNot};
 use crate::add_error::AddError;
 use crate::fits::{has_room, has_ten_times, has_tree_room, has_value_room};
 use crate::list_kind::ListKind;
+use crate::nested::{Rest, put_nested};
 use std::alloc::Global;
 use std::convert::AsStr;
 use tv_heap::len::leaf_len;
@@ -19,6 +20,9 @@ use tv_heap::write::{push_place, write_leaf, write_list};
 use tv_value::leaf::ReferenceValueLeaf;
 use tv_value::nested::{Nested, NestedValue, lend};
 use tv_value::value::Value;
+
+// Lists within fewer than so many others are written by recursion, and those further in by a loop, whose stack takes memory.
+pub(crate) const LEVELS: u32 = 64;
 
 // Writes a value without children, and returns its place. After an error the old heap is still a prefix of the new.
 #[inline(always)]
@@ -82,14 +86,16 @@ pub(crate) fn put_list(
 }
 
 // Writes a value behind its children, and returns its place. The places of children whose list is not yet written stand at the
-// end of `places`, which is afterwards as it was. After an error the old heap is still a prefix of the new, and what `places` holds
-// is unspecified.
+// end of `places`, which is afterwards as it was. `levels` is how deep its lists may nest for no stack in memory to be taken. After an
+// error the old heap is still a prefix of the new, and what `places` holds is unspecified.
 #[inline(always)]
 #[cycle(parts)]
 pub(crate) fn put_tree<N: Nested>(
+    alloc: Global,
     heap: &mut Vec<u8>,
     places: &mut Vec<u8>,
     value: NestedValue<'_, N>,
+    levels: u32,
 ) -> Result<Place, AddError>
     requires { length heap.old.items ≤ 4294967295 }
     ensures { let t = nested_tree N.array_rest N.object_rest value.entry in
@@ -97,8 +103,8 @@ pub(crate) fn put_tree<N: Nested>(
 {
     match value {
         NestedValue::Leaf(single) => put_leaf(heap, &single),
-        NestedValue::Array(items) => put_array::<N>(heap, places, items),
-        NestedValue::Object(members) => put_object::<N>(heap, places, members),
+        NestedValue::Array(items) => put_array::<N>(alloc, heap, places, items, levels),
+        NestedValue::Object(members) => { put_object::<N>(alloc, heap, places, members, levels) }
     }
 }
 
@@ -106,17 +112,22 @@ pub(crate) fn put_tree<N: Nested>(
 #[inline(never)]
 #[cycle(parts)]
 fn put_array<N: Nested>(
+    alloc: Global,
     heap: &mut Vec<u8>,
     places: &mut Vec<u8>,
     items: N::ArrayIter,
+    levels: u32,
 ) -> Result<Place, AddError>
     requires { length heap.old.items ≤ 4294967295 }
     ensures { let t = array (elements (N.array_rest items)) in
         Puts heap.old.items places.old.items t heap.new.items places.new.items result }
 {
+    if levels == 0 {
+        return put_nested(alloc, heap, places, Rest::<N>::Array(items));
+    }
     let first = places.len();
     for item in items {
-        let place = put_tree(heap, places, item.as_nested())?;
+        let place = put_tree(alloc, heap, places, item.as_nested(), levels - 1)?;
         push_place(places, place)?;
     }
     put_list(heap, places, ListKind::Array, first)
@@ -126,19 +137,24 @@ fn put_array<N: Nested>(
 #[inline(never)]
 #[cycle(parts)]
 fn put_object<N: Nested>(
+    alloc: Global,
     heap: &mut Vec<u8>,
     places: &mut Vec<u8>,
     members: N::ObjectIter,
+    levels: u32,
 ) -> Result<Place, AddError>
     requires { length heap.old.items ≤ 4294967295 }
     ensures { let t = object (entries (N.object_rest members)) in
         Puts heap.old.items places.old.items t heap.new.items places.new.items result }
 {
+    if levels == 0 {
+        return put_nested(alloc, heap, places, Rest::<N>::Object(members));
+    }
     let first = places.len();
     for (key, item) in members {
         let name = put_leaf(heap, &ReferenceValueLeaf::Str(key.as_str()))?;
         push_place(places, name)?;
-        let place = put_tree(heap, places, item.as_nested())?;
+        let place = put_tree(alloc, heap, places, item.as_nested(), levels - 1)?;
         push_place(places, place)?;
     }
     put_list(heap, places, ListKind::Object, first)
@@ -163,18 +179,18 @@ pub(crate) fn put_within<'a, V: Value<'a>>(
 {
     let len = heap.len();
     let mut places = Vec::new(alloc);
-    match put_tree(heap, &mut places, lend(value)) {
+    match put_tree(alloc, heap, &mut places, lend(value), LEVELS) {
         Ok(place) => {
             if has_ten_times(len, heap.len()) {
                 return Ok(place);
             }
-            if !has_tree_room(len, value) {
+            if !has_tree_room(alloc, len, value) {
                 return Err(AddError::HeapFull);
             }
             Ok(place)
         }
         Err(_) => {
-            if has_tree_room(len, value) {
+            if has_tree_room(alloc, len, value) {
                 Err(AddError::Memory)
             } else {
                 Err(AddError::HeapFull)
