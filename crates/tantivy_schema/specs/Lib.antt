@@ -126,7 +126,7 @@ pub use Rattle.tv_store.specs.PairsGiven
 pub use Rattle.tv_store.specs.RoundTrip
 pub use Rattle.tv_writer.specs.Serialized
 pub use Rattle.tv_writer.specs.Error as WriterError
-pub use Rattle.tv_writer.specs.Nesting
+pub use Rattle.tv_value.specs.Nesting
 pub use Rattle.tv_store.specs.Stored
 pub use Rattle.tv_reader.specs.Error as ReaderError
 pub use Rattle.tv_reader.specs.Finds

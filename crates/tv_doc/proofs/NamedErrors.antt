@@ -8,7 +8,7 @@ use Rattle.tv_format.specs.Tree.{Tree, Document}
 use Rattle.tv_doc.specs.AdditionError.{addition_error}
 use Rattle.tv_doc.specs.Additions.{IsEmpty}
 use Rattle.tv_doc.specs.FieldValues.{values_of}
-use Rattle.tv_doc.specs.NamedPairs.{StopsAtPair, MakesPairs, IsBackError}
+use Rattle.tv_doc.specs.NamedPairs.{StopsAtPair, MakesPairs, IsConversionError}
 use Rattle.tv_builder.specs.declared.add_error.AddError.{AddError}
 use Rattle.tv_builder.specs.declared.add_error.AddError.TheVariants.{HeapFull, Memory}
 use Rattle.tv_doc.specs.declared.doc_parsing_error.DocParsingError.{DocParsingError}
@@ -93,12 +93,12 @@ room_within ((f, t) ∷ a) d h =
 middle_room : (p : ℕ × Tree) (before behind : Document) → document_room before + room p.1 ≤ document_room (before ++ p ∷ behind)
 middle_room p before behind = omega (arith, sum_by-append (λ (pair : ℕ × Tree). room pair.1) before (p ∷ behind), room-cons p behind)
 
-refusal_back : (pairs d : Document) (start : CompactDoc) (r : AddError) → Parts pairs d → IsEmpty start → StopsAtPair pairs start r → IsBackError d (addition_error r)
+refusal_back : (pairs d : Document) (start : CompactDoc) (r : AddError) → Parts pairs d → IsEmpty start → StopsAtPair pairs start r → IsConversionError d (addition_error r)
 refusal_back pairs d start HeapFull h none s =
     let mid = s.mid in
     let within = mid.values.room in
     omega (arith, s.refused, within, ap document_room (from_empty s.before start mid none s.added), middle_room s.at s.before s.behind, ap document_room s.joined, room_within pairs d h)
 refusal_back pairs d start Memory h none s = tt
 
-pub convert_error : (pairs d : Document) (e : DocParsingError) → Parts pairs d → MakesPairs pairs (Err e) → IsBackError d e
-convert_error pairs d e h made = subst (IsBackError d) (sym made.1) (refusal_back pairs d made.2.0 made.0 h made.2.1 made.2.2)
+pub convert_error : (pairs d : Document) (e : DocParsingError) → Parts pairs d → MakesPairs pairs (Err e) → IsConversionError d e
+convert_error pairs d e h made = subst (IsConversionError d) (sym made.1) (refusal_back pairs d made.2.0 made.0 h made.2.1 made.2.2)

@@ -1,10 +1,12 @@
 -- Documents by the names of their fields.
-use Rattle.std.specs.Prelude.{◌≡◌, ℕ, List, [], ◌∷◌, map, Option, Some, None, slice_get, string_bytes}
+use Rattle.std.specs.Prelude.{◌≡◌, ℕ, List, [], ◌∷◌, map, Option, Some, None, OnSome, slice_get, string_bytes}
 use Rattle.std.specs.BTreeMap.{insert_entry}
 use Rattle.std.specs.Cmp.Lexicographic.{slice_cmp}
+use Rattle.std.specs.List.{AllByRecursion}
 use Rattle.std.specs.Ordering.{nat_cmp}
 use Rattle.serde_json.specs.Data.{object}
 use Rattle.serde_json.specs.Written.{compact_text}
+use Rattle.tv_value.specs.Nesting.{NestsWithin}
 use Rattle.tv_value.specs.Owned.{owned_tree}
 use Rattle.tv_format.specs.Tree.{Tree, Document}
 use Rattle.tv_field.specs.Entry.{Entry}
@@ -39,3 +41,7 @@ IsJsonText names d text = (named : Named) × IsNamed names d named × (text ≡ 
 
 abbrev pub named_of : NamedFieldDocument → Named
 named_of n = map (λ e. (string_bytes e.0, map owned_tree e.1.items)) n.0.entries
+
+-- each value of a field that has a name nests within a number
+abbrev pub NamedNestWithin : List (List ℕ) → ℕ → Document → Type 0
+NamedNestWithin names n d = AllByRecursion (λ pair. OnSome (slice_get names pair.0) (NestsWithin n pair.1)) d

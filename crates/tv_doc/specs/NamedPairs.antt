@@ -6,12 +6,16 @@ use Rattle.tv_format.specs.Tree.{Tree, Document}
 use Rattle.tv_doc.specs.AdditionError.{addition_error}
 use Rattle.tv_doc.specs.Additions.{AddsEach, IsEmpty, IsMade}
 use Rattle.tv_doc.specs.Document.{document_of, Refuses}
-use Rattle.tv_doc.specs.Named.{Named}
+use Rattle.tv_doc.specs.Named.{Named, NamedNestWithin, field_names}
 use Rattle.tv_heap.specs.Room.{document_room}
 use Rattle.tv_builder.specs.declared.add_error.AddError.{AddError}
 use Rattle.tv_doc.specs.declared.doc_parsing_error.DocParsingError.{DocParsingError}
 use Rattle.tv_doc.specs.declared.doc_parsing_error.DocParsingError.TheVariants as errors
 use Rattle.tv_doc.specs.declared.document.CompactDoc.{CompactDoc}
+use Rattle.tv_doc.specs.declared.named_back_error.NamedBackError.{NamedBackError}
+use Rattle.tv_doc.specs.declared.named_back_error.NamedBackError.TheVariants as back
+use Rattle.tv_value.specs.declared.copy_error.CopyError.TheVariants as copying
+use Rattle.tv_value.specs.declared.nesting.TheConstants.{MAX_DEPTH}
 
 -- a name that is no field's is skipped
 abbrev pub pairs_of_field : Option ℕ → List Tree → Document
@@ -48,8 +52,14 @@ MakesPairs pairs (Err e) = (refused : AddError) × (e ≡ addition_error refused
 
 -- The error of converting back the values by name of this document: memory was refused, or the document's values need more room than a
 -- heap has.
-abbrev pub IsBackError : Document → DocParsingError → Type 0
-IsBackError d errors.Memory = Unit {0}
-IsBackError d errors.HeapFull = 4294967295 < document_room d
-IsBackError d (errors.InvalidJson text) = ⊥
-IsBackError d (errors.ValueError name e) = ⊥
+abbrev pub IsConversionError : Document → DocParsingError → Type 0
+IsConversionError d errors.Memory = Unit {0}
+IsConversionError d errors.HeapFull = 4294967295 < document_room d
+IsConversionError d (errors.InvalidJson text) = ⊥
+IsConversionError d (errors.ValueError name e) = ⊥
+
+-- The error of both: that one, or memory was refused for the values by name, or one of them nests too deep.
+abbrev pub IsBackError : List Entry → Document → NamedBackError → Type 0
+IsBackError schema d (back.Named copying.Memory) = Unit {0}
+IsBackError schema d (back.Named copying.TooDeep) = ¬ NamedNestWithin (field_names schema) MAX_DEPTH d
+IsBackError schema d (back.Converted e) = IsConversionError d e

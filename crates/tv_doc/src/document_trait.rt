@@ -1,18 +1,20 @@
 //! Documents of any kind: pairs of a field and a value.
 
-ghost use Rattle.std.specs.Prelude.{◌≡◌, Option, IfOk, map, string_bytes};
+ghost use Rattle.std.specs.Prelude.{◌≡◌, ◌↔◌, Option, IfOk, IsErrOf, IsTrue, OnOk, map, string_bytes};
 ghost use Rattle.std.specs.Iterator.{IsFinite, YieldsFirstBy};
 ghost use Rattle.tv_value.specs.declared.field.Field.{Field};
 ghost use Rattle.tv_format.specs.Tree.{Document as Pairs};
 ghost use Rattle.tv_doc.specs.Grouped.{IsGrouped, group_seen};
-ghost use Rattle.tv_doc.specs.Named.{IsNamed, IsJsonText, named_of};
+ghost use Rattle.tv_doc.specs.Named.{IsNamed, IsJsonText, NamedNestWithin, named_of};
 ghost use Rattle.tv_doc.specs.FieldValues.{pair_seen};
 
 use crate::grouped::{grouped, sort_pairs};
 use crate::named::{FieldNames, NamedFieldDocument, by_name, owned_by_name};
 use std::alloc::{AllocError, Global};
 use tv_json::named::named_to_json;
+use tv_value::copy_error::CopyError;
 use tv_value::field::Field;
+use tv_value::nesting::{MAX_DEPTH, nests_within};
 use tv_value::value::Value;
 
 // So many pairs are gathered in memory that is taken once.
@@ -31,6 +33,23 @@ fn gathered<'a, D: Document<'a>>(
         pairs.push(pair)?;
     }
     Ok(pairs)
+}
+
+// Whether each value of a field that has a name nests within so many lists.
+fn named_nest_within<'a, D: Document<'a>, S: FieldNames>(
+    document: &'a D,
+    schema: &S,
+    depth: u32,
+) -> bool
+    ensures { IsTrue result
+        ↔ NamedNestWithin (S.names schema.now) depth (D.pairs document.now) }
+{
+    for (field, value) in document.iter_fields_and_values() {
+        if schema.name_of(field).is_some() && !nests_within(&value, depth) {
+            return false;
+        }
+    }
+    true
 }
 
 /// A document: pairs of a field and a value, in order.
@@ -71,16 +90,43 @@ pub trait Document<'a> {
     }
 
     /// Copies of the values under the names of their fields: for each field of the schema that has a value its values in order. Those
-    /// of a field that the schema doesn't have are left out. The only error is that memory was refused.
+    /// of a field that the schema doesn't have are left out. Errors: `TooDeep` exactly where one of the others nests deeper than
+    /// `MAX_DEPTH` lists, before anything is made, else `Memory` where memory was refused.
     final fn to_named_doc<S: FieldNames>(
         &'a self,
         alloc: Global,
         schema: &S,
-    ) -> Result<NamedFieldDocument, AllocError>
-        ensures { IfOk result
+    ) -> Result<NamedFieldDocument, CopyError>
+        ensures named { IfOk result
             (λ named. IsNamed (S.names schema.now) (pairs self.now) (named_of named)) }
+        ensures within { OnOk result
+            (NamedNestWithin (S.names schema.now) MAX_DEPTH (pairs self.now)) }
+        ensures deep { IsErrOf result CopyError.TooDeep
+            ↔ (¬ NamedNestWithin (S.names schema.now) MAX_DEPTH (pairs self.now)) }
     {
-        owned_by_name(alloc, schema, self.get_sorted_field_values(alloc)?)
+        self.to_named_doc_within(alloc, schema, MAX_DEPTH)
+    }
+
+    /// The same of values that nest within `depth` lists. (Not in tantivy.) Errors: `TooDeep` exactly where a value of a field that the
+    /// schema has nests deeper, before anything is made, else `Memory` where memory was refused.
+    final fn to_named_doc_within<S: FieldNames>(
+        &'a self,
+        alloc: Global,
+        schema: &S,
+        depth: u32,
+    ) -> Result<NamedFieldDocument, CopyError>
+        ensures named { IfOk result
+            (λ named. IsNamed (S.names schema.now) (pairs self.now) (named_of named)) }
+        ensures within { OnOk result (NamedNestWithin (S.names schema.now) depth (pairs self.now)) }
+        ensures deep { IsErrOf result CopyError.TooDeep
+            ↔ (¬ NamedNestWithin (S.names schema.now) depth (pairs self.now)) }
+    {
+        if !named_nest_within(self, schema, depth) {
+            return Err(CopyError::TooDeep);
+        }
+        let groups = self.get_sorted_field_values(alloc)?;
+        let named = owned_by_name(alloc, schema, groups)?;
+        Ok(named)
     }
 
     /// The document as a text of JSON, without spaces: an object of the names of the fields that have a value, in byte order, and the

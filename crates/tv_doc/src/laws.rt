@@ -23,9 +23,9 @@ ghost use Rattle.tv_heap.specs.TypeCode.{type_code};
 ghost use Rattle.tv_doc.specs.FieldValues.{values_of};
 
 use crate::builder::TreeBuilder;
-use crate::doc_parsing_error::DocParsingError;
 use crate::document::CompactDoc;
 use crate::document_trait::Document;
+use crate::named_back_error::NamedBackError;
 use std::alloc::Global;
 use tv_schema::Schema;
 use tv_schema::laws::names_are_of_one_field;
@@ -65,13 +65,14 @@ pub fn named_values_make_the_same_pairs()
 }
 
 /// What `convert_named_doc` makes of what `to_named_doc` makes of a document: each field of the schema has its values in their order, and
-/// each pair's field is one of the schema. Errors: `HeapFull` only where the document's own values need more room than 4294967295 bytes, and
-/// `Memory` where memory was refused.
+/// each pair's field is one of the schema. Errors: `Named(TooDeep)` only where a value of a field of the schema nests deeper than
+/// `MAX_DEPTH` lists, `Converted(HeapFull)` only where the document's own values need more room than 4294967295 bytes, and `Named(Memory)`
+/// and `Converted(Memory)` where memory was refused.
 pub fn named_documents_are_converted_back(
     alloc: Global,
     schema: &Schema,
     document: &CompactDoc,
-) -> Result<CompactDoc, DocParsingError>
+) -> Result<CompactDoc, NamedBackError>
     ensures kept { IfOk result
         (λ back. (field : ℕ) → field < length schema.now
         → values_of field (document_of back) ≡ values_of field (document_of document.now)) }
@@ -79,12 +80,13 @@ pub fn named_documents_are_converted_back(
     ensures all { IfOk result
         (λ back. Belongs schema.now (document_of document.now) → (field : ℕ)
         → values_of field (document_of back) ≡ values_of field (document_of document.now)) }
-    ensures errors { IfErr result (IsBackError (document_of document.now)) }
+    ensures errors { IfErr result (IsBackError schema.now (document_of document.now)) }
 {
     names_are_of_one_field();
     let _names_are_distinct = schema.num_fields();
     let named = document.to_named_doc(alloc, schema)?;
-    CompactDoc::convert_named_doc(alloc, schema, &named)
+    let back = CompactDoc::convert_named_doc(alloc, schema, &named)?;
+    Ok(back)
 }
 
 /// All of a builder's state stands in its heap: behind the finished pairs its bytes are those of the state, and the complete tree reads at its

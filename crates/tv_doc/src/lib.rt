@@ -15,4 +15,5 @@ pub mod laws;
 pub mod lent_borrowed;
 mod map_value;
 pub mod named;
+pub mod named_back_error;
 mod same;

@@ -12,6 +12,7 @@ ghost use Rattle.tv_doc.specs.FieldValues.{pair_seen};
 use std::alloc::{AllocError, Global};
 use std::collections::BTreeMap;
 use tv_schema::Schema;
+use tv_value::copy::copy_of;
 use tv_value::field::Field;
 use tv_value::owned_value::OwnedValue;
 use tv_value::value::Value;
@@ -98,7 +99,7 @@ fn owned_values<'a, V: Value<'a>>(
 {
     let mut owned = Vec::new(alloc);
     for value in values {
-        let copy = OwnedValue::from_value(alloc, &value)?;
+        let copy = copy_of(alloc, &value)?;
         owned.push(copy)?;
     }
     Ok(owned)

@@ -23,6 +23,7 @@ use std::net::IpAddr;
 use tv_base::Facet;
 use tv_date::{DateError, DateTime};
 use tv_options::Type;
+use tv_value::copy::copy_of;
 use tv_value::ip_addr::IntoIpv6Addr;
 use tv_value::json::{LentJson, has_float};
 use tv_value::leaf::ReferenceValueLeaf;
@@ -406,7 +407,7 @@ impl FieldType {
         let mut scratch = JsonScratch::new(alloc);
         let made = match self.lend_json(&json, &mut scratch) {
             Ok(LentFieldValue::Leaf(leaf)) => OwnedValue::from_leaf(alloc, leaf),
-            Ok(LentFieldValue::Object(object)) => OwnedValue::from_value(alloc, &object),
+            Ok(LentFieldValue::Object(object)) => copy_of(alloc, &object),
             Err(refusal) => return Err(refusal.with_json(alloc, json)),
         };
         made.map_err(|_| ValueParsingError::Memory)

@@ -1,12 +1,13 @@
 //! Values as JSON values.
 
-ghost use Rattle.std.specs.Prelude.{◌≡◌, IfOk, OnOk};
+ghost use Rattle.std.specs.Prelude.{◌≡◌, ◌↔◌, IfOk, IsErrOf, OnOk};
 ghost use Rattle.serde_json.specs.Data.{no_members, put};
 ghost use Rattle.serde_json.specs.View.{view as data_of, items_view, members_view};
 ghost use Rattle.tv_json.specs.JsonOf.{json_of, content_json, leaf_json, count_json, token_json};
 ghost use Rattle.tv_json.specs.JsonOf.{tokens_json, tokenized_json, elements_json, entries_json};
 ghost use Rattle.tv_value.specs.LeafParts.{content_of};
 ghost use Rattle.tv_value.specs.Lent.{leaf_of, nested_tree};
+ghost use Rattle.tv_value.specs.Nesting.{NestsWithin};
 ghost use Rattle.tv_value.specs.PreTokenized.{text_of, tokens_of, tokens_left};
 ghost use Rattle.tv_value.specs.TokenRef.{ref_of};
 ghost use Rattle.tv_value.specs.Owned.{owned_tree};
@@ -17,9 +18,11 @@ use serde_json::{Map, Value as JsonValue};
 use std::alloc::{AllocError, Global};
 use std::convert::AsStr;
 use tv_value::content::LeafContent;
+use tv_value::copy_error::CopyError;
 use tv_value::ip_addr::address_of;
 use tv_value::leaf::ReferenceValueLeaf;
 use tv_value::nested::{Lent, Nested, NestedValue};
+use tv_value::nesting::{MAX_DEPTH, nests_within};
 use tv_value::owned_value::OwnedValue;
 use tv_value::pre_tokenized::{PreTokenizedStr, TokenIter, TokenRef};
 use tv_value::value::Value;
@@ -170,29 +173,53 @@ fn member_values<N: Nested>(
     Ok(values)
 }
 
-/// The JSON value of a value: null, texts, numbers and truth values as themselves; a date as it is printed by RFC 3339, a facet as
-/// the text that names it, bytes by the standard alphabet of base64 with padding, an address of version 4 by that and another by
-/// version 6; a text with its tokens as an object of `text` and `tokens`; arrays and objects by their parts, of equal keys the last.
-/// (Not in tantivy.) The only error is that memory was refused.
-pub fn to_json_value<'a, V: Value<'a>>(alloc: Global, value: V) -> Result<JsonValue, AllocError>
-    ensures { IfOk result (λ made. data_of made ≡ json_of (V.tree value)) }
+/// The JSON value of a value that nests within `MAX_DEPTH` lists: null, texts, numbers and truth values as themselves; a date as it is
+/// printed by RFC 3339, a facet as the text that names it, bytes by the standard alphabet of base64 with padding, an address of version
+/// 4 by that and another by version 6; a text with its tokens as an object of `text` and `tokens`; arrays and objects by their parts, of
+/// equal keys the last. (Not in tantivy.) Errors: `TooDeep` exactly where the value nests deeper, before anything is made, else `Memory`
+/// where memory was refused.
+pub fn to_json_value<'a, V: Value<'a>>(alloc: Global, value: V) -> Result<JsonValue, CopyError>
+    ensures made { IfOk result (λ made. data_of made ≡ json_of (V.tree value)) }
+    ensures within { OnOk result (NestsWithin MAX_DEPTH (V.tree value)) }
+    ensures deep { IsErrOf result CopyError.TooDeep ↔ (¬ NestsWithin MAX_DEPTH (V.tree value)) }
 {
-    nested_value(alloc, &Lent::new(value))
+    to_json_value_within(alloc, value, MAX_DEPTH)
+}
+
+/// The same of a value that nests within `depth` lists. (Not in tantivy.) Errors: `TooDeep` exactly where it nests deeper, before anything
+/// is made, else `Memory` where memory was refused. It is made by a recursion, and let go by one, of as many levels as the value has.
+pub fn to_json_value_within<'a, V: Value<'a>>(
+    alloc: Global,
+    value: V,
+    depth: u32,
+) -> Result<JsonValue, CopyError>
+    ensures made { IfOk result (λ made. data_of made ≡ json_of (V.tree value)) }
+    ensures within { OnOk result (NestsWithin depth (V.tree value)) }
+    ensures deep { IsErrOf result CopyError.TooDeep ↔ (¬ NestsWithin depth (V.tree value)) }
+{
+    if !nests_within(&value, depth) {
+        return Err(CopyError::TooDeep);
+    }
+    let json = nested_value(alloc, &Lent::new(value))?;
+    Ok(json)
 }
 
 /// What has a JSON value. (Not in tantivy.)
 pub trait ToJsonValue {
     ghost tree: { Self → Tree };
 
-    /// The JSON value, see the function `to_json_value`. The only error is that memory was refused.
-    fn to_json_value(&self, alloc: Global) -> Result<JsonValue, AllocError>
-        ensures { IfOk result (λ made. data_of made ≡ json_of (tree self.now)) };
+    /// The JSON value, see the function `to_json_value`. Errors: `TooDeep` exactly where the value nests deeper than `MAX_DEPTH` lists, before
+    /// anything is made, else `Memory` where memory was refused.
+    fn to_json_value(&self, alloc: Global) -> Result<JsonValue, CopyError>
+        ensures made { IfOk result (λ made. data_of made ≡ json_of (tree self.now)) }
+        ensures within { OnOk result (NestsWithin MAX_DEPTH (tree self.now)) }
+        ensures deep { IsErrOf result CopyError.TooDeep ↔ (¬ NestsWithin MAX_DEPTH (tree self.now)) };
 }
 
 impl ToJsonValue for OwnedValue {
     ghost tree = { owned_tree };
 
-    fn to_json_value(&self, alloc: Global) -> Result<JsonValue, AllocError> {
+    fn to_json_value(&self, alloc: Global) -> Result<JsonValue, CopyError> {
         to_json_value(alloc, self)
     }
 }

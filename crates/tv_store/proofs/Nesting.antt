@@ -23,7 +23,7 @@ use Rattle.tv_heap.specs.Encoded.{encoded_bytes}
 use Rattle.tv_heap.specs.Reads.{Reads, ReadsElements, ReadsEntries}
 use Rattle.tv_heap.specs.Value.{tree_of}
 use Rattle.tv_store.specs.Nested.{HeldNestsWithin}
-use Rattle.tv_writer.specs.Nesting.{NestsWithin}
+use Rattle.tv_value.specs.Nesting.{NestsWithin}
 
 -- ---- bytes that encode children encode no others
 

@@ -10,7 +10,7 @@ use Rattle.tv_heap.specs.declared.encoded.Encoded.{Encoded}
 use Rattle.tv_heap.specs.declared.encoded.Encoded.TheVariants as held
 use Rattle.tv_store.specs.declared.encoded_writer.Open.{Open}
 use Rattle.tv_store.specs.declared.encoded_writer.Open.TheVariants as lists
-use Rattle.tv_writer.specs.Nesting.{NestsWithin}
+use Rattle.tv_value.specs.Nesting.{NestsWithin}
 
 -- the bytes of the children that are left of a list
 abbrev pub bytes_left : Version → Open → List ℕ

@@ -14,7 +14,7 @@ ghost use Rattle.tv_store.specs.Nested.{all_left, bytes_left, inner_left, met_le
 ghost use Rattle.tv_store.specs.Nested.{HeldNestsWithin, IsSingle, WritesBefore};
 ghost use Rattle.tv_writer.specs.Error as store;
 ghost use Rattle.tv_writer.specs.Error.{IsIo, IsIoOrMemory};
-ghost use Rattle.tv_writer.specs.Nesting.{NestsWithin};
+ghost use Rattle.tv_value.specs.Nesting.{NestsWithin};
 
 use crate::error::SerializeError;
 use crate::type_codes::{ARRAY_CODE, BOOL_CODE, EXT_CODE, NULL_CODE, TOK_STR_EXT_CODE};

@@ -18,7 +18,7 @@ ghost use Rattle.tv_format.specs.Version.{Version};
 ghost use Rattle.tv_format.specs.WriteVersion.{written_version};
 ghost use Rattle.tv_writer.specs.Error as store;
 ghost use Rattle.tv_writer.specs.Error.{IsIo, IsIoOrMemory};
-ghost use Rattle.tv_writer.specs.Nesting.{AllNestWithin, NestsWithin};
+ghost use Rattle.tv_value.specs.Nesting.{AllNestWithin, NestsWithin};
 
 use crate::encoded_writer::{LEVELS, write_encoded};
 use crate::error::SerializeError;

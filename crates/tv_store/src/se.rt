@@ -9,7 +9,7 @@ ghost use Rattle.tv_format.specs.Short.{short_document};
 ghost use Rattle.tv_format.specs.WriteVersion.{written_version};
 ghost use Rattle.tv_writer.specs.Error as store;
 ghost use Rattle.tv_writer.specs.Error.{IsIo, IsIoOrMemory};
-ghost use Rattle.tv_writer.specs.Nesting.{AllNestWithin, NestsWithin};
+ghost use Rattle.tv_value.specs.Nesting.{AllNestWithin, NestsWithin};
 
 use crate::error::SerializeError;
 use crate::pair_writer::write_stored_pair;

@@ -5,17 +5,15 @@ ghost use Rattle.tv_format.specs.Tree.{array, object, elements, entries};
 ghost use Rattle.tv_value.specs.Lent.{nested_tree};
 ghost use Rattle.tv_value.specs.Owned.{owned_tree};
 
-use crate::nested::{Nested, NestedValue};
+use crate::nested::{Nested, NestedValue, lend};
 use crate::owned_value::OwnedValue;
+use crate::value::Value;
 use std::alloc::{AllocError, Global};
 use std::convert::AsStr;
 
 // A copy of a value and of all below it.
 #[cycle(copies)]
-pub(crate) fn owned_of<N: Nested>(
-    alloc: Global,
-    value: NestedValue<'_, N>,
-) -> Result<OwnedValue, AllocError>
+fn owned_of<N: Nested>(alloc: Global, value: NestedValue<'_, N>) -> Result<OwnedValue, AllocError>
     ensures { IfOk result
         (λ made. owned_tree made ≡ nested_tree N.array_rest N.object_rest value.entry) }
 {
@@ -49,4 +47,12 @@ fn owned_object<N: Nested>(alloc: Global, members: N::ObjectIter) -> Result<Owne
         owned.push((name, owned_of(alloc, item.as_nested())?))?;
     }
     Ok(OwnedValue::Object(owned))
+}
+
+/// A copy of any value, however deep it nests. (Not in tantivy.) It is made by a recursion, and let go by one, of as many levels as the
+/// value has; so it is for values that are known to nest within some depth. The only error is that memory was refused.
+pub fn copy_of<'a, V: Value<'a>>(alloc: Global, value: &V) -> Result<OwnedValue, AllocError>
+    ensures { IfOk result (λ made. owned_tree made ≡ V.tree value.now) }
+{
+    owned_of(alloc, lend(value))
 }

@@ -2,7 +2,8 @@
 #![tactic(auto)]
 
 pub mod content;
-mod copy;
+pub mod copy;
+pub mod copy_error;
 pub mod encode;
 pub mod encoded_tokens;
 pub mod field;
@@ -14,6 +15,7 @@ pub mod laws;
 pub mod leaf;
 mod moved;
 pub mod nested;
+pub mod nesting;
 pub mod owned_value;
 pub mod pre_tokenized;
 pub mod same;

@@ -1,17 +1,18 @@
 //! Values that own what they hold, and how they are lent.
 
-ghost use Rattle.std.specs.Prelude.{◌≡◌, ℕ, List, map, IfOk};
+ghost use Rattle.std.specs.Prelude.{◌≡◌, ◌↔◌, ℕ, List, map, IfOk, IsErrOf, OnOk};
 ghost use Rattle.std.specs.Iterator.{YieldsFirstRef, YieldsFirstBy, item_count};
 
-use crate::copy::owned_of;
+use crate::copy::copy_of;
+use crate::copy_error::CopyError;
 use crate::date_time::DateTime;
 use crate::json::has_float;
 use crate::json_error::JsonError;
 use crate::leaf::ReferenceValueLeaf;
 use crate::moved::moved;
-use crate::nested::lend;
+use crate::nesting::{MAX_DEPTH, nests_within};
 use crate::pre_tokenized::PreTokenizedStr;
-use crate::same::is_same;
+use crate::same::same_values;
 use crate::tokenizer::PreTokenizedString;
 use crate::value::{ReferenceValue, Value};
 use serde_json::Value as JsonValue;
@@ -159,13 +160,36 @@ impl OwnedValue {
     ghost use Rattle.tv_format.specs.Tree.{leaf};
     ghost use Rattle.tv_value.specs.JsonTree.{AnswersJson};
     ghost use Rattle.tv_value.specs.Lent.{leaf_of};
+    ghost use Rattle.tv_value.specs.Nesting.{NestsWithin};
     ghost use Rattle.tv_value.specs.Owned.{owned_tree};
 
-    /// A copy of any value. The only error is that memory was refused.
-    pub fn from_value<'a, V: Value<'a>>(alloc: Global, value: &V) -> Result<OwnedValue, AllocError>
-        ensures { IfOk result (λ made. owned_tree made ≡ V.tree value.now) }
+    /// A copy of a value that nests within `MAX_DEPTH` lists. Errors: `TooDeep` exactly where it nests deeper, before anything is made, else
+    /// `Memory` where memory was refused.
+    pub fn from_value<'a, V: Value<'a>>(alloc: Global, value: &V) -> Result<OwnedValue, CopyError>
+        ensures made { IfOk result (λ made. owned_tree made ≡ V.tree value.now) }
+        ensures within { OnOk result (NestsWithin MAX_DEPTH (V.tree value.now)) }
+        ensures deep { IsErrOf result CopyError.TooDeep
+            ↔ (¬ NestsWithin MAX_DEPTH (V.tree value.now)) }
     {
-        owned_of(alloc, lend(value))
+        OwnedValue::from_value_within(alloc, value, MAX_DEPTH)
+    }
+
+    /// A copy of a value that nests within `depth` lists. (Not in tantivy.) Errors: `TooDeep` exactly where it nests deeper, before anything
+    /// is made, else `Memory` where memory was refused. A copy is made by a recursion, and let go by one, of as many levels as it has.
+    pub fn from_value_within<'a, V: Value<'a>>(
+        alloc: Global,
+        value: &V,
+        depth: u32,
+    ) -> Result<OwnedValue, CopyError>
+        ensures made { IfOk result (λ made. owned_tree made ≡ V.tree value.now) }
+        ensures within { OnOk result (NestsWithin depth (V.tree value.now)) }
+        ensures deep { IsErrOf result CopyError.TooDeep ↔ (¬ NestsWithin depth (V.tree value.now)) }
+    {
+        if !nests_within(value, depth) {
+            return Err(CopyError::TooDeep);
+        }
+        let copy = copy_of(alloc, value)?;
+        Ok(copy)
     }
 
     /// A copy of a value without children. (Not in tantivy.) The only error is that memory was refused.
@@ -203,15 +227,21 @@ impl OwnedValue {
         Ok(owned)
     }
 
-    /// A copy. The only error is that memory was refused.
-    pub fn try_clone(&self, alloc: Global) -> Result<OwnedValue, AllocError>
-        ensures { IfOk result (λ copy. owned_tree copy ≡ owned_tree self.now) }
+    /// A copy of a value that nests within `MAX_DEPTH` lists. Errors: `TooDeep` exactly where it nests deeper, before anything is made, else
+    /// `Memory` where memory was refused.
+    pub fn try_clone(&self, alloc: Global) -> Result<OwnedValue, CopyError>
+        ensures made { IfOk result (λ copy. owned_tree copy ≡ owned_tree self.now) }
+        ensures within { OnOk result (NestsWithin MAX_DEPTH (owned_tree self.now)) }
+        ensures deep { IsErrOf result CopyError.TooDeep
+            ↔ (¬ NestsWithin MAX_DEPTH (owned_tree self.now)) }
     {
         OwnedValue::from_value(alloc, &self)
     }
 }
 
-/// Two values are equal exactly where they are of one kind and hold the same, children in the same order. No memory is taken.
+/// Two values are equal exactly where they are of one kind and hold the same, children in the same order. No memory is taken. They are
+/// compared by a recursion of as many levels as both have; a value that this library makes nests within 128 lists, unless a caller asks
+/// for more.
 impl PartialEq for OwnedValue {
     ghost use Rattle.std.specs.Cmp.{on_per};
     ghost use Rattle.tv_value.specs.Owned.{owned_tree};
@@ -224,6 +254,6 @@ impl PartialEq for OwnedValue {
     ghost laws = { on_per owned_tree (deciding_per tree_eq-Decides) };
 
     fn eq(&self, other: &OwnedValue) -> bool {
-        is_same(&self, &other)
+        same_values(&self, &other)
     }
 }

@@ -1,14 +1,16 @@
 //! Whether two values are one, in place and without memory.
 
-ghost use Rattle.std.specs.Prelude.{◌≡◌};
+ghost use Rattle.std.specs.Prelude.{◌≡◌, ◌↔◌, IfOk, IsErr, OnOk};
 ghost use Rattle.tv_format.specs.Tree.{elements, entries};
 ghost use Rattle.tv_value.specs.LeafParts.{content_of};
 ghost use Rattle.tv_value.specs.Lent.{leaf_of, nested_tree};
+ghost use Rattle.tv_value.specs.Nesting.{NestsWithin};
 ghost use Rattle.tv_value.specs.Same.{content_eq, leaf_eq, tree_eq, elements_eq, entries_eq};
 
 use crate::content::LeafContent;
 use crate::leaf::ReferenceValueLeaf;
 use crate::nested::{Nested, NestedValue, lend};
+use crate::nesting::{MAX_DEPTH, TooDeep, nests_within};
 use crate::value::Value;
 use std::convert::AsStr;
 
@@ -29,8 +31,8 @@ fn same_content(one: LeafContent<'_>, other: LeafContent<'_>) -> bool
     }
 }
 
-// Whether two leaves are one: of one type, with the same content. It takes no memory.
-pub(crate) fn same_leaf(one: ReferenceValueLeaf<'_>, other: ReferenceValueLeaf<'_>) -> bool
+/// Whether two leaves are one: of one type, with the same content. It takes no memory. (Not in tantivy.)
+pub fn same_leaf(one: ReferenceValueLeaf<'_>, other: ReferenceValueLeaf<'_>) -> bool
     ensures { result ≡ leaf_eq (leaf_of one.entry) (leaf_of other.entry) }
 {
     one.leaf_type().store_code() == other.leaf_type().store_code()
@@ -94,10 +96,24 @@ fn same_members<M: Nested, N: Nested>(members: M::ObjectIter, others: N::ObjectI
     others.next().is_none()
 }
 
-/// Whether two values are one: of one kind, with the same content, children in the same order and keys among them. It takes no
-/// memory. (Not in tantivy.)
-pub fn is_same<'a, V: Value<'a>, W: Value<'a>>(one: &V, other: &W) -> bool
+// Whether two values are one, by a recursion of as many levels as both have.
+pub(crate) fn same_values<'a, V: Value<'a>, W: Value<'a>>(one: &V, other: &W) -> bool
     ensures { result ≡ tree_eq (V.tree one.now) (W.tree other.now) }
 {
     same_nested(lend(one), lend(other))
+}
+
+/// Whether two values are one: of one kind, with the same content, children in the same order and keys among them. It takes no
+/// memory. (Not in tantivy.) The only error is that one of them nests deeper than `MAX_DEPTH` lists; then nothing is compared.
+pub fn is_same<'a, V: Value<'a>, W: Value<'a>>(one: &V, other: &W) -> Result<bool, TooDeep>
+    ensures same { IfOk result (λ same. same ≡ tree_eq (V.tree one.now) (W.tree other.now)) }
+    ensures within { OnOk result
+        (NestsWithin MAX_DEPTH (V.tree one.now) × NestsWithin MAX_DEPTH (W.tree other.now)) }
+    ensures deep { IsErr result
+        ↔ (¬ (NestsWithin MAX_DEPTH (V.tree one.now) × NestsWithin MAX_DEPTH (W.tree other.now))) }
+{
+    if !nests_within(one, MAX_DEPTH) || !nests_within(other, MAX_DEPTH) {
+        return Err(TooDeep);
+    }
+    Ok(same_values(one, other))
 }

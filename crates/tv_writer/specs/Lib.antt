@@ -1,4 +1,3 @@
 pub mod Error
 pub mod Serialized
 pub mod Children
-pub mod Nesting

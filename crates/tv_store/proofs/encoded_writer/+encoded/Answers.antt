@@ -7,7 +7,7 @@ use Rattle.tv_format.specs.Short.{short_elements, short_entries}
 use Rattle.tv_format.specs.Tree.{elements, entries}
 use Rattle.tv_format.specs.WriteVersion.{written_version}
 use Rattle.tv_writer.proofs.WriterSteps.{entries_parts}
-use Rattle.tv_writer.specs.Nesting.{ElementsNestWithin, EntriesNestWithin}
+use Rattle.tv_value.specs.Nesting.{ElementsNestWithin, EntriesNestWithin}
 use Rattle.tv_store.proofs.Nesting.{held_within}
 use Rattle.tv_store.proofs.Stores.{writes_for}
 use Rattle.tv_store.proofs.WriterSteps.{others_fewer, entries_fewer, elements_next}

@@ -4,7 +4,7 @@ use Rattle.tv_heap.specs.Encoded.{encoded_bytes}
 use Rattle.tv_format.specs.Short.{short_elements, short_entries}
 use Rattle.tv_format.specs.Tree.{array, object, elements, entries}
 use Rattle.tv_format.specs.WriteVersion.{written_version}
-use Rattle.tv_writer.specs.Nesting.{NestsWithin, ElementsNestWithin, EntriesNestWithin}
+use Rattle.tv_value.specs.Nesting.{NestsWithin, ElementsNestWithin, EntriesNestWithin}
 use Rattle.tv_store.proofs.encoded_writer.+encoded.Given as goal
 
 -- twice the bytes that are to be written, and one more for the children of a list

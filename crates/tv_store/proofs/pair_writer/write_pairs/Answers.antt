@@ -5,7 +5,7 @@ use Rattle.tv_doc.specs.Document.{document_of}
 use Rattle.tv_doc.specs.FieldValues.{pairs_left}
 use Rattle.tv_heap.specs.Value.{tree_of}
 use Rattle.tv_format.specs.WriteVersion.{written_version}
-use Rattle.tv_writer.specs.Nesting.{AllNestWithin}
+use Rattle.tv_value.specs.Nesting.{AllNestWithin}
 use Rattle.tv_store.proofs.Nesting.{held_within}
 use Rattle.tv_store.proofs.Stores.{pair_next}
 use Rattle.tv_store.proofs.pair_writer.write_pairs.Goals as goal

@@ -4,7 +4,7 @@ use Rattle.tv_doc.specs.Document.{document_of}
 use Rattle.tv_doc.specs.FieldValues.{pairs_left}
 use Rattle.tv_format.specs.Short.{short_pair}
 use Rattle.tv_format.specs.WriteVersion.{written_version}
-use Rattle.tv_writer.specs.Nesting.{AllNestWithin}
+use Rattle.tv_value.specs.Nesting.{AllNestWithin}
 use Rattle.tv_store.proofs.pair_writer.write_pairs.Given as goal
 
 abbrev pub invariant-loop-field : goal.invariant-loop-field

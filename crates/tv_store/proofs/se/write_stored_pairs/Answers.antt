@@ -4,7 +4,7 @@ use Rattle.tv_base.proofs.Written.{Written-start, Written-step, Written-fails}
 use Rattle.tv_doc.specs.Document.{document_of}
 use Rattle.tv_heap.specs.Value.{tree_of}
 use Rattle.tv_doc.specs.FieldValues.{pairs_left}
-use Rattle.tv_writer.specs.Nesting.{AllNestWithin}
+use Rattle.tv_value.specs.Nesting.{AllNestWithin}
 use Rattle.tv_store.proofs.Stores.{written_next}
 use Rattle.tv_store.proofs.se.write_stored_pairs.Goals as goal
 
