@@ -12,7 +12,7 @@ ghost use Rattle.tv_heap.specs.Value.{tree_of};
 ghost use Rattle.tv_value.specs.Same.{tree_eq, elements_eq, entries_eq};
 
 use crate::value::{CompactDocArrayIter, CompactDocObjectIter, CompactDocValue};
-use tv_value::same::is_same;
+use tv_value::same::same_leaf;
 use tv_value::value::{ReferenceValue, Value};
 
 // Two values that are to be compared, and where the part of the heap that the first has may begin.
@@ -81,7 +81,10 @@ fn same_pair(pair: Pair<'_, '_>) -> bool
             (ReferenceValue::Object(members), ReferenceValue::Object(others)) => {
                 same_members(members, others, left.begin)
             }
-            _ => return is_same(&left.one, &left.other),
+            (ReferenceValue::Leaf(one), ReferenceValue::Leaf(other)) => {
+                return same_leaf(one, other);
+            }
+            _ => return false,
         };
         match compared {
             Compared::Differ => return false,
