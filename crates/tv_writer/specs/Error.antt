@@ -13,13 +13,14 @@ write_error kind = writes.Io kind
 
 -- why a writer of the store refuses what it was given
 pub data Unwritten : Type 0 where
-  wrong_count too_many : Unwritten
+  wrong_count too_many too_deep : Unwritten
 
 -- Why a writer of the store stopped: the sink failed, what it was given is refused, or memory was refused.
 abbrev pub write_stop : SerializeError → Stop Unwritten
 write_stop (writes.Io kind) = Failed kind
 write_stop writes.WrongCount = InputError wrong_count
 write_stop writes.TooMany = InputError too_many
+write_stop writes.TooDeep = InputError too_deep
 write_stop writes.Memory = Short
 
 -- what a writer of the store returned and did, by what is to be written
@@ -31,6 +32,7 @@ abbrev pub IsIo : SerializeError → Type 0
 IsIo (writes.Io kind) = Unit {0}
 IsIo writes.WrongCount = ⊥
 IsIo writes.TooMany = ⊥
+IsIo writes.TooDeep = ⊥
 IsIo writes.Memory = ⊥
 
 -- the sink failed, or memory was refused
@@ -38,4 +40,5 @@ abbrev pub IsIoOrMemory : SerializeError → Type 0
 IsIoOrMemory (writes.Io kind) = Unit {0}
 IsIoOrMemory writes.WrongCount = ⊥
 IsIoOrMemory writes.TooMany = ⊥
+IsIoOrMemory writes.TooDeep = ⊥
 IsIoOrMemory writes.Memory = Unit {0}

@@ -1,9 +1,12 @@
 -- What the serializers of values, arrays and objects do.
 use Rattle.std.specs.Prelude.{◌≡◌, ◌-◌, ℕ, List, Result, Ok, Err, IfErr, is_ok, if◌then◌else◌}
 use Rattle.tv_base.specs.Source.{Failures}
+use Rattle.tv_format.specs.Short.{IsValue}
+use Rattle.tv_format.specs.Tree.{Tree}
+use Rattle.tv_value.specs.Nesting.{NestsWithin}
 use Rattle.tv_writer.specs.Error.{Writes, IsIo}
 use Rattle.tv_writer.specs.declared.error.SerializeError.{SerializeError}
-use Rattle.tv_writer.specs.declared.error.SerializeError.TheVariants.{TooMany}
+use Rattle.tv_writer.specs.declared.error.SerializeError.TheVariants.{TooMany, TooDeep}
 
 -- a refusal, which writes nothing
 abbrev pub Refuses : {S T : Type 0} → SerializeError → S → S → Result T SerializeError → Type 0
@@ -13,11 +16,13 @@ Refuses error old new result = (result ≡ Err error) × (new ≡ old)
 abbrev pub FailsToWrite : {S : Type 0} → (S → Type 0) → (S → List ℕ) → (S → Failures) → S → SerializeError → List ℕ → Type 0
 FailsToWrite {S} is_known held failures old error text = (new : S) × Writes {T = ℕ} is_known held failures old new (Err error) (Ok text)
 
--- The text is written where P holds, unless the sink fails, and else it is refused.
-pub record WritesWhere {S T : Type 0} (P : Type 0) (is_known : S → Type 0) (held : S → List ℕ) (failures : S → Failures) (old new : S) (result : Result T SerializeError) (text : List ℕ) : Type 0 where
-  pub writes : P → Writes is_known held failures old new result (Ok text)
-  pub io : P → IfErr result IsIo
-  pub refuses : ¬ P → Refuses TooMany old new result
+-- The text of a value that has an encoding and nests within so many lists is written, unless the sink fails, and any other is refused:
+-- that it nests too deep is told first.
+pub record WritesWithin {S T : Type 0} (depth : ℕ) (t : Tree) (is_known : S → Type 0) (held : S → List ℕ) (failures : S → Failures) (old new : S) (result : Result T SerializeError) (text : List ℕ) : Type 0 where
+  pub writes : NestsWithin depth t → IsValue t → Writes is_known held failures old new result (Ok text)
+  pub io : NestsWithin depth t → IsValue t → IfErr result IsIo
+  pub many : NestsWithin depth t → ¬ IsValue t → Refuses TooMany old new result
+  pub deep : ¬ NestsWithin depth t → Refuses TooDeep old new result
 
 -- how many are awaited after a call that gives one
 abbrev pub awaited_after : {T : Type 0} → ℕ → Result T SerializeError → ℕ

@@ -19,6 +19,9 @@ pub enum SerializeError {
     /// An object announces a number above 2^64 - 1, or a value has an array, an object, a text or bytes that are too long for it.
     #[error("there are too many entries")]
     TooMany,
+    /// A value nests in more lists than the serializer writes.
+    #[error("the value nests too deep")]
+    TooDeep,
     /// Memory was refused, for a value that nests deeper than 64 levels.
     #[error("memory was refused")]
     Memory,

@@ -6,7 +6,7 @@ ghost use Rattle.tv_base.specs.Number.{vnum};
 ghost use Rattle.tv_base.specs.Sink.{Writes};
 ghost use Rattle.tv_writer.specs.Error as store;
 ghost use Rattle.tv_writer.specs.Error.{IsIo};
-ghost use Rattle.tv_writer.specs.Serialized.{FailsToWrite, Refuses, WritesWhere, awaited_after};
+ghost use Rattle.tv_writer.specs.Serialized.{FailsToWrite, Refuses, WritesWithin, awaited_after};
 ghost use Rattle.tv_format.specs.Short.{short, short_key, IsValue};
 ghost use Rattle.tv_format.specs.Version.{entry_total};
 ghost use Rattle.tv_format.specs.WriteVersion.{written_version};
@@ -18,17 +18,22 @@ use std::io;
 use tv_base::ByteSink;
 use tv_base::write::write_vint;
 use tv_format::version::WriteVersion;
+use tv_value::nesting::{MAX_DEPTH, nests_within};
 use tv_value::value::Value;
 
-// A value, where it has an encoding.
+// A value that has an encoding and nests within so many lists. Any other is refused before anything is written.
 fn write_shortest<'a, K: ByteSink, V: Value<'a>>(
     sink: &mut K,
     value: &V,
     version: WriteVersion,
+    depth: u32,
 ) -> Result<(), SerializeError>
-    ensures { WritesWhere (IsValue (V.tree value.now)) K.is_known K.held K.failures sink.old
-        sink.new result (short (written_version version) (V.tree value.now)) }
+    ensures { WritesWithin depth (V.tree value.now) K.is_known K.held K.failures sink.old sink.new
+        result (short (written_version version) (V.tree value.now)) }
 {
+    if !nests_within(value, depth) {
+        return Err(SerializeError::TooDeep);
+    }
     if !has_encoding(value) {
         return Err(SerializeError::TooMany);
     }
@@ -53,18 +58,22 @@ fn write_key_and_value<'a, K: ByteSink, V: Value<'a>>(
     write_value(sink, value, version)
 }
 
-// A key and a value, where the value has an encoding.
+// A key and a value, where the value has an encoding and nests within so many lists.
 fn write_entry<'a, K: ByteSink, V: Value<'a>>(
     sink: &mut K,
     key: &str,
     value: &V,
     version: WriteVersion,
+    depth: u32,
 ) -> Result<(), SerializeError>
-    ensures { WritesWhere (IsValue (V.tree value.now)) K.is_known K.held K.failures sink.old
-        sink.new result
+    ensures { WritesWithin depth (V.tree value.now) K.is_known K.held K.failures sink.old sink.new
+        result
         (short_key (written_version version) key.now
         ++ short (written_version version) (V.tree value.now)) }
 {
+    if !nests_within(value, depth) {
+        return Err(SerializeError::TooDeep);
+    }
     if !has_encoding(value) {
         return Err(SerializeError::TooMany);
     }
@@ -83,11 +92,13 @@ fn ended(awaited: u64) -> Result<(), SerializeError>
     }
 }
 
-/// Writes values to a sink, each in its shortest encoding.
+/// Writes values to a sink, each in its shortest encoding. A value is walked by recursion, so one that nests in more than `MAX_DEPTH` lists
+/// is refused, or in more than `limit_depth` asks for.
 #[derive(Drop)]
 pub struct BinaryValueSerializer<'se, K: ByteSink> {
     sink: &'se mut K,
     version: WriteVersion,
+    depth: u32,
 }
 
 impl<'se, K: ByteSink> BinaryValueSerializer<'se, K> {
@@ -96,6 +107,7 @@ impl<'se, K: ByteSink> BinaryValueSerializer<'se, K> {
         ensures same_sink { result.sink.ghost_name ≡ sink.entry.ghost_name }
         ensures sink { result.sink.now ≡ sink.old }
         ensures version { result.version ≡ WriteVersion.V2 }
+        ensures depth { result.depth ≡ MAX_DEPTH }
     {
         BinaryValueSerializer::with_version(sink, WriteVersion::V2)
     }
@@ -105,23 +117,40 @@ impl<'se, K: ByteSink> BinaryValueSerializer<'se, K> {
         ensures same_sink { result.sink.ghost_name ≡ sink.entry.ghost_name }
         ensures sink { result.sink.now ≡ sink.old }
         ensures version { result.version ≡ version }
+        ensures depth { result.depth ≡ MAX_DEPTH }
     {
-        BinaryValueSerializer { sink, version }
+        BinaryValueSerializer {
+            sink,
+            version,
+            depth: MAX_DEPTH,
+        }
+    }
+
+    /// The same serializer, of values that nest within `depth` lists. Without this call that is `MAX_DEPTH`. Nothing is written. (Not in
+    /// tantivy.)
+    pub fn limit_depth(self, depth: u32) -> BinaryValueSerializer<'se, K>
+        ensures same_sink { result.sink.ghost_name ≡ self.entry.sink.ghost_name }
+        ensures sink { result.sink.now ≡ self.entry.sink.now }
+        ensures version { result.version ≡ self.entry.version }
+        ensures depth { result.depth ≡ depth }
+    {
+        BinaryValueSerializer { depth, ..self }
     }
 
     /// Appends a value. It takes no memory.
     ///
-    /// Errors: `TooMany` where an array or an object in it has 2^63 children or more, or a text or bytes that length, and then
-    /// nothing is written; else `Io` where the sink failed. The sink then holds what it held before, and a beginning of the
+    /// Errors: `TooDeep` exactly where it nests in more lists than the serializer writes, else `TooMany` where an array or an object in it
+    /// has 2^63 children or more, or a text or bytes that length, and after both nothing is written; else `Io` where the sink failed. The sink then holds what it held before, and a beginning of the
     /// value; a later call appends to that.
     pub fn serialize_value<'a, V: Value<'a>>(&mut self, value: &V) -> Result<(), SerializeError>
         ensures same_sink { self.new.sink.ghost_name ≡ self.old.sink.ghost_name }
         ensures version { self.new.version ≡ self.old.version }
-        ensures writes { WritesWhere (IsValue (V.tree value.now)) K.is_known K.held K.failures
+        ensures depth { self.new.depth ≡ self.old.depth }
+        ensures writes { WritesWithin self.old.depth (V.tree value.now) K.is_known K.held K.failures
             self.old.sink.now self.new.sink.now result
             (short (written_version self.old.version) (V.tree value.now)) }
     {
-        write_shortest(self.sink, value, self.version)
+        write_shortest(self.sink, value, self.version, self.depth)
     }
 }
 
@@ -131,6 +160,7 @@ pub struct BinaryArraySerializer<'se, K: ByteSink> {
     sink: &'se mut K,
     awaited: u64,
     version: WriteVersion,
+    depth: u32,
 }
 
 impl<'se, K: ByteSink> BinaryArraySerializer<'se, K> {
@@ -149,6 +179,7 @@ impl<'se, K: ByteSink> BinaryArraySerializer<'se, K> {
             (Ok (vnum count))) }
         ensures awaited { IfOk result (λ made. made.awaited ≡ count) }
         ensures version { IfOk result (λ made. made.version ≡ WriteVersion.V2) }
+        ensures depth { IfOk result (λ made. made.depth ≡ MAX_DEPTH) }
         ensures io { IfErr result IsIo }
         ensures fails { IfErr result
             (λ e. FailsToWrite K.is_known K.held K.failures sink.old e (vnum count)) }
@@ -168,6 +199,7 @@ impl<'se, K: ByteSink> BinaryArraySerializer<'se, K> {
             (Ok (vnum count))) }
         ensures awaited { IfOk result (λ made. made.awaited ≡ count) }
         ensures version { IfOk result (λ made. made.version ≡ version) }
+        ensures depth { IfOk result (λ made. made.depth ≡ MAX_DEPTH) }
         ensures io { IfErr result IsIo }
         ensures fails { IfErr result
             (λ e. FailsToWrite K.is_known K.held K.failures sink.old e (vnum count)) }
@@ -177,7 +209,20 @@ impl<'se, K: ByteSink> BinaryArraySerializer<'se, K> {
             sink,
             awaited: count,
             version,
+            depth: MAX_DEPTH,
         })
+    }
+
+    /// The same serializer, of values that nest within `depth` lists. Without this call that is `MAX_DEPTH`. Nothing is written. (Not in
+    /// tantivy.)
+    pub fn limit_depth(self, depth: u32) -> BinaryArraySerializer<'se, K>
+        ensures same_sink { result.sink.ghost_name ≡ self.entry.sink.ghost_name }
+        ensures sink { result.sink.now ≡ self.entry.sink.now }
+        ensures awaited { result.awaited ≡ self.entry.awaited }
+        ensures version { result.version ≡ self.entry.version }
+        ensures depth { result.depth ≡ depth }
+    {
+        BinaryArraySerializer { depth, ..self }
     }
 
     /// Appends a value, of which one less is then awaited. It takes no memory.
@@ -189,16 +234,17 @@ impl<'se, K: ByteSink> BinaryArraySerializer<'se, K> {
         ensures full { self.old.awaited ≡ 0
             → Refuses SerializeError.WrongCount self.old.sink.now self.new.sink.now result }
         ensures writes { 0 < self.old.awaited
-            → WritesWhere (IsValue (V.tree value.now)) K.is_known K.held K.failures
+            → WritesWithin self.old.depth (V.tree value.now) K.is_known K.held K.failures
             self.old.sink.now self.new.sink.now result
             (short (written_version self.old.version) (V.tree value.now)) }
         ensures awaited { self.new.awaited ≡ awaited_after self.old.awaited result }
         ensures version { self.new.version ≡ self.old.version }
+        ensures depth { self.new.depth ≡ self.old.depth }
     {
         let Some(others) = self.awaited.checked_sub(1) else {
             return Err(SerializeError::WrongCount);
         };
-        write_shortest(self.sink, value, self.version)?;
+        write_shortest(self.sink, value, self.version, self.depth)?;
         self.awaited = others;
         Ok(())
     }
@@ -220,6 +266,7 @@ pub struct BinaryObjectSerializer<'se, K: ByteSink> {
     sink: &'se mut K,
     awaited: u64,
     version: WriteVersion,
+    depth: u32,
 }
 
 impl<'se, K: ByteSink> BinaryObjectSerializer<'se, K> {
@@ -238,6 +285,7 @@ impl<'se, K: ByteSink> BinaryObjectSerializer<'se, K> {
             (Ok (vnum (2 * count)))) }
         ensures awaited { IfOk result (λ made. made.awaited ≡ count) }
         ensures version { IfOk result (λ made. made.version ≡ WriteVersion.V2) }
+        ensures depth { IfOk result (λ made. made.depth ≡ MAX_DEPTH) }
         ensures too_many { 2 ^ 64 ≤ 2 * count → result ≡ Err SerializeError.TooMany }
         ensures io { 2 * count < 2 ^ 64 → IfErr result IsIo }
         ensures fails { 2 * count < 2 ^ 64 → IfErr result
@@ -262,6 +310,7 @@ impl<'se, K: ByteSink> BinaryObjectSerializer<'se, K> {
             (Ok (vnum (entry_total (written_version version) count)))) }
         ensures awaited { IfOk result (λ made. made.awaited ≡ count) }
         ensures version { IfOk result (λ made. made.version ≡ version) }
+        ensures depth { IfOk result (λ made. made.depth ≡ MAX_DEPTH) }
         ensures too_many { 2 ^ 64 ≤ entry_total (written_version version) count
             → result ≡ Err SerializeError.TooMany }
         ensures io { entry_total (written_version version) count < 2 ^ 64 → IfErr result IsIo }
@@ -277,7 +326,20 @@ impl<'se, K: ByteSink> BinaryObjectSerializer<'se, K> {
             sink,
             awaited: count,
             version,
+            depth: MAX_DEPTH,
         })
+    }
+
+    /// The same serializer, of values that nest within `depth` lists. Without this call that is `MAX_DEPTH`. Nothing is written. (Not in
+    /// tantivy.)
+    pub fn limit_depth(self, depth: u32) -> BinaryObjectSerializer<'se, K>
+        ensures same_sink { result.sink.ghost_name ≡ self.entry.sink.ghost_name }
+        ensures sink { result.sink.now ≡ self.entry.sink.now }
+        ensures awaited { result.awaited ≡ self.entry.awaited }
+        ensures version { result.version ≡ self.entry.version }
+        ensures depth { result.depth ≡ depth }
+    {
+        BinaryObjectSerializer { depth, ..self }
     }
 
     /// Appends a key and a value, of which one less is then awaited. It takes no memory.
@@ -293,17 +355,18 @@ impl<'se, K: ByteSink> BinaryObjectSerializer<'se, K> {
         ensures full { self.old.awaited ≡ 0
             → Refuses SerializeError.WrongCount self.old.sink.now self.new.sink.now result }
         ensures writes { 0 < self.old.awaited
-            → WritesWhere (IsValue (V.tree value.now)) K.is_known K.held K.failures
+            → WritesWithin self.old.depth (V.tree value.now) K.is_known K.held K.failures
             self.old.sink.now self.new.sink.now result
             (short_key (written_version self.old.version) key.now
             ++ short (written_version self.old.version) (V.tree value.now)) }
         ensures awaited { self.new.awaited ≡ awaited_after self.old.awaited result }
         ensures version { self.new.version ≡ self.old.version }
+        ensures depth { self.new.depth ≡ self.old.depth }
     {
         let Some(others) = self.awaited.checked_sub(1) else {
             return Err(SerializeError::WrongCount);
         };
-        write_entry(self.sink, key, value, self.version)?;
+        write_entry(self.sink, key, value, self.version, self.depth)?;
         self.awaited = others;
         Ok(())
     }
