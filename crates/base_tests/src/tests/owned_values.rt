@@ -2,7 +2,9 @@
 
 use std::alloc::{AllocError, Global};
 use std::test::Fail;
+use tv_value::copy_error::CopyError;
 use tv_value::leaf::ReferenceValueLeaf;
+use tv_value::nesting::{MAX_DEPTH, TooDeep, nests_within};
 use tv_value::owned_value::OwnedValue;
 use tv_value::same::is_same;
 use tv_value::value::Value;
@@ -34,9 +36,9 @@ fn is_array_at(entry: Option<(&str, &OwnedValue)>, key: &str) -> bool {
 }
 
 // Whether the copies of a value are equal to it.
-fn are_copies_equal(alloc: Global, value: &OwnedValue) -> Result<bool, AllocError> {
+fn are_copies_equal(alloc: Global, value: &OwnedValue) -> Result<bool, CopyError> {
     let made = OwnedValue::from_value(alloc, &value)?;
-    let is_made = made == *value && is_same(&&made, &value);
+    let is_made = made == *value && is_same(&&made, &value) == Ok(true);
     drop(made);
     let copy = value.try_clone(alloc)?;
     let is_copied = copy == *value;
@@ -60,5 +62,46 @@ fn values_that_hold_others(rt: HostRuntime) -> Result<(), Fail> {
     drop(value);
     assert!(rt; are_equal?);
     assert!(rt; has_two_arrays);
+    Ok(())
+}
+
+// A number within so many arrays.
+fn within_arrays(alloc: Global, count: u32) -> Result<OwnedValue, AllocError> {
+    let mut value = OwnedValue::U64(7);
+    for _ in 0..count {
+        value = OwnedValue::Array(vec![in alloc; value]?);
+    }
+    Ok(value)
+}
+
+// Whether a value that nests one list deeper than the limit is refused, and copied by a larger one.
+fn is_too_deep(alloc: Global, value: &OwnedValue) -> Result<bool, CopyError> {
+    let copy = OwnedValue::from_value_within(alloc, &value, MAX_DEPTH + 1)?;
+    let is_copied = copy == *value;
+    drop(copy);
+    let refusal = value.try_clone(alloc).err();
+    Ok(
+        is_copied
+            && refusal == Some(CopyError::TooDeep)
+            && is_same(&value, &value) == Err(TooDeep)
+            && !nests_within(&value, MAX_DEPTH),
+    )
+}
+
+#[test]
+fn values_that_nest_as_deep_as_the_limit(rt: HostRuntime) -> Result<(), Fail> {
+    let value = within_arrays(rt.alloc(), MAX_DEPTH)?;
+    let are_equal = are_copies_equal(rt.alloc(), &value);
+    drop(value);
+    assert!(rt; are_equal?);
+    Ok(())
+}
+
+#[test]
+fn values_that_nest_deeper(rt: HostRuntime) -> Result<(), Fail> {
+    let value = within_arrays(rt.alloc(), MAX_DEPTH + 1)?;
+    let is_too_deep = is_too_deep(rt.alloc(), &value);
+    drop(value);
+    assert!(rt; is_too_deep?);
     Ok(())
 }
