@@ -24,7 +24,7 @@ use Rattle.tv_reader.specs.declared.error.DeserializeError.TheVariants as errors
 use Rattle.tv_reader.specs.declared.value_type.ValueType.{ValueType}
 use Rattle.tv_reader.proofs.BehindKinds.{kind_edge}
 use Rattle.tv_reader.proofs.Finding.{found_behind, stop_map}
-use Rattle.tv_typed.specs.Typed.{typed_stop, Reads, Deserializes}
+use Rattle.tv_typed.specs.Typed.{typed_stop, Reads, ReadsIf, Deserializes}
 use Rattle.tv_typed.specs.Excluding.{leaf_type, leaf_excludes, tree_excludes, next_excludes}
 use Rattle.tv_typed.specs.Excluding.{with_legacy}
 use Rattle.tv_typed.specs.Values.{EncodesAs, EncodedAs, IsFixed, ReadsLeaf, IsLeaf, IsTree, EncodesLeaf, LeafRefused, TreeRefused, CodeRefused, in_code, NextRefused, RefusalsExclude, SparesBytes, IsReadOf, Only}
@@ -44,8 +44,8 @@ found_map B C Q (Ok x) old new count map h = record { prefix = h.prefix; joined 
 found_map B C Q (Err e) old new count map h = h
 
 -- what is promised of a call that anyone writes, in the words of its type
-pub deserializes : {S X : Type 0} {is_known : S → Type 0} {left : S → List ℕ} {failures : S → Failures} {old new : StoreReader S} {result : Result X DeserializeError} {B : List ℕ → X → Type 0} {Q : List ℕ → DeserializeError → Type 0} (C : List ℕ → X → Type 0)
-    → ((b : List ℕ) (x : X) → B b x → C b x) → Reads is_known left failures old new result B Q → Deserializes is_known left failures old new result C Q
+pub deserializes : {May : DeserializeError → ℕ → Type 0} {S X : Type 0} {is_known : S → Type 0} {left : S → List ℕ} {failures : S → Failures} {old new : StoreReader S} {result : Result X DeserializeError} {B : List ℕ → X → Type 0} {Q : List ℕ → DeserializeError → Type 0} (C : List ℕ → X → Type 0)
+    → ((b : List ℕ) (x : X) → B b x → C b x) → ReadsIf May is_known left failures old new result B Q → Deserializes is_known left failures old new result C Q
 deserializes {left = left} {old = old} {new = new} {result = result} {B = B} {Q = Q} C map h = record {
   closed = h.closed;
   unmarked = unmarked_by result _ h.marks;
@@ -54,6 +54,7 @@ deserializes {left = left} {old = old} {new = new} {result = result} {B = B} {Q 
   stays_known = λ is_open. (h.finds is_open).stays_known;
   counts = λ is_open. (h.finds is_open).counts;
   same_version = h.same_version;
+  same_levels = h.same_levels;
 }
 
 -- ---- one call after the other
@@ -77,6 +78,7 @@ goes_then {left = left} {failures = failures} {old = old} {mid = mid} {new = new
   stays_known = λ is_open t. h.stays_known p.unmarked (p.stays_known is_open t);
   counts = λ is_open. subst (λ z. Counts typed_stop result z (failures new.source)) (p.counts is_open) (h.counts p.unmarked);
   same_version = h.same_version ∙ p.same_version;
+  same_levels = h.same_levels ∙ p.same_levels;
 }
 
 -- the same of what is read, in other words
@@ -90,6 +92,7 @@ goes_as {x = x} y B Q map p = record {
   stays_known = p.stays_known;
   counts = p.counts;
   same_version = p.same_version;
+  same_levels = p.same_levels;
 }
 
 -- a refusal of a part is one of the whole
@@ -103,6 +106,7 @@ goes_fails {left = left} {old = old} {new = new} {e = e} {P = P} B Q map p = rec
   stays_known = p.stays_known;
   counts = p.counts;
   same_version = p.same_version;
+  same_levels = p.same_levels;
 }
 
 -- what was read can't be kept, for want of memory
@@ -116,6 +120,7 @@ goes_short {x = x} B Q p = record {
   stays_known = p.stays_known;
   counts = p.counts;
   same_version = p.same_version;
+  same_levels = p.same_levels;
 }
 
 kept : {X : Type 0} (b c : Bool) (result : Result X DeserializeError) → OnOk result (b ≡ false) → OnOk result (c ≡ b) → OnOk result (c ≡ false)
@@ -133,6 +138,7 @@ goes_marked {new = new} {result = result} has_failed keeps p = record {
   stays_known = p.stays_known;
   counts = p.counts;
   same_version = p.same_version;
+  same_levels = p.same_levels;
 }
 
 -- whether there was a refusal was marked
@@ -146,6 +152,7 @@ goes_told {result = result} has_failed marks p = record {
   stays_known = p.stays_known;
   counts = p.counts;
   same_version = p.same_version;
+  same_levels = p.same_levels;
 }
 
 -- ---- the next value
@@ -213,12 +220,12 @@ reads_leaf {old = old} expected make typed kind h spares =
     record { reads = h; only = only_by (IsLeaf make) v (coded kind) (LeafRefused expected v kind) (leaf_excludes expected make typed v kind) as_type; deserializes = as_type; spares = spares }
 
 -- a value of any type behind its code
-pub tree_deserializes : {S : Type 0} {is_known : S → Type 0} {left : S → List ℕ} {failures : S → Failures} {old new : StoreReader S} {result : Result OwnedValue DeserializeError} {Q : List ℕ → DeserializeError → Type 0} (v : Version) (kind : ValueType)
-    → Reads is_known left failures old new result (EncodesBehind v kind) Q → Deserializes is_known left failures old new result (EncodedAs IsTree v kind) Q
+pub tree_deserializes : {May : DeserializeError → ℕ → Type 0} {S : Type 0} {is_known : S → Type 0} {left : S → List ℕ} {failures : S → Failures} {old new : StoreReader S} {result : Result OwnedValue DeserializeError} {Q : List ℕ → DeserializeError → Type 0} (v : Version) (kind : ValueType)
+    → ReadsIf May is_known left failures old new result (EncodesBehind v kind) Q → Deserializes is_known left failures old new result (EncodedAs IsTree v kind) Q
 tree_deserializes v kind h = deserializes (EncodedAs IsTree v kind) (λ b x p. (owned_tree x, p, refl)) h
 
-pub tree_only : {S : Type 0} {is_known : S → Type 0} {left : S → List ℕ} {failures : S → Failures} {old new : StoreReader S} {result : Result OwnedValue DeserializeError} (v : Version) (kind : ValueType)
-    → Reads is_known left failures old new result (EncodesBehind v kind) (TreeRefused v kind) → Only is_known left old new result IsTree v (coded kind)
+pub tree_only : {May : DeserializeError → ℕ → Type 0} {S : Type 0} {is_known : S → Type 0} {left : S → List ℕ} {failures : S → Failures} {old new : StoreReader S} {result : Result OwnedValue DeserializeError} (v : Version) (kind : ValueType)
+    → ReadsIf May is_known left failures old new result (EncodesBehind v kind) (TreeRefused v kind) → Only is_known left old new result IsTree v (coded kind)
 tree_only v kind h = only_by IsTree v (coded kind) (TreeRefused v kind) (tree_excludes IsTree v kind) (tree_deserializes v kind h)
 
 -- the next value

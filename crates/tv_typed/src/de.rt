@@ -12,7 +12,8 @@ ghost use Rattle.tv_reader.specs.declared.error.DeserializeError.TheVariants as 
 ghost use Rattle.tv_reader.specs.declared.value_type.ValueType.{ValueType};
 ghost use Rattle.tv_typed.specs.Excluding.{tree_excludes};
 ghost use Rattle.tv_typed.specs.Lists.{EncodesEntry, EntryRefused};
-ghost use Rattle.tv_typed.specs.Typed.{Reads, Deserializes};
+ghost use Rattle.tv_typed.specs.Depths.{IsWithin, IsTooDeep, HasDepth};
+ghost use Rattle.tv_typed.specs.Typed.{Reads, ReadsDeep, Deserializes};
 ghost use Rattle.tv_typed.specs.Values.{CodeRefused, IsTree, TreeRefused, Only, EncodesAs};
 ghost use Rattle.tv_typed.specs.Values.{DeserializesAs, NextRefused, RefusalsExclude};
 
@@ -59,21 +60,36 @@ impl<'de, S: ByteSource> BinaryValueDeserializer<'de, S> {
         Ok(BinaryValueDeserializer { kind, reader })
     }
 
-    /// Reads a value of any type, to any depth, legacy objects too. Nothing is reserved from announced numbers.
+    /// Reads a value of any type, legacy objects too, to the depth of the reader. Nothing is reserved from announced numbers.
     ///
     /// Errors, the first error in reading order: `CorruptedValue`;
-    /// `TypeMismatch` where in a key's place stands a value that isn't a text; `Io`; `Memory`; `AlreadyFailed`.
+    /// `TypeMismatch` where in a key's place stands a value that isn't a text; `TooDeep` right behind the code of an array or an object that
+    /// is one too many; `Io`; `Memory`; `AlreadyFailed`.
     pub fn deserialize_tree(self, alloc: Global) -> Result<OwnedValue, DeserializeError>
-        ensures reads { Reads S.is_known S.left S.failures self.entry.reader.now self.exit.1.0.now
+        ensures reads { ReadsDeep S.is_known S.left S.failures self.entry.reader.now self.exit.1.0.now
             result (EncodesBehind (version_of self.entry.reader.now.version) self.entry.kind)
             (TreeRefused (version_of self.entry.reader.now.version) self.entry.kind) }
         ensures only { Only S.is_known S.left self.entry.reader.now self.exit.1.0.now result IsTree
             (version_of self.entry.reader.now.version) (coded self.entry.kind) }
+        ensures within { IsWithin S.is_known S.left self.entry.reader.now self.exit.1.0.now result
+            (coded self.entry.kind) }
+        ensures deep { IsTooDeep S.is_known S.left self.entry.reader.now self.exit.1.0.now result
+            (coded self.entry.kind) }
+        ensures roomy { HasDepth S.is_known S.left self.entry.reader.now result
+            (coded self.entry.kind) }
     {
         let BinaryValueDeserializer { kind, reader } = self;
         reader.go_on()?;
         let version = reader.version;
-        let answer = take_behind(alloc, &mut reader.source, &mut reader.count, version, kind);
+        let levels = reader.levels;
+        let answer = take_behind(
+            alloc,
+            &mut reader.source,
+            &mut reader.count,
+            version,
+            kind,
+            levels,
+        );
         reader.has_failed = answer.is_err();
         answer
     }
@@ -148,12 +164,18 @@ impl ValueDeserialize for OwnedValue {
     ) -> Result<OwnedValue, DeserializeError>
         ensures deserializes { DeserializesAs S.is_known S.left S.failures IsTree TreeRefused
             deserializer.entry.kind deserializer.entry.reader.now deserializer.exit.1.0.now result }
-        ensures reads { Reads S.is_known S.left S.failures deserializer.entry.reader.now
+        ensures reads { ReadsDeep S.is_known S.left S.failures deserializer.entry.reader.now
             deserializer.exit.1.0.now result
             (EncodesBehind (version_of deserializer.entry.reader.now.version)
             deserializer.entry.kind)
             (TreeRefused (version_of deserializer.entry.reader.now.version)
             deserializer.entry.kind) }
+        ensures within { IsWithin S.is_known S.left deserializer.entry.reader.now
+            deserializer.exit.1.0.now result (coded deserializer.entry.kind) }
+        ensures deep { IsTooDeep S.is_known S.left deserializer.entry.reader.now
+            deserializer.exit.1.0.now result (coded deserializer.entry.kind) }
+        ensures roomy { HasDepth S.is_known S.left deserializer.entry.reader.now result
+            (coded deserializer.entry.kind) }
     {
         deserializer.deserialize_tree(alloc)
     }
