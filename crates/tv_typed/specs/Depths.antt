@@ -3,12 +3,23 @@ use Rattle.std.specs.Prelude.{◌≡◌, false, ℕ, List, ◌++◌, Result, IfO
 use Rattle.tv_base.specs.Parts.{Begins}
 use Rattle.tv_format.specs.Tree.{Tree}
 use Rattle.tv_reader.specs.Depth.{EncodesWithin, Opens}
+use Rattle.tv_format.specs.Version.{Version}
+use Rattle.tv_reader.specs.ValueType.{coded, IsCoded}
 use Rattle.tv_reader.specs.Version.{version_of}
+use Rattle.tv_reader.specs.declared.value_type.ValueType.{ValueType}
 use Rattle.tv_reader.specs.declared.error.DeserializeError.{DeserializeError}
 use Rattle.tv_reader.specs.declared.error.DeserializeError.TheVariants as errors
 use Rattle.tv_typed.specs.declared.store_reader.StoreReader.{StoreReader}
 use Rattle.tv_value.specs.Owned.{owned_tree}
 use Rattle.tv_value.specs.declared.owned_value.OwnedValue.{OwnedValue}
+
+-- behind the code of a type the bytes that were taken end with the code of the first list that is one too many
+abbrev pub OpensBehind : Version → ℕ → ValueType → List ℕ → List ℕ → Type 0
+OpensBehind v levels kind old new = Begins (λ b. Opens v levels (coded kind ++ b)) old new
+
+-- the same of the next value, with its code, as its type says it
+abbrev pub NextTooDeep : (Version → ℕ → ValueType → List ℕ → List ℕ → Type 0) → Version → ℕ → List ℕ → List ℕ → Type 0
+NextTooDeep deep v levels old new = (kind : ValueType) × (mid : List ℕ) × Begins (λ b. IsCoded b kind) old mid × deep v levels kind mid new
 
 -- in what was read no more lists are open at once than the reader allows
 abbrev pub IsWithin : {S : Type 0} (is_known : S → Type 0) (left : S → List ℕ) (old new : StoreReader S) (result : Result OwnedValue DeserializeError) (code : List ℕ) → Type 0
