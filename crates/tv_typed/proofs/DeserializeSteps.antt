@@ -1,6 +1,6 @@
 -- Calls that read values through a reader, one after the other, whoever wrote them.
-use Rattle.std.proofs.Common.{◌≡◌, ◌≢◌, ℕ, ◌+◌, ◌-◌, ◌^◌, ◌<◌, Bool, false, List, [], ◌∷◌, ◌++◌, length, Result, Ok, Err, refl, sym, ap, subst, ◌∙◌, arith, append_assoc, length-append, inl, inr}
-use Rattle.std.specs.Prelude.{is_err, OnOk, IsErrOf}
+use Rattle.std.proofs.Common.{◌≡◌, ◌≢◌, ℕ, ◌+◌, ◌-◌, ◌^◌, ◌<◌, Bool, true, false, List, [], ◌∷◌, ◌++◌, length, Result, Ok, Err, refl, sym, ap, subst, ◌∙◌, arith, append_assoc, length-append, inl, inr}
+use Rattle.std.specs.Prelude.{is_err, IfErr, OnOk, IsErrOf}
 use Rattle.std.proofs.lemmas.List.{append_cancel_left}
 use Rattle.tv_base.specs.declared.cause.Cause.TheVariants.{UnexpectedEnd}
 use Rattle.tv_base.specs.Source.{Failures}
@@ -19,6 +19,7 @@ use Rattle.tv_reader.specs.Finds.{GivesStop, Found}
 use Rattle.tv_reader.specs.Trees.{EncodesBehind}
 use Rattle.tv_reader.specs.ValueType.{leaf_type as held_type, IsCoded, coded, no_code, no_extension_code}
 use Rattle.tv_reader.specs.Version.{version_of}
+use Rattle.tv_reader.specs.Error.{StoreMayStop}
 use Rattle.tv_reader.specs.declared.error.DeserializeError.{DeserializeError}
 use Rattle.tv_reader.specs.declared.error.DeserializeError.TheVariants as errors
 use Rattle.tv_reader.specs.declared.value_type.ValueType.{ValueType}
@@ -211,13 +212,27 @@ pub leaf_deserializes : {S X : Type 0} {is_known : S → Type 0} {left : S → L
     → Reads is_known left failures old new result (EncodesLeaf v kind make) Q → Deserializes is_known left failures old new result (EncodedAs (IsLeaf make) v kind) Q
 leaf_deserializes make v kind h = deserializes (EncodedAs (IsLeaf make) v kind) (λ b x p. (leaf (make x), p, refl)) h
 
+closed_calm : {X : Type 0} (result : Result X DeserializeError) → IsErrOf result errors.AlreadyFailed → IsErrOf result errors.TooDeep → ⊥
+closed_calm result is deep = let same = sym is ∙ deep in absurd cc
+
+may_calm : {X : Type 0} (result : Result X DeserializeError) (count : ℕ) → IfErr result (λ e. StoreMayStop e count) → IsErrOf result errors.TooDeep → ⊥
+may_calm (Ok x) count may is = absurd cc
+may_calm (Err errors.TooDeep) count may is = may
+may_calm (Err _) count may is = absurd cc
+
+-- a read of no tree isn't too deep
+reads_calm : {S X : Type 0} {is_known : S → Type 0} {left : S → List ℕ} {failures : S → Failures} {old new : StoreReader S} {result : Result X DeserializeError} {B : List ℕ → X → Type 0} {Q : List ℕ → DeserializeError → Type 0} (has_failed : Bool) → old.has_failed ≡ has_failed
+    → Reads is_known left failures old new result B Q → IsErrOf result errors.TooDeep → ⊥
+reads_calm {result = result} true failed h = closed_calm result (h.closed failed).0
+reads_calm {new = new} {result = result} false is_open h = may_calm result new.count (h.finds is_open).may_stop
+
 pub reads_leaf : {S X : Type 0} {is_known : S → Type 0} {left : S → List ℕ} {failures : S → Failures} {old new : StoreReader S} {result : Result X DeserializeError} (expected : ValueType) (make : X → Leaf) → ((x : X) → leaf_type (make x) ≡ expected) → (kind : ValueType)
     → Reads is_known left failures old new result (EncodesLeaf (version_of old.version) kind make) (LeafRefused expected (version_of old.version) kind) → (IsFixed (held_type expected) → ¬ IsErrOf result errors.Memory)
     → ReadsLeaf is_known left failures expected make kind old new result
 reads_leaf {old = old} expected make typed kind h spares =
     let v = version_of old.version in
     let as_type = leaf_deserializes make v kind h in
-    record { reads = h; only = only_by (IsLeaf make) v (coded kind) (LeafRefused expected v kind) (leaf_excludes expected make typed v kind) as_type; deserializes = as_type; spares = spares }
+    record { reads = h; only = only_by (IsLeaf make) v (coded kind) (LeafRefused expected v kind) (leaf_excludes expected make typed v kind) as_type; deserializes = as_type; spares = spares; roomy = reads_calm _ refl h }
 
 -- a value of any type behind its code
 pub tree_deserializes : {May : DeserializeError → ℕ → Type 0} {S : Type 0} {is_known : S → Type 0} {left : S → List ℕ} {failures : S → Failures} {old new : StoreReader S} {result : Result OwnedValue DeserializeError} {Q : List ℕ → DeserializeError → Type 0} (v : Version) (kind : ValueType)
