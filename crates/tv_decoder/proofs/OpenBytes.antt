@@ -192,6 +192,7 @@ puts_end r mid new (Err (errors.Custom s)) t h = absurd h
 puts_end r mid new (Err (errors.UnsupportedVersion m n)) t h = absurd h
 puts_end r mid new (Err (errors.Io k)) t h = absurd h
 puts_end r mid new (Err errors.AlreadyFailed) t h = absurd h
+puts_end r mid new (Err errors.TooDeep) t h = absurd h
 
 content_there : (c : Cause) (s : State) → HasContent s → NoContent c s → ⊥
 content_there causes.NotUtf8 s h none = none h
@@ -208,6 +209,7 @@ puts_from_end r mid new ps (Err (errors.Custom s)) t content h = absurd h
 puts_from_end r mid new ps (Err (errors.UnsupportedVersion m n)) t content h = absurd h
 puts_from_end r mid new ps (Err (errors.Io k)) t content h = absurd h
 puts_from_end r mid new ps (Err errors.AlreadyFailed) t content h = absurd h
+puts_from_end r mid new ps (Err errors.TooDeep) t content h = absurd h
 
 text_or : (c : Cause) (s after : State) (more : List ℕ) → (¬ HasContent after → EndNoText s more) → NoContent c after → NoText c s more
 text_or causes.NotUtf8 s after more map none = map none
@@ -225,6 +227,7 @@ bytes_from_end r mid new more ps (Err (errors.Custom s)) t map h = absurd h
 bytes_from_end r mid new more ps (Err (errors.UnsupportedVersion m n)) t map h = absurd h
 bytes_from_end r mid new more ps (Err (errors.Io k)) t map h = absurd h
 bytes_from_end r mid new more ps (Err errors.AlreadyFailed) t map h = absurd h
+bytes_from_end r mid new more ps (Err errors.TooDeep) t map h = absurd h
 
 -- some bytes were refused: for want of memory alone
 pub bytes_refused : (r new : Reading) (b : PairBuilder) (in_place fits : Type 0) (after : State → State) (more : List ℕ) (ps : List Part) (e : BuildError) → r.builder.failed ≡ false → in_place → Builds r.builder b in_place fits after (Err e) → ¬ IsErrOf {T = Unit {0}} (Err e) HeapFull

@@ -154,6 +154,7 @@ puts_on r mid new ps (Err (errors.Custom s)) t h = absurd h
 puts_on r mid new ps (Err (errors.UnsupportedVersion m n)) t h = absurd h
 puts_on r mid new ps (Err (errors.Io k)) t h = absurd h
 puts_on r mid new ps (Err errors.AlreadyFailed) t h = absurd h
+puts_on r mid new ps (Err errors.TooDeep) t h = absurd h
 
 -- ---- what may stand
 

@@ -140,6 +140,7 @@ puts_found v legacy old new ps (Err (errors.Custom s)) part h p = absurd p
 puts_found v legacy old new ps (Err (errors.UnsupportedVersion m n)) part h p = absurd p
 puts_found v legacy old new ps (Err (errors.Io e)) part h p = absurd p
 puts_found v legacy old new ps (Err errors.AlreadyFailed) part h p = absurd p
+puts_found v legacy old new ps (Err errors.TooDeep) part h p = absurd p
 
 -- and where there is no room for it
 pub no_room : (v : Version) (old : Reading) (ps : List Part) (whole rest taken : List ℕ) → whole ≡ taken ++ rest → EncodesIn Legacy v taken ps → Fills old ps → NoRoomBehind v old whole

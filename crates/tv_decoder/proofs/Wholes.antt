@@ -190,6 +190,7 @@ module _ {S X : Type 0} {is_known : S → Type 0} {left : S → List ℕ} {failu
   bytes_found (Err (errors.UnsupportedVersion l m)) h some few small p q = absurd q
   bytes_found (Err (errors.Io e)) h some few small p q = absurd q
   bytes_found (Err errors.AlreadyFailed) h some few small p q = absurd q
+  bytes_found (Err errors.TooDeep) h some few small p q = absurd q
 
   pub bytes_full : (result : Result (Unit {0}) DeserializeError) → 0 < n → n ≤ 4096 → Finds is_known left failures os i ns k (Ok x) (λ a _. Piece n bytes a) I → PutsBytes old new bytes (some_bytes bytes ∷ []) result → is_known os → IsErrOf result errors.HeapFull → NoRoomBehind v old (left os)
   bytes_full result some small p q t is =

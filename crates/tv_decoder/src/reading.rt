@@ -41,8 +41,8 @@ use tv_format::leaf_type::LeafType;
 use tv_reader::encoded_tokens::take_gathered;
 use tv_reader::fields::take_field;
 use tv_reader::heads::{Head, take_document_head, take_head, take_key_head};
-use tv_reader::trees::take_behind;
-use tv_reader::{DeserializeError, DocStoreVersion, ValueType};
+use tv_reader::trees::take_legacy_object;
+use tv_reader::{DeserializeError, DocStoreVersion};
 use tv_value::leaf::ReferenceValueLeaf;
 use tv_value::value::Value;
 
@@ -361,7 +361,7 @@ impl Reading {
             }
             Head::Legacy => {
                 *legacy_seen = true;
-                let value = take_behind(alloc, source, count, version, ValueType::JSONObject)?;
+                let value = take_legacy_object(alloc, source, count)?;
                 self.put_tree(&&value)
             }
             head => self.put_head(head),

@@ -3,6 +3,7 @@ use Rattle.std.proofs.Common.{◌≡◌, ◌≢◌, ℕ, true, false, List, [], 
 use Rattle.tv_base.specs.declared.cause.Cause.{Cause}
 use Rattle.tv_base.specs.declared.cause.Cause.TheVariants.{UnexpectedEnd}
 use Rattle.tv_base.specs.Source.{AllBytes, Failures}
+use Rattle.tv_base.specs.Stop.{Stop}
 use Rattle.tv_base.specs.Take as reads
 use Rattle.tv_base.proofs.Agrees.{same_start}
 use Rattle.tv_legacy.specs.Legacy.{Legacy}
@@ -11,7 +12,7 @@ use Rattle.tv_format.specs.Leaves.{store_code}
 use Rattle.tv_format.specs.Encoding.{Encodes}
 use Rattle.tv_format.specs.Tree.{Tree}
 use Rattle.tv_format.specs.Version.{Version}
-use Rattle.tv_reader.specs.Finds.{FindsIf}
+use Rattle.tv_reader.specs.Finds.{FindsBy}
 use Rattle.tv_reader.specs.Kinds.{kind_at}
 use Rattle.tv_reader.specs.LeafBodies.{LeafOf, ErrorInLeafOf}
 use Rattle.tv_reader.specs.Leaves.{is_leaf_type}
@@ -23,7 +24,7 @@ use Rattle.tv_reader.specs.declared.value_type.ValueType.TheVariants as types
 use Rattle.tv_format.specs.declared.leaf_type.LeafType.{LeafType}
 use Rattle.tv_format.specs.declared.leaf_type.LeafType.TheVariants as leaves
 use Rattle.tv_reader.proofs.AgreeKinds.{kind_agrees}
-use Rattle.tv_reader.proofs.Finding.{finds_then, finds_part}
+use Rattle.tv_reader.proofs.Finding.{finds_then, finds_ok, finds_part}
 
 abbrev end : Refusal
 end = corrupted UnexpectedEnd
@@ -36,15 +37,15 @@ kind_edge end Q none seven types.PreTokStr start byte last = subst (λ l. Q l en
 kind_edge end Q none seven kind start byte last = subst (λ l. Q l end) (sym (same_start start [] byte (type_code kind) (sym last))) none
 
 -- the type was taken, and then what stands behind it
-pub finds_behind : {S Y : Type 0} {May : DeserializeError → ℕ → Type 0} {is_known : S → Type 0} {left : S → List ℕ} {failures : S → Failures} {old mid new : S} {i j k : ℕ} {kind : ValueType} {result : Result Y DeserializeError} (B : List ℕ → Y → Type 0) (Q : List ℕ → Refusal → Type 0)
+pub finds_behind : {S Y : Type 0} {stop : DeserializeError → Stop Refusal} {May : DeserializeError → ℕ → Type 0} {is_known : S → Type 0} {left : S → List ℕ} {failures : S → Failures} {old mid new : S} {i j k : ℕ} {kind : ValueType} {result : Result Y DeserializeError} (B : List ℕ → Y → Type 0) (Q : List ℕ → Refusal → Type 0)
     → ((source : S) → is_known source → AllBytes (left source)) → Q [] end → Q (7 ∷ []) end → reads.TakesLean is_known left failures old i mid j (λ x. x) (Ok kind) kind_at
-    → FindsIf May is_known left failures mid j new k result (λ b y. B (coded kind ++ b) y) (λ w r. Q (coded kind ++ w) r) → FindsIf May is_known left failures old i new k result B Q
-finds_behind {kind = kind} B Q are_bytes none seven part h =
+    → FindsBy stop May end is_known left failures mid j new k result (λ b y. B (coded kind ++ b) y) (λ w r. Q (coded kind ++ w) r) → FindsBy stop May end is_known left failures old i new k result B Q
+finds_behind {stop = stop} {May = May} {kind = kind} B Q are_bytes none seven part h =
     finds_then B Q
     (λ a b y is p. subst (λ l. B (l ++ b) y) (sym is) p)
     (λ a w c is q. subst (λ l. Q (l ++ w) c) (sym is) q)
     (λ a f is _ _ start byte last. kind_edge end Q none seven kind start byte (sym is ∙ last))
-    (finds_part are_bytes kind_agrees part) h
+    (finds_ok stop May (finds_part are_bytes kind_agrees part)) h
 
 -- what a leaf of a type holds is malformed
 pub held_error : {v : Version} {w : List ℕ} {c : Cause} (t : LeafType) → ErrorInBody v t w c → NoValue v (store_code t ∷ w) (corrupted c)

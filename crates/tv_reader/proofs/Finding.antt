@@ -1,5 +1,5 @@
 -- Readers one after the other, told by the grammar.
-use Rattle.std.proofs.Common.{◌≡◌, ◌≢◌, ℕ, List, [], ◌∷◌, ◌++◌, Result, Ok, Err, refl, sym, ap, subst, ◌∙◌, arith, append_assoc}
+use Rattle.std.proofs.Common.{◌≡◌, ◌≢◌, ℕ, List, [], ◌∷◌, ◌++◌, Result, Ok, Err, refl, sym, ap, subst, ◌∙◌, arith, inl, append_assoc}
 use Rattle.std.proofs.lemmas.List.{append-nil}
 use Rattle.std.proofs.lemmas.Result.{IfErr-weaker}
 use Rattle.tv_base.specs.declared.cause.Cause.{Cause}
@@ -16,10 +16,11 @@ use Rattle.tv_base.proofs.Agrees.{Agrees, empty, ends_in, ends, same_start, no_l
 use Rattle.tv_base.proofs.ByGrammar.{shows_by}
 use Rattle.tv_base.proofs.TakeSteps.{Taken_none, Taken_then, CountsStop-from}
 use Rattle.tv_format.specs.InputError.{Refusal, corrupted}
-use Rattle.tv_reader.specs.Error.{read_error, store_stop, StoreMayStopRoomy, StoreMayStopLean}
+use Rattle.tv_reader.specs.Error.{read_error, store_stop, tree_stop, StoreMayStop, StoreMayStopRoomy, StoreMayStopDeep, StoreMayStopLean}
 use Rattle.tv_reader.specs.Error as store
 use Rattle.tv_reader.specs.declared.error.DeserializeError.{DeserializeError}
-use Rattle.tv_reader.specs.Finds.{Refuses, GivesStop, Found, FindsBy, FindsIf, Finds, FindsLean}
+use Rattle.tv_reader.specs.declared.error.DeserializeError.TheVariants as errors
+use Rattle.tv_reader.specs.Finds.{Refuses, GivesStop, Found, FindsBy, FindsIf, Finds, FindsRoomy, FindsDeep, FindsLean}
 
 -- ---- bytes that show an error
 
@@ -227,3 +228,40 @@ pub finds_read_fails : {S X Y Z : Type 0} {is_known : S → Type 0} {left : S �
     → store.TakesLean is_known left failures old i new k view (Err e) reading → FindsLean is_known left failures old i new k (Err e) B Q
 finds_read_fails {left = left} {old = old} {new = new} {k = k} {e = e} B Q are_bytes agrees map h =
     record { found = λ t. read_shown (store_stop e) Q agrees map (left old) (left new) k (are_bytes old t) (h.gives t); taken = h.taken; stays_known = h.stays_known; counts = h.counts; rises = h.rises; may_stop = h.may_stop }
+
+-- ---- readers of trees
+
+-- what was read was read, whatever may stop the reader
+pub finds_ok : {S E F X : Type 0} {stop0 : E → Stop F} {May0 : E → ℕ → Type 0} (stop : E → Stop F) (May : E → ℕ → Type 0) {end : F} {is_known : S → Type 0} {left : S → List ℕ} {failures : S → Failures} {old new : S} {i k : ℕ} {x : X} {R : List ℕ → X → Type 0} {I : List ℕ → F → Type 0}
+    → FindsBy stop0 May0 end is_known left failures old i new k (Ok x) R I → FindsBy stop May end is_known left failures old i new k (Ok x) R I
+finds_ok stop May p = record { found = p.found; taken = p.taken; stays_known = p.stays_known; counts = p.counts; rises = p.rises; may_stop = tt }
+
+-- a part of a tree was read
+pub finds_part_deep : {S X Y : Type 0} {May : ReadError → ℕ → Type 0} {is_known : S → Type 0} {left : S → List ℕ} {failures : S → Failures} {old new : S} {i k : ℕ} {view : X → Y} {x : X} {reading : List ℕ → Result (Y × List ℕ) (Cause × List ℕ)} {Encodes : List ℕ → Y → Type 0} {HasError : List ℕ → Cause → Type 0}
+    → ((source : S) → is_known source → AllBytes (left source)) → Agrees UnexpectedEnd reading Encodes HasError → TakesIf May is_known left failures old i new k view (Ok x) reading
+    → FindsDeep is_known left failures old i new k (Ok x) (λ b x. Encodes b (view x)) (λ w f. ⊥)
+finds_part_deep are_bytes agrees h = finds_ok tree_stop StoreMayStopDeep (finds_part are_bytes agrees h)
+
+-- an error that another reader tells is told so of a tree too
+told_so : (e : DeserializeError) → e ≢ errors.TooDeep → store_stop e ≡ tree_stop e
+told_so errors.TooDeep other = absurd (other refl)
+told_so _ other = refl
+
+-- none of them is too deep
+pub calm : (old new : Failures) (e : DeserializeError) → CountsStop (store_stop e) old new → e ≢ errors.TooDeep
+calm old new errors.TooDeep h = absurd h
+calm old new _ h = λ same. cc
+
+pub roomy_deep : {S X : Type 0} {is_known : S → Type 0} {left : S → List ℕ} {failures : S → Failures} {old new : S} {i k : ℕ} (result : Result X DeserializeError) {R : List ℕ → X → Type 0} {I : List ℕ → Refusal → Type 0}
+    → FindsRoomy is_known left failures old i new k result R I → FindsDeep is_known left failures old i new k result R I
+roomy_deep (Ok x) p = finds_ok tree_stop StoreMayStopDeep p
+roomy_deep {left = left} {failures = failures} {old = old} {new = new} {k = k} (Err e) {I = I} p =
+    let same = told_so e (calm (failures old) (failures new) e p.counts) in
+    record {
+      found = λ t. subst (GivesStop (corrupted UnexpectedEnd) I (left old) (left new) k) same (p.found t);
+      taken = p.taken;
+      stays_known = p.stays_known;
+      counts = subst (λ s. CountsStop s (failures old) (failures new)) same p.counts;
+      rises = p.rises;
+      may_stop = inl p.may_stop;
+    }

@@ -4,6 +4,8 @@ pub mod AgreeKinds
 pub mod AgreeLeaves
 pub mod BehindKinds
 pub mod TreeSteps
+pub mod DepthSteps
 pub mod AgreeField
 pub mod HeadSteps
 pub mod TokenSteps
+pub mod Depths

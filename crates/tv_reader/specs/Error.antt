@@ -1,5 +1,5 @@
 -- What the errors of the lower layers are called in the store, and which of them stop a reader for what reason.
-use Rattle.std.specs.Prelude.{◌≢◌, ℕ, Result, List}
+use Rattle.std.specs.Prelude.{◌≡◌, ◌≢◌, ◌⊎◌, ℕ, Result, List}
 use Rattle.tv_base.specs.declared.cause.Cause.{Cause}
 use Rattle.tv_base.specs.declared.read_error.ReadError.{ReadError}
 use Rattle.tv_base.specs.declared.read_error.ReadError.TheVariants as reads
@@ -35,15 +35,26 @@ store_stop (errors.UnsupportedType t) = Never
 store_stop (errors.Custom s) = Never
 store_stop (errors.UnsupportedVersion m n) = Never
 store_stop errors.AlreadyFailed = Never
+store_stop errors.TooDeep = Never
+
+-- The same of a reader of trees, which may be too deep for it: it says nothing wrong of the bytes.
+abbrev pub tree_stop : DeserializeError → Stop Refusal
+tree_stop errors.TooDeep = Short
+tree_stop e = store_stop e
 
 -- which of them may stop it after so many bytes
 abbrev pub StoreMayStop : DeserializeError → ℕ → Type 0
 StoreMayStop (errors.CorruptedValue c) count = CauseMayStop c count
+StoreMayStop errors.TooDeep count = ⊥
 StoreMayStop _ count = Unit {0}
 
 -- where no heap is filled
 abbrev pub StoreMayStopRoomy : DeserializeError → ℕ → Type 0
 StoreMayStopRoomy e count = StoreMayStop e count × (e ≢ errors.HeapFull)
+
+-- where trees are taken, and no heap is filled
+abbrev pub StoreMayStopDeep : DeserializeError → ℕ → Type 0
+StoreMayStopDeep e count = StoreMayStopRoomy e count ⊎ (e ≡ errors.TooDeep)
 
 -- where no memory is taken
 abbrev pub StoreMayStopLean : DeserializeError → ℕ → Type 0

@@ -7,7 +7,7 @@ use Rattle.tv_base.specs.Source.{Failures}
 use Rattle.tv_base.specs.Stop.{Stop, Counts, Taken}
 use Rattle.tv_base.specs.Stop.Stop.{InputError, Failed, Short, Never}
 use Rattle.tv_format.specs.InputError.{Refusal, corrupted}
-use Rattle.tv_reader.specs.Error.{store_stop, StoreMayStop, StoreMayStopRoomy, StoreMayStopLean}
+use Rattle.tv_reader.specs.Error.{store_stop, tree_stop, StoreMayStop, StoreMayStopRoomy, StoreMayStopDeep, StoreMayStopLean}
 use Rattle.tv_reader.specs.declared.error.DeserializeError.{DeserializeError}
 
 -- the error stands in the bytes that were left, and just those that show it were taken
@@ -47,6 +47,10 @@ Finds is_known left failures old old_count new new_count result Encodes HasError
 -- a reader that fills no heap
 abbrev pub FindsRoomy : {S X : Type 0} (is_known : S → Type 0) (left : S → List ℕ) (failures : S → Failures) (old : S) (old_count : ℕ) (new : S) (new_count : ℕ) (result : Result X DeserializeError) (Encodes : List ℕ → X → Type 0) (HasError : List ℕ → Refusal → Type 0) → Type 0
 FindsRoomy is_known left failures old old_count new new_count result Encodes HasError = FindsIf StoreMayStopRoomy is_known left failures old old_count new new_count result Encodes HasError
+
+-- a reader of trees, to a depth
+abbrev pub FindsDeep : {S X : Type 0} (is_known : S → Type 0) (left : S → List ℕ) (failures : S → Failures) (old : S) (old_count : ℕ) (new : S) (new_count : ℕ) (result : Result X DeserializeError) (Encodes : List ℕ → X → Type 0) (HasError : List ℕ → Refusal → Type 0) → Type 0
+FindsDeep is_known left failures old old_count new new_count result Encodes HasError = FindsBy tree_stop StoreMayStopDeep (corrupted UnexpectedEnd) is_known left failures old old_count new new_count result Encodes HasError
 
 -- a lean reader, which takes no memory
 abbrev pub FindsLean : {S X : Type 0} (is_known : S → Type 0) (left : S → List ℕ) (failures : S → Failures) (old : S) (old_count : ℕ) (new : S) (new_count : ℕ) (result : Result X DeserializeError) (Encodes : List ℕ → X → Type 0) (HasError : List ℕ → Refusal → Type 0) → Type 0

@@ -11,3 +11,4 @@ pub mod Fields
 pub mod Heads
 pub mod HeadReading
 pub mod EncodedTokens
+pub mod Depth

@@ -36,6 +36,9 @@ pub enum DeserializeError {
     /// What was read and announced so far needs more room than a document's heap has, 4294967295 bytes.
     #[error("the values need more room than 4294967295 bytes")]
     HeapFull,
+    /// More lists would be open at once than the reader allows. (Not in tantivy.)
+    #[error("more lists would be open at once than the reader allows")]
+    TooDeep,
     /// Memory was refused.
     #[error("memory was refused")]
     Memory,

@@ -6,6 +6,7 @@ pub mod error;
 pub mod fields;
 pub mod heads;
 pub mod kinds;
+pub mod laws;
 pub mod leaves;
 pub mod trees;
 pub mod value_type;

@@ -1,15 +1,24 @@
 //! Taking values of every type from a source that is lent, with the count of the bytes that were taken of it.
 
-ghost use Rattle.std.specs.Prelude.{◌≤◌, ◌+◌, string_bytes};
+ghost use Rattle.std.specs.Prelude.{◌≡◌, ◌≤◌, ◌+◌, ◌++◌, map, suc, IfErr, IfOk, IsErrOf, string_bytes};
+ghost use Rattle.tv_base.specs.Parts.{Begins, Then};
 ghost use Rattle.tv_base.specs.Take as reads;
 ghost use Rattle.tv_format.specs.Encoding.{Key};
+ghost use Rattle.tv_format.specs.Tree.{elements, entries};
+ghost use Rattle.tv_format.specs.Version.{Version};
 ghost use Rattle.tv_format.specs.InputError.{ErrorInCodedKey, ErrorInKey};
 ghost use Rattle.tv_reader.specs.Counts.{half_at, entry_count_at};
-ghost use Rattle.tv_reader.specs.Finds.{FindsRoomy};
+ghost use Rattle.tv_reader.specs.Depth.{Opens, EncodesWithin, ElementsWithin, EntriesWithin};
+ghost use Rattle.tv_reader.specs.Depth.{BehindKey, AmongElements, AmongEntries};
+ghost use Rattle.tv_reader.specs.Finds.{FindsRoomy, FindsDeep};
 ghost use Rattle.tv_reader.specs.Trees.{EncodesValue, NoValue, EncodesBehind, NoneBehind};
 ghost use Rattle.tv_reader.specs.Trees.{EncodesItems, NoItems, EncodesMember, NoMember};
 ghost use Rattle.tv_reader.specs.Trees.{EncodesMembers, NoMembers, CodedKey};
+ghost use Rattle.tv_reader.specs.ValueType.{coded};
 ghost use Rattle.tv_reader.specs.Version.{version_of};
+ghost use Rattle.tv_reader.specs.declared.error.DeserializeError.TheVariants as errors;
+ghost use Rattle.tv_reader.specs.declared.value_type.ValueType.TheVariants as types;
+ghost use Rattle.tv_value.specs.Owned.{owned_tree, owned_entries};
 
 use crate::error::{DeserializeError, ValueType};
 use crate::kinds::take_kind;
@@ -104,25 +113,59 @@ fn take_coded_key<S: ByteSource>(
     }
 }
 
-/// Takes a value of any type, to any depth. Nothing is reserved from announced numbers.
+/// Takes a legacy object, behind its code. How deep it nests has no limit of ours: those that are read as JSON nest 127 levels deep at most.
+///
+/// Errors: `CorruptedValue` with the first error in the bytes; `Io` where the source failed; `Memory`.
+pub fn take_legacy_object<S: ByteSource>(
+    alloc: Global,
+    source: &mut S,
+    count: &mut u64,
+) -> Result<OwnedValue, DeserializeError>
+    ensures finds { (v : Version) → FindsRoomy S.is_known S.left S.failures source.old count.old
+        source.new count.new result (EncodesBehind v types.JSONObject)
+        (NoneBehind v types.JSONObject) }
+{
+    let value = take_legacy(alloc, source, count)?;
+    Ok(value)
+}
+
+// How many lists may be opened in one that is opened now. The only error is `TooDeep`, where none may be opened.
+fn levels_below(levels: u32) -> Result<u32, DeserializeError>
+    ensures ok { IfOk result (λ below. levels ≡ suc below) }
+    ensures err { IfErr result (λ e. (e ≡ errors.TooDeep) × (levels ≡ 0)) }
+{
+    if levels == 0 {
+        return Err(DeserializeError::TooDeep);
+    }
+    Ok(levels - 1)
+}
+
+/// Takes a value of any type, in which no more than `levels` lists, which are arrays and objects, are open at once. A legacy object
+/// isn't counted, nor what it holds. Nothing is reserved from announced numbers.
 ///
 /// Errors: `CorruptedValue` with the first error in the bytes; `TypeMismatch` where in a key's place stands a value that isn't a
-/// text; `Io` where the source failed; `Memory`.
+/// text; `TooDeep` right behind the code of a list that is one too many; `Io` where the source failed; `Memory`.
 #[cycle(trees)]
 pub fn take_tree<S: ByteSource>(
     alloc: Global,
     source: &mut S,
     count: &mut u64,
     version: DocStoreVersion,
+    levels: u32,
 ) -> Result<OwnedValue, DeserializeError>
-    ensures finds { FindsRoomy S.is_known S.left S.failures source.old count.old source.new
-        count.new result (EncodesValue (version_of version)) (NoValue (version_of version)) }
+    ensures finds { FindsDeep S.is_known S.left S.failures source.old count.old source.new count.new
+        result (EncodesValue (version_of version)) (NoValue (version_of version)) }
+    ensures within { S.is_known source.old → IfOk result
+        (λ made. Begins (λ b. EncodesWithin (version_of version) levels b (owned_tree made))
+        (S.left source.old) (S.left source.new)) }
+    ensures deep { S.is_known source.old → IsErrOf result errors.TooDeep
+        → Begins (Opens (version_of version) levels) (S.left source.old) (S.left source.new) }
 {
     let before = *count;
     let kind = take_kind(source, count)?;
     // so the recursion ends: the count has an end
     prove!(before < *count);
-    take_behind(alloc, source, count, version, kind)
+    take_behind(alloc, source, count, version, kind, levels)
 }
 
 /// Takes a value whose type was taken. Errors: those of [`take_tree`].
@@ -133,26 +176,32 @@ pub fn take_behind<S: ByteSource>(
     count: &mut u64,
     version: DocStoreVersion,
     kind: ValueType,
+    levels: u32,
 ) -> Result<OwnedValue, DeserializeError>
-    ensures finds { FindsRoomy S.is_known S.left S.failures source.old count.old source.new
-        count.new result (EncodesBehind (version_of version) kind)
-        (NoneBehind (version_of version) kind) }
+    ensures finds { FindsDeep S.is_known S.left S.failures source.old count.old source.new count.new
+        result (EncodesBehind (version_of version) kind) (NoneBehind (version_of version) kind) }
+    ensures within { S.is_known source.old → IfOk result
+        (λ made. Begins
+        (λ b. EncodesWithin (version_of version) levels (coded kind ++ b) (owned_tree made))
+        (S.left source.old) (S.left source.new)) }
+    ensures deep { S.is_known source.old → IsErrOf result errors.TooDeep
+        → Begins (λ b. Opens (version_of version) levels (coded kind ++ b)) (S.left source.old)
+        (S.left source.new) }
 {
     match kind {
         ValueType::Array => {
+            let below = levels_below(levels)?;
             let announced = take_vint(source, count)?;
-            let items = take_items(alloc, source, count, version, announced)?;
+            let items = take_items(alloc, source, count, version, announced, below)?;
             Ok(OwnedValue::Array(items))
         }
         ValueType::Object => {
+            let below = levels_below(levels)?;
             let announced = take_entry_count(source, count, version)?;
-            let members = take_members(alloc, source, count, version, announced)?;
+            let members = take_members(alloc, source, count, version, announced, below)?;
             Ok(OwnedValue::Object(members))
         }
-        ValueType::JSONObject => {
-            let value = take_legacy(alloc, source, count)?;
-            Ok(value)
-        }
+        ValueType::JSONObject => take_legacy_object(alloc, source, count),
         leaf => {
             let value = take_leaf(alloc, source, count, version, leaf)?;
             Ok(value)
@@ -168,14 +217,21 @@ fn take_items<S: ByteSource>(
     count: &mut u64,
     version: DocStoreVersion,
     announced: u64,
+    levels: u32,
 ) -> Result<Vec<OwnedValue>, DeserializeError>
-    ensures finds { FindsRoomy S.is_known S.left S.failures source.old count.old source.new
-        count.new result (EncodesItems (version_of version) announced)
+    ensures finds { FindsDeep S.is_known S.left S.failures source.old count.old source.new count.new
+        result (EncodesItems (version_of version) announced)
         (NoItems (version_of version) announced) }
+    ensures within { S.is_known source.old → IfOk result (λ made. Begins
+        (λ b. ElementsWithin (version_of version) levels b (elements (map owned_tree made.items)))
+        (S.left source.old) (S.left source.new)) }
+    ensures deep { S.is_known source.old → IsErrOf result errors.TooDeep
+        → Begins (AmongElements (version_of version) levels
+        (Opens (version_of version) levels) announced) (S.left source.old) (S.left source.new) }
 {
     let mut items = Vec::new(alloc);
     for _ in 0..announced {
-        let item = take_tree(alloc, source, count, version)?;
+        let item = take_tree(alloc, source, count, version, levels)?;
         items.push(item)?;
     }
     Ok(items)
@@ -188,12 +244,20 @@ fn take_member<S: ByteSource>(
     source: &mut S,
     count: &mut u64,
     version: DocStoreVersion,
+    levels: u32,
 ) -> Result<(String, OwnedValue), DeserializeError>
-    ensures finds { FindsRoomy S.is_known S.left S.failures source.old count.old source.new
-        count.new result (EncodesMember (version_of version)) (NoMember (version_of version)) }
+    ensures finds { FindsDeep S.is_known S.left S.failures source.old count.old source.new count.new
+        result (EncodesMember (version_of version)) (NoMember (version_of version)) }
+    ensures within { S.is_known source.old → IfOk result (λ made. Begins
+        (Then (λ b. Key (version_of version) b (string_bytes made.0))
+        (λ b. EncodesWithin (version_of version) levels b (owned_tree made.1)))
+        (S.left source.old) (S.left source.new)) }
+    ensures deep { S.is_known source.old → IsErrOf result errors.TooDeep
+        → Begins (BehindKey (version_of version) (Opens (version_of version) levels))
+        (S.left source.old) (S.left source.new) }
 {
     let key = take_key(alloc, source, count, version)?;
-    let value = take_tree(alloc, source, count, version)?;
+    let value = take_tree(alloc, source, count, version, levels)?;
     Ok((key, value))
 }
 
@@ -205,14 +269,21 @@ fn take_members<S: ByteSource>(
     count: &mut u64,
     version: DocStoreVersion,
     announced: u64,
+    levels: u32,
 ) -> Result<Vec<(String, OwnedValue)>, DeserializeError>
-    ensures finds { FindsRoomy S.is_known S.left S.failures source.old count.old source.new
-        count.new result (EncodesMembers (version_of version) announced)
+    ensures finds { FindsDeep S.is_known S.left S.failures source.old count.old source.new count.new
+        result (EncodesMembers (version_of version) announced)
         (NoMembers (version_of version) announced) }
+    ensures within { S.is_known source.old → IfOk result (λ made. Begins
+        (λ b. EntriesWithin (version_of version) levels b (entries (owned_entries made.items)))
+        (S.left source.old) (S.left source.new)) }
+    ensures deep { S.is_known source.old → IsErrOf result errors.TooDeep
+        → Begins (AmongEntries (version_of version) levels
+        (Opens (version_of version) levels) announced) (S.left source.old) (S.left source.new) }
 {
     let mut members = Vec::new(alloc);
     for _ in 0..announced {
-        let member = take_member(alloc, source, count, version)?;
+        let member = take_member(alloc, source, count, version, levels)?;
         members.push(member)?;
     }
     Ok(members)

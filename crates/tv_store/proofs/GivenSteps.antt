@@ -78,6 +78,7 @@ document_counts errors.Memory old new h = h
 document_counts errors.HeapFull old new h = absurd h
 document_counts (errors.UnsupportedVersion m n) old new h = h
 document_counts errors.AlreadyFailed old new h = h
+document_counts errors.TooDeep old new h = h
 
 -- an addition reads nothing
 addition_counted : (error : AddError) (old new : Failures) → new ≡ old → CountsStop (document_stop (add_error error)) old new

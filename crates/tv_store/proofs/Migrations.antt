@@ -40,6 +40,7 @@ unread_appends (errors.Custom s) d text rest left old new h = h
 unread_appends (errors.UnsupportedVersion m n) d text rest left old new h = h
 unread_appends errors.HeapFull d text rest left old new h = h
 unread_appends errors.AlreadyFailed d text rest left old new h = h
+unread_appends errors.TooDeep d text rest left old new h = h
 
 -- what reading says of its error
 pub unread_of : {S : Type 0} (v : Version) (is_known : S → Type 0) (left : S → List ℕ) (old new : S) (x : DeserializeError)
@@ -88,6 +89,7 @@ only_memory (Read (errors.Custom s)) text rest left old new f g h last counts = 
 only_memory (Read (errors.UnsupportedVersion m n)) text rest left old new f g h last counts = absurd h
 only_memory (Read errors.HeapFull) text rest left old new f g h last counts = absurd h
 only_memory (Read errors.AlreadyFailed) text rest left old new f g h last counts = absurd h
+only_memory (Read errors.TooDeep) text rest left old new f g h last counts = absurd h
 only_memory (Write (writes.Io k)) text rest left old new f g h last counts = tt
 only_memory (Write writes.Memory) text rest left old new f g h last counts = tt
 only_memory (Write writes.WrongCount) text rest left old new f g h last counts = absurd h

@@ -62,6 +62,7 @@ errors_by (Err (errors.UnsupportedType t)) old new h = h
 errors_by (Err (errors.Custom s)) old new h = h
 errors_by (Err (errors.UnsupportedVersion m n)) old new h = h
 errors_by (Err errors.AlreadyFailed) old new h = h
+errors_by (Err errors.TooDeep) old new h = h
 
 -- ---- want of room
 
@@ -91,3 +92,4 @@ only_by v (Err (errors.UnsupportedType t)) old new count h full kind few d prefi
 only_by v (Err (errors.Custom s)) old new count h full kind few d prefix rest joined encoded small = kind
 only_by v (Err (errors.UnsupportedVersion m n)) old new count h full kind few d prefix rest joined encoded small = kind
 only_by v (Err errors.AlreadyFailed) old new count h full kind few d prefix rest joined encoded small = kind
+only_by v (Err errors.TooDeep) old new count h full kind few d prefix rest joined encoded small = kind

@@ -135,6 +135,7 @@ only_short (errors.UnsupportedType t) f g error reading last counts = absurd rea
 only_short (errors.Custom s) f g error reading last counts = absurd reading
 only_short (errors.UnsupportedVersion m n) f g error reading last counts = absurd reading
 only_short errors.AlreadyFailed f g error reading last counts = absurd reading
+only_short errors.TooDeep f g error reading last counts = absurd reading
 
 pub above : (n m : ℕ) → (n ≤ m → ⊥) → m < n
 above n m not = omega (arith, not)

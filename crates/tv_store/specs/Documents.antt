@@ -36,6 +36,7 @@ Answers (Err (errors.Custom s)) d rest left = ⊥
 Answers (Err (errors.UnsupportedVersion m n)) d rest left = ⊥
 Answers (Err errors.HeapFull) d rest left = ⊥
 Answers (Err errors.AlreadyFailed) d rest left = ⊥
+Answers (Err errors.TooDeep) d rest left = ⊥
 
 -- just the bytes that show the refusal were taken
 abbrev pub ShowsRefusal : Version → List ℕ → List ℕ → Refusal → Type 0
@@ -52,6 +53,7 @@ IsReadingError (errors.UnsupportedType t) = ⊥
 IsReadingError (errors.Custom s) = ⊥
 IsReadingError (errors.UnsupportedVersion m n) = ⊥
 IsReadingError errors.AlreadyFailed = ⊥
+IsReadingError errors.TooDeep = ⊥
 
 -- what a call gave back, where the document is left in a place
 abbrev pub in_place : {D E : Type 0} → Result (Unit {0}) E → D → Result D E

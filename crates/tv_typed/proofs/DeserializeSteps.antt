@@ -1,6 +1,6 @@
 -- Calls that read values through a reader, one after the other, whoever wrote them.
-use Rattle.std.proofs.Common.{◌≡◌, ◌≢◌, ℕ, ◌+◌, ◌-◌, ◌^◌, ◌<◌, Bool, false, List, [], ◌∷◌, ◌++◌, length, Result, Ok, Err, refl, sym, ap, subst, ◌∙◌, arith, append_assoc, length-append, inl, inr}
-use Rattle.std.specs.Prelude.{is_err, OnOk, IsErrOf}
+use Rattle.std.proofs.Common.{◌≡◌, ◌≢◌, ℕ, ◌+◌, ◌-◌, ◌^◌, ◌<◌, Bool, true, false, List, [], ◌∷◌, ◌++◌, length, Result, Ok, Err, refl, sym, ap, subst, ◌∙◌, arith, append_assoc, length-append, inl, inr}
+use Rattle.std.specs.Prelude.{is_err, IfErr, OnOk, IsErrOf}
 use Rattle.std.proofs.lemmas.List.{append_cancel_left}
 use Rattle.tv_base.specs.declared.cause.Cause.TheVariants.{UnexpectedEnd}
 use Rattle.tv_base.specs.Source.{Failures}
@@ -19,12 +19,13 @@ use Rattle.tv_reader.specs.Finds.{GivesStop, Found}
 use Rattle.tv_reader.specs.Trees.{EncodesBehind}
 use Rattle.tv_reader.specs.ValueType.{leaf_type as held_type, IsCoded, coded, no_code, no_extension_code}
 use Rattle.tv_reader.specs.Version.{version_of}
+use Rattle.tv_reader.specs.Error.{StoreMayStop}
 use Rattle.tv_reader.specs.declared.error.DeserializeError.{DeserializeError}
 use Rattle.tv_reader.specs.declared.error.DeserializeError.TheVariants as errors
 use Rattle.tv_reader.specs.declared.value_type.ValueType.{ValueType}
 use Rattle.tv_reader.proofs.BehindKinds.{kind_edge}
 use Rattle.tv_reader.proofs.Finding.{found_behind, stop_map}
-use Rattle.tv_typed.specs.Typed.{typed_stop, Reads, Deserializes}
+use Rattle.tv_typed.specs.Typed.{typed_stop, Reads, ReadsIf, Deserializes}
 use Rattle.tv_typed.specs.Excluding.{leaf_type, leaf_excludes, tree_excludes, next_excludes}
 use Rattle.tv_typed.specs.Excluding.{with_legacy}
 use Rattle.tv_typed.specs.Values.{EncodesAs, EncodedAs, IsFixed, ReadsLeaf, IsLeaf, IsTree, EncodesLeaf, LeafRefused, TreeRefused, CodeRefused, in_code, NextRefused, RefusalsExclude, SparesBytes, IsReadOf, Only}
@@ -44,8 +45,8 @@ found_map B C Q (Ok x) old new count map h = record { prefix = h.prefix; joined 
 found_map B C Q (Err e) old new count map h = h
 
 -- what is promised of a call that anyone writes, in the words of its type
-pub deserializes : {S X : Type 0} {is_known : S → Type 0} {left : S → List ℕ} {failures : S → Failures} {old new : StoreReader S} {result : Result X DeserializeError} {B : List ℕ → X → Type 0} {Q : List ℕ → DeserializeError → Type 0} (C : List ℕ → X → Type 0)
-    → ((b : List ℕ) (x : X) → B b x → C b x) → Reads is_known left failures old new result B Q → Deserializes is_known left failures old new result C Q
+pub deserializes : {May : DeserializeError → ℕ → Type 0} {S X : Type 0} {is_known : S → Type 0} {left : S → List ℕ} {failures : S → Failures} {old new : StoreReader S} {result : Result X DeserializeError} {B : List ℕ → X → Type 0} {Q : List ℕ → DeserializeError → Type 0} (C : List ℕ → X → Type 0)
+    → ((b : List ℕ) (x : X) → B b x → C b x) → ReadsIf May is_known left failures old new result B Q → Deserializes is_known left failures old new result C Q
 deserializes {left = left} {old = old} {new = new} {result = result} {B = B} {Q = Q} C map h = record {
   closed = h.closed;
   unmarked = unmarked_by result _ h.marks;
@@ -54,6 +55,7 @@ deserializes {left = left} {old = old} {new = new} {result = result} {B = B} {Q 
   stays_known = λ is_open. (h.finds is_open).stays_known;
   counts = λ is_open. (h.finds is_open).counts;
   same_version = h.same_version;
+  same_levels = h.same_levels;
 }
 
 -- ---- one call after the other
@@ -77,6 +79,7 @@ goes_then {left = left} {failures = failures} {old = old} {mid = mid} {new = new
   stays_known = λ is_open t. h.stays_known p.unmarked (p.stays_known is_open t);
   counts = λ is_open. subst (λ z. Counts typed_stop result z (failures new.source)) (p.counts is_open) (h.counts p.unmarked);
   same_version = h.same_version ∙ p.same_version;
+  same_levels = h.same_levels ∙ p.same_levels;
 }
 
 -- the same of what is read, in other words
@@ -90,6 +93,7 @@ goes_as {x = x} y B Q map p = record {
   stays_known = p.stays_known;
   counts = p.counts;
   same_version = p.same_version;
+  same_levels = p.same_levels;
 }
 
 -- a refusal of a part is one of the whole
@@ -103,6 +107,7 @@ goes_fails {left = left} {old = old} {new = new} {e = e} {P = P} B Q map p = rec
   stays_known = p.stays_known;
   counts = p.counts;
   same_version = p.same_version;
+  same_levels = p.same_levels;
 }
 
 -- what was read can't be kept, for want of memory
@@ -116,6 +121,7 @@ goes_short {x = x} B Q p = record {
   stays_known = p.stays_known;
   counts = p.counts;
   same_version = p.same_version;
+  same_levels = p.same_levels;
 }
 
 kept : {X : Type 0} (b c : Bool) (result : Result X DeserializeError) → OnOk result (b ≡ false) → OnOk result (c ≡ b) → OnOk result (c ≡ false)
@@ -133,6 +139,7 @@ goes_marked {new = new} {result = result} has_failed keeps p = record {
   stays_known = p.stays_known;
   counts = p.counts;
   same_version = p.same_version;
+  same_levels = p.same_levels;
 }
 
 -- whether there was a refusal was marked
@@ -146,6 +153,7 @@ goes_told {result = result} has_failed marks p = record {
   stays_known = p.stays_known;
   counts = p.counts;
   same_version = p.same_version;
+  same_levels = p.same_levels;
 }
 
 -- ---- the next value
@@ -204,21 +212,35 @@ pub leaf_deserializes : {S X : Type 0} {is_known : S → Type 0} {left : S → L
     → Reads is_known left failures old new result (EncodesLeaf v kind make) Q → Deserializes is_known left failures old new result (EncodedAs (IsLeaf make) v kind) Q
 leaf_deserializes make v kind h = deserializes (EncodedAs (IsLeaf make) v kind) (λ b x p. (leaf (make x), p, refl)) h
 
+closed_calm : {X : Type 0} (result : Result X DeserializeError) → IsErrOf result errors.AlreadyFailed → IsErrOf result errors.TooDeep → ⊥
+closed_calm result is deep = let same = sym is ∙ deep in absurd cc
+
+may_calm : {X : Type 0} (result : Result X DeserializeError) (count : ℕ) → IfErr result (λ e. StoreMayStop e count) → IsErrOf result errors.TooDeep → ⊥
+may_calm (Ok x) count may is = absurd cc
+may_calm (Err errors.TooDeep) count may is = may
+may_calm (Err _) count may is = absurd cc
+
+-- a read of no tree isn't too deep
+reads_calm : {S X : Type 0} {is_known : S → Type 0} {left : S → List ℕ} {failures : S → Failures} {old new : StoreReader S} {result : Result X DeserializeError} {B : List ℕ → X → Type 0} {Q : List ℕ → DeserializeError → Type 0} (has_failed : Bool) → old.has_failed ≡ has_failed
+    → Reads is_known left failures old new result B Q → IsErrOf result errors.TooDeep → ⊥
+reads_calm {result = result} true failed h = closed_calm result (h.closed failed).0
+reads_calm {new = new} {result = result} false is_open h = may_calm result new.count (h.finds is_open).may_stop
+
 pub reads_leaf : {S X : Type 0} {is_known : S → Type 0} {left : S → List ℕ} {failures : S → Failures} {old new : StoreReader S} {result : Result X DeserializeError} (expected : ValueType) (make : X → Leaf) → ((x : X) → leaf_type (make x) ≡ expected) → (kind : ValueType)
     → Reads is_known left failures old new result (EncodesLeaf (version_of old.version) kind make) (LeafRefused expected (version_of old.version) kind) → (IsFixed (held_type expected) → ¬ IsErrOf result errors.Memory)
     → ReadsLeaf is_known left failures expected make kind old new result
 reads_leaf {old = old} expected make typed kind h spares =
     let v = version_of old.version in
     let as_type = leaf_deserializes make v kind h in
-    record { reads = h; only = only_by (IsLeaf make) v (coded kind) (LeafRefused expected v kind) (leaf_excludes expected make typed v kind) as_type; deserializes = as_type; spares = spares }
+    record { reads = h; only = only_by (IsLeaf make) v (coded kind) (LeafRefused expected v kind) (leaf_excludes expected make typed v kind) as_type; deserializes = as_type; spares = spares; roomy = reads_calm _ refl h }
 
 -- a value of any type behind its code
-pub tree_deserializes : {S : Type 0} {is_known : S → Type 0} {left : S → List ℕ} {failures : S → Failures} {old new : StoreReader S} {result : Result OwnedValue DeserializeError} {Q : List ℕ → DeserializeError → Type 0} (v : Version) (kind : ValueType)
-    → Reads is_known left failures old new result (EncodesBehind v kind) Q → Deserializes is_known left failures old new result (EncodedAs IsTree v kind) Q
+pub tree_deserializes : {May : DeserializeError → ℕ → Type 0} {S : Type 0} {is_known : S → Type 0} {left : S → List ℕ} {failures : S → Failures} {old new : StoreReader S} {result : Result OwnedValue DeserializeError} {Q : List ℕ → DeserializeError → Type 0} (v : Version) (kind : ValueType)
+    → ReadsIf May is_known left failures old new result (EncodesBehind v kind) Q → Deserializes is_known left failures old new result (EncodedAs IsTree v kind) Q
 tree_deserializes v kind h = deserializes (EncodedAs IsTree v kind) (λ b x p. (owned_tree x, p, refl)) h
 
-pub tree_only : {S : Type 0} {is_known : S → Type 0} {left : S → List ℕ} {failures : S → Failures} {old new : StoreReader S} {result : Result OwnedValue DeserializeError} (v : Version) (kind : ValueType)
-    → Reads is_known left failures old new result (EncodesBehind v kind) (TreeRefused v kind) → Only is_known left old new result IsTree v (coded kind)
+pub tree_only : {May : DeserializeError → ℕ → Type 0} {S : Type 0} {is_known : S → Type 0} {left : S → List ℕ} {failures : S → Failures} {old new : StoreReader S} {result : Result OwnedValue DeserializeError} (v : Version) (kind : ValueType)
+    → ReadsIf May is_known left failures old new result (EncodesBehind v kind) (TreeRefused v kind) → Only is_known left old new result IsTree v (coded kind)
 tree_only v kind h = only_by IsTree v (coded kind) (TreeRefused v kind) (tree_excludes IsTree v kind) (tree_deserializes v kind h)
 
 -- the next value

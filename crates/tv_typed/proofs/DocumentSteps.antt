@@ -34,9 +34,9 @@ field_found (Ok x) are_bytes h = finds_as x (Fixed 4) (Corrupt (ErrorInBytes 4))
 field_found (Err e) are_bytes h = finds_any (λ e n may. may.0) (finds_read_fails (Fixed 4) (Corrupt (ErrorInBytes 4)) are_bytes field_agrees (λ w r f. f) h)
 
 pub field_reads : {S : Type 0} {is_known : S → Type 0} {left : S → List ℕ} {failures : S → Failures} {s : S} {k : ℕ} (old new : StoreReader S) (result : Result ℕ DeserializeError) → ((source : S) → is_known source → AllBytes (left source))
-    → old.has_failed ≡ false → stores.TakesLean is_known left failures old.source old.count s k (λ x. x) result field_at → new.source ≡ s → new.count ≡ k → new.version ≡ old.version → new.has_failed ≡ is_err result
+    → old.has_failed ≡ false → stores.TakesLean is_known left failures old.source old.count s k (λ x. x) result field_at → new.source ≡ s → new.count ≡ k → new.version ≡ old.version → new.levels ≡ old.levels → new.has_failed ≡ is_err result
     → Reads is_known left failures old new result (Fixed 4) FieldEnds
-field_reads old new result are_bytes is_open h source count version marks = told_reads old new result (Fixed 4) (Corrupt (ErrorInBytes 4)) is_open (field_found result are_bytes h) source count version marks
+field_reads old new result are_bytes is_open h source count version levels marks = told_reads old new result (Fixed 4) (Corrupt (ErrorInBytes 4)) is_open (field_found result are_bytes h) source count version levels marks
 
 -- ---- pairs
 
@@ -77,6 +77,7 @@ pair_given is is_open h told =
           was_open = is_open;
           is_open = h.unmarked;
           same_version = h.same_version;
+          same_levels = h.same_levels;
           encodes = record { prefix = b.prefix; joined = b.joined; encoded = record { prefix = s.prefix; rest = s.rest; joined = s.joined; first = s.first; second = s.second.1 } };
         },
         s.second.2,
@@ -101,5 +102,6 @@ closed_refused is_known left failures old refused position announced failed = (
     stays_known = λ is_open t. t;
     counts = λ is_open. absurd (both (sym is_open ∙ failed));
     same_version = refl;
+    same_levels = refl;
   },
 )

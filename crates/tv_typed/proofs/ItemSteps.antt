@@ -43,6 +43,7 @@ into_none is_known left failures reader c Made Item is_open made = record {
   stays_known = λ _ t. t;
   counts = λ _. refl;
   same_version = refl;
+  same_levels = refl;
 }
 
 -- one more

@@ -54,6 +54,7 @@ of_told Q (errors.UnsupportedType t) _ old new count calm (as_it_is other) few h
 of_told Q (errors.Custom s) _ old new count calm (as_it_is other) few h = (errors.Custom s, (h few).stands, as_it_is other)
 of_told Q (errors.Io k) _ old new count calm (as_it_is other) few h = absurd (calm k refl)
 of_told Q errors.Memory _ old new count calm (as_it_is other) few h = tt
+of_told Q errors.TooDeep _ old new count calm (as_it_is other) few h = tt
 of_told Q errors.HeapFull _ old new count calm (as_it_is other) few h = h
 of_told Q (errors.UnsupportedVersion m n) _ old new count calm (as_it_is other) few h = h
 of_told Q errors.AlreadyFailed _ old new count calm (as_it_is other) few h = h
@@ -141,6 +142,7 @@ legacy_then {is_known = is_known} {left = left} {failures = failures} {new = new
       stays_known = λ _ told. told;
       counts = λ _. counts_here (EncodesAs is V2) (NextRefused refused V2) content result (failures new.source) h;
       same_version = refl;
+      same_levels = refl;
     })
 
 pub legacy_fails : {S X : Type 0} {is_known : S → Type 0} {left : S → List ℕ} {failures : S → Failures} {old new : StoreReader S} {e : DeserializeError} (is : Tree → X → Type 0) (refused : Version → ValueType → List ℕ → DeserializeError → Type 0) (v : Version)
@@ -167,6 +169,7 @@ goes_more {left = left} {old = old} {new = new} {result = result} {A = A} {P = P
   stays_known = p.stays_known;
   counts = p.counts;
   same_version = p.same_version;
+  same_levels = p.same_levels;
 }
 
 pub legacy_among : {S X : Type 0} {is_known : S → Type 0} {left : S → List ℕ} {failures : S → Failures} {old new : StoreReader S} {result : Result X DeserializeError} (is : Tree → X → Type 0) (refused : Version → ValueType → List ℕ → DeserializeError → Type 0) (v : Version) (kind : ValueType) → kind ≡ types.JSONObject

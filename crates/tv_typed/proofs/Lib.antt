@@ -7,3 +7,4 @@ pub mod DocumentSteps
 pub mod VisitSteps
 pub mod TreeTypeSteps
 pub mod LegacySteps
+pub mod DepthSteps

@@ -38,39 +38,39 @@ use Rattle.tv_typed.proofs.TypedSteps.{reads_mismatch, reads_then, told_reads}
 
 -- the reader was refused before, or a value of another type stands there
 pub length_mismatch : {S X : Type 0} (is_known : S → Type 0) (left : S → List ℕ) (failures : S → Failures) (old new : StoreReader S) (kind collection : ValueType) (total : ℕ → ℕ) (e : DeserializeError) (B : List ℕ → X → Type 0)
-    → IsMismatch old.has_failed kind collection (errors.UnsupportedType kind) e → new.source ≡ old.source → new.count ≡ old.count → new.version ≡ old.version → new.has_failed ≡ true → Reads is_known left failures old new (Err e) B (LengthRefused collection total kind)
-length_mismatch is_known left failures old new kind collection total e B h source count version marks =
-    reads_mismatch is_known left failures old new kind collection (errors.UnsupportedType kind) e B (LengthRefused collection total kind) refl tt (λ same. cc) (λ other w. other_collection other) h source count version marks
+    → IsMismatch old.has_failed kind collection (errors.UnsupportedType kind) e → new.source ≡ old.source → new.count ≡ old.count → new.version ≡ old.version → new.levels ≡ old.levels → new.has_failed ≡ true → Reads is_known left failures old new (Err e) B (LengthRefused collection total kind)
+length_mismatch is_known left failures old new kind collection total e B h source count version levels marks =
+    reads_mismatch is_known left failures old new kind collection (errors.UnsupportedType kind) e B (LengthRefused collection total kind) refl tt (λ same. cc) (λ other w. other_collection other) h source count version levels marks
 
 pub elements_read : {S : Type 0} {is_known : S → Type 0} {left : S → List ℕ} {failures : S → Failures} {s : S} {k : ℕ} {answer : Result ℕ ReadError} (old mid new : StoreReader S) (result : Result ℕ DeserializeError) (kind : ValueType)
-    → ((source : S) → is_known source → AllBytes (left source)) → kind ≡ types.Array → old.has_failed ≡ false → mid.source ≡ old.source → mid.count ≡ old.count → mid.version ≡ old.version
-    → TakesBy is_known left failures mid.source mid.count s k (λ x. x) answer vint_at → new.source ≡ s → new.count ≡ k → new.version ≡ mid.version → new.has_failed ≡ is_err result → result ≡ raised answer
+    → ((source : S) → is_known source → AllBytes (left source)) → kind ≡ types.Array → old.has_failed ≡ false → mid.source ≡ old.source → mid.count ≡ old.count → mid.version ≡ old.version → mid.levels ≡ old.levels
+    → TakesBy is_known left failures mid.source mid.count s k (λ x. x) answer vint_at → new.source ≡ s → new.count ≡ k → new.version ≡ mid.version → new.levels ≡ mid.levels → new.has_failed ≡ is_err result → result ≡ raised answer
     → Reads is_known left failures old new result (Length types.Array element_total kind) (LengthRefused types.Array element_total kind)
-elements_read old mid new result kind are_bytes is is_open source count version part source_new count_new version_new marks told =
+elements_read old mid new result kind are_bytes is is_open source count version levels part source_new count_new version_new levels_new marks told =
     reads_then old mid new result (Length types.Array element_total kind) (LengthRefused types.Array element_total kind) are_bytes vint_agrees (λ a x h. (is, h)) (λ w c f. in_length is f)
-    is_open source count version part source_new count_new version_new marks told
+    is_open source count version levels part source_new count_new version_new levels_new marks told
 
 count_refused : (v : Version) (kind : ValueType) (w : List ℕ) (c : Cause) → kind ≡ types.Object → ErrorInEntryCount v w c → LengthRefused types.Object (entry_total v) kind w (errors.CorruptedValue c)
 count_refused v kind w c is (in_count_number f) = in_length is f
 count_refused v kind w _ is (odd_count_number n prefix rest joined number none) = no_total n prefix rest is joined number none
 
 pub entries_read : {S : Type 0} {is_known : S → Type 0} {left : S → List ℕ} {failures : S → Failures} {s : S} {k : ℕ} {answer : Result ℕ ReadError} (old mid new : StoreReader S) (result : Result ℕ DeserializeError) (kind : ValueType)
-    → ((source : S) → is_known source → AllBytes (left source)) → kind ≡ types.Object → old.has_failed ≡ false → mid.source ≡ old.source → mid.count ≡ old.count → mid.version ≡ old.version
-    → TakesBy is_known left failures mid.source mid.count s k (λ x. x) answer (entry_count_at (version_of mid.version)) → new.source ≡ s → new.count ≡ k → new.version ≡ mid.version → new.has_failed ≡ is_err result → result ≡ raised answer
+    → ((source : S) → is_known source → AllBytes (left source)) → kind ≡ types.Object → old.has_failed ≡ false → mid.source ≡ old.source → mid.count ≡ old.count → mid.version ≡ old.version → mid.levels ≡ old.levels
+    → TakesBy is_known left failures mid.source mid.count s k (λ x. x) answer (entry_count_at (version_of mid.version)) → new.source ≡ s → new.count ≡ k → new.version ≡ mid.version → new.levels ≡ mid.levels → new.has_failed ≡ is_err result → result ≡ raised answer
     → Reads is_known left failures old new result (Length types.Object (entry_total (version_of old.version)) kind) (LengthRefused types.Object (entry_total (version_of old.version)) kind)
-entries_read {is_known = is_known} {left = left} {failures = failures} {s = s} {k = k} {answer = answer} old mid new result kind are_bytes is is_open source count version part source_new count_new version_new marks told =
+entries_read {is_known = is_known} {left = left} {failures = failures} {s = s} {k = k} {answer = answer} old mid new result kind are_bytes is is_open source count version levels part source_new count_new version_new levels_new marks told =
     let v = version_of old.version in
     reads_then old mid new result (Length types.Object (entry_total v) kind) (LengthRefused types.Object (entry_total v) kind) are_bytes (entry_count_agrees v)
     (λ a x h. (is, h)) (λ w c f. count_refused v kind w c is f)
-    is_open source count version (subst (λ z. TakesBy is_known left failures mid.source mid.count s k (λ x. x) answer (entry_count_at (version_of z))) version part) source_new count_new version_new marks told
+    is_open source count version levels (subst (λ z. TakesBy is_known left failures mid.source mid.count s k (λ x. x) answer (entry_count_at (version_of z))) version part) source_new count_new version_new levels_new marks told
 
 -- ---- keys
 
 pub key_reads : {S : Type 0} {is_known : S → Type 0} {left : S → List ℕ} {failures : S → Failures} {s : S} {k : ℕ} (old new : StoreReader S) (result : Result (String Global) DeserializeError)
-    → old.has_failed ≡ false → FindsRoomy is_known left failures old.source old.count s k result (λ b key. Key (version_of old.version) b (string_bytes key)) (ErrorInKey (version_of old.version)) → new.source ≡ s → new.count ≡ k → new.version ≡ old.version → new.has_failed ≡ is_err result
+    → old.has_failed ≡ false → FindsRoomy is_known left failures old.source old.count s k result (λ b key. Key (version_of old.version) b (string_bytes key)) (ErrorInKey (version_of old.version)) → new.source ≡ s → new.count ≡ k → new.version ≡ old.version → new.levels ≡ old.levels → new.has_failed ≡ is_err result
     → Reads is_known left failures old new result (λ b key. Key (version_of old.version) b (string_bytes key)) (KeyRefused (version_of old.version))
-key_reads old new result is_open h source count version marks =
-    told_reads old new result (λ b key. Key (version_of old.version) b (string_bytes key)) (ErrorInKey (version_of old.version)) is_open h source count version marks
+key_reads old new result is_open h source count version levels marks =
+    told_reads old new result (λ b key. Key (version_of old.version) b (string_bytes key)) (ErrorInKey (version_of old.version)) is_open h source count version levels marks
 
 -- ---- no bytes
 

@@ -1,5 +1,5 @@
 -- Typed reads by the parts that they take.
-use Rattle.std.proofs.Common.{◌≡◌, ◌≢◌, ℕ, ◌-◌, ◌^◌, ◌<◌, Bool, true, false, List, ◌++◌, Result, Ok, Err, refl, sym, ap, subst, ◌∙◌}
+use Rattle.std.proofs.Common.{◌≡◌, ◌≢◌, ℕ, ◌-◌, ◌^◌, ◌<◌, Bool, true, false, List, ◌++◌, Result, Ok, Err, refl, sym, ap, subst, ◌∙◌, inl, inr}
 use Rattle.std.specs.Prelude.{is_err, IfErr, IsErrOf}
 use Rattle.std.proofs.lemmas.Result.{IfErr-weaker}
 use Rattle.tv_base.specs.declared.cause.Cause.{Cause}
@@ -18,13 +18,13 @@ use Rattle.tv_format.specs.InputError.{Refusal, corrupted}
 use Rattle.tv_format.specs.Encoding.{Encodes}
 use Rattle.tv_format.specs.Tree.{Leaf, leaf}
 use Rattle.tv_format.specs.Version.{Version}
-use Rattle.tv_reader.specs.Error.{key_stop, store_stop, StoreMayStop, StoreMayStopRoomy, IsRefusal, is_corrupted, is_no_text}
-use Rattle.tv_reader.specs.Finds.{Refuses, GivesStop, Found, FindsBy, FindsRoomy}
+use Rattle.tv_reader.specs.Error.{key_stop, store_stop, tree_stop, StoreMayStop, StoreMayStopRoomy, StoreMayStopDeep, IsRefusal, is_corrupted, is_no_text}
+use Rattle.tv_reader.specs.Finds.{Refuses, GivesStop, Found, FindsBy, FindsRoomy, FindsDeep}
 use Rattle.tv_reader.specs.LeafBodies.{LeafOf, ErrorInLeafOf}
 use Rattle.tv_reader.specs.Leaves.{is_leaf_type}
 use Rattle.tv_reader.specs.Trees.{NoneBehind}
 use Rattle.tv_reader.specs.ValueType.{coded}
-use Rattle.tv_typed.specs.Typed.{typed_stop, Reads, raised, IsMismatch, failed_before, mismatched}
+use Rattle.tv_typed.specs.Typed.{typed_stop, Reads, ReadsIf, ReadsDeep, raised, IsMismatch, failed_before, mismatched}
 use Rattle.tv_typed.specs.Values.{EncodesLeaf, LeafRefused, other_type, in_body, GivesError}
 use Rattle.tv_reader.specs.declared.error.DeserializeError.{DeserializeError}
 use Rattle.tv_reader.specs.declared.error.DeserializeError.TheVariants as errors
@@ -74,9 +74,9 @@ both b p q = let e = sym p ∙ q in absurd cc
 pub reads_part : {S X Y : Type 0} {is_known : S → Type 0} {left : S → List ℕ} {failures : S → Failures} {s : S} {k : ℕ} {view : X → Y} {answer : Result X ReadError} {reading : List ℕ → Result (Y × List ℕ) (Cause × List ℕ)} {Encodes : List ℕ → Y → Type 0} {HasError : List ℕ → Cause → Type 0}
     (old new : StoreReader S) (result : Result X DeserializeError) (B : List ℕ → X → Type 0) (Q : List ℕ → DeserializeError → Type 0)
     → ((source : S) → is_known source → AllBytes (left source)) → Agrees UnexpectedEnd reading Encodes HasError → ((a : List ℕ) (x : X) → Encodes a (view x) → B a x) → ((w : List ℕ) (c : Cause) → HasError w c → Q w (errors.CorruptedValue c))
-    → old.has_failed ≡ false → TakesBy is_known left failures old.source old.count s k view answer reading → new.source ≡ s → new.count ≡ k → new.version ≡ old.version → new.has_failed ≡ is_err result → result ≡ raised answer
+    → old.has_failed ≡ false → TakesBy is_known left failures old.source old.count s k view answer reading → new.source ≡ s → new.count ≡ k → new.version ≡ old.version → new.levels ≡ old.levels → new.has_failed ≡ is_err result → result ≡ raised answer
     → Reads is_known left failures old new result B Q
-reads_part {is_known = is_known} {left = left} {failures = failures} {s = s} {k = k} {view = view} {answer = answer} old new result B Q are_bytes agrees join map is_open part source count version marks told = record {
+reads_part {is_known = is_known} {left = left} {failures = failures} {s = s} {k = k} {view = view} {answer = answer} old new result B Q are_bytes agrees join map is_open part source count version levels marks told = record {
   closed = λ failed. absurd (both old.has_failed is_open failed);
   finds = λ _. subst (λ r. FindsBy typed_stop StoreMayStop end is_known left failures old.source old.count new.source new.count r B Q) (sym told)
       (subst (λ z. FindsBy typed_stop StoreMayStop end is_known left failures old.source old.count z new.count (raised answer) B Q) (sym source)
@@ -84,67 +84,71 @@ reads_part {is_known = is_known} {left = left} {failures = failures} {s = s} {k 
       (typed_part is_known left failures old.source s old.count k view answer B Q are_bytes agrees join map part)));
   marks = marks;
   same_version = version;
+  same_levels = levels;
 }
 
 -- the reader was refused before, or the type is another than that which is expected
 pub reads_mismatch : {S X Kind : Type 0} (is_known : S → Type 0) (left : S → List ℕ) (failures : S → Failures) (old new : StoreReader S) (kind expected : Kind) (refusal e : DeserializeError) (B : List ℕ → X → Type 0) (Q : List ℕ → DeserializeError → Type 0)
     → typed_stop refusal ≡ InputError refusal → StoreMayStop refusal old.count → refusal ≢ end → (kind ≢ expected → (w : List ℕ) → Q w refusal)
-    → IsMismatch old.has_failed kind expected refusal e → new.source ≡ old.source → new.count ≡ old.count → new.version ≡ old.version → new.has_failed ≡ true → Reads is_known left failures old new (Err e) B Q
-reads_mismatch is_known left failures old new kind expected refusal _ B Q is may other shows (failed_before failed) source count version marks = record {
+    → IsMismatch old.has_failed kind expected refusal e → new.source ≡ old.source → new.count ≡ old.count → new.version ≡ old.version → new.levels ≡ old.levels → new.has_failed ≡ true → Reads is_known left failures old new (Err e) B Q
+reads_mismatch is_known left failures old new kind expected refusal _ B Q is may other shows (failed_before failed) source count version levels marks = record {
   closed = λ _. (refl, source, count);
   finds = λ is_open. absurd (both old.has_failed is_open failed);
   marks = marks;
   same_version = version;
+  same_levels = levels;
 }
-reads_mismatch is_known left failures old new kind expected refusal _ B Q is may other shows (mismatched is_open apart) source count version marks = record {
+reads_mismatch is_known left failures old new kind expected refusal _ B Q is may other shows (mismatched is_open apart) source count version levels marks = record {
   closed = λ failed. absurd (both old.has_failed is_open failed);
   finds = λ _. subst (λ z. FindsBy typed_stop StoreMayStop end is_known left failures old.source old.count z new.count (Err refusal) B Q) (sym source)
       (subst (λ n. FindsBy typed_stop StoreMayStop end is_known left failures old.source old.count old.source n (Err refusal) B Q) (sym count)
       (finds_refused typed_stop end is_known left failures old.source old.count refusal refusal B Q is may other (shows apart)));
   marks = marks;
   same_version = version;
+  same_levels = levels;
 }
 
 -- the same of a leaf
 pub leaf_mismatch : {S X : Type 0} (is_known : S → Type 0) (left : S → List ℕ) (failures : S → Failures) (old new : StoreReader S) (kind expected : ValueType) (v : Version) (e : DeserializeError) (B : List ℕ → X → Type 0)
-    → IsMismatch old.has_failed kind expected (errors.TypeMismatch expected kind) e → new.source ≡ old.source → new.count ≡ old.count → new.version ≡ old.version → new.has_failed ≡ true → Reads is_known left failures old new (Err e) B (LeafRefused expected v kind)
-leaf_mismatch is_known left failures old new kind expected v e B h source count version marks =
-    reads_mismatch is_known left failures old new kind expected (errors.TypeMismatch expected kind) e B (LeafRefused expected v kind) refl tt (λ same. cc) (λ other w. other_type other) h source count version marks
+    → IsMismatch old.has_failed kind expected (errors.TypeMismatch expected kind) e → new.source ≡ old.source → new.count ≡ old.count → new.version ≡ old.version → new.levels ≡ old.levels → new.has_failed ≡ true → Reads is_known left failures old new (Err e) B (LeafRefused expected v kind)
+leaf_mismatch is_known left failures old new kind expected v e B h source count version levels marks =
+    reads_mismatch is_known left failures old new kind expected (errors.TypeMismatch expected kind) e B (LeafRefused expected v kind) refl tt (λ same. cc) (λ other w. other_type other) h source count version levels marks
 
 -- the reader was refused before
-pub reads_closed : {S X : Type 0} (is_known : S → Type 0) (left : S → List ℕ) (failures : S → Failures) (old new : StoreReader S) (e : DeserializeError) (B : List ℕ → X → Type 0) (Q : List ℕ → DeserializeError → Type 0)
-    → e ≡ errors.AlreadyFailed → old.has_failed ≡ true → new.source ≡ old.source → new.count ≡ old.count → new.version ≡ old.version → new.has_failed ≡ true → Reads is_known left failures old new (Err e) B Q
-reads_closed is_known left failures old new e B Q is failed source count version marks = record {
+pub reads_closed : {May : DeserializeError → ℕ → Type 0} {S X : Type 0} (is_known : S → Type 0) (left : S → List ℕ) (failures : S → Failures) (old new : StoreReader S) (e : DeserializeError) (B : List ℕ → X → Type 0) (Q : List ℕ → DeserializeError → Type 0)
+    → e ≡ errors.AlreadyFailed → old.has_failed ≡ true → new.source ≡ old.source → new.count ≡ old.count → new.version ≡ old.version → new.levels ≡ old.levels → new.has_failed ≡ true → ReadsIf May is_known left failures old new (Err e) B Q
+reads_closed is_known left failures old new e B Q is failed source count version levels marks = record {
   closed = λ _. (ap (λ (d : DeserializeError). Err d) is, source, count);
   finds = λ is_open. absurd (both old.has_failed is_open failed);
   marks = marks;
   same_version = version;
+  same_levels = levels;
 }
 
 -- the type was the one that is expected, and then a part was taken
 pub reads_then : {S X Y : Type 0} {is_known : S → Type 0} {left : S → List ℕ} {failures : S → Failures} {s : S} {k : ℕ} {view : X → Y} {answer : Result X ReadError} {reading : List ℕ → Result (Y × List ℕ) (Cause × List ℕ)} {R : List ℕ → Y → Type 0} {F : List ℕ → Cause → Type 0}
     (old mid new : StoreReader S) (result : Result X DeserializeError) (B : List ℕ → X → Type 0) (Q : List ℕ → DeserializeError → Type 0)
     → ((source : S) → is_known source → AllBytes (left source)) → Agrees UnexpectedEnd reading R F → ((a : List ℕ) (x : X) → R a (view x) → B a x) → ((w : List ℕ) (c : Cause) → F w c → Q w (errors.CorruptedValue c))
-    → old.has_failed ≡ false → mid.source ≡ old.source → mid.count ≡ old.count → mid.version ≡ old.version
-    → TakesBy is_known left failures mid.source mid.count s k view answer reading → new.source ≡ s → new.count ≡ k → new.version ≡ mid.version → new.has_failed ≡ is_err result → result ≡ raised answer
+    → old.has_failed ≡ false → mid.source ≡ old.source → mid.count ≡ old.count → mid.version ≡ old.version → mid.levels ≡ old.levels
+    → TakesBy is_known left failures mid.source mid.count s k view answer reading → new.source ≡ s → new.count ≡ k → new.version ≡ mid.version → new.levels ≡ mid.levels → new.has_failed ≡ is_err result → result ≡ raised answer
     → Reads is_known left failures old new result B Q
-reads_then {is_known = is_known} {left = left} {failures = failures} {s = s} {k = k} {view = view} {answer = answer} {reading = reading} old mid new result B Q are_bytes agrees join map is_open source count version part source_new count_new version_new marks told =
+reads_then {is_known = is_known} {left = left} {failures = failures} {s = s} {k = k} {view = view} {answer = answer} {reading = reading} old mid new result B Q are_bytes agrees join map is_open source count version levels part source_new count_new version_new levels_new marks told =
     reads_part old new result B Q are_bytes agrees join map is_open
     (subst (λ z. TakesBy is_known left failures z old.count s k view answer reading) source (subst (λ n. TakesBy is_known left failures mid.source n s k view answer reading) count part))
-    source_new count_new (version_new ∙ version) marks told
+    source_new count_new (version_new ∙ version) (levels_new ∙ levels) marks told
 
 -- what was read is encoded behind the code of the type that was expected
 pub leaf_reads : {S X Y : Type 0} {is_known : S → Type 0} {left : S → List ℕ} {failures : S → Failures} {s : S} {k : ℕ} {view : X → Y} {answer : Result X ReadError} {reading : List ℕ → Result (Y × List ℕ) (Cause × List ℕ)} {R : List ℕ → Y → Type 0} {F : List ℕ → Cause → Type 0}
     (old mid new : StoreReader S) (result : Result X DeserializeError) (v : Version) (kind expected : ValueType) (make : X → Leaf)
     → ((source : S) → is_known source → AllBytes (left source)) → Agrees UnexpectedEnd reading R F → ((a : List ℕ) (x : X) → R a (view x) → LeafOf v expected a (leaf (make x))) → ((w : List ℕ) (c : Cause) → F w c → ErrorInLeafOf v expected w c)
-    → is_leaf_type expected ≡ true → kind ≡ expected → old.has_failed ≡ false → mid.source ≡ old.source → mid.count ≡ old.count → mid.version ≡ old.version
-    → TakesBy is_known left failures mid.source mid.count s k view answer reading → new.source ≡ s → new.count ≡ k → new.version ≡ mid.version → new.has_failed ≡ is_err result → result ≡ raised answer
+    → is_leaf_type expected ≡ true → kind ≡ expected → old.has_failed ≡ false → mid.source ≡ old.source → mid.count ≡ old.count → mid.version ≡ old.version → mid.levels ≡ old.levels
+    → TakesBy is_known left failures mid.source mid.count s k view answer reading → new.source ≡ s → new.count ≡ k → new.version ≡ mid.version → new.levels ≡ mid.levels → new.has_failed ≡ is_err result → result ≡ raised answer
     → Reads is_known left failures old new result (EncodesLeaf v kind make) (LeafRefused expected v kind)
-leaf_reads {is_known = is_known} {left = left} {failures = failures} {s = s} {k = k} {view = view} {answer = answer} {reading = reading} old mid new result v kind expected make are_bytes agrees join map is_leaf is is_open source count version part source_new count_new version_new marks told =
+leaf_reads {is_known = is_known} {left = left} {failures = failures} {s = s} {k = k} {view = view} {answer = answer} {reading = reading} old mid new result v kind expected make are_bytes agrees join map is_leaf is is_open source count version levels part source_new count_new version_new levels_new marks told =
     reads_then old mid new result (EncodesLeaf v kind make) (LeafRefused expected v kind) are_bytes agrees
     (λ a x p. subst (λ z. Encodes Legacy v (coded z ++ a) (leaf (make x))) (sym is) (leaf_encoded v expected a (leaf (make x)) (join a x p)))
     (λ w c f. in_body is (subst (λ z. NoneBehind v z w (corrupted c)) (sym is) (leaf_refused v expected is_leaf w c (map w c f))))
-    is_open source count version part source_new count_new version_new marks told
+    is_open source count version levels part source_new count_new version_new levels_new marks told
 
 -- ---- what is refused in the words of lower layers
 
@@ -197,9 +201,9 @@ told_counts (Err errors.HeapFull) old new count roomy h = absurd (roomy.1 refl)
 told_counts (Err _) old new count roomy h = absurd h
 
 pub told_reads : {S X : Type 0} {is_known : S → Type 0} {left : S → List ℕ} {failures : S → Failures} {s : S} {k : ℕ} (old new : StoreReader S) (result : Result X DeserializeError) (B : List ℕ → X → Type 0) (F : List ℕ → Refusal → Type 0)
-    → old.has_failed ≡ false → FindsRoomy is_known left failures old.source old.count s k result B F → new.source ≡ s → new.count ≡ k → new.version ≡ old.version → new.has_failed ≡ is_err result
+    → old.has_failed ≡ false → FindsRoomy is_known left failures old.source old.count s k result B F → new.source ≡ s → new.count ≡ k → new.version ≡ old.version → new.levels ≡ old.levels → new.has_failed ≡ is_err result
     → Reads is_known left failures old new result B (GivesError F)
-told_reads {is_known = is_known} {left = left} {failures = failures} {s = s} {k = k} old new result B F is_open h source count version marks = record {
+told_reads {is_known = is_known} {left = left} {failures = failures} {s = s} {k = k} old new result B F is_open h source count version levels marks = record {
   closed = λ failed. absurd (both old.has_failed is_open failed);
   finds = λ _. subst (λ z. FindsBy typed_stop StoreMayStop end is_known left failures old.source old.count z new.count result B (GivesError F)) (sym source)
       (subst (λ n. FindsBy typed_stop StoreMayStop end is_known left failures old.source old.count s n result B (GivesError F)) (sym count)
@@ -213,6 +217,55 @@ told_reads {is_known = is_known} {left = left} {failures = failures} {s = s} {k 
       }));
   marks = marks;
   same_version = version;
+  same_levels = levels;
+}
+
+-- the same of a tree, which may be too deep
+
+deep_room : {X : Type 0} (count : ℕ) → StoreMayStopDeep errors.HeapFull count → X
+deep_room count (inl roomy) = absurd (roomy.1 refl)
+deep_room count (inr same) = absurd (not_deep same)
+  where
+    not_deep : errors.HeapFull ≡ errors.TooDeep → ⊥
+    not_deep same = absurd cc
+
+tree_found : {X : Type 0} (B : List ℕ → X → Type 0) (F : List ℕ → Refusal → Type 0) (result : Result X DeserializeError) (old new : List ℕ) (count : ℕ) → IfErr result (λ e. StoreMayStopDeep e count) → Found tree_stop (corrupted UnexpectedEnd) B F old new count result
+    → Found typed_stop end B (GivesError F) old new count result
+tree_found B F (Ok x) old new count may h = h
+tree_found B F (Err (errors.CorruptedValue c)) old new count may h = λ few. told_refuses _ _ old new is_corrupted (h few)
+tree_found B F (Err (errors.TypeMismatch expected actual)) old new count may h = mismatch_found expected actual old new count h
+tree_found B F (Err (errors.Io k)) old new count may h = tt
+tree_found B F (Err errors.Memory) old new count may h = tt
+tree_found B F (Err errors.TooDeep) old new count may h = tt
+tree_found B F (Err errors.HeapFull) old new count may h = deep_room count may
+tree_found B F (Err _) old new count may h = absurd h
+
+tree_counts : {X : Type 0} (result : Result X DeserializeError) (old new : Failures) (count : ℕ) → IfErr result (λ e. StoreMayStopDeep e count) → Counts tree_stop result old new → Counts typed_stop result old new
+tree_counts (Ok x) old new count may h = h
+tree_counts (Err (errors.CorruptedValue c)) old new count may h = h
+tree_counts (Err (errors.TypeMismatch expected actual)) old new count may h = mismatch_counts expected actual old new h
+tree_counts (Err (errors.Io k)) old new count may h = h
+tree_counts (Err errors.Memory) old new count may h = h
+tree_counts (Err errors.TooDeep) old new count may h = h
+tree_counts (Err errors.HeapFull) old new count may h = deep_room count may
+tree_counts (Err _) old new count may h = absurd h
+
+pub tree_reads : {S X : Type 0} {is_known : S → Type 0} {left : S → List ℕ} {failures : S → Failures} (old new : StoreReader S) (result : Result X DeserializeError) (B : List ℕ → X → Type 0) (F : List ℕ → Refusal → Type 0)
+    → old.has_failed ≡ false → FindsDeep is_known left failures old.source old.count new.source new.count result B F → new.version ≡ old.version → new.levels ≡ old.levels → new.has_failed ≡ is_err result
+    → ReadsDeep is_known left failures old new result B (GivesError F)
+tree_reads {left = left} {failures = failures} old new result B F is_open h version levels marks = record {
+  closed = λ failed. absurd (both old.has_failed is_open failed);
+  finds = λ _. record {
+    found = λ t. tree_found B F result (left old.source) (left new.source) new.count h.may_stop (h.found t);
+    taken = h.taken;
+    stays_known = h.stays_known;
+    counts = tree_counts result (failures old.source) (failures new.source) new.count h.may_stop h.counts;
+    rises = h.rises;
+    may_stop = h.may_stop;
+  };
+  marks = marks;
+  same_version = version;
+  same_levels = levels;
 }
 
 -- ---- calls that are given no memory

@@ -82,12 +82,12 @@ none_taken h = record { gives = h.gives; taken = h.taken; stays_known = h.stays_
 -- a leaf was taken, and this is the answer to it
 pub leaf_visits : {S X : Type 0} {is_known : S → Type 0} {left : S → List ℕ} {failures : S → Failures} (old new : StoreReader S) (kind : ValueType) (answers : Leaf → Result X DeserializeError → Type 0) (result : Result X DeserializeError) (answer : Result Leaf ReadError)
     → ((source : S) → is_known source → AllBytes (left source)) → is_leaf_type kind ≡ true → old.has_failed ≡ false → TakesBy is_known left failures old.source old.count new.source new.count leaf answer (leaf_at (version_of old.version) kind)
-    → new.version ≡ old.version → Answered answers (raised answer) result → Visits is_known left failures old new kind answers result
-leaf_visits old new kind answers result answer are_bytes is_leaf is_open part version answered =
+    → new.version ≡ old.version → new.levels ≡ old.levels → Answered answers (raised answer) result → Visits is_known left failures old new kind answers result
+leaf_visits old new kind answers result answer are_bytes is_leaf is_open part version levels answered =
     let v = version_of old.version in
     let read = raised answer in
     visits old new kind answers result read
-    (leaf_reads old old (record new { has_failed = is_err read }) read v kind kind (λ l. l) are_bytes (leaf_agrees v kind) (λ a x p. p) (λ w c f. f) is_leaf refl is_open refl refl refl part refl refl version refl refl)
+    (leaf_reads old old (record new { has_failed = is_err read }) read v kind kind (λ l. l) are_bytes (leaf_agrees v kind) (λ a x p. p) (λ w c f. f) is_leaf refl is_open refl refl refl refl part refl refl version levels refl refl)
     answered
 
 -- ---- arrays and objects
@@ -159,18 +159,18 @@ next_visit_fails Made Refused p = goes_fails (EncodesNextVisited Made) (NextVisi
 -- what the visitor refused was marked
 pub legacy_marked : {S X : Type 0} {is_known : S → Type 0} {left : S → List ℕ} {failures : S → Failures} {old new : StoreReader S} {Made : ℕ → List ℕ → X → Type 0} {Refused : ℕ → List ℕ → DeserializeError → Type 0} {result : Result X DeserializeError} (has_failed : Bool)
     → VisitsLegacy is_known left failures old new Made Refused result → VisitsLegacy is_known left failures old (record new { has_failed = has_failed }) Made Refused result
-legacy_marked has_failed h = record { behind_object = h.behind_object; read = h.read; reads = h.reads; gives = h.gives; same_source = h.same_source; same_count = h.same_count; same_version = h.same_version }
+legacy_marked has_failed h = record { behind_object = h.behind_object; read = h.read; reads = h.reads; gives = h.gives; same_source = h.same_source; same_count = h.same_count; same_version = h.same_version; same_levels = h.same_levels }
 
 -- the object was refused
 pub legacy_refused : {S X : Type 0} {is_known : S → Type 0} {left : S → List ℕ} {failures : S → Failures} {old new : StoreReader S} {Made : ℕ → List ℕ → X → Type 0} {Refused : ℕ → List ℕ → DeserializeError → Type 0} (e : DeserializeError)
     → Reads {X = OwnedValue} is_known left failures old new (Err e) (EncodesBehind (version_of old.version) types.JSONObject) (TreeRefused (version_of old.version) types.JSONObject) → VisitsLegacy is_known left failures old new Made Refused (Err e)
-legacy_refused {new = new} e h = record { behind_object = new; read = Err e; reads = h; gives = refl; same_source = refl; same_count = refl; same_version = refl }
+legacy_refused {new = new} e h = record { behind_object = new; read = Err e; reads = h; gives = refl; same_source = refl; same_count = refl; same_version = refl; same_levels = refl }
 
 -- it was read
 pub legacy_visited : {S X : Type 0} {is_known : S → Type 0} {left : S → List ℕ} {failures : S → Failures} {old new : StoreReader S} {Made : ℕ → List ℕ → X → Type 0} {Refused : ℕ → List ℕ → DeserializeError → Type 0} (tree : OwnedValue) (result : Result X DeserializeError)
     → Reads is_known left failures old new (Ok tree) (EncodesBehind (version_of old.version) types.JSONObject) (TreeRefused (version_of old.version) types.JSONObject) → OfEncoding (EncodesNextVisited Made) (NextVisitRefused Refused) (short V2 (owned_tree tree)) result
     → VisitsLegacy is_known left failures old new Made Refused result
-legacy_visited {new = new} tree result h made = record { behind_object = new; read = Ok tree; reads = h; gives = made; same_source = refl; same_count = refl; same_version = refl }
+legacy_visited {new = new} tree result h made = record { behind_object = new; read = Ok tree; reads = h; gives = made; same_source = refl; same_count = refl; same_version = refl; same_levels = refl }
 
 -- ---- failed reads
 

@@ -57,6 +57,7 @@ pub record GivesPair {S : Type 0} (left : S → List ℕ) (old : StoreReader S) 
   pub was_open : old.has_failed ≡ false
   pub is_open : new.has_failed ≡ false
   pub same_version : new.version ≡ old.version
+  pub same_levels : new.levels ≡ old.levels
   pub encodes : Begins (λ b. EncodesPair Legacy (version_of old.version) b pair) (left old.source) (left new.source)
 
 -- a call that reads a pair may return this error

@@ -8,3 +8,4 @@ pub mod Visits
 pub mod LegacyObjects
 pub mod ExcludingLegacy
 pub mod TreeTypes
+pub mod Depths

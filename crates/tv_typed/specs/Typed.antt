@@ -5,7 +5,7 @@ use Rattle.tv_base.specs.declared.read_error.ReadError.{ReadError}
 use Rattle.tv_base.specs.Source.{Failures}
 use Rattle.tv_base.specs.Stop.{Stop, Counts, Taken}
 use Rattle.tv_base.specs.Stop.Stop.{InputError, Failed, Short, Never}
-use Rattle.tv_reader.specs.Error.{read_error, StoreMayStop}
+use Rattle.tv_reader.specs.Error.{read_error, StoreMayStop, StoreMayStopDeep}
 use Rattle.tv_reader.specs.Finds.{Found, FindsBy}
 use Rattle.tv_reader.specs.declared.error.DeserializeError.{DeserializeError}
 use Rattle.tv_reader.specs.declared.error.DeserializeError.TheVariants as errors
@@ -22,14 +22,23 @@ typed_stop errors.Memory = Short
 typed_stop errors.HeapFull = Never
 typed_stop (errors.UnsupportedVersion m n) = Never
 typed_stop errors.AlreadyFailed = Never
+typed_stop errors.TooDeep = Short
 
 -- After a refusal a reader reads nothing more, and takes nothing. Before one, the bytes that were taken encode what is read, or show
--- why nothing is; and a refusal is marked.
-pub record Reads {S X : Type 0} (is_known : S → Type 0) (left : S → List ℕ) (failures : S → Failures) (old new : StoreReader S) (result : Result X DeserializeError) (Encodes : List ℕ → X → Type 0) (HasError : List ℕ → DeserializeError → Type 0) : Type 0 where
+-- why nothing is; a refusal is marked; and an error comes only where it may.
+pub record ReadsIf {S X : Type 0} (May : DeserializeError → ℕ → Type 0) (is_known : S → Type 0) (left : S → List ℕ) (failures : S → Failures) (old new : StoreReader S) (result : Result X DeserializeError) (Encodes : List ℕ → X → Type 0) (HasError : List ℕ → DeserializeError → Type 0) : Type 0 where
   pub closed : old.has_failed ≡ true → IsErrOf result errors.AlreadyFailed × (new.source ≡ old.source) × (new.count ≡ old.count)
-  pub finds : old.has_failed ≡ false → FindsBy typed_stop StoreMayStop (errors.CorruptedValue UnexpectedEnd) is_known left failures old.source old.count new.source new.count result Encodes HasError
+  pub finds : old.has_failed ≡ false → FindsBy typed_stop May (errors.CorruptedValue UnexpectedEnd) is_known left failures old.source old.count new.source new.count result Encodes HasError
   pub marks : new.has_failed ≡ is_err result
   pub same_version : new.version ≡ old.version
+  pub same_levels : new.levels ≡ old.levels
+
+abbrev pub Reads : {S X : Type 0} (is_known : S → Type 0) (left : S → List ℕ) (failures : S → Failures) (old new : StoreReader S) (result : Result X DeserializeError) (Encodes : List ℕ → X → Type 0) (HasError : List ℕ → DeserializeError → Type 0) → Type 0
+Reads is_known left failures old new result Encodes HasError = ReadsIf StoreMayStop is_known left failures old new result Encodes HasError
+
+-- a read of a tree, which may be too deep
+abbrev pub ReadsDeep : {S X : Type 0} (is_known : S → Type 0) (left : S → List ℕ) (failures : S → Failures) (old new : StoreReader S) (result : Result X DeserializeError) (Encodes : List ℕ → X → Type 0) (HasError : List ℕ → DeserializeError → Type 0) → Type 0
+ReadsDeep is_known left failures old new result Encodes HasError = ReadsIf StoreMayStopDeep is_known left failures old new result Encodes HasError
 
 -- What a call that reads a value of a type through a reader promises, whoever wrote it: as `Reads`, but that a refusal may be left
 -- unmarked.
@@ -41,6 +50,7 @@ pub record Deserializes {S X : Type 0} (is_known : S → Type 0) (left : S → L
   pub stays_known : old.has_failed ≡ false → is_known old.source → is_known new.source
   pub counts : old.has_failed ≡ false → Counts typed_stop result (failures old.source) (failures new.source)
   pub same_version : new.version ≡ old.version
+  pub same_levels : new.levels ≡ old.levels
 
 -- a result of a lower layer
 abbrev pub raised : {X : Type 0} → Result X ReadError → Result X DeserializeError

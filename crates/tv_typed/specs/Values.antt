@@ -110,10 +110,11 @@ DeserializesAs is_known left failures is refused kind old new result =
 
 -- ---- one type of leaves
 
--- A call that expects a leaf of a type and makes a value of what it holds: what it reads, that it reads wherever one is encoded, and that memory is refused only
--- where leaves of that type have no known width. The code of the value, which is that of some type, was read before.
+-- A call that expects a leaf of a type and makes a value of what it holds: what it reads, that it reads wherever one is encoded, that memory is refused only
+-- where leaves of that type have no known width, and that no leaf is too deep. The code of the value, which is that of some type, was read before.
 pub record ReadsLeaf {S X : Type 0} (is_known : S → Type 0) (left : S → List ℕ) (failures : S → Failures) (expected : ValueType) (make : X → Leaf) (kind : ValueType) (old new : StoreReader S) (result : Result X DeserializeError) : Type 0 where
   pub reads : Reads is_known left failures old new result (EncodesLeaf (version_of old.version) kind make) (LeafRefused expected (version_of old.version) kind)
   pub only : Only is_known left old new result (IsLeaf make) (version_of old.version) (coded kind)
   pub deserializes : DeserializesAs is_known left failures (IsLeaf make) (LeafRefused expected) kind old new result
   pub spares : IsFixed (leaf_type expected) → ¬ IsErrOf result errors.Memory
+  pub roomy : ¬ IsErrOf result errors.TooDeep

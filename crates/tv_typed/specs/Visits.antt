@@ -94,6 +94,7 @@ pub record VisitsLegacy {S X : Type 0} (is_known : S → Type 0) (left : S → L
   pub same_source : new.source ≡ behind_object.source
   pub same_count : new.count ≡ behind_object.count
   pub same_version : new.version ≡ behind_object.version
+  pub same_levels : new.levels ≡ behind_object.levels
 
 -- ---- a value of any type
 

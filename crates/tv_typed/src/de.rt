@@ -1,6 +1,6 @@
 //! Reading values out of a store: of the type that a type of this program reads, and of any type.
 
-ghost use Rattle.std.specs.Prelude.{◌≡◌, Ok, Err, IfOk, IfErr, true, List, [], ℕ, OnErr, IsErrOf};
+ghost use Rattle.std.specs.Prelude.{◌≡◌, Ok, Err, IfOk, IfErr, false, true, List, [], ℕ, OnErr, IsErrOf};
 ghost use Rattle.std.specs.Borrow.{sem, RestsIfErr};
 ghost use Rattle.tv_format.specs.Tree.{Tree};
 ghost use Rattle.tv_format.specs.Version.{Version};
@@ -12,7 +12,8 @@ ghost use Rattle.tv_reader.specs.declared.error.DeserializeError.TheVariants as 
 ghost use Rattle.tv_reader.specs.declared.value_type.ValueType.{ValueType};
 ghost use Rattle.tv_typed.specs.Excluding.{tree_excludes};
 ghost use Rattle.tv_typed.specs.Lists.{EncodesEntry, EntryRefused};
-ghost use Rattle.tv_typed.specs.Typed.{Reads, Deserializes};
+ghost use Rattle.tv_typed.specs.Depths.{IsWithin, IsTooDeep, HasDepth, NextTooDeep, OpensBehind};
+ghost use Rattle.tv_typed.specs.Typed.{Reads, ReadsDeep, Deserializes};
 ghost use Rattle.tv_typed.specs.Values.{CodeRefused, IsTree, TreeRefused, Only, EncodesAs};
 ghost use Rattle.tv_typed.specs.Values.{DeserializesAs, NextRefused, RefusalsExclude};
 
@@ -59,21 +60,36 @@ impl<'de, S: ByteSource> BinaryValueDeserializer<'de, S> {
         Ok(BinaryValueDeserializer { kind, reader })
     }
 
-    /// Reads a value of any type, to any depth, legacy objects too. Nothing is reserved from announced numbers.
+    /// Reads a value of any type, legacy objects too, to the depth of the reader. Nothing is reserved from announced numbers.
     ///
     /// Errors, the first error in reading order: `CorruptedValue`;
-    /// `TypeMismatch` where in a key's place stands a value that isn't a text; `Io`; `Memory`; `AlreadyFailed`.
+    /// `TypeMismatch` where in a key's place stands a value that isn't a text; `TooDeep` right behind the code of an array or an object that
+    /// is one too many; `Io`; `Memory`; `AlreadyFailed`.
     pub fn deserialize_tree(self, alloc: Global) -> Result<OwnedValue, DeserializeError>
-        ensures reads { Reads S.is_known S.left S.failures self.entry.reader.now self.exit.1.0.now
+        ensures reads { ReadsDeep S.is_known S.left S.failures self.entry.reader.now self.exit.1.0.now
             result (EncodesBehind (version_of self.entry.reader.now.version) self.entry.kind)
             (TreeRefused (version_of self.entry.reader.now.version) self.entry.kind) }
         ensures only { Only S.is_known S.left self.entry.reader.now self.exit.1.0.now result IsTree
             (version_of self.entry.reader.now.version) (coded self.entry.kind) }
+        ensures within { IsWithin S.is_known S.left self.entry.reader.now self.exit.1.0.now result
+            (coded self.entry.kind) }
+        ensures deep { IsTooDeep S.is_known S.left self.entry.reader.now self.exit.1.0.now result
+            (coded self.entry.kind) }
+        ensures roomy { HasDepth S.is_known S.left self.entry.reader.now result
+            (coded self.entry.kind) }
     {
         let BinaryValueDeserializer { kind, reader } = self;
         reader.go_on()?;
         let version = reader.version;
-        let answer = take_behind(alloc, &mut reader.source, &mut reader.count, version, kind);
+        let levels = reader.levels;
+        let answer = take_behind(
+            alloc,
+            &mut reader.source,
+            &mut reader.count,
+            version,
+            kind,
+            levels,
+        );
         reader.has_failed = answer.is_err();
         answer
     }
@@ -87,6 +103,10 @@ pub trait ValueDeserialize: Sized + Drop {
     /// Which refusal bytes behind the code of a type have: the first error in reading order.
     ghost refused: { Version → ValueType → List ℕ → DeserializeError → Type 0 };
 
+    /// What stands where a value of any type in it is too deep for the reader. It speaks of the version, the depth of the reader, the type
+    /// whose code was read, the bytes behind that and those that are left in the end. By default it says nothing.
+    ghost deep: { Version → ℕ → ValueType → List ℕ → List ℕ → Type 0 } = { λ _ _ _ _ _. Unit {0} };
+
     /// Reads the value whose code was read. The errors are those of `BinaryValueDeserializer`, and `Custom`.
     fn deserialize<S: ByteSource>(
         alloc: Global,
@@ -94,7 +114,13 @@ pub trait ValueDeserialize: Sized + Drop {
     ) -> Result<Self, DeserializeError>
         ensures deserializes { DeserializesAs S.is_known S.left S.failures is refused
             deserializer.entry.kind deserializer.entry.reader.now
-            deserializer.exit.1.0.now result };
+            deserializer.exit.1.0.now result }
+        ensures deep { deserializer.entry.reader.now.has_failed ≡ false
+            → S.is_known deserializer.entry.reader.now.source → IsErrOf result errors.TooDeep
+            → deep (version_of deserializer.entry.reader.now.version)
+            deserializer.entry.reader.now.levels deserializer.entry.kind
+            (S.left deserializer.entry.reader.now.source)
+            (S.left deserializer.exit.1.0.now.source) };
 
     /// Where bytes behind the code of a type are refused, no prefix of them encodes a tree of which a value is read.
     ghost excludes: { RefusalsExclude is refused };
@@ -110,6 +136,10 @@ impl<S: ByteSource> StoreReader<S> {
         ensures only { Only S.is_known S.left self.old self.new result V.is
             (version_of self.old.version) [] }
         ensures marks { OnErr result (self.new.has_failed ≡ true) }
+        ensures deep { self.old.has_failed ≡ false → S.is_known self.old.source
+            → IsErrOf result errors.TooDeep
+            → NextTooDeep V.deep (version_of self.old.version) self.old.levels
+            (S.left self.old.source) (S.left self.new.source) }
     {
         let kind = self.code()?;
         match V::deserialize(alloc, BinaryValueDeserializer { kind, reader: self }) {
@@ -142,18 +172,26 @@ impl ValueDeserialize for OwnedValue {
 
     ghost refused = { TreeRefused };
 
+    ghost deep = { OpensBehind };
+
     fn deserialize<S: ByteSource>(
         alloc: Global,
         deserializer: BinaryValueDeserializer<'_, S>,
     ) -> Result<OwnedValue, DeserializeError>
         ensures deserializes { DeserializesAs S.is_known S.left S.failures IsTree TreeRefused
             deserializer.entry.kind deserializer.entry.reader.now deserializer.exit.1.0.now result }
-        ensures reads { Reads S.is_known S.left S.failures deserializer.entry.reader.now
+        ensures reads { ReadsDeep S.is_known S.left S.failures deserializer.entry.reader.now
             deserializer.exit.1.0.now result
             (EncodesBehind (version_of deserializer.entry.reader.now.version)
             deserializer.entry.kind)
             (TreeRefused (version_of deserializer.entry.reader.now.version)
             deserializer.entry.kind) }
+        ensures within { IsWithin S.is_known S.left deserializer.entry.reader.now
+            deserializer.exit.1.0.now result (coded deserializer.entry.kind) }
+        ensures deep { IsTooDeep S.is_known S.left deserializer.entry.reader.now
+            deserializer.exit.1.0.now result (coded deserializer.entry.kind) }
+        ensures roomy { HasDepth S.is_known S.left deserializer.entry.reader.now result
+            (coded deserializer.entry.kind) }
     {
         deserializer.deserialize_tree(alloc)
     }

@@ -35,6 +35,7 @@ pub(crate) trait LeafValue: Sized + Drop {
             reader.new.source reader.new.count (λ x. leaf (make x)) result
             (leaf_at (version_of reader.old.version) expected) }
         ensures version { reader.new.version ≡ reader.old.version }
+        ensures levels { reader.new.levels ≡ reader.old.levels }
         ensures spares { IsFixed (held_type expected)
             → IfErr result (λ e. MayStopLean e reader.new.count) };
 

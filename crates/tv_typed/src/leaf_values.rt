@@ -275,6 +275,8 @@ impl ValueDeserialize for u64 {
 
     ghost refused = { LeafRefused types.U64 };
 
+    ghost deep = { λ _ _ _ _ _. ⊥ };
+
     fn deserialize<S: ByteSource>(
         _alloc: Global,
         deserializer: BinaryValueDeserializer<'_, S>,
@@ -292,6 +294,8 @@ impl ValueDeserialize for i64 {
     ghost is = { IsLeaf (λ z. signed z) };
 
     ghost refused = { LeafRefused types.I64 };
+
+    ghost deep = { λ _ _ _ _ _. ⊥ };
 
     fn deserialize<S: ByteSource>(
         _alloc: Global,
@@ -311,6 +315,8 @@ impl ValueDeserialize for bool {
 
     ghost refused = { LeafRefused types.Bool };
 
+    ghost deep = { λ _ _ _ _ _. ⊥ };
+
     fn deserialize<S: ByteSource>(
         _alloc: Global,
         deserializer: BinaryValueDeserializer<'_, S>,
@@ -328,6 +334,8 @@ impl ValueDeserialize for String {
     ghost is = { IsLeaf (λ s. text (string_bytes s)) };
 
     ghost refused = { LeafRefused types.String };
+
+    ghost deep = { λ _ _ _ _ _. ⊥ };
 
     fn deserialize<S: ByteSource>(
         alloc: Global,
@@ -347,6 +355,8 @@ impl ValueDeserialize for Facet {
 
     ghost refused = { LeafRefused types.Facet };
 
+    ghost deep = { λ _ _ _ _ _. ⊥ };
+
     fn deserialize<S: ByteSource>(
         alloc: Global,
         deserializer: BinaryValueDeserializer<'_, S>,
@@ -364,6 +374,8 @@ impl ValueDeserialize for Vec<u8> {
     ghost is = { IsLeaf (λ v. bytes v.items) };
 
     ghost refused = { LeafRefused types.Bytes };
+
+    ghost deep = { λ _ _ _ _ _. ⊥ };
 
     fn deserialize<S: ByteSource>(
         alloc: Global,
@@ -383,6 +395,8 @@ impl ValueDeserialize for DateTime {
 
     ghost refused = { LeafRefused types.DateTime };
 
+    ghost deep = { λ _ _ _ _ _. ⊥ };
+
     fn deserialize<S: ByteSource>(
         _alloc: Global,
         deserializer: BinaryValueDeserializer<'_, S>,
@@ -400,6 +414,8 @@ impl ValueDeserialize for Ipv6Addr {
     ghost is = { IsLeaf (λ a. ip_address (ipv6_bits a)) };
 
     ghost refused = { LeafRefused types.IpAddr };
+
+    ghost deep = { λ _ _ _ _ _. ⊥ };
 
     fn deserialize<S: ByteSource>(
         _alloc: Global,
@@ -419,6 +435,8 @@ impl ValueDeserialize for PreTokenizedString {
     ghost is = { IsLeaf (λ s. tokenized (string_bytes s.text) (map token_of s.tokens.items)) };
 
     ghost refused = { LeafRefused types.PreTokStr };
+
+    ghost deep = { λ _ _ _ _ _. ⊥ };
 
     fn deserialize<S: ByteSource>(
         alloc: Global,

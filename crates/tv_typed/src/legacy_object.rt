@@ -3,20 +3,23 @@
 ghost use Rattle.std.specs.Prelude.{◌≡◌, IfOk, OnOk};
 ghost use Rattle.tv_format.specs.Short.{short, IsValue};
 ghost use Rattle.tv_format.specs.Version.{V2};
+ghost use Rattle.tv_reader.specs.Trees.{EncodesBehind};
 ghost use Rattle.tv_reader.specs.Version.{version_of};
 ghost use Rattle.tv_reader.specs.declared.value_type.ValueType.TheVariants as types;
 ghost use Rattle.tv_typed.specs.LegacyObjects.{Retold, OfEncoding, LegacyRefused, MembersRefused};
-ghost use Rattle.tv_typed.specs.Typed.{Deserializes};
+ghost use Rattle.tv_typed.specs.Typed.{Reads, Deserializes};
 ghost use Rattle.tv_typed.specs.Lists.{ObjectRefused};
 ghost use Rattle.tv_typed.specs.Values.{EncodesAs, EncodedAs, DeserializesAs, NextRefused};
+ghost use Rattle.tv_typed.specs.Values.{TreeRefused};
 ghost use Rattle.tv_value.specs.Owned.{owned_tree};
 
-use crate::de::{BinaryValueDeserializer, ValueDeserialize};
+use crate::de::ValueDeserialize;
 use crate::object::{Entries, read_coded};
 use crate::store_reader::StoreReader;
 use std::alloc::{AllocError, Global};
 use tv_base::{ByteSource, Cause, SliceSource, VecSink};
 use tv_format::version::WriteVersion;
+use tv_reader::trees::take_legacy_object;
 use tv_reader::{DeserializeError, DocStoreVersion, ValueType};
 use tv_value::owned_value::OwnedValue;
 use tv_writer::encoding::has_encoding;
@@ -76,6 +79,20 @@ fn of_encoding<T: ValueDeserialize, C: Entries<T>>(
     }
 }
 
+impl<S: ByteSource> StoreReader<S> {
+    // Reads a legacy object behind its code.
+    pub(crate) fn legacy_tree(&mut self, alloc: Global) -> Result<OwnedValue, DeserializeError>
+        ensures reads { Reads S.is_known S.left S.failures self.old self.new result
+            (EncodesBehind (version_of self.old.version) types.JSONObject)
+            (TreeRefused (version_of self.old.version) types.JSONObject) }
+    {
+        self.go_on()?;
+        let answer = take_legacy_object(alloc, &mut self.source, &mut self.count);
+        self.has_failed = answer.is_err();
+        answer
+    }
+}
+
 // The value of a legacy object, behind its code.
 fn legacy_object<T: ValueDeserialize, C: Entries<T>, S: ByteSource>(
     alloc: Global,
@@ -85,8 +102,7 @@ fn legacy_object<T: ValueDeserialize, C: Entries<T>, S: ByteSource>(
         (EncodedAs C.is (version_of reader.old.version) types.JSONObject)
         (LegacyRefused (ObjectRefused T.is T.refused) (version_of reader.old.version)) }
 {
-    let kind = ValueType::JSONObject;
-    let tree = BinaryValueDeserializer { kind, reader }.deserialize_tree(alloc)?;
+    let tree = reader.legacy_tree(alloc)?;
     let bytes = encoded(alloc, &tree)?;
     of_encoding::<T, C>(alloc, &bytes)
 }

@@ -19,8 +19,15 @@ use tv_reader::kinds::take_kind;
 use tv_reader::trees::{take_entry_count, take_key};
 use tv_reader::{DeserializeError, DocStoreVersion, ValueType};
 
-/// A source, the version of what it holds, how many bytes were taken of it, and whether a read was refused. After a refusal
-/// every later read returns `AlreadyFailed` and takes nothing.
+/// How many lists may be open at once in a value of any type that is read, where no other limit is set. A list is an array or an object.
+pub const MAX_DEPTH: u32 = 128;
+
+/// A source, the version of what it holds, how many bytes were taken of it, whether a read was refused, and how deep a value of any type
+/// may nest. After a refusal every later read returns `AlreadyFailed` and takes nothing.
+///
+/// The depth limits each `OwnedValue` that is read, for itself: one in which more lists would be open at once is refused with `TooDeep`.
+/// Lists, maps, visitors and types of one's own nest as deep as their type does, and each `OwnedValue` in them has the whole limit. A legacy
+/// object isn't counted, nor what it holds: its JSON nests 127 levels deep at most.
 ///
 /// ```
 /// pub fn scores(alloc: Global, bytes: &[u8]) -> Result<BTreeMap<String, u64>> {
@@ -34,21 +41,37 @@ pub struct StoreReader<S: ByteSource> {
     pub(crate) count: u64,
     pub(crate) has_failed: bool,
     pub(crate) version: DocStoreVersion,
+    pub(crate) levels: u32,
 }
 
 impl<S: ByteSource> StoreReader<S> {
-    /// Reads this source. Nothing is read yet.
+    /// Reads this source, with values of any type to a depth of [`MAX_DEPTH`]. Nothing is read yet.
     pub fn new(source: S, version: DocStoreVersion) -> StoreReader<S>
         ensures source { result.source ≡ source }
         ensures version { result.version ≡ version }
         ensures count { result.count ≡ 0 }
         ensures fresh { result.has_failed ≡ false }
+        ensures levels { result.levels ≡ MAX_DEPTH }
+    {
+        StoreReader::with_depth(source, version, MAX_DEPTH)
+    }
+
+    /// Reads this source, with values of any type in which no more than `levels` lists are open at once. Nothing is read yet. Reading such a
+    /// value calls itself once for each list that is open, and so does letting it go: a limit in the thousands needs a large stack. (Not in
+    /// tantivy.)
+    pub fn with_depth(source: S, version: DocStoreVersion, levels: u32) -> StoreReader<S>
+        ensures source { result.source ≡ source }
+        ensures version { result.version ≡ version }
+        ensures count { result.count ≡ 0 }
+        ensures fresh { result.has_failed ≡ false }
+        ensures levels { result.levels ≡ levels }
     {
         StoreReader {
             source,
             count: 0,
             has_failed: false,
             version,
+            levels,
         }
     }
 
@@ -75,6 +98,7 @@ impl<S: ByteSource> StoreReader<S> {
             count: _,
             has_failed: _,
             version: _,
+            levels: _,
         } = self;
         source
     }
@@ -96,6 +120,7 @@ impl<S: ByteSource> StoreReader<S> {
         ensures source { self.new.source ≡ self.old.source }
         ensures count { self.new.count ≡ self.old.count }
         ensures version { self.new.version ≡ self.old.version }
+        ensures levels { self.new.levels ≡ self.old.levels }
         ensures told { result ≡ raised answer }
         ensures marks { self.new.has_failed ≡ is_err result }
     {
@@ -121,6 +146,7 @@ impl<S: ByteSource> StoreReader<S> {
         ensures source { self.new.source ≡ self.old.source }
         ensures count { self.new.count ≡ self.old.count }
         ensures version { self.new.version ≡ self.old.version }
+        ensures levels { self.new.levels ≡ self.old.levels }
         ensures ok { OnOk result
             ((self.old.has_failed ≡ false) × (self.new.has_failed ≡ false) × (kind ≡ expected)) }
         ensures err { IfErr result

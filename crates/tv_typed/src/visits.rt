@@ -127,8 +127,7 @@ impl<S: ByteSource> StoreReader<S> {
             (V.of_object visitor.now V2) (V.object_refused visitor.now V2) result }
         ensures unmarked { OnOk result (self.new.has_failed ≡ false) }
     {
-        let kind = ValueType::JSONObject;
-        let tree = BinaryValueDeserializer { kind, reader: self }.deserialize_tree(alloc)?;
+        let tree = self.legacy_tree(alloc)?;
         let bytes = encoded(alloc, &tree)?;
         visit_encoding(alloc, &bytes, visitor)
     }
@@ -158,7 +157,7 @@ impl<'de, S: ByteSource> BinaryValueDeserializer<'de, S> {
     /// Hands the value to the visitor's call for its type, and gives what that returns.
     ///
     /// Errors: those of the call for a value of this type; for an array or an object `CorruptedValue` where the number of its values
-    /// is malformed, with `OddObject` where no object announces it; for a legacy object those of `deserialize_tree`, and then the
+    /// is malformed, with `OddObject` where no object announces it; for a legacy object those of a value of any type but `TooDeep`, and then the
     /// visitor's call for objects is handed the entries of an encoding of its tree, which is made in memory, with
     /// `UnsupportedType(JSONObject)` where it reads past the end of that; `Io`; `Memory`; `AlreadyFailed` where an earlier read was
     /// refused; and what the visitor refuses. The visitor isn't called after another refusal.

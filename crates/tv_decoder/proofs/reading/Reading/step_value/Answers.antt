@@ -1,10 +1,12 @@
-use Rattle.std.proofs.Common.{◌≡◌, [], ◌∷◌, true, false, inl, arith, sym, ◌∙◌, subst}
+use Rattle.std.proofs.Common.{◌≡◌, ◌≢◌, Err, IsErrOf, [], ◌∷◌, true, false, inl, arith, sym, ◌∙◌, subst}
 use Rattle.std.proofs.lemmas.Result.{err_from_is_err_and}
 use Rattle.tv_builder.specs.Parts.{value}
 use Rattle.tv_reader.proofs.Finding.{finds_any, finds_fails}
 use Rattle.tv_reader.specs.HeadReading.{head_part}
 use Rattle.tv_reader.specs.Heads.{EncodesHead}
 use Rattle.tv_reader.specs.Version.{version_of}
+use Rattle.tv_reader.specs.declared.error.DeserializeError.{DeserializeError}
+use Rattle.tv_reader.specs.declared.error.DeserializeError.TheVariants.{HeapFull}
 use Rattle.tv_reader.specs.declared.value_type.ValueType.TheVariants.{PreTokStr, JSONObject}
 use Rattle.tv_reader.specs.EncodedTokens.{tokenized_tree}
 use Rattle.tv_value.specs.Owned.{owned_tree}
@@ -33,7 +35,15 @@ pub returns-in_err-value-in-Legacy-clause-finds : goal.returns-in_err-value-in-L
 returns-in_err-value-in-Legacy-clause-finds g c =
     let p = err_from_is_err_and c.from_residual-in_err-value-in-Legacy.result c.from_residual-in_err-value-in-Legacy.ensures.1 in
     let v = version_of c.args.version in
-    rw (p.1, p.2) (whole_fails v _ c.args.self.now _ JSONObject c.requires (λ a h. subst (λ z. EncodesHead v a (head_part z)) c.in-Legacy.is h) c.in_ok-head.ensures.finds c.in_err-value-in-Legacy.ensures.finds)
+    rw (p.1, p.2) (whole_fails v _ c.args.self.now _ JSONObject c.requires (λ a h. subst (λ z. EncodesHead v a (head_part z)) c.in-Legacy.is h) c.in_ok-head.ensures.finds (c.in_err-value-in-Legacy.ensures.finds v))
+
+not_full : (e : DeserializeError) → e ≢ HeapFull → IsErrOf {T = Unit {0}} (Err e) HeapFull → ⊥
+not_full e other is = let same : e ≡ HeapFull = cc in other same
+
+pub returns-in_err-value-in-Legacy-clause-full : goal.returns-in_err-value-in-Legacy-clause-full
+returns-in_err-value-in-Legacy-clause-full g c =
+    let p = err_from_is_err_and c.from_residual-in_err-value-in-Legacy.result c.from_residual-in_err-value-in-Legacy.ensures.1 in
+    rw (p.1, p.2) (λ told is. absurd (not_full _ (c.in_err-value-in-Legacy.ensures.finds (version_of c.args.version)).may_stop.1 is))
 
 pub returns-in_ok-text-in-Tokenized-clause-finds : goal.returns-in_ok-text-in-Tokenized-clause-finds
 returns-in_ok-text-in-Tokenized-clause-finds g c =
@@ -66,7 +76,7 @@ returns-in_ok-value-in-Legacy-clause-finds g c =
     let v = version_of c.args.version in
     let old = c.args.self.now in
     let t = owned_tree c.in_ok-value-in-Legacy.value in
-    let w = whole_found owned_tree v old JSONObject c.requires (λ a h. subst (λ z. EncodesHead v a (head_part z)) c.in-Legacy.is h) c.in_ok-head.ensures.finds c.in_ok-value-in-Legacy.ensures.finds in
+    let w = whole_found owned_tree v old JSONObject c.requires (λ a h. subst (λ z. EncodesHead v a (head_part z)) c.in-Legacy.is h) c.in_ok-head.ensures.finds (c.in_ok-value-in-Legacy.ensures.finds v) in
     puts_found v true old c.put_tree.new.self (value t ∷ []) c.put_tree.result (λ a h. legacy_part v old t a (c.requires.field, c.requires.next) h.body h.joined h.encoded) w c.put_tree.ensures.puts
 
 pub returns-in_ok-value-in-Legacy-clause-full : goal.returns-in_ok-value-in-Legacy-clause-full
@@ -74,7 +84,7 @@ returns-in_ok-value-in-Legacy-clause-full g c = λ told is.
     let v = version_of c.args.version in
     let old = c.args.self.now in
     let t = owned_tree c.in_ok-value-in-Legacy.value in
-    let w = whole_found owned_tree v old JSONObject c.requires (λ a h. subst (λ z. EncodesHead v a (head_part z)) c.in-Legacy.is h) c.in_ok-head.ensures.finds c.in_ok-value-in-Legacy.ensures.finds in
+    let w = whole_found owned_tree v old JSONObject c.requires (λ a h. subst (λ z. EncodesHead v a (head_part z)) c.in-Legacy.is h) c.in_ok-head.ensures.finds (c.in_ok-value-in-Legacy.ensures.finds v) in
     puts_full v true old c.put_tree.new.self (value t ∷ []) c.put_tree.result (λ a h. legacy_part v old t a (c.requires.field, c.requires.next) h.body h.joined h.encoded) w c.put_tree.ensures.puts told is
 
 pub returns-in_default : goal.returns-in_default

@@ -11,12 +11,12 @@ pub returns-in_err-go_on-clause-reads : goal.returns-in_err-go_on-clause-reads
 returns-in_err-go_on-clause-reads g c =
     let p = err_from_is_err_and c.from_residual.result c.from_residual.ensures.1 in
     let e = c.in_err-go_on.ensures.err in
-    rw (p.1, p.2) (reads_closed _ _ _ _ _ _ _ _ e.0 e.1 refl refl refl e.1)
+    rw (p.1, p.2) (reads_closed _ _ _ _ _ _ _ _ e.0 e.1 refl refl refl refl e.1)
 
 pub returns-clause-reads : goal.returns-clause-reads
 returns-clause-reads g c =
     let m = c.marked.ensures in
-    reads_part c.args.self.now c.marked.new.self c.marked.result IsCoded CodeRefused g.met.S.ByteSource.are_bytes kind_agrees (λ a x h. h) (λ w d f. in_code f) c.in_ok-go_on.ensures.ok (lean c.take_kind-answer.ensures.takes) m.source m.count m.version m.marks m.told
+    reads_part c.args.self.now c.marked.new.self c.marked.result IsCoded CodeRefused g.met.S.ByteSource.are_bytes kind_agrees (λ a x h. h) (λ w d f. in_code f) c.in_ok-go_on.ensures.ok (lean c.take_kind-answer.ensures.takes) m.source m.count m.version m.levels m.marks m.told
 
 pub returns-in_err-go_on-clause-spares : goal.returns-in_err-go_on-clause-spares
 returns-in_err-go_on-clause-spares g c =

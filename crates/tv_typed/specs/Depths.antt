@@ -1,0 +1,38 @@
+-- How deep a value of any type nests that is read through a reader with a limit. The code of the value was read before.
+use Rattle.std.specs.Prelude.{◌≡◌, false, ℕ, List, ◌++◌, Result, IfOk, IsErrOf}
+use Rattle.tv_base.specs.Parts.{Begins}
+use Rattle.tv_format.specs.Tree.{Tree}
+use Rattle.tv_reader.specs.Depth.{EncodesWithin, Opens}
+use Rattle.tv_format.specs.Version.{Version}
+use Rattle.tv_reader.specs.ValueType.{coded, IsCoded}
+use Rattle.tv_reader.specs.Version.{version_of}
+use Rattle.tv_reader.specs.declared.value_type.ValueType.{ValueType}
+use Rattle.tv_reader.specs.declared.error.DeserializeError.{DeserializeError}
+use Rattle.tv_reader.specs.declared.error.DeserializeError.TheVariants as errors
+use Rattle.tv_typed.specs.declared.store_reader.StoreReader.{StoreReader}
+use Rattle.tv_value.specs.Owned.{owned_tree}
+use Rattle.tv_value.specs.declared.owned_value.OwnedValue.{OwnedValue}
+
+-- behind the code of a type the bytes that were taken end with the code of the first list that is one too many
+abbrev pub OpensBehind : Version → ℕ → ValueType → List ℕ → List ℕ → Type 0
+OpensBehind v levels kind old new = Begins (λ b. Opens v levels (coded kind ++ b)) old new
+
+-- the same of the next value, with its code, as its type says it
+abbrev pub NextTooDeep : (Version → ℕ → ValueType → List ℕ → List ℕ → Type 0) → Version → ℕ → List ℕ → List ℕ → Type 0
+NextTooDeep deep v levels old new = (kind : ValueType) × (mid : List ℕ) × Begins (λ b. IsCoded b kind) old mid × deep v levels kind mid new
+
+-- in what was read no more lists are open at once than the reader allows
+abbrev pub IsWithin : {S : Type 0} (is_known : S → Type 0) (left : S → List ℕ) (old new : StoreReader S) (result : Result OwnedValue DeserializeError) (code : List ℕ) → Type 0
+IsWithin is_known left old new result code =
+    old.has_failed ≡ false → is_known old.source → IfOk result (λ made. Begins (λ b. EncodesWithin (version_of old.version) old.levels (code ++ b) (owned_tree made)) (left old.source) (left new.source))
+
+-- where that is told to be too deep, the bytes that were taken end with the code of the first list that is one too many
+abbrev pub IsTooDeep : {S X : Type 0} (is_known : S → Type 0) (left : S → List ℕ) (old new : StoreReader S) (result : Result X DeserializeError) (code : List ℕ) → Type 0
+IsTooDeep is_known left old new result code =
+    old.has_failed ≡ false → is_known old.source → IsErrOf result errors.TooDeep → Begins (λ b. Opens (version_of old.version) old.levels (code ++ b)) (left old.source) (left new.source)
+
+-- where a prefix of what is left encodes a value within the depth, it isn't told to be too deep
+abbrev pub HasDepth : {S X : Type 0} (is_known : S → Type 0) (left : S → List ℕ) (old : StoreReader S) (result : Result X DeserializeError) (code : List ℕ) → Type 0
+HasDepth is_known left old result code =
+    old.has_failed ≡ false → is_known old.source
+    → (t : Tree) (prefix rest : List ℕ) → left old.source ≡ prefix ++ rest → EncodesWithin (version_of old.version) old.levels (code ++ prefix) t → ¬ IsErrOf result errors.TooDeep
