@@ -1,5 +1,6 @@
 //! The calls that are made.
 
+use crate::nested;
 use crate::shape::Workload;
 use anyhow::{Context, Result, anyhow};
 use serde_json::Value;
@@ -32,6 +33,30 @@ pub enum Call {
     FindPath,
     /// The steps of a path.
     SplitPath,
+    /// From a document to another one, by additions.
+    Add,
+    /// The same, by a builder.
+    Build,
+    /// Whether the values of a document and of its copy are equal.
+    Equal,
+    /// From stored bytes to a document, part by part.
+    Step,
+    /// From stored bytes into a document that is there.
+    ReadInto,
+    /// From stored bytes to a document, within a limit of depth.
+    ReadWithin,
+    /// From a document to values by the names of their fields.
+    Name,
+    /// From a value to one that owns what it holds.
+    Copy,
+    /// From a value to a JSON value.
+    JsonValue,
+    /// Whether a value is the same as itself, as values of any kind are compared.
+    Same,
+    /// From stored bytes to a value that owns what it holds.
+    ReadOwned,
+    /// From a value to stored bytes, as values of any kind are written.
+    WriteValue,
 }
 
 impl Call {
@@ -48,11 +73,38 @@ impl Call {
             Call::FindFields => "find fields",
             Call::FindPath => "find path",
             Call::SplitPath => "split path",
+            Call::Add => "add",
+            Call::Build => "build",
+            Call::Equal => "equal",
+            Call::Step => "step",
+            Call::ReadInto => "read into",
+            Call::ReadWithin => "read within",
+            Call::Name => "name",
+            Call::Copy => "copy",
+            Call::JsonValue => "JSON value",
+            Call::Same => "same",
+            Call::ReadOwned => "read owned",
+            Call::WriteValue => "write value",
         }
     }
 
-    /// Makes the call, and says how many bytes, values, fields or steps its answer has.
-    pub fn make(self, alloc: Global, workload: &Workload) -> Result<usize> {
+    /// Makes the call, and says how many bytes, values, fields or steps its answer has; `None` where values that nest in too many lists
+    /// are refused.
+    pub fn make(self, alloc: Global, workload: &Workload) -> Result<Option<usize>> {
+        match self {
+            Call::ReadWithin => nested::read_within(alloc, workload),
+            Call::Name => nested::name(alloc, workload),
+            Call::Copy => nested::copy(alloc, workload),
+            Call::JsonValue => nested::json_value(alloc, workload),
+            Call::Same => nested::same(workload),
+            Call::ReadOwned => nested::read_owned(alloc, workload),
+            Call::WriteValue => nested::write_value(alloc, workload),
+            other => Ok(Some(other.make_any(alloc, workload)?)),
+        }
+    }
+
+    // The same of the calls that take values of any depth.
+    fn make_any(self, alloc: Global, workload: &Workload) -> Result<usize> {
         match self {
             Call::Parse => parse(alloc, workload),
             Call::Read => read(alloc, workload),
@@ -64,6 +116,12 @@ impl Call {
             Call::FindFields => find_fields(alloc, workload),
             Call::FindPath => find_path(workload),
             Call::SplitPath => Ok(split_json_path(alloc, workload.path.as_str())?.len()),
+            Call::Add => nested::add(alloc, workload),
+            Call::Build => nested::build(alloc, workload),
+            Call::Equal => nested::equal(alloc, workload),
+            Call::Step => nested::step(alloc, workload),
+            Call::ReadInto => nested::read_into(alloc, workload),
+            _ => Err(anyhow!("this call refuses what nests too deep")),
         }
     }
 }

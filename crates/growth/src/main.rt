@@ -1,11 +1,12 @@
 //! Makes calls on documents of many values, members or levels.
 //!
 //! Each line of standard input has a shape's name and a number, as in `levels 1000000`. For each call that the shape has, standard output
-//! has the shape, the number, the call's name and how many bytes or fields its answer has. With the argument `time` standard error says
+//! has the shape, the number, the call's name and how many bytes or fields its answer has, or that the values nest too deep for it. With the argument `time` standard error says
 //! how many nanoseconds the call took.
 #![tactic(auto)]
 
 mod calls;
+mod nested;
 mod shape;
 
 use crate::calls::Call;
@@ -42,9 +43,12 @@ fn make_calls(
     let workload = Workload::new(rt.alloc(), shape, count)?;
     for call in shape.calls() {
         let start = Instant::now(rt)?;
-        let len = call.make(rt.alloc(), &workload)?;
+        let answer = call.make(rt.alloc(), &workload)?;
         let nanos = start.elapsed(rt)?.as_nanos();
-        println!(rt; "{} {count} {}: {len}", shape.name(), call.name())?;
+        match answer {
+            Some(len) => println!(rt; "{} {count} {}: {len}", shape.name(), call.name())?,
+            None => println!(rt; "{} {count} {}: too deep", shape.name(), call.name())?,
+        }
         if is_timed {
             eprintln!(rt; "{} {count} {}: {nanos} ns", shape.name(), call.name())?;
         }

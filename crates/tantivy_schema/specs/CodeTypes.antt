@@ -33,6 +33,9 @@ pub use Rattle.tv_format.specs.declared.version.WriteVersion
 pub use Rattle.tv_reader.specs.declared.value_type.ValueType
 pub use Rattle.tv_term.specs.declared.term_error.TermError
 pub use Rattle.tv_value.specs.declared.json_error.JsonError
+pub use Rattle.tv_value.specs.declared.copy_error.CopyError
+pub use Rattle.tv_value.specs.declared.nesting.TooDeep
+pub use Rattle.tv_doc.specs.declared.named_back_error.NamedBackError
 -- calls that fail, and those that are to fail
 pub use Rattle.tv_io.specs.declared.failures.CountedFailures
 pub use Rattle.tv_io.specs.declared.planned_failure.PlannedFailure

@@ -40,6 +40,7 @@ pub use Rattle.tv_format.specs.Size
 pub use Rattle.tv_json.specs.JsonOf
 pub use Rattle.tv_json.specs.Named as NamedJson
 pub use Rattle.tv_value.specs.Lent
+pub use Rattle.tv_value.specs.Nesting
 pub use Rattle.tv_value.specs.Owned
 pub use Rattle.tv_value.specs.Same
 pub use Rattle.tv_value.specs.SameLaws
@@ -126,7 +127,6 @@ pub use Rattle.tv_store.specs.PairsGiven
 pub use Rattle.tv_store.specs.RoundTrip
 pub use Rattle.tv_writer.specs.Serialized
 pub use Rattle.tv_writer.specs.Error as WriterError
-pub use Rattle.tv_value.specs.Nesting
 pub use Rattle.tv_store.specs.Stored
 pub use Rattle.tv_reader.specs.Error as ReaderError
 pub use Rattle.tv_reader.specs.Finds

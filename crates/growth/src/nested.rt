@@ -1,0 +1,164 @@
+//! Calls on documents whose values may nest deep. `None` stands for a refusal of what nests in too many lists.
+
+use crate::shape::Workload;
+use anyhow::{Context, Result, anyhow};
+use std::alloc::Global;
+use tantivy_schema::common::{SliceSource, VecSink};
+use tantivy_schema::schema::OwnedValue;
+use tantivy_schema::schema::document::{
+    BinaryValueSerializer, CompactDoc, CompactDocValue, CopyError, DeserializeError, Document,
+    SerializeError, StoreReader, TreeBuilder, is_same, push_json, to_json_value,
+};
+use tantivy_schema::store::{
+    DirectDecoder, DocStoreVersion, LimitedReadError, ReadLimit, ReadLimits, Step,
+    read_document_into, read_document_within,
+};
+
+// The depth of a reading within limits.
+const DEPTH: u32 = 128;
+
+// The value of the document's first pair.
+fn first_value(workload: &Workload) -> Result<CompactDocValue<'_>> {
+    let (_, value) = workload.document.field_values().next().context("a pair")?;
+    Ok(value)
+}
+
+// The document's values, added to another one.
+fn added(alloc: Global, workload: &Workload) -> Result<CompactDoc> {
+    let mut document = CompactDoc::new(alloc);
+    for (field, value) in workload.document.field_values() {
+        document.add_field_value(field, &value)?;
+    }
+    Ok(document)
+}
+
+/// Adds the document's values to another one. Gives the length of its heap.
+pub fn add(alloc: Global, workload: &Workload) -> Result<usize> {
+    Ok(added(alloc, workload)?.node_data().len())
+}
+
+/// The same by a builder.
+pub fn build(alloc: Global, workload: &Workload) -> Result<usize> {
+    let mut builder = TreeBuilder::new(CompactDoc::new(alloc));
+    for (field, value) in workload.document.field_values() {
+        builder.tree(&value)?;
+        builder.finish(field)?;
+    }
+    Ok(builder.into_doc().node_data().len())
+}
+
+/// Compares the document's values with those of another one. Gives how many are equal.
+pub fn equal(alloc: Global, workload: &Workload) -> Result<usize> {
+    let other = added(alloc, workload)?;
+    let mut others = other.field_values();
+    let mut count: usize = 0;
+    for (_, value) in workload.document.field_values() {
+        if others.next().is_some_and(|(_, twin)| value == twin) {
+            count = count.saturating_add(1);
+        }
+    }
+    Ok(count)
+}
+
+/// Reads the document part by part. Gives the length of its heap.
+pub fn step(alloc: Global, workload: &Workload) -> Result<usize> {
+    let mut source = SliceSource::new(workload.stored.as_slice());
+    let mut decoder = DirectDecoder::new(alloc, DocStoreVersion::V2);
+    for _ in 0..u64::MAX {
+        if decoder.step(&mut source)? == Step::Done {
+            break;
+        }
+    }
+    Ok(decoder.into_doc().node_data().len())
+}
+
+/// Reads the document into another one. Gives the length of its heap.
+pub fn read_into(alloc: Global, workload: &Workload) -> Result<usize> {
+    let mut source = SliceSource::new(workload.stored.as_slice());
+    let mut document = CompactDoc::new(alloc);
+    read_document_into(alloc, &mut document, &mut source, DocStoreVersion::V2)?;
+    Ok(document.node_data().len())
+}
+
+/// Reads the document within a limit of depth. Gives the length of its heap.
+pub fn read_within(alloc: Global, workload: &Workload) -> Result<Option<usize>> {
+    let mut source = SliceSource::new(workload.stored.as_slice());
+    let limits = ReadLimits {
+        depth: Some(DEPTH),
+        ..ReadLimits::default()
+    };
+    match read_document_within(alloc, &mut source, DocStoreVersion::V2, limits) {
+        Ok(document) => Ok(Some(document.node_data().len())),
+        Err(LimitedReadError::Limit(ReadLimit::Depth)) => Ok(None),
+        Err(error) => Err(anyhow!("{error}")),
+    }
+}
+
+// What a copy gave.
+fn unless_too_deep<T: Drop>(copied: Result<T, CopyError>) -> Result<Option<T>> {
+    match copied {
+        Ok(copy) => Ok(Some(copy)),
+        Err(CopyError::TooDeep) => Ok(None),
+        Err(CopyError::Memory) => Err(anyhow!("memory was refused")),
+    }
+}
+
+/// Copies the document's values under the names of their fields. Gives how many fields have one.
+pub fn name(alloc: Global, workload: &Workload) -> Result<Option<usize>> {
+    let named = unless_too_deep(workload.document.to_named_doc(alloc, &workload.schema))?;
+    Ok(named.map(|named| named.0.len()))
+}
+
+// The length of a value's JSON.
+fn printed_len(alloc: Global, value: OwnedValue) -> Result<usize> {
+    let mut text = String::new(alloc);
+    push_json(alloc, &mut text, &value)?;
+    Ok(text.len())
+}
+
+/// Copies the first value. Gives the length of the copy's JSON.
+pub fn copy(alloc: Global, workload: &Workload) -> Result<Option<usize>> {
+    let value = first_value(workload)?;
+    match unless_too_deep(OwnedValue::from_value(alloc, &value))? {
+        Some(copy) => Ok(Some(printed_len(alloc, copy)?)),
+        None => Ok(None),
+    }
+}
+
+/// Makes a JSON value of the first value. Gives the length of its text.
+pub fn json_value(alloc: Global, workload: &Workload) -> Result<Option<usize>> {
+    let value = first_value(workload)?;
+    match unless_too_deep(to_json_value(alloc, value))? {
+        Some(json) => Ok(Some(json.to_string(alloc)?.len())),
+        None => Ok(None),
+    }
+}
+
+/// Compares the first value with itself, as values of any kind are compared. Gives how many are the same.
+pub fn same(workload: &Workload) -> Result<Option<usize>> {
+    let value = first_value(workload)?;
+    Ok(is_same(&value, &value).ok().map(|same| usize::from(same)))
+}
+
+/// Reads the first value into one that owns what it holds. Gives the length of its JSON.
+pub fn read_owned(alloc: Global, workload: &Workload) -> Result<Option<usize>> {
+    // behind the number of the pairs and the field
+    let bytes = workload.stored.as_slice().get(5..).context("a pair")?;
+    let mut reader = StoreReader::new(SliceSource::new(bytes), DocStoreVersion::V2);
+    match reader.read::<OwnedValue>(alloc) {
+        Ok(value) => Ok(Some(printed_len(alloc, value)?)),
+        Err(DeserializeError::TooDeep) => Ok(None),
+        Err(error) => Err(anyhow!("{error}")),
+    }
+}
+
+/// Writes the first value as one of any kind. Gives how many bytes it has.
+pub fn write_value(alloc: Global, workload: &Workload) -> Result<Option<usize>> {
+    let value = first_value(workload)?;
+    let mut sink = VecSink::new(alloc);
+    match BinaryValueSerializer::new(&mut sink).serialize_value(&value) {
+        Ok(()) => Ok(Some(sink.as_slice().len())),
+        Err(SerializeError::TooDeep) => Ok(None),
+        Err(error) => Err(anyhow!("{error}")),
+    }
+}
