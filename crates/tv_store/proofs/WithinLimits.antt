@@ -34,7 +34,7 @@ use Rattle.tv_decoder.proofs.WholeDocuments.{Goes, step_more, step_fails, step_t
 use Rattle.tv_store.proofs.Promises.{refused_by, only_by}
 use Rattle.tv_store.specs.Documents.{BeginsWith, NoDocument, HasNoRoom}
 use Rattle.tv_store.specs.Limits.{IsPast, Checks, FindsWithin, IsDeep, IsLarge, IsAll, Unread, Comes, IsLimitedError, AnswersWithin}
-use Rattle.tv_store.specs.Limits.{first_count, limited_stop, IsOfBytes, Told}
+use Rattle.tv_store.specs.Limits.{first_count, limited_stop, FindsPart, IsOfBytes, Told}
 use Rattle.tv_store.specs.declared.limits.ReadLimits.{ReadLimits}
 use Rattle.tv_store.specs.declared.limits.ReadLimit.{ReadLimit}
 use Rattle.tv_store.specs.declared.limits.ReadLimit.TheVariants as limit
@@ -172,6 +172,44 @@ told_counts e all (limited.Limit limit.Bytes) Short old new is told counts = cou
 told_counts e all (limited.Limit limit.Bytes) Never old new is told counts = absurd counts
 told_counts e all (limited.Limit limit.HeapBytes) s old new is told counts = absurd told
 told_counts e all (limited.Limit limit.Depth) s old new is told counts = absurd told
+
+-- ---- a part, counted from a first number on
+
+recounted : (a b : List ℕ) (first from i j k : ℕ) → from ≡ first + i → k ≡ j - first → from ≤ j → Taken a b from j → Taken a b i k
+recounted a b first from i j k begun ended rises t = record { prefix = t.prefix; joined = t.joined; counted = omega (arith, t.counted) }
+
+part_stop : (e : DeserializeError) (all : Bool) (said : LimitedReadError) (most : Option ℕ) (H G : List ℕ → Refusal → Type 0) (a b : List ℕ) (first from i j k : ℕ) → from ≡ first + i → k ≡ j - first → Told all e said → first ≡ first_count most → from ≤ j → j < 2 ^ 64
+    → IsTrue all ↔ (IsSome most × (j ≡ 2 ^ 64 - 1)) → ((b : List ℕ) (f : Refusal) → H b f → G b f) → GivesStop (corrupted UnexpectedEnd) H a b j (store_stop e) → GivesStop (corrupted UnexpectedEnd) G a b k (limited_stop said)
+part_stop e all (limited.Read f) most H G a b first from i j k begun ended told is rises below same to stop =
+    subst (λ z. GivesStop (corrupted UnexpectedEnd) G a b k (store_stop z)) (sym told.0)
+    (counted_again G most a b j k (store_stop e) (omega (arith, is, rises)) below (λ of_bytes both. told.1 of_bytes (same.1 both)) (stop_map (corrupted UnexpectedEnd) H G (store_stop e) a b j to stop))
+part_stop e all (limited.Limit l) most H G a b first from i j k begun ended told is rises below same to stop = tt
+
+module _ {S X : Type 0} {is_known : S → Type 0} {left : S → List ℕ} {failures : S → Failures} {old new : S} {from i j k : ℕ} (first : ℕ) (begun : from ≡ first + i) (ended : k ≡ j - first) where
+  pub part_read : (x : X) (A B : List ℕ → X → Type 0) (H G : List ℕ → Refusal → Type 0) → ((b : List ℕ) → A b x → B b x) → Finds is_known left failures old from new j (Ok x) A H → FindsPart is_known left failures old i new k (Ok x) B G
+  part_read x A B H G to h = record {
+    found = λ told. let f = h.found told in record { prefix = f.prefix; joined = f.joined; encoded = to f.prefix f.encoded };
+    taken = λ told. recounted (left old) (left new) first from i j k begun ended h.rises (h.taken told);
+    stays_known = h.stays_known;
+    counts = h.counts;
+    rises = omega (arith, h.rises);
+    may_stop = tt;
+  }
+
+  pub part_refused : (e : DeserializeError) (all : Bool) (said : LimitedReadError) (most : Option ℕ) (A B : List ℕ → X → Type 0) (H G : List ℕ → Refusal → Type 0) → Told all e said → first ≡ first_count most → j < 2 ^ 64 → IsTrue all ↔ (IsSome most × (j ≡ 2 ^ 64 - 1))
+      → ((b : List ℕ) (f : Refusal) → H b f → G b f) → Finds is_known left failures old from new j (Err e) A H → FindsPart is_known left failures old i new k (Err said) B G
+  part_refused e all said most A B H G told is below same to h = record {
+    found = λ known. part_stop e all said most H G (left old) (left new) first from i j k begun ended told is h.rises below same to (h.found known);
+    taken = λ known. recounted (left old) (left new) first from i j k begun ended h.rises (h.taken known);
+    stays_known = h.stays_known;
+    counts = told_counts e all said (store_stop e) (failures old) (failures new) refl told h.counts;
+    rises = omega (arith, h.rises);
+    may_stop = tt;
+  }
+
+pub stepped_as : (v w : Version) (m n : Bool) (q r x y : Reading) (b : List ℕ) → v ≡ w → m ≡ n → q ≡ r → x ≡ y → Stepped v m q x b → Stepped w n r y b
+stepped_as v w m n q r x y b same_version same_seen same_before same_after h =
+    subst (λ z. Stepped w n r z b) same_after (subst (λ z. Stepped w n z x b) same_before (subst (λ z. Stepped w z q x b) same_seen (subst (λ z. Stepped z m q x b) same_version h)))
 
 -- ---- which errors come, and how large the heap is
 

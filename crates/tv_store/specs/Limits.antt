@@ -1,5 +1,5 @@
 -- What reading a document within limits returns.
-use Rattle.std.specs.Prelude.{◌≡◌, ℕ, Bool, IsTrue, ◌+◌, ◌-◌, ◌^◌, ◌<◌, List, ◌++◌, length, Option, Some, None, Result, Ok, Err, IsSome}
+use Rattle.std.specs.Prelude.{◌≡◌, ◌⊎◌, ℕ, Bool, IsTrue, ◌+◌, ◌-◌, ◌^◌, ◌<◌, List, ◌++◌, length, Option, Some, None, Result, Ok, Err, IsSome}
 use Rattle.tv_base.specs.declared.cause.Cause.TheVariants.{UnexpectedEnd}
 use Rattle.tv_base.specs.Source.{Failures}
 use Rattle.tv_base.specs.Stop.{Stop}
@@ -8,6 +8,7 @@ use Rattle.tv_builder.specs.Behind.{open_parts}
 use Rattle.tv_builder.specs.Builder.{built, state_of, heap_so_far}
 use Rattle.tv_builder.specs.Prefix.{Encoded}
 use Rattle.tv_builder.specs.State.{State, IsState, lists_of}
+use Rattle.tv_decoder.specs.Kept.{Grows, KeepsPairs}
 use Rattle.tv_decoder.specs.Prefix.{parts_read, IsSound, HasNoRoom}
 use Rattle.tv_decoder.specs.declared.reading.Reading.{Reading}
 use Rattle.tv_builder.specs.Weight.{state_weight}
@@ -69,6 +70,37 @@ Told took_all e (limited.Limit limit.Depth) = ⊥
 abbrev pub FindsWithin : {S X : Type 0} (is_known : S → Type 0) (left : S → List ℕ) (failures : S → Failures) (old : S) (old_count : ℕ) (new : S) (new_count : ℕ) (result : Result X DeserializeError) (Encodes : List ℕ → X → Type 0) (HasError : List ℕ → Refusal → Type 0) → Type 0
 FindsWithin is_known left failures old old_count new new_count result Encodes HasError = FindsBy store_stop (λ _ _. Unit {0}) (corrupted UnexpectedEnd) is_known left failures old old_count new new_count result Encodes HasError
 
+-- why it stopped, as its source sees it
+abbrev pub limited_stop : LimitedReadError → Stop Refusal
+limited_stop (limited.Read e) = store_stop e
+limited_stop (limited.Limit l) = Short
+
+-- the same of a part, where a limit may be passed
+abbrev pub FindsPart : {S X : Type 0} (is_known : S → Type 0) (left : S → List ℕ) (failures : S → Failures) (old : S) (old_count : ℕ) (new : S) (new_count : ℕ) (result : Result X LimitedReadError) (Encodes : List ℕ → X → Type 0) (HasError : List ℕ → Refusal → Type 0) → Type 0
+FindsPart is_known left failures old old_count new new_count result Encodes HasError = FindsBy limited_stop (λ _ _. Unit {0}) (corrupted UnexpectedEnd) is_known left failures old old_count new new_count result Encodes HasError
+
+-- no limit is passed but that of the bytes, and that one where just as many were taken
+abbrev pub IsCapped : Option ℕ → ℕ → LimitedReadError → Type 0
+IsCapped most count (limited.Read e) = Unit {0}
+IsCapped most count (limited.Limit limit.Bytes) = most ≡ Some count
+IsCapped most count (limited.Limit limit.HeapBytes) = ⊥
+IsCapped most count (limited.Limit limit.Depth) = ⊥
+
+-- What a part's bytes, the heap and the open lists are once it has come, or which of them passes its limit. `old` bytes were taken before
+-- it, and `new` with it.
+abbrev pub TestsLimits : {X : Type 0} → ReadLimits → ℕ → ℕ → ℕ → ℕ → Result X LimitedReadError → Type 0
+TestsLimits limits old new heap open_lists (Ok x) = Checks limits heap open_lists None
+TestsLimits limits old new heap open_lists (Err (limited.Read e)) = Unit {0}
+TestsLimits limits old new heap open_lists (Err (limited.Limit limit.Bytes)) = (limits.bytes ≡ Some new) ⊎ (IsPast limits.bytes old × (new ≡ old))
+TestsLimits limits old new heap open_lists (Err (limited.Limit l)) = Checks limits heap open_lists (Some l)
+
+-- what a part leaves of what had come: where it has come itself that grows, and else the finished pairs stay
+abbrev pub Leaves : {X : Type 0} → Reading → Reading → Result X LimitedReadError → Type 0
+Leaves old new (Ok x) = Grows old new
+Leaves old new (Err (limited.Read e)) = KeepsPairs old new
+Leaves old new (Err (limited.Limit limit.Bytes)) = KeepsPairs old new
+Leaves old new (Err (limited.Limit l)) = Grows old new
+
 -- ---- what comes of a document
 
 -- More than so many lists are open in what the bytes encode: the finished pairs, a field, and what has come of its value.
@@ -112,11 +144,6 @@ pub record Comes (v : Version) (limits : ReadLimits) (old new : List ℕ) (resul
   pub joined : old ≡ taken ++ new
   pub most : ¬ IsPast limits.bytes (length taken)
   pub outcome : Outcome v limits old new taken result
-
--- why it stopped, as its source sees it
-abbrev pub limited_stop : LimitedReadError → Stop Refusal
-limited_stop (limited.Read e) = store_stop e
-limited_stop (limited.Limit l) = Short
 
 -- the errors that come: those of reading, and a limit that is set
 abbrev pub IsLimitedError : ReadLimits → LimitedReadError → Type 0

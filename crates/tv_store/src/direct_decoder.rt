@@ -1,7 +1,7 @@
 //! A decoder of documents with a stack of its own, which is lent its source for each step.
 
 ghost use Rattle.std.specs.Prelude.{◌≡◌, ◌↔◌, ◌-◌, List, ℕ, [], length, true, false, Ok, Err};
-ghost use Rattle.std.specs.Prelude.{IfOk, OnOk, OnErr, IsErrOf};
+ghost use Rattle.std.specs.Prelude.{IfOk, OnOk, OnErr, IsErrOf, IsTrue};
 ghost use Rattle.tv_decoder.specs.Prefix.{parts_read, IsSound, IsDone, NoPrefix, NoRoomBehind};
 ghost use Rattle.tv_decoder.specs.Paid.{PaidBy};
 ghost use Rattle.tv_decoder.specs.Kept.{Grows, KeepsPairs};
@@ -168,6 +168,42 @@ impl DirectDecoder {
         } else {
             Ok(Step::More)
         }
+    }
+
+    // Whether it was refused.
+    pub(crate) fn has_failed(&self) -> bool
+        ensures { result ≡ self.now.failed }
+    {
+        self.failed
+    }
+
+    // Whether all pairs are finished.
+    pub(crate) fn is_done(&self) -> bool
+        ensures { IsTrue result ↔ IsDone self.now.reading }
+    {
+        self.reading.is_done()
+    }
+
+    // Counts from this number on.
+    pub(crate) fn recount(&mut self, count: u64)
+        ensures reading { self.new.reading ≡ self.old.reading }
+        ensures version { self.new.version ≡ self.old.version }
+        ensures count { self.new.count ≡ count }
+        ensures failed { self.new.failed ≡ self.old.failed }
+        ensures seen { self.new.legacy_seen ≡ self.old.legacy_seen }
+    {
+        self.count = count;
+    }
+
+    // Marks a refusal.
+    pub(crate) fn refuse(&mut self)
+        ensures reading { self.new.reading ≡ self.old.reading }
+        ensures version { self.new.version ≡ self.old.version }
+        ensures count { self.new.count ≡ self.old.count }
+        ensures failed { self.new.failed ≡ true }
+        ensures seen { self.new.legacy_seen ≡ self.old.legacy_seen }
+    {
+        self.failed = true;
     }
 
     /// The document of the finished pairs, at any time, also after a refusal. Its heap ends behind the last of their values.

@@ -1,6 +1,6 @@
 //! Reading a document within limits.
 
-ghost use Rattle.std.specs.Prelude.{◌≡◌, ◌↔◌, ◌≤◌, ◌++◌, ◌+◌, ◌-◌, ◌^◌, ℕ, List, None, length, IsTrue, false};
+ghost use Rattle.std.specs.Prelude.{◌≡◌, ◌↔◌, ◌<◌, ◌≤◌, ◌++◌, ◌+◌, ◌-◌, ◌^◌, ℕ, List, None, length, IsTrue, OnOk, OnErr, Ok, Err, true, false};
 ghost use Rattle.std.specs.Prelude.{IfOk, IfErr, IsErrOf, IsSome, Some};
 ghost use Rattle.tv_base.specs.Parts.{Begins};
 ghost use Rattle.tv_base.specs.ReadsAs.{Known};
@@ -9,19 +9,22 @@ ghost use Rattle.tv_builder.specs.Builder.{state_of, heap_so_far};
 ghost use Rattle.tv_builder.specs.State.{lists_of};
 ghost use Rattle.tv_doc.specs.Document.{document_of, heap_of};
 ghost use Rattle.tv_decoder.specs.Prefix.{IsDone, NoPrefix, NoRoomBehind, HasNoRoom};
-ghost use Rattle.tv_decoder.specs.Steps.{Advances};
+ghost use Rattle.tv_decoder.specs.Steps.{Advances, Stepped};
 ghost use Rattle.tv_legacy.specs.Legacy.{Legacy};
 ghost use Rattle.tv_reader.specs.Error.{IsRefusal, store_stop};
 ghost use Rattle.tv_reader.specs.declared.error.DeserializeError.{DeserializeError};
 ghost use Rattle.tv_reader.specs.Version.{version_of};
-ghost use Rattle.tv_reader.specs.declared.error.DeserializeError.TheVariants.{HeapFull};
+ghost use Rattle.tv_reader.specs.declared.error.DeserializeError.TheVariants.{HeapFull, AlreadyFailed};
 ghost use Rattle.tv_format.specs.InputError.{Refusal};
 ghost use Rattle.tv_format.specs.Encoding.{EncodesDocument};
 ghost use Rattle.tv_format.specs.Tree.{Document};
 ghost use Rattle.tv_heap.specs.Room.{document_room};
 ghost use Rattle.tv_store.specs.Limits.{Checks, FindsWithin, IsPast, IsDeep, IsLarge, IsAll};
 ghost use Rattle.tv_store.specs.Limits.{AnswersWithin, Comes, IsLimitedError, limited_stop};
-ghost use Rattle.tv_store.specs.Limits.{first_count, IsOfBytes, Told};
+ghost use Rattle.tv_store.specs.Limits.{first_count, FindsPart, IsCapped, IsOfBytes, Leaves, TestsLimits};
+ghost use Rattle.tv_store.specs.Limits.{Told};
+ghost use Rattle.tv_store.specs.Decoder.{SaysDone, Rests};
+ghost use Rattle.tv_decoder.specs.Kept.{Grows, KeepsPairs};
 ghost use Rattle.tv_store.specs.Documents.{BeginsWith, NoDocument, ShowsRefusal};
 ghost use Rattle.tv_store.specs.declared.limits.LimitedReadError.{LimitedReadError};
 ghost use Rattle.tv_store.specs.declared.limits.LimitedReadError.TheVariants.{Read, Limit};
@@ -106,6 +109,97 @@ fn passed_limit(decoder: &DirectDecoder, limits: ReadLimits) -> Option<ReadLimit
     None
 }
 
+// The count from which so many bytes can be counted, as 2^64 - 1 can be in all.
+fn first_count(most: Option<u64>) -> u64
+    ensures count { result ≡ first_count most }
+    ensures room { (n : ℕ) → ¬ IsPast most n → n < 2 ^ 64 → result + n < 2 ^ 64 }
+    ensures sum { (bytes : ℕ) → most ≡ Some bytes → result + bytes ≡ 2 ^ 64 - 1 }
+{
+    match most {
+        Some(bytes) => u64::MAX - bytes,
+        None => 0,
+    }
+}
+
+// Whether the number is above the limit, if there is one.
+fn is_past(most: Option<u64>, number: u64) -> bool
+    ensures { IsTrue result ↔ IsPast most number }
+{
+    match most {
+        Some(most) => number > most,
+        None => false,
+    }
+}
+
+// Whether all bytes were taken that may be, by the count.
+fn is_all(most: Option<u64>, count: u64) -> bool
+    ensures { IsTrue result ↔ (IsSome most × (count ≡ 2 ^ 64 - 1)) }
+{
+    count == u64::MAX && most.is_some()
+}
+
+// Whether the error is one of the bytes that were taken.
+fn is_of_bytes(error: &DeserializeError) -> bool
+    ensures { IsTrue result ↔ IsOfBytes (store_stop error.now) }
+{
+    match error {
+        DeserializeError::CorruptedValue(_) => true,
+        DeserializeError::TypeMismatch {
+            expected: ValueType::String,
+            ..
+        } => true,
+        _ => false,
+    }
+}
+
+// What is said of an error, where all bytes were taken that may be taken, or not.
+fn refused(error: DeserializeError, took_all: bool) -> LimitedReadError
+    ensures { Told took_all error result }
+{
+    if took_all && is_of_bytes(&error) {
+        LimitedReadError::Limit(ReadLimit::Bytes)
+    } else {
+        LimitedReadError::Read(error)
+    }
+}
+
+// Reads the next part, behind as many bytes as were taken of those that may be.
+fn step_capped<S: ByteSource>(
+    decoder: &mut DirectDecoder,
+    source: &mut S,
+    most: Option<u64>,
+) -> Result<Step, LimitedReadError>
+    requires live { decoder.old.failed ≡ false }
+    requires more { ¬ IsDone decoder.old.reading }
+    requires within { ¬ IsPast most decoder.old.count }
+    ensures finds { FindsPart S.is_known S.left S.failures source.old decoder.old.count source.new
+        decoder.new.count result
+        (λ b _. Stepped (version_of decoder.old.version) decoder.new.legacy_seen
+        decoder.old.reading decoder.new.reading b)
+        (NoPrefix (version_of decoder.old.version) decoder.old.reading) }
+    ensures full { S.is_known source.old → IsErrOf result (Read HeapFull)
+        → NoRoomBehind (version_of decoder.old.version) decoder.old.reading (S.left source.old) }
+    ensures done { IfOk result (λ step. SaysDone step ↔ IsDone decoder.new.reading) }
+    ensures live { OnOk result (decoder.new.failed ≡ false) }
+    ensures mark { OnErr result (decoder.new.failed ≡ true) }
+    ensures limit { IfErr result (IsCapped most decoder.new.count) }
+    ensures most { ¬ IsPast most decoder.new.count }
+    ensures grows { OnOk result (Grows decoder.old.reading decoder.new.reading) }
+    ensures kept { OnErr result (KeepsPairs decoder.old.reading decoder.new.reading) }
+    ensures version { decoder.new.version ≡ decoder.old.version }
+{
+    let first = first_count(most);
+    let taken = decoder.bytes_read();
+    decoder.recount(first + taken);
+    let stepped = decoder.step(source);
+    let count = decoder.bytes_read();
+    decoder.recount(count - first);
+    match stepped {
+        Ok(step) => Ok(step),
+        Err(error) => Err(refused(error, is_all(most, count))),
+    }
+}
+
 // Takes what is left of a document, part by part, until a limit is passed, and says which.
 fn take_within<S: ByteSource>(
     decoder: &mut DirectDecoder,
@@ -142,49 +236,6 @@ fn take_within<S: ByteSource>(
     Err(DeserializeError::CorruptedValue(Cause::TooLong))
 }
 
-// The count from which so many bytes can be counted, as 2^64 - 1 can be in all.
-fn first_count(most: Option<u64>) -> u64
-    ensures count { result ≡ first_count most }
-    ensures sum { (bytes : ℕ) → most ≡ Some bytes → result + bytes ≡ 2 ^ 64 - 1 }
-{
-    match most {
-        Some(bytes) => u64::MAX - bytes,
-        None => 0,
-    }
-}
-
-// Whether all bytes were taken that may be, by the count.
-fn is_all(most: Option<u64>, count: u64) -> bool
-    ensures { IsTrue result ↔ (IsSome most × (count ≡ 2 ^ 64 - 1)) }
-{
-    count == u64::MAX && most.is_some()
-}
-
-// Whether the error is one of the bytes that were taken.
-fn is_of_bytes(error: &DeserializeError) -> bool
-    ensures { IsTrue result ↔ IsOfBytes (store_stop error.now) }
-{
-    match error {
-        DeserializeError::CorruptedValue(_) => true,
-        DeserializeError::TypeMismatch {
-            expected: ValueType::String,
-            ..
-        } => true,
-        _ => false,
-    }
-}
-
-// What is said of an error, where all bytes were taken that may be taken, or not.
-fn refused(error: DeserializeError, took_all: bool) -> LimitedReadError
-    ensures { Told took_all error result }
-{
-    if took_all && is_of_bytes(&error) {
-        LimitedReadError::Limit(ReadLimit::Bytes)
-    } else {
-        LimitedReadError::Read(error)
-    }
-}
-
 // Reads a document, part by part, until a limit is passed.
 fn read_parts<S: ByteSource>(
     alloc: Global,
@@ -210,6 +261,72 @@ fn read_parts<S: ByteSource>(
     match passed {
         Some(limit) => Err(LimitedReadError::Limit(limit)),
         None => Ok(decoder.into_doc()),
+    }
+}
+
+impl DirectDecoder {
+    /// Reads the next part as `step` does, and then tests what has come so far against limits. Of the source no more bytes are taken than
+    /// may be in all, also within a part. (Not in tantivy.)
+    ///
+    /// Errors: `Read` with those of `step`; `Limit(Bytes)` where just as many bytes as may be were taken and the part isn't complete or is
+    /// malformed, or where more were taken before; `Limit(Depth)` where more than `depth` lists are open once the part has come, else
+    /// `Limit(HeapBytes)` where the document's heap takes more than `heap_bytes` bytes then. After each the decoder is refused, as after
+    /// those of `step`.
+    pub fn step_within<S: ByteSource>(
+        &mut self,
+        source: &mut S,
+        limits: ReadLimits,
+    ) -> Result<Step, LimitedReadError>
+        // after a refusal, and once all is read, nothing happens
+        ensures refused { self.old.failed ≡ true
+            → Rests self.old self.new source.old source.new result (Err (Read AlreadyFailed)) }
+        ensures finished { self.old.failed ≡ false → IsDone self.old.reading
+            → Rests self.old self.new source.old source.new result (Ok Step.Done) }
+
+        // what was taken, and what has come then; or what is malformed
+        ensures finds { self.old.failed ≡ false → ¬ IsDone self.old.reading
+            → FindsPart S.is_known S.left S.failures source.old self.old.count source.new
+            self.new.count result
+            (λ b _. Stepped (version_of self.old.version) self.new.legacy_seen self.old.reading
+            self.new.reading b)
+            (NoPrefix (version_of self.old.version) self.old.reading) }
+        ensures full { self.old.failed ≡ false → S.is_known source.old → IsErrOf result (Read HeapFull)
+            → NoRoomBehind (version_of self.old.version) self.old.reading (S.left source.old) }
+        ensures done { IfOk result (λ step. SaysDone step ↔ IsDone self.new.reading) }
+
+        // a limit is passed exactly where it is told
+        ensures limits { self.old.failed ≡ false → ¬ IsDone self.old.reading
+            → TestsLimits limits self.old.count self.new.count
+            (length (heap_so_far self.new.reading.builder))
+            (length (lists_of (state_of self.new.reading.builder))) result }
+        ensures most { ¬ IsPast limits.bytes self.old.count
+            → ¬ IsPast limits.bytes self.new.count }
+
+        // the heap grows at its end, or ends behind the finished pairs after a refusal; these are kept
+        ensures leaves { self.old.failed ≡ false → ¬ IsDone self.old.reading
+            → Leaves self.old.reading self.new.reading result }
+        ensures live { OnOk result (self.new.failed ≡ false) }
+        ensures mark { OnErr result (self.new.failed ≡ true) }
+        ensures version { self.new.version ≡ self.old.version }
+    {
+        if self.has_failed() {
+            return Err(LimitedReadError::Read(DeserializeError::AlreadyFailed));
+        }
+        if self.is_done() {
+            return Ok(Step::Done);
+        }
+        if is_past(limits.bytes, self.bytes_read()) {
+            self.refuse();
+            return Err(LimitedReadError::Limit(ReadLimit::Bytes));
+        }
+        let step = step_capped(self, source, limits.bytes)?;
+        match passed_limit(self, limits) {
+            Some(limit) => {
+                self.refuse();
+                Err(LimitedReadError::Limit(limit))
+            }
+            None => Ok(step),
+        }
     }
 }
 

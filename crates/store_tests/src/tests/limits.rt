@@ -6,18 +6,15 @@ use tantivy_schema::common::LimitedSource;
 use tv_base::{ByteSource, Cause, SliceSource};
 use tv_doc::document::CompactDoc;
 use tv_store::{
-    DeserializeError, DocStoreVersion, LimitedReadError, ReadLimit, ReadLimits,
-    read_document_within,
+    DeserializeError, DirectDecoder, DocStoreVersion, LimitedReadError, ReadLimit, ReadLimits,
+    Step, read_document_within,
 };
 
 // One pair: an array of an array of "abc" and null, and then two bytes that belong to no document.
 const BYTES: &[u8] = b"\x81\0\0\0\0\x0c\x82\x0c\x81\0\x83abc\x0b\xff\xff";
 
 // Reads it within limits, and says how many bytes are left then.
-fn read_within(
-    alloc: Global,
-    limits: ReadLimits,
-) -> (Result<CompactDoc, LimitedReadError>, usize) {
+fn read_within(alloc: Global, limits: ReadLimits) -> (Result<CompactDoc, LimitedReadError>, usize) {
     let mut source = SliceSource::new(BYTES);
     let result = read_document_within(alloc, &mut source, DocStoreVersion::V2, limits);
     (result, source.rest().len())
@@ -96,6 +93,42 @@ fn no_more_bytes_are_taken_than_the_limit(rt: HostRuntime) -> Result<(), Fail> {
     let (result, rest) = read_within(rt.alloc(), limits);
     assert!(rt; result.is_ok_and(|document| document.len() == 1));
     assert_eq!(rt; rest, 2);
+    Ok(())
+}
+
+// How many steps a decoder takes within limits, and how it ends.
+fn steps_within(alloc: Global, limits: ReadLimits) -> (usize, Result<Step, LimitedReadError>, u64) {
+    let mut source = SliceSource::new(BYTES);
+    let mut decoder = DirectDecoder::new(alloc, DocStoreVersion::V2);
+    let mut steps: usize = 0;
+    for _ in 0..100u8 {
+        let step = decoder.step_within(&mut source, limits);
+        if step != Ok(Step::More) {
+            return (steps, step, decoder.bytes_read());
+        }
+        steps = steps.saturating_add(1);
+    }
+    (steps, Ok(Step::More), decoder.bytes_read())
+}
+
+// The parts are the number of the pairs, the field, the head of each array, the length of the text, its bytes, and null.
+#[test]
+fn steps_are_within_limits(rt: HostRuntime) -> Result<(), Fail> {
+    let alloc = rt.alloc();
+    let none = ReadLimits::default();
+    assert!(rt; steps_within(alloc, none) == (6, Ok(Step::Done), 15));
+    let deep = ReadLimits {
+        depth: Some(1),
+        ..none
+    };
+    let error = Err(LimitedReadError::Limit(ReadLimit::Depth));
+    assert!(rt; steps_within(alloc, deep) == (3, error, 9));
+    let long = ReadLimits {
+        bytes: Some(12),
+        ..none
+    };
+    let error = Err(LimitedReadError::Limit(ReadLimit::Bytes));
+    assert!(rt; steps_within(alloc, long) == (5, error, 12));
     Ok(())
 }
 

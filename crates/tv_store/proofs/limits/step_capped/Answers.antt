@@ -1,0 +1,38 @@
+use Rattle.std.proofs.Common.{◌≡◌, ◌+◌, ◌-◌, ◌^◌, ◌<◌, ap, sym, subst, ◌∙◌, arith}
+use Rattle.std.specs.Prelude.{◌↔◌, IsTrue, IsSome}
+use Rattle.tv_decoder.specs.Prefix.{IsDone, NoPrefix}
+use Rattle.tv_decoder.specs.Steps.{Stepped}
+use Rattle.tv_reader.specs.Version.{version_of}
+use Rattle.tv_store.proofs.WithinLimits.{part_read, part_refused, stepped_as}
+use Rattle.tv_store.proofs.limits.step_capped.Goals as goal
+
+pub returns-in-Ok-clause-finds : goal.returns-in-Ok-clause-finds
+returns-in-Ok-clause-finds g c =
+    let d = c.args.decoder.now in
+    let at = c.recount.new.self in
+    let then = c.step-stepped.new.self in
+    let new = c.recount-2.new.self in
+    let v = version_of d.version in
+    let begun : at.count ≡ c.first_count-first.result + d.count = c.recount.ensures.count ∙ ap (λ n. c.first_count-first.result + n) c.bytes_read-taken.ensures in
+    let ended : new.count ≡ then.count - c.first_count-first.result = c.recount-2.ensures.count ∙ ap (λ n. n - c.first_count-first.result) c.bytes_read-count.ensures in
+    let more = subst (λ r. ¬ IsDone r) (sym c.recount.ensures.reading) c.requires.more in
+    let h = c.in-Ok.ensures.finds (c.recount.ensures.failed ∙ c.requires.live) more in
+    part_read c.first_count-first.result begun ended c.in-Ok.step _ (λ b x. Stepped v new.legacy_seen d.reading new.reading b) _ (NoPrefix v d.reading)
+    (λ b. stepped_as _ _ _ _ _ _ _ _ b (ap version_of c.recount.ensures.version) (sym c.recount-2.ensures.seen) c.recount.ensures.reading (sym c.recount-2.ensures.reading)) h
+
+pub returns-in-Err-clause-finds : goal.returns-in-Err-clause-finds
+returns-in-Err-clause-finds g c =
+    let d = c.args.decoder.now in
+    let at = c.recount.new.self in
+    let then = c.step-stepped.new.self in
+    let new = c.recount-2.new.self in
+    let v = version_of d.version in
+    let begun : at.count ≡ c.first_count-first.result + d.count = c.recount.ensures.count ∙ ap (λ n. c.first_count-first.result + n) c.bytes_read-taken.ensures in
+    let ended : new.count ≡ then.count - c.first_count-first.result = c.recount-2.ensures.count ∙ ap (λ n. n - c.first_count-first.result) c.bytes_read-count.ensures in
+    let more = subst (λ r. ¬ IsDone r) (sym c.recount.ensures.reading) c.requires.more in
+    let h = c.in-Err.ensures.finds (c.recount.ensures.failed ∙ c.requires.live) more in
+    let below : then.count < 2 ^ 64 = omega (arith, c.bytes_read-count.ensures, c.bytes_read-count.type_inv) in
+    let same = subst (λ n. IsTrue c.is_all.result ↔ (IsSome c.args.most × (n ≡ 2 ^ 64 - 1))) c.bytes_read-count.ensures c.is_all.ensures in
+    part_refused c.first_count-first.result begun ended c.in-Err.error c.is_all.result c.refused.result c.args.most _ (λ b x. Stepped v new.legacy_seen d.reading new.reading b) _ (NoPrefix v d.reading)
+    c.refused.ensures c.first_count-first.ensures.count below same
+    (λ b f p. subst (λ r. NoPrefix v r b f) c.recount.ensures.reading (subst (λ z. NoPrefix (version_of z) at.reading b f) c.recount.ensures.version p)) h
