@@ -5,6 +5,7 @@ pub mod Lent
 pub mod Same
 pub mod SameLaws
 pub mod Owned
+pub mod Nesting
 pub mod HeldTokens
 pub mod TokenRef
 pub mod InPlace
