@@ -1,4 +1,5 @@
 mod counts;
+mod depth;
 mod failing;
 mod plain_visitors;
 mod visitors;

@@ -9,3 +9,4 @@ pub mod AgreeField
 pub mod HeadSteps
 pub mod TokenSteps
 pub mod Depths
+pub mod Nested

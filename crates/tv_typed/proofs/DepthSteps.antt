@@ -1,13 +1,44 @@
 -- Where a value is too deep to be read, none is encoded within the depth.
-use Rattle.std.proofs.Common.{ℕ, List, ◌++◌, Result, IsErrOf, sym, ap, ◌∙◌, append_assoc}
+use Rattle.std.proofs.Common.{◌≡◌, ℕ, ◌<◌, false, List, ◌++◌, Result, Ok, IsErrOf, sym, ap, subst, ◌∙◌, append_assoc}
 use Rattle.tv_base.specs.Parts.{Begins}
+use Rattle.tv_base.specs.Source.{Failures}
+use Rattle.tv_format.specs.Version.{Version}
 use Rattle.tv_reader.specs.Depth.{Opens}
 use Rattle.tv_reader.specs.Version.{version_of}
 use Rattle.tv_reader.specs.declared.error.DeserializeError.{DeserializeError}
 use Rattle.tv_reader.specs.declared.error.DeserializeError.TheVariants as errors
 use Rattle.tv_reader.proofs.Depths.{opens_excludes}
-use Rattle.tv_typed.specs.Depths.{HasDepth}
+use Rattle.tv_typed.specs.Depths.{AmongRead, HasDepth}
+use Rattle.tv_typed.specs.Lists.{EncodesInto}
+use Rattle.tv_typed.specs.Typed.{Reads, Deserializes}
 use Rattle.tv_typed.specs.declared.store_reader.StoreReader.{StoreReader}
+
+-- what stands behind a part that was read, at the version and the depth that the reader had before
+pub deep_behind : {S X : Type 0} {is_known : S → Type 0} {left : S → List ℕ} {failures : S → Failures} {old mid : StoreReader S} {x : X} {R : List ℕ → X → Type 0} {Q : List ℕ → DeserializeError → Type 0} {P : Type 0} (behind : List ℕ) (Next : Version → ℕ → List ℕ → List ℕ → Type 0)
+    → Reads is_known left failures old mid (Ok x) R Q → (mid.has_failed ≡ false → is_known mid.source → P → Next (version_of mid.version) mid.levels (left mid.source) behind)
+    → old.has_failed ≡ false → is_known old.source → P → Begins (λ b. R b x) (left old.source) (left mid.source) × Next (version_of old.version) old.levels (left mid.source) behind
+deep_behind {left = left} {old = old} {mid = mid} behind Next p h = λ is_open told is.
+    let f = p.finds is_open in
+    let there = h p.marks (f.stays_known told) is in (
+      f.found told,
+      subst (λ l. Next (version_of old.version) l (left mid.source) behind) p.same_levels (subst (λ z. Next (version_of z) mid.levels (left mid.source) behind) p.same_version there),
+    )
+
+-- the next item has a value that is too deep
+pub among_fails : {S C X : Type 0} {is_known : S → Type 0} {left : S → List ℕ} {failures : S → Failures} {old mid : StoreReader S} {c : C} {m n : ℕ} {I : List ℕ → DeserializeError → Type 0} {P : Type 0} (Made : C → List X → Type 0) (Item : List ℕ → X → Type 0) (behind : List ℕ) (Next : Version → ℕ → List ℕ → List ℕ → Type 0)
+    → old.has_failed ≡ false → m < n → Deserializes is_known left failures old mid (Ok c) (EncodesInto Made Item m) I
+    → (mid.has_failed ≡ false → is_known mid.source → P → Next (version_of mid.version) mid.levels (left mid.source) behind)
+    → is_known old.source → P → AmongRead Item (Next (version_of old.version) old.levels) n (left old.source) behind
+among_fails {left = left} {old = old} {mid = mid} {n = n} Made Item behind Next is_open less p h = λ told is.
+    let f = p.found is_open told in
+    let there = h p.unmarked (p.stays_known is_open told) is in
+    record {
+      before = f.encoded.0;
+      fewer = subst (λ k. k < n) (sym f.encoded.2) less;
+      behind = left mid.source;
+      read = record { prefix = f.prefix; joined = f.joined; encoded = f.encoded.3 };
+      next = subst (λ l. Next (version_of old.version) l (left mid.source) behind) p.same_levels (subst (λ z. Next (version_of z) mid.levels (left mid.source) behind) p.same_version there);
+    }
 
 pub has_depth : {S X : Type 0} (is_known : S → Type 0) (left : S → List ℕ) (old : StoreReader S) (result : Result X DeserializeError) (code behind : List ℕ)
     → (is_known old.source → IsErrOf result errors.TooDeep → Begins (λ b. Opens (version_of old.version) old.levels (code ++ b)) (left old.source) behind) → HasDepth is_known left old result code

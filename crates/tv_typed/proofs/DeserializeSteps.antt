@@ -63,7 +63,7 @@ deserializes {left = left} {old = old} {new = new} {result = result} {B = B} {Q 
 not_ok : {X : Type 0} (x : X) → IsErrOf {T = X} (Ok x) errors.AlreadyFailed → ⊥
 not_ok x e = absurd cc
 
-err_for : {A B : Type 0} (e d : DeserializeError) → IsErrOf {T = A} (Err e) d → IsErrOf {T = B} (Err e) d
+pub err_for : {A B : Type 0} (e d : DeserializeError) → IsErrOf {T = A} (Err e) d → IsErrOf {T = B} (Err e) d
 err_for e d is = let same : e ≡ d = cc in ap (λ (z : DeserializeError). Err z) same
 
 pub goes_then : {S X Y : Type 0} {is_known : S → Type 0} {left : S → List ℕ} {failures : S → Failures} {old mid new : StoreReader S} {x : X} {result : Result Y DeserializeError} {R : List ℕ → X → Type 0} {I : List ℕ → DeserializeError → Type 0} {A : List ℕ → Y → Type 0} {P : List ℕ → DeserializeError → Type 0}
@@ -221,7 +221,7 @@ may_calm (Err errors.TooDeep) count may is = may
 may_calm (Err _) count may is = absurd cc
 
 -- a read of no tree isn't too deep
-reads_calm : {S X : Type 0} {is_known : S → Type 0} {left : S → List ℕ} {failures : S → Failures} {old new : StoreReader S} {result : Result X DeserializeError} {B : List ℕ → X → Type 0} {Q : List ℕ → DeserializeError → Type 0} (has_failed : Bool) → old.has_failed ≡ has_failed
+pub reads_calm : {S X : Type 0} {is_known : S → Type 0} {left : S → List ℕ} {failures : S → Failures} {old new : StoreReader S} {result : Result X DeserializeError} {B : List ℕ → X → Type 0} {Q : List ℕ → DeserializeError → Type 0} (has_failed : Bool) → old.has_failed ≡ has_failed
     → Reads is_known left failures old new result B Q → IsErrOf result errors.TooDeep → ⊥
 reads_calm {result = result} true failed h = closed_calm result (h.closed failed).0
 reads_calm {new = new} {result = result} false is_open h = may_calm result new.count (h.finds is_open).may_stop

@@ -1,14 +1,18 @@
 -- How deep a value of any type nests that is read through a reader with a limit. The code of the value was read before.
-use Rattle.std.specs.Prelude.{◌≡◌, false, ℕ, List, ◌++◌, Result, IfOk, IsErrOf}
-use Rattle.tv_base.specs.Parts.{Begins}
+use Rattle.std.specs.Prelude.{◌≡◌, ◌≢◌, ◌<◌, false, ℕ, List, ◌++◌, length, Result, IfOk, IsErrOf}
+use Rattle.tv_base.specs.Parts.{Begins, Each}
 use Rattle.tv_format.specs.Tree.{Tree}
 use Rattle.tv_reader.specs.Depth.{EncodesWithin, Opens}
-use Rattle.tv_format.specs.Version.{Version}
+use Rattle.tv_format.specs.Version.{Version, entry_total}
+use Rattle.tv_format.specs.Encoding.{Key}
 use Rattle.tv_reader.specs.ValueType.{coded, IsCoded}
 use Rattle.tv_reader.specs.Version.{version_of}
 use Rattle.tv_reader.specs.declared.value_type.ValueType.{ValueType}
 use Rattle.tv_reader.specs.declared.error.DeserializeError.{DeserializeError}
 use Rattle.tv_reader.specs.declared.error.DeserializeError.TheVariants as errors
+use Rattle.tv_reader.specs.declared.value_type.ValueType.TheVariants as types
+use Rattle.tv_typed.specs.Lists.{Length, EncodesEntry, element_total}
+use Rattle.tv_typed.specs.Values.{EncodesAs}
 use Rattle.tv_typed.specs.declared.store_reader.StoreReader.{StoreReader}
 use Rattle.tv_value.specs.Owned.{owned_tree}
 use Rattle.tv_value.specs.declared.owned_value.OwnedValue.{OwnedValue}
@@ -20,6 +24,33 @@ OpensBehind v levels kind old new = Begins (λ b. Opens v levels (coded kind ++ 
 -- the same of the next value, with its code, as its type says it
 abbrev pub NextTooDeep : (Version → ℕ → ValueType → List ℕ → List ℕ → Type 0) → Version → ℕ → List ℕ → List ℕ → Type 0
 NextTooDeep deep v levels old new = (kind : ValueType) × (mid : List ℕ) × Begins (λ b. IsCoded b kind) old mid × deep v levels kind mid new
+
+-- some of so many items are read, and in the place of the next a value is too deep
+pub record AmongRead {X : Type 0} (Item : List ℕ → X → Type 0) (Next : List ℕ → List ℕ → Type 0) (count : ℕ) (old new : List ℕ) : Type 0 where
+  pub before : List X
+  pub fewer : length before < count
+  pub behind : List ℕ
+  pub read : Begins (λ b. Each Item b before) old behind
+  pub next : Next behind new
+
+-- the same behind the number of them, of a collection whose code was read
+abbrev pub ItemsTooDeep : {X : Type 0} → ValueType → (ℕ → ℕ) → (List ℕ → X → Type 0) → (List ℕ → List ℕ → Type 0) → ValueType → List ℕ → List ℕ → Type 0
+ItemsTooDeep collection total Item Next kind old new = (count : ℕ) × (mid : List ℕ) × Begins (λ b. Length collection total kind b count) old mid × AmongRead Item Next count mid new
+
+-- among the values of an array
+abbrev pub ArrayTooDeep : {X : Type 0} → (Tree → X → Type 0) → (Version → ℕ → ValueType → List ℕ → List ℕ → Type 0) → Version → ℕ → ValueType → List ℕ → List ℕ → Type 0
+ArrayTooDeep is deep v levels = ItemsTooDeep types.Array element_total (EncodesAs is v) (NextTooDeep deep v levels)
+
+-- behind a key
+abbrev pub EntryTooDeep : (Version → ℕ → ValueType → List ℕ → List ℕ → Type 0) → Version → ℕ → List ℕ → List ℕ → Type 0
+EntryTooDeep deep v levels old new = (key : List ℕ) × (mid : List ℕ) × Begins (λ b. Key v b key) old mid × NextTooDeep deep v levels mid new
+
+-- among the values of an object; of a legacy one nothing is said
+abbrev pub ObjectTooDeep : {X : Type 0} → (Tree → X → Type 0) → (Version → ℕ → ValueType → List ℕ → List ℕ → Type 0) → Version → ℕ → ValueType → List ℕ → List ℕ → Type 0
+ObjectTooDeep is deep v levels = ItemsTooDeep types.Object (entry_total v) (EncodesEntry is v) (EntryTooDeep deep v levels)
+
+abbrev pub MembersTooDeep : {X : Type 0} → (Tree → X → Type 0) → (Version → ℕ → ValueType → List ℕ → List ℕ → Type 0) → Version → ℕ → ValueType → List ℕ → List ℕ → Type 0
+MembersTooDeep is deep v levels kind old new = kind ≢ types.JSONObject → ObjectTooDeep is deep v levels kind old new
 
 -- in what was read no more lists are open at once than the reader allows
 abbrev pub IsWithin : {S : Type 0} (is_known : S → Type 0) (left : S → List ℕ) (old new : StoreReader S) (result : Result OwnedValue DeserializeError) (code : List ℕ) → Type 0

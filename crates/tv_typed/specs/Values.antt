@@ -84,7 +84,7 @@ abbrev pub RefusalsExclude : {X : Type 0} → (Tree → X → Type 0) → (Versi
 RefusalsExclude {X} is refused =
     (v : Version) (kind : ValueType) (prefix rest : List ℕ) (e : DeserializeError) (t : Tree) (x : X) → refused v kind (prefix ++ rest) e → Encodes NoLegacy v (coded kind ++ prefix) t → is t x → ⊥
 
--- it was not for the bytes: the source failed, or memory was refused
+-- the bytes are not malformed: the source failed, memory was refused, or a value of any type nests too deep for the reader
 abbrev pub SparesBytes : Stop DeserializeError → Type 0
 SparesBytes (InputError e) = ⊥
 SparesBytes (Failed kind) = Unit {0}
@@ -97,7 +97,7 @@ IsReadOf is t rest (Ok x) left = is t x × (left ≡ rest)
 IsReadOf is t rest (Err e) left = SparesBytes (typed_stop e)
 
 -- Wherever a prefix of what is left encodes, without legacy objects, a tree of which a value is read, a value of that tree is read and the rest is left, unless
--- the source failed or memory was refused. The code of the value was read before.
+-- the source failed, memory was refused, or a value of any type in it nests too deep for the reader. The code of the value was read before.
 abbrev pub Only : {S X : Type 0} (is_known : S → Type 0) (left : S → List ℕ) (old new : StoreReader S) (result : Result X DeserializeError) → (Tree → X → Type 0) → Version → List ℕ → Type 0
 Only {X = X} is_known left old new result is v code =
     old.has_failed ≡ false → is_known old.source → old.count + length (left old.source) < 2 ^ 64 - 1

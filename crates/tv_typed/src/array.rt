@@ -1,10 +1,11 @@
 //! Arrays in a store.
 
-ghost use Rattle.std.specs.Prelude.{◌≡◌, ◌+◌, ◌-◌, false, true, OnErr, if◌then◌else◌};
+ghost use Rattle.std.specs.Prelude.{◌≡◌, ◌+◌, ◌-◌, false, true, IsErrOf, OnErr, if◌then◌else◌};
 ghost use Rattle.tv_base.specs.ErrorInPart.{InEach};
 ghost use Rattle.tv_reader.specs.Version.{version_of};
 ghost use Rattle.tv_reader.specs.declared.error.DeserializeError.TheVariants as errors;
 ghost use Rattle.tv_reader.specs.declared.value_type.ValueType.TheVariants as types;
+ghost use Rattle.tv_typed.specs.Depths.{AmongRead, NextTooDeep};
 ghost use Rattle.tv_typed.specs.Lists.{EncodesInto, NextItem, NextItemRefused, gives_some};
 ghost use Rattle.tv_typed.specs.Typed.{Deserializes};
 ghost use Rattle.tv_typed.specs.Values.{EncodesAs, NextRefused};
@@ -22,11 +23,13 @@ pub(crate) fn read_elements<T: ValueDeserialize, S: ByteSource>(
     announced: u64,
 ) -> Result<Vec<T>, DeserializeError>
     requires { reader.old.has_failed ≡ false }
-    ensures { Deserializes S.is_known S.left S.failures reader.old reader.new result
+    ensures deserializes { Deserializes S.is_known S.left S.failures reader.old reader.new result
         (EncodesInto (λ items xs. items.items ≡ xs) (EncodesAs T.is (version_of reader.old.version))
         announced)
         (InEach (NextRefused T.refused (version_of reader.old.version))
         (EncodesAs T.is (version_of reader.old.version)) announced) }
+    ensures deep { S.is_known reader.old.source → IsErrOf result errors.TooDeep
+        → AmongRead (EncodesAs T.is (version_of reader.old.version)) (NextTooDeep T.deep (version_of reader.old.version) reader.old.levels) announced (S.left reader.old.source) (S.left reader.new.source) }
 {
     let mut items = Vec::new(alloc);
     for _ in 0..announced {

@@ -1,11 +1,13 @@
 //! Legacy objects, read as lists and maps: the object's tree is encoded in memory, and read from there.
 
-ghost use Rattle.std.specs.Prelude.{◌≡◌, IfOk, OnOk};
+ghost use Rattle.std.specs.Prelude.{◌≡◌, false, IfOk, IsErrOf, OnOk};
 ghost use Rattle.tv_format.specs.Short.{short, IsValue};
 ghost use Rattle.tv_format.specs.Version.{V2};
 ghost use Rattle.tv_reader.specs.Trees.{EncodesBehind};
 ghost use Rattle.tv_reader.specs.Version.{version_of};
+ghost use Rattle.tv_reader.specs.declared.error.DeserializeError.TheVariants as errors;
 ghost use Rattle.tv_reader.specs.declared.value_type.ValueType.TheVariants as types;
+ghost use Rattle.tv_typed.specs.Depths.{MembersTooDeep};
 ghost use Rattle.tv_typed.specs.LegacyObjects.{Retold, OfEncoding, LegacyRefused, MembersRefused};
 ghost use Rattle.tv_typed.specs.Typed.{Reads, Deserializes};
 ghost use Rattle.tv_typed.specs.Lists.{ObjectRefused};
@@ -64,7 +66,7 @@ pub(crate) fn retold(error: DeserializeError) -> DeserializeError
     }
 }
 
-// What is read of the shortest encoding of a tree.
+// What is read of the shortest encoding of a tree. The JSON of a legacy object nests 127 levels deep at most, so no value in it is too deep.
 fn of_encoding<T: ValueDeserialize, C: Entries<T>>(
     alloc: Global,
     bytes: &Vec<u8>,
@@ -113,8 +115,10 @@ pub(crate) fn read_object<T: ValueDeserialize, C: Entries<T>, S: ByteSource>(
     kind: ValueType,
     reader: &mut StoreReader<S>,
 ) -> Result<C, DeserializeError>
-    ensures { DeserializesAs S.is_known S.left S.failures C.is
+    ensures deserializes { DeserializesAs S.is_known S.left S.failures C.is
         (MembersRefused (ObjectRefused T.is T.refused)) kind reader.old reader.new result }
+    ensures deep { reader.old.has_failed ≡ false → S.is_known reader.old.source → IsErrOf result errors.TooDeep
+        → MembersTooDeep T.is T.deep (version_of reader.old.version) reader.old.levels kind (S.left reader.old.source) (S.left reader.new.source) }
 {
     match kind {
         ValueType::JSONObject => legacy_object::<T, C, S>(alloc, reader),

@@ -1,6 +1,6 @@
 //! Objects in a store.
 
-ghost use Rattle.std.specs.Prelude.{◌≡◌, ◌+◌, ◌-◌, ◌++◌, ◌∷◌, [], false, true, List, OnOk, OnErr};
+ghost use Rattle.std.specs.Prelude.{◌≡◌, ◌+◌, ◌-◌, ◌++◌, ◌∷◌, [], false, true, List, IsErrOf, OnOk, OnErr};
 ghost use Rattle.std.specs.Prelude.{String, if◌then◌else◌};
 ghost use Rattle.std.specs.BTreeMap as tree;
 ghost use Rattle.std.specs.HashMap as hash;
@@ -11,6 +11,7 @@ ghost use Rattle.tv_reader.specs.declared.error.DeserializeError.TheVariants as 
 ghost use Rattle.tv_reader.specs.declared.value_type.ValueType.TheVariants as types;
 ghost use Rattle.std.proofs.Common.{subst, sym};
 ghost use Rattle.tv_format.specs.Tree.{Tree};
+ghost use Rattle.tv_typed.specs.Depths.{AmongRead, EntryTooDeep, ObjectTooDeep};
 ghost use Rattle.tv_typed.specs.Lists.{EncodesInto, EncodesEntry, EntryRefused, GivesLast};
 ghost use Rattle.tv_typed.specs.Lists.{MapOf, ObjectOf, ObjectRefused};
 ghost use Rattle.tv_typed.specs.Lists.{NextItem, NextItemRefused, gives_some};
@@ -119,10 +120,12 @@ pub(crate) fn read_entries<T: ValueDeserialize, C: Entries<T>, S: ByteSource>(
     announced: u64,
 ) -> Result<C, DeserializeError>
     requires { reader.old.has_failed ≡ false }
-    ensures { Deserializes S.is_known S.left S.failures reader.old reader.new result
+    ensures deserializes { Deserializes S.is_known S.left S.failures reader.old reader.new result
         (EncodesInto C.made (EncodesEntry T.is (version_of reader.old.version)) announced)
         (InEach (EntryRefused T.refused (version_of reader.old.version))
         (EncodesEntry T.is (version_of reader.old.version)) announced) }
+    ensures deep { S.is_known reader.old.source → IsErrOf result errors.TooDeep
+        → AmongRead (EncodesEntry T.is (version_of reader.old.version)) (EntryTooDeep T.deep (version_of reader.old.version) reader.old.levels) announced (S.left reader.old.source) (S.left reader.new.source) }
 {
     let mut entries = C::none(alloc);
     for _ in 0..announced {
@@ -138,8 +141,10 @@ pub(crate) fn read_coded<T: ValueDeserialize, C: Entries<T>, S: ByteSource>(
     kind: ValueType,
     reader: &mut StoreReader<S>,
 ) -> Result<C, DeserializeError>
-    ensures { DeserializesAs S.is_known S.left S.failures C.is (ObjectRefused T.is T.refused) kind
-        reader.old reader.new result }
+    ensures deserializes { DeserializesAs S.is_known S.left S.failures C.is
+        (ObjectRefused T.is T.refused) kind reader.old reader.new result }
+    ensures deep { reader.old.has_failed ≡ false → S.is_known reader.old.source → IsErrOf result errors.TooDeep
+        → ObjectTooDeep T.is T.deep (version_of reader.old.version) reader.old.levels kind (S.left reader.old.source) (S.left reader.new.source) }
 {
     let announced = reader.object_length(kind)?;
     let answer = read_entries::<T, C, S>(alloc, reader, announced);

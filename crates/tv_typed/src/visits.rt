@@ -23,7 +23,8 @@ use tv_base::{ByteSource, SliceSource};
 use tv_reader::value_type::take_leaf;
 use tv_reader::{DeserializeError, DocStoreVersion, ValueType};
 
-// Hands the visitor the entries of an object whose encoding stands in memory.
+// Hands the visitor the entries of an object whose encoding stands in memory. The JSON of a legacy object nests 127 levels deep at most, so no
+// value in it is too deep.
 fn visit_encoding<V: ValueVisitor>(
     alloc: Global,
     bytes: &Vec<u8>,

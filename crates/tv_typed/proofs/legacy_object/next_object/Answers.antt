@@ -15,4 +15,4 @@ pub returns : goal.returns
 returns g c =
     let T = g.T.ValueDeserialize in
     let C = g.C.Entries in
-    next_then C.is (ObjectRefused T.is T.refused) c.in_ok-kind.ensures.reads c.read_coded.ensures
+    next_then C.is (ObjectRefused T.is T.refused) c.in_ok-kind.ensures.reads c.read_coded.ensures.deserializes

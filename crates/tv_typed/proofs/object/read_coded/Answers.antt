@@ -4,19 +4,34 @@ use Rattle.tv_reader.specs.Version.{version_of}
 use Rattle.tv_reader.specs.declared.value_type.ValueType.TheVariants as types
 use Rattle.tv_typed.specs.Lists.{EncodesEntry, EntryRefused}
 use Rattle.tv_typed.specs.Values.{EncodedAs}
-use Rattle.tv_typed.proofs.DeserializeSteps.{goes_told}
+use Rattle.tv_typed.proofs.DepthSteps.{deep_behind}
+use Rattle.tv_typed.specs.Depths.{AmongRead, EntryTooDeep}
+use Rattle.std.proofs.Common.{refl}
+use Rattle.tv_typed.proofs.DeserializeSteps.{goes_told, err_for, reads_calm}
 use Rattle.tv_typed.proofs.ItemSteps.{object_then, collection_fails}
 use Rattle.tv_typed.proofs.object.read_coded.Goals as goal
 
-pub returns-in_err-announced : goal.returns-in_err-announced
-returns-in_err-announced g c =
+pub returns-in_err-announced-clause-deserializes : goal.returns-in_err-announced-clause-deserializes
+returns-in_err-announced-clause-deserializes g c =
     let p = err_from_is_err_and c.from_residual.result c.from_residual.ensures.1 in
     let T = g.T.ValueDeserialize in
     let v = version_of c.args.reader.now.version in
     rw (p.1, p.2) (collection_fails types.Object (entry_total v) c.args.kind (EncodesEntry T.is v) (EntryRefused T.refused v) (EncodedAs g.C.Entries.is v c.args.kind) c.in_err-announced.ensures.reads)
 
-pub returns : goal.returns
-returns g c =
+pub returns-clause-deserializes : goal.returns-clause-deserializes
+returns-clause-deserializes g c =
     let T = g.T.ValueDeserialize in
     let C = g.C.Entries in
-    goes_told c.is_err-reader.result c.is_err-reader.ensures.value (object_then T.is T.refused C.is C.made g.met.C.Entries.made_is c.args.kind c.in_ok-announced.ensures.reads c.read_entries-answer.ensures)
+    goes_told c.is_err-reader.result c.is_err-reader.ensures.value (object_then T.is T.refused C.is C.made g.met.C.Entries.made_is c.args.kind c.in_ok-announced.ensures.reads c.read_entries-answer.ensures.deserializes)
+
+pub returns-in_err-announced-clause-deep : goal.returns-in_err-announced-clause-deep
+returns-in_err-announced-clause-deep g c =
+    let p = err_from_is_err_and c.from_residual.result c.from_residual.ensures.1 in
+    rw (p.1, p.2) (λ o t is. absurd (reads_calm _ refl c.in_err-announced.ensures.reads (err_for _ _ is)))
+
+pub returns-clause-deep : goal.returns-clause-deep
+returns-clause-deep g c =
+    let T = g.T.ValueDeserialize in
+    let n = c.in_ok-announced.announced in
+    let d = deep_behind _ (λ v l old new. AmongRead (EncodesEntry T.is v) (EntryTooDeep T.deep v l) n old new) c.in_ok-announced.ensures.reads (λ o t is. c.read_entries-answer.ensures.deep t is) in
+    λ o t is. let x = d o t is in (n, _, x.0, x.1)

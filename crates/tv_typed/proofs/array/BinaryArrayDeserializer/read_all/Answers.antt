@@ -1,4 +1,4 @@
 use Rattle.tv_typed.proofs.array.BinaryArrayDeserializer.read_all.Goals as goal
 
 pub returns : goal.returns
-returns g c = rw c.saturating_sub-rest.ensures at c.read_elements.ensures
+returns g c = rw c.saturating_sub-rest.ensures at c.read_elements.ensures.deserializes

@@ -1,10 +1,13 @@
 use Rattle.tv_typed.specs.Lists.{ArrayOf, element_total}
 use Rattle.tv_typed.specs.Values.{EncodesAs, EncodedAs, NextRefused}
+use Rattle.tv_typed.proofs.DepthSteps.{deep_behind}
+use Rattle.tv_typed.specs.Depths.{AmongRead, NextTooDeep}
+use Rattle.std.proofs.Common.{refl}
 use Rattle.tv_typed.proofs.ItemSteps.{array_then, collection_fails}
 use Rattle.std.proofs.lemmas.Result.{err_from_is_err_and}
 use Rattle.tv_reader.specs.Version.{version_of}
 use Rattle.tv_reader.specs.declared.value_type.ValueType.TheVariants as types
-use Rattle.tv_typed.proofs.DeserializeSteps.{goes_told}
+use Rattle.tv_typed.proofs.DeserializeSteps.{goes_told, err_for, reads_calm}
 use Rattle.tv_typed.proofs.collections.VecValueDeserialize.deserialize.Goals as goal
 
 pub returns-in_err-announced-clause-deserializes : goal.returns-in_err-announced-clause-deserializes
@@ -17,4 +20,16 @@ returns-in_err-announced-clause-deserializes g c =
 pub returns-clause-deserializes : goal.returns-clause-deserializes
 returns-clause-deserializes g c =
     let T = g.T.ValueDeserialize in
-    goes_told c.is_err-reader.result c.is_err-reader.ensures.value (array_then T.is T.refused c.args.deserializer.kind c.in_ok-announced.ensures.reads c.read_elements-answer.ensures)
+    goes_told c.is_err-reader.result c.is_err-reader.ensures.value (array_then T.is T.refused c.args.deserializer.kind c.in_ok-announced.ensures.reads c.read_elements-answer.ensures.deserializes)
+
+pub returns-in_err-announced-clause-deep : goal.returns-in_err-announced-clause-deep
+returns-in_err-announced-clause-deep g c =
+    let p = err_from_is_err_and c.from_residual.result c.from_residual.ensures.1 in
+    rw (p.1, p.2) (λ o t is. absurd (reads_calm _ refl c.in_err-announced.ensures.reads (err_for _ _ is)))
+
+pub returns-clause-deep : goal.returns-clause-deep
+returns-clause-deep g c =
+    let T = g.T.ValueDeserialize in
+    let n = c.in_ok-announced.announced in
+    let d = deep_behind _ (λ v l old new. AmongRead (EncodesAs T.is v) (NextTooDeep T.deep v l) n old new) c.in_ok-announced.ensures.reads (λ o t is. c.read_elements-answer.ensures.deep t is) in
+    λ o t is. let x = d o t is in (n, _, x.0, x.1)
