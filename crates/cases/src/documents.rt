@@ -4,7 +4,7 @@ use crate::{builder, json_values, parts, schemas};
 use anyhow::{Context, Result, anyhow, ensure};
 use case_words as words;
 use serde_json::Value as JsonValue;
-use std::alloc::{AllocError, Global};
+use std::alloc::Global;
 use std::fmt::Write;
 use tv_doc::doc_parsing_error::DocParsingError;
 use tv_doc::document::CompactDoc;
@@ -16,6 +16,7 @@ use tv_heap::value::CompactDocValue;
 use tv_json::compact::push_json;
 use tv_json::json_value::{ToJsonValue, to_json_value};
 use tv_schema::Schema;
+use tv_value::copy_error::CopyError;
 use tv_value::owned_value::OwnedValue;
 
 /// What a call about documents returns.
@@ -246,7 +247,7 @@ fn tabbed_json(alloc: Global, value: CompactDocValue<'_>) -> Result<String> {
 }
 
 // The JSON value of a copy of a value.
-fn json_of_copy(alloc: Global, value: CompactDocValue<'_>) -> Result<JsonValue, AllocError> {
+fn json_of_copy(alloc: Global, value: CompactDocValue<'_>) -> Result<JsonValue, CopyError> {
     let copy = OwnedValue::from_value(alloc, &value)?;
     let json = copy.to_json_value(alloc);
     drop(copy);

@@ -35,6 +35,7 @@ fn same(alloc: Global, one: &OwnedValue, kind: &str, value: &str) -> Result<Stri
     let other = leaf(alloc, kind, value)?;
     let (equal, same) = (*one == other, is_same(&one, &&other));
     drop(other);
+    let same = same?;
     Ok(format!(in alloc; "{equal} {same}")?)
 }
 
@@ -92,7 +93,7 @@ fn check_copies(alloc: Global, value: &OwnedValue) -> Result<()> {
 
 // Whether a copy is equal to a value, by each call. The copy is let go.
 fn is_copy(value: &OwnedValue, copy: OwnedValue) -> bool {
-    let is_kept = copy == *value && is_same(&&copy, &value);
+    let is_kept = copy == *value && is_same(&&copy, &value) == Ok(true);
     drop(copy);
     is_kept
 }
