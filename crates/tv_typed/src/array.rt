@@ -28,8 +28,10 @@ pub(crate) fn read_elements<T: ValueDeserialize, S: ByteSource>(
         announced)
         (InEach (NextRefused T.refused (version_of reader.old.version))
         (EncodesAs T.is (version_of reader.old.version)) announced) }
-    ensures deep { S.is_known reader.old.source → IsErrOf result errors.TooDeep
-        → AmongRead (EncodesAs T.is (version_of reader.old.version)) (NextTooDeep T.deep (version_of reader.old.version) reader.old.levels) announced (S.left reader.old.source) (S.left reader.new.source) }
+    ensures deep { S.is_known reader.old.source → IsErrOf result errors.TooDeep → AmongRead
+        (EncodesAs T.is (version_of reader.old.version)) (NextTooDeep T.deep (version_of
+        reader.old.version) reader.old.levels) announced (S.left reader.old.source) (S.left
+        reader.new.source) }
 {
     let mut items = Vec::new(alloc);
     for _ in 0..announced {

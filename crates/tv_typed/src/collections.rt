@@ -44,8 +44,11 @@ impl<T: ValueDeserialize> ValueDeserialize for Vec<T> {
             (λ t list. ArrayOf T.is t list.items) (ArrayRefused T.is T.refused)
             deserializer.entry.kind deserializer.entry.reader.now deserializer.exit.1.0.now result }
         ensures marks { OnErr result (deserializer.exit.1.0.now.has_failed ≡ true) }
-        ensures deep { deserializer.entry.reader.now.has_failed ≡ false → S.is_known deserializer.entry.reader.now.source → IsErrOf result errors.TooDeep
-            → ArrayTooDeep T.is T.deep (version_of deserializer.entry.reader.now.version) deserializer.entry.reader.now.levels deserializer.entry.kind (S.left deserializer.entry.reader.now.source) (S.left deserializer.exit.1.0.now.source) }
+        ensures deep { deserializer.entry.reader.now.has_failed ≡ false → S.is_known
+            deserializer.entry.reader.now.source → IsErrOf result errors.TooDeep → ArrayTooDeep T.is
+            T.deep (version_of deserializer.entry.reader.now.version)
+            deserializer.entry.reader.now.levels deserializer.entry.kind (S.left
+            deserializer.entry.reader.now.source) (S.left deserializer.exit.1.0.now.source) }
     {
         let BinaryValueDeserializer { kind, reader } = deserializer;
         let announced = reader.array_length(kind)?;
@@ -68,8 +71,10 @@ impl<'de, S: ByteSource> BinaryValueDeserializer<'de, S> {
             (MembersRefused (ObjectRefused T.is T.refused)) self.entry.kind self.entry.reader.now
             self.exit.1.0.now result }
         ensures marks { OnErr result (self.exit.1.0.now.has_failed ≡ true) }
-        ensures deep { self.entry.reader.now.has_failed ≡ false → S.is_known self.entry.reader.now.source → IsErrOf result errors.TooDeep
-            → MembersTooDeep T.is T.deep (version_of self.entry.reader.now.version) self.entry.reader.now.levels self.entry.kind (S.left self.entry.reader.now.source) (S.left self.exit.1.0.now.source) }
+        ensures deep { self.entry.reader.now.has_failed ≡ false → S.is_known
+            self.entry.reader.now.source → IsErrOf result errors.TooDeep → MembersTooDeep T.is
+            T.deep (version_of self.entry.reader.now.version) self.entry.reader.now.levels
+            self.entry.kind (S.left self.entry.reader.now.source) (S.left self.exit.1.0.now.source) }
     {
         let BinaryValueDeserializer { kind, reader } = self;
         let answer = read_object::<T, C, S>(alloc, kind, reader);
@@ -93,8 +98,11 @@ impl<T: ValueDeserialize> ValueDeserialize for Vec<(String, T)> {
             (λ t list. ObjectOf T.is t list.items) (MembersRefused (ObjectRefused T.is T.refused))
             deserializer.entry.kind deserializer.entry.reader.now deserializer.exit.1.0.now result }
         ensures marks { OnErr result (deserializer.exit.1.0.now.has_failed ≡ true) }
-        ensures deep { deserializer.entry.reader.now.has_failed ≡ false → S.is_known deserializer.entry.reader.now.source → IsErrOf result errors.TooDeep
-            → MembersTooDeep T.is T.deep (version_of deserializer.entry.reader.now.version) deserializer.entry.reader.now.levels deserializer.entry.kind (S.left deserializer.entry.reader.now.source) (S.left deserializer.exit.1.0.now.source) }
+        ensures deep { deserializer.entry.reader.now.has_failed ≡ false → S.is_known
+            deserializer.entry.reader.now.source → IsErrOf result errors.TooDeep → MembersTooDeep
+            T.is T.deep (version_of deserializer.entry.reader.now.version)
+            deserializer.entry.reader.now.levels deserializer.entry.kind (S.left
+            deserializer.entry.reader.now.source) (S.left deserializer.exit.1.0.now.source) }
     {
         deserializer.members::<T, Vec<(String, T)>>(alloc)
     }
@@ -119,8 +127,11 @@ impl<T: ValueDeserialize> ValueDeserialize for BTreeMap<String, T> {
             (MembersRefused (ObjectRefused T.is T.refused))
             deserializer.entry.kind deserializer.entry.reader.now deserializer.exit.1.0.now result }
         ensures marks { OnErr result (deserializer.exit.1.0.now.has_failed ≡ true) }
-        ensures deep { deserializer.entry.reader.now.has_failed ≡ false → S.is_known deserializer.entry.reader.now.source → IsErrOf result errors.TooDeep
-            → MembersTooDeep T.is T.deep (version_of deserializer.entry.reader.now.version) deserializer.entry.reader.now.levels deserializer.entry.kind (S.left deserializer.entry.reader.now.source) (S.left deserializer.exit.1.0.now.source) }
+        ensures deep { deserializer.entry.reader.now.has_failed ≡ false → S.is_known
+            deserializer.entry.reader.now.source → IsErrOf result errors.TooDeep → MembersTooDeep
+            T.is T.deep (version_of deserializer.entry.reader.now.version)
+            deserializer.entry.reader.now.levels deserializer.entry.kind (S.left
+            deserializer.entry.reader.now.source) (S.left deserializer.exit.1.0.now.source) }
     {
         deserializer.members::<T, BTreeMap<String, T>>(alloc)
     }
@@ -146,8 +157,11 @@ impl<T: ValueDeserialize> ValueDeserialize for HashMap<String, T> {
             (MembersRefused (ObjectRefused T.is T.refused))
             deserializer.entry.kind deserializer.entry.reader.now deserializer.exit.1.0.now result }
         ensures marks { OnErr result (deserializer.exit.1.0.now.has_failed ≡ true) }
-        ensures deep { deserializer.entry.reader.now.has_failed ≡ false → S.is_known deserializer.entry.reader.now.source → IsErrOf result errors.TooDeep
-            → MembersTooDeep T.is T.deep (version_of deserializer.entry.reader.now.version) deserializer.entry.reader.now.levels deserializer.entry.kind (S.left deserializer.entry.reader.now.source) (S.left deserializer.exit.1.0.now.source) }
+        ensures deep { deserializer.entry.reader.now.has_failed ≡ false → S.is_known
+            deserializer.entry.reader.now.source → IsErrOf result errors.TooDeep → MembersTooDeep
+            T.is T.deep (version_of deserializer.entry.reader.now.version)
+            deserializer.entry.reader.now.levels deserializer.entry.kind (S.left
+            deserializer.entry.reader.now.source) (S.left deserializer.exit.1.0.now.source) }
     {
         deserializer.members::<T, HashMap<String, T>>(alloc)
     }

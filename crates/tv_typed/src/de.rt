@@ -1,6 +1,7 @@
 //! Reading values out of a store: of the type that a type of this program reads, and of any type.
 
-ghost use Rattle.std.specs.Prelude.{◌≡◌, Ok, Err, IfOk, IfErr, false, true, List, [], ℕ, OnErr, IsErrOf};
+ghost use Rattle.std.specs.Prelude.{◌≡◌, Ok, Err, IfOk, IfErr, false, true, List, [], ℕ, OnErr};
+ghost use Rattle.std.specs.Prelude.{IsErrOf};
 ghost use Rattle.std.specs.Borrow.{sem, RestsIfErr};
 ghost use Rattle.tv_format.specs.Tree.{Tree};
 ghost use Rattle.tv_format.specs.Version.{Version};
@@ -12,7 +13,8 @@ ghost use Rattle.tv_reader.specs.declared.error.DeserializeError.TheVariants as 
 ghost use Rattle.tv_reader.specs.declared.value_type.ValueType.{ValueType};
 ghost use Rattle.tv_typed.specs.Excluding.{tree_excludes};
 ghost use Rattle.tv_typed.specs.Lists.{EncodesEntry, EntryRefused};
-ghost use Rattle.tv_typed.specs.Depths.{IsWithin, IsTooDeep, HasDepth, NextTooDeep, EntryTooDeep, OpensBehind};
+ghost use Rattle.tv_typed.specs.Depths.{IsWithin, IsTooDeep, HasDepth, NextTooDeep};
+ghost use Rattle.tv_typed.specs.Depths.{EntryTooDeep, OpensBehind};
 ghost use Rattle.tv_typed.specs.Typed.{Reads, ReadsDeep, Deserializes};
 ghost use Rattle.tv_typed.specs.Values.{CodeRefused, IsTree, TreeRefused, Only, EncodesAs};
 ghost use Rattle.tv_typed.specs.Values.{DeserializesAs, NextRefused, RefusalsExclude};
@@ -160,8 +162,9 @@ impl<S: ByteSource> StoreReader<S> {
             (EncodesEntry V.is (version_of self.old.version))
             (EntryRefused V.refused (version_of self.old.version)) }
         ensures marks { OnErr result (self.new.has_failed ≡ true) }
-        ensures deep { self.old.has_failed ≡ false → S.is_known self.old.source → IsErrOf result errors.TooDeep
-            → EntryTooDeep V.deep (version_of self.old.version) self.old.levels (S.left self.old.source) (S.left self.new.source) }
+        ensures deep { self.old.has_failed ≡ false → S.is_known self.old.source → IsErrOf result
+            errors.TooDeep → EntryTooDeep V.deep (version_of self.old.version) self.old.levels
+            (S.left self.old.source) (S.left self.new.source) }
     {
         let key = self.key(alloc)?;
         let value = self.read::<V>(alloc)?;

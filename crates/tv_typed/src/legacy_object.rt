@@ -117,8 +117,9 @@ pub(crate) fn read_object<T: ValueDeserialize, C: Entries<T>, S: ByteSource>(
 ) -> Result<C, DeserializeError>
     ensures deserializes { DeserializesAs S.is_known S.left S.failures C.is
         (MembersRefused (ObjectRefused T.is T.refused)) kind reader.old reader.new result }
-    ensures deep { reader.old.has_failed ≡ false → S.is_known reader.old.source → IsErrOf result errors.TooDeep
-        → MembersTooDeep T.is T.deep (version_of reader.old.version) reader.old.levels kind (S.left reader.old.source) (S.left reader.new.source) }
+    ensures deep { reader.old.has_failed ≡ false → S.is_known reader.old.source → IsErrOf result
+        errors.TooDeep → MembersTooDeep T.is T.deep (version_of reader.old.version)
+        reader.old.levels kind (S.left reader.old.source) (S.left reader.new.source) }
 {
     match kind {
         ValueType::JSONObject => legacy_object::<T, C, S>(alloc, reader),

@@ -124,8 +124,10 @@ pub(crate) fn read_entries<T: ValueDeserialize, C: Entries<T>, S: ByteSource>(
         (EncodesInto C.made (EncodesEntry T.is (version_of reader.old.version)) announced)
         (InEach (EntryRefused T.refused (version_of reader.old.version))
         (EncodesEntry T.is (version_of reader.old.version)) announced) }
-    ensures deep { S.is_known reader.old.source → IsErrOf result errors.TooDeep
-        → AmongRead (EncodesEntry T.is (version_of reader.old.version)) (EntryTooDeep T.deep (version_of reader.old.version) reader.old.levels) announced (S.left reader.old.source) (S.left reader.new.source) }
+    ensures deep { S.is_known reader.old.source → IsErrOf result errors.TooDeep → AmongRead
+        (EncodesEntry T.is (version_of reader.old.version)) (EntryTooDeep T.deep (version_of
+        reader.old.version) reader.old.levels) announced (S.left reader.old.source) (S.left
+        reader.new.source) }
 {
     let mut entries = C::none(alloc);
     for _ in 0..announced {
@@ -143,8 +145,9 @@ pub(crate) fn read_coded<T: ValueDeserialize, C: Entries<T>, S: ByteSource>(
 ) -> Result<C, DeserializeError>
     ensures deserializes { DeserializesAs S.is_known S.left S.failures C.is
         (ObjectRefused T.is T.refused) kind reader.old reader.new result }
-    ensures deep { reader.old.has_failed ≡ false → S.is_known reader.old.source → IsErrOf result errors.TooDeep
-        → ObjectTooDeep T.is T.deep (version_of reader.old.version) reader.old.levels kind (S.left reader.old.source) (S.left reader.new.source) }
+    ensures deep { reader.old.has_failed ≡ false → S.is_known reader.old.source → IsErrOf result
+        errors.TooDeep → ObjectTooDeep T.is T.deep (version_of reader.old.version) reader.old.levels
+        kind (S.left reader.old.source) (S.left reader.new.source) }
 {
     let announced = reader.object_length(kind)?;
     let answer = read_entries::<T, C, S>(alloc, reader, announced);
