@@ -11,7 +11,7 @@ use std::fmt::Debug;
 use std::marker::PhantomData;
 use tantivy_schema::common::{BinarySerializable, ByteSource};
 use tantivy_schema::schema::document::{
-    BinaryDocumentDeserializer, DocumentDeserialize, StoreReader, ValueDeserialize,
+    BinaryDocumentDeserializer, DocumentDeserialize, MAX_DEPTH, StoreReader, ValueDeserialize,
 };
 use tantivy_schema::schema::{Facet, OwnedValue, TantivyDocument};
 use tantivy_schema::store::DocStoreVersion;
@@ -93,7 +93,7 @@ impl Reading for TreeReading {
     fn read<S: ByteSource + Drop>(&self, alloc: Global, source: S) -> Result<Ending<S>> {
         let mut source = source;
         let mut count = 0;
-        let tree = take_tree(alloc, &mut source, &mut count, self.0);
+        let tree = take_tree(alloc, &mut source, &mut count, self.0, MAX_DEPTH);
         Ok(Ending {
             answer: words::shown(alloc, tree)?,
             counted: Some(count),

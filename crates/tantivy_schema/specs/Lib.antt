@@ -128,6 +128,7 @@ pub use Rattle.tv_store.specs.RoundTrip
 pub use Rattle.tv_writer.specs.Serialized
 pub use Rattle.tv_writer.specs.Error as WriterError
 pub use Rattle.tv_store.specs.Stored
+pub use Rattle.tv_reader.specs.Depth
 pub use Rattle.tv_reader.specs.Error as ReaderError
 pub use Rattle.tv_reader.specs.Finds
 pub use Rattle.tv_reader.specs.HeadReading
@@ -137,6 +138,7 @@ pub use Rattle.tv_reader.specs.Version as StoreVersion
 pub use Rattle.tv_reader.specs.ValueType
 pub use Rattle.tv_typed.specs.Typed
 pub use Rattle.tv_typed.specs.Values
+pub use Rattle.tv_typed.specs.Depths
 pub use Rattle.tv_typed.specs.Lists
 pub use Rattle.tv_typed.specs.LegacyObjects
 pub use Rattle.tv_typed.specs.Visits

@@ -49,6 +49,11 @@ pub use tv_options::laws::{
     string_is_one_token, text_is_indexed_by_words, textual_options_join_associatively,
     textual_options_join_idempotently, types_and_codes_agree, types_are_listed_once,
 };
+pub use tv_reader::laws::{
+    nested_values_are_encoded_within, too_deep_bytes_encode_no_nested_value,
+    too_deep_bytes_encode_none_within, values_within_a_depth_are_encoded,
+    values_within_a_depth_nest,
+};
 use tv_schema::Schema;
 pub use tv_schema::json::laws::{
     printed_schema_is_read_back, written_schemas_are_read_back, written_schemas_tell_all,

@@ -18,9 +18,7 @@ use tv_base::{ByteSource, ReadError};
 use tv_reader::kinds::take_kind;
 use tv_reader::trees::{take_entry_count, take_key};
 use tv_reader::{DeserializeError, DocStoreVersion, ValueType};
-
-/// How many lists may be open at once in a value of any type that is read, where no other limit is set. A list is an array or an object.
-pub const MAX_DEPTH: u32 = 128;
+use tv_value::nesting::MAX_DEPTH;
 
 /// A source, the version of what it holds, how many bytes were taken of it, whether a read was refused, and how deep a value of any type
 /// may nest. After a refusal every later read returns `AlreadyFailed` and takes nothing.

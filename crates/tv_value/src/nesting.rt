@@ -9,7 +9,8 @@ use crate::nested::{Nested, NestedValue, lend};
 use crate::value::Value;
 use thiserror::Error;
 
-/// How many lists may be open at once in a value that is copied or compared, where no other limit is asked for. (Not in tantivy.)
+/// How many lists may be open at once in a value that is copied, compared as one of any kind, read into one that owns what it holds, or
+/// written as one of any kind, where no other limit is asked for. (Not in tantivy.)
 pub const MAX_DEPTH: u32 = 128;
 
 /// A value has a list with which more than `MAX_DEPTH` lists are open. (Not in tantivy.)

@@ -9,7 +9,7 @@ use Rattle.embedding.proofs.figures.FiguresValueDeserialize.deserialize.Goals as
 pub returns-in_err-value : goal.returns-in_err-value
 returns-in_err-value g c =
     let p = err_from_is_err_and c.from_residual.result c.from_residual.ensures.1 in
-    record { deserializes = rw (p.1, p.2) (tree_type_fails IsFigures IsNoFigures (version_of c.args.deserializer.reader.now.version) c.args.deserializer.kind c.in_err-value.ensures.reads) }
+    record { deserializes = rw (p.1, p.2) (tree_type_fails IsFigures IsNoFigures (version_of c.args.deserializer.reader.now.version) c.args.deserializer.kind c.in_err-value.ensures.reads); deep = λ is_open told is. tt }
 
 pub returns : goal.returns
 returns g c =
@@ -19,4 +19,5 @@ returns g c =
       deserializes = rw c.custom.ensures
           (tree_type_refuses IsFigures IsNoFigures (version_of c.args.deserializer.reader.now.version) c.args.deserializer.kind (errors.Custom message) refl (λ e. absurd cc)
           (record { none = none; message = message; told = refl }) c.in_ok-value.ensures.reads);
+      deep = λ is_open told is. tt;
     }

@@ -15,4 +15,5 @@ returns g c =
       deserializes = goes_as _ (EncodedAs IsPoint v kind) (PointRefused v kind)
           (λ a s. (s.0, s.1, record { last = λ key. get_by_text numbers key; numbers = s.2; x = c.copied-x.ensures ∙ c.get.ensures.value; y = c.copied-y.ensures ∙ c.get-2.ensures.value }))
           c.in_ok-numbers.ensures.deserializes;
+      deep = λ is_open told is. tt;
     }
