@@ -62,12 +62,14 @@ pub unwritten_begins : (e : SerializeError) (text old new : List ℕ) → IsIoOr
 unwritten_begins (writes.Io kind) text old new is h = h
 unwritten_begins writes.WrongCount text old new is h = absurd is
 unwritten_begins writes.TooMany text old new is h = absurd is
+unwritten_begins writes.TooDeep text old new is h = absurd is
 unwritten_begins writes.Memory text old new is h = h
 
 pub unwritten_appends : (e : SerializeError) (text rest left old new : List ℕ) → IsIoOrMemory e → left ≡ rest → Begins old new text → AppendsMigrated {T = Unit {0}} (Err (Write e)) text rest left old new
 unwritten_appends (writes.Io kind) text rest left old new is same h = (same, h)
 unwritten_appends writes.WrongCount text rest left old new is same h = absurd is
 unwritten_appends writes.TooMany text rest left old new is same h = absurd is
+unwritten_appends writes.TooDeep text rest left old new is same h = absurd is
 unwritten_appends writes.Memory text rest left old new is same h = (same, h)
 
 pub read_of : {T : Type 0} (r : Result T MigrateError) (y : MigrateError) (x e : DeserializeError) → r ≡ Err y → y ≡ Read x → IsErrOf r (Read e) → x ≡ e
@@ -94,6 +96,7 @@ only_memory (Write (writes.Io k)) text rest left old new f g h last counts = tt
 only_memory (Write writes.Memory) text rest left old new f g h last counts = tt
 only_memory (Write writes.WrongCount) text rest left old new f g h last counts = absurd h
 only_memory (Write writes.TooMany) text rest left old new f g h last counts = absurd h
+only_memory (Write writes.TooDeep) text rest left old new f g h last counts = absurd h
 
 pub is_written : (to : WriteVersion) → IsWritten (written_version to)
 is_written versions.V2 = tt
