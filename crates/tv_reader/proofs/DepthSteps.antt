@@ -54,16 +54,16 @@ begins_then old mid new join p q = record {
 begins_as : {P Q : List ℕ → Type 0} (old new : List ℕ) → ((a : List ℕ) → P a → Q a) → Begins P old new → Begins Q old new
 begins_as old new map p = record { prefix = p.prefix; joined = p.joined; encoded = map p.prefix p.encoded }
 
-ok_then : {X : Type 0} (R : List ℕ → Type 0) (W W2 : List ℕ → X → Type 0) (result : Result X DeserializeError) (old mid new : List ℕ) → ((a b : List ℕ) (y : X) → R a → W b y → W2 (a ++ b) y)
-    → Begins R old mid → IfOk result (λ made. Begins (λ b. W b made) mid new) → IfOk result (λ made. Begins (λ b. W2 b made) old new)
-ok_then R W W2 (Ok x) old mid new join p h = begins_then old mid new (λ a b r w. join a b x r w) p h
-ok_then R W W2 (Err e) old mid new join p h = tt
+ok_then : {X : Type 0} (R : List ℕ → Type 0) (W Joined : List ℕ → X → Type 0) (result : Result X DeserializeError) (old mid new : List ℕ) → ((a b : List ℕ) (y : X) → R a → W b y → Joined (a ++ b) y)
+    → Begins R old mid → IfOk result (λ made. Begins (λ b. W b made) mid new) → IfOk result (λ made. Begins (λ b. Joined b made) old new)
+ok_then R W Joined (Ok x) old mid new join p h = begins_then old mid new (λ a b r w. join a b x r w) p h
+ok_then R W Joined (Err e) old mid new join p h = tt
 
-pub deepens_then : {S X : Type 0} {is_known : S → Type 0} {left : S → List ℕ} {old mid new : S} {result : Result X DeserializeError} {R : List ℕ → Type 0} {W : List ℕ → X → Type 0} {P : List ℕ → Type 0} (W2 : List ℕ → X → Type 0) (P2 : List ℕ → Type 0)
-    → ((a b : List ℕ) (y : X) → R a → W b y → W2 (a ++ b) y) → ((a b : List ℕ) → R a → P b → P2 (a ++ b))
-    → (is_known old → Begins R (left old) (left mid)) → (is_known old → is_known mid) → Deepens is_known left mid new result W P → Deepens is_known left old new result W2 P2
-deepens_then {left = left} {old = old} {mid = mid} {new = new} {result = result} {R = R} {W = W} W2 P2 join behind first stays h = record {
-  within = λ t. ok_then R W W2 result (left old) (left mid) (left new) join (first t) (h.within (stays t));
+pub deepens_then : {S X : Type 0} {is_known : S → Type 0} {left : S → List ℕ} {old mid new : S} {result : Result X DeserializeError} {R : List ℕ → Type 0} {W : List ℕ → X → Type 0} {P : List ℕ → Type 0} (Joined : List ℕ → X → Type 0) (Deeper : List ℕ → Type 0)
+    → ((a b : List ℕ) (y : X) → R a → W b y → Joined (a ++ b) y) → ((a b : List ℕ) → R a → P b → Deeper (a ++ b))
+    → (is_known old → Begins R (left old) (left mid)) → (is_known old → is_known mid) → Deepens is_known left mid new result W P → Deepens is_known left old new result Joined Deeper
+deepens_then {left = left} {old = old} {mid = mid} {new = new} {result = result} {R = R} {W = W} Joined Deeper join behind first stays h = record {
+  within = λ t. ok_then R W Joined result (left old) (left mid) (left new) join (first t) (h.within (stays t));
   deep = λ t is. begins_then (left old) (left mid) (left new) behind (first t) (h.deep (stays t) is);
 }
 
@@ -77,18 +77,18 @@ err_is : {X : Type 0} (e d : DeserializeError) → IsErrOf {T = X} (Err e) d →
 err_is e d is = cc
 
 -- what was read, in other words
-pub deepens_as : {S X Y : Type 0} {is_known : S → Type 0} {left : S → List ℕ} {old new : S} {x : X} {W : List ℕ → X → Type 0} {P : List ℕ → Type 0} (y : Y) (W2 : List ℕ → Y → Type 0) (P2 : List ℕ → Type 0)
-    → ((a : List ℕ) → W a x → W2 a y) → Deepens is_known left old new (Ok x) W P → Deepens is_known left old new (Ok y) W2 P2
-deepens_as {left = left} {old = old} {new = new} y W2 P2 map h = record { within = λ t. begins_as (left old) (left new) map (h.within t); deep = λ t is. absurd (not_err y errors.TooDeep is) }
+pub deepens_as : {S X Y : Type 0} {is_known : S → Type 0} {left : S → List ℕ} {old new : S} {x : X} {W : List ℕ → X → Type 0} {P : List ℕ → Type 0} (y : Y) (Joined : List ℕ → Y → Type 0) (Deeper : List ℕ → Type 0)
+    → ((a : List ℕ) → W a x → Joined a y) → Deepens is_known left old new (Ok x) W P → Deepens is_known left old new (Ok y) Joined Deeper
+deepens_as {left = left} {old = old} {new = new} y Joined Deeper map h = record { within = λ t. begins_as (left old) (left new) map (h.within t); deep = λ t is. absurd (not_err y errors.TooDeep is) }
 
 -- of one part
 pub deepens_found : {S X : Type 0} {is_known : S → Type 0} {left : S → List ℕ} {old new : S} (x : X) (W : List ℕ → X → Type 0) (P : List ℕ → Type 0) → (is_known old → Begins (λ b. W b x) (left old) (left new)) → Deepens is_known left old new (Ok x) W P
 deepens_found x W P found = record { within = found; deep = λ t is. absurd (not_err x errors.TooDeep is) }
 
 -- a refusal of a part
-pub deepens_fails : {S X Y : Type 0} {is_known : S → Type 0} {left : S → List ℕ} {old new : S} {e : DeserializeError} {W : List ℕ → X → Type 0} {P : List ℕ → Type 0} (W2 : List ℕ → Y → Type 0) (P2 : List ℕ → Type 0)
-    → ((a : List ℕ) → P a → P2 a) → Deepens is_known left old new (Err e) W P → Deepens is_known left old new (Err e) W2 P2
-deepens_fails {left = left} {old = old} {new = new} {e = e} W2 P2 map h = record { within = λ t. tt; deep = λ t is. begins_as (left old) (left new) map (h.deep t (err_of e errors.TooDeep is)) }
+pub deepens_fails : {S X Y : Type 0} {is_known : S → Type 0} {left : S → List ℕ} {old new : S} {e : DeserializeError} {W : List ℕ → X → Type 0} {P : List ℕ → Type 0} (Joined : List ℕ → Y → Type 0) (Deeper : List ℕ → Type 0)
+    → ((a : List ℕ) → P a → Deeper a) → Deepens is_known left old new (Err e) W P → Deepens is_known left old new (Err e) Joined Deeper
+deepens_fails {left = left} {old = old} {new = new} {e = e} Joined Deeper map h = record { within = λ t. tt; deep = λ t is. begins_as (left old) (left new) map (h.deep t (err_of e errors.TooDeep is)) }
 
 -- another refusal
 pub deepens_not : {S X : Type 0} (is_known : S → Type 0) (left : S → List ℕ) (old new : S) (e : DeserializeError) (W : List ℕ → X → Type 0) (P : List ℕ → Type 0) → e ≢ errors.TooDeep → Deepens is_known left old new (Err e) W P

@@ -335,7 +335,7 @@ impl DirectDecoder {
 /// object counts as no list, and nests at most 127 levels by itself. Without limits `read_document` is faster. Never more than `bytes` bytes
 /// are taken of the source, also within a part. (Not in tantivy.)
 ///
-/// Errors: `Limit(Bytes)` where all these were taken and the document isn't complete; `Limit(Depth)` right behind the head of the list with which more than `depth` lists are open, `Limit(HeapBytes)` right behind
+/// Errors: `Limit(Bytes)` where all these were taken and the document isn't complete, or the last of them shows an error; `Limit(Depth)` right behind the head of the list with which more than `depth` lists are open, `Limit(HeapBytes)` right behind
 /// the part with which the document's heap takes more than `heap_bytes` bytes, and the first of them where both hold; else `Read` with the
 /// error of `read_document`.
 ///
