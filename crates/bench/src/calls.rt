@@ -1,5 +1,7 @@
 //! The calls that are measured.
 
+use crate::inputs::Inputs;
+use crate::layer;
 use crate::workload::{Pair, Workload, write_stored};
 use anyhow::Result;
 use serde_json::Value;
@@ -10,7 +12,7 @@ use tantivy_schema::store::{
     DocStoreVersion, WriteVersion, migrate, read_document, read_document_into,
 };
 
-/// A call that is made for each document.
+/// A call that is made for each document, or for each field, path, term or facet.
 #[derive(Clone, Copy)]
 pub enum Call {
     /// From JSON to the JSON library's value alone, which is the first part of the next.
@@ -33,9 +35,25 @@ pub enum Call {
     DeserializeV3,
     /// From stored bytes of version 2 to those of version 3.
     Migrate,
+    /// From stored bytes to values that own what they hold.
+    ReadTyped,
+    /// From bytes that come in pieces of 64 KiB to documents, by the decoder's steps.
+    DecodePieces,
+    /// From a reader of std to documents.
+    ReadSource,
+    /// From lines of JSON to answers.
+    Run,
+    /// From its JSON to a schema.
+    ReadSchema,
+    /// The field that a path names.
+    FindField,
+    /// From values to terms, each compared with the one before.
+    Terms,
+    /// From texts to facets, each tested as a prefix of the next.
+    Facets,
 }
 
-/// What a round did: for how many documents the call was made, how many it can't be made for yet, and how many bytes the answers
+/// What a round did: how often the call was made, how often it was refused, and how many bytes the answers
 /// have, so that no answer goes unused.
 #[derive(Clone, Copy)]
 pub struct Round {
@@ -53,18 +71,18 @@ impl Round {
         }
     }
 
-    fn made(&mut self, bytes: usize) {
+    pub fn made(&mut self, bytes: usize) {
         self.calls = self.calls.saturating_add(1);
         self.bytes = self.bytes.saturating_add(bytes);
     }
 
-    fn left_out(&mut self) {
+    pub fn left_out(&mut self) {
         self.left_out = self.left_out.saturating_add(1);
     }
 }
 
 impl Call {
-    pub const ALL: [Call; 10] = [
+    pub const ALL: [Call; 18] = [
         Call::ReadJson,
         Call::ParseJson,
         Call::Serialize,
@@ -75,6 +93,14 @@ impl Call {
         Call::SerializeV3,
         Call::DeserializeV3,
         Call::Migrate,
+        Call::ReadTyped,
+        Call::DecodePieces,
+        Call::ReadSource,
+        Call::Run,
+        Call::ReadSchema,
+        Call::FindField,
+        Call::Terms,
+        Call::Facets,
     ];
 
     /// The name under which it is told.
@@ -90,11 +116,46 @@ impl Call {
             Call::SerializeV3 => "serialize_v3",
             Call::DeserializeV3 => "deserialize_v3",
             Call::Migrate => "migrate",
+            Call::ReadTyped => "read_typed",
+            Call::DecodePieces => "decode_pieces",
+            Call::ReadSource => "read_source",
+            Call::Run => "run",
+            Call::ReadSchema => "read_schema",
+            Call::FindField => "find_field",
+            Call::Terms => "terms",
+            Call::Facets => "facets",
         }
     }
 
-    /// Makes the call for each document.
-    pub fn for_each(self, alloc: Global, workload: &Workload) -> Result<Round> {
+    /// What it is made for.
+    pub fn unit(self) -> &'static str {
+        match self {
+            Call::ReadSchema => "field",
+            Call::FindField => "path",
+            Call::Terms => "term",
+            Call::Facets => "facet",
+            _ => "doc",
+        }
+    }
+
+    /// Makes the call for each document, field, path, term or facet.
+    pub fn for_each(self, alloc: Global, workload: &Workload, inputs: &Inputs) -> Result<Round> {
+        let documents = workload.documents.len();
+        match self {
+            Call::ReadTyped => layer::read_typed_each(alloc, workload),
+            Call::DecodePieces => layer::decode_each(alloc, inputs, documents),
+            Call::ReadSource => layer::read_source_each(alloc, inputs, documents),
+            Call::Run => Ok(layer::run_lines(alloc, inputs, documents)),
+            Call::ReadSchema => layer::read_schema(alloc, inputs),
+            Call::FindField => Ok(layer::find_each(workload, inputs)),
+            Call::Terms => layer::make_terms(alloc, workload),
+            Call::Facets => layer::make_facets(alloc, inputs),
+            other => other.for_each_document(alloc, workload),
+        }
+    }
+
+    // Makes a call on documents for each.
+    fn for_each_document(self, alloc: Global, workload: &Workload) -> Result<Round> {
         match self {
             Call::ReadJson => read_each(alloc, workload),
             Call::ParseJson => parse_each(alloc, workload),
@@ -109,7 +170,7 @@ impl Call {
                 &workload.stored_v3,
                 DocStoreVersion::V3,
             ),
-            Call::Migrate => migrate_each(alloc, workload),
+            _ => migrate_each(alloc, workload),
         }
     }
 }

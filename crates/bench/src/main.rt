@@ -2,14 +2,17 @@
 //!
 //! Standard input holds the schema as JSON on its first line, and a document as JSON on each other line. Standard output says how
 //! many documents were accepted, how many bytes of JSON these have, and how many stored bytes. With the arguments `time N` standard
-//! error says for each call how many nanoseconds a document takes: the mean over N rounds, and that of the best round. `time N CALL`
+//! error says for each call how many nanoseconds a document takes, or a field, path, term or facet: the mean over N rounds, and that of the best round. `time N CALL`
 //! makes that call alone.
 #![tactic(auto)]
 
 mod calls;
+mod inputs;
+mod layer;
 mod workload;
 
 use crate::calls::{Call, Round};
+use crate::inputs::Inputs;
 use crate::workload::Workload;
 use anyhow::{Context, Result};
 use std::env;
@@ -25,9 +28,10 @@ fn main(rt: HostRuntime) -> Result<()> {
         "{documents} accepted documents, {json_len} bytes of JSON, {stored_len} stored bytes"
     )?;
     if let Some((rounds, name)) = rounds_wanted(&rt)? {
+        let inputs = Inputs::of(rt.alloc(), &workload)?;
         for call in Call::ALL {
             if name.is_empty() || name.as_str() == call.name() {
-                measure(&rt, &workload, call, rounds)?;
+                measure(&rt, &workload, &inputs, call, rounds)?;
             }
         }
     }
@@ -57,6 +61,7 @@ fn rounds_wanted(rt: &(impl Env + AllocGlobal)) -> Result<Option<(u32, String)>>
 fn measure(
     rt: &(impl Clock + Eprint + AllocGlobal),
     workload: &Workload,
+    inputs: &Inputs,
     call: Call,
     rounds: u32,
 ) -> Result<()> {
@@ -65,7 +70,7 @@ fn measure(
     let mut done = Round::new();
     for _ in 0..rounds {
         let start = Instant::now(rt)?;
-        done = call.for_each(rt.alloc(), workload)?;
+        done = call.for_each(rt.alloc(), workload, inputs)?;
         let nanos = start.elapsed(rt)?.as_nanos();
         total = total.saturating_add(nanos);
         best = best.min(nanos);
@@ -73,13 +78,13 @@ fn measure(
     let calls = u128::from(done.calls).max(1);
     let mean = total / u128::from(rounds).max(1) / calls;
     let best = best / calls;
-    let name = call.name();
+    let (name, unit) = (call.name(), call.unit());
     eprintln!(rt;
-        "{name} {mean} ns/doc (best round {best}), {} bytes",
+        "{name} {mean} ns/{unit} (best round {best}), {} bytes",
         done.bytes
     )?;
     if done.left_out > 0 {
-        eprintln!(rt; "{name} left out {} documents", done.left_out)?;
+        eprintln!(rt; "{name} left out {}", done.left_out)?;
     }
     Ok(())
 }

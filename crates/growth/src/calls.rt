@@ -1,7 +1,7 @@
 //! The calls that are made.
 
-use crate::nested;
 use crate::shape::Workload;
+use crate::{layer, nested};
 use anyhow::{Context, Result, anyhow};
 use serde_json::Value;
 use std::alloc::Global;
@@ -57,6 +57,12 @@ pub enum Call {
     ReadOwned,
     /// From a value to stored bytes, as values of any kind are written.
     WriteValue,
+    /// From lines of JSON to answers.
+    Run,
+    /// Terms of numbers, put in order.
+    OrderTerms,
+    /// How many facets are below one.
+    CountFacets,
 }
 
 impl Call {
@@ -85,6 +91,9 @@ impl Call {
             Call::Same => "same",
             Call::ReadOwned => "read owned",
             Call::WriteValue => "write value",
+            Call::Run => "run",
+            Call::OrderTerms => "order",
+            Call::CountFacets => "count",
         }
     }
 
@@ -121,6 +130,9 @@ impl Call {
             Call::Equal => nested::equal(alloc, workload),
             Call::Step => nested::step(alloc, workload),
             Call::ReadInto => nested::read_into(alloc, workload),
+            Call::Run => layer::run_lines(alloc, workload),
+            Call::OrderTerms => layer::order_terms(alloc, workload),
+            Call::CountFacets => layer::count_facets(alloc, workload),
             _ => Err(anyhow!("this call refuses what nests too deep")),
         }
     }

@@ -1,4 +1,4 @@
-//! Makes calls on documents of many values, members or levels.
+//! Makes calls on documents of many values, members or levels, and on many lines, terms and facets.
 //!
 //! Each line of standard input has a shape's name and a number, as in `levels 1000000`. For each call that the shape has, standard output
 //! has the shape, the number, the call's name and how many bytes or fields its answer has, or that the values nest too deep for it. With the argument `time` standard error says
@@ -6,6 +6,7 @@
 #![tactic(auto)]
 
 mod calls;
+mod layer;
 mod nested;
 mod shape;
 

@@ -29,6 +29,12 @@ pub enum Shape {
     Fields,
     /// Steps of a path.
     Steps,
+    /// Lines with a document each.
+    Lines,
+    /// Terms of numbers.
+    Terms,
+    /// Facets.
+    Facets,
 }
 
 /// A schema, and a document of it.
@@ -41,6 +47,10 @@ pub struct Workload {
     pub stored: Vec<u8>,
     // A path into a field of JSON objects.
     pub path: String,
+    // The schema's line, and a line for each document; of other shapes no lines.
+    pub lines: Vec<u8>,
+    // How many there are of what the document or the call has many of.
+    pub count: u32,
 }
 
 // Written here, so that a workload is let go by one call.
@@ -53,12 +63,14 @@ impl Drop for Workload {
             document: _,
             stored: _,
             path: _,
+            lines: _,
+            count: _,
         } = self;
     }
 }
 
 impl Shape {
-    const ALL: [Shape; 9] = [
+    const ALL: [Shape; 12] = [
         Shape::Values,
         Shape::Items,
         Shape::Rising,
@@ -68,6 +80,9 @@ impl Shape {
         Shape::Levels,
         Shape::Fields,
         Shape::Steps,
+        Shape::Lines,
+        Shape::Terms,
+        Shape::Facets,
     ];
 
     /// The name under which it is asked for.
@@ -82,6 +97,9 @@ impl Shape {
             Shape::Levels => "levels",
             Shape::Fields => "fields",
             Shape::Steps => "steps",
+            Shape::Lines => "lines",
+            Shape::Terms => "terms",
+            Shape::Facets => "facets",
         }
     }
 
@@ -126,6 +144,19 @@ impl Shape {
                 Call::Print,
             ],
             Shape::Steps => &[Call::FindPath, Call::SplitPath],
+            Shape::Lines => &[Call::Run],
+            Shape::Terms => &[Call::OrderTerms],
+            Shape::Facets => &[Call::CountFacets],
+            Shape::Items => &[
+                Call::Parse,
+                Call::Read,
+                Call::Serialize,
+                Call::Migrate,
+                Call::Print,
+                Call::Compare,
+                Call::Step,
+                Call::ReadOwned,
+            ],
             _ => &[
                 Call::Parse,
                 Call::Read,
@@ -143,6 +174,7 @@ impl Workload {
     pub fn new(alloc: Global, shape: Shape, count: u32) -> Result<Workload> {
         let schema = schema_of(alloc, shape, count)?;
         let schema_json = schema.to_json_value(alloc)?.to_string(alloc)?;
+        let lines = lines_of(alloc, schema_json.as_str(), shape, count)?;
         let mut json = String::new(alloc);
         let mut stored = Vec::new(alloc);
         if shape == Shape::Levels {
@@ -166,6 +198,8 @@ impl Workload {
             document,
             stored,
             path: path_of(alloc, shape, count)?,
+            lines,
+            count,
         })
     }
 }
@@ -218,9 +252,21 @@ fn path_of(alloc: Global, shape: Shape, count: u32) -> Result<String> {
     Ok(path)
 }
 
+// The lines of that shape, one with a number for each document.
+fn lines_of(alloc: Global, schema_json: &str, shape: Shape, count: u32) -> Result<Vec<u8>> {
+    let mut lines = Vec::new(alloc);
+    if shape == Shape::Lines {
+        lines.extend_from_slice(schema_json.as_bytes())?;
+        for _ in 0..count {
+            lines.extend_from_slice(b"\n{\"numbers\":[7]}")?;
+        }
+    }
+    Ok(lines)
+}
+
 // The JSON of a document.
 fn push_json(json: &mut String, shape: Shape, count: u32) -> Result<()> {
-    if shape == Shape::Steps {
+    if let Shape::Steps | Shape::Lines | Shape::Terms | Shape::Facets = shape {
         return Ok(json.push_str("{}")?);
     }
     let (start, end) = match shape {

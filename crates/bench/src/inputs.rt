@@ -1,0 +1,90 @@
+//! What the calls on other parts of the layer start from: bytes and texts that are made of a workload once.
+
+use crate::workload::Workload;
+use anyhow::Result;
+use std::alloc::Global;
+use tantivy_schema::schema::Schema;
+
+/// All documents one behind the other, the schema's JSON, paths into its fields, texts of facets, and lines.
+pub struct Inputs {
+    /// The stored bytes of all documents, one behind the other, as in a block of a store.
+    pub block: Vec<u8>,
+    /// The schema as JSON.
+    pub schema_json: String,
+    /// For each field its name, and a path that begins with its name.
+    pub paths: Vec<String>,
+    /// The text of a facet of three steps for each document.
+    pub facets: Vec<String>,
+    /// The schema's line, and a line for each document.
+    pub lines: Vec<u8>,
+}
+
+// Written here, so that inputs are let go by one call.
+impl Drop for Inputs {
+    fn drop(self) {
+        let Inputs {
+            block: _,
+            schema_json: _,
+            paths: _,
+            facets: _,
+            lines: _,
+        } = self;
+    }
+}
+
+impl Inputs {
+    /// Those of a workload.
+    pub fn of(alloc: Global, workload: &Workload) -> Result<Inputs> {
+        let schema_json = json_of(alloc, &workload.schema)?;
+        let lines = lines_of(alloc, schema_json.as_str(), workload.lines.as_slice())?;
+        Ok(Inputs {
+            block: block_of(alloc, workload.stored.as_slice())?,
+            schema_json,
+            paths: paths_of(alloc, &workload.schema)?,
+            facets: facets_of(alloc, workload.lines.len())?,
+            lines,
+        })
+    }
+}
+
+fn json_of(alloc: Global, schema: &Schema) -> Result<String> {
+    let json = schema.to_json_value(alloc)?;
+    let text = json.to_string(alloc);
+    drop(json);
+    Ok(text?)
+}
+
+fn lines_of(alloc: Global, schema_json: &str, documents: &[String]) -> Result<Vec<u8>> {
+    let mut lines = Vec::new(alloc);
+    lines.extend_from_slice(schema_json.as_bytes())?;
+    for document in documents {
+        lines.push(b'\n')?;
+        lines.extend_from_slice(document.as_bytes())?;
+    }
+    Ok(lines)
+}
+
+fn block_of(alloc: Global, stored: &[Vec<u8>]) -> Result<Vec<u8>> {
+    let mut block = Vec::new(alloc);
+    for bytes in stored {
+        block.extend_from_slice(bytes.as_slice())?;
+    }
+    Ok(block)
+}
+
+fn paths_of(alloc: Global, schema: &Schema) -> Result<Vec<String>> {
+    let mut paths = Vec::new(alloc);
+    for (_, entry) in schema.fields() {
+        paths.push(String::from_str(alloc, entry.name())?)?;
+        paths.push(format!(in alloc; "{}.step", entry.name())?)?;
+    }
+    Ok(paths)
+}
+
+fn facets_of(alloc: Global, count: usize) -> Result<Vec<String>> {
+    let mut facets = Vec::new(alloc);
+    for number in 0..count {
+        facets.push(format!(in alloc; "/{}/{}/{number}", number % 10, number % 100)?)?;
+    }
+    Ok(facets)
+}

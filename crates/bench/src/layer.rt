@@ -1,0 +1,166 @@
+//! Calls on other parts of the layer: typed reads, reading out of pieces, schemas, fields, terms, facets, and lines.
+
+use crate::calls::Round;
+use crate::inputs::Inputs;
+use crate::workload::{Pair, Workload};
+use anyhow::Result;
+use embedding::PacketSource;
+use serde_json::Value;
+use std::alloc::Global;
+use tantivy_schema::common::{ByteSource, ReadSource, SliceSource, VecSink};
+use tantivy_schema::run;
+use tantivy_schema::schema::document::{
+    BinaryDocumentDeserializer, CompactDoc, DeserializeError, DocumentDeserializer, OwnedValue,
+    StoreReader,
+};
+use tantivy_schema::schema::{Facet, Schema, Term, TermError};
+use tantivy_schema::store::{DirectDecoder, DocStoreVersion, Step, read_document};
+
+// So many bytes are read of a file at a time.
+const PIECE: usize = 65536;
+
+/// From stored bytes to values that own what they hold.
+pub fn read_typed_each(alloc: Global, workload: &Workload) -> Result<Round> {
+    let mut round = Round::new();
+    for bytes in &workload.stored {
+        match typed_pairs(alloc, bytes.as_slice()) {
+            Ok(pairs) => round.made(pairs),
+            Err(_) => round.left_out(),
+        }
+    }
+    Ok(round)
+}
+
+// How many pairs a document has, of which each is read.
+fn typed_pairs(alloc: Global, bytes: &[u8]) -> Result<usize, DeserializeError> {
+    let mut reader = StoreReader::new(SliceSource::new(bytes), DocStoreVersion::V2);
+    let mut document = BinaryDocumentDeserializer::from_reader(&mut reader)?;
+    let mut pairs: usize = 0;
+    for _ in 0..document.size_hint() {
+        let Some((_, value)) = document.next_field::<OwnedValue>(alloc)? else {
+            break;
+        };
+        drop(value);
+        pairs = pairs.saturating_add(1);
+    }
+    Ok(pairs)
+}
+
+/// From bytes that come in pieces of 64 KiB to documents, by the decoder's steps.
+pub fn decode_each(alloc: Global, inputs: &Inputs, documents: usize) -> Result<Round> {
+    let mut round = Round::new();
+    let mut source = PacketSource::new(inputs.block.as_slice(), PIECE);
+    for _ in 0..documents {
+        match decoded(alloc, &mut source) {
+            Ok(document) => round.made(document.node_data().len()),
+            Err(_) => round.left_out(),
+        }
+    }
+    Ok(round)
+}
+
+// The next document, by steps.
+fn decoded<S: ByteSource>(alloc: Global, source: &mut S) -> Result<CompactDoc, DeserializeError> {
+    let mut decoder = DirectDecoder::new(alloc, DocStoreVersion::V2);
+    for _ in 0..u64::MAX {
+        if decoder.step(source)? == Step::Done {
+            break;
+        }
+    }
+    Ok(decoder.into_doc())
+}
+
+/// From a reader of std to documents.
+pub fn read_source_each(alloc: Global, inputs: &Inputs, documents: usize) -> Result<Round> {
+    let mut round = Round::new();
+    let mut source = ReadSource::new(inputs.block.as_slice());
+    for _ in 0..documents {
+        match read_document(alloc, &mut source, DocStoreVersion::V2) {
+            Ok(document) => round.made(document.node_data().len()),
+            Err(_) => round.left_out(),
+        }
+    }
+    Ok(round)
+}
+
+/// From its JSON to a schema: a call for each of its fields.
+pub fn read_schema(alloc: Global, inputs: &Inputs) -> Result<Round> {
+    let mut round = Round::new();
+    let json = Value::from_str(alloc, inputs.schema_json.as_str())?;
+    let schema = Schema::from_json_value(alloc, &json);
+    drop(json);
+    for _ in 0..schema?.num_fields() {
+        round.made(1);
+    }
+    Ok(round)
+}
+
+/// The field that each path names.
+pub fn find_each(workload: &Workload, inputs: &Inputs) -> Round {
+    let mut round = Round::new();
+    for path in &inputs.paths {
+        match workload.schema.find_field(path.as_str()) {
+            Some((_, rest)) => round.made(rest.len()),
+            None => round.left_out(),
+        }
+    }
+    round
+}
+
+/// The term of each value that has one; each is compared with the one before.
+pub fn make_terms(alloc: Global, workload: &Workload) -> Result<Round> {
+    let mut round = Round::new();
+    let mut last: Option<Term> = None;
+    for pairs in &workload.pairs {
+        for pair in pairs {
+            let Some(term) = term_of(alloc, pair)? else {
+                continue;
+            };
+            let rises = last.as_ref().is_some_and(|before| *before < term);
+            round.made(usize::from(rises));
+            last = Some(term);
+        }
+    }
+    Ok(round)
+}
+
+// The term of a pair's value. None where the value is a list, or has tokens or nothing.
+fn term_of(alloc: Global, pair: &Pair) -> Result<Option<Term>, TermError> {
+    let field = pair.field;
+    let term = match &pair.value {
+        OwnedValue::Str(text) => Term::from_field_text(alloc, field, text.as_str())?,
+        OwnedValue::U64(number) => Term::from_field_u64(alloc, field, *number)?,
+        OwnedValue::I64(number) => Term::from_field_i64(alloc, field, *number)?,
+        OwnedValue::Bool(truth) => Term::from_field_bool(alloc, field, *truth)?,
+        OwnedValue::Date(date) => Term::from_field_date(alloc, field, *date)?,
+        OwnedValue::Bytes(bytes) => Term::from_field_bytes(alloc, field, bytes.as_slice())?,
+        OwnedValue::Facet(facet) => Term::from_facet(alloc, field, facet)?,
+        _ => return Ok(None),
+    };
+    Ok(Some(term))
+}
+
+/// From its text to a facet; each is tested as a prefix of the next.
+pub fn make_facets(alloc: Global, inputs: &Inputs) -> Result<Round> {
+    let mut round = Round::new();
+    let mut last = Facet::root(alloc);
+    for text in &inputs.facets {
+        let facet = Facet::from_text(alloc, text.as_str())?;
+        round.made(usize::from(last.is_prefix_of(&facet)));
+        last = facet;
+    }
+    Ok(round)
+}
+
+/// From lines of JSON to answers, by `run`.
+pub fn run_lines(alloc: Global, inputs: &Inputs, documents: usize) -> Round {
+    let mut round = Round::new();
+    let mut sink = VecSink::new(alloc);
+    let mut source = SliceSource::new(inputs.lines.as_slice());
+    let _end = run(alloc, &mut source, &mut sink);
+    for _ in 0..documents {
+        round.made(0);
+    }
+    round.bytes = sink.as_slice().len();
+    round
+}

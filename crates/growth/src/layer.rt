@@ -1,0 +1,57 @@
+//! Calls on many lines, terms and facets.
+
+use crate::shape::Workload;
+use anyhow::{Context, Result, anyhow};
+use std::alloc::Global;
+use tantivy_schema::common::{SliceSource, VecSink};
+use tantivy_schema::schema::{Facet, Field, Term};
+use tantivy_schema::{RunEnd, run};
+
+/// From lines of JSON to answers; how many bytes these have.
+pub fn run_lines(alloc: Global, workload: &Workload) -> Result<usize> {
+    let mut source = SliceSource::new(workload.lines.as_slice());
+    let mut sink = VecSink::new(alloc);
+    match run(alloc, &mut source, &mut sink) {
+        RunEnd::Done => Ok(sink.as_slice().len()),
+        _ => Err(anyhow!("a run that ends early")),
+    }
+}
+
+/// Terms of so many numbers, put in order; how many there are.
+pub fn order_terms(alloc: Global, workload: &Workload) -> Result<usize> {
+    let mut terms = Vec::new(alloc);
+    let field = Field::from_field_id(0);
+    for number in 0..workload.count {
+        let shuffled = u64::from(number) * 2_654_435_761 % u64::from(u32::MAX);
+        terms.push(Term::from_field_u64(alloc, field, shuffled)?)?;
+    }
+    terms.sort()?;
+    is_rising(terms.as_slice())?;
+    Ok(terms.len())
+}
+
+// An error where a term isn't below the next.
+fn is_rising(terms: &[Term]) -> Result<()> {
+    let mut last = terms.first().context("a term")?;
+    for term in terms.iter().skip(1) {
+        if *last >= *term {
+            return Err(anyhow!("terms out of order"));
+        }
+        last = term;
+    }
+    Ok(())
+}
+
+/// So many facets; how many are below one of them.
+pub fn count_facets(alloc: Global, workload: &Workload) -> Result<usize> {
+    let upper = Facet::from_text(alloc, "/3")?;
+    let mut below: usize = 0;
+    for number in 0..workload.count {
+        let text = format!(in alloc; "/{}/{number}", number % 10)?;
+        let facet = Facet::from_text(alloc, text.as_str())?;
+        if upper.is_prefix_of(&facet) {
+            below = below.saturating_add(1);
+        }
+    }
+    Ok(below)
+}
