@@ -3,3 +3,4 @@ pub mod Reading
 pub mod Lending
 pub mod FastValue
 pub mod FastValueLaws
+pub mod Range

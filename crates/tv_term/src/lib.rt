@@ -3,11 +3,13 @@
 
 pub mod fast_value;
 pub mod laws;
+pub mod range;
 pub mod term;
 pub mod term_error;
 pub mod value_bytes;
 
 pub use fast_value::FastValue;
+pub use range::{TermRange, successor};
 pub use term::Term;
 pub use term_error::TermError;
 pub use value_bytes::{OwnedValueBytes, ValueBytes};

@@ -1,0 +1,8 @@
+use Rattle.std.proofs.Common.{◌≡◌, ℕ, ◌≤◌, ◌<◌, length, get_or}
+use Rattle.tv_term.proofs.range.len_without_largest.Given as goal
+
+abbrev pub invariant-loop-len : goal.invariant-loop-len
+invariant-loop-len l = (l.len ≤ length l.bytes) × ((k : ℕ) → l.len ≤ k → k < length l.bytes → get_or l.bytes k 0 ≡ 255)
+
+abbrev pub decreases-loop-len : goal.decreases-loop-len
+decreases-loop-len l = l.len
