@@ -1,5 +1,5 @@
 -- Byte strings that begin with some bytes stand one behind the other in the order of bytes.
-use Rattle.std.proofs.Common.{◌≡◌, ℕ, suc, zero, ◌+◌, ◌<◌, ◌≤◌, ◌↔◌, Bool, true, false, cond, ◌&&◌, List, [], ◌∷◌, ◌++◌, length, drop, get_or, length-drop, append_assoc, IsTrue, Some, None, eqb, ltb, refl, sym, ◌∙◌, ap, arith, All}
+use Rattle.std.proofs.Common.{◌≡◌, ◌≢◌, ℕ, suc, zero, ◌+◌, ◌<◌, ◌≤◌, ◌↔◌, Bool, true, false, cond, ◌&&◌, List, [], ◌∷◌, ◌++◌, length, drop, get_or, length-drop, append_assoc, append-nil, IsTrue, Option, Some, None, eqb, ltb, refl, sym, ◌∙◌, ap, arith, All}
 use Rattle.std.specs.Ordering.{is_le, is_lt, nat_cmp}
 use Rattle.std.specs.declared.cmp.Ordering.{Ordering}
 use Rattle.std.specs.Cmp.Lexicographic.{slice_cmp}
@@ -10,7 +10,7 @@ use Rattle.std.proofs.Math.Seq.{get_or-append_seam}
 use Rattle.std.specs.Global.{Vec}
 use Rattle.std.specs.List.{IsLastAndRest}
 use Rattle.tv_base.specs.Sink.{IsPrefix}
-use Rattle.tv_term.specs.Range.{EndsPrefix, IsFrom}
+use Rattle.tv_term.specs.Range.{EndsPrefix, IsFrom, IsWithin}
 
 -- the three tests, by recursion over both lists
 abbrev upto : List ℕ → List ℕ → Bool
@@ -159,3 +159,41 @@ last_left p kept rest front last n is len ends h =
 pub ends-kept : (p kept rest front : List ℕ) (last : ℕ) (end : Vec ℕ) → p ≡ kept ++ rest → IsLastAndRest kept last front → AreLargest rest → end.items ≡ front ++ (last + 1) ∷ [] → EndsPrefix p (Some end)
 ends-kept p kept rest front last end is ends largest end_is =
     ends-some p front rest last end (joined_front p kept rest front last is ends) largest end_is
+
+-- above a byte string are those from it with a zero behind it on
+next-upto : (p b : List ℕ) → upto (p ++ 0 ∷ []) b ≡ below p b
+next-upto [] [] = refl
+next-upto [] (y ∷ b) = grind (arith, nat_tests)
+next-upto (x ∷ p) [] = refl
+next-upto (x ∷ p) (y ∷ b) = ap (λ t. cond (eqb x y) t (ltb x y)) (next-upto p b)
+
+not_below_itself : (p : List ℕ) → below p p ≡ false
+not_below_itself [] = refl
+not_below_itself (x ∷ p) = let e : eqb x x ≡ true = grind (arith, nat_tests) in rw e (not_below_itself p)
+
+longer-below : (p rest : List ℕ) → rest ≢ [] → below p (p ++ rest) ≡ true
+longer-below [] [] h = absurd (h refl)
+longer-below [] (y ∷ rest) h = refl
+longer-below (x ∷ p) rest h = let e : eqb x x ≡ true = grind (arith, nat_tests) in rw e (longer-below p rest h)
+
+below-upto : (p b : List ℕ) → below p b ≡ true → upto p b ≡ true
+below-upto [] b h = refl
+below-upto (x ∷ p) [] h = h
+below-upto (x ∷ p) (y ∷ b) h = below_first x y (below p b) (upto p b) (below-upto p b) h
+  where
+    below_first : (x y : ℕ) (l u : Bool) → (l ≡ true → u ≡ true) → cond (eqb x y) l (ltb x y) ≡ true → cond (eqb x y) u (ltb x y) ≡ true
+    below_first x y l u rest h = grind (arith, nat_tests)
+
+false_is_true : false ≡ true → ⊥
+false_is_true e = cc
+
+-- those that begin with the bytes and are longer
+pub longer-within : (p : List ℕ) (end : Option (Vec ℕ)) (bytes : List ℕ) → (IsWithin p end bytes ↔ IsPrefix p bytes) → IsWithin (p ++ 0 ∷ []) end bytes ↔ (IsPrefix p bytes × (bytes ≢ p))
+longer-within p end bytes ends =
+    let from = is_upto p bytes (slice_cmp nat_cmp p bytes) refl in
+    let next = is_upto (p ++ 0 ∷ []) bytes (slice_cmp nat_cmp (p ++ 0 ∷ []) bytes) refl ∙ next-upto p bytes in
+    ( (λ w. let above : below p bytes ≡ true = sym next ∙ w.0 in
+            (ends.0 (from ∙ below-upto p bytes above, w.1), (λ same_bytes. false_is_true (sym (not_below_itself p) ∙ ap (below p) (sym same_bytes) ∙ above)))),
+      (λ h. let rest = h.0 in
+            let some : rest.0 ≢ [] = λ none. h.1 (rest.1 ∙ ap (λ z. p ++ z) none ∙ append-nil p) in
+            (next ∙ ap (below p) rest.1 ∙ longer-below p rest.0 some, (ends.1 rest).1)))

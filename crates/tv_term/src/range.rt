@@ -1,10 +1,19 @@
 //! Ranges of terms, as a term dictionary goes over them.
 
 ghost use Rattle.std.specs.Prelude.{◌≡◌, ◌↔◌, ◌≤◌, ◌<◌, ◌+◌, ℕ, IsTrue, IfOk, OnOk, length, option_map};
-ghost use Rattle.std.specs.Prelude.{slice_index};
-ghost use Rattle.tv_term.specs.Range.{EndsPrefix, HasPrefixed, IsIn};
+ghost use Rattle.std.specs.Prelude.{slice_index, IfErr, Err};
+ghost use Rattle.tv_base.specs.JsonPath.{joined_path};
+ghost use Rattle.tv_term.specs.Key.{HasNoZero};
+ghost use Rattle.tv_term.specs.Range.{EndsPrefix, HasPrefixed, HasTerms, IsIn, BeginsWith};
+ghost use Rattle.tv_term.specs.Range.{IsOfField, IsOfType, HasTextPrefix, IsAtPath, IsBelowFacet, HasLonger};
+ghost use Rattle.tv_term.specs.declared.term_error.TermError.TheVariants.{Memory, NulInPath};
 
+use crate::term::Term;
+use crate::term_error::TermError;
 use std::alloc::{AllocError, Global};
+use tv_base::{FACET_SEP_BYTE, Facet};
+use tv_options::Type;
+use tv_value::field::Field;
 
 /// The byte strings from one on, up to another one, in the order of terms. (Not in tantivy.) A term dictionary looks for the start, and
 /// goes on up to the end.
@@ -53,6 +62,31 @@ impl TermRange {
         Ok(TermRange { start, end })
     }
 
+    // The byte strings that begin with these bytes and are longer.
+    fn of_longer(alloc: Global, prefix: &[u8]) -> Result<TermRange, AllocError>
+        ensures { IfOk result (HasLonger prefix.now) }
+    {
+        let end = successor(alloc, prefix)?;
+        let mut start = Vec::with_capacity(alloc, prefix.len().saturating_add(1))?;
+        start.extend_from_slice(prefix)?;
+        start.push(0)?;
+        Ok(TermRange { start, end })
+    }
+
+    // The byte strings that begin with the bytes of the field, of the type's code and of the payload.
+    fn of_payload(
+        alloc: Global,
+        field: Field,
+        value_type: Type,
+        payload: &[u8],
+    ) -> Result<TermRange, TermError>
+        ensures terms { IfOk result (HasTerms (BeginsWith field.id value_type payload.now)) }
+        ensures memory { IfErr result (λ error. error ≡ Memory) }
+    {
+        let least = Term::from_payload(alloc, field, value_type, payload)?;
+        Ok(TermRange::of_prefix(alloc, least.serialized_term())?)
+    }
+
     /// The least byte string in the range.
     pub fn start(&self) -> &[u8]
         ensures { result.now ≡ self.now.start.items }
@@ -81,5 +115,70 @@ impl TermRange {
             Some(end) => serialized.cmp(end.as_slice()).is_lt(),
             None => true,
         }
+    }
+}
+
+impl Term {
+    /// The terms of a field. (Not in tantivy.) The only error is that memory was refused.
+    pub fn range_of_field(alloc: Global, field: Field) -> Result<TermRange, AllocError>
+        ensures { IfOk result (HasTerms (IsOfField field.id)) }
+    {
+        TermRange::of_prefix(alloc, &field.field_id().to_be_bytes())
+    }
+
+    /// The terms of a field whose values are of a type. (Not in tantivy.) The only error is `Memory`.
+    pub fn range_of_type(
+        alloc: Global,
+        field: Field,
+        value_type: Type,
+    ) -> Result<TermRange, TermError>
+        ensures terms { IfOk result (HasTerms (IsOfType field.id value_type)) }
+        ensures memory { IfErr result (λ error. error ≡ Memory) }
+    {
+        TermRange::of_payload(alloc, field, value_type, &[])
+    }
+
+    /// The terms of a field whose values are texts that begin with a text. (Not in tantivy.) The only error is `Memory`.
+    pub fn prefix_range(alloc: Global, field: Field, prefix: &str) -> Result<TermRange, TermError>
+        ensures terms { IfOk result (HasTerms (HasTextPrefix field.id prefix.now)) }
+        ensures memory { IfErr result (λ error. error ≡ Memory) }
+    {
+        TermRange::of_payload(alloc, field, Type::Str, prefix.as_bytes())
+    }
+
+    /// The terms of a field of JSON objects whose values stand at a path, which is read as `from_field_json_path` reads it. (Not in
+    /// tantivy.) Errors: `NulInPath`, exactly where the path has U+0000; else `Memory`.
+    pub fn json_path_range(
+        alloc: Global,
+        field: Field,
+        json_path: &str,
+        expand_dots: bool,
+    ) -> Result<TermRange, TermError>
+        ensures terms { IfOk result
+            (HasTerms (IsAtPath field.id (joined_path expand_dots json_path.now))) }
+        ensures nul { (result ≡ Err NulInPath) ↔ (¬ HasNoZero json_path.now) }
+        ensures memory { HasNoZero json_path.now → IfErr result (λ error. error ≡ Memory) }
+    {
+        let least = Term::from_field_json_path(alloc, field, json_path, expand_dots)?;
+        Ok(TermRange::of_prefix(alloc, least.serialized_term())?)
+    }
+
+    /// The terms of a field of facets whose facets are below this one: those with its steps and at least one more. (Not in tantivy.)
+    /// The only error is `Memory`.
+    pub fn descendant_range(
+        alloc: Global,
+        field: Field,
+        facet: &Facet,
+    ) -> Result<TermRange, TermError>
+        ensures terms { IfOk result (HasTerms (IsBelowFacet field.id facet.now)) }
+        ensures memory { IfErr result (λ error. error ≡ Memory) }
+    {
+        let upper = Term::from_facet(alloc, field, facet)?;
+        if facet.is_root() {
+            return Ok(TermRange::of_longer(alloc, upper.serialized_term())?);
+        }
+        let mut least = upper;
+        least.append_bytes(&[FACET_SEP_BYTE])?;
+        Ok(TermRange::of_prefix(alloc, least.serialized_term())?)
     }
 }

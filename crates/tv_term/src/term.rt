@@ -222,7 +222,7 @@ impl Term {
     }
 
     // The bytes of the field, of the type's code and of the payload.
-    fn from_payload(
+    pub(crate) fn from_payload(
         alloc: Global,
         field: Field,
         value_type: Type,
