@@ -121,10 +121,11 @@ and_right false b e = cc
 within : (p end bytes : List ℕ) → (upto p bytes && below bytes end) ≡ begins p bytes → (IsFrom p bytes × IsTrue (is_lt (slice_cmp nat_cmp bytes end))) ↔ IsPrefix p bytes
 within p end bytes same_tests =
     let from = is_upto p bytes (slice_cmp nat_cmp p bytes) refl in
-    let under = is_below bytes end (slice_cmp nat_cmp bytes end) refl in
-    ( (λ w. prefix-begins p bytes (sym same_tests ∙ and_true (upto p bytes) (below bytes end) (sym from ∙ w.0) (sym under ∙ w.1))),
+    let under = is_below bytes end (slice_cmp nat_cmp bytes end) refl in (
+      (λ w. prefix-begins p bytes (sym same_tests ∙ and_true (upto p bytes) (below bytes end) (sym from ∙ w.0) (sym under ∙ w.1))),
       (λ h. let tests = same_tests ∙ begins-prefix p bytes h in
-            (from ∙ and_left (upto p bytes) (below bytes end) tests, under ∙ and_right (upto p bytes) (below bytes end) tests)))
+          (from ∙ and_left (upto p bytes) (below bytes end) tests, under ∙ and_right (upto p bytes) (below bytes end) tests)),
+    )
 
 -- the end of the range of a prefix: it without the largest bytes at its end, and the last one more
 pub ends-some : (p q t : List ℕ) (x : ℕ) (end : Vec ℕ) → p ≡ q ++ x ∷ t → AreLargest t → end.items ≡ q ++ (x + 1) ∷ [] → EndsPrefix p (Some end)
@@ -191,9 +192,65 @@ false_is_true e = cc
 pub longer-within : (p : List ℕ) (end : Option (Vec ℕ)) (bytes : List ℕ) → (IsWithin p end bytes ↔ IsPrefix p bytes) → IsWithin (p ++ 0 ∷ []) end bytes ↔ (IsPrefix p bytes × (bytes ≢ p))
 longer-within p end bytes ends =
     let from = is_upto p bytes (slice_cmp nat_cmp p bytes) refl in
-    let next = is_upto (p ++ 0 ∷ []) bytes (slice_cmp nat_cmp (p ++ 0 ∷ []) bytes) refl ∙ next-upto p bytes in
-    ( (λ w. let above : below p bytes ≡ true = sym next ∙ w.0 in
-            (ends.0 (from ∙ below-upto p bytes above, w.1), (λ same_bytes. false_is_true (sym (not_below_itself p) ∙ ap (below p) (sym same_bytes) ∙ above)))),
+    let next = is_upto (p ++ 0 ∷ []) bytes (slice_cmp nat_cmp (p ++ 0 ∷ []) bytes) refl ∙ next-upto p bytes in (
+      (λ w. let above : below p bytes ≡ true = sym next ∙ w.0 in
+          (ends.0 (from ∙ below-upto p bytes above, w.1), (λ same_bytes. false_is_true (sym (not_below_itself p) ∙ ap (below p) (sym same_bytes) ∙ above)))),
       (λ h. let rest = h.0 in
-            let some : rest.0 ≢ [] = λ none. h.1 (rest.1 ∙ ap (λ z. p ++ z) none ∙ append-nil p) in
-            (next ∙ ap (below p) rest.1 ∙ longer-below p rest.0 some, (ends.1 rest).1)))
+          let some : rest.0 ≢ [] = λ none. h.1 (rest.1 ∙ ap (λ z. p ++ z) none ∙ append-nil p) in
+          (next ∙ ap (below p) rest.1 ∙ longer-below p rest.0 some, (ends.1 rest).1)),
+    )
+
+-- ---- bounds behind a prefix
+
+upto_more : (x y : ℕ) (u v : Bool) → (u ≡ true → v ≡ true) → cond (eqb x y) u (ltb x y) ≡ true → cond (eqb x y) v (ltb x y) ≡ true
+upto_more x y u v more h = grind (arith, nat_tests)
+
+shorter-upto : (p s b : List ℕ) → upto (p ++ s) b ≡ true → upto p b ≡ true
+shorter-upto [] s b h = refl
+shorter-upto (x ∷ p) s [] h = h
+shorter-upto (x ∷ p) s (y ∷ b) h = upto_more x y (upto (p ++ s) b) (upto p b) (shorter-upto p s b) h
+
+between_first : (x y : ℕ) (u l g : Bool) → (u ≡ true → l ≡ true → g ≡ true) → cond (eqb x y) u (ltb x y) ≡ true → cond (eqb y x) l (ltb y x) ≡ true → cond (eqb x y) g false ≡ true
+between_first x y u l g rest h k = grind (arith, nat_tests)
+
+between-begins : (p s b : List ℕ) → upto p b ≡ true → below b (p ++ s) ≡ true → begins p b ≡ true
+between-begins [] s b h k = refl
+between-begins (x ∷ p) s [] h k = h
+between-begins (x ∷ p) s (y ∷ b) h k = between_first x y (upto p b) (below b (p ++ s)) (begins p b) (between-begins p s b) h k
+
+begins_first : (x y : ℕ) (g u : Bool) → (g ≡ true → u ≡ true) → cond (eqb x y) g false ≡ true → cond (eqb x y) u (ltb x y) ≡ true
+begins_first x y g u rest h = grind (arith, nat_tests)
+
+begins-upto : (p b : List ℕ) → begins p b ≡ true → upto p b ≡ true
+begins-upto [] b h = refl
+begins-upto (x ∷ p) [] h = h
+begins-upto (x ∷ p) (y ∷ b) h = begins_first x y (begins p b) (upto p b) (begins-upto p b) h
+
+-- below a byte string with a zero behind it are those up to the string
+before-upto : (b p : List ℕ) → below b (p ++ 0 ∷ []) ≡ upto b p
+before-upto [] [] = refl
+before-upto [] (x ∷ p) = refl
+before-upto (y ∷ b) [] = last_below y b
+  where
+    last_below : (y : ℕ) (b : List ℕ) → cond (eqb y 0) (below b []) (ltb y 0) ≡ false
+    last_below y b = let none = no_below b in grind (arith, nat_tests)
+before-upto (y ∷ b) (x ∷ p) = ap (λ t. cond (eqb y x) t (ltb y x)) (before-upto b p)
+
+pub from-shorter : (p s b : List ℕ) → IsFrom (p ++ s) b → IsFrom p b
+from-shorter p s b h =
+    is_upto p b (slice_cmp nat_cmp p b) refl ∙ shorter-upto p s b (sym (is_upto (p ++ s) b (slice_cmp nat_cmp (p ++ s) b) refl) ∙ h)
+
+pub prefix-between : (p s b : List ℕ) → IsFrom p b → IsTrue (is_lt (slice_cmp nat_cmp b (p ++ s))) → IsPrefix p b
+prefix-between p s b h k =
+    prefix-begins p b (between-begins p s b (sym (is_upto p b (slice_cmp nat_cmp p b) refl) ∙ h) (sym (is_below b (p ++ s) (slice_cmp nat_cmp b (p ++ s)) refl) ∙ k))
+
+pub from-prefix : (p b : List ℕ) → IsPrefix p b → IsFrom p b
+from-prefix p b h = is_upto p b (slice_cmp nat_cmp p b) refl ∙ begins-upto p b (begins-prefix p b h)
+
+pub next-test : (p b : List ℕ) → is_le (slice_cmp nat_cmp (p ++ 0 ∷ []) b) ≡ is_lt (slice_cmp nat_cmp p b)
+next-test p b =
+    is_upto (p ++ 0 ∷ []) b (slice_cmp nat_cmp (p ++ 0 ∷ []) b) refl ∙ next-upto p b ∙ sym (is_below p b (slice_cmp nat_cmp p b) refl)
+
+pub before-test : (b p : List ℕ) → is_lt (slice_cmp nat_cmp b (p ++ 0 ∷ [])) ≡ is_le (slice_cmp nat_cmp b p)
+before-test b p =
+    is_below b (p ++ 0 ∷ []) (slice_cmp nat_cmp b (p ++ 0 ∷ [])) refl ∙ before-upto b p ∙ sym (is_upto b p (slice_cmp nat_cmp b p) refl)

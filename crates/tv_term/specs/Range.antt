@@ -1,13 +1,17 @@
 -- Ranges of byte strings by their order, and which terms are in one.
-use Rattle.std.specs.Prelude.{ℕ, ◌↔◌, ◌≡◌, ◌≢◌, List, Option, Some, None, IsTrue}
+use Rattle.std.specs.Prelude.{ℕ, ◌↔◌, ◌≡◌, ◌≢◌, ◌<◌, ◌^◌, List, [], ◌∷◌, ◌++◌, Option, Some, None, IsTrue}
 use Rattle.std.specs.Ordering.{is_le, is_lt, nat_cmp}
 use Rattle.std.specs.Cmp.Lexicographic.{slice_cmp}
 use Rattle.std.specs.Global.{Vec}
+use Rattle.std.specs.declared.ops.Bound.{Bound}
+use Rattle.std.specs.declared.ops.Bound.TheVariants.{Included, Excluded, Unbounded}
 use Rattle.tv_base.specs.Facet.{Descends}
 use Rattle.tv_base.specs.Sink.{IsPrefix}
 use Rattle.tv_base.specs.Source.{AllBytes}
+use Rattle.std.specs.Int.{to_be_bytes, w32}
+use Rattle.tv_options.specs.Types.{code}
 use Rattle.tv_options.specs.declared.types.TypeTag.{TypeTag}
-use Rattle.tv_term.specs.Key.{TermValue, Text, Facet, Json, IsTerm, type_of, payload}
+use Rattle.tv_term.specs.Key.{TermValue, Text, Facet, Json, IsTerm, Fits, type_of, payload, value_cmp}
 use Rattle.tv_term.specs.declared.range.TermRange.{TermRange}
 
 -- the bytes are those of the start, or above them
@@ -66,3 +70,47 @@ IsAtPath id path field value = (field ≡ id) × (inner : TermValue) × (value �
 -- of this field, whose value is a facet below this one
 abbrev pub IsBelowFacet : ℕ → List ℕ → ℕ → TermValue → Type 0
 IsBelowFacet id upper field value = (field ≡ id) × (lower : List ℕ) × (value ≡ Facet lower) × Descends upper lower
+
+-- a value from the bound on
+abbrev pub IsFromBound : Bound TermValue → TermValue → Type 0
+IsFromBound (Included least) value = IsTrue (is_le (value_cmp least value))
+IsFromBound (Excluded below) value = IsTrue (is_lt (value_cmp below value))
+IsFromBound Unbounded value = Unit {0}
+
+-- a value up to the bound
+abbrev pub IsToBound : Bound TermValue → TermValue → Type 0
+IsToBound (Included most) value = IsTrue (is_le (value_cmp value most))
+IsToBound (Excluded above) value = IsTrue (is_lt (value_cmp value above))
+IsToBound Unbounded value = Unit {0}
+
+-- of this field, whose value is of this type and within both bounds
+abbrev pub IsBetween : ℕ → TypeTag → Bound TermValue → Bound TermValue → ℕ → TermValue → Type 0
+IsBetween id type_tag start end field value = (field ≡ id) × (type_of value ≡ type_tag) × IsFromBound start value × IsToBound end value
+
+-- ---- the bytes of bounds, for private clauses
+
+-- the bytes of the term of a value of this type
+abbrev pub IsTypedTerm : ℕ → TypeTag → TermValue → List ℕ → Type 0
+IsTypedTerm id type_tag value bytes = IsTerm bytes id value × (type_of value ≡ type_tag)
+
+-- the same, with a zero behind them
+abbrev pub IsBehindTerm : ℕ → TypeTag → TermValue → List ℕ → Type 0
+IsBehindTerm id type_tag value bytes = (before : List ℕ) × IsTypedTerm id type_tag value before × (bytes ≡ before ++ 0 ∷ [])
+
+-- the first bytes of the terms of this field and type
+abbrev pub typed_start : ℕ → TypeTag → List ℕ
+typed_start id type_tag = to_be_bytes w32 id ++ code type_tag ∷ []
+
+-- the least bytes of the terms from a bound on
+abbrev pub StartsAt : ℕ → TypeTag → Bound TermValue → List ℕ → Type 0
+StartsAt id type_tag (Included least) bytes = IsTypedTerm id type_tag least bytes
+StartsAt id type_tag (Excluded below) bytes = IsBehindTerm id type_tag below bytes
+StartsAt id type_tag Unbounded bytes = (bytes ≡ typed_start id type_tag) × (id < 2 ^ 32)
+
+-- the least bytes above those of the terms up to a bound
+abbrev pub EndsAt : ℕ → TypeTag → Bound TermValue → Option (Vec ℕ) → Type 0
+EndsAt id type_tag (Included most) None = ⊥
+EndsAt id type_tag (Included most) (Some end) = IsBehindTerm id type_tag most end.items
+EndsAt id type_tag (Excluded above) None = ⊥
+EndsAt id type_tag (Excluded above) (Some end) = IsTypedTerm id type_tag above end.items
+EndsAt id type_tag Unbounded end = EndsPrefix (typed_start id type_tag) end

@@ -6,11 +6,15 @@ ghost use Rattle.tv_base.specs.JsonPath.{joined_path};
 ghost use Rattle.tv_term.specs.Key.{HasNoZero};
 ghost use Rattle.tv_term.specs.Range.{EndsPrefix, HasPrefixed, HasTerms, IsIn, BeginsWith};
 ghost use Rattle.tv_term.specs.Range.{IsOfField, IsOfType, HasTextPrefix, IsAtPath, IsBelowFacet, HasLonger};
+ghost use Rattle.tv_term.specs.Range.{IsBetween, IsTypedTerm, IsBehindTerm, StartsAt, EndsAt};
+ghost use Rattle.std.specs.Range.Bound.{bound_map};
 ghost use Rattle.tv_term.specs.declared.term_error.TermError.TheVariants.{Memory, NulInPath};
 
+use crate::fast_value::FastValue;
 use crate::term::Term;
 use crate::term_error::TermError;
 use std::alloc::{AllocError, Global};
+use std::ops::{Bound, RangeBounds};
 use tv_base::{FACET_SEP_BYTE, Facet};
 use tv_options::Type;
 use tv_value::field::Field;
@@ -180,5 +184,81 @@ impl Term {
         let mut least = upper;
         least.append_bytes(&[FACET_SEP_BYTE])?;
         Ok(TermRange::of_prefix(alloc, least.serialized_term())?)
+    }
+
+    /// The terms of a field whose values are numbers, truth values or dates within the bounds, as `3..7` or `..=9`. (Not in tantivy.)
+    /// Bounds that run backwards give a range without terms. The only error is `Memory`.
+    pub fn range_of_values<T: FastValue, B: RangeBounds<T>>(
+        alloc: Global,
+        field: Field,
+        values: &B,
+    ) -> Result<TermRange, TermError>
+        ensures terms { B.has_bounds values.now → IfOk result (HasTerms
+            (IsBetween field.id T.type_tag (bound_map T.as_value (B.start_bound values.now))
+            (bound_map T.as_value (B.end_bound values.now)))) }
+        ensures memory { IfErr result (λ error. error ≡ Memory) }
+    {
+        let start = start_at(alloc, field, values.start_bound())?;
+        let end = end_at(alloc, field, values.end_bound())?;
+        Ok(TermRange { start, end })
+    }
+}
+
+// The bytes of the term of a value.
+fn bytes_of<T: FastValue>(alloc: Global, field: Field, value: T) -> Result<Vec<u8>, TermError>
+    ensures typed { IfOk result
+        (λ bytes. IsTypedTerm field.id T.type_tag (T.as_value value) bytes.items) }
+    ensures memory { IfErr result (λ error. error ≡ Memory) }
+{
+    Ok(Term::from_fast_value(alloc, field, value)?.into_bytes())
+}
+
+// The least byte string above the term of a value.
+fn bytes_behind<T: FastValue>(alloc: Global, field: Field, value: T) -> Result<Vec<u8>, TermError>
+    ensures behind { IfOk result
+        (λ bytes. IsBehindTerm field.id T.type_tag (T.as_value value) bytes.items) }
+    ensures memory { IfErr result (λ error. error ≡ Memory) }
+{
+    let mut term = Term::from_fast_value(alloc, field, value)?;
+    term.append_bytes(&[0])?;
+    Ok(term.into_bytes())
+}
+
+// The least bytes of the terms from a bound on.
+fn start_at<T: FastValue>(
+    alloc: Global,
+    field: Field,
+    bound: Bound<&T>,
+) -> Result<Vec<u8>, TermError>
+    ensures starts { IfOk result (λ start. StartsAt field.id T.type_tag
+        (bound_map (λ x. T.as_value x.now) bound.entry) start.items) }
+    ensures memory { IfErr result (λ error. error ≡ Memory) }
+{
+    match bound {
+        Bound::Included(value) => bytes_of(alloc, field, *value),
+        Bound::Excluded(value) => bytes_behind(alloc, field, *value),
+        Bound::Unbounded => {
+            Ok(Term::from_payload(alloc, field, T::to_type(), &[])?.into_bytes())
+        }
+    }
+}
+
+// The least bytes above those of the terms up to a bound.
+fn end_at<T: FastValue>(
+    alloc: Global,
+    field: Field,
+    bound: Bound<&T>,
+) -> Result<Option<Vec<u8>>, TermError>
+    ensures ends { IfOk result
+        (EndsAt field.id T.type_tag (bound_map (λ x. T.as_value x.now) bound.entry)) }
+    ensures memory { IfErr result (λ error. error ≡ Memory) }
+{
+    match bound {
+        Bound::Included(value) => Ok(Some(bytes_behind(alloc, field, *value)?)),
+        Bound::Excluded(value) => Ok(Some(bytes_of(alloc, field, *value)?)),
+        Bound::Unbounded => {
+            let least = Term::from_payload(alloc, field, T::to_type(), &[])?;
+            Ok(successor(alloc, least.serialized_term())?)
+        }
     }
 }

@@ -89,6 +89,13 @@ impl Term {
         self.bytes.as_slice()
     }
 
+    // The term's bytes, taken out of it.
+    pub(crate) fn into_bytes(self) -> Vec<u8>
+        ensures { result.items ≡ self }
+    {
+        self.bytes
+    }
+
     /// A term of field 0 with the type's code 0, which is no type's, and no value bytes, with room for as many value bytes.
     pub fn with_capacity(alloc: Global, capacity: usize) -> Result<Term, TermError>
         ensures made { IfOk result (λ made. made ≡ 0 ∷ 0 ∷ 0 ∷ 0 ∷ 0 ∷ []) }
@@ -210,7 +217,7 @@ impl Term {
     }
 
     // The term of a value of eight bytes.
-    fn from_fast_value<T: FastValue>(
+    pub(crate) fn from_fast_value<T: FastValue>(
         alloc: Global,
         field: Field,
         value: T,

@@ -9,7 +9,7 @@ returns-in_default c =
 pub overflow_add-last : goal.overflow_add-last
 overflow_add-last c =
     let small = last_left c.args.prefix.now c.split_at.result.0.now c.split_at.result.1.now c.in-Some.front.now c.in-Some.last.now c.len_without_largest.result
-        c.split_at.ensures.by_index.0 c.split_at.ensures.front_len (search rules) c.len_without_largest.ensures.last in
+    c.split_at.ensures.by_index.0 c.split_at.ensures.front_len (search rules) c.len_without_largest.ensures.last in
     omega arith
 
 pub returns : goal.returns
