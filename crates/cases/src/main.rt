@@ -12,6 +12,7 @@ mod numbers;
 mod options;
 mod parts;
 mod paths;
+mod ranges;
 mod rows;
 mod schemas;
 mod terms;
@@ -49,6 +50,7 @@ fn answer(alloc: Global, line: &str) -> Result<String> {
         ["type", call @ ..] => options::answer_types(alloc, call),
         ["tokens", call @ ..] => tokens::answer(alloc, call),
         ["value", call @ ..] => values::answer(alloc, call),
+        ["term", "range", call @ ..] => ranges::answer(alloc, call),
         ["term", call @ ..] => terms::answer(alloc, call),
         ["schema", call @ ..] => schemas::answer(alloc, call),
         ["json", call @ ..] => json_values::answer(alloc, call),

@@ -31,6 +31,7 @@ pub use Rattle.tv_store.specs.declared.limits.ReadLimits
 pub use Rattle.tv_store.specs.declared.migration_trip.MigrationTrip
 pub use Rattle.tv_format.specs.declared.version.WriteVersion
 pub use Rattle.tv_reader.specs.declared.value_type.ValueType
+pub use Rattle.tv_term.specs.declared.range.TermRange
 pub use Rattle.tv_term.specs.declared.term_error.TermError
 pub use Rattle.tv_value.specs.declared.json_error.JsonError
 pub use Rattle.tv_value.specs.declared.copy_error.CopyError

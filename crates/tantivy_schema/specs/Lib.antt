@@ -78,6 +78,7 @@ pub use Rattle.tv_term.specs.FastValueLaws
 pub use Rattle.tv_term.specs.Key
 pub use Rattle.tv_term.specs.Reading as TermReading
 pub use Rattle.tv_term.specs.Lending
+pub use Rattle.tv_term.specs.Range as TermRange
 -- documents
 pub use Rattle.tv_doc.specs.AdditionError
 pub use Rattle.tv_doc.specs.Additions
