@@ -1,3 +1,4 @@
 pub mod BorrowedData
 pub mod Rising
 pub mod Found
+pub mod Notes

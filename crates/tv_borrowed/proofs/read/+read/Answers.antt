@@ -10,8 +10,9 @@ use Rattle.tv_borrowed.specs.Found.{found_data}
 use Rattle.tv_borrowed.specs.BorrowedData.{data_of, members_data}
 use Rattle.tv_borrowed.proofs.Levels.{data_of-Null, data_of-Bool, data_of-String, data_of-Array, data_of-Object}
 use Rattle.tv_borrowed.proofs.Rising.{put_rises}
+use Rattle.tv_borrowed.proofs.Floats.{none_in_last, none_in_put}
 use Rattle.tv_borrowed.proofs.Places.{items_before, items_before-none, items_before-last}
-use Rattle.tv_borrowed.proofs.Turns.{null-read, boolean-read, string-read, number-read, array-read, object-read, item-read, no_items-read, member-read, no_members-read}
+use Rattle.tv_borrowed.proofs.Turns.{null-read, boolean-read, string-read, some_number, array-read, object-read, item-read, no_items-read, member-read, no_members-read}
 use Rattle.tv_borrowed.proofs.read.+read.Goals as goal
 
 pub read-returns-in-String-clause-found : goal.read-returns-in-String-clause-found
@@ -24,7 +25,7 @@ pub read-returns-in-Number-clause-found : goal.read-returns-in-Number-clause-fou
 read-returns-in-Number-clause-found t c =
     let s = c.in-Number.text in
     let first : c.args.reader.now ≡ Token.number s.now ∷ c.next.new.self = c.in_ok-text.ensures.value ∙ ap (λ k. token_of k ∷ c.next.new.self) c.in-Number.is in
-    IfSome_then c.whole_number.result c.whole_number.ensures (λ v e. number-read c.args.depth c.args.reader.now c.next.new.self s.now (data_of v) first e)
+    some_number c.args.depth c.args.reader.now c.next.new.self s.now c.read_number.result first c.read_number.ensures.found
 
 pub read-returns-in-Bool-clause-found : goal.read-returns-in-Bool-clause-found
 read-returns-in-Bool-clause-found t c =
@@ -73,6 +74,10 @@ read_items-items-preserved t c =
           l.invariant.rest (item (data_of v) ds) r (item-read p n l.reader s r (data_of v) ds some going.0 first more)
           ∙ ap (λ items. Some (items, r)) (sym (items_before-last l.found.items v ds) ∙ ap (λ vs. items_before vs ds) (sym grown));
       less = omega (arith, l.invariant.less);
+      floats = λ e.
+          let noted = done.floats e in
+          let before = l.invariant.floats noted.0 in
+          (before.0, rw grown (none_in_last l.found.items v before.1 noted.1));
     }
 
 pub read_items-returns-clause-found : goal.read_items-returns-clause-found
@@ -104,6 +109,10 @@ read_members-members-preserved t c =
       rest = λ ds r more.
           l.invariant.rest ds r (member-read p n (found_data l.found) k l.reader v s r d ds some named done.found (rw grown at more));
       less = omega (arith, l.invariant.less);
+      floats = λ e.
+          let noted = done.floats e in
+          let before = l.invariant.floats noted.0 in
+          (before.0, rw grown (none_in_put k d (found_data l.found) noted.1 before.1));
     }
 
 pub read_members-returns-clause-found : goal.read_members-returns-clause-found
@@ -113,3 +122,7 @@ read_members-returns-clause-found t c =
     let ended : read_key l.reader ≡ Some (None, r) = grind arith in
     IfSome_then c.into_list.result c.into_list.ensures
     (λ list same. l.invariant.rest _ r (no_members-read (value c.args.depth) l.invariant.turns (found_data l.found) l.reader r l.invariant.enough ended) ∙ ap (λ ds. Some (ds, r)) (sym same))
+
+pub read_members-returns-clause-floats : goal.read_members-returns-clause-floats
+read_members-returns-clause-floats t c =
+    IfSome_then c.into_list.result c.into_list.ensures (λ list same e. let h = c.members.invariant.floats e in (h.0, rw same h.1))
