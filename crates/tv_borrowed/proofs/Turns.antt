@@ -1,13 +1,11 @@
 -- The turns of a reading, where it finds what it reads.
-use Rattle.std.proofs.Common.{◌≡◌, ℕ, ◌-◌, ◌<◌, ◌≤◌, List, ◌∷◌, length, Bool, Option, Some, None, IfSome, option_map, sym, ap, ◌∙◌}
+use Rattle.std.proofs.Common.{◌≡◌, ℕ, ◌-◌, ◌<◌, ◌≤◌, List, ◌∷◌, length, Bool, Option, Some, None, option_map, ap, ◌∙◌}
 use Rattle.json.specs.Token.{Token}
 use Rattle.json.specs.Json as json
 use Rattle.json.specs.Json.{Parse, parse_map, after_end_array, read_key, items, members, value}
 use Rattle.json.proofs.Grammar.{value_is, value-begin_array, value-begin_object, items_end, items_more, members_end, members_more}
 use Rattle.serde_json.specs.Data.{Data, null, boolean, number, string, array, object, Items, no_items, item, Members, no_members, put}
 use Rattle.serde_json.specs.Read.{number_of, of_json, of_items, of_members, converted}
-use Rattle.tv_borrowed.specs.BorrowedData.{data_of}
-use Rattle.tv_borrowed.specs.declared.borrowed.BorrowedJson.{BorrowedJson}
 
 rest_of : {A : Type 0} (b : A) (r s : List Token) (o : Option A) → option_map {U = A × List Token} (λ a. (a, s)) o ≡ Some (b, r) → (s ≡ r) × (o ≡ Some b)
 rest_of b r s None e = absurd (cc)
@@ -30,13 +28,8 @@ module _ (depth : ℕ) (ts r : List Token) where
   pub string-read : (s : List ℕ) → ts ≡ Token.string s ∷ r → converted of_json (value depth ts) ≡ Some (string s, r)
   string-read s first = ap (converted of_json) (ap (value depth) first ∙ value_is depth (Token.string s ∷ r))
 
-  number-read : (s : List ℕ) (d : Data) → ts ≡ Token.number s ∷ r → option_map number (number_of s) ≡ Some d → converted of_json (value depth ts) ≡ Some (d, r)
+  pub number-read : (s : List ℕ) (d : Data) → ts ≡ Token.number s ∷ r → option_map number (number_of s) ≡ Some d → converted of_json (value depth ts) ≡ Some (d, r)
   number-read s d first e = ap (converted of_json) (ap (value depth) first ∙ value_is depth (Token.number s ∷ r)) ∙ ap (option_map (λ n. (n, r))) e
-
-  pub some_number : (s : List ℕ) (o : Option BorrowedJson) → ts ≡ Token.number s ∷ r → option_map data_of o ≡ option_map number (number_of s)
-      → IfSome o (λ v. converted of_json (value depth ts) ≡ Some (data_of v, r))
-  some_number s None first e = tt
-  some_number s (Some v) first e = number-read s (data_of v) first (sym e)
 
 pub array-read : (depth : ℕ) (ts r : List Token) (ds : Items) → 0 < depth → converted of_items (items (value (depth - 1)) (length ts) ts) ≡ Some (ds, r)
     → converted of_json (value depth (Token.begin_array ∷ ts)) ≡ Some (array ds, r)

@@ -9,10 +9,10 @@ ghost use Rattle.serde_json.specs.Written.{has_float, items_have_float, members_
 ghost use Rattle.tv_borrowed.specs.BorrowedData.{data_of, items_data, members_data};
 ghost use Rattle.tv_borrowed.specs.Notes.{Notes};
 
+use crate::begun::{Begun, begin};
 use crate::borrowed::BorrowedJson;
 use crate::members::{FoundMembers, Members};
-use crate::number::read_number;
-use json::{Reader, Scratch, Token};
+use json::{Reader, Scratch};
 use std::alloc::Global;
 
 // How deep arrays and objects nest at most, as in the JSON library's values.
@@ -69,18 +69,15 @@ fn read<'a>(
     ensures floats { IfSome result
         (λ json. Notes met_float.old met_float.new (has_float (data_of json))) }
 {
-    match reader.next()? {
-        Token::String(text) => Some(BorrowedJson::String(text)),
-        Token::Number(text) => read_number(text, met_float),
-        Token::Bool(truth) => Some(BorrowedJson::Bool(truth)),
-        Token::Null => Some(BorrowedJson::Null),
-        Token::BeginArray if depth > 0 => Some(BorrowedJson::Array(read_items(
+    match begin(reader, met_float)? {
+        Begun::Leaf(json) => Some(json),
+        Begun::Array if depth > 0 => Some(BorrowedJson::Array(read_items(
             alloc,
             reader,
             depth - 1,
             met_float,
         )?)),
-        Token::BeginObject if depth > 0 => Some(BorrowedJson::Object(read_members(
+        Begun::Object if depth > 0 => Some(BorrowedJson::Object(read_members(
             alloc,
             reader,
             depth - 1,
