@@ -46,27 +46,22 @@ impl<'a> FoundMembers<'a> {
             if is_above_last(list.as_slice(), key) {
                 return list.push((key, value)).ok();
             }
+            if list.len() < MOST_MOVED {
+                return put_among(list, key, value);
+            }
         }
-        self.put_among_others(alloc, key, value)
+        self.put_mapped(alloc, key, value)
     }
 
-    // The same of a member whose key isn't above the last one, or that goes into a map. It isn't inlined, so that a level of a nested value takes little stack.
+    // The same, into a map. It isn't inlined, so that a level of a nested value takes little stack.
     #[inline(never)]
-    fn put_among_others(
-        &mut self,
-        alloc: Global,
-        key: &'a str,
-        value: BorrowedJson<'a>,
-    ) -> Option<()>
+    fn put_mapped(&mut self, alloc: Global, key: &'a str, value: BorrowedJson<'a>) -> Option<()>
         requires { Rise (found_data self.old) }
         ensures { OnSome result
             (found_data self.new ≡ put key.now (data_of value.entry) (found_data self.old)) }
     {
         match self {
             FoundMembers::Listed(list) => {
-                if list.len() < MOST_MOVED {
-                    return put_among(list, key, value);
-                }
                 let mut map = mapped(alloc, replace(list, Vec::new(alloc)))?;
                 drop(map.insert(key, value).ok()?);
                 *self = FoundMembers::Mapped(map);
@@ -124,6 +119,7 @@ fn is_above_last(members: &[(&str, BorrowedJson<'_>)], key: &str) -> bool
 
 // Puts a member where its key belongs, in place of the one that has the key already, by a search that halves the places that are left. `None` where
 // memory is refused.
+#[inline(always)]
 fn put_among<'a>(members: &mut Members<'a>, key: &'a str, value: BorrowedJson<'a>) -> Option<()>
     requires { Rise (members_data members.old.items) }
     ensures { OnSome result

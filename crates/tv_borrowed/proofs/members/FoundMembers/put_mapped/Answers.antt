@@ -4,7 +4,7 @@ use Rattle.serde_json.specs.Data.{put}
 use Rattle.tv_borrowed.specs.BorrowedData.{data_of, members_data}
 use Rattle.tv_borrowed.specs.Found.{found_data}
 use Rattle.tv_borrowed.proofs.Mapped.{key_cmp, members_data-insert_entry, when_ok}
-use Rattle.tv_borrowed.proofs.members.FoundMembers.put_among_others.Goals as goal
+use Rattle.tv_borrowed.proofs.members.FoundMembers.put_mapped.Goals as goal
 
 pub returns-in_ok-ok-in-Listed : goal.returns-in_ok-ok-in-Listed
 returns-in_ok-ok-in-Listed c =
