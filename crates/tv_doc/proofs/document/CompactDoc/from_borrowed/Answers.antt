@@ -1,11 +1,16 @@
 use Rattle.std.proofs.Common.{ℕ, ◌+◌, List, [], ◌∷◌, ◌≡◌, sym, ap, ◌∙◌, drop, Bor, arith}
 use Rattle.std.proofs.lemmas.List.{drop_more, drop_all}
+use Rattle.tv_borrowed.proofs.Floats.{none_in_member}
 use Rattle.tv_borrowed.specs.BorrowedData.{data_of, members_data}
 use Rattle.tv_borrowed.specs.declared.borrowed.BorrowedJson.{BorrowedJson}
 use Rattle.tv_schema.specs.Schema.{field_named}
 use Rattle.tv_doc.specs.JsonObject.{FieldJson, object_values, values_at}
 use Rattle.tv_doc.proofs.JsonDocuments.{none_so_far, more_so_far, made_from}
 use Rattle.tv_doc.proofs.document.CompactDoc.from_borrowed.Goals as goal
+
+pub add_borrowed-requires : goal.add_borrowed-requires
+add_borrowed-requires c = λ none_met.
+    none_in_member c.args.members.now c.loop-key.key-index c.loop-key-item.result (omega (arith, c.loop-key-test.true)) (sym c.loop-key-item.is) (c.requires none_met)
 
 pub loop-key-preserved : goal.loop-key-preserved
 loop-key-preserved c =
