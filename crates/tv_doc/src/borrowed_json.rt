@@ -1,13 +1,13 @@
 //! Documents from JSON objects whose values are added straight from the text that encodes them.
 
-ghost use Rattle.std.specs.Prelude.{◌≡◌, ◌↔◌, ◌∷◌, [], false, Some, Ok, IfSome, IfNone, OnSome, IsOkAnd, IsTrue};
+ghost use Rattle.std.specs.Prelude.{◌≡◌, ◌↔◌, ◌∷◌, [], false, Some, Ok, IfNone, OnSome, IsOkAnd, IsTrue};
 ghost use Rattle.serde_json.specs.Data.{object};
 ghost use Rattle.serde_json.specs.Written.{has_float, members_have_float};
 ghost use Rattle.tv_borrowed.specs.BorrowedData.{data_of, members_data};
 ghost use Rattle.tv_doc.specs.AddsRow.{AddsRow};
 ghost use Rattle.tv_doc.specs.Additions.{Accepts};
 ghost use Rattle.tv_doc.specs.Document.{IsUnchanged};
-ghost use Rattle.tv_doc.specs.JsonObject.{AddsPairs, MakesDocument, Parses, object_values};
+ghost use Rattle.tv_doc.specs.JsonObject.{AddsPairs, Parses, object_values};
 ghost use Rattle.tv_doc.specs.JsonObject.{values_at};
 ghost use Rattle.tv_schema.specs.Schema.{field_named};
 ghost use Rattle.tv_value.specs.Lent.{leaf_of};
@@ -16,8 +16,8 @@ ghost use Rattle.tv_format.specs.Tree.{leaf};
 use crate::document::CompactDoc;
 use crate::json::add_value;
 use crate::lent_borrowed::LentBorrowed;
+use crate::parse_buffers::ParseBuffers;
 use std::alloc::Global;
-use tv_borrowed::Scratch;
 use tv_borrowed::borrowed::BorrowedJson;
 use tv_borrowed::read::read_noting_floats;
 use tv_field::FieldType;
@@ -169,46 +169,48 @@ fn add_borrowed(
     Some(())
 }
 
+// Adds the values of an object's members.
+fn add_members(
+    alloc: Global,
+    document: &mut CompactDoc,
+    scratch: &mut JsonScratch,
+    schema: &Schema,
+    members: &[(&str, BorrowedJson<'_>)],
+    met_float: bool,
+) -> Option<()>
+    requires { met_float ≡ false → members_have_float (members_data members.now) ≡ false }
+    ensures { OnSome result
+        (AddsPairs (object_values schema.now (members_data members.now)) document.old document.new) }
+{
+    for (key, json) in members {
+        add_borrowed(alloc, document, scratch, schema, key, json, met_float)?;
+    }
+    Some(())
+}
+
 impl CompactDoc {
-    // The document of a JSON object. `None` where a value is refused.
-    fn from_borrowed(
+    // Puts the document of the JSON object that the text encodes, whose texts aren't copied on the way to the heap, in place of this one. `None`
+    // where the text isn't read so (see `read_borrowed`) or is no object, where a value is refused, and where memory is.
+    pub(crate) fn parse_borrowed(
+        &mut self,
         alloc: Global,
         schema: &Schema,
-        members: &[(&str, BorrowedJson<'_>)],
-        met_float: bool,
-    ) -> Option<CompactDoc>
-        requires { met_float ≡ false → members_have_float (members_data members.now) ≡ false }
-        ensures { IfSome result
-            (λ made. MakesDocument (object_values schema.now (members_data members.now))
-            (Ok made)) }
+        text: &str,
+        buffers: &mut ParseBuffers,
+    ) -> Option<()>
+        ensures { OnSome result (Parses schema.now text.now (Ok self.new)) }
     {
-        let mut document = CompactDoc::new(alloc);
-        let mut scratch = JsonScratch::new(alloc);
-        for (key, json) in members {
-            add_borrowed(
-                alloc,
-                &mut document,
-                &mut scratch,
-                schema,
-                key,
-                json,
-                met_float,
-            )?;
-        }
-        Some(document)
-    }
-
-    // The document of the JSON object that the text encodes, whose texts aren't copied on the way to the heap. `None` where the text isn't
-    // read so (see `read_borrowed`) or is no object, where a value is refused, and where memory is.
-    pub(crate) fn parse_borrowed(alloc: Global, schema: &Schema, text: &str) -> Option<CompactDoc>
-        ensures { IfSome result (λ made. Parses schema.now text.now (Ok made)) }
-    {
-        let mut scratch = Scratch::new(alloc);
+        self.clear();
         let mut met_float = false;
-        match read_noting_floats(alloc, text, &mut scratch, &mut met_float)? {
-            BorrowedJson::Object(members) => {
-                CompactDoc::from_borrowed(alloc, schema, members.as_slice(), met_float)
-            }
+        match read_noting_floats(alloc, text, &mut buffers.texts, &mut met_float)? {
+            BorrowedJson::Object(members) => add_members(
+                alloc,
+                self,
+                &mut buffers.values,
+                schema,
+                members.as_slice(),
+                met_float,
+            ),
             _ => None,
         }
     }
