@@ -4,5 +4,4 @@ mod Copies
 mod Rising
 mod Mapped
 mod Turns
-mod WholeNumbers
-pub mod NoFloats
+pub mod Floats

@@ -1,7 +1,7 @@
 -- The JSON data that a borrowed value stands for.
 use Rattle.std.specs.Prelude.{ℕ, List, [], ◌∷◌, map}
 use Rattle.std.specs.Borrow.{Bor}
-use Rattle.serde_json.specs.Data.{Data, null, boolean, number, unsigned, negative, string, array, object, Items, Members, no_members, member}
+use Rattle.serde_json.specs.Data.{Data, null, boolean, number, unsigned, negative, float, string, array, object, Items, Members, no_members, member}
 use Rattle.serde_json.specs.View.{items_of}
 use Rattle.tv_borrowed.specs.declared.borrowed.BorrowedJson.{BorrowedJson, fold-BorrowedJson}
 use Rattle.tv_borrowed.specs.declared.borrowed.BorrowedJson.TheOpen.{BorrowedJson-F}
@@ -17,6 +17,7 @@ data_step BorrowedJson-F.Null = null
 data_step (BorrowedJson-F.Bool b) = boolean b
 data_step (BorrowedJson-F.Unsigned n) = number (unsigned n)
 data_step (BorrowedJson-F.Negative z) = number (negative z)
+data_step (BorrowedJson-F.Float x) = number (float x)
 data_step (BorrowedJson-F.String s) = string s.now
 data_step (BorrowedJson-F.Array v) = array (items_of v.items)
 data_step (BorrowedJson-F.Object v) = object (members_of v.items)

@@ -1,6 +1,7 @@
 //! JSON values that borrow their texts from the text that they were read from.
 #![tactic(auto)]
 
+mod begun;
 pub mod borrowed;
 mod members;
 mod number;

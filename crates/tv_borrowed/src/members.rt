@@ -36,19 +36,32 @@ impl<'a> FoundMembers<'a> {
     }
 
     // Puts a member where its key belongs, in place of the one that has the key already. `None` where memory is refused.
+    #[inline(always)]
     pub(crate) fn put(&mut self, alloc: Global, key: &'a str, value: BorrowedJson<'a>) -> Option<()>
+        requires { Rise (found_data self.old) }
+        ensures { OnSome result
+            (found_data self.new ≡ put key.now (data_of value.entry) (found_data self.old)) }
+    {
+        if let FoundMembers::Listed(list) = self {
+            if is_above_last(list.as_slice(), key) {
+                return list.push((key, value)).ok();
+            }
+            if list.len() < MOST_MOVED {
+                return put_among(list, key, value);
+            }
+        }
+        self.put_mapped(alloc, key, value)
+    }
+
+    // The same, into a map. It isn't inlined, so that a level of a nested value takes little stack.
+    #[inline(never)]
+    fn put_mapped(&mut self, alloc: Global, key: &'a str, value: BorrowedJson<'a>) -> Option<()>
         requires { Rise (found_data self.old) }
         ensures { OnSome result
             (found_data self.new ≡ put key.now (data_of value.entry) (found_data self.old)) }
     {
         match self {
             FoundMembers::Listed(list) => {
-                if is_above_last(list.as_slice(), key) {
-                    return list.push((key, value)).ok();
-                }
-                if list.len() < MOST_MOVED {
-                    return put_among(list, key, value);
-                }
                 let mut map = mapped(alloc, replace(list, Vec::new(alloc)))?;
                 drop(map.insert(key, value).ok()?);
                 *self = FoundMembers::Mapped(map);
@@ -59,20 +72,27 @@ impl<'a> FoundMembers<'a> {
     }
 
     // All of them. `None` where memory is refused.
+    #[inline(always)]
     pub(crate) fn into_list(self, alloc: Global) -> Option<Members<'a>>
         ensures { IfSome result (λ list. members_data list.items ≡ found_data self.entry) }
     {
         match self {
             FoundMembers::Listed(list) => Some(list),
-            FoundMembers::Mapped(map) => {
-                let mut list = Vec::with_capacity(alloc, map.len()).ok()?;
-                for member in map {
-                    list.push(member).ok()?;
-                }
-                Some(list)
-            }
+            FoundMembers::Mapped(map) => listed(alloc, map),
         }
     }
+}
+
+// The members of a map as a list.
+#[inline(never)]
+fn listed<'a>(alloc: Global, map: BTreeMap<&'a str, BorrowedJson<'a>>) -> Option<Members<'a>>
+    ensures { IfSome result (λ list. list.items ≡ map.entry.entries) }
+{
+    let mut list = Vec::with_capacity(alloc, map.len()).ok()?;
+    for member in map {
+        list.push(member).ok()?;
+    }
+    Some(list)
 }
 
 // The members of a list as a map.
@@ -99,6 +119,7 @@ fn is_above_last(members: &[(&str, BorrowedJson<'_>)], key: &str) -> bool
 
 // Puts a member where its key belongs, in place of the one that has the key already, by a search that halves the places that are left. `None` where
 // memory is refused.
+#[inline(always)]
 fn put_among<'a>(members: &mut Members<'a>, key: &'a str, value: BorrowedJson<'a>) -> Option<()>
     requires { Rise (members_data members.old.items) }
     ensures { OnSome result

@@ -6,16 +6,17 @@ ghost use Rattle.std.specs.Ordering.{nat_cmp};
 ghost use Rattle.std.specs.declared.cmp.Ordering.TheVariants.{Less};
 ghost use Rattle.serde_json.specs.Data.{array, object, put, string};
 ghost use Rattle.serde_json.specs.View.{view, members_view};
+ghost use Rattle.serde_json.specs.Written.{has_float, items_have_float, members_have_float};
 ghost use Rattle.tv_borrowed.specs.BorrowedData.{data_of, items_data, members_data};
 
 use crate::borrowed::BorrowedJson;
-use serde_json::{Map, Value};
+use serde_json::{Map, Number, Value};
 use std::alloc::Global;
 use std::cmp::Ordering;
 
 impl BorrowedJson<'_> {
     /// The JSON library's value that is the same, with copies of its texts. (Not in tantivy.) `None` where memory is refused; and of what wasn't read from a
-    /// text, where the keys of an object don't rise or a negative number isn't negative.
+    /// text, where the keys of an object don't rise, a negative number isn't negative or a float isn't finite.
     #[cycle(copies)]
     pub fn to_value(&self, alloc: Global) -> Option<Value>
         ensures { IfSome result (λ made. view made ≡ data_of self.now) }
@@ -31,11 +32,53 @@ impl BorrowedJson<'_> {
                     None
                 }
             }
+            BorrowedJson::Float(number) => Some(Value::Number(Number::from_f64(*number)?)),
             BorrowedJson::String(text) => copied_text(text, alloc),
             BorrowedJson::Array(items) => copied_items(items.as_slice(), alloc),
             BorrowedJson::Object(members) => copied_members(members.as_slice(), alloc),
         }
     }
+
+    /// Whether it is a float or has one within. (Not in tantivy.)
+    #[cycle(floats)]
+    pub fn has_float(&self) -> bool
+        ensures { result ≡ has_float (data_of self.now) }
+    {
+        match self {
+            BorrowedJson::Float(_) => true,
+            BorrowedJson::Array(items) => is_float_among_items(items.as_slice()),
+            BorrowedJson::Object(members) => is_float_among_members(members.as_slice()),
+            _ => false,
+        }
+    }
+}
+
+// Whether an item has a float.
+#[inline(never)]
+#[cycle(floats)]
+fn is_float_among_items(items: &[BorrowedJson<'_>]) -> bool
+    ensures { result ≡ items_have_float (items_data items.now) }
+{
+    for item in items {
+        if item.has_float() {
+            return true;
+        }
+    }
+    false
+}
+
+// Whether a member's value has a float.
+#[inline(never)]
+#[cycle(floats)]
+fn is_float_among_members(members: &[(&str, BorrowedJson<'_>)]) -> bool
+    ensures { result ≡ members_have_float (members_data members.now) }
+{
+    for (_, member) in members {
+        if member.has_float() {
+            return true;
+        }
+    }
+    false
 }
 
 // A copy of a text.

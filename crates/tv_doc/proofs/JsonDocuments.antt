@@ -1,5 +1,5 @@
 -- Values that are added one after the other.
-use Rattle.std.proofs.Common.{◌≡◌, ℕ, List, [], ◌∷◌, ◌++◌, Option, Some, Result, Ok, Err, subst, refl, sym, ap, ◌∙◌, append_assoc, append-nil}
+use Rattle.std.proofs.Common.{◌≡◌, ℕ, List, [], ◌∷◌, ◌++◌, Option, Some, None, Result, Ok, Err, subst, refl, sym, ap, ◌∙◌, append_assoc, append-nil}
 use Rattle.std.specs.Prelude.{OnSome}
 use Rattle.std.specs.Result.{result_ok}
 use Rattle.std.specs.Option.{IfSome}
@@ -15,6 +15,7 @@ use Rattle.tv_doc.specs.AdditionError.{addition_error}
 use Rattle.tv_doc.specs.Additions.{Accepts, IsEmpty}
 use Rattle.tv_doc.specs.AddsRow.{AddsRow}
 use Rattle.tv_doc.specs.Document.{IsUnchanged, Refuses}
+use Rattle.tv_doc.specs.InPlace.{in_place}
 use Rattle.tv_doc.specs.JsonObject.{FieldJson, Pairs, IsRefused, StopsAt, IsValueError, MakesDocument, Parses, AddsPairs, AddsValues, object_values}
 use Rattle.tv_doc.specs.JsonObject.IsShort.{for_pair, for_value, for_error}
 use Rattle.tv_builder.specs.declared.add_error.AddError.{AddError}
@@ -121,9 +122,6 @@ pub makes_document : (values : List FieldJson) (start made : CompactDoc) → IsE
 makes_document values start made none h =
     (subst (λ d. Pairs values d) (sym (from_empty h.pairs start made none h.adds)) h.by_table, made_of h.pairs start made none h.adds)
 
-pub made_from : (values rest : List FieldJson) (start made : CompactDoc) → IsEmpty start → SoFar values rest start made → rest ≡ [] → MakesDocument values (Ok made)
-made_from values rest start made none s end = makes_document values start made none (all_so_far values rest start made s end)
-
 -- an object that is read, and the document that is made of it
 pub parses_object : (schema : List Entry) (text : List ℕ) (ms : Members) (r : Result CompactDoc DocParsingError) → read text ≡ Some (object ms) → MakesDocument (object_values schema ms) r
     → Parses schema text r
@@ -132,3 +130,12 @@ parses_object schema text ms (Err (error.InvalidJson start)) is h = absurd h.2.r
 parses_object schema text ms (Err (error.ValueError name e)) is h = (ms, is, h)
 parses_object schema text ms (Err error.HeapFull) is h = (ms, is, h)
 parses_object schema text ms (Err error.Memory) is h = tt
+
+-- the document that is left in a place, which was empty
+pub placed_document : (values : List FieldJson) (start made : CompactDoc) (r : Result (Unit {0}) DocParsingError) → IsEmpty start → AddsValues values start made r → MakesDocument values (in_place r made)
+placed_document values start made (Ok x) none h = makes_document values start made none h
+placed_document values start made (Err e) none h = (start, none, h)
+
+pub some_maps : {T P Q : Type 0} (o : Option T) → (P → Q) → OnSome o P → OnSome o Q
+some_maps None f h = tt
+some_maps (Some x) f h = f h

@@ -3,7 +3,6 @@ use Rattle.std.proofs.Common.{◌≡◌, List, ℕ, false, Option, Some, Ok, sli
 use Rattle.serde_json.specs.Data.{Data, Items, Members, array, object}
 use Rattle.serde_json.specs.Written.{has_float}
 use Rattle.tv_borrowed.proofs.Levels.{data_of-Object}
-use Rattle.tv_borrowed.proofs.NoFloats.{no_float}
 use Rattle.tv_borrowed.specs.BorrowedData.{data_of}
 use Rattle.tv_borrowed.specs.declared.borrowed.BorrowedJson.{BorrowedJson}
 use Rattle.tv_borrowed.specs.declared.borrowed.BorrowedJson.TheVariants as borrowed
@@ -19,8 +18,8 @@ whole_row d ms is whole =
     let w : has_float (object ms) ≡ false = subst (λ x. has_float x ≡ false) is whole in
     rw is (rw w refl)
 
-pub object_row : {o : _} (f : FieldType) (b : BorrowedJson) (ms : Vec (Bor (List ℕ) × BorrowedJson) Global) → f ≡ types.JsonObject o → b ≡ borrowed.Object ms → Table f (data_of b) (Ok (whole_tree (data_of b)))
-object_row f b ms is says = rw is (whole_row (data_of b) _ (ap data_of says ∙ data_of-Object ms) (no_float b))
+pub object_row : {o : _} (f : FieldType) (b : BorrowedJson) (ms : Vec (Bor (List ℕ) × BorrowedJson) Global) → f ≡ types.JsonObject o → b ≡ borrowed.Object ms → has_float (data_of b) ≡ false → Table f (data_of b) (Ok (whole_tree (data_of b)))
+object_row f b ms is says whole = rw is (whole_row (data_of b) _ (ap data_of says ∙ data_of-Object ms) whole)
 
 -- an array at the name of a field stands for its items
 pub values_of_items : (schema : List Entry) (name : List ℕ) (field : ℕ) (e : Entry) (f : FieldType) (named : Option ℕ) (d : Data) (ds : Items) → named ≡ Some field → slice_get schema field ≡ Some e → f ≡ e.field_type → d ≡ array ds

@@ -11,3 +11,4 @@ pub mod JsonObject
 pub mod Named
 pub mod NamedPairs
 pub mod SameTexts
+pub mod InPlace

@@ -1,12 +1,13 @@
 //! Documents from JSON objects whose values are added straight from the text that encodes them.
 
-ghost use Rattle.std.specs.Prelude.{◌∷◌, [], Some, Ok, IfSome, IfNone, OnSome, IsOkAnd};
+ghost use Rattle.std.specs.Prelude.{◌≡◌, ◌↔◌, ◌∷◌, [], false, Some, Ok, IfNone, OnSome, IsOkAnd, IsTrue};
 ghost use Rattle.serde_json.specs.Data.{object};
+ghost use Rattle.serde_json.specs.Written.{has_float, members_have_float};
 ghost use Rattle.tv_borrowed.specs.BorrowedData.{data_of, members_data};
 ghost use Rattle.tv_doc.specs.AddsRow.{AddsRow};
 ghost use Rattle.tv_doc.specs.Additions.{Accepts};
 ghost use Rattle.tv_doc.specs.Document.{IsUnchanged};
-ghost use Rattle.tv_doc.specs.JsonObject.{AddsPairs, MakesDocument, Parses, object_values};
+ghost use Rattle.tv_doc.specs.JsonObject.{AddsPairs, Parses, object_values};
 ghost use Rattle.tv_doc.specs.JsonObject.{values_at};
 ghost use Rattle.tv_schema.specs.Schema.{field_named};
 ghost use Rattle.tv_value.specs.Lent.{leaf_of};
@@ -15,10 +16,10 @@ ghost use Rattle.tv_format.specs.Tree.{leaf};
 use crate::document::CompactDoc;
 use crate::json::add_value;
 use crate::lent_borrowed::LentBorrowed;
+use crate::parse_buffers::ParseBuffers;
 use std::alloc::Global;
-use tv_borrowed::Scratch;
 use tv_borrowed::borrowed::BorrowedJson;
-use tv_borrowed::read::read_borrowed;
+use tv_borrowed::read::read_noting_floats;
 use tv_field::FieldType;
 use tv_field::json_value::{
     JsonRefusal, JsonScratch, lend_bytes_text, lend_date_text, lend_facet_text, lend_ip_addr_text,
@@ -45,8 +46,17 @@ fn add_found(
     }
 }
 
+// Whether the value has no float. None is looked for where none was met as the text was read.
+#[inline(always)]
+fn is_whole(json: &BorrowedJson<'_>, met_float: bool) -> bool
+    requires { met_float ≡ false → has_float (data_of json.now) ≡ false }
+    ensures { IsTrue result ↔ (has_float (data_of json.now) ≡ false) }
+{
+    !met_float || !json.has_float()
+}
+
 // Adds a value that is one of its field's type as it stands: a text to a field of texts, a number to a field of such numbers, an object to
-// a field of JSON objects, and the text of a date, a facet, bytes or an address. After `None` the document is unchanged.
+// a field of JSON objects where no float is in it, and the text of a date, a facet, bytes or an address. After `None` the document is unchanged.
 #[inline(always)]
 fn add_plain(
     document: &mut CompactDoc,
@@ -54,7 +64,9 @@ fn add_plain(
     field: Field,
     field_type: &FieldType,
     json: &BorrowedJson<'_>,
+    met_float: bool,
 ) -> Option<()>
+    requires { met_float ≡ false → has_float (data_of json.now) ≡ false }
     ensures added { OnSome result
         (AddsRow document.old document.new field.id field_type.now (data_of json.now)) }
     ensures none { IfNone result (IsUnchanged document.old document.new) }
@@ -71,7 +83,7 @@ fn add_plain(
             document.add_i64(field, *number).ok()
         }
         (FieldType::Bool(_), BorrowedJson::Bool(truth)) => document.add_bool(field, *truth).ok(),
-        (FieldType::JsonObject(_), BorrowedJson::Object(_)) => {
+        (FieldType::JsonObject(_), BorrowedJson::Object(_)) if is_whole(json, met_float) => {
             document
                 .add_field_value(field, &LentBorrowed::new(json))
                 .ok()
@@ -102,7 +114,9 @@ fn add_one(
     field: Field,
     field_type: &FieldType,
     json: &BorrowedJson<'_>,
+    met_float: bool,
 ) -> Option<()>
+    requires { met_float ≡ false → has_float (data_of json.now) ≡ false }
     ensures { OnSome result
         (AddsPairs
         (record {
@@ -115,7 +129,7 @@ fn add_one(
         ∷ [])
         document.old document.new) }
 {
-    if let Some(()) = add_plain(document, scratch, field, field_type, json) {
+    if let Some(()) = add_plain(document, scratch, field, field_type, json, met_float) {
         return Some(());
     }
     let copy = json.to_value(alloc)?;
@@ -130,7 +144,9 @@ fn add_borrowed(
     schema: &Schema,
     name: &str,
     json: &BorrowedJson<'_>,
+    met_float: bool,
 ) -> Option<()>
+    requires { met_float ≡ false → has_float (data_of json.now) ≡ false }
     ensures { OnSome result
         (AddsPairs
         (values_at schema.now name.now (field_named schema.now name.now) (data_of json.now))
@@ -141,43 +157,60 @@ fn add_borrowed(
     };
     let field_type = schema.get_field_entry(field).field_type();
     let BorrowedJson::Array(items) = json else {
-        return add_one(alloc, document, scratch, name, field, field_type, json);
+        return add_one(
+            alloc, document, scratch, name, field, field_type, json, met_float,
+        );
     };
     for item in items {
-        add_one(alloc, document, scratch, name, field, field_type, item)?;
+        add_one(
+            alloc, document, scratch, name, field, field_type, item, met_float,
+        )?;
+    }
+    Some(())
+}
+
+// Adds the values of an object's members.
+fn add_members(
+    alloc: Global,
+    document: &mut CompactDoc,
+    scratch: &mut JsonScratch,
+    schema: &Schema,
+    members: &[(&str, BorrowedJson<'_>)],
+    met_float: bool,
+) -> Option<()>
+    requires { met_float ≡ false → members_have_float (members_data members.now) ≡ false }
+    ensures { OnSome result
+        (AddsPairs (object_values schema.now (members_data members.now)) document.old document.new) }
+{
+    for (key, json) in members {
+        add_borrowed(alloc, document, scratch, schema, key, json, met_float)?;
     }
     Some(())
 }
 
 impl CompactDoc {
-    // The document of a JSON object. `None` where a value is refused.
-    fn from_borrowed(
+    // Puts the document of the JSON object that the text encodes, whose texts aren't copied on the way to the heap, in place of this one. `None`
+    // where the text isn't read so (see `read_borrowed`) or is no object, where a value is refused, and where memory is.
+    pub(crate) fn parse_borrowed(
+        &mut self,
         alloc: Global,
         schema: &Schema,
-        members: &[(&str, BorrowedJson<'_>)],
-    ) -> Option<CompactDoc>
-        ensures { IfSome result
-            (λ made. MakesDocument (object_values schema.now (members_data members.now))
-            (Ok made)) }
+        text: &str,
+        buffers: &mut ParseBuffers,
+    ) -> Option<()>
+        ensures { OnSome result (Parses schema.now text.now (Ok self.new)) }
     {
-        let mut document = CompactDoc::new(alloc);
-        let mut scratch = JsonScratch::new(alloc);
-        for (key, json) in members {
-            add_borrowed(alloc, &mut document, &mut scratch, schema, key, json)?;
-        }
-        Some(document)
-    }
-
-    // The document of the JSON object that the text encodes, whose texts aren't copied on the way to the heap. `None` where the text isn't
-    // read so (see `read_borrowed`) or is no object, where a value is refused, and where memory is.
-    pub(crate) fn parse_borrowed(alloc: Global, schema: &Schema, text: &str) -> Option<CompactDoc>
-        ensures { IfSome result (λ made. Parses schema.now text.now (Ok made)) }
-    {
-        let mut scratch = Scratch::new(alloc);
-        match read_borrowed(alloc, text, &mut scratch)? {
-            BorrowedJson::Object(members) => {
-                CompactDoc::from_borrowed(alloc, schema, members.as_slice())
-            }
+        self.clear();
+        let mut met_float = false;
+        match read_noting_floats(alloc, text, &mut buffers.texts, &mut met_float)? {
+            BorrowedJson::Object(members) => add_members(
+                alloc,
+                self,
+                &mut buffers.values,
+                schema,
+                members.as_slice(),
+                met_float,
+            ),
             _ => None,
         }
     }

@@ -1,6 +1,6 @@
 //! Documents from JSON objects.
 
-ghost use Rattle.std.specs.Prelude.{◌≡◌, ◌<◌, ◌∷◌, [], IfOk, length, string_bytes, Some};
+ghost use Rattle.std.specs.Prelude.{◌≡◌, ◌∷◌, [], IfOk, OnErr, OnOk, string_bytes};
 ghost use Rattle.serde_json.specs.View.{view as data_of, items_view, members_view};
 ghost use Rattle.tv_schema.specs.Schema.{field_named};
 ghost use Rattle.tv_field.specs.JsonAnswer.{lent_tree};
@@ -10,10 +10,12 @@ ghost use Rattle.tv_doc.specs.JsonObject.{MakesDocument, Parses};
 ghost use Rattle.std.specs.Fmt.{take_chars};
 ghost use Rattle.tv_doc.specs.Belongs.{Belongs};
 ghost use Rattle.tv_doc.specs.Document.{Adds, document_of};
+ghost use Rattle.tv_doc.specs.InPlace.{in_place};
 
 use crate::add_error::AddError;
 use crate::doc_parsing_error::DocParsingError;
 use crate::document::CompactDoc;
+use crate::parse_buffers::ParseBuffers;
 use serde_json::{Map, Value};
 use std::alloc::{AllocError, Global};
 use tv_field::FieldType;
@@ -139,6 +141,48 @@ fn invalid_json(alloc: Global, text: &str) -> DocParsingError
     }
 }
 
+// Adds the values of an object's members, by byte order of their keys.
+fn add_object(
+    alloc: Global,
+    document: &mut CompactDoc,
+    scratch: &mut JsonScratch,
+    schema: &Schema,
+    object: Map<String, Value>,
+) -> Result<(), DocParsingError>
+    ensures { AddsValues (object_values schema.now (members_view object.entries)) document.old
+        document.new result }
+{
+    for (key, json) in object {
+        add_member(alloc, document, scratch, schema, key.as_str(), json)?;
+    }
+    Ok(())
+}
+
+// Puts the document of the JSON object that the text encodes in place of one, and reads the text as the JSON library's value.
+fn parse_value(
+    alloc: Global,
+    document: &mut CompactDoc,
+    scratch: &mut JsonScratch,
+    schema: &Schema,
+    text: &str,
+) -> Result<(), DocParsingError>
+    ensures { Parses schema.now text.now (in_place result document.new) }
+{
+    document.clear();
+    match Value::from_str(alloc, text) {
+        Ok(json) => match json {
+            Value::Object(object) => add_object(alloc, document, scratch, schema, object),
+            _ => Err(invalid_json(alloc, text)),
+        },
+        Err(error) => {
+            if error.is_memory() {
+                return Err(DocParsingError::Memory);
+            }
+            Err(invalid_json(alloc, text))
+        }
+    }
+}
+
 impl CompactDoc {
     /// The document of the JSON object that the text encodes, see `from_json_object`. Errors: `InvalidJson` with the text's first 20
     /// characters where it isn't JSON or no object, or lists in it nest deeper than 127; else those of `from_json_object`.
@@ -156,19 +200,50 @@ impl CompactDoc {
         ensures parses { Parses schema.now text.now result }
         ensures belongs { IfOk result (λ made. Belongs schema.now (document_of made)) }
     {
-        if let Some(made) = CompactDoc::parse_borrowed(alloc, schema, text) {
-            return Ok(made);
+        let mut document = CompactDoc::new(alloc);
+        let mut buffers = ParseBuffers::new(alloc);
+        match document.parse_json_into(alloc, schema, text, &mut buffers) {
+            Ok(()) => Ok(document),
+            Err(error) => Err(error),
         }
-        match Value::from_str(alloc, text) {
-            Ok(json) => match json {
-                Value::Object(object) => CompactDoc::from_json_object(alloc, schema, object),
-                _ => Err(invalid_json(alloc, text)),
-            },
+    }
+
+    /// Puts the document of the JSON object that the text encodes in place of this one and in its memory, see `parse_json`. So a loop over many
+    /// texts takes memory once. (Not in tantivy.)
+    ///
+    /// Errors: those of `parse_json`. The document then has no pairs.
+    ///
+    /// ```
+    /// pub fn values_parsed(alloc: Global, schema: &Schema, lines: &[&str]) -> Result<usize> {
+    ///     let mut document = TantivyDocument::new(alloc);
+    ///     let mut buffers = ParseBuffers::new(alloc);
+    ///     let mut values: usize = 0;
+    ///     for line in lines {
+    ///         document.parse_json_into(alloc, schema, line, &mut buffers)?;
+    ///         values = values.saturating_add(document.len());
+    ///     }
+    ///     Ok(values)
+    /// }
+    /// ```
+    pub fn parse_json_into(
+        &mut self,
+        alloc: Global,
+        schema: &Schema,
+        text: &str,
+        buffers: &mut ParseBuffers,
+    ) -> Result<(), DocParsingError>
+        ensures parses { Parses schema.now text.now (in_place result self.new) }
+        ensures belongs { OnOk result (Belongs schema.now (document_of self.new)) }
+        ensures none { OnErr result (document_of self.new ≡ []) }
+    {
+        if let Some(()) = self.parse_borrowed(alloc, schema, text, buffers) {
+            return Ok(());
+        }
+        match parse_value(alloc, self, &mut buffers.values, schema, text) {
+            Ok(()) => Ok(()),
             Err(error) => {
-                if error.is_memory() {
-                    return Err(DocParsingError::Memory);
-                }
-                Err(invalid_json(alloc, text))
+                self.clear();
+                Err(error)
             }
         }
     }
@@ -190,16 +265,9 @@ impl CompactDoc {
     {
         let mut document = CompactDoc::new(alloc);
         let mut scratch = JsonScratch::new(alloc);
-        for (key, json) in object {
-            add_member(
-                alloc,
-                &mut document,
-                &mut scratch,
-                schema,
-                key.as_str(),
-                json,
-            )?;
+        match add_object(alloc, &mut document, &mut scratch, schema, object) {
+            Ok(()) => Ok(document),
+            Err(error) => Err(error),
         }
-        Ok(document)
     }
 }

@@ -13,7 +13,7 @@ use tv_borrowed::borrowed::BorrowedJson;
 use tv_value::leaf::ReferenceValueLeaf;
 use tv_value::value::{ReferenceValue, Value};
 
-/// A JSON value that borrows its texts, lent as a value of a document. (Not in tantivy.)
+/// A JSON value that borrows its texts, lent as a value of a document: a float, which is no value there, as null. (Not in tantivy.)
 #[derive(Clone, Copy)]
 pub struct LentBorrowed<'a, 't> {
     json: &'a BorrowedJson<'t>,
@@ -111,6 +111,7 @@ impl<'a, 't> Value<'a> for LentBorrowed<'a, 't> {
             BorrowedJson::Negative(number) => ReferenceValue::Leaf(ReferenceValueLeaf::I64(
                 *number,
             )),
+            BorrowedJson::Float(_) => ReferenceValue::Leaf(ReferenceValueLeaf::Null),
             BorrowedJson::String(text) => ReferenceValue::Leaf(ReferenceValueLeaf::Str(text)),
             BorrowedJson::Array(items) => ReferenceValue::Array(LentBorrowedArray {
                 items: items.iter(),

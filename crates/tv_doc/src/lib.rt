@@ -16,4 +16,5 @@ pub mod lent_borrowed;
 mod map_value;
 pub mod named;
 pub mod named_back_error;
+pub mod parse_buffers;
 mod same;

@@ -18,10 +18,36 @@ use tv_doc::doc_parsing_error::DocParsingError;
 use tv_doc::document::CompactDoc;
 use tv_doc::document_trait::Document;
 use tv_doc::laws::documents_are_valid;
+use tv_doc::parse_buffers::ParseBuffers;
 use tv_field::ValueParsingError;
 use tv_schema::Schema;
 use tv_store::BinaryDocumentSerializer;
 use tv_store::laws::{stored_pairs_are_valid, stored_pairs_need_no_more_room};
+
+// The memory that answering a line takes, which serves the next line.
+#[derive(Drop)]
+pub(crate) struct LineMemory {
+    /// The line's document.
+    document: CompactDoc,
+    /// What reading its JSON needs.
+    buffers: ParseBuffers,
+    /// Its stored bytes.
+    stored: VecSink,
+    /// The document that is read back from them.
+    found: CompactDoc,
+}
+
+impl LineMemory {
+    // None so far.
+    pub(crate) fn new(alloc: Global) -> LineMemory {
+        LineMemory {
+            document: CompactDoc::new(alloc),
+            buffers: ParseBuffers::new(alloc),
+            stored: VecSink::new(alloc),
+            found: CompactDoc::new(alloc),
+        }
+    }
+}
 
 // What is answered where memory was refused.
 const NO_MEMORY: &str = "error Memory";
@@ -70,12 +96,13 @@ fn write_stored(
 }
 
 // Appends the stored bytes in hexadecimal, a space, and the text of JSON of what is read back from them. Else it gives what is
-// answered.
+// answered. `bytes` and `found` are for what is stored and for what is read back.
 fn append_document(
     alloc: Global,
     schema: &Schema,
     document: &CompactDoc,
     bytes: &mut VecSink,
+    found: &mut CompactDoc,
     text: &mut Vec<u8>,
 ) -> Result<(), &'static str>
     requires { Belongs schema.now (document_of document.now) }
@@ -90,8 +117,8 @@ fn append_document(
     if write_stored(schema, document, bytes).is_err() {
         return Err(NO_MEMORY);
     }
-    let found = read_back(alloc, bytes.as_slice())?;
-    match append_texts(alloc, schema, &found, bytes.as_slice(), text) {
+    read_back(alloc, bytes.as_slice(), found)?;
+    match append_texts(alloc, schema, found, bytes.as_slice(), text) {
         Ok(()) => Ok(()),
         Err(_) => Err(NO_MEMORY),
     }
@@ -120,7 +147,7 @@ fn append_answer(
     alloc: Global,
     schema: &Schema,
     line: &[u8],
-    bytes: &mut VecSink,
+    memory: &mut LineMemory,
     text: &mut Vec<u8>,
 ) -> Result<(), &'static str>
     ensures ok { OnOk result (Leaves (Answer schema.now line.now) text.old.items text.new.items) }
@@ -129,8 +156,18 @@ fn append_answer(
     let Ok(json) = str::from_utf8(line) else {
         return Err("error InvalidJson");
     };
-    match CompactDoc::parse_json(alloc, schema, json) {
-        Ok(document) => append_document(alloc, schema, &document, bytes, text),
+    match memory
+        .document
+        .parse_json_into(alloc, schema, json, &mut memory.buffers)
+    {
+        Ok(()) => append_document(
+            alloc,
+            schema,
+            &memory.document,
+            &mut memory.stored,
+            &mut memory.found,
+            text,
+        ),
         Err(error) => Err(refusal(&error)),
     }
 }
@@ -145,19 +182,18 @@ fn put_line(text: &mut Vec<u8>, answer: &str) -> Result<(), AllocError>
     Ok(())
 }
 
-// Puts what is answered for a document's line, with a line feed, in the place of what `text` holds. `bytes` is for what is stored.
-// The only error is that memory was refused.
+// Puts what is answered for a document's line, with a line feed, in the place of what `text` holds. The only error is that memory was refused.
 pub(crate) fn answer_line(
     alloc: Global,
     schema: &Schema,
     line: &[u8],
-    bytes: &mut VecSink,
+    memory: &mut LineMemory,
     text: &mut Vec<u8>,
 ) -> Result<(), AllocError>
     ensures { OnOk result (IsEnded (Answer schema.now line.now) text.new.items) }
 {
     text.clear();
-    match append_answer(alloc, schema, line, bytes, text) {
+    match append_answer(alloc, schema, line, memory, text) {
         Ok(()) => {
             text.push(b'\n')?;
             Ok(())

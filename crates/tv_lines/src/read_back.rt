@@ -1,6 +1,6 @@
 //! Documents that are read back from what was written of them.
 
-ghost use Rattle.std.specs.Prelude.{◌≡◌, ◌⊎◌, codes, IfErr, IfOk};
+ghost use Rattle.std.specs.Prelude.{◌≡◌, ◌⊎◌, codes, IfErr, OnOk};
 ghost use Rattle.tv_doc.specs.Document.{document_of};
 ghost use Rattle.tv_format.specs.Short.{short_document, IsDocument};
 ghost use Rattle.tv_format.specs.Tree.{Document};
@@ -14,7 +14,7 @@ use tv_doc::document::CompactDoc;
 use tv_legacy::laws::{
     documents_have_one_reading, malformed_documents_derive_none, short_documents_encode,
 };
-use tv_store::{DeserializeError, DocStoreVersion, read_document};
+use tv_store::{DeserializeError, DocStoreVersion, read_document_into};
 
 // What is answered where there is no memory or no room for a document.
 fn unwritten(error: &DeserializeError) -> &'static str
@@ -29,20 +29,25 @@ fn unwritten(error: &DeserializeError) -> &'static str
     }
 }
 
-// Reads back a document from its shortest encoding, or gives the text that is answered where that takes more memory or room than
-// there is.
-pub(crate) fn read_back(alloc: Global, bytes: &[u8]) -> Result<CompactDoc, &'static str>
+// Reads back a document from its shortest encoding, in place of `found` and in its memory, or gives the text that is answered where that takes
+// more memory or room than there is.
+pub(crate) fn read_back(
+    alloc: Global,
+    bytes: &[u8],
+    found: &mut CompactDoc,
+) -> Result<(), &'static str>
     requires { (d : Document) × (IsDocument d × (bytes.now ≡ short_document V2 d)) }
     ensures ok { (d : Document) → IsDocument d → bytes.now ≡ short_document V2 d
-        → IfOk result (λ found. document_of found ≡ d) }
+        → OnOk result (document_of found.new ≡ d) }
     ensures err { (d : Document) → IsDocument d → bytes.now ≡ short_document V2 d
         → IfErr result (λ text. IsUnwritten d text.now) }
 {
     documents_have_one_reading();
     malformed_documents_derive_none();
     short_documents_encode();
-    match read_document(alloc, &mut SliceSource::new(bytes), DocStoreVersion::V2) {
-        Ok(found) => Ok(found),
+    let mut source = SliceSource::new(bytes);
+    match read_document_into(alloc, found, &mut source, DocStoreVersion::V2) {
+        Ok(()) => Ok(()),
         Err(error) => Err(unwritten(&error)),
     }
 }

@@ -13,7 +13,7 @@ ghost use Rattle.tv_lines.specs.declared.halt.Halt.TheVariants.{TooLong};
 ghost use Rattle.tv_lines.specs.Reader.{unread};
 ghost use Rattle.tv_lines.specs.declared.run_end.RunEnd.TheVariants.{Done, BadSchema, Broken};
 
-use crate::document_line::answer_line;
+use crate::document_line::{LineMemory, answer_line};
 use crate::halt::Halt;
 use crate::line_reader::LineReader;
 use crate::run_end::RunEnd;
@@ -21,7 +21,7 @@ use crate::schema_line::schema_of_line;
 use std::alloc::Global;
 use std::io;
 use tv_base::write::write_all;
-use tv_base::{ByteSink, ByteSource, VecSink};
+use tv_base::{ByteSink, ByteSource};
 use tv_schema::Schema;
 
 // Writes a line.
@@ -63,13 +63,13 @@ fn answer_lines<S: ByteSource, K: ByteSink>(
     ensures too_long { IsErrOf result TooLong → reader.new.count ≡ 2 ^ 64 - 1 }
 {
     let mut line = Vec::new(alloc);
-    let mut bytes = VecSink::new(alloc);
+    let mut memory = LineMemory::new(alloc);
     let mut text = Vec::new(alloc);
     'lines: loop {
         if !reader.take_line(source, &mut line)? {
             return Ok(());
         }
-        answer_line(alloc, schema, line.as_slice(), &mut bytes, &mut text)?;
+        answer_line(alloc, schema, line.as_slice(), &mut memory, &mut text)?;
         match write_line(sink, text.as_slice()) {
             Ok(()) => {}
             Err(kind) => return Err(Halt::Write(kind)),
@@ -123,7 +123,7 @@ fn answer_source<S: ByteSource, K: ByteSink>(
 /// that is read back from them. A line that is refused is answered by `error`, a space and the names of the refusal, as
 /// `error ValueError TypeError`, and the next line follows. A schema that is refused is answered alike, and ends the run.
 ///
-/// Bytes are read in pieces of 64 KiB, and each answer is written at once. The memory of a line serves the next.
+/// Bytes are read in pieces of 64 KiB, and each answer is written at once. The memory of a line, of its document and of its answer serves the next.
 ///
 /// `Broken` says why the run broke off: `Read` and `Write` only where the source's or the sink's count of failures rose, with the kind of
 /// the failure, `TooLong` only behind 2^64 - 1 bytes, and else `Memory`, where memory was refused and neither count has changed.

@@ -15,6 +15,7 @@ use Rattle.tv_format.specs.Tree.{Document}
 use Rattle.tv_format.specs.Version.{Version}
 pub use Rattle.tv_decoder.specs.Documents.{NoDocument}
 pub use Rattle.tv_decoder.specs.Prefix.{HasNoRoom}
+pub use Rattle.tv_doc.specs.InPlace.{in_place}
 
 -- a prefix of the bytes encodes the document, and the rest is left
 abbrev pub BeginsWith : Version → List ℕ → List ℕ → Document → Type 0
@@ -54,8 +55,3 @@ IsReadingError (errors.Custom s) = ⊥
 IsReadingError (errors.UnsupportedVersion m n) = ⊥
 IsReadingError errors.AlreadyFailed = ⊥
 IsReadingError errors.TooDeep = ⊥
-
--- what a call gave back, where the document is left in a place
-abbrev pub in_place : {D E : Type 0} → Result (Unit {0}) E → D → Result D E
-in_place (Ok x) document = Ok document
-in_place (Err e) document = Err e

@@ -1,4 +1,4 @@
-use Rattle.std.proofs.Common.{◌≡◌, ◌-◌, ◌<◌, ◌∷◌, ◌++◌, [], length, Some, None, sym, ap, ◌∙◌, arith}
+use Rattle.std.proofs.Common.{◌≡◌, ◌-◌, ◌<◌, ◌∷◌, ◌++◌, [], length, Some, None, sym, ap, subst, ◌∙◌, arith}
 use Rattle.std.proofs.lemmas.Option.{IfSome_then}
 use Rattle.json.specs.Json.{after_end_array, read_key, value}
 use Rattle.json.specs.Reads.{token_of}
@@ -6,51 +6,34 @@ use Rattle.json.specs.Token.{Token}
 use Rattle.json.proofs.Grammar.{read_key-shorter}
 use Rattle.serde_json.specs.Data.{item, put}
 use Rattle.serde_json.specs.Read.{of_json, converted}
+use Rattle.tv_borrowed.specs.Begun.{Begins}
 use Rattle.tv_borrowed.specs.Found.{found_data}
 use Rattle.tv_borrowed.specs.BorrowedData.{data_of, members_data}
 use Rattle.tv_borrowed.proofs.Levels.{data_of-Null, data_of-Bool, data_of-String, data_of-Array, data_of-Object}
 use Rattle.tv_borrowed.proofs.Rising.{put_rises}
+use Rattle.tv_borrowed.proofs.Floats.{none_in_last, none_in_put}
 use Rattle.tv_borrowed.proofs.Places.{items_before, items_before-none, items_before-last}
-use Rattle.tv_borrowed.proofs.Turns.{null-read, boolean-read, string-read, number-read, array-read, object-read, item-read, no_items-read, member-read, no_members-read}
+use Rattle.tv_borrowed.proofs.Turns.{array-read, object-read, item-read, no_items-read, member-read, no_members-read}
 use Rattle.tv_borrowed.proofs.read.+read.Goals as goal
 
-pub read-returns-in-String-clause-found : goal.read-returns-in-String-clause-found
-read-returns-in-String-clause-found t c =
-    let s = c.in-String.text in
-    let first : c.args.reader.now ≡ Token.string s.now ∷ c.next.new.self = c.in_ok-text.ensures.value ∙ ap (λ k. token_of k ∷ c.next.new.self) c.in-String.is in
-    string-read c.args.depth c.args.reader.now c.next.new.self s.now first ∙ ap (λ d. Some (d, c.next.new.self)) (sym (data_of-String s))
+pub read-returns-in-Leaf-clause-found : goal.read-returns-in-Leaf-clause-found
+read-returns-in-Leaf-clause-found t c =
+    subst (λ b. Begins b c.args.reader.now c.begin.new.reader) c.in-Leaf.is c.in_ok-json.ensures.begins c.args.depth
 
-pub read-returns-in-Number-clause-found : goal.read-returns-in-Number-clause-found
-read-returns-in-Number-clause-found t c =
-    let s = c.in-Number.text in
-    let first : c.args.reader.now ≡ Token.number s.now ∷ c.next.new.self = c.in_ok-text.ensures.value ∙ ap (λ k. token_of k ∷ c.next.new.self) c.in-Number.is in
-    IfSome_then c.whole_number.result c.whole_number.ensures (λ v e. number-read c.args.depth c.args.reader.now c.next.new.self s.now (data_of v) first e)
-
-pub read-returns-in-Bool-clause-found : goal.read-returns-in-Bool-clause-found
-read-returns-in-Bool-clause-found t c =
-    let b = c.in-Bool.truth in
-    let first : c.args.reader.now ≡ Token.boolean b ∷ c.next.new.self = c.in_ok-text.ensures.value ∙ ap (λ k. token_of k ∷ c.next.new.self) c.in-Bool.is in
-    boolean-read c.args.depth c.args.reader.now c.next.new.self b first ∙ ap (λ d. Some (d, c.next.new.self)) (sym (data_of-Bool b))
-
-pub read-returns-in-Null-clause-found : goal.read-returns-in-Null-clause-found
-read-returns-in-Null-clause-found t c =
-    let first : c.args.reader.now ≡ Token.null ∷ c.next.new.self = c.in_ok-text.ensures.value ∙ ap (λ k. token_of k ∷ c.next.new.self) c.in-Null.is in
-    null-read c.args.depth c.args.reader.now c.next.new.self first ∙ ap (λ d. Some (d, c.next.new.self)) (sym data_of-Null)
-
-pub read-returns-in_ok-read_items-in-BeginArray-clause-found : goal.read-returns-in_ok-read_items-in-BeginArray-clause-found
-read-returns-in_ok-read_items-in-BeginArray-clause-found t c =
-    let first : c.args.reader.now ≡ Token.begin_array ∷ c.next.new.self = c.in_ok-text.ensures.value ∙ ap (λ k. token_of k ∷ c.next.new.self) c.in-BeginArray.is in
-    let v = c.in_ok-read_items-in-BeginArray.field-0 in
-    let found = c.in_ok-read_items-in-BeginArray.ensures.found in
-    ap (λ ts. converted of_json (value c.args.depth ts)) first ∙ array-read c.args.depth c.next.new.self c.read_items.new.reader _ c.if-depth-gt0.true found
+pub read-returns-in_ok-read_items-in-Array-clause-found : goal.read-returns-in_ok-read_items-in-Array-clause-found
+read-returns-in_ok-read_items-in-Array-clause-found t c =
+    let v = c.in_ok-read_items-in-Array.field-0 in
+    let found = c.in_ok-read_items-in-Array.ensures.found in
+    let first : c.args.reader.now ≡ Token.begin_array ∷ c.begin.new.reader = subst (λ b. Begins b c.args.reader.now c.begin.new.reader) c.in-Array.is c.in_ok-json.ensures.begins in
+    ap (λ ts. converted of_json (value c.args.depth ts)) first ∙ array-read c.args.depth c.begin.new.reader c.read_items.new.reader _ c.if-depth-gt0.true found
     ∙ ap (λ d. Some (d, c.read_items.new.reader)) (sym (data_of-Array v))
 
-pub read-returns-in_ok-read_members-in-BeginObject-clause-found : goal.read-returns-in_ok-read_members-in-BeginObject-clause-found
-read-returns-in_ok-read_members-in-BeginObject-clause-found t c =
-    let first : c.args.reader.now ≡ Token.begin_object ∷ c.next.new.self = c.in_ok-text.ensures.value ∙ ap (λ k. token_of k ∷ c.next.new.self) c.in-BeginObject.is in
-    let v = c.in_ok-read_members-in-BeginObject.field-0 in
-    let found = c.in_ok-read_members-in-BeginObject.ensures.found in
-    ap (λ ts. converted of_json (value c.args.depth ts)) first ∙ object-read c.args.depth c.next.new.self c.read_members.new.reader _ c.if-depth-gt0-2.true found
+pub read-returns-in_ok-read_members-in-Object-clause-found : goal.read-returns-in_ok-read_members-in-Object-clause-found
+read-returns-in_ok-read_members-in-Object-clause-found t c =
+    let v = c.in_ok-read_members-in-Object.field-0 in
+    let found = c.in_ok-read_members-in-Object.ensures.found in
+    let first : c.args.reader.now ≡ Token.begin_object ∷ c.begin.new.reader = subst (λ b. Begins b c.args.reader.now c.begin.new.reader) c.in-Object.is c.in_ok-json.ensures.begins in
+    ap (λ ts. converted of_json (value c.args.depth ts)) first ∙ object-read c.args.depth c.begin.new.reader c.read_members.new.reader _ c.if-depth-gt0-2.true found
     ∙ ap (λ d. Some (d, c.read_members.new.reader)) (sym (data_of-Object v))
 
 pub read_items-items-preserved : goal.read_items-items-preserved
@@ -73,6 +56,10 @@ read_items-items-preserved t c =
           l.invariant.rest (item (data_of v) ds) r (item-read p n l.reader s r (data_of v) ds some going.0 first more)
           ∙ ap (λ items. Some (items, r)) (sym (items_before-last l.found.items v ds) ∙ ap (λ vs. items_before vs ds) (sym grown));
       less = omega (arith, l.invariant.less);
+      floats = λ e.
+          let noted = done.floats e in
+          let before = l.invariant.floats noted.0 in
+          (before.0, rw grown (none_in_last l.found.items v before.1 noted.1));
     }
 
 pub read_items-returns-clause-found : goal.read_items-returns-clause-found
@@ -104,6 +91,10 @@ read_members-members-preserved t c =
       rest = λ ds r more.
           l.invariant.rest ds r (member-read p n (found_data l.found) k l.reader v s r d ds some named done.found (rw grown at more));
       less = omega (arith, l.invariant.less);
+      floats = λ e.
+          let noted = done.floats e in
+          let before = l.invariant.floats noted.0 in
+          (before.0, rw grown (none_in_put k d (found_data l.found) noted.1 before.1));
     }
 
 pub read_members-returns-clause-found : goal.read_members-returns-clause-found
@@ -113,3 +104,7 @@ read_members-returns-clause-found t c =
     let ended : read_key l.reader ≡ Some (None, r) = grind arith in
     IfSome_then c.into_list.result c.into_list.ensures
     (λ list same. l.invariant.rest _ r (no_members-read (value c.args.depth) l.invariant.turns (found_data l.found) l.reader r l.invariant.enough ended) ∙ ap (λ ds. Some (ds, r)) (sym same))
+
+pub read_members-returns-clause-floats : goal.read_members-returns-clause-floats
+read_members-returns-clause-floats t c =
+    IfSome_then c.into_list.result c.into_list.ensures (λ list same e. let h = c.members.invariant.floats e in (h.0, rw same h.1))

@@ -3,8 +3,10 @@ use Rattle.json.specs.Json.{items, members, value}
 use Rattle.json.specs.Token.{Token}
 use Rattle.serde_json.specs.Data.{Items, Members, no_members}
 use Rattle.serde_json.specs.Read.{of_items, of_members, converted}
+use Rattle.serde_json.specs.Written.{items_have_float, members_have_float}
 use Rattle.tv_borrowed.specs.Found.{found_data}
-use Rattle.tv_borrowed.specs.BorrowedData.{members_data}
+use Rattle.tv_borrowed.specs.BorrowedData.{items_data, members_data}
+use Rattle.tv_borrowed.specs.Notes.{Notes}
 use Rattle.tv_borrowed.specs.Rising.{Rise}
 use Rattle.tv_borrowed.proofs.Places.{items_before}
 use Rattle.tv_borrowed.proofs.read.+read.Given as goal
@@ -26,6 +28,7 @@ invariant-read_items-items l = record {
   rest : (ds : Items) (r : List Token) → converted of_items (items (value l.depth) turns l.reader) ≡ Some (ds, r)
       → converted of_items (items (value l.depth) (length l.initial.reader) l.initial.reader) ≡ Some (items_before l.found.items ds, r);
   less : length l.reader ≤ length l.initial.reader;
+  floats : Notes l.initial.met_float l.met_float (items_have_float (items_data l.found.items));
 }
 
 abbrev pub decreases-read_items-items : goal.decreases-read_items-items
@@ -40,6 +43,7 @@ invariant-read_members-members l = record {
   rest : (ds : Members) (r : List Token) → converted (λ ms. of_members ms (found_data l.found)) (members (value l.depth) turns l.reader) ≡ Some (ds, r)
       → converted (λ ms. of_members ms no_members) (members (value l.depth) (length l.initial.reader) l.initial.reader) ≡ Some (ds, r);
   less : length l.reader ≤ length l.initial.reader;
+  floats : Notes l.initial.met_float l.met_float (members_have_float (found_data l.found));
 }
 
 abbrev pub decreases-read_members-members : goal.decreases-read_members-members

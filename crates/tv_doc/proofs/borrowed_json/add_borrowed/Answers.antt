@@ -1,5 +1,7 @@
-use Rattle.std.proofs.Common.{◌≡◌, ◌+◌, List, [], ◌∷◌, Some, sym, ap, ◌∙◌, subst, drop, arith, rules}
+use Rattle.std.proofs.Common.{◌≡◌, ◌+◌, List, [], ◌∷◌, false, Some, sym, ap, ◌∙◌, subst, drop, arith, rules}
 use Rattle.std.proofs.lemmas.List.{drop_more, drop_all}
+use Rattle.serde_json.specs.Written.{has_float, items_have_float}
+use Rattle.tv_borrowed.proofs.Floats.{none_in_item}
 use Rattle.tv_borrowed.proofs.Levels.{data_of-Array}
 use Rattle.tv_borrowed.specs.BorrowedData.{data_of, items_data}
 use Rattle.tv_borrowed.specs.declared.borrowed.BorrowedJson.{BorrowedJson}
@@ -8,6 +10,14 @@ use Rattle.tv_doc.specs.JsonObject.{FieldJson, AddsPairs, item_values}
 use Rattle.tv_doc.proofs.PlainValues.{values_of_items}
 use Rattle.tv_doc.proofs.JsonDocuments.{more_so_far, all_so_far}
 use Rattle.tv_doc.proofs.borrowed_json.add_borrowed.Goals as goal
+
+pub add_one-requires-in-loop-item : goal.add_one-requires-in-loop-item
+add_one-requires-in-loop-item c = λ none_met.
+    let items = c.deref-item-items.result.now in
+    let says = ap data_of c.in-Array.is ∙ data_of-Array c.in-Array.items in
+    let whole : items_have_float (items_data c.in-Array.items.items) ≡ false = sym (ap has_float says) ∙ c.requires none_met in
+    let among : items_have_float (items_data items) ≡ false = ap (λ vs. items_have_float (items_data vs)) c.deref-item-items.ensures.value ∙ whole in
+    none_in_item items c.loop-item.item-index c.item-item.result (omega (arith, c.loop-item-test.true)) (sym c.item-item.is) among
 
 pub loop-item-preserved : goal.loop-item-preserved
 loop-item-preserved c =

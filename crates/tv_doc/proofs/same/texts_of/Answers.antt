@@ -1,4 +1,4 @@
-use Rattle.std.proofs.Common.{◌≡◌, ◌++◌, ◌∷◌, [], ℕ, String, Global, string_bytes, List, map, rules, append-nil, refl, sym, ap, subst, ◌∙◌}
+use Rattle.std.proofs.Common.{◌≡◌, ◌++◌, ◌∷◌, [], ℕ, String, Global, string_bytes, List, map, rules, append-nil, sym, ap, subst, ◌∙◌}
 use Rattle.tv_format.specs.Tree.{Document}
 use Rattle.tv_heap.specs.Value.{tree_of}
 use Rattle.tv_value.specs.declared.field.Field.{Field}

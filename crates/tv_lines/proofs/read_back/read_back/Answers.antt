@@ -12,7 +12,7 @@ use Rattle.tv_lines.proofs.read_back.read_back.Goals as goal
 pub unwritten-requires : goal.unwritten-requires
 unwritten-requires c =
     let d = c.requires.0 in
-    let left = c.new.ensures in
+    let left = c.new-source.ensures in
     let derives : Derives Legacy V2 _ d = record { prefix = short_document V2 d; rest = []; joined = left ∙ c.requires.1.1 ∙ sym (append-nil (short_document V2 d)); encoded = c.short_documents_encode.ensures V2 tt d c.requires.1.0 } in
     only_short c.in-Err.error _ _
     (λ r is. c.malformed_documents_derive_none.ensures V2 _ r d (c.in-Err.ensures.error (tt, omega (arith, ap length left)) c.in-Err.error r refl is) derives)
@@ -21,13 +21,13 @@ unwritten-requires c =
 pub returns-in-Ok-clause-ok : goal.returns-in-Ok-clause-ok
 returns-in-Ok-clause-ok c = λ d valid same.
     let begins = c.in-Ok.ensures.found tt in
-    let left = c.new.ensures in
+    let left = c.new-source.ensures in
     (c.documents_have_one_reading.ensures V2 begins.prefix (short_document V2 d) _ [] _ d begins.encoded (c.short_documents_encode.ensures V2 tt d valid)
     (sym begins.joined ∙ left ∙ same ∙ sym (append-nil (short_document V2 d)))).1
 
 pub returns-in-Err-clause-err : goal.returns-in-Err-clause-err
 returns-in-Err-clause-err c = λ d valid same.
-    let left = c.new.ensures in
+    let left = c.new-source.ensures in
     let encoded = c.short_documents_encode.ensures V2 tt d valid in
     let joined = left ∙ same ∙ sym (append-nil (short_document V2 d)) in
     let derives : Derives Legacy V2 _ d = record { prefix = short_document V2 d; rest = []; joined = joined; encoded = encoded } in

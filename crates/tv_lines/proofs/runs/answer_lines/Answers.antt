@@ -51,3 +51,8 @@ pub returns-in-Err-clause-taken : goal.returns-in-Err-clause-taken
 returns-in-Err-clause-taken g c = λ s.
     let before = c.lines.invariant in
     taken_more _ _ _ _ _ _ (before.taken s) (c.in_ok-take_line.ensures.taken (before.source_is_known s))
+
+pub returns-then-not-branch-clause-taken : goal.returns-then-not-branch-clause-taken
+returns-then-not-branch-clause-taken g c = λ s.
+    let before = c.lines.invariant in
+    taken_more _ _ _ _ _ _ (before.taken s) (c.in_ok-take_line.ensures.taken (before.source_is_known s))

@@ -1,4 +1,4 @@
-use Rattle.std.proofs.Common.{◌≡◌, ◌↔◌, ◌∙◌, Bool, false, IsTrue, subst, sym}
+use Rattle.std.proofs.Common.{◌↔◌, ◌∙◌, Bool, false, IsTrue, subst, sym}
 use Rattle.std.proofs.lemmas.Bool.{false≢true}
 use Rattle.tv_format.specs.Tree.{Document}
 use Rattle.tv_doc.specs.Document.{document_of}

@@ -1,11 +1,16 @@
 use Rattle.std.proofs.Common.{ℕ, ◌+◌, List, [], ◌∷◌, ◌≡◌, sym, ap, ◌∙◌, drop, Bor, arith}
 use Rattle.std.proofs.lemmas.List.{drop_more, drop_all}
+use Rattle.tv_borrowed.proofs.Floats.{none_in_member}
 use Rattle.tv_borrowed.specs.BorrowedData.{data_of, members_data}
 use Rattle.tv_borrowed.specs.declared.borrowed.BorrowedJson.{BorrowedJson}
 use Rattle.tv_schema.specs.Schema.{field_named}
 use Rattle.tv_doc.specs.JsonObject.{FieldJson, object_values, values_at}
-use Rattle.tv_doc.proofs.JsonDocuments.{none_so_far, more_so_far, made_from}
-use Rattle.tv_doc.proofs.document.CompactDoc.from_borrowed.Goals as goal
+use Rattle.tv_doc.proofs.JsonDocuments.{more_so_far, all_so_far}
+use Rattle.tv_doc.proofs.borrowed_json.add_members.Goals as goal
+
+pub add_borrowed-requires : goal.add_borrowed-requires
+add_borrowed-requires c = λ none_met.
+    none_in_member c.args.members.now c.loop-key.key-index c.loop-key-item.result (omega (arith, c.loop-key-test.true)) (sym c.loop-key-item.is) (c.requires none_met)
 
 pub loop-key-preserved : goal.loop-key-preserved
 loop-key-preserved c =
@@ -16,16 +21,8 @@ loop-key-preserved c =
     let values : List (Bor (List ℕ) × BorrowedJson) → List FieldJson = λ ms. object_values schema (members_data ms) in
     let own = values_at schema m.0.now (field_named schema m.0.now) (data_of m.1) in
     let step = drop_more members l.key-index m (omega (arith, c.loop-key-test.true)) ∙ ap (λ z. z ∷ drop (l.key-index + 1) members) (sym c.loop-key-item.is) in
-    let so_far = l.invariant in (
-      so_far.0,
-      so_far.1,
-      more_so_far _ (values (drop l.key-index members)) own (values (drop (l.key-index + 1) members)) so_far.0 l.document
-          c.add_borrowed.new.document so_far.2 (ap values step) c.in_ok-add_borrowed.ensures,
-    )
-
-pub loop-key-init : goal.loop-key-init
-loop-key-init c =
-    (c.new-document.result, record { document = c.new-document.ensures.document; heap = c.new-document.ensures.heap }, none_so_far _ c.new-document.result)
+    more_so_far _ (values (drop l.key-index members)) own (values (drop (l.key-index + 1) members)) c.args.document.now l.document
+    c.add_borrowed.new.document l.invariant (ap values step) c.in_ok-add_borrowed.ensures
 
 pub returns : goal.returns
 returns c =
@@ -33,4 +30,4 @@ returns c =
     let members = c.args.members.now in
     let values : List (Bor (List ℕ) × BorrowedJson) → List FieldJson = λ ms. object_values c.args.schema.now (members_data ms) in
     let done : drop l.key-index members ≡ [] = drop_all l.key-index members (omega (arith, c.loop-key-test.false)) in
-    made_from (values members) (values (drop l.key-index members)) l.invariant.0 l.document l.invariant.1 l.invariant.2 (ap values done)
+    all_so_far (values members) (values (drop l.key-index members)) c.args.document.now l.document l.invariant (ap values done)

@@ -1,5 +1,5 @@
 use Rattle.std.proofs.Common.{◌≡◌, ◌++◌}
-use Rattle.tv_borrowed.proofs.members.FoundMembers.into_list.Given as goal
+use Rattle.tv_borrowed.proofs.members.listed.Given as goal
 
 -- the members that are left follow those that are listed
 abbrev pub invariant-loop-member : goal.invariant-loop-member

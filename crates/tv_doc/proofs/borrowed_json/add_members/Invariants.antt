@@ -1,0 +1,9 @@
+use Rattle.std.specs.Prelude.{drop}
+use Rattle.tv_borrowed.specs.BorrowedData.{members_data}
+use Rattle.tv_doc.specs.JsonObject.{object_values}
+use Rattle.tv_doc.proofs.JsonDocuments.{SoFar}
+use Rattle.tv_doc.proofs.borrowed_json.add_members.Given as goal
+
+abbrev pub invariant-loop-key : goal.invariant-loop-key
+invariant-loop-key l =
+    SoFar (object_values l.schema (members_data l.members)) (object_values l.schema (members_data (drop l.key-index l.members))) l.fn.document l.document
