@@ -27,6 +27,13 @@ const CAPACITY: usize = 65536;
 ///
 /// The bytes are known where the reader's are: those that are buffered, and then those that the reader has left. Each error of the reader is a
 /// failure, `Interrupted` too. (Not in tantivy.)
+///
+/// ```
+/// pub fn number_of<R: Read + Drop>(alloc: Global, reader: R) -> Result<u64, ReadError> {
+///     let mut source = BufferedSource::new(alloc, reader)?;
+///     u64::deserialize(alloc, &mut source)
+/// }
+/// ```
 #[derive(Drop)]
 pub struct BufferedSource<R: Read> {
     inner: BufReader<R>,
