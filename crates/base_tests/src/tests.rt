@@ -1,3 +1,4 @@
+mod buffered;
 mod bytes;
 mod failing_calls;
 mod laws;

@@ -11,6 +11,7 @@ pub use Rattle.tv_base.specs.ReadsAs
 pub use Rattle.tv_io.specs.Calls
 pub use Rattle.tv_io.specs.Planned as PlannedFailures
 pub use Rattle.tv_io.specs.Limited
+pub use Rattle.tv_io.specs.Buffered
 -- numbers, texts and paths
 pub use Rattle.tv_base.specs.Number
 pub use Rattle.tv_base.specs.Parts
@@ -118,6 +119,7 @@ pub use Rattle.tv_store.specs.Documents
 pub use Rattle.tv_store.specs.Migrate
 pub use Rattle.tv_store.specs.Error as StoreError
 pub use Rattle.tv_store.specs.Decoder
+pub use Rattle.tv_store.specs.Blocks
 pub use Rattle.tv_store.specs.Limits
 pub use Rattle.tv_decoder.specs.Documents as DecodedDocuments
 pub use Rattle.tv_decoder.specs.Prefix as DecoderPrefix

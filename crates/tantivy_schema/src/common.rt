@@ -4,4 +4,4 @@ pub use tv_base::{
     BinarySerializable, ByteSink, ByteSource, Cause, ReadError, SliceSource, VInt, VecSink,
     join_json_path, joined_json_path, split_json_path,
 };
-pub use tv_io::{FaultSink, FaultSource, LimitedSource, ReadSource, WriteSink};
+pub use tv_io::{BufferedSource, FaultSink, FaultSource, LimitedSource, ReadSource, WriteSink};

@@ -2,6 +2,6 @@
 
 pub use tv_format::version::WriteVersion;
 pub use tv_store::{
-    DirectDecoder, DocStoreVersion, LimitedReadError, MigrateError, ReadLimit, ReadLimits, Step,
-    migrate, read_document, read_document_into, read_document_within,
+    BlockReader, DirectDecoder, DocStoreVersion, LimitedReadError, MigrateError, ReadLimit,
+    ReadLimits, Step, migrate, read_document, read_document_into, read_document_within,
 };

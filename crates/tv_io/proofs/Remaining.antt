@@ -19,7 +19,7 @@ failures_counted (Err kind) result old new h =
 -- ---- reading
 
 -- known bytes behind those that were given
-still_left : (old new : Option (List ℕ)) (given : List ℕ) → Consumes old new given → IsSome old × AllBytes (unwrap_or old []) → IsSome new × AllBytes (unwrap_or new [])
+pub still_left : (old new : Option (List ℕ)) (given : List ℕ) → Consumes old new given → IsSome old × AllBytes (unwrap_or old []) → IsSome new × AllBytes (unwrap_or new [])
 still_left (Some xs) (Some ys) given consumes known = (known.0, bytes_after xs given ys consumes known.1)
 still_left (Some xs) None given consumes known = absurd consumes
 still_left None new given consumes known = absurd (cc)

@@ -1,6 +1,7 @@
 //! Byte sources and sinks over the readers and writers of std, and others of which one call fails.
 #![tactic(auto)]
 
+pub mod buffered_source;
 mod failures;
 pub mod fault_sink;
 pub mod fault_source;
@@ -9,6 +10,7 @@ mod planned_failure;
 pub mod read_source;
 pub mod write_sink;
 
+pub use buffered_source::BufferedSource;
 pub use fault_sink::FaultSink;
 pub use fault_source::FaultSource;
 pub use limited_source::LimitedSource;

@@ -20,3 +20,7 @@ placed_error (Err f) document e is = cc
 pub placed_counts : {D E F : Type 0} (stop : E → Stop F) (result : Result (Unit {0}) E) (document : D) (old new : Failures) → Counts stop (in_place result document) old new → Counts stop result old new
 placed_counts stop (Ok x) document old new h = h
 placed_counts stop (Err e) document old new h = h
+
+pub error_placed : {D E : Type 0} (result : Result (Unit {0}) E) (document : D) (e : E) → IsErrOf (in_place result document) e → IsErrOf result e
+error_placed (Ok x) document e is = absurd (cc)
+error_placed (Err f) document e is = cc

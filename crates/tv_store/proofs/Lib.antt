@@ -7,6 +7,7 @@ pub mod WriterSteps
 pub mod RoundTrips
 pub mod Migrations
 mod InPlace
+mod Blocks
 pub mod Nesting
 pub mod NestedSteps
 pub mod WithinLimits

@@ -27,17 +27,17 @@ use Rattle.tv_store.specs.Documents.{EncodesRead, BeginsWith, Answers, NoDocumen
 use Rattle.tv_decoder.specs.Prefix.{HasNoRoom}
 use Rattle.tv_decoder.proofs.RoomWithin.{document_within}
 
-abbrev end : Refusal
+abbrev pub end : Refusal
 end = corrupted UnexpectedEnd
 
-abbrev FoundDocument : Version → Result CompactDoc DeserializeError → List ℕ → List ℕ → ℕ → Type 0
+abbrev pub FoundDocument : Version → Result CompactDoc DeserializeError → List ℕ → List ℕ → ℕ → Type 0
 FoundDocument v result old new count = Found store_stop end (EncodesRead v) (NoDocument v) old new count result
 
 pub found_by : (v : Version) (result : Result CompactDoc DeserializeError) (old new : List ℕ) (count : ℕ) → FoundDocument v result old new count → IfOk result (λ d. BeginsWith v old new (document_of d))
 found_by v (Ok d) old new count h = h
 found_by v (Err e) old new count h = tt
 
-told : (v : Version) (e : DeserializeError) (r : Refusal) (old new : List ℕ) (count : ℕ) → IsRefusal e r → count < 2 ^ 64 - 1 → GivesStop end (NoDocument v) old new count (store_stop e) → Refuses end (NoDocument v) old new r
+pub told : (v : Version) (e : DeserializeError) (r : Refusal) (old new : List ℕ) (count : ℕ) → IsRefusal e r → count < 2 ^ 64 - 1 → GivesStop end (NoDocument v) old new count (store_stop e) → Refuses end (NoDocument v) old new r
 told v _ _ old new count is_corrupted few h = h few
 told v _ _ old new count is_no_text few h = h few
 
@@ -73,7 +73,7 @@ has_room v old prefix rest d joined encoded full small =
 
 -- ---- what is encoded is what is returned
 
-excluded : (v : Version) (old prefix rest : List ℕ) (d : Document) (r : Refusal) → old ≡ prefix ++ rest → EncodesDocument Legacy v prefix d → NoDocument v old r → ⊥
+pub excluded : (v : Version) (old prefix rest : List ℕ) (d : Document) (r : Refusal) → old ≡ prefix ++ rest → EncodesDocument Legacy v prefix d → NoDocument v old r → ⊥
 excluded v old prefix rest d r joined encoded f = (document_excludes Legacy ErrorInLegacy v one_legacy legacy_excludes d).excludes old prefix rest r f encoded joined
 
 pub only_by : (v : Version) (result : Result CompactDoc DeserializeError) (old new : List ℕ) (count : ℕ) → FoundDocument v result old new count → (IsErrOf result errors.HeapFull → HasNoRoom v old) → IfErr result IsReadingError → count < 2 ^ 64 - 1

@@ -2,6 +2,7 @@ pub mod Error
 pub mod Stored
 pub mod Documents
 pub mod Decoder
+pub mod Blocks
 pub mod Pairs
 pub mod PairsGiven
 pub mod RoundTrip

@@ -83,6 +83,29 @@ fn put_read(
     Ok(())
 }
 
+// Takes a document in place of one that is there and in its memory, with the count of the bytes that were taken. After an error the document
+// has no pairs.
+#[inline(always)]
+pub(crate) fn take_in_place<S: ByteSource>(
+    alloc: Global,
+    document: &mut CompactDoc,
+    source: &mut S,
+    count: &mut u64,
+    version: DocStoreVersion,
+) -> Result<(), DeserializeError>
+    ensures finds { Finds S.is_known S.left S.failures source.old count.old source.new count.new
+        (in_place result document.new) (EncodesRead (version_of version))
+        (NoDocument (version_of version)) }
+    ensures full { S.is_known source.old → IsErrOf result HeapFull
+        → HasNoRoom (version_of version) (S.left source.old) }
+    ensures none { OnErr result (document_of document.new ≡ []) }
+{
+    let mut empty = replace(document, CompactDoc::new(alloc)).into_pairs();
+    empty.clear();
+    let read = take_compact_into(alloc, empty, source, count, version);
+    put_read(document, read)
+}
+
 /// Reads a document, however the source cuts its bytes, and takes no byte behind it. Values of every type are read, to any
 /// depth, straight into the document's heap, by a recursion of 64 levels at most; and objects as older stores hold them.
 ///
@@ -202,8 +225,5 @@ pub fn read_document_into<S: ByteSource>(
     ensures stays_known { S.is_known source.old → S.is_known source.new }
 {
     let mut count = 0;
-    let mut empty = replace(document, CompactDoc::new(alloc)).into_pairs();
-    empty.clear();
-    let read = take_compact_into(alloc, empty, source, &mut count, version);
-    put_read(document, read)
+    take_in_place(alloc, document, source, &mut count, version)
 }

@@ -1,6 +1,7 @@
 //! The document store's format: documents are written as bytes, and read from them.
 #![tactic(auto)]
 
+pub mod block;
 pub mod de;
 pub mod direct_decoder;
 mod encoded_writer;
@@ -14,6 +15,7 @@ pub mod pairs_given;
 pub mod round_trip;
 pub mod se;
 
+pub use block::BlockReader;
 pub use de::{DocStoreVersion, read_document, read_document_into};
 pub use direct_decoder::{DirectDecoder, Step};
 pub use error::{DeserializeError, SerializeError, ValueType};

@@ -3,11 +3,14 @@
 use anyhow::{Result, anyhow};
 use std::alloc::Global;
 use std::collections::BTreeMap;
-use tantivy_schema::common::{BinarySerializable, LimitedSource, ReadError, SliceSource, VecSink};
+use std::io::Read;
+use tantivy_schema::common::{
+    BinarySerializable, BufferedSource, LimitedSource, ReadError, SliceSource, VecSink,
+};
 use tantivy_schema::schema::document::{BinaryDocumentSerializer, StoreReader};
 use tantivy_schema::schema::{Schema, TantivyDocument};
 use tantivy_schema::store::{
-    DirectDecoder, DocStoreVersion, LimitedReadError, ReadLimits, Step, read_document,
+    BlockReader, DirectDecoder, DocStoreVersion, LimitedReadError, ReadLimits, Step, read_document,
     read_document_into, read_document_within,
 };
 
@@ -51,6 +54,17 @@ pub fn values_in(alloc: Global, bytes: &[u8], count: usize) -> Result<usize> {
     Ok(values)
 }
 
+/// How many values the documents of a block have, whose number isn't known.
+pub fn values_of_block(alloc: Global, block: &[u8]) -> Result<usize> {
+    let mut source = SliceSource::new(block);
+    let mut reader = BlockReader::new(alloc, DocStoreVersion::V2);
+    let mut values: usize = 0;
+    while reader.advance(&mut source)? {
+        values = values.saturating_add(reader.document().len());
+    }
+    Ok(values)
+}
+
 /// A document of bytes that others wrote: one that is long, nests deep or takes much memory is refused.
 pub fn read_untrusted(alloc: Global, bytes: &[u8]) -> Result<TantivyDocument, LimitedReadError> {
     let limits = ReadLimits {
@@ -60,6 +74,12 @@ pub fn read_untrusted(alloc: Global, bytes: &[u8]) -> Result<TantivyDocument, Li
     };
     let mut source = SliceSource::new(bytes);
     read_document_within(alloc, &mut source, DocStoreVersion::V2, limits)
+}
+
+/// A number that a reader gives, a file say.
+pub fn number_of<R: Read + Drop>(alloc: Global, reader: R) -> Result<u64, ReadError> {
+    let mut source = BufferedSource::new(alloc, reader)?;
+    u64::deserialize(alloc, &mut source)
 }
 
 /// A number that is encoded by the first bytes.

@@ -1,0 +1,172 @@
+//! Documents that stand one behind the other, read in the memory of one.
+
+ghost use Rattle.std.specs.Prelude.{◌≡◌, ◌≢◌, ◌≤◌, ◌<◌, ◌++◌, [], ℕ, List, length, true, false, Ok, Err, IfErr, IsErrOf, OnOk, OnErr};
+ghost use Rattle.tv_base.specs.declared.cause.Cause.TheVariants.{TooLong, UnexpectedEnd};
+ghost use Rattle.tv_base.specs.ReadsAs.{Known, TakesMost};
+ghost use Rattle.tv_base.specs.Stop.{Counts};
+ghost use Rattle.tv_doc.specs.Document.{document_of};
+ghost use Rattle.tv_doc.specs.declared.document.CompactDoc.{CompactDoc};
+ghost use Rattle.tv_format.specs.InputError.{Refusal};
+ghost use Rattle.tv_format.specs.Encoding.{EncodesDocument};
+ghost use Rattle.tv_format.specs.Tree.{Document};
+ghost use Rattle.tv_heap.specs.Room.{document_room};
+ghost use Rattle.tv_legacy.specs.Legacy.{Legacy};
+ghost use Rattle.tv_reader.specs.Error.{store_stop, IsRefusal};
+ghost use Rattle.tv_reader.specs.Version.{version_of};
+ghost use Rattle.tv_reader.specs.declared.error.DeserializeError.{DeserializeError};
+ghost use Rattle.tv_reader.specs.declared.error.DeserializeError.TheVariants.{AlreadyFailed};
+ghost use Rattle.tv_reader.specs.declared.error.DeserializeError.TheVariants.{CorruptedValue};
+ghost use Rattle.tv_reader.specs.declared.error.DeserializeError.TheVariants.{HeapFull};
+ghost use Rattle.tv_store.specs.Blocks.{as_read, SaysEnd};
+ghost use Rattle.tv_store.specs.Documents.{BeginsWith, Answers, NoDocument, HasNoRoom};
+ghost use Rattle.tv_store.specs.Documents.{ShowsRefusal, IsReadingError, in_place};
+
+use crate::de::take_in_place;
+use std::alloc::Global;
+use tv_base::{ByteSource, Cause};
+use tv_doc::document::CompactDoc;
+use tv_reader::{DeserializeError, DocStoreVersion};
+
+// Whether there was a document, by what reading one returned and how many bytes it took: where none was left, a missing end is no error.
+fn next_of(read: Result<(), DeserializeError>, count: u64) -> Result<bool, DeserializeError>
+    ensures same { (document : CompactDoc) → as_read result document ≡ in_place read document }
+    ensures end { result ≡ Ok false → count ≡ 0 }
+    ensures cut { IsErrOf result (CorruptedValue UnexpectedEnd) → 0 < count }
+{
+    match read {
+        Ok(()) => Ok(true),
+        Err(DeserializeError::CorruptedValue(Cause::UnexpectedEnd)) if count == 0 => Ok(false),
+        Err(error) => Err(error),
+    }
+}
+
+/// Reads documents that stand one behind the other, as a block of a store has them, each in place of the one before and in its memory. So a
+/// block takes memory once. (Not in tantivy.)
+///
+/// It is lent the source for each call, so it holds none. After a refusal each call returns `AlreadyFailed` and reads nothing.
+///
+/// ```
+/// pub fn values_of_block(alloc: Global, block: &[u8]) -> Result<usize> {
+///     let mut source = SliceSource::new(block);
+///     let mut reader = BlockReader::new(alloc, DocStoreVersion::V2);
+///     let mut values: usize = 0;
+///     while reader.advance(&mut source)? {
+///         values = values.saturating_add(reader.document().len());
+///     }
+///     Ok(values)
+/// }
+/// ```
+#[derive(Debug, Drop)]
+pub struct BlockReader {
+    alloc: Global,
+    version: DocStoreVersion,
+    document: CompactDoc,
+    failed: bool,
+}
+
+impl BlockReader {
+    ghost use Rattle.tv_store.specs.Decoder.{Rests};
+
+    /// A reader of documents of this version. It reads nothing and takes no memory.
+    pub fn new(alloc: Global, version: DocStoreVersion) -> BlockReader
+        ensures document { document_of result.document ≡ [] }
+        ensures version { result.version ≡ version }
+        ensures live { result.failed ≡ false }
+    {
+        BlockReader {
+            alloc,
+            version,
+            document: CompactDoc::new(alloc),
+            failed: false,
+        }
+    }
+
+    /// Reads the next document as `read_document` does, and says whether there was one: `false` where the source had nothing left.
+    ///
+    /// Errors: those of `read_document`, and `AlreadyFailed` after one of these. A document that is cut off is `CorruptedValue`, also where it is
+    /// the last. At the end and after an error there is no document, and its memory was given back.
+    pub fn advance<S: ByteSource>(&mut self, source: &mut S) -> Result<bool, DeserializeError>
+        // after a refusal nothing happens
+        ensures refused { self.old.failed ≡ true
+            → Rests self.old self.new source.old source.new result (Err AlreadyFailed) }
+        ensures live { OnOk result (self.new.failed ≡ false) }
+        ensures mark { OnErr result (self.new.failed ≡ true) }
+
+        // the end is told where nothing is left, and only there
+        ensures end { self.old.failed ≡ false → S.is_known source.old → result ≡ Ok false
+            → S.left source.old ≡ [] }
+        ensures ended { self.old.failed ≡ false → S.is_known source.old → S.left source.old ≡ []
+            → SaysEnd result }
+
+        // a prefix of the bytes encodes what is read, and the rest is left
+        ensures found { S.is_known source.old → result ≡ Ok true
+            → BeginsWith (version_of self.old.version) (S.left source.old) (S.left source.new)
+            (document_of self.new.document) }
+
+        ensures fewer { S.is_known source.old → result ≡ Ok true
+            → length (S.left source.new) < length (S.left source.old) }
+
+        // wherever a prefix encodes a document that has room, that one is read
+        ensures only { self.old.failed ≡ false → Known S.is_known S.left source.old → (d : Document)
+            (prefix rest : List ℕ) → S.left source.old ≡ prefix ++ rest
+            → EncodesDocument Legacy (version_of self.old.version) prefix d
+            → document_room d ≤ 4294967295
+            → Answers (as_read result self.new.document) d rest (S.left source.new) }
+
+        // refusals of the bytes are true of them, and others don't come
+        ensures error { Known S.is_known S.left source.old → (e : DeserializeError) (r : Refusal)
+            → IsErrOf result e → IsRefusal e r
+            → NoDocument (version_of self.old.version) (S.left source.old) r }
+        ensures full { S.is_known source.old → IsErrOf result HeapFull
+            → HasNoRoom (version_of self.old.version) (S.left source.old) }
+        ensures errors { self.old.failed ≡ false → IfErr result IsReadingError }
+        ensures none { self.old.failed ≡ false → result ≢ Ok true
+            → document_of self.new.document ≡ [] }
+
+        // just the bytes that show the error were taken, and after every error a slice of what was left
+        ensures shows { Known S.is_known S.left source.old → (e : DeserializeError) (r : Refusal)
+            → IsErrOf result e → IsRefusal e r
+            → ShowsRefusal (version_of self.old.version) (S.left source.old) (S.left source.new) r }
+        ensures taken { S.is_known source.old
+            → (prefix : List ℕ) × (S.left source.old ≡ prefix ++ S.left source.new) }
+
+        // so many bytes that no more can be counted were taken
+        ensures too_long { S.is_known source.old → IsErrOf result (CorruptedValue TooLong)
+            → TakesMost (S.left source.old) (S.left source.new) }
+
+        // the source failed exactly where its count of failures rose, with the kind that it returned
+        ensures failures { self.old.failed ≡ false
+            → Counts store_stop result (S.failures source.old) (S.failures source.new) }
+        ensures stays_known { S.is_known source.old → S.is_known source.new }
+        ensures version { self.new.version ≡ self.old.version }
+    {
+        if self.failed {
+            return Err(DeserializeError::AlreadyFailed);
+        }
+        let mut count = 0;
+        let read = take_in_place(
+            self.alloc,
+            &mut self.document,
+            source,
+            &mut count,
+            self.version,
+        );
+        let next = next_of(read, count);
+        self.failed = next.is_err();
+        next
+    }
+
+    /// The document that was read last. It has no pairs before the first, after the end and after a refusal.
+    pub fn document(&self) -> &CompactDoc
+        ensures { result.now ≡ self.now.document }
+    {
+        &self.document
+    }
+
+    /// The document that was read last, taken out.
+    pub fn into_document(self) -> CompactDoc
+        ensures { result ≡ self.document }
+    {
+        self.document
+    }
+}
