@@ -7,7 +7,7 @@ use anyhow::Result;
 use serde_json::Value;
 use std::alloc::Global;
 use tantivy_schema::common::{SliceSource, VecSink};
-use tantivy_schema::schema::document::{AddError, CompactDoc, Document};
+use tantivy_schema::schema::document::{AddError, CompactDoc, Document, ParseBuffers};
 use tantivy_schema::store::{
     DocStoreVersion, WriteVersion, migrate, read_document, read_document_into,
 };
@@ -19,6 +19,8 @@ pub enum Call {
     ReadJson,
     /// From JSON to a document.
     ParseJson,
+    /// From JSON to a document, each in the memory of the one before.
+    ParseJsonInto,
     /// From a document to stored bytes.
     Serialize,
     /// From stored bytes to a document.
@@ -41,6 +43,10 @@ pub enum Call {
     DecodePieces,
     /// From a reader of std to documents.
     ReadSource,
+    /// From a reader of std to documents, through a buffer.
+    ReadBuffered,
+    /// From a block to documents, each in the memory of the one before.
+    ReadBlock,
     /// From lines of JSON to answers.
     Run,
     /// From its JSON to a schema.
@@ -82,9 +88,10 @@ impl Round {
 }
 
 impl Call {
-    pub const ALL: [Call; 18] = [
+    pub const ALL: [Call; 21] = [
         Call::ReadJson,
         Call::ParseJson,
+        Call::ParseJsonInto,
         Call::Serialize,
         Call::Deserialize,
         Call::DeserializeInto,
@@ -96,6 +103,8 @@ impl Call {
         Call::ReadTyped,
         Call::DecodePieces,
         Call::ReadSource,
+        Call::ReadBuffered,
+        Call::ReadBlock,
         Call::Run,
         Call::ReadSchema,
         Call::FindField,
@@ -108,6 +117,7 @@ impl Call {
         match self {
             Call::ReadJson => "read_json",
             Call::ParseJson => "parse_json",
+            Call::ParseJsonInto => "parse_json_into",
             Call::Serialize => "serialize",
             Call::Deserialize => "deserialize",
             Call::DeserializeInto => "deserialize_into",
@@ -119,6 +129,8 @@ impl Call {
             Call::ReadTyped => "read_typed",
             Call::DecodePieces => "decode_pieces",
             Call::ReadSource => "read_source",
+            Call::ReadBuffered => "read_buffered",
+            Call::ReadBlock => "read_block",
             Call::Run => "run",
             Call::ReadSchema => "read_schema",
             Call::FindField => "find_field",
@@ -145,6 +157,8 @@ impl Call {
             Call::ReadTyped => layer::read_typed_each(alloc, workload),
             Call::DecodePieces => layer::decode_each(alloc, inputs, documents),
             Call::ReadSource => layer::read_source_each(alloc, inputs, documents),
+            Call::ReadBuffered => layer::read_buffered_each(alloc, inputs, documents),
+            Call::ReadBlock => layer::read_block_each(alloc, inputs, documents),
             Call::Run => Ok(layer::run_lines(alloc, inputs, documents)),
             Call::ReadSchema => layer::read_schema(alloc, inputs),
             Call::FindField => Ok(layer::find_each(workload, inputs)),
@@ -159,6 +173,7 @@ impl Call {
         match self {
             Call::ReadJson => read_each(alloc, workload),
             Call::ParseJson => parse_each(alloc, workload),
+            Call::ParseJsonInto => parse_each_into(alloc, workload),
             Call::Serialize => serialize_each(alloc, workload, WriteVersion::V2),
             Call::Deserialize => deserialize_each(alloc, &workload.stored, DocStoreVersion::V2),
             Call::DeserializeInto => deserialize_each_into(alloc, &workload.stored),
@@ -189,6 +204,21 @@ fn parse_each(alloc: Global, workload: &Workload) -> Result<Round> {
     let mut round = Round::new();
     for line in &workload.lines {
         if let Ok(document) = CompactDoc::parse_json(alloc, &workload.schema, line.as_str()) {
+            round.made(document.node_data().len());
+        }
+    }
+    Ok(round)
+}
+
+// All documents are read into one, one after the other: its memory is used again.
+fn parse_each_into(alloc: Global, workload: &Workload) -> Result<Round> {
+    let mut round = Round::new();
+    let mut document = CompactDoc::new(alloc);
+    let mut buffers = ParseBuffers::new(alloc);
+    for line in &workload.lines {
+        let read =
+            document.parse_json_into(alloc, &workload.schema, line.as_str(), &mut buffers);
+        if read.is_ok() {
             round.made(document.node_data().len());
         }
     }

@@ -7,14 +7,14 @@ use anyhow::Result;
 use embedding::PacketSource;
 use serde_json::Value;
 use std::alloc::Global;
-use tantivy_schema::common::{ByteSource, ReadSource, SliceSource, VecSink};
+use tantivy_schema::common::{BufferedSource, ByteSource, ReadSource, SliceSource, VecSink};
 use tantivy_schema::run;
 use tantivy_schema::schema::document::{
     BinaryDocumentDeserializer, CompactDoc, DeserializeError, DocumentDeserializer, OwnedValue,
     StoreReader,
 };
 use tantivy_schema::schema::{Facet, Schema, Term, TermError};
-use tantivy_schema::store::{DirectDecoder, DocStoreVersion, Step, read_document};
+use tantivy_schema::store::{BlockReader, DirectDecoder, DocStoreVersion, Step, read_document};
 
 // So many bytes are read of a file at a time.
 const PIECE: usize = 65536;
@@ -72,12 +72,36 @@ fn decoded<S: ByteSource>(alloc: Global, source: &mut S) -> Result<CompactDoc, D
 
 /// From a reader of std to documents.
 pub fn read_source_each(alloc: Global, inputs: &Inputs, documents: usize) -> Result<Round> {
-    let mut round = Round::new();
     let mut source = ReadSource::new(inputs.block.as_slice());
+    read_each(alloc, &mut source, documents)
+}
+
+/// From a reader of std to documents, through a buffer.
+pub fn read_buffered_each(alloc: Global, inputs: &Inputs, documents: usize) -> Result<Round> {
+    let mut source = BufferedSource::new(alloc, inputs.block.as_slice())?;
+    read_each(alloc, &mut source, documents)
+}
+
+// So many documents of a source.
+fn read_each<S: ByteSource>(alloc: Global, source: &mut S, documents: usize) -> Result<Round> {
+    let mut round = Round::new();
     for _ in 0..documents {
-        match read_document(alloc, &mut source, DocStoreVersion::V2) {
+        match read_document(alloc, source, DocStoreVersion::V2) {
             Ok(document) => round.made(document.node_data().len()),
             Err(_) => round.left_out(),
+        }
+    }
+    Ok(round)
+}
+
+/// From a block to documents, each in the memory of the one before.
+pub fn read_block_each(alloc: Global, inputs: &Inputs, documents: usize) -> Result<Round> {
+    let mut round = Round::new();
+    let mut source = SliceSource::new(inputs.block.as_slice());
+    let mut reader = BlockReader::new(alloc, DocStoreVersion::V2);
+    for _ in 0..documents {
+        if reader.advance(&mut source)? {
+            round.made(reader.document().node_data().len());
         }
     }
     Ok(round)

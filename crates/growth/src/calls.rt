@@ -59,6 +59,8 @@ pub enum Call {
     WriteValue,
     /// From lines of JSON to answers.
     Run,
+    /// From a block to documents, each in the memory of the one before.
+    ReadBlock,
     /// Terms of numbers, put in order.
     OrderTerms,
     /// How many facets are below one.
@@ -92,6 +94,7 @@ impl Call {
             Call::ReadOwned => "read owned",
             Call::WriteValue => "write value",
             Call::Run => "run",
+            Call::ReadBlock => "read block",
             Call::OrderTerms => "order",
             Call::CountFacets => "count",
         }
@@ -131,6 +134,7 @@ impl Call {
             Call::Step => nested::step(alloc, workload),
             Call::ReadInto => nested::read_into(alloc, workload),
             Call::Run => layer::run_lines(alloc, workload),
+            Call::ReadBlock => layer::read_block(alloc, workload),
             Call::OrderTerms => layer::order_terms(alloc, workload),
             Call::CountFacets => layer::count_facets(alloc, workload),
             _ => Err(anyhow!("this call refuses what nests too deep")),

@@ -5,6 +5,7 @@ use anyhow::{Context, Result, anyhow};
 use std::alloc::Global;
 use tantivy_schema::common::{SliceSource, VecSink};
 use tantivy_schema::schema::{Facet, Field, Term};
+use tantivy_schema::store::{BlockReader, DocStoreVersion};
 use tantivy_schema::{RunEnd, run};
 
 /// From lines of JSON to answers; how many bytes these have.
@@ -15,6 +16,23 @@ pub fn run_lines(alloc: Global, workload: &Workload) -> Result<usize> {
         RunEnd::Done => Ok(sink.as_slice().len()),
         _ => Err(anyhow!("a run that ends early")),
     }
+}
+
+/// Documents of a block, each in the memory of the one before; how many values they have.
+pub fn read_block(alloc: Global, workload: &Workload) -> Result<usize> {
+    let mut source = SliceSource::new(workload.block.as_slice());
+    let mut reader = BlockReader::new(alloc, DocStoreVersion::V2);
+    let mut values: usize = 0;
+    for _ in 0..workload.count {
+        if !reader.advance(&mut source)? {
+            return Err(anyhow!("a block that ends early"));
+        }
+        values = values.saturating_add(reader.document().len());
+    }
+    if reader.advance(&mut source)? {
+        return Err(anyhow!("a block that goes on"));
+    }
+    Ok(values)
 }
 
 /// Terms of so many numbers, put in order; how many there are.

@@ -31,6 +31,8 @@ pub enum Shape {
     Steps,
     /// Lines with a document each.
     Lines,
+    /// Documents one behind the other.
+    Documents,
     /// Terms of numbers.
     Terms,
     /// Facets.
@@ -49,6 +51,8 @@ pub struct Workload {
     pub path: String,
     // The schema's line, and a line for each document; of other shapes no lines.
     pub lines: Vec<u8>,
+    // The stored bytes of documents one behind the other; of other shapes none.
+    pub block: Vec<u8>,
     // How many there are of what the document or the call has many of.
     pub count: u32,
 }
@@ -64,13 +68,14 @@ impl Drop for Workload {
             stored: _,
             path: _,
             lines: _,
+            block: _,
             count: _,
         } = self;
     }
 }
 
 impl Shape {
-    const ALL: [Shape; 12] = [
+    const ALL: [Shape; 13] = [
         Shape::Values,
         Shape::Items,
         Shape::Rising,
@@ -81,6 +86,7 @@ impl Shape {
         Shape::Fields,
         Shape::Steps,
         Shape::Lines,
+        Shape::Documents,
         Shape::Terms,
         Shape::Facets,
     ];
@@ -98,6 +104,7 @@ impl Shape {
             Shape::Fields => "fields",
             Shape::Steps => "steps",
             Shape::Lines => "lines",
+            Shape::Documents => "documents",
             Shape::Terms => "terms",
             Shape::Facets => "facets",
         }
@@ -111,6 +118,14 @@ impl Shape {
             }
         }
         None
+    }
+
+    // Whether a call has many of something, and the document nothing.
+    fn is_of_calls(self) -> bool {
+        matches!(
+            self,
+            Shape::Steps | Shape::Lines | Shape::Documents | Shape::Terms | Shape::Facets
+        )
     }
 
     /// The calls that are made on it.
@@ -145,6 +160,7 @@ impl Shape {
             ],
             Shape::Steps => &[Call::FindPath, Call::SplitPath],
             Shape::Lines => &[Call::Run],
+            Shape::Documents => &[Call::ReadBlock],
             Shape::Terms => &[Call::OrderTerms],
             Shape::Facets => &[Call::CountFacets],
             Shape::Items => &[
@@ -199,6 +215,7 @@ impl Workload {
             stored,
             path: path_of(alloc, shape, count)?,
             lines,
+            block: block_of(alloc, shape, count)?,
             count,
         })
     }
@@ -264,9 +281,20 @@ fn lines_of(alloc: Global, schema_json: &str, shape: Shape, count: u32) -> Resul
     Ok(lines)
 }
 
+// The stored bytes of that shape, as version 2 has them: documents with a number in field 0 each.
+fn block_of(alloc: Global, shape: Shape, count: u32) -> Result<Vec<u8>> {
+    let mut block = Vec::new(alloc);
+    if shape == Shape::Documents {
+        for _ in 0..count {
+            block.extend_from_slice(&[129, 0, 0, 0, 0, 1, 7, 0, 0, 0, 0, 0, 0, 0])?;
+        }
+    }
+    Ok(block)
+}
+
 // The JSON of a document.
 fn push_json(json: &mut String, shape: Shape, count: u32) -> Result<()> {
-    if let Shape::Steps | Shape::Lines | Shape::Terms | Shape::Facets = shape {
+    if shape.is_of_calls() {
         return Ok(json.push_str("{}")?);
     }
     let (start, end) = match shape {

@@ -12,6 +12,15 @@ pub fn of_path(alloc: Global, field: Field, path: &str, text: &str) -> Result<Te
     Ok(term)
 }
 
+/// How many terms of a dictionary are numbers from 18 to 65 of a field.
+pub fn working_ages(alloc: Global, field: Field, dictionary: &[Term]) -> Result<usize> {
+    let range = Term::range_of_values(alloc, field, &(18_u64..=65))?;
+    let found = dictionary
+        .iter()
+        .filter(|term| range.contains(term.serialized_term()));
+    Ok(found.count())
+}
+
 /// The path of a term with the name of its field, and its value, where that is a text.
 pub fn shown(alloc: Global, schema: &Schema, term: &Term) -> Result<String> {
     if !schema.has_field(term.field()) {
