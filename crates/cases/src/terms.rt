@@ -20,6 +20,7 @@ pub fn answer(alloc: Global, call: &[&str]) -> Result<String> {
         ["of", field, kind, value] => of_value(alloc, field, kind, value),
         ["searched date", field, value] => of_searched_date(alloc, field, value),
         ["json", field, path, dots, appended @ ..] => of_path(alloc, field, path, dots, appended),
+        ["segments", field, segments @ ..] => of_segments(alloc, field, segments),
         ["wrap", digits] => of_bytes(alloc, digits),
         ["value", digits] => value_of_bytes(alloc, digits),
         ["full path", schema, digits] => full_path(alloc, schema, &wrapped(alloc, digits)?),
@@ -63,6 +64,23 @@ fn of_path(
     let (field, path) = (words::field(field)?, words::text(alloc, path)?);
     match Term::from_field_json_path(alloc, field, path.as_str(), dots == "expanded") {
         Ok(term) => of_appended(alloc, term, appended),
+        Err(error) => words::error(alloc, error),
+    }
+}
+
+// The term of a field and the segments of a path.
+fn of_segments(alloc: Global, field: &str, segments: &[&str]) -> Result<String> {
+    let field = words::field(field)?;
+    let mut texts = Vec::new(alloc);
+    for segment in segments {
+        texts.push(words::text(alloc, segment)?)?;
+    }
+    let mut lent = Vec::new(alloc);
+    for text in &texts {
+        lent.push(text.as_str())?;
+    }
+    match Term::from_field_json_segments(alloc, field, lent.as_slice()) {
+        Ok(term) => shown(alloc, &term),
         Err(error) => words::error(alloc, error),
     }
 }

@@ -80,12 +80,14 @@ pub use Rattle.tv_term.specs.Key
 pub use Rattle.tv_term.specs.Reading as TermReading
 pub use Rattle.tv_term.specs.Lending
 pub use Rattle.tv_term.specs.Range as TermRange
+pub use Rattle.tv_term.specs.Segments
 -- documents
 pub use Rattle.tv_doc.specs.AdditionError
 pub use Rattle.tv_doc.specs.Additions
 pub use Rattle.tv_doc.specs.Belongs
 pub use Rattle.tv_doc.specs.Builder
 pub use Rattle.tv_doc.specs.Document
+pub use Rattle.tv_doc.specs.InPlace
 pub use Rattle.tv_builder.specs.EncodedPairs
 pub use Rattle.tv_doc.specs.FieldValues
 pub use Rattle.tv_doc.specs.Grouped

@@ -1,5 +1,5 @@
 -- Terms that constructors made, and JSON terms with a value.
-use Rattle.std.proofs.Common.{◌≡◌, ℕ, ◌<◌, ◌^◌, List, [], ◌∷◌, ◌++◌, Option, None, Some, IsUtf8, sym, ◌∙◌, ap, append_assoc, arith}
+use Rattle.std.proofs.Common.{◌≡◌, ℕ, ◌<◌, ◌^◌, List, [], ◌∷◌, ◌++◌, Option, None, Some, Result, Ok, Err, IfOk, IsUtf8, sym, ◌∙◌, ap, append_assoc, arith}
 use Rattle.std.specs.Int.{to_be_bytes, w32, w64}
 use Rattle.std.specs.Ordering.{nat_cmp, ordering_then}
 use Rattle.std.specs.declared.cmp.Ordering.TheVariants.{Equal}
@@ -10,7 +10,7 @@ use Rattle.tv_options.specs.Types.{code}
 use Rattle.tv_options.specs.declared.types.TypeTag.{TypeTag}
 use Rattle.tv_options.specs.declared.types.TypeTag.TheVariants as tag
 use Rattle.tv_term.specs.FastValue.{StandsAs}
-use Rattle.tv_term.specs.Key.{TermValue, Json, Fits, coded, payload, term, json_term, value_cmp, IsTerm, IsJsonTerm, Appends}
+use Rattle.tv_term.specs.Key.{TermValue, Json, Fits, HasNoZero, coded, payload, term, json_term, value_cmp, IsTerm, IsJsonTerm, Appends}
 use Rattle.tv_term.proofs.Orders.{term-order, coded-order, number-order}
 use Rattle.tv_term.specs.Reading.{json_parts, json_path, value_of, ReadsText}
 use Rattle.tv_term.proofs.Written.{cut_behind_zero-path, json_path_read}
@@ -68,3 +68,15 @@ text-read bytes (Some found) text utf8 e read = sym read.0 ∙ e
 
 pub same_value : (a b : List ℕ) → ◌≡◌ {A = Option (List ℕ)} (Some a) (Some b) → a ≡ b
 same_value a b e = cc
+
+-- the field, the code and the path with its zero make the term of the path
+pub json_term_made : {T E : Type 0} (bytes_of : T → List ℕ) (r : Result T E) (field : ℕ) (path payload : List ℕ) → field < 2 ^ 32 → IsUtf8 path → HasNoZero path → payload ≡ path ++ 0 ∷ []
+    → IfOk r (λ made. bytes_of made ≡ to_be_bytes w32 field ++ code tag.Json ∷ payload)
+    → IfOk r (λ made. IsJsonTerm (bytes_of made) field path)
+json_term_made bytes_of (Ok made) field path payload fits utf8 no_zero payload_is made_is = record {
+  bytes_are = made_is ∙ ap (λ bytes. to_be_bytes w32 field ++ code tag.Json ∷ bytes) payload_is;
+  field_fits = fits;
+  path_is_text = utf8;
+  path_has_no_zero = no_zero;
+}
+json_term_made bytes_of (Err error) field path payload fits utf8 no_zero payload_is made_is = tt

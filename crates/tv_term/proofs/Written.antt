@@ -53,7 +53,7 @@ get_or-not_zero [] i h inside = absurd (omega arith)
 get_or-not_zero (b ∷ text) zero h inside = h.0
 get_or-not_zero (b ∷ text) (suc i) h inside = get_or-not_zero text i h.1 (omega arith)
 
-HasNoZero-append : (a b : List ℕ) → HasNoZero a → HasNoZero b → HasNoZero (a ++ b)
+pub HasNoZero-append : (a b : List ℕ) → HasNoZero a → HasNoZero b → HasNoZero (a ++ b)
 HasNoZero-append [] b h k = k
 HasNoZero-append (c ∷ a) b h k = (h.0, HasNoZero-append a b h.1 k)
 

@@ -4,3 +4,4 @@ pub mod Lending
 pub mod FastValue
 pub mod FastValueLaws
 pub mod Range
+pub mod Segments

@@ -13,6 +13,7 @@ ghost use Rattle.tv_field.specs.Entry.{Entry};
 ghost use Rattle.tv_date.specs.DateTime.{truncated};
 ghost use Rattle.tv_date.specs.declared.date_time.DateTimePrecision.TheVariants.{Seconds};
 ghost use Rattle.tv_term.specs.Key.{IsTerm, IsJsonTerm, HasNoZero, Appends};
+ghost use Rattle.tv_term.specs.Segments.{HaveNoZero, joined_segments};
 ghost use Rattle.tv_term.specs.Key.{Text, Unsigned, Signed, Truth};
 ghost use Rattle.tv_term.specs.Key.{Date, Facet as FacetValue, Bytes, Address};
 ghost use Rattle.tv_term.specs.Reading.{field_of, value_of, json_path, ReadsText, IsFullPath};
@@ -128,6 +129,28 @@ impl Term {
             return Err(TermError::NulInPath);
         }
         let mut joined = joined_json_path(alloc, json_path, expand_dots)?;
+        joined.push('\0')?;
+        Term::from_payload(alloc, field, Type::Json, joined.as_bytes())
+    }
+
+    /// The term of a path into a field of JSON objects that is given by its segments: these with U+0001 between each two of them, and
+    /// U+0000. Dots and backslashes of a segment stay as they are. A segment that holds U+0001 counts as the segments around it. A value
+    /// is appended as to a term of `from_field_json_path`. (Not in tantivy.)
+    ///
+    /// Errors: `NulInPath`, exactly where a segment has U+0000, and before memory is asked for; else `Memory`.
+    pub fn from_field_json_segments(
+        alloc: Global,
+        field: Field,
+        segments: &[&str],
+    ) -> Result<Term, TermError>
+        ensures made { IfOk result (λ made. IsJsonTerm made field.id (joined_segments segments.now)) }
+        ensures nul { (result ≡ Err NulInPath) ↔ (¬ HaveNoZero segments.now) }
+        ensures memory { HaveNoZero segments.now → IfErr result (λ error. error ≡ Memory) }
+    {
+        if has_nul_among(segments) {
+            return Err(TermError::NulInPath);
+        }
+        let mut joined = joined_segments(alloc, segments)?;
         joined.push('\0')?;
         Term::from_payload(alloc, field, Type::Json, joined.as_bytes())
     }
@@ -429,6 +452,34 @@ fn has_nul(text: &str) -> bool
     ensures { MatchBool result (¬ HasNoZero text.now) (HasNoZero text.now) }
 {
     text.as_bytes().contains(&0)
+}
+
+// Whether one of the texts has U+0000.
+fn has_nul_among(texts: &[&str]) -> bool
+    ensures { MatchBool result (¬ HaveNoZero texts.now) (HaveNoZero texts.now) }
+{
+    for text in texts {
+        if has_nul(text) {
+            return true;
+        }
+    }
+    false
+}
+
+// The texts with U+0001 between each two of them.
+fn joined_segments(alloc: Global, segments: &[&str]) -> Result<String, AllocError>
+    ensures { IfOk result (λ text. string_bytes text ≡ joined_segments segments.now) }
+{
+    let mut joined = String::new(alloc);
+    let Some((first, others)) = segments.split_first() else {
+        return Ok(joined);
+    };
+    joined.push_str(first)?;
+    for segment in others {
+        joined.push('\u{1}')?;
+        joined.push_str(segment)?;
+    }
+    Ok(joined)
 }
 
 // The bytes of field 0, of the code 0 and of no value, with room for as many value bytes.
