@@ -1,3 +1,4 @@
 mod long;
 mod memory;
+mod parsed;
 mod repeated;
