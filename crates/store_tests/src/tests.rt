@@ -1,5 +1,6 @@
 //! Values of great depth, documents read in place and within limits, the laws of calls in use, a store of one's own, and calls that fail.
 
+mod blocks;
 mod deep;
 mod embedded;
 mod failing_reads;

@@ -1,15 +1,11 @@
 -- What a buffered reader has left, where bytes were taken of its buffer.
-use Rattle.std.proofs.Common.{ℕ, ◌≡◌, ◌<◌, ◌≤◌, ◌==◌, Bool, true, false, List, [], ◌∷◌, ◌++◌, length, take, drop, min, Option, Some, None, Ok, refl, sym, ap, ◌∙◌, subst, arith, append_assoc, length-append, length-take-le}
+use Rattle.std.proofs.Common.{ℕ, ◌≡◌, ◌<◌, ◌==◌, Bool, true, false, List, [], ◌∷◌, ◌++◌, length, take, drop, Option, Some, None, sym, ap, ◌∙◌, subst, arith, append_assoc}
 use Rattle.std.specs.Prelude.{IsSome, unwrap_or, if◌then◌else◌}
-use Rattle.std.proofs.lemmas.List.{take-append-drop, take-append-le}
+use Rattle.std.proofs.lemmas.List.{take-append-drop}
 use Rattle.std.specs.Io.Buffered.{reader_buffer, reader_capacity, reader_inner, reader_remaining}
 use Rattle.std.specs.Io.KnownBytes.{Consumes, prepend_known}
-use Rattle.std.specs.declared.io.ErrorKind.{ErrorKind}
 use Rattle.std.specs.declared.io.buffered.BufReader.{BufReader}
-use Rattle.tv_base.specs.Append.{Moves}
-use Rattle.tv_base.specs.Lend.{Passes}
-use Rattle.tv_base.specs.Sink.{IsPrefix}
-use Rattle.tv_base.specs.Source.{AllBytes, GivesSome}
+use Rattle.tv_base.specs.Source.{AllBytes}
 use Rattle.tv_io.specs.Buffered.{TakesBuffered}
 use Rattle.tv_io.proofs.Remaining.{still_left}
 

@@ -1,30 +1,27 @@
 -- The end of a block: no bytes begin with no document, and no other bytes are called an end.
-use Rattle.std.proofs.Common.{◌≡◌, ◌≢◌, ℕ, ◌+◌, ◌-◌, ◌^◌, ◌<◌, Bool, true, false, List, [], ◌∷◌, ◌++◌, length, Result, Ok, Err, refl, sym, ap, subst, ◌∙◌, arith, inl, length-append}
-use Rattle.std.specs.Prelude.{IfOk, IfErr, IsErrOf, OnErr}
+use Rattle.std.proofs.Common.{◌≡◌, ℕ, ◌+◌, ◌-◌, ◌<◌, Bool, true, false, List, [], ◌∷◌, ◌++◌, length, Result, Ok, Err, refl, sym, ap, subst, ◌∙◌, arith, inl, length-append}
+use Rattle.std.specs.Prelude.{IfErr, IsErrOf}
 use Rattle.tv_base.specs.declared.cause.Cause.TheVariants.{UnexpectedEnd}
 use Rattle.tv_base.specs.ErrorInPart.{number_ends}
 use Rattle.tv_base.specs.Number.{Groups, last, more}
 use Rattle.tv_base.specs.Source.{Failures}
-use Rattle.tv_base.specs.Stop.{Counts, Taken}
+use Rattle.tv_base.specs.Stop.{Taken}
 use Rattle.tv_decoder.specs.Prefix.{HasNoRoom}
-use Rattle.tv_doc.specs.Document.{document_of}
 use Rattle.tv_doc.specs.declared.document.CompactDoc.{CompactDoc}
 use Rattle.tv_format.specs.InputError.{Refusal, corrupted, no_text_key, corrupt}
-use Rattle.tv_format.specs.Encoding.{EncodesDocument}
-use Rattle.tv_format.specs.Tree.{Document}
 use Rattle.tv_format.specs.Version.{Version}
 use Rattle.tv_format.proofs.SingleTrees.{single_document}
 use Rattle.tv_legacy.specs.Legacy.{Legacy, ErrorInLegacy}
 use Rattle.tv_legacy.proofs.Unique.{one_legacy, legacy_excludes, single_legacy}
-use Rattle.tv_reader.specs.Error.{key_stop, store_stop, IsRefusal, is_corrupted, is_no_text}
+use Rattle.tv_reader.specs.Error.{key_stop, is_no_text}
 use Rattle.tv_reader.specs.Finds.{GivesStop, Finds}
 use Rattle.tv_reader.specs.declared.error.DeserializeError.{DeserializeError}
 use Rattle.tv_reader.specs.declared.error.DeserializeError.TheVariants as errors
 use Rattle.tv_reader.specs.declared.value_type.ValueType.TheVariants as types
 use Rattle.tv_store.specs.Blocks.{as_read, SaysEnd}
-use Rattle.tv_store.specs.Documents.{EncodesRead, BeginsWith, NoDocument, IsReadingError, in_place}
+use Rattle.tv_store.specs.Documents.{EncodesRead, NoDocument, IsReadingError, in_place}
 use Rattle.tv_store.proofs.InPlace.{error_placed}
-use Rattle.tv_store.proofs.Promises.{end, FoundDocument, told, excluded, found_by, refused_by}
+use Rattle.tv_store.proofs.Promises.{end, FoundDocument, told, excluded}
 
 -- ---- what the call returned, and what reading a document would have
 

@@ -1,10 +1,8 @@
-use Rattle.std.proofs.Common.{◌≡◌, ◌++◌, [], length, take, drop, subst, sym, ap, ◌∙◌, arith, take_at, length-take-le, length-append, length-drop}
+use Rattle.std.proofs.Common.{◌≡◌, ◌++◌, [], take, drop, sym, ap, ◌∙◌, arith, take_at, length-take-le, length-append, length-drop}
 use Rattle.std.specs.Prelude.{unwrap_or}
 use Rattle.std.specs.Io.Buffered.{reader_buffer, reader_remaining}
-use Rattle.std.specs.IoError.{error_kind}
-use Rattle.tv_io.specs.Calls.{failures_of, Counts}
 use Rattle.tv_io.proofs.Buffering.{some_shown, taken_off, still_buffered, left_behind}
-use Rattle.tv_io.proofs.Remaining.{still_known, bytes_given, failures_counted}
+use Rattle.tv_io.proofs.Remaining.{still_known, failures_counted}
 use Rattle.tv_io.proofs.buffered_source.BufferedSourceByteSource.read.Goals as goal
 
 pub returns-then-is_empty-clause-is_known : goal.returns-then-is_empty-clause-is_known

@@ -1,6 +1,6 @@
 use Rattle.tv_base.proofs.ByGrammar.{few_taken}
 use Rattle.tv_reader.specs.Version.{version_of}
-use Rattle.tv_reader.specs.declared.error.DeserializeError.TheVariants.{HeapFull, CorruptedValue}
+use Rattle.tv_reader.specs.declared.error.DeserializeError.TheVariants.{HeapFull}
 use Rattle.tv_store.proofs.Blocks.{of_place, place_error, error_as_read, as_error, as_err, at_end, no_more}
 use Rattle.tv_store.specs.Documents.{IsReadingError}
 use Rattle.tv_store.proofs.Promises.{refused_by, errors_by, only_by}
