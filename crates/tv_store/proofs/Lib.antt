@@ -9,4 +9,5 @@ pub mod Migrations
 mod InPlace
 pub mod Nesting
 pub mod NestedSteps
+pub mod WithinDepth
 pub mod WithinLimits

@@ -2,6 +2,7 @@
 #![tactic(auto)]
 
 pub mod de;
+mod depth;
 pub mod direct_decoder;
 mod encoded_writer;
 pub mod error;
