@@ -49,8 +49,8 @@ pub struct ReadLimits {
     pub bytes: Option<u64>,
     /// The bytes of heap that the document takes.
     pub heap_bytes: Option<u64>,
-    /// The lists, arrays or objects, that are open at once. The lists of an object as older stores hold it are all read at once: they count
-    /// only once the whole document has come.
+    /// The lists, arrays or objects, that are open at once. An object as older stores hold it is read at once, so no list of it is ever open:
+    /// `step_within` doesn't count its lists, and `read_document_within` does once the whole document has come.
     pub depth: Option<u32>,
 }
 
@@ -361,7 +361,8 @@ impl DirectDecoder {
 /// Errors: `Limit(Bytes)` where all these were taken and the document isn't complete, or the last of them shows an error; `Limit(Depth)`
 /// right behind the head of the list with which more than `depth` lists are open, `Limit(HeapBytes)` right behind the part with which the
 /// document's heap takes more than `heap_bytes` bytes, and the first of them where both hold; `Limit(Depth)` behind a document of which a
-/// value nests deeper by an object of an older store; else `Read` with the error of `read_document`.
+/// value nests deeper by an object of an older store; else `Read` with the error of `read_document`, `Memory` also where it is refused for
+/// that test.
 ///
 /// ```
 /// pub fn read_untrusted(alloc: Global, bytes: &[u8]) -> Result<TantivyDocument, LimitedReadError> {
