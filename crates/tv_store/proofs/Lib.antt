@@ -10,4 +10,5 @@ mod InPlace
 mod Blocks
 pub mod Nesting
 pub mod NestedSteps
+pub mod WithinDepth
 pub mod WithinLimits

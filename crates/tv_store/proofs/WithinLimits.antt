@@ -1,11 +1,11 @@
 -- Steps within limits, one after the other.
-use Rattle.std.proofs.Common.{◌≡◌, ℕ, ◌+◌, ◌-◌, ◌^◌, ◌<◌, ◌≤◌, Bool, List, [], ◌++◌, length, take, Option, Some, None, Result, Ok, Err, refl, sym, ◌∙◌, ap, subst, arith, rules, append-nil, length-append}
+use Rattle.std.proofs.Common.{◌≡◌, ℕ, ◌+◌, ◌-◌, ◌^◌, ◌<◌, ◌≤◌, Bool, List, [], ◌++◌, length, take, Option, Some, None, Result, Ok, Err, refl, sym, ◌∙◌, ap, subst, arith, rules, append-nil, length-append, inl, inr}
 use Rattle.std.specs.Prelude.{◌↔◌, IsTrue, IsSome, IfOk, IfErr, IsErrOf}
 use Rattle.std.proofs.lemmas.List.{length-take}
 use Rattle.tv_base.specs.declared.cause.Cause.TheVariants.{UnexpectedEnd}
 use Rattle.tv_base.specs.Parts.{Begins}
 use Rattle.tv_base.specs.Source.{Failures}
-use Rattle.tv_base.specs.Stop.{Stop, CountsStop, Taken}
+use Rattle.tv_base.specs.Stop.{Stop, CountsStop, Counts, Taken}
 use Rattle.tv_base.specs.Stop.Stop.{InputError, Failed, Short, Never}
 use Rattle.tv_builder.specs.Builder.{built, state_of, heap_so_far}
 use Rattle.tv_builder.specs.State.{State, in_lists, IsState, lists_of}
@@ -32,8 +32,8 @@ use Rattle.tv_decoder.proofs.States.{is_state}
 use Rattle.tv_builder.proofs.PairBuilding.{heap_weighs}
 use Rattle.tv_decoder.proofs.WholeDocuments.{Goes, step_more, step_fails, step_takes, done_encodes}
 use Rattle.tv_store.proofs.Promises.{refused_by, only_by}
-use Rattle.tv_store.specs.Documents.{BeginsWith, NoDocument, HasNoRoom}
-use Rattle.tv_store.specs.Limits.{IsPast, Checks, FindsWithin, IsDeep, IsLarge, IsAll, Unread, Comes, IsLimitedError, AnswersWithin}
+use Rattle.tv_store.specs.Documents.{BeginsWith, NoDocument, HasNoRoom, IsReadingError}
+use Rattle.tv_store.specs.Limits.{IsPast, Checks, FindsWithin, IsDeep, PassesDepth, IsLarge, IsAll, Unread, Comes, IsLimitedError, AnswersWithin, AllNestWithinLimit, TestsDepth}
 use Rattle.tv_store.specs.Limits.{first_count, limited_stop, FindsPart, IsOfBytes, Told}
 use Rattle.tv_store.specs.declared.limits.ReadLimits.{ReadLimits}
 use Rattle.tv_store.specs.declared.limits.ReadLimit.{ReadLimit}
@@ -118,7 +118,7 @@ pub passed : (v : Version) (limits : ReadLimits) (begun r : Reading) (l : ReadLi
     → Taken old new (first_count limits.bytes) count → count < 2 ^ 64 → Comes v limits old new (Err (limited.Limit l))
 passed v limits begun r limit.Bytes old new count none sound check f t below = absurd check
 passed v limits begun r limit.Depth old new count none sound check f t below =
-    record { taken = f.prefix; joined = f.joined; most = taken_within limits.bytes f.prefix old new count f.joined t below; outcome = deep_at v limits.depth f.prefix r.announced r.field (built r.builder) (state_of r.builder) (is_state r.builder) sound.place (f.encoded [] (at_start v begun none)) check }
+    record { taken = f.prefix; joined = f.joined; most = taken_within limits.bytes f.prefix old new count f.joined t below; outcome = inl (deep_at v limits.depth f.prefix r.announced r.field (built r.builder) (state_of r.builder) (is_state r.builder) sound.place (f.encoded [] (at_start v begun none)) check) }
 passed v limits begun r limit.HeapBytes old new count none sound check f t below =
     record { taken = f.prefix; joined = f.joined; most = taken_within limits.bytes f.prefix old new count f.joined t below; outcome = record { reading = r; sound = sound; encoded = f.encoded [] (at_start v begun none); large = check.1; weighs = past_more limits.heap_bytes _ _ (heap_weighs r.builder) check.1 } }
 
@@ -172,6 +172,41 @@ told_counts e all (limited.Limit limit.Bytes) Short old new is told counts = cou
 told_counts e all (limited.Limit limit.Bytes) Never old new is told counts = absurd counts
 told_counts e all (limited.Limit limit.HeapBytes) s old new is told counts = absurd told
 told_counts e all (limited.Limit limit.Depth) s old new is told counts = absurd told
+
+-- ---- how deep what was read nests
+
+pub tested : (v : Version) (limits : ReadLimits) (old new : List ℕ) (d : CompactDoc) (result : Result CompactDoc LimitedReadError) → TestsDepth limits.depth d result → Comes v limits old new (Ok d) → Comes v limits old new result
+tested v limits old new d (Ok x) test h = subst (λ z. Comes v limits old new (Ok z)) (sym test.0) h
+tested v limits old new d (Err (limited.Read e)) test h =
+    let unread : Unread v old new (length h.taken) e = record {
+      stop = subst (λ z. GivesStop (corrupted UnexpectedEnd) (NoDocument v) old new (length h.taken) (store_stop z)) (sym test) tt;
+      full = λ is. absurd (cc);
+    } in
+    record { taken = h.taken; joined = h.joined; most = h.most; outcome = unread }
+tested v limits old new d (Err (limited.Limit limit.Depth)) test h =
+    record { taken = h.taken; joined = h.joined; most = h.most; outcome = inr (record { document = document_of d; encoded = h.outcome; deeper = test }) }
+tested v limits old new d (Err (limited.Limit limit.Bytes)) test h = absurd test
+tested v limits old new d (Err (limited.Limit limit.HeapBytes)) test h = absurd test
+
+pub tested_shallow : (most : Option ℕ) (d : CompactDoc) (result : Result CompactDoc LimitedReadError) → TestsDepth most d result → IfOk result (λ x. AllNestWithinLimit most (document_of x))
+tested_shallow most d (Ok x) test = subst (λ z. AllNestWithinLimit most (document_of z)) (sym test.0) test.1
+tested_shallow most d (Err e) test = tt
+
+limited_depth : (most : Option ℕ) (d : Document) → ¬ AllNestWithinLimit most d → IsSome most
+limited_depth None d deeper = absurd (deeper tt)
+limited_depth (Some n) d deeper = search rules
+
+pub tested_errors : (limits : ReadLimits) (d : CompactDoc) (result : Result CompactDoc LimitedReadError) → TestsDepth limits.depth d result → IfErr result (IsLimitedError limits)
+tested_errors limits d (Ok x) test = tt
+tested_errors limits d (Err (limited.Read e)) test = subst IsReadingError (sym test) tt
+tested_errors limits d (Err (limited.Limit limit.Depth)) test = limited_depth limits.depth (document_of d) test
+tested_errors limits d (Err (limited.Limit limit.Bytes)) test = absurd test
+tested_errors limits d (Err (limited.Limit limit.HeapBytes)) test = absurd test
+
+pub tested_counts : (most : Option ℕ) (d : CompactDoc) (result : Result CompactDoc LimitedReadError) (old new : Failures) → TestsDepth most d result → new ≡ old → Counts limited_stop result old new
+tested_counts most d (Ok x) old new test same = same
+tested_counts most d (Err (limited.Read e)) old new test same = subst (λ z. CountsStop (store_stop z) old new) (sym test) same
+tested_counts most d (Err (limited.Limit l)) old new test same = same
 
 -- ---- a part, counted from a first number on
 
@@ -232,7 +267,7 @@ found_in v limits old new (Ok d) h = record { prefix = h.taken; joined = h.joine
 found_in v limits old new (Err e) h = tt
 
 pub deep_in : (v : Version) (limits : ReadLimits) (old new : List ℕ) (result : Result CompactDoc LimitedReadError) → Comes v limits old new result → IsErrOf result (limited.Limit limit.Depth)
-    → Begins (IsDeep v limits.depth) old new
+    → Begins (PassesDepth v limits.depth) old new
 deep_in v limits old new result comes is =
     let h = subst (λ z. Comes v limits old new z) is comes in
     record { prefix = h.taken; joined = h.joined; encoded = h.outcome }

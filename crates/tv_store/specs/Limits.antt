@@ -24,6 +24,7 @@ use Rattle.tv_format.specs.Encoding.{EncodesDocument}
 use Rattle.tv_format.specs.InputError.{Refusal, corrupted}
 use Rattle.tv_format.specs.Tree.{Document}
 use Rattle.tv_format.specs.Version.{Version}
+use Rattle.tv_value.specs.Nesting.{AllNestWithin}
 use Rattle.tv_store.specs.Documents.{Answers, NoDocument, IsReadingError}
 use Rattle.tv_store.specs.declared.limits.ReadLimits.{ReadLimits}
 use Rattle.tv_store.specs.declared.limits.ReadLimit.{ReadLimit}
@@ -103,6 +104,24 @@ Leaves old new (Err (limited.Limit l)) = Grows old new
 
 -- ---- what comes of a document
 
+-- each tree of the document nests within so many lists, if that is limited
+abbrev pub AllNestWithinLimit : Option ℕ → Document → Type 0
+AllNestWithinLimit None d = Unit {0}
+AllNestWithinLimit (Some most) d = AllNestWithin most d
+
+-- What is returned where a document was read: itself, if its trees nest within the limit, and else that they don't. Or memory was refused.
+abbrev pub TestsDepth : Option ℕ → CompactDoc → Result CompactDoc LimitedReadError → Type 0
+TestsDepth most read (Ok d) = (d ≡ read) × AllNestWithinLimit most (document_of read)
+TestsDepth most read (Err (limited.Read e)) = e ≡ errors.Memory
+TestsDepth most read (Err (limited.Limit limit.Depth)) = ¬ AllNestWithinLimit most (document_of read)
+TestsDepth most read (Err (limited.Limit l)) = ⊥
+
+-- The bytes encode a document of which a tree nests deeper: an object of an older store may, in which no list is open while it is read.
+pub record NestsDeeper (v : Version) (most : Option ℕ) (taken : List ℕ) : Type 0 where
+  pub document : Document
+  pub encoded : EncodesDocument Legacy v taken document
+  pub deeper : ¬ AllNestWithinLimit most document
+
 -- More than so many lists are open in what the bytes encode: the finished pairs, a field, and what has come of its value.
 pub record IsDeep (v : Version) (most : Option ℕ) (taken : List ℕ) : Type 0 where
   pub announced : ℕ
@@ -113,6 +132,10 @@ pub record IsDeep (v : Version) (most : Option ℕ) (taken : List ℕ) : Type 0 
   pub is : IsState state
   pub encoded : Encoded Legacy v taken (open_parts announced finished field state)
   pub deep : IsPast most (length (lists_of state))
+
+-- More lists are open than may be, or the whole document nests deeper.
+abbrev pub PassesDepth : Version → Option ℕ → List ℕ → Type 0
+PassesDepth v most taken = IsDeep v most taken ⊎ NestsDeeper v most taken
 
 -- The heap takes more than so many bytes once these have come, and so what has come weighs more.
 pub record IsLarge (v : Version) (most : Option ℕ) (taken : List ℕ) : Type 0 where
@@ -136,7 +159,7 @@ abbrev pub Outcome : Version → ReadLimits → List ℕ → List ℕ → List �
 Outcome v limits old new taken (Ok d) = EncodesDocument Legacy v taken (document_of d)
 Outcome v limits old new taken (Err (limited.Read e)) = Unread v old new (length taken) e
 Outcome v limits old new taken (Err (limited.Limit limit.HeapBytes)) = IsLarge v limits.heap_bytes taken
-Outcome v limits old new taken (Err (limited.Limit limit.Depth)) = IsDeep v limits.depth taken
+Outcome v limits old new taken (Err (limited.Limit limit.Depth)) = PassesDepth v limits.depth taken
 Outcome v limits old new taken (Err (limited.Limit limit.Bytes)) = IsAll limits.bytes taken
 
 pub record Comes (v : Version) (limits : ReadLimits) (old new : List ℕ) (result : Result CompactDoc LimitedReadError) : Type 0 where

@@ -3,6 +3,7 @@
 
 pub mod block;
 pub mod de;
+mod depth;
 pub mod direct_decoder;
 mod encoded_writer;
 pub mod error;

@@ -19,7 +19,8 @@ ghost use Rattle.tv_format.specs.InputError.{Refusal};
 ghost use Rattle.tv_format.specs.Encoding.{EncodesDocument};
 ghost use Rattle.tv_format.specs.Tree.{Document};
 ghost use Rattle.tv_heap.specs.Room.{document_room};
-ghost use Rattle.tv_store.specs.Limits.{Checks, FindsWithin, IsPast, IsDeep, IsLarge, IsAll};
+ghost use Rattle.tv_store.specs.Limits.{Checks, FindsWithin, IsPast, PassesDepth, IsLarge, IsAll};
+ghost use Rattle.tv_store.specs.Limits.{AllNestWithinLimit, TestsDepth};
 ghost use Rattle.tv_store.specs.Limits.{AnswersWithin, Comes, IsLimitedError, limited_stop};
 ghost use Rattle.tv_store.specs.Limits.{first_count, FindsPart, IsCapped, IsOfBytes, Leaves, TestsLimits};
 ghost use Rattle.tv_store.specs.Limits.{Told};
@@ -30,6 +31,7 @@ ghost use Rattle.tv_store.specs.declared.limits.LimitedReadError.{LimitedReadErr
 ghost use Rattle.tv_store.specs.declared.limits.LimitedReadError.TheVariants.{Read, Limit};
 
 use crate::de::DocStoreVersion;
+use crate::depth::document_within;
 use crate::direct_decoder::{DirectDecoder, Step};
 use crate::error::DeserializeError;
 use std::alloc::Global;
@@ -47,7 +49,8 @@ pub struct ReadLimits {
     pub bytes: Option<u64>,
     /// The bytes of heap that the document takes.
     pub heap_bytes: Option<u64>,
-    /// The lists, arrays or objects, that are open at once.
+    /// The lists, arrays or objects, that are open at once. An object as older stores hold it is read at once, so no list of it is ever open:
+    /// `step_within` doesn't count its lists, and `read_document_within` does once the whole document has come.
     pub depth: Option<u32>,
 }
 
@@ -236,6 +239,24 @@ fn take_within<S: ByteSource>(
     Err(DeserializeError::CorruptedValue(Cause::TooLong))
 }
 
+// A document that was read, if each of its values nests within the limit of depth.
+fn tested(
+    alloc: Global,
+    document: CompactDoc,
+    depth: Option<u32>,
+) -> Result<CompactDoc, LimitedReadError>
+    ensures { TestsDepth depth document result }
+{
+    let Some(most) = depth else {
+        return Ok(document);
+    };
+    match document_within(alloc, &document, most) {
+        Ok(true) => Ok(document),
+        Ok(false) => Err(LimitedReadError::Limit(ReadLimit::Depth)),
+        Err(_) => Err(LimitedReadError::Read(DeserializeError::Memory)),
+    }
+}
+
 // Reads a document, part by part, until a limit is passed.
 fn read_parts<S: ByteSource>(
     alloc: Global,
@@ -245,6 +266,7 @@ fn read_parts<S: ByteSource>(
 ) -> Result<CompactDoc, LimitedReadError>
     ensures comes { S.is_known source.old
         → Comes (version_of version) limits (S.left source.old) (S.left source.new) result }
+    ensures shallow { IfOk result (λ d. AllNestWithinLimit limits.depth (document_of d)) }
     ensures small { IfOk result (λ d. ¬ IsPast limits.heap_bytes (length (heap_of d))) }
     ensures errors { IfErr result (IsLimitedError limits) }
     ensures failures { Counts limited_stop result (S.failures source.old) (S.failures source.new) }
@@ -260,7 +282,7 @@ fn read_parts<S: ByteSource>(
     };
     match passed {
         Some(limit) => Err(LimitedReadError::Limit(limit)),
-        None => Ok(decoder.into_doc()),
+        None => tested(alloc, decoder.into_doc(), limits.depth),
     }
 }
 
@@ -331,13 +353,16 @@ impl DirectDecoder {
 }
 
 /// Reads a document as `read_document` does, and stops where it passes a limit. The parts are those that a step of `DirectDecoder` reads,
-/// so a text with its tokens is one part, and so is an object as stores of versions 1 and 2 may hold it, a JSON text with code 8. Such an
-/// object counts as no list, and nests at most 127 levels by itself. Without limits `read_document` is faster. Never more than `bytes` bytes
-/// are taken of the source, also within a part. (Not in tantivy.)
+/// so a text with its tokens is one part, and so is an object as stores of versions 1 and 2 may hold it, a JSON text with code 8. In such an
+/// object no list is open while it is read, and it nests at most 127 levels by itself: how deep the values nest is tested once more when the
+/// document has come. The test takes memory for values that nest deeper than 64 levels. Without limits `read_document` is faster. Never more
+/// than `bytes` bytes are taken of the source, also within a part. (Not in tantivy.)
 ///
-/// Errors: `Limit(Bytes)` where all these were taken and the document isn't complete, or the last of them shows an error; `Limit(Depth)` right behind the head of the list with which more than `depth` lists are open, `Limit(HeapBytes)` right behind
-/// the part with which the document's heap takes more than `heap_bytes` bytes, and the first of them where both hold; else `Read` with the
-/// error of `read_document`.
+/// Errors: `Limit(Bytes)` where all these were taken and the document isn't complete, or the last of them shows an error; `Limit(Depth)`
+/// right behind the head of the list with which more than `depth` lists are open, `Limit(HeapBytes)` right behind the part with which the
+/// document's heap takes more than `heap_bytes` bytes, and the first of them where both hold; `Limit(Depth)` behind a document of which a
+/// value nests deeper by an object of an older store; else `Read` with the error of `read_document`, `Memory` also where it is refused for
+/// that test.
 ///
 /// ```
 /// pub fn read_untrusted(alloc: Global, bytes: &[u8]) -> Result<TantivyDocument, LimitedReadError> {
@@ -356,11 +381,12 @@ pub fn read_document_within<S: ByteSource>(
     version: DocStoreVersion,
     limits: ReadLimits,
 ) -> Result<CompactDoc, LimitedReadError>
-    // a prefix of the bytes encodes what is returned, the rest is left, and the heap is within its limit
+    // a prefix of the bytes encodes what is returned, the rest is left, and each tree and the heap are within their limits
     ensures found { S.is_known source.old
         → IfOk result
         (λ d. BeginsWith (version_of version) (S.left source.old) (S.left source.new)
         (document_of d)) }
+    ensures shallow { IfOk result (λ d. AllNestWithinLimit limits.depth (document_of d)) }
     ensures small { IfOk result (λ d. ¬ IsPast limits.heap_bytes (length (heap_of d))) }
 
     // wherever a prefix encodes a document that has room, that one is returned, unless a limit is passed
@@ -370,7 +396,8 @@ pub fn read_document_within<S: ByteSource>(
 
     // what was taken passes the limit
     ensures depth { S.is_known source.old → IsErrOf result (Limit ReadLimit.Depth)
-        → Begins (IsDeep (version_of version) limits.depth) (S.left source.old) (S.left source.new) }
+        → Begins (PassesDepth (version_of version) limits.depth) (S.left source.old)
+        (S.left source.new) }
     ensures heap { S.is_known source.old → IsErrOf result (Limit ReadLimit.HeapBytes)
         → Begins (IsLarge (version_of version) limits.heap_bytes) (S.left source.old)
         (S.left source.new) }

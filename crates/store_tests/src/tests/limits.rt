@@ -1,6 +1,6 @@
 //! Documents that are read within limits.
 
-use std::alloc::Global;
+use std::alloc::{AllocError, Global};
 use std::test::Fail;
 use tantivy_schema::common::LimitedSource;
 use tv_base::{ByteSource, Cause, SliceSource};
@@ -70,6 +70,80 @@ fn heaps_past_the_limit_are_refused(rt: HostRuntime) -> Result<(), Fail> {
     let (result, left) = read(rt.alloc(), Some(3), None);
     assert!(rt; result.map(|document| document.len()) == large);
     assert_eq!(rt; left, 3);
+    Ok(())
+}
+
+// One pair: an object in an object, as older stores hold them, and then two bytes that belong to no document.
+const OLDER: &[u8] = b"\x81\0\0\0\0\x08{\"a\":{\"b\":1}}\xff\xff";
+
+// Reads bytes of version 2 within a limit of depth, and says how many are left then.
+fn read_to_depth(
+    alloc: Global,
+    bytes: &[u8],
+    depth: u32,
+) -> (Result<CompactDoc, LimitedReadError>, usize) {
+    let limits = ReadLimits {
+        depth: Some(depth),
+        ..ReadLimits::default()
+    };
+    let mut source = SliceSource::new(bytes);
+    let result = read_document_within(alloc, &mut source, DocStoreVersion::V2, limits);
+    (result, source.rest().len())
+}
+
+// It is refused once it has come.
+#[test]
+fn objects_of_older_stores_nest_within_the_limit(rt: HostRuntime) -> Result<(), Fail> {
+    let (result, left) = read_to_depth(rt.alloc(), OLDER, 2);
+    assert!(rt; result.is_ok_and(|document| document.len() == 1));
+    assert_eq!(rt; left, 2);
+    for depth in 0..2 {
+        let (result, left) = read_to_depth(rt.alloc(), OLDER, depth);
+        let deep = Err(LimitedReadError::Limit(ReadLimit::Depth));
+        assert!(rt; result.map(|document| document.len()) == deep);
+        assert_eq!(rt; left, 2);
+    }
+    Ok(())
+}
+
+// One pair of field 0: as many objects of older stores in each other.
+fn older_objects(alloc: Global, depth: u32) -> Result<Vec<u8>, AllocError> {
+    let mut bytes = b"\x81\0\0\0\0\x08".to_vec(alloc)?;
+    for _ in 0..depth {
+        bytes.extend_from_slice(b"{\"a\":")?;
+    }
+    bytes.push(b'1')?;
+    for _ in 0..depth {
+        bytes.push(b'}')?;
+    }
+    Ok(bytes)
+}
+
+// One pair of field 0: as many arrays in each other, and null in the innermost.
+fn arrays(alloc: Global, depth: u32) -> Result<Vec<u8>, AllocError> {
+    let mut bytes = b"\x81\0\0\0\0".to_vec(alloc)?;
+    for _ in 0..depth {
+        bytes.extend_from_slice(b"\x0c\x81")?;
+    }
+    bytes.push(0x0b)?;
+    Ok(bytes)
+}
+
+// Past 64 levels too, and on the machine's stack no more of them than that.
+#[test]
+fn deep_values_nest_within_deep_limits(rt: HostRuntime) -> Result<(), Fail> {
+    let alloc = rt.alloc();
+    let cases = [
+        (older_objects(alloc, 100)?, 100),
+        (arrays(alloc, 100000)?, 100000),
+    ];
+    for (bytes, depth) in &cases {
+        let (result, _) = read_to_depth(alloc, bytes.as_slice(), *depth);
+        assert!(rt; result.is_ok_and(|document| document.len() == 1));
+        let (result, _) = read_to_depth(alloc, bytes.as_slice(), depth.saturating_sub(1));
+        let deep = Err(LimitedReadError::Limit(ReadLimit::Depth));
+        assert!(rt; result.map(|document| document.len()) == deep);
+    }
     Ok(())
 }
 
