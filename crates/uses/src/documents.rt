@@ -2,7 +2,7 @@
 
 use anyhow::Result;
 use std::alloc::Global;
-use tantivy_schema::schema::document::{Document, ReferenceValueLeaf, TreeBuilder};
+use tantivy_schema::schema::document::{Document, ParseBuffers, ReferenceValueLeaf, TreeBuilder};
 use tantivy_schema::schema::{Facet, Field, Schema, TantivyDocument, Value};
 
 /// A document, value by value.
@@ -18,6 +18,18 @@ pub fn added(alloc: Global, schema: &Schema) -> Result<TantivyDocument> {
 /// The document of a JSON object. A key that names no field is left out.
 pub fn parsed(alloc: Global, schema: &Schema, json: &str) -> Result<TantivyDocument> {
     Ok(TantivyDocument::parse_json(alloc, schema, json)?)
+}
+
+/// How many values the documents of JSON objects have, each made in the memory of the one before.
+pub fn values_parsed(alloc: Global, schema: &Schema, lines: &[&str]) -> Result<usize> {
+    let mut document = TantivyDocument::new(alloc);
+    let mut buffers = ParseBuffers::new(alloc);
+    let mut values: usize = 0;
+    for line in lines {
+        document.parse_json_into(alloc, schema, line, &mut buffers)?;
+        values = values.saturating_add(document.len());
+    }
+    Ok(values)
 }
 
 /// A document with a nested value, which is written part by part.
