@@ -1,10 +1,10 @@
 -- Members that are put into a map.
-use Rattle.std.proofs.Common.{◌≡◌, ℕ, List, [], ◌∷◌, ◌++◌, nat_cmp, Greater, Less, Equal, Ordering, Bor, Option, Some, None, Result, Ok, Err, OnOk, refl, ap, ◌∙◌}
+use Rattle.std.proofs.Common.{◌≡◌, ℕ, List, [], ◌∷◌, ◌++◌, nat_cmp, Greater, Less, Equal, Ordering, Bor, Some, Result, Ok, Err, OnOk, refl, ap, ◌∙◌}
 use Rattle.std.specs.BTreeMap.{insert_entry}
 use Rattle.std.specs.Cmp.Lexicographic.{slice_cmp}
 use Rattle.std.specs.Ordering.{match_ordering}
 use Rattle.std.specs.Result.{result_ok}
-use Rattle.serde_json.specs.Data.{Members, member, put}
+use Rattle.serde_json.specs.Data.{member, put}
 use Rattle.tv_borrowed.specs.BorrowedData.{data_of, members_data}
 use Rattle.tv_borrowed.specs.Rising.{AreAbove, Rise}
 use Rattle.tv_borrowed.specs.declared.borrowed.BorrowedJson.{BorrowedJson}

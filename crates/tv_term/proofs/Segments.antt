@@ -1,9 +1,8 @@
 -- Segments that are joined.
-use Rattle.std.proofs.Common.{◌≡◌, ◌≢◌, ℕ, suc, zero, ◌+◌, ◌<◌, List, [], ◌∷◌, ◌++◌, Bor, map, take, get_or, length, IsUtf8, refl, sym, ◌∙◌, ap, append_assoc, arith}
-use Rattle.std.specs.List.{AllByRecursion, join_with_byte}
+use Rattle.std.proofs.Common.{◌≡◌, ◌≢◌, ℕ, suc, zero, ◌+◌, ◌<◌, List, [], ◌∷◌, ◌++◌, Bor, map, take, get_or, length, refl, sym, ◌∙◌, ap, append_assoc, arith}
+use Rattle.std.specs.List.{join_with_byte}
 use Rattle.std.proofs.Math.Seq.{take-length}
 use Rattle.std.proofs.lemmas.List.{map-append, take_more}
-use Rattle.std.proofs.lemmas.Str.{IsUtf8-append}
 use Rattle.tv_term.specs.Key.{HasNoZero}
 use Rattle.tv_term.specs.Segments.{HaveNoZero, joined_segments}
 use Rattle.tv_term.proofs.Written.{HasNoZero-append}

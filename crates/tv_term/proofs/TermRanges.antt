@@ -1,12 +1,12 @@
 -- Which terms begin with which bytes.
-use Rattle.std.proofs.Common.{◌≡◌, ◌≢◌, ℕ, ◌+◌, ◌<◌, ◌^◌, ◌↔◌, List, [], ◌∷◌, ◌++◌, length, Some, refl, subst, sym, ◌∙◌, ap, append_assoc, arith}
+use Rattle.std.proofs.Common.{◌≡◌, ◌≢◌, ℕ, ◌<◌, ◌^◌, ◌↔◌, List, [], ◌∷◌, ◌++◌, length, Some, refl, subst, sym, ◌∙◌, ap, append_assoc, arith}
 use Rattle.std.specs.Int.{to_be_bytes, from_be_bytes, w32}
 use Rattle.std.proofs.lemmas.Nat.{from_be_bytes-to_be_bytes_4}
 use Rattle.tv_base.specs.Sink.{IsPrefix}
 use Rattle.tv_options.specs.Types.{code, type_of_code}
 use Rattle.tv_options.specs.declared.types.TypeTag.{TypeTag}
 use Rattle.tv_options.specs.declared.types.TypeTag.TheVariants as tag
-use Rattle.tv_term.specs.Key.{TermValue, Text, Unsigned, Signed, Truth, Date, Facet, Bytes, Address, Json, Fits, HasNoZero, type_of, value_code, payload, coded, term, json_term, IsTerm}
+use Rattle.tv_term.specs.Key.{TermValue, Text, Unsigned, Signed, Truth, Date, Facet, Bytes, Address, Json, Fits, HasNoZero, type_of, payload, coded, term, json_term}
 use Rattle.tv_base.specs.Facet.{Descends}
 use Rattle.tv_base.proofs.Steps.{Descends-rest, Descends-from_rest, Descends-from_root}
 use Rattle.tv_term.specs.Range.{HasPrefixed, HasLonger, HasTerms, IsIn, BeginsWith, IsOfField, IsOfType, HasTextPrefix, IsAtPath, IsBelowFacet}

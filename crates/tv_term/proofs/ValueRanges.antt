@@ -1,5 +1,5 @@
 -- The terms between two bounds of values.
-use Rattle.std.proofs.Common.{◌≡◌, ℕ, ◌<◌, ◌^◌, ◌↔◌, List, [], ◌∷◌, ◌++◌, Bool, IsTrue, Option, Some, None, refl, subst, sym, ◌∙◌, ap, append_assoc, append-nil}
+use Rattle.std.proofs.Common.{◌≡◌, ℕ, ◌<◌, ◌^◌, ◌↔◌, List, [], ◌∷◌, ◌++◌, IsTrue, Option, Some, None, refl, subst, sym, ◌∙◌, ap, append_assoc, append-nil}
 use Rattle.std.specs.Int.{to_be_bytes, w32}
 use Rattle.std.specs.Global.{Vec}
 use Rattle.std.specs.Ordering.{is_le, is_lt, nat_cmp}
@@ -10,8 +10,8 @@ use Rattle.std.specs.declared.ops.Bound.TheVariants.{Included, Excluded, Unbound
 use Rattle.tv_base.specs.Sink.{IsPrefix}
 use Rattle.tv_options.specs.Types.{code}
 use Rattle.tv_options.specs.declared.types.TypeTag.{TypeTag}
-use Rattle.tv_term.specs.Key.{TermValue, Fits, payload, term, value_cmp, type_of, IsTerm}
-use Rattle.tv_term.specs.Range.{EndsPrefix, HasTerms, IsFrom, IsBelow, IsIn, IsFromBound, IsToBound, IsBetween, IsTypedTerm, IsBehindTerm, StartsAt, EndsAt, typed_start}
+use Rattle.tv_term.specs.Key.{TermValue, payload, term, type_of, IsTerm}
+use Rattle.tv_term.specs.Range.{EndsPrefix, HasTerms, IsFrom, IsBelow, IsFromBound, IsToBound, IsBetween, IsTypedTerm, IsBehindTerm, StartsAt, EndsAt, typed_start}
 use Rattle.tv_term.specs.declared.range.TermRange.{TermRange}
 use Rattle.tv_term.proofs.Terms.{values-order}
 use Rattle.tv_term.proofs.TermRanges.{term-prefix}

@@ -11,7 +11,7 @@ use Rattle.tv_base.specs.Source.{AllBytes}
 use Rattle.std.specs.Int.{to_be_bytes, w32}
 use Rattle.tv_options.specs.Types.{code}
 use Rattle.tv_options.specs.declared.types.TypeTag.{TypeTag}
-use Rattle.tv_term.specs.Key.{TermValue, Text, Facet, Json, IsTerm, Fits, type_of, payload, value_cmp}
+use Rattle.tv_term.specs.Key.{TermValue, Text, Facet, Json, IsTerm, type_of, payload, value_cmp}
 use Rattle.tv_term.specs.declared.range.TermRange.{TermRange}
 
 -- the bytes are those of the start, or above them

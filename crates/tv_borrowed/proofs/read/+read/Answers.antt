@@ -1,15 +1,14 @@
 use Rattle.std.proofs.Common.{◌≡◌, ◌-◌, ◌<◌, ◌∷◌, ◌++◌, [], length, Some, None, sym, ap, subst, ◌∙◌, arith}
 use Rattle.std.proofs.lemmas.Option.{IfSome_then}
 use Rattle.json.specs.Json.{after_end_array, read_key, value}
-use Rattle.json.specs.Reads.{token_of}
 use Rattle.json.specs.Token.{Token}
 use Rattle.json.proofs.Grammar.{read_key-shorter}
 use Rattle.serde_json.specs.Data.{item, put}
 use Rattle.serde_json.specs.Read.{of_json, converted}
 use Rattle.tv_borrowed.specs.Begun.{Begins}
 use Rattle.tv_borrowed.specs.Found.{found_data}
-use Rattle.tv_borrowed.specs.BorrowedData.{data_of, members_data}
-use Rattle.tv_borrowed.proofs.Levels.{data_of-Null, data_of-Bool, data_of-String, data_of-Array, data_of-Object}
+use Rattle.tv_borrowed.specs.BorrowedData.{data_of}
+use Rattle.tv_borrowed.proofs.Levels.{data_of-Array, data_of-Object}
 use Rattle.tv_borrowed.proofs.Rising.{put_rises}
 use Rattle.tv_borrowed.proofs.Floats.{none_in_last, none_in_put}
 use Rattle.tv_borrowed.proofs.Places.{items_before, items_before-none, items_before-last}

@@ -5,7 +5,7 @@ use Rattle.serde_json.specs.Data.{Items, Members, no_members}
 use Rattle.serde_json.specs.Read.{of_items, of_members, converted}
 use Rattle.serde_json.specs.Written.{items_have_float, members_have_float}
 use Rattle.tv_borrowed.specs.Found.{found_data}
-use Rattle.tv_borrowed.specs.BorrowedData.{items_data, members_data}
+use Rattle.tv_borrowed.specs.BorrowedData.{items_data}
 use Rattle.tv_borrowed.specs.Notes.{Notes}
 use Rattle.tv_borrowed.specs.Rising.{Rise}
 use Rattle.tv_borrowed.proofs.Places.{items_before}

@@ -1,4 +1,4 @@
-use Rattle.std.proofs.Common.{◌≡◌, ℕ, ◌+◌, ◌<◌, List, [], ◌∷◌, ◌++◌, length, get_or, drop, rules, arith}
+use Rattle.std.proofs.Common.{rules, arith}
 use Rattle.tv_term.proofs.ByteRanges.{ends-none, ends-kept, dropped, all-dropped, last_left}
 use Rattle.tv_term.proofs.range.successor.Goals as goal
 

@@ -1,4 +1,4 @@
-use Rattle.std.proofs.Common.{◌<◌, length, arith}
+use Rattle.std.proofs.Common.{arith}
 use Rattle.tv_term.proofs.Segments.{have-no-zero}
 use Rattle.tv_term.proofs.term.has_nul_among.Goals as goal
 

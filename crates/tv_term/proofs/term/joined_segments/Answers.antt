@@ -1,4 +1,4 @@
-use Rattle.std.proofs.Common.{rules, ℕ, List, ◌≡◌, ◌∙◌, ◌++◌, ◌∷◌, [], length, sym, ap, append_assoc, arith, string_bytes, get_or}
+use Rattle.std.proofs.Common.{rules, ◌≡◌, ◌∙◌, ◌++◌, ◌∷◌, [], length, sym, ap, append_assoc, arith, string_bytes, get_or}
 use Rattle.tv_term.proofs.Segments.{nothing, joined, joined-more, joined-all}
 use Rattle.tv_term.proofs.term.joined_segments.Goals as goal
 
