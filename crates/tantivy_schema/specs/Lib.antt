@@ -87,7 +87,7 @@ pub use Rattle.tv_doc.specs.Additions
 pub use Rattle.tv_doc.specs.Belongs
 pub use Rattle.tv_doc.specs.Builder
 pub use Rattle.tv_doc.specs.Document
-pub use Rattle.tv_doc.specs.InPlace
+pub use Rattle.tv_doc.specs.InPlace as DocumentInPlace
 pub use Rattle.tv_builder.specs.EncodedPairs
 pub use Rattle.tv_doc.specs.FieldValues
 pub use Rattle.tv_doc.specs.Grouped
