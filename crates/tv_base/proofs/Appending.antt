@@ -1,5 +1,5 @@
 -- Bytes that a source appends piece by piece.
-use Rattle.std.proofs.Common.{◌≡◌, ℕ, ◌+◌, ◌-◌, ◌<◌, ◌≤◌, List, [], ◌∷◌, ◌++◌, length, Result, Ok, Err, refl, sym, ap, ◌∙◌, arith}
+use Rattle.std.proofs.Common.{◌≡◌, ℕ, ◌+◌, ◌-◌, ◌<◌, ◌≤◌, List, [], ◌∷◌, ◌++◌, length, Result, Ok, Err, refl, sym, ap, ◌∙◌, arith, append_assoc}
 use Rattle.tv_base.specs.declared.cause.Cause.{Cause}
 use Rattle.tv_base.specs.declared.cause.Cause.TheVariants.{UnexpectedEnd}
 use Rattle.tv_base.specs.declared.read_error.ReadError.TheVariants.{Corrupted}
@@ -10,13 +10,13 @@ use Rattle.tv_base.specs.Take.{read_stop, MayStop}
 use Rattle.tv_base.specs.Reading.{more_at}
 use Rattle.tv_base.proofs.AgreeWidths.{more_agrees}
 use Rattle.tv_base.proofs.Chunks.{chunk, short}
-use Rattle.tv_base.proofs.TakeSteps.{SoFar, Taken_then}
+use Rattle.tv_base.proofs.TakeSteps.{SoFar, Taken_then, both_taken}
 
 moved_read : (before moved rest : List ℕ) (missing n : ℕ) → n ≤ missing → length moved ≡ n → more_at before missing (moved ++ rest) ≡ more_at (before ++ moved) (missing - n) rest
 moved_read before moved rest missing n le len =
     chunk before missing n le (moved ++ rest) ∙ ap (λ r. r >>= λ x. more_at x.0 (missing - n) x.1) ((more_agrees before n).complete moved (before ++ moved) rest (moved, (len, refl), refl))
 
-none_left : (before bytes : List ℕ) (missing : ℕ) → 0 < missing → bytes ≡ [] → more_at before missing bytes ≡ Err (UnexpectedEnd, [])
+pub none_left : (before bytes : List ℕ) (missing : ℕ) → 0 < missing → bytes ≡ [] → more_at before missing bytes ≡ Err (UnexpectedEnd, [])
 none_left before bytes missing some none = ap (more_at before missing) none ∙ ap (λ r. r >>= λ x. Ok (before ++ x.0, x.1)) (short missing [] some)
 
 moved_taken : {old new before after : List ℕ} {most n count now : ℕ} → now ≡ count + n → Moves old new before after most n → Taken old new count now
@@ -27,9 +27,14 @@ module _ {P : Type 0} {is_known : P → Type 0} {left : P → List ℕ} {count :
   pub piece_taken : (before after : List ℕ) (missing most n : ℕ) → n ≤ missing → SoFar is_known left count failures old mid whole (more_at before missing)
       → (is_known mid → Moves (left mid) (left new) before after most n) → (is_known mid → is_known new) → failures new ≡ failures mid → count new ≡ count mid + n → SoFar is_known left count failures old new whole (more_at after (missing - n))
   piece_taken before after missing most n le h moves still same counted = record {
-    goes = λ told.
+    goes = λ told taken joined behind.
+        let t = h.taken told in
         let m = moves (h.stays_known told) in
-        h.goes told ∙ ap (more_at before missing) m.joined ∙ moved_read before m.moved (left new) missing n le m.count ∙ ap (λ (l : List ℕ). more_at l (missing - n) (left new)) (sym m.behind);
+        ap (λ (l : List ℕ). whole (l ++ behind)) (both_taken t.prefix m.moved taken (left new) t.joined m.joined joined)
+        ∙ ap whole (append_assoc t.prefix m.moved behind)
+        ∙ h.goes told t.prefix t.joined (m.moved ++ behind)
+        ∙ moved_read before m.moved behind missing n le m.count
+        ∙ ap (λ (l : List ℕ). more_at l (missing - n) behind) (sym m.behind);
     taken = λ told. Taken_then (h.taken told) (moved_taken counted (moves (h.stays_known told)));
     stays_known = λ told. still (h.stays_known told);
     counts = same ∙ h.counts;
@@ -40,10 +45,11 @@ module _ {P : Type 0} {is_known : P → Type 0} {left : P → List ℕ} {count :
   pub piece_ends : {X : Type 0} (view : X → List ℕ) (before after : List ℕ) (missing most n : ℕ) → n ≡ 0 → 0 < missing → 0 < most → SoFar is_known left count failures old mid whole (more_at before missing)
       → (is_known mid → Moves (left mid) (left new) before after most n) → (is_known mid → is_known new) → failures new ≡ failures mid → count new ≡ count mid → Takes read_stop MayStop is_known left count failures old new view (Err (Corrupted UnexpectedEnd)) whole
   piece_ends view before after missing most n zero some wanted h moves still same counted = record {
-    gives = λ told few.
+    gives = λ told taken joined.
+        let t = h.taken told in
         let m = moves (h.stays_known told) in
         let none : left mid ≡ [] = m.end zero wanted in
-        h.goes told ∙ none_left before (left mid) missing some none ∙ ap (λ (l : List ℕ). Err (UnexpectedEnd, l)) (sym (nothing_new (m.moved) (left new) (sym none ∙ m.joined)));
+        ap whole (sym joined ∙ t.joined) ∙ h.goes told t.prefix t.joined (left mid) ∙ none_left before (left mid) missing some none ∙ ap (λ (l : List ℕ). Err (UnexpectedEnd, l)) (sym (nothing_new (m.moved) (left new) (sym none ∙ m.joined)));
     taken = λ told. Taken_then (h.taken told) (moved_taken (omega (arith, counted, zero)) (moves (h.stays_known told)));
     stays_known = λ told. still (h.stays_known told);
     counts = same ∙ h.counts;

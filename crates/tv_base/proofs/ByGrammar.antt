@@ -1,27 +1,34 @@
 -- A reader that gives what a reading gives reads by the grammar that the reading agrees with.
 use Rattle.std.proofs.Common.{◌≡◌, ℕ, ◌-◌, ◌^◌, ◌<◌, List, ◌++◌, length, Result, Ok, Err, refl, sym, ap, subst, ◌∙◌, arith, length-append}
-use Rattle.std.specs.Prelude.{IfOk, IsErrOf}
+use Rattle.std.specs.Prelude.{IfOk, IfErr, IsErrOf}
 use Rattle.std.proofs.lemmas.Result.{IfErr-at_err}
 use Rattle.tv_base.specs.declared.cause.Cause.{Cause}
-use Rattle.tv_base.specs.declared.cause.Cause.TheVariants.{UnexpectedEnd}
+use Rattle.tv_base.specs.declared.cause.Cause.TheVariants.{UnexpectedEnd, TooLong}
 use Rattle.tv_base.specs.declared.read_error.ReadError.{ReadError}
 use Rattle.tv_base.specs.declared.read_error.ReadError.TheVariants.{Corrupted, Io, Memory}
 use Rattle.tv_base.specs.Source.{AllBytes, Failures}
-use Rattle.tv_base.specs.Stop.{Gives, Taken}
-use Rattle.tv_base.specs.Take.{TakesBy, TakesLean, MayStop, MayStopLean, read_stop}
+use Rattle.tv_base.specs.Stop.{Stops, Gives, Taken}
+use Rattle.tv_base.specs.Take.{TakesBy, TakesLean, CauseMayStop, MayStop, MayStopLean, read_stop}
 use Rattle.tv_base.specs.ReadsAs.{Known, IsRead, Shows, ReadsAs, ReadsLean}
 use Rattle.tv_base.proofs.SmallBytes.{bytes_before}
 use Rattle.tv_base.proofs.TakeSteps.{lean}
 use Rattle.tv_base.proofs.Agrees.{Agrees, ok_is, no_ok}
 
 found_by : {X Y : Type 0} {reading : List ℕ → Result (Y × List ℕ) (Cause × List ℕ)} {Encodes : List ℕ → Y → Type 0} {HasError : List ℕ → Cause → Type 0} (view : X → Y)
-    → Agrees UnexpectedEnd reading Encodes HasError → (bytes rest : List ℕ) (count : ℕ) (result : Result X ReadError) → AllBytes bytes → Gives read_stop view result (reading bytes) rest count → IfOk result (λ x. (prefix : List ℕ) × Encodes prefix (view x) × (bytes ≡ prefix ++ rest))
-found_by view agrees bytes rest count (Ok x) small h = agrees.sound bytes (view x, rest) small h
-found_by view agrees bytes rest count (Err e) small h = tt
+    → Agrees UnexpectedEnd reading Encodes HasError → (bytes taken rest : List ℕ) (result : Result X ReadError) → AllBytes bytes → bytes ≡ taken ++ rest → Gives read_stop view result reading taken rest → IfOk result (λ x. (prefix : List ℕ) × Encodes prefix (view x) × (bytes ≡ prefix ++ rest))
+found_by {reading = reading} view agrees bytes taken rest (Ok x) small joined h = agrees.sound bytes (view x, rest) small (ap reading joined ∙ h rest)
+found_by view agrees bytes taken rest (Err e) small joined h = tt
+
+-- few bytes were taken, so more can be counted
+refused_at : {Y : Type 0} (reading : List ℕ → Result (Y × List ℕ) (Cause × List ℕ)) (taken rest : List ℕ) (count : ℕ) (c : Cause) → count < 2 ^ 64 - 1 → CauseMayStop c count → Stops (read_stop (Corrupted c)) reading taken rest → reading (taken ++ rest) ≡ Err (c, rest)
+refused_at reading taken rest count TooLong few may h = absurd (omega (arith, few, may))
+refused_at reading taken rest count c few may h = h
 
 -- the error that is read
-refused_by : {X Y : Type 0} (view : X → Y) (read : Result (Y × List ℕ) (Cause × List ℕ)) (rest : List ℕ) (count : ℕ) (result : Result X ReadError) → count < 2 ^ 64 - 1 → Gives read_stop view result read rest count → (c : Cause) → IsErrOf result (Corrupted c) → read ≡ Err (c, rest)
-refused_by view read rest count result few h c e = (subst (λ r. Gives read_stop view r read rest count) e h) few
+refused_by : {X Y : Type 0} (view : X → Y) (reading : List ℕ → Result (Y × List ℕ) (Cause × List ℕ)) (bytes taken rest : List ℕ) (count : ℕ) (result : Result X ReadError) → count < 2 ^ 64 - 1 → IfErr result (λ e. MayStop e count) → bytes ≡ taken ++ rest → Gives read_stop view result reading taken rest
+    → (c : Cause) → IsErrOf result (Corrupted c) → reading bytes ≡ Err (c, rest)
+refused_by view reading bytes taken rest count result few may joined h c e =
+    ap reading joined ∙ refused_at reading taken rest count c few (IfErr-at_err (λ x. MayStop x count) e may) (subst (λ r. Gives read_stop view r reading taken rest) e h)
 
 -- bytes that show an error show it by the grammar
 pub shows_by : {F Y : Type 0} {end : F} {reading : List ℕ → Result (Y × List ℕ) (F × List ℕ)} {Encodes : List ℕ → Y → Type 0} {HasError : List ℕ → F → Type 0}
@@ -37,11 +44,12 @@ shows_by {end = end} agrees bytes rest c small e =
       early = λ other prefix byte last. agrees.refused prefix end _ (bytes_before s.prefix prefix _ last taken) (s.early other prefix byte last);
     }
 
-is_read : {X Y : Type 0} (view : X → Y) (result : Result X ReadError) (read : Result (Y × List ℕ) (Cause × List ℕ)) (y : Y) (rest now : List ℕ) (count : ℕ) → count < 2 ^ 64 - 1 → read ≡ Ok (y, rest) → Gives read_stop view result read now count → IsRead view result y rest now
-is_read view (Ok x) read y rest now count few e h = let q = ok_is (Cause × List ℕ) (view x, now) (y, rest) (sym h ∙ e) in (ap (λ z. z.0) q, ap (λ z. z.1) q)
-is_read {Y = Y} view (Err (Corrupted c)) read y rest now count few e h = no_ok (c, now) (y, rest) (sym (h few) ∙ e)
-is_read view (Err (Io kind)) read y rest now count few e h = tt
-is_read view (Err Memory) read y rest now count few e h = tt
+is_read : {X Y : Type 0} (view : X → Y) (result : Result X ReadError) (reading : List ℕ → Result (Y × List ℕ) (Cause × List ℕ)) (y : Y) (rest taken now : List ℕ) (count : ℕ) → count < 2 ^ 64 - 1 → IfErr result (λ e. MayStop e count) → reading (taken ++ now) ≡ Ok (y, rest) → Gives read_stop view result reading taken now
+    → IsRead view result y rest now
+is_read view (Ok x) reading y rest taken now count few may e h = let q = ok_is (Cause × List ℕ) (view x, now) (y, rest) (sym (h now) ∙ e) in (ap (λ z. z.0) q, ap (λ z. z.1) q)
+is_read {Y = Y} view (Err (Corrupted c)) reading y rest taken now count few may e h = no_ok (c, now) (y, rest) (sym (refused_at reading taken now count c few may h) ∙ e)
+is_read view (Err (Io kind)) reading y rest taken now count few may e h = tt
+is_read view (Err Memory) reading y rest taken now count few may e h = tt
 
 -- what is counted of few bytes is few
 pub few_taken : {old new : List ℕ} {now : ℕ} → length old < 2 ^ 64 - 1 → Taken old new 0 now → now < 2 ^ 64 - 1
@@ -51,10 +59,14 @@ module _ {S X Y : Type 0} (is_known : S → Type 0) (left : S → List ℕ) (fai
     {reading : List ℕ → Result (Y × List ℕ) (Cause × List ℕ)} {Encodes : List ℕ → Y → Type 0} {HasError : List ℕ → Cause → Type 0} (agrees : Agrees UnexpectedEnd reading Encodes HasError) where
   pub by_grammar : TakesBy is_known left failures old 0 new new_count view result reading → ReadsAs is_known left failures old new view result Encodes HasError
   by_grammar h =
-      let error = λ (known : Known is_known left old) (c : Cause) (e : IsErrOf result (Corrupted c)). refused_by view (reading (left old)) (left new) new_count result (few_taken known.1 (h.taken known.0)) (h.gives known.0) c e in
+      let error = λ (known : Known is_known left old) (c : Cause) (e : IsErrOf result (Corrupted c)).
+          let t = h.taken known.0 in
+          refused_by view reading (left old) t.prefix (left new) new_count result (few_taken known.1 t) h.may_stop t.joined (h.gives known.0 t.prefix t.joined) c e in
       record {
-        found = λ told. found_by view agrees (left old) (left new) new_count result (are_bytes old told) (h.gives told);
-        only = λ known prefix y rest encodes e. is_read view result (reading (left old)) y rest (left new) new_count (few_taken known.1 (h.taken known.0)) (ap reading e ∙ agrees.complete prefix y rest encodes) (h.gives known.0);
+        found = λ told. let t = h.taken told in found_by view agrees (left old) t.prefix (left new) result (are_bytes old told) t.joined (h.gives told t.prefix t.joined);
+        only = λ known prefix y rest encodes e.
+            let t = h.taken known.0 in
+            is_read view result reading y rest t.prefix (left new) new_count (few_taken known.1 t) h.may_stop (ap reading (sym t.joined ∙ e) ∙ agrees.complete prefix y rest encodes) (h.gives known.0 t.prefix t.joined);
         cause = λ known c e. agrees.refused (left old) c (left new) (are_bytes old known.0) (error known c e);
         shows = λ known c e. shows_by agrees (left old) (left new) c (are_bytes old known.0) (error known c e);
         taken = λ told. let t = h.taken told in (t.prefix, t.joined);

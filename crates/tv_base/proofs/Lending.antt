@@ -1,7 +1,7 @@
 -- What is borrowed of a source is a prefix of the bytes that it has left.
 use Rattle.std.proofs.Common.{◌≡◌, ℕ, ◌+◌, ◌-◌, ◌%◌, ◌<◌, ◌≤◌, Bool, true, false, ltb, List, [], ◌∷◌, ◌++◌, length, take, drop, get_or, Some, Ok, refl, sym, ap, subst, ◌∙◌, arith, take_at, take_all, length-append, length-drop, length-take-le}
 use Rattle.std.proofs.lemmas.Bool.{le-ltb}
-use Rattle.std.proofs.lemmas.List.{drop_more, take-append-drop}
+use Rattle.std.proofs.lemmas.List.{append_cancel_right, drop_more, take-append-drop}
 use lib.Seq.{take-append-le}
 use Rattle.tv_base.specs.Lend.{Passes, Fills, PassesNumber}
 use Rattle.tv_base.specs.Number.{VNum}
@@ -24,9 +24,9 @@ filled old new lent buf n true lend within is p = p.1 ∙ ap (λ (l : List ℕ).
 filled old new lent buf n false lend within is p = p
 
 -- a buffer that is full is what reading gives
-pub full : (old new buf : List ℕ) (n : ℕ) → n ≡ length buf → Fills old new buf true → bytes_at n old ≡ Ok (buf, new)
-full old new buf n len e =
-    ap (bytes_at n) e ∙ (bytes_agree n).complete buf buf new (sym len, refl)
+pub full : (old new buf : List ℕ) (n : ℕ) (taken : List ℕ) → n ≡ length buf → Fills old new buf true → old ≡ taken ++ new → (behind : List ℕ) → bytes_at n (taken ++ behind) ≡ Ok (buf, behind)
+full old new buf n taken len e joined behind =
+    ap (λ (l : List ℕ). bytes_at n (l ++ behind)) (append_cancel_right taken buf new (sym joined ∙ e)) ∙ (bytes_agree n).complete buf buf behind (sym len, refl)
 
 pub full_taken : {old new : List ℕ} (buf : List ℕ) {n i k : ℕ} → n ≡ length buf → k ≡ i + n → Fills old new buf true → Taken old new i k
 full_taken buf len counted e = record { prefix = buf; joined = e; counted = omega (arith, len, counted) }
@@ -57,8 +57,8 @@ passed bytes n within = (
 )
 
 -- what was passed is what is read
-pub number_read : (old new : List ℕ) (n len : ℕ) → PassesNumber old new (Some (n, len)) → vint_at old ≡ Ok (n, new)
-number_read old new n len p = ap vint_at p.2 ∙ vint_agrees.complete p.0 n new p.1
+pub number_read : (old new : List ℕ) (n len : ℕ) (taken : List ℕ) → PassesNumber old new (Some (n, len)) → old ≡ taken ++ new → (behind : List ℕ) → vint_at (taken ++ behind) ≡ Ok (n, behind)
+number_read old new n len taken p joined behind = ap (λ (l : List ℕ). vint_at (l ++ behind)) (append_cancel_right taken p.0 new (sym joined ∙ p.2)) ∙ vint_agrees.complete p.0 n behind p.1
 
 pub number_taken : {old new : List ℕ} {n len i k : ℕ} → k ≡ i + len → PassesNumber old new (Some (n, len)) → Taken old new i k
 number_taken counted p = record { prefix = p.0; joined = p.2; counted = omega (arith, counted, p.3) }

@@ -1,7 +1,7 @@
 -- A buffer that a source fills piece by piece.
 use Rattle.std.proofs.Common.{◌≡◌, ℕ, ◌+◌, ◌<◌, ◌≤◌, true, false, ltb, List, [], ◌++◌, length, take, drop, Ok, Err, refl, sym, ap, ◌∙◌, append_assoc, arith, le_refl, drop_at, take_at, take_all, length-take-le, length-append, length-take}
 use Rattle.std.proofs.lemmas.Bool.{le-ltb}
-use Rattle.std.proofs.lemmas.List.{append-nil, take-take}
+use Rattle.std.proofs.lemmas.List.{append-nil, append_cancel_right, take-take}
 use Rattle.std.proofs.lemmas.Slice.{take-put_mid_below}
 use borrow.Rule.Slice.PartMut.{put_mid, post_of}
 use lib.Seq.{take-add, take-append-le}
@@ -36,6 +36,18 @@ ends_early filled n buf all rest short within so_far end =
     let whole : all ≡ take filled buf = so_far ∙ ap (λ l. take filled buf ++ l) end ∙ append-nil (take filled buf) in
     let test : ltb (length all) n ≡ true = rw whole (search (arith, length-take)) in
     rw test (ap (λ (l : List ℕ). Err (UnexpectedEnd, l)) (sym end))
+
+-- what stands before the rest is what was filled
+filled_is : (filled : ℕ) (buf all taken rest : List ℕ) → all ≡ take filled buf ++ rest → all ≡ taken ++ rest → taken ≡ take filled buf
+filled_is filled buf all taken rest so_far joined = append_cancel_right taken (take filled buf) rest (sym joined ∙ so_far)
+
+-- a full buffer is what reading gives, whatever stands behind it
+pub is_full_taken : (filled n : ℕ) (buf all taken rest behind : List ℕ) → length buf ≤ filled → n ≡ length buf → all ≡ take filled buf ++ rest → all ≡ taken ++ rest → bytes_at n (taken ++ behind) ≡ Ok (buf, behind)
+is_full_taken filled n buf all taken rest behind full len so_far joined = is_full filled n buf (taken ++ behind) behind full len (ap (λ (l : List ℕ). l ++ behind) (filled_is filled buf all taken rest so_far joined))
+
+-- what was filled ends before the buffer is full
+pub too_few : (filled n : ℕ) (buf all taken rest : List ℕ) → filled < n → filled ≤ length buf → all ≡ take filled buf ++ rest → all ≡ taken ++ rest → bytes_at n taken ≡ Err (UnexpectedEnd, [])
+too_few filled n buf all taken rest short within so_far joined = ends_early filled n buf taken [] short within (filled_is filled buf all taken rest so_far joined ∙ sym (append-nil (take filled buf))) refl
 
 -- no byte was read
 pub none_read : (n : ℕ) (buf old new : List ℕ) → n ≡ 0 → old ≡ take n buf ++ new → old ≡ new

@@ -2,6 +2,7 @@
 use Rattle.std.proofs.Common.{◌≡◌, ℕ, ◌-◌, ◌^◌, ◌<◌, ◌≤◌, List, ◌++◌, length, take, Ok, Err, Option, Some, None, refl, sym, ap, subst, ◌∙◌, arith, length-append, take_at}
 use Rattle.std.proofs.lemmas.List.{append_cancel_right}
 use Rattle.tv_base.specs.declared.cause.Cause.{Cause}
+use Rattle.tv_base.specs.declared.cause.Cause.TheVariants.{TooLong}
 use Rattle.tv_base.specs.declared.read_error.ReadError.{ReadError}
 use Rattle.tv_base.specs.declared.read_error.ReadError.TheVariants.{Corrupted, Io, Memory}
 use Rattle.tv_base.specs.Number.{VNum}
@@ -9,7 +10,7 @@ use Rattle.tv_base.specs.ErrorInPart.{ErrorInNumber}
 use Rattle.tv_base.specs.Reading.{vint_at}
 use Rattle.tv_base.specs.Source.{AllBytes, Failures}
 use Rattle.tv_base.specs.Stop.{Stops, CountsStop, Taken}
-use Rattle.tv_base.specs.Take.{read_stop}
+use Rattle.tv_base.specs.Take.{read_stop, MayStopLean}
 use Rattle.tv_base.proofs.AgreeNumbers.{vint_agrees}
 use Rattle.tv_base.proofs.Agrees.{ok_is}
 
@@ -34,11 +35,12 @@ number_only bytes rest n count read t m prefix tail joined encodes =
     cc
 
 -- a source that can't fail returns a failure
-pub number_refused : (bytes rest : List ℕ) (count : ℕ) (e : ReadError) (failures : Failures) → failures.number ≡ 0 → count < 2 ^ 64 - 1 → (e ≡ Memory → ⊥)
-    → Stops (read_stop e) (vint_at bytes) rest count → CountsStop (read_stop e) failures failures → (c : Cause) × (vint_at bytes ≡ Err (c, rest))
-number_refused bytes rest count (Corrupted c) failures none few spares gives counts = (c, gives few)
-number_refused bytes rest count (Io kind) failures none few spares gives counts = absurd (omega (arith, none, counts.counted))
-number_refused bytes rest count Memory failures none few spares gives counts = absurd (spares refl)
+pub number_refused : (bytes rest : List ℕ) (count : ℕ) (e : ReadError) (failures : Failures) → failures.number ≡ 0 → count < 2 ^ 64 - 1 → MayStopLean e count → (t : Taken bytes rest 0 count)
+    → Stops (read_stop e) vint_at t.prefix rest → CountsStop (read_stop e) failures failures → (c : Cause) × (vint_at bytes ≡ Err (c, rest))
+number_refused bytes rest count (Corrupted TooLong) failures none few may t gives counts = absurd (omega (arith, may.0, few))
+number_refused bytes rest count (Corrupted c) failures none few may t gives counts = (c, ap vint_at t.joined ∙ gives)
+number_refused bytes rest count (Io kind) failures none few may t gives counts = absurd (omega (arith, none, counts.counted))
+number_refused bytes rest count Memory failures none few may t gives counts = absurd (may.1 refl)
 
 pub read_error_of : (bytes rest : List ℕ) → AllBytes bytes → (c : Cause) × (vint_at bytes ≡ Err (c, rest)) → (c : Cause) × ErrorInNumber bytes c
 read_error_of bytes rest small read = (read.0, vint_agrees.refused bytes read.0 rest small read.1)

@@ -3,7 +3,7 @@ use Rattle.std.proofs.Common.{◌≡◌, ℕ, List, [], ◌++◌, Result, Ok, Er
 use Rattle.std.proofs.lemmas.List.{append-nil}
 use Rattle.tv_base.specs.Source.{Failures}
 use Rattle.tv_base.specs.Stop.{Stop}
-use Rattle.tv_base.specs.Stop.Stop.{InputError, Failed, Short, Never}
+use Rattle.tv_base.specs.Stop.Stop.{InputError, Uncounted, Failed, Short, Never}
 use Rattle.tv_base.specs.Sink.{Begins, Halts, WritesBy}
 use Rattle.tv_base.proofs.TakeSteps.{CountsStop-from}
 
@@ -31,12 +31,14 @@ begins_before old new text after some = (some.0, (some.1.0 ++ after, ap (λ (l :
 
 halts_behind : {R : Type 0} (s : Stop R) (old mid new prefix text : List ℕ) → mid ≡ old ++ prefix → Halts s mid new (Ok text) → Halts s old new (Ok (prefix ++ text))
 halts_behind (InputError r) old mid new prefix text a h = h
+halts_behind (Uncounted end) old mid new prefix text a h = h
 halts_behind (Failed kind) old mid new prefix text a h = begins_behind old mid new prefix text a h
 halts_behind Short old mid new prefix text a h = begins_behind old mid new prefix text a h
 halts_behind Never old mid new prefix text a h = h
 
 halts_before : {R : Type 0} (s : Stop R) (old new text after : List ℕ) → Halts s old new (Ok text) → Halts s old new (Ok (text ++ after))
 halts_before (InputError r) old new text after h = h
+halts_before (Uncounted end) old new text after h = h
 halts_before (Failed kind) old new text after h = begins_before old new text after h
 halts_before Short old new text after h = begins_before old new text after h
 halts_before Never old new text after h = h

@@ -3,7 +3,7 @@ use Rattle.std.specs.Prelude.{◌≡◌, ℕ, List, ◌++◌, take, Result, Ok, 
 use Rattle.std.specs.declared.io.ErrorKind.{ErrorKind}
 use Rattle.tv_base.specs.Source.{Failures}
 use Rattle.tv_base.specs.Stop.{Stop, Counts}
-use Rattle.tv_base.specs.Stop.Stop.{InputError, Failed, Short, Never}
+use Rattle.tv_base.specs.Stop.Stop.{InputError, Uncounted, Failed, Short, Never}
 
 -- the first n bytes are appended, and an error appends none
 abbrev pub AppendsSome : {E : Type 0} → List ℕ → List ℕ → Result ℕ E → List ℕ → Type 0
@@ -27,6 +27,7 @@ text_of (Err refusal) = refusal.1
 abbrev pub Halts : {R : Type 0} → Stop R → List ℕ → List ℕ → Result (List ℕ) (R × List ℕ) → Type 0
 Halts (InputError r) old new (Ok text) = ⊥
 Halts (InputError r) old new (Err refusal) = (refusal.0 ≡ r) × (new ≡ old ++ refusal.1)
+Halts (Uncounted end) old new writing = ⊥
 Halts (Failed kind) old new writing = Begins old new (text_of writing)
 Halts Short old new writing = Begins old new (text_of writing)
 Halts Never old new writing = ⊥

@@ -1,12 +1,12 @@
 -- What a reader does to a source that it is lent, and to the count of the bytes that were taken of it.
 use Rattle.std.specs.Prelude.{◌≡◌, ◌≢◌, ℕ, ◌-◌, ◌^◌, List, Result}
 use Rattle.tv_base.specs.declared.cause.Cause.{Cause}
-use Rattle.tv_base.specs.declared.cause.Cause.TheVariants.{TooLong}
+use Rattle.tv_base.specs.declared.cause.Cause.TheVariants.{UnexpectedEnd, TooLong}
 use Rattle.tv_base.specs.declared.read_error.ReadError.{ReadError}
 use Rattle.tv_base.specs.declared.read_error.ReadError.TheVariants.{Corrupted, Io, Memory}
 use Rattle.tv_base.specs.Source.{Failures}
 use Rattle.tv_base.specs.Stop.{Stop, Takes}
-use Rattle.tv_base.specs.Stop.Stop.{InputError, Failed, Short}
+use Rattle.tv_base.specs.Stop.Stop.{InputError, Uncounted, Failed, Short}
 
 -- a source, and how many bytes were taken of it
 pub record Place (S : Type 0) : Type 0 where
@@ -18,6 +18,7 @@ abbrev pub told : {S : Type 0} → (S → Type 0) → Place S → Type 0
 told is_known p = is_known p.source
 
 abbrev pub read_stop : ReadError → Stop Cause
+read_stop (Corrupted TooLong) = Uncounted UnexpectedEnd
 read_stop (Corrupted c) = InputError c
 read_stop (Io kind) = Failed kind
 read_stop Memory = Short

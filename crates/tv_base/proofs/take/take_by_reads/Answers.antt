@@ -1,13 +1,15 @@
-use Rattle.std.proofs.Common.{rules, arith, ◌∙◌, sym}
+use Rattle.std.proofs.Common.{rules, arith, ap, ◌∙◌, sym}
 use Rattle.tv_base.proofs.TakeSteps.{failed_since}
-use Rattle.tv_base.proofs.Pieces.{fills_more, is_full, ends_early, none_read, given_still, taken_so_far}
+use Rattle.tv_base.proofs.Pieces.{fills_more, is_full_taken, too_few, ends_early, none_read, given_still, taken_so_far}
+use Rattle.tv_base.specs.Reading.{bytes_at}
 use Rattle.tv_base.proofs.take.take_by_reads.Goals as goal
 
 pub returns-then-room-eq0-clause-takes : goal.returns-then-room-eq0-clause-takes
 returns-then-room-eq0-clause-takes g c =
-    let before = c.loop-filled.invariant in
+    let l = c.loop-filled in
+    let before = l.invariant in
     record {
-      gives = λ told few. absurd (omega arith);
+      gives = λ told taken joined. too_few l.filled _ l.buf _ taken _ (omega arith) before.within (before.given told) joined;
       taken = λ told. taken_so_far _ _ _ before.within before.taken (before.given told);
       stays_known = before.stays_known;
       counts = before.counts;
@@ -23,7 +25,7 @@ returns-in-Ok-eq0-clause-takes g c =
     let same = λ (told : g.S.ByteSource.is_known c.args.source.now). none_read _ _ _ _ c.in-Ok-eq0.field-0-test (read told).0 in
     let given = λ (told : g.S.ByteSource.is_known c.args.source.now). given_still _ _ _ _ (before.given told) (same told) in
     record {
-      gives = λ told few. ends_early l.filled _ l.buf _ _ (omega arith) before.within (given told) (sym (same told) ∙ (read told).1 c.in-Ok-eq0.field-0-test (omega arith));
+      gives = λ told taken joined. sym (ap (bytes_at _) joined) ∙ ends_early l.filled _ l.buf _ _ (omega arith) before.within (given told) (sym (same told) ∙ (read told).1 c.in-Ok-eq0.field-0-test (omega arith));
       taken = λ told. taken_so_far _ _ _ before.within before.taken (given told);
       stays_known = λ told. c.in-Ok-eq0.ensures.is_known (before.stays_known told);
       counts = c.in-Ok-eq0.ensures.failures ∙ before.counts;
@@ -49,7 +51,7 @@ returns-clause-takes g c =
     let l = c.loop-filled in
     let before = l.invariant in
     record {
-      gives = λ told. is_full l.filled _ l.buf _ _ c.loop-filled-test.false (omega arith) (before.given told);
+      gives = λ told taken joined behind. is_full_taken l.filled _ l.buf _ taken _ behind c.loop-filled-test.false (omega arith) (before.given told) joined;
       taken = λ told. taken_so_far _ _ _ before.within before.taken (before.given told);
       stays_known = before.stays_known;
       counts = before.counts;
@@ -62,7 +64,7 @@ returns-in-Err-clause-takes g c =
     let l = c.loop-filled in
     let before = l.invariant in
     record {
-      gives = λ told. tt;
+      gives = λ told taken joined. tt;
       taken = λ told. taken_so_far _ _ _ before.within before.taken (given_still _ _ _ _ (before.given told) (sym (c.in-Err.ensures.bytes (before.stays_known told))));
       stays_known = λ told. c.in-Err.ensures.is_known (before.stays_known told);
       counts = failed_since before.counts c.in-Err.ensures.failures;

@@ -1,12 +1,17 @@
-use Rattle.std.proofs.Common.{arith, refl}
+use Rattle.std.proofs.Common.{arith, refl, []}
 use Rattle.tv_base.specs.Take.{read_stop}
-use Rattle.tv_base.proofs.TakeSteps.{SoFar-start, SoFar-returns}
+use Rattle.tv_base.proofs.TakeSteps.{SoFar-start, SoFar-returns, SoFar-ends}
 use Rattle.tv_base.proofs.Chunks.{none}
-use Rattle.tv_base.proofs.Appending.{piece_taken, piece_ends}
+use Rattle.tv_base.proofs.Appending.{none_left, piece_taken, piece_ends}
 use Rattle.tv_base.proofs.take.take_pieces.Goals as goal
 
 pub loop-missing-init : goal.loop-missing-init
 loop-missing-init g c = record { so_far = SoFar-start _ _ _ _ _ _ _ (λ bytes. refl); longer = refl; few = omega arith }
+
+pub returns-then-room-eq0-clause-takes : goal.returns-then-room-eq0-clause-takes
+returns-then-room-eq0-clause-takes g c =
+    let l = c.loop-missing in
+    SoFar-ends read_stop _ _ _ refl (omega arith) (none_left l.bytes.items [] l.missing (omega arith) refl) l.invariant.so_far
 
 pub returns-then-more-eq0-clause-takes : goal.returns-then-more-eq0-clause-takes
 returns-then-more-eq0-clause-takes g c =

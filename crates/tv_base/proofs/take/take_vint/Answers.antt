@@ -6,7 +6,7 @@ pub returns-in-Some-clause-takes : goal.returns-in-Some-clause-takes
 returns-in-Some-clause-takes g c =
     let gave = rw c.in-Some.is at c.pass_number.ensures in
     record {
-      gives = λ told. number_read _ _ c.in-Some.number c.in-Some.len (gave.bytes told);
+      gives = λ told taken joined. number_read _ _ c.in-Some.number c.in-Some.len taken (gave.bytes told) joined;
       taken = λ told. number_taken {n = c.in-Some.number} refl (gave.bytes told);
       stays_known = gave.is_known;
       counts = gave.failures;
