@@ -1,5 +1,5 @@
 -- A reader that gives what a reading gives reads by the grammar that the reading agrees with.
-use Rattle.std.proofs.Common.{◌≡◌, ℕ, ◌-◌, ◌^◌, ◌<◌, List, ◌++◌, length, Result, Ok, Err, refl, sym, ap, subst, ◌∙◌, arith, length-append}
+use Rattle.std.proofs.Common.{◌≡◌, ◌≢◌, ℕ, ◌-◌, ◌^◌, ◌<◌, List, [], ◌++◌, length, Result, Ok, Err, refl, sym, ap, subst, ◌∙◌, arith, length-append}
 use Rattle.std.specs.Prelude.{IfOk, IfErr, IsErrOf}
 use Rattle.std.proofs.lemmas.Result.{IfErr-at_err}
 use Rattle.tv_base.specs.declared.cause.Cause.{Cause}
@@ -9,7 +9,7 @@ use Rattle.tv_base.specs.declared.read_error.ReadError.TheVariants.{Corrupted, I
 use Rattle.tv_base.specs.Source.{AllBytes, Failures}
 use Rattle.tv_base.specs.Stop.{Stops, Gives, Taken}
 use Rattle.tv_base.specs.Take.{TakesBy, TakesLean, CauseMayStop, MayStop, MayStopLean, read_stop}
-use Rattle.tv_base.specs.ReadsAs.{Known, IsRead, Shows, ReadsAs, ReadsLean}
+use Rattle.tv_base.specs.ReadsAs.{IsRead, Shows, EndsEarly, ReadsAs, ReadsLean}
 use Rattle.tv_base.proofs.SmallBytes.{bytes_before}
 use Rattle.tv_base.proofs.TakeSteps.{lean}
 use Rattle.tv_base.proofs.Agrees.{Agrees, ok_is, no_ok}
@@ -25,10 +25,13 @@ refused_at reading taken rest count TooLong few may h = absurd (omega (arith, fe
 refused_at reading taken rest count c few may h = h
 
 -- the error that is read
-refused_by : {X Y : Type 0} (view : X → Y) (reading : List ℕ → Result (Y × List ℕ) (Cause × List ℕ)) (bytes taken rest : List ℕ) (count : ℕ) (result : Result X ReadError) → count < 2 ^ 64 - 1 → IfErr result (λ e. MayStop e count) → bytes ≡ taken ++ rest → Gives read_stop view result reading taken rest
-    → (c : Cause) → IsErrOf result (Corrupted c) → reading bytes ≡ Err (c, rest)
-refused_by view reading bytes taken rest count result few may joined h c e =
-    ap reading joined ∙ refused_at reading taken rest count c few (IfErr-at_err (λ x. MayStop x count) e may) (subst (λ r. Gives read_stop view r reading taken rest) e h)
+told_at : {Y : Type 0} (reading : List ℕ → Result (Y × List ℕ) (Cause × List ℕ)) (taken rest : List ℕ) (c : Cause) → c ≢ TooLong → Stops (read_stop (Corrupted c)) reading taken rest → reading (taken ++ rest) ≡ Err (c, rest)
+told_at reading taken rest TooLong other h = absurd (other refl)
+told_at reading taken rest c other h = h
+
+refused_by : {X Y : Type 0} (view : X → Y) (reading : List ℕ → Result (Y × List ℕ) (Cause × List ℕ)) (bytes taken rest : List ℕ) (result : Result X ReadError) → bytes ≡ taken ++ rest → Gives read_stop view result reading taken rest
+    → (c : Cause) → c ≢ TooLong → IsErrOf result (Corrupted c) → reading bytes ≡ Err (c, rest)
+refused_by view reading bytes taken rest result joined h c other e = ap reading joined ∙ told_at reading taken rest c other (subst (λ r. Gives read_stop view r reading taken rest) e h)
 
 -- bytes that show an error show it by the grammar
 pub shows_by : {F Y : Type 0} {end : F} {reading : List ℕ → Result (Y × List ℕ) (F × List ℕ)} {Encodes : List ℕ → Y → Type 0} {HasError : List ℕ → F → Type 0}
@@ -51,6 +54,11 @@ is_read {Y = Y} view (Err (Corrupted c)) reading y rest taken now count few may 
 is_read view (Err (Io kind)) reading y rest taken now count few may e h = tt
 is_read view (Err Memory) reading y rest taken now count few may e h = tt
 
+-- bytes that end too early
+pub early_by : {F Y : Type 0} {end : F} {reading : List ℕ → Result (Y × List ℕ) (F × List ℕ)} {Encodes : List ℕ → Y → Type 0} {HasError : List ℕ → F → Type 0}
+    → Agrees end reading Encodes HasError → (bytes taken rest : List ℕ) (c : F) → AllBytes bytes → bytes ≡ taken ++ rest → reading taken ≡ Err (c, []) → EndsEarly c HasError bytes rest
+early_by agrees bytes taken rest c small joined e = record { taken = taken; joined = joined; shown = agrees.refused taken c [] (bytes_before bytes taken rest joined small) e }
+
 -- what is counted of few bytes is few
 pub few_taken : {old new : List ℕ} {now : ℕ} → length old < 2 ^ 64 - 1 → Taken old new 0 now → now < 2 ^ 64 - 1
 few_taken {new = new} few t = omega (arith, t.counted, ap length t.joined, length-append t.prefix new)
@@ -59,18 +67,21 @@ module _ {S X Y : Type 0} (is_known : S → Type 0) (left : S → List ℕ) (fai
     {reading : List ℕ → Result (Y × List ℕ) (Cause × List ℕ)} {Encodes : List ℕ → Y → Type 0} {HasError : List ℕ → Cause → Type 0} (agrees : Agrees UnexpectedEnd reading Encodes HasError) where
   pub by_grammar : TakesBy is_known left failures old 0 new new_count view result reading → ReadsAs is_known left failures old new view result Encodes HasError
   by_grammar h =
-      let error = λ (known : Known is_known left old) (c : Cause) (e : IsErrOf result (Corrupted c)).
-          let t = h.taken known.0 in
-          refused_by view reading (left old) t.prefix (left new) new_count result (few_taken known.1 t) h.may_stop t.joined (h.gives known.0 t.prefix t.joined) c e in
+      let error = λ (told : is_known old) (c : Cause) (other : c ≢ TooLong) (e : IsErrOf result (Corrupted c)).
+      let t = h.taken told in
+      refused_by view reading (left old) t.prefix (left new) result t.joined (h.gives told t.prefix t.joined) c other e in
       record {
         found = λ told. let t = h.taken told in found_by view agrees (left old) t.prefix (left new) result (are_bytes old told) t.joined (h.gives told t.prefix t.joined);
         only = λ known prefix y rest encodes e.
             let t = h.taken known.0 in
             is_read view result reading y rest t.prefix (left new) new_count (few_taken known.1 t) h.may_stop (ap reading (sym t.joined ∙ e) ∙ agrees.complete prefix y rest encodes) (h.gives known.0 t.prefix t.joined);
-        cause = λ known c e. agrees.refused (left old) c (left new) (are_bytes old known.0) (error known c e);
-        shows = λ known c e. shows_by agrees (left old) (left new) c (are_bytes old known.0) (error known c e);
+        cause = λ told c other e. agrees.refused (left old) c (left new) (are_bytes old told) (error told c other e);
+        shows = λ told c other e. shows_by agrees (left old) (left new) c (are_bytes old told) (error told c other e);
         taken = λ told. let t = h.taken told in (t.prefix, t.joined);
         too_long = λ told e. let t = h.taken told in (t.prefix, t.joined, omega (arith, t.counted, IfErr-at_err (λ x. MayStop x new_count) e h.may_stop));
+        ends_early = λ told e.
+            let t = h.taken told in
+            early_by agrees (left old) t.prefix (left new) UnexpectedEnd (are_bytes old told) t.joined (subst (λ r. Gives read_stop view r reading t.prefix (left new)) e (h.gives told t.prefix t.joined));
         stays_known = h.stays_known;
         counts = h.counts;
       }

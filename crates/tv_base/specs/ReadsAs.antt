@@ -28,22 +28,28 @@ pub record Shows {C : Type 0} (end : C) (HasError : List ℕ → C → Type 0) (
   pub all : error ≡ end → new ≡ []
   pub early : error ≢ end → (prefix : List ℕ) (byte : ℕ) → taken ≡ prefix ++ byte ∷ [] → HasError prefix end
 
+-- The bytes that were taken end too early: only their end is malformed.
+pub record EndsEarly {C : Type 0} (end : C) (HasError : List ℕ → C → Type 0) (old new : List ℕ) : Type 0 where
+  pub taken : List ℕ
+  pub joined : old ≡ taken ++ new
+  pub shown : HasError taken end
+
 -- as many bytes were taken as are counted, 2 ^ 64 - 1
 abbrev pub TakesMost : List ℕ → List ℕ → Type 0
 TakesMost old new = (prefix : List ℕ) × (old ≡ prefix ++ new) × (length prefix ≡ 2 ^ 64 - 1)
 
 -- Where the bytes left are known: what is read is encoded by the bytes that were taken, and after an error too a slice of them was
--- taken. Where they are few enough: what a prefix encodes is read, unless a read failed or memory was refused; and where the bytes are
--- refused, that error stands in them, and just the bytes that show it were taken. `TooLong`
--- comes only behind the most bytes that are counted. `Io` is told where a read failed, with its kind,
--- and only there.
+-- taken. Where the bytes are refused, that error stands in them, and just the bytes that show it were taken. `TooLong` comes only behind
+-- the most bytes that are counted, and these end too early. Where few enough are left, what a prefix encodes is read, unless a read failed
+-- or memory was refused. `Io` is told where a read failed, with its kind, and only there.
 pub record ReadsAs {S X Y : Type 0} (is_known : S → Type 0) (left : S → List ℕ) (failures : S → Failures) (old new : S) (view : X → Y) (result : Result X ReadError) (Encodes : List ℕ → Y → Type 0) (HasError : List ℕ → Cause → Type 0) : Type 0 where
   pub found : is_known old → IfOk result (λ x. (prefix : List ℕ) × Encodes prefix (view x) × (left old ≡ prefix ++ left new))
   pub only : Known is_known left old → (prefix : List ℕ) (y : Y) (rest : List ℕ) → Encodes prefix y → left old ≡ prefix ++ rest → IsRead view result y rest (left new)
-  pub cause : Known is_known left old → (c : Cause) → IsErrOf result (Corrupted c) → HasError (left old) c
-  pub shows : Known is_known left old → (c : Cause) → IsErrOf result (Corrupted c) → Shows UnexpectedEnd HasError (left old) (left new) c
+  pub cause : is_known old → (c : Cause) → c ≢ TooLong → IsErrOf result (Corrupted c) → HasError (left old) c
+  pub shows : is_known old → (c : Cause) → c ≢ TooLong → IsErrOf result (Corrupted c) → Shows UnexpectedEnd HasError (left old) (left new) c
   pub taken : is_known old → (prefix : List ℕ) × (left old ≡ prefix ++ left new)
   pub too_long : is_known old → IsErrOf result (Corrupted TooLong) → TakesMost (left old) (left new)
+  pub ends_early : is_known old → IsErrOf result (Corrupted TooLong) → EndsEarly UnexpectedEnd HasError (left old) (left new)
   pub stays_known : is_known old → is_known new
   pub counts : Counts read_stop result (failures old) (failures new)
 

@@ -55,7 +55,8 @@ pub trait BinarySerializable: Sized {
     ///
     /// Errors: `Corrupted` with the first error in the bytes, from left to right, `Io` with the kind of the read that failed, and
     /// `Memory`. At `Corrupted` just the bytes that show the error were taken: without the last of them only an end was to be seen,
-    /// and at `UnexpectedEnd` all were taken. `TooLong` comes behind 2^64 - 1 bytes. After each other error some prefix was taken.
+    /// and at `UnexpectedEnd` all were taken. `TooLong` comes behind 2^64 - 1 bytes, where more are needed. After each other error some
+    /// prefix was taken.
     fn deserialize<S: ByteSource>(alloc: Global, source: &mut S) -> Result<Self, ReadError>
         ensures { ReadsAs S.is_known S.left S.failures source.old source.new view result encodes
             has_error };

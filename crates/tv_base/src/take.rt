@@ -1,8 +1,8 @@
 //! Reading from a source that is lent, and counting the bytes that are taken of it.
 //!
 //! Each function takes exactly the bytes of its value, and raises `count` by their number. Before `count` would pass
-//! 2^64 - 1 it returns `Corrupted(TooLong)`. After an error `count` has risen by the number of the bytes that were taken up
-//! to there.
+//! 2^64 - 1 it returns `Corrupted(TooLong)`: the bytes that were taken end too early. Every other error is what the bytes show, also
+//! where as many were taken. After an error `count` has risen by the number of the bytes that were taken up to there.
 
 ghost use Rattle.std.specs.Prelude.{◌≡◌, ◌⊎◌, ◌≤◌, ◌+◌, [], length, true, false, IfOk};
 ghost use Rattle.std.specs.Prelude.{IfErr, IsErrOf, OnOk, OnErr, string_bytes};

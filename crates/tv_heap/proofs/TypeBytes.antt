@@ -38,10 +38,11 @@ pub no_byte_read : {S : Type 0} (is_known : S → Type 0) (left : S → List ℕ
 no_byte_read is_known left failures old new e r = record {
   found = λ t. tt;
   only = λ known prefix y rest encodes joined. same_error e (type_code y) y rest (left new) (r.only known prefix (type_code y) rest encodes joined);
-  cause = λ known c is. no_byte (r.cause known c (err_is e (Corrupted c) is));
-  shows = λ known c is. shows_type (left old) (left new) c (r.shows known c (err_is e (Corrupted c) is));
+  cause = λ told c other is. no_byte (r.cause told c other (err_is e (Corrupted c) is));
+  shows = λ told c other is. shows_type (left old) (left new) c (r.shows told c other (err_is e (Corrupted c) is));
   taken = r.taken;
   too_long = λ t is. r.too_long t (err_is e (Corrupted TooLong) is);
+  ends_early = λ t is. let h = r.ends_early t (err_is e (Corrupted TooLong) is) in record { taken = h.taken; joined = h.joined; shown = no_byte h.shown };
   stays_known = r.stays_known;
   counts = r.counts;
 }
@@ -68,16 +69,17 @@ pub other_byte_read : {S : Type 0} (is_known : S → Type 0) (left : S → List 
 other_byte_read is_known left failures old new code other r = record {
   found = λ t. tt;
   only = λ known prefix y rest encodes joined. other y (sym (r.only known prefix (type_code y) rest encodes joined).0);
-  cause = λ known c is.
-      let f = r.found known.0 in
+  cause = λ told c apart is.
+      let f = r.found told in
       let same : UnknownTypeCode code ≡ c = cc in
       subst (ErrorInType (left old)) same (no_type code (left new) (f.2 ∙ ap (λ (l : List ℕ). l ++ left new) (one_byte_is f.0 code f.1)) other);
-  shows = λ known c is.
-      let f = r.found known.0 in
+  shows = λ told c apart is.
+      let f = r.found told in
       let same : UnknownTypeCode code ≡ c = cc in
       subst (Shows UnexpectedEnd ErrorInType (left old) (left new)) same (shows_other (left old) (left new) f.0 code other f.1 f.2);
   taken = r.taken;
   too_long = λ t is. absurd (cc);
+  ends_early = λ t is. absurd (cc);
   stays_known = r.stays_known;
   counts = r.counts;
 }
