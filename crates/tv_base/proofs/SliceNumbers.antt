@@ -36,8 +36,8 @@ number_only bytes rest n count read t m prefix tail joined encodes =
 
 -- a source that can't fail returns a failure
 pub number_refused : (bytes rest : List ℕ) (count : ℕ) (e : ReadError) (failures : Failures) → failures.number ≡ 0 → count < 2 ^ 64 - 1 → MayStopLean e count → (t : Taken bytes rest 0 count)
-    → Stops (read_stop e) vint_at t.prefix rest → CountsStop (read_stop e) failures failures → (c : Cause) × (vint_at bytes ≡ Err (c, rest))
-number_refused bytes rest count (Corrupted TooLong) failures none few may t gives counts = absurd (omega (arith, may.0, few))
+    → Stops (read_stop e) vint_at t.prefix rest count → CountsStop (read_stop e) failures failures → (c : Cause) × (vint_at bytes ≡ Err (c, rest))
+number_refused bytes rest count (Corrupted TooLong) failures none few may t gives counts = absurd (omega (arith, gives.0, few))
 number_refused bytes rest count (Corrupted c) failures none few may t gives counts = (c, ap vint_at t.joined ∙ gives)
 number_refused bytes rest count (Io kind) failures none few may t gives counts = absurd (omega (arith, none, counts.counted))
 number_refused bytes rest count Memory failures none few may t gives counts = absurd (may.1 refl)

@@ -1,5 +1,5 @@
 -- One step of reading after the other, with the count, for every error type.
-use Rattle.std.proofs.Common.{◌≡◌, ℕ, ◌≤◌, List, [], ◌++◌, Result, Ok, Err, refl, sym, ap, subst, ◌∙◌, arith, append_assoc, length-append}
+use Rattle.std.proofs.Common.{◌≡◌, ℕ, ◌-◌, ◌^◌, ◌≤◌, List, [], ◌++◌, Result, Ok, Err, refl, sym, ap, subst, ◌∙◌, arith, append_assoc, length-append}
 use Rattle.std.specs.declared.io.ErrorKind.{ErrorKind}
 use Rattle.std.proofs.lemmas.List.{append-nil, append_cancel_right}
 use Rattle.std.proofs.lemmas.Result.{IfErr-weaker}
@@ -41,25 +41,25 @@ read_ok {left = left} {new = new} {reading = reading} h told = let t = h.taken t
 
 -- ---- stops
 
-Stops-then : {F A B : Type 0} (s : Stop F) (reading : List ℕ → Result (A × List ℕ) (F × List ℕ)) (f : A × List ℕ → Result (B × List ℕ) (F × List ℕ)) (whole : List ℕ → Result (B × List ℕ) (F × List ℕ)) (before taken rest : List ℕ)
-    → ((bytes : List ℕ) → whole (before ++ bytes) ≡ (reading bytes >>= f)) → Stops s reading taken rest → Stops s whole (before ++ taken) rest
-Stops-then (InputError c) reading f whole before taken rest parts h = ap whole (append_assoc before taken rest) ∙ parts (taken ++ rest) ∙ ap (λ r. r >>= f) h
-Stops-then (Uncounted c) reading f whole before taken rest parts h = parts taken ∙ ap (λ r. r >>= f) h
-Stops-then (Failed kind) reading f whole before taken rest parts h = tt
-Stops-then Short reading f whole before taken rest parts h = tt
-Stops-then Never reading f whole before taken rest parts h = h
+Stops-then : {F A B : Type 0} (s : Stop F) (reading : List ℕ → Result (A × List ℕ) (F × List ℕ)) (f : A × List ℕ → Result (B × List ℕ) (F × List ℕ)) (whole : List ℕ → Result (B × List ℕ) (F × List ℕ)) (before taken rest : List ℕ) (count : ℕ)
+    → ((bytes : List ℕ) → whole (before ++ bytes) ≡ (reading bytes >>= f)) → Stops s reading taken rest count → Stops s whole (before ++ taken) rest count
+Stops-then (InputError c) reading f whole before taken rest count parts h = ap whole (append_assoc before taken rest) ∙ parts (taken ++ rest) ∙ ap (λ r. r >>= f) h
+Stops-then (Uncounted c) reading f whole before taken rest count parts h = (h.0, parts taken ∙ ap (λ r. r >>= f) h.1)
+Stops-then (Failed kind) reading f whole before taken rest count parts h = tt
+Stops-then Short reading f whole before taken rest count parts h = tt
+Stops-then Never reading f whole before taken rest count parts h = h
 
-Stops-behind : {F A : Type 0} (s : Stop F) (reading whole : List ℕ → Result (A × List ℕ) (F × List ℕ)) (before taken rest : List ℕ) → ((bytes : List ℕ) → whole (before ++ bytes) ≡ reading bytes) → Stops s reading taken rest → Stops s whole (before ++ taken) rest
-Stops-behind (InputError c) reading whole before taken rest same h = ap whole (append_assoc before taken rest) ∙ same (taken ++ rest) ∙ h
-Stops-behind (Uncounted c) reading whole before taken rest same h = same taken ∙ h
-Stops-behind (Failed kind) reading whole before taken rest same h = tt
-Stops-behind Short reading whole before taken rest same h = tt
-Stops-behind Never reading whole before taken rest same h = h
+Stops-behind : {F A : Type 0} (s : Stop F) (reading whole : List ℕ → Result (A × List ℕ) (F × List ℕ)) (before taken rest : List ℕ) (count : ℕ) → ((bytes : List ℕ) → whole (before ++ bytes) ≡ reading bytes) → Stops s reading taken rest count → Stops s whole (before ++ taken) rest count
+Stops-behind (InputError c) reading whole before taken rest count same h = ap whole (append_assoc before taken rest) ∙ same (taken ++ rest) ∙ h
+Stops-behind (Uncounted c) reading whole before taken rest count same h = (h.0, same taken ∙ h.1)
+Stops-behind (Failed kind) reading whole before taken rest count same h = tt
+Stops-behind Short reading whole before taken rest count same h = tt
+Stops-behind Never reading whole before taken rest count same h = h
 
-Gives-behind : {E F X Y : Type 0} (stop : E → Stop F) (view : X → Y) (result : Result X E) (reading whole : List ℕ → Result (Y × List ℕ) (F × List ℕ)) (before taken rest : List ℕ)
-    → ((bytes : List ℕ) → whole (before ++ bytes) ≡ reading bytes) → Gives stop view result reading taken rest → Gives stop view result whole (before ++ taken) rest
-Gives-behind stop view (Ok x) reading whole before taken rest same h = λ behind. ap whole (append_assoc before taken behind) ∙ same (taken ++ behind) ∙ h behind
-Gives-behind stop view (Err e) reading whole before taken rest same h = Stops-behind (stop e) reading whole before taken rest same h
+Gives-behind : {E F X Y : Type 0} (stop : E → Stop F) (view : X → Y) (result : Result X E) (reading whole : List ℕ → Result (Y × List ℕ) (F × List ℕ)) (before taken rest : List ℕ) (count : ℕ)
+    → ((bytes : List ℕ) → whole (before ++ bytes) ≡ reading bytes) → Gives stop view result reading taken rest count → Gives stop view result whole (before ++ taken) rest count
+Gives-behind stop view (Ok x) reading whole before taken rest count same h = λ behind. ap whole (append_assoc before taken behind) ∙ same (taken ++ behind) ∙ h behind
+Gives-behind stop view (Err e) reading whole before taken rest count same h = Stops-behind (stop e) reading whole before taken rest count same h
 
 pub CountsStop-from : {F : Type 0} (s : Stop F) (old mid new : Failures) → mid ≡ old → CountsStop s mid new → CountsStop s old new
 CountsStop-from (InputError c) old mid new same h = h ∙ same
@@ -124,13 +124,13 @@ SoFar-step {left = left} {new = new} {whole = whole} f parts h read = record {
 pub SoFar-fails : {P E F X Y Z W : Type 0} {stop : E → Stop F} {May : E → ℕ → Type 0} {is_known : P → Type 0} {left : P → List ℕ} {count : P → ℕ} {failures : P → Failures} {old mid new : P} {whole rest : List ℕ → Result (Y × List ℕ) (F × List ℕ)} {first : List ℕ → Result (Z × List ℕ) (F × List ℕ)} {view : X → Z} (other : W → Y) (e : E)
     (f : Z × List ℕ → Result (Y × List ℕ) (F × List ℕ)) → ((bytes : List ℕ) → rest bytes ≡ (first bytes >>= f))
     → SoFar is_known left count failures old mid whole rest → Takes stop May is_known left count failures mid new view (Err e) first → Takes stop May is_known left count failures old new other (Err e) whole
-SoFar-fails {stop = stop} {left = left} {new = new} {whole = whole} {first = first} other e f parts h read = record {
+SoFar-fails {stop = stop} {left = left} {count = count} {new = new} {whole = whole} {first = first} other e f parts h read = record {
   gives = λ told taken joined.
       let a = h.taken told in
       let known = h.stays_known told in
       let b = read.taken known in
-      subst (λ (l : List ℕ). Stops (stop e) whole l (left new)) (sym (both_taken a.prefix b.prefix taken (left new) a.joined b.joined joined))
-      (Stops-then (stop e) first f whole a.prefix b.prefix (left new) (λ bytes. h.goes told a.prefix a.joined bytes ∙ parts bytes) (read.gives known b.prefix b.joined));
+      subst (λ (l : List ℕ). Stops (stop e) whole l (left new) (count new)) (sym (both_taken a.prefix b.prefix taken (left new) a.joined b.joined joined))
+      (Stops-then (stop e) first f whole a.prefix b.prefix (left new) (count new) (λ bytes. h.goes told a.prefix a.joined bytes ∙ parts bytes) (read.gives known b.prefix b.joined));
   taken = λ told. Taken_then (h.taken told) (read.taken (h.stays_known told));
   stays_known = λ told. read.stays_known (h.stays_known told);
   counts = CountsStop-from (stop e) _ _ _ h.counts read.counts;
@@ -141,13 +141,13 @@ SoFar-fails {stop = stop} {left = left} {new = new} {whole = whole} {first = fir
 -- the rest was read, or not
 pub SoFar-then : {P E F X Y : Type 0} {stop : E → Stop F} {May : E → ℕ → Type 0} {is_known : P → Type 0} {left : P → List ℕ} {count : P → ℕ} {failures : P → Failures} {old mid new : P} {whole rest : List ℕ → Result (Y × List ℕ) (F × List ℕ)} {view : X → Y} {result : Result X E}
     → SoFar is_known left count failures old mid whole rest → Takes stop May is_known left count failures mid new view result rest → Takes stop May is_known left count failures old new view result whole
-SoFar-then {stop = stop} {left = left} {failures = failures} {old = old} {mid = mid} {new = new} {whole = whole} {rest = rest} {view = view} {result = result} h read = record {
+SoFar-then {stop = stop} {left = left} {count = count} {failures = failures} {old = old} {mid = mid} {new = new} {whole = whole} {rest = rest} {view = view} {result = result} h read = record {
   gives = λ told taken joined.
       let a = h.taken told in
       let known = h.stays_known told in
       let b = read.taken known in
-      subst (λ (l : List ℕ). Gives stop view result whole l (left new)) (sym (both_taken a.prefix b.prefix taken (left new) a.joined b.joined joined))
-      (Gives-behind stop view result rest whole a.prefix b.prefix (left new) (λ bytes. h.goes told a.prefix a.joined bytes) (read.gives known b.prefix b.joined));
+      subst (λ (l : List ℕ). Gives stop view result whole l (left new) (count new)) (sym (both_taken a.prefix b.prefix taken (left new) a.joined b.joined joined))
+      (Gives-behind stop view result rest whole a.prefix b.prefix (left new) (count new) (λ bytes. h.goes told a.prefix a.joined bytes) (read.gives known b.prefix b.joined));
   taken = λ told. Taken_then (h.taken told) (read.taken (h.stays_known told));
   stays_known = λ told. read.stays_known (h.stays_known told);
   counts = Counts-from stop result (failures old) (failures mid) (failures new) h.counts read.counts;
@@ -161,14 +161,14 @@ SoFar-returns stop view x done h = record { gives = λ told taken joined behind.
 
 pub SoFar-refuses : {P E F X Y : Type 0} (stop : E → Stop F) {May : E → ℕ → Type 0} {is_known : P → Type 0} {left : P → List ℕ} {count : P → ℕ} {failures : P → Failures} {old now : P} {whole rest : List ℕ → Result (Y × List ℕ) (F × List ℕ)} (view : X → Y) (e : E) (c : F)
     → stop e ≡ InputError c → May e (count now) → ((bytes : List ℕ) → rest bytes ≡ Err (c, bytes)) → SoFar is_known left count failures old now whole rest → Takes stop May is_known left count failures old now view (Err e) whole
-SoFar-refuses stop {left = left} {failures = failures} {old = old} {now = now} {whole = whole} view e c is may refused h =
-    record { gives = λ told taken joined. subst (λ s. Stops s whole taken (left now)) (sym is) (h.goes told taken joined (left now) ∙ refused (left now)); taken = h.taken; stays_known = h.stays_known; counts = subst (λ s. CountsStop s (failures old) (failures now)) (sym is) h.counts; rises = h.rises; may_stop = may }
+SoFar-refuses stop {left = left} {count = count} {failures = failures} {old = old} {now = now} {whole = whole} view e c is may refused h =
+    record { gives = λ told taken joined. subst (λ s. Stops s whole taken (left now) (count now)) (sym is) (h.goes told taken joined (left now) ∙ refused (left now)); taken = h.taken; stays_known = h.stays_known; counts = subst (λ s. CountsStop s (failures old) (failures now)) (sym is) h.counts; rises = h.rises; may_stop = may }
 
 -- no more bytes can be counted, and reading needs more
 pub SoFar-ends : {P E F X Y : Type 0} (stop : E → Stop F) {May : E → ℕ → Type 0} {is_known : P → Type 0} {left : P → List ℕ} {count : P → ℕ} {failures : P → Failures} {old now : P} {whole rest : List ℕ → Result (Y × List ℕ) (F × List ℕ)} (view : X → Y) (e : E) (end : F)
-    → stop e ≡ Uncounted end → May e (count now) → rest [] ≡ Err (end, []) → SoFar is_known left count failures old now whole rest → Takes stop May is_known left count failures old now view (Err e) whole
-SoFar-ends stop {left = left} {failures = failures} {old = old} {now = now} {whole = whole} view e end is may ended h = record {
-  gives = λ told taken joined. subst (λ s. Stops s whole taken (left now)) (sym is) (ap whole (sym (append-nil taken)) ∙ h.goes told taken joined [] ∙ ended);
+    → stop e ≡ Uncounted end → count now ≡ 2 ^ 64 - 1 → May e (count now) → rest [] ≡ Err (end, []) → SoFar is_known left count failures old now whole rest → Takes stop May is_known left count failures old now view (Err e) whole
+SoFar-ends stop {left = left} {count = count} {failures = failures} {old = old} {now = now} {whole = whole} view e end is most may ended h = record {
+  gives = λ told taken joined. subst (λ s. Stops s whole taken (left now) (count now)) (sym is) (most, ap whole (sym (append-nil taken)) ∙ h.goes told taken joined [] ∙ ended);
   taken = h.taken;
   stays_known = h.stays_known;
   counts = subst (λ s. CountsStop s (failures old) (failures now)) (sym is) h.counts;
@@ -178,5 +178,5 @@ SoFar-ends stop {left = left} {failures = failures} {old = old} {now = now} {who
 
 pub SoFar-stops : {P E F X Y : Type 0} (stop : E → Stop F) {May : E → ℕ → Type 0} {is_known : P → Type 0} {left : P → List ℕ} {count : P → ℕ} {failures : P → Failures} {old now : P} {whole rest : List ℕ → Result (Y × List ℕ) (F × List ℕ)} (view : X → Y) (e : E)
     → stop e ≡ Short → May e (count now) → SoFar is_known left count failures old now whole rest → Takes stop May is_known left count failures old now view (Err e) whole
-SoFar-stops stop {left = left} {failures = failures} {old = old} {now = now} {whole = whole} view e is may h =
-    record { gives = λ told taken joined. subst (λ s. Stops s whole taken (left now)) (sym is) tt; taken = h.taken; stays_known = h.stays_known; counts = subst (λ s. CountsStop s (failures old) (failures now)) (sym is) h.counts; rises = h.rises; may_stop = may }
+SoFar-stops stop {left = left} {count = count} {failures = failures} {old = old} {now = now} {whole = whole} view e is may h =
+    record { gives = λ told taken joined. subst (λ s. Stops s whole taken (left now) (count now)) (sym is) tt; taken = h.taken; stays_known = h.stays_known; counts = subst (λ s. CountsStop s (failures old) (failures now)) (sym is) h.counts; rises = h.rises; may_stop = may }

@@ -1,5 +1,5 @@
 -- Why a reader or a writer stopped, whatever its error type is: one set of definitions for each layer.
-use Rattle.std.specs.Prelude.{◌≡◌, ℕ, ◌+◌, ◌≤◌, List, [], ◌++◌, length, Result, Ok, Err, IfErr}
+use Rattle.std.specs.Prelude.{◌≡◌, ℕ, ◌+◌, ◌-◌, ◌^◌, ◌≤◌, List, [], ◌++◌, length, Result, Ok, Err, IfErr}
 use Rattle.std.specs.declared.io.ErrorKind.{ErrorKind}
 use Rattle.tv_base.specs.Source.{Failures, HasFailed}
 
@@ -24,17 +24,17 @@ lifted to (Err f) = Err (to f.0, f.1)
 
 -- An error is what reading meets first, and what it leaves then is left. Where no more bytes can be counted, reading those that were
 -- taken meets their end.
-abbrev pub Stops : {F Y : Type 0} → Stop F → (List ℕ → Result (Y × List ℕ) (F × List ℕ)) → List ℕ → List ℕ → Type 0
-Stops (InputError f) reading taken rest = reading (taken ++ rest) ≡ Err (f, rest)
-Stops (Uncounted end) reading taken rest = reading taken ≡ Err (end, [])
-Stops (Failed kind) reading taken rest = Unit {0}
-Stops Short reading taken rest = Unit {0}
-Stops Never reading taken rest = ⊥
+abbrev pub Stops : {F Y : Type 0} → Stop F → (List ℕ → Result (Y × List ℕ) (F × List ℕ)) → List ℕ → List ℕ → ℕ → Type 0
+Stops (InputError f) reading taken rest count = reading (taken ++ rest) ≡ Err (f, rest)
+Stops (Uncounted end) reading taken rest count = (count ≡ 2 ^ 64 - 1) × (reading taken ≡ Err (end, []))
+Stops (Failed kind) reading taken rest count = Unit {0}
+Stops Short reading taken rest count = Unit {0}
+Stops Never reading taken rest count = ⊥
 
 -- what is read of the bytes that were taken, whatever stands behind them
-abbrev pub Gives : {E F X Y : Type 0} → (E → Stop F) → (X → Y) → Result X E → (List ℕ → Result (Y × List ℕ) (F × List ℕ)) → List ℕ → List ℕ → Type 0
-Gives stop view (Ok x) reading taken rest = (behind : List ℕ) → reading (taken ++ behind) ≡ Ok (view x, behind)
-Gives stop view (Err e) reading taken rest = Stops (stop e) reading taken rest
+abbrev pub Gives : {E F X Y : Type 0} → (E → Stop F) → (X → Y) → Result X E → (List ℕ → Result (Y × List ℕ) (F × List ℕ)) → List ℕ → List ℕ → ℕ → Type 0
+Gives stop view (Ok x) reading taken rest count = (behind : List ℕ) → reading (taken ++ behind) ≡ Ok (view x, behind)
+Gives stop view (Err e) reading taken rest count = Stops (stop e) reading taken rest count
 
 abbrev pub CountsStop : {F : Type 0} → Stop F → Failures → Failures → Type 0
 CountsStop (InputError f) old new = new ≡ old
@@ -56,7 +56,7 @@ pub record Taken (old new : List ℕ) (count now : ℕ) : Type 0 where
 
 -- What a reader does. Its error may stop it after the bytes that are counted then.
 pub record Takes {P E F X Y : Type 0} (stop : E → Stop F) (MayStop : E → ℕ → Type 0) (is_known : P → Type 0) (left : P → List ℕ) (count : P → ℕ) (failures : P → Failures) (old new : P) (view : X → Y) (result : Result X E) (reading : List ℕ → Result (Y × List ℕ) (F × List ℕ)) : Type 0 where
-  pub gives : is_known old → (taken : List ℕ) → left old ≡ taken ++ left new → Gives stop view result reading taken (left new)
+  pub gives : is_known old → (taken : List ℕ) → left old ≡ taken ++ left new → Gives stop view result reading taken (left new) (count new)
   pub taken : is_known old → Taken (left old) (left new) (count old) (count new)
   pub stays_known : is_known old → is_known new
   pub counts : Counts stop result (failures old) (failures new)

@@ -9,7 +9,7 @@ returns-then-room-eq0-clause-takes g c =
     let l = c.loop-filled in
     let before = l.invariant in
     record {
-      gives = λ told taken joined. too_few l.filled _ l.buf _ taken _ (omega arith) before.within (before.given told) joined;
+      gives = λ told taken joined. (omega arith, too_few l.filled _ l.buf _ taken _ (omega arith) before.within (before.given told) joined);
       taken = λ told. taken_so_far _ _ _ before.within before.taken (before.given told);
       stays_known = before.stays_known;
       counts = before.counts;

@@ -11,7 +11,7 @@ loop-missing-init g c = record { so_far = SoFar-start _ _ _ _ _ _ _ (λ bytes. r
 pub returns-then-room-eq0-clause-takes : goal.returns-then-room-eq0-clause-takes
 returns-then-room-eq0-clause-takes g c =
     let l = c.loop-missing in
-    SoFar-ends read_stop _ _ _ refl (omega arith) (none_left l.bytes.items [] l.missing (omega arith) refl) l.invariant.so_far
+    SoFar-ends read_stop _ _ _ refl (omega arith) (omega arith) (none_left l.bytes.items [] l.missing (omega arith) refl) l.invariant.so_far
 
 pub returns-then-more-eq0-clause-takes : goal.returns-then-more-eq0-clause-takes
 returns-then-more-eq0-clause-takes g c =

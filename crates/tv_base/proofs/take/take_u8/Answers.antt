@@ -5,7 +5,7 @@ use Rattle.tv_base.proofs.take.take_u8.Goals as goal
 
 pub returns-then-count-eq18446744073709551615-clause-takes : goal.returns-then-count-eq18446744073709551615-clause-takes
 returns-then-count-eq18446744073709551615-clause-takes g c = record {
-  gives = λ told taken joined. no_byte taken joined;
+  gives = λ told taken joined. (omega arith, no_byte taken joined);
   taken = λ told. Taken_none _ _;
   stays_known = λ told. told;
   counts = refl;
