@@ -1,5 +1,5 @@
 -- Steps that make a document.
-use Rattle.std.proofs.Common.{◌≡◌, ◌≢◌, ℕ, ◌+◌, ◌-◌, ◌^◌, ◌%◌, ◌<◌, ◌≤◌, nat_eq, Bool, List, [], ◌∷◌, ◌++◌, length, Option, Some, None, Result, Ok, Err, refl, sym, ◌∙◌, ap, subst, append_assoc, length-append, arith, inl, inr}
+use Rattle.std.proofs.Common.{◌≡◌, ◌≢◌, ℕ, ◌+◌, ◌-◌, ◌^◌, ◌%◌, ◌<◌, ◌≤◌, nat_eq, Bool, List, [], ◌∷◌, ◌++◌, length, Option, Some, None, Result, Ok, Err, refl, sym, ◌∙◌, ap, subst, append-nil, append_assoc, length-append, arith, inl, inr}
 use Rattle.std.specs.Prelude.{IsErrOf}
 use Rattle.std.proofs.lemmas.Bool.Decides.{eqb_tells}
 use Rattle.std.proofs.lemmas.Bool.{cond-true, cond-false}
@@ -7,6 +7,7 @@ use Rattle.tv_base.specs.declared.cause.Cause.TheVariants as causes
 use Rattle.tv_base.specs.Number.{VNum}
 use Rattle.tv_base.specs.ErrorInPart.{ErrorInNumber, number_ends, bytes_end, in_sized}
 use Rattle.tv_base.specs.Parts.{Each}
+use Rattle.tv_base.specs.ReadsAs.{EndsEarly}
 use Rattle.tv_base.specs.Source.{Failures}
 use Rattle.tv_builder.specs.declared.awaits.Awaits.TheVariants as awaits
 use Rattle.tv_builder.specs.declared.list_kind.ListKind.{ListKind}
@@ -149,11 +150,18 @@ module _ {S : Type 0} {is_known : S → Type 0} {left : S → List ℕ} {failure
       let joined : (bytes ++ f.prefix) ++ left mid ≡ bytes ++ left old = append_assoc bytes f.prefix (left mid) ∙ ap (λ z. bytes ++ z) (sym f.joined) in
       subst (HasNoRoom v) joined (none (bytes ++ f.prefix) (f.encoded bytes q))
 
+  -- more is awaited, so what was taken ends too early
+  pub awaits_more : {old mid : S} {i j : ℕ} → IsSound r → ¬ IsDone r → Finds is_known left failures old i mid j (Ok r) (Goes v begun) Nothing → is_known old → EndsEarly end (NoPrefix v begun) (left old) (left mid)
+  awaits_more sound more p t =
+      let f = p.found t in
+      let early = refused_behind v begun r f.prefix [] end f.encoded (ended_at v r sound more r.announced r.field refl refl) in
+      record { taken = f.prefix; joined = f.joined; shown = subst (λ z. NoPrefix v begun z end) (append-nil f.prefix) early }
+
   -- so many steps that no more can be counted
-  pub too_many : {old mid : S} {i j : ℕ} (counter : ℕ) → j < 2 ^ 64 → 2 ^ 64 - 1 ≤ counter → (is_known old → counter + i ≤ j) → Finds is_known left failures old i mid j (Ok r) (Goes v begun) Nothing
+  pub too_many : {old mid : S} {i j : ℕ} (counter : ℕ) → IsSound r → ¬ IsDone r → j < 2 ^ 64 → 2 ^ 64 - 1 ≤ counter → (is_known old → counter + i ≤ j) → Finds is_known left failures old i mid j (Ok r) (Goes v begun) Nothing
       → Finds {X = HeapPairs} is_known left failures old i mid 18446744073709551615 (Err (errors.CorruptedValue causes.TooLong)) (EncodesBehind v begun) (NoPrefix v begun)
-  too_many counter second many counts p = record {
-    found = λ t. λ few. absurd (omega (arith, few));
+  too_many counter sound more second many counts p = record {
+    found = λ t. (refl, awaits_more sound more p t);
     taken = λ t. let g = p.taken t in record { prefix = g.prefix; joined = g.joined; counted = omega (arith, g.counted, counts t, many, second) };
     stays_known = p.stays_known;
     counts = p.counts;

@@ -169,7 +169,7 @@ module _ {S X : Type 0} {is_known : S → Type 0} {left : S → List ℕ} {failu
   text_refused : (c : Cause) → Awaiting old (awaits.Bytes missing) → n ≤ missing → NoText c (state_of old.builder) bytes → Finds is_known left failures os i ns k (Ok x) (λ a _. Piece n bytes a) I
       → Finds {X = Unit {0}} is_known left failures os i ns k (Err (errors.CorruptedValue c)) (λ b _. Stepped v false old new b) (NoPrefix v old)
   text_refused causes.NotUtf8 h few none p = record {
-    found = λ t. λ _. let f = p.found t in no_text_refuses v old n missing bytes f.prefix (left os) (left ns) h few none f.encoded f.joined;
+    found = λ t. let f = p.found t in no_text_refuses v old n missing bytes f.prefix (left os) (left ns) h few none f.encoded f.joined;
     taken = p.taken;
     stays_known = p.stays_known;
     counts = p.counts;

@@ -42,6 +42,9 @@ fn take_rest<S: ByteSource>(
         reading.advance(alloc, source, count, version, &mut legacy_seen, &mut bytes)?;
         reading = reading.with_buffered_pairs(source, count, version);
     }
+    if reading.is_done() {
+        return Ok(reading.into_pairs());
+    }
     let _taken = *count;
     *count = u64::MAX;
     Err(DeserializeError::CorruptedValue(Cause::TooLong))

@@ -1,14 +1,22 @@
 -- The steps of taking a legacy object byte by byte.
 use Rattle.std.proofs.Common.{◌≡◌, ℕ, ◌+◌, ◌<◌, ◌≤◌, cond, true, false, List, [], ◌∷◌, ◌++◌, length, Result, Ok, Err, refl, sym, ap, subst, ◌∙◌, arith, length-append}
 use Rattle.std.proofs.lemmas.Bool.{eq-eqb, ne_eqb}
-use Rattle.std.specs.Prelude.{◌==◌}
+use Rattle.std.specs.Prelude.{◌==◌, IfErr}
 use Rattle.std.proofs.lemmas.List.Sums.{count_by-le-length}
 use Rattle.tv_base.specs.declared.cause.Cause.{Cause}
-use Rattle.tv_base.specs.declared.cause.Cause.TheVariants.{LegacyJson}
-use Rattle.tv_base.specs.Stop.{◌>>=◌}
+use Rattle.tv_base.specs.declared.cause.Cause.TheVariants.{LegacyJson, TooLong}
+use Rattle.tv_base.specs.declared.read_error.ReadError.{ReadError}
+use Rattle.tv_base.specs.declared.read_error.ReadError.TheVariants.{Corrupted, Io, Memory}
+use Rattle.tv_base.specs.Source.{Failures}
+use Rattle.tv_base.specs.Stop.{◌>>=◌, Takes}
+use Rattle.tv_base.specs.Take.{read_stop, MayStop}
+use Rattle.tv_base.proofs.TakeSteps.{SoFar, SoFar-returns, SoFar-refuses, SoFar-stops}
+use Rattle.tv_format.specs.Tree.{Tree}
+use Rattle.tv_value.specs.Owned.{owned_tree}
+use Rattle.tv_value.specs.declared.owned_value.OwnedValue.{OwnedValue}
 use Rattle.tv_base.specs.Reading.{u8_at}
 use Rattle.tv_legacy.specs.Legacy.{Place, outside, inside, escaped, next, opened, closed, behind}
-use Rattle.tv_legacy.specs.LegacyReading.{is_blank, nonblank_at, is_even, rest_at, braced_at, slice_at}
+use Rattle.tv_legacy.specs.LegacyReading.{is_blank, nonblank_at, is_even, rest_at, braced_at, slice_at, slice_tree, beside, AnswersSlice}
 use Rattle.tv_legacy.specs.LegacyScan.{brace_count}
 use Rattle.tv_legacy.proofs.Braces.{opened-push, closed-push, behind-push}
 
@@ -97,3 +105,14 @@ same_and_nothing (Err e) = refl
 -- a reading is itself and then nothing
 pub and_nothing : (prefix bytes : List ℕ) → rest_at prefix bytes ≡ (rest_at prefix bytes >>= λ x. Ok x)
 and_nothing prefix bytes = same_and_nothing (rest_at prefix bytes)
+
+-- ---- the object that the slice reads as
+
+-- what is returned for a slice that was taken
+pub answered : {P : Type 0} {is_known : P → Type 0} {left : P → List ℕ} {count : P → ℕ} {failures : P → Failures} {old now : P} {whole : List ℕ → Result (Tree × List ℕ) (Cause × List ℕ)} (slice : List ℕ) (result : Result OwnedValue ReadError)
+    → AnswersSlice slice result → ((n : ℕ) → IfErr result (λ e. MayStop e n)) → SoFar is_known left count failures old now whole (λ bytes. beside bytes (slice_tree slice)) → Takes read_stop MayStop is_known left count failures old now owned_tree result whole
+answered slice (Ok value) h may so_far = SoFar-returns read_stop owned_tree value (λ bytes. ap (beside bytes) h) so_far
+answered slice (Err (Corrupted TooLong)) h may so_far = absurd (omega (arith, may 0))
+answered {count = count} {now = now} slice (Err (Corrupted c)) h may so_far = SoFar-refuses read_stop owned_tree (Corrupted c) c refl (may (count now)) (λ bytes. ap (beside bytes) h) so_far
+answered slice (Err (Io kind)) h may so_far = absurd h
+answered slice (Err Memory) h may so_far = SoFar-stops read_stop owned_tree Memory refl tt so_far

@@ -3,18 +3,18 @@ use Rattle.std.proofs.Common.{◌≡◌, ◌≢◌, ℕ, List, [], ◌∷◌, �
 use Rattle.std.proofs.lemmas.List.{append-nil}
 use Rattle.std.proofs.lemmas.Result.{IfErr-weaker}
 use Rattle.tv_base.specs.declared.cause.Cause.{Cause}
-use Rattle.tv_base.specs.declared.cause.Cause.TheVariants.{UnexpectedEnd}
+use Rattle.tv_base.specs.declared.cause.Cause.TheVariants.{UnexpectedEnd, TooLong}
 use Rattle.tv_base.specs.declared.read_error.ReadError.{ReadError}
 use Rattle.tv_base.specs.declared.read_error.ReadError.TheVariants as reads
 use Rattle.tv_base.specs.Parts.{Begins}
-use Rattle.tv_base.specs.ReadsAs.{Shows}
+use Rattle.tv_base.specs.ReadsAs.{Shows, EndsEarly}
 use Rattle.tv_base.specs.Source.{Failures, AllBytes}
 use Rattle.tv_base.specs.Stop.{Stop, Stops, CountsStop, Counts}
-use Rattle.tv_base.specs.Stop.Stop.{InputError, Failed, Short, Never}
+use Rattle.tv_base.specs.Stop.Stop.{InputError, Uncounted, Failed, Short, Never}
 use Rattle.tv_base.specs.Take.{TakesIf, MayStop, MayStopLean, read_stop}
 use Rattle.tv_base.proofs.Agrees.{Agrees, empty, ends_in, ends, same_start, no_last}
-use Rattle.tv_base.proofs.ByGrammar.{shows_by}
-use Rattle.tv_base.proofs.TakeSteps.{Taken_none, Taken_then, CountsStop-from}
+use Rattle.tv_base.proofs.ByGrammar.{shows_by, early_by}
+use Rattle.tv_base.proofs.TakeSteps.{Taken_none, Taken_then, CountsStop-from, read_ok}
 use Rattle.tv_format.specs.InputError.{Refusal, corrupted}
 use Rattle.tv_reader.specs.Error.{read_error, store_stop, tree_stop, StoreMayStop, StoreMayStopRoomy, StoreMayStopDeep, StoreMayStopLean}
 use Rattle.tv_reader.specs.Error as store
@@ -59,10 +59,23 @@ refuses_behind : {F : Type 0} {end : F} {P Q : List ℕ → F → Type 0} (prefi
 refuses_behind {Q = Q} prefix old mid new f joined behind edge r =
     record { stands = subst (λ l. Q l f) (sym joined) (behind mid f r.stands); shows = shows_behind prefix old mid new f joined behind edge r.shows }
 
+-- bytes that end too early, behind a prefix
+early_behind : {F : Type 0} {P Q : List ℕ → F → Type 0} (prefix old mid new : List ℕ) (f : F) → old ≡ prefix ++ mid → ((w : List ℕ) (c : F) → P w c → Q (prefix ++ w) c) → EndsEarly f P mid new → EndsEarly f Q old new
+early_behind prefix old mid new f joined behind h = record {
+  taken = prefix ++ h.taken;
+  joined = joined ∙ ap (λ (l : List ℕ). prefix ++ l) h.joined ∙ sym (append_assoc prefix h.taken new);
+  shown = behind h.taken f h.shown;
+}
+
+-- and in other words
+pub early_map : {F G : Type 0} (to : F → G) {P : List ℕ → F → Type 0} {Q : List ℕ → G → Type 0} (old new : List ℕ) (f : F) → ((w : List ℕ) (c : F) → P w c → Q w (to c)) → EndsEarly f P old new → EndsEarly (to f) Q old new
+early_map to old new f map h = record { taken = h.taken; joined = h.joined; shown = map h.taken f h.shown }
+
 stop_behind : {F : Type 0} (end : F) (P Q : List ℕ → F → Type 0) (s : Stop F) (prefix old mid new : List ℕ) (count : ℕ) → old ≡ prefix ++ mid
     → ((w : List ℕ) (c : F) → P w c → Q (prefix ++ w) c) → ((f : F) → f ≢ end → P [] f → (start : List ℕ) (byte : ℕ) → prefix ≡ start ++ byte ∷ [] → Q start end)
     → GivesStop end P mid new count s → GivesStop end Q old new count s
-stop_behind end P Q (InputError f) prefix old mid new count joined behind edge h = λ few. refuses_behind prefix old mid new f joined behind (edge f) (h few)
+stop_behind end P Q (InputError f) prefix old mid new count joined behind edge h = refuses_behind prefix old mid new f joined behind (edge f) h
+stop_behind end P Q (Uncounted f) prefix old mid new count joined behind edge h = (h.0, early_behind prefix old mid new f joined behind h.1)
 stop_behind end P Q (Failed kind) prefix old mid new count joined behind edge h = tt
 stop_behind end P Q Short prefix old mid new count joined behind edge h = tt
 stop_behind end P Q Never prefix old mid new count joined behind edge h = h
@@ -107,7 +120,8 @@ finds_as y B Q map p =
     record { found = λ t. let h = p.found t in record { prefix = h.prefix; joined = h.joined; encoded = map h.prefix h.encoded }; taken = p.taken; stays_known = p.stays_known; counts = p.counts; rises = p.rises; may_stop = tt }
 
 pub stop_map : {F : Type 0} (end : F) (P Q : List ℕ → F → Type 0) (s : Stop F) (old new : List ℕ) (count : ℕ) → ((w : List ℕ) (c : F) → P w c → Q w c) → GivesStop end P old new count s → GivesStop end Q old new count s
-stop_map end P Q (InputError f) old new count map h = λ few. record { stands = map old f (h few).stands; shows = shows_map (λ c. c) (λ f e. e) old new f map (h few).shows }
+stop_map end P Q (InputError f) old new count map h = record { stands = map old f h.stands; shows = shows_map (λ c. c) (λ f e. e) old new f map h.shows }
+stop_map end P Q (Uncounted f) old new count map h = (h.0, early_map (λ c. c) old new f map h.1)
 stop_map end P Q (Failed kind) old new count map h = tt
 stop_map end P Q Short old new count map h = tt
 stop_map end P Q Never old new count map h = h
@@ -146,7 +160,7 @@ finds_nothing stop end is_known left failures p i x R Q r =
 pub finds_refused : {S E F X : Type 0} (stop : E → Stop F) {May : E → ℕ → Type 0} (end : F) (is_known : S → Type 0) (left : S → List ℕ) (failures : S → Failures) (p : S) (i : ℕ) (e : E) (f : F) (R : List ℕ → X → Type 0) (Q : List ℕ → F → Type 0)
     → stop e ≡ InputError f → May e i → f ≢ end → ((w : List ℕ) → Q w f) → FindsBy stop May end is_known left failures p i p i (Err e) R Q
 finds_refused stop end is_known left failures p i e f R Q is may other q = record {
-  found = λ t. subst (GivesStop end Q (left p) (left p) i) (sym is) (λ few. record { stands = q (left p); shows = record { taken = []; joined = refl; shown = q []; all = λ same. absurd (other same); early = λ _ start byte last. absurd (no_last start byte last) } });
+  found = λ t. subst (GivesStop end Q (left p) (left p) i) (sym is) (record { stands = q (left p); shows = record { taken = []; joined = refl; shown = q []; all = λ same. absurd (other same); early = λ _ start byte last. absurd (no_last start byte last) } });
   taken = λ t. Taken_none (left p) i;
   stays_known = λ t. t;
   counts = subst (λ s. CountsStop s (failures p) (failures p)) (sym is) refl;
@@ -168,16 +182,20 @@ pub finds_part : {S X Y : Type 0} {May : ReadError → ℕ → Type 0} {is_known
     → ((source : S) → is_known source → AllBytes (left source)) → Agrees UnexpectedEnd reading Encodes HasError → TakesIf May is_known left failures old i new k view (Ok x) reading
     → Finds is_known left failures old i new k (Ok x) (λ b x. Encodes b (view x)) (λ w f. ⊥)
 finds_part {left = left} {old = old} {new = new} {view = view} {x = x} are_bytes agrees h =
-    record { found = λ t. part_found view agrees x (left old) (left new) (are_bytes old t) (h.gives t); taken = h.taken; stays_known = h.stays_known; counts = h.counts; rises = h.rises; may_stop = tt }
+    record { found = λ t. part_found view agrees x (left old) (left new) (are_bytes old t) (read_ok h t); taken = h.taken; stays_known = h.stays_known; counts = h.counts; rises = h.rises; may_stop = tt }
 
 part_shown : {Y : Type 0} {reading : List ℕ → Result (Y × List ℕ) (Cause × List ℕ)} {Encodes : List ℕ → Y → Type 0} {HasError : List ℕ → Cause → Type 0} (e : ReadError) (Q : List ℕ → Refusal → Type 0)
-    → Agrees UnexpectedEnd reading Encodes HasError → ((w : List ℕ) (c : Cause) → HasError w c → Q w (corrupted c)) → (old new : List ℕ) (count : ℕ) → AllBytes old → Stops (read_stop e) (reading old) new count
+    → Agrees UnexpectedEnd reading Encodes HasError → ((w : List ℕ) (c : Cause) → HasError w c → Q w (corrupted c)) → (old taken new : List ℕ) (count : ℕ) → AllBytes old → old ≡ taken ++ new → Stops (read_stop e) reading taken new count
     → GivesStop (corrupted UnexpectedEnd) Q old new count (store_stop (read_error e))
-part_shown (reads.Corrupted c) Q agrees map old new count small h = λ few. record { stands = map old c (agrees.refused old c new small (h few)); shows = shows_map corrupted same_cause old new c map (shows_by agrees old new c small (h few)) }
-part_shown (reads.Io kind) Q agrees map old new count small h = tt
-part_shown reads.Memory Q agrees map old new count small h = tt
+part_shown (reads.Corrupted TooLong) Q agrees map old taken new count small joined h = (h.0, early_map corrupted old new UnexpectedEnd map (early_by agrees old taken new UnexpectedEnd small joined h.1))
+part_shown {reading = reading} (reads.Corrupted c) Q agrees map old taken new count small joined h =
+    let e = ap reading joined ∙ h in
+    record { stands = map old c (agrees.refused old c new small e); shows = shows_map corrupted same_cause old new c map (shows_by agrees old new c small e) }
+part_shown (reads.Io kind) Q agrees map old taken new count small joined h = tt
+part_shown reads.Memory Q agrees map old taken new count small joined h = tt
 
 raised_counts : (e : ReadError) (old new : Failures) → CountsStop (read_stop e) old new → CountsStop (store_stop (read_error e)) old new
+raised_counts (reads.Corrupted TooLong) old new h = h
 raised_counts (reads.Corrupted c) old new h = h
 raised_counts (reads.Io kind) old new h = h
 raised_counts reads.Memory old new h = h
@@ -196,7 +214,7 @@ pub finds_part_fails : {S X Y Z : Type 0} {May : ReadError → ℕ → Type 0} {
     (B : List ℕ → Z → Type 0) (Q : List ℕ → Refusal → Type 0) → ((e : ReadError) (n : ℕ) → May e n → StoreMay (read_error e) n) → ((source : S) → is_known source → AllBytes (left source)) → Agrees UnexpectedEnd reading Encodes HasError → ((w : List ℕ) (c : Cause) → HasError w c → Q w (corrupted c))
     → TakesIf May is_known left failures old i new k view (Err e) reading → FindsIf StoreMay is_known left failures old i new k (Err (read_error e)) B Q
 finds_part_fails {left = left} {failures = failures} {old = old} {new = new} {k = k} {e = e} B Q raise are_bytes agrees map h =
-    record { found = λ t. part_shown e Q agrees map (left old) (left new) k (are_bytes old t) (h.gives t); taken = h.taken; stays_known = h.stays_known; counts = raised_counts e (failures old) (failures new) h.counts; rises = h.rises; may_stop = raise e k h.may_stop }
+    record { found = λ t. let p = h.taken t in part_shown e Q agrees map (left old) p.prefix (left new) k (are_bytes old t) p.joined (h.gives t p.prefix p.joined); taken = h.taken; stays_known = h.stays_known; counts = raised_counts e (failures old) (failures new) h.counts; rises = h.rises; may_stop = raise e k h.may_stop }
 
 -- ---- parts of the store's own
 
@@ -209,25 +227,25 @@ pub finds_read : {S X Y : Type 0} {is_known : S → Type 0} {left : S → List �
     → ((source : S) → is_known source → AllBytes (left source)) → Agrees (corrupted UnexpectedEnd) reading Encodes HasError → store.TakesLean is_known left failures old i new k view (Ok x) reading
     → Finds is_known left failures old i new k (Ok x) (λ b x. Encodes b (view x)) (λ w f. ⊥)
 finds_read {left = left} {old = old} {new = new} {view = view} {x = x} are_bytes agrees h =
-    record { found = λ t. read_found view agrees x (left old) (left new) (are_bytes old t) (h.gives t); taken = h.taken; stays_known = h.stays_known; counts = h.counts; rises = h.rises; may_stop = tt }
+    record { found = λ t. read_found view agrees x (left old) (left new) (are_bytes old t) (read_ok h t); taken = h.taken; stays_known = h.stays_known; counts = h.counts; rises = h.rises; may_stop = tt }
 
 read_shown : {Y : Type 0} {reading : List ℕ → Result (Y × List ℕ) (Refusal × List ℕ)} {Encodes : List ℕ → Y → Type 0} {HasError : List ℕ → Refusal → Type 0} (s : Stop Refusal) (Q : List ℕ → Refusal → Type 0)
-    → Agrees (corrupted UnexpectedEnd) reading Encodes HasError → ((w : List ℕ) (r : Refusal) → HasError w r → Q w r) → (old new : List ℕ) (count : ℕ) → AllBytes old → Stops s (reading old) new count
+    → Agrees (corrupted UnexpectedEnd) reading Encodes HasError → ((w : List ℕ) (r : Refusal) → HasError w r → Q w r) → (old taken new : List ℕ) (count : ℕ) → AllBytes old → old ≡ taken ++ new → Stops s reading taken new count
     → GivesStop (corrupted UnexpectedEnd) Q old new count s
-read_shown (InputError f) Q agrees map old new count small h = λ few. record {
-  stands = map old f (agrees.refused old f new small (h few));
-  shows = shows_map (λ c. c) (λ f e. e) old new f map (shows_by agrees old new f small (h few));
-}
-read_shown (Failed kind) Q agrees map old new count small h = tt
-read_shown Short Q agrees map old new count small h = tt
-read_shown Never Q agrees map old new count small h = h
+read_shown {reading = reading} (InputError f) Q agrees map old taken new count small joined h =
+    let e = ap reading joined ∙ h in
+    record { stands = map old f (agrees.refused old f new small e); shows = shows_map (λ c. c) (λ f e. e) old new f map (shows_by agrees old new f small e) }
+read_shown (Uncounted f) Q agrees map old taken new count small joined h = (h.0, early_map (λ c. c) old new f map (early_by agrees old taken new f small joined h.1))
+read_shown (Failed kind) Q agrees map old taken new count small joined h = tt
+read_shown Short Q agrees map old taken new count small joined h = tt
+read_shown Never Q agrees map old taken new count small joined h = h
 
 -- a part was refused
 pub finds_read_fails : {S X Y Z : Type 0} {is_known : S → Type 0} {left : S → List ℕ} {failures : S → Failures} {old new : S} {i k : ℕ} {view : X → Y} {e : DeserializeError} {reading : List ℕ → Result (Y × List ℕ) (Refusal × List ℕ)} {Encodes : List ℕ → Y → Type 0} {HasError : List ℕ → Refusal → Type 0}
     (B : List ℕ → Z → Type 0) (Q : List ℕ → Refusal → Type 0) → ((source : S) → is_known source → AllBytes (left source)) → Agrees (corrupted UnexpectedEnd) reading Encodes HasError → ((w : List ℕ) (r : Refusal) → HasError w r → Q w r)
     → store.TakesLean is_known left failures old i new k view (Err e) reading → FindsLean is_known left failures old i new k (Err e) B Q
 finds_read_fails {left = left} {old = old} {new = new} {k = k} {e = e} B Q are_bytes agrees map h =
-    record { found = λ t. read_shown (store_stop e) Q agrees map (left old) (left new) k (are_bytes old t) (h.gives t); taken = h.taken; stays_known = h.stays_known; counts = h.counts; rises = h.rises; may_stop = h.may_stop }
+    record { found = λ t. let p = h.taken t in read_shown (store_stop e) Q agrees map (left old) p.prefix (left new) k (are_bytes old t) p.joined (h.gives t p.prefix p.joined); taken = h.taken; stays_known = h.stays_known; counts = h.counts; rises = h.rises; may_stop = h.may_stop }
 
 -- ---- readers of trees
 

@@ -1,11 +1,12 @@
 -- What the errors of the lower layers are called in the store, and which of them stop a reader for what reason.
 use Rattle.std.specs.Prelude.{◌≡◌, ◌≢◌, ◌⊎◌, ℕ, Result, List}
 use Rattle.tv_base.specs.declared.cause.Cause.{Cause}
+use Rattle.tv_base.specs.declared.cause.Cause.TheVariants.{UnexpectedEnd, TooLong}
 use Rattle.tv_base.specs.declared.read_error.ReadError.{ReadError}
 use Rattle.tv_base.specs.declared.read_error.ReadError.TheVariants as reads
 use Rattle.tv_base.specs.Source.{Failures}
 use Rattle.tv_base.specs.Stop.{Stop, Takes}
-use Rattle.tv_base.specs.Stop.Stop.{InputError, Failed, Short, Never}
+use Rattle.tv_base.specs.Stop.Stop.{InputError, Uncounted, Failed, Short, Never}
 use Rattle.tv_base.specs.Take.{told, CauseMayStop}
 use Rattle.tv_format.specs.InputError.{Refusal, corrupted, no_text_key}
 use Rattle.tv_reader.specs.ValueType.{type_code}
@@ -24,8 +25,10 @@ abbrev pub key_stop : ValueType → ValueType → Stop Refusal
 key_stop types.String actual = InputError (no_text_key (type_code actual))
 key_stop _ actual = Never
 
--- Why a reader of documents stopped: its bytes are refused, the source failed, or there is no room.
+-- Why a reader of documents stopped: its bytes are refused, no more can be counted and those that were taken end too early, the source
+-- failed, or there is no room.
 abbrev pub store_stop : DeserializeError → Stop Refusal
+store_stop (errors.CorruptedValue TooLong) = Uncounted (corrupted UnexpectedEnd)
 store_stop (errors.CorruptedValue c) = InputError (corrupted c)
 store_stop (errors.TypeMismatch expected actual) = key_stop expected actual
 store_stop (errors.Io k) = Failed k

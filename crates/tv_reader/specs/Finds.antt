@@ -1,11 +1,11 @@
 -- What a reader gives, where it is told by the grammar of the bytes and not by a reading of lists.
-use Rattle.std.specs.Prelude.{ℕ, ◌-◌, ◌^◌, ◌<◌, ◌≤◌, List, Result, Ok, Err, IfErr}
+use Rattle.std.specs.Prelude.{◌≡◌, ℕ, ◌-◌, ◌^◌, ◌≤◌, List, Result, Ok, Err, IfErr}
 use Rattle.tv_base.specs.declared.cause.Cause.TheVariants.{UnexpectedEnd}
 use Rattle.tv_base.specs.Parts.{Begins}
-use Rattle.tv_base.specs.ReadsAs.{Shows}
+use Rattle.tv_base.specs.ReadsAs.{Shows, EndsEarly}
 use Rattle.tv_base.specs.Source.{Failures}
 use Rattle.tv_base.specs.Stop.{Stop, Counts, Taken}
-use Rattle.tv_base.specs.Stop.Stop.{InputError, Failed, Short, Never}
+use Rattle.tv_base.specs.Stop.Stop.{InputError, Uncounted, Failed, Short, Never}
 use Rattle.tv_format.specs.InputError.{Refusal, corrupted}
 use Rattle.tv_reader.specs.Error.{store_stop, tree_stop, StoreMayStop, StoreMayStopRoomy, StoreMayStopDeep, StoreMayStopLean}
 use Rattle.tv_reader.specs.declared.error.DeserializeError.{DeserializeError}
@@ -15,9 +15,10 @@ pub record Refuses {F : Type 0} (end : F) (HasError : List ℕ → F → Type 0)
   pub stands : HasError old error
   pub shows : Shows end HasError old new error
 
--- an error is told, as long as fewer than 2 ^ 64 - 1 bytes were taken
+-- an error is told; where no more bytes can be counted, those that were taken end too early
 abbrev pub GivesStop : {F : Type 0} → F → (List ℕ → F → Type 0) → List ℕ → List ℕ → ℕ → Stop F → Type 0
-GivesStop end HasError old new count (InputError f) = count < 2 ^ 64 - 1 → Refuses end HasError old new f
+GivesStop end HasError old new count (InputError f) = Refuses end HasError old new f
+GivesStop end HasError old new count (Uncounted f) = (count ≡ 2 ^ 64 - 1) × EndsEarly f HasError old new
 GivesStop end HasError old new count (Failed kind) = Unit {0}
 GivesStop end HasError old new count Short = Unit {0}
 GivesStop end HasError old new count Never = ⊥

@@ -3,7 +3,7 @@ use Rattle.std.specs.Prelude.{◌≡◌, ◌⊎◌, ℕ, Bool, IsTrue, ◌+◌, 
 use Rattle.tv_base.specs.declared.cause.Cause.TheVariants.{UnexpectedEnd}
 use Rattle.tv_base.specs.Source.{Failures}
 use Rattle.tv_base.specs.Stop.{Stop}
-use Rattle.tv_base.specs.Stop.Stop.{InputError, Failed, Short, Never}
+use Rattle.tv_base.specs.Stop.Stop.{InputError, Uncounted, Failed, Short, Never}
 use Rattle.tv_builder.specs.Behind.{open_parts}
 use Rattle.tv_builder.specs.Builder.{built, state_of, heap_so_far}
 use Rattle.tv_builder.specs.Prefix.{Encoded}
@@ -52,17 +52,18 @@ abbrev pub first_count : Option ℕ → ℕ
 first_count None = 0
 first_count (Some most) = 2 ^ 64 - 1 - most
 
--- it is an error of the bytes
-abbrev pub IsOfBytes : Stop Refusal → Type 0
-IsOfBytes (InputError error) = Unit {0}
-IsOfBytes (Failed kind) = ⊥
-IsOfBytes Short = ⊥
-IsOfBytes Never = ⊥
+-- more bytes are needed, and no more can be counted
+abbrev pub IsUncounted : Stop Refusal → Type 0
+IsUncounted (Uncounted end) = Unit {0}
+IsUncounted (InputError error) = ⊥
+IsUncounted (Failed kind) = ⊥
+IsUncounted Short = ⊥
+IsUncounted Never = ⊥
 
--- What is said of an error: where all bytes were taken that may be, that it is one of the bytes isn't said.
+-- What is said of an error: where all bytes were taken that may be and more are needed, that the limit is passed, and else the error itself.
 abbrev pub Told : Bool → DeserializeError → LimitedReadError → Type 0
-Told took_all e (limited.Read told) = (told ≡ e) × (IsOfBytes (store_stop e) → ¬ IsTrue took_all)
-Told took_all e (limited.Limit limit.Bytes) = IsTrue took_all × IsOfBytes (store_stop e)
+Told took_all e (limited.Read told) = (told ≡ e) × (IsUncounted (store_stop e) → ¬ IsTrue took_all)
+Told took_all e (limited.Limit limit.Bytes) = IsTrue took_all × IsUncounted (store_stop e)
 Told took_all e (limited.Limit limit.HeapBytes) = ⊥
 Told took_all e (limited.Limit limit.Depth) = ⊥
 
@@ -160,7 +161,7 @@ Outcome v limits old new taken (Ok d) = EncodesDocument Legacy v taken (document
 Outcome v limits old new taken (Err (limited.Read e)) = Unread v old new (length taken) e
 Outcome v limits old new taken (Err (limited.Limit limit.HeapBytes)) = IsLarge v limits.heap_bytes taken
 Outcome v limits old new taken (Err (limited.Limit limit.Depth)) = PassesDepth v limits.depth taken
-Outcome v limits old new taken (Err (limited.Limit limit.Bytes)) = IsAll limits.bytes taken
+Outcome v limits old new taken (Err (limited.Limit limit.Bytes)) = IsAll limits.bytes taken × NoDocument v taken (corrupted UnexpectedEnd)
 
 pub record Comes (v : Version) (limits : ReadLimits) (old new : List ℕ) (result : Result CompactDoc LimitedReadError) : Type 0 where
   pub taken : List ℕ
@@ -175,8 +176,10 @@ IsLimitedError limits (limited.Limit limit.HeapBytes) = IsSome limits.heap_bytes
 IsLimitedError limits (limited.Limit limit.Depth) = IsSome limits.depth
 IsLimitedError limits (limited.Limit limit.Bytes) = IsSome limits.bytes
 
--- this document is returned and this rest left, unless a limit is passed, the source failed or memory was refused
-abbrev pub AnswersWithin : Result CompactDoc LimitedReadError → Document → List ℕ → List ℕ → Type 0
-AnswersWithin (Ok found) d rest left = Answers (Ok found) d rest left
-AnswersWithin (Err (limited.Read e)) d rest left = Answers (Err e) d rest left
-AnswersWithin (Err (limited.Limit l)) d rest left = Unit {0}
+-- This document, which is encoded by this prefix, is returned and this rest left, unless a limit is passed, the source failed or memory was
+-- refused. The limit of the bytes is passed only where the prefix has more.
+abbrev pub AnswersWithin : Option ℕ → Result CompactDoc LimitedReadError → Document → List ℕ → List ℕ → List ℕ → Type 0
+AnswersWithin most (Ok found) d prefix rest left = Answers (Ok found) d rest left
+AnswersWithin most (Err (limited.Read e)) d prefix rest left = Answers (Err e) d rest left
+AnswersWithin most (Err (limited.Limit limit.Bytes)) d prefix rest left = IsPast most (length prefix)
+AnswersWithin most (Err (limited.Limit l)) d prefix rest left = Unit {0}

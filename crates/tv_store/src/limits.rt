@@ -3,7 +3,8 @@
 ghost use Rattle.std.specs.Prelude.{◌≡◌, ◌↔◌, ◌<◌, ◌≤◌, ◌++◌, ◌+◌, ◌-◌, ◌^◌, ℕ, List, None, length, IsTrue, OnOk, OnErr, Ok, Err, true, false};
 ghost use Rattle.std.specs.Prelude.{IfOk, IfErr, IsErrOf, IsSome, Some};
 ghost use Rattle.tv_base.specs.Parts.{Begins};
-ghost use Rattle.tv_base.specs.ReadsAs.{Known};
+ghost use Rattle.tv_base.specs.declared.cause.Cause.TheVariants.{UnexpectedEnd};
+ghost use Rattle.tv_base.specs.ReadsAs.{Known, EndsEarly};
 ghost use Rattle.tv_base.specs.Stop.{Counts};
 ghost use Rattle.tv_builder.specs.Builder.{state_of, heap_so_far};
 ghost use Rattle.tv_builder.specs.State.{lists_of};
@@ -15,14 +16,14 @@ ghost use Rattle.tv_reader.specs.Error.{IsRefusal, store_stop};
 ghost use Rattle.tv_reader.specs.declared.error.DeserializeError.{DeserializeError};
 ghost use Rattle.tv_reader.specs.Version.{version_of};
 ghost use Rattle.tv_reader.specs.declared.error.DeserializeError.TheVariants.{HeapFull, AlreadyFailed};
-ghost use Rattle.tv_format.specs.InputError.{Refusal};
+ghost use Rattle.tv_format.specs.InputError.{Refusal, corrupted};
 ghost use Rattle.tv_format.specs.Encoding.{EncodesDocument};
 ghost use Rattle.tv_format.specs.Tree.{Document};
 ghost use Rattle.tv_heap.specs.Room.{document_room};
 ghost use Rattle.tv_store.specs.Limits.{Checks, FindsWithin, IsPast, PassesDepth, IsLarge, IsAll};
 ghost use Rattle.tv_store.specs.Limits.{AllNestWithinLimit, TestsDepth};
 ghost use Rattle.tv_store.specs.Limits.{AnswersWithin, Comes, IsLimitedError, limited_stop};
-ghost use Rattle.tv_store.specs.Limits.{first_count, FindsPart, IsCapped, IsOfBytes, Leaves, TestsLimits};
+ghost use Rattle.tv_store.specs.Limits.{first_count, FindsPart, IsCapped, IsUncounted, Leaves, TestsLimits};
 ghost use Rattle.tv_store.specs.Limits.{Told};
 ghost use Rattle.tv_store.specs.Decoder.{SaysDone, Rests};
 ghost use Rattle.tv_decoder.specs.Kept.{Grows, KeepsPairs};
@@ -40,7 +41,6 @@ use std::fmt::{Display, Formatter, Write};
 use thiserror::Error;
 use tv_base::{ByteSource, Cause};
 use tv_doc::document::CompactDoc;
-use tv_reader::ValueType;
 
 /// What reading one document may take. `None` doesn't limit. (Not in tantivy.)
 #[derive(Clone, Copy, Debug, Default, PartialEq, Eq)]
@@ -57,7 +57,7 @@ pub struct ReadLimits {
 /// Which limit was passed. (Not in tantivy.)
 #[derive(Clone, Copy, Debug, PartialEq, Eq)]
 pub enum ReadLimit {
-    /// That of the bytes that are taken.
+    /// That of the bytes that are taken: as many were, and more are needed.
     Bytes,
     /// That of the bytes of heap.
     HeapBytes,
@@ -141,16 +141,12 @@ fn is_all(most: Option<u64>, count: u64) -> bool
     count == u64::MAX && most.is_some()
 }
 
-// Whether the error is one of the bytes that were taken.
-fn is_of_bytes(error: &DeserializeError) -> bool
-    ensures { IsTrue result ↔ IsOfBytes (store_stop error.now) }
+// Whether more bytes are needed, and no more can be counted.
+fn is_uncounted(error: &DeserializeError) -> bool
+    ensures { IsTrue result ↔ IsUncounted (store_stop error.now) }
 {
     match error {
-        DeserializeError::CorruptedValue(_) => true,
-        DeserializeError::TypeMismatch {
-            expected: ValueType::String,
-            ..
-        } => true,
+        DeserializeError::CorruptedValue(Cause::TooLong) => true,
         _ => false,
     }
 }
@@ -159,7 +155,7 @@ fn is_of_bytes(error: &DeserializeError) -> bool
 fn refused(error: DeserializeError, took_all: bool) -> LimitedReadError
     ensures { Told took_all error result }
 {
-    if took_all && is_of_bytes(&error) {
+    if took_all && is_uncounted(&error) {
         LimitedReadError::Limit(ReadLimit::Bytes)
     } else {
         LimitedReadError::Read(error)
@@ -180,6 +176,10 @@ fn step_capped<S: ByteSource>(
         (λ b _. Stepped (version_of decoder.old.version) decoder.new.legacy_seen
         decoder.old.reading decoder.new.reading b)
         (NoPrefix (version_of decoder.old.version) decoder.old.reading) }
+    ensures ends { S.is_known source.old → IsErrOf result (Limit ReadLimit.Bytes)
+        → EndsEarly (corrupted UnexpectedEnd)
+        (NoPrefix (version_of decoder.old.version) decoder.old.reading) (S.left source.old)
+        (S.left source.new) }
     ensures full { S.is_known source.old → IsErrOf result (Read HeapFull)
         → NoRoomBehind (version_of decoder.old.version) decoder.old.reading (S.left source.old) }
     ensures done { IfOk result (λ step. SaysDone step ↔ IsDone decoder.new.reading) }
@@ -290,10 +290,10 @@ impl DirectDecoder {
     /// Reads the next part as `step` does, and then tests what has come so far against limits. Of the source no more bytes are taken than
     /// may be in all, also within a part. (Not in tantivy.)
     ///
-    /// Errors: `Read` with those of `step`; `Limit(Bytes)` where just as many bytes as may be were taken and the part isn't complete or is
-    /// malformed, or where more were taken before; `Limit(Depth)` where more than `depth` lists are open once the part has come, else
-    /// `Limit(HeapBytes)` where the document's heap takes more than `heap_bytes` bytes then. After each the decoder is refused, as after
-    /// those of `step`.
+    /// Errors: `Read` with those of `step`, also where the last byte that may be taken shows one; `Limit(Bytes)` where just as many bytes as
+    /// may be were taken and the part needs more, or where more were taken before; `Limit(Depth)` where more than `depth` lists are open once
+    /// the part has come, else `Limit(HeapBytes)` where the document's heap takes more than `heap_bytes` bytes then. After each the decoder
+    /// is refused, as after those of `step`.
     pub fn step_within<S: ByteSource>(
         &mut self,
         source: &mut S,
@@ -315,6 +315,14 @@ impl DirectDecoder {
         ensures full { self.old.failed ≡ false → S.is_known source.old → IsErrOf result (Read HeapFull)
             → NoRoomBehind (version_of self.old.version) self.old.reading (S.left source.old) }
         ensures done { IfOk result (λ step. SaysDone step ↔ IsDone self.new.reading) }
+
+        // the limit of the bytes is told where what was taken of the part ends too early, or where more were taken before
+        ensures ends { self.old.failed ≡ false → ¬ IsDone self.old.reading
+            → ¬ IsPast limits.bytes self.old.count → S.is_known source.old
+            → IsErrOf result (Limit ReadLimit.Bytes)
+            → EndsEarly (corrupted UnexpectedEnd)
+            (NoPrefix (version_of self.old.version) self.old.reading) (S.left source.old)
+            (S.left source.new) }
 
         // a limit is passed exactly where it is told
         ensures limits { self.old.failed ≡ false → ¬ IsDone self.old.reading
@@ -358,11 +366,11 @@ impl DirectDecoder {
 /// document has come. The test takes memory for values that nest deeper than 64 levels. Without limits `read_document` is faster. Never more
 /// than `bytes` bytes are taken of the source, also within a part. (Not in tantivy.)
 ///
-/// Errors: `Limit(Bytes)` where all these were taken and the document isn't complete, or the last of them shows an error; `Limit(Depth)`
-/// right behind the head of the list with which more than `depth` lists are open, `Limit(HeapBytes)` right behind the part with which the
+/// Errors: `Limit(Bytes)` where all these were taken and the document needs more, so no prefix of them encodes one; `Limit(Depth)` right
+/// behind the head of the list with which more than `depth` lists are open, `Limit(HeapBytes)` right behind the part with which the
 /// document's heap takes more than `heap_bytes` bytes, and the first of them where both hold; `Limit(Depth)` behind a document of which a
-/// value nests deeper by an object of an older store; else `Read` with the error of `read_document`, `Memory` also where it is refused for
-/// that test.
+/// value nests deeper by an object of an older store; else `Read` with the error of `read_document`, also where the last byte that may be
+/// taken shows it, and with `Memory` where it is refused for that test.
 ///
 /// ```
 /// pub fn read_untrusted(alloc: Global, bytes: &[u8]) -> Result<TantivyDocument, LimitedReadError> {
@@ -392,7 +400,8 @@ pub fn read_document_within<S: ByteSource>(
     // wherever a prefix encodes a document that has room, that one is returned, unless a limit is passed
     ensures only { Known S.is_known S.left source.old → (d : Document) (prefix rest : List ℕ)
         → S.left source.old ≡ prefix ++ rest → EncodesDocument Legacy (version_of version) prefix d
-        → document_room d ≤ 4294967295 → AnswersWithin result d rest (S.left source.new) }
+        → document_room d ≤ 4294967295
+        → AnswersWithin limits.bytes result d prefix rest (S.left source.new) }
 
     // what was taken passes the limit
     ensures depth { S.is_known source.old → IsErrOf result (Limit ReadLimit.Depth)
@@ -403,6 +412,11 @@ pub fn read_document_within<S: ByteSource>(
         (S.left source.new) }
     ensures bytes { S.is_known source.old → IsErrOf result (Limit ReadLimit.Bytes)
         → Begins (IsAll limits.bytes) (S.left source.old) (S.left source.new) }
+
+    // and a document needs more
+    ensures ends { S.is_known source.old → IsErrOf result (Limit ReadLimit.Bytes)
+        → EndsEarly (corrupted UnexpectedEnd) (NoDocument (version_of version))
+        (S.left source.old) (S.left source.new) }
 
     // no more bytes are taken than may be, whatever is returned
     ensures most { S.is_known source.old

@@ -5,7 +5,7 @@ use Rattle.std.proofs.lemmas.List.{append_cancel_left}
 use Rattle.tv_base.specs.declared.cause.Cause.TheVariants.{UnexpectedEnd}
 use Rattle.tv_base.specs.Source.{Failures}
 use Rattle.tv_base.specs.Stop.{Stop, Counts, Taken}
-use Rattle.tv_base.specs.Stop.Stop.{InputError, Failed, Short, Never}
+use Rattle.tv_base.specs.Stop.Stop.{InputError, Uncounted, Failed, Short, Never}
 use Rattle.tv_base.proofs.TakeSteps.{Taken_then}
 use Rattle.tv_legacy.specs.Legacy.{Legacy}
 use Rattle.tv_legacy.proofs.Unique.{one_legacy}
@@ -178,7 +178,8 @@ next_then {is_known = is_known} {left = left} {failures = failures} {old = old} 
 -- ---- what a type promises beside
 
 spares : (C : List ℕ → DeserializeError → Type 0) (s : Stop DeserializeError) (old new : List ℕ) (count : ℕ) → count < 2 ^ 64 - 1 → ((e : DeserializeError) → C old e → ⊥) → GivesStop end C old new count s → SparesBytes s
-spares C (InputError f) old new count few none h = none f (h few).stands
+spares C (InputError f) old new count few none h = none f h.stands
+spares C (Uncounted f) old new count few none h = absurd (omega (arith, few, h.0))
 spares C (Failed kind) old new count few none h = tt
 spares C Short old new count few none h = tt
 spares C Never old new count few none h = h

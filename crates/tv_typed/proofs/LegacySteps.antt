@@ -3,10 +3,10 @@ use Rattle.std.proofs.Common.{◌≡◌, ◌≢◌, ℕ, ◌-◌, ◌^◌, ◌<�
 use Rattle.std.specs.Prelude.{OnOk}
 use Rattle.std.specs.declared.io.ErrorKind.{ErrorKind}
 use Rattle.std.proofs.lemmas.List.{append-nil}
-use Rattle.tv_base.specs.declared.cause.Cause.TheVariants.{UnexpectedEnd}
+use Rattle.tv_base.specs.declared.cause.Cause.TheVariants.{UnexpectedEnd, TooLong}
 use Rattle.tv_base.specs.Source.{Failures}
 use Rattle.tv_base.specs.Stop.{Stop, CountsStop, Counts, Taken}
-use Rattle.tv_base.specs.Stop.Stop.{InputError, Failed, Short, Never}
+use Rattle.tv_base.specs.Stop.Stop.{InputError, Uncounted, Failed, Short, Never}
 use Rattle.tv_base.proofs.TakeSteps.{Taken_none}
 use Rattle.tv_legacy.specs.Legacy.{Legacy}
 use Rattle.tv_legacy.proofs.Unique.{one_legacy}
@@ -48,10 +48,11 @@ no_io e kind h is = let f = subst (λ z. CountsStop (typed_stop z) no_failures n
 
 -- a refusal, retold
 of_told : (Q : List ℕ → DeserializeError → Type 0) (e told : DeserializeError) (old new : List ℕ) (count : ℕ) → ((kind : ErrorKind) → e ≢ errors.Io kind) → Retold e told → count < 2 ^ 64 - 1 → GivesStop end Q old new count (typed_stop e) → ToldOf Q old (typed_stop told)
-of_told Q (errors.CorruptedValue c) _ old new count calm (as_it_is other) few h = (errors.CorruptedValue c, (h few).stands, as_it_is other)
-of_told Q (errors.TypeMismatch expected actual) _ old new count calm (as_it_is other) few h = (errors.TypeMismatch expected actual, (h few).stands, as_it_is other)
-of_told Q (errors.UnsupportedType t) _ old new count calm (as_it_is other) few h = (errors.UnsupportedType t, (h few).stands, as_it_is other)
-of_told Q (errors.Custom s) _ old new count calm (as_it_is other) few h = (errors.Custom s, (h few).stands, as_it_is other)
+of_told Q (errors.CorruptedValue TooLong) _ old new count calm (as_it_is other) few h = absurd (omega (arith, few, h.0))
+of_told Q (errors.CorruptedValue c) _ old new count calm (as_it_is other) few h = (errors.CorruptedValue c, h.stands, as_it_is other)
+of_told Q (errors.TypeMismatch expected actual) _ old new count calm (as_it_is other) few h = (errors.TypeMismatch expected actual, h.stands, as_it_is other)
+of_told Q (errors.UnsupportedType t) _ old new count calm (as_it_is other) few h = (errors.UnsupportedType t, h.stands, as_it_is other)
+of_told Q (errors.Custom s) _ old new count calm (as_it_is other) few h = (errors.Custom s, h.stands, as_it_is other)
 of_told Q (errors.Io k) _ old new count calm (as_it_is other) few h = absurd (calm k refl)
 of_told Q errors.Memory _ old new count calm (as_it_is other) few h = tt
 of_told Q errors.TooDeep _ old new count calm (as_it_is other) few h = tt
@@ -60,7 +61,7 @@ of_told Q (errors.UnsupportedVersion m n) _ old new count calm (as_it_is other) 
 of_told Q errors.AlreadyFailed _ old new count calm (as_it_is other) few h = h
 of_told Q e _ old new count calm (past_the_end same) few h =
     let at_end : GivesStop end Q old new count (typed_stop end) = subst (λ z. GivesStop end Q old new count (typed_stop z)) same h in
-    (end, (at_end few).stands, past_the_end refl)
+    (end, at_end.stands, past_the_end refl)
 
 pub encoding_refused : {X : Type 0} (Made : Version → List ℕ → X → Type 0) (Q : Version → List ℕ → DeserializeError → Type 0) (version : DocStoreVersion) (e told : DeserializeError) (content old new : List ℕ) (count : ℕ) → version ≡ stores.V2 → old ≡ content → Retold e told → count < 2 ^ 64 - 1 → CountsStop (typed_stop e) no_failures no_failures
     → Found {X = X} typed_stop end (Made (version_of version)) (Q (version_of version)) old new count (Err e) → OfEncoding {X = X} (Made V2) (Q V2) content (Err told)
@@ -86,10 +87,11 @@ no_last (n ∷ start) byte e = absurd cc
 stop_here : (Q : List ℕ → DeserializeError → Type 0) (t : Tree) (content left : List ℕ) (count : ℕ) (s : Stop DeserializeError) → content ≡ short V2 t → ToldOf Q content s → GivesStop end (λ w told. EncodingRefused Q t told) left left count s
 stop_here Q t content left count (InputError told) same h =
     let refused : EncodingRefused Q t told = (h.0, subst (λ (l : List ℕ). Q l h.0) same h.1, h.2) in
-    λ few. record {
+    record {
       stands = refused;
       shows = record { taken = []; joined = refl; shown = refused; all = λ at_end. absurd (not_end h.0 told h.2 at_end); early = λ other start byte last. absurd (no_last start byte last) };
     }
+stop_here Q t content left count (Uncounted e) same h = absurd h
 stop_here Q t content left count (Failed kind) same h = absurd h
 stop_here Q t content left count Short same h = tt
 stop_here Q t content left count Never same h = h
@@ -109,6 +111,7 @@ found_here is Q t content left count (Err told) same valid h = stop_here Q t con
 -- no read fails
 stop_counts : (Q : List ℕ → DeserializeError → Type 0) (content : List ℕ) (s : Stop DeserializeError) (f : Failures) → ToldOf Q content s → CountsStop s f f
 stop_counts Q content (InputError told) f h = refl
+stop_counts Q content (Uncounted e) f h = absurd h
 stop_counts Q content (Failed kind) f h = absurd h
 stop_counts Q content Short f h = refl
 stop_counts Q content Never f h = absurd h

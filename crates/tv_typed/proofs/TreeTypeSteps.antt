@@ -37,7 +37,7 @@ early_behind v kind t a start byte p last =
 refused_here : (Q : List ℕ → DeserializeError → Type 0) (e : DeserializeError) (left : List ℕ) (count : ℕ) (s : Stop DeserializeError) → s ≡ InputError e → e ≢ end → Q left e → Q [] e → GivesStop end Q left left count s
 refused_here Q e left count s stop other whole none =
     subst (GivesStop end Q left left count) (sym stop)
-    (λ few. record { stands = whole; shows = record { taken = []; joined = refl; shown = none; all = λ at_end. absurd (other at_end); early = λ _ start byte last. absurd (no_last start byte last) } })
+    (record { stands = whole; shows = record { taken = []; joined = refl; shown = none; all = λ at_end. absurd (other at_end); early = λ _ start byte last. absurd (no_last start byte last) } })
 
 both : false ≡ true → ⊥
 both e = absurd cc

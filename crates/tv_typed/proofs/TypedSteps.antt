@@ -3,16 +3,16 @@ use Rattle.std.proofs.Common.{◌≡◌, ◌≢◌, ℕ, ◌-◌, ◌^◌, ◌<�
 use Rattle.std.specs.Prelude.{is_err, IfErr, IsErrOf}
 use Rattle.std.proofs.lemmas.Result.{IfErr-weaker}
 use Rattle.tv_base.specs.declared.cause.Cause.{Cause}
-use Rattle.tv_base.specs.declared.cause.Cause.TheVariants.{UnexpectedEnd}
+use Rattle.tv_base.specs.declared.cause.Cause.TheVariants.{UnexpectedEnd, TooLong}
 use Rattle.tv_base.specs.declared.read_error.ReadError.{ReadError}
 use Rattle.tv_base.specs.declared.read_error.ReadError.TheVariants as reads
-use Rattle.tv_base.specs.ReadsAs.{Shows}
+use Rattle.tv_base.specs.ReadsAs.{Shows, EndsEarly}
 use Rattle.tv_base.specs.Source.{AllBytes, Failures}
 use Rattle.tv_base.specs.Stop.{CountsStop, Counts, Gives}
 use Rattle.tv_base.specs.Stop.Stop.{InputError}
 use Rattle.tv_base.specs.Take.{TakesBy, MayStop, MayStopLean, read_stop}
 use Rattle.tv_base.proofs.Agrees.{Agrees}
-use Rattle.tv_base.proofs.ByGrammar.{shows_by}
+use Rattle.tv_base.proofs.ByGrammar.{shows_by, early_by}
 use Rattle.tv_legacy.specs.Legacy.{Legacy}
 use Rattle.tv_format.specs.InputError.{Refusal, corrupted}
 use Rattle.tv_format.specs.Encoding.{Encodes}
@@ -32,7 +32,7 @@ use Rattle.tv_reader.specs.declared.value_type.ValueType.{ValueType}
 use Rattle.tv_reader.specs.declared.value_type.ValueType.TheVariants as types
 use Rattle.tv_typed.specs.declared.store_reader.StoreReader.{StoreReader}
 use Rattle.tv_reader.proofs.BehindKinds.{leaf_encoded, leaf_refused}
-use Rattle.tv_reader.proofs.Finding.{shows_map, raised_roomy, finds_refused}
+use Rattle.tv_reader.proofs.Finding.{shows_map, early_map, raised_roomy, finds_refused}
 
 abbrev end : DeserializeError
 end = errors.CorruptedValue UnexpectedEnd
@@ -41,18 +41,22 @@ same_cause : (c : Cause) → errors.CorruptedValue c ≡ errors.CorruptedValue U
 same_cause c e = cc
 
 typed_found : {X Y : Type 0} (view : X → Y) {reading : List ℕ → Result (Y × List ℕ) (Cause × List ℕ)} {Encodes : List ℕ → Y → Type 0} {HasError : List ℕ → Cause → Type 0} (answer : Result X ReadError) (B : List ℕ → X → Type 0) (Q : List ℕ → DeserializeError → Type 0)
-    → Agrees UnexpectedEnd reading Encodes HasError → ((a : List ℕ) (x : X) → Encodes a (view x) → B a x) → ((w : List ℕ) (c : Cause) → HasError w c → Q w (errors.CorruptedValue c)) → (old new : List ℕ) (count : ℕ) → AllBytes old
-    → Gives read_stop view answer (reading old) new count → Found typed_stop end B Q old new count (raised answer)
-typed_found view (Ok x) B Q agrees join map old new count small h = let p = agrees.sound old (view x, new) small h in record { prefix = p.0; joined = p.2; encoded = join p.0 x p.1 }
-typed_found view (Err (reads.Corrupted c)) B Q agrees join map old new count small h = λ few. record {
-  stands = map old c (agrees.refused old c new small (h few));
-  shows = shows_map (λ d. errors.CorruptedValue d) same_cause old new c map (shows_by agrees old new c small (h few));
-}
-typed_found view (Err (reads.Io kind)) B Q agrees join map old new count small h = tt
-typed_found view (Err reads.Memory) B Q agrees join map old new count small h = tt
+    → Agrees UnexpectedEnd reading Encodes HasError → ((a : List ℕ) (x : X) → Encodes a (view x) → B a x) → ((w : List ℕ) (c : Cause) → HasError w c → Q w (errors.CorruptedValue c)) → (old taken new : List ℕ) (count : ℕ) → AllBytes old → old ≡ taken ++ new
+    → Gives read_stop view answer reading taken new count → Found typed_stop end B Q old new count (raised answer)
+typed_found view {reading = reading} (Ok x) B Q agrees join map old taken new count small joined h =
+    let p = agrees.sound old (view x, new) small (ap reading joined ∙ h new) in
+    record { prefix = p.0; joined = p.2; encoded = join p.0 x p.1 }
+typed_found view (Err (reads.Corrupted TooLong)) B Q agrees join map old taken new count small joined h =
+    (h.0, early_map (λ d. errors.CorruptedValue d) old new UnexpectedEnd map (early_by agrees old taken new UnexpectedEnd small joined h.1))
+typed_found view {reading = reading} (Err (reads.Corrupted c)) B Q agrees join map old taken new count small joined h =
+    let e = ap reading joined ∙ h in
+    record { stands = map old c (agrees.refused old c new small e); shows = shows_map (λ d. errors.CorruptedValue d) same_cause old new c map (shows_by agrees old new c small e) }
+typed_found view (Err (reads.Io kind)) B Q agrees join map old taken new count small joined h = tt
+typed_found view (Err reads.Memory) B Q agrees join map old taken new count small joined h = tt
 
 typed_counts : {X : Type 0} (answer : Result X ReadError) (old new : Failures) → Counts read_stop answer old new → Counts typed_stop (raised answer) old new
 typed_counts (Ok x) old new h = h
+typed_counts (Err (reads.Corrupted TooLong)) old new h = h
 typed_counts (Err (reads.Corrupted c)) old new h = h
 typed_counts (Err (reads.Io kind)) old new h = h
 typed_counts (Err reads.Memory) old new h = h
@@ -65,7 +69,7 @@ typed_part : {S X Y : Type 0} (is_known : S → Type 0) (left : S → List ℕ) 
     → ((source : S) → is_known source → AllBytes (left source)) → Agrees UnexpectedEnd reading Encodes HasError → ((a : List ℕ) (x : X) → Encodes a (view x) → B a x) → ((w : List ℕ) (c : Cause) → HasError w c → Q w (errors.CorruptedValue c))
     → TakesBy is_known left failures old i new k view answer reading → FindsBy typed_stop StoreMayStop end is_known left failures old i new k (raised answer) B Q
 typed_part is_known left failures old new i k view answer B Q are_bytes agrees join map h =
-    record { found = λ t. typed_found view answer B Q agrees join map (left old) (left new) k (are_bytes old t) (h.gives t); taken = h.taken; stays_known = h.stays_known; counts = typed_counts answer (failures old) (failures new) h.counts; rises = h.rises; may_stop = typed_may answer k h.may_stop }
+    record { found = λ t. let p = h.taken t in typed_found view answer B Q agrees join map (left old) p.prefix (left new) k (are_bytes old t) p.joined (h.gives t p.prefix p.joined); taken = h.taken; stays_known = h.stays_known; counts = typed_counts answer (failures old) (failures new) h.counts; rises = h.rises; may_stop = typed_may answer k h.may_stop }
 
 both : (b : Bool) → b ≡ false → b ≡ true → ⊥
 both b p q = let e = sym p ∙ q in absurd cc
@@ -172,9 +176,13 @@ told_shows e r old new told s = record {
 told_refuses : {F : List ℕ → Refusal → Type 0} (e : DeserializeError) (r : Refusal) (old new : List ℕ) → IsRefusal e r → Refuses (corrupted UnexpectedEnd) F old new r → Refuses end (GivesError F) old new e
 told_refuses e r old new told h = record { stands = record { refusal = r; told = told; error = h.stands }; shows = told_shows e r old new told h.shows }
 
+-- bytes that end too early
+told_early : {F : List ℕ → Refusal → Type 0} (old new : List ℕ) → EndsEarly (corrupted UnexpectedEnd) F old new → EndsEarly end (GivesError F) old new
+told_early old new h = record { taken = h.taken; joined = h.joined; shown = record { refusal = corrupted UnexpectedEnd; told = is_corrupted; error = h.shown } }
+
 mismatch_found : {F : List ℕ → Refusal → Type 0} (expected actual : ValueType) (old new : List ℕ) (count : ℕ) → GivesStop (corrupted UnexpectedEnd) F old new count (key_stop expected actual)
-    → count < 2 ^ 64 - 1 → Refuses end (GivesError F) old new (errors.TypeMismatch expected actual)
-mismatch_found types.String actual old new count h = λ few. told_refuses _ _ old new is_no_text (h few)
+    → Refuses end (GivesError F) old new (errors.TypeMismatch expected actual)
+mismatch_found types.String actual old new count h = told_refuses _ _ old new is_no_text h
 mismatch_found _ actual old new count h = absurd h
 
 mismatch_counts : (expected actual : ValueType) (old new : Failures) → CountsStop (key_stop expected actual) old new → new ≡ old
@@ -184,7 +192,8 @@ mismatch_counts _ actual old new h = absurd h
 told_found : {X : Type 0} (B : List ℕ → X → Type 0) (F : List ℕ → Refusal → Type 0) (result : Result X DeserializeError) (old new : List ℕ) (count : ℕ) → IfErr result (λ e. StoreMayStopRoomy e count) → Found store_stop (corrupted UnexpectedEnd) B F old new count result
     → Found typed_stop end B (GivesError F) old new count result
 told_found B F (Ok x) old new count roomy h = h
-told_found B F (Err (errors.CorruptedValue c)) old new count roomy h = λ few. told_refuses _ _ old new is_corrupted (h few)
+told_found B F (Err (errors.CorruptedValue TooLong)) old new count roomy h = (h.0, told_early old new h.1)
+told_found B F (Err (errors.CorruptedValue c)) old new count roomy h = told_refuses _ _ old new is_corrupted h
 told_found B F (Err (errors.TypeMismatch expected actual)) old new count roomy h = mismatch_found expected actual old new count h
 told_found B F (Err (errors.Io k)) old new count roomy h = tt
 told_found B F (Err errors.Memory) old new count roomy h = tt
@@ -193,6 +202,7 @@ told_found B F (Err _) old new count roomy h = absurd h
 
 told_counts : {X : Type 0} (result : Result X DeserializeError) (old new : Failures) (count : ℕ) → IfErr result (λ e. StoreMayStopRoomy e count) → Counts store_stop result old new → Counts typed_stop result old new
 told_counts (Ok x) old new count roomy h = h
+told_counts (Err (errors.CorruptedValue TooLong)) old new count roomy h = h
 told_counts (Err (errors.CorruptedValue c)) old new count roomy h = h
 told_counts (Err (errors.TypeMismatch expected actual)) old new count roomy h = mismatch_counts expected actual old new h
 told_counts (Err (errors.Io k)) old new count roomy h = h
@@ -232,7 +242,8 @@ deep_room count (inr same) = absurd (not_deep same)
 tree_found : {X : Type 0} (B : List ℕ → X → Type 0) (F : List ℕ → Refusal → Type 0) (result : Result X DeserializeError) (old new : List ℕ) (count : ℕ) → IfErr result (λ e. StoreMayStopDeep e count) → Found tree_stop (corrupted UnexpectedEnd) B F old new count result
     → Found typed_stop end B (GivesError F) old new count result
 tree_found B F (Ok x) old new count may h = h
-tree_found B F (Err (errors.CorruptedValue c)) old new count may h = λ few. told_refuses _ _ old new is_corrupted (h few)
+tree_found B F (Err (errors.CorruptedValue TooLong)) old new count may h = (h.0, told_early old new h.1)
+tree_found B F (Err (errors.CorruptedValue c)) old new count may h = told_refuses _ _ old new is_corrupted h
 tree_found B F (Err (errors.TypeMismatch expected actual)) old new count may h = mismatch_found expected actual old new count h
 tree_found B F (Err (errors.Io k)) old new count may h = tt
 tree_found B F (Err errors.Memory) old new count may h = tt
@@ -242,6 +253,7 @@ tree_found B F (Err _) old new count may h = absurd h
 
 tree_counts : {X : Type 0} (result : Result X DeserializeError) (old new : Failures) (count : ℕ) → IfErr result (λ e. StoreMayStopDeep e count) → Counts tree_stop result old new → Counts typed_stop result old new
 tree_counts (Ok x) old new count may h = h
+tree_counts (Err (errors.CorruptedValue TooLong)) old new count may h = h
 tree_counts (Err (errors.CorruptedValue c)) old new count may h = h
 tree_counts (Err (errors.TypeMismatch expected actual)) old new count may h = mismatch_counts expected actual old new h
 tree_counts (Err (errors.Io k)) old new count may h = h

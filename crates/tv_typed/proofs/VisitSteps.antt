@@ -66,8 +66,8 @@ single_is (object es) h = absurd h
 -- the value that was taken is a leaf, or none was taken
 pub leaf_taken : {P : Type 0} {is_known : P → Type 0} {left : P → List ℕ} {count : P → ℕ} {failures : P → Failures} {old new : P} {value : OwnedValue} {reading : List ℕ → Result (Tree × List ℕ) (Cause × List ℕ)}
     → IsSingle (owned_tree value) → Takes read_stop MayStop is_known left count failures old new owned_tree (Ok value) reading → Takes read_stop MayStop is_known left count failures old new leaf (Ok (single_leaf (owned_tree value))) reading
-leaf_taken {left = left} {new = new} {value = value} single h = record {
-  gives = λ told. h.gives told ∙ ap (λ t. Ok (t, left new)) (single_is (owned_tree value) single);
+leaf_taken {value = value} single h = record {
+  gives = λ told taken joined behind. h.gives told taken joined behind ∙ ap (λ t. Ok (t, behind)) (single_is (owned_tree value) single);
   taken = h.taken;
   stays_known = h.stays_known;
   counts = h.counts;

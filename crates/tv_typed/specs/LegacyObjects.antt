@@ -4,7 +4,7 @@ use Rattle.tv_base.specs.declared.cause.Cause.TheVariants.{UnexpectedEnd}
 use Rattle.tv_base.specs.ErrorInPart.{InThen}
 use Rattle.tv_base.specs.Parts.{Begins}
 use Rattle.tv_base.specs.Stop.{Stop}
-use Rattle.tv_base.specs.Stop.Stop.{InputError, Failed, Short, Never}
+use Rattle.tv_base.specs.Stop.Stop.{InputError, Uncounted, Failed, Short, Never}
 use Rattle.tv_legacy.specs.Legacy.{Legacy}
 use Rattle.tv_format.specs.Short.{short}
 use Rattle.tv_format.specs.Encoding.{Encodes}
@@ -40,6 +40,7 @@ pub data MembersRefused (refused : Version → ValueType → List ℕ → Deseri
 -- Why an encoding is refused, as it is told. No read of it fails.
 abbrev pub ToldOf : (List ℕ → DeserializeError → Type 0) → List ℕ → Stop DeserializeError → Type 0
 ToldOf Refused bytes (InputError told) = (e : DeserializeError) × Refused bytes e × Retold e told
+ToldOf Refused bytes (Uncounted e) = ⊥
 ToldOf Refused bytes (Failed kind) = ⊥
 ToldOf Refused bytes Short = Unit {0}
 ToldOf Refused bytes Never = ⊥

@@ -1,18 +1,20 @@
 -- What a read through a reader of a store returns and does.
 use Rattle.std.specs.Prelude.{◌≡◌, ◌≢◌, ℕ, Bool, true, false, is_err, List, Result, Ok, Err, OnOk, IsErrOf}
-use Rattle.tv_base.specs.declared.cause.Cause.TheVariants.{UnexpectedEnd}
+use Rattle.tv_base.specs.declared.cause.Cause.TheVariants.{UnexpectedEnd, TooLong}
 use Rattle.tv_base.specs.declared.read_error.ReadError.{ReadError}
 use Rattle.tv_base.specs.Source.{Failures}
 use Rattle.tv_base.specs.Stop.{Stop, Counts, Taken}
-use Rattle.tv_base.specs.Stop.Stop.{InputError, Failed, Short, Never}
+use Rattle.tv_base.specs.Stop.Stop.{InputError, Uncounted, Failed, Short, Never}
 use Rattle.tv_reader.specs.Error.{read_error, StoreMayStop, StoreMayStopDeep}
 use Rattle.tv_reader.specs.Finds.{Found, FindsBy}
 use Rattle.tv_reader.specs.declared.error.DeserializeError.{DeserializeError}
 use Rattle.tv_reader.specs.declared.error.DeserializeError.TheVariants as errors
 use Rattle.tv_typed.specs.declared.store_reader.StoreReader.{StoreReader}
 
--- Why a typed read stopped. What is refused is told by the error itself.
+-- Why a typed read stopped. What is refused is told by the error itself. Where no more bytes can be counted, those that were taken end too
+-- early.
 abbrev pub typed_stop : DeserializeError → Stop DeserializeError
+typed_stop (errors.CorruptedValue TooLong) = Uncounted (errors.CorruptedValue UnexpectedEnd)
 typed_stop (errors.CorruptedValue c) = InputError (errors.CorruptedValue c)
 typed_stop (errors.TypeMismatch expected actual) = InputError (errors.TypeMismatch expected actual)
 typed_stop (errors.UnsupportedType t) = InputError (errors.UnsupportedType t)

@@ -4,7 +4,7 @@ use Rattle.tv_base.specs.declared.cause.Cause.{Cause}
 use Rattle.tv_base.specs.ErrorInPart.{InThen}
 use Rattle.tv_base.specs.Source.{Failures}
 use Rattle.tv_base.specs.Stop.{Stop}
-use Rattle.tv_base.specs.Stop.Stop.{InputError, Failed, Short, Never}
+use Rattle.tv_base.specs.Stop.Stop.{InputError, Uncounted, Failed, Short, Never}
 use Rattle.tv_legacy.specs.Legacy.{Legacy}
 use Rattle.tv_format.specs.InputError.{Refusal, corrupted}
 use Rattle.tv_value.specs.Owned.{owned_tree}
@@ -87,6 +87,7 @@ RefusalsExclude {X} is refused =
 -- the bytes are not malformed: the source failed, memory was refused, or a value of any type nests too deep for the reader
 abbrev pub SparesBytes : Stop DeserializeError → Type 0
 SparesBytes (InputError e) = ⊥
+SparesBytes (Uncounted e) = ⊥
 SparesBytes (Failed kind) = Unit {0}
 SparesBytes Short = Unit {0}
 SparesBytes Never = ⊥

@@ -46,4 +46,10 @@ loop-preserved g c =
     )
 
 pub returns-clause-finds : goal.returns-clause-finds
-returns-clause-finds g c = too_many (version_of c.args.version) c.args.begun c.loop.reading c.loop.counter (search rules) (search rules) c.loop.invariant.2 c.loop.invariant.1
+returns-clause-finds g c =
+    let v = version_of c.args.version in
+    too_many v c.args.begun c.loop.reading c.loop.counter c.loop.invariant.0 (λ d. let t : true ≡ false = sym (c.is_done-2.ensures.1 d) ∙ c.if-is_done-2.false in cc) (search rules) (search rules) c.loop.invariant.2 c.loop.invariant.1
+
+pub returns-then-is_done-2-clause-finds : goal.returns-then-is_done-2-clause-finds
+returns-then-is_done-2-clause-finds g c =
+    all_finished (version_of c.args.version) c.args.begun c.loop.reading c.into_pairs-2.result c.loop.invariant.0 (c.is_done-2.ensures.0 c.if-is_done-2.true) c.into_pairs-2.ensures.document c.loop.invariant.1
