@@ -1,5 +1,5 @@
 -- A strict prefix of an encoded value or document has the error that it ends too early.
-use Rattle.std.proofs.Common.{◌≡◌, ◌≢◌, ◌⊎◌, ℕ, suc, ◌+◌, List, [], ◌∷◌, ◌++◌, length, refl, sym, ap, subst, ◌∙◌, arith, append_assoc, inl, inr}
+use Rattle.std.proofs.Common.{◌≡◌, ◌≢◌, ◌⊎◌, ℕ, suc, List, [], ◌∷◌, ◌++◌, length, refl, sym, ap, subst, ◌∙◌, arith, append_assoc, inl, inr}
 use Rattle.tv_base.specs.declared.cause.Cause.{Cause}
 use Rattle.tv_base.specs.declared.cause.Cause.TheVariants.{UnexpectedEnd}
 use Rattle.tv_base.specs.Number.{VNum, Fixed}

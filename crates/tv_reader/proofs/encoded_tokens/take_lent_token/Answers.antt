@@ -3,8 +3,13 @@ use Rattle.std.proofs.lemmas.Result.{err_from_is_err_and}
 use Rattle.tv_base.specs.Take.{read_stop}
 use Rattle.tv_base.proofs.TakeSteps.{lean, SoFar-step, SoFar-fails, SoFar-returns}
 use Rattle.tv_value.specs.TokenRef.{ref_of}
-use Rattle.tv_reader.proofs.TokenSteps.{token_with, offsets_taken, position_taken}
+use Rattle.tv_reader.proofs.TokenSteps.{token_with, offset_taken, offsets_taken, position_taken}
 use Rattle.tv_reader.proofs.encoded_tokens.take_lent_token.Goals as goal
+
+pub returns-in_err-offset_to : goal.returns-in_err-offset_to
+returns-in_err-offset_to g c =
+    let p = err_from_is_err_and c.from_residual-in_err-offset_to.result c.from_residual-in_err-offset_to.ensures.1 in
+    record { takes = rw (p.1, p.2) (SoFar-fails (λ t. ref_of t) _ _ (λ _. refl) (offset_taken c.in_ok-offset_from.ensures.takes) (lean c.in_err-offset_to.ensures.takes)) }
 
 pub returns-in_err-position : goal.returns-in_err-position
 returns-in_err-position g c =
