@@ -1,12 +1,15 @@
 -- Steps within limits, one after the other.
-use Rattle.std.proofs.Common.{◌≡◌, ℕ, ◌+◌, ◌-◌, ◌^◌, ◌<◌, ◌≤◌, Bool, List, [], ◌++◌, length, take, Option, Some, None, Result, Ok, Err, refl, sym, ◌∙◌, ap, subst, arith, rules, append-nil, length-append, inl, inr}
+use Rattle.std.proofs.Common.{◌≡◌, ℕ, ◌+◌, ◌-◌, ◌^◌, ◌<◌, ◌≤◌, Bool, List, [], ◌++◌, length, take, drop, Option, Some, None, Result, Ok, Err, refl, sym, ◌∙◌, ap, subst, arith, rules, append-nil, take_at, length-append, inl, inr}
 use Rattle.std.specs.Prelude.{◌↔◌, IsTrue, IsSome, IfOk, IfErr, IsErrOf}
-use Rattle.std.proofs.lemmas.List.{length-take}
-use Rattle.tv_base.specs.declared.cause.Cause.TheVariants.{UnexpectedEnd}
+use Rattle.std.proofs.lemmas.Bool.{cases_lt}
+use Rattle.std.proofs.lemmas.List.{length-take, take-append-drop}
+use lib.Seq.{take-append-le}
+use Rattle.tv_base.specs.declared.cause.Cause.TheVariants.{UnexpectedEnd, TooLong}
 use Rattle.tv_base.specs.Parts.{Begins}
+use Rattle.tv_base.specs.ReadsAs.{EndsEarly}
 use Rattle.tv_base.specs.Source.{Failures}
 use Rattle.tv_base.specs.Stop.{Stop, CountsStop, Counts, Taken}
-use Rattle.tv_base.specs.Stop.Stop.{InputError, Failed, Short, Never}
+use Rattle.tv_base.specs.Stop.Stop.{InputError, Uncounted, Failed, Short, Never}
 use Rattle.tv_builder.specs.Builder.{built, state_of, heap_so_far}
 use Rattle.tv_builder.specs.State.{State, in_lists, IsState, lists_of}
 use Rattle.tv_doc.specs.Document.{document_of}
@@ -17,7 +20,8 @@ use Rattle.tv_reader.specs.Error.{store_stop, IsRefusal}
 use Rattle.tv_reader.specs.Finds.{Finds, GivesStop, Refuses}
 use Rattle.tv_reader.specs.declared.error.DeserializeError.{DeserializeError}
 use Rattle.tv_reader.specs.declared.error.DeserializeError.TheVariants as errors
-use Rattle.tv_reader.proofs.Finding.{finds_as, finds_any, finds_fails, stop_map}
+use Rattle.tv_reader.specs.declared.value_type.ValueType.TheVariants as types
+use Rattle.tv_reader.proofs.Finding.{finds_as, finds_any, finds_fails, stop_map, early_map}
 use Rattle.tv_format.specs.InputError.{Refusal, corrupted}
 use Rattle.tv_format.specs.Encoding.{EncodesDocument}
 use Rattle.tv_format.specs.Tree.{Document}
@@ -30,11 +34,11 @@ use Rattle.tv_decoder.specs.declared.reading.Reading.{Reading}
 use Rattle.tv_decoder.proofs.BufferedPairs.{none_passed}
 use Rattle.tv_decoder.proofs.States.{is_state}
 use Rattle.tv_builder.proofs.PairBuilding.{heap_weighs}
-use Rattle.tv_decoder.proofs.WholeDocuments.{Goes, step_more, step_fails, step_takes, done_encodes}
-use Rattle.tv_store.proofs.Promises.{refused_by, only_by}
+use Rattle.tv_decoder.proofs.WholeDocuments.{Goes, step_more, step_fails, step_takes, done_encodes, awaits_more}
+use Rattle.tv_store.proofs.Promises.{refused_by, only_by, excluded}
 use Rattle.tv_store.specs.Documents.{BeginsWith, NoDocument, HasNoRoom, IsReadingError}
 use Rattle.tv_store.specs.Limits.{IsPast, Checks, FindsWithin, IsDeep, PassesDepth, IsLarge, IsAll, Unread, Comes, IsLimitedError, AnswersWithin, AllNestWithinLimit, TestsDepth}
-use Rattle.tv_store.specs.Limits.{first_count, limited_stop, FindsPart, IsOfBytes, Told}
+use Rattle.tv_store.specs.Limits.{first_count, limited_stop, FindsPart, IsUncounted, Told}
 use Rattle.tv_store.specs.declared.limits.ReadLimits.{ReadLimits}
 use Rattle.tv_store.specs.declared.limits.ReadLimit.{ReadLimit}
 use Rattle.tv_store.specs.declared.limits.ReadLimit.TheVariants as limit
@@ -63,6 +67,18 @@ module _ {S : Type 0} {is_known : S → Type 0} {left : S → List ℕ} {failure
 
   pub takes_one : {mid new : S} {j k : ℕ} (step : Step) (legacy : Bool) (after : Reading) → Finds is_known left failures mid j new k (Ok step) (λ b _. Stepped w legacy r after b) (NoPrefix w r) → is_known mid → j < k
   takes_one step legacy after h told = step_takes w begun r tt legacy after (finds_as tt (λ b _. Stepped w legacy r after b) (NoPrefix w r) (λ a s. s) h) told
+
+  -- so many steps that no more can be counted
+  pub too_many : {X : Type 0} {old mid : S} {i j : ℕ} (counter : ℕ) (B : List ℕ → X → Type 0) → IsSound r → ¬ IsDone r → j < 2 ^ 64 → 2 ^ 64 - 1 ≤ counter → (is_known old → counter + i ≤ j) → Finds is_known left failures old i mid j (Ok r) (Goes v begun) Nothing
+      → FindsWithin is_known left failures old i mid j (Err (errors.CorruptedValue TooLong)) B (NoPrefix v begun)
+  too_many counter B sound more below many counts p = record {
+    found = λ told. (omega (arith, below, many, counts told), awaits_more v begun r sound more p told);
+    taken = p.taken;
+    stays_known = p.stays_known;
+    counts = p.counts;
+    rises = p.rises;
+    may_stop = tt;
+  }
 
   pub fails : {old mid new : S} {i j k : ℕ} {X : Type 0} (e : DeserializeError) (legacy : Bool) (after : Reading) (B : List ℕ → X → Type 0) → IsSound r → ¬ IsDone r → Finds is_known left failures old i mid j (Ok r) (Goes v begun) Nothing
       → Finds {X = Step} is_known left failures mid j new k (Err e) (λ b _. Stepped w legacy r after b) (NoPrefix w r) → FindsWithin is_known left failures old i new k (Err e) B (NoPrefix v begun)
@@ -122,34 +138,47 @@ passed v limits begun r limit.Depth old new count none sound check f t below =
 passed v limits begun r limit.HeapBytes old new count none sound check f t below =
     record { taken = f.prefix; joined = f.joined; most = taken_within limits.bytes f.prefix old new count f.joined t below; outcome = record { reading = r; sound = sound; encoded = f.encoded [] (at_start v begun none); large = check.1; weighs = past_more limits.heap_bytes _ _ (heap_weighs r.builder) check.1 } }
 
--- An error of the bytes is told where fewer are counted than can be, so it stands in them.
-few_counted : (most : Option ℕ) (n count : ℕ) → count ≡ first_count most + n → count < 2 ^ 64 → ¬ (IsSome most × (count ≡ 2 ^ 64 - 1)) → n < 2 ^ 64 - 1 → count < 2 ^ 64 - 1
-few_counted None n count is below told few = omega arith
-few_counted (Some m) n count is below told few =
-    let not_all : ¬ (count ≡ 2 ^ 64 - 1) = λ all. told (search rules, all) in
-    omega (arith, not_all)
+-- That no more bytes can be counted is told where there is no limit, so as many were taken.
+all_counted : (most : Option ℕ) (n count : ℕ) → count ≡ first_count most + n → ¬ (IsSome most × (count ≡ 2 ^ 64 - 1)) → count ≡ 2 ^ 64 - 1 → n ≡ 2 ^ 64 - 1
+all_counted None n count is told all = omega (arith, is, all)
+all_counted (Some m) n count is told all = absurd (told (search rules, all))
 
-counted_again : (HasError : List ℕ → Refusal → Type 0) (most : Option ℕ) (old new : List ℕ) (count n : ℕ) (s : Stop Refusal) → count ≡ first_count most + n → count < 2 ^ 64 → (IsOfBytes s → ¬ (IsSome most × (count ≡ 2 ^ 64 - 1)))
+counted_again : (HasError : List ℕ → Refusal → Type 0) (most : Option ℕ) (old new : List ℕ) (count n : ℕ) (s : Stop Refusal) → count ≡ first_count most + n → (IsUncounted s → ¬ (IsSome most × (count ≡ 2 ^ 64 - 1)))
     → GivesStop (corrupted UnexpectedEnd) HasError old new count s → GivesStop (corrupted UnexpectedEnd) HasError old new n s
-counted_again HasError most old new count n (InputError r) is below told gives = λ few. gives (few_counted most n count is below (told tt) few)
-counted_again HasError most old new count n (Failed k) is below told gives = tt
-counted_again HasError most old new count n Short is below told gives = tt
-counted_again HasError most old new count n Never is below told gives = gives
+counted_again HasError most old new count n (InputError r) is told gives = gives
+counted_again HasError most old new count n (Uncounted r) is told gives = (all_counted most n count is (told tt) gives.0, gives.1)
+counted_again HasError most old new count n (Failed k) is told gives = tt
+counted_again HasError most old new count n Short is told gives = tt
+counted_again HasError most old new count n Never is told gives = gives
+
+-- where more bytes are needed, those that were taken end too early
+early_of : (HasError : List ℕ → Refusal → Type 0) (e : DeserializeError) (old new : List ℕ) (count : ℕ) → IsUncounted (store_stop e) → GivesStop (corrupted UnexpectedEnd) HasError old new count (store_stop e) → EndsEarly (corrupted UnexpectedEnd) HasError old new
+early_of HasError (errors.CorruptedValue TooLong) old new count is h = h.1
+early_of HasError (errors.TypeMismatch types.String actual) old new count is h = absurd is
+early_of HasError (errors.TypeMismatch _ actual) old new count is h = absurd is
+early_of HasError _ old new count is h = absurd is
 
 refused : (v : Version) (limits : ReadLimits) (begun : Reading) (e : DeserializeError) (old new : List ℕ) (count : ℕ) → parts_read begun ≡ []
     → GivesStop (corrupted UnexpectedEnd) (NoPrefix v begun) old new count (store_stop e) → Taken old new (first_count limits.bytes) count → count < 2 ^ 64
-    → (IsOfBytes (store_stop e) → ¬ (IsSome limits.bytes × (count ≡ 2 ^ 64 - 1))) → (e ≡ errors.HeapFull → NoRoomBehind v begun old) → Comes v limits old new (Err (limited.Read e))
+    → (IsUncounted (store_stop e) → ¬ (IsSome limits.bytes × (count ≡ 2 ^ 64 - 1))) → (e ≡ errors.HeapFull → NoRoomBehind v begun old) → Comes v limits old new (Err (limited.Read e))
 refused v limits begun e old new count none stop t below told full =
     let unread : Unread v old new (length t.prefix) e = record {
-      stop = counted_again (NoDocument v) limits.bytes old new count (length t.prefix) (store_stop e) t.counted below told (stop_map (corrupted UnexpectedEnd) (NoPrefix v begun) (NoDocument v) (store_stop e) old new count (λ w r h. h [] (at_start v begun none)) stop);
+      stop = counted_again (NoDocument v) limits.bytes old new count (length t.prefix) (store_stop e) t.counted told (stop_map (corrupted UnexpectedEnd) (NoPrefix v begun) (NoDocument v) (store_stop e) old new count (λ w r h. h [] (at_start v begun none)) stop);
       full = λ is. full is [] (at_start v begun none);
     } in
     record { taken = t.prefix; joined = t.joined; most = taken_within limits.bytes t.prefix old new count t.joined t below; outcome = unread }
 
-took_all : (v : Version) (limits : ReadLimits) (old new : List ℕ) (count : ℕ) → Taken old new (first_count limits.bytes) count → count < 2 ^ 64 → IsSome limits.bytes → ((m : ℕ) → limits.bytes ≡ Some m → first_count limits.bytes + m ≡ 2 ^ 64 - 1)
-    → count ≡ 2 ^ 64 - 1 → Comes v limits old new (Err (limited.Limit limit.Bytes))
-took_all v limits old new count t below is sum all =
-    record { taken = t.prefix; joined = t.joined; most = taken_within limits.bytes t.prefix old new count t.joined t below; outcome = all_of limits.bytes (length t.prefix) is sum (omega (arith, t.counted, all)) }
+-- as many bytes were taken as may be, and a document needs more
+took_all : (v : Version) (limits : ReadLimits) (begun : Reading) (old new : List ℕ) (count : ℕ) → parts_read begun ≡ [] → EndsEarly (corrupted UnexpectedEnd) (NoPrefix v begun) old new → Taken old new (first_count limits.bytes) count → count < 2 ^ 64 → IsSome limits.bytes
+    → ((m : ℕ) → limits.bytes ≡ Some m → first_count limits.bytes + m ≡ 2 ^ 64 - 1) → count ≡ 2 ^ 64 - 1 → Comes v limits old new (Err (limited.Limit limit.Bytes))
+took_all v limits begun old new count none h t below is sum all =
+    let many : length h.taken ≡ length t.prefix = omega (arith, ap length h.joined, ap length t.joined, length-append h.taken new, length-append t.prefix new) in
+    record {
+      taken = h.taken;
+      joined = h.joined;
+      most = taken_within limits.bytes h.taken old new count h.joined t below;
+      outcome = (all_of limits.bytes (length h.taken) is sum (omega (arith, t.counted, all, many)), h.shown [] (at_start v begun none));
+    }
 
 -- an error is told where not all were taken, or as the limit
 pub told_of : (v : Version) (limits : ReadLimits) (begun : Reading) (e : DeserializeError) (old new : List ℕ) (count : ℕ) (all : Bool) (said : LimitedReadError) → Told all e said → parts_read begun ≡ []
@@ -157,17 +186,19 @@ pub told_of : (v : Version) (limits : ReadLimits) (begun : Reading) (e : Deseria
     → IsTrue all ↔ (IsSome limits.bytes × (count ≡ 2 ^ 64 - 1)) → ((m : ℕ) → limits.bytes ≡ Some m → first_count limits.bytes + m ≡ 2 ^ 64 - 1)
     → (e ≡ errors.HeapFull → NoRoomBehind v begun old) → Comes v limits old new (Err said)
 told_of v limits begun e old new count all (limited.Read f) told none stop t below same sum full =
-    subst (λ z. Comes v limits old new (Err (limited.Read z))) (sym told.0) (refused v limits begun e old new count none stop t below (λ of_bytes both. told.1 of_bytes (same.1 both)) full)
+    subst (λ z. Comes v limits old new (Err (limited.Read z))) (sym told.0) (refused v limits begun e old new count none stop t below (λ uncounted both. told.1 uncounted (same.1 both)) full)
 told_of v limits begun e old new count all (limited.Limit limit.Bytes) told none stop t below same sum full =
-    let both = same.0 told.0 in took_all v limits old new count t below both.0 sum both.1
+    let both = same.0 told.0 in
+    took_all v limits begun old new count none (early_of (NoPrefix v begun) e old new count told.1 stop) t below both.0 sum both.1
 told_of v limits begun e old new count all (limited.Limit limit.HeapBytes) told none stop t below same sum full = absurd told
 told_of v limits begun e old new count all (limited.Limit limit.Depth) told none stop t below same sum full = absurd told
 
 -- how often the source failed is not changed by what is said
 pub told_counts : (e : DeserializeError) (all : Bool) (said : LimitedReadError) (s : Stop Refusal) (old new : Failures) → store_stop e ≡ s → Told all e said → CountsStop s old new → CountsStop (limited_stop said) old new
 told_counts e all (limited.Read f) s old new is told counts = subst (λ z. CountsStop z old new) (sym is ∙ ap store_stop (sym told.0)) counts
-told_counts e all (limited.Limit limit.Bytes) (InputError r) old new is told counts = counts
-told_counts e all (limited.Limit limit.Bytes) (Failed k) old new is told counts = absurd (subst IsOfBytes is told.1)
+told_counts e all (limited.Limit limit.Bytes) (Uncounted r) old new is told counts = counts
+told_counts e all (limited.Limit limit.Bytes) (InputError r) old new is told counts = absurd (subst IsUncounted is told.1)
+told_counts e all (limited.Limit limit.Bytes) (Failed k) old new is told counts = absurd (subst IsUncounted is told.1)
 told_counts e all (limited.Limit limit.Bytes) Short old new is told counts = counts
 told_counts e all (limited.Limit limit.Bytes) Never old new is told counts = absurd counts
 told_counts e all (limited.Limit limit.HeapBytes) s old new is told counts = absurd told
@@ -213,12 +244,12 @@ tested_counts most d (Err (limited.Limit l)) old new test same = same
 recounted : (a b : List ℕ) (first from i j k : ℕ) → from ≡ first + i → k ≡ j - first → from ≤ j → Taken a b from j → Taken a b i k
 recounted a b first from i j k begun ended rises t = record { prefix = t.prefix; joined = t.joined; counted = omega (arith, t.counted) }
 
-part_stop : (e : DeserializeError) (all : Bool) (said : LimitedReadError) (most : Option ℕ) (H G : List ℕ → Refusal → Type 0) (a b : List ℕ) (first from i j k : ℕ) → from ≡ first + i → k ≡ j - first → Told all e said → first ≡ first_count most → from ≤ j → j < 2 ^ 64
+part_stop : (e : DeserializeError) (all : Bool) (said : LimitedReadError) (most : Option ℕ) (H G : List ℕ → Refusal → Type 0) (a b : List ℕ) (first from i j k : ℕ) → from ≡ first + i → k ≡ j - first → Told all e said → first ≡ first_count most → from ≤ j
     → IsTrue all ↔ (IsSome most × (j ≡ 2 ^ 64 - 1)) → ((b : List ℕ) (f : Refusal) → H b f → G b f) → GivesStop (corrupted UnexpectedEnd) H a b j (store_stop e) → GivesStop (corrupted UnexpectedEnd) G a b k (limited_stop said)
-part_stop e all (limited.Read f) most H G a b first from i j k begun ended told is rises below same to stop =
+part_stop e all (limited.Read f) most H G a b first from i j k begun ended told is rises same to stop =
     subst (λ z. GivesStop (corrupted UnexpectedEnd) G a b k (store_stop z)) (sym told.0)
-    (counted_again G most a b j k (store_stop e) (omega (arith, is, rises)) below (λ of_bytes both. told.1 of_bytes (same.1 both)) (stop_map (corrupted UnexpectedEnd) H G (store_stop e) a b j to stop))
-part_stop e all (limited.Limit l) most H G a b first from i j k begun ended told is rises below same to stop = tt
+    (counted_again G most a b j k (store_stop e) (omega (arith, is, rises)) (λ uncounted both. told.1 uncounted (same.1 both)) (stop_map (corrupted UnexpectedEnd) H G (store_stop e) a b j to stop))
+part_stop e all (limited.Limit l) most H G a b first from i j k begun ended told is rises same to stop = tt
 
 module _ {S X : Type 0} {is_known : S → Type 0} {left : S → List ℕ} {failures : S → Failures} {old new : S} {from i j k : ℕ} (first : ℕ) (begun : from ≡ first + i) (ended : k ≡ j - first) where
   pub part_read : (x : X) (A B : List ℕ → X → Type 0) (H G : List ℕ → Refusal → Type 0) → ((b : List ℕ) → A b x → B b x) → Finds is_known left failures old from new j (Ok x) A H → FindsPart is_known left failures old i new k (Ok x) B G
@@ -231,16 +262,23 @@ module _ {S X : Type 0} {is_known : S → Type 0} {left : S → List ℕ} {failu
     may_stop = tt;
   }
 
-  pub part_refused : (e : DeserializeError) (all : Bool) (said : LimitedReadError) (most : Option ℕ) (A B : List ℕ → X → Type 0) (H G : List ℕ → Refusal → Type 0) → Told all e said → first ≡ first_count most → j < 2 ^ 64 → IsTrue all ↔ (IsSome most × (j ≡ 2 ^ 64 - 1))
+  pub part_refused : (e : DeserializeError) (all : Bool) (said : LimitedReadError) (most : Option ℕ) (A B : List ℕ → X → Type 0) (H G : List ℕ → Refusal → Type 0) → Told all e said → first ≡ first_count most → IsTrue all ↔ (IsSome most × (j ≡ 2 ^ 64 - 1))
       → ((b : List ℕ) (f : Refusal) → H b f → G b f) → Finds is_known left failures old from new j (Err e) A H → FindsPart is_known left failures old i new k (Err said) B G
-  part_refused e all said most A B H G told is below same to h = record {
-    found = λ known. part_stop e all said most H G (left old) (left new) first from i j k begun ended told is h.rises below same to (h.found known);
+  part_refused e all said most A B H G told is same to h = record {
+    found = λ known. part_stop e all said most H G (left old) (left new) first from i j k begun ended told is h.rises same to (h.found known);
     taken = λ known. recounted (left old) (left new) first from i j k begun ended h.rises (h.taken known);
     stays_known = h.stays_known;
     counts = told_counts e all said (store_stop e) (failures old) (failures new) refl told h.counts;
     rises = omega (arith, h.rises);
     may_stop = tt;
   }
+
+-- more bytes are needed for the part
+pub part_early : {S X : Type 0} {is_known : S → Type 0} {left : S → List ℕ} {failures : S → Failures} {old new : S} {from j : ℕ} (e : DeserializeError) (all : Bool) (said : LimitedReadError) (A : List ℕ → X → Type 0) (H G : List ℕ → Refusal → Type 0) → Told all e said → said ≡ limited.Limit limit.Bytes
+    → ((b : List ℕ) (f : Refusal) → H b f → G b f) → Finds is_known left failures old from new j (Err e) A H → is_known old → EndsEarly (corrupted UnexpectedEnd) G (left old) (left new)
+part_early {left = left} {old = old} {new = new} {j = j} e all said A H G told is to h known =
+    let both = subst (λ z. Told all e z) is told in
+    early_map (λ f. f) (left old) (left new) (corrupted UnexpectedEnd) to (early_of H e (left old) (left new) j both.1 (h.found known))
 
 pub stepped_as : (v w : Version) (m n : Bool) (q r x y : Reading) (b : List ℕ) → v ≡ w → m ≡ n → q ≡ r → x ≡ y → Stepped v m q x b → Stepped w n r y b
 stepped_as v w m n q r x y b same_version same_seen same_before same_after h =
@@ -278,11 +316,35 @@ large_in v limits old new result comes is =
     let h = subst (λ z. Comes v limits old new z) is comes in
     record { prefix = h.taken; joined = h.joined; encoded = h.outcome }
 
+pub early_in : (v : Version) (limits : ReadLimits) (old new : List ℕ) (result : Result CompactDoc LimitedReadError) → Comes v limits old new result → IsErrOf result (limited.Limit limit.Bytes)
+    → EndsEarly (corrupted UnexpectedEnd) (NoDocument v) old new
+early_in v limits old new result comes is =
+    let h = subst (λ z. Comes v limits old new z) is comes in
+    record { taken = h.taken; joined = h.joined; shown = h.outcome.1 }
+
 pub all_in : (v : Version) (limits : ReadLimits) (old new : List ℕ) (result : Result CompactDoc LimitedReadError) → Comes v limits old new result → IsErrOf result (limited.Limit limit.Bytes)
     → Begins (IsAll limits.bytes) old new
 all_in v limits old new result comes is =
     let h = subst (λ z. Comes v limits old new z) is comes in
-    record { prefix = h.taken; joined = h.joined; encoded = h.outcome }
+    record { prefix = h.taken; joined = h.joined; encoded = h.outcome.0 }
+
+-- of two prefixes of the same bytes the longer begins with the other
+begins_longer : (prefix taken rest new : List ℕ) → length prefix ≤ length taken → prefix ++ rest ≡ taken ++ new → taken ≡ prefix ++ drop (length prefix) taken
+begins_longer prefix taken rest new within same =
+    let n = length prefix in
+    sym (take-append-drop n taken) ∙ ap (λ (l : List ℕ). l ++ drop n taken) (sym (take-append-le n taken new within) ∙ ap (take n) (sym same) ∙ take_at prefix rest n refl)
+
+-- where as many bytes were taken as may be and a document needs more, one that is encoded has more
+longer_in : (v : Version) (most : Option ℕ) (taken old new : List ℕ) → old ≡ taken ++ new → IsAll most taken → NoDocument v taken (corrupted UnexpectedEnd) → (d : Document) (prefix rest : List ℕ) → old ≡ prefix ++ rest → EncodesDocument Legacy v prefix d → IsPast most (length prefix)
+longer_in v most taken old new split all early d prefix rest joined encoded =
+    subst (λ (m : Option ℕ). IsPast m (length prefix)) (sym all)
+    (elim (cases_lt (length taken) (length prefix)) [
+      | inl longer ↦ longer
+      | inr within ↦
+          let both : taken ++ new ≡ prefix ++ rest = sym split ∙ joined in
+          let cut : taken ≡ prefix ++ drop (length prefix) taken = begins_longer prefix taken rest new within (sym both) in
+          absurd (excluded v taken prefix (drop (length prefix) taken) d (corrupted UnexpectedEnd) cut encoded early)
+    ])
 
 pub full_in : (v : Version) (limits : ReadLimits) (old new : List ℕ) (result : Result CompactDoc LimitedReadError) → Comes v limits old new result → IsErrOf result (limited.Read errors.HeapFull) → HasNoRoom v old
 full_in v limits old new result comes is = (subst (λ z. Comes v limits old new z) is comes).outcome.full refl
@@ -294,10 +356,11 @@ refused_in v limits old new result few comes e r is refusal =
     refused_by v (Err e) old new (length h.taken) (omega (arith, few, ap length h.joined, length-append h.taken new)) h.outcome.stop e r refl refusal
 
 pub only_in : (v : Version) (limits : ReadLimits) (old new : List ℕ) (result : Result CompactDoc LimitedReadError) → length old < 2 ^ 64 - 1 → Comes v limits old new result → IfErr result (IsLimitedError limits)
-    → (d : Document) (prefix rest : List ℕ) → old ≡ prefix ++ rest → EncodesDocument Legacy v prefix d → document_room d ≤ 4294967295 → AnswersWithin result d rest new
+    → (d : Document) (prefix rest : List ℕ) → old ≡ prefix ++ rest → EncodesDocument Legacy v prefix d → document_room d ≤ 4294967295 → AnswersWithin limits.bytes result d prefix rest new
 only_in v limits old new (Ok x) few h errors d prefix rest joined encoded small =
     only_by v (Ok x) old new 0 (record { prefix = h.taken; joined = h.joined; encoded = h.outcome }) (λ is. absurd (cc)) tt (omega arith) d prefix rest joined encoded small
 only_in v limits old new (Err (limited.Read e)) few h errors d prefix rest joined encoded small =
     let few_taken : length h.taken < 2 ^ 64 - 1 = omega (arith, few, ap length h.joined, length-append h.taken new) in
     only_by v (Err e) old new (length h.taken) h.outcome.stop (λ is. h.outcome.full (cc)) errors few_taken d prefix rest joined encoded small
+only_in v limits old new (Err (limited.Limit limit.Bytes)) few h errors d prefix rest joined encoded small = longer_in v limits.bytes h.taken old new h.joined h.outcome.0 h.outcome.1 d prefix rest joined encoded
 only_in v limits old new (Err (limited.Limit l)) few h errors d prefix rest joined encoded small = tt

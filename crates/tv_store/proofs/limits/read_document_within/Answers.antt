@@ -1,5 +1,5 @@
 use Rattle.tv_reader.specs.Version.{version_of}
-use Rattle.tv_store.proofs.WithinLimits.{found_in, only_in, deep_in, large_in, all_in, full_in, refused_in}
+use Rattle.tv_store.proofs.WithinLimits.{found_in, only_in, deep_in, large_in, all_in, early_in, full_in, refused_in}
 use Rattle.tv_store.proofs.limits.read_document_within.Goals as goal
 
 pub returns-clause-found : goal.returns-clause-found
@@ -16,6 +16,9 @@ returns-clause-heap g c = λ told is. large_in (version_of c.args.version) c.arg
 
 pub returns-clause-bytes : goal.returns-clause-bytes
 returns-clause-bytes g c = λ told is. all_in (version_of c.args.version) c.args.limits _ _ _ (c.read_parts.ensures.comes told) is
+
+pub returns-clause-ends : goal.returns-clause-ends
+returns-clause-ends g c = λ told is. early_in (version_of c.args.version) c.args.limits _ _ _ (c.read_parts.ensures.comes told) is
 
 pub returns-clause-most : goal.returns-clause-most
 returns-clause-most g c = λ told. let t = c.read_parts.ensures.comes told in record { prefix = t.taken; joined = t.joined; encoded = t.most }

@@ -1,9 +1,11 @@
-use Rattle.std.proofs.Common.{◌≡◌, ◌+◌, ◌-◌, ◌^◌, ◌<◌, ap, sym, subst, ◌∙◌, arith}
+use Rattle.std.proofs.Common.{◌≡◌, ◌+◌, ◌-◌, ◌^◌, ap, sym, subst, ◌∙◌, arith}
 use Rattle.std.specs.Prelude.{◌↔◌, IsTrue, IsSome}
 use Rattle.tv_decoder.specs.Prefix.{IsDone, NoPrefix}
 use Rattle.tv_decoder.specs.Steps.{Stepped}
 use Rattle.tv_reader.specs.Version.{version_of}
-use Rattle.tv_store.proofs.WithinLimits.{part_read, part_refused, stepped_as}
+use Rattle.tv_store.proofs.WithinLimits.{part_read, part_refused, part_early, stepped_as}
+use Rattle.tv_store.specs.declared.limits.LimitedReadError.TheVariants as limited
+use Rattle.tv_store.specs.declared.limits.ReadLimit.TheVariants as limit
 use Rattle.tv_store.proofs.limits.step_capped.Goals as goal
 
 pub returns-in-Ok-clause-finds : goal.returns-in-Ok-clause-finds
@@ -31,8 +33,18 @@ returns-in-Err-clause-finds g c =
     let ended : new.count ≡ then.count - c.first_count-first.result = c.recount-2.ensures.count ∙ ap (λ n. n - c.first_count-first.result) c.bytes_read-count.ensures in
     let more = subst (λ r. ¬ IsDone r) (sym c.recount.ensures.reading) c.requires.more in
     let h = c.in-Err.ensures.finds (c.recount.ensures.failed ∙ c.requires.live) more in
-    let below : then.count < 2 ^ 64 = omega (arith, c.bytes_read-count.ensures, c.bytes_read-count.type_inv) in
     let same = subst (λ n. IsTrue c.is_all.result ↔ (IsSome c.args.most × (n ≡ 2 ^ 64 - 1))) c.bytes_read-count.ensures c.is_all.ensures in
     part_refused c.first_count-first.result begun ended c.in-Err.error c.is_all.result c.refused.result c.args.most _ (λ b x. Stepped v new.legacy_seen d.reading new.reading b) _ (NoPrefix v d.reading)
-    c.refused.ensures c.first_count-first.ensures.count below same
+    c.refused.ensures c.first_count-first.ensures.count same
     (λ b f p. subst (λ r. NoPrefix v r b f) c.recount.ensures.reading (subst (λ z. NoPrefix (version_of z) at.reading b f) c.recount.ensures.version p)) h
+
+pub returns-in-Err-clause-ends : goal.returns-in-Err-clause-ends
+returns-in-Err-clause-ends g c = λ known is.
+    let d = c.args.decoder.now in
+    let at = c.recount.new.self in
+    let v = version_of d.version in
+    let more = subst (λ r. ¬ IsDone r) (sym c.recount.ensures.reading) c.requires.more in
+    let h = c.in-Err.ensures.finds (c.recount.ensures.failed ∙ c.requires.live) more in
+    let said : c.refused.result ≡ limited.Limit limit.Bytes = cc in
+    part_early c.in-Err.error c.is_all.result c.refused.result _ _ (NoPrefix v d.reading) c.refused.ensures said
+    (λ b f p. subst (λ r. NoPrefix v r b f) c.recount.ensures.reading (subst (λ z. NoPrefix (version_of z) at.reading b f) c.recount.ensures.version p)) h known

@@ -5,7 +5,7 @@ use Rattle.tv_decoder.specs.Steps.{Advances}
 use Rattle.tv_legacy.specs.Legacy.{Legacy}
 use Rattle.tv_reader.specs.Version.{version_of}
 use Rattle.tv_reader.proofs.Finding.{finds_as}
-use Rattle.tv_store.proofs.WithinLimits.{goes_on, takes_one, fails}
+use Rattle.tv_store.proofs.WithinLimits.{goes_on, takes_one, too_many, fails}
 use Rattle.tv_store.proofs.limits.take_within.Goals as goal
 
 pub returns-in_err-step-clause-finds : goal.returns-in_err-step-clause-finds
@@ -42,3 +42,9 @@ loop-preserved g c =
       finds = goes_on v (version_of l.decoder.version) (ap version_of l.invariant.version) c.args.decoder.now.reading l.decoder.reading c.in_ok-step.step c.step.new.self.legacy_seen c.step.new.self.reading l.invariant.finds did;
       counted = λ told. omega (arith, l.invariant.counted told, takes_one v (version_of l.decoder.version) (ap version_of l.invariant.version) c.args.decoder.now.reading l.decoder.reading c.in_ok-step.step c.step.new.self.legacy_seen c.step.new.self.reading did (l.invariant.finds.stays_known told));
     }
+
+pub returns-clause-finds : goal.returns-clause-finds
+returns-clause-finds g c =
+    let v = version_of c.args.decoder.now.version in
+    let l = c.loop in
+    too_many v (version_of l.decoder.version) (ap version_of l.invariant.version) c.args.decoder.now.reading l.decoder.reading l.counter (λ b x. Advances Legacy v c.args.decoder.now.reading l.decoder.reading b) (l.decoder.sound l.invariant.live) l.invariant.more (omega arith) (omega arith) l.invariant.counted l.invariant.finds
