@@ -174,11 +174,19 @@ impl Facet {
     pub fn is_prefix_of(&self, other: &Facet) -> bool
         ensures { IsTrue result ↔ Descends self.now other.now }
     {
-        let Some(rest) = rest_behind(other.encoded.as_bytes(), self.encoded.as_bytes()) else {
+        Facet::encoded_is_prefix_of(self.encoded.as_bytes(), other.encoded.as_bytes())
+    }
+
+    /// `is_prefix_of` of the facets that have these bytes as their encoded texts, without making them: whether the steps of the
+    /// second facet are those of the first one and more. (Not in tantivy.)
+    pub fn encoded_is_prefix_of(ancestor: &[u8], facet: &[u8]) -> bool
+        ensures { IsTrue result ↔ Descends ancestor.now facet.now }
+    {
+        let Some(rest) = rest_behind(facet, ancestor) else {
             return false;
         };
         match rest.split_first() {
-            Some((first, _)) => self.is_root() || *first == FACET_SEP_BYTE,
+            Some((first, _)) => ancestor.is_empty() || *first == FACET_SEP_BYTE,
             None => false,
         }
     }
