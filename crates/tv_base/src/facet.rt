@@ -9,6 +9,7 @@ ghost use Rattle.std.specs.Hash as fed;
 ghost use Rattle.std.specs.Hash.{same_Alike};
 ghost use Rattle.std.proofs.lemmas.Slice.Eq.{bytes_eq-Decides};
 ghost use Rattle.std.specs.String.{from_utf8_error_vec};
+ghost use Rattle.std.specs.Fmt.{DisplaysOnOk};
 ghost use Rattle.std.specs.Cmp.{partial_equiv_from_equiv};
 ghost use Rattle.std.specs.Cmp.Lexicographic.{slice_cmp, nat_list_eq_equiv, nat_list_cmp_total};
 ghost use Rattle.std.specs.Cmp.Lexicographic.{texts_ties, texts_po};
@@ -156,6 +157,23 @@ impl Facet {
         push_printed(encoded, text)
     }
 
+    /// Writes the text that names the facet with an encoded text, as `Display` of that facet does (not in tantivy).
+    pub fn format_encoded<W: fmt::Write>(encoded: &str, f: &mut fmt::Formatter<W>) -> fmt::Result
+        ensures { DisplaysOnOk W.write_str_gives f.old result (Some (printed encoded.now)) f.new }
+    {
+        let bytes = encoded.as_bytes();
+        f.write_str("/")?;
+        let mut start = 0;
+        for place in 0..bytes.len() {
+            if let Some(other) = printed_text(bytes[place]) {
+                f.write_str(&encoded[start..place])?;
+                f.write_str(other)?;
+                start = place + 1;
+            }
+        }
+        f.write_str(&encoded[start..])
+    }
+
     /// The facet that has these steps. No step and one empty step are the root. Errors: memory was refused.
     pub fn from_path(alloc: Global, steps: &[&str]) -> Result<Facet, AllocError>
         ensures { IfOk result
@@ -174,11 +192,19 @@ impl Facet {
     pub fn is_prefix_of(&self, other: &Facet) -> bool
         ensures { IsTrue result ↔ Descends self.now other.now }
     {
-        let Some(rest) = rest_behind(other.encoded.as_bytes(), self.encoded.as_bytes()) else {
+        Facet::encoded_is_prefix_of(self.encoded.as_bytes(), other.encoded.as_bytes())
+    }
+
+    /// `is_prefix_of` of the facets that have these bytes as their encoded texts, without making them: whether the steps of the
+    /// second facet are those of the first one and more. (Not in tantivy.)
+    pub fn encoded_is_prefix_of(ancestor: &[u8], facet: &[u8]) -> bool
+        ensures { IsTrue result ↔ Descends ancestor.now facet.now }
+    {
+        let Some(rest) = rest_behind(facet, ancestor) else {
             return false;
         };
         match rest.split_first() {
-            Some((first, _)) => self.is_root() || *first == FACET_SEP_BYTE,
+            Some((first, _)) => ancestor.is_empty() || *first == FACET_SEP_BYTE,
             None => false,
         }
     }
@@ -272,18 +298,7 @@ impl fmt::Display for Facet {
     ghost output = { λ facet. Some (printed facet) };
 
     fn fmt<W: fmt::Write>(&self, f: &mut fmt::Formatter<W>) -> fmt::Result {
-        let encoded = self.encoded.as_str();
-        let bytes = encoded.as_bytes();
-        f.write_str("/")?;
-        let mut start = 0;
-        for place in 0..bytes.len() {
-            if let Some(other) = printed_text(bytes[place]) {
-                f.write_str(&encoded[start..place])?;
-                f.write_str(other)?;
-                start = place + 1;
-            }
-        }
-        f.write_str(&encoded[start..])
+        Facet::format_encoded(self.encoded.as_str(), f)
     }
 }
 

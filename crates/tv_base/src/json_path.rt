@@ -1,6 +1,6 @@
 //! Paths into JSON objects: the keys on the way, as segments.
 
-ghost use Rattle.std.specs.Prelude.{◌≡◌, map, IfOk};
+ghost use Rattle.std.specs.Prelude.{◌≡◌, ◌++◌, map, IfOk, OnOk};
 ghost use Rattle.std.specs.String.{string_bytes};
 ghost use Rattle.tv_base.specs.JsonPath.{split, joined, joined_path};
 
@@ -67,6 +67,19 @@ pub fn joined_json_path(alloc: Global, path: &str, expand_dots: bool) -> Result<
     ensures { IfOk result (λ text. string_bytes text ≡ joined_path expand_dots path.now) }
 {
     let mut text = String::new(alloc);
-    rewrite(Rule::Path { expand_dots }, path, &mut text)?;
+    push_joined_json_path(path, expand_dots, &mut text)?;
     Ok(text)
+}
+
+/// Adds what `joined_json_path` makes of a path to a text. (Not in tantivy.) The only error is that memory was refused, and then a part
+/// of it may be added.
+pub fn push_joined_json_path(
+    path: &str,
+    expand_dots: bool,
+    text: &mut String,
+) -> Result<(), AllocError>
+    ensures { OnOk result
+        (string_bytes text.new ≡ string_bytes text.old ++ joined_path expand_dots path.now) }
+{
+    rewrite(Rule::Path { expand_dots }, path, text)
 }

@@ -22,7 +22,7 @@ pub mod write;
 pub use cause::Cause;
 pub use facet::{FACET_SEP_BYTE, FACET_SEP_CHAR, Facet};
 pub use facet_parse_error::FacetParseError;
-pub use json_path::{join_json_path, joined_json_path, split_json_path};
+pub use json_path::{join_json_path, joined_json_path, push_joined_json_path, split_json_path};
 pub use read_error::ReadError;
 pub use serializable::BinarySerializable;
 pub use sink::ByteSink;

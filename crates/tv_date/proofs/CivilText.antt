@@ -1,5 +1,5 @@
 -- The text as a function is the text of the clock.
-use Rattle.std.proofs.Common.{◌≡◌, ℕ, zero, suc, ◌+◌, ◌-◌, ◌*◌, ◌/◌, ◌%◌, ◌<◌, ◌≤◌, ◌∷◌, [], ◌++◌, List, Bool, true, false, cond, nat_le, None, ℤ, pos, negsuc, neg_ℤ, ◌≤ℤ◌, ◌+ℤ◌, ◌-ℤ◌, unsigned_abs, ◌⊎◌, inl, inr, sym, ap, ap₂, ◌∙◌, refl, arith}
+use Rattle.std.proofs.Common.{◌≡◌, ℕ, zero, suc, ◌+◌, ◌-◌, ◌*◌, ◌/◌, ◌%◌, ◌<◌, ◌≤◌, ◌∷◌, [], ◌++◌, List, Bool, true, false, cond, nat_le, Option, None, ℤ, pos, negsuc, neg_ℤ, ◌≤ℤ◌, ◌+ℤ◌, ◌-ℤ◌, unsigned_abs, ◌⊎◌, inl, inr, sym, ap, ap₂, ◌∙◌, refl, arith}
 use Rattle.std.proofs.lemmas.Bool.{leb-true, leb-false}
 use Rattle.std.specs.Int.{int_div_euclid}
 use Rattle.jiff_core.specs.Calendar.{days_of_years, days_of_months, days_in_year, days_in_month, day_count}
@@ -13,7 +13,7 @@ use Rattle.jiff_core.proofs.CalendarLemmas.{days_of_months_mono, days_of_months_
 use Rattle.jiff_core.proofs.SignedLemmas.{signed_arith}
 use Rattle.jiff_core.proofs.DateLemmas.{civil, epoch_day_range}
 use Rattle.jiff_core.proofs.DateTimeLemmas.{civil_nanos-parts, epoch_day-civil_nanos, time_nanos_bound}
-use Rattle.jiff_fmt.specs.Text.{date_text, time_text}
+use Rattle.jiff_fmt.specs.Text.{date_text, time_text, datetime_text, zulu_text}
 use Rattle.tv_date.specs.Printed.{IsPrinted, year_index, month_index, count_of, clock_of, civil_text, in_year, date_text_of, clock_text_of, moment_text}
 
 le_or_is_at : (b : Bool) (k n : ℕ) → nat_le k n ≡ b → k ≤ suc n → (k ≤ n) ⊎ (k ≡ suc n)
@@ -144,3 +144,7 @@ IsPrinted-moment_text z text p =
     let dt = p.0 in
     p.2 ∙ ap₂ (λ d t. (d ++ 84 ∷ t) ++ 90 ∷ []) (sym (date_text-is dt.date) ∙ ap date_text_of (sym (count_is dt))) (sym (clock_is dt.time) ∙ ap clock_text_of (sym (clock_of-is dt)))
     ∙ ap moment_text p.1
+
+-- the text under the options of a new printer
+pub usual : (o p : Bool × ℕ × Option ℕ) (dt : Civil) → o ≡ p → datetime_text o.0 o.1 o.2 dt ++ zulu_text o.0 ≡ datetime_text p.0 p.1 p.2 dt ++ zulu_text p.0
+usual o p dt e = ap (λ (q : Bool × ℕ × Option ℕ). datetime_text q.0 q.1 q.2 dt ++ zulu_text q.0) e

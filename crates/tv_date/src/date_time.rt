@@ -1,6 +1,6 @@
 //! Dates, and to which part of a second they are kept.
 
-ghost use Rattle.std.specs.Prelude.{◌≡◌, ◌++◌, pos, ◌*ℤ◌, FitsSigned, IsSome, MatchOption, IfOk};
+ghost use Rattle.std.specs.Prelude.{◌≡◌, ◌++◌, pos, ◌*ℤ◌, FitsSigned, IsSome, MatchOption, IfOk, Some};
 ghost use Rattle.std.specs.Prelude.{OnErr, OnOk, string_bytes};
 ghost use Rattle.std.specs.Int.{w64};
 ghost use Rattle.std.specs.Result.{result_map_both};
@@ -13,6 +13,7 @@ use crate::rfc3339::read_fields;
 use jiff_core::Timestamp;
 use jiff_fmt::temporal::DateTimePrinter;
 use std::alloc::{AllocError, Global};
+use std::fmt;
 
 /// To which part of a second dates are kept in a fast field, from the coarsest to the finest. By default to the second.
 #[derive(Clone, Copy, Debug, Default, PartialEq, Eq, PartialOrd, Ord, Hash)]
@@ -47,7 +48,7 @@ pub const DATE_TIME_PRECISION_INDEXED: DateTimePrecision = DateTimePrecision::Se
 
 /// A moment, as the nanoseconds since 1970-01-01T00:00:00Z in 64 bits: from 1677-09-21 to 2262-04-11. Moments are ordered in
 /// time.
-#[derive(Clone, Copy, Debug, PartialEq, Eq, PartialOrd, Ord, Hash)]
+#[derive(Clone, Copy, PartialEq, Eq, PartialOrd, Ord, Hash)]
 pub struct DateTime {
     nanoseconds: i64,
 }
@@ -127,10 +128,27 @@ impl DateTime {
             (string_bytes text.new ≡ string_bytes text.old ++ moment_text self.nanoseconds) }
         ensures err { OnErr result (string_bytes text.new ≡ string_bytes text.old) }
     {
-        let Ok(moment) = Timestamp::from_nanosecond(self.nanoseconds as i128) else {
-            unreachable!();
-        };
-        let printed = DateTimePrinter::new().timestamp_text(moment);
+        let printed = DateTimePrinter::new().timestamp_text(self.moment());
         text.push_str(printed.as_str())
+    }
+
+    // The same moment, as the library of dates has it.
+    fn moment(self) -> Timestamp
+        ensures { result.nanosecond ≡ self.nanoseconds }
+    {
+        match Timestamp::from_nanosecond(self.nanoseconds as i128) {
+            Ok(moment) => moment,
+            Err(_) => unreachable!(),
+        }
+    }
+}
+
+/// Prints the text of `write_rfc3339`.
+impl fmt::Debug for DateTime {
+    ghost debug_output = { λ date. Some (moment_text date.nanoseconds) };
+
+    fn fmt<W: fmt::Write>(&self, f: &mut fmt::Formatter<W>) -> fmt::Result {
+        let printed = DateTimePrinter::new().timestamp_text(self.moment());
+        f.write_str(printed.as_str())
     }
 }

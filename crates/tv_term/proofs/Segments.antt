@@ -51,3 +51,11 @@ pub joined-all : (segments : List (Bor (List ℕ))) (first : Bor (List ℕ)) (ot
 joined-all segments first others text i is text_is all =
     let now = λ (segment : Bor (List ℕ)). segment.now in
     ap (joined text others) all ∙ ap (λ l. join_with_byte 1 (text ∷ map now l)) (take-length others) ∙ ap (λ t. join_with_byte 1 (t ∷ map now others)) text_is ∙ ap joined_segments (sym is)
+
+join-behind : (old first : List ℕ) (l : List (List ℕ)) → join_with_byte 1 ((old ++ first) ∷ l) ≡ old ++ join_with_byte 1 (first ∷ l)
+join-behind old first [] = refl
+join-behind old first (x ∷ l) = append_assoc old first (1 ∷ join_with_byte 1 (x ∷ l))
+
+-- the same behind another text
+pub joined-behind : (old first : List ℕ) (others : List (Bor (List ℕ))) (n : ℕ) → joined (old ++ first) others n ≡ old ++ joined first others n
+joined-behind old first others n = join-behind old first (map (λ (segment : Bor (List ℕ)). segment.now) (take n others))

@@ -1,11 +1,13 @@
 -- Terms that constructors made, and JSON terms with a value.
-use Rattle.std.proofs.Common.{◌≡◌, ℕ, ◌<◌, ◌^◌, List, [], ◌∷◌, ◌++◌, Option, None, Some, Result, Ok, Err, IfOk, IsUtf8, sym, ◌∙◌, ap, append_assoc, arith}
+use Rattle.std.proofs.Common.{◌≡◌, ℕ, ◌<◌, ◌^◌, List, [], ◌∷◌, ◌++◌, Option, None, Some, Result, Ok, Err, IfOk, OnOk, IsUtf8, sym, ◌∙◌, ap, append_assoc, arith}
 use Rattle.std.specs.Int.{to_be_bytes, w32, w64}
 use Rattle.std.specs.Ordering.{nat_cmp, ordering_then}
 use Rattle.std.specs.declared.cmp.Ordering.TheVariants.{Equal}
 use Rattle.std.specs.Cmp.Lexicographic.{slice_cmp}
 use Rattle.std.proofs.lemmas.Bool.Decides.{nat_tests}
 use Rattle.std.proofs.lemmas.Cmp.{tied_itself, nat_list_cmp_total}
+use Rattle.std.proofs.lemmas.Result.{on_ok_weaker}
+use Rattle.std.specs.Prelude.{unwrap_or}
 use Rattle.tv_options.specs.Types.{code}
 use Rattle.tv_options.specs.declared.types.TypeTag.{TypeTag}
 use Rattle.tv_options.specs.declared.types.TypeTag.TheVariants as tag
@@ -80,3 +82,13 @@ json_term_made bytes_of (Ok made) field path payload fits utf8 no_zero payload_i
   path_has_no_zero = no_zero;
 }
 json_term_made bytes_of (Err error) field path payload fits utf8 no_zero payload_is made_is = tt
+
+-- the same of a term that is held
+pub json_term_held : {E : Type 0} (r : Result (Unit {0}) E) (held : Option (List ℕ)) (field : ℕ) (path payload : List ℕ) → field < 2 ^ 32 → IsUtf8 path → HasNoZero path → payload ≡ path ++ 0 ∷ []
+    → OnOk r (held ≡ Some (to_be_bytes w32 field ++ code tag.Json ∷ payload)) → OnOk r (IsJsonTerm (unwrap_or held []) field path)
+json_term_held r held field path payload fits utf8 no_zero payload_is = on_ok_weaker r (λ held_is. record {
+  bytes_are = ap (λ h. unwrap_or h []) held_is ∙ ap (λ bytes. to_be_bytes w32 field ++ code tag.Json ∷ bytes) payload_is;
+  field_fits = fits;
+  path_is_text = utf8;
+  path_has_no_zero = no_zero;
+})

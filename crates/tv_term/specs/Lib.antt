@@ -5,3 +5,5 @@ pub mod FastValue
 pub mod FastValueLaws
 pub mod Range
 pub mod Segments
+pub mod FacetCounting
+pub mod ChildPlaces

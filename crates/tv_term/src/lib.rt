@@ -1,15 +1,19 @@
 //! Terms: a field and a value as bytes, whose order is the order of values.
 #![tactic(auto)]
 
+pub mod facet_counts;
 pub mod fast_value;
 pub mod laws;
 pub mod range;
 pub mod term;
 pub mod term_error;
 pub mod value_bytes;
+pub mod writer;
 
+pub use facet_counts::{FacetCount, FacetCountsError, count_child_facets};
 pub use fast_value::FastValue;
 pub use range::{TermRange, successor};
 pub use term::Term;
 pub use term_error::TermError;
 pub use value_bytes::{OwnedValueBytes, ValueBytes};
+pub use writer::TermWriter;

@@ -91,14 +91,14 @@ impl TermRange {
         Ok(TermRange::of_prefix(alloc, least.serialized_term())?)
     }
 
-    /// The least byte string in the range.
+    /// Where the range begins: the byte strings in it are not below this one.
     pub fn start(&self) -> &[u8]
         ensures { result.now ≡ self.now.start.items }
     {
         self.start.as_slice()
     }
 
-    /// The least byte string above all that are in the range. None where there is none.
+    /// Where the range ends: the byte strings in it are below this one. `None` where it has no end.
     pub fn end(&self) -> Option<&[u8]>
         ensures { option_map (λ end. end.now) result ≡ option_map (λ end. end.items) self.now.end }
     {

@@ -150,7 +150,8 @@ impl Term {
         if has_nul_among(segments) {
             return Err(TermError::NulInPath);
         }
-        let mut joined = joined_segments(alloc, segments)?;
+        let mut joined = String::new(alloc);
+        push_segments(segments, &mut joined)?;
         joined.push('\0')?;
         Term::from_payload(alloc, field, Type::Json, joined.as_bytes())
     }
@@ -268,6 +269,22 @@ impl Term {
         bytes.extend_from_slice(&[value_type.to_code()])?;
         bytes.extend_from_slice(payload)?;
         Ok(Term { bytes })
+    }
+
+    // Makes this the term of the field, of the type's code and of the payload. Errors: memory was refused, and then the term is as it
+    // was.
+    pub(crate) fn replace(
+        &mut self,
+        field: Field,
+        value_type: Type,
+        payload: &[u8],
+    ) -> Result<(), AllocError>
+        ensures made { OnOk result
+            (self.new ≡ to_be_bytes w32 field.id ++ code value_type ∷ payload.now) }
+        ensures unchanged { OnErr result (self.new ≡ self.old) }
+        ensures field { field.id < 2 ^ 32 }
+    {
+        put_payload(&mut self.bytes, field, value_type, payload)
     }
 
     /// The same term, in memory of its own.
@@ -447,15 +464,35 @@ impl Term {
     }
 }
 
+// Puts the bytes of the field, of the type's code and of the payload in the place of those that are there.
+fn put_payload(
+    bytes: &mut Vec<u8>,
+    field: Field,
+    value_type: Type,
+    payload: &[u8],
+) -> Result<(), AllocError>
+    ensures made { OnOk result
+        (bytes.new.items ≡ to_be_bytes w32 field.id ++ code value_type ∷ payload.now) }
+    ensures unchanged { OnErr result (bytes.new.items ≡ bytes.old.items) }
+    ensures field { field.id < 2 ^ 32 }
+{
+    let missing = (payload.len() + 5).saturating_sub(bytes.len());
+    bytes.reserve(missing)?;
+    bytes.clear();
+    bytes.extend_from_slice(&field.field_id().to_be_bytes())?;
+    bytes.extend_from_slice(&[value_type.to_code()])?;
+    bytes.extend_from_slice(payload)
+}
+
 // Whether the text has U+0000.
-fn has_nul(text: &str) -> bool
+pub(crate) fn has_nul(text: &str) -> bool
     ensures { MatchBool result (¬ HasNoZero text.now) (HasNoZero text.now) }
 {
     text.as_bytes().contains(&0)
 }
 
 // Whether one of the texts has U+0000.
-fn has_nul_among(texts: &[&str]) -> bool
+pub(crate) fn has_nul_among(texts: &[&str]) -> bool
     ensures { MatchBool result (¬ HaveNoZero texts.now) (HaveNoZero texts.now) }
 {
     for text in texts {
@@ -466,20 +503,20 @@ fn has_nul_among(texts: &[&str]) -> bool
     false
 }
 
-// The texts with U+0001 between each two of them.
-fn joined_segments(alloc: Global, segments: &[&str]) -> Result<String, AllocError>
-    ensures { IfOk result (λ text. string_bytes text ≡ joined_segments segments.now) }
+// Adds the texts with U+0001 between each two of them to a text.
+pub(crate) fn push_segments(segments: &[&str], joined: &mut String) -> Result<(), AllocError>
+    ensures { OnOk result
+        (string_bytes joined.new ≡ string_bytes joined.old ++ joined_segments segments.now) }
 {
-    let mut joined = String::new(alloc);
     let Some((first, others)) = segments.split_first() else {
-        return Ok(joined);
+        return Ok(());
     };
     joined.push_str(first)?;
     for segment in others {
         joined.push('\u{1}')?;
         joined.push_str(segment)?;
     }
-    Ok(joined)
+    Ok(())
 }
 
 // The bytes of field 0, of the code 0 and of no value, with room for as many value bytes.

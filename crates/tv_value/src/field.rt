@@ -1,16 +1,17 @@
 //! The number of a field.
 
-ghost use Rattle.std.specs.Prelude.{◌≡◌, ℕ};
+ghost use Rattle.std.specs.Prelude.{◌≡◌, ◌++◌, ℕ, Some, codes, decimal};
 ghost use Rattle.tv_base.specs.Number.{Fixed, four_bytes};
 ghost use Rattle.tv_base.specs.ErrorInPart.{ErrorInBytes};
 ghost use Rattle.tv_base.specs.ReadsAs.{ReadsLean};
 
 use std::alloc::Global;
+use std::fmt;
 use std::io;
 use tv_base::{BinarySerializable, ByteSink, ByteSource, ReadError};
 
 /// A field of a schema, by its number. Any 32-bit number names one; which of them a schema has is the schema's matter.
-#[derive(Clone, Copy, Debug, PartialEq, Eq, PartialOrd, Ord, Hash)]
+#[derive(Clone, Copy, PartialEq, Eq, PartialOrd, Ord, Hash)]
 pub struct Field {
     id: u32,
 }
@@ -28,6 +29,15 @@ impl Field {
         ensures { result ≡ self.id }
     {
         self.id
+    }
+}
+
+/// Prints `Field(` and the number, and `)`.
+impl fmt::Debug for Field {
+    ghost debug_output = { λ field. Some (codes "Field(" ++ decimal field.id ++ codes ")") };
+
+    fn fmt<W: fmt::Write>(&self, f: &mut fmt::Formatter<W>) -> fmt::Result {
+        write!(f, "Field({})", self.id)
     }
 }
 

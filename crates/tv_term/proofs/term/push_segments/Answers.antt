@@ -1,6 +1,6 @@
-use Rattle.std.proofs.Common.{rules, ◌≡◌, ◌∙◌, ◌++◌, ◌∷◌, [], length, sym, ap, append_assoc, arith, string_bytes, get_or}
-use Rattle.tv_term.proofs.Segments.{nothing, joined, joined-more, joined-all}
-use Rattle.tv_term.proofs.term.joined_segments.Goals as goal
+use Rattle.std.proofs.Common.{rules, ◌≡◌, ◌∙◌, ◌++◌, ◌∷◌, [], length, refl, sym, ap, append_assoc, arith, string_bytes, get_or}
+use Rattle.tv_term.proofs.Segments.{nothing, joined, joined-more, joined-all, joined-behind}
+use Rattle.tv_term.proofs.term.push_segments.Goals as goal
 
 pub loop-segment-preserved : goal.loop-segment-preserved
 loop-segment-preserved c =
@@ -17,6 +17,8 @@ loop-segment-preserved c =
 pub returns : goal.returns
 returns c =
     let others = c.in-Some.others.now in
-    let text : string_bytes c.push_str.new.self ≡ c.in-Some.first.now.now = c.in_ok-push_str.ensures.bytes ∙ ap (λ l. l ++ c.in-Some.first.now.now) c.new-joined.ensures.bytes in
+    let old = string_bytes c.args.joined.now in
+    let first = c.in-Some.first.now.now in
     let all : c.loop-segment.segment-index ≡ length others = omega arith in
-    c.loop-segment.invariant ∙ joined-all c.args.segments.now c.in-Some.first.now others (string_bytes c.push_str.new.self) c.loop-segment.segment-index (search rules) text all
+    c.loop-segment.invariant ∙ ap (λ text. joined text others c.loop-segment.segment-index) c.in_ok-push_str.ensures.bytes ∙ joined-behind old first others c.loop-segment.segment-index
+    ∙ ap (λ l. old ++ l) (joined-all c.args.segments.now c.in-Some.first.now others first c.loop-segment.segment-index (search rules) refl all)

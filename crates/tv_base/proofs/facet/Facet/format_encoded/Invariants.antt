@@ -3,7 +3,7 @@ use Rattle.std.specs.List.{slice_range, flat_map}
 use Rattle.std.specs.Str.{IsCharBoundary}
 use Rattle.std.specs.Fmt.{HasWritten, IsPlainFormatter}
 use Rattle.tv_base.specs.Facet.{printed_or_slash}
-use Rattle.tv_base.proofs.facet.FacetDisplay.fmt.Given as goal
+use Rattle.tv_base.proofs.facet.Facet.format_encoded.Given as goal
 
 abbrev pub invariant-loop-place : goal.invariant-loop-place
 invariant-loop-place g l = record {

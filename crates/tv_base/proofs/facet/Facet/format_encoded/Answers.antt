@@ -3,15 +3,15 @@ use Rattle.std.specs.List.{slice_range, flat_map}
 use Rattle.std.proofs.lemmas.List.{take_all}
 use Rattle.std.proofs.lemmas.Grind.{put_three}
 use Rattle.std.proofs.lemmas.Str.{IsCharBoundary-after_ascii}
-use Rattle.tv_base.specs.Facet.{printed, printed_or_slash}
+use Rattle.tv_base.specs.Facet.{printed_or_slash}
 use Rattle.tv_base.proofs.Rewriting.{step-kept, step-written, slice_range-all}
 use Rattle.tv_base.proofs.Printing.{printed-is, printed-more}
-use Rattle.tv_base.proofs.facet.FacetDisplay.fmt.Goals as goal
-use Rattle.tv_base.proofs.facet.FacetDisplay.fmt.Goals.{in-Some+in_ok-write_str-2+in_ok-write_str-3, in_default}
+use Rattle.tv_base.proofs.facet.Facet.format_encoded.Goals as goal
+use Rattle.tv_base.proofs.facet.Facet.format_encoded.Goals.{in-Some+in_ok-write_str-2+in_ok-write_str-3, in_default}
 
 pub loop-place-preserved : goal.loop-place-preserved
 loop-place-preserved g c =
-    let encoded = c.as_str-encoded.result.now in
+    let encoded = c.args.encoded.now in
     let l = c.loop-place in
     let within : l.place < length encoded = omega arith in
     let below = printed-more encoded l.place within in
@@ -23,7 +23,7 @@ loop-place-preserved g c =
           let same : printed_or_slash (get_or encoded l.place 0) ≡ other = search rules in
           record {
             in_range = omega arith;
-            boundary = λ _. rw w.start-is (IsCharBoundary-after_ascii encoded l.place c.as_str-encoded.utf8 within (search rules));
+            boundary = λ _. rw w.start-is (IsCharBoundary-after_ascii encoded l.place c.utf8.encoded within (search rules));
             built = λ p.
                 let before = l.invariant.built p in
                 let first = w.in_ok-write_str-2.ensures.writes before.1.plain refl in
@@ -45,15 +45,14 @@ loop-place-preserved g c =
           }
     ]
 
-pub returns-clause-writes : goal.returns-clause-writes
-returns-clause-writes g c = λ plain ok.
-    let encoded = c.as_str-encoded.result.now in
+pub returns : goal.returns
+returns g c = λ plain ok.
+    let encoded = c.args.encoded.now in
     let l = c.loop-place in
     let slash = c.in_ok-write_str.ensures.writes plain refl in
     let before = l.invariant.built slash.plain in
     let last = c.write_str-2.ensures.writes before.1.plain ok in
     let rest : c.range_from.result.now ≡ slice_range encoded l.start l.place = c.range_from.ensures.value ∙ sym (slice_range-all encoded l.start l.place (omega arith)) in
     let all : take l.place encoded ≡ encoded = take_all l.place encoded (omega arith) in
-    let facet : encoded ≡ c.args.self.now = search rules in
     put_three _ _ _ _ _ (47 ∷ []) before.0 c.range_from.result.now _ slash before.1 last
-    (ap (λ z. 47 ∷ z) (ap (λ z. before.0 ++ z) rest ∙ before.2 ∙ ap (flat_map printed_or_slash) all) ∙ sym (printed-is encoded) ∙ ap (λ z. printed z) facet)
+    (ap (λ z. 47 ∷ z) (ap (λ z. before.0 ++ z) rest ∙ before.2 ∙ ap (flat_map printed_or_slash) all) ∙ sym (printed-is encoded))
