@@ -1,0 +1,3 @@
+pub mod Passing
+pub mod Left
+pub mod Steps
