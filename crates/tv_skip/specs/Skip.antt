@@ -1,13 +1,14 @@
 -- What is left to pass over of documents and values: the items that open lists still have, the innermost list first.
 use Rattle.std.specs.Prelude.{◌≡◌, ◌⊎◌, ℕ, zero, suc, Bool, true, false, List, [], ◌∷◌, ◌++◌, length, reverse, Option, Some, None, IsTrue, ◌↔◌, IsUtf8, Vec}
 use Rattle.std.specs.declared.alloc.Global.{Global}
+use Rattle.tv_base.specs.declared.cause.Cause.{Cause}
 use Rattle.tv_base.specs.declared.cause.Cause.TheVariants.{NotUtf8}
 use Rattle.tv_base.specs.Number.{VNum, Fixed}
-use Rattle.tv_base.specs.Parts.{Then, Behind, Sized, Text}
-use Rattle.tv_base.specs.ErrorInPart.{ErrorInBytes}
-use Rattle.tv_format.specs.Encoding.{Key, Encodes, EncodesDocument}
-use Rattle.tv_format.specs.InputError.{Refusal, corrupted, Corrupt, ErrorInKey}
-use Rattle.tv_format.specs.Tree.{Tree, Document}
+use Rattle.tv_base.specs.Parts.{Then, Behind, Sized, Text, Each, Counted}
+use Rattle.tv_base.specs.ErrorInPart.{InThen, InEach, ErrorInNumber, ErrorInBytes, ErrorInText}
+use Rattle.tv_format.specs.Encoding.{TokenEncoding, Tokenized, Key, Encodes, EncodesDocument}
+use Rattle.tv_format.specs.InputError.{Refusal, corrupted, Corrupt, ErrorInToken, ErrorInKey}
+use Rattle.tv_format.specs.Tree.{Token, Tree, Document}
 use Rattle.tv_format.specs.Version.{Version, entry_total}
 use Rattle.tv_legacy.specs.Legacy.{Legacy}
 use Rattle.tv_reader.specs.Trees.{NoValue}
@@ -54,6 +55,39 @@ pub record IsTextOf (n : ℕ) (taken : List ℕ) : Type 0 where
 pub data ErrorInTextOf (n : ℕ) (whole : List ℕ) : Refusal → Type 0 where
   text_ends : {r : Refusal} → Corrupt (ErrorInBytes n) whole r → ErrorInTextOf n whole r
   text_is_none : (content rest : List ℕ) → whole ≡ content ++ rest → length content ≡ n → ¬ IsUtf8 content → ErrorInTextOf n whole (corrupted NotUtf8)
+
+-- ---- texts with their tokens, whatever they hold
+
+abbrev pub IsNumber : List ℕ → Type 0
+IsNumber whole = (n : ℕ) × VNum whole n
+
+abbrev pub IsTextAndNumber : List ℕ → Type 0
+IsTextAndNumber whole = Then IsText IsNumber whole
+
+abbrev pub ErrorInTextAndNumber : List ℕ → Cause → Type 0
+ErrorInTextAndNumber = InThen ErrorInText Text (λ _. ErrorInNumber)
+
+abbrev pub IsToken : List ℕ → Type 0
+IsToken whole = (token : Token) × TokenEncoding whole token
+
+-- so many tokens
+pub record AreTokens (n : ℕ) (whole : List ℕ) : Type 0 where
+  pub tokens : List Token
+  pub many : length tokens ≡ n
+  pub encoded : Each TokenEncoding whole tokens
+
+abbrev pub ErrorInTokens : ℕ → List ℕ → Cause → Type 0
+ErrorInTokens n = InEach ErrorInToken TokenEncoding n
+
+-- their number, and each
+abbrev pub AreCounted : List ℕ → Type 0
+AreCounted whole = (tokens : List Token) × Counted TokenEncoding whole tokens
+
+abbrev pub ErrorInCounted : List ℕ → Cause → Type 0
+ErrorInCounted = InThen ErrorInNumber VNum ErrorInTokens
+
+abbrev pub IsTokenized : List ℕ → Type 0
+IsTokenized whole = (content : List ℕ) × (tokens : List Token) × Tokenized whole content tokens
 
 -- ---- one item
 

@@ -12,11 +12,11 @@ ghost use Rattle.tv_skip.specs.Skip.{AreLeft, IsValue, IsDocument, Opens, OpensI
 ghost use Rattle.tv_skip.specs.Skip.{open_items};
 
 use crate::parts::{skip_key, skip_sized, skip_text};
+use crate::tokens::skip_tokenized;
 use std::alloc::Global;
 use tv_base::ByteSource;
 use tv_base::take::take_vint;
 use tv_reader::DeserializeError;
-use tv_reader::encoded_tokens::take_gathered;
 use tv_reader::fields::take_field;
 use tv_reader::heads::take_document_head;
 use tv_reader::kinds::take_kind;
@@ -112,7 +112,7 @@ fn skip_behind<S: ByteSource>(
             Ok(None)
         }
         ValueType::PreTokStr => {
-            take_gathered(alloc, source, count, version)?;
+            skip_tokenized(source, count, scratch)?;
             Ok(None)
         }
         ValueType::JSONObject => {
@@ -190,8 +190,8 @@ fn skip_items<S: ByteSource>(
 
 /// Passes over a value, to any depth, by no recursion. It is tested as if it were read, and nothing of it is kept.
 ///
-/// Memory is taken for texts that the source doesn't lend, which are tested in one buffer that is used again, for texts with their tokens and for
-/// objects as older stores hold them; and for the lists that are open, from the first list in a list on.
+/// Memory is taken for texts that the source doesn't lend, which are tested in one buffer that is used again, and for objects as
+/// older stores hold them; and for the lists that are open, from the first list in a list on.
 ///
 /// Errors: `CorruptedValue` and `TypeMismatch` with the first error in the bytes; `Io` where the source failed; `Memory`.
 pub fn pass_value<S: ByteSource>(

@@ -3,3 +3,4 @@
 
 pub mod items;
 mod parts;
+mod tokens;

@@ -4,7 +4,6 @@ use Rattle.tv_base.proofs.AgreeNumbers.{vint_agrees}
 use Rattle.tv_base.proofs.TakeSteps.{lean}
 use Rattle.tv_format.specs.InputError.{in_count}
 use Rattle.tv_format.specs.Tree.{leaf, bytes}
-use Rattle.tv_reader.specs.EncodedTokens.{tokenized_tree}
 use Rattle.tv_reader.specs.Trees.{NoValue}
 use Rattle.tv_reader.specs.ValueType.{coded}
 use Rattle.tv_reader.specs.Version.{version_of}
@@ -15,6 +14,7 @@ use Rattle.tv_reader.proofs.TreeSteps.{entry_count_agrees, entry_count_refused, 
 use Rattle.tv_value.specs.Owned.{owned_tree}
 use Rattle.tv_skip.specs.Skip.{Opens}
 use Rattle.tv_skip.proofs.Passing.{text_is_value, text_no_value, bytes_no_value}
+use Rattle.tv_skip.proofs.TokenParts.{tokenized_is_value, tokenized_no_value}
 use Rattle.tv_skip.proofs.items.skip_behind.Goals as goal
 
 pub returns-in_err-left-in-Array : goal.returns-in_err-left-in-Array
@@ -61,16 +61,16 @@ returns-in_ok-skip_sized-in-Bytes g c =
     let v = version_of c.args.version in
     record { finds = rw c.in-Bytes.is (finds_as None (λ b o. Opens v (coded types.Bytes ++ b) o) (λ b r. NoValue v (coded types.Bytes ++ b) r) (λ a t. (leaf (bytes t.0), record { body = a; joined = refl; encoded = t.1 })) c.in_ok-skip_sized-in-Bytes.ensures.finds) }
 
-pub returns-in_err-take_gathered-in-PreTokStr : goal.returns-in_err-take_gathered-in-PreTokStr
-returns-in_err-take_gathered-in-PreTokStr g c =
-    let p = err_from_is_err_and c.from_residual-in_err-take_gathered-in-PreTokStr.result c.from_residual-in_err-take_gathered-in-PreTokStr.ensures.1 in
+pub returns-in_err-skip_tokenized-in-PreTokStr : goal.returns-in_err-skip_tokenized-in-PreTokStr
+returns-in_err-skip_tokenized-in-PreTokStr g c =
+    let p = err_from_is_err_and c.from_residual-in_err-skip_tokenized-in-PreTokStr.result c.from_residual-in_err-skip_tokenized-in-PreTokStr.ensures.1 in
     let v = version_of c.args.version in
-    record { finds = rw (p.1, p.2, c.in-PreTokStr.is) (finds_fails (λ b o. Opens v (coded types.PreTokStr ++ b) o) (λ b r. NoValue v (coded types.PreTokStr ++ b) r) (λ w r f. f) c.in_err-take_gathered-in-PreTokStr.ensures.finds) }
+    record { finds = rw (p.1, p.2, c.in-PreTokStr.is) (finds_fails (λ b o. Opens v (coded types.PreTokStr ++ b) o) (λ b r. NoValue v (coded types.PreTokStr ++ b) r) (tokenized_no_value v) c.in_err-skip_tokenized-in-PreTokStr.ensures.finds) }
 
-pub returns-in_ok-take_gathered-in-PreTokStr : goal.returns-in_ok-take_gathered-in-PreTokStr
-returns-in_ok-take_gathered-in-PreTokStr g c =
+pub returns-in_ok-skip_tokenized-in-PreTokStr : goal.returns-in_ok-skip_tokenized-in-PreTokStr
+returns-in_ok-skip_tokenized-in-PreTokStr g c =
     let v = version_of c.args.version in
-    record { finds = rw c.in-PreTokStr.is (finds_as None (λ b o. Opens v (coded types.PreTokStr ++ b) o) (λ b r. NoValue v (coded types.PreTokStr ++ b) r) (λ a t. (tokenized_tree c.in_ok-take_gathered-in-PreTokStr.field-0, t)) c.in_ok-take_gathered-in-PreTokStr.ensures.finds) }
+    record { finds = rw c.in-PreTokStr.is (finds_as None (λ b o. Opens v (coded types.PreTokStr ++ b) o) (λ b r. NoValue v (coded types.PreTokStr ++ b) r) (λ a t. tokenized_is_value v a t) c.in_ok-skip_tokenized-in-PreTokStr.ensures.finds) }
 
 pub returns-in_err-take_legacy_object-in-JSONObject : goal.returns-in_err-take_legacy_object-in-JSONObject
 returns-in_err-take_legacy_object-in-JSONObject g c =
