@@ -1,0 +1,4 @@
+pub mod Passing
+pub mod Left
+pub mod Steps
+pub mod TokenParts
