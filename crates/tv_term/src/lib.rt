@@ -6,6 +6,7 @@ pub mod fast_value;
 pub mod laws;
 pub mod range;
 pub mod term;
+mod term_debug;
 pub mod term_error;
 pub mod value_bytes;
 pub mod writer;

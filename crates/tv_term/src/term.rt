@@ -49,7 +49,7 @@ use tv_value::field::Field;
 ///     Ok(term)
 /// }
 /// ```
-#[derive(Debug, Drop)]
+#[derive(Drop)]
 pub struct Term {
     bytes: Vec<u8>,
 }

@@ -167,6 +167,17 @@ impl<'a> ValueBytes<'a> {
         std::str::from_utf8(text).ok()
     }
 
+    // The code.
+    pub(crate) fn code(&self) -> u8 {
+        self.serialized[0]
+    }
+
+    // The value behind the path of a value of a JSON field, if there is one.
+    pub(crate) fn json_value(&self) -> Option<ValueBytes<'a>> {
+        let (_, rest) = self.as_json()?;
+        ValueBytes::wrap(rest).ok()
+    }
+
     // What follows the code, if that is the type's.
     fn payload(&self, wanted: Type) -> Option<&'a [u8]>
         ensures { option_copied result ≡ payload_of wanted self.now.serialized.now }
@@ -178,7 +189,7 @@ impl<'a> ValueBytes<'a> {
     }
 
     // The same, if it is a text.
-    fn text(&self, wanted: Type) -> Option<&'a str>
+    pub(crate) fn text(&self, wanted: Type) -> Option<&'a str>
         ensures { ReadsText (payload_of wanted self.now.serialized.now) (option_copied result) }
     {
         std::str::from_utf8(self.payload(wanted)?).ok()

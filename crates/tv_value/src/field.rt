@@ -6,8 +6,7 @@ ghost use Rattle.tv_base.specs.ErrorInPart.{ErrorInBytes};
 ghost use Rattle.tv_base.specs.ReadsAs.{ReadsLean};
 
 use std::alloc::Global;
-use std::fmt;
-use std::io;
+use std::{fmt, io};
 use tv_base::{BinarySerializable, ByteSink, ByteSource, ReadError};
 
 /// A field of a schema, by its number. Any 32-bit number names one; which of them a schema has is the schema's matter.
