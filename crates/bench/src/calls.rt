@@ -47,6 +47,8 @@ pub enum Call {
     ReadBuffered,
     /// From a block to documents, each in the memory of the one before.
     ReadBlock,
+    /// The documents of a block, passed over.
+    SkipDocument,
     /// From lines of JSON to answers.
     Run,
     /// From its JSON to a schema.
@@ -88,7 +90,7 @@ impl Round {
 }
 
 impl Call {
-    pub const ALL: [Call; 21] = [
+    pub const ALL: [Call; 22] = [
         Call::ReadJson,
         Call::ParseJson,
         Call::ParseJsonInto,
@@ -105,6 +107,7 @@ impl Call {
         Call::ReadSource,
         Call::ReadBuffered,
         Call::ReadBlock,
+        Call::SkipDocument,
         Call::Run,
         Call::ReadSchema,
         Call::FindField,
@@ -131,6 +134,7 @@ impl Call {
             Call::ReadSource => "read_source",
             Call::ReadBuffered => "read_buffered",
             Call::ReadBlock => "read_block",
+            Call::SkipDocument => "skip_document",
             Call::Run => "run",
             Call::ReadSchema => "read_schema",
             Call::FindField => "find_field",
@@ -159,6 +163,7 @@ impl Call {
             Call::ReadSource => layer::read_source_each(alloc, inputs, documents),
             Call::ReadBuffered => layer::read_buffered_each(alloc, inputs, documents),
             Call::ReadBlock => layer::read_block_each(alloc, inputs, documents),
+            Call::SkipDocument => layer::skip_each(alloc, inputs, documents),
             Call::Run => Ok(layer::run_lines(alloc, inputs, documents)),
             Call::ReadSchema => layer::read_schema(alloc, inputs),
             Call::FindField => Ok(layer::find_each(workload, inputs)),

@@ -4,4 +4,5 @@ pub use tv_format::version::WriteVersion;
 pub use tv_store::{
     BlockReader, DirectDecoder, DocStoreVersion, LimitedReadError, MigrateError, ReadLimit,
     ReadLimits, Step, migrate, read_document, read_document_into, read_document_within,
+    skip_document, skip_value,
 };

@@ -24,16 +24,16 @@ use tv_reader::trees::{take_entry_count, take_legacy_object};
 use tv_reader::value_type::{ValueType, take_leaf};
 use tv_reader::version::DocStoreVersion;
 
-/// What an open list holds: values, keys with values, or fields with values.
-#[derive(Clone, Copy, Debug, PartialEq, Eq)]
+// What an open list holds: values, keys with values, or fields with values.
+#[derive(Clone, Copy)]
 pub(crate) enum ItemKind {
     Value,
     Entry,
     Pair,
 }
 
-/// How many items of an open list are left.
-#[derive(Clone, Copy, Debug, PartialEq, Eq)]
+// How many items of an open list are left.
+#[derive(Clone, Copy)]
 pub(crate) struct ItemsLeft {
     kind: ItemKind,
     left: u64,

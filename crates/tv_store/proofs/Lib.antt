@@ -8,6 +8,7 @@ pub mod RoundTrips
 pub mod Migrations
 mod InPlace
 mod Blocks
+mod Skips
 pub mod Nesting
 pub mod NestedSteps
 pub mod WithinDepth

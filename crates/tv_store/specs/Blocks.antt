@@ -10,6 +10,10 @@ as_read (Ok true) document = Ok document
 as_read (Ok false) document = Err (errors.CorruptedValue UnexpectedEnd)
 as_read (Err e) document = Err e
 
+-- the same of a document that isn't kept
+abbrev pub as_passed : Result Bool DeserializeError → Result (Unit {0}) DeserializeError
+as_passed result = as_read result (tt {0})
+
 -- there was no further document, unless the source failed or memory was refused
 abbrev pub SaysEnd : Result Bool DeserializeError → Type 0
 SaysEnd (Ok true) = ⊥

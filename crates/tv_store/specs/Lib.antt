@@ -10,4 +10,5 @@ pub mod Migrate
 pub mod Nested
 pub mod Depth
 pub mod Limits
+pub mod Skip
 pub use Rattle.tv_writer.specs.Serialized

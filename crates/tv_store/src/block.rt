@@ -17,19 +17,22 @@ ghost use Rattle.tv_reader.specs.declared.error.DeserializeError.{DeserializeErr
 ghost use Rattle.tv_reader.specs.declared.error.DeserializeError.TheVariants.{AlreadyFailed};
 ghost use Rattle.tv_reader.specs.declared.error.DeserializeError.TheVariants.{CorruptedValue};
 ghost use Rattle.tv_reader.specs.declared.error.DeserializeError.TheVariants.{HeapFull};
-ghost use Rattle.tv_store.specs.Blocks.{as_read, SaysEnd};
+ghost use Rattle.tv_store.specs.Blocks.{as_read, as_passed, SaysEnd};
 ghost use Rattle.tv_store.specs.Documents.{BeginsWith, Answers, NoDocument, HasNoRoom};
 ghost use Rattle.tv_store.specs.Documents.{ShowsRefusal, IsReadingError, in_place};
+ghost use Rattle.tv_store.specs.Skip.{PassesOver};
 
 use crate::de::take_in_place;
 use std::alloc::Global;
 use tv_base::{ByteSource, Cause};
 use tv_doc::document::CompactDoc;
 use tv_reader::{DeserializeError, DocStoreVersion};
+use tv_skip::items::pass_document;
 
 // Whether there was a document, by what reading one returned and how many bytes it took: where none was left, a missing end is no error.
 fn next_of(read: Result<(), DeserializeError>, count: u64) -> Result<bool, DeserializeError>
     ensures same { (document : CompactDoc) → as_read result document ≡ in_place read document }
+    ensures passed { as_passed result ≡ read }
     ensures end { result ≡ Ok false → count ≡ 0 }
     ensures cut { IsErrOf result (CorruptedValue UnexpectedEnd) → 0 < count }
 {
@@ -156,7 +159,72 @@ impl BlockReader {
         next
     }
 
-    /// The document that was read last. It has no pairs before the first, after the end and after a refusal.
+    /// Passes over the next document as `skip_document` does, and says whether there was one: `false` where the source had nothing left. The document
+    /// that was read last stays as it is, whatever is returned.
+    ///
+    /// Errors: those of `skip_document`, and `AlreadyFailed` after an error of this call or of `advance`. A document that is cut off is
+    /// `CorruptedValue`, also where it is the last.
+    pub fn skip<S: ByteSource>(&mut self, source: &mut S) -> Result<bool, DeserializeError>
+        // after a refusal nothing happens
+        ensures refused { self.old.failed ≡ true
+            → Rests self.old self.new source.old source.new result (Err AlreadyFailed) }
+        ensures live { OnOk result (self.new.failed ≡ false) }
+        ensures mark { OnErr result (self.new.failed ≡ true) }
+
+        // the end is told where nothing is left, and only there
+        ensures end { self.old.failed ≡ false → S.is_known source.old → result ≡ Ok false
+            → S.left source.old ≡ [] }
+        ensures ended { self.old.failed ≡ false → S.is_known source.old → S.left source.old ≡ []
+            → SaysEnd result }
+
+        // a prefix of the bytes encodes a document, and the rest is left
+        ensures found { S.is_known source.old → result ≡ Ok true → (d : Document)
+            × BeginsWith (version_of self.old.version) (S.left source.old) (S.left source.new) d }
+        ensures fewer { S.is_known source.old → result ≡ Ok true
+            → length (S.left source.new) < length (S.left source.old) }
+
+        // wherever a prefix encodes a document, that one is passed over
+        ensures only { self.old.failed ≡ false → Known S.is_known S.left source.old → (d : Document)
+            (prefix rest : List ℕ) → S.left source.old ≡ prefix ++ rest
+            → EncodesDocument Legacy (version_of self.old.version) prefix d
+            → PassesOver (as_passed result) rest (S.left source.new) }
+
+        // refusals of the bytes are true of them, and others don't come
+        ensures error { Known S.is_known S.left source.old → (e : DeserializeError) (r : Refusal)
+            → IsErrOf result e → IsRefusal e r
+            → NoDocument (version_of self.old.version) (S.left source.old) r }
+        ensures errors { self.old.failed ≡ false → IfErr result IsReadingError }
+        ensures no_heap { ¬ IsErrOf result HeapFull }
+
+        // just the bytes that show the error were taken, and after every error a slice of what was left
+        ensures shows { Known S.is_known S.left source.old → (e : DeserializeError) (r : Refusal)
+            → IsErrOf result e → IsRefusal e r
+            → ShowsRefusal (version_of self.old.version) (S.left source.old) (S.left source.new) r }
+        ensures taken { S.is_known source.old
+            → (prefix : List ℕ) × (S.left source.old ≡ prefix ++ S.left source.new) }
+
+        // so many bytes that no more can be counted were taken
+        ensures too_long { S.is_known source.old → IsErrOf result (CorruptedValue TooLong)
+            → TakesMost (S.left source.old) (S.left source.new) }
+
+        // the source failed exactly where its count of failures rose, with the kind that it returned
+        ensures failures { self.old.failed ≡ false
+            → Counts store_stop result (S.failures source.old) (S.failures source.new) }
+        ensures stays_known { S.is_known source.old → S.is_known source.new }
+        ensures document { self.new.document ≡ self.old.document }
+        ensures version { self.new.version ≡ self.old.version }
+    {
+        if self.failed {
+            return Err(DeserializeError::AlreadyFailed);
+        }
+        let mut count = 0;
+        let passed = pass_document(self.alloc, source, &mut count, self.version);
+        let next = next_of(passed, count);
+        self.failed = next.is_err();
+        next
+    }
+
+    /// The document that was read last. It has no pairs before the first, and after an `advance` that came to the end or was refused.
     pub fn document(&self) -> &CompactDoc
         ensures { result.now ≡ self.now.document }
     {

@@ -15,6 +15,7 @@ mod pair_writer;
 pub mod pairs_given;
 pub mod round_trip;
 pub mod se;
+pub mod skip;
 
 pub use block::BlockReader;
 pub use de::{DocStoreVersion, read_document, read_document_into};
@@ -26,4 +27,5 @@ pub use pairs_given::DocumentDeserialize;
 pub use se::{
     BinaryArraySerializer, BinaryDocumentSerializer, BinaryObjectSerializer, BinaryValueSerializer,
 };
+pub use skip::{skip_document, skip_value};
 pub use tv_reader::type_codes;

@@ -11,7 +11,7 @@ use tantivy_schema::schema::document::{BinaryDocumentSerializer, StoreReader};
 use tantivy_schema::schema::{Schema, TantivyDocument};
 use tantivy_schema::store::{
     BlockReader, DirectDecoder, DocStoreVersion, LimitedReadError, ReadLimits, Step, read_document,
-    read_document_into, read_document_within,
+    read_document_into, read_document_within, skip_document,
 };
 
 /// The bytes of documents, one after the other.
@@ -63,6 +63,29 @@ pub fn values_of_block(alloc: Global, block: &[u8]) -> Result<usize> {
         values = values.saturating_add(reader.document().len());
     }
     Ok(values)
+}
+
+/// The document at a place of a block, if the block has so many.
+pub fn document_at(alloc: Global, block: &[u8], place: usize) -> Result<Option<TantivyDocument>> {
+    let mut source = SliceSource::new(block);
+    let mut reader = BlockReader::new(alloc, DocStoreVersion::V2);
+    for _ in 0..place {
+        if !reader.skip(&mut source)? {
+            return Ok(None);
+        }
+    }
+    if reader.advance(&mut source)? {
+        Ok(Some(reader.into_document()))
+    } else {
+        Ok(None)
+    }
+}
+
+/// The second of two documents.
+pub fn second_document(alloc: Global, bytes: &[u8]) -> Result<TantivyDocument> {
+    let mut source = SliceSource::new(bytes);
+    skip_document(alloc, &mut source, DocStoreVersion::V2)?;
+    Ok(read_document(alloc, &mut source, DocStoreVersion::V2)?)
 }
 
 /// A document of bytes that others wrote: one that is long, nests deep or takes much memory is refused.

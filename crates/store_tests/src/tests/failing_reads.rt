@@ -9,7 +9,7 @@ use tantivy_schema::schema::document::{
     StoreReader,
 };
 use tantivy_schema::schema::{Document, OwnedValue, TantivyDocument, Value};
-use tantivy_schema::store::{DirectDecoder, DocStoreVersion, Step, read_document};
+use tantivy_schema::store::{DirectDecoder, DocStoreVersion, Step, read_document, skip_document};
 
 // The number 20 in field 1, and the text `ChillFish8` in field 0.
 const TWO_PAIRS: &[u8] = b"\x82\x01\0\0\0\x01\x14\0\0\0\0\0\0\0\0\0\0\0\0\x8aChillFish8";
@@ -51,6 +51,24 @@ impl Reading for WholeDocument {
         let mut source = source;
         let answer = match read_document(alloc, &mut source, DocStoreVersion::V2) {
             Ok(document) => Ok(is_two_pairs(&document)),
+            Err(error) => Err(error),
+        };
+        (answer, source)
+    }
+}
+
+#[derive(Drop)]
+struct PassedDocument;
+
+impl Reading for PassedDocument {
+    fn read<S: ByteSource + Drop>(
+        &self,
+        alloc: Global,
+        source: S,
+    ) -> (Result<bool, DeserializeError>, S) {
+        let mut source = source;
+        let answer = match skip_document(alloc, &mut source, DocStoreVersion::V2) {
+            Ok(()) => Ok(true),
             Err(error) => Err(error),
         };
         (answer, source)
@@ -226,6 +244,7 @@ fn wrong_failure<R: Reading>(
 fn each_read_of_a_document_fails(rt: HostRuntime) {
     let alloc = rt.alloc();
     assert_eq!(rt; wrong_failure(alloc, TWO_PAIRS, &WholeDocument), None);
+    assert_eq!(rt; wrong_failure(alloc, TWO_PAIRS, &PassedDocument), None);
     assert_eq!(rt; wrong_failure(alloc, TWO_PAIRS, &DocumentBySteps), None);
     assert_eq!(rt; wrong_failure(alloc, TWO_PAIRS, &DocumentByPairs), None);
 }
