@@ -1,4 +1,4 @@
-use Rattle.std.proofs.Common.{refl, inl, arith}
+use Rattle.std.proofs.Common.{inl, arith}
 use Rattle.std.proofs.lemmas.Result.{err_from_is_err_and}
 use Rattle.tv_reader.proofs.Finding.{finds_any, finds_fails}
 use Rattle.tv_reader.specs.Version.{version_of}

@@ -52,4 +52,4 @@ returns-clause-finds g c =
 
 pub returns-then-is_done-2-clause-finds : goal.returns-then-is_done-2-clause-finds
 returns-then-is_done-2-clause-finds g c =
-    all_finished (version_of c.args.version) c.args.begun c.loop.reading c.into_pairs-2.result c.loop.invariant.0 (c.is_done-2.ensures.0 c.if-is_done-2.true) c.into_pairs-2.ensures.document c.loop.invariant.1
+    all_finished (version_of c.args.version) c.args.begun c.loop.reading c.into_pairs-then-is_done-2.result c.loop.invariant.0 (c.is_done-2.ensures.0 c.if-is_done-2.true) c.into_pairs-then-is_done-2.ensures.document c.loop.invariant.1
