@@ -55,6 +55,8 @@ pub enum Call {
     FindField,
     /// From values to terms, each compared with the one before.
     Terms,
+    /// From values to terms in one buffer.
+    WriteTerms,
     /// From texts to facets, each tested as a prefix of the next.
     Facets,
 }
@@ -88,7 +90,7 @@ impl Round {
 }
 
 impl Call {
-    pub const ALL: [Call; 21] = [
+    pub const ALL: [Call; 22] = [
         Call::ReadJson,
         Call::ParseJson,
         Call::ParseJsonInto,
@@ -109,6 +111,7 @@ impl Call {
         Call::ReadSchema,
         Call::FindField,
         Call::Terms,
+        Call::WriteTerms,
         Call::Facets,
     ];
 
@@ -135,6 +138,7 @@ impl Call {
             Call::ReadSchema => "read_schema",
             Call::FindField => "find_field",
             Call::Terms => "terms",
+            Call::WriteTerms => "write_terms",
             Call::Facets => "facets",
         }
     }
@@ -144,7 +148,7 @@ impl Call {
         match self {
             Call::ReadSchema => "field",
             Call::FindField => "path",
-            Call::Terms => "term",
+            Call::Terms | Call::WriteTerms => "term",
             Call::Facets => "facet",
             _ => "doc",
         }
@@ -163,6 +167,7 @@ impl Call {
             Call::ReadSchema => layer::read_schema(alloc, inputs),
             Call::FindField => Ok(layer::find_each(workload, inputs)),
             Call::Terms => layer::make_terms(alloc, workload),
+            Call::WriteTerms => layer::write_terms(alloc, workload),
             Call::Facets => layer::make_facets(alloc, inputs),
             other => other.for_each_document(alloc, workload),
         }
