@@ -3,3 +3,4 @@ mod bytes;
 mod failing_calls;
 mod laws;
 mod owned_values;
+mod terms;

@@ -57,6 +57,8 @@ pub enum Call {
     FindField,
     /// From values to terms, each compared with the one before.
     Terms,
+    /// From values to terms in one buffer.
+    WriteTerms,
     /// From texts to facets, each tested as a prefix of the next.
     Facets,
 }
@@ -112,6 +114,7 @@ impl Call {
         Call::ReadSchema,
         Call::FindField,
         Call::Terms,
+        Call::WriteTerms,
         Call::Facets,
     ];
 
@@ -139,6 +142,7 @@ impl Call {
             Call::ReadSchema => "read_schema",
             Call::FindField => "find_field",
             Call::Terms => "terms",
+            Call::WriteTerms => "write_terms",
             Call::Facets => "facets",
         }
     }
@@ -148,7 +152,7 @@ impl Call {
         match self {
             Call::ReadSchema => "field",
             Call::FindField => "path",
-            Call::Terms => "term",
+            Call::Terms | Call::WriteTerms => "term",
             Call::Facets => "facet",
             _ => "doc",
         }
@@ -168,6 +172,7 @@ impl Call {
             Call::ReadSchema => layer::read_schema(alloc, inputs),
             Call::FindField => Ok(layer::find_each(workload, inputs)),
             Call::Terms => layer::make_terms(alloc, workload),
+            Call::WriteTerms => layer::write_terms(alloc, workload),
             Call::Facets => layer::make_facets(alloc, inputs),
             other => other.for_each_document(alloc, workload),
         }

@@ -13,7 +13,7 @@ use tantivy_schema::schema::document::{
     BinaryDocumentDeserializer, CompactDoc, DeserializeError, DocumentDeserializer, OwnedValue,
     StoreReader,
 };
-use tantivy_schema::schema::{Facet, Schema, Term, TermError};
+use tantivy_schema::schema::{Facet, Schema, Term, TermError, TermWriter};
 use tantivy_schema::store::{
     BlockReader, DirectDecoder, DocStoreVersion, Step, read_document, skip_document,
 };
@@ -177,6 +177,36 @@ fn term_of(alloc: Global, pair: &Pair) -> Result<Option<Term>, TermError> {
         _ => return Ok(None),
     };
     Ok(Some(term))
+}
+
+/// The term of each value that has one, in one buffer.
+pub fn write_terms(alloc: Global, workload: &Workload) -> Result<Round> {
+    let mut round = Round::new();
+    let mut writer = TermWriter::new(alloc);
+    for pairs in &workload.pairs {
+        for pair in pairs {
+            if write_term(&mut writer, pair)? && writer.has_term() {
+                round.made(writer.term().len_bytes());
+            }
+        }
+    }
+    Ok(round)
+}
+
+// Makes the term of a pair's value, and answers whether it has one: not where the value is a list, or has tokens or nothing.
+fn write_term(writer: &mut TermWriter, pair: &Pair) -> Result<bool, TermError> {
+    let field = pair.field;
+    match &pair.value {
+        OwnedValue::Str(text) => writer.write_text(field, text.as_str())?,
+        OwnedValue::U64(number) => writer.write_u64(field, *number)?,
+        OwnedValue::I64(number) => writer.write_i64(field, *number)?,
+        OwnedValue::Bool(truth) => writer.write_bool(field, *truth)?,
+        OwnedValue::Date(date) => writer.write_date(field, *date)?,
+        OwnedValue::Bytes(bytes) => writer.write_bytes(field, bytes.as_slice())?,
+        OwnedValue::Facet(facet) => writer.write_facet(field, facet)?,
+        _ => return Ok(false),
+    }
+    Ok(true)
 }
 
 /// From its text to a facet; each is tested as a prefix of the next.

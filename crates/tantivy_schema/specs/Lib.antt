@@ -81,6 +81,8 @@ pub use Rattle.tv_term.specs.Reading as TermReading
 pub use Rattle.tv_term.specs.Lending
 pub use Rattle.tv_term.specs.Range as TermRange
 pub use Rattle.tv_term.specs.Segments
+pub use Rattle.tv_term.specs.FacetCounting
+pub use Rattle.tv_term.specs.ChildPlaces
 -- documents
 pub use Rattle.tv_doc.specs.AdditionError
 pub use Rattle.tv_doc.specs.Additions

@@ -31,7 +31,10 @@ pub use tv_options::{
     TextFieldIndexing, TextOptions, TextualOptions, TokenizerName, Type, TypeIter,
 };
 pub use tv_schema::{FieldIter, Schema, SchemaBuilder};
-pub use tv_term::{OwnedValueBytes, Term, TermError, TermRange, ValueBytes, successor};
+pub use tv_term::{
+    FacetCount, FacetCountsError, OwnedValueBytes, Term, TermError, TermRange, TermWriter,
+    ValueBytes, count_child_facets, successor,
+};
 pub use tv_value::field::Field;
 pub use tv_value::ip_addr::IntoIpv6Addr;
 pub use tv_value::json_error::JsonError;

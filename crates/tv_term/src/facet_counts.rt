@@ -39,11 +39,11 @@ impl From<AllocError> for FacetCountsError {
     }
 }
 
-/// Goes over facets once, and counts for each child of the ancestor how many of them are the child or lie below it. The facets are given
-/// by their encoded texts in rising order, as a term dictionary lists them, and one may come more than once. What is returned are the
-/// children that have such a facet, each once and in rising order. A facet that is the ancestor itself, or doesn't lie below it, counts
-/// for no child; and under the root neither does one whose first step is empty, since no facet has that step alone. (tantivy counts so
-/// in its facet collector.)
+/// Counts for each child of the ancestor how many of the facets are the child or lie below it: the facets are compared each with the one
+/// before it, and then counted in one pass. They are given by their encoded texts in rising order, as a term dictionary lists them, and
+/// one may come more than once. What is returned are the children that have such a facet, each once and in rising order. A facet that is
+/// the ancestor itself, or doesn't lie below it, counts for no child; and under the root neither does one whose first step is empty, since
+/// no facet has that step alone. (Not in tantivy: it counts facets in a collector over an index.)
 ///
 /// Errors: `NotRising`, exactly where a facet is before the one that stands before it in the list, and before memory is asked for; else
 /// `Memory`.

@@ -3,13 +3,26 @@
 use anyhow::{Result, anyhow};
 use std::alloc::Global;
 use std::fmt::Write;
-use tantivy_schema::schema::{Facet, Field, Schema, Term};
+use tantivy_schema::schema::{
+    Facet, FacetCount, Field, Schema, Term, TermWriter, count_child_facets,
+};
 
 /// The term of a text at a path into the objects of a JSON field.
 pub fn of_path(alloc: Global, field: Field, path: &str, text: &str) -> Result<Term> {
     let mut term = Term::from_field_json_path(alloc, field, path, false)?;
     term.append_type_and_str(text)?;
     Ok(term)
+}
+
+/// How many value bytes the longest term of some texts has: each is made in the same buffer.
+pub fn longest_term(alloc: Global, field: Field, texts: &[&str]) -> Result<usize> {
+    let mut writer = TermWriter::new(alloc);
+    let mut longest = 0;
+    for text in texts {
+        writer.write_text(field, text)?;
+        longest = longest.max(writer.term().len_bytes());
+    }
+    Ok(longest)
 }
 
 /// How many terms of a dictionary are numbers from 18 to 65 of a field.
@@ -38,4 +51,14 @@ pub fn is_within(alloc: Global, upper: &str, lower: &str) -> Result<bool> {
         Facet::from_text(alloc, lower)?,
     );
     Ok(upper.is_prefix_of(&lower))
+}
+
+/// The child of a facet that most of the facets are or lie below.
+pub fn most_facets<'a>(
+    alloc: Global,
+    ancestor: &Facet,
+    facets: &[&'a [u8]],
+) -> Result<Option<FacetCount<'a>>> {
+    let counts = count_child_facets(alloc, ancestor.encoded_str().as_bytes(), facets)?;
+    Ok(counts.iter().copied().max_by_key(|entry| entry.count))
 }

@@ -1,0 +1,142 @@
+//! Terms in one buffer, facets that are counted, and terms that are printed.
+
+use std::alloc::Global;
+use std::net::Ipv6Addr;
+use std::test::Fail;
+use tv_base::Facet;
+use tv_term::{FacetCount, FacetCountsError, Term, TermError, TermWriter, count_child_facets};
+use tv_value::date_time::DateTime;
+use tv_value::field::Field;
+
+#[test]
+fn terms_follow_one_another(rt: HostRuntime) -> Result<(), Fail> {
+    let (alloc, field) = (rt.alloc(), Field::from_field_id(7));
+    let mut writer = TermWriter::new(alloc);
+    assert!(rt; !writer.has_term());
+    writer.write_text(field, "a text that is longer than all others")?;
+    let text = Term::from_field_text(alloc, field, "a text that is longer than all others")?;
+    assert!(rt; *writer.term() == text);
+    writer.write_u64(field, 258)?;
+    assert!(rt; *writer.term() == Term::from_field_u64(alloc, field, 258)?);
+    assert!(rt;
+        writer.term().serialized_term() == [0, 0, 0, 7, b'u', 0, 0, 0, 0, 0, 0, 1, 2].as_slice()
+    );
+    writer.write_i64(Field::from_field_id(0), -1)?;
+    assert!(rt; *writer.term() == Term::from_field_i64(alloc, Field::from_field_id(0), -1)?);
+    writer.write_bool(field, true)?;
+    assert!(rt; *writer.term() == Term::from_field_bool(alloc, field, true)?);
+    writer.write_bytes(field, &[])?;
+    assert!(rt; *writer.term() == Term::from_field_bytes(alloc, field, &[])?);
+    writer.write_ip_addr(field, Ipv6Addr::from_bits(1))?;
+    assert!(rt; *writer.term() == Term::from_field_ip_addr(alloc, field, Ipv6Addr::from_bits(1))?);
+    Ok(())
+}
+
+#[test]
+fn dates_and_facets_follow_one_another(rt: HostRuntime) -> Result<(), Fail> {
+    let (alloc, field) = (rt.alloc(), Field::from_field_id(1));
+    let mut writer = TermWriter::new(alloc);
+    let date = DateTime::from_timestamp_nanos(1_500_000_001);
+    writer.write_date(field, date)?;
+    assert!(rt; *writer.term() == Term::from_field_date(alloc, field, date)?);
+    writer.write_date_for_search(field, date)?;
+    assert!(rt; *writer.term() == Term::from_field_date_for_search(alloc, field, date)?);
+    let facet = Facet::from_text(alloc, "/a/b")?;
+    writer.write_facet(field, &facet)?;
+    assert!(rt; *writer.term() == Term::from_facet(alloc, field, &facet)?);
+    assert!(rt; writer.term().serialized_value_bytes() == b"a\0b".as_slice());
+    Ok(())
+}
+
+#[test]
+fn json_terms_follow_one_another(rt: HostRuntime) -> Result<(), Fail> {
+    let (alloc, field) = (rt.alloc(), Field::from_field_id(1));
+    let mut writer = TermWriter::new(alloc);
+    writer.write_json_path(field, "k8s\\.node.id", false)?;
+    assert!(rt; writer.term().serialized_value_bytes() == b"k8s.node\x01id\0".as_slice());
+    writer.append_text("c")?;
+    assert!(rt; writer.term().serialized_value_bytes() == b"k8s.node\x01id\0sc".as_slice());
+    writer.write_json_segments(field, &["a", "b.c"])?;
+    assert!(rt; writer.term().serialized_value_bytes() == b"a\x01b.c\0".as_slice());
+    writer.append_fast_value(2u64)?;
+    assert!(rt;
+        writer.term().serialized_value_bytes() == b"a\x01b.c\0u\0\0\0\0\0\0\0\x02".as_slice()
+    );
+    let refused = writer.write_json_path(field, "a\0", false).err();
+    assert!(rt; refused == Some(TermError::NulInPath));
+    let refused = writer.write_json_segments(field, &["a", "\0"]).err();
+    assert!(rt; refused == Some(TermError::NulInPath));
+    Ok(())
+}
+
+fn counted(child: &[u8], count: u64) -> FacetCount<'_> {
+    FacetCount { child, count }
+}
+
+#[test]
+fn facets_are_counted(rt: HostRuntime) -> Result<(), Fail> {
+    let alloc = rt.alloc();
+    let facets: [&[u8]; 8] = [
+        b"", b"a", b"a\0b", b"a\0b\0c", b"a\0b\0c", b"a\0bc", b"ab\0b", b"b",
+    ];
+    let counts = count_child_facets(alloc, b"", &facets)?;
+    let (a, ab, b) = (counted(b"a", 5), counted(b"ab", 1), counted(b"b", 1));
+    assert!(rt; counts.as_slice() == [a, ab, b].as_slice());
+    let counts = count_child_facets(alloc, b"a", &facets)?;
+    let (ab, abc) = (counted(b"a\0b", 3), counted(b"a\0bc", 1));
+    assert!(rt; counts.as_slice() == [ab, abc].as_slice());
+    let refused = count_child_facets(alloc, b"a", &[b"b", b"a"]).err();
+    assert!(rt; refused == Some(FacetCountsError::NotRising));
+    assert!(rt; Facet::encoded_is_prefix_of(b"a", b"a\0b"));
+    assert!(rt; !Facet::encoded_is_prefix_of(b"a", b"ab"));
+    Ok(())
+}
+
+// What `Debug` prints of a term.
+fn shown(alloc: Global, term: Result<Term, TermError>) -> Result<String, Fail> {
+    Ok(format!(in alloc; "{:?}", term?)?)
+}
+
+#[test]
+fn terms_are_printed(rt: HostRuntime) -> Result<(), Fail> {
+    let (alloc, field) = (rt.alloc(), Field::from_field_id(1));
+    let text = shown(alloc, Term::from_field_u64(alloc, field, 12))?;
+    assert!(rt; text.as_str() == "Term(field=1, type=U64, 12)");
+    let text = shown(alloc, Term::from_field_i64(alloc, field, -1))?;
+    assert!(rt; text.as_str() == "Term(field=1, type=I64, -1)");
+    let text = shown(alloc, Term::from_field_bool(alloc, field, true))?;
+    assert!(rt; text.as_str() == "Term(field=1, type=Bool, true)");
+    let text = shown(alloc, Term::from_field_text(alloc, field, "a\n\""))?;
+    assert!(rt; text.as_str() == "Term(field=1, type=Str, \"a\\n\\\"\")");
+    let text = shown(alloc, Term::from_field_bytes(alloc, field, &[1, 255]))?;
+    assert!(rt; text.as_str() == "Term(field=1, type=Bytes, [1, 255])");
+    let address = Ipv6Addr::from_bits(1);
+    let text = shown(alloc, Term::from_field_ip_addr(alloc, field, address))?;
+    assert!(rt; text.as_str() == "Term(field=1, type=IpAddr, ::1)");
+    let text = shown(alloc, Term::with_capacity(alloc, 0))?;
+    assert!(rt; text.as_str() == "Term(field=0, type=0)");
+    Ok(())
+}
+
+#[test]
+fn what_terms_hold_is_printed(rt: HostRuntime) -> Result<(), Fail> {
+    let (alloc, field) = (rt.alloc(), Field::from_field_id(1));
+    let facet = Facet::from_text(alloc, "/a/b\\/c")?;
+    let text = shown(alloc, Term::from_facet(alloc, field, &facet))?;
+    assert!(rt; text.as_str() == "Term(field=1, type=Facet, Facet(/a/b\\/c))");
+    let date = DateTime::from_timestamp_nanos(1_500_000_000);
+    let text = shown(alloc, Term::from_field_date(alloc, field, date))?;
+    assert!(rt; text.as_str() == "Term(field=1, type=Date, 1970-01-01T00:00:01.5Z)");
+    let path = shown(
+        alloc,
+        Term::from_field_json_path(alloc, field, "a.b", false),
+    )?;
+    assert!(rt; path.as_str() == "Term(field=1, type=Json, path=a.b, )");
+    let mut term = Term::from_field_json_path(alloc, field, "a.b", false)?;
+    term.append_type_and_str("c")?;
+    let text = shown(alloc, Ok(term))?;
+    assert!(rt; text.as_str() == "Term(field=1, type=Json, path=a.b, type=Str, \"c\")");
+    let text = format!(in alloc; "{field:?} {date:?} {facet:?}")?;
+    assert!(rt; text.as_str() == "Field(1) 1970-01-01T00:00:01.5Z Facet(/a/b\\/c)");
+    Ok(())
+}
