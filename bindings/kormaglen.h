@@ -32,7 +32,8 @@ enum kormaglen_status {
     KORMAGLEN_BAD_SCHEMA = 6,    /* the JSON describes no schema; detail says why, place names the entry from 1, or 0 for the whole */
     KORMAGLEN_NO_FIELD = 7,      /* the path names no field */
     KORMAGLEN_BAD_DOCUMENT = 8,  /* a document is refused; detail says why, place is where in the block it begins */
-    KORMAGLEN_WRONG_VERSION = 9  /* there is no such version of the store */
+    KORMAGLEN_WRONG_VERSION = 9, /* there is no such version of the store */
+    KORMAGLEN_NO_END = 10        /* no byte string is above all that begin with the prefix */
 };
 
 /* With KORMAGLEN_BAD_SCHEMA: kormaglen_answer.detail. */
@@ -135,6 +136,30 @@ kormaglen_answer kormaglen_facet_of_text(
 kormaglen_answer kormaglen_text_of_facet(
     const uint8_t *encoded, size_t encoded_len,
     uint8_t *text, size_t text_len);
+
+/* Writes the terms of a field's values in the documents of a block, of version 1, 2 or 3, in their order: for each the number of its document,
+ * from 0, and the term's length, both in eight bytes, the lowest first, and the term. Terms are compared as their bytes, by memcmp and then
+ * by length, and so by field, then by type, then by value. A date is cut to the second, as it is indexed, and a text is whole.
+ * Refusals: TOO_SMALL, NO_MEMORY, BAD_DOCUMENT, WRONG_VERSION. */
+kormaglen_answer kormaglen_terms_of_block(
+    uint32_t field,
+    uint32_t version,
+    const uint8_t *block, size_t block_len,
+    uint8_t *terms, size_t terms_len);
+
+/* Writes the term of a text. The terms of all texts that begin with it begin with this term.
+ * Refusals: TOO_SMALL, NO_MEMORY, NOT_UTF8. */
+kormaglen_answer kormaglen_term_of_text(
+    uint32_t field,
+    const uint8_t *text, size_t text_len,
+    uint8_t *term, size_t term_len);
+
+/* Writes the least byte string above all that begin with a prefix: the terms that begin with it are those from the prefix on and below
+ * what is written.
+ * Refusals: TOO_SMALL, NO_MEMORY, NO_END. */
+kormaglen_answer kormaglen_end_of_prefix(
+    const uint8_t *prefix, size_t prefix_len,
+    uint8_t *end, size_t end_len);
 
 #ifdef __cplusplus
 }

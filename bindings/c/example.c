@@ -1,4 +1,5 @@
-/* Imports lines of JSON into a block of stored documents, reads them back, and finds a field and a facet. */
+/* Imports lines of JSON into a block of stored documents, reads them back, sorts the terms of a field and finds those of a range, and finds
+ * a field and a facet. */
 #include "kormaglen.h"
 
 #include <stdio.h>
@@ -14,6 +15,7 @@ static const char SCHEMA[] =
 static const char LINES[] =
     "{\"name\":\"Ada\",\"age\":36,\"group\":\"/staff/research\"}\n"
     "{\"name\":\"Bob\",\"age\":\"old\"}\n"
+    "{\"name\":[\"Alan\",\"Adam\"]}\n"
     "{\"name\":\"Cleo\",\"age\":7,\"more\":{\"tags\":[\"new\",true]}}\n";
 
 static const uint8_t *bytes_of(const char *text) {
@@ -37,6 +39,62 @@ static uint8_t *buffer_of(uint64_t size) {
         exit(1);
     }
     return buffer;
+}
+
+/* A term, and the number of its document. */
+struct found_term {
+    uint64_t document;
+    const uint8_t *bytes;
+    uint64_t len;
+};
+
+static int compare_bytes(const uint8_t *a, uint64_t a_len, const uint8_t *b, uint64_t b_len) {
+    int order = memcmp(a, b, (size_t)(a_len < b_len ? a_len : b_len));
+    return order != 0 ? order : (a_len > b_len) - (a_len < b_len);
+}
+
+static int compare_terms(const void *a, const void *b) {
+    const struct found_term *one = a, *other = b;
+    return compare_bytes(one->bytes, one->len, other->bytes, other->len);
+}
+
+static uint64_t number_at(const uint8_t *bytes) {
+    uint64_t number = 0;
+    for (int i = 7; i >= 0; i--) {
+        number = number << 8 | bytes[i];
+    }
+    return number;
+}
+
+/* Prints in order the documents whose text in field 0 begins with a prefix. */
+static void print_range(const uint8_t *block, size_t block_len, const char *prefix) {
+    uint8_t none[1], start[64], end[64];
+    kormaglen_answer from = kormaglen_term_of_text(0, bytes_of(prefix), strlen(prefix), start, sizeof start);
+    expect_ok("term", from);
+    kormaglen_answer to = kormaglen_end_of_prefix(start, (size_t)from.bytes, end, sizeof end);
+    expect_ok("end", to);
+
+    kormaglen_answer size = kormaglen_terms_of_block(0, 2, block, block_len, none, 0);
+    uint8_t *terms = buffer_of(size.bytes);
+    kormaglen_answer listed = kormaglen_terms_of_block(0, 2, block, block_len, terms, (size_t)size.bytes);
+    expect_ok("terms", listed);
+
+    struct found_term found[16];
+    size_t count = 0;
+    for (uint64_t at = 0; at < listed.bytes && count < sizeof found / sizeof *found; count++) {
+        found[count].document = number_at(terms + at);
+        found[count].len = number_at(terms + at + 8);
+        found[count].bytes = terms + at + 16;
+        at += 16 + found[count].len;
+    }
+    qsort(found, count, sizeof *found, compare_terms);
+    for (size_t i = 0; i < count; i++) {
+        if (compare_bytes(found[i].bytes, found[i].len, start, from.bytes) >= 0 &&
+            compare_bytes(found[i].bytes, found[i].len, end, to.bytes) < 0) {
+            printf("document %llu: %.*s\n", (unsigned long long)found[i].document, (int)found[i].len - 5, (const char *)found[i].bytes + 5);
+        }
+    }
+    free(terms);
 }
 
 int main(void) {
@@ -67,6 +125,8 @@ int main(void) {
         kormaglen_export_block(schema, schema_len, 2, block, (size_t)stored.bytes, lines, (size_t)size.bytes);
     expect_ok("export", printed);
     fwrite(lines, 1, (size_t)printed.bytes, stdout);
+
+    print_range(block, (size_t)stored.bytes, "Ad");
 
     size = kormaglen_migrate_block(2, block, (size_t)stored.bytes, 3, none, 0);
     uint8_t *migrated = buffer_of(size.bytes);

@@ -28,8 +28,10 @@ static const char *const LINES[] = {
 };
 
 static uint64_t state = 0x9E3779B97F4A7C15u;
-static uint64_t calls[6];
-static uint64_t accepted[6];
+enum { CALLS = 9 };
+
+static uint64_t calls[CALLS];
+static uint64_t accepted[CALLS];
 
 static uint64_t next_number(void) {
     state ^= state << 13;
@@ -92,7 +94,7 @@ static size_t changed(uint8_t *bytes, size_t len) {
 /* What was written stands within the buffer, and after a refusal the buffer is as it was. */
 static void check(int call, kormaglen_answer answer, const uint8_t *buffer, size_t len) {
     calls[call] += 1;
-    if (answer.status > KORMAGLEN_WRONG_VERSION) {
+    if (answer.status > KORMAGLEN_NO_END) {
         fail("an unknown status");
     }
     size_t from = 0;
@@ -227,6 +229,30 @@ static void facet_once(int call) {
     free(out);
 }
 
+static void terms_once(void) {
+    uint8_t block[2 * LARGEST];
+    size_t len = below(4) == 0 ? random_bytes(block) : changed(block, some_block(block));
+    size_t room = below(LARGEST);
+    uint8_t *b = copy_of(block, len), *terms = fresh(room);
+    check(6, kormaglen_terms_of_block((uint32_t)below(9), (uint32_t)below(5), b, len, terms, room), terms, room);
+    free(b);
+    free(terms);
+}
+
+static void term_once(int call) {
+    uint8_t bytes[LARGEST] = "text\xc3\xa9";
+    size_t len = below(3) == 0 ? random_bytes(bytes) : changed(bytes, 6);
+    if (below(4) == 0) {
+        memset(bytes, 0xff, len);
+    }
+    size_t room = below(16);
+    uint8_t *b = copy_of(bytes, len), *out = fresh(room);
+    check(call, call == 7 ? kormaglen_term_of_text((uint32_t)next_number(), b, len, out, room) : kormaglen_end_of_prefix(b, len, out, room),
+          out, room);
+    free(b);
+    free(out);
+}
+
 int main(int count, char **words) {
     long seconds = count > 1 ? atol(words[1]) : 60;
     state ^= count > 2 ? strtoull(words[2], NULL, 10) : 0;
@@ -239,10 +265,14 @@ int main(int count, char **words) {
             find_once();
             facet_once(4);
             facet_once(5);
+            terms_once();
+            term_once(7);
+            term_once(8);
         }
     }
-    static const char *const NAMES[] = {"import_lines", "export_block", "migrate_block", "find_field", "facet_of_text", "text_of_facet"};
-    for (int i = 0; i < 6; i++) {
+    static const char *const NAMES[] = {"import_lines", "export_block", "migrate_block", "find_field", "facet_of_text", "text_of_facet",
+                                         "terms_of_block", "term_of_text", "end_of_prefix"};
+    for (int i = 0; i < CALLS; i++) {
         printf("%-14s %10llu calls, %10llu accepted\n", NAMES[i], (unsigned long long)calls[i], (unsigned long long)accepted[i]);
     }
     return 0;

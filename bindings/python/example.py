@@ -1,4 +1,5 @@
-"""Imports lines of JSON into a block of stored documents, reads them back, and finds a field and a facet."""
+"""Imports lines of JSON into a block of stored documents, reads them back, sorts the terms of a field and finds those of a range, and finds a
+field and a facet."""
 
 import json
 
@@ -15,6 +16,7 @@ SCHEMA = json.dumps(
 
 LINES = b"""{"name":"Ada","age":36,"group":"/staff/research"}
 {"name":"Bob","age":"old"}
+{"name":["Alan","Adam"]}
 {"name":"Cleo","age":7,"more":{"tags":["new",true]}}
 """
 
@@ -24,6 +26,11 @@ def main() -> None:
     for number, line in enumerate(imported.lines, 1):
         print(f"line {number}: {line.status}, {line.bytes} bytes")
     print(kormaglen.export_block(SCHEMA, 2, imported.block).decode(), end="")
+    start = kormaglen.term_of_text(0, "Ad")
+    end = kormaglen.end_of_prefix(start)
+    for term, document in sorted((term, document) for document, term in kormaglen.terms_of_block(0, 2, imported.block)):
+        if start <= term < end:
+            print(f"document {document}: {term[5:].decode()}")
     migrated = kormaglen.migrate_block(2, imported.block, 3)
     print(f"version 2 takes {len(imported.block)} bytes, version 3 {len(migrated)}")
     field, rest = kormaglen.find_field(SCHEMA, "more.tags")

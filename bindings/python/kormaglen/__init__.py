@@ -16,11 +16,14 @@ __all__ = [
     "Imported",
     "LineAnswer",
     "Refused",
+    "end_of_prefix",
     "export_block",
     "facet_of_text",
     "find_field",
     "import_lines",
     "migrate_block",
+    "term_of_text",
+    "terms_of_block",
     "text_of_facet",
 ]
 
@@ -36,6 +39,7 @@ _REFUSALS = {
     7: "no field",
     8: "bad document",
     9: "wrong version",
+    10: "no end",
 }
 
 _LINES = ["stored", "invalid JSON", "overflow", "wrong type", "bad text", "bad base64", "float", "no room"]
@@ -95,6 +99,9 @@ def _library() -> ctypes.CDLL:
         "find_field": given + given + [ctypes.POINTER(_FoundField)],
         "facet_of_text": given + written,
         "text_of_facet": given + written,
+        "terms_of_block": [ctypes.c_uint32, ctypes.c_uint32] + given + written,
+        "term_of_text": [ctypes.c_uint32] + given + written,
+        "end_of_prefix": given + written,
     }
     for name, arguments in signatures.items():
         call = getattr(library, "kormaglen_" + name)
@@ -167,3 +174,26 @@ def facet_of_text(text: str) -> bytes:
 def text_of_facet(encoded: bytes) -> str:
     """The text that names an encoded facet."""
     return _filled(2 * len(encoded) + 1, lambda out, size: _CALLS.kormaglen_text_of_facet(encoded, len(encoded), out, size)).decode()
+
+
+def terms_of_block(field: int, version: int, block: bytes) -> List[Tuple[int, bytes]]:
+    """The terms of a field's values in the documents of a block, of version 1, 2 or 3, each behind the number of its document. Terms are
+    compared as their bytes, and so by field, then by type, then by value."""
+    records = _filled(4 * len(block), lambda out, size: _CALLS.kormaglen_terms_of_block(field, version, block, len(block), out, size))
+    terms, at = [], 0
+    while at < len(records):
+        end = at + 16 + int.from_bytes(records[at + 8 : at + 16], "little")
+        terms.append((int.from_bytes(records[at : at + 8], "little"), records[at + 16 : end]))
+        at = end
+    return terms
+
+
+def term_of_text(field: int, text: str) -> bytes:
+    """The term of a text. The terms of all texts that begin with it begin with this term."""
+    encoded = text.encode()
+    return _filled(len(encoded) + 5, lambda out, size: _CALLS.kormaglen_term_of_text(field, encoded, len(encoded), out, size))
+
+
+def end_of_prefix(prefix: bytes) -> bytes:
+    """The least byte string above all that begin with a prefix: the terms that begin with it are those from the prefix on and below this."""
+    return _filled(len(prefix), lambda out, size: _CALLS.kormaglen_end_of_prefix(prefix, len(prefix), out, size))

@@ -68,6 +68,16 @@ mod c {
         ) -> Answer;
         pub fn kormaglen_facet_of_text(text: *const u8, text_len: usize, encoded: *mut u8, encoded_len: usize) -> Answer;
         pub fn kormaglen_text_of_facet(encoded: *const u8, encoded_len: usize, text: *mut u8, text_len: usize) -> Answer;
+        pub fn kormaglen_terms_of_block(
+            field: u32,
+            version: u32,
+            block: *const u8,
+            block_len: usize,
+            terms: *mut u8,
+            terms_len: usize,
+        ) -> Answer;
+        pub fn kormaglen_term_of_text(field: u32, text: *const u8, text_len: usize, term: *mut u8, term_len: usize) -> Answer;
+        pub fn kormaglen_end_of_prefix(prefix: *const u8, prefix_len: usize, end: *mut u8, end_len: usize) -> Answer;
     }
 }
 
@@ -120,4 +130,19 @@ pub fn facet_of_text(text: &[u8], encoded: &mut [u8]) -> Answer {
 pub fn text_of_facet(encoded: &[u8], text: &mut [u8]) -> Answer {
     // SAFETY: both are slices, and they don't overlap.
     unsafe { c::kormaglen_text_of_facet(encoded.as_ptr(), encoded.len(), text.as_mut_ptr(), text.len()) }
+}
+
+pub fn terms_of_block(field: u32, version: u32, block: &[u8], terms: &mut [u8]) -> Answer {
+    // SAFETY: both are slices, and they don't overlap.
+    unsafe { c::kormaglen_terms_of_block(field, version, block.as_ptr(), block.len(), terms.as_mut_ptr(), terms.len()) }
+}
+
+pub fn term_of_text(field: u32, text: &[u8], term: &mut [u8]) -> Answer {
+    // SAFETY: both are slices, and they don't overlap.
+    unsafe { c::kormaglen_term_of_text(field, text.as_ptr(), text.len(), term.as_mut_ptr(), term.len()) }
+}
+
+pub fn end_of_prefix(prefix: &[u8], end: &mut [u8]) -> Answer {
+    // SAFETY: both are slices, and they don't overlap.
+    unsafe { c::kormaglen_end_of_prefix(prefix.as_ptr(), prefix.len(), end.as_mut_ptr(), end.len()) }
 }

@@ -32,6 +32,8 @@ pub enum Refusal {
     BadDocument { detail: u32, start: u64 },
     /// There is no such version of the store.
     WrongVersion,
+    /// No byte string is above all that begin with the prefix.
+    NoEnd,
     /// An answer that this crate doesn't know.
     Unknown { status: u32 },
 }
@@ -46,6 +48,7 @@ impl fmt::Display for Refusal {
             Refusal::BadSchema { detail, entry } => write!(f, "no schema: reason {detail} at entry {entry}"),
             Refusal::NoField => f.write_str("the path names no field"),
             Refusal::BadDocument { detail, start } => write!(f, "the document at byte {start} is refused: reason {detail}"),
+            Refusal::NoEnd => f.write_str("the prefix has no end"),
             Refusal::WrongVersion => f.write_str("there is no such version of the store"),
             Refusal::Unknown { status } => write!(f, "unknown status {status}"),
         }
@@ -95,6 +98,15 @@ pub struct Field<'p> {
     pub rest: &'p str,
 }
 
+/// A term of a stored value.
+#[derive(Clone, Debug, PartialEq, Eq)]
+pub struct Term {
+    /// The number of its document in the block, from 0.
+    pub document: u64,
+    /// Its bytes. Terms are compared as these, and so by field, then by type, then by value.
+    pub bytes: Vec<u8>,
+}
+
 impl From<LineAnswer> for Line {
     fn from(answer: LineAnswer) -> Line {
         match answer.status {
@@ -125,6 +137,7 @@ impl Answer {
             7 => Refusal::NoField,
             8 => Refusal::BadDocument { detail: self.detail, start: self.place },
             9 => Refusal::WrongVersion,
+            10 => Refusal::NoEnd,
             status => Refusal::Unknown { status },
         }
     }
@@ -197,4 +210,32 @@ pub fn facet_of_text(text: &str) -> Result<Vec<u8>, Refusal> {
 pub fn text_of_facet(encoded: &[u8]) -> Result<String, Refusal> {
     let text = filled(2 * encoded.len() + 1, |text| calls::text_of_facet(encoded, text))?;
     String::from_utf8(text).map_err(|_| Refusal::NotUtf8)
+}
+
+/// The terms of a field's values in the documents of a block, of version 1, 2 or 3, in their order. A date is cut to the second, as it is
+/// indexed, and a text is whole.
+pub fn terms_of_block(field: u32, version: u32, block: &[u8]) -> Result<Vec<Term>, Refusal> {
+    let records = filled(4 * block.len(), |terms| calls::terms_of_block(field, version, block, terms))?;
+    let mut terms = Vec::new();
+    let mut rest = records.as_slice();
+    while let (Some(document), Some(len)) = (number_at(rest, 0), number_at(rest, 8)) {
+        let end = 16 + len as usize;
+        terms.push(Term { document, bytes: rest[16..end].to_vec() });
+        rest = &rest[end..];
+    }
+    Ok(terms)
+}
+
+fn number_at(bytes: &[u8], at: usize) -> Option<u64> {
+    Some(u64::from_le_bytes(bytes.get(at..at + 8)?.try_into().ok()?))
+}
+
+/// The term of a text. The terms of all texts that begin with it begin with this term.
+pub fn term_of_text(field: u32, text: &str) -> Result<Vec<u8>, Refusal> {
+    filled(text.len() + 5, |term| calls::term_of_text(field, text.as_bytes(), term))
+}
+
+/// The least byte string above all that begin with a prefix: the terms that begin with it are those from the prefix on and below this.
+pub fn end_of_prefix(prefix: &[u8]) -> Result<Vec<u8>, Refusal> {
+    filled(prefix.len(), |end| calls::end_of_prefix(prefix, end))
 }

@@ -1,6 +1,9 @@
 //! Each call once, and each refusal.
 
-use kormaglen::{export_block, facet_of_text, find_field, import_lines, migrate_block, text_of_facet, Line, Refusal};
+use kormaglen::{
+    end_of_prefix, export_block, facet_of_text, find_field, import_lines, migrate_block, term_of_text, terms_of_block, text_of_facet, Line,
+    Refusal, Term,
+};
 
 const SCHEMA: &[u8] = br#"[{"name":"s","type":"text","options":{"stored":true}},
 {"name":"u","type":"u64","options":{"indexed":false,"stored":true}},
@@ -64,4 +67,17 @@ fn a_facet_is_encoded_and_printed() {
     assert_eq!(text_of_facet(b"a\0b/c").unwrap(), "/a/b\\/c");
     assert_eq!(facet_of_text("a"), Err(Refusal::NotAFacet));
     assert_eq!(text_of_facet(b"\xff"), Err(Refusal::NotUtf8));
+}
+
+#[test]
+fn terms_are_listed_and_have_ranges() {
+    let imported = import_lines(SCHEMA, b"{\"u\":[1,2],\"s\":\"a\"}\n{}\n{\"u\":256}\n").unwrap();
+    let term = |document, number: u64| Term { document, bytes: [&[0, 0, 0, 1, b'u'][..], &number.to_be_bytes()].concat() };
+    assert_eq!(terms_of_block(1, 2, &imported.block).unwrap(), [term(0, 1), term(0, 2), term(2, 256)]);
+    assert_eq!(terms_of_block(3, 2, &imported.block).unwrap(), []);
+    let start = term_of_text(0, "ab").unwrap();
+    assert_eq!(start, b"\0\0\0\0sab");
+    assert_eq!(end_of_prefix(&start).unwrap(), b"\0\0\0\0sac");
+    assert_eq!(end_of_prefix(b"a\xff").unwrap(), b"b");
+    assert_eq!(end_of_prefix(b"\xff\xff"), Err(Refusal::NoEnd));
 }

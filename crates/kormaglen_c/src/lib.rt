@@ -7,6 +7,7 @@ ghost use Rattle.tv_base.specs.Facet.{parse, printed};
 ghost use Rattle.tv_blocks.specs.Blocks.{IsExported, IsMigrated};
 ghost use Rattle.tv_blocks.specs.Refusals.{IsBlockRefusal, IsExportRefusal};
 ghost use Rattle.tv_blocks.specs.Refusals.{IsFacetRefusal, IsTextRefusal};
+ghost use Rattle.tv_blocks.specs.Terms.{IsEnd, IsEndRefusal, IsTermList, IsTextTerm};
 ghost use Rattle.kormaglen_c.specs.Answers.{AnswersFill, AnswersFound, AnswersImport};
 ghost use Rattle.kormaglen_c.specs.Answers.{IsWrongVersion, write_numbered};
 ghost use Rattle.tv_format.specs.WriteVersion.{written_version};
@@ -128,4 +129,51 @@ pub extern "C" fn kormaglen_migrate_block(
         }
         _ => wrong_version(),
     }
+}
+
+/// Writes the terms of a field's values in a block, see `tv_blocks::terms_of_block`. The version is 1, 2 or 3.
+#[unsafe(no_mangle)]
+pub extern "C" fn kormaglen_terms_of_block(
+    alloc: Global,
+    field: u32,
+    version: u32,
+    block: &[u8],
+    terms: &mut [u8],
+) -> Answer
+    ensures { MatchOption (numbered version) (IsWrongVersion terms.old terms.new result)
+        (λ v. AnswersFill (IsTermList (version_of v) field block.now)
+        (IsBlockRefusal (version_of v) block.now) terms.old terms.new result) }
+{
+    match DocStoreVersion::from_u32(version) {
+        Ok(version) => written_answer(tv_blocks::terms_of_block(
+            alloc, field, version, block, terms,
+        )),
+        Err(_) => wrong_version(),
+    }
+}
+
+/// Writes the term of a text, see `tv_blocks::term_of_text`.
+#[unsafe(no_mangle)]
+pub extern "C" fn kormaglen_term_of_text(
+    alloc: Global,
+    field: u32,
+    text: &[u8],
+    term: &mut [u8],
+) -> Answer
+    ensures { AnswersFill (IsTextTerm field text.now) (IsTextRefusal text.now) term.old term.new
+        result }
+{
+    written_answer(tv_blocks::term_of_text(alloc, field, text, term))
+}
+
+/// Writes the least byte string above all that begin with a prefix, see `tv_blocks::end_of_prefix`.
+#[unsafe(no_mangle)]
+pub extern "C" fn kormaglen_end_of_prefix(
+    alloc: Global,
+    prefix: &[u8],
+    end: &mut [u8],
+) -> Answer
+    ensures { AnswersFill (IsEnd prefix.now) (IsEndRefusal prefix.now) end.old end.new result }
+{
+    written_answer(tv_blocks::end_of_prefix(alloc, prefix, end))
 }
