@@ -8,7 +8,7 @@ use Rattle.tv_blocks.specs.Refusals.{Breaks, EncodesBlock, document_refusal, mig
 use Rattle.tv_blocks.specs.declared.block_error.BlockError.TheVariants as block_errors
 use Rattle.tv_field.specs.Entry.{Entry}
 use Rattle.tv_format.specs.Encoding.{EncodesDocument}
-use Rattle.tv_format.specs.InputError.{Refusal}
+use Rattle.tv_format.specs.InputError.{Refusal, corrupted, no_text_key}
 use Rattle.tv_format.specs.Short.{short_document}
 use Rattle.tv_format.specs.Tree.{Document}
 use Rattle.tv_format.specs.Version.{Version}
@@ -18,9 +18,11 @@ use Rattle.tv_reader.specs.Error.IsRefusal.{is_corrupted, is_no_text}
 use Rattle.tv_reader.specs.ValueType.{type_code}
 use Rattle.tv_reader.specs.declared.error.DeserializeError.{DeserializeError}
 use Rattle.tv_reader.specs.declared.error.DeserializeError.TheVariants as errors
-use Rattle.tv_reader.specs.declared.value_type.ValueType.TheVariants.{String}
+use Rattle.tv_reader.specs.declared.value_type.ValueType.{ValueType}
 use Rattle.tv_store.specs.Documents.{BeginsWith, NoDocument, HasNoRoom, IsReadingError}
-use Rattle.tv_store.specs.Migrate.{Transcribes}
+use Rattle.tv_store.specs.Migrate.{IsMigrationError, Transcribes}
+use Rattle.tv_store.specs.declared.migration.MigrateError.{MigrateError}
+use Rattle.tv_store.specs.declared.migration.MigrateError.TheVariants.{Read, Write}
 
 -- ---- one more
 
@@ -103,12 +105,23 @@ pub breaks : (v : Version) (block before behind : List ℕ) (documents : List Do
     → EncodesBlock v before documents → ((r : Refusal) → IsRefusal e r → NoDocument v behind r) → (e ≡ errors.HeapFull → HasNoRoom v behind) → IsReadingError e
     → IsRefusedBlock v block (document_refusal start e)
 breaks v block before behind documents start (errors.CorruptedValue c) joined at encoded refused full may =
-    record { before = before; behind = behind; joined = joined; measured = at; documents = documents; encoded = encoded; refused = refused _ is_corrupted }
-breaks v block before behind documents start (errors.TypeMismatch String actual) joined at encoded refused full may =
-    record { before = before; behind = behind; joined = joined; measured = at; documents = documents; encoded = encoded; refused = (type_code actual, refused _ is_no_text) }
+    record { before = before; behind = behind; joined = joined; measured = at; documents = documents; encoded = encoded; refused = refused (corrupted c) is_corrupted }
 breaks v block before behind documents start errors.HeapFull joined at encoded refused full may =
     record { before = before; behind = behind; joined = joined; measured = at; documents = documents; encoded = encoded; refused = full refl }
 breaks v block before behind documents start (errors.TypeMismatch other actual) joined at encoded refused full may =
-    let is = subst (λ t. IsRefusal (errors.TypeMismatch t actual) _) (sym may) is_no_text in
-    record { before = before; behind = behind; joined = joined; measured = at; documents = documents; encoded = encoded; refused = (type_code actual, refused _ is) }
+    let is : IsRefusal (errors.TypeMismatch other actual) (no_text_key (type_code actual)) = subst (λ (t : ValueType). IsRefusal (errors.TypeMismatch t actual) (no_text_key (type_code actual))) (sym may) is_no_text in
+    record { before = before; behind = behind; joined = joined; measured = at; documents = documents; encoded = encoded; refused = (type_code actual, refused (no_text_key (type_code actual)) is) }
 breaks v block before behind documents start e joined at encoded refused full may = tt
+
+-- the same of migrating it
+pub migration_breaks : (v : Version) (block before behind : List ℕ) (documents : List Document) (start : ℕ) (error : MigrateError) → block ≡ before ++ behind → start ≡ length before
+    → EncodesBlock v before documents → ((e : DeserializeError) → error ≡ Read e → ((r : Refusal) → IsRefusal e r → NoDocument v behind r) × (e ≡ errors.HeapFull → HasNoRoom v behind)) → IsMigrationError error
+    → IsRefusedBlock v block (migration_refusal start error)
+migration_breaks v block before behind documents start (Read e) joined at encoded refused may =
+    let why = refused e refl in
+    breaks v block before behind documents start e joined at encoded why.0 why.1 may
+migration_breaks v block before behind documents start (Write e) joined at encoded refused may = tt
+
+-- what is left of a slice is no longer than it
+pub no_more_left : (block before rest : List ℕ) → block ≡ before ++ rest → length block < 2 ^ 63 → length rest < 2 ^ 64 - 1
+no_more_left block before rest joined few = let sum = ap length joined ∙ length-append before rest in omega (arith, sum, few)

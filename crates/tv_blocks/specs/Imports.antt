@@ -1,6 +1,5 @@
 -- Lines of JSON as a block of stored documents.
-use Rattle.std.specs.Prelude.{◌≡◌, ℕ, ◌<◌, ◌≤◌, ◌⊎◌, List, [], ◌∷◌, ◌++◌, length, drop, Result, Ok, Err}
-use Rattle.std.specs.declared.alloc.AllocError.{AllocError}
+use Rattle.std.specs.Prelude.{◌≡◌, ℕ, ◌<◌, ◌≤◌, ◌⊎◌, List, [], ◌∷◌, ◌++◌, length, drop, Option, Some, None, Result, Ok, Err}
 use Rattle.serde_json.specs.Data.{object, Members}
 use Rattle.tv_blocks.specs.Refusals.{IsSchemaRefusal}
 use Rattle.tv_blocks.specs.declared.block_error.BlockError.{BlockError}
@@ -107,19 +106,19 @@ PutsBoth block answers old_bytes new_bytes old_answers new_answers (Ok count) = 
 PutsBoth block answers old_bytes new_bytes old_answers new_answers (Err (errors.TooSmall bytes lines)) = LackBoth block answers old_bytes new_bytes old_answers new_answers bytes lines
 PutsBoth block answers old_bytes new_bytes old_answers new_answers (Err e) = ⊥
 
-abbrev pub value_outcome : ValueParsingError → Result LineOutcome AllocError
-value_outcome (values.OverflowError expected json) = Ok outcome.Overflow
-value_outcome (values.TypeError expected json) = Ok outcome.WrongType
-value_outcome (values.ParseError cause json) = Ok outcome.BadText
-value_outcome (values.InvalidBase64 text) = Ok outcome.BadBase64
-value_outcome values.FloatNumber = Ok outcome.FloatNumber
-value_outcome values.Memory = Err AllocError
+abbrev pub value_outcome : ValueParsingError → Option LineOutcome
+value_outcome (values.OverflowError expected json) = Some outcome.Overflow
+value_outcome (values.TypeError expected json) = Some outcome.WrongType
+value_outcome (values.ParseError cause json) = Some outcome.BadText
+value_outcome (values.InvalidBase64 text) = Some outcome.BadBase64
+value_outcome values.FloatNumber = Some outcome.FloatNumber
+value_outcome values.Memory = None
 
-abbrev pub outcome_of : DocParsingError → Result LineOutcome AllocError
-outcome_of (parsing.InvalidJson start) = Ok outcome.InvalidJson
+abbrev pub outcome_of : DocParsingError → Option LineOutcome
+outcome_of (parsing.InvalidJson start) = Some outcome.InvalidJson
 outcome_of (parsing.ValueError name e) = value_outcome e
-outcome_of parsing.HeapFull = Ok outcome.HeapFull
-outcome_of parsing.Memory = Err AllocError
+outcome_of parsing.HeapFull = Some outcome.HeapFull
+outcome_of parsing.Memory = None
 
 -- the bytes are appended to the block, and their number is said
 abbrev pub Stores : List ℕ → List ℕ → List ℕ → LineOutcome → Type 0

@@ -5,4 +5,3 @@ pub mod Fields
 pub mod Blocks
 pub mod Imports
 pub mod Status
-pub mod Terms

@@ -82,29 +82,29 @@ impl LineOutcome {
     }
 }
 
-// What is said of a value that a field's type refuses; nothing where memory was refused.
-fn value_outcome(error: &ValueParsingError) -> Result<LineOutcome, AllocError>
+// What is said of a value that a field's type refuses; `None` where memory was refused.
+fn value_outcome(error: &ValueParsingError) -> Option<LineOutcome>
     ensures { result ≡ value_outcome error.now }
 {
     match error {
-        ValueParsingError::OverflowError { .. } => Ok(LineOutcome::Overflow),
-        ValueParsingError::TypeError { .. } => Ok(LineOutcome::WrongType),
-        ValueParsingError::ParseError { .. } => Ok(LineOutcome::BadText),
-        ValueParsingError::InvalidBase64 { .. } => Ok(LineOutcome::BadBase64),
-        ValueParsingError::FloatNumber => Ok(LineOutcome::FloatNumber),
-        ValueParsingError::Memory => Err(AllocError),
+        ValueParsingError::OverflowError { .. } => Some(LineOutcome::Overflow),
+        ValueParsingError::TypeError { .. } => Some(LineOutcome::WrongType),
+        ValueParsingError::ParseError { .. } => Some(LineOutcome::BadText),
+        ValueParsingError::InvalidBase64 { .. } => Some(LineOutcome::BadBase64),
+        ValueParsingError::FloatNumber => Some(LineOutcome::FloatNumber),
+        ValueParsingError::Memory => None,
     }
 }
 
-// What is said of a line of which there is no document.
-fn refused_outcome(error: &DocParsingError) -> Result<LineOutcome, AllocError>
+// What is said of a line of which there is no document; `None` where memory was refused.
+fn refused_outcome(error: &DocParsingError) -> Option<LineOutcome>
     ensures { result ≡ outcome_of error.now }
 {
     match error {
-        DocParsingError::InvalidJson(_) => Ok(LineOutcome::InvalidJson),
+        DocParsingError::InvalidJson(_) => Some(LineOutcome::InvalidJson),
         DocParsingError::ValueError(_, error) => value_outcome(error),
-        DocParsingError::HeapFull => Ok(LineOutcome::HeapFull),
-        DocParsingError::Memory => Err(AllocError),
+        DocParsingError::HeapFull => Some(LineOutcome::HeapFull),
+        DocParsingError::Memory => None,
     }
 }
 
@@ -132,7 +132,7 @@ fn import_line(
     };
     let LineMemory { document, buffers } = memory;
     if let Err(error) = document.parse_json_into(alloc, schema, json, buffers) {
-        return refused_outcome(&error);
+        return refused_outcome(&error).ok_or(AllocError);
     }
     store_document(schema, document, block)
 }

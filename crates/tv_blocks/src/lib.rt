@@ -13,7 +13,6 @@ mod lines;
 pub mod migration;
 mod schema_text;
 pub mod status;
-pub mod terms;
 
 pub use block_error::{BlockError, DocumentRefusal};
 pub use export::export_block;
@@ -22,4 +21,3 @@ pub use field_path::{FoundField, find_field};
 pub use import::{Imported, LineAnswer, LineOutcome, import_lines};
 pub use migration::migrate_block;
 pub use status::Answer;
-pub use terms::{end_of_prefix, term_of_text, terms_of_block};
