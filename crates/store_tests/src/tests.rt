@@ -1,6 +1,8 @@
-//! Values of great depth, documents read in place, within limits and passed over, the laws of calls in use, a store of one's own, and calls that fail.
+//! Values of great depth, documents read in place, within limits or passed over, blocks in buffers of a caller's, the laws of calls in use, a
+//! store of one's own, and calls that fail.
 
 mod blocks;
+mod buffers;
 mod deep;
 mod embedded;
 mod failing_reads;

@@ -163,7 +163,17 @@ impl TermWriter {
         ensures unchanged { OnErr result (self.new ≡ self.old) }
         ensures memory { IfErr result (λ error. error ≡ Memory) }
     {
-        self.write_payload(field, Type::Facet, facet.encoded_str().as_bytes())
+        self.write_encoded_facet(field, facet.encoded_str())
+    }
+
+    /// Makes the term of the facet that has this encoded text, as a document lends it.
+    pub fn write_encoded_facet(&mut self, field: Field, encoded: &str) -> Result<(), TermError>
+        ensures made { OnOk result (IsTerm self.new field.id (FacetValue encoded.now)) }
+        ensures has_term { OnOk result (self.new ≢ []) }
+        ensures unchanged { OnErr result (self.new ≡ self.old) }
+        ensures memory { IfErr result (λ error. error ≡ Memory) }
+    {
+        self.write_payload(field, Type::Facet, encoded.as_bytes())
     }
 
     /// Makes the term of a text.

@@ -1,0 +1,158 @@
+/* Imports lines of JSON into a block of stored documents, reads them back, sorts the terms of a field and finds those of a range, and finds
+ * a field and a facet. */
+#include "kormaglen.h"
+
+#include <stdio.h>
+#include <stdlib.h>
+#include <string.h>
+
+static const char SCHEMA[] =
+    "[{\"name\":\"name\",\"type\":\"text\",\"options\":{\"stored\":true}},"
+    "{\"name\":\"age\",\"type\":\"u64\",\"options\":{\"indexed\":true,\"stored\":true}},"
+    "{\"name\":\"group\",\"type\":\"facet\",\"options\":{\"stored\":true}},"
+    "{\"name\":\"more\",\"type\":\"json_object\",\"options\":{\"stored\":true,\"fast\":false}}]";
+
+static const char LINES[] =
+    "{\"name\":\"Ada\",\"age\":36,\"group\":\"/staff/research\"}\n"
+    "{\"name\":\"Bob\",\"age\":\"old\"}\n"
+    "{\"name\":[\"Alan\",\"Adam\"]}\n"
+    "{\"name\":\"Cleo\",\"age\":7,\"more\":{\"tags\":[\"new\",true]}}\n";
+
+static const uint8_t *bytes_of(const char *text) {
+    return (const uint8_t *)text;
+}
+
+/* Ends the program where a call was refused. */
+static void expect_ok(const char *call, kormaglen_answer answer) {
+    if (answer.status != KORMAGLEN_OK) {
+        fprintf(stderr, "%s: status %u, detail %u, place %llu\n", call, (unsigned)answer.status, (unsigned)answer.detail,
+                (unsigned long long)answer.place);
+        exit(1);
+    }
+}
+
+/* A buffer of the size that a call asked for. */
+static uint8_t *buffer_of(uint64_t size) {
+    uint8_t *buffer = malloc(size == 0 ? 1 : size);
+    if (buffer == NULL) {
+        fputs("no memory\n", stderr);
+        exit(1);
+    }
+    return buffer;
+}
+
+/* A term, and the number of its document. */
+struct found_term {
+    uint64_t document;
+    const uint8_t *bytes;
+    uint64_t len;
+};
+
+static int compare_bytes(const uint8_t *a, uint64_t a_len, const uint8_t *b, uint64_t b_len) {
+    int order = memcmp(a, b, (size_t)(a_len < b_len ? a_len : b_len));
+    return order != 0 ? order : (a_len > b_len) - (a_len < b_len);
+}
+
+static int compare_terms(const void *a, const void *b) {
+    const struct found_term *one = a, *other = b;
+    return compare_bytes(one->bytes, one->len, other->bytes, other->len);
+}
+
+static uint64_t number_at(const uint8_t *bytes) {
+    uint64_t number = 0;
+    for (int i = 7; i >= 0; i--) {
+        number = number << 8 | bytes[i];
+    }
+    return number;
+}
+
+/* Prints in order the documents whose text in field 0 begins with a prefix. */
+static void print_range(const uint8_t *block, size_t block_len, const char *prefix) {
+    uint8_t none[1], start[64], end[64];
+    kormaglen_answer from = kormaglen_term_of_text(0, bytes_of(prefix), strlen(prefix), start, sizeof start);
+    expect_ok("term", from);
+    kormaglen_answer to = kormaglen_end_of_prefix(start, (size_t)from.bytes, end, sizeof end);
+    expect_ok("end", to);
+
+    kormaglen_answer size = kormaglen_terms_of_block(0, 2, block, block_len, none, 0);
+    uint8_t *terms = buffer_of(size.bytes);
+    kormaglen_answer listed = kormaglen_terms_of_block(0, 2, block, block_len, terms, (size_t)size.bytes);
+    expect_ok("terms", listed);
+
+    struct found_term found[16];
+    size_t count = 0;
+    for (uint64_t at = 0; at < listed.bytes && count < sizeof found / sizeof *found; count++) {
+        found[count].document = number_at(terms + at);
+        found[count].len = number_at(terms + at + 8);
+        found[count].bytes = terms + at + 16;
+        at += 16 + found[count].len;
+    }
+    qsort(found, count, sizeof *found, compare_terms);
+    for (size_t i = 0; i < count; i++) {
+        if (compare_bytes(found[i].bytes, found[i].len, start, from.bytes) >= 0 &&
+            compare_bytes(found[i].bytes, found[i].len, end, to.bytes) < 0) {
+            printf("document %llu: %.*s\n", (unsigned long long)found[i].document, (int)found[i].len - 5, (const char *)found[i].bytes + 5);
+        }
+    }
+    free(terms);
+}
+
+int main(void) {
+    const uint8_t *schema = bytes_of(SCHEMA);
+    const size_t schema_len = strlen(SCHEMA);
+    uint8_t none[1];
+    kormaglen_line_answer no_answer[1];
+
+    /* A first call with empty buffers asks for the sizes. */
+    kormaglen_answer size =
+        kormaglen_import_lines(schema, schema_len, bytes_of(LINES), strlen(LINES), none, 0, no_answer, 0);
+    uint8_t *block = buffer_of(size.bytes);
+    kormaglen_line_answer *answers = malloc((size.lines + 1) * sizeof *answers);
+    if (answers == NULL) {
+        return 1;
+    }
+    kormaglen_answer stored = kormaglen_import_lines(schema, schema_len, bytes_of(LINES), strlen(LINES), block,
+                                                     (size_t)size.bytes, answers, (size_t)size.lines);
+    expect_ok("import", stored);
+    for (uint64_t line = 0; line < stored.lines; line++) {
+        printf("line %llu: status %u, %llu bytes\n", (unsigned long long)line + 1, (unsigned)answers[line].status,
+               (unsigned long long)answers[line].bytes);
+    }
+
+    size = kormaglen_export_block(schema, schema_len, 2, block, (size_t)stored.bytes, none, 0);
+    uint8_t *lines = buffer_of(size.bytes);
+    kormaglen_answer printed =
+        kormaglen_export_block(schema, schema_len, 2, block, (size_t)stored.bytes, lines, (size_t)size.bytes);
+    expect_ok("export", printed);
+    fwrite(lines, 1, (size_t)printed.bytes, stdout);
+
+    print_range(block, (size_t)stored.bytes, "Ad");
+
+    size = kormaglen_migrate_block(2, block, (size_t)stored.bytes, 3, none, 0);
+    uint8_t *migrated = buffer_of(size.bytes);
+    kormaglen_answer moved =
+        kormaglen_migrate_block(2, block, (size_t)stored.bytes, 3, migrated, (size_t)size.bytes);
+    expect_ok("migrate", moved);
+    printf("version 2 takes %llu bytes, version 3 %llu\n", (unsigned long long)stored.bytes,
+           (unsigned long long)moved.bytes);
+
+    kormaglen_found_field found;
+    const char path[] = "more.tags";
+    expect_ok("find", kormaglen_find_field(schema, schema_len, bytes_of(path), strlen(path), &found));
+    printf("field %u, path %s\n", (unsigned)found.field, path + found.rest);
+
+    uint8_t facet[64];
+    const char text[] = "/staff/research";
+    kormaglen_answer encoded = kormaglen_facet_of_text(bytes_of(text), strlen(text), facet, sizeof facet);
+    expect_ok("facet", encoded);
+    uint8_t back[64];
+    kormaglen_answer named = kormaglen_text_of_facet(facet, (size_t)encoded.bytes, back, sizeof back);
+    expect_ok("text", named);
+    printf("%.*s takes %llu bytes\n", (int)named.bytes, (const char *)back, (unsigned long long)encoded.bytes);
+
+    free(block);
+    free(answers);
+    free(lines);
+    free(migrated);
+    return 0;
+}

@@ -1,0 +1,279 @@
+/* Calls each function with random bytes, with bytes of real blocks that are changed, and with every size of buffer, for as many seconds
+ * as the first argument says. Ends with 1 where an answer is none that the header names, or where a buffer changed that had to stay. */
+#include "kormaglen.h"
+
+#include <stdio.h>
+#include <stdlib.h>
+#include <string.h>
+#include <time.h>
+
+enum { LARGEST = 512, KEPT = 0xA5 };
+
+static const char SCHEMA[] =
+    "[{\"name\":\"s\",\"type\":\"text\",\"options\":{\"stored\":true}},"
+    "{\"name\":\"u\",\"type\":\"u64\",\"options\":{\"indexed\":false,\"stored\":true}},"
+    "{\"name\":\"i\",\"type\":\"i64\",\"options\":{\"indexed\":false,\"stored\":true}},"
+    "{\"name\":\"f\",\"type\":\"facet\",\"options\":{\"stored\":true}},"
+    "{\"name\":\"d\",\"type\":\"date\",\"options\":{\"indexed\":false,\"fieldnorms\":false,\"stored\":true}},"
+    "{\"name\":\"p\",\"type\":\"ip_addr\",\"options\":{\"indexed\":false,\"fieldnorms\":false,\"fast\":false,\"stored\":true}},"
+    "{\"name\":\"y\",\"type\":\"bytes\",\"options\":{\"indexed\":false,\"fast\":false,\"stored\":true}},"
+    "{\"name\":\"j\",\"type\":\"json_object\",\"options\":{\"stored\":true,\"fast\":false}}]";
+
+static const char *const LINES[] = {
+    "{\"s\":\"text\",\"u\":7,\"i\":-7}",
+    "{\"f\":\"/a/b\",\"d\":\"2019-10-12T07:20:50.52Z\",\"p\":\"::1\"}",
+    "{\"y\":\"AA==\",\"j\":{\"a\":[1,{\"b\":null}],\"c\":\"d\"}}",
+    "{\"s\":[\"x\",\"y\"],\"u\":[0,18446744073709551615]}",
+    "{}",
+};
+
+static uint64_t state = 0x9E3779B97F4A7C15u;
+enum { CALLS = 9 };
+
+static uint64_t calls[CALLS];
+static uint64_t accepted[CALLS];
+
+static uint64_t next_number(void) {
+    state ^= state << 13;
+    state ^= state >> 7;
+    state ^= state << 17;
+    return state;
+}
+
+static size_t below(size_t limit) {
+    return (size_t)(next_number() % limit);
+}
+
+static void fail(const char *why) {
+    fprintf(stderr, "%s\n", why);
+    exit(1);
+}
+
+/* An exact copy on the heap, so that a read or a write behind it is seen. */
+static uint8_t *copy_of(const uint8_t *bytes, size_t len) {
+    uint8_t *copy = malloc(len == 0 ? 1 : len);
+    if (copy == NULL) {
+        fail("no memory");
+    }
+    memcpy(copy, bytes, len);
+    return copy;
+}
+
+static size_t random_bytes(uint8_t *bytes) {
+    size_t len = below(64);
+    for (size_t i = 0; i < len; i++) {
+        bytes[i] = (uint8_t)(below(3) == 0 ? next_number() : below(16));
+    }
+    return len;
+}
+
+/* A valid text or block with some bytes changed, taken out or put in. */
+static size_t changed(uint8_t *bytes, size_t len) {
+    size_t times = below(4);
+    for (size_t i = 0; i < times && len > 0; i++) {
+        size_t at = below(len);
+        switch (below(3)) {
+        case 0:
+            bytes[at] = (uint8_t)next_number();
+            break;
+        case 1:
+            memmove(bytes + at, bytes + at + 1, len - at - 1);
+            len -= 1;
+            break;
+        default:
+            if (len < LARGEST) {
+                memmove(bytes + at + 1, bytes + at, len - at);
+                bytes[at] = (uint8_t)next_number();
+                len += 1;
+            }
+        }
+    }
+    return len;
+}
+
+/* What was written stands within the buffer, and after a refusal the buffer is as it was. */
+static void check(int call, kormaglen_answer answer, const uint8_t *buffer, size_t len) {
+    calls[call] += 1;
+    if (answer.status > KORMAGLEN_NO_END) {
+        fail("an unknown status");
+    }
+    size_t from = 0;
+    if (answer.status == KORMAGLEN_OK) {
+        accepted[call] += 1;
+        if (answer.bytes > len) {
+            fail("more bytes than there is room for");
+        }
+        from = (size_t)answer.bytes;
+    }
+    if (answer.status == KORMAGLEN_TOO_SMALL && answer.bytes <= len && answer.lines == 0) {
+        fail("a buffer that is large enough");
+    }
+    for (size_t i = from; i < len; i++) {
+        if (buffer[i] != KEPT) {
+            fail("a byte changed behind what was written");
+        }
+    }
+}
+
+static uint8_t *fresh(size_t len) {
+    uint8_t *buffer = malloc(len == 0 ? 1 : len);
+    if (buffer == NULL) {
+        fail("no memory");
+    }
+    memset(buffer, KEPT, len == 0 ? 1 : len);
+    return buffer;
+}
+
+static void import_once(void) {
+    uint8_t schema[2 * LARGEST + 1024], text[2 * LARGEST];
+    size_t schema_len = strlen(SCHEMA);
+    memcpy(schema, SCHEMA, schema_len);
+    if (below(4) == 0) {
+        schema_len = below(4) == 0 ? random_bytes(schema) : changed(schema, schema_len);
+    }
+    size_t text_len = 0;
+    size_t lines = below(4);
+    for (size_t i = 0; i < lines; i++) {
+        const char *line = LINES[below(sizeof LINES / sizeof *LINES)];
+        size_t line_len = strlen(line);
+        memcpy(text + text_len, line, line_len);
+        text_len += line_len;
+        text[text_len++] = '\n';
+    }
+    text_len = below(4) == 0 ? random_bytes(text) : changed(text, text_len);
+    size_t room = below(128), places = below(6);
+    uint8_t *s = copy_of(schema, schema_len), *t = copy_of(text, text_len), *block = fresh(room);
+    kormaglen_line_answer *answers = malloc((places + 1) * sizeof *answers);
+    if (answers == NULL) {
+        fail("no memory");
+    }
+    memset(answers, KEPT, (places + 1) * sizeof *answers);
+    kormaglen_answer answer = kormaglen_import_lines(s, schema_len, t, text_len, block, room, answers, places);
+    if (answer.status == KORMAGLEN_TOO_SMALL && answer.bytes <= room && answer.lines <= places) {
+        fail("both buffers are large enough");
+    }
+    check(0, answer, block, room);
+    uint64_t sum = 0;
+    for (uint64_t i = 0; answer.status == KORMAGLEN_OK && i < answer.lines; i++) {
+        sum += answers[i].bytes;
+        if (answers[i].status > KORMAGLEN_LINE_NO_ROOM) {
+            fail("an unknown status of a line");
+        }
+    }
+    if (answer.status == KORMAGLEN_OK && sum != answer.bytes) {
+        fail("the lines' bytes are not the block's");
+    }
+    free(s);
+    free(t);
+    free(block);
+    free(answers);
+}
+
+/* A block of some documents. */
+static size_t some_block(uint8_t *block) {
+    char text[LARGEST] = "";
+    size_t lines = 1 + below(3);
+    for (size_t i = 0; i < lines; i++) {
+        strcat(text, LINES[below(sizeof LINES / sizeof *LINES)]);
+        strcat(text, "\n");
+    }
+    kormaglen_line_answer answers[4];
+    kormaglen_answer answer = kormaglen_import_lines((const uint8_t *)SCHEMA, strlen(SCHEMA), (const uint8_t *)text,
+                                                     strlen(text), block, LARGEST, answers, 4);
+    if (answer.status != KORMAGLEN_OK) {
+        fail("a block of real lines is refused");
+    }
+    return (size_t)answer.bytes;
+}
+
+static void export_once(void) {
+    uint8_t block[2 * LARGEST];
+    size_t len = below(4) == 0 ? random_bytes(block) : changed(block, some_block(block));
+    size_t room = below(LARGEST);
+    uint8_t *b = copy_of(block, len), *lines = fresh(room);
+    check(1, kormaglen_export_block((const uint8_t *)SCHEMA, strlen(SCHEMA), (uint32_t)below(5), b, len, lines, room), lines, room);
+    free(b);
+    free(lines);
+}
+
+static void migrate_once(void) {
+    uint8_t block[2 * LARGEST];
+    size_t len = below(4) == 0 ? random_bytes(block) : changed(block, some_block(block));
+    size_t room = below(LARGEST);
+    uint8_t *b = copy_of(block, len), *migrated = fresh(room);
+    check(2, kormaglen_migrate_block((uint32_t)below(5), b, len, (uint32_t)below(5), migrated, room), migrated, room);
+    free(b);
+    free(migrated);
+}
+
+static void find_once(void) {
+    uint8_t path[LARGEST] = "j.a.b";
+    size_t len = below(3) == 0 ? random_bytes(path) : changed(path, 5);
+    uint8_t *p = copy_of(path, len), none[1] = {KEPT};
+    kormaglen_found_field found;
+    kormaglen_answer answer = kormaglen_find_field((const uint8_t *)SCHEMA, strlen(SCHEMA), p, len, &found);
+    if (answer.status == KORMAGLEN_OK && (found.field > 7 || found.rest > len)) {
+        fail("a field or a place that is none");
+    }
+    check(3, answer, none, 1);
+    free(p);
+}
+
+static void facet_once(int call) {
+    uint8_t bytes[LARGEST] = "/a\\/b/c";
+    size_t len = below(3) == 0 ? random_bytes(bytes) : changed(bytes, 7);
+    size_t room = below(16);
+    uint8_t *b = copy_of(bytes, len), *out = fresh(room);
+    check(call, call == 4 ? kormaglen_facet_of_text(b, len, out, room) : kormaglen_text_of_facet(b, len, out, room), out, room);
+    free(b);
+    free(out);
+}
+
+static void terms_once(void) {
+    uint8_t block[2 * LARGEST];
+    size_t len = below(4) == 0 ? random_bytes(block) : changed(block, some_block(block));
+    size_t room = below(LARGEST);
+    uint8_t *b = copy_of(block, len), *terms = fresh(room);
+    check(6, kormaglen_terms_of_block((uint32_t)below(9), (uint32_t)below(5), b, len, terms, room), terms, room);
+    free(b);
+    free(terms);
+}
+
+static void term_once(int call) {
+    uint8_t bytes[LARGEST] = "text\xc3\xa9";
+    size_t len = below(3) == 0 ? random_bytes(bytes) : changed(bytes, 6);
+    if (below(4) == 0) {
+        memset(bytes, 0xff, len);
+    }
+    size_t room = below(16);
+    uint8_t *b = copy_of(bytes, len), *out = fresh(room);
+    check(call, call == 7 ? kormaglen_term_of_text((uint32_t)next_number(), b, len, out, room) : kormaglen_end_of_prefix(b, len, out, room),
+          out, room);
+    free(b);
+    free(out);
+}
+
+int main(int count, char **words) {
+    long seconds = count > 1 ? atol(words[1]) : 60;
+    state ^= count > 2 ? strtoull(words[2], NULL, 10) : 0;
+    time_t end = time(NULL) + seconds;
+    while (time(NULL) < end) {
+        for (int i = 0; i < 100; i++) {
+            import_once();
+            export_once();
+            migrate_once();
+            find_once();
+            facet_once(4);
+            facet_once(5);
+            terms_once();
+            term_once(7);
+            term_once(8);
+        }
+    }
+    static const char *const NAMES[] = {"import_lines", "export_block", "migrate_block", "find_field", "facet_of_text", "text_of_facet",
+                                         "terms_of_block", "term_of_text", "end_of_prefix"};
+    for (int i = 0; i < CALLS; i++) {
+        printf("%-14s %10llu calls, %10llu accepted\n", NAMES[i], (unsigned long long)calls[i], (unsigned long long)accepted[i]);
+    }
+    return 0;
+}

@@ -1,0 +1,168 @@
+/* Kormaglen for C: schemas, stored documents and facets of tantivy 0.26.2, as calls over blocks of bytes.
+ *
+ * Each call is given its input as bytes and writes into buffers of the caller's. It keeps nothing, neither of the input nor from one
+ * call to the next, so all calls are safe from any thread. What it needs meanwhile it takes by malloc, and gives back before it returns.
+ *
+ * Who owns what: every buffer is the caller's. A pointer is never NULL, also where its length is 0, and two buffers of one call do not
+ * overlap, unless both are only read.
+ *
+ * Where a buffer is too small, nothing is written, and the answer says how many bytes are needed. So a call with a buffer of length 0 only
+ * asks for the size. After every other refusal the buffers are as they were, too.
+ *
+ * A block has documents one behind the other, as a block of a document store has them. A schema is its JSON, as tantivy writes it.
+ */
+#ifndef KORMAGLEN_H
+#define KORMAGLEN_H
+
+#include <stddef.h>
+#include <stdint.h>
+
+#ifdef __cplusplus
+extern "C" {
+#endif
+
+/* What a call answers: kormaglen_answer.status. */
+enum kormaglen_status {
+    KORMAGLEN_OK = 0,
+    KORMAGLEN_TOO_SMALL = 1,     /* a buffer is too small; bytes and lines say what is needed */
+    KORMAGLEN_NO_MEMORY = 2,     /* malloc gave nothing */
+    KORMAGLEN_NOT_UTF8 = 3,      /* a text is not UTF-8 */
+    KORMAGLEN_NOT_A_FACET = 4,   /* a facet's text begins with '/' */
+    KORMAGLEN_INVALID_JSON = 5,  /* the schema is not JSON */
+    KORMAGLEN_BAD_SCHEMA = 6,    /* the JSON describes no schema; detail says why, place names the entry from 1, or 0 for the whole */
+    KORMAGLEN_NO_FIELD = 7,      /* the path names no field */
+    KORMAGLEN_BAD_DOCUMENT = 8,  /* a document is refused; detail says why, place is where in the block it begins */
+    KORMAGLEN_WRONG_VERSION = 9, /* there is no such version of the store */
+    KORMAGLEN_NO_END = 10        /* no byte string is above all that begin with the prefix */
+};
+
+/* With KORMAGLEN_BAD_SCHEMA: kormaglen_answer.detail. */
+enum kormaglen_schema_detail {
+    KORMAGLEN_SCHEMA_BAD_NAME = 1,
+    KORMAGLEN_SCHEMA_SAME_NAME = 2,
+    KORMAGLEN_SCHEMA_TOO_MANY_FIELDS = 3,
+    KORMAGLEN_SCHEMA_BAD_ENTRY = 4,
+    KORMAGLEN_SCHEMA_FLOAT_FIELD = 5
+};
+
+/* With KORMAGLEN_BAD_DOCUMENT: kormaglen_answer.detail. */
+enum kormaglen_document_detail {
+    KORMAGLEN_DOCUMENT_UNEXPECTED_END = 1,
+    KORMAGLEN_DOCUMENT_UNKNOWN_TYPE = 2,
+    KORMAGLEN_DOCUMENT_UNKNOWN_EXTENSION = 3,
+    KORMAGLEN_DOCUMENT_FLOAT = 4,
+    KORMAGLEN_DOCUMENT_BAD_NUMBER = 5,
+    KORMAGLEN_DOCUMENT_BAD_BOOL = 6,
+    KORMAGLEN_DOCUMENT_NOT_UTF8 = 7,
+    KORMAGLEN_DOCUMENT_ODD_OBJECT = 8,
+    KORMAGLEN_DOCUMENT_DATE_RANGE = 9,
+    KORMAGLEN_DOCUMENT_OLD_JSON = 10,
+    KORMAGLEN_DOCUMENT_OLD_FLOAT = 11,
+    KORMAGLEN_DOCUMENT_KEY_NO_TEXT = 12,
+    KORMAGLEN_DOCUMENT_NO_ROOM = 13
+};
+
+/* What became of a line: kormaglen_line_answer.status. */
+enum kormaglen_line_status {
+    KORMAGLEN_LINE_STORED = 0,
+    KORMAGLEN_LINE_INVALID_JSON = 1, /* it is no JSON object */
+    KORMAGLEN_LINE_OVERFLOW = 2,     /* a number does not fit the field's type */
+    KORMAGLEN_LINE_WRONG_TYPE = 3,   /* a value is of another kind than the field's */
+    KORMAGLEN_LINE_BAD_TEXT = 4,     /* a text is no date, address or facet */
+    KORMAGLEN_LINE_BAD_BASE64 = 5,
+    KORMAGLEN_LINE_FLOAT = 6,        /* a number is not whole, or does not fit 64 bits */
+    KORMAGLEN_LINE_NO_ROOM = 7       /* the values need more than 4294967295 bytes */
+};
+
+typedef struct kormaglen_answer {
+    uint32_t status; /* of kormaglen_status */
+    uint32_t detail;
+    uint64_t place;
+    uint64_t bytes; /* how many bytes were written, or are needed */
+    uint64_t lines; /* how many answers of lines were written, or are needed */
+} kormaglen_answer;
+
+typedef struct kormaglen_line_answer {
+    uint32_t status; /* of kormaglen_line_status */
+    uint64_t bytes;  /* how many bytes its document takes in the block */
+} kormaglen_line_answer;
+
+typedef struct kormaglen_found_field {
+    uint32_t field; /* the field's number */
+    uint64_t rest;  /* where the rest of the path begins: the path into the field's JSON objects */
+} kormaglen_found_field;
+
+/* Stores the documents of lines of JSON, one behind the other in version 2, and answers each line. A line ends at a line feed, and the last
+ * may lack it. A line that is refused stores nothing, and the next line follows. bytes is the block's size, lines the number of answers.
+ * Refusals: TOO_SMALL, NO_MEMORY, INVALID_JSON, BAD_SCHEMA. */
+kormaglen_answer kormaglen_import_lines(
+    const uint8_t *schema, size_t schema_len,
+    const uint8_t *lines, size_t lines_len,
+    uint8_t *block, size_t block_len,
+    kormaglen_line_answer *answers, size_t answers_len);
+
+/* Writes the documents of a block, of version 1, 2 or 3, as lines of JSON with the names of the schema's fields, each with a line feed.
+ * Refusals: TOO_SMALL, NO_MEMORY, INVALID_JSON, BAD_SCHEMA, BAD_DOCUMENT, WRONG_VERSION. */
+kormaglen_answer kormaglen_export_block(
+    const uint8_t *schema, size_t schema_len,
+    uint32_t version,
+    const uint8_t *block, size_t block_len,
+    uint8_t *lines, size_t lines_len);
+
+/* Writes the documents of a block, of version 1, 2 or 3, in version 2 or 3.
+ * Refusals: TOO_SMALL, NO_MEMORY, BAD_DOCUMENT, WRONG_VERSION. */
+kormaglen_answer kormaglen_migrate_block(
+    uint32_t from,
+    const uint8_t *block, size_t block_len,
+    uint32_t to,
+    uint8_t *migrated, size_t migrated_len);
+
+/* Finds the field that a path of a query names, as author.name: the field of the whole path, or of the part before the last dot
+ * that names one. found is 0 and 0 where there is none. bytes is 0.
+ * Refusals: NO_MEMORY, INVALID_JSON, BAD_SCHEMA, NOT_UTF8, NO_FIELD. */
+kormaglen_answer kormaglen_find_field(
+    const uint8_t *schema, size_t schema_len,
+    const uint8_t *path, size_t path_len,
+    kormaglen_found_field *found);
+
+/* Writes the encoded facet that a text as /first/second names: the steps with a zero byte between each two of them.
+ * Refusals: TOO_SMALL, NO_MEMORY, NOT_UTF8, NOT_A_FACET. */
+kormaglen_answer kormaglen_facet_of_text(
+    const uint8_t *text, size_t text_len,
+    uint8_t *encoded, size_t encoded_len);
+
+/* Writes the text that names an encoded facet.
+ * Refusals: TOO_SMALL, NO_MEMORY, NOT_UTF8. */
+kormaglen_answer kormaglen_text_of_facet(
+    const uint8_t *encoded, size_t encoded_len,
+    uint8_t *text, size_t text_len);
+
+/* Writes the terms of a field's values in the documents of a block, of version 1, 2 or 3, in their order: for each the number of its document,
+ * from 0, and the term's length, both in eight bytes, the lowest first, and the term. Terms are compared as their bytes, by memcmp and then
+ * by length, and so by field, then by type, then by value. A date is cut to the second, as it is indexed, and a text is whole.
+ * Refusals: TOO_SMALL, NO_MEMORY, BAD_DOCUMENT, WRONG_VERSION. */
+kormaglen_answer kormaglen_terms_of_block(
+    uint32_t field,
+    uint32_t version,
+    const uint8_t *block, size_t block_len,
+    uint8_t *terms, size_t terms_len);
+
+/* Writes the term of a text. The terms of all texts that begin with it begin with this term.
+ * Refusals: TOO_SMALL, NO_MEMORY, NOT_UTF8. */
+kormaglen_answer kormaglen_term_of_text(
+    uint32_t field,
+    const uint8_t *text, size_t text_len,
+    uint8_t *term, size_t term_len);
+
+/* Writes the least byte string above all that begin with a prefix: the terms that begin with it are those from the prefix on and below
+ * what is written.
+ * Refusals: TOO_SMALL, NO_MEMORY, NO_END. */
+kormaglen_answer kormaglen_end_of_prefix(
+    const uint8_t *prefix, size_t prefix_len,
+    uint8_t *end, size_t end_len);
+
+#ifdef __cplusplus
+}
+#endif
+
+#endif

@@ -1,0 +1,43 @@
+"""Imports lines of JSON into a block of stored documents, reads them back, sorts the terms of a field and finds those of a range, and finds a
+field and a facet."""
+
+import json
+
+import kormaglen
+
+SCHEMA = json.dumps(
+    [
+        {"name": "name", "type": "text", "options": {"stored": True}},
+        {"name": "age", "type": "u64", "options": {"indexed": True, "stored": True}},
+        {"name": "group", "type": "facet", "options": {"stored": True}},
+        {"name": "more", "type": "json_object", "options": {"stored": True, "fast": False}},
+    ]
+).encode()
+
+LINES = b"""{"name":"Ada","age":36,"group":"/staff/research"}
+{"name":"Bob","age":"old"}
+{"name":["Alan","Adam"]}
+{"name":"Cleo","age":7,"more":{"tags":["new",true]}}
+"""
+
+
+def main() -> None:
+    imported = kormaglen.import_lines(SCHEMA, LINES)
+    for number, line in enumerate(imported.lines, 1):
+        print(f"line {number}: {line.status}, {line.bytes} bytes")
+    print(kormaglen.export_block(SCHEMA, 2, imported.block).decode(), end="")
+    start = kormaglen.term_of_text(0, "Ad")
+    end = kormaglen.end_of_prefix(start)
+    for term, document in sorted((term, document) for document, term in kormaglen.terms_of_block(0, 2, imported.block)):
+        if start <= term < end:
+            print(f"document {document}: {term[5:].decode()}")
+    migrated = kormaglen.migrate_block(2, imported.block, 3)
+    print(f"version 2 takes {len(imported.block)} bytes, version 3 {len(migrated)}")
+    field, rest = kormaglen.find_field(SCHEMA, "more.tags")
+    print(f"field {field}, path {rest}")
+    encoded = kormaglen.facet_of_text("/staff/research")
+    print(f"{kormaglen.text_of_facet(encoded)} takes {len(encoded)} bytes")
+
+
+if __name__ == "__main__":
+    main()

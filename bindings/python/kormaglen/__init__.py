@@ -1,0 +1,199 @@
+"""Schemas, stored documents and facets of tantivy 0.26.2, by calls over blocks of bytes. Each call is one of the proved library's.
+
+>>> schema = b'[{"name":"name","type":"text","options":{"stored":true}}]'
+>>> imported = import_lines(schema, b'{"name":"Ada"}\\n')
+>>> imported.lines
+[LineAnswer(status='stored', bytes=11)]
+>>> export_block(schema, 2, imported.block)
+b'{"name":["Ada"]}\\n'
+"""
+
+import ctypes
+import os
+from typing import List, NamedTuple, Tuple
+
+__all__ = [
+    "Imported",
+    "LineAnswer",
+    "Refused",
+    "end_of_prefix",
+    "export_block",
+    "facet_of_text",
+    "find_field",
+    "import_lines",
+    "migrate_block",
+    "term_of_text",
+    "terms_of_block",
+    "text_of_facet",
+]
+
+_OK = 0
+_TOO_SMALL = 1
+
+_REFUSALS = {
+    2: "no memory",
+    3: "not UTF-8",
+    4: "not a facet",
+    5: "invalid JSON",
+    6: "bad schema",
+    7: "no field",
+    8: "bad document",
+    9: "wrong version",
+    10: "no end",
+}
+
+_LINES = ["stored", "invalid JSON", "overflow", "wrong type", "bad text", "bad base64", "float", "no room"]
+
+
+class Refused(Exception):
+    """A call was refused: `status` and `detail` are the numbers of kormaglen.h, `place` says where."""
+
+    def __init__(self, status: int, detail: int, place: int):
+        super().__init__(f"{_REFUSALS.get(status, 'unknown status')} (status {status}, detail {detail}, place {place})")
+        self.status = status
+        self.detail = detail
+        self.place = place
+
+
+class LineAnswer(NamedTuple):
+    """What became of a line, and how many bytes its document takes in the block."""
+
+    status: str
+    bytes: int
+
+
+class Imported(NamedTuple):
+    """A block of stored documents in version 2, and an answer for each line."""
+
+    block: bytes
+    lines: List[LineAnswer]
+
+
+class _Answer(ctypes.Structure):
+    _fields_ = [
+        ("status", ctypes.c_uint32),
+        ("detail", ctypes.c_uint32),
+        ("place", ctypes.c_uint64),
+        ("bytes", ctypes.c_uint64),
+        ("lines", ctypes.c_uint64),
+    ]
+
+
+class _LineAnswer(ctypes.Structure):
+    _fields_ = [("status", ctypes.c_uint32), ("bytes", ctypes.c_uint64)]
+
+
+class _FoundField(ctypes.Structure):
+    _fields_ = [("field", ctypes.c_uint32), ("rest", ctypes.c_uint64)]
+
+
+def _library() -> ctypes.CDLL:
+    beside = os.path.join(os.path.dirname(os.path.abspath(__file__)), "libkormaglen.so")
+    library = ctypes.CDLL(os.environ.get("KORMAGLEN_SO", beside))
+    given = [ctypes.c_char_p, ctypes.c_size_t]
+    written = [ctypes.c_void_p, ctypes.c_size_t]
+    signatures = {
+        "import_lines": given + given + written + written,
+        "export_block": given + [ctypes.c_uint32] + given + written,
+        "migrate_block": [ctypes.c_uint32] + given + [ctypes.c_uint32] + written,
+        "find_field": given + given + [ctypes.POINTER(_FoundField)],
+        "facet_of_text": given + written,
+        "text_of_facet": given + written,
+        "terms_of_block": [ctypes.c_uint32, ctypes.c_uint32] + given + written,
+        "term_of_text": [ctypes.c_uint32] + given + written,
+        "end_of_prefix": given + written,
+    }
+    for name, arguments in signatures.items():
+        call = getattr(library, "kormaglen_" + name)
+        call.argtypes = arguments
+        call.restype = _Answer
+    return library
+
+
+_CALLS = _library()
+
+
+def _refused(answer: _Answer) -> Refused:
+    return Refused(answer.status, answer.detail, answer.place)
+
+
+def _filled(first: int, call) -> bytes:
+    """Calls with a buffer of the first size, and again with one of the size that is needed where that was too small."""
+    size = first
+    while True:
+        buffer = ctypes.create_string_buffer(max(size, 1))
+        answer = call(buffer, size)
+        if answer.status == _OK:
+            return buffer.raw[: answer.bytes]
+        if answer.status != _TOO_SMALL:
+            raise _refused(answer)
+        size = answer.bytes
+
+
+def import_lines(schema: bytes, lines: bytes) -> Imported:
+    """Stores the documents of lines of JSON, one behind the other in version 2, and answers each line. The schema is its JSON."""
+    size, count = len(lines), lines.count(b"\n") + 1
+    while True:
+        block = ctypes.create_string_buffer(max(size, 1))
+        answers = (_LineAnswer * max(count, 1))()
+        answer = _CALLS.kormaglen_import_lines(schema, len(schema), lines, len(lines), block, size, answers, count)
+        if answer.status == _OK:
+            said = [LineAnswer(_LINES[a.status], a.bytes) for a in answers[: answer.lines]]
+            return Imported(block.raw[: answer.bytes], said)
+        if answer.status != _TOO_SMALL:
+            raise _refused(answer)
+        size, count = max(size, answer.bytes), max(count, answer.lines)
+
+
+def export_block(schema: bytes, version: int, block: bytes) -> bytes:
+    """The documents of a block, of version 1, 2 or 3, as lines of JSON with the names of the schema's fields."""
+    return _filled(2 * len(block), lambda lines, size: _CALLS.kormaglen_export_block(schema, len(schema), version, block, len(block), lines, size))
+
+
+def migrate_block(source: int, block: bytes, target: int) -> bytes:
+    """The documents of a block, of version 1, 2 or 3, in version 2 or 3."""
+    return _filled(len(block), lambda out, size: _CALLS.kormaglen_migrate_block(source, block, len(block), target, out, size))
+
+
+def find_field(schema: bytes, path: str) -> Tuple[int, str]:
+    """The number of the field that a path of a query names, and the rest of the path."""
+    found = _FoundField()
+    encoded = path.encode()
+    answer = _CALLS.kormaglen_find_field(schema, len(schema), encoded, len(encoded), ctypes.byref(found))
+    if answer.status != _OK:
+        raise _refused(answer)
+    return found.field, encoded[found.rest :].decode()
+
+
+def facet_of_text(text: str) -> bytes:
+    """The encoded facet that a text as `/first/second` names."""
+    encoded = text.encode()
+    return _filled(len(encoded), lambda out, size: _CALLS.kormaglen_facet_of_text(encoded, len(encoded), out, size))
+
+
+def text_of_facet(encoded: bytes) -> str:
+    """The text that names an encoded facet."""
+    return _filled(2 * len(encoded) + 1, lambda out, size: _CALLS.kormaglen_text_of_facet(encoded, len(encoded), out, size)).decode()
+
+
+def terms_of_block(field: int, version: int, block: bytes) -> List[Tuple[int, bytes]]:
+    """The terms of a field's values in the documents of a block, of version 1, 2 or 3, each behind the number of its document. Terms are
+    compared as their bytes, and so by field, then by type, then by value."""
+    records = _filled(4 * len(block), lambda out, size: _CALLS.kormaglen_terms_of_block(field, version, block, len(block), out, size))
+    terms, at = [], 0
+    while at < len(records):
+        end = at + 16 + int.from_bytes(records[at + 8 : at + 16], "little")
+        terms.append((int.from_bytes(records[at : at + 8], "little"), records[at + 16 : end]))
+        at = end
+    return terms
+
+
+def term_of_text(field: int, text: str) -> bytes:
+    """The term of a text. The terms of all texts that begin with it begin with this term."""
+    encoded = text.encode()
+    return _filled(len(encoded) + 5, lambda out, size: _CALLS.kormaglen_term_of_text(field, encoded, len(encoded), out, size))
+
+
+def end_of_prefix(prefix: bytes) -> bytes:
+    """The least byte string above all that begin with a prefix: the terms that begin with it are those from the prefix on and below this."""
+    return _filled(len(prefix), lambda out, size: _CALLS.kormaglen_end_of_prefix(prefix, len(prefix), out, size))

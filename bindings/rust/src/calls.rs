@@ -1,0 +1,148 @@
+//! The calls of the library, each with slices. This is the one module with `unsafe` code: a slice's pointer is never null, and two that are
+//! lent to one call don't overlap where one of them is written.
+
+/// What a call answers.
+#[repr(C)]
+#[derive(Clone, Copy, Debug)]
+pub struct Answer {
+    pub status: u32,
+    pub detail: u32,
+    pub place: u64,
+    pub bytes: u64,
+    pub lines: u64,
+}
+
+/// What became of a line.
+#[repr(C)]
+#[derive(Clone, Copy, Debug, Default)]
+pub struct LineAnswer {
+    pub status: u32,
+    pub bytes: u64,
+}
+
+/// What was found of a path.
+#[repr(C)]
+#[derive(Clone, Copy, Debug, Default)]
+pub struct FoundField {
+    pub field: u32,
+    pub rest: u64,
+}
+
+mod c {
+    use super::{Answer, FoundField, LineAnswer};
+
+    extern "C" {
+        pub fn kormaglen_import_lines(
+            schema: *const u8,
+            schema_len: usize,
+            lines: *const u8,
+            lines_len: usize,
+            block: *mut u8,
+            block_len: usize,
+            answers: *mut LineAnswer,
+            answers_len: usize,
+        ) -> Answer;
+        pub fn kormaglen_export_block(
+            schema: *const u8,
+            schema_len: usize,
+            version: u32,
+            block: *const u8,
+            block_len: usize,
+            lines: *mut u8,
+            lines_len: usize,
+        ) -> Answer;
+        pub fn kormaglen_migrate_block(
+            from: u32,
+            block: *const u8,
+            block_len: usize,
+            to: u32,
+            migrated: *mut u8,
+            migrated_len: usize,
+        ) -> Answer;
+        pub fn kormaglen_find_field(
+            schema: *const u8,
+            schema_len: usize,
+            path: *const u8,
+            path_len: usize,
+            found: *mut FoundField,
+        ) -> Answer;
+        pub fn kormaglen_facet_of_text(text: *const u8, text_len: usize, encoded: *mut u8, encoded_len: usize) -> Answer;
+        pub fn kormaglen_text_of_facet(encoded: *const u8, encoded_len: usize, text: *mut u8, text_len: usize) -> Answer;
+        pub fn kormaglen_terms_of_block(
+            field: u32,
+            version: u32,
+            block: *const u8,
+            block_len: usize,
+            terms: *mut u8,
+            terms_len: usize,
+        ) -> Answer;
+        pub fn kormaglen_term_of_text(field: u32, text: *const u8, text_len: usize, term: *mut u8, term_len: usize) -> Answer;
+        pub fn kormaglen_end_of_prefix(prefix: *const u8, prefix_len: usize, end: *mut u8, end_len: usize) -> Answer;
+    }
+}
+
+pub fn import_lines(schema: &[u8], lines: &[u8], block: &mut [u8], answers: &mut [LineAnswer]) -> Answer {
+    // SAFETY: all four are slices, and those that are written overlap no other.
+    unsafe {
+        c::kormaglen_import_lines(
+            schema.as_ptr(),
+            schema.len(),
+            lines.as_ptr(),
+            lines.len(),
+            block.as_mut_ptr(),
+            block.len(),
+            answers.as_mut_ptr(),
+            answers.len(),
+        )
+    }
+}
+
+pub fn export_block(schema: &[u8], version: u32, block: &[u8], lines: &mut [u8]) -> Answer {
+    // SAFETY: all three are slices, and the one that is written overlaps no other.
+    unsafe {
+        c::kormaglen_export_block(
+            schema.as_ptr(),
+            schema.len(),
+            version,
+            block.as_ptr(),
+            block.len(),
+            lines.as_mut_ptr(),
+            lines.len(),
+        )
+    }
+}
+
+pub fn migrate_block(from: u32, block: &[u8], to: u32, migrated: &mut [u8]) -> Answer {
+    // SAFETY: both are slices, and they don't overlap.
+    unsafe { c::kormaglen_migrate_block(from, block.as_ptr(), block.len(), to, migrated.as_mut_ptr(), migrated.len()) }
+}
+
+pub fn find_field(schema: &[u8], path: &[u8], found: &mut FoundField) -> Answer {
+    // SAFETY: the slices are read, and `found` is written.
+    unsafe { c::kormaglen_find_field(schema.as_ptr(), schema.len(), path.as_ptr(), path.len(), found) }
+}
+
+pub fn facet_of_text(text: &[u8], encoded: &mut [u8]) -> Answer {
+    // SAFETY: both are slices, and they don't overlap.
+    unsafe { c::kormaglen_facet_of_text(text.as_ptr(), text.len(), encoded.as_mut_ptr(), encoded.len()) }
+}
+
+pub fn text_of_facet(encoded: &[u8], text: &mut [u8]) -> Answer {
+    // SAFETY: both are slices, and they don't overlap.
+    unsafe { c::kormaglen_text_of_facet(encoded.as_ptr(), encoded.len(), text.as_mut_ptr(), text.len()) }
+}
+
+pub fn terms_of_block(field: u32, version: u32, block: &[u8], terms: &mut [u8]) -> Answer {
+    // SAFETY: both are slices, and they don't overlap.
+    unsafe { c::kormaglen_terms_of_block(field, version, block.as_ptr(), block.len(), terms.as_mut_ptr(), terms.len()) }
+}
+
+pub fn term_of_text(field: u32, text: &[u8], term: &mut [u8]) -> Answer {
+    // SAFETY: both are slices, and they don't overlap.
+    unsafe { c::kormaglen_term_of_text(field, text.as_ptr(), text.len(), term.as_mut_ptr(), term.len()) }
+}
+
+pub fn end_of_prefix(prefix: &[u8], end: &mut [u8]) -> Answer {
+    // SAFETY: both are slices, and they don't overlap.
+    unsafe { c::kormaglen_end_of_prefix(prefix.as_ptr(), prefix.len(), end.as_mut_ptr(), end.len()) }
+}

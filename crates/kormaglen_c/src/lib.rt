@@ -1,0 +1,179 @@
+//! Calls for C, over blocks of bytes: each is one of `tv_blocks`, and its contract is said of the numbers that it answers. A slice is a
+//! pointer, which is never null, and a length. No call keeps anything, so all are safe from any thread.
+#![tactic(auto)]
+
+ghost use Rattle.std.specs.Prelude.{◌≡◌, Some, IsUtf8, MatchOption};
+ghost use Rattle.tv_base.specs.Facet.{parse, printed};
+ghost use Rattle.tv_blocks.specs.Blocks.{IsExported, IsMigrated};
+ghost use Rattle.tv_blocks.specs.Refusals.{IsBlockRefusal, IsExportRefusal};
+ghost use Rattle.tv_blocks.specs.Refusals.{IsFacetRefusal, IsTextRefusal};
+ghost use Rattle.tv_blocks.specs.Terms.{IsEnd, IsEndRefusal, IsTermList, IsTextTerm};
+ghost use Rattle.kormaglen_c.specs.Answers.{AnswersFill, AnswersFound, AnswersImport};
+ghost use Rattle.kormaglen_c.specs.Answers.{IsWrongVersion, write_numbered};
+ghost use Rattle.tv_format.specs.WriteVersion.{written_version};
+ghost use Rattle.tv_reader.specs.Version.{numbered, version_of};
+
+use std::alloc::Global;
+use tv_blocks::status::{Answer, error_answer, import_answer, written_answer, wrong_version};
+use tv_blocks::{FoundField, LineAnswer};
+use tv_format::version::WriteVersion;
+use tv_store::DocStoreVersion;
+
+// What is found of a path, or nothing.
+const NOTHING_FOUND: FoundField = FoundField { field: 0, rest: 0 };
+
+/// Writes the encoded facet that a text names, see `tv_blocks::facet_of_text`.
+#[unsafe(no_mangle)]
+pub extern "C" fn kormaglen_facet_of_text(alloc: Global, text: &[u8], encoded: &mut [u8]) -> Answer
+    ensures { AnswersFill (λ content. IsUtf8 text.now × (parse text.now ≡ Some content))
+        (IsFacetRefusal text.now) encoded.old encoded.new result }
+{
+    written_answer(tv_blocks::facet_of_text(alloc, text, encoded))
+}
+
+/// Writes the text that names an encoded facet, see `tv_blocks::text_of_facet`.
+#[unsafe(no_mangle)]
+pub extern "C" fn kormaglen_text_of_facet(alloc: Global, encoded: &[u8], text: &mut [u8]) -> Answer
+    ensures { AnswersFill (λ content. IsUtf8 encoded.now × (content ≡ printed encoded.now))
+        (IsTextRefusal encoded.now) text.old text.new result }
+{
+    written_answer(tv_blocks::text_of_facet(alloc, encoded, text))
+}
+
+/// Finds the field that a path names, see `tv_blocks::find_field`, and puts it into `found`: 0 and 0 where there is none.
+#[unsafe(no_mangle)]
+pub extern "C" fn kormaglen_find_field(
+    alloc: Global,
+    schema: &[u8],
+    path: &[u8],
+    found: &mut FoundField,
+) -> Answer
+    ensures { AnswersFound schema.now path.now found.new result }
+{
+    match tv_blocks::find_field(alloc, schema, path) {
+        Ok(field) => {
+            *found = field;
+            written_answer(Ok(0))
+        }
+        Err(error) => {
+            *found = NOTHING_FOUND;
+            error_answer(error)
+        }
+    }
+}
+
+/// Stores documents of lines of JSON and answers each line, see `tv_blocks::import_lines`.
+#[unsafe(no_mangle)]
+pub extern "C" fn kormaglen_import_lines(
+    alloc: Global,
+    schema: &[u8],
+    lines: &[u8],
+    block: &mut [u8],
+    answers: &mut [LineAnswer],
+) -> Answer
+    ensures { AnswersImport schema.now lines.now block.old block.new answers.old answers.new
+        result }
+{
+    import_answer(tv_blocks::import_lines(alloc, schema, lines, block, answers))
+}
+
+/// Writes the documents of a block as lines of JSON, see `tv_blocks::export_block`. The version is 1, 2 or 3.
+#[unsafe(no_mangle)]
+pub extern "C" fn kormaglen_export_block(
+    alloc: Global,
+    schema: &[u8],
+    version: u32,
+    block: &[u8],
+    lines: &mut [u8],
+) -> Answer
+    ensures { MatchOption (numbered version) (IsWrongVersion lines.old lines.new result)
+        (λ v. AnswersFill (IsExported schema.now (version_of v) block.now)
+        (IsExportRefusal schema.now (version_of v) block.now) lines.old lines.new result) }
+{
+    match DocStoreVersion::from_u32(version) {
+        Ok(version) => written_answer(tv_blocks::export_block(
+            alloc, schema, version, block, lines,
+        )),
+        Err(_) => wrong_version(),
+    }
+}
+
+// The version of this number, in which documents are written.
+fn write_version(number: u32) -> Option<WriteVersion>
+    ensures { result ≡ write_numbered number }
+{
+    match number {
+        2 => Some(WriteVersion::V2),
+        3 => Some(WriteVersion::V3),
+        _ => None,
+    }
+}
+
+/// Writes the documents of a block in another version, see `tv_blocks::migrate_block`. The versions are 1, 2 or 3, and 2 or 3.
+#[unsafe(no_mangle)]
+pub extern "C" fn kormaglen_migrate_block(
+    alloc: Global,
+    from: u32,
+    block: &[u8],
+    to: u32,
+    migrated: &mut [u8],
+) -> Answer
+    ensures { MatchOption (numbered from) (IsWrongVersion migrated.old migrated.new result)
+        (λ v. MatchOption (write_numbered to) (IsWrongVersion migrated.old migrated.new result)
+        (λ w. AnswersFill (IsMigrated (version_of v) (written_version w) block.now)
+        (IsBlockRefusal (version_of v) block.now) migrated.old migrated.new result)) }
+{
+    match (DocStoreVersion::from_u32(from), write_version(to)) {
+        (Ok(from), Some(to)) => {
+            written_answer(tv_blocks::migrate_block(alloc, from, block, to, migrated))
+        }
+        _ => wrong_version(),
+    }
+}
+
+/// Writes the terms of a field's values in a block, see `tv_blocks::terms_of_block`. The version is 1, 2 or 3.
+#[unsafe(no_mangle)]
+pub extern "C" fn kormaglen_terms_of_block(
+    alloc: Global,
+    field: u32,
+    version: u32,
+    block: &[u8],
+    terms: &mut [u8],
+) -> Answer
+    ensures { MatchOption (numbered version) (IsWrongVersion terms.old terms.new result)
+        (λ v. AnswersFill (IsTermList (version_of v) field block.now)
+        (IsBlockRefusal (version_of v) block.now) terms.old terms.new result) }
+{
+    match DocStoreVersion::from_u32(version) {
+        Ok(version) => written_answer(tv_blocks::terms_of_block(
+            alloc, field, version, block, terms,
+        )),
+        Err(_) => wrong_version(),
+    }
+}
+
+/// Writes the term of a text, see `tv_blocks::term_of_text`.
+#[unsafe(no_mangle)]
+pub extern "C" fn kormaglen_term_of_text(
+    alloc: Global,
+    field: u32,
+    text: &[u8],
+    term: &mut [u8],
+) -> Answer
+    ensures { AnswersFill (IsTextTerm field text.now) (IsTextRefusal text.now) term.old term.new
+        result }
+{
+    written_answer(tv_blocks::term_of_text(alloc, field, text, term))
+}
+
+/// Writes the least byte string above all that begin with a prefix, see `tv_blocks::end_of_prefix`.
+#[unsafe(no_mangle)]
+pub extern "C" fn kormaglen_end_of_prefix(
+    alloc: Global,
+    prefix: &[u8],
+    end: &mut [u8],
+) -> Answer
+    ensures { AnswersFill (IsEnd prefix.now) (IsEndRefusal prefix.now) end.old end.new result }
+{
+    written_answer(tv_blocks::end_of_prefix(alloc, prefix, end))
+}

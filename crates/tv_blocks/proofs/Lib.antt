@@ -1,0 +1,5 @@
+pub mod Filling
+pub mod Schemas
+pub mod Suffixes
+pub mod Blocks
+pub mod Importing

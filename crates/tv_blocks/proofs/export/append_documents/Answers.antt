@@ -1,0 +1,39 @@
+use Rattle.std.proofs.Common.{◌≡◌, ℕ, ◌-◌, ◌^◌, ◌<◌, List, length, Ok, Err, refl, sym, subst, ap, ◌∙◌, arith}
+use Rattle.tv_blocks.specs.Blocks.{AppendsLine, IsRefusedBlock, PrintedSoFar}
+use Rattle.tv_doc.specs.Document.{document_of}
+use Rattle.tv_reader.specs.Version.{version_of}
+use Rattle.tv_reader.specs.declared.version.DocStoreVersion.{DocStoreVersion}
+use Rattle.tv_store.specs.Documents.{BeginsWith, NoDocument, HasNoRoom}
+use Rattle.tv_blocks.proofs.Blocks.{breaks, no_more_left, printed_more, printed_none, rest_at}
+use Rattle.tv_blocks.proofs.export.append_documents.Goals as goal
+
+pub loop-reader-init : goal.loop-reader-init
+loop-reader-init c = record {
+  live = c.new-reader.ensures.live;
+  version = c.new-reader.ensures.version;
+  so_far = subst (λ (l : List ℕ). PrintedSoFar c.args.schema.now (version_of c.args.version) c.args.block.now l c.args.text.now.items) (sym c.new-source.ensures)
+      (printed_none c.args.schema.now (version_of c.args.version) c.args.block.now c.args.text.now.items c.requires);
+}
+
+pub loop-reader-preserved : goal.loop-reader-preserved
+loop-reader-preserved c =
+    let i = c.loop-reader.invariant in
+    let found = c.advance.ensures.found tt (c.in-Ok-true.is ∙ ap Ok c.in-Ok-true.field-0-test) in
+    record {
+      live = c.in-Ok-true.ensures.live;
+      version = c.advance.ensures.version ∙ i.version;
+      so_far = printed_more i.so_far (subst (λ (w : DocStoreVersion). BeginsWith (version_of w) c.loop-reader.source.rest.now c.advance.new.source.rest.now (document_of c.advance.new.self.document)) i.version found)
+          (subst (λ d. AppendsLine c.args.schema.now (document_of d) c.loop-reader.text.items c.append_line.new.text.items) c.document.ensures c.in_ok-append_line-in-Ok-true.ensures);
+    }
+
+pub returns-in-Err-clause-err : goal.returns-in-Err-clause-err
+returns-in-Err-clause-err c =
+    let i = c.loop-reader.invariant in
+    let m = i.so_far in
+    let v = version_of c.args.version in
+    let rest = c.loop-reader.source.rest.now in
+    let known : length rest < 2 ^ 64 - 1 = no_more_left c.args.block.now m.before rest m.joined (omega arith) in
+    subst (IsRefusedBlock v c.args.block.now) (sym c.unread.ensures)
+    (breaks v c.args.block.now m.before rest m.documents _ c.in-Err.error m.joined (ap (λ n. length c.args.block.now - n) (ap length c.rest.ensures) ∙ rest_at c.args.block.now m.before rest m.joined) m.encoded
+    (λ r refusal. subst (λ (w : DocStoreVersion). NoDocument (version_of w) rest r) i.version (c.in-Err.ensures.error (tt, known) c.in-Err.error r refl refusal))
+    (λ full. subst (λ (w : DocStoreVersion). HasNoRoom (version_of w) rest) i.version (c.in-Err.ensures.full tt (ap Err full))) (c.in-Err.ensures.errors i.live))

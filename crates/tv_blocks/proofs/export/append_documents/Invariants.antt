@@ -1,0 +1,14 @@
+use Rattle.std.proofs.Common.{◌≡◌, false, length}
+use Rattle.tv_blocks.specs.Blocks.{PrintedSoFar}
+use Rattle.tv_reader.specs.Version.{version_of}
+use Rattle.tv_blocks.proofs.export.append_documents.Given as goal
+
+abbrev pub invariant-loop-reader : goal.invariant-loop-reader
+invariant-loop-reader l = record {
+  live : l.reader.failed ≡ false;
+  version : l.reader.version ≡ l.fn.version;
+  so_far : PrintedSoFar l.schema (version_of l.fn.version) l.block l.source.rest.now l.text.items;
+}
+
+abbrev pub decreases-loop-reader : goal.decreases-loop-reader
+decreases-loop-reader l = length l.source.rest.now

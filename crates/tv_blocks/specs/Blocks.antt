@@ -1,0 +1,62 @@
+-- Blocks of documents that stand one behind the other, written in another version or printed.
+use Rattle.std.specs.Prelude.{◌≡◌, ℕ, List, [], ◌∷◌, ◌++◌}
+use Rattle.std.specs.List.{flat_map}
+use Rattle.tv_blocks.specs.Refusals.{EncodesBlock, IsBlockRefusal}
+use Rattle.tv_blocks.specs.declared.block_error.BlockError.{BlockError}
+use Rattle.tv_blocks.specs.declared.block_error.BlockError.TheVariants as errors
+use Rattle.tv_doc.specs.Named.{IsJsonText, field_names}
+use Rattle.tv_field.specs.Entry.{Entry}
+use Rattle.tv_format.specs.Short.{short_document}
+use Rattle.tv_format.specs.Tree.{Document}
+use Rattle.tv_format.specs.Version.{Version}
+use Rattle.tv_lines.specs.Answers.{ReadsSchema}
+
+-- The block encodes documents in the one version, and these are their shortest encodings in the other.
+pub record IsMigrated (from to : Version) (block content : List ℕ) : Type 0 where
+  pub documents : List Document
+  pub encoded : EncodesBlock from block documents
+  pub written : content ≡ flat_map (short_document to) documents
+
+-- the text of JSON of each document, by the names of the fields, and a line feed behind each
+pub data IsPrinted (schema : List Entry) : List Document → List ℕ → Type 0 where
+  no_lines : IsPrinted schema [] []
+  next_line : {document : Document} {documents : List Document} {json rest : List ℕ} → IsJsonText (field_names schema) document json
+      → IsPrinted schema documents rest → IsPrinted schema (document ∷ documents) (json ++ 10 ∷ rest)
+
+-- The block encodes documents, and these are their lines by the names of the schema's fields.
+pub record IsExported (schema : List ℕ) (v : Version) (block content : List ℕ) : Type 0 where
+  pub entries : List Entry
+  pub reads : ReadsSchema schema entries
+  pub documents : List Document
+  pub encoded : EncodesBlock v block documents
+  pub printed : IsPrinted entries documents content
+
+-- ---- for private clauses
+
+-- the block encodes documents, and these are their lines
+abbrev pub IsPrintedBlock : List Entry → Version → List ℕ → List ℕ → Type 0
+IsPrintedBlock entries v block content = (documents : List Document) × EncodesBlock v block documents × IsPrinted entries documents content
+
+-- the document's line is appended
+abbrev pub AppendsLine : List Entry → Document → List ℕ → List ℕ → Type 0
+AppendsLine entries document old new = (json : List ℕ) × IsJsonText (field_names entries) document json × (new ≡ old ++ (json ++ 10 ∷ []))
+
+-- a document of the block is refused, or memory was
+abbrev pub IsRefusedBlock : Version → List ℕ → BlockError → Type 0
+IsRefusedBlock v block errors.Memory = Unit {0}
+IsRefusedBlock v block e = IsBlockRefusal v block e
+
+-- so far the documents before the rest of the block have been written
+pub record MigratedSoFar (from to : Version) (block rest content : List ℕ) : Type 0 where
+  pub before : List ℕ
+  pub joined : block ≡ before ++ rest
+  pub documents : List Document
+  pub encoded : EncodesBlock from before documents
+  pub written : content ≡ flat_map (short_document to) documents
+
+pub record PrintedSoFar (entries : List Entry) (v : Version) (block rest content : List ℕ) : Type 0 where
+  pub before : List ℕ
+  pub joined : block ≡ before ++ rest
+  pub documents : List Document
+  pub encoded : EncodesBlock v before documents
+  pub printed : IsPrinted entries documents content

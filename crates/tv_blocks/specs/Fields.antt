@@ -1,0 +1,22 @@
+-- The field that a path names.
+use Rattle.std.specs.Prelude.{◌≡◌, ℕ, ◌≤◌, List, length, drop, Some, IsUtf8}
+use Rattle.tv_blocks.specs.Refusals.{IsPathRefusal}
+use Rattle.tv_blocks.specs.declared.block_error.BlockError.{BlockError}
+use Rattle.tv_blocks.specs.declared.block_error.BlockError.TheVariants as errors
+use Rattle.tv_blocks.specs.declared.field_path.FoundField.{FoundField}
+use Rattle.tv_field.specs.Entry.{Entry}
+use Rattle.tv_lines.specs.Answers.{ReadsSchema}
+use Rattle.tv_schema.specs.Path.{find}
+
+-- the path names this field of the schema, and its rest begins there
+pub record Finds (schema path : List ℕ) (found : FoundField) : Type 0 where
+  pub entries : List Entry
+  pub reads : ReadsSchema schema entries
+  pub utf8 : IsUtf8 path
+  pub within : found.rest ≤ length path
+  pub named : find entries path ≡ Some (found.field, drop found.rest path)
+
+-- it names none, or memory was refused
+abbrev pub IsPathAnswer : List ℕ → List ℕ → BlockError → Type 0
+IsPathAnswer schema path errors.Memory = Unit {0}
+IsPathAnswer schema path e = IsPathRefusal schema path e

@@ -1,0 +1,94 @@
+-- Why a call writes nothing.
+use Rattle.std.specs.Prelude.{◌≡◌, ℕ, List, ◌++◌, length, None, Err, IsUtf8}
+use Rattle.serde_json.specs.Data.{Data}
+use Rattle.tv_base.specs.Facet.{parse}
+use Rattle.tv_base.specs.Parts.{Each}
+use Rattle.tv_blocks.specs.declared.block_error.BlockError.{BlockError}
+use Rattle.tv_blocks.specs.declared.block_error.BlockError.TheVariants as errors
+use Rattle.tv_blocks.specs.declared.block_error.DocumentRefusal.{DocumentRefusal}
+use Rattle.tv_blocks.specs.declared.block_error.DocumentRefusal.TheVariants as documents
+use Rattle.tv_field.specs.Entry.{Entry}
+use Rattle.tv_format.specs.Encoding.{EncodesDocument}
+use Rattle.tv_format.specs.InputError.{Refusal, corrupted, no_text_key}
+use Rattle.tv_format.specs.Tree.{Document}
+use Rattle.tv_format.specs.Version.{Version}
+use Rattle.tv_legacy.specs.Legacy.{Legacy}
+use Rattle.tv_lines.specs.Answers.{IsJson, ReadsSchema}
+use Rattle.tv_reader.specs.declared.error.DeserializeError.{DeserializeError}
+use Rattle.tv_reader.specs.declared.error.DeserializeError.TheVariants as reads
+use Rattle.tv_schema.specs.Path.{find}
+use Rattle.tv_schema.specs.SchemaJsonReading.{schema_of}
+use Rattle.tv_store.specs.Documents.{NoDocument, HasNoRoom}
+use Rattle.tv_store.specs.declared.migration.MigrateError.{MigrateError}
+use Rattle.tv_store.specs.declared.migration.MigrateError.TheVariants.{Read, Write}
+
+-- ---- texts of facets
+
+-- the text is no UTF-8
+abbrev pub IsTextRefusal : List ℕ → BlockError → Type 0
+IsTextRefusal text errors.NotUtf8 = ¬ IsUtf8 text
+IsTextRefusal text e = ⊥
+
+-- or it names no facet
+abbrev pub IsFacetRefusal : List ℕ → BlockError → Type 0
+IsFacetRefusal text errors.NotFacet = IsUtf8 text × (parse text ≡ None)
+IsFacetRefusal text e = IsTextRefusal text e
+
+-- ---- schemas
+
+-- The text is no JSON, or describes no schema.
+abbrev pub IsSchemaRefusal : List ℕ → BlockError → Type 0
+IsSchemaRefusal text errors.InvalidJson = (value : Data) → ¬ IsJson text value
+IsSchemaRefusal text (errors.BadSchema e) = (value : Data) × IsJson text value × (schema_of value ≡ Err e)
+IsSchemaRefusal text e = ⊥
+
+-- ---- documents of a block
+
+-- these documents are encoded, one behind the other
+abbrev pub EncodesBlock : Version → List ℕ → List Document → Type 0
+EncodesBlock v block documents = Each (EncodesDocument Legacy v) block documents
+
+-- the document that begins there is refused for this
+abbrev pub Refuses : Version → List ℕ → DocumentRefusal → Type 0
+Refuses v bytes (documents.Corrupted cause) = NoDocument v bytes (corrupted cause)
+Refuses v bytes documents.KeyIsNoText = (code : ℕ) × NoDocument v bytes (no_text_key code)
+Refuses v bytes documents.HeapFull = HasNoRoom v bytes
+
+-- So many bytes encode documents, and the document that begins behind them is refused.
+pub record Breaks (v : Version) (block : List ℕ) (start : ℕ) (refusal : DocumentRefusal) : Type 0 where
+  pub before : List ℕ
+  pub behind : List ℕ
+  pub joined : block ≡ before ++ behind
+  pub measured : start ≡ length before
+  pub documents : List Document
+  pub encoded : EncodesBlock v before documents
+  pub refused : Refuses v behind refusal
+
+abbrev pub IsBlockRefusal : Version → List ℕ → BlockError → Type 0
+IsBlockRefusal v block (errors.BadDocument start refusal) = Breaks v block start refusal
+IsBlockRefusal v block e = ⊥
+
+-- what is said where reading a document behind so many bytes returns an error
+abbrev pub document_refusal : ℕ → DeserializeError → BlockError
+document_refusal start (reads.CorruptedValue cause) = errors.BadDocument start (documents.Corrupted cause)
+document_refusal start (reads.TypeMismatch expected actual) = errors.BadDocument start documents.KeyIsNoText
+document_refusal start reads.HeapFull = errors.BadDocument start documents.HeapFull
+document_refusal start e = errors.Memory
+
+-- the same of migrating it: that it isn't written is for want of memory
+abbrev pub migration_refusal : ℕ → MigrateError → BlockError
+migration_refusal start (Read e) = document_refusal start e
+migration_refusal start (Write e) = errors.Memory
+
+-- the schema is refused, or else a document of the block
+abbrev pub IsExportRefusal : List ℕ → Version → List ℕ → BlockError → Type 0
+IsExportRefusal schema v block (errors.BadDocument start refusal) = ((entries : List Entry) × ReadsSchema schema entries) × Breaks v block start refusal
+IsExportRefusal schema v block e = IsSchemaRefusal schema e
+
+-- ---- paths
+
+-- the schema is refused, the path is no UTF-8, or it names no field
+abbrev pub IsPathRefusal : List ℕ → List ℕ → BlockError → Type 0
+IsPathRefusal schema path errors.NotUtf8 = ((entries : List Entry) × ReadsSchema schema entries) × (¬ IsUtf8 path)
+IsPathRefusal schema path errors.NoField = (entries : List Entry) × ReadsSchema schema entries × IsUtf8 path × (find entries path ≡ None)
+IsPathRefusal schema path e = IsSchemaRefusal schema e

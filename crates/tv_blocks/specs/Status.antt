@@ -1,0 +1,70 @@
+-- Answers as numbers.
+use Rattle.std.specs.Prelude.{ℕ, ◌+◌, ◌-◌, ◌^◌, min, Option, Some, None, Result, Ok, Err}
+use Rattle.tv_base.specs.declared.cause.Cause.{Cause}
+use Rattle.tv_base.specs.declared.cause.Cause.TheVariants as causes
+use Rattle.tv_blocks.specs.declared.block_error.BlockError.{BlockError}
+use Rattle.tv_blocks.specs.declared.block_error.BlockError.TheVariants as errors
+use Rattle.tv_blocks.specs.declared.block_error.DocumentRefusal.{DocumentRefusal}
+use Rattle.tv_blocks.specs.declared.block_error.DocumentRefusal.TheVariants as documents
+use Rattle.tv_blocks.specs.declared.import.Imported.{Imported}
+use Rattle.tv_blocks.specs.declared.status.Answer.{Answer}
+use Rattle.tv_field.specs.declared.schema_error.SchemaError.{SchemaError}
+use Rattle.tv_field.specs.declared.schema_error.SchemaError.TheVariants as schemas
+
+abbrev pub nothing_written : ℕ → ℕ → ℕ → Answer
+nothing_written status detail place = record { status = status; detail = detail; place = place; bytes = 0; lines = 0 }
+
+abbrev pub wrong_version : Answer
+wrong_version = nothing_written 9 0 0
+
+abbrev pub cause_number : Cause → ℕ
+cause_number causes.UnexpectedEnd = 1
+cause_number (causes.UnknownTypeCode code) = 2
+cause_number (causes.UnknownExtCode code) = 3
+cause_number causes.FloatCode = 4
+cause_number causes.BadNumber = 5
+cause_number causes.BadBool = 6
+cause_number causes.NotUtf8 = 7
+cause_number causes.OddObject = 8
+cause_number causes.DateRange = 9
+cause_number causes.LegacyJson = 10
+cause_number causes.LegacyFloat = 11
+cause_number causes.TooLong = 14
+
+abbrev pub refusal_number : DocumentRefusal → ℕ
+refusal_number (documents.Corrupted cause) = cause_number cause
+refusal_number documents.KeyIsNoText = 12
+refusal_number documents.HeapFull = 13
+
+-- the place of an entry, from 1
+abbrev pub entry_place : Option ℕ → ℕ
+entry_place None = 0
+entry_place (Some entry) = min (entry + 1) (2 ^ 64 - 1)
+
+abbrev pub schema_answer : SchemaError → Answer
+schema_answer schemas.InvalidName = nothing_written 6 1 0
+schema_answer schemas.DuplicateName = nothing_written 6 2 0
+schema_answer schemas.TooManyFields = nothing_written 6 3 0
+schema_answer (schemas.BadJson entry) = nothing_written 6 4 (entry_place entry)
+schema_answer (schemas.FloatField entry) = nothing_written 6 5 (entry_place (Some entry))
+schema_answer schemas.Memory = nothing_written 2 0 0
+schema_answer schemas.FieldNotFound = nothing_written 7 0 0
+
+abbrev pub error_answer : BlockError → Answer
+error_answer (errors.TooSmall bytes lines) = record { status = 1; detail = 0; place = 0; bytes = bytes; lines = lines }
+error_answer errors.Memory = nothing_written 2 0 0
+error_answer errors.NotUtf8 = nothing_written 3 0 0
+error_answer errors.NotFacet = nothing_written 4 0 0
+error_answer errors.InvalidJson = nothing_written 5 0 0
+error_answer (errors.BadSchema e) = schema_answer e
+error_answer errors.NoField = nothing_written 7 0 0
+error_answer errors.NoEnd = nothing_written 10 0 0
+error_answer (errors.BadDocument start refusal) = nothing_written 8 (refusal_number refusal) start
+
+abbrev pub answer_of : Result ℕ BlockError → Answer
+answer_of (Ok bytes) = record { status = 0; detail = 0; place = 0; bytes = bytes; lines = 0 }
+answer_of (Err e) = error_answer e
+
+abbrev pub import_answer : Result Imported BlockError → Answer
+import_answer (Ok count) = record { status = 0; detail = 0; place = 0; bytes = count.bytes; lines = count.lines }
+import_answer (Err e) = error_answer e

@@ -1,0 +1,80 @@
+//! Blocks of documents as lines of JSON.
+
+ghost use Rattle.std.specs.Prelude.{◌≡◌, [], IfErr, OnOk};
+ghost use Rattle.tv_blocks.specs.Blocks.{AppendsLine, IsExported, IsPrintedBlock, IsRefusedBlock};
+ghost use Rattle.tv_blocks.specs.Buffer.{Fills};
+ghost use Rattle.tv_blocks.specs.Refusals.{IsExportRefusal};
+ghost use Rattle.tv_doc.specs.Document.{document_of};
+ghost use Rattle.tv_reader.specs.Version.{version_of};
+
+use crate::block_error::{BlockError, unread};
+use crate::buffer::put_whole;
+use crate::schema_text::schema_of_text;
+use std::alloc::{AllocError, Global};
+use tv_base::SliceSource;
+use tv_doc::document::CompactDoc;
+use tv_doc::document_trait::Document;
+use tv_schema::Schema;
+use tv_store::{BlockReader, DocStoreVersion};
+
+// Appends the document's text of JSON and a line feed.
+fn append_line(
+    alloc: Global,
+    schema: &Schema,
+    document: &CompactDoc,
+    text: &mut Vec<u8>,
+) -> Result<(), AllocError>
+    ensures { OnOk result
+        (AppendsLine schema.now (document_of document.now) text.old.items text.new.items) }
+{
+    let json = document.to_json(alloc, schema)?;
+    text.extend_from_slice(json.as_bytes())?;
+    text.push(b'\n')?;
+    Ok(())
+}
+
+// Appends the lines of the documents of the block.
+fn append_documents(
+    alloc: Global,
+    schema: &Schema,
+    version: DocStoreVersion,
+    block: &[u8],
+    text: &mut Vec<u8>,
+) -> Result<(), BlockError>
+    requires { text.old.items ≡ [] }
+    ensures ok { OnOk result
+        (IsPrintedBlock schema.now (version_of version) block.now text.new.items) }
+    ensures err { IfErr result (IsRefusedBlock (version_of version) block.now) }
+{
+    let mut source = SliceSource::new(block);
+    let mut reader = BlockReader::new(alloc, version);
+    loop {
+        let start = (block.len() - source.rest().len()) as u64;
+        match reader.advance(&mut source) {
+            Ok(true) => append_line(alloc, schema, reader.document(), text)?,
+            Ok(false) => return Ok(()),
+            Err(error) => return Err(unread(start, &error)),
+        }
+    }
+}
+
+/// Writes the documents of a block, which stand one behind the other, as lines of JSON by the names of the schema's fields, see `to_json`, and
+/// returns how many bytes these take.
+///
+/// Errors: `InvalidJson` and `BadSchema` where the schema is refused, else `BadDocument` for the first document that can't be read, `TooSmall`,
+/// `Memory`. The buffer then stays as it is.
+pub fn export_block(
+    alloc: Global,
+    schema: &[u8],
+    version: DocStoreVersion,
+    block: &[u8],
+    lines: &mut [u8],
+) -> Result<u64, BlockError>
+    ensures { Fills (IsExported schema.now (version_of version) block.now)
+        (IsExportRefusal schema.now (version_of version) block.now) lines.old lines.new result }
+{
+    let schema = schema_of_text(alloc, schema)?;
+    let mut text = Vec::new(alloc);
+    append_documents(alloc, &schema, version, block, &mut text)?;
+    put_whole(text.as_slice(), lines)
+}

@@ -1,0 +1,43 @@
+//! Facets and the texts that name them.
+
+ghost use Rattle.std.specs.Prelude.{◌≡◌, Some, IsUtf8};
+ghost use Rattle.tv_base.specs.Facet.{parse, printed};
+ghost use Rattle.tv_blocks.specs.Buffer.{Fills};
+ghost use Rattle.tv_blocks.specs.Refusals.{IsFacetRefusal, IsTextRefusal};
+
+use crate::block_error::BlockError;
+use crate::buffer::put_whole;
+use std::alloc::Global;
+use tv_base::Facet;
+
+/// Writes the encoded facet that a text such as `/first/second` names, see `Facet::from_text`, and returns its length in bytes.
+///
+/// Errors: `NotUtf8`, `NotFacet` where the text doesn't begin with `/`, `TooSmall`, `Memory`. The buffer then stays as it is.
+pub fn facet_of_text(alloc: Global, text: &[u8], encoded: &mut [u8]) -> Result<u64, BlockError>
+    ensures { Fills (λ content. IsUtf8 text.now × (parse text.now ≡ Some content))
+        (IsFacetRefusal text.now) encoded.old encoded.new result }
+{
+    let Ok(text) = str::from_utf8(text) else {
+        return Err(BlockError::NotUtf8);
+    };
+    let mut content = String::new(alloc);
+    if !Facet::encode_text(text, &mut content)? {
+        return Err(BlockError::NotFacet);
+    }
+    put_whole(content.as_bytes(), encoded)
+}
+
+/// Writes the text that names the facet with these encoded bytes, see `Facet::to_path_string`, and returns its length in bytes.
+///
+/// Errors: `NotUtf8`, `TooSmall`, `Memory`. The buffer then stays as it is.
+pub fn text_of_facet(alloc: Global, encoded: &[u8], text: &mut [u8]) -> Result<u64, BlockError>
+    ensures { Fills (λ content. IsUtf8 encoded.now × (content ≡ printed encoded.now))
+        (IsTextRefusal encoded.now) text.old text.new result }
+{
+    let Ok(encoded) = str::from_utf8(encoded) else {
+        return Err(BlockError::NotUtf8);
+    };
+    let mut content = String::new(alloc);
+    Facet::print_encoded(encoded, &mut content)?;
+    put_whole(content.as_bytes(), text)
+}

@@ -1,0 +1,229 @@
+//! Lines of JSON as a block of stored documents.
+
+ghost use Rattle.std.specs.Prelude.{◌≡◌, [], IfOk, OnOk};
+ghost use Rattle.tv_blocks.specs.Imports.{Appends, ImportsEach, ImportsInto, PutsBoth, Stores};
+ghost use Rattle.tv_blocks.specs.Imports.{answer_of, outcome_of, value_outcome};
+ghost use Rattle.tv_doc.specs.Belongs.{Belongs};
+ghost use Rattle.tv_doc.specs.Document.{document_of};
+ghost use Rattle.tv_format.specs.Short.{short_document};
+ghost use Rattle.tv_format.specs.Version.{V2};
+ghost use Rattle.tv_store.specs.Stored.{stored};
+
+use crate::block_error::BlockError;
+use crate::lines::first_line;
+use crate::schema_text::schema_of_text;
+use std::alloc::{AllocError, Global};
+use tv_base::VecSink;
+use tv_doc::doc_parsing_error::DocParsingError;
+use tv_doc::document::CompactDoc;
+use tv_doc::parse_buffers::ParseBuffers;
+use tv_field::ValueParsingError;
+use tv_schema::Schema;
+use tv_store::BinaryDocumentSerializer;
+
+/// What became of a line. (Not in tantivy.)
+#[derive(Clone, Copy, Debug, PartialEq, Eq, Drop)]
+pub enum LineOutcome {
+    /// Its document was stored, in so many bytes.
+    Stored(u64),
+    /// It is no JSON object.
+    InvalidJson,
+    /// A number doesn't fit the field's type.
+    Overflow,
+    /// A value is of another kind than the field's.
+    WrongType,
+    /// A text can't be read as the field's type wants it.
+    BadText,
+    /// A text isn't the standard base64 of any bytes.
+    BadBase64,
+    /// A number isn't whole, or doesn't fit 64 bits.
+    FloatNumber,
+    /// The values need more room than 4294967295 bytes.
+    HeapFull,
+}
+
+/// What is answered for a line: a number that says what became of it, see `LineOutcome`, and how many bytes its document takes in the block; 0
+/// where it was refused. (Not in tantivy.)
+#[repr(C)]
+#[derive(Clone, Copy, Debug, PartialEq, Eq, Drop)]
+pub struct LineAnswer {
+    /// 0 where the document was stored, else 1 to 7 for the refusals of `LineOutcome`, in their order.
+    pub status: u32,
+    /// How many bytes the stored document takes.
+    pub bytes: u64,
+}
+
+/// How much was written. (Not in tantivy.)
+#[repr(C)]
+#[derive(Clone, Copy, Debug, PartialEq, Eq, Drop)]
+pub struct Imported {
+    /// How many bytes of the block.
+    pub bytes: u64,
+    /// How many answers, one for each line.
+    pub lines: u64,
+}
+
+impl LineOutcome {
+    /// The answer for this outcome.
+    pub fn answer(self) -> LineAnswer
+        ensures { result ≡ answer_of self }
+    {
+        let (status, bytes) = match self {
+            LineOutcome::Stored(bytes) => (0, bytes),
+            LineOutcome::InvalidJson => (1, 0),
+            LineOutcome::Overflow => (2, 0),
+            LineOutcome::WrongType => (3, 0),
+            LineOutcome::BadText => (4, 0),
+            LineOutcome::BadBase64 => (5, 0),
+            LineOutcome::FloatNumber => (6, 0),
+            LineOutcome::HeapFull => (7, 0),
+        };
+        LineAnswer { status, bytes }
+    }
+}
+
+// What is said of a value that a field's type refuses; `None` where memory was refused.
+fn value_outcome(error: &ValueParsingError) -> Option<LineOutcome>
+    ensures { result ≡ value_outcome error.now }
+{
+    match error {
+        ValueParsingError::OverflowError { .. } => Some(LineOutcome::Overflow),
+        ValueParsingError::TypeError { .. } => Some(LineOutcome::WrongType),
+        ValueParsingError::ParseError { .. } => Some(LineOutcome::BadText),
+        ValueParsingError::InvalidBase64 { .. } => Some(LineOutcome::BadBase64),
+        ValueParsingError::FloatNumber => Some(LineOutcome::FloatNumber),
+        ValueParsingError::Memory => None,
+    }
+}
+
+// What is said of a line of which there is no document; `None` where memory was refused.
+fn refused_outcome(error: &DocParsingError) -> Option<LineOutcome>
+    ensures { result ≡ outcome_of error.now }
+{
+    match error {
+        DocParsingError::InvalidJson(_) => Some(LineOutcome::InvalidJson),
+        DocParsingError::ValueError(_, error) => value_outcome(error),
+        DocParsingError::HeapFull => Some(LineOutcome::HeapFull),
+        DocParsingError::Memory => None,
+    }
+}
+
+// The memory of a line's document, which serves the next line.
+#[derive(Drop)]
+struct LineMemory {
+    /// The document.
+    document: CompactDoc,
+    /// What reading its JSON needs.
+    buffers: ParseBuffers,
+}
+
+// Appends the line's stored document to the block, and says what became of the line.
+fn import_line(
+    alloc: Global,
+    schema: &Schema,
+    line: &[u8],
+    memory: &mut LineMemory,
+    block: &mut VecSink,
+) -> Result<LineOutcome, AllocError>
+    ensures { IfOk result (Appends schema.now line.now block.old.bytes.items block.new.bytes.items) }
+{
+    let Ok(json) = str::from_utf8(line) else {
+        return Ok(LineOutcome::InvalidJson);
+    };
+    let LineMemory { document, buffers } = memory;
+    if let Err(error) = document.parse_json_into(alloc, schema, json, buffers) {
+        return refused_outcome(&error).ok_or(AllocError);
+    }
+    store_document(schema, document, block)
+}
+
+// Appends the document's stored bytes, and says how many these are.
+fn store_document(
+    schema: &Schema,
+    document: &CompactDoc,
+    block: &mut VecSink,
+) -> Result<LineOutcome, AllocError>
+    requires { Belongs schema.now (document_of document.now) }
+    ensures { IfOk result (Stores (short_document V2 (stored schema.now (document_of document.now)))
+        block.old.bytes.items block.new.bytes.items) }
+{
+    let before = block.as_slice().len();
+    match BinaryDocumentSerializer::new(block, schema).serialize_doc(document) {
+        Ok(()) => {
+            let after = block.as_slice().len();
+            Ok(LineOutcome::Stored((after - before) as u64))
+        }
+        Err(_) => Err(AllocError),
+    }
+}
+
+// Appends the stored documents of the lines to the block, and what became of each line to the answers.
+fn import_each(
+    alloc: Global,
+    schema: &Schema,
+    lines: &[u8],
+    block: &mut VecSink,
+    answers: &mut Vec<LineAnswer>,
+) -> Result<(), AllocError>
+    requires block { block.old.bytes.items ≡ [] }
+    requires answers { answers.old.items ≡ [] }
+    ensures { OnOk result (ImportsEach schema.now lines.now block.new.bytes.items answers.new.items) }
+{
+    let mut memory = LineMemory {
+        document: CompactDoc::new(alloc),
+        buffers: ParseBuffers::new(alloc),
+    };
+    let mut left = lines;
+    while !left.is_empty() {
+        let (line, behind) = first_line(left);
+        let outcome = import_line(alloc, schema, line, &mut memory, block)?;
+        answers.push(outcome.answer())?;
+        left = behind;
+    }
+    Ok(())
+}
+
+// Puts the block and the answers at the beginnings of the buffers, or says how much room they need.
+fn put_both(
+    stored: &[u8],
+    outcomes: &[LineAnswer],
+    block: &mut [u8],
+    answers: &mut [LineAnswer],
+) -> Result<Imported, BlockError>
+    ensures { PutsBoth stored.now outcomes.now block.old block.new answers.old answers.new result }
+{
+    let (bytes, lines) = (stored.len(), outcomes.len());
+    if block.len() < bytes || answers.len() < lines {
+        return Err(BlockError::TooSmall {
+            bytes: bytes as u64,
+            lines: lines as u64,
+        });
+    }
+    block[..bytes].copy_from_slice(stored);
+    answers[..lines].copy_from_slice(outcomes);
+    Ok(Imported {
+        bytes: bytes as u64,
+        lines: lines as u64,
+    })
+}
+
+/// Stores the documents of lines of JSON, one behind the other in version 2, and answers each line. A line ends at a line feed, and the last
+/// may lack it. A line that is refused stores nothing, and the next line follows. See `CompactDoc::parse_json` and `BinaryDocumentSerializer`.
+///
+/// Errors: `InvalidJson` and `BadSchema` where the schema is refused; `TooSmall` with the bytes of the block and the number of lines, where
+/// one of the buffers is too small; `Memory`. Both buffers then stay as they are.
+pub fn import_lines(
+    alloc: Global,
+    schema: &[u8],
+    lines: &[u8],
+    block: &mut [u8],
+    answers: &mut [LineAnswer],
+) -> Result<Imported, BlockError>
+    ensures { ImportsInto schema.now lines.now block.old block.new answers.old answers.new result }
+{
+    let schema = schema_of_text(alloc, schema)?;
+    let mut stored = VecSink::new(alloc);
+    let mut outcomes = Vec::new(alloc);
+    import_each(alloc, &schema, lines, &mut stored, &mut outcomes)?;
+    put_both(stored.as_slice(), outcomes.as_slice(), block, answers)
+}

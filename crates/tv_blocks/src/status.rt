@@ -1,0 +1,160 @@
+//! Answers as numbers, for callers in other languages.
+
+ghost use Rattle.std.specs.Prelude.{◌≡◌};
+ghost use Rattle.tv_blocks.specs.Status.{answer_of, cause_number, error_answer, import_answer};
+ghost use Rattle.tv_blocks.specs.Status.{nothing_written, refusal_number, schema_answer, wrong_version};
+
+use crate::block_error::{BlockError, DocumentRefusal};
+use crate::import::Imported;
+use tv_base::Cause;
+use tv_field::SchemaError;
+
+/// What a call answers, as numbers. (Not in tantivy.)
+#[repr(C)]
+#[derive(Clone, Copy, Debug, PartialEq, Eq, Drop)]
+pub struct Answer {
+    /// 0 where the call did what it says; 1 where a buffer is too small, 2 where memory was refused, 3 where a text isn't UTF-8, 4 where it
+    /// names no facet, 5 where the schema isn't JSON, 6 where the JSON describes no schema, 7 where the path names no field, 8 where a document
+    /// of the block is refused, 9 where there is no such version of the store, and 10 where a prefix has no end.
+    pub status: u32,
+    /// With status 6 why there is no schema: 1 for a bad name, 2 for a name that comes twice, 3 for too many fields, 4 for a bad entry,
+    /// 5 for a field of type `f64`. With status 8 why the document is refused: 1 to 11 for the variants of `Cause` in their order, 12 where a
+    /// key is no text, 13 where the document has no room. Else 0.
+    pub detail: u32,
+    /// With status 6 the place of the entry, from 1, and 0 where the whole is meant; with status 8 where in the block the document begins.
+    /// Else 0.
+    pub place: u64,
+    /// How many bytes were written, or with status 1 how many are needed. Else 0.
+    pub bytes: u64,
+    /// How many answers of lines were written, or with status 1 how many are needed. Else 0.
+    pub lines: u64,
+}
+
+/// The answer where there is no such version of the store.
+pub fn wrong_version() -> Answer
+    ensures { result ≡ wrong_version }
+{
+    refusal(9, 0, 0)
+}
+
+// An answer that nothing was written.
+fn refusal(status: u32, detail: u32, place: u64) -> Answer
+    ensures { result ≡ nothing_written status detail place }
+{
+    Answer {
+        status,
+        detail,
+        place,
+        bytes: 0,
+        lines: 0,
+    }
+}
+
+// The number of a cause, from 1.
+fn cause_number(cause: Cause) -> u32
+    ensures { result ≡ cause_number cause }
+{
+    match cause {
+        Cause::UnexpectedEnd => 1,
+        Cause::UnknownTypeCode(_) => 2,
+        Cause::UnknownExtCode(_) => 3,
+        Cause::FloatCode => 4,
+        Cause::BadNumber => 5,
+        Cause::BadBool => 6,
+        Cause::NotUtf8 => 7,
+        Cause::OddObject => 8,
+        Cause::DateRange => 9,
+        Cause::LegacyJson => 10,
+        Cause::LegacyFloat => 11,
+        Cause::TooLong => 14,
+    }
+}
+
+// The number of a document's refusal.
+fn refusal_number(refusal: DocumentRefusal) -> u32
+    ensures { result ≡ refusal_number refusal }
+{
+    match refusal {
+        DocumentRefusal::Corrupted(cause) => cause_number(cause),
+        DocumentRefusal::KeyIsNoText => 12,
+        DocumentRefusal::HeapFull => 13,
+    }
+}
+
+// The answer for a schema that is refused.
+fn schema_answer(error: SchemaError) -> Answer
+    ensures { result ≡ schema_answer error }
+{
+    match error {
+        SchemaError::InvalidName => refusal(6, 1, 0),
+        SchemaError::DuplicateName => refusal(6, 2, 0),
+        SchemaError::TooManyFields => refusal(6, 3, 0),
+        SchemaError::BadJson { entry: None } => refusal(6, 4, 0),
+        SchemaError::BadJson { entry: Some(entry) } => refusal(
+            6,
+            4,
+            (entry as u64).saturating_add(1),
+        ),
+        SchemaError::FloatField { entry } => refusal(6, 5, (entry as u64).saturating_add(1)),
+        SchemaError::Memory => refusal(2, 0, 0),
+        SchemaError::FieldNotFound => refusal(7, 0, 0),
+    }
+}
+
+/// The answer for an error.
+pub fn error_answer(error: BlockError) -> Answer
+    ensures { result ≡ error_answer error }
+{
+    match error {
+        BlockError::TooSmall { bytes, lines } => Answer {
+            status: 1,
+            detail: 0,
+            place: 0,
+            bytes,
+            lines,
+        },
+        BlockError::Memory => refusal(2, 0, 0),
+        BlockError::NotUtf8 => refusal(3, 0, 0),
+        BlockError::NotFacet => refusal(4, 0, 0),
+        BlockError::InvalidJson => refusal(5, 0, 0),
+        BlockError::BadSchema(error) => schema_answer(error),
+        BlockError::NoField => refusal(7, 0, 0),
+        BlockError::NoEnd => refusal(10, 0, 0),
+        BlockError::BadDocument {
+            start,
+            refusal: why,
+        } => refusal(8, refusal_number(why), start),
+    }
+}
+
+/// The answer for what a call returned that writes bytes.
+pub fn written_answer(written: Result<u64, BlockError>) -> Answer
+    ensures { result ≡ answer_of written }
+{
+    match written {
+        Ok(bytes) => Answer {
+            status: 0,
+            detail: 0,
+            place: 0,
+            bytes,
+            lines: 0,
+        },
+        Err(error) => error_answer(error),
+    }
+}
+
+/// The answer for what `import_lines` returned.
+pub fn import_answer(imported: Result<Imported, BlockError>) -> Answer
+    ensures { result ≡ import_answer imported }
+{
+    match imported {
+        Ok(Imported { bytes, lines }) => Answer {
+            status: 0,
+            detail: 0,
+            place: 0,
+            bytes,
+            lines,
+        },
+        Err(error) => error_answer(error),
+    }
+}

@@ -1,0 +1,174 @@
+//! Terms of stored values, and where those of a prefix end.
+
+ghost use Rattle.std.specs.Prelude.{◌≡◌, ◌++◌, [], IfErr, IfOk, OnOk};
+ghost use Rattle.tv_blocks.specs.Blocks.{IsRefusedBlock};
+ghost use Rattle.tv_blocks.specs.Buffer.{Fills};
+ghost use Rattle.tv_blocks.specs.Refusals.{IsBlockRefusal, IsTextRefusal};
+ghost use Rattle.tv_blocks.specs.Terms.{document_records, record_of, term_record, tree_value};
+ghost use Rattle.tv_blocks.specs.Terms.{HasTerm, IsEnd, IsEndRefusal, IsTermList, IsTextTerm};
+ghost use Rattle.tv_blocks.specs.Terms.{leaf_value};
+ghost use Rattle.tv_doc.specs.Document.{document_of};
+ghost use Rattle.tv_reader.specs.Version.{version_of};
+ghost use Rattle.tv_value.specs.Lent.{leaf_of};
+
+use crate::block_error::{BlockError, unread};
+use crate::buffer::put_whole;
+use std::alloc::{AllocError, Global};
+use tv_base::SliceSource;
+use tv_doc::document::CompactDoc;
+use tv_store::{BlockReader, DocStoreVersion};
+use tv_term::{Term, TermError, TermWriter, successor};
+use tv_value::field::Field;
+use tv_value::leaf::ReferenceValueLeaf;
+use tv_value::value::{ReferenceValue, Value};
+
+// Makes the term of a value without children, and says whether there is one: null has none.
+fn write_leaf(
+    writer: &mut TermWriter,
+    field: Field,
+    leaf: ReferenceValueLeaf<'_>,
+) -> Result<bool, TermError>
+    ensures { IfOk result (HasTerm field.id (leaf_value (leaf_of leaf)) writer.new) }
+{
+    match leaf {
+        ReferenceValueLeaf::Null => return Ok(false),
+        ReferenceValueLeaf::Str(text) => writer.write_text(field, text)?,
+        ReferenceValueLeaf::U64(number) => writer.write_u64(field, number)?,
+        ReferenceValueLeaf::I64(number) => writer.write_i64(field, number)?,
+        ReferenceValueLeaf::Date(date) => writer.write_date_for_search(field, date)?,
+        ReferenceValueLeaf::Facet(encoded) => writer.write_encoded_facet(field, encoded)?,
+        ReferenceValueLeaf::Bytes(bytes) => writer.write_bytes(field, bytes)?,
+        ReferenceValueLeaf::IpAddr(address) => writer.write_ip_addr(field, address)?,
+        ReferenceValueLeaf::Bool(truth) => writer.write_bool(field, truth)?,
+        ReferenceValueLeaf::PreTokStr(text) => writer.write_text(field, text.text())?,
+    }
+    Ok(true)
+}
+
+// Appends the number of the document, the length of the term and the term.
+fn append_record(terms: &mut Vec<u8>, document: u64, term: &Term) -> Result<(), AllocError>
+    ensures { OnOk result (terms.new.items ≡ terms.old.items ++ record_of document term.now) }
+{
+    let bytes = term.serialized_term();
+    terms.extend_from_slice(&document.to_le_bytes())?;
+    terms.extend_from_slice(&(bytes.len() as u64).to_le_bytes())?;
+    terms.extend_from_slice(bytes)
+}
+
+// Appends the record of a value, if it has a term.
+fn append_value<'a, V: Value<'a>>(
+    writer: &mut TermWriter,
+    field: Field,
+    document: u64,
+    value: V,
+    terms: &mut Vec<u8>,
+) -> Result<(), BlockError>
+    ensures { OnOk result
+        (terms.new.items ≡ terms.old.items
+        ++ term_record document field.id (tree_value (V.tree value))) }
+{
+    let ReferenceValue::Leaf(leaf) = value.as_value() else {
+        return Ok(());
+    };
+    if write_leaf(writer, field, leaf)? {
+        append_record(terms, document, writer.term())?;
+    }
+    Ok(())
+}
+
+// Appends the records of the field's values in a document.
+fn append_document(
+    writer: &mut TermWriter,
+    field: Field,
+    number: u64,
+    document: &CompactDoc,
+    terms: &mut Vec<u8>,
+) -> Result<(), BlockError>
+    ensures { OnOk result
+        (terms.new.items ≡ terms.old.items
+        ++ document_records number field.id (document_of document.now)) }
+{
+    for value in document.get_all(field) {
+        append_value(writer, field, number, value, terms)?;
+    }
+    Ok(())
+}
+
+// Appends the records of the field's values in the documents of the block.
+fn append_block(
+    alloc: Global,
+    field: Field,
+    version: DocStoreVersion,
+    block: &[u8],
+    terms: &mut Vec<u8>,
+) -> Result<(), BlockError>
+    requires { terms.old.items ≡ [] }
+    ensures ok { OnOk result (IsTermList (version_of version) field.id block.now terms.new.items) }
+    ensures err { IfErr result (IsRefusedBlock (version_of version) block.now) }
+{
+    let mut source = SliceSource::new(block);
+    let mut reader = BlockReader::new(alloc, version);
+    let mut writer = TermWriter::new(alloc);
+    let mut number = 0;
+    loop {
+        let start = (block.len() - source.rest().len()) as u64;
+        match reader.advance(&mut source) {
+            Ok(true) => append_document(&mut writer, field, number, reader.document(), terms)?,
+            Ok(false) => return Ok(()),
+            Err(error) => return Err(unread(start, &error)),
+        }
+        number += 1;
+    }
+}
+
+/// Writes the terms of a field's values in the documents of a block, in their order, and returns how many bytes these take. Each stands behind
+/// the number of its document, from 0, and its own length, both in eight bytes, the lowest first. A date is cut to the second, as it is indexed,
+/// and a text is whole. Null, arrays and objects have no term.
+///
+/// Errors: `BadDocument` for the first document that can't be read, `TooSmall`, `Memory`. The buffer then stays as it is.
+pub fn terms_of_block(
+    alloc: Global,
+    field: u32,
+    version: DocStoreVersion,
+    block: &[u8],
+    terms: &mut [u8],
+) -> Result<u64, BlockError>
+    ensures { Fills (IsTermList (version_of version) field block.now)
+        (IsBlockRefusal (version_of version) block.now) terms.old terms.new result }
+{
+    let mut found = Vec::new(alloc);
+    append_block(alloc, Field::from_field_id(field), version, block, &mut found)?;
+    put_whole(found.as_slice(), terms)
+}
+
+/// Writes the term of a text, see `Term::from_field_text`, and returns its length in bytes. All terms of the field's texts that begin
+/// with the text begin with it.
+///
+/// Errors: `NotUtf8`, `TooSmall`, `Memory`. The buffer then stays as it is.
+pub fn term_of_text(
+    alloc: Global,
+    field: u32,
+    text: &[u8],
+    term: &mut [u8],
+) -> Result<u64, BlockError>
+    ensures { Fills (IsTextTerm field text.now) (IsTextRefusal text.now) term.old term.new result }
+{
+    let Ok(text) = str::from_utf8(text) else {
+        return Err(BlockError::NotUtf8);
+    };
+    let made = Term::from_field_text(alloc, Field::from_field_id(field), text)?;
+    put_whole(made.serialized_term(), term)
+}
+
+/// Writes the least byte string above all that begin with a prefix, see `successor`, and returns its length in bytes. So the terms that
+/// begin with the prefix are those from it on and below what is written.
+///
+/// Errors: `NoEnd` where no byte string is above all that begin with the prefix, `TooSmall`, `Memory`. The buffer then stays as it is.
+pub fn end_of_prefix(alloc: Global, prefix: &[u8], end: &mut [u8]) -> Result<u64, BlockError>
+    ensures { Fills (IsEnd prefix.now) (IsEndRefusal prefix.now) end.old end.new result }
+{
+    match successor(alloc, prefix)? {
+        Some(bytes) => put_whole(bytes.as_slice(), end),
+        None => Err(BlockError::NoEnd),
+    }
+}
