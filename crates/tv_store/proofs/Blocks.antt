@@ -13,7 +13,7 @@ use Rattle.tv_format.specs.Version.{Version}
 use Rattle.tv_format.proofs.SingleTrees.{single_document}
 use Rattle.tv_legacy.specs.Legacy.{Legacy, ErrorInLegacy}
 use Rattle.tv_legacy.proofs.Unique.{one_legacy, legacy_excludes, single_legacy}
-use Rattle.tv_reader.specs.Error.{key_stop, is_corrupted, is_no_text}
+use Rattle.tv_reader.specs.Error.{key_stop, is_no_text}
 use Rattle.tv_reader.specs.Finds.{GivesStop, Finds}
 use Rattle.tv_reader.specs.declared.error.DeserializeError.{DeserializeError}
 use Rattle.tv_reader.specs.declared.error.DeserializeError.TheVariants as errors
@@ -21,7 +21,7 @@ use Rattle.tv_reader.specs.declared.value_type.ValueType.TheVariants as types
 use Rattle.tv_store.specs.Blocks.{as_read, SaysEnd}
 use Rattle.tv_store.specs.Documents.{EncodesRead, NoDocument, IsReadingError, in_place}
 use Rattle.tv_store.proofs.InPlace.{error_placed}
-use Rattle.tv_store.proofs.Promises.{end, FoundDocument, told, excluded}
+use Rattle.tv_store.proofs.Promises.{end, FoundDocument, told, told_cause, excluded}
 
 -- ---- what the call returned, and what reading a document would have
 
@@ -75,7 +75,7 @@ pub at_end : (v : Version) (result : Result Bool DeserializeError) (document : C
 at_end v (Ok true) document old new count h full kind cut few none = excluded v old h.prefix new _ end h.joined h.encoded (subst (λ (l : List ℕ). NoDocument v l end) (sym none) (nothing_ends v))
 at_end v (Ok false) document old new count h full kind cut few none = tt
 at_end v (Err (errors.CorruptedValue c)) document old new count h full kind cut few none =
-    let same = ends_only v old (corrupted c) none (told v (errors.CorruptedValue c) (corrupted c) old new count is_corrupted (omega (arith, few)) h).stands in
+    let same = ends_only v old (corrupted c) none (told_cause v c old new count (omega (arith, few)) h).stands in
     let is : c ≡ UnexpectedEnd = cc in
     absurd (omega (arith, few, cut (ap (λ (x : _). Err (errors.CorruptedValue x)) is)))
 at_end v (Err (errors.TypeMismatch expected actual)) document old new count h full kind cut few none =

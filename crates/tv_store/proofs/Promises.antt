@@ -2,6 +2,7 @@
 use Rattle.std.proofs.Common.{◌≡◌, ℕ, ◌-◌, ◌^◌, ◌<◌, ◌≤◌, subst, List, ◌++◌, Result, Ok, Err, refl, sym, ap, ◌∙◌, arith}
 use Rattle.std.specs.Prelude.{IfOk, IfErr, IsErrOf}
 use Rattle.std.proofs.lemmas.List.{append_cancel_left}
+use Rattle.tv_base.specs.declared.cause.Cause.{Cause}
 use Rattle.tv_base.specs.declared.cause.Cause.TheVariants.{UnexpectedEnd, TooLong}
 use Rattle.tv_base.specs.Source.{Failures}
 use Rattle.tv_base.specs.Stop.{CountsStop, Counts}
@@ -37,9 +38,13 @@ pub found_by : (v : Version) (result : Result CompactDoc DeserializeError) (old 
 found_by v (Ok d) old new count h = h
 found_by v (Err e) old new count h = tt
 
+-- more can be counted
+pub told_cause : (v : Version) (c : Cause) (old new : List ℕ) (count : ℕ) → count < 2 ^ 64 - 1 → GivesStop end (NoDocument v) old new count (store_stop (errors.CorruptedValue c)) → Refuses end (NoDocument v) old new (corrupted c)
+told_cause v TooLong old new count few h = absurd (omega (arith, few, h.0))
+told_cause v c old new count few h = h
+
 pub told : (v : Version) (e : DeserializeError) (r : Refusal) (old new : List ℕ) (count : ℕ) → IsRefusal e r → count < 2 ^ 64 - 1 → GivesStop end (NoDocument v) old new count (store_stop e) → Refuses end (NoDocument v) old new r
-told v (errors.CorruptedValue TooLong) _ old new count is_corrupted few h = absurd (omega (arith, few, h.0))
-told v (errors.CorruptedValue c) _ old new count is_corrupted few h = h
+told v _ _ old new count is_corrupted few h = told_cause v _ old new count few h
 told v _ _ old new count is_no_text few h = h
 
 pub refused_by : (v : Version) (result : Result CompactDoc DeserializeError) (old new : List ℕ) (count : ℕ) → count < 2 ^ 64 - 1 → FoundDocument v result old new count
@@ -82,7 +87,7 @@ pub only_by : (v : Version) (result : Result CompactDoc DeserializeError) (old n
 only_by v (Ok x) old new count h full kind few d prefix rest joined encoded small =
     let same = one_document Legacy v one_legacy h.prefix prefix new rest (document_of x) d h.encoded encoded (sym h.joined ∙ joined) in
     (same.1, append_cancel_left prefix new rest (ap (λ (l : List ℕ). l ++ new) (sym same.0) ∙ sym h.joined ∙ joined))
-only_by v (Err (errors.CorruptedValue c)) old new count h full kind few d prefix rest joined encoded small = excluded v old prefix rest d (corrupted c) joined encoded (told v (errors.CorruptedValue c) (corrupted c) old new count is_corrupted few h).stands
+only_by v (Err (errors.CorruptedValue c)) old new count h full kind few d prefix rest joined encoded small = excluded v old prefix rest d (corrupted c) joined encoded (told_cause v c old new count few h).stands
 only_by v (Err (errors.TypeMismatch expected actual)) old new count h full kind few d prefix rest joined encoded small =
     let r = told v (errors.TypeMismatch types.String actual) (no_text_key _) old new count is_no_text few (subst (λ z. GivesStop end (NoDocument v) old new count (key_stop z actual)) kind h) in
     excluded v old prefix rest d (no_text_key _) joined encoded r.stands

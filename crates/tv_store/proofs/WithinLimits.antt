@@ -9,7 +9,6 @@ use Rattle.tv_base.specs.Parts.{Begins}
 use Rattle.tv_base.specs.ReadsAs.{EndsEarly}
 use Rattle.tv_base.specs.Source.{Failures}
 use Rattle.tv_base.specs.Stop.{Stop, CountsStop, Counts, Taken}
-use Rattle.tv_base.specs.Stop.Stop.{InputError, Uncounted, Failed, Short, Never}
 use Rattle.tv_builder.specs.Builder.{built, state_of, heap_so_far}
 use Rattle.tv_builder.specs.State.{State, in_lists, IsState, lists_of}
 use Rattle.tv_doc.specs.Document.{document_of}
@@ -38,7 +37,7 @@ use Rattle.tv_decoder.proofs.WholeDocuments.{Goes, step_more, step_fails, step_t
 use Rattle.tv_store.proofs.Promises.{refused_by, only_by, excluded}
 use Rattle.tv_store.specs.Documents.{BeginsWith, NoDocument, HasNoRoom, IsReadingError}
 use Rattle.tv_store.specs.Limits.{IsPast, Checks, FindsWithin, IsDeep, PassesDepth, IsLarge, IsAll, Unread, Comes, IsLimitedError, AnswersWithin, AllNestWithinLimit, TestsDepth}
-use Rattle.tv_store.specs.Limits.{first_count, limited_stop, FindsPart, IsUncounted, Told}
+use Rattle.tv_store.specs.Limits.{first_count, limited_stop, FindsPart, Told}
 use Rattle.tv_store.specs.declared.limits.ReadLimits.{ReadLimits}
 use Rattle.tv_store.specs.declared.limits.ReadLimit.{ReadLimit}
 use Rattle.tv_store.specs.declared.limits.ReadLimit.TheVariants as limit
@@ -143,27 +142,23 @@ all_counted : (most : Option ℕ) (n count : ℕ) → count ≡ first_count most
 all_counted None n count is told all = omega (arith, is, all)
 all_counted (Some m) n count is told all = absurd (told (search rules, all))
 
-counted_again : (HasError : List ℕ → Refusal → Type 0) (most : Option ℕ) (old new : List ℕ) (count n : ℕ) (s : Stop Refusal) → count ≡ first_count most + n → (IsUncounted s → ¬ (IsSome most × (count ≡ 2 ^ 64 - 1)))
-    → GivesStop (corrupted UnexpectedEnd) HasError old new count s → GivesStop (corrupted UnexpectedEnd) HasError old new n s
-counted_again HasError most old new count n (InputError r) is told gives = gives
-counted_again HasError most old new count n (Uncounted r) is told gives = (all_counted most n count is (told tt) gives.0, gives.1)
-counted_again HasError most old new count n (Failed k) is told gives = tt
-counted_again HasError most old new count n Short is told gives = tt
-counted_again HasError most old new count n Never is told gives = gives
+counted_again : (HasError : List ℕ → Refusal → Type 0) (most : Option ℕ) (old new : List ℕ) (count n : ℕ) (e : DeserializeError) → count ≡ first_count most + n → (e ≡ errors.CorruptedValue TooLong → ¬ (IsSome most × (count ≡ 2 ^ 64 - 1)))
+    → GivesStop (corrupted UnexpectedEnd) HasError old new count (store_stop e) → GivesStop (corrupted UnexpectedEnd) HasError old new n (store_stop e)
+counted_again HasError most old new count n (errors.CorruptedValue TooLong) is told gives = (all_counted most n count is (told refl) gives.0, gives.1)
+counted_again HasError most old new count n (errors.TypeMismatch types.String actual) is told gives = gives
+counted_again HasError most old new count n (errors.TypeMismatch _ actual) is told gives = absurd gives
+counted_again HasError most old new count n _ is told gives = gives
 
 -- where more bytes are needed, those that were taken end too early
-early_of : (HasError : List ℕ → Refusal → Type 0) (e : DeserializeError) (old new : List ℕ) (count : ℕ) → IsUncounted (store_stop e) → GivesStop (corrupted UnexpectedEnd) HasError old new count (store_stop e) → EndsEarly (corrupted UnexpectedEnd) HasError old new
-early_of HasError (errors.CorruptedValue TooLong) old new count is h = h.1
-early_of HasError (errors.TypeMismatch types.String actual) old new count is h = absurd is
-early_of HasError (errors.TypeMismatch _ actual) old new count is h = absurd is
-early_of HasError _ old new count is h = absurd is
+early_of : (HasError : List ℕ → Refusal → Type 0) (e : DeserializeError) (old new : List ℕ) (count : ℕ) → e ≡ errors.CorruptedValue TooLong → GivesStop (corrupted UnexpectedEnd) HasError old new count (store_stop e) → EndsEarly (corrupted UnexpectedEnd) HasError old new
+early_of HasError e old new count is h = (subst (λ z. GivesStop (corrupted UnexpectedEnd) HasError old new count (store_stop z)) is h).1
 
 refused : (v : Version) (limits : ReadLimits) (begun : Reading) (e : DeserializeError) (old new : List ℕ) (count : ℕ) → parts_read begun ≡ []
     → GivesStop (corrupted UnexpectedEnd) (NoPrefix v begun) old new count (store_stop e) → Taken old new (first_count limits.bytes) count → count < 2 ^ 64
-    → (IsUncounted (store_stop e) → ¬ (IsSome limits.bytes × (count ≡ 2 ^ 64 - 1))) → (e ≡ errors.HeapFull → NoRoomBehind v begun old) → Comes v limits old new (Err (limited.Read e))
+    → (e ≡ errors.CorruptedValue TooLong → ¬ (IsSome limits.bytes × (count ≡ 2 ^ 64 - 1))) → (e ≡ errors.HeapFull → NoRoomBehind v begun old) → Comes v limits old new (Err (limited.Read e))
 refused v limits begun e old new count none stop t below told full =
     let unread : Unread v old new (length t.prefix) e = record {
-      stop = counted_again (NoDocument v) limits.bytes old new count (length t.prefix) (store_stop e) t.counted told (stop_map (corrupted UnexpectedEnd) (NoPrefix v begun) (NoDocument v) (store_stop e) old new count (λ w r h. h [] (at_start v begun none)) stop);
+      stop = counted_again (NoDocument v) limits.bytes old new count (length t.prefix) e t.counted told (stop_map (corrupted UnexpectedEnd) (NoPrefix v begun) (NoDocument v) (store_stop e) old new count (λ w r h. h [] (at_start v begun none)) stop);
       full = λ is. full is [] (at_start v begun none);
     } in
     record { taken = t.prefix; joined = t.joined; most = taken_within limits.bytes t.prefix old new count t.joined t below; outcome = unread }
@@ -196,11 +191,7 @@ told_of v limits begun e old new count all (limited.Limit limit.Depth) told none
 -- how often the source failed is not changed by what is said
 pub told_counts : (e : DeserializeError) (all : Bool) (said : LimitedReadError) (s : Stop Refusal) (old new : Failures) → store_stop e ≡ s → Told all e said → CountsStop s old new → CountsStop (limited_stop said) old new
 told_counts e all (limited.Read f) s old new is told counts = subst (λ z. CountsStop z old new) (sym is ∙ ap store_stop (sym told.0)) counts
-told_counts e all (limited.Limit limit.Bytes) (Uncounted r) old new is told counts = counts
-told_counts e all (limited.Limit limit.Bytes) (InputError r) old new is told counts = absurd (subst IsUncounted is told.1)
-told_counts e all (limited.Limit limit.Bytes) (Failed k) old new is told counts = absurd (subst IsUncounted is told.1)
-told_counts e all (limited.Limit limit.Bytes) Short old new is told counts = counts
-told_counts e all (limited.Limit limit.Bytes) Never old new is told counts = absurd counts
+told_counts e all (limited.Limit limit.Bytes) s old new is told counts = subst (λ z. CountsStop (store_stop z) old new) told.1 (subst (λ z. CountsStop z old new) (sym is) counts)
 told_counts e all (limited.Limit limit.HeapBytes) s old new is told counts = absurd told
 told_counts e all (limited.Limit limit.Depth) s old new is told counts = absurd told
 
@@ -248,7 +239,7 @@ part_stop : (e : DeserializeError) (all : Bool) (said : LimitedReadError) (most 
     → IsTrue all ↔ (IsSome most × (j ≡ 2 ^ 64 - 1)) → ((b : List ℕ) (f : Refusal) → H b f → G b f) → GivesStop (corrupted UnexpectedEnd) H a b j (store_stop e) → GivesStop (corrupted UnexpectedEnd) G a b k (limited_stop said)
 part_stop e all (limited.Read f) most H G a b first from i j k begun ended told is rises same to stop =
     subst (λ z. GivesStop (corrupted UnexpectedEnd) G a b k (store_stop z)) (sym told.0)
-    (counted_again G most a b j k (store_stop e) (omega (arith, is, rises)) (λ uncounted both. told.1 uncounted (same.1 both)) (stop_map (corrupted UnexpectedEnd) H G (store_stop e) a b j to stop))
+    (counted_again G most a b j k e (omega (arith, is, rises)) (λ uncounted both. told.1 uncounted (same.1 both)) (stop_map (corrupted UnexpectedEnd) H G (store_stop e) a b j to stop))
 part_stop e all (limited.Limit l) most H G a b first from i j k begun ended told is rises same to stop = tt
 
 module _ {S X : Type 0} {is_known : S → Type 0} {left : S → List ℕ} {failures : S → Failures} {old new : S} {from i j k : ℕ} (first : ℕ) (begun : from ≡ first + i) (ended : k ≡ j - first) where

@@ -1,9 +1,9 @@
 -- What reading a document within limits returns.
 use Rattle.std.specs.Prelude.{◌≡◌, ◌⊎◌, ℕ, Bool, IsTrue, ◌+◌, ◌-◌, ◌^◌, ◌<◌, List, ◌++◌, length, Option, Some, None, Result, Ok, Err, IsSome}
-use Rattle.tv_base.specs.declared.cause.Cause.TheVariants.{UnexpectedEnd}
+use Rattle.tv_base.specs.declared.cause.Cause.TheVariants.{UnexpectedEnd, TooLong}
 use Rattle.tv_base.specs.Source.{Failures}
 use Rattle.tv_base.specs.Stop.{Stop}
-use Rattle.tv_base.specs.Stop.Stop.{InputError, Uncounted, Failed, Short, Never}
+use Rattle.tv_base.specs.Stop.Stop.{Short}
 use Rattle.tv_builder.specs.Behind.{open_parts}
 use Rattle.tv_builder.specs.Builder.{built, state_of, heap_so_far}
 use Rattle.tv_builder.specs.Prefix.{Encoded}
@@ -52,18 +52,10 @@ abbrev pub first_count : Option ℕ → ℕ
 first_count None = 0
 first_count (Some most) = 2 ^ 64 - 1 - most
 
--- more bytes are needed, and no more can be counted
-abbrev pub IsUncounted : Stop Refusal → Type 0
-IsUncounted (Uncounted end) = Unit {0}
-IsUncounted (InputError error) = ⊥
-IsUncounted (Failed kind) = ⊥
-IsUncounted Short = ⊥
-IsUncounted Never = ⊥
-
 -- What is said of an error: where all bytes were taken that may be and more are needed, that the limit is passed, and else the error itself.
 abbrev pub Told : Bool → DeserializeError → LimitedReadError → Type 0
-Told took_all e (limited.Read told) = (told ≡ e) × (IsUncounted (store_stop e) → ¬ IsTrue took_all)
-Told took_all e (limited.Limit limit.Bytes) = IsTrue took_all × IsUncounted (store_stop e)
+Told took_all e (limited.Read told) = (told ≡ e) × (e ≡ errors.CorruptedValue TooLong → ¬ IsTrue took_all)
+Told took_all e (limited.Limit limit.Bytes) = IsTrue took_all × (e ≡ errors.CorruptedValue TooLong)
 Told took_all e (limited.Limit limit.HeapBytes) = ⊥
 Told took_all e (limited.Limit limit.Depth) = ⊥
 

@@ -3,7 +3,7 @@
 ghost use Rattle.std.specs.Prelude.{◌≡◌, ◌↔◌, ◌<◌, ◌≤◌, ◌++◌, ◌+◌, ◌-◌, ◌^◌, ℕ, List, None, length, IsTrue, OnOk, OnErr, Ok, Err, true, false};
 ghost use Rattle.std.specs.Prelude.{IfOk, IfErr, IsErrOf, IsSome, Some};
 ghost use Rattle.tv_base.specs.Parts.{Begins};
-ghost use Rattle.tv_base.specs.declared.cause.Cause.TheVariants.{UnexpectedEnd};
+ghost use Rattle.tv_base.specs.declared.cause.Cause.TheVariants.{UnexpectedEnd, TooLong};
 ghost use Rattle.tv_base.specs.ReadsAs.{Known, EndsEarly};
 ghost use Rattle.tv_base.specs.Stop.{Counts};
 ghost use Rattle.tv_builder.specs.Builder.{state_of, heap_so_far};
@@ -12,10 +12,10 @@ ghost use Rattle.tv_doc.specs.Document.{document_of, heap_of};
 ghost use Rattle.tv_decoder.specs.Prefix.{IsDone, NoPrefix, NoRoomBehind, HasNoRoom};
 ghost use Rattle.tv_decoder.specs.Steps.{Advances, Stepped};
 ghost use Rattle.tv_legacy.specs.Legacy.{Legacy};
-ghost use Rattle.tv_reader.specs.Error.{IsRefusal, store_stop};
+ghost use Rattle.tv_reader.specs.Error.{IsRefusal};
 ghost use Rattle.tv_reader.specs.declared.error.DeserializeError.{DeserializeError};
 ghost use Rattle.tv_reader.specs.Version.{version_of};
-ghost use Rattle.tv_reader.specs.declared.error.DeserializeError.TheVariants.{HeapFull, AlreadyFailed};
+ghost use Rattle.tv_reader.specs.declared.error.DeserializeError.TheVariants.{CorruptedValue, HeapFull, AlreadyFailed};
 ghost use Rattle.tv_format.specs.InputError.{Refusal, corrupted};
 ghost use Rattle.tv_format.specs.Encoding.{EncodesDocument};
 ghost use Rattle.tv_format.specs.Tree.{Document};
@@ -23,7 +23,7 @@ ghost use Rattle.tv_heap.specs.Room.{document_room};
 ghost use Rattle.tv_store.specs.Limits.{Checks, FindsWithin, IsPast, PassesDepth, IsLarge, IsAll};
 ghost use Rattle.tv_store.specs.Limits.{AllNestWithinLimit, TestsDepth};
 ghost use Rattle.tv_store.specs.Limits.{AnswersWithin, Comes, IsLimitedError, limited_stop};
-ghost use Rattle.tv_store.specs.Limits.{first_count, FindsPart, IsCapped, IsUncounted, Leaves, TestsLimits};
+ghost use Rattle.tv_store.specs.Limits.{first_count, FindsPart, IsCapped, Leaves, TestsLimits};
 ghost use Rattle.tv_store.specs.Limits.{Told};
 ghost use Rattle.tv_store.specs.Decoder.{SaysDone, Rests};
 ghost use Rattle.tv_decoder.specs.Kept.{Grows, KeepsPairs};
@@ -143,7 +143,7 @@ fn is_all(most: Option<u64>, count: u64) -> bool
 
 // Whether more bytes are needed, and no more can be counted.
 fn is_uncounted(error: &DeserializeError) -> bool
-    ensures { IsTrue result ↔ IsUncounted (store_stop error.now) }
+    ensures { IsTrue result ↔ (error.now ≡ CorruptedValue TooLong) }
 {
     match error {
         DeserializeError::CorruptedValue(Cause::TooLong) => true,
