@@ -1,4 +1,4 @@
-//! Terms as they are printed for who looks for a mistake.
+//! Terms as they are printed for people who look for a mistake.
 
 use crate::term::Term;
 use crate::value_bytes::ValueBytes;
