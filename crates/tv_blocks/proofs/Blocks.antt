@@ -26,7 +26,7 @@ use Rattle.tv_store.specs.declared.migration.MigrateError.TheVariants.{Read, Wri
 
 -- ---- one more
 
-each-snoc : {A : Type 0} (R : List ℕ → A → Type 0) (before bytes : List ℕ) (xs : List A) (x : A) → Each R before xs → R bytes x → Each R (before ++ bytes) (xs ++ x ∷ [])
+pub each-snoc : {A : Type 0} (R : List ℕ → A → Type 0) (before bytes : List ℕ) (xs : List A) (x : A) → Each R before xs → R bytes x → Each R (before ++ bytes) (xs ++ x ∷ [])
 each-snoc R before bytes [] x none r =
     record { prefix = bytes; rest = []; joined = ap (λ (l : List ℕ). l ++ bytes) none ∙ sym (append-nil bytes); first = r; second = refl }
 each-snoc R before bytes (y ∷ ys) x t r = record {
@@ -41,7 +41,7 @@ flat-snoc : {A : Type 0} (f : A → List ℕ) (xs : List A) (x : A) → flat_map
 flat-snoc f [] x = append-nil (f x)
 flat-snoc f (y ∷ ys) x = ap (λ (l : List ℕ). f y ++ l) (flat-snoc f ys x) ∙ sym (append_assoc (f y) (flat_map f ys) (f x))
 
-joined_more : (block before rest bytes now : List ℕ) → block ≡ before ++ rest → rest ≡ bytes ++ now → block ≡ (before ++ bytes) ++ now
+pub joined_more : (block before rest bytes now : List ℕ) → block ≡ before ++ rest → rest ≡ bytes ++ now → block ≡ (before ++ bytes) ++ now
 joined_more block before rest bytes now e f = e ∙ ap (λ (l : List ℕ). before ++ l) f ∙ sym (append_assoc before bytes now)
 
 -- ---- migrating

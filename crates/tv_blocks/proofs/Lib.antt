@@ -3,3 +3,4 @@ pub mod Schemas
 pub mod Suffixes
 pub mod Blocks
 pub mod Importing
+pub mod Records

@@ -137,7 +137,13 @@ pub fn terms_of_block(
         (IsBlockRefusal (version_of version) block.now) terms.old terms.new result }
 {
     let mut found = Vec::new(alloc);
-    append_block(alloc, Field::from_field_id(field), version, block, &mut found)?;
+    append_block(
+        alloc,
+        Field::from_field_id(field),
+        version,
+        block,
+        &mut found,
+    )?;
     put_whole(found.as_slice(), terms)
 }
 
