@@ -168,11 +168,7 @@ pub extern "C" fn kormaglen_term_of_text(
 
 /// Writes the least byte string above all that begin with a prefix, see `tv_blocks::end_of_prefix`.
 #[unsafe(no_mangle)]
-pub extern "C" fn kormaglen_end_of_prefix(
-    alloc: Global,
-    prefix: &[u8],
-    end: &mut [u8],
-) -> Answer
+pub extern "C" fn kormaglen_end_of_prefix(alloc: Global, prefix: &[u8], end: &mut [u8]) -> Answer
     ensures { AnswersFill (IsEnd prefix.now) (IsEndRefusal prefix.now) end.old end.new result }
 {
     written_answer(tv_blocks::end_of_prefix(alloc, prefix, end))
