@@ -3,7 +3,8 @@ use Rattle.std.proofs.Common.{◌≡◌, ℕ, ◌-◌, ◌^◌, ◌<◌, Bool, t
 use Rattle.std.specs.Prelude.{IfOk, IfErr, IsErrOf}
 use Rattle.std.proofs.lemmas.List.{append_cancel_left}
 use Rattle.std.proofs.lemmas.Result.{IfErr-at_err}
-use Rattle.tv_base.specs.declared.cause.Cause.TheVariants.{UnexpectedEnd}
+use Rattle.tv_base.specs.declared.cause.Cause.{Cause}
+use Rattle.tv_base.specs.declared.cause.Cause.TheVariants.{UnexpectedEnd, TooLong}
 use Rattle.tv_base.specs.Number.{Groups, last, more}
 use Rattle.tv_base.specs.Parts.{Begins}
 use Rattle.tv_base.specs.Source.{Failures}
@@ -32,10 +33,14 @@ use Rattle.tv_store.proofs.Promises.{end, errors_by, excluded}
 
 -- ---- errors
 
--- a refusal is told of bytes, whatever they are read as
+-- a refusal is told of bytes, whatever they are read as, where more can be counted
+told_cause : (P : List ℕ → Refusal → Type 0) (c : Cause) (old new : List ℕ) (count : ℕ) → count < 2 ^ 64 - 1 → GivesStop end P old new count (store_stop (errors.CorruptedValue c)) → Refuses end P old new (corrupted c)
+told_cause P TooLong old new count few h = absurd (omega (arith, few, h.0))
+told_cause P c old new count few h = h
+
 told : (P : List ℕ → Refusal → Type 0) (e : DeserializeError) (r : Refusal) (old new : List ℕ) (count : ℕ) → IsRefusal e r → count < 2 ^ 64 - 1 → GivesStop end P old new count (store_stop e) → Refuses end P old new r
-told P _ _ old new count is_corrupted few h = h few
-told P _ _ old new count is_no_text few h = h few
+told P _ _ old new count is_corrupted few h = told_cause P _ old new count few h
+told P _ _ old new count is_no_text few h = h
 
 pub refused_of : {X : Type 0} (A : List ℕ → X → Type 0) (P : List ℕ → Refusal → Type 0) (result : Result X DeserializeError) (old new : List ℕ) (count : ℕ) → count < 2 ^ 64 - 1 → Found store_stop end A P old new count result
     → (e : DeserializeError) (r : Refusal) → IsErrOf result e → IsRefusal e r → Refuses end P old new r
