@@ -1,8 +1,11 @@
 -- The records of terms, value by value and document by document.
-use Rattle.std.proofs.Common.{◌≡◌, ℕ, suc, ◌+◌, ◌≤◌, List, [], ◌∷◌, ◌++◌, length, refl, sym, ap, subst, ◌∙◌, arith, append_assoc, append-nil, length-append}
+use Rattle.std.proofs.Common.{◌≡◌, ℕ, suc, ◌+◌, ◌≤◌, List, [], ◌∷◌, ◌++◌, length, Result, Ok, Err, if◌then◌else◌, refl, sym, ap, subst, ◌∙◌, arith, append_assoc, append-nil, length-append}
+use Rattle.std.specs.Int.{to_le_bytes, w64}
 use Rattle.std.specs.List.{flat_map}
+use Rattle.std.specs.Prelude.{OnOk}
+use Rattle.std.specs.Result.{is_ok}
 use Rattle.tv_blocks.specs.Refusals.{EncodesBlock}
-use Rattle.tv_blocks.specs.Terms.{IsTermList, TermsSoFar, document_records, records_from, term_record, tree_value}
+use Rattle.tv_blocks.specs.Terms.{IsTermList, TermsSoFar, document_records, record_of, records_from, term_record, tree_value}
 use Rattle.tv_blocks.proofs.Blocks.{each-snoc, joined_more}
 use Rattle.tv_format.specs.Encoding.{EncodesDocument}
 use Rattle.tv_format.specs.Tree.{Tree, Document}
@@ -36,16 +39,16 @@ records-snoc first field (e ∷ es) d =
 pub terms_none : (v : Version) (field : ℕ) (block content : List ℕ) → content ≡ [] → TermsSoFar v field block block content 0
 terms_none v field block content none = record { before = []; joined = refl; documents = []; counted = refl; encoded = refl; listed = none }
 
-pub terms_more : {v : Version} {field : ℕ} {block rest now content more : List ℕ} {number : ℕ} {d : Document} → TermsSoFar v field block rest content number
+pub terms_more : {v : Version} {field : ℕ} {block rest now content more : List ℕ} {number : ℕ} (d : Document) → TermsSoFar v field block rest content number
     → BeginsWith v rest now d → more ≡ content ++ document_records number field d → TermsSoFar v field block now more (number + 1)
-terms_more {v} {field} {block} {rest} {now} {content} {more} {number} {d} m b added = record {
+terms_more {v} {field} {block} {rest} {now} {content} {more} {number} d m b added = record {
   before = m.before ++ b.prefix;
   joined = joined_more block m.before rest b.prefix now m.joined b.joined;
   documents = m.documents ++ d ∷ [];
   counted = let sum = length-append m.documents (d ∷ []) in omega (arith, sum, m.counted);
   encoded = each-snoc (EncodesDocument Legacy v) m.before b.prefix m.documents d m.encoded b.encoded;
-  listed = added ∙ ap (λ (l : List ℕ). l ++ document_records number field d) m.listed
-      ∙ ap (λ (n : ℕ). records_from 0 field m.documents ++ document_records n field d) m.counted ∙ sym (records-snoc 0 field m.documents d);
+  listed = let at : number ≡ 0 + length m.documents = omega (arith, m.counted) in added ∙ ap (λ (l : List ℕ). l ++ document_records number field d) m.listed
+      ∙ ap (λ (n : ℕ). records_from 0 field m.documents ++ document_records n field d) at ∙ sym (records-snoc 0 field m.documents d);
 }
 
 pub terms_all : {v : Version} {field : ℕ} {block rest content : List ℕ} {number : ℕ} → TermsSoFar v field block rest content number → rest ≡ [] → IsTermList v field block content
@@ -54,3 +57,12 @@ terms_all {v} {field} {block} {rest} {content} m none = (
   subst (λ (l : List ℕ). EncodesBlock v l m.documents) (sym (m.joined ∙ ap (λ (l : List ℕ). m.before ++ l) none ∙ append-nil m.before)) m.encoded,
   m.listed,
 )
+
+-- a record is appended piece by piece
+pub record_added : {E : Type 0} (result : Result (Unit {0}) E) (document : ℕ) (old one two three head size bytes serialized : List ℕ) → one ≡ old ++ head → two ≡ one ++ size → three ≡ (if is_ok result then two ++ bytes else two)
+    → head ≡ to_le_bytes w64 document → size ≡ to_le_bytes w64 (length bytes) → bytes ≡ serialized → OnOk result (three ≡ old ++ record_of document serialized)
+record_added (Ok x) document old one two three head size bytes serialized first second third is_head is_size is_bytes =
+    third ∙ ap (λ (l : List ℕ). l ++ bytes) (second ∙ ap (λ (l : List ℕ). l ++ size) first) ∙ append_assoc (old ++ head) size bytes ∙ append_assoc old head (size ++ bytes)
+    ∙ ap (λ (l : List ℕ). old ++ (l ++ (size ++ bytes))) is_head ∙ ap (λ (l : List ℕ). old ++ (to_le_bytes w64 document ++ (l ++ bytes))) is_size
+    ∙ ap (λ (l : List ℕ). old ++ (to_le_bytes w64 document ++ (to_le_bytes w64 (length l) ++ l))) is_bytes
+record_added (Err e) document old one two three head size bytes serialized first second third is_head is_size is_bytes = tt

@@ -35,7 +35,7 @@ tree_value (object es) = None
 
 -- the number of a document, the length of the term, both in eight bytes, the lowest first, and the term
 abbrev pub record_of : ℕ → List ℕ → List ℕ
-record_of document bytes = to_le_bytes w64 document ++ to_le_bytes w64 (length bytes) ++ bytes
+record_of document serialized = to_le_bytes w64 document ++ to_le_bytes w64 (length serialized) ++ serialized
 
 abbrev pub term_record : ℕ → ℕ → Option TermValue → List ℕ
 term_record document field None = []
@@ -73,10 +73,10 @@ IsEndRefusal prefix e = ⊥
 
 -- there is a term, and a writer has it, exactly where the value has one
 abbrev pub HasTerm : ℕ → Option TermValue → List ℕ → Bool → Type 0
-HasTerm field (Some value) bytes true = (bytes ≢ []) × (bytes ≡ term field value)
-HasTerm field (Some value) bytes false = ⊥
-HasTerm field None bytes true = ⊥
-HasTerm field None bytes false = Unit {0}
+HasTerm field (Some value) held true = (held ≢ []) × (held ≡ term field value)
+HasTerm field (Some value) held false = ⊥
+HasTerm field None held true = ⊥
+HasTerm field None held false = Unit {0}
 
 -- so far the records of the documents before the rest of the block have been appended
 pub record TermsSoFar (v : Version) (field : ℕ) (block rest content : List ℕ) (number : ℕ) : Type 0 where

@@ -28,7 +28,7 @@ fn write_leaf(
     field: Field,
     leaf: ReferenceValueLeaf<'_>,
 ) -> Result<bool, TermError>
-    ensures { IfOk result (HasTerm field.id (leaf_value (leaf_of leaf)) writer.new) }
+    ensures { IfOk result (HasTerm field.id (leaf_value (leaf_of leaf.entry)) writer.new) }
 {
     match leaf {
         ReferenceValueLeaf::Null => return Ok(false),
@@ -62,7 +62,7 @@ fn append_value<'a, V: Value<'a>>(
     document: u64,
     value: V,
     terms: &mut Vec<u8>,
-) -> Result<(), BlockError>
+) -> Result<(), AllocError>
     ensures { OnOk result
         (terms.new.items ≡ terms.old.items
         ++ term_record document field.id (tree_value (V.tree value))) }
@@ -70,20 +70,21 @@ fn append_value<'a, V: Value<'a>>(
     let ReferenceValue::Leaf(leaf) = value.as_value() else {
         return Ok(());
     };
-    if write_leaf(writer, field, leaf)? {
-        append_record(terms, document, writer.term())?;
+    match write_leaf(writer, field, leaf) {
+        Ok(true) => append_record(terms, document, writer.term()),
+        Ok(false) => Ok(()),
+        Err(_) => Err(AllocError),
     }
-    Ok(())
 }
 
-// Appends the records of the field's values in a document.
+// Appends the records of the field's values in a document. The only error is that memory was refused.
 fn append_document(
     writer: &mut TermWriter,
     field: Field,
     number: u64,
     document: &CompactDoc,
     terms: &mut Vec<u8>,
-) -> Result<(), BlockError>
+) -> Result<(), AllocError>
     ensures { OnOk result
         (terms.new.items ≡ terms.old.items
         ++ document_records number field.id (document_of document.now)) }

@@ -1,0 +1,35 @@
+use Rattle.std.proofs.Common.{◌≡◌, ℕ, ◌+◌, ◌-◌, ◌^◌, ◌<◌, ◌≤◌, ◌++◌, List, length, Ok, Err, refl, sym, subst, ap, ◌∙◌, arith}
+use Rattle.tv_blocks.specs.Blocks.{IsRefusedBlock}
+use Rattle.tv_blocks.specs.Terms.{TermsSoFar, document_records}
+use Rattle.tv_doc.specs.Document.{document_of}
+use Rattle.tv_reader.specs.Version.{version_of}
+use Rattle.tv_reader.specs.declared.version.DocStoreVersion.{DocStoreVersion}
+use Rattle.tv_store.specs.Documents.{BeginsWith, NoDocument, HasNoRoom}
+use Rattle.tv_blocks.proofs.Blocks.{breaks, no_more_left, rest_at}
+use Rattle.tv_blocks.proofs.Records.{terms_more, terms_none}
+use Rattle.tv_blocks.proofs.terms.append_block.Goals as goal
+
+pub returns-in-Err-clause-err : goal.returns-in-Err-clause-err
+returns-in-Err-clause-err c =
+    let i = c.loop-writer.invariant in
+    let m = i.so_far in
+    let v = version_of c.args.version in
+    let rest = c.loop-writer.source.rest.now in
+    let known : length rest < 2 ^ 64 - 1 = no_more_left c.args.block.now m.before rest m.joined (omega arith) in
+    subst (IsRefusedBlock v c.args.block.now) (sym c.unread.ensures)
+    (breaks v c.args.block.now m.before rest m.documents _ c.in-Err.error m.joined (ap (λ n. length c.args.block.now - n) (ap length c.rest.ensures) ∙ rest_at c.args.block.now m.before rest m.joined) m.encoded
+    (λ r refusal. subst (λ (w : DocStoreVersion). NoDocument (version_of w) rest r) i.version (c.in-Err.ensures.error (tt, known) c.in-Err.error r refl refusal))
+    (λ full. subst (λ (w : DocStoreVersion). HasNoRoom (version_of w) rest) i.version (c.in-Err.ensures.full tt (ap Err full))) (c.in-Err.ensures.errors i.live))
+
+pub loop-writer-preserved : goal.loop-writer-preserved
+loop-writer-preserved c =
+    let i = c.loop-writer.invariant in
+    let is = c.in-Ok-true.is ∙ ap Ok c.in-Ok-true.field-0-test in
+    let found = c.advance.ensures.found tt is in
+    record {
+      live = c.in-Ok-true.ensures.live;
+      version = c.advance.ensures.version ∙ i.version;
+      few = omega (arith, i.few, c.advance.ensures.fewer tt is);
+      so_far = terms_more (document_of c.advance.new.self.document) i.so_far (subst (λ (w : DocStoreVersion). BeginsWith (version_of w) c.loop-writer.source.rest.now c.advance.new.source.rest.now (document_of c.advance.new.self.document)) i.version found)
+          (subst (λ d. c.append_document.new.terms.items ≡ c.loop-writer.terms.items ++ document_records c.loop-writer.number c.args.field.id (document_of d)) c.document.ensures c.in_ok-append_document-in-Ok-true.ensures);
+    }
