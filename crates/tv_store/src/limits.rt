@@ -236,6 +236,7 @@ fn take_within<S: ByteSource>(
             return Ok(None);
         }
     }
+    let _count = decoder.bytes_read();
     Err(DeserializeError::CorruptedValue(Cause::TooLong))
 }
 
