@@ -191,7 +191,7 @@ fn skip_items<S: ByteSource>(
 /// Passes over a value, to any depth, by no recursion. It is tested as if it were read, and nothing of it is kept.
 ///
 /// Memory is taken for texts that the source doesn't lend, which are tested in one buffer that is used again, and for objects as
-/// older stores hold them; and for the lists that are open, from the first list in a list on.
+/// older stores hold them; and for each list that is open.
 ///
 /// Errors: `CorruptedValue` and `TypeMismatch` with the first error in the bytes; `Io` where the source failed; `Memory`.
 pub fn pass_value<S: ByteSource>(
