@@ -18,7 +18,7 @@ AnswersFill P R old new answer = (told : Result ℕ BlockError) × Fills P R old
 
 -- the answer tells what was found, or why nothing was
 abbrev pub FoundOr : List ℕ → List ℕ → FoundField → Result ℕ BlockError → Type 0
-FoundOr schema path found (Ok zero) = Finds schema path found × (zero ≡ 0)
+FoundOr schema path found (Ok size) = Finds schema path found × (size ≡ 0)
 FoundOr schema path found (Err e) = IsPathAnswer schema path e × (found ≡ record { field = 0; rest = 0 })
 
 abbrev pub AnswersFound : List ℕ → List ℕ → FoundField → Answer → Type 0
