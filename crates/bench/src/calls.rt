@@ -92,7 +92,7 @@ impl Round {
 }
 
 impl Call {
-    pub const ALL: [Call; 22] = [
+    pub const ALL: [Call; 23] = [
         Call::ReadJson,
         Call::ParseJson,
         Call::ParseJsonInto,

@@ -93,8 +93,8 @@ fn nothing_is_imported_where_a_buffer_is_too_small(rt: HostRuntime) -> Result<()
 fn a_block_is_printed(rt: HostRuntime) -> Result<(), Fail> {
     let alloc = rt.alloc();
     let text: &[u8] = b"{\"s\":[\"a\"]}\n{\"j\":[{\"a\":\"b\"}]}\n";
-    let mut lines = [KEPT; 32];
     for (version, block) in [(DocStoreVersion::V2, BLOCK), (DocStoreVersion::V3, LATER)] {
+        let mut lines = [KEPT; 32];
         let len = export_block(alloc, SCHEMA, version, block, &mut lines);
         assert_eq!(rt; len, Ok(30));
         assert_eq!(rt; &lines[..30], text);
