@@ -3,7 +3,7 @@
 >>> schema = b'[{"name":"name","type":"text","options":{"stored":true}}]'
 >>> imported = import_lines(schema, b'{"name":"Ada"}\\n')
 >>> imported.lines
-[LineAnswer(status='stored', bytes=11)]
+[LineAnswer(status='stored', bytes=10)]
 >>> export_block(schema, 2, imported.block)
 b'{"name":["Ada"]}\\n'
 """
