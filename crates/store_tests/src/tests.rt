@@ -1,8 +1,6 @@
-//! Values of great depth, documents read in place, within limits or passed over, blocks in buffers of a caller's, the laws of calls in use, a
-//! store of one's own, and calls that fail.
+//! Values of great depth, documents read in place and within limits, the laws of calls in use, a store of one's own, and calls that fail.
 
 mod blocks;
-mod buffers;
 mod deep;
 mod embedded;
 mod failing_reads;
@@ -11,4 +9,3 @@ mod failing_writes;
 mod laws;
 mod limits;
 mod reused;
-mod skipped;

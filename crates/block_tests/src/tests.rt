@@ -1,0 +1,4 @@
+//! Blocks in buffers of a caller's, and documents that are passed over.
+
+mod buffers;
+mod skipped;
