@@ -33,6 +33,9 @@ const BLOCK: &[u8] = b"\x81\0\0\0\0\0\x81a\x81\x04\0\0\0\x0d\x82\0\x81a\0\x81b";
 // The same in version 3.
 const LATER: &[u8] = b"\x81\0\0\0\0\0\x81a\x81\x04\0\0\0\x0d\x81\x81a\0\x81b";
 
+// Both as lines of JSON, and two bytes that stay as they were.
+const PRINTED: &[u8] = b"{\"s\":[\"a\"]}\n{\"j\":[{\"a\":\"b\"}]}\n\xa5\xa5";
+
 // The statuses of the lines, and how many bytes each stores.
 const STATUSES: [u32; 8] = [0, 1, 2, 3, 4, 5, 6, 0];
 
@@ -92,16 +95,14 @@ fn nothing_is_imported_where_a_buffer_is_too_small(rt: HostRuntime) -> Result<()
 #[test]
 fn a_block_is_printed(rt: HostRuntime) -> Result<(), Fail> {
     let alloc = rt.alloc();
-    let text: &[u8] = b"{\"s\":[\"a\"]}\n{\"j\":[{\"a\":\"b\"}]}\n";
     let mut lines = [KEPT; 32];
     let len = export_block(alloc, SCHEMA, DocStoreVersion::V2, BLOCK, &mut lines);
     assert_eq!(rt; len, Ok(30));
-    assert_eq!(rt; &lines[..30], text);
-    assert_eq!(rt; &lines[30..], [KEPT; 2].as_slice());
+    assert_eq!(rt; lines.as_slice(), PRINTED);
     let mut others = [KEPT; 32];
     let later = export_block(alloc, SCHEMA, DocStoreVersion::V3, LATER, &mut others);
     assert_eq!(rt; later, Ok(30));
-    assert_eq!(rt; &others[..30], text);
+    assert_eq!(rt; others.as_slice(), PRINTED);
     let mut short = [KEPT; 29];
     let needed = BlockError::TooSmall {
         bytes: 30,
