@@ -59,7 +59,8 @@ enum kormaglen_document_detail {
     KORMAGLEN_DOCUMENT_OLD_JSON = 10,
     KORMAGLEN_DOCUMENT_OLD_FLOAT = 11,
     KORMAGLEN_DOCUMENT_KEY_NO_TEXT = 12,
-    KORMAGLEN_DOCUMENT_NO_ROOM = 13
+    KORMAGLEN_DOCUMENT_NO_ROOM = 13,
+    KORMAGLEN_DOCUMENT_TOO_LONG = 14
 };
 
 /* What became of a line: kormaglen_line_answer.status. */

@@ -47,6 +47,8 @@ pub enum Call {
     ReadBuffered,
     /// From a block to documents, each in the memory of the one before.
     ReadBlock,
+    /// The values of the schema's first field out of the documents of a block, each document in the memory of the one before.
+    ReadFields,
     /// The documents of a block, passed over.
     SkipDocument,
     /// From lines of JSON to answers.
@@ -59,8 +61,12 @@ pub enum Call {
     Terms,
     /// From values to terms in one buffer.
     WriteTerms,
+    /// From documents to the terms of their values in one buffer, which is used again.
+    TermValues,
     /// From texts to facets, each tested as a prefix of the next.
     Facets,
+    /// How many facets there are below each child of the root, counted in one pass over all.
+    CountFacets,
 }
 
 /// What a round did: how often the call was made, how often it was refused, and how many bytes the answers
@@ -92,7 +98,7 @@ impl Round {
 }
 
 impl Call {
-    pub const ALL: [Call; 23] = [
+    pub const ALL: [Call; 26] = [
         Call::ReadJson,
         Call::ParseJson,
         Call::ParseJsonInto,
@@ -109,13 +115,16 @@ impl Call {
         Call::ReadSource,
         Call::ReadBuffered,
         Call::ReadBlock,
+        Call::ReadFields,
         Call::SkipDocument,
         Call::Run,
         Call::ReadSchema,
         Call::FindField,
         Call::Terms,
         Call::WriteTerms,
+        Call::TermValues,
         Call::Facets,
+        Call::CountFacets,
     ];
 
     /// The name under which it is told.
@@ -137,13 +146,16 @@ impl Call {
             Call::ReadSource => "read_source",
             Call::ReadBuffered => "read_buffered",
             Call::ReadBlock => "read_block",
+            Call::ReadFields => "read_fields",
             Call::SkipDocument => "skip_document",
             Call::Run => "run",
             Call::ReadSchema => "read_schema",
             Call::FindField => "find_field",
             Call::Terms => "terms",
             Call::WriteTerms => "write_terms",
+            Call::TermValues => "term_values",
             Call::Facets => "facets",
+            Call::CountFacets => "count_facets",
         }
     }
 
@@ -153,7 +165,7 @@ impl Call {
             Call::ReadSchema => "field",
             Call::FindField => "path",
             Call::Terms | Call::WriteTerms => "term",
-            Call::Facets => "facet",
+            Call::Facets | Call::CountFacets => "facet",
             _ => "doc",
         }
     }
@@ -167,13 +179,16 @@ impl Call {
             Call::ReadSource => layer::read_source_each(alloc, inputs, documents),
             Call::ReadBuffered => layer::read_buffered_each(alloc, inputs, documents),
             Call::ReadBlock => layer::read_block_each(alloc, inputs, documents),
+            Call::ReadFields => layer::read_fields_each(alloc, inputs, documents),
             Call::SkipDocument => layer::skip_each(alloc, inputs, documents),
             Call::Run => Ok(layer::run_lines(alloc, inputs, documents)),
             Call::ReadSchema => layer::read_schema(alloc, inputs),
             Call::FindField => Ok(layer::find_each(workload, inputs)),
             Call::Terms => layer::make_terms(alloc, workload),
             Call::WriteTerms => layer::write_terms(alloc, workload),
+            Call::TermValues => layer::list_terms(alloc, workload),
             Call::Facets => layer::make_facets(alloc, inputs),
+            Call::CountFacets => layer::count_facets(alloc, inputs),
             other => other.for_each_document(alloc, workload),
         }
     }

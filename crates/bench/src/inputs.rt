@@ -3,7 +3,7 @@
 use crate::workload::Workload;
 use anyhow::Result;
 use std::alloc::Global;
-use tantivy_schema::schema::Schema;
+use tantivy_schema::schema::{Facet, Schema};
 
 /// All documents one behind the other, the schema's JSON, paths into its fields, texts of facets, and lines.
 pub struct Inputs {
@@ -15,6 +15,8 @@ pub struct Inputs {
     pub paths: Vec<String>,
     /// The text of a facet of three steps for each document.
     pub facets: Vec<String>,
+    /// These facets in rising order.
+    pub rising_facets: Vec<Facet>,
     /// The schema's line, and a line for each document.
     pub lines: Vec<u8>,
 }
@@ -27,6 +29,7 @@ impl Drop for Inputs {
             schema_json: _,
             paths: _,
             facets: _,
+            rising_facets: _,
             lines: _,
         } = self;
     }
@@ -37,11 +40,14 @@ impl Inputs {
     pub fn of(alloc: Global, workload: &Workload) -> Result<Inputs> {
         let schema_json = json_of(alloc, &workload.schema)?;
         let lines = lines_of(alloc, schema_json.as_str(), workload.lines.as_slice())?;
+        let facets = facets_of(alloc, workload.lines.len())?;
+        let rising_facets = rising(alloc, facets.as_slice())?;
         Ok(Inputs {
             block: block_of(alloc, workload.stored.as_slice())?,
             schema_json,
             paths: paths_of(alloc, &workload.schema)?,
-            facets: facets_of(alloc, workload.lines.len())?,
+            facets,
+            rising_facets,
             lines,
         })
     }
@@ -86,5 +92,14 @@ fn facets_of(alloc: Global, count: usize) -> Result<Vec<String>> {
     for number in 0..count {
         facets.push(format!(in alloc; "/{}/{}/{number}", number % 10, number % 100)?)?;
     }
+    Ok(facets)
+}
+
+fn rising(alloc: Global, texts: &[String]) -> Result<Vec<Facet>> {
+    let mut facets = Vec::new(alloc);
+    for text in texts {
+        facets.push(Facet::from_text(alloc, text.as_str())?)?;
+    }
+    facets.sort()?;
     Ok(facets)
 }

@@ -13,9 +13,12 @@ use tantivy_schema::schema::document::{
     BinaryDocumentDeserializer, CompactDoc, DeserializeError, DocumentDeserializer, OwnedValue,
     StoreReader,
 };
-use tantivy_schema::schema::{Facet, Schema, Term, TermError, TermWriter};
+use tantivy_schema::schema::{
+    Facet, Field, Schema, Term, TermError, TermList, TermWriter, count_child_facets, term_values,
+};
 use tantivy_schema::store::{
-    BlockReader, DirectDecoder, DocStoreVersion, Step, read_document, skip_document,
+    BlockReader, DirectDecoder, DocStoreVersion, Step, read_document, read_fields_into,
+    skip_document,
 };
 
 // So many bytes are read of a file at a time.
@@ -104,6 +107,22 @@ pub fn read_block_each(alloc: Global, inputs: &Inputs, documents: usize) -> Resu
     for _ in 0..documents {
         if reader.advance(&mut source)? {
             round.made(reader.document().node_data().len());
+        }
+    }
+    Ok(round)
+}
+
+/// The values of the schema's first field out of the documents of a block, each document in the memory of the one before.
+pub fn read_fields_each(alloc: Global, inputs: &Inputs, documents: usize) -> Result<Round> {
+    let mut round = Round::new();
+    let mut source = SliceSource::new(inputs.block.as_slice());
+    let mut document = CompactDoc::new(alloc);
+    let fields = [Field::from_field_id(0)];
+    let version = DocStoreVersion::V2;
+    for _ in 0..documents {
+        match read_fields_into(alloc, &mut document, &mut source, version, &fields) {
+            Ok(()) => round.made(document.node_data().len()),
+            Err(_) => round.left_out(),
         }
     }
     Ok(round)
@@ -209,6 +228,20 @@ fn write_term(writer: &mut TermWriter, pair: &Pair) -> Result<bool, TermError> {
     Ok(true)
 }
 
+/// The terms of each document's values in one buffer, which is used again.
+pub fn list_terms(alloc: Global, workload: &Workload) -> Result<Round> {
+    let mut round = Round::new();
+    let mut terms = TermList::new(alloc);
+    for document in &workload.documents {
+        terms.clear();
+        match term_values(alloc, &workload.schema, document, &mut terms) {
+            Ok(()) => round.made(terms.len()),
+            Err(_) => round.left_out(),
+        }
+    }
+    Ok(round)
+}
+
 /// From its text to a facet; each is tested as a prefix of the next.
 pub fn make_facets(alloc: Global, inputs: &Inputs) -> Result<Round> {
     let mut round = Round::new();
@@ -218,6 +251,20 @@ pub fn make_facets(alloc: Global, inputs: &Inputs) -> Result<Round> {
         round.made(usize::from(last.is_prefix_of(&facet)));
         last = facet;
     }
+    Ok(round)
+}
+
+/// How many facets there are below each child of the root, in one pass over the rising facets of all documents.
+pub fn count_facets(alloc: Global, inputs: &Inputs) -> Result<Round> {
+    let mut round = Round::new();
+    let mut rising = Vec::with_capacity(alloc, inputs.rising_facets.len())?;
+    for facet in &inputs.rising_facets {
+        rising.push(facet.encoded_str().as_bytes())?;
+        round.made(0);
+    }
+    let root = Facet::root(alloc);
+    let counts = count_child_facets(alloc, root.encoded_str().as_bytes(), rising.as_slice())?;
+    round.bytes = counts.len();
     Ok(round)
 }
 

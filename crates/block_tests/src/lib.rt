@@ -1,4 +1,4 @@
-//! Tests of `tv_blocks` and of the calls that pass over documents, in a crate of their own, so that these are proved once.
+//! Tests of `tv_blocks`, in a crate of their own, so that these are proved once.
 #![tactic(auto)]
 
 #[cfg(test)]

@@ -1,4 +1,4 @@
-//! Blocks in buffers of a caller's, and documents that are passed over.
+//! Blocks in buffers of a caller's, by a schema or its text.
 
 mod buffers;
-mod skipped;
+mod schemas;

@@ -43,6 +43,14 @@ pub enum Call {
     Step,
     /// From stored bytes into a document that is there.
     ReadInto,
+    /// Stored bytes, passed over.
+    Skip,
+    /// From stored bytes to the values of one field.
+    ReadFields,
+    /// From a block to documents, within limits that none passes.
+    BlockWithin,
+    /// From a document to the terms of its values.
+    TermValues,
     /// From stored bytes to a document, within a limit of depth.
     ReadWithin,
     /// From a document to values by the names of their fields.
@@ -86,6 +94,10 @@ impl Call {
             Call::Equal => "equal",
             Call::Step => "step",
             Call::ReadInto => "read into",
+            Call::Skip => "skip",
+            Call::ReadFields => "read fields",
+            Call::BlockWithin => "block within",
+            Call::TermValues => "term values",
             Call::ReadWithin => "read within",
             Call::Name => "name",
             Call::Copy => "copy",
@@ -133,6 +145,10 @@ impl Call {
             Call::Equal => nested::equal(alloc, workload),
             Call::Step => nested::step(alloc, workload),
             Call::ReadInto => nested::read_into(alloc, workload),
+            Call::Skip => nested::skip(alloc, workload),
+            Call::ReadFields => nested::read_chosen(alloc, workload),
+            Call::BlockWithin => nested::block_within(alloc, workload),
+            Call::TermValues => nested::list_terms(alloc, workload),
             Call::Run => layer::run_lines(alloc, workload),
             Call::ReadBlock => layer::read_block(alloc, workload),
             Call::OrderTerms => layer::order_terms(alloc, workload),

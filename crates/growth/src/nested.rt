@@ -4,14 +4,14 @@ use crate::shape::Workload;
 use anyhow::{Context, Result, anyhow};
 use std::alloc::Global;
 use tantivy_schema::common::{SliceSource, VecSink};
-use tantivy_schema::schema::OwnedValue;
 use tantivy_schema::schema::document::{
     BinaryValueSerializer, CompactDoc, CompactDocValue, CopyError, DeserializeError, Document,
     SerializeError, StoreReader, TreeBuilder, is_same, push_json, to_json_value,
 };
+use tantivy_schema::schema::{OwnedValue, TermList, term_values};
 use tantivy_schema::store::{
-    DirectDecoder, DocStoreVersion, LimitedReadError, ReadLimit, ReadLimits, Step,
-    read_document_into, read_document_within,
+    BlockReader, DirectDecoder, DocStoreVersion, LimitedReadError, ReadLimit, ReadLimits, Step,
+    read_document_into, read_document_within, read_fields, skip_document,
 };
 
 // The depth of a reading within limits.
@@ -78,6 +78,49 @@ pub fn read_into(alloc: Global, workload: &Workload) -> Result<usize> {
     let mut document = CompactDoc::new(alloc);
     read_document_into(alloc, &mut document, &mut source, DocStoreVersion::V2)?;
     Ok(document.node_data().len())
+}
+
+/// Passes over the document. Gives how many bytes it has.
+pub fn skip(alloc: Global, workload: &Workload) -> Result<usize> {
+    let mut source = SliceSource::new(workload.stored.as_slice());
+    skip_document(alloc, &mut source, DocStoreVersion::V2)?;
+    let left = source.rest().len();
+    workload
+        .stored
+        .len()
+        .checked_sub(left)
+        .context("the bytes that were taken")
+}
+
+/// Reads the values of the first field that has one. Gives the length of the heap.
+pub fn read_chosen(alloc: Global, workload: &Workload) -> Result<usize> {
+    let (field, _) = workload.document.field_values().next().context("a pair")?;
+    let mut source = SliceSource::new(workload.stored.as_slice());
+    let document = read_fields(alloc, &mut source, DocStoreVersion::V2, &[field])?;
+    Ok(document.node_data().len())
+}
+
+/// Reads the document as one of a block, within limits that it doesn't pass. Gives the length of its heap.
+pub fn block_within(alloc: Global, workload: &Workload) -> Result<usize> {
+    let mut source = SliceSource::new(workload.stored.as_slice());
+    let mut reader = BlockReader::new(alloc, DocStoreVersion::V2);
+    let limits = ReadLimits {
+        depth: Some(u32::MAX),
+        ..ReadLimits::default()
+    };
+    match reader.advance_within(&mut source, limits) {
+        Ok(_) => Ok(reader.document().node_data().len()),
+        Err(error) => Err(anyhow!("{error}")),
+    }
+}
+
+/// Lists the terms of the document's values. Gives how many there are.
+pub fn list_terms(alloc: Global, workload: &Workload) -> Result<usize> {
+    let mut terms = TermList::new(alloc);
+    match term_values(alloc, &workload.schema, &workload.document, &mut terms) {
+        Ok(()) => Ok(terms.len()),
+        Err(error) => Err(anyhow!("{error}")),
+    }
 }
 
 /// Reads the document within a limit of depth. Gives the length of its heap.

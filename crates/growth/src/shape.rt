@@ -142,6 +142,10 @@ impl Shape {
                 Call::Equal,
                 Call::Step,
                 Call::ReadInto,
+                Call::Skip,
+                Call::ReadFields,
+                Call::BlockWithin,
+                Call::TermValues,
                 Call::ReadWithin,
                 Call::Name,
                 Call::Copy,
@@ -231,7 +235,7 @@ fn schema_of(alloc: Global, shape: Shape, count: u32) -> Result<Schema> {
         }
     } else {
         let _numbers = builder.add_u64_field("numbers", INDEXED | STORED)?;
-        let _tree = builder.add_json_field("tree", STORED)?;
+        let _tree = builder.add_json_field("tree", TEXT | STORED)?;
     }
     Ok(builder.build()?)
 }

@@ -1,13 +1,10 @@
 -- What the calls answer, by the numbers that tell it.
 use Rattle.std.specs.Prelude.{◌≡◌, ℕ, ◌==◌, if◌then◌else◌, List, Option, Some, None, Result, Ok, Err}
 use Rattle.tv_blocks.specs.Buffer.{Fills}
-use Rattle.tv_blocks.specs.Fields.{Finds, IsPathAnswer}
-use Rattle.tv_blocks.specs.Imports.{ImportsInto}
-use Rattle.tv_blocks.specs.Status.{answer_of, error_answer, import_answer, wrong_version}
+use Rattle.tv_blocks.specs.Status.{answer_of, import_answer, wrong_version}
 use Rattle.tv_blocks.specs.declared.block_error.BlockError.{BlockError}
 use Rattle.tv_blocks.specs.declared.field_path.FoundField.{FoundField}
 use Rattle.tv_blocks.specs.declared.import.Imported.{Imported}
-use Rattle.tv_blocks.specs.declared.import.LineAnswer.{LineAnswer}
 use Rattle.tv_blocks.specs.declared.status.Answer.{Answer}
 use Rattle.tv_format.specs.declared.version.WriteVersion.{WriteVersion}
 use Rattle.tv_format.specs.declared.version.WriteVersion.TheVariants as versions
@@ -16,17 +13,26 @@ use Rattle.tv_format.specs.declared.version.WriteVersion.TheVariants as versions
 abbrev pub AnswersFill : (List ℕ → Type 0) → (BlockError → Type 0) → List ℕ → List ℕ → Answer → Type 0
 AnswersFill P R old new answer = (told : Result ℕ BlockError) × Fills P R old new told × (answer ≡ answer_of told)
 
--- the answer tells what was found, or why nothing was
-abbrev pub FoundOr : List ℕ → List ℕ → FoundField → Result ℕ BlockError → Type 0
-FoundOr schema path found (Ok size) = Finds schema path found × (size ≡ 0)
-FoundOr schema path found (Err e) = IsPathAnswer schema path e × (found ≡ record { field = 0; rest = 0 })
+-- what is found where nothing is
+abbrev pub nothing_found : FoundField
+nothing_found = record { field = 0; rest = 0 }
 
-abbrev pub AnswersFound : List ℕ → List ℕ → FoundField → Answer → Type 0
-AnswersFound schema path found answer = (told : Result ℕ BlockError) × FoundOr schema path found told × (answer ≡ answer_of told)
+-- the answer tells that something was found of which P holds, or that nothing was for a reason of which R holds
+abbrev pub FoundOr : (FoundField → Type 0) → (BlockError → Type 0) → FoundField → Result ℕ BlockError → Type 0
+FoundOr P R found (Ok size) = P found × (size ≡ 0)
+FoundOr P R found (Err e) = R e × (found ≡ nothing_found)
 
-abbrev pub AnswersImport : List ℕ → List ℕ → List ℕ → List ℕ → List LineAnswer → List LineAnswer → Answer → Type 0
-AnswersImport schema lines old_block new_block old_answers new_answers answer =
-    (told : Result Imported BlockError) × ImportsInto schema lines old_block new_block old_answers new_answers told × (answer ≡ import_answer told)
+abbrev pub AnswersFound : (FoundField → Type 0) → (BlockError → Type 0) → FoundField → Answer → Type 0
+AnswersFound P R found answer = (told : Result ℕ BlockError) × FoundOr P R found told × (answer ≡ answer_of told)
+
+-- what was found stands there, or nothing, and the answer tells which
+abbrev pub TellsField : Result FoundField BlockError → FoundField → Answer → Type 0
+TellsField (Ok field) found answer = (found ≡ field) × (answer ≡ answer_of (Ok 0))
+TellsField (Err e) found answer = (found ≡ nothing_found) × (answer ≡ answer_of (Err e))
+
+-- the answer tells what a call returned that imports lines
+abbrev pub AnswersImport : (Result Imported BlockError → Type 0) → Answer → Type 0
+AnswersImport Returns answer = (told : Result Imported BlockError) × Returns told × (answer ≡ import_answer told)
 
 -- there is no such version, and nothing was written
 abbrev pub IsWrongVersion : List ℕ → List ℕ → Answer → Type 0

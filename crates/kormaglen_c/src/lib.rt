@@ -5,17 +5,19 @@
 ghost use Rattle.std.specs.Prelude.{◌≡◌, Some, IsUtf8, MatchOption};
 ghost use Rattle.tv_base.specs.Facet.{parse, printed};
 ghost use Rattle.tv_blocks.specs.Blocks.{IsExported, IsMigrated};
+ghost use Rattle.tv_blocks.specs.Fields.{Finds, IsPathAnswer};
+ghost use Rattle.tv_blocks.specs.Imports.{ImportsInto};
 ghost use Rattle.tv_blocks.specs.Refusals.{IsBlockRefusal, IsExportRefusal};
 ghost use Rattle.tv_blocks.specs.Refusals.{IsFacetRefusal, IsTextRefusal};
 ghost use Rattle.tv_blocks.specs.Terms.{IsEnd, IsEndRefusal, IsTermList, IsTextTerm};
 ghost use Rattle.kormaglen_c.specs.Answers.{AnswersFill, AnswersFound, AnswersImport};
-ghost use Rattle.kormaglen_c.specs.Answers.{IsWrongVersion, write_numbered};
+ghost use Rattle.kormaglen_c.specs.Answers.{IsWrongVersion, TellsField, write_numbered};
 ghost use Rattle.tv_format.specs.WriteVersion.{written_version};
 ghost use Rattle.tv_reader.specs.Version.{numbered, version_of};
 
 use std::alloc::Global;
 use tv_blocks::status::{Answer, error_answer, import_answer, written_answer, wrong_version};
-use tv_blocks::{FoundField, LineAnswer};
+use tv_blocks::{BlockError, FoundField, LineAnswer};
 use tv_format::version::WriteVersion;
 use tv_store::DocStoreVersion;
 
@@ -40,17 +42,11 @@ pub extern "C" fn kormaglen_text_of_facet(alloc: Global, encoded: &[u8], text: &
     written_answer(tv_blocks::text_of_facet(alloc, encoded, text))
 }
 
-/// Finds the field that a path names, see `tv_blocks::find_field`, and puts it into `found`: 0 and 0 where there is none.
-#[unsafe(no_mangle)]
-pub extern "C" fn kormaglen_find_field(
-    alloc: Global,
-    schema: &[u8],
-    path: &[u8],
-    found: &mut FoundField,
-) -> Answer
-    ensures { AnswersFound schema.now path.now found.new result }
+// Puts what was found into `found`, and answers what a call returned that finds a field.
+fn found_answer(answered: Result<FoundField, BlockError>, found: &mut FoundField) -> Answer
+    ensures { TellsField answered found.new result }
 {
-    match tv_blocks::find_field(alloc, schema, path) {
+    match answered {
         Ok(field) => {
             *found = field;
             written_answer(Ok(0))
@@ -62,6 +58,20 @@ pub extern "C" fn kormaglen_find_field(
     }
 }
 
+/// Finds the field that a path names, see `tv_blocks::find_field`, and puts it into `found`: 0 and 0 where there is none.
+#[unsafe(no_mangle)]
+pub extern "C" fn kormaglen_find_field(
+    alloc: Global,
+    schema: &[u8],
+    path: &[u8],
+    found: &mut FoundField,
+) -> Answer
+    ensures { AnswersFound (Finds schema.now path.now) (IsPathAnswer schema.now path.now) found.new
+        result }
+{
+    found_answer(tv_blocks::find_field(alloc, schema, path), found)
+}
+
 /// Stores documents of lines of JSON and answers each line, see `tv_blocks::import_lines`.
 #[unsafe(no_mangle)]
 pub extern "C" fn kormaglen_import_lines(
@@ -71,8 +81,8 @@ pub extern "C" fn kormaglen_import_lines(
     block: &mut [u8],
     answers: &mut [LineAnswer],
 ) -> Answer
-    ensures { AnswersImport schema.now lines.now block.old block.new answers.old answers.new
-        result }
+    ensures { AnswersImport (ImportsInto schema.now lines.now block.old block.new answers.old
+        answers.new) result }
 {
     import_answer(tv_blocks::import_lines(alloc, schema, lines, block, answers))
 }

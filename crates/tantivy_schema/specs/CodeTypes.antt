@@ -31,6 +31,9 @@ pub use Rattle.tv_store.specs.declared.limits.ReadLimits
 pub use Rattle.tv_store.specs.declared.migration_trip.MigrationTrip
 pub use Rattle.tv_format.specs.declared.version.WriteVersion
 pub use Rattle.tv_reader.specs.declared.value_type.ValueType
+pub use Rattle.tv_indexing.specs.declared.term_list.TermIter
+pub use Rattle.tv_indexing.specs.declared.term_list.TermList
+pub use Rattle.tv_indexing.specs.declared.term_values_error.TermValuesError
 pub use Rattle.tv_term.specs.declared.facet_counts.FacetCount
 pub use Rattle.tv_term.specs.declared.facet_counts.FacetCountsError
 pub use Rattle.tv_term.specs.declared.range.TermRange

@@ -83,6 +83,8 @@ pub use Rattle.tv_term.specs.Range as TermRange
 pub use Rattle.tv_term.specs.Segments
 pub use Rattle.tv_term.specs.FacetCounting
 pub use Rattle.tv_term.specs.ChildPlaces
+pub use Rattle.tv_indexing.specs.LeafTerms
+pub use Rattle.tv_indexing.specs.DocumentTerms
 -- documents
 pub use Rattle.tv_doc.specs.AdditionError
 pub use Rattle.tv_doc.specs.Additions
@@ -125,6 +127,8 @@ pub use Rattle.tv_store.specs.Error as StoreError
 pub use Rattle.tv_store.specs.Decoder
 pub use Rattle.tv_store.specs.Blocks
 pub use Rattle.tv_store.specs.Limits
+pub use Rattle.tv_store.specs.Chosen
+pub use Rattle.tv_chosen.specs.ChosenFields
 pub use Rattle.tv_decoder.specs.Documents as DecodedDocuments
 pub use Rattle.tv_decoder.specs.Prefix as DecoderPrefix
 pub use Rattle.tv_decoder.specs.Paid

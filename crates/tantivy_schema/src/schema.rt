@@ -23,6 +23,7 @@ pub use tv_doc::named::NamedFieldDocument;
 pub use tv_field::{
     FieldEntry, FieldType, ParseCause, SchemaError, ValueParsingError, is_valid_field_name,
 };
+pub use tv_indexing::{TermIter, TermList, TermValuesError, term_values};
 pub use tv_options::{
     BytesOptions, COERCE, CoerceFlag, Coercion, DATE_TIME_PRECISION_INDEXED, DateOptions,
     DateTimePrecision, DotExpansion, FAST, FacetOptions, FastFieldTextOptions, FastFlag,

@@ -4,5 +4,5 @@ pub use tv_format::version::WriteVersion;
 pub use tv_store::{
     BlockReader, DirectDecoder, DocStoreVersion, LimitedReadError, MigrateError, ReadLimit,
     ReadLimits, Step, migrate, read_document, read_document_into, read_document_within,
-    skip_document, skip_value,
+    read_fields, read_fields_into, skip_document, skip_value,
 };

@@ -1,11 +1,10 @@
 -- Documents of a block, one behind the other.
-use Rattle.std.proofs.Common.{◌≡◌, ◌≢◌, ℕ, ◌+◌, ◌-◌, ◌^◌, ◌<◌, ◌≤◌, List, [], ◌∷◌, ◌++◌, length, Result, Ok, Err, refl, sym, ap, subst, ◌∙◌, arith, append_assoc, append-nil, length-append}
+use Rattle.std.proofs.Common.{◌≡◌, ℕ, ◌-◌, ◌^◌, ◌<◌, List, [], ◌∷◌, ◌++◌, length, refl, sym, ap, subst, ◌∙◌, arith, append_assoc, append-nil, length-append}
 use Rattle.std.specs.List.{flat_map}
-use Rattle.tv_base.specs.Parts.{Begins, Each, Then}
+use Rattle.tv_base.specs.Parts.{Each}
 use Rattle.tv_blocks.specs.Blocks.{AppendsLine, IsMigrated, IsPrinted, IsPrintedBlock, IsRefusedBlock, MigratedSoFar, PrintedSoFar}
 use Rattle.tv_blocks.specs.Blocks.IsPrinted.{no_lines, next_line}
-use Rattle.tv_blocks.specs.Refusals.{Breaks, EncodesBlock, document_refusal, migration_refusal}
-use Rattle.tv_blocks.specs.declared.block_error.BlockError.TheVariants as block_errors
+use Rattle.tv_blocks.specs.Refusals.{EncodesBlock, document_refusal, migration_refusal}
 use Rattle.tv_field.specs.Entry.{Entry}
 use Rattle.tv_format.specs.Encoding.{EncodesDocument}
 use Rattle.tv_format.specs.InputError.{Refusal, corrupted, no_text_key}

@@ -1,6 +1,6 @@
 -- What is written into a buffer, for each kind of content.
 use Rattle.std.proofs.Common.{◌≡◌, ℕ, List, Result, Ok, Err, sym, subst}
-use Rattle.tv_blocks.specs.Buffer.{Written, Lacks, Fills}
+use Rattle.tv_blocks.specs.Buffer.{Fills}
 use Rattle.tv_blocks.specs.declared.block_error.BlockError.{BlockError}
 use Rattle.tv_blocks.specs.declared.block_error.BlockError.TheVariants as errors
 

@@ -1,5 +1,5 @@
 -- What becomes of lines.
-use Rattle.std.proofs.Common.{◌≡◌, ◌≢◌, ◌==◌, ℕ, ◌<◌, ◌+◌, arith, true, false, List, [], ◌∷◌, ◌++◌, length, Option, Result, Ok, Err, Some, refl, sym, ap, subst, ◌∙◌, append_assoc, append-nil, length-append}
+use Rattle.std.proofs.Common.{◌≡◌, ◌≢◌, ◌==◌, ℕ, ◌<◌, arith, true, false, List, [], ◌∷◌, ◌++◌, length, Option, Result, Ok, Err, Some, refl, sym, ap, subst, ◌∙◌, append_assoc, append-nil, length-append}
 use borrow.Author.Tests.{eqb-true}
 use Rattle.std.specs.Prelude.{IsUtf8, IfOk}
 use Rattle.std.specs.Result.{result_ok}
@@ -14,7 +14,7 @@ use Rattle.tv_blocks.specs.declared.import.LineOutcome.TheVariants as outcome
 use Rattle.tv_doc.proofs.Additions.{from_empty}
 use Rattle.tv_doc.specs.Additions.{AddsEach, IsEmpty}
 use Rattle.tv_doc.specs.Document.{document_of, IsFull}
-use Rattle.tv_doc.specs.JsonObject.{FieldJson, object_values, Pairs, Parses}
+use Rattle.tv_doc.specs.JsonObject.{FieldJson, Pairs, Parses}
 use Rattle.tv_doc.specs.declared.doc_parsing_error.DocParsingError.{DocParsingError}
 use Rattle.tv_doc.specs.declared.doc_parsing_error.DocParsingError.TheVariants as errors
 use Rattle.tv_doc.specs.declared.document.CompactDoc.{CompactDoc}

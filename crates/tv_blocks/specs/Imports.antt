@@ -90,14 +90,22 @@ pub record LackBoth (block : List ℕ) (answers : List LineAnswer) (old_bytes ne
   pub same_bytes : new_bytes ≡ old_bytes
   pub same_answers : new_answers ≡ old_answers
 
--- What a call returns that writes a block and answers: that they were written, how large they are, or why there are none.
+-- A block and answers of which P holds are written, or their sizes are told; or nothing is written for a reason of which R holds, or for want
+-- of memory.
+abbrev pub FillsBoth : (List ℕ → List LineAnswer → Type 0) → (BlockError → Type 0) → List ℕ → List ℕ → List LineAnswer → List LineAnswer → Result Imported BlockError → Type 0
+FillsBoth P R old_bytes new_bytes old_answers new_answers (Ok count) =
+    (block : List ℕ) × (answers : List LineAnswer) × P block answers × PutBoth block answers old_bytes new_bytes old_answers new_answers count
+FillsBoth P R old_bytes new_bytes old_answers new_answers (Err (errors.TooSmall bytes lines)) =
+    (block : List ℕ) × (answers : List LineAnswer) × P block answers × LackBoth block answers old_bytes new_bytes old_answers new_answers bytes lines
+FillsBoth P R old_bytes new_bytes old_answers new_answers (Err errors.Memory) = (new_bytes ≡ old_bytes) × (new_answers ≡ old_answers)
+FillsBoth P R old_bytes new_bytes old_answers new_answers (Err e) = R e × (new_bytes ≡ old_bytes) × (new_answers ≡ old_answers)
+
+-- what a call returns that imports lines by these entries, and by the schema that a text describes
+abbrev pub ImportsBy : List Entry → List ℕ → List ℕ → List ℕ → List LineAnswer → List LineAnswer → Result Imported BlockError → Type 0
+ImportsBy entries input = FillsBoth (ImportsEach entries input) (λ e. ⊥)
+
 abbrev pub ImportsInto : List ℕ → List ℕ → List ℕ → List ℕ → List LineAnswer → List LineAnswer → Result Imported BlockError → Type 0
-ImportsInto schema input old_bytes new_bytes old_answers new_answers (Ok count) =
-    (block : List ℕ) × (answers : List LineAnswer) × Imports schema input block answers × PutBoth block answers old_bytes new_bytes old_answers new_answers count
-ImportsInto schema input old_bytes new_bytes old_answers new_answers (Err (errors.TooSmall bytes lines)) =
-    (block : List ℕ) × (answers : List LineAnswer) × Imports schema input block answers × LackBoth block answers old_bytes new_bytes old_answers new_answers bytes lines
-ImportsInto schema input old_bytes new_bytes old_answers new_answers (Err errors.Memory) = (new_bytes ≡ old_bytes) × (new_answers ≡ old_answers)
-ImportsInto schema input old_bytes new_bytes old_answers new_answers (Err e) = IsSchemaRefusal schema e × (new_bytes ≡ old_bytes) × (new_answers ≡ old_answers)
+ImportsInto schema input = FillsBoth (Imports schema input) (IsSchemaRefusal schema)
 
 -- ---- for private clauses
 

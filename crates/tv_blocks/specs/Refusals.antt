@@ -9,7 +9,7 @@ use Rattle.tv_blocks.specs.declared.block_error.DocumentRefusal.{DocumentRefusal
 use Rattle.tv_blocks.specs.declared.block_error.DocumentRefusal.TheVariants as documents
 use Rattle.tv_field.specs.Entry.{Entry}
 use Rattle.tv_format.specs.Encoding.{EncodesDocument}
-use Rattle.tv_format.specs.InputError.{Refusal, corrupted, no_text_key}
+use Rattle.tv_format.specs.InputError.{corrupted, no_text_key}
 use Rattle.tv_format.specs.Tree.{Document}
 use Rattle.tv_format.specs.Version.{Version}
 use Rattle.tv_legacy.specs.Legacy.{Legacy}
@@ -87,8 +87,14 @@ IsExportRefusal schema v block e = IsSchemaRefusal schema e
 
 -- ---- paths
 
+-- the path is no UTF-8, or names no field of the entries
+abbrev pub IsUnfound : List Entry → List ℕ → BlockError → Type 0
+IsUnfound entries path errors.NotUtf8 = ¬ IsUtf8 path
+IsUnfound entries path errors.NoField = IsUtf8 path × (find entries path ≡ None)
+IsUnfound entries path e = ⊥
+
 -- the schema is refused, the path is no UTF-8, or it names no field
 abbrev pub IsPathRefusal : List ℕ → List ℕ → BlockError → Type 0
-IsPathRefusal schema path errors.NotUtf8 = ((entries : List Entry) × ReadsSchema schema entries) × (¬ IsUtf8 path)
-IsPathRefusal schema path errors.NoField = (entries : List Entry) × ReadsSchema schema entries × IsUtf8 path × (find entries path ≡ None)
+IsPathRefusal schema path errors.NotUtf8 = (entries : List Entry) × ReadsSchema schema entries × IsUnfound entries path errors.NotUtf8
+IsPathRefusal schema path errors.NoField = (entries : List Entry) × ReadsSchema schema entries × IsUnfound entries path errors.NoField
 IsPathRefusal schema path e = IsSchemaRefusal schema e

@@ -1,4 +1,4 @@
--- Schemas out of bytes, for private clauses.
+-- Schemas out of bytes.
 use Rattle.std.specs.Prelude.{ℕ, List}
 use Rattle.tv_blocks.specs.Refusals.{IsSchemaRefusal}
 use Rattle.tv_blocks.specs.declared.block_error.BlockError.{BlockError}

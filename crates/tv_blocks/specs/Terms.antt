@@ -1,37 +1,17 @@
 -- The terms of a field's values in a block, and where a prefix of terms ends.
-use Rattle.std.specs.Prelude.{◌≡◌, ◌≢◌, ℕ, suc, Bool, true, false, List, [], ◌∷◌, ◌++◌, length, Option, Some, None, IsUtf8}
+use Rattle.std.specs.Prelude.{◌≡◌, ℕ, suc, List, [], ◌∷◌, ◌++◌, length, Option, Some, None, IsUtf8}
 use Rattle.std.specs.Global.{Vec}
 use Rattle.std.specs.Int.{to_le_bytes, w64}
 use Rattle.std.specs.List.{flat_map}
 use Rattle.tv_blocks.specs.Refusals.{EncodesBlock}
 use Rattle.tv_blocks.specs.declared.block_error.BlockError.{BlockError}
 use Rattle.tv_blocks.specs.declared.block_error.BlockError.TheVariants as errors
-use Rattle.tv_date.specs.DateTime.{truncated}
-use Rattle.tv_date.specs.declared.date_time.DateTimePrecision.TheVariants.{Seconds}
 use Rattle.tv_doc.specs.FieldValues.{values_of}
-use Rattle.tv_format.specs.Tree.{Tree, leaf, array, object, Leaf, null, text, unsigned, signed, boolean, date, facet, bytes, ip_address, tokenized, Document}
+use Rattle.tv_format.specs.Tree.{Document}
 use Rattle.tv_format.specs.Version.{Version}
-use Rattle.tv_term.specs.Key.{TermValue, Text, Unsigned, Signed, Truth, Date, Facet, Bytes, Address, term}
+use Rattle.tv_indexing.specs.LeafTerms.{tree_value}
+use Rattle.tv_term.specs.Key.{TermValue, Text, term}
 use Rattle.tv_term.specs.Range.{EndsPrefix}
-
--- The value that the term of a leaf stands for, as it is indexed: a date is cut to the second, a text is whole. Null has none.
-abbrev pub leaf_value : Leaf → Option TermValue
-leaf_value null = None
-leaf_value (text t) = Some (Text t)
-leaf_value (unsigned n) = Some (Unsigned n)
-leaf_value (signed z) = Some (Signed z)
-leaf_value (boolean b) = Some (Truth b)
-leaf_value (date z) = Some (Date (truncated Seconds z))
-leaf_value (facet f) = Some (Facet f)
-leaf_value (bytes bs) = Some (Bytes bs)
-leaf_value (ip_address n) = Some (Address n)
-leaf_value (tokenized t ts) = Some (Text t)
-
--- arrays and objects have none
-abbrev pub tree_value : Tree → Option TermValue
-tree_value (leaf l) = leaf_value l
-tree_value (array ts) = None
-tree_value (object es) = None
 
 -- the number of a document, the length of the term, both in eight bytes, the lowest first, and the term
 abbrev pub record_of : ℕ → List ℕ → List ℕ
@@ -70,13 +50,6 @@ IsEndRefusal prefix errors.NoEnd = EndsPrefix prefix None
 IsEndRefusal prefix e = ⊥
 
 -- ---- for private clauses
-
--- there is a term, and a writer has it, exactly where the value has one
-abbrev pub HasTerm : ℕ → Option TermValue → List ℕ → Bool → Type 0
-HasTerm field (Some value) held true = (held ≢ []) × (held ≡ term field value)
-HasTerm field (Some value) held false = ⊥
-HasTerm field None held true = ⊥
-HasTerm field None held false = Unit {0}
 
 -- so far the records of the documents before the rest of the block have been appended
 pub record TermsSoFar (v : Version) (field : ℕ) (block rest content : List ℕ) (number : ℕ) : Type 0 where

@@ -3,13 +3,13 @@
 ghost use Rattle.std.specs.Prelude.{◌≡◌, [], IfErr, OnOk};
 ghost use Rattle.tv_blocks.specs.Blocks.{AppendsLine, IsExported, IsPrintedBlock, IsRefusedBlock};
 ghost use Rattle.tv_blocks.specs.Buffer.{Fills};
-ghost use Rattle.tv_blocks.specs.Refusals.{IsExportRefusal};
+ghost use Rattle.tv_blocks.specs.Refusals.{IsBlockRefusal, IsExportRefusal};
 ghost use Rattle.tv_doc.specs.Document.{document_of};
 ghost use Rattle.tv_reader.specs.Version.{version_of};
 
 use crate::block_error::{BlockError, unread};
 use crate::buffer::put_whole;
-use crate::schema_text::schema_of_text;
+use crate::schema_text::read_schema;
 use std::alloc::{AllocError, Global};
 use tv_base::SliceSource;
 use tv_doc::document::CompactDoc;
@@ -61,6 +61,24 @@ fn append_documents(
 /// Writes the documents of a block, which stand one behind the other, as lines of JSON by the names of the schema's fields, see `to_json`, and
 /// returns how many bytes these take.
 ///
+/// Errors: `BadDocument` for the first document that can't be read, `TooSmall`, `Memory`. The buffer then stays as it is.
+pub fn export_block_by(
+    alloc: Global,
+    schema: &Schema,
+    version: DocStoreVersion,
+    block: &[u8],
+    lines: &mut [u8],
+) -> Result<u64, BlockError>
+    ensures { Fills (IsPrintedBlock schema.now (version_of version) block.now)
+        (IsBlockRefusal (version_of version) block.now) lines.old lines.new result }
+{
+    let mut text = Vec::new(alloc);
+    append_documents(alloc, schema, version, block, &mut text)?;
+    put_whole(text.as_slice(), lines)
+}
+
+/// Writes the documents of a block as lines of JSON, see `export_block_by`, and returns how many bytes these take.
+///
 /// Errors: `InvalidJson` and `BadSchema` where the schema is refused, else `BadDocument` for the first document that can't be read, `TooSmall`,
 /// `Memory`. The buffer then stays as it is.
 pub fn export_block(
@@ -73,8 +91,6 @@ pub fn export_block(
     ensures { Fills (IsExported schema.now (version_of version) block.now)
         (IsExportRefusal schema.now (version_of version) block.now) lines.old lines.new result }
 {
-    let schema = schema_of_text(alloc, schema)?;
-    let mut text = Vec::new(alloc);
-    append_documents(alloc, &schema, version, block, &mut text)?;
-    put_whole(text.as_slice(), lines)
+    let schema = read_schema(alloc, schema)?;
+    export_block_by(alloc, &schema, version, block, lines)
 }

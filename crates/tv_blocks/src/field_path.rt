@@ -1,11 +1,13 @@
 //! Paths that name fields.
 
 ghost use Rattle.std.specs.Prelude.{◌≡◌, IfErr, IfOk};
-ghost use Rattle.tv_blocks.specs.Fields.{Finds, IsPathAnswer};
+ghost use Rattle.tv_blocks.specs.Fields.{Finds, FindsBy, IsPathAnswer};
+ghost use Rattle.tv_blocks.specs.Refusals.{IsUnfound};
 
 use crate::block_error::BlockError;
-use crate::schema_text::schema_of_text;
+use crate::schema_text::read_schema;
 use std::alloc::Global;
+use tv_schema::Schema;
 
 /// The field that a path names. (Not in tantivy.)
 #[repr(C)]
@@ -17,15 +19,13 @@ pub struct FoundField {
     pub rest: u64,
 }
 
-/// The field that a path of a query names, see `Schema::find_field`.
+/// The field that a path of a query names by a schema, see `Schema::find_field`.
 ///
-/// Errors: `InvalidJson` and `BadSchema` where the schema is refused, else `NotUtf8` where the path isn't UTF-8, `NoField` where it names no
-/// field, `Memory`.
-pub fn find_field(alloc: Global, schema: &[u8], path: &[u8]) -> Result<FoundField, BlockError>
-    ensures found { IfOk result (Finds schema.now path.now) }
-    ensures refused { IfErr result (IsPathAnswer schema.now path.now) }
+/// Errors: `NotUtf8` where the path isn't UTF-8, else `NoField` where it names no field.
+pub fn find_field_by(schema: &Schema, path: &[u8]) -> Result<FoundField, BlockError>
+    ensures found { IfOk result (FindsBy schema.now path.now) }
+    ensures refused { IfErr result (IsUnfound schema.now path.now) }
 {
-    let schema = schema_of_text(alloc, schema)?;
     let Ok(text) = str::from_utf8(path) else {
         return Err(BlockError::NotUtf8);
     };
@@ -36,4 +36,16 @@ pub fn find_field(alloc: Global, schema: &[u8], path: &[u8]) -> Result<FoundFiel
         }),
         None => Err(BlockError::NoField),
     }
+}
+
+/// The field that a path of a query names, see `find_field_by`.
+///
+/// Errors: `InvalidJson` and `BadSchema` where the schema is refused, else `NotUtf8` where the path isn't UTF-8, `NoField` where it names no
+/// field, `Memory`.
+pub fn find_field(alloc: Global, schema: &[u8], path: &[u8]) -> Result<FoundField, BlockError>
+    ensures found { IfOk result (Finds schema.now path.now) }
+    ensures refused { IfErr result (IsPathAnswer schema.now path.now) }
+{
+    let schema = read_schema(alloc, schema)?;
+    find_field_by(&schema, path)
 }

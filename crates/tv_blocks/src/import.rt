@@ -1,7 +1,8 @@
 //! Lines of JSON as a block of stored documents.
 
 ghost use Rattle.std.specs.Prelude.{◌≡◌, [], IfOk, OnOk};
-ghost use Rattle.tv_blocks.specs.Imports.{Appends, ImportsEach, ImportsInto, PutsBoth, Stores};
+ghost use Rattle.tv_blocks.specs.Imports.{Appends, ImportsBy, ImportsEach, ImportsInto};
+ghost use Rattle.tv_blocks.specs.Imports.{PutsBoth, Stores};
 ghost use Rattle.tv_blocks.specs.Imports.{answer_of, outcome_of, value_outcome};
 ghost use Rattle.tv_doc.specs.Belongs.{Belongs};
 ghost use Rattle.tv_doc.specs.Document.{document_of};
@@ -11,7 +12,7 @@ ghost use Rattle.tv_store.specs.Stored.{stored};
 
 use crate::block_error::BlockError;
 use crate::lines::first_line;
-use crate::schema_text::schema_of_text;
+use crate::schema_text::read_schema;
 use std::alloc::{AllocError, Global};
 use tv_base::VecSink;
 use tv_doc::doc_parsing_error::DocParsingError;
@@ -207,8 +208,28 @@ fn put_both(
     })
 }
 
-/// Stores the documents of lines of JSON, one behind the other in version 2, and answers each line. A line ends at a line feed, and the last
-/// may lack it. A line that is refused stores nothing, and the next line follows. See `CompactDoc::parse_json` and `BinaryDocumentSerializer`.
+/// Stores the documents of lines of JSON by a schema, one behind the other in version 2, and answers each line. A line ends at a line feed,
+/// and the last may lack it. A line that is refused stores nothing, and the next line follows. See `CompactDoc::parse_json` and
+/// `BinaryDocumentSerializer`.
+///
+/// Errors: `TooSmall` with the bytes of the block and the number of lines, where one of the buffers is too small; `Memory`. Both buffers then
+/// stay as they are.
+pub fn import_lines_by(
+    alloc: Global,
+    schema: &Schema,
+    lines: &[u8],
+    block: &mut [u8],
+    answers: &mut [LineAnswer],
+) -> Result<Imported, BlockError>
+    ensures { ImportsBy schema.now lines.now block.old block.new answers.old answers.new result }
+{
+    let mut stored = VecSink::new(alloc);
+    let mut outcomes = Vec::new(alloc);
+    import_each(alloc, schema, lines, &mut stored, &mut outcomes)?;
+    put_both(stored.as_slice(), outcomes.as_slice(), block, answers)
+}
+
+/// Stores the documents of lines of JSON and answers each line, see `import_lines_by`.
 ///
 /// Errors: `InvalidJson` and `BadSchema` where the schema is refused; `TooSmall` with the bytes of the block and the number of lines, where
 /// one of the buffers is too small; `Memory`. Both buffers then stay as they are.
@@ -221,9 +242,6 @@ pub fn import_lines(
 ) -> Result<Imported, BlockError>
     ensures { ImportsInto schema.now lines.now block.old block.new answers.old answers.new result }
 {
-    let schema = schema_of_text(alloc, schema)?;
-    let mut stored = VecSink::new(alloc);
-    let mut outcomes = Vec::new(alloc);
-    import_each(alloc, &schema, lines, &mut stored, &mut outcomes)?;
-    put_both(stored.as_slice(), outcomes.as_slice(), block, answers)
+    let schema = read_schema(alloc, schema)?;
+    import_lines_by(alloc, &schema, lines, block, answers)
 }

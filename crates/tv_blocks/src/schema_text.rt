@@ -21,8 +21,11 @@ fn refused(error: SchemaError) -> BlockError
     }
 }
 
-// The schema that the text of JSON describes.
-pub(crate) fn schema_of_text(alloc: Global, text: &[u8]) -> Result<Schema, BlockError>
+/// The schema that a text of JSON describes, for the calls that are given a schema: `import_lines_by`, `export_block_by` and
+/// `find_field_by`.
+///
+/// Errors: `InvalidJson` where the text isn't JSON, `BadSchema` where the JSON describes no schema, `Memory`.
+pub fn read_schema(alloc: Global, text: &[u8]) -> Result<Schema, BlockError>
     ensures ok { IfOk result (λ schema. ReadsSchema text.now schema) }
     ensures err { IfErr result (IsRefusedSchema text.now) }
 {

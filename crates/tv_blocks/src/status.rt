@@ -18,8 +18,8 @@ pub struct Answer {
     /// of the block is refused, 9 where there is no such version of the store, and 10 where a prefix has no end.
     pub status: u32,
     /// With status 6 why there is no schema: 1 for a bad name, 2 for a name that comes twice, 3 for too many fields, 4 for a bad entry,
-    /// 5 for a field of type `f64`. With status 8 why the document is refused: 1 to 11 for the variants of `Cause` in their order, 12 where a
-    /// key is no text, 13 where the document has no room. Else 0.
+    /// 5 for a field of type `f64`. With status 8 why the document is refused: 1 to 11 and 14 for the variants of `Cause` in their order, 12
+    /// where a key is no text, 13 where the document has no room. Else 0.
     pub detail: u32,
     /// With status 6 the place of the entry, from 1, and 0 where the whole is meant; with status 8 where in the block the document begins.
     /// Else 0.

@@ -1,49 +1,25 @@
 //! Terms of stored values, and where those of a prefix end.
 
-ghost use Rattle.std.specs.Prelude.{◌≡◌, ◌++◌, [], IfErr, IfOk, OnOk};
+ghost use Rattle.std.specs.Prelude.{◌≡◌, ◌++◌, [], IfErr, OnOk};
 ghost use Rattle.tv_blocks.specs.Blocks.{IsRefusedBlock};
 ghost use Rattle.tv_blocks.specs.Buffer.{Fills};
 ghost use Rattle.tv_blocks.specs.Refusals.{IsBlockRefusal, IsTextRefusal};
-ghost use Rattle.tv_blocks.specs.Terms.{document_records, record_of, term_record, tree_value};
-ghost use Rattle.tv_blocks.specs.Terms.{HasTerm, IsEnd, IsEndRefusal, IsTermList, IsTextTerm};
-ghost use Rattle.tv_blocks.specs.Terms.{leaf_value};
+ghost use Rattle.tv_blocks.specs.Terms.{document_records, record_of, term_record};
+ghost use Rattle.tv_blocks.specs.Terms.{IsEnd, IsEndRefusal, IsTermList, IsTextTerm};
 ghost use Rattle.tv_doc.specs.Document.{document_of};
+ghost use Rattle.tv_indexing.specs.LeafTerms.{tree_value};
 ghost use Rattle.tv_reader.specs.Version.{version_of};
-ghost use Rattle.tv_value.specs.Lent.{leaf_of};
 
 use crate::block_error::{BlockError, unread};
 use crate::buffer::put_whole;
 use std::alloc::{AllocError, Global};
 use tv_base::SliceSource;
 use tv_doc::document::CompactDoc;
+use tv_indexing::write_leaf;
 use tv_store::{BlockReader, DocStoreVersion};
-use tv_term::{Term, TermError, TermWriter, successor};
+use tv_term::{Term, TermWriter, successor};
 use tv_value::field::Field;
-use tv_value::leaf::ReferenceValueLeaf;
 use tv_value::value::{ReferenceValue, Value};
-
-// Makes the term of a value without children, and says whether there is one: null has none.
-fn write_leaf(
-    writer: &mut TermWriter,
-    field: Field,
-    leaf: ReferenceValueLeaf<'_>,
-) -> Result<bool, TermError>
-    ensures { IfOk result (HasTerm field.id (leaf_value (leaf_of leaf.entry)) writer.new) }
-{
-    match leaf {
-        ReferenceValueLeaf::Null => return Ok(false),
-        ReferenceValueLeaf::Str(text) => writer.write_text(field, text)?,
-        ReferenceValueLeaf::U64(number) => writer.write_u64(field, number)?,
-        ReferenceValueLeaf::I64(number) => writer.write_i64(field, number)?,
-        ReferenceValueLeaf::Date(date) => writer.write_date_for_search(field, date)?,
-        ReferenceValueLeaf::Facet(encoded) => writer.write_encoded_facet(field, encoded)?,
-        ReferenceValueLeaf::Bytes(bytes) => writer.write_bytes(field, bytes)?,
-        ReferenceValueLeaf::IpAddr(address) => writer.write_ip_addr(field, address)?,
-        ReferenceValueLeaf::Bool(truth) => writer.write_bool(field, truth)?,
-        ReferenceValueLeaf::PreTokStr(text) => writer.write_text(field, text.text())?,
-    }
-    Ok(true)
-}
 
 // Appends the number of the document, the length of the term and the term.
 fn append_record(terms: &mut Vec<u8>, document: u64, term: &Term) -> Result<(), AllocError>

@@ -73,20 +73,20 @@ no_scale versions.V3 _ = refl
 abbrev PutWith : LeafType → Content → List ℕ → List ℕ → Place → Type 0
 PutWith t c old new p = (l : Leaf) × (leaf_with t c ≡ Some l) × Put old (leaf l) new p
 
-pub leaf_encoded : (version : WriteVersion) (t : LeafType) (c : Content) (code : ℕ) (bytes rest old new : List ℕ) (p : Place) → store_code t ≡ code → form_of c ≡ form t → Begins (λ b. ContentBody plain b c) bytes rest → PutWith t c old new p → EncodedPut (written_version version) (code ∷ bytes) rest old new p
-leaf_encoded version t c code bytes rest old new p is formed begins w =
-    let l = w.0 in
+-- the leaf of a type that holds this is encoded behind the type's code
+pub leaf_begins : (version : WriteVersion) (t : LeafType) (c : Content) (code : ℕ) (bytes rest : List ℕ) → store_code t ≡ code → form_of c ≡ form t → Begins (λ b. ContentBody plain b c) bytes rest
+    → (l : Leaf) × (leaf_with t c ≡ Some l) × Begins (λ b. Encodes NoLegacy (written_version version) b (leaf l)) (code ∷ bytes) rest
+leaf_begins version t c code bytes rest is formed begins =
     let v = written_version version in
     let m = making t c formed in
-    let same : l ≡ m.made = same_Some l m.made (sym w.1 ∙ m.is) in
-    let typed : type_of l ≡ t = ap type_of same ∙ m.typed in
-    let holds : content l ≡ c = ap content same ∙ m.holds in
-    let body : Begins (λ b. LeafBody v b l) bytes rest = subst (λ s. Begins (λ b. ContentBody s b (content l)) bytes rest) (sym (no_scale version (type_of l))) (subst (λ k. Begins (λ b. ContentBody plain b k) bytes rest) (sym holds) begins) in
-    record {
-      tree = leaf l;
-      encoded = subst (λ z. Begins (λ b. Encodes NoLegacy v b (leaf l)) (z ∷ bytes) rest) (ap store_code typed ∙ is) (begins_behind (leaf_code l) bytes rest body);
-      put = w.2;
-    }
+    let l = m.made in
+    let body : Begins (λ b. LeafBody v b l) bytes rest = subst (λ s. Begins (λ b. ContentBody s b (content l)) bytes rest) (sym (no_scale version (type_of l))) (subst (λ k. Begins (λ b. ContentBody plain b k) bytes rest) (sym m.holds) begins) in
+    (l, m.is, subst (λ z. Begins (λ b. Encodes NoLegacy v b (leaf l)) (z ∷ bytes) rest) (ap store_code m.typed ∙ is) (begins_behind (leaf_code l) bytes rest body))
+
+pub leaf_encoded : (version : WriteVersion) (t : LeafType) (c : Content) (code : ℕ) (bytes rest old new : List ℕ) (p : Place) → store_code t ≡ code → form_of c ≡ form t → Begins (λ b. ContentBody plain b c) bytes rest → PutWith t c old new p → EncodedPut (written_version version) (code ∷ bytes) rest old new p
+leaf_encoded version t c code bytes rest old new p is formed begins w =
+    let m = leaf_begins version t c code bytes rest is formed begins in
+    record { tree = leaf m.0; encoded = m.2; put = subst (λ l. Put old (leaf l) new p) (same_Some w.0 m.0 (sym w.1 ∙ m.1)) w.2 }
 
 pub encoded_grows : (v : Version) (whole rest old new : List ℕ) (p : Place) → EncodedPut v whole rest old new p → IsPrefix old new
 encoded_grows v whole rest old new p s = put_grows old s.tree new p s.put

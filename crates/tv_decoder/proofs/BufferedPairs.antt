@@ -50,7 +50,7 @@ mutual
       let s = p.second in
       record { prefix = p.prefix; rest = p.rest; joined = p.joined; first = p.first; second = record { prefix = s.prefix; rest = s.rest; joined = s.joined; first = with_legacy L v t s.prefix s.first; second = entries_with_legacy L v es s.rest s.second } }
 
-pair_with_legacy : (L : List ℕ → Entries → Type 0) (v : Version) (p : ℕ × Tree) (b : List ℕ) → EncodesPair NoLegacy v b p → EncodesPair L v b p
+pub pair_with_legacy : (L : List ℕ → Entries → Type 0) (v : Version) (p : ℕ × Tree) (b : List ℕ) → EncodesPair NoLegacy v b p → EncodesPair L v b p
 pair_with_legacy L v p b h =
     record { prefix = h.prefix; rest = h.rest; joined = h.joined; first = h.first; second = with_legacy L v p.1 h.rest h.second }
 

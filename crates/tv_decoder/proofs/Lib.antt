@@ -11,3 +11,4 @@ pub mod Wholes
 pub mod BufferedPairs
 pub mod WholeDocuments
 pub mod Paying
+pub mod PairValues

@@ -31,14 +31,14 @@ use Rattle.tv_reader.specs.Heads.{HasLength}
 
 -- ---- lists of bytes
 
-rest_is : (a b x y : List ℕ) → a ≡ b → a ++ x ≡ b ++ y → x ≡ y
+pub rest_is : (a b x y : List ℕ) → a ≡ b → a ++ x ≡ b ++ y → x ≡ y
 rest_is a b x y same e = append_cancel_left b x y (ap (λ (z : List ℕ). z ++ x) (sym same) ∙ e)
 
 heads : (m n : ℕ) (a b : List ℕ) → m ∷ a ≡ n ∷ b → (m ≡ n) × (a ≡ b)
 heads m n a b e = let code : m ≡ n = cc in let body : a ≡ b = cc in (code, body)
 
 -- two cuts of the same bytes
-both_cut : (c d p q s t x y : List ℕ) → c ≡ p ++ q → d ≡ s ++ t → c ++ x ≡ d ++ y → p ++ (q ++ x) ≡ s ++ (t ++ y)
+pub both_cut : (c d p q s t x y : List ℕ) → c ≡ p ++ q → d ≡ s ++ t → c ++ x ≡ d ++ y → p ++ (q ++ x) ≡ s ++ (t ++ y)
 both_cut c d p q s t x y f g e = sym (append_assoc p q x) ∙ ap (λ (z : List ℕ). z ++ x) (sym f) ∙ e ∙ ap (λ (z : List ℕ). z ++ y) g ∙ append_assoc s t y
 
 -- the same behind a code
@@ -56,7 +56,7 @@ key_room _ h = absurd h
 coded : (m n : ℕ) (h b body rest x y : List ℕ) → h ≡ m ∷ body → b ≡ n ∷ rest → h ++ x ≡ b ++ y → (m ≡ n) × (body ++ x ≡ rest ++ y)
 coded m n h b body rest x y f g e = heads m n (body ++ x) (rest ++ y) (ap (λ (z : List ℕ). z ++ x) (sym f) ∙ e ∙ ap (λ (z : List ℕ). z ++ y) g)
 
-document_room-cons : (q : ℕ × Tree) (d : Document) → document_room (q ∷ d) ≡ room q.1 + document_room d
+pub document_room-cons : (q : ℕ × Tree) (d : Document) → document_room (q ∷ d) ≡ room q.1 + document_room d
 document_room-cons q d = omega (arith, sum_by-append (λ (pair : ℕ × Tree). room pair.1) (q ∷ []) d)
 
 module _ (L : List ℕ → Entries → Type 0) (v : Version) (one_l : OneReading L) where

@@ -7,3 +7,4 @@ pub mod Sound
 pub mod Paid
 pub mod Documents
 pub mod Buffered
+pub mod PairValue

@@ -25,9 +25,9 @@ fn written(version: DocStoreVersion) -> Option<WriteVersion>
     }
 }
 
-// Adds the next pairs that the source has buffered whole, at once, up to so many, and says how many they are. It may add none: where the
-// source doesn't give the bytes that it has buffered, the pairs are taken back, so that they are read part by part.
-pub(crate) fn take_buffered_pairs<S: ByteSource>(
+/// Adds the next pairs that the source has buffered whole, at once, up to so many, and says how many they are. It may add none: where the
+/// source doesn't give the bytes that it has buffered, the pairs are taken back, so that they are read part by part.
+pub fn take_buffered_pairs<S: ByteSource>(
     document: &mut HeapPairs,
     source: &mut S,
     count: &mut u64,

@@ -3,6 +3,7 @@
 ghost use Rattle.std.specs.Prelude.{◌≡◌, [], IsErrOf};
 ghost use Rattle.tv_builder.specs.HeldPairs.{document_of};
 ghost use Rattle.tv_decoder.specs.Documents.{EncodesRead, EncodesBehind, NoDocument};
+ghost use Rattle.tv_decoder.specs.PairValue.{CanStand, FindsValue, FindsNoValue, ValueHasNoRoom};
 ghost use Rattle.tv_decoder.specs.Prefix.{IsSound, NoPrefix, HasNoRoom, NoRoomBehind};
 ghost use Rattle.tv_reader.specs.Finds.{Finds};
 ghost use Rattle.tv_reader.specs.Version.{version_of};
@@ -17,13 +18,14 @@ use tv_heap::write::FIRST_ROOM;
 use tv_reader::heads::take_document_head;
 use tv_reader::{DeserializeError, DocStoreVersion};
 
-// Takes what is left of a document, part by part, and whole pairs where the source has them buffered.
+// Takes what is left of a document, part by part, and whole pairs where the source has them buffered. `bytes` is a buffer for at most 4096 bytes.
 fn take_rest<S: ByteSource>(
     alloc: Global,
     source: &mut S,
     count: &mut u64,
     version: DocStoreVersion,
     begun: Reading,
+    bytes: &mut Vec<u8>,
 ) -> Result<HeapPairs, DeserializeError>
     requires { IsSound begun }
     ensures finds { Finds S.is_known S.left S.failures source.old count.old source.new count.new
@@ -33,13 +35,12 @@ fn take_rest<S: ByteSource>(
 {
     let mut reading = begun;
     let mut legacy_seen = false;
-    let mut bytes = Vec::new(alloc);
     // each part takes a byte at least
     for _ in 0..u64::MAX {
         if reading.is_done() {
             return Ok(reading.into_pairs());
         }
-        reading.advance(alloc, source, count, version, &mut legacy_seen, &mut bytes)?;
+        reading.advance(alloc, source, count, version, &mut legacy_seen, bytes)?;
         reading = reading.with_buffered_pairs(source, count, version);
     }
     if reading.is_done() {
@@ -93,5 +94,33 @@ pub fn take_document_into<S: ByteSource>(
         return Ok(document);
     }
     let begun = Reading::between_pairs(announced, finished, document);
-    take_rest(alloc, source, count, version, begun)
+    let mut bytes = Vec::new(alloc);
+    take_rest(alloc, source, count, version, begun, &mut bytes)
+}
+
+/// Takes a value, to any depth, and adds the pair of this field and the value to the document, in its memory. `bytes` is a buffer for at
+/// most 4096 bytes, which may be lent to one call after the other.
+///
+/// What is found is shown of a document whose pairs some bytes of this version encode, as those do that were read before.
+///
+/// Errors: `CorruptedValue` and `TypeMismatch` with the first error in the bytes; `HeapFull` where what has come needs more room than
+/// 4294967295 bytes; `Io` where the source failed; `Memory`.
+pub fn take_pair_value<S: ByteSource>(
+    alloc: Global,
+    document: HeapPairs,
+    source: &mut S,
+    count: &mut u64,
+    version: DocStoreVersion,
+    field: u32,
+    bytes: &mut Vec<u8>,
+) -> Result<HeapPairs, DeserializeError>
+    ensures finds { Finds S.is_known S.left S.failures source.old count.old source.new count.new
+        result (FindsValue (version_of version) (document_of document) field)
+        (FindsNoValue (version_of version) (document_of document)) }
+    ensures full { S.is_known source.old → IsErrOf result HeapFull
+        → CanStand (version_of version) (document_of document)
+        → ValueHasNoRoom (version_of version) (document_of document) (S.left source.old) }
+{
+    let begun = Reading::before_value(document, field);
+    take_rest(alloc, source, count, version, begun, bytes)
 }

@@ -1,11 +1,12 @@
 //! What has been read of a document, and what its next part does to that.
 
-ghost use Rattle.std.specs.Prelude.{◌≡◌, ◌↔◌, ◌≤◌, ◌<◌, [], ◌∷◌, ◌+◌, length, take};
+ghost use Rattle.std.specs.Prelude.{◌≡◌, ◌↔◌, ◌≤◌, ◌<◌, ◌^◌, [], ◌∷◌, ◌+◌, length, take};
 ghost use Rattle.std.specs.Prelude.{IsTrue, IsErrOf, Ok, OnOk, OnErr, Some, None, false};
-ghost use Rattle.tv_builder.specs.Behind.{document_parts};
+ghost use Rattle.tv_builder.specs.Behind.{document_parts, open_parts};
 ghost use Rattle.tv_builder.specs.Parts.{value as value_part, some_bytes};
 ghost use Rattle.tv_builder.specs.Parts.{bytes_head};
 ghost use Rattle.tv_builder.specs.State.{awaited, head_awaits, list_head, lists_of, children_of};
+ghost use Rattle.tv_builder.specs.State.{in_lists};
 ghost use Rattle.tv_builder.specs.declared.awaits.Awaits.TheVariants.{Value as ValueAwaited};
 ghost use Rattle.tv_builder.specs.declared.awaits.Awaits.TheVariants.{Key as KeyAwaited};
 ghost use Rattle.tv_builder.specs.declared.awaits.Awaits.TheVariants.{Bytes as BytesAwaited};
@@ -80,11 +81,21 @@ impl Reading {
         ensures sound { IsSound result }
         ensures document { built result.builder ≡ [] }
     {
+        Reading::in_memory_of(HeapPairs::new(alloc))
+    }
+
+    /// Nothing is read yet. What is read is put into the memory of these pairs, which were taken off.
+    pub fn in_memory_of(empty: HeapPairs) -> Reading
+        requires { document_of empty ≡ [] }
+        ensures parts { parts_read result ≡ [] }
+        ensures sound { IsSound result }
+        ensures document { built result.builder ≡ [] }
+    {
         Reading {
             announced: None,
             finished: 0,
             field: None,
-            builder: PairBuilder::new(HeapPairs::new(alloc)),
+            builder: PairBuilder::new(empty),
         }
     }
 
@@ -100,6 +111,23 @@ impl Reading {
             announced: Some(announced),
             finished,
             field: None,
+            builder: PairBuilder::new(document),
+        }
+    }
+
+    // All announced pairs but one are finished, and of that one the field has come.
+    pub(crate) fn before_value(document: HeapPairs, field: u32) -> Reading
+        ensures parts { parts_read result
+            ≡ open_parts (length (document_of document) + 1) (document_of document) field
+            (in_lists []) }
+        ensures sound { IsSound result }
+        ensures few { length (document_of document) + 1 < 2 ^ 64 }
+    {
+        let finished = document.pairs.len() as u64;
+        Reading {
+            announced: Some(finished + 1),
+            finished,
+            field: Some(field),
             builder: PairBuilder::new(document),
         }
     }

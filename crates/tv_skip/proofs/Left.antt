@@ -201,7 +201,7 @@ object_closes v Rest n head rest h q = record {
   second = q.parts.second;
 }
 
-list_closes : (v : Version) (Rest : List ℕ → Type 0) (kind : ItemKind) (n : ℕ) (head rest : List ℕ) → OpensList v head kind n → AreItems v kind Rest n rest → Then (IsValue v) Rest (head ++ rest)
+pub list_closes : (v : Version) (Rest : List ℕ → Type 0) (kind : ItemKind) (n : ℕ) (head rest : List ℕ) → OpensList v head kind n → AreItems v kind Rest n rest → Then (IsValue v) Rest (head ++ rest)
 list_closes v Rest kinds.Value n head rest h p = array_closes v Rest n head rest h (values_of v Rest n rest p)
 list_closes v Rest kinds.Entry n head rest h p = object_closes v Rest n head rest h (members_of v Rest n rest p)
 list_closes v Rest kinds.Pair n head rest h p = absurd h
@@ -291,8 +291,8 @@ nothing_left v first items [] none is p = passed_then v first (items ∷ []) [] 
 nothing_left v first items (o ∷ outer) none is p = absurd (omega (arith, is))
 
 -- no list stands around the first
-pub first_open : (v : Version) (first : ItemsLeft) (outer : List ItemsLeft) → outer ≡ [] → Passed v (first ∷ []) (first ∷ reverse outer) []
-first_open v first outer none = subst (λ (l : List ItemsLeft). Passed v (first ∷ []) (first ∷ reverse l) []) (sym none) (none_passed v (first ∷ []))
+pub first_open : (v : Version) (first items : ItemsLeft) (outer : List ItemsLeft) (taken : List ℕ) → outer ≡ [] → Passed v (first ∷ []) (items ∷ []) taken → Passed v (first ∷ []) (items ∷ reverse outer) taken
+first_open v first items outer taken none p = subst (λ (l : List ItemsLeft). Passed v (first ∷ []) (items ∷ reverse l) taken) (sym none) p
 
 -- one of a list that has some left
 pub item_taken : (v : Version) (first : List ItemsLeft) (items : ItemsLeft) (outer : List ItemsLeft) → 0 < items.left → Passed v first (items ∷ outer) [] → Passed v first (so_many items.kind (suc (items.left - 1)) ∷ outer) []

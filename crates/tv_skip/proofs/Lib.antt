@@ -1,4 +1,5 @@
 pub mod Passing
 pub mod Left
+pub mod Walking
 pub mod Steps
 pub mod TokenParts

@@ -4,7 +4,7 @@ use Rattle.std.specs.declared.alloc.Global.{Global}
 use Rattle.tv_base.specs.declared.cause.Cause.{Cause}
 use Rattle.tv_base.specs.declared.cause.Cause.TheVariants.{NotUtf8}
 use Rattle.tv_base.specs.Number.{VNum, Fixed}
-use Rattle.tv_base.specs.Parts.{Then, Behind, Sized, Text, Each, Counted}
+use Rattle.tv_base.specs.Parts.{Begins, Then, Behind, Sized, Text, Each, Counted}
 use Rattle.tv_base.specs.ErrorInPart.{InThen, InEach, ErrorInNumber, ErrorInBytes, ErrorInText}
 use Rattle.tv_format.specs.Encoding.{TokenEncoding, Tokenized, Key, Encodes, EncodesDocument}
 use Rattle.tv_format.specs.InputError.{Refusal, corrupted, Corrupt, ErrorInToken, ErrorInKey}
@@ -146,6 +146,10 @@ AreLeft v (items ∷ outer) whole = AreItems v items.kind (AreLeft v outer) item
 abbrev pub ErrorInLeft : Version → List ItemsLeft → List ℕ → Refusal → Type 0
 ErrorInLeft v [] whole r = ⊥
 ErrorInLeft v (items ∷ outer) whole r = ErrorInItems v items.kind (ErrorInLeft v outer) items.left whole r
+
+-- The bytes begin with so many items, and this is behind them.
+abbrev pub BeginsItems : Version → ItemKind → ℕ → List ℕ → List ℕ → Type 0
+BeginsItems v kind n whole rest = Begins (AreItems v kind (λ b. b ≡ []) n) whole rest
 
 -- What was left is the bytes that were taken, and what is left now.
 pub record Passed (v : Version) (old new : List ItemsLeft) (taken : List ℕ) : Type 0 where

@@ -1,7 +1,8 @@
 //! Passing over documents and values: they are tested as if they were read, and nothing of them is kept.
 
-ghost use Rattle.std.specs.Prelude.{◌<◌, ◌∷◌, ◌++◌, [], OnOk};
+ghost use Rattle.std.specs.Prelude.{◌≡◌, ◌<◌, ◌∷◌, ◌++◌, [], Ok, OnOk, MatchOption};
 ghost use Rattle.tv_format.specs.InputError.{ErrorInDocument};
+ghost use Rattle.tv_format.specs.WriteVersion.{written_version};
 ghost use Rattle.tv_legacy.specs.Legacy.{Legacy, ErrorInLegacy};
 ghost use Rattle.tv_reader.specs.Finds.{FindsRoomy};
 ghost use Rattle.tv_reader.specs.Trees.{NoValue};
@@ -9,13 +10,15 @@ ghost use Rattle.tv_reader.specs.ValueType.{coded};
 ghost use Rattle.tv_reader.specs.Version.{version_of};
 ghost use Rattle.tv_skip.specs.Skip.{Before, ErrorBefore, ErrorInItem, ErrorInLeft};
 ghost use Rattle.tv_skip.specs.Skip.{AreLeft, IsValue, IsDocument, Opens, OpensItem, TakesItem};
-ghost use Rattle.tv_skip.specs.Skip.{open_items};
+ghost use Rattle.tv_skip.specs.Skip.{open_items, Nothing, Passed};
 
+use crate::encoded::behind_as_many;
 use crate::parts::{skip_key, skip_sized, skip_text};
 use crate::tokens::skip_tokenized;
 use std::alloc::Global;
 use tv_base::ByteSource;
 use tv_base::take::take_vint;
+use tv_format::version::WriteVersion;
 use tv_reader::DeserializeError;
 use tv_reader::fields::take_field;
 use tv_reader::heads::take_document_head;
@@ -37,6 +40,51 @@ pub(crate) enum ItemKind {
 pub(crate) struct ItemsLeft {
     kind: ItemKind,
     left: u64,
+}
+
+// What is buffered is walked by a recursion of so many levels at most.
+const LEVELS: u32 = 64;
+
+// The version as one that is written. None for version 1.
+fn written(version: DocStoreVersion) -> Option<WriteVersion>
+    ensures { MatchOption result (version ≡ DocStoreVersion.V1)
+        (λ known. written_version known ≡ version_of version) }
+{
+    match version {
+        DocStoreVersion::V1 => None,
+        DocStoreVersion::V2 => Some(WriteVersion::V2),
+        DocStoreVersion::V3 => Some(WriteVersion::V3),
+    }
+}
+
+// Passes over the items that the source has buffered whole, one behind the other, and gives those that are left. It may pass over none.
+fn pass_buffered_items<S: ByteSource>(
+    source: &mut S,
+    count: &mut u64,
+    version: DocStoreVersion,
+    items: ItemsLeft,
+) -> ItemsLeft
+    ensures finds { FindsRoomy S.is_known S.left S.failures source.old count.old source.new
+        count.new (Ok result)
+        (λ b left. Passed (version_of version) (items ∷ []) (left ∷ []) b) Nothing }
+{
+    let Some(known) = written(version) else {
+        return items;
+    };
+    let lent = source.buffered();
+    if u64::MAX - *count < lent.len() as u64 {
+        return items;
+    }
+    let (rest, passed) = behind_as_many(items.kind, items.left, lent, known, LEVELS);
+    let taken = lent.len() - rest.len();
+    if !source.pass(taken) {
+        return items;
+    }
+    *count += taken as u64;
+    ItemsLeft {
+        kind: items.kind,
+        left: items.left - passed,
+    }
 }
 
 // Takes one item off what is left, and says whether there was one. It is of the list that comes first then.
@@ -172,9 +220,9 @@ fn skip_items<S: ByteSource>(
         count.new result (λ b _. AreLeft (version_of version) (first ∷ []) b)
         (ErrorInLeft (version_of version) (first ∷ [])) }
 {
+    let mut items = pass_buffered_items(source, count, version, first);
     let mut scratch = Vec::new(alloc);
     let mut outer = Vec::new(alloc);
-    let mut items = first;
     'lists: while next_item(&mut items, &mut outer) {
         let before = *count;
         let opened = skip_item(alloc, source, count, version, &mut scratch, items.kind)?;
@@ -188,10 +236,11 @@ fn skip_items<S: ByteSource>(
     Ok(())
 }
 
-/// Passes over a value, to any depth, by no recursion. It is tested as if it were read, and nothing of it is kept.
+/// Passes over a value, to any depth. It is tested as if it were read, and nothing of it is kept.
 ///
-/// Memory is taken for texts that the source doesn't lend, which are tested in one buffer that is used again, and for objects as
-/// older stores hold them; and for each list that is open.
+/// A value that the source has buffered whole is walked where it lies, by a recursion of 64 levels at most. Any other is taken part by part, by no
+/// recursion. Memory is taken then for texts that the source doesn't lend, which are tested in one buffer that is used again, and for objects
+/// as older stores hold them; and for each list that is open.
 ///
 /// Errors: `CorruptedValue` and `TypeMismatch` with the first error in the bytes; `Io` where the source failed; `Memory`.
 pub fn pass_value<S: ByteSource>(

@@ -6,9 +6,13 @@ use Rattle.tv_base.specs.ErrorInPart.{number_ends}
 use Rattle.tv_base.specs.Number.{Groups, last, more}
 use Rattle.tv_base.specs.Source.{Failures}
 use Rattle.tv_base.specs.Stop.{Taken}
+use Rattle.tv_builder.specs.Parts.{Part, number}
+use Rattle.tv_builder.specs.Prefix.{Encoded}
 use Rattle.tv_decoder.specs.Prefix.{HasNoRoom}
 use Rattle.tv_doc.specs.declared.document.CompactDoc.{CompactDoc}
+use Rattle.tv_format.specs.Encoding.{EncodesDocument}
 use Rattle.tv_format.specs.InputError.{Refusal, corrupted, no_text_key, corrupt}
+use Rattle.tv_format.specs.Tree.{Document}
 use Rattle.tv_format.specs.Version.{Version}
 use Rattle.tv_format.proofs.SingleTrees.{single_document}
 use Rattle.tv_legacy.specs.Legacy.{Legacy, ErrorInLegacy}
@@ -54,7 +58,7 @@ nothing_ends v = inl (corrupt (number_ends (omega arith) tt))
 ends_only : (v : Version) (old : List ℕ) (r : Refusal) → old ≡ [] → NoDocument v old r → r ≡ end
 ends_only v old r none h = (single_document Legacy ErrorInLegacy v one_legacy legacy_excludes single_legacy).single [] r end (subst (λ (l : List ℕ). NoDocument v l r) none h) (nothing_ends v)
 
-none_before : (a b : List ℕ) → a ++ b ≡ [] → a ≡ []
+pub none_before : (a b : List ℕ) → a ++ b ≡ [] → a ≡ []
 none_before [] b e = refl
 none_before (x ∷ a) b e = absurd (cc)
 
@@ -62,11 +66,15 @@ no_groups : (bytes : List ℕ) (n : ℕ) → bytes ≡ [] → Groups bytes n →
 no_groups _ _ e (last lt) = cc
 no_groups _ _ e (more lt groups) = cc
 
+-- they encode no number, and nothing behind one
+pub no_number : (v : Version) (taken : List ℕ) (n : ℕ) (ps : List Part) → taken ≡ [] → Encoded Legacy v taken (number n ∷ ps) → ⊥
+no_number v taken n ps none parts = no_groups parts.prefix n (none_before parts.prefix parts.rest (sym parts.joined ∙ none)) parts.first.groups
+
+pub no_document : (v : Version) (taken : List ℕ) (d : Document) → taken ≡ [] → EncodesDocument Legacy v taken d → ⊥
+no_document v taken d none encoded = no_groups encoded.prefix _ (none_before encoded.prefix encoded.rest (sym encoded.joined ∙ none)) encoded.first.groups
+
 never_full : (v : Version) (old : List ℕ) → old ≡ [] → HasNoRoom v old → ⊥
-never_full v old none full =
-    let parts = full.encoded in
-    let first = none_before parts.prefix parts.rest (sym parts.joined ∙ none_before full.prefix full.rest (sym full.joined ∙ none)) in
-    no_groups parts.prefix full.announced first parts.first.groups
+never_full v old none full = no_number v full.prefix full.announced _ (none_before full.prefix full.rest (sym full.joined ∙ none)) full.encoded
 
 -- ---- the end
 

@@ -8,8 +8,10 @@ pub mod RoundTrips
 pub mod Migrations
 mod InPlace
 mod Blocks
+mod BlocksWithin
 mod Skips
 pub mod Nesting
 pub mod NestedSteps
 pub mod WithinDepth
 pub mod WithinLimits
+mod ChosenReads

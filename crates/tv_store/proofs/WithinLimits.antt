@@ -115,7 +115,7 @@ past_more : (most : Option ℕ) (m n : ℕ) → m ≤ n → IsPast most m → Is
 past_more None m n le h = h
 past_more (Some k) m n le h = omega arith
 
-past_none : (most : Option ℕ) → IsPast most 0 → ⊥
+pub past_none : (most : Option ℕ) → IsPast most 0 → ⊥
 past_none None h = h
 past_none (Some n) h = omega arith
 
@@ -234,6 +234,10 @@ tested_counts most d (Err (limited.Limit l)) old new test same = same
 
 recounted : (a b : List ℕ) (first from i j k : ℕ) → from ≡ first + i → k ≡ j - first → from ≤ j → Taken a b from j → Taken a b i k
 recounted a b first from i j k begun ended rises t = record { prefix = t.prefix; joined = t.joined; counted = omega (arith, t.counted) }
+
+-- the same of a whole document
+pub counted_from : (a b : List ℕ) (first from last : ℕ) {to : ℕ} → from ≡ first → last ≡ to → from ≤ to → Taken a b from to → Taken a b 0 (last - first)
+counted_from a b first from last begun ended rises t = record { prefix = t.prefix; joined = t.joined; counted = omega (arith, t.counted, begun, ended, rises) }
 
 part_stop : (e : DeserializeError) (all : Bool) (said : LimitedReadError) (most : Option ℕ) (H G : List ℕ → Refusal → Type 0) (a b : List ℕ) (first from i j k : ℕ) → from ≡ first + i → k ≡ j - first → Told all e said → first ≡ first_count most → from ≤ j
     → IsTrue all ↔ (IsSome most × (j ≡ 2 ^ 64 - 1)) → ((b : List ℕ) (f : Refusal) → H b f → G b f) → GivesStop (corrupted UnexpectedEnd) H a b j (store_stop e) → GivesStop (corrupted UnexpectedEnd) G a b k (limited_stop said)

@@ -1,14 +1,26 @@
 -- What is read of documents that stand one behind the other.
-use Rattle.std.specs.Prelude.{Bool, true, false, Result, Ok, Err}
+use Rattle.std.specs.Prelude.{◌≡◌, Bool, true, false, Some, Result, Ok, Err}
 use Rattle.tv_base.specs.declared.cause.Cause.TheVariants.{UnexpectedEnd}
 use Rattle.tv_reader.specs.declared.error.DeserializeError.{DeserializeError}
 use Rattle.tv_reader.specs.declared.error.DeserializeError.TheVariants as errors
+use Rattle.tv_store.specs.declared.limits.ReadLimits.{ReadLimits}
+use Rattle.tv_store.specs.declared.limits.ReadLimit.TheVariants as limit
+use Rattle.tv_store.specs.declared.limits.LimitedReadError.{LimitedReadError}
+use Rattle.tv_store.specs.declared.limits.LimitedReadError.TheVariants as limited
 
--- What reading a document would have returned: it calls the end of the block an unexpected end.
+-- What reading a document would have returned, which calls the end of the block an error.
+abbrev pub read_or : {D E : Type 0} → E → Result Bool E → D → Result D E
+read_or end (Ok true) document = Ok document
+read_or end (Ok false) document = Err end
+read_or end (Err e) document = Err e
+
+-- that is an unexpected end
 abbrev pub as_read : {D : Type 0} → Result Bool DeserializeError → D → Result D DeserializeError
-as_read (Ok true) document = Ok document
-as_read (Ok false) document = Err (errors.CorruptedValue UnexpectedEnd)
-as_read (Err e) document = Err e
+as_read result document = read_or (errors.CorruptedValue UnexpectedEnd) result document
+
+-- the same within limits
+abbrev pub as_read_within : {D : Type 0} → Result Bool LimitedReadError → D → Result D LimitedReadError
+as_read_within result document = read_or (limited.Read (errors.CorruptedValue UnexpectedEnd)) result document
 
 -- the same of a document that isn't kept
 abbrev pub as_passed : Result Bool DeserializeError → Result (Unit {0}) DeserializeError
@@ -28,3 +40,11 @@ SaysEnd (Err (errors.UnsupportedVersion m n)) = ⊥
 SaysEnd (Err errors.HeapFull) = ⊥
 SaysEnd (Err errors.AlreadyFailed) = ⊥
 SaysEnd (Err errors.TooDeep) = ⊥
+
+-- the same within limits: where no byte may be taken, the end isn't seen
+abbrev pub SaysEndWithin : ReadLimits → Result Bool LimitedReadError → Type 0
+SaysEndWithin limits (Ok next) = SaysEnd (Ok next)
+SaysEndWithin limits (Err (limited.Read e)) = SaysEnd (Err e)
+SaysEndWithin limits (Err (limited.Limit limit.Bytes)) = limits.bytes ≡ Some 0
+SaysEndWithin limits (Err (limited.Limit limit.HeapBytes)) = ⊥
+SaysEndWithin limits (Err (limited.Limit limit.Depth)) = ⊥

@@ -12,3 +12,4 @@ pub mod Depth
 pub mod Limits
 pub mod Skip
 pub use Rattle.tv_writer.specs.Serialized
+pub mod Chosen

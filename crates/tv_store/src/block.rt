@@ -2,11 +2,12 @@
 
 ghost use Rattle.std.specs.Prelude.{◌≡◌, ◌≢◌, ◌≤◌, ◌<◌, ◌++◌, [], ℕ, List, length, true, false, Ok, Err, IfErr, IsErrOf, OnOk, OnErr};
 ghost use Rattle.tv_base.specs.declared.cause.Cause.TheVariants.{TooLong, UnexpectedEnd};
-ghost use Rattle.tv_base.specs.ReadsAs.{Known, TakesMost};
+ghost use Rattle.tv_base.specs.Parts.{Begins};
+ghost use Rattle.tv_base.specs.ReadsAs.{Known, TakesMost, EndsEarly};
 ghost use Rattle.tv_base.specs.Stop.{Counts};
-ghost use Rattle.tv_doc.specs.Document.{document_of};
+ghost use Rattle.tv_doc.specs.Document.{document_of, heap_of};
 ghost use Rattle.tv_doc.specs.declared.document.CompactDoc.{CompactDoc};
-ghost use Rattle.tv_format.specs.InputError.{Refusal};
+ghost use Rattle.tv_format.specs.InputError.{Refusal, corrupted};
 ghost use Rattle.tv_format.specs.Encoding.{EncodesDocument};
 ghost use Rattle.tv_format.specs.Tree.{Document};
 ghost use Rattle.tv_heap.specs.Room.{document_room};
@@ -17,12 +18,17 @@ ghost use Rattle.tv_reader.specs.declared.error.DeserializeError.{DeserializeErr
 ghost use Rattle.tv_reader.specs.declared.error.DeserializeError.TheVariants.{AlreadyFailed};
 ghost use Rattle.tv_reader.specs.declared.error.DeserializeError.TheVariants.{CorruptedValue};
 ghost use Rattle.tv_reader.specs.declared.error.DeserializeError.TheVariants.{HeapFull};
-ghost use Rattle.tv_store.specs.Blocks.{as_read, as_passed, SaysEnd};
+ghost use Rattle.tv_store.specs.Blocks.{as_read, as_read_within, as_passed};
+ghost use Rattle.tv_store.specs.Blocks.{SaysEnd, SaysEndWithin};
 ghost use Rattle.tv_store.specs.Documents.{BeginsWith, Answers, NoDocument, HasNoRoom};
 ghost use Rattle.tv_store.specs.Documents.{ShowsRefusal, IsReadingError, in_place};
+ghost use Rattle.tv_store.specs.Limits.{AllNestWithinLimit, AnswersWithin, IsAll, IsLarge};
+ghost use Rattle.tv_store.specs.Limits.{IsLimitedError, IsPast, PassesDepth, limited_stop};
 ghost use Rattle.tv_store.specs.Skip.{PassesOver};
+ghost use Rattle.tv_store.specs.declared.limits.LimitedReadError.TheVariants.{Read, Limit};
 
 use crate::de::take_in_place;
+use crate::limits::{LimitedReadError, ReadLimit, ReadLimits, read_parts_in_place};
 use std::alloc::Global;
 use tv_base::{ByteSource, Cause};
 use tv_doc::document::CompactDoc;
@@ -40,6 +46,20 @@ fn next_of(read: Result<(), DeserializeError>, count: u64) -> Result<bool, Deser
         Ok(()) => Ok(true),
         Err(DeserializeError::CorruptedValue(Cause::UnexpectedEnd)) if count == 0 => Ok(false),
         Err(error) => Err(error),
+    }
+}
+
+// The same within limits.
+fn next_within(read: Result<(), LimitedReadError>, count: u64) -> Result<bool, LimitedReadError>
+    ensures same { (document : CompactDoc)
+        → as_read_within result document ≡ in_place read document }
+    ensures end { result ≡ Ok false → count ≡ 0 }
+    ensures cut { IsErrOf result (Read (CorruptedValue UnexpectedEnd)) → 0 < count }
+{
+    match read {
+        Ok(()) => Ok(true),
+        Err(LimitedReadError::Read(error)) => Ok(next_of(Err(error), count)?),
+        Err(passed) => Err(passed),
     }
 }
 
@@ -155,6 +175,125 @@ impl BlockReader {
             self.version,
         );
         let next = next_of(read, count);
+        self.failed = next.is_err();
+        next
+    }
+
+    /// Reads the next document as `read_document_within` does, which stops where it passes a limit, and says whether there was one: `false`
+    /// where the source had nothing left. The limits are those of this document alone.
+    ///
+    /// Errors: those of `read_document_within`, and `Read` with `AlreadyFailed` after an error of this call or another. Where no byte may be
+    /// taken, the end isn't seen, and so it is `Limit(Bytes)`, too. At the end and after an error there is no document, and its memory was
+    /// given back.
+    ///
+    /// ```
+    /// pub fn values_of_untrusted(alloc: Global, block: &[u8]) -> Result<usize, LimitedReadError> {
+    ///     let limits = ReadLimits {
+    ///         bytes: Some(1 << 20),
+    ///         heap_bytes: Some(1 << 20),
+    ///         depth: Some(32),
+    ///     };
+    ///     let mut source = SliceSource::new(block);
+    ///     let mut reader = BlockReader::new(alloc, DocStoreVersion::V2);
+    ///     let mut values: usize = 0;
+    ///     while reader.advance_within(&mut source, limits)? {
+    ///         values = values.saturating_add(reader.document().len());
+    ///     }
+    ///     Ok(values)
+    /// }
+    /// ```
+    pub fn advance_within<S: ByteSource>(
+        &mut self,
+        source: &mut S,
+        limits: ReadLimits,
+    ) -> Result<bool, LimitedReadError>
+        // after a refusal nothing happens
+        ensures refused { self.old.failed ≡ true
+            → Rests self.old self.new source.old source.new result (Err (Read AlreadyFailed)) }
+        ensures live { OnOk result (self.new.failed ≡ false) }
+        ensures mark { OnErr result (self.new.failed ≡ true) }
+
+        // the end is told where nothing is left, and only there
+        ensures end { self.old.failed ≡ false → S.is_known source.old → result ≡ Ok false
+            → S.left source.old ≡ [] }
+        ensures ended { self.old.failed ≡ false → S.is_known source.old → S.left source.old ≡ []
+            → SaysEndWithin limits result }
+
+        // a prefix of the bytes encodes what is read, the rest is left, and each tree and the heap are within their limits
+        ensures found { S.is_known source.old → result ≡ Ok true
+            → BeginsWith (version_of self.old.version) (S.left source.old) (S.left source.new)
+            (document_of self.new.document) }
+        ensures fewer { S.is_known source.old → result ≡ Ok true
+            → length (S.left source.new) < length (S.left source.old) }
+        ensures shallow { result ≡ Ok true
+            → AllNestWithinLimit limits.depth (document_of self.new.document) }
+        ensures small { result ≡ Ok true
+            → ¬ IsPast limits.heap_bytes (length (heap_of self.new.document)) }
+
+        // wherever a prefix encodes a document that has room, that one is read, unless a limit is passed
+        ensures only { self.old.failed ≡ false → Known S.is_known S.left source.old → (d : Document)
+            (prefix rest : List ℕ) → S.left source.old ≡ prefix ++ rest
+            → EncodesDocument Legacy (version_of self.old.version) prefix d
+            → document_room d ≤ 4294967295
+            → AnswersWithin limits.bytes (as_read_within result self.new.document) d prefix rest
+            (S.left source.new) }
+
+        // what was taken passes the limit
+        ensures depth { S.is_known source.old → IsErrOf result (Limit ReadLimit.Depth)
+            → Begins (PassesDepth (version_of self.old.version) limits.depth) (S.left source.old)
+            (S.left source.new) }
+        ensures heap { S.is_known source.old → IsErrOf result (Limit ReadLimit.HeapBytes)
+            → Begins (IsLarge (version_of self.old.version) limits.heap_bytes) (S.left source.old)
+            (S.left source.new) }
+        ensures bytes { S.is_known source.old → IsErrOf result (Limit ReadLimit.Bytes)
+            → Begins (IsAll limits.bytes) (S.left source.old) (S.left source.new) }
+
+        // and a document needs more
+        ensures ends { S.is_known source.old → IsErrOf result (Limit ReadLimit.Bytes)
+            → EndsEarly (corrupted UnexpectedEnd) (NoDocument (version_of self.old.version))
+            (S.left source.old) (S.left source.new) }
+
+        // no more bytes are taken than may be, whatever is returned
+        ensures most { S.is_known source.old
+            → Begins (λ b. ¬ IsPast limits.bytes (length b)) (S.left source.old)
+            (S.left source.new) }
+
+        // refusals of the bytes are true of them, and others don't come
+        ensures error { Known S.is_known S.left source.old → (e : DeserializeError) (r : Refusal)
+            → IsErrOf result (Read e) → IsRefusal e r
+            → NoDocument (version_of self.old.version) (S.left source.old) r }
+        ensures full { S.is_known source.old → IsErrOf result (Read HeapFull)
+            → HasNoRoom (version_of self.old.version) (S.left source.old) }
+        ensures errors { self.old.failed ≡ false → IfErr result (IsLimitedError limits) }
+        ensures none { self.old.failed ≡ false → result ≢ Ok true
+            → document_of self.new.document ≡ [] }
+
+        // just the bytes that show the error were taken, and after every error a slice of what was left
+        ensures shows { Known S.is_known S.left source.old → (e : DeserializeError) (r : Refusal)
+            → IsErrOf result (Read e) → IsRefusal e r
+            → ShowsRefusal (version_of self.old.version) (S.left source.old) (S.left source.new) r }
+        ensures taken { S.is_known source.old
+            → (prefix : List ℕ) × (S.left source.old ≡ prefix ++ S.left source.new) }
+
+        // the source failed exactly where its count of failures rose, with the kind that it returned
+        ensures failures { self.old.failed ≡ false
+            → Counts limited_stop result (S.failures source.old) (S.failures source.new) }
+        ensures stays_known { S.is_known source.old → S.is_known source.new }
+        ensures version { self.new.version ≡ self.old.version }
+    {
+        if self.failed {
+            return Err(LimitedReadError::Read(DeserializeError::AlreadyFailed));
+        }
+        let mut count = 0;
+        let read = read_parts_in_place(
+            self.alloc,
+            &mut self.document,
+            source,
+            &mut count,
+            self.version,
+            limits,
+        );
+        let next = next_within(read, count);
         self.failed = next.is_err();
         next
     }

@@ -8,6 +8,7 @@ ghost use Rattle.tv_decoder.specs.Kept.{Grows, KeepsPairs};
 ghost use Rattle.tv_decoder.specs.Sound.{SoundUnless-prop};
 ghost use Rattle.tv_decoder.specs.Steps.{Stepped, Sees, IsFew};
 ghost use Rattle.tv_builder.specs.Builder.{built, state_of, heap_so_far, kept_heap};
+ghost use Rattle.tv_builder.specs.HeldPairs.{document_of as pairs_of};
 ghost use Rattle.tv_doc.specs.Document.{document_of, heap_of};
 ghost use Rattle.tv_builder.specs.Prefix.{Encoded};
 ghost use Rattle.tv_builder.specs.State.{lists_of, children_of};
@@ -20,6 +21,7 @@ ghost use Rattle.tv_format.specs.Encoding.{NoLegacy};
 
 use std::alloc::Global;
 use tv_base::ByteSource;
+use tv_builder::heap_pairs::HeapPairs;
 use tv_decoder::reading::Reading;
 use tv_doc::document::CompactDoc;
 use tv_reader::{DeserializeError, DocStoreVersion};
@@ -76,15 +78,17 @@ impl DirectDecoder {
         ensures live { result.failed ≡ false }
         ensures none_seen { result.legacy_seen ≡ false }
     {
-        DirectDecoder::counting_from(alloc, version, 0)
+        DirectDecoder::counting_from(alloc, HeapPairs::new(alloc), version, 0)
     }
 
-    // The same, which counts from this number on.
+    // The same, which reads into the memory of pairs that were taken off, and counts from this number on.
     pub(crate) fn counting_from(
         alloc: Global,
+        empty: HeapPairs,
         version: DocStoreVersion,
         count: u64,
     ) -> DirectDecoder
+        requires { pairs_of empty ≡ [] }
         ensures parts { parts_read result.reading ≡ [] }
         ensures document { built result.reading.builder ≡ [] }
         ensures version { result.version ≡ version }
@@ -95,7 +99,7 @@ impl DirectDecoder {
         DirectDecoder {
             alloc,
             version,
-            reading: Reading::new(alloc),
+            reading: Reading::in_memory_of(empty),
             count,
             failed: false,
             legacy_seen: false,

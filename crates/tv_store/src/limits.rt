@@ -1,12 +1,13 @@
 //! Reading a document within limits.
 
-ghost use Rattle.std.specs.Prelude.{◌≡◌, ◌↔◌, ◌<◌, ◌≤◌, ◌++◌, ◌+◌, ◌-◌, ◌^◌, ℕ, List, None, length, IsTrue, OnOk, OnErr, Ok, Err, true, false};
+ghost use Rattle.std.specs.Prelude.{◌≡◌, ◌↔◌, ◌<◌, ◌≤◌, ◌++◌, ◌+◌, ◌-◌, ◌^◌, [], ℕ, List, None, length, IsTrue, OnOk, OnErr, Ok, Err, true, false};
 ghost use Rattle.std.specs.Prelude.{IfOk, IfErr, IsErrOf, IsSome, Some};
 ghost use Rattle.tv_base.specs.Parts.{Begins};
 ghost use Rattle.tv_base.specs.declared.cause.Cause.TheVariants.{UnexpectedEnd, TooLong};
 ghost use Rattle.tv_base.specs.ReadsAs.{Known, EndsEarly};
-ghost use Rattle.tv_base.specs.Stop.{Counts};
+ghost use Rattle.tv_base.specs.Stop.{Counts, Taken};
 ghost use Rattle.tv_builder.specs.Builder.{state_of, heap_so_far};
+ghost use Rattle.tv_builder.specs.HeldPairs.{document_of as pairs_of};
 ghost use Rattle.tv_builder.specs.State.{lists_of};
 ghost use Rattle.tv_doc.specs.Document.{document_of, heap_of};
 ghost use Rattle.tv_decoder.specs.Prefix.{IsDone, NoPrefix, NoRoomBehind, HasNoRoom};
@@ -27,7 +28,7 @@ ghost use Rattle.tv_store.specs.Limits.{first_count, FindsPart, IsCapped, Leaves
 ghost use Rattle.tv_store.specs.Limits.{Told};
 ghost use Rattle.tv_store.specs.Decoder.{SaysDone, Rests};
 ghost use Rattle.tv_decoder.specs.Kept.{Grows, KeepsPairs};
-ghost use Rattle.tv_store.specs.Documents.{BeginsWith, NoDocument, ShowsRefusal};
+ghost use Rattle.tv_store.specs.Documents.{BeginsWith, NoDocument, ShowsRefusal, in_place};
 ghost use Rattle.tv_store.specs.declared.limits.LimitedReadError.{LimitedReadError};
 ghost use Rattle.tv_store.specs.declared.limits.LimitedReadError.TheVariants.{Read, Limit};
 
@@ -38,8 +39,10 @@ use crate::error::DeserializeError;
 use std::alloc::Global;
 use std::fmt;
 use std::fmt::{Display, Formatter, Write};
+use std::mem::replace;
 use thiserror::Error;
 use tv_base::{ByteSource, Cause};
+use tv_builder::heap_pairs::HeapPairs;
 use tv_doc::document::CompactDoc;
 
 /// What reading one document may take. `None` doesn't limit. (Not in tantivy.)
@@ -258,13 +261,16 @@ fn tested(
     }
 }
 
-// Reads a document, part by part, until a limit is passed.
+// Reads a document, part by part, until a limit is passed, into the memory of pairs that were taken off. Counts the bytes that are taken.
 fn read_parts<S: ByteSource>(
     alloc: Global,
+    empty: HeapPairs,
     source: &mut S,
+    count: &mut u64,
     version: DocStoreVersion,
     limits: ReadLimits,
 ) -> Result<CompactDoc, LimitedReadError>
+    requires { pairs_of empty ≡ [] }
     ensures comes { S.is_known source.old
         → Comes (version_of version) limits (S.left source.old) (S.left source.new) result }
     ensures shallow { IfOk result (λ d. AllNestWithinLimit limits.depth (document_of d)) }
@@ -272,19 +278,49 @@ fn read_parts<S: ByteSource>(
     ensures errors { IfErr result (IsLimitedError limits) }
     ensures failures { Counts limited_stop result (S.failures source.old) (S.failures source.new) }
     ensures stays_known { S.is_known source.old → S.is_known source.new }
+    ensures counted { S.is_known source.old
+        → Taken (S.left source.old) (S.left source.new) 0 count.new }
 {
     let first = first_count(limits.bytes);
-    let mut decoder = DirectDecoder::counting_from(alloc, version, first);
+    let mut decoder = DirectDecoder::counting_from(alloc, empty, version, first);
     let taken = take_within(&mut decoder, source, limits);
-    let count = decoder.bytes_read();
+    let last = decoder.bytes_read();
+    *count = last - first;
     let passed = match taken {
         Ok(passed) => passed,
-        Err(error) => return Err(refused(error, is_all(limits.bytes, count))),
+        Err(error) => return Err(refused(error, is_all(limits.bytes, last))),
     };
     match passed {
         Some(limit) => Err(LimitedReadError::Limit(limit)),
         None => tested(alloc, decoder.into_doc(), limits.depth),
     }
+}
+
+// Reads a document as `read_parts` does, in place of one that is there and in its memory. After an error the document has no pairs.
+pub(crate) fn read_parts_in_place<S: ByteSource>(
+    alloc: Global,
+    document: &mut CompactDoc,
+    source: &mut S,
+    count: &mut u64,
+    version: DocStoreVersion,
+    limits: ReadLimits,
+) -> Result<(), LimitedReadError>
+    ensures comes { S.is_known source.old
+        → Comes (version_of version) limits (S.left source.old) (S.left source.new)
+        (in_place result document.new) }
+    ensures shallow { OnOk result (AllNestWithinLimit limits.depth (document_of document.new)) }
+    ensures small { OnOk result (¬ IsPast limits.heap_bytes (length (heap_of document.new))) }
+    ensures errors { IfErr result (IsLimitedError limits) }
+    ensures none { OnErr result (document_of document.new ≡ []) }
+    ensures failures { Counts limited_stop result (S.failures source.old) (S.failures source.new) }
+    ensures stays_known { S.is_known source.old → S.is_known source.new }
+    ensures counted { S.is_known source.old
+        → Taken (S.left source.old) (S.left source.new) 0 count.new }
+{
+    let mut empty = replace(document, CompactDoc::new(alloc)).into_pairs();
+    empty.clear();
+    *document = read_parts(alloc, empty, source, count, version, limits)?;
+    Ok(())
 }
 
 impl DirectDecoder {
@@ -442,5 +478,7 @@ pub fn read_document_within<S: ByteSource>(
     ensures failures { Counts limited_stop result (S.failures source.old) (S.failures source.new) }
     ensures stays_known { S.is_known source.old → S.is_known source.new }
 {
-    read_parts(alloc, source, version, limits)
+    let mut count = 0;
+    let empty = HeapPairs::new(alloc);
+    read_parts(alloc, empty, source, &mut count, version, limits)
 }

@@ -8,10 +8,10 @@ use tantivy_schema::common::{
     BinarySerializable, BufferedSource, LimitedSource, ReadError, SliceSource, VecSink,
 };
 use tantivy_schema::schema::document::{BinaryDocumentSerializer, StoreReader};
-use tantivy_schema::schema::{Schema, TantivyDocument};
+use tantivy_schema::schema::{Field, Schema, TantivyDocument};
 use tantivy_schema::store::{
     BlockReader, DirectDecoder, DocStoreVersion, LimitedReadError, ReadLimits, Step, read_document,
-    read_document_into, read_document_within, skip_document,
+    read_document_into, read_document_within, read_fields, skip_document,
 };
 
 /// The bytes of documents, one after the other.
@@ -81,6 +81,18 @@ pub fn document_at(alloc: Global, block: &[u8], place: usize) -> Result<Option<T
     }
 }
 
+/// The names and the ages of a document of many fields.
+pub fn name_and_age(
+    alloc: Global,
+    bytes: &[u8],
+    name: Field,
+    age: Field,
+) -> Result<TantivyDocument> {
+    let mut source = SliceSource::new(bytes);
+    let fields = [name, age];
+    Ok(read_fields(alloc, &mut source, DocStoreVersion::V2, &fields)?)
+}
+
 /// The second of two documents.
 pub fn second_document(alloc: Global, bytes: &[u8]) -> Result<TantivyDocument> {
     let mut source = SliceSource::new(bytes);
@@ -97,6 +109,22 @@ pub fn read_untrusted(alloc: Global, bytes: &[u8]) -> Result<TantivyDocument, Li
     };
     let mut source = SliceSource::new(bytes);
     read_document_within(alloc, &mut source, DocStoreVersion::V2, limits)
+}
+
+/// How many values the documents of a block have that others wrote: a document that passes a limit is refused.
+pub fn values_of_untrusted(alloc: Global, block: &[u8]) -> Result<usize, LimitedReadError> {
+    let limits = ReadLimits {
+        bytes: Some(1 << 20),
+        heap_bytes: Some(1 << 20),
+        depth: Some(32),
+    };
+    let mut source = SliceSource::new(block);
+    let mut reader = BlockReader::new(alloc, DocStoreVersion::V2);
+    let mut values: usize = 0;
+    while reader.advance_within(&mut source, limits)? {
+        values = values.saturating_add(reader.document().len());
+    }
+    Ok(values)
 }
 
 /// A number that a reader gives, a file say.

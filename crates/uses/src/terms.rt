@@ -4,7 +4,8 @@ use anyhow::{Result, anyhow};
 use std::alloc::Global;
 use std::fmt::Write;
 use tantivy_schema::schema::{
-    Facet, FacetCount, Field, Schema, Term, TermWriter, count_child_facets,
+    Facet, FacetCount, Field, INDEXED, Schema, TEXT, TantivyDocument, Term, TermList, TermWriter,
+    count_child_facets, term_values,
 };
 
 /// The term of a text at a path into the objects of a JSON field.
@@ -61,4 +62,24 @@ pub fn most_facets<'a>(
 ) -> Result<Option<FacetCount<'a>>> {
     let counts = count_child_facets(alloc, ancestor.encoded_str().as_bytes(), facets)?;
     Ok(counts.iter().copied().max_by_key(|entry| entry.count))
+}
+
+/// The terms of a document's values, one a line, as their bytes.
+pub fn indexed_terms(alloc: Global) -> Result<String> {
+    let mut builder = Schema::builder(alloc);
+    let name = builder.add_text_field("name", TEXT)?;
+    let age = builder.add_u64_field("age", INDEXED)?;
+    let schema = builder.build()?;
+
+    let mut document = TantivyDocument::new(alloc);
+    document.add_text(name, "Ada")?;
+    document.add_u64(age, 36)?;
+
+    let mut terms = TermList::new(alloc);
+    term_values(alloc, &schema, &document, &mut terms)?;
+    let mut lines = String::new(alloc);
+    for term in terms.iter() {
+        writeln!(lines, "{term:?}")?;
+    }
+    Ok(lines)
 }

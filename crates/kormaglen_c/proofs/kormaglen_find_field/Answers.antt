@@ -1,5 +1,8 @@
-use Rattle.std.proofs.Common.{Err, refl}
+use Rattle.tv_blocks.specs.Fields.{Finds, IsPathAnswer}
+use Rattle.kormaglen_c.proofs.Telling.{tells_found}
 use Rattle.kormaglen_c.proofs.kormaglen_find_field.Goals as goal
 
-pub returns-in-Err : goal.returns-in-Err
-returns-in-Err c = (Err c.in-Err.error, (c.in-Err.ensures.refused, refl), c.error_answer.ensures)
+pub returns : goal.returns
+returns c =
+    tells_found (Finds c.args.schema.now c.args.path.now) (IsPathAnswer c.args.schema.now c.args.path.now) c.find_field.result c.found_answer.new.found c.found_answer.result
+    c.find_field.ensures.found c.find_field.ensures.refused c.found_answer.ensures

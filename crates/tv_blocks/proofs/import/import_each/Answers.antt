@@ -1,4 +1,4 @@
-use Rattle.std.proofs.Common.{List, [], ◌∷◌, ◌++◌, ap, ◌∙◌}
+use Rattle.std.proofs.Common.{[], ◌∷◌, ◌++◌, ap, ◌∙◌}
 use Rattle.tv_blocks.proofs.Importing.{imported_all, imported_more, imported_none, is_empty, not_empty}
 use Rattle.tv_blocks.proofs.import.import_each.Goals as goal
 

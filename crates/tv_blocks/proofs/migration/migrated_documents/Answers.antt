@@ -1,4 +1,4 @@
-use Rattle.std.proofs.Common.{◌≡◌, ℕ, ◌-◌, ◌^◌, ◌<◌, length, Err, sym, subst, ap, ◌∙◌, arith}
+use Rattle.std.proofs.Common.{◌-◌, ◌^◌, ◌<◌, length, Err, sym, subst, ap, ◌∙◌, arith}
 use Rattle.tv_blocks.specs.Blocks.{IsRefusedBlock}
 use Rattle.tv_reader.specs.Version.{version_of}
 use Rattle.tv_blocks.proofs.Blocks.{migrated_more, migration_breaks, no_more_left, rest_at}

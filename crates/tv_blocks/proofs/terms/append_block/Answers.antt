@@ -1,12 +1,12 @@
-use Rattle.std.proofs.Common.{◌≡◌, ℕ, ◌+◌, ◌-◌, ◌^◌, ◌<◌, ◌≤◌, ◌++◌, List, length, Ok, Err, refl, sym, subst, ap, ◌∙◌, arith}
+use Rattle.std.proofs.Common.{◌≡◌, ◌-◌, ◌^◌, ◌<◌, ◌++◌, length, Ok, Err, refl, sym, subst, ap, ◌∙◌, arith}
 use Rattle.tv_blocks.specs.Blocks.{IsRefusedBlock}
-use Rattle.tv_blocks.specs.Terms.{TermsSoFar, document_records}
+use Rattle.tv_blocks.specs.Terms.{document_records}
 use Rattle.tv_doc.specs.Document.{document_of}
 use Rattle.tv_reader.specs.Version.{version_of}
 use Rattle.tv_reader.specs.declared.version.DocStoreVersion.{DocStoreVersion}
 use Rattle.tv_store.specs.Documents.{BeginsWith, NoDocument, HasNoRoom}
 use Rattle.tv_blocks.proofs.Blocks.{breaks, no_more_left, rest_at}
-use Rattle.tv_blocks.proofs.Records.{terms_more, terms_none}
+use Rattle.tv_blocks.proofs.Records.{terms_more}
 use Rattle.tv_blocks.proofs.terms.append_block.Goals as goal
 
 pub returns-in-Err-clause-err : goal.returns-in-Err-clause-err

@@ -1,8 +1,8 @@
-use Rattle.std.proofs.Common.{◌≡◌, [], ◌∷◌, ◌++◌, ap, rules}
+use Rattle.std.proofs.Common.{◌≡◌, ◌∷◌, ◌++◌, ap, rules}
 use Rattle.tv_doc.specs.Document.{document_of}
 use Rattle.tv_doc.specs.FieldValues.{values_left, values_of}
 use Rattle.tv_heap.specs.Value.{tree_of}
-use Rattle.tv_blocks.proofs.Records.{all_values, one_value, value_records}
+use Rattle.tv_blocks.proofs.Records.{one_value, value_records}
 use Rattle.tv_blocks.proofs.terms.append_document.Goals as goal
 
 pub loop-value-init : goal.loop-value-init

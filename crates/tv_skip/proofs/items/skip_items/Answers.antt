@@ -1,11 +1,8 @@
 use Rattle.std.proofs.Common.{◌∷◌, [], reverse, refl}
 use Rattle.std.proofs.lemmas.Result.{err_from_is_err_and}
-use Rattle.tv_base.specs.declared.cause.Cause.TheVariants.{UnexpectedEnd}
-use Rattle.tv_format.specs.InputError.{corrupted}
-use Rattle.tv_reader.specs.Error.{store_stop}
 use Rattle.tv_reader.specs.Version.{version_of}
 use Rattle.tv_reader.specs.declared.error.DeserializeError.TheVariants as errors
-use Rattle.tv_reader.proofs.Finding.{finds_nothing, finds_short_then}
+use Rattle.tv_reader.proofs.Finding.{finds_as, finds_short_then}
 use Rattle.tv_skip.specs.Skip.{Nothing, Passed, AreLeft, ErrorInLeft, open_items}
 use Rattle.tv_skip.proofs.Left.{first_open, list_pushed}
 use Rattle.tv_skip.proofs.Steps.{step_fails, step_passes, step_opens, all_passed}
@@ -14,7 +11,8 @@ use Rattle.tv_skip.proofs.items.skip_items.Goals as goal
 pub lists-init : goal.lists-init
 lists-init g c =
     let v = version_of c.args.version in
-    record { finds = finds_nothing store_stop (corrupted UnexpectedEnd) _ _ _ c.args.source.now c.args.count.now (tt {0}) (λ b _. Passed v (c.args.first ∷ []) (open_items c.args.first c.new-outer.result) b) Nothing (first_open v c.args.first c.new-outer.result.items c.new-outer.ensures.items) }
+    let items = c.pass_buffered_items-items.result in
+    record { finds = finds_as (tt {0}) (λ b _. Passed v (c.args.first ∷ []) (open_items items c.new-outer.result) b) Nothing (λ a h. first_open v c.args.first items c.new-outer.result.items a c.new-outer.ensures.items h) c.pass_buffered_items-items.ensures.finds }
 
 pub returns-in_err-opened : goal.returns-in_err-opened
 returns-in_err-opened g c =

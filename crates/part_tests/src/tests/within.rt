@@ -1,0 +1,140 @@
+//! Documents of a block that are read one behind the other within limits.
+
+use std::test::Fail;
+use tantivy_schema::common::{BufferedSource, ByteSource, Cause, SliceSource};
+use tantivy_schema::store::{
+    BlockReader, DocStoreVersion, LimitedReadError, ReadLimit, ReadLimits,
+};
+use tv_store::DeserializeError;
+
+// A document of 13 bytes with an array of the text "abc" and null in field 1, one without pairs, and one of 6 bytes with null in field 0.
+const BLOCK: &[u8] = b"\x81\x01\0\0\0\x0c\x82\0\x83abc\x0b\x80\x81\0\0\0\0\x0b";
+
+fn within(bytes: Option<u64>, heap_bytes: Option<u64>, depth: Option<u32>) -> ReadLimits {
+    ReadLimits {
+        bytes,
+        heap_bytes,
+        depth,
+    }
+}
+
+fn passed(limit: ReadLimit) -> Result<bool, LimitedReadError> {
+    Err(LimitedReadError::Limit(limit))
+}
+
+fn refused(error: DeserializeError) -> Result<bool, LimitedReadError> {
+    Err(LimitedReadError::Read(error))
+}
+
+// Limits that all three documents are within.
+const WIDE: [ReadLimits; 5] = [
+    ReadLimits {
+        bytes: None,
+        heap_bytes: None,
+        depth: None,
+    },
+    ReadLimits {
+        bytes: Some(13),
+        heap_bytes: None,
+        depth: None,
+    },
+    ReadLimits {
+        bytes: None,
+        heap_bytes: Some(64),
+        depth: None,
+    },
+    ReadLimits {
+        bytes: None,
+        heap_bytes: None,
+        depth: Some(1),
+    },
+    ReadLimits {
+        bytes: Some(u64::MAX),
+        heap_bytes: Some(u64::MAX),
+        depth: Some(u32::MAX),
+    },
+];
+
+#[test]
+fn each_document_has_the_limits(rt: HostRuntime) -> Result<(), Fail> {
+    let alloc = rt.alloc();
+    for limits in WIDE {
+        let mut source = SliceSource::new(BLOCK);
+        let mut reader = BlockReader::new(alloc, DocStoreVersion::V2);
+        assert!(rt; reader.advance_within(&mut source, limits) == Ok(true));
+        assert_eq!(rt; reader.document().len(), 1);
+        assert_eq!(rt; source.rest().len(), 7);
+        assert!(rt; reader.advance_within(&mut source, limits) == Ok(true));
+        assert_eq!(rt; reader.document().len(), 0);
+        assert!(rt; reader.advance_within(&mut source, limits) == Ok(true));
+        assert_eq!(rt; reader.document().len(), 1);
+        assert!(rt; reader.advance_within(&mut source, limits) == Ok(false));
+        assert!(rt; reader.advance_within(&mut source, limits) == Ok(false));
+        assert_eq!(rt; reader.document().len(), 0);
+    }
+    Ok(())
+}
+
+#[test]
+fn a_document_past_a_limit_is_refused(rt: HostRuntime) -> Result<(), Fail> {
+    let alloc = rt.alloc();
+    let narrow = [
+        (within(Some(12), None, None), ReadLimit::Bytes, 8),
+        (within(Some(0), None, None), ReadLimit::Bytes, 20),
+        (within(None, Some(3), None), ReadLimit::HeapBytes, 8),
+        (within(None, None, Some(0)), ReadLimit::Depth, 13),
+    ];
+    for (limits, limit, left) in narrow {
+        let mut source = SliceSource::new(BLOCK);
+        let mut reader = BlockReader::new(alloc, DocStoreVersion::V2);
+        assert!(rt; reader.advance_within(&mut source, limits) == passed(limit));
+        assert_eq!(rt; source.rest().len(), left);
+        assert_eq!(rt; reader.document().len(), 0);
+        // nothing is read behind a refusal
+        let none = within(None, None, None);
+        let again = reader.advance_within(&mut source, none);
+        assert!(rt; again == refused(DeserializeError::AlreadyFailed));
+        assert!(rt; reader.advance(&mut source) == Err(DeserializeError::AlreadyFailed));
+        assert!(rt; reader.skip(&mut source) == Err(DeserializeError::AlreadyFailed));
+        assert_eq!(rt; source.rest().len(), left);
+    }
+    Ok(())
+}
+
+#[test]
+fn no_byte_may_be_taken_at_the_end(rt: HostRuntime) -> Result<(), Fail> {
+    let mut source = SliceSource::new(b"");
+    let mut reader = BlockReader::new(rt.alloc(), DocStoreVersion::V2);
+    let none = within(Some(0), None, None);
+    assert!(rt; reader.advance_within(&mut source, none) == passed(ReadLimit::Bytes));
+    Ok(())
+}
+
+#[test]
+fn a_document_that_is_cut_off_is_corrupted(rt: HostRuntime) -> Result<(), Fail> {
+    let mut source = SliceSource::new(b"\x80\x81\0\0");
+    let mut reader = BlockReader::new(rt.alloc(), DocStoreVersion::V2);
+    let limits = within(Some(100), Some(100), Some(100));
+    assert!(rt; reader.advance_within(&mut source, limits) == Ok(true));
+    let cut = DeserializeError::CorruptedValue(Cause::UnexpectedEnd);
+    assert!(rt; reader.advance_within(&mut source, limits) == refused(cut));
+    assert_eq!(rt; source.rest().len(), 0);
+    Ok(())
+}
+
+#[test]
+fn limits_hold_over_any_buffer(rt: HostRuntime) -> Result<(), Fail> {
+    let alloc = rt.alloc();
+    let limits = within(Some(13), Some(64), Some(1));
+    for capacity in [0, 1, 3, 64] {
+        let mut source = BufferedSource::with_capacity(alloc, capacity, BLOCK)?;
+        let mut reader = BlockReader::new(alloc, DocStoreVersion::V2);
+        assert!(rt; reader.advance_within(&mut source, limits) == Ok(true));
+        assert_eq!(rt; reader.document().len(), 1);
+        assert!(rt; reader.skip(&mut source) == Ok(true));
+        assert!(rt; reader.advance(&mut source) == Ok(true));
+        assert!(rt; reader.advance_within(&mut source, limits) == Ok(false));
+        assert!(rt; source.next_byte() == Ok(None));
+    }
+    Ok(())
+}

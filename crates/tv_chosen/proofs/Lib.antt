@@ -1,0 +1,3 @@
+pub mod ChosenPairs
+pub mod ChosenDocuments
+pub mod RoomChosen

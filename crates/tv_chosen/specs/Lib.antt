@@ -1,0 +1,2 @@
+pub mod ChosenFields
+pub mod ChosenPair

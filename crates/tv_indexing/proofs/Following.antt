@@ -1,0 +1,80 @@
+-- Terms that are appended one thing after the other.
+use Rattle.std.proofs.Common.{◌≡◌, ℕ, ◌≤◌, List, [], ◌∷◌, ◌++◌, length, take, Ok, Err, refl, sym, ap, subst, ◌∙◌, arith, append_assoc, append-nil, length-append}
+use Rattle.std.proofs.Math.Seq.{take-append_seam}
+use Rattle.std.proofs.lemmas.List.{reverse-append}
+use Rattle.std.specs.Prelude.{reverse}
+use Rattle.tv_indexing.specs.DocumentTerms.{AreAppended, Terms, followed_by}
+use Rattle.tv_indexing.specs.JsonWalk.{Extends}
+use Rattle.tv_indexing.specs.declared.term_values_error.TermValuesError.{TermValuesError}
+
+-- ---- one after the other
+
+pub nothing_behind : (t : Terms) → followed_by t (Ok []) ≡ t
+nothing_behind (Ok made) = ap Ok (append-nil made)
+nothing_behind (Err e) = refl
+
+pub nothing_before : (t : Terms) → followed_by (Ok []) t ≡ t
+nothing_before (Ok made) = refl
+nothing_before (Err e) = refl
+
+pub regrouped : (a b c : Terms) → followed_by (followed_by a b) c ≡ followed_by a (followed_by b c)
+regrouped (Err e) b c = refl
+regrouped (Ok a) (Err e) c = refl
+regrouped (Ok a) (Ok b) (Err e) = refl
+regrouped (Ok a) (Ok b) (Ok c) = ap Ok (append_assoc a b c)
+
+-- ---- what is appended
+
+pub put_behind : (old new : List (List ℕ)) (wanted : Terms) → AreAppended old new wanted → followed_by (Ok old) wanted ≡ Ok new
+put_behind old new (Ok made) h = ap Ok (sym h)
+put_behind old new (Err e) h = absurd h
+
+pub are_appended : (old new : List (List ℕ)) (wanted : Terms) → followed_by (Ok old) wanted ≡ Ok new → AreAppended old new wanted
+are_appended old new (Ok made) h = cc
+are_appended old new (Err e) h = cc
+
+pub is_refused : (old : List (List ℕ)) (wanted : Terms) (e : TermValuesError) → followed_by (Ok old) wanted ≡ Err e → wanted ≡ Err e
+is_refused old (Ok made) e h = cc
+is_refused old (Err f) e h = h
+
+pub none_appended : (old : List (List ℕ)) → AreAppended old old (Ok [])
+none_appended old = sym (append-nil old)
+
+-- ---- the list begins with what it was
+
+pub extends_itself : (old : List (List ℕ)) → Extends old old
+extends_itself old = ([], sym (append-nil old))
+
+pub extends_as : (old new : List (List ℕ)) → new ≡ old → Extends old new
+extends_as old new e = ([], e ∙ sym (append-nil old))
+
+pub extends_by : (old new : List (List ℕ)) (wanted : Terms) → AreAppended old new wanted → Extends old new
+extends_by old new (Ok made) h = (made, h)
+extends_by old new (Err e) h = absurd h
+
+pub extends_on : (a b c : List (List ℕ)) → Extends a b → Extends b c → Extends a c
+extends_on a b c h k = (h.0 ++ k.0, k.1 ∙ ap (λ l. l ++ k.0) h.1 ∙ append_assoc a h.0 k.0)
+
+pub extends_longer : (old new : List (List ℕ)) → Extends old new → length old ≤ length new
+extends_longer old new h = omega (arith, ap length h.1, length-append old h.0)
+
+pub extends_cut : (old new : List (List ℕ)) → Extends old new → take (length old) new ≡ old
+extends_cut old new h = ap (take (length old)) h.1 ∙ take-append_seam old h.0
+
+-- ---- so far: the whole is what was appended, and then what is left
+
+pub begun : (old : List (List ℕ)) (wanted : Terms) → followed_by (Ok old) wanted ≡ followed_by (Ok old) wanted
+begun old wanted = refl
+
+pub more_appended : (whole first left : Terms) (old new : List (List ℕ)) → whole ≡ followed_by (Ok old) (followed_by first left) → AreAppended old new first → whole ≡ followed_by (Ok new) left
+more_appended whole first left old new so_far h =
+    so_far ∙ sym (regrouped (Ok old) first left) ∙ ap (λ t. followed_by t left) (put_behind old new first h)
+
+pub first_refused : (whole first left : Terms) (old : List (List ℕ)) (e : TermValuesError) → whole ≡ followed_by (Ok old) (followed_by first left) → first ≡ Err e → whole ≡ Err e
+first_refused whole first left old e so_far h = so_far ∙ ap (λ t. followed_by (Ok old) (followed_by t left)) h
+
+pub all_appended : (old new : List (List ℕ)) (wanted : Terms) → followed_by (Ok old) wanted ≡ followed_by (Ok new) (Ok []) → AreAppended old new wanted
+all_appended old new wanted h = are_appended old new wanted (h ∙ ap Ok (append-nil new))
+
+pub reverse-snoc : {A : Type 0} (xs : List A) (x : A) → reverse (xs ++ x ∷ []) ≡ x ∷ reverse xs
+reverse-snoc xs x = reverse-append xs (x ∷ [])

@@ -1,0 +1,4 @@
+pub mod Pieces
+pub mod Following
+pub mod Walks
+pub mod Steps

@@ -1,0 +1,64 @@
+-- The terms of a JSON value by the bytes of its keys are those by its keys; and what a step of the walk does.
+use Rattle.std.proofs.Common.{◌≡◌, ℕ, zero, suc, ◌+◌, ◌<◌, ◌≤◌, Bool, true, false, List, [], ◌∷◌, ◌++◌, length, take, drop, map, reverse, Some, None, Ok, Err, if◌then◌else◌, refl, sym, ap, subst, ◌∙◌, arith, append_assoc, append-nil, length-append}
+use Rattle.std.specs.List.{flat_map, join_with_byte}
+use Rattle.std.proofs.lemmas.Grind.{flat_map-append}
+use Rattle.std.proofs.lemmas.List.{reverse-append}
+use Rattle.std.proofs.Math.Seq.{take-append_seam, take-length}
+use Rattle.tv_base.specs.JsonPath.{expanded, joined}
+use Rattle.tv_format.specs.Size.{size, elements_size, entries_size}
+use Rattle.tv_format.specs.Tree.{Tree, leaf, array, object, Elements, no_elements, element, Entries, no_entries, entry, elements, entries}
+use Rattle.tv_indexing.specs.DocumentTerms.{AreAppended, Terms, followed_by, has_zero, json_leaf_terms, json_terms, json_elements_terms, json_entries_terms}
+use Rattle.tv_indexing.specs.JsonWalk.{separated, separated_keys, terms_at, elements_at, entries_at, Child, children_terms, children_size, value_alone, value_with_key, open_terms, open_size}
+use Rattle.tv_indexing.specs.declared.term_values_error.TermValuesError.TheVariants.{NulInPath}
+use Rattle.tv_value.specs.declared.field.Field.{Field}
+
+-- ---- paths
+
+joined-separated : (expand_dots : Bool) (keys : List (List ℕ)) → joined expand_dots keys ≡ drop 1 (separated_keys expand_dots keys)
+joined-separated expand_dots [] = refl
+joined-separated expand_dots (k ∷ []) = sym (append-nil (map (expanded expand_dots) k))
+joined-separated expand_dots (k ∷ l ∷ keys) = ap (λ path. map (expanded expand_dots) k ++ (1 ∷ path)) (joined-separated expand_dots (l ∷ keys))
+
+separated_keys-snoc : (expand_dots : Bool) (keys : List (List ℕ)) (k : List ℕ) → separated_keys expand_dots (keys ++ k ∷ []) ≡ separated_keys expand_dots keys ++ separated expand_dots k
+separated_keys-snoc expand_dots keys k =
+    flat_map-append (separated expand_dots) keys (k ∷ []) ∙ ap (λ path. separated_keys expand_dots keys ++ path) (append-nil (separated expand_dots k))
+
+mutual
+  pub terms_at-keys : (field : Field) (expand_dots : Bool) (keys : List (List ℕ)) (t : Tree) → json_terms field expand_dots keys t ≡ terms_at field expand_dots (separated_keys expand_dots keys) t
+  terms_at-keys field expand_dots keys (leaf l) = ap (λ path. json_leaf_terms field path l) (joined-separated expand_dots keys)
+  terms_at-keys field expand_dots keys (array ts) = elements_at-keys field expand_dots keys ts
+  terms_at-keys field expand_dots keys (object es) = entries_at-keys field expand_dots keys es
+
+  elements_at-keys : (field : Field) (expand_dots : Bool) (keys : List (List ℕ)) (ts : Elements) → json_elements_terms field expand_dots keys ts ≡ elements_at field expand_dots (separated_keys expand_dots keys) ts
+  elements_at-keys field expand_dots keys no_elements = refl
+  elements_at-keys field expand_dots keys (element t ts) =
+      ap (λ terms. followed_by terms (json_elements_terms field expand_dots keys ts)) (terms_at-keys field expand_dots keys t)
+      ∙ ap (λ terms. followed_by (terms_at field expand_dots (separated_keys expand_dots keys) t) terms) (elements_at-keys field expand_dots keys ts)
+
+  entries_at-keys : (field : Field) (expand_dots : Bool) (keys : List (List ℕ)) (es : Entries) → json_entries_terms field expand_dots keys es ≡ entries_at field expand_dots (separated_keys expand_dots keys) es
+  entries_at-keys field expand_dots keys no_entries = refl
+  entries_at-keys field expand_dots keys (entry k t es) =
+      let below : json_terms field expand_dots (keys ++ k ∷ []) t ≡ terms_at field expand_dots (separated_keys expand_dots keys ++ separated expand_dots k) t =
+      terms_at-keys field expand_dots (keys ++ k ∷ []) t ∙ ap (λ path. terms_at field expand_dots path t) (separated_keys-snoc expand_dots keys k) in
+      let one : Terms = if has_zero k then Err (NulInPath field) else terms_at field expand_dots (separated_keys expand_dots keys ++ separated expand_dots k) t in
+      ap (λ terms. followed_by (if has_zero k then Err (NulInPath field) else terms) (json_entries_terms field expand_dots keys es)) below
+      ∙ ap (λ terms. followed_by one terms) (entries_at-keys field expand_dots keys es)
+
+-- ---- the children of a list
+
+pub elements-children : (field : Field) (expand_dots : Bool) (path : List ℕ) (ts : List Tree) → elements_at field expand_dots path (elements ts) ≡ children_terms field expand_dots path (map value_alone ts)
+elements-children field expand_dots path [] = refl
+elements-children field expand_dots path (t ∷ ts) = ap (λ terms. followed_by (terms_at field expand_dots path t) terms) (elements-children field expand_dots path ts)
+
+pub entries-children : (field : Field) (expand_dots : Bool) (path : List ℕ) (es : List (List ℕ × Tree)) → entries_at field expand_dots path (entries es) ≡ children_terms field expand_dots path (map value_with_key es)
+entries-children field expand_dots path [] = refl
+entries-children field expand_dots path (e ∷ es) =
+    ap (λ terms. followed_by (if has_zero e.0 then Err (NulInPath field) else terms_at field expand_dots (path ++ separated expand_dots e.0) e.1) terms) (entries-children field expand_dots path es)
+
+pub elements-size : (ts : List Tree) → elements_size (elements ts) ≡ children_size (map value_alone ts)
+elements-size [] = refl
+elements-size (t ∷ ts) = ap (λ n. suc (size t + n)) (elements-size ts)
+
+pub entries-size : (es : List (List ℕ × Tree)) → entries_size (entries es) ≡ children_size (map value_with_key es)
+entries-size [] = refl
+entries-size (e ∷ es) = ap (λ n. suc (size e.1 + n)) (entries-size es)

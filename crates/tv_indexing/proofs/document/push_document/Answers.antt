@@ -1,0 +1,21 @@
+use Rattle.std.proofs.Common.{◌≡◌, ◌∷◌, Ok, ap, ◌∙◌, rules}
+use Rattle.tv_doc.specs.Document.{document_of}
+use Rattle.tv_doc.specs.FieldValues.{pairs_left}
+use Rattle.tv_heap.specs.Value.{tree_of}
+use Rattle.tv_indexing.proofs.Following.{extends_by, extends_on, more_appended}
+use Rattle.tv_indexing.specs.DocumentTerms.{document_terms, followed_by, pair_terms}
+use Rattle.tv_indexing.proofs.document.push_document.Goals as goal
+
+pub loop-field-preserved : goal.loop-field-preserved
+loop-field-preserved c =
+    let l = c.loop-field in
+    let schema = c.args.schema.now in
+    let cut : pairs_left l.field-iterator ≡ (c.in-Some.field.id, tree_of c.in-Some.value) ∷ pairs_left c.next.new.self = search rules in
+    let made = c.in_ok-push_value.ensures.made in
+    record {
+      can_next = tt;
+      is_finite = tt;
+      so_far = more_appended (followed_by (Ok c.args.terms.now) (document_terms schema (document_of c.args.document.now))) (pair_terms schema (c.in-Some.field.id, tree_of c.in-Some.value)) (document_terms schema (pairs_left c.next.new.self))
+          l.terms c.push_value.new.terms (l.invariant.so_far ∙ ap (λ pairs. followed_by (Ok l.terms) (document_terms schema pairs)) cut) made;
+      kept = extends_on c.args.terms.now l.terms c.push_value.new.terms l.invariant.kept (extends_by l.terms c.push_value.new.terms (pair_terms schema (c.in-Some.field.id, tree_of c.in-Some.value)) made);
+    }

@@ -1,0 +1,104 @@
+-- The terms of a document's values, in the document's order.
+use Rattle.std.specs.Prelude.{◌≡◌, ◌==◌, ◌^◌, ℕ, pos, if◌then◌else◌, List, [], ◌∷◌, ◌++◌, Bool, Option, Some, None, Result, Ok, Err, nat_lt, slice_get}
+use Rattle.std.specs.List.{list_any}
+use Rattle.tv_base.specs.JsonPath.{joined}
+use Rattle.tv_date.specs.DateTime.{truncated}
+use Rattle.tv_date.specs.declared.date_time.DateTimePrecision.TheVariants.{Seconds}
+use Rattle.tv_field.specs.Entry.{Entry, is_indexed_type, value_type}
+use Rattle.tv_field.specs.declared.field_type.FieldType.{FieldType}
+use Rattle.tv_field.specs.declared.field_type.FieldType.TheVariants as types
+use Rattle.tv_format.specs.Tree.{Tree, leaf, array, object, Elements, no_elements, element, Entries, no_entries, entry, Leaf, null, text, unsigned, signed, boolean, date, facet, bytes, ip_address, tokenized, Document}
+use Rattle.tv_indexing.specs.LeafTerms.{tree_value}
+use Rattle.tv_indexing.specs.declared.term_values_error.TermValuesError.{TermValuesError}
+use Rattle.tv_indexing.specs.declared.term_values_error.TermValuesError.TheVariants.{UnknownField, WrongType, NulInPath, NoJsonTerm}
+use Rattle.tv_options.specs.Types.{code}
+use Rattle.tv_options.specs.declared.types.TypeTag.{TypeTag}
+use Rattle.tv_term.specs.Key.{TermValue, Text, Unsigned, Signed, Truth, Date, Json, term, value_code}
+use Rattle.tv_value.specs.declared.field.Field.{Field}
+
+-- terms in their order, or why there are none
+abbrev pub Terms : Type 0
+Terms = Result (List (List ℕ)) TermValuesError
+
+-- those of one thing, and then those of the next, or the first refusal
+abbrev pub followed_by : Terms → Terms → Terms
+followed_by (Err e) others = Err e
+followed_by (Ok made) (Err e) = Err e
+followed_by (Ok made) (Ok others) = Ok (made ++ others)
+
+-- ---- a field of JSON objects
+
+-- the one term of a value at this path
+abbrev pub json_term_of : Field → List ℕ → TermValue → Terms
+json_term_of field path value = Ok (term field.id (Json path value) ∷ [])
+
+-- a number that fits a signed one of 64 bits stands as a signed one
+abbrev pub json_number : ℕ → TermValue
+json_number n = if nat_lt n (2 ^ 63) then Signed (pos n) else Unsigned n
+
+abbrev pub json_leaf_terms : Field → List ℕ → Leaf → Terms
+json_leaf_terms field path null = Ok []
+json_leaf_terms field path (text t) = json_term_of field path (Text t)
+json_leaf_terms field path (unsigned n) = json_term_of field path (json_number n)
+json_leaf_terms field path (signed z) = json_term_of field path (Signed z)
+json_leaf_terms field path (boolean b) = json_term_of field path (Truth b)
+json_leaf_terms field path (date z) = json_term_of field path (Date (truncated Seconds z))
+json_leaf_terms field path (facet f) = Err (NoJsonTerm field)
+json_leaf_terms field path (bytes bs) = Err (NoJsonTerm field)
+json_leaf_terms field path (ip_address n) = Err (NoJsonTerm field)
+json_leaf_terms field path (tokenized t ts) = Err (NoJsonTerm field)
+
+-- whether a key has U+0000
+abbrev pub has_zero : List ℕ → Bool
+has_zero key = list_any (λ b. b == 0) key
+
+-- those of a value below these keys, the outermost first
+abbrev mutual
+  pub json_terms : Field → Bool → List (List ℕ) → Tree → Terms
+  json_terms field expand_dots keys (leaf l) = json_leaf_terms field (joined expand_dots keys) l
+  json_terms field expand_dots keys (array ts) = json_elements_terms field expand_dots keys ts
+  json_terms field expand_dots keys (object es) = json_entries_terms field expand_dots keys es
+
+  pub json_elements_terms : Field → Bool → List (List ℕ) → Elements → Terms
+  json_elements_terms field expand_dots keys no_elements = Ok []
+  json_elements_terms field expand_dots keys (element t ts) = followed_by (json_terms field expand_dots keys t) (json_elements_terms field expand_dots keys ts)
+
+  pub json_entries_terms : Field → Bool → List (List ℕ) → Entries → Terms
+  json_entries_terms field expand_dots keys no_entries = Ok []
+  json_entries_terms field expand_dots keys (entry k t es) =
+      followed_by (if has_zero k then Err (NulInPath field) else json_terms field expand_dots (keys ++ k ∷ []) t) (json_entries_terms field expand_dots keys es)
+
+-- ---- other fields
+
+-- a field takes the values whose terms have the code of its type
+abbrev pub plain_terms : Field → TypeTag → Option TermValue → Terms
+plain_terms field type None = Err (WrongType field)
+plain_terms field type (Some value) = if value_code value == code type then Ok (term field.id value ∷ []) else Err (WrongType field)
+
+-- ---- documents
+
+abbrev pub typed_terms : Field → FieldType → Tree → Terms
+typed_terms field (types.JsonObject options) tree = json_terms field options.part.expand_dots_enabled [] tree
+typed_terms field type tree = plain_terms field (value_type type) (tree_value tree)
+
+-- a field that isn't indexed has none, whatever its values are
+abbrev pub field_terms : Field → Option Entry → Tree → Terms
+field_terms field None tree = Err (UnknownField field)
+field_terms field (Some found) tree = if is_indexed_type found.field_type then typed_terms field found.field_type tree else Ok []
+
+-- the field of this number
+abbrev pub field_of : ℕ → Field
+field_of n = record { id = n }
+
+abbrev pub pair_terms : List Entry → ℕ × Tree → Terms
+pair_terms schema pair = field_terms (field_of pair.0) (slice_get schema pair.0) pair.1
+
+-- those of its pairs one after the other, or the first refusal
+abbrev pub document_terms : List Entry → Document → Terms
+document_terms schema [] = Ok []
+document_terms schema (pair ∷ pairs) = followed_by (pair_terms schema pair) (document_terms schema pairs)
+
+-- these were appended, and they aren't refused
+abbrev pub AreAppended : List (List ℕ) → List (List ℕ) → Terms → Type 0
+AreAppended old new (Ok made) = new ≡ old ++ made
+AreAppended old new (Err e) = ⊥

@@ -1,0 +1,129 @@
+//! Terms of documents.
+
+ghost use Rattle.std.specs.Prelude.{◌≡◌, ◌≢◌, Err, IfErr, OnErr, OnOk};
+ghost use Rattle.tv_doc.specs.Document.{document_of};
+ghost use Rattle.tv_heap.specs.Value.{tree_of};
+ghost use Rattle.tv_indexing.specs.DocumentTerms.{AreAppended, document_terms, pair_terms};
+ghost use Rattle.tv_indexing.specs.JsonWalk.{Extends};
+ghost use Rattle.tv_indexing.specs.declared.term_values_error.TermValuesError.TheVariants.{Memory};
+
+use crate::json::push_json;
+use crate::key_path::JsonField;
+use crate::open_list::OpenList;
+use crate::plain::push_plain;
+use crate::term_list::TermList;
+use crate::term_values_error::TermValuesError;
+use std::alloc::Global;
+use tv_doc::document::CompactDoc;
+use tv_field::field_type::FieldType;
+use tv_heap::value::CompactDocValue;
+use tv_schema::Schema;
+use tv_value::field::Field;
+
+// Appends the terms of a value of a field. After an error a beginning of them may be appended.
+fn push_value<'a>(
+    terms: &mut TermList,
+    schema: &Schema,
+    path: &mut Vec<u8>,
+    around: &mut Vec<OpenList<'a>>,
+    field: Field,
+    value: CompactDocValue<'a>,
+) -> Result<(), TermValuesError>
+    ensures made { OnOk result
+        (AreAppended terms.old terms.new
+        (pair_terms schema.now (field.id, tree_of value.entry))) }
+    ensures refused { IfErr result
+        (λ e. e ≢ Memory → pair_terms schema.now (field.id, tree_of value.entry) ≡ Err e) }
+    ensures kept { OnErr result (Extends terms.old terms.new) }
+{
+    if !schema.has_field(field) {
+        return Err(TermValuesError::UnknownField(field));
+    }
+    let field_type = schema.get_field_entry(field).field_type();
+    if !field_type.is_indexed() {
+        return Ok(());
+    }
+    match field_type {
+        FieldType::JsonObject(options) => {
+            let expand_dots = options.is_expand_dots_enabled();
+            push_json(terms, JsonField { field, expand_dots }, path, around, value)
+        }
+        other => push_plain(terms, field, other.value_type(), value),
+    }
+}
+
+// Appends the terms of a document's values. After an error a beginning of them may be appended.
+fn push_document(
+    alloc: Global,
+    schema: &Schema,
+    document: &CompactDoc,
+    terms: &mut TermList,
+) -> Result<(), TermValuesError>
+    ensures made { OnOk result
+        (AreAppended terms.old terms.new (document_terms schema.now (document_of document.now))) }
+    ensures refused { IfErr result
+        (λ e. e ≢ Memory → document_terms schema.now (document_of document.now) ≡ Err e) }
+    ensures kept { OnErr result (Extends terms.old terms.new) }
+{
+    let mut path = Vec::new(alloc);
+    let mut around = Vec::new(alloc);
+    for (field, value) in document.field_values() {
+        push_value(terms, schema, &mut path, &mut around, field, value)?;
+    }
+    Ok(())
+}
+
+/// Appends the terms of a document's values, in the document's order, as an index has them. (In tantivy they are made where a document is
+/// indexed.)
+///
+/// A text is whole, and one with tokens has the term of its text: to cut texts into words is the caller's. A facet has its own term, and not those of the
+/// facets above it. A date is cut to the second. A field that isn't indexed has no terms, whatever its values are.
+///
+/// A field of JSON objects takes every value. Each value without children in it has a term behind the path of the keys above it, which are
+/// taken as they stand; where the field's dots are expanded, a dot in a key parts it. Null has none. A number without a sign that fits one
+/// with a sign stands as one with a sign.
+///
+/// Errors, the first that a value in this order has: `UnknownField`, `WrongType`, `NulInPath`, `NoJsonTerm`; or `Memory`. After each the list
+/// is as it was. However deep a value nests, it takes memory and no more of the machine's stack.
+///
+/// ```
+/// pub fn indexed_terms(alloc: Global) -> Result<String> {
+///     let mut builder = Schema::builder(alloc);
+///     let name = builder.add_text_field("name", TEXT)?;
+///     let age = builder.add_u64_field("age", INDEXED)?;
+///     let schema = builder.build()?;
+///
+///     let mut document = TantivyDocument::new(alloc);
+///     document.add_text(name, "Ada")?;
+///     document.add_u64(age, 36)?;
+///
+///     let mut terms = TermList::new(alloc);
+///     term_values(alloc, &schema, &document, &mut terms)?;
+///     let mut lines = String::new(alloc);
+///     for term in terms.iter() {
+///         writeln!(lines, "{term:?}")?;
+///     }
+///     Ok(lines)
+/// }
+/// ```
+pub fn term_values(
+    alloc: Global,
+    schema: &Schema,
+    document: &CompactDoc,
+    terms: &mut TermList,
+) -> Result<(), TermValuesError>
+    ensures made { OnOk result
+        (AreAppended terms.old terms.new (document_terms schema.now (document_of document.now))) }
+    ensures refused { IfErr result
+        (λ e. e ≢ Memory → document_terms schema.now (document_of document.now) ≡ Err e) }
+    ensures unchanged { OnErr result (terms.new ≡ terms.old) }
+{
+    let len = terms.len();
+    match push_document(alloc, schema, document, terms) {
+        Ok(()) => Ok(()),
+        Err(error) => {
+            terms.truncate(len);
+            Err(error)
+        }
+    }
+}

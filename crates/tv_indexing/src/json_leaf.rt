@@ -1,0 +1,66 @@
+//! Terms of values without children in values of fields of JSON objects.
+
+ghost use Rattle.std.specs.Prelude.{◌≡◌, ◌≢◌, ◌^◌, ℕ, List, drop, Err, IfErr, IfOk, OnErr, OnOk};
+ghost use Rattle.tv_indexing.specs.DocumentTerms.{AreAppended, json_leaf_terms};
+ghost use Rattle.tv_indexing.specs.JsonLeaves.{value_terms};
+ghost use Rattle.tv_indexing.specs.LeafTerms.{leaf_value};
+ghost use Rattle.tv_indexing.specs.declared.term_values_error.TermValuesError.TheVariants.{Memory};
+ghost use Rattle.tv_value.specs.Lent.{leaf_of};
+
+use crate::key_path::joined;
+use crate::payload::payload_of;
+use crate::term_list::TermList;
+use crate::term_values_error::TermValuesError;
+use tv_options::Type;
+use tv_value::field::Field;
+use tv_value::leaf::ReferenceValueLeaf;
+
+// The least number that fits no signed one of 64 bits.
+const SIGNED_END: u64 = 1 << 63;
+
+// The value that the term of a leaf in a JSON value stands for, or `NoJsonTerm`.
+fn json_leaf(
+    field: Field,
+    leaf: ReferenceValueLeaf<'_>,
+) -> Result<ReferenceValueLeaf<'_>, TermValuesError>
+    ensures stands { IfOk result
+        (λ value. (path : List ℕ) → json_leaf_terms field path (leaf_of leaf.entry)
+        ≡ value_terms field path (leaf_value (leaf_of value))) }
+    ensures refused { IfErr result
+        (λ e. (path : List ℕ) → json_leaf_terms field path (leaf_of leaf.entry) ≡ Err e) }
+{
+    match leaf {
+        ReferenceValueLeaf::U64(number) if number < SIGNED_END => {
+            Ok(ReferenceValueLeaf::I64(number as i64))
+        }
+        ReferenceValueLeaf::Facet(_)
+        | ReferenceValueLeaf::Bytes(_)
+        | ReferenceValueLeaf::IpAddr(_)
+        | ReferenceValueLeaf::PreTokStr(_) => Err(TermValuesError::NoJsonTerm(field)),
+        other => Ok(other),
+    }
+}
+
+// Appends the term of a value without children in a JSON value, below these keys.
+pub(crate) fn push_json_leaf(
+    terms: &mut TermList,
+    field: Field,
+    path: &[u8],
+    leaf: ReferenceValueLeaf<'_>,
+) -> Result<(), TermValuesError>
+    ensures made { OnOk result
+        (AreAppended terms.old terms.new
+        (json_leaf_terms field (drop 1 path.now) (leaf_of leaf.entry))) }
+    ensures refused { IfErr result
+        (λ e. e ≢ Memory → json_leaf_terms field (drop 1 path.now) (leaf_of leaf.entry) ≡ Err e) }
+    ensures unchanged { OnErr result (terms.new ≡ terms.old) }
+{
+    let Some((value_type, payload)) = payload_of(json_leaf(field, leaf)?) else {
+        return Ok(());
+    };
+    let [first, second, third, fourth] = field.field_id().to_be_bytes();
+    let start = [first, second, third, fourth, Type::Json.to_code()];
+    let code = [0, value_type.to_code()];
+    terms.push(&start, joined(path), &code, payload.as_slice())?;
+    Ok(())
+}

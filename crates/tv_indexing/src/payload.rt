@@ -1,0 +1,68 @@
+//! What stands in a term for a value without children.
+
+ghost use Rattle.std.specs.Prelude.{◌≡◌, option_map};
+ghost use Rattle.std.specs.Int.{to_be_bytes, w64};
+ghost use Rattle.tv_indexing.specs.LeafTerms.{leaf_value};
+ghost use Rattle.tv_indexing.specs.Payloads.{part_seen, payload_bytes, value_parts};
+ghost use Rattle.tv_value.specs.Lent.{leaf_of};
+
+use tv_options::{DATE_TIME_PRECISION_INDEXED, Type};
+use tv_term::FastValue;
+use tv_value::leaf::ReferenceValueLeaf;
+
+// The bytes of a value behind the code of its type.
+#[derive(Clone, Copy)]
+pub(crate) enum Payload<'a> {
+    Bytes(&'a [u8]),
+    Eight([u8; 8]),
+    Sixteen([u8; 16]),
+}
+
+impl<'a> Payload<'a> {
+    pub(crate) fn as_slice(&self) -> &[u8]
+        ensures { result.now ≡ payload_bytes self.now }
+    {
+        match self {
+            Payload::Bytes(bytes) => bytes,
+            Payload::Eight(bytes) => bytes,
+            Payload::Sixteen(bytes) => bytes,
+        }
+    }
+}
+
+// The eight bytes of a number that stands for a value.
+fn eight<'a, T: FastValue>(value: T) -> Payload<'a>
+    ensures { payload_bytes result ≡ to_be_bytes w64 (T.as_number value) }
+{
+    Payload::Eight(value.to_u64().to_be_bytes())
+}
+
+// The type of the value that the term of a leaf stands for, and what stands behind its code, or `None` where the leaf has no term.
+pub(crate) fn payload_of(leaf: ReferenceValueLeaf<'_>) -> Option<(Type, Payload<'_>)>
+    ensures { option_map part_seen result
+        ≡ option_map value_parts (leaf_value (leaf_of leaf.entry)) }
+{
+    match leaf {
+        ReferenceValueLeaf::Null => None,
+        ReferenceValueLeaf::Str(text) => Some((Type::Str, Payload::Bytes(text.as_bytes()))),
+        ReferenceValueLeaf::U64(number) => Some((Type::U64, eight(number))),
+        ReferenceValueLeaf::I64(number) => Some((Type::I64, eight(number))),
+        ReferenceValueLeaf::Date(date) => {
+            let cut = date.truncate(DATE_TIME_PRECISION_INDEXED);
+            Some((Type::Date, eight(cut)))
+        }
+        ReferenceValueLeaf::Facet(encoded) => Some((
+            Type::Facet,
+            Payload::Bytes(encoded.as_bytes()),
+        )),
+        ReferenceValueLeaf::Bytes(bytes) => Some((Type::Bytes, Payload::Bytes(bytes))),
+        ReferenceValueLeaf::IpAddr(address) => {
+            let number = address.to_bits();
+            Some((Type::IpAddr, Payload::Sixteen(number.to_be_bytes())))
+        }
+        ReferenceValueLeaf::Bool(truth) => Some((Type::Bool, eight(truth))),
+        ReferenceValueLeaf::PreTokStr(text) => {
+            Some((Type::Str, Payload::Bytes(text.text().as_bytes())))
+        }
+    }
+}

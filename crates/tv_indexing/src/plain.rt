@@ -1,0 +1,64 @@
+//! Terms of values of fields that aren't of JSON objects.
+
+ghost use Rattle.std.specs.Prelude.{◌≡◌, ◌≢◌, Err, IfErr, OnErr, OnOk};
+ghost use Rattle.tv_heap.specs.Value.{tree_of};
+ghost use Rattle.tv_indexing.specs.DocumentTerms.{AreAppended, plain_terms};
+ghost use Rattle.tv_indexing.specs.LeafTerms.{leaf_value, tree_value};
+ghost use Rattle.tv_indexing.specs.declared.term_values_error.TermValuesError.TheVariants.{Memory};
+ghost use Rattle.tv_value.specs.Lent.{leaf_of};
+
+use crate::payload::payload_of;
+use crate::term_list::TermList;
+use crate::term_values_error::TermValuesError;
+use tv_heap::value::CompactDocValue;
+use tv_options::Type;
+use tv_value::field::Field;
+use tv_value::leaf::ReferenceValueLeaf;
+use tv_value::value::{ReferenceValue, Value};
+
+// Appends the term of a value without children of a field of this type.
+fn push_leaf(
+    terms: &mut TermList,
+    field: Field,
+    wanted: Type,
+    leaf: ReferenceValueLeaf<'_>,
+) -> Result<(), TermValuesError>
+    ensures made { OnOk result
+        (AreAppended terms.old terms.new
+        (plain_terms field wanted (leaf_value (leaf_of leaf.entry)))) }
+    ensures refused { IfErr result
+        (λ e. e ≢ Memory → plain_terms field wanted (leaf_value (leaf_of leaf.entry)) ≡ Err e) }
+    ensures unchanged { OnErr result (terms.new ≡ terms.old) }
+{
+    let Some((value_type, payload)) = payload_of(leaf) else {
+        return Err(TermValuesError::WrongType(field));
+    };
+    if value_type.to_code() != wanted.to_code() {
+        return Err(TermValuesError::WrongType(field));
+    }
+    let number = field.field_id().to_be_bytes();
+    let code = [value_type.to_code()];
+    terms.push(&number, &[], &code, payload.as_slice())?;
+    Ok(())
+}
+
+// Appends the term of a value of a field of this type, which isn't that of JSON objects.
+pub(crate) fn push_plain(
+    terms: &mut TermList,
+    field: Field,
+    wanted: Type,
+    value: CompactDocValue<'_>,
+) -> Result<(), TermValuesError>
+    ensures made { OnOk result
+        (AreAppended terms.old terms.new (plain_terms field wanted (tree_value (tree_of value.entry)))) }
+    ensures refused { IfErr result
+        (λ e. e ≢ Memory → plain_terms field wanted (tree_value (tree_of value.entry)) ≡ Err e) }
+    ensures unchanged { OnErr result (terms.new ≡ terms.old) }
+{
+    match value.as_value() {
+        ReferenceValue::Leaf(leaf) => push_leaf(terms, field, wanted, leaf),
+        ReferenceValue::Array(_) | ReferenceValue::Object(_) => {
+            Err(TermValuesError::WrongType(field))
+        }
+    }
+}
