@@ -3,7 +3,7 @@
 ghost use Rattle.std.specs.Prelude.{◌≡◌, ℕ, ◌-◌, ◌<◌, ◌≤◌, ◌↔◌, ◌++◌, length, take, replicate};
 ghost use Rattle.std.specs.Prelude.{slice_index, IsTrue};
 ghost use Rattle.std.specs.Int.Bits.{bit_and};
-ghost use Rattle.std.specs.Str.{IsUtf8};
+ghost use Rattle.std.specs.Str.{IsAscii, IsUtf8};
 
 use simdutf8::Checker;
 use std::simd::prelude::*;
@@ -47,10 +47,32 @@ fn prefix_of(block: u8x64, len: usize) -> u8x64
     common(block, mask_of(len))
 }
 
-// Whether the first `len` bytes are UTF-8. (Not in tantivy.) Their last block is read where it stands, without a copy, if with what stands behind
-// them it has 64 bytes.
-#[inline]
+// Whether the first `len` of sixteen bytes are ASCII.
+#[inline(always)]
+fn is_ascii_prefix(bytes: &[u8], len: usize) -> bool
+    requires many { 16 ≤ length bytes.now }
+    requires few { len ≤ 16 }
+    ensures { IsTrue result → IsAscii (take len bytes.now) }
+{
+    let high = u8x16::from_slice(bytes).simd_ge(u8x16::splat(128));
+    len <= high.to_bitmask().trailing_zeros() as usize
+}
+
+// Whether the first `len` bytes are UTF-8. (Not in tantivy.) Keys, and many texts, are sixteen bytes of ASCII or fewer.
+#[inline(always)]
 pub(crate) fn is_utf8_prefix(bytes: &[u8], len: usize) -> bool
+    requires { len ≤ length bytes.now }
+    ensures { IsTrue result ↔ IsUtf8 (take len bytes.now) }
+{
+    if len <= 16 && bytes.len() >= 16 && is_ascii_prefix(bytes, len) {
+        return true;
+    }
+    is_utf8_in_blocks(bytes, len)
+}
+
+// The same of any bytes. Their last block is read where it stands, without a copy, if with what stands behind them it has 64 bytes.
+#[inline(never)]
+fn is_utf8_in_blocks(bytes: &[u8], len: usize) -> bool
     requires { len ≤ length bytes.now }
     ensures { IsTrue result ↔ IsUtf8 (take len bytes.now) }
 {
