@@ -78,6 +78,7 @@ pub use Rattle.tv_term.specs.FastValue
 pub use Rattle.tv_term.specs.FastValueLaws
 pub use Rattle.tv_term.specs.Key
 pub use Rattle.tv_term.specs.Reading as TermReading
+pub use Rattle.tv_term.specs.Printed as TermPrinted
 pub use Rattle.tv_term.specs.Lending
 pub use Rattle.tv_term.specs.Range as TermRange
 pub use Rattle.tv_term.specs.Segments

@@ -7,3 +7,4 @@ pub mod Range
 pub mod Segments
 pub mod FacetCounting
 pub mod ChildPlaces
+pub mod Printed

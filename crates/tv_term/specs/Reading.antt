@@ -60,6 +60,11 @@ json_parts bytes = option_and_then cut_behind_zero (payload_of tag.Json bytes)
 abbrev pub json_path : List ℕ → Option (List ℕ)
 json_path bytes = option_map (λ parts. take (length parts.0 - 1) parts.0) (json_parts bytes)
 
+-- the value behind the path, if a byte is there
+abbrev pub value_behind : Option (List ℕ × List ℕ) → Option (List ℕ)
+value_behind None = None
+value_behind (Some parts) = if length parts.1 == 0 then None else Some parts.1
+
 -- the type of the value behind the path
 abbrev pub json_type : List ℕ → Option TypeTag
 json_type bytes = option_and_then (λ parts. type_at parts.1) (json_parts bytes)

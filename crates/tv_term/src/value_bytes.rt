@@ -1,14 +1,14 @@
 //! The bytes of a term's value.
 
 ghost use Rattle.std.specs.Prelude.{◌≡◌, ◌<◌, ◌==◌, [], length, position, IfOk, IfSome};
-ghost use Rattle.std.specs.Prelude.{MatchResult};
+ghost use Rattle.std.specs.Prelude.{MatchResult, slice_index};
 ghost use Rattle.std.specs.Int.{w128, to_be_bytes};
 ghost use Rattle.std.specs.Net.Addr.{ipv6_segments, segments_of};
 ghost use Rattle.std.specs.Option.{option_and_then, option_copied, option_map};
 ghost use Rattle.tv_options.specs.declared.types.TypeTag.TheVariants as tag;
 ghost use Rattle.tv_term.specs.Reading.{type_at, payload_of, number_of, address_of, signed_at};
 ghost use Rattle.tv_term.specs.Reading.{is_true, json_parts, json_path, json_type, cut_behind_zero};
-ghost use Rattle.tv_term.specs.Reading.{ReadsText};
+ghost use Rattle.tv_term.specs.Reading.{ReadsText, value_behind};
 ghost use Rattle.tv_term.specs.declared.term_error.TermError.TheVariants.{TooShort};
 
 use crate::fast_value::FastValue;
@@ -168,12 +168,17 @@ impl<'a> ValueBytes<'a> {
     }
 
     // The code.
-    pub(crate) fn code(&self) -> u8 {
+    pub(crate) fn code(&self) -> u8
+        ensures { result ≡ slice_index self.now.serialized.now 0 }
+    {
         self.serialized[0]
     }
 
     // The value behind the path of a value of a JSON field, if there is one.
-    pub(crate) fn json_value(&self) -> Option<ValueBytes<'a>> {
+    pub(crate) fn json_value(&self) -> Option<ValueBytes<'a>>
+        ensures { option_map (λ value. value.serialized.now) result
+            ≡ value_behind (json_parts self.now.serialized.now) }
+    {
         let (_, rest) = self.as_json()?;
         ValueBytes::wrap(rest).ok()
     }
