@@ -7,6 +7,7 @@ ghost use Rattle.tv_borrowed.specs.Found.{found_data};
 ghost use Rattle.tv_borrowed.specs.Rising.{Rise, EndsBelow};
 
 use crate::borrowed::BorrowedJson;
+use crate::order::is_below;
 use std::alloc::Global;
 use std::cmp::Ordering;
 use std::collections::BTreeMap;
@@ -108,12 +109,13 @@ fn mapped<'a>(alloc: Global, list: Members<'a>) -> Option<BTreeMap<&'a str, Borr
 }
 
 // Whether a key is above the last one, if there is one.
+#[inline(always)]
 fn is_above_last(members: &[(&str, BorrowedJson<'_>)], key: &str) -> bool
     ensures { IsTrue result → EndsBelow key.now members.now }
 {
     match members.len() {
         0 => true,
-        len => key.cmp(members[len - 1].0) == Ordering::Greater,
+        len => is_below(members[len - 1].0, key),
     }
 }
 

@@ -13,6 +13,7 @@ mod grouped;
 pub mod json;
 pub mod laws;
 pub mod lent_borrowed;
+mod lent_names;
 mod map_value;
 pub mod named;
 pub mod named_back_error;
