@@ -18,4 +18,5 @@ mod map_value;
 pub mod named;
 pub mod named_back_error;
 pub mod parse_buffers;
+mod recent_fields;
 mod same;
