@@ -5,7 +5,7 @@ mod begun;
 pub mod borrowed;
 mod members;
 mod number;
-mod order;
+pub mod order;
 pub mod read;
 pub mod value;
 

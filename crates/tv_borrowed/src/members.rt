@@ -7,7 +7,7 @@ ghost use Rattle.tv_borrowed.specs.Found.{found_data};
 ghost use Rattle.tv_borrowed.specs.Rising.{Rise, EndsBelow};
 
 use crate::borrowed::BorrowedJson;
-use crate::order::is_below;
+use crate::order::compare;
 use std::alloc::Global;
 use std::cmp::Ordering;
 use std::collections::BTreeMap;
@@ -115,7 +115,7 @@ fn is_above_last(members: &[(&str, BorrowedJson<'_>)], key: &str) -> bool
 {
     match members.len() {
         0 => true,
-        len => is_below(members[len - 1].0, key),
+        len => compare(key, members[len - 1].0) == Ordering::Greater,
     }
 }
 
@@ -132,7 +132,7 @@ fn put_among<'a>(members: &mut Members<'a>, key: &'a str, value: BorrowedJson<'a
     let mut high = members.len();
     'halves: while low < high {
         let middle = low + (high - low) / 2;
-        match key.cmp(members[middle].0) {
+        match compare(key, members[middle].0) {
             Ordering::Less => high = middle,
             Ordering::Equal => {
                 members[middle] = (key, value);

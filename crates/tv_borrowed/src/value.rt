@@ -10,9 +10,10 @@ ghost use Rattle.serde_json.specs.Written.{has_float, items_have_float, members_
 ghost use Rattle.tv_borrowed.specs.BorrowedData.{data_of, items_data, members_data};
 
 use crate::borrowed::BorrowedJson;
-use crate::order::is_below;
+use crate::order::compare;
 use serde_json::{Map, Number, Value};
 use std::alloc::Global;
+use std::cmp::Ordering;
 
 impl BorrowedJson<'_> {
     /// The JSON library's value that is the same, with copies of its texts. (Not in tantivy.) `None` where memory is refused; and of what wasn't read from a
@@ -128,7 +129,7 @@ fn is_above(key: &str, last: Option<&str>) -> bool
         ↔ IfSome last.entry (λ before. slice_cmp nat_cmp before.now key.now ≡ Less) }
 {
     match last {
-        Some(before) => is_below(before, key),
+        Some(before) => compare(before, key) == Ordering::Less,
         None => true,
     }
 }

@@ -14,6 +14,7 @@ use crate::named::FieldNames;
 use std::alloc::{AllocError, Global};
 use std::cmp::Ordering;
 use std::collections::BTreeMap;
+use tv_borrowed::order::compare;
 use tv_value::field::Field;
 use tv_value::value::Value;
 
@@ -48,7 +49,7 @@ fn is_above(name: &str, last: Option<&str>) -> bool
         ↔ IfSome last.entry (λ before. slice_cmp nat_cmp before.now name.now ≡ Less) }
 {
     match last {
-        Some(before) => before.cmp(name) == Ordering::Less,
+        Some(before) => compare(before, name) == Ordering::Less,
         None => true,
     }
 }

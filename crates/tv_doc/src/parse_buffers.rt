@@ -23,4 +23,12 @@ impl ParseBuffers {
             fields: RecentFields::new(alloc),
         }
     }
+    // For one document.
+    pub(crate) fn for_one(alloc: Global) -> ParseBuffers {
+        ParseBuffers {
+            texts: Scratch::new(alloc),
+            values: JsonScratch::new(alloc),
+            fields: RecentFields::none(alloc),
+        }
+    }
 }

@@ -12,13 +12,24 @@ use tv_value::field::Field;
 #[derive(Drop)]
 pub(crate) struct RecentFields {
     fields: Vec<Field>,
+    // Whether more are remembered.
+    are_kept: bool,
 }
 
 impl RecentFields {
-    // Takes no memory.
+    // For any number of documents. It takes no memory.
     pub(crate) fn new(alloc: Global) -> RecentFields {
         RecentFields {
             fields: Vec::new(alloc),
+            are_kept: true,
+        }
+    }
+
+    // For one document, so that none is remembered.
+    pub(crate) fn none(alloc: Global) -> RecentFields {
+        RecentFields {
+            fields: Vec::new(alloc),
+            are_kept: false,
         }
     }
 
@@ -36,7 +47,9 @@ impl RecentFields {
             }
         }
         let field = schema.get_field(name).ok()?;
-        self.remember(place, field);
+        if self.are_kept {
+            self.remember(place, field);
+        }
         Some(field)
     }
 
