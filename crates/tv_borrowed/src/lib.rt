@@ -5,6 +5,7 @@ mod begun;
 pub mod borrowed;
 mod members;
 mod number;
+pub mod order;
 pub mod read;
 pub mod value;
 

@@ -7,6 +7,7 @@ ghost use Rattle.tv_borrowed.specs.Found.{found_data};
 ghost use Rattle.tv_borrowed.specs.Rising.{Rise, EndsBelow};
 
 use crate::borrowed::BorrowedJson;
+use crate::order::compare;
 use std::alloc::Global;
 use std::cmp::Ordering;
 use std::collections::BTreeMap;
@@ -108,12 +109,13 @@ fn mapped<'a>(alloc: Global, list: Members<'a>) -> Option<BTreeMap<&'a str, Borr
 }
 
 // Whether a key is above the last one, if there is one.
+#[inline(always)]
 fn is_above_last(members: &[(&str, BorrowedJson<'_>)], key: &str) -> bool
     ensures { IsTrue result → EndsBelow key.now members.now }
 {
     match members.len() {
         0 => true,
-        len => key.cmp(members[len - 1].0) == Ordering::Greater,
+        len => compare(key, members[len - 1].0) == Ordering::Greater,
     }
 }
 
@@ -130,7 +132,7 @@ fn put_among<'a>(members: &mut Members<'a>, key: &'a str, value: BorrowedJson<'a
     let mut high = members.len();
     'halves: while low < high {
         let middle = low + (high - low) / 2;
-        match key.cmp(members[middle].0) {
+        match compare(key, members[middle].0) {
             Ordering::Less => high = middle,
             Ordering::Equal => {
                 members[middle] = (key, value);

@@ -10,6 +10,7 @@ ghost use Rattle.serde_json.specs.Written.{has_float, items_have_float, members_
 ghost use Rattle.tv_borrowed.specs.BorrowedData.{data_of, items_data, members_data};
 
 use crate::borrowed::BorrowedJson;
+use crate::order::compare;
 use serde_json::{Map, Number, Value};
 use std::alloc::Global;
 use std::cmp::Ordering;
@@ -128,7 +129,7 @@ fn is_above(key: &str, last: Option<&str>) -> bool
         ↔ IfSome last.entry (λ before. slice_cmp nat_cmp before.now key.now ≡ Less) }
 {
     match last {
-        Some(before) => before.cmp(key) == Ordering::Less,
+        Some(before) => compare(before, key) == Ordering::Less,
         None => true,
     }
 }

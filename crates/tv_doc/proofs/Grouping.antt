@@ -32,7 +32,7 @@ values_same f t d = values_push f f t d ∙ ap (λ b. values_of f d ++ cond b (t
 pub values_other : {A : Type 0} (g f : ℕ) (t : A) (d : List (ℕ × A)) → nat_eq f g ≡ false → values_of g (d ++ (f, t) ∷ []) ≡ values_of g d
 values_other g f t d e = values_push g f t d ∙ ap (λ b. values_of g d ++ cond b (t ∷ []) []) e ∙ append-nil (values_of g d)
 
-append_filled : {A : Type 0} (xs ys : List A) → xs ≢ [] → xs ++ ys ≢ []
+pub append_filled : {A : Type 0} (xs ys : List A) → xs ≢ [] → xs ++ ys ≢ []
 append_filled [] ys h e = h refl
 append_filled (x ∷ xs) ys h e = cc
 
@@ -40,17 +40,17 @@ last_filled : {A : Type 0} (xs : List A) (y : A) → xs ++ y ∷ [] ≢ []
 last_filled [] y e = cc
 last_filled (x ∷ xs) y e = cc
 
-nil_or : {A : Type 0} (xs : List A) → (xs ≡ []) ⊎ (xs ≢ [])
+pub nil_or : {A : Type 0} (xs : List A) → (xs ≡ []) ⊎ (xs ≢ [])
 nil_or [] = inl refl
 nil_or (x ∷ xs) = inr (λ e. cc)
 
 -- ---- fields that rise
 
-abbrev Up : List ℕ → Type 0
+abbrev pub Up : List ℕ → Type 0
 Up [] = Unit {0}
 Up (x ∷ xs) = AllByRecursion (λ y. x < y) xs × Up xs
 
-all_push : {A : Type 0} (P : A → Type 0) (xs : List A) (x : A) → AllByRecursion P xs → P x → AllByRecursion P (xs ++ x ∷ [])
+pub all_push : {A : Type 0} (P : A → Type 0) (xs : List A) (x : A) → AllByRecursion P xs → P x → AllByRecursion P (xs ++ x ∷ [])
 all_push P [] x a h = (h, tt)
 all_push P (y ∷ xs) x a h = (a.0, all_push P xs x a.1 h)
 
@@ -58,7 +58,7 @@ all_last : {A : Type 0} (P : A → Type 0) (xs : List A) (x : A) → AllByRecurs
 all_last P [] x a = a.0
 all_last P (y ∷ xs) x a = all_last P xs x a.1
 
-all_more : {A : Type 0} (P Q : A → Type 0) → ((x : A) → P x → Q x) → (xs : List A) → AllByRecursion P xs → AllByRecursion Q xs
+pub all_more : {A : Type 0} (P Q : A → Type 0) → ((x : A) → P x → Q x) → (xs : List A) → AllByRecursion P xs → AllByRecursion Q xs
 all_more P Q h [] a = tt
 all_more P Q h (x ∷ xs) a = (h x a.0, all_more P Q h xs a.1)
 
@@ -76,12 +76,12 @@ up_adjacent (x ∷ []) u k h = absurd (omega arith)
 up_adjacent (x ∷ y ∷ xs) u zero h = u.0.0
 up_adjacent (x ∷ y ∷ xs) u (suc k) h = up_adjacent (y ∷ xs) u.1 k (omega arith)
 
-up_increasing : (xs : List ℕ) → Up xs → IsStrictlyIncreasing xs
+pub up_increasing : (xs : List ℕ) → Up xs → IsStrictlyIncreasing xs
 up_increasing xs u k h = rw add-one (up_adjacent xs u k (omega arith))
 
 -- ---- groups of what is done so far
 
-abbrev group_of : {A : Type 0} → List (ℕ × A) → ℕ → ℕ × List A
+abbrev pub group_of : {A : Type 0} → List (ℕ × A) → ℕ → ℕ × List A
 group_of d g = (g, values_of g d)
 
 abbrev Exact : {A : Type 0} → List ℕ → List (ℕ × A) → Type 0

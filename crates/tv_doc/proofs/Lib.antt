@@ -12,3 +12,4 @@ pub mod Spans
 pub mod Belonging
 pub mod NamedErrors
 pub mod LentBorrowed
+mod RunNames

@@ -1,6 +1,6 @@
 //! Documents from JSON objects whose values are added straight from the text that encodes them.
 
-ghost use Rattle.std.specs.Prelude.{◌≡◌, ◌↔◌, ◌∷◌, [], false, Some, Ok, IfNone, OnSome, IsOkAnd, IsTrue};
+ghost use Rattle.std.specs.Prelude.{◌≡◌, ◌↔◌, ◌<◌, ◌^◌, ◌∷◌, [], false, Some, Ok, IfNone, OnSome, IsOkAnd, IsTrue};
 ghost use Rattle.serde_json.specs.Data.{object};
 ghost use Rattle.serde_json.specs.Written.{has_float, members_have_float};
 ghost use Rattle.tv_borrowed.specs.BorrowedData.{data_of, members_data};
@@ -17,6 +17,7 @@ use crate::document::CompactDoc;
 use crate::json::add_value;
 use crate::lent_borrowed::LentBorrowed;
 use crate::parse_buffers::ParseBuffers;
+use crate::recent_fields::RecentFields;
 use std::alloc::Global;
 use tv_borrowed::borrowed::BorrowedJson;
 use tv_borrowed::read::read_noting_floats;
@@ -136,23 +137,26 @@ fn add_one(
     add_value(alloc, document, scratch, name, field, field_type, copy).ok()
 }
 
-// Adds the values of a member, if its key names a field.
+// Adds the values of the member at a place, if its key names a field.
 fn add_borrowed(
     alloc: Global,
     document: &mut CompactDoc,
     scratch: &mut JsonScratch,
+    recent: &mut RecentFields,
     schema: &Schema,
+    place: usize,
     name: &str,
     json: &BorrowedJson<'_>,
     met_float: bool,
 ) -> Option<()>
-    requires { met_float ≡ false → has_float (data_of json.now) ≡ false }
+    requires place { place < 2 ^ 63 }
+    requires floats { met_float ≡ false → has_float (data_of json.now) ≡ false }
     ensures { OnSome result
         (AddsPairs
         (values_at schema.now name.now (field_named schema.now name.now) (data_of json.now))
         document.old document.new) }
 {
-    let Ok(field) = schema.get_field(name) else {
+    let Some(field) = recent.field_named(schema, place, name) else {
         return Some(());
     };
     let field_type = schema.get_field_entry(field).field_type();
@@ -174,6 +178,7 @@ fn add_members(
     alloc: Global,
     document: &mut CompactDoc,
     scratch: &mut JsonScratch,
+    recent: &mut RecentFields,
     schema: &Schema,
     members: &[(&str, BorrowedJson<'_>)],
     met_float: bool,
@@ -182,8 +187,10 @@ fn add_members(
     ensures { OnSome result
         (AddsPairs (object_values schema.now (members_data members.now)) document.old document.new) }
 {
-    for (key, json) in members {
-        add_borrowed(alloc, document, scratch, schema, key, json, met_float)?;
+    for (place, (key, json)) in members.iter().enumerate() {
+        add_borrowed(
+            alloc, document, scratch, recent, schema, place, key, json, met_float,
+        )?;
     }
     Some(())
 }
@@ -207,6 +214,7 @@ impl CompactDoc {
                 alloc,
                 self,
                 &mut buffers.values,
+                &mut buffers.fields,
                 schema,
                 members.as_slice(),
                 met_float,

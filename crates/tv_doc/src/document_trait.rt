@@ -9,7 +9,8 @@ ghost use Rattle.tv_doc.specs.Named.{IsNamed, IsJsonText, NamedNestWithin, named
 ghost use Rattle.tv_doc.specs.FieldValues.{pair_seen};
 
 use crate::grouped::{grouped, sort_pairs};
-use crate::named::{FieldNames, NamedFieldDocument, by_name, owned_by_name};
+use crate::lent_names::{by_name, rising_by_name};
+use crate::named::{FieldNames, NamedFieldDocument, owned_by_name};
 use std::alloc::{AllocError, Global};
 use tv_json::named::named_to_json;
 use tv_value::copy_error::CopyError;
@@ -140,7 +141,11 @@ pub trait Document<'a> {
             (λ text. IsJsonText (S.names schema.now) (pairs self.now) (string_bytes text)) }
     {
         let mut pairs = gathered(alloc, self)?;
+        if let Some(named) = rising_by_name(alloc, schema, pairs.as_slice())? {
+            return named_to_json(alloc, named.as_slice());
+        }
         sort_pairs(&mut pairs)?;
-        named_to_json(alloc, by_name(alloc, schema, pairs.as_slice())?)
+        let named = by_name(alloc, schema, pairs.as_slice())?;
+        named_to_json(alloc, named.as_slice())
     }
 }

@@ -201,7 +201,7 @@ impl CompactDoc {
         ensures belongs { IfOk result (λ made. Belongs schema.now (document_of made)) }
     {
         let mut document = CompactDoc::new(alloc);
-        let mut buffers = ParseBuffers::new(alloc);
+        let mut buffers = ParseBuffers::for_one(alloc);
         match document.parse_json_into(alloc, schema, text, &mut buffers) {
             Ok(()) => Ok(document),
             Err(error) => Err(error),

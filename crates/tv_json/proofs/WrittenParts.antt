@@ -49,10 +49,6 @@ list_written before now k ts all rest whole written first so_far =
     let left = rest_of_object (named_json rest) in
     ap (λ z. z ++ left) written ∙ append_assoc before (token.key k ∷ data_tokens (list_json ts)) left ∙ ap (λ ns. before ++ rest_of_object (named_json ns)) (sym first) ∙ so_far
 
-pub names_written : (now last : List Token) (left : List (List ℕ × List Tree)) (whole : List Token) → left ≡ [] → now ++ rest_of_object (named_json left) ≡ whole → last ≡ now ++ token.end_object ∷ []
-    → last ≡ whole
-names_written now last left whole none so_far ends = ends ∙ ap (λ ns. now ++ rest_of_object (named_json ns)) (sym none) ∙ so_far
-
 pub object_written : (old begun now last : List Token) (left all : Members) → begun ≡ old ++ token.begin_object ∷ [] → left ≡ json.no_members → now ++ rest_of_object left ≡ begun ++ rest_of_object all
     → last ≡ now ++ token.end_object ∷ [] → last ≡ old ++ data_tokens (json.object all)
 object_written old begun now last left all begins none so_far ends =

@@ -1,10 +1,10 @@
 //! The order in which the members of an object are written.
 
-ghost use Rattle.std.specs.Prelude.{◌≡◌, ◌≤◌, IsTrue, IfOk};
+ghost use Rattle.std.specs.Prelude.{◌≡◌, ◌≤◌, ◌↔◌, IsTrue, IfOk};
 ghost use Rattle.serde_json.specs.Data.{no_members};
 ghost use Rattle.tv_json.specs.JsonOf.{entries_json};
 ghost use Rattle.tv_json.specs.Open.{pairs_size};
-ghost use Rattle.tv_json.specs.Rising.{KeysRise, entries_of, pairs_json};
+ghost use Rattle.tv_json.specs.Rising.{Below, KeysRise, entries_of, pairs_json};
 ghost use Rattle.tv_format.specs.Size.{entries_size};
 ghost use Rattle.tv_format.specs.Tree.{entries};
 ghost use Rattle.tv_value.specs.Lent.{nested_tree};
@@ -15,6 +15,17 @@ use std::collections::BTreeMap;
 use std::convert::AsStr;
 use tv_value::nested::{Nested, NestedValue};
 
+// Whether a key is below another in byte order. Where their first bytes differ, these decide.
+#[inline(always)]
+fn is_below(key: &str, other: &str) -> bool
+    ensures { IsTrue result ↔ Below key.now other.now }
+{
+    match (key.as_bytes().first(), other.as_bytes().first()) {
+        (Some(one), Some(two)) if one != two => one < two,
+        _ => key.cmp(other) == Ordering::Less,
+    }
+}
+
 // Whether each key is below the next in byte order.
 fn keys_rise<N: Nested>(mut members: N::ObjectIter) -> bool
     ensures { IsTrue result → KeysRise (entries (N.object_rest members)) }
@@ -24,10 +35,10 @@ fn keys_rise<N: Nested>(mut members: N::ObjectIter) -> bool
     };
     let mut last = first;
     for (key, _) in members {
-        match last.as_str().cmp(key.as_str()) {
-            Ordering::Less => last = key,
-            _ => return false,
+        if !is_below(last.as_str(), key.as_str()) {
+            return false;
         }
+        last = key;
     }
     true
 }

@@ -1,7 +1,6 @@
 //! Values under names, as texts of JSON.
 
 ghost use Rattle.std.specs.Prelude.{◌≡◌, ◌++◌, ◌∷◌, [], OnOk, IfOk, string_bytes, map};
-ghost use Rattle.std.specs.BTreeMap.{BTreeMap};
 ghost use Rattle.json.specs.Token as Token;
 ghost use Rattle.serde_json.specs.Data.{object};
 ghost use Rattle.serde_json.specs.Written.{compact_text};
@@ -12,7 +11,6 @@ ghost use Rattle.tv_json.specs.Rising.{data_tokens, rest_of_object};
 use crate::compact::write_lent;
 use crate::write::{JsonWriter, begin_list};
 use std::alloc::{AllocError, Global};
-use std::collections::BTreeMap;
 use tv_value::field::Field;
 use tv_value::value::Value;
 
@@ -40,12 +38,12 @@ fn write_list<'a, V: Value<'a>>(
 // Writes names and the arrays of their values, and the end of the object in which they stand.
 fn write_lists<'a, V: Value<'a>>(
     json: &mut JsonWriter,
-    named: BTreeMap<&str, &[(Field, V)]>,
+    named: &[(&str, &[(Field, V)])],
 ) -> Result<(), AllocError>
     ensures ok { OnOk result
         (json.new.out.tokens
         ≡ json.old.out.tokens
-        ++ rest_of_object (named_json (map (named_trees V.tree) named.entry.entries))) }
+        ++ rest_of_object (named_json (map (named_trees V.tree) named.now))) }
     ensures before { json.new.out.before ≡ json.old.out.before }
 {
     for (name, pairs) in named {
@@ -54,15 +52,15 @@ fn write_lists<'a, V: Value<'a>>(
     json.out.end_object()
 }
 
-/// The text of an object, without spaces: for each name, in byte order, the array of the values that stand under it, beside whatever
-/// fields. (Not in tantivy.) The only error is that memory was refused.
+/// The text of an object, without spaces: for each name, in the order in which they stand, the array of the values that stand under it,
+/// beside whatever fields. (Not in tantivy.) The only error is that memory was refused.
 pub fn named_to_json<'a, V: Value<'a>>(
     alloc: Global,
-    named: BTreeMap<&str, &[(Field, V)]>,
+    named: &[(&str, &[(Field, V)])],
 ) -> Result<String, AllocError>
     ensures { IfOk result
         (λ text. string_bytes text
-        ≡ compact_text (object (named_json (map (named_trees V.tree) named.entry.entries)))) }
+        ≡ compact_text (object (named_json (map (named_trees V.tree) named.now)))) }
 {
     let mut json = JsonWriter::new(alloc, Vec::with_capacity(alloc, FIRST_BYTES)?);
     json.out.begin_object()?;

@@ -15,7 +15,7 @@ pub add_one-requires-in-loop-item : goal.add_one-requires-in-loop-item
 add_one-requires-in-loop-item c = λ none_met.
     let items = c.deref-item-items.result.now in
     let says = ap data_of c.in-Array.is ∙ data_of-Array c.in-Array.items in
-    let whole : items_have_float (items_data c.in-Array.items.items) ≡ false = sym (ap has_float says) ∙ c.requires none_met in
+    let whole : items_have_float (items_data c.in-Array.items.items) ≡ false = sym (ap has_float says) ∙ c.requires.floats none_met in
     let among : items_have_float (items_data items) ≡ false = ap (λ vs. items_have_float (items_data vs)) c.deref-item-items.ensures.value ∙ whole in
     none_in_item items c.loop-item.item-index c.item-item.result (omega (arith, c.loop-item-test.true)) (sym c.item-item.is) among
 
@@ -26,8 +26,8 @@ loop-item-preserved c =
     let field_type = c.field_type-field_type.result.now in
     let items = c.deref-item-items.result.now in
     let item = c.item-item.result in
-    let values : List BorrowedJson → List FieldJson = λ xs. item_values a.name.now c.in-Ok.field.id field_type (items_data xs) in
-    let v : FieldJson = record { name = a.name.now; field = c.in-Ok.field.id; field_type = field_type; value = data_of item } in
+    let values : List BorrowedJson → List FieldJson = λ xs. item_values a.name.now c.in-Some.field.id field_type (items_data xs) in
+    let v : FieldJson = record { name = a.name.now; field = c.in-Some.field.id; field_type = field_type; value = data_of item } in
     let added = c.in_ok-add_one.ensures in
     let step = drop_more items l.item-index item (omega (arith, c.loop-item-test.true)) ∙ ap (λ z. z ∷ drop (l.item-index + 1) items) (sym c.item-item.is) in
     more_so_far _ (values (drop l.item-index items)) (v ∷ []) (values (drop (l.item-index + 1) items)) a.document.now l.document
@@ -38,11 +38,11 @@ returns c =
     let a = c.args in
     let l = c.loop-item in
     let items = c.deref-item-items.result.now in
-    let values : List BorrowedJson → List FieldJson = λ xs. item_values a.name.now c.in-Ok.field.id c.field_type-field_type.result.now (items_data xs) in
+    let values : List BorrowedJson → List FieldJson = λ xs. item_values a.name.now c.in-Some.field.id c.field_type-field_type.result.now (items_data xs) in
     let done : drop l.item-index items ≡ [] = drop_all l.item-index items (omega (arith, c.loop-item-test.false)) in
     let all = all_so_far (values items) (values (drop l.item-index items)) a.document.now l.document l.invariant (ap values done) in
-    let named : field_named a.schema.now a.name.now ≡ Some c.in-Ok.field.id = search rules in
+    let named : field_named a.schema.now a.name.now ≡ Some c.in-Some.field.id = search rules in
     let says = ap data_of c.in-Array.is ∙ data_of-Array c.in-Array.items in
-    let same = ap (item_values a.name.now c.in-Ok.field.id c.field_type-field_type.result.now) (ap items_data c.deref-item-items.ensures.value) in
-    let whole = same ∙ values_of_items a.schema.now a.name.now c.in-Ok.field.id c.get_field_entry.result.now c.field_type-field_type.result.now _ (data_of a.json.now) _ named c.get_field_entry.ensures c.field_type-field_type.ensures says in
+    let same = ap (item_values a.name.now c.in-Some.field.id c.field_type-field_type.result.now) (ap items_data c.deref-item-items.ensures.value) in
+    let whole = same ∙ values_of_items a.schema.now a.name.now c.in-Some.field.id c.get_field_entry.result.now c.field_type-field_type.result.now _ (data_of a.json.now) _ named c.get_field_entry.ensures c.field_type-field_type.ensures says in
     subst (λ vs. AddsPairs vs a.document.now l.document) whole all

@@ -8,26 +8,26 @@ use Rattle.tv_doc.specs.JsonObject.{FieldJson, object_values, values_at}
 use Rattle.tv_doc.proofs.JsonDocuments.{more_so_far, all_so_far}
 use Rattle.tv_doc.proofs.borrowed_json.add_members.Goals as goal
 
-pub add_borrowed-requires : goal.add_borrowed-requires
-add_borrowed-requires c = λ none_met.
-    none_in_member c.args.members.now c.loop-key.key-index c.loop-key-item.result (omega (arith, c.loop-key-test.true)) (sym c.loop-key-item.is) (c.requires none_met)
+pub add_borrowed-requires-clause-floats : goal.add_borrowed-requires-clause-floats
+add_borrowed-requires-clause-floats c = λ none_met.
+    none_in_member c.args.members.now c.loop-place.place c.index-members-place.result (omega (arith, c.loop-place-test.true)) (sym c.index-members-place.is) (c.requires none_met)
 
-pub loop-key-preserved : goal.loop-key-preserved
-loop-key-preserved c =
-    let l = c.loop-key in
+pub loop-place-preserved : goal.loop-place-preserved
+loop-place-preserved c =
+    let l = c.loop-place in
     let members = c.args.members.now in
-    let m = c.loop-key-item.result in
+    let m = c.index-members-place.result in
     let schema = c.args.schema.now in
     let values : List (Bor (List ℕ) × BorrowedJson) → List FieldJson = λ ms. object_values schema (members_data ms) in
     let own = values_at schema m.0.now (field_named schema m.0.now) (data_of m.1) in
-    let step = drop_more members l.key-index m (omega (arith, c.loop-key-test.true)) ∙ ap (λ z. z ∷ drop (l.key-index + 1) members) (sym c.loop-key-item.is) in
-    more_so_far _ (values (drop l.key-index members)) own (values (drop (l.key-index + 1) members)) c.args.document.now l.document
+    let step = drop_more members l.place m (omega (arith, c.loop-place-test.true)) ∙ ap (λ z. z ∷ drop (l.place + 1) members) (sym c.index-members-place.is) in
+    more_so_far _ (values (drop l.place members)) own (values (drop (l.place + 1) members)) c.args.document.now l.document
     c.add_borrowed.new.document l.invariant (ap values step) c.in_ok-add_borrowed.ensures
 
 pub returns : goal.returns
 returns c =
-    let l = c.loop-key in
+    let l = c.loop-place in
     let members = c.args.members.now in
     let values : List (Bor (List ℕ) × BorrowedJson) → List FieldJson = λ ms. object_values c.args.schema.now (members_data ms) in
-    let done : drop l.key-index members ≡ [] = drop_all l.key-index members (omega (arith, c.loop-key-test.false)) in
-    all_so_far (values members) (values (drop l.key-index members)) c.args.document.now l.document l.invariant (ap values done)
+    let done : drop l.place members ≡ [] = drop_all l.place members (omega (arith, c.loop-place-test.false)) in
+    all_so_far (values members) (values (drop l.place members)) c.args.document.now l.document l.invariant (ap values done)

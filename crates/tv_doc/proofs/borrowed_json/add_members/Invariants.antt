@@ -4,6 +4,6 @@ use Rattle.tv_doc.specs.JsonObject.{object_values}
 use Rattle.tv_doc.proofs.JsonDocuments.{SoFar}
 use Rattle.tv_doc.proofs.borrowed_json.add_members.Given as goal
 
-abbrev pub invariant-loop-key : goal.invariant-loop-key
-invariant-loop-key l =
-    SoFar (object_values l.schema (members_data l.members)) (object_values l.schema (members_data (drop l.key-index l.members))) l.fn.document l.document
+abbrev pub invariant-loop-place : goal.invariant-loop-place
+invariant-loop-place l =
+    SoFar (object_values l.schema (members_data l.members)) (object_values l.schema (members_data (drop l.place l.members))) l.fn.document l.document

@@ -8,7 +8,7 @@ use Rattle.tv_json.proofs.named.named_to_json.Goals as goal
 
 pub returns : goal.returns
 returns g c =
-    let whole = object (named_json (map (named_trees g.V.Value.tree) c.args.named.entries)) in
+    let whole = object (named_json (map (named_trees g.V.Value.tree) c.args.named.now)) in
     let before : c.write_lists.new.json.out.before ≡ [] = search rules in
     let tokens : c.write_lists.new.json.out.tokens ≡ data_tokens whole = search rules in
     c.into_text.ensures ∙ (λ i. before i ++ print (tokens i)) ∙ print-outline whole

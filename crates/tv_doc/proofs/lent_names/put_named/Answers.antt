@@ -3,8 +3,8 @@ use Rattle.std.specs.Prelude.{slice_get}
 use Rattle.tv_json.specs.Named.{named_trees}
 use Rattle.tv_doc.specs.Named.{put_under}
 use Rattle.tv_doc.proofs.ByName.{lent-insert_entry}
-use Rattle.tv_doc.proofs.named.put_named.Goals as goal
-use Rattle.tv_doc.proofs.named.put_named.Goals.{in-Some+in_ok-insert, in_default}
+use Rattle.tv_doc.proofs.lent_names.put_named.Goals as goal
+use Rattle.tv_doc.proofs.lent_names.put_named.Goals.{in-Some+in_ok-insert, in_default}
 
 pub returns : goal.returns
 returns g c =

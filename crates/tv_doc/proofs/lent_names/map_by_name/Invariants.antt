@@ -1,7 +1,7 @@
 use Rattle.std.proofs.Common.{◌≤◌, map}
 use Rattle.tv_json.specs.Named.{named_trees}
 use Rattle.tv_doc.proofs.Spans.{Spanned}
-use Rattle.tv_doc.proofs.named.by_name.Given as goal
+use Rattle.tv_doc.proofs.lent_names.map_by_name.Given as goal
 
 abbrev pub invariant-loop-at : goal.invariant-loop-at
 invariant-loop-at g l = record {

@@ -5,8 +5,8 @@ use Rattle.tv_doc.specs.Named.{IsNamed}
 use Rattle.tv_doc.specs.FieldValues.{pair_seen}
 use Rattle.tv_doc.proofs.Grouping.{if_ok}
 use Rattle.tv_doc.proofs.Spans.{Spanned, spanned_none, spanned_start, spanned_same, spanned_next, spanned_done, span-all}
-use Rattle.tv_doc.proofs.named.by_name.Goals as goal
-use Rattle.tv_doc.proofs.named.by_name.Goals.{then-ne+in_ok-named, else-ne}
+use Rattle.tv_doc.proofs.lent_names.map_by_name.Goals as goal
+use Rattle.tv_doc.proofs.lent_names.map_by_name.Goals.{then-ne+in_ok-named, else-ne}
 
 pub returns-in_default : goal.returns-in_default
 returns-in_default g c =
