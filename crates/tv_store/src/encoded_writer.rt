@@ -17,6 +17,7 @@ ghost use Rattle.tv_writer.specs.Error.{IsIo, IsIoOrMemory};
 ghost use Rattle.tv_value.specs.Nesting.{NestsWithin};
 
 use crate::error::SerializeError;
+use crate::pending::Pending;
 use crate::type_codes::{ARRAY_CODE, BOOL_CODE, EXT_CODE, NULL_CODE, TOK_STR_EXT_CODE};
 use std::alloc::Global;
 use std::io;
@@ -200,12 +201,70 @@ fn write_nested<K: ByteSink>(
     Ok(())
 }
 
+// A part of a value, which is written as a whole.
+#[derive(Clone, Copy)]
+enum Part<'a> {
+    Key(&'a str),
+    ArrayHead(u64),
+    ObjectHead(u64),
+    Single(Encoded<'a>),
+}
+
+// Writes a part.
+#[inline(always)]
+fn write_part<K: ByteSink>(
+    sink: &mut K,
+    version: WriteVersion,
+    part: Part<'_>,
+) -> Result<(), io::ErrorKind>
+{
+    match part {
+        Part::Key(key) => write_key(sink, version, key),
+        Part::ArrayHead(count) => write_coded_count(sink, ARRAY_CODE, count),
+        Part::ObjectHead(count) => write_object_head(sink, version, count),
+        Part::Single(encoded) => write_single(sink, encoded),
+    }
+}
+
+// Lets a part wait behind what waits, or writes both where there is no room for it.
+#[inline(always)]
+fn gather_part<K: ByteSink>(
+    sink: &mut K,
+    pending: &mut Pending,
+    version: WriteVersion,
+    part: Part<'_>,
+) -> Result<(), io::ErrorKind>
+{
+    let waiting = pending.len();
+    if write_part(pending, version, part).is_ok() {
+        return Ok(());
+    }
+    pending.truncate(waiting);
+    write_waiting_and_part(sink, pending, version, part)
+}
+
+#[cold]
+#[inline(never)]
+fn write_waiting_and_part<K: ByteSink>(
+    sink: &mut K,
+    pending: &mut Pending,
+    version: WriteVersion,
+    part: Part<'_>,
+) -> Result<(), io::ErrorKind>
+{
+    pending.flush(sink)?;
+    if write_part(pending, version, part).is_ok() {
+        return Ok(());
+    }
+    pending.truncate(0);
+    write_part(sink, version, part)
+}
+
 // Writes what a version of the store has for a value of a document. `levels` is how deep its lists may nest for no memory to be taken.
 //
 // Errors: `Io` where a write failed, and `Memory` where memory was refused for a value that nests deeper. The sink then holds what it
 // held before, and a beginning of the value.
 #[inline(always)]
-#[cycle(encoded)]
 pub(crate) fn write_encoded<K: ByteSink>(
     sink: &mut K,
     alloc: Global,
@@ -222,11 +281,11 @@ pub(crate) fn write_encoded<K: ByteSink>(
     match encoded {
         Encoded::Array(count, items) => {
             write_coded_count(sink, ARRAY_CODE, count)?;
-            write_encoded_items(sink, alloc, version, items, levels)
+            write_children(sink, alloc, version, Open::Items(items), levels)
         }
         Encoded::Object(count, members) => {
             write_object_head(sink, version, count)?;
-            write_encoded_members(sink, alloc, version, members, levels)
+            write_children(sink, alloc, version, Open::Members(members), levels)
         }
         single => {
             write_single(sink, single)?;
@@ -235,51 +294,92 @@ pub(crate) fn write_encoded<K: ByteSink>(
     }
 }
 
+#[inline(never)]
+fn write_children<K: ByteSink>(
+    sink: &mut K,
+    alloc: Global,
+    version: WriteVersion,
+    list: Open<'_>,
+    levels: u32,
+) -> Result<(), SerializeError>
+{
+    let mut pending = Pending::new();
+    match list {
+        Open::Items(items) => gather_items(sink, &mut pending, alloc, version, items, levels)?,
+        Open::Members(members) => gather_members(sink, &mut pending, alloc, version, members, levels)?,
+    }
+    pending.flush(sink)?;
+    Ok(())
+}
+
+#[inline(always)]
+#[cycle(gathered)]
+fn gather_encoded<K: ByteSink>(
+    sink: &mut K,
+    pending: &mut Pending,
+    alloc: Global,
+    version: WriteVersion,
+    encoded: Encoded<'_>,
+    levels: u32,
+) -> Result<(), SerializeError>
+{
+    match encoded {
+        Encoded::Array(count, items) => {
+            gather_part(sink, pending, version, Part::ArrayHead(count))?;
+            gather_items(sink, pending, alloc, version, items, levels)
+        }
+        Encoded::Object(count, members) => {
+            gather_part(sink, pending, version, Part::ObjectHead(count))?;
+            gather_members(sink, pending, alloc, version, members, levels)
+        }
+        single => {
+            gather_part(sink, pending, version, Part::Single(single))?;
+            Ok(())
+        }
+    }
+}
+
 // The values that are left of an array, in order.
 #[inline(never)]
-#[cycle(encoded)]
-fn write_encoded_items<K: ByteSink>(
+#[cycle(gathered)]
+fn gather_items<K: ByteSink>(
     sink: &mut K,
+    pending: &mut Pending,
     alloc: Global,
     version: WriteVersion,
     items: CompactDocArrayIter<'_>,
     levels: u32,
 ) -> Result<(), SerializeError>
-    ensures writes { store.Writes K.is_known K.held K.failures sink.old sink.new result
-        (Ok (short_elements (written_version version) (elements items.entry.held.0))) }
-    ensures errors { IfErr result IsIoOrMemory }
-    ensures lean { NestsWithin levels (array (elements items.entry.held.0)) → IfErr result IsIo }
 {
     if levels == 0 {
+        pending.flush(sink)?;
         return write_nested(sink, alloc, version, Open::Items(items));
     }
     for item in items {
-        write_encoded(sink, alloc, version, item.encoded(), levels - 1)?;
+        gather_encoded(sink, pending, alloc, version, item.encoded(), levels - 1)?;
     }
     Ok(())
 }
 
 // The keys and values that are left of an object, in order.
 #[inline(never)]
-#[cycle(encoded)]
-fn write_encoded_members<K: ByteSink>(
+#[cycle(gathered)]
+fn gather_members<K: ByteSink>(
     sink: &mut K,
+    pending: &mut Pending,
     alloc: Global,
     version: WriteVersion,
     members: CompactDocObjectIter<'_>,
     levels: u32,
 ) -> Result<(), SerializeError>
-    ensures writes { store.Writes K.is_known K.held K.failures sink.old sink.new result
-        (Ok (short_entries (written_version version) (entries members.entry.held.0))) }
-    ensures errors { IfErr result IsIoOrMemory }
-    ensures lean { NestsWithin levels (object (entries members.entry.held.0)) → IfErr result IsIo }
 {
     if levels == 0 {
+        pending.flush(sink)?;
         return write_nested(sink, alloc, version, Open::Members(members));
     }
     for (key, item) in members {
-        write_key(sink, version, key)?;
-        write_encoded(sink, alloc, version, item.encoded(), levels - 1)?;
+        gather_part(sink, pending, version, Part::Key(key))?;
+        gather_encoded(sink, pending, alloc, version, item.encoded(), levels - 1)?;
     }
     Ok(())
 }

@@ -13,6 +13,7 @@ pub mod limits;
 pub mod migration;
 pub mod migration_trip;
 mod pair_writer;
+mod pending;
 pub mod pairs_given;
 pub mod round_trip;
 pub mod se;
