@@ -1,25 +1,38 @@
-//! Bytes that wait to be written, so that many short parts are handed to a sink at once.
+//! Bytes that wait to be written, so that a sink is handed many short parts at once.
 
-ghost use Rattle.std.specs.Prelude.{take, ◌^◌, ◌-◌};
+ghost use Rattle.std.specs.Prelude.{◌≡◌, ◌-◌, ◌^◌, ◌≤◌, ℕ, List, [], ◌++◌, length, take};
+ghost use Rattle.std.specs.Prelude.{Result, Ok, IfOk, OnErr, Some};
+ghost use Rattle.std.specs.declared.io.ErrorKind.TheVariants.{OutOfMemory};
+ghost use Rattle.tv_base.specs.Sink.{Writes};
 
 use std::io;
+use std::marker::Model;
 use tv_base::ByteSink;
 use tv_base::write::write_all;
 
 // So many bytes can wait.
 const ROOM: usize = 256;
 
-/// Bytes that wait to be written. They are a sink that takes no more than it has room for.
+/// Bytes that wait to be written: those that were appended and not yet flushed. They are a sink, which takes what it has room for.
 #[derive(Drop)]
 pub(crate) struct Pending {
     bytes: [u8; ROOM],
     used: usize,
 }
 
+impl Model for Pending {
+    ghost Value = { List ℕ };
+
+    ghost view = { λ p. take p.used p.bytes };
+
+    ghost invariant = { λ p. p.used ≤ 256 };
+}
+
 impl Pending {
     /// No byte waits.
     #[inline]
     pub(crate) fn new() -> Pending
+        ensures { result ≡ [] }
     {
         Pending {
             bytes: [0; ROOM],
@@ -30,6 +43,7 @@ impl Pending {
     /// How many bytes wait.
     #[inline(always)]
     pub(crate) fn len(&self) -> usize
+        ensures { result ≡ length self.now }
     {
         self.used
     }
@@ -37,14 +51,20 @@ impl Pending {
     /// Forgets all but the first bytes.
     #[inline]
     pub(crate) fn truncate(&mut self, len: usize)
+        ensures { self.new ≡ take len self.old }
     {
         if len < self.used {
             self.used = len;
         }
     }
 
-    /// Writes the bytes that wait.
+    /// Writes the bytes that wait. None of them waits then.
+    ///
+    /// The only error is the kind with which a write failed. The sink then holds what it held before, and a beginning of them.
+    #[inline]
     pub(crate) fn flush<K: ByteSink>(&mut self, sink: &mut K) -> Result<(), io::ErrorKind>
+        ensures writes { Writes K.is_known K.held K.failures sink.old sink.new result self.old }
+        ensures empty { IfOk result (λ _. self.new ≡ []) }
     {
         write_all(sink, &self.bytes[..self.used])?;
         self.used = 0;
@@ -53,26 +73,22 @@ impl Pending {
 }
 
 impl ByteSink for Pending {
-    ghost use Rattle.std.specs.Prelude.{Some};
-    ghost use Rattle.std.specs.declared.io.ErrorKind.TheVariants.{OutOfMemory};
-
     ghost is_known = { λ _. Unit {0} };
 
-    ghost held = { λ s. take s.used s.bytes };
+    ghost held = { λ waiting. waiting };
 
-    // so many that no more are counted
+    // as many as are counted, so that no failure has to be kept
     ghost failures = { λ _. record { number = 2 ^ 64 - 1; last = Some OutOfMemory } };
 
     /// Appends all of `buf`. Errors: `OutOfMemory` where there is no room for it, and then none of it is appended.
     #[inline(always)]
-    fn write(&mut self, buf: &[u8]) -> Result<usize, io::ErrorKind>
-    {
-        let room = &mut self.bytes[self.used..];
-        if buf.len() > room.len() {
+    fn write(&mut self, buf: &[u8]) -> Result<usize, io::ErrorKind> {
+        if buf.len() > ROOM - self.used {
             return Err(io::ErrorKind::OutOfMemory);
         }
-        room[..buf.len()].copy_from_slice(buf);
-        self.used += buf.len();
+        let end = self.used + buf.len();
+        self.bytes[self.used..end].copy_from_slice(buf);
+        self.used = end;
         Ok(buf.len())
     }
 }
