@@ -1,7 +1,6 @@
 //! Bytes that wait to be written, so that a sink is handed many short parts at once.
 
-ghost use Rattle.std.specs.Prelude.{◌≡◌, ◌-◌, ◌^◌, ◌≤◌, ℕ, List, [], ◌++◌, length, take};
-ghost use Rattle.std.specs.Prelude.{Result, Ok, IfOk, OnErr, Some};
+ghost use Rattle.std.specs.Prelude.{◌≡◌, ◌-◌, ◌^◌, ◌≤◌, ℕ, List, [], length, take, IfOk, Some};
 ghost use Rattle.std.specs.declared.io.ErrorKind.TheVariants.{OutOfMemory};
 ghost use Rattle.tv_base.specs.Sink.{Writes};
 
@@ -13,7 +12,7 @@ use tv_base::write::write_all;
 // So many bytes can wait.
 const ROOM: usize = 256;
 
-/// Bytes that wait to be written: those that were appended and not yet flushed. They are a sink, which takes what it has room for.
+// Bytes that wait to be written: those that were appended and not yet flushed. They are a sink, which takes what it has room for.
 #[derive(Drop)]
 pub(crate) struct Pending {
     bytes: [u8; ROOM],
@@ -29,7 +28,7 @@ impl Model for Pending {
 }
 
 impl Pending {
-    /// No byte waits.
+    // No byte waits.
     #[inline]
     pub(crate) fn new() -> Pending
         ensures { result ≡ [] }
@@ -40,7 +39,7 @@ impl Pending {
         }
     }
 
-    /// How many bytes wait.
+    // How many bytes wait.
     #[inline(always)]
     pub(crate) fn len(&self) -> usize
         ensures { result ≡ length self.now }
@@ -48,7 +47,7 @@ impl Pending {
         self.used
     }
 
-    /// Forgets all but the first bytes.
+    // Forgets all but the first bytes.
     #[inline]
     pub(crate) fn truncate(&mut self, len: usize)
         ensures { self.new ≡ take len self.old }
@@ -58,9 +57,9 @@ impl Pending {
         }
     }
 
-    /// Writes the bytes that wait. None of them waits then.
-    ///
-    /// The only error is the kind with which a write failed. The sink then holds what it held before, and a beginning of them.
+    // Writes the bytes that wait. None of them waits then.
+    //
+    // The only error is the kind with which a write failed. The sink then holds what it held before, and a beginning of them.
     #[inline]
     pub(crate) fn flush<K: ByteSink>(&mut self, sink: &mut K) -> Result<(), io::ErrorKind>
         ensures writes { Writes K.is_known K.held K.failures sink.old sink.new result self.old }
@@ -77,10 +76,10 @@ impl ByteSink for Pending {
 
     ghost held = { λ waiting. waiting };
 
-    // as many as are counted, so that no failure has to be kept
+    // The number is the largest that is counted, so that no failure has to be kept.
     ghost failures = { λ _. record { number = 2 ^ 64 - 1; last = Some OutOfMemory } };
 
-    /// Appends all of `buf`. Errors: `OutOfMemory` where there is no room for it, and then none of it is appended.
+    // Appends all of `buf`. Errors: `OutOfMemory` where there is no room for it, and then none of it is appended.
     #[inline(always)]
     fn write(&mut self, buf: &[u8]) -> Result<usize, io::ErrorKind> {
         if buf.len() > ROOM - self.used {
