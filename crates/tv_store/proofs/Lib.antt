@@ -15,3 +15,4 @@ pub mod NestedSteps
 pub mod WithinDepth
 pub mod WithinLimits
 mod ChosenReads
+mod Gathering
