@@ -50,7 +50,7 @@ abbrev pub Up : List ℕ → Type 0
 Up [] = Unit {0}
 Up (x ∷ xs) = AllByRecursion (λ y. x < y) xs × Up xs
 
-pub all_push : {A : Type 0} (P : A → Type 0) (xs : List A) (x : A) → AllByRecursion P xs → P x → AllByRecursion P (xs ++ x ∷ [])
+all_push : {A : Type 0} (P : A → Type 0) (xs : List A) (x : A) → AllByRecursion P xs → P x → AllByRecursion P (xs ++ x ∷ [])
 all_push P [] x a h = (h, tt)
 all_push P (y ∷ xs) x a h = (a.0, all_push P xs x a.1 h)
 

@@ -13,7 +13,6 @@ use Rattle.std.proofs.lemmas.List.Elements.{filter-append}
 use Rattle.tv_value.specs.declared.field.Field.{Field}
 use Rattle.tv_format.specs.Tree.{Tree, Document}
 use Rattle.tv_doc.specs.FieldValues.{pair_seen, values_of}
-use Rattle.tv_doc.specs.Grouped.{IsGrouped}
 use Rattle.tv_doc.specs.Named.{Named, IsNamed, by_name, put_under}
 use Rattle.tv_doc.proofs.Grouping.{Up, all_more, up_increasing, append_filled, nil_or, group_of}
 
