@@ -36,10 +36,15 @@ use types.Kit.{later, some, await, pick, feq_i}
 use types.Run.{blocks}
 use Rattle.std.specs.Prelude.{Bool, true, false, ◌&&◌}
 use Rattle.std.proofs.Common.{subst}
+use Rattle.std.proofs.GlobalToken.{dealloc_token-Testable}
+use base.Logic.{guard_i}
+use contract.Monad.{fact_use}
+use mir.Syntax.{Ty}
+use types.Kit.{given, learn}
 use lib.Dec.{T}
 use denote.Memory.{lone}
 use denote.RawPtr.{in_a_block, lies_at}
-use types.Kit.{fsplit, fjoin, flt_l, rewrite}
+use types.Kit.{fsplit, fjoin, rewrite}
 use Rattle.std.proofs.raw_atomic.Walks.{proved}
 use Rattle.std.specs.Global.{Global}
 use Rattle.std.specs.Prelude.{List, Option, None, Some}
@@ -183,6 +188,9 @@ module _ {M : Type 1} (𝓤 : Ura M) (𝓛 : Logic 𝓤) (𝓜 : Model 𝓤 𝓛
       suffices ! _ (ends_at 𝓛 f.ended stayed Γ (bound at (Some entries) alloc) (some_val v) (Some x) (tt, (tt, tt)) (tt, (tt, tt))) $ says ! (ap Some value_is) $
       nothing ! $ nothing ! $ join ! $ nothing ! $ join ! $ nothing ! $ done !))))))))
 
+  abbrev τ : Ty
+  τ = raw_type (lone schema_row.mir)
+
   taken : (at : Ptr) (entries : Option (List Entry)) (alloc : Global)
       → ent 𝓤 (⋆ 𝓛 (‵ (keeps schema_row at entries) ∷ ‵ (global_row.own_val alloc (heap_vals alloc)) ∷ [])) (Ends at entries alloc)
   taken at None alloc =
@@ -190,8 +198,11 @@ module _ {M : Type 1} (𝓤 : Ura M) (𝓛 : Logic 𝓤) (𝓜 : Model 𝓤 𝓛
       feq_l ! (λ e. drop ! $ regoal ! (λ (p : Ptr). prop (Ends p None alloc)) e refl $ by ! (closed_walk alloc))
   taken at (Some entries) alloc =
       qed 𝓛 (‵ (keeps schema_row at (Some entries)) ∷ ‵ (global_row.own_val alloc (heap_vals alloc)) ∷ []) ∵
-      fsplit ! $ flt_l ! (λ testable. fsplit ! $ in_a_block ! at (λ p. lies_at schema_row full_share p entries) (id⊢ 𝓤 _) (λ b o e.
-      rewrite ! 1 (λ (p : Ptr). ‵ (chunk (raw_type (lone schema_row.mir)) p)) e refl $ fjoin ! $
+      fsplit ! $ move ! (1 ∷ []) $
+      -- [the right to free the block; the schema; the allocator]
+      use1 𝓛 (given (Testable at) (‵ (chunk τ at))) (fact_use 𝓤 (Testable at) (dealloc_token-Testable 𝓛 alloc τ at) (guard_i 𝓤 (Testable at) _)) $
+      learn ! (λ testable. move ! (1 ∷ []) $ in_a_block ! at (λ p. lies_at schema_row full_share p entries) (id⊢ 𝓤 _) (λ b o e.
+      rewrite ! 1 (λ (p : Ptr). ‵ (chunk τ p)) e refl $ fjoin ! $
       regoal ! (λ (p : Ptr). prop (Ends p (Some entries) alloc)) e refl $ by ! (open_walk b o entries alloc (subst Testable e testable))))
 
 pub into_box_spec : {M : Type 1} → statement M

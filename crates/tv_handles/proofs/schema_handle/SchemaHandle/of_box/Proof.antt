@@ -1,5 +1,5 @@
 -- The box is made a pointer, which is stored with the right to free its block.
-use Rattle.std.proofs.Common.{◌^◌, [], ◌∷◌, refl, ap}
+use Rattle.std.proofs.Common.{[], ◌∷◌, refl, ap}
 use Rattle.std.proofs.raw_atomic.Walks.{proved}
 use Rattle.std.proofs.alloc.Global.TheLaws as global_laws
 use Rattle.std.proofs.boxed.Box.TheLaws as box_laws
@@ -23,16 +23,13 @@ use Rattle.tv_schema.proofs.schema.Schema.TheLaws as schema_laws
 use Rattle.tv_schema.specs.contracts.schema.Schema.{the_row as schema_row}
 use base.Fraction.{full_share}
 use Rattle.libc.specs.Heap.{chunk}
-use Rattle.std.proofs.GlobalToken.{dealloc_token-Testable}
 use Rattle.std.specs.Box.Ownership.{box_owns}
 use base.Fml.{ftrue, flft}
 use base.Logic.{emp, id⊢}
 use contract.BorrowLft.{◌⊑◌, ⊑_static}
 use contract.Monad.{fact, fact_i}
 use denote.Memory.{lone}
-use denote.RawPtr.{RawPtr, Testable, count_of, rawptr_Lawful}
-use base.Logic.{guard_i}
-use contract.Monad.{fact_use}
+use denote.RawPtr.{RawPtr, rawptr_Lawful}
 use Rattle.tv_handles.proofs.MadeSchema.{handle_val, handle_vals, handle_typed, made}
 use Rattle.tv_handles.specs.contracts.schema_handle.SchemaHandle.{the_row}
 use types.Part.{agg}
@@ -66,7 +63,7 @@ use prog.Model.{Model}
 use prog.Wired.{Wired}
 use seplogic.Ra.Ura.{Ura}
 use types.ByLocal.{alloc_all, pass_all, free_all, look_at, get, sets, lands_as}
-use types.Kit.{‵, raw, ◌⊛◌, later, some, given, learn, await, pick, fsplit, fjoin, feq_l, flt_i, ◌$◌, ◌∵◌, !, qed, done, drop, keep, move, use0, use1, split, join, suffices}
+use types.Kit.{‵, raw, ◌⊛◌, later, some, await, pick, feq_l, ◌$◌, ◌∵◌, !, qed, done, drop, keep, move, use0, use1, split, join, suffices}
 use types.Logic.{Logic}
 use types.Run.{enter, of_opd, no_more, and_then, returns}
 
@@ -154,10 +151,7 @@ of_box_spec 𝓤 𝓛 𝓜 𝓡 wired =
     lands_as ! (ap only is_p) refl ((rawptr_Lawful 𝓛).typed p _ refl).0 $
     sets ! (of_opd ! (get ! refl)) refl ((rawptr_Lawful 𝓛).typed p _ refl).0 $
     sets ! (agg ! (and_then ! (get ! refl) (no_more !))) refl (handle_typed p) $
-    returns ! (look_at ! 0 refl) $ free_all ! refl $ fsplit ! $ move ! (1 ∷ []) $
-    -- [the right to free the block; the schema]
-    use1 𝓛 (given (Testable p) (‵ (chunk τ p))) (fact_use 𝓤 (Testable p) (dealloc_token-Testable 𝓛 a.0.alloc τ p) (guard_i 𝓤 (Testable p) _)) $
-    learn ! (λ testable. move ! (1 ∷ []) $ fjoin ! $ flt_i ! (count_of p) (2 ^ 63) testable $ fjoin ! $
+    returns ! (look_at ! 0 refl) $ free_all ! refl $
     use1 𝓛 (‵ (the_row.own_val (record { at = p; entries = Some a.0.value }) (handle_vals p))) (made 𝓛 p (Some a.0.value)) $
     suffices ! _ (ends_at 𝓛 f.ended stayed c y (handle_val p) (record { at = p; entries = Some a.0.value }) (tt, tt) (tt, tt)) $ says ! refl $
-    nothing ! $ nothing ! $ join ! $ nothing ! $ done !)))))))
+    nothing ! $ nothing ! $ join ! $ nothing ! $ done !))))))
