@@ -32,7 +32,7 @@ use denote.Triple.Table.{framed}
 use mir.Raw.{raw as raw_type}
 use mir.Syntax.{Dict, impl, tnil, tcons, dnil}
 use types.ByLocal.{lands_last}
-use types.Kit.{later, some, await, pick, feq_i}
+use types.Kit.{fpick, later, some, await, pick, feq_i}
 use types.Run.{blocks}
 use Rattle.std.specs.Prelude.{Bool, true, false, ◌&&◌}
 use Rattle.std.proofs.Common.{subst}
@@ -59,7 +59,6 @@ use Rattle.tv_handles.specs.Kept.{keeps}
 use Rattle.tv_handles.specs.contracts.schema_handle.SchemaHandle.{the_row}
 use Rattle.tv_handles.specs.contracts.schema_handle.SchemaHandle.into_box as f
 use Rattle.tv_schema.specs.contracts.schema.Schema.{the_row as schema_row}
-use Rattle.libc.specs.Heap.{chunk}
 use Rattle.std.specs.Box.Ownership.{box_owns}
 use Rattle.std.specs.contracts.boxed.Box.{the_row as box_row}
 use Rattle.std.specs.contracts.impls.GlobalAllocator.TheImpl.{ghosts, dict}
@@ -142,7 +141,7 @@ module _ {M : Type 1} (𝓤 : Ura M) (𝓛 : Logic 𝓤) (𝓜 : Model 𝓤 𝓛
       (λ no. absurd no))
 
   open_walk : (b o : ℕ) (entries : List Entry) (alloc : Global) → Testable (block_ptr b o)
-      → ent 𝓤 (⋆ 𝓛 (‵ (box_owns chunk schema_row (block_ptr b o) entries) ∷ ‵ (global_row.own_val alloc (heap_vals alloc)) ∷ [])) (Ends (block_ptr b o) (Some entries) alloc)
+      → ent 𝓤 (⋆ 𝓛 (‵ (box_owns (ghosts.dealloc_token alloc) schema_row (block_ptr b o) entries) ∷ ‵ (global_row.own_val alloc (heap_vals alloc)) ∷ [])) (Ends (block_ptr b o) (Some entries) alloc)
   unfolding none_code.code
   open_walk b o entries alloc testable =
       let at = block_ptr b o in
@@ -155,7 +154,7 @@ module _ {M : Type 1} (𝓤 : Ura M) (𝓛 : Logic 𝓤) (𝓜 : Model 𝓤 𝓛
       (code.calls-std_heap::GlobalAllocator::grow 𝓡.env wired) (code.calls-std_heap::GlobalAllocator::shrink 𝓡.env wired) _ 𝓤 𝓛 𝓜 𝓡)
       (glues "tv_handles::Destruct++none::drop" 𝓡.env (code.calls-tv_handles::Destruct++none::drop 𝓡.env wired) Heap heap_laws _ 𝓤 𝓛 𝓜 𝓡) in
       let z : G.Ghost = ((([], ([], tt)), (full_share, (full_share, tt)), tt, (alloc, (at, tt)), (heap_vals alloc, (rawptr_vals at, tt))), entries) in
-      qed 𝓛 (‵ (box_owns chunk schema_row at entries) ∷ ‵ (global_row.own_val alloc (heap_vals alloc)) ∷ []) ∵
+      qed 𝓛 (‵ (box_owns (ghosts.dealloc_token alloc) schema_row at entries) ∷ ‵ (global_row.own_val alloc (heap_vals alloc)) ∷ []) ∵
       enter ! _ _ _ _ _ $ alloc_all ! (λ l. pass_all ! refl (handle_typed at, ((tt, ((tt, tt), tt)), tt)) $
       sets ! (of_opd ! (get_in ! (fld ! refl (stop !)) (sub ! 0 refl (whole !)))) refl (tt, tt) $
       sets ! (of_opd ! (get ! refl)) refl (tt, tt) $
@@ -198,12 +197,12 @@ module _ {M : Type 1} (𝓤 : Ura M) (𝓛 : Logic 𝓤) (𝓜 : Model 𝓤 𝓛
       feq_l ! (λ e. drop ! $ regoal ! (λ (p : Ptr). prop (Ends p None alloc)) e refl $ by ! (closed_walk alloc))
   taken at (Some entries) alloc =
       qed 𝓛 (‵ (keeps schema_row at (Some entries)) ∷ ‵ (global_row.own_val alloc (heap_vals alloc)) ∷ []) ∵
-      fsplit ! $ move ! (1 ∷ []) $
+      fpick ! (λ heap. use1 𝓛 (‵ (box_owns (ghosts.dealloc_token alloc) schema_row at entries)) (id⊢ 𝓤 _) $ fsplit ! $ move ! (1 ∷ []) $
       -- [the right to free the block; the schema; the allocator]
-      use1 𝓛 (given (Testable at) (‵ (chunk τ at))) (fact_use 𝓤 (Testable at) (dealloc_token-Testable 𝓛 alloc τ at) (guard_i 𝓤 (Testable at) _)) $
+      use1 𝓛 (given (Testable at) (‵ (ghosts.dealloc_token alloc τ at))) (fact_use 𝓤 (Testable at) (dealloc_token-Testable 𝓛 alloc τ at) (guard_i 𝓤 (Testable at) _)) $
       learn ! (λ testable. move ! (1 ∷ []) $ in_a_block ! at (λ p. lies_at schema_row full_share p entries) (id⊢ 𝓤 _) (λ b o e.
-      rewrite ! 1 (λ (p : Ptr). ‵ (chunk τ p)) e refl $ fjoin ! $
-      regoal ! (λ (p : Ptr). prop (Ends p (Some entries) alloc)) e refl $ by ! (open_walk b o entries alloc (subst Testable e testable))))
+      rewrite ! 1 (λ (p : Ptr). ‵ (ghosts.dealloc_token alloc τ p)) e refl $ fjoin ! $
+      regoal ! (λ (p : Ptr). prop (Ends p (Some entries) alloc)) e refl $ by ! (open_walk b o entries alloc (subst Testable e testable)))))
 
 pub into_box_spec : {M : Type 1} → statement M
 into_box_spec 𝓤 𝓛 𝓜 𝓡 wired =

@@ -22,7 +22,6 @@ use Rattle.tv_handles.specs.contracts.schema_handle.SchemaHandle.of_box as f
 use Rattle.tv_schema.proofs.schema.Schema.TheLaws as schema_laws
 use Rattle.tv_schema.specs.contracts.schema.Schema.{the_row as schema_row}
 use base.Fraction.{full_share}
-use Rattle.libc.specs.Heap.{chunk}
 use Rattle.std.specs.Box.Ownership.{box_owns}
 use base.Fml.{ftrue, flft}
 use base.Logic.{emp, id⊢}
@@ -63,7 +62,8 @@ use prog.Model.{Model}
 use prog.Wired.{Wired}
 use seplogic.Ra.Ura.{Ura}
 use types.ByLocal.{alloc_all, pass_all, free_all, look_at, get, sets, lands_as}
-use types.Kit.{‵, raw, ◌⊛◌, later, some, await, pick, feq_l, ◌$◌, ◌∵◌, !, qed, done, drop, keep, move, use0, use1, split, join, suffices}
+use Rattle.std.specs.Global.{Global}
+use types.Kit.{fpack, ‵, raw, ◌⊛◌, later, some, await, pick, feq_l, ◌$◌, ◌∵◌, !, qed, done, drop, keep, move, use0, use1, split, join, suffices}
 use types.Logic.{Logic}
 use types.Run.{enter, of_opd, no_more, and_then, returns}
 
@@ -146,12 +146,13 @@ of_box_spec 𝓤 𝓛 𝓜 𝓡 wired =
     use1 𝓛 (raw (G.pre z)) (id⊢ 𝓤 _) $
     calls_at ! (framed 𝓤 𝓛.H 𝓜 (tables 𝓤 𝓛.H 𝓜 𝓡 𝓡.env)) G met_here z (and_then ! (get ! refl) (no_more !)) (λ v.
     use1 𝓛 (later (some (λ (p : Ptr). ((‵ (flft [] full_share) ⊛ ‵ (flft [] full_share) ⊛ ‵ ftrue) ⊛ ‵ (RawPtr.own_val p (v ∷ []))) ⊛
-    some (λ (ws : (Unit {0} × (Unit {0} × Unit {0})) × Unit {0}). ‵ (lasts E z.0.0 z.0.3 ws) ⊛ ‵ (box_owns chunk schema_row p a.0.value))))) (id⊢ 𝓤 _) $
+    some (λ (ws : (Unit {0} × (Unit {0} × Unit {0})) × Unit {0}). ‵ (lasts E z.0.0 z.0.3 ws) ⊛ ‵ (box_owns (ghosts.dealloc_token a.0.alloc) schema_row p a.0.value))))) (id⊢ 𝓤 _) $
     await ! tt $ pick ! (λ p. split ! $ split ! $ drop ! $ feq_l ! (λ is_p. pick ! (λ ws. split ! $ drop ! $
     lands_as ! (ap only is_p) refl ((rawptr_Lawful 𝓛).typed p _ refl).0 $
     sets ! (of_opd ! (get ! refl)) refl ((rawptr_Lawful 𝓛).typed p _ refl).0 $
     sets ! (agg ! (and_then ! (get ! refl) (no_more !))) refl (handle_typed p) $
     returns ! (look_at ! 0 refl) $ free_all ! refl $
+    fpack ! Global (λ heap. box_owns (ghosts.dealloc_token heap) schema_row p a.0.value) a.0.alloc $
     use1 𝓛 (‵ (the_row.own_val (record { at = p; entries = Some a.0.value }) (handle_vals p))) (made 𝓛 p (Some a.0.value)) $
     suffices ! _ (ends_at 𝓛 f.ended stayed c y (handle_val p) (record { at = p; entries = Some a.0.value }) (tt, tt) (tt, tt)) $ says ! refl $
     nothing ! $ nothing ! $ join ! $ nothing ! $ done !))))))
