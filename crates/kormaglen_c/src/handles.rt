@@ -62,6 +62,14 @@ pub extern "C" fn kormaglen_schema_close(alloc: Global, handle: &mut SchemaHandl
     handle.close(alloc);
 }
 
+// Finds the field that a path names by a schema, and puts it into `found`.
+fn find(schema: &Schema, path: &[u8], found: &mut FoundField) -> Answer
+    ensures { AnswersFound (FindsBy schema.now path.now) (IsUnfound schema.now path.now) found.new
+        result }
+{
+    found_answer(tv_blocks::find_field_by(schema, path), found)
+}
+
 /// Finds the field that a path names, see `tv_blocks::find_field_by`, and puts it into `found`: 0 and 0 where there is none.
 #[unsafe(no_mangle)]
 pub extern "C" fn kormaglen_schema_find_field(
@@ -77,7 +85,7 @@ pub extern "C" fn kormaglen_schema_find_field(
 {
     match handle.take(alloc) {
         Some(schema) => {
-            let answer = found_answer(tv_blocks::find_field_by(&schema, path), found);
+            let answer = find(&schema, path, found);
             handle.keep(alloc, schema);
             answer
         }
