@@ -1,7 +1,8 @@
 /* Kormaglen for C: schemas, stored documents and facets of tantivy 0.26.2, as calls over blocks of bytes.
  *
- * Each call is given its input as bytes and writes into buffers of the caller's. It keeps nothing, neither of the input nor from one
- * call to the next, so all calls are safe from any thread. What it needs meanwhile it takes by malloc, and gives back before it returns.
+ * Each call is given its input as bytes and writes into buffers of the caller's. It keeps nothing of the input, and nothing from one call
+ * to the next but what a handle holds. What it needs meanwhile it takes by malloc, and gives back before it returns. A call without a
+ * handle is safe from any thread.
  *
  * Who owns what: every buffer is the caller's. A pointer is never NULL, also where its length is 0, and two buffers of one call do not
  * overlap, unless both are only read.
@@ -9,7 +10,11 @@
  * Where a buffer is too small, nothing is written, and the answer says how many bytes are needed. So a call with a buffer of length 0 only
  * asks for the size. After every other refusal the buffers are as they were, too.
  *
- * A block has documents one behind the other, as a block of a document store has them. A schema is its JSON, as tantivy writes it.
+ * A block has documents one behind the other, as a block of a document store has them. A schema is its JSON, as tantivy writes it, or a
+ * handle that holds one, so that its JSON is read once.
+ *
+ * A handle is the caller's struct, and what it holds is the library's. One that is all zeros is closed. Whoever opens it closes it, and
+ * it is used by one call at a time, on the thread that opened it. It may be moved, but a copy of it is never used beside it, nor after it was closed.
  */
 #ifndef KORMAGLEN_H
 #define KORMAGLEN_H
@@ -33,7 +38,8 @@ enum kormaglen_status {
     KORMAGLEN_NO_FIELD = 7,      /* the path names no field */
     KORMAGLEN_BAD_DOCUMENT = 8,  /* a document is refused; detail says why, place is where in the block it begins */
     KORMAGLEN_WRONG_VERSION = 9, /* there is no such version of the store */
-    KORMAGLEN_NO_END = 10        /* no byte string is above all that begin with the prefix */
+    KORMAGLEN_NO_END = 10,       /* no byte string is above all that begin with the prefix */
+    KORMAGLEN_CLOSED = 15        /* the handle holds no schema */
 };
 
 /* With KORMAGLEN_BAD_SCHEMA: kormaglen_answer.detail. */
@@ -92,6 +98,11 @@ typedef struct kormaglen_found_field {
     uint32_t field; /* the field's number */
     uint64_t rest;  /* where the rest of the path begins: the path into the field's JSON objects */
 } kormaglen_found_field;
+
+/* A schema that was read once, or none. The caller neither reads nor writes what is in it. */
+typedef struct kormaglen_schema {
+    void *at;
+} kormaglen_schema;
 
 /* Stores the documents of lines of JSON, one behind the other in version 2, and answers each line. A line ends at a line feed, and the last
  * may lack it. A line that is refused stores nothing, and the next line follows. bytes is the block's size, lines the number of answers.
@@ -161,6 +172,38 @@ kormaglen_answer kormaglen_term_of_text(
 kormaglen_answer kormaglen_end_of_prefix(
     const uint8_t *prefix, size_t prefix_len,
     uint8_t *end, size_t end_len);
+
+/* Reads a schema's JSON, and has the handle hold the schema. What it held before is given up, and after a refusal it is closed. bytes is 0.
+ * Refusals: NO_MEMORY, INVALID_JSON, BAD_SCHEMA. */
+kormaglen_answer kormaglen_schema_open(
+    const uint8_t *json, size_t json_len,
+    kormaglen_schema *schema);
+
+/* Gives up the schema. A handle that is closed stays closed. */
+void kormaglen_schema_close(kormaglen_schema *schema);
+
+/* As kormaglen_import_lines, by the handle's schema.
+ * Refusals: TOO_SMALL, NO_MEMORY, CLOSED. */
+kormaglen_answer kormaglen_schema_import_lines(
+    kormaglen_schema *schema,
+    const uint8_t *lines, size_t lines_len,
+    uint8_t *block, size_t block_len,
+    kormaglen_line_answer *answers, size_t answers_len);
+
+/* As kormaglen_export_block, by the handle's schema.
+ * Refusals: TOO_SMALL, NO_MEMORY, BAD_DOCUMENT, WRONG_VERSION, CLOSED. */
+kormaglen_answer kormaglen_schema_export_block(
+    kormaglen_schema *schema,
+    uint32_t version,
+    const uint8_t *block, size_t block_len,
+    uint8_t *lines, size_t lines_len);
+
+/* As kormaglen_find_field, by the handle's schema.
+ * Refusals: NOT_UTF8, NO_FIELD, CLOSED. */
+kormaglen_answer kormaglen_schema_find_field(
+    kormaglen_schema *schema,
+    const uint8_t *path, size_t path_len,
+    kormaglen_found_field *found);
 
 #ifdef __cplusplus
 }

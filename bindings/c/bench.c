@@ -1,5 +1,6 @@
 /* Prints how many nanoseconds a document takes in each call: the first argument is a file with a schema's JSON on its first line and a
- * document's on each other line, the second how often each call is made. The best of these counts. */
+ * document's on each other line, the second how often each call is made. The best of these counts. The last two lines are a call with the
+ * first document alone: with the schema's JSON, and with a handle. */
 #include "kormaglen.h"
 
 #include <stdio.h>
@@ -27,6 +28,31 @@ static double now(void) {
     return (double)time.tv_sec * 1e9 + (double)time.tv_nsec;
 }
 
+static double smaller(double a, double b) {
+    return a < b ? a : b;
+}
+
+/* Imports one document, by the schema's JSON and by a handle. Returns whether both were accepted. */
+static int import_one(const uint8_t *schema, size_t schema_len, const uint8_t *line, size_t line_len, long rounds, double best[2]) {
+    kormaglen_schema handle = {0};
+    kormaglen_line_answer answer[1];
+    uint8_t *block = malloc(2 * line_len + 1024);
+    int fine = block != NULL && kormaglen_schema_open(schema, schema_len, &handle).status == KORMAGLEN_OK;
+    for (long round = 0; fine && round < rounds; round++) {
+        double start = now();
+        kormaglen_answer by_json = kormaglen_import_lines(schema, schema_len, line, line_len, block, 2 * line_len + 1024, answer, 1);
+        double middle = now();
+        kormaglen_answer by_handle = kormaglen_schema_import_lines(&handle, line, line_len, block, 2 * line_len + 1024, answer, 1);
+        double end = now();
+        best[0] = smaller(best[0], middle - start);
+        best[1] = smaller(best[1], end - middle);
+        fine = by_json.status == KORMAGLEN_OK && by_handle.status == KORMAGLEN_OK;
+    }
+    kormaglen_schema_close(&handle);
+    free(block);
+    return fine;
+}
+
 int main(int count, char **words) {
     size_t len = 0;
     uint8_t *input = count < 3 ? NULL : read_file(words[1], &len);
@@ -42,14 +68,14 @@ int main(int count, char **words) {
     kormaglen_answer size = kormaglen_import_lines(input, schema_len, lines, lines_len, none, 0, no_answer, 0);
     uint8_t *block = malloc(size.bytes + 1), *migrated = malloc(size.bytes + 1);
     kormaglen_line_answer *answers = malloc((size.lines + 1) * sizeof *answers);
-    double best[3] = {1e18, 1e18, 1e18};
+    double best[3] = {1e18, 1e18, 1e18}, one[2] = {1e18, 1e18};
     kormaglen_answer text = {0}, later = {0};
     uint8_t *printed = NULL;
     for (long round = atol(words[2]); round > 0; round--) {
         double start = now();
         kormaglen_import_lines(input, schema_len, lines, lines_len, block, size.bytes, answers, size.lines);
         double took = now() - start;
-        best[0] = took < best[0] ? took : best[0];
+        best[0] = smaller(best[0], took);
         if (printed == NULL) {
             text = kormaglen_export_block(input, schema_len, 2, block, size.bytes, none, 0);
             printed = malloc(text.bytes + 1);
@@ -57,13 +83,16 @@ int main(int count, char **words) {
         start = now();
         text = kormaglen_export_block(input, schema_len, 2, block, size.bytes, printed, text.bytes);
         took = now() - start;
-        best[1] = took < best[1] ? took : best[1];
+        best[1] = smaller(best[1], took);
         start = now();
         later = kormaglen_migrate_block(2, block, size.bytes, 3, migrated, size.bytes);
         took = now() - start;
-        best[2] = took < best[2] ? took : best[2];
+        best[2] = smaller(best[2], took);
     }
-    if (text.status != KORMAGLEN_OK || later.status != KORMAGLEN_OK) {
+    const uint8_t *first = memchr(lines, '\n', lines_len);
+    size_t first_len = first == NULL ? lines_len : (size_t)(first - lines);
+    if (text.status != KORMAGLEN_OK || later.status != KORMAGLEN_OK ||
+        !import_one(input, schema_len, lines, first_len, 100 * atol(words[2]), one)) {
         fputs("a call was refused\n", stderr);
         return 1;
     }
@@ -73,6 +102,8 @@ int main(int count, char **words) {
     for (int i = 0; i < 3; i++) {
         printf("%-14s %8.0f\n", NAMES[i], best[i] / (double)size.lines);
     }
+    printf("one document   %8.0f\n", one[0]);
+    printf("by a handle    %8.0f\n", one[1]);
     free(block);
     free(migrated);
     free(answers);

@@ -136,10 +136,16 @@ int main(void) {
     printf("version 2 takes %llu bytes, version 3 %llu\n", (unsigned long long)stored.bytes,
            (unsigned long long)moved.bytes);
 
-    kormaglen_found_field found;
-    const char path[] = "more.tags";
-    expect_ok("find", kormaglen_find_field(schema, schema_len, bytes_of(path), strlen(path), &found));
-    printf("field %u, path %s\n", (unsigned)found.field, path + found.rest);
+    /* A handle reads the schema once. */
+    kormaglen_schema handle = {0};
+    expect_ok("open", kormaglen_schema_open(schema, schema_len, &handle));
+    const char *const paths[] = {"more.tags", "age"};
+    for (size_t i = 0; i < sizeof paths / sizeof *paths; i++) {
+        kormaglen_found_field found;
+        expect_ok("find", kormaglen_schema_find_field(&handle, bytes_of(paths[i]), strlen(paths[i]), &found));
+        printf("field %u, path '%s'\n", (unsigned)found.field, paths[i] + found.rest);
+    }
+    kormaglen_schema_close(&handle);
 
     uint8_t facet[64];
     const char text[] = "/staff/research";

@@ -28,7 +28,7 @@ static const char *const LINES[] = {
 };
 
 static uint64_t state = 0x9E3779B97F4A7C15u;
-enum { CALLS = 9 };
+enum { CALLS = 13 };
 
 static uint64_t calls[CALLS];
 static uint64_t accepted[CALLS];
@@ -94,7 +94,7 @@ static size_t changed(uint8_t *bytes, size_t len) {
 /* What was written stands within the buffer, and after a refusal the buffer is as it was. */
 static void check(int call, kormaglen_answer answer, const uint8_t *buffer, size_t len) {
     calls[call] += 1;
-    if (answer.status > KORMAGLEN_NO_END) {
+    if (answer.status > KORMAGLEN_NO_END && answer.status != KORMAGLEN_CLOSED) {
         fail("an unknown status");
     }
     size_t from = 0;
@@ -253,6 +253,78 @@ static void term_once(int call) {
     free(out);
 }
 
+static void expect_closed(const kormaglen_schema *handle, kormaglen_answer answer) {
+    if ((answer.status == KORMAGLEN_CLOSED) != (handle->at == NULL)) {
+        fail("a closed handle was used, or an open one refused");
+    }
+}
+
+/* Opens a handle, also one that is open, and makes each call by it, whether or not it was opened. */
+static void handle_once(void) {
+    static kormaglen_schema handle;
+    uint8_t json[2 * LARGEST + 1024], none[1] = {KEPT};
+    size_t len = strlen(SCHEMA);
+    memcpy(json, SCHEMA, len);
+    if (below(4) == 0) {
+        len = below(4) == 0 ? random_bytes(json) : changed(json, len);
+    }
+    uint8_t *j = copy_of(json, len);
+    kormaglen_answer opened = kormaglen_schema_open(j, len, &handle);
+    free(j);
+    check(9, opened, none, 1);
+    if ((opened.status == KORMAGLEN_OK) != (handle.at != NULL)) {
+        fail("the answer is not what became of the handle");
+    }
+    if (below(8) == 0) {
+        kormaglen_schema_close(&handle);
+    }
+
+    uint8_t text[2 * LARGEST];
+    const char *line = LINES[below(sizeof LINES / sizeof *LINES)];
+    size_t text_len = strlen(line);
+    memcpy(text, line, text_len);
+    text_len = below(4) == 0 ? random_bytes(text) : changed(text, text_len);
+    size_t room = below(128);
+    uint8_t *t = copy_of(text, text_len), *stored = fresh(room);
+    kormaglen_line_answer answers[4];
+    kormaglen_answer imported = kormaglen_schema_import_lines(&handle, t, text_len, stored, room, answers, 4);
+    if (imported.status != KORMAGLEN_TOO_SMALL) {
+        check(10, imported, stored, room);
+    }
+    expect_closed(&handle, imported);
+    free(t);
+    free(stored);
+
+    uint8_t block[2 * LARGEST];
+    size_t block_len = below(4) == 0 ? random_bytes(block) : changed(block, some_block(block));
+    size_t width = below(LARGEST);
+    uint8_t *b = copy_of(block, block_len), *lines = fresh(width);
+    kormaglen_answer printed = kormaglen_schema_export_block(&handle, (uint32_t)below(5), b, block_len, lines, width);
+    check(11, printed, lines, width);
+    expect_closed(&handle, printed);
+    free(b);
+    free(lines);
+
+    uint8_t path[LARGEST] = "j.a.b";
+    size_t path_len = below(3) == 0 ? random_bytes(path) : changed(path, 5);
+    uint8_t *p = copy_of(path, path_len);
+    kormaglen_found_field found;
+    kormaglen_answer answer = kormaglen_schema_find_field(&handle, p, path_len, &found);
+    check(12, answer, none, 1);
+    expect_closed(&handle, answer);
+    if (answer.status != KORMAGLEN_OK && (found.field != 0 || found.rest != 0)) {
+        fail("a field where none was found");
+    }
+    free(p);
+    if (below(2) == 0) {
+        kormaglen_schema_close(&handle);
+        kormaglen_schema_close(&handle);
+        if (handle.at != NULL) {
+            fail("a closed handle holds something");
+        }
+    }
+}
+
 int main(int count, char **words) {
     long seconds = count > 1 ? atol(words[1]) : 60;
     state ^= count > 2 ? strtoull(words[2], NULL, 10) : 0;
@@ -268,12 +340,14 @@ int main(int count, char **words) {
             terms_once();
             term_once(7);
             term_once(8);
+            handle_once();
         }
     }
     static const char *const NAMES[] = {"import_lines", "export_block", "migrate_block", "find_field", "facet_of_text", "text_of_facet",
-                                         "terms_of_block", "term_of_text", "end_of_prefix"};
+                                         "terms_of_block", "term_of_text", "end_of_prefix", "schema_open", "schema_import_lines",
+                                         "schema_export_block", "schema_find_field"};
     for (int i = 0; i < CALLS; i++) {
-        printf("%-14s %10llu calls, %10llu accepted\n", NAMES[i], (unsigned long long)calls[i], (unsigned long long)accepted[i]);
+        printf("%-19s %10llu calls, %10llu accepted\n", NAMES[i], (unsigned long long)calls[i], (unsigned long long)accepted[i]);
     }
     return 0;
 }

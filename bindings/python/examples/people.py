@@ -33,8 +33,10 @@ def main() -> None:
             print(f"document {document}: {term[5:].decode()}")
     migrated = kormaglen.migrate_block(2, imported.block, 3)
     print(f"version 2 takes {len(imported.block)} bytes, version 3 {len(migrated)}")
-    field, rest = kormaglen.find_field(SCHEMA, "more.tags")
-    print(f"field {field}, path {rest}")
+    with kormaglen.Schema(SCHEMA) as schema:
+        for path in ["more.tags", "age"]:
+            field, rest = schema.find_field(path)
+            print(f"field {field}, path '{rest}'")
     encoded = kormaglen.facet_of_text("/staff/research")
     print(f"{kormaglen.text_of_facet(encoded)} takes {len(encoded)} bytes")
 

@@ -10,12 +10,14 @@ b'{"name":["Ada"]}\\n'
 
 import ctypes
 import os
+import threading
 from typing import List, NamedTuple, Tuple
 
 __all__ = [
     "Imported",
     "LineAnswer",
     "Refused",
+    "Schema",
     "end_of_prefix",
     "export_block",
     "facet_of_text",
@@ -40,6 +42,7 @@ _REFUSALS = {
     8: "bad document",
     9: "wrong version",
     10: "no end",
+    15: "closed",
 }
 
 _LINES = ["stored", "invalid JSON", "overflow", "wrong type", "bad text", "bad base64", "float", "no room"]
@@ -87,11 +90,16 @@ class _FoundField(ctypes.Structure):
     _fields_ = [("field", ctypes.c_uint32), ("rest", ctypes.c_uint64)]
 
 
+class _Handle(ctypes.Structure):
+    _fields_ = [("at", ctypes.c_void_p)]
+
+
 def _library() -> ctypes.CDLL:
     beside = os.path.join(os.path.dirname(os.path.abspath(__file__)), "libkormaglen.so")
     library = ctypes.CDLL(os.environ.get("KORMAGLEN_SO", beside))
     given = [ctypes.c_char_p, ctypes.c_size_t]
     written = [ctypes.c_void_p, ctypes.c_size_t]
+    handle = ctypes.POINTER(_Handle)
     signatures = {
         "import_lines": given + given + written + written,
         "export_block": given + [ctypes.c_uint32] + given + written,
@@ -102,11 +110,17 @@ def _library() -> ctypes.CDLL:
         "terms_of_block": [ctypes.c_uint32, ctypes.c_uint32] + given + written,
         "term_of_text": [ctypes.c_uint32] + given + written,
         "end_of_prefix": given + written,
+        "schema_open": given + [handle],
+        "schema_import_lines": [handle] + given + written + written,
+        "schema_export_block": [handle, ctypes.c_uint32] + given + written,
+        "schema_find_field": [handle] + given + [ctypes.POINTER(_FoundField)],
     }
     for name, arguments in signatures.items():
         call = getattr(library, "kormaglen_" + name)
         call.argtypes = arguments
         call.restype = _Answer
+    library.kormaglen_schema_close.argtypes = [handle]
+    library.kormaglen_schema_close.restype = None
     return library
 
 
@@ -130,19 +144,34 @@ def _filled(first: int, call) -> bytes:
         size = answer.bytes
 
 
-def import_lines(schema: bytes, lines: bytes) -> Imported:
-    """Stores the documents of lines of JSON, one behind the other in version 2, and answers each line. The schema is its JSON."""
+def _imported(lines: bytes, call) -> Imported:
+    """Calls with buffers for a block and for the answers of lines, and again with larger ones where these were too small."""
     size, count = len(lines), lines.count(b"\n") + 1
     while True:
         block = ctypes.create_string_buffer(max(size, 1))
         answers = (_LineAnswer * max(count, 1))()
-        answer = _CALLS.kormaglen_import_lines(schema, len(schema), lines, len(lines), block, size, answers, count)
+        answer = call(lines, len(lines), block, size, answers, count)
         if answer.status == _OK:
             said = [LineAnswer(_LINES[a.status], a.bytes) for a in answers[: answer.lines]]
             return Imported(block.raw[: answer.bytes], said)
         if answer.status != _TOO_SMALL:
             raise _refused(answer)
         size, count = max(size, answer.bytes), max(count, answer.lines)
+
+
+def _found(path: str, call) -> Tuple[int, str]:
+    """What was found of a path, where something was."""
+    found = _FoundField()
+    encoded = path.encode()
+    answer = call(encoded, len(encoded), ctypes.byref(found))
+    if answer.status != _OK:
+        raise _refused(answer)
+    return found.field, encoded[found.rest :].decode()
+
+
+def import_lines(schema: bytes, lines: bytes) -> Imported:
+    """Stores the documents of lines of JSON, one behind the other in version 2, and answers each line. The schema is its JSON."""
+    return _imported(lines, lambda *given: _CALLS.kormaglen_import_lines(schema, len(schema), *given))
 
 
 def export_block(schema: bytes, version: int, block: bytes) -> bytes:
@@ -157,12 +186,7 @@ def migrate_block(source: int, block: bytes, target: int) -> bytes:
 
 def find_field(schema: bytes, path: str) -> Tuple[int, str]:
     """The number of the field that a path of a query names, and the rest of the path."""
-    found = _FoundField()
-    encoded = path.encode()
-    answer = _CALLS.kormaglen_find_field(schema, len(schema), encoded, len(encoded), ctypes.byref(found))
-    if answer.status != _OK:
-        raise _refused(answer)
-    return found.field, encoded[found.rest :].decode()
+    return _found(path, lambda *given: _CALLS.kormaglen_find_field(schema, len(schema), *given))
 
 
 def facet_of_text(text: str) -> bytes:
@@ -197,3 +221,55 @@ def term_of_text(field: int, text: str) -> bytes:
 def end_of_prefix(prefix: bytes) -> bytes:
     """The least byte string above all that begin with a prefix: the terms that begin with it are those from the prefix on and below this."""
     return _filled(len(prefix), lambda out, size: _CALLS.kormaglen_end_of_prefix(prefix, len(prefix), out, size))
+
+
+class Schema:
+    """A schema whose JSON is read once, for any number of calls. It is used on the thread that opened it alone.
+
+    >>> with Schema(b'[{"name":"age","type":"u64","options":{"indexed":true,"stored":true}}]') as schema:
+    ...     schema.find_field("age")
+    (0, '')
+    """
+
+    def __init__(self, json: bytes):
+        self._handle = _Handle()
+        self._thread = threading.get_ident()
+        answer = _CALLS.kormaglen_schema_open(json, len(json), ctypes.byref(self._handle))
+        if answer.status != _OK:
+            raise _refused(answer)
+
+    def _lent(self):
+        """The handle, for a call on the thread that opened it."""
+        if threading.get_ident() != self._thread:
+            raise RuntimeError("a schema is used on the thread that opened it alone")
+        return ctypes.byref(self._handle)
+
+    def import_lines(self, lines: bytes) -> Imported:
+        """As the function of this name, by this schema."""
+        handle = self._lent()
+        return _imported(lines, lambda *given: _CALLS.kormaglen_schema_import_lines(handle, *given))
+
+    def export_block(self, version: int, block: bytes) -> bytes:
+        """As the function of this name, by this schema."""
+        handle = self._lent()
+        return _filled(2 * len(block), lambda out, size: _CALLS.kormaglen_schema_export_block(handle, version, block, len(block), out, size))
+
+    def find_field(self, path: str) -> Tuple[int, str]:
+        """As the function of this name, by this schema."""
+        handle = self._lent()
+        return _found(path, lambda *given: _CALLS.kormaglen_schema_find_field(handle, *given))
+
+    def close(self) -> None:
+        """Gives up the schema: every later call is refused. To close it twice is fine."""
+        _CALLS.kormaglen_schema_close(self._lent())
+
+    def __enter__(self) -> "Schema":
+        return self
+
+    def __exit__(self, *_) -> None:
+        self.close()
+
+    def __del__(self) -> None:
+        # (on another thread the schema stays where it is)
+        if threading.get_ident() == self._thread:
+            self.close()

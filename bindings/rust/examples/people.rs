@@ -2,8 +2,7 @@
 //! field and a facet.
 
 use kormaglen::{
-    end_of_prefix, export_block, facet_of_text, find_field, import_lines, migrate_block, term_of_text, terms_of_block, text_of_facet,
-    Refusal,
+    end_of_prefix, export_block, facet_of_text, import_lines, migrate_block, term_of_text, terms_of_block, text_of_facet, Refusal, Schema,
 };
 
 const SCHEMA: &[u8] = br#"[{"name":"name","type":"text","options":{"stored":true}},
@@ -33,8 +32,11 @@ fn main() -> Result<(), Refusal> {
     }
     let migrated = migrate_block(2, &imported.block, 3)?;
     println!("version 2 takes {} bytes, version 3 {}", imported.block.len(), migrated.len());
-    let field = find_field(SCHEMA, "more.tags")?;
-    println!("field {}, path {}", field.number, field.rest);
+    let schema = Schema::open(SCHEMA)?;
+    for path in ["more.tags", "age"] {
+        let field = schema.find_field(path)?;
+        println!("field {}, path '{}'", field.number, field.rest);
+    }
     let encoded = facet_of_text("/staff/research")?;
     println!("{} takes {} bytes", text_of_facet(&encoded)?, encoded.len());
     Ok(())

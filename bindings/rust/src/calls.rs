@@ -1,6 +1,10 @@
 //! The calls of the library, each with slices. This is the one module with `unsafe` code: a slice's pointer is never null, and two that are
 //! lent to one call don't overlap where one of them is written.
 
+use std::cell::UnsafeCell;
+use std::ffi::c_void;
+use std::ptr::null_mut;
+
 /// What a call answers.
 #[repr(C)]
 #[derive(Clone, Copy, Debug)]
@@ -29,7 +33,7 @@ pub struct FoundField {
 }
 
 mod c {
-    use super::{Answer, FoundField, LineAnswer};
+    use super::{Answer, FoundField, Handle, LineAnswer};
 
     extern "C" {
         pub fn kormaglen_import_lines(
@@ -78,6 +82,26 @@ mod c {
         ) -> Answer;
         pub fn kormaglen_term_of_text(field: u32, text: *const u8, text_len: usize, term: *mut u8, term_len: usize) -> Answer;
         pub fn kormaglen_end_of_prefix(prefix: *const u8, prefix_len: usize, end: *mut u8, end_len: usize) -> Answer;
+        pub fn kormaglen_schema_open(json: *const u8, json_len: usize, schema: *mut Handle) -> Answer;
+        pub fn kormaglen_schema_close(schema: *mut Handle);
+        pub fn kormaglen_schema_import_lines(
+            schema: *mut Handle,
+            lines: *const u8,
+            lines_len: usize,
+            block: *mut u8,
+            block_len: usize,
+            answers: *mut LineAnswer,
+            answers_len: usize,
+        ) -> Answer;
+        pub fn kormaglen_schema_export_block(
+            schema: *mut Handle,
+            version: u32,
+            block: *const u8,
+            block_len: usize,
+            lines: *mut u8,
+            lines_len: usize,
+        ) -> Answer;
+        pub fn kormaglen_schema_find_field(schema: *mut Handle, path: *const u8, path_len: usize, found: *mut FoundField) -> Answer;
     }
 }
 
@@ -145,4 +169,67 @@ pub fn term_of_text(field: u32, text: &[u8], term: &mut [u8]) -> Answer {
 pub fn end_of_prefix(prefix: &[u8], end: &mut [u8]) -> Answer {
     // SAFETY: both are slices, and they don't overlap.
     unsafe { c::kormaglen_end_of_prefix(prefix.as_ptr(), prefix.len(), end.as_mut_ptr(), end.len()) }
+}
+
+/// A handle as the library has it. Null is a closed one.
+#[repr(C)]
+struct Handle {
+    at: *mut c_void,
+}
+
+/// A schema that the library holds. It is neither `Send` nor `Sync`, as it holds a pointer: so one call at a time is given the handle, on the
+/// thread that opened it.
+pub struct SchemaHandle {
+    handle: UnsafeCell<Handle>,
+}
+
+impl SchemaHandle {
+    /// A handle of the schema that a text of JSON describes, and what the call answered. After a refusal the handle is closed.
+    pub fn open(json: &[u8]) -> (SchemaHandle, Answer) {
+        let schema = SchemaHandle { handle: UnsafeCell::new(Handle { at: null_mut() }) };
+        // SAFETY: the slice is read, and the handle is closed and lent to this call alone.
+        let answer = unsafe { c::kormaglen_schema_open(json.as_ptr(), json.len(), schema.handle.get()) };
+        (schema, answer)
+    }
+
+    pub fn import_lines(&self, lines: &[u8], block: &mut [u8], answers: &mut [LineAnswer]) -> Answer {
+        // SAFETY: all three are slices, and those that are written overlap no other. The handle is lent to this call alone.
+        unsafe {
+            c::kormaglen_schema_import_lines(
+                self.handle.get(),
+                lines.as_ptr(),
+                lines.len(),
+                block.as_mut_ptr(),
+                block.len(),
+                answers.as_mut_ptr(),
+                answers.len(),
+            )
+        }
+    }
+
+    pub fn export_block(&self, version: u32, block: &[u8], lines: &mut [u8]) -> Answer {
+        // SAFETY: both are slices, and they don't overlap. The handle is lent to this call alone.
+        unsafe {
+            c::kormaglen_schema_export_block(
+                self.handle.get(),
+                version,
+                block.as_ptr(),
+                block.len(),
+                lines.as_mut_ptr(),
+                lines.len(),
+            )
+        }
+    }
+
+    pub fn find_field(&self, path: &[u8], found: &mut FoundField) -> Answer {
+        // SAFETY: the slice is read, and `found` is written. The handle is lent to this call alone.
+        unsafe { c::kormaglen_schema_find_field(self.handle.get(), path.as_ptr(), path.len(), found) }
+    }
+}
+
+impl Drop for SchemaHandle {
+    fn drop(&mut self) {
+        // SAFETY: the handle is this value's own, and nothing uses it afterwards.
+        unsafe { c::kormaglen_schema_close(self.handle.get()) }
+    }
 }

@@ -6,10 +6,12 @@
 //! assert_eq!(kormaglen::export_block(schema, 2, &imported.block)?, b"{\"name\":[\"Ada\"]}\n");
 //! # Ok::<(), kormaglen::Refusal>(())
 //! ```
+//!
+//! A [`Schema`] reads the schema's JSON once, for many calls.
 
 mod calls;
 
-use calls::{Answer, FoundField, LineAnswer};
+use calls::{Answer, FoundField, LineAnswer, SchemaHandle};
 use std::error::Error;
 use std::fmt;
 
@@ -159,13 +161,12 @@ fn filled(first: usize, mut call: impl FnMut(&mut [u8]) -> Answer) -> Result<Vec
     }
 }
 
-/// Stores the documents of lines of JSON, one behind the other in version 2, and answers each line. The schema is its JSON. A line that is
-/// refused stores nothing, and the next line follows.
-pub fn import_lines(schema: &[u8], lines: &[u8]) -> Result<Imported, Refusal> {
+/// Calls with buffers for a block and for the answers of lines, and once more with larger ones where these were too small.
+fn imported(lines: &[u8], mut call: impl FnMut(&mut [u8], &mut [LineAnswer]) -> Answer) -> Result<Imported, Refusal> {
     let mut block = vec![0; lines.len()];
     let mut answers = vec![LineAnswer::default(); lines.iter().filter(|byte| **byte == b'\n').count() + 1];
     loop {
-        let answer = calls::import_lines(schema, lines, &mut block, &mut answers);
+        let answer = call(&mut block, &mut answers);
         match answer.status {
             OK => {
                 block.truncate(answer.bytes as usize);
@@ -181,6 +182,22 @@ pub fn import_lines(schema: &[u8], lines: &[u8]) -> Result<Imported, Refusal> {
     }
 }
 
+/// What was found of a path, where something was.
+fn field_of(path: &str, call: impl FnOnce(&mut FoundField) -> Answer) -> Result<Field<'_>, Refusal> {
+    let mut found = FoundField::default();
+    let answer = call(&mut found);
+    match answer.status {
+        OK => Ok(Field { number: found.field, rest: &path[found.rest as usize..] }),
+        _ => Err(answer.refusal()),
+    }
+}
+
+/// Stores the documents of lines of JSON, one behind the other in version 2, and answers each line. The schema is its JSON. A line that is
+/// refused stores nothing, and the next line follows.
+pub fn import_lines(schema: &[u8], lines: &[u8]) -> Result<Imported, Refusal> {
+    imported(lines, |block, answers| calls::import_lines(schema, lines, block, answers))
+}
+
 /// The documents of a block, of version 1, 2 or 3, as lines of JSON with the names of the schema's fields.
 pub fn export_block(schema: &[u8], version: u32, block: &[u8]) -> Result<Vec<u8>, Refusal> {
     filled(2 * block.len(), |lines| calls::export_block(schema, version, block, lines))
@@ -193,12 +210,7 @@ pub fn migrate_block(from: u32, block: &[u8], to: u32) -> Result<Vec<u8>, Refusa
 
 /// The field that a path of a query names.
 pub fn find_field<'p>(schema: &[u8], path: &'p str) -> Result<Field<'p>, Refusal> {
-    let mut found = FoundField::default();
-    let answer = calls::find_field(schema, path.as_bytes(), &mut found);
-    match answer.status {
-        OK => Ok(Field { number: found.field, rest: &path[found.rest as usize..] }),
-        _ => Err(answer.refusal()),
-    }
+    field_of(path, |found| calls::find_field(schema, path.as_bytes(), found))
 }
 
 /// The encoded facet that a text as `/first/second` names.
@@ -238,4 +250,46 @@ pub fn term_of_text(field: u32, text: &str) -> Result<Vec<u8>, Refusal> {
 /// The least byte string above all that begin with a prefix: the terms that begin with it are those from the prefix on and below this.
 pub fn end_of_prefix(prefix: &[u8]) -> Result<Vec<u8>, Refusal> {
     filled(prefix.len(), |end| calls::end_of_prefix(prefix, end))
+}
+
+/// A schema whose JSON is read once, for any number of calls. It stays on the thread that opened it.
+///
+/// ```
+/// let schema = kormaglen::Schema::open(br#"[{"name":"age","type":"u64","options":{"indexed":true,"stored":true}}]"#)?;
+/// assert_eq!(schema.find_field("age")?.number, 0);
+/// # Ok::<(), kormaglen::Refusal>(())
+/// ```
+///
+/// ```compile_fail
+/// fn sent<T: Send>(_: T) {}
+/// sent(kormaglen::Schema::open(b"[]"));
+/// ```
+pub struct Schema {
+    handle: SchemaHandle,
+}
+
+impl Schema {
+    /// The schema that a text of JSON describes.
+    pub fn open(json: &[u8]) -> Result<Schema, Refusal> {
+        let (handle, answer) = SchemaHandle::open(json);
+        match answer.status {
+            OK => Ok(Schema { handle }),
+            _ => Err(answer.refusal()),
+        }
+    }
+
+    /// As [`import_lines`], by this schema.
+    pub fn import_lines(&self, lines: &[u8]) -> Result<Imported, Refusal> {
+        imported(lines, |block, answers| self.handle.import_lines(lines, block, answers))
+    }
+
+    /// As [`export_block`], by this schema.
+    pub fn export_block(&self, version: u32, block: &[u8]) -> Result<Vec<u8>, Refusal> {
+        filled(2 * block.len(), |lines| self.handle.export_block(version, block, lines))
+    }
+
+    /// As [`find_field`], by this schema.
+    pub fn find_field<'p>(&self, path: &'p str) -> Result<Field<'p>, Refusal> {
+        field_of(path, |found| self.handle.find_field(path.as_bytes(), found))
+    }
 }

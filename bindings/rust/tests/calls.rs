@@ -2,7 +2,7 @@
 
 use kormaglen::{
     end_of_prefix, export_block, facet_of_text, find_field, import_lines, migrate_block, term_of_text, terms_of_block, text_of_facet, Line,
-    Refusal, Term,
+    Refusal, Schema, Term,
 };
 
 const SCHEMA: &[u8] = br#"[{"name":"s","type":"text","options":{"stored":true}},
@@ -80,4 +80,25 @@ fn terms_are_listed_and_have_ranges() {
     assert_eq!(end_of_prefix(&start).unwrap(), b"\0\0\0\0sac");
     assert_eq!(end_of_prefix(b"a\xff").unwrap(), b"b");
     assert_eq!(end_of_prefix(b"\xff\xff"), Err(Refusal::NoEnd));
+}
+
+#[test]
+fn a_schema_is_read_once() {
+    let schema = Schema::open(SCHEMA).unwrap();
+    for _ in 0..2 {
+        let imported = schema.import_lines(b"{\"u\":[1,2],\"s\":\"a\"}\nnull\n").unwrap();
+        assert_eq!(imported.lines[1], Line::InvalidJson);
+        assert_eq!(schema.export_block(2, &imported.block).unwrap(), b"{\"s\":[\"a\"],\"u\":[1,2]}\n");
+        let field = schema.find_field("j.a.b").unwrap();
+        assert_eq!((field.number, field.rest), (5, "a.b"));
+    }
+    assert_eq!(schema.find_field("none"), Err(Refusal::NoField));
+    assert_eq!(schema.export_block(4, b""), Err(Refusal::WrongVersion));
+    assert_eq!(schema.export_block(2, b"\x80\x81"), Err(Refusal::BadDocument { detail: 1, start: 1 }));
+}
+
+#[test]
+fn a_bad_schema_is_not_opened() {
+    assert_eq!(Schema::open(b"{").err(), Some(Refusal::InvalidJson));
+    assert_eq!(Schema::open(b"{}").err(), Some(Refusal::BadSchema { detail: 4, entry: 0 }));
 }

@@ -1,5 +1,6 @@
 //! Calls for C, over blocks of bytes: each is one of `tv_blocks`, and its contract is said of the numbers that it answers. A slice is a
-//! pointer, which is never null, and a length. No call keeps anything, so all are safe from any thread.
+//! pointer, which is never null, and a length. Only handles of schemas keep something between two calls; all other calls are safe from any
+//! thread.
 #![tactic(auto)]
 
 ghost use Rattle.std.specs.Prelude.{◌≡◌, Some, IsUtf8, MatchOption};
@@ -14,6 +15,8 @@ ghost use Rattle.kormaglen_c.specs.Answers.{AnswersFill, AnswersFound, AnswersIm
 ghost use Rattle.kormaglen_c.specs.Answers.{IsWrongVersion, TellsField, write_numbered};
 ghost use Rattle.tv_format.specs.WriteVersion.{written_version};
 ghost use Rattle.tv_reader.specs.Version.{numbered, version_of};
+
+pub mod handles;
 
 use std::alloc::Global;
 use tv_blocks::status::{Answer, error_answer, import_answer, written_answer, wrong_version};

@@ -1,0 +1,161 @@
+//! Calls for C by a schema that a handle holds. A handle is used by one call at a time. One that is all zeros holds nothing.
+
+ghost use Rattle.kormaglen_c.specs.Answers.{AnswersFill, AnswersFound, AnswersImport};
+ghost use Rattle.kormaglen_c.specs.Answers.{IsWrongVersion};
+ghost use Rattle.kormaglen_c.specs.Handles.{AnswersOpened, OpensOr, closed};
+ghost use Rattle.kormaglen_c.specs.Handles.{IsClosed, IsClosedFound, IsClosedImport};
+ghost use Rattle.std.specs.Prelude.{◌≡◌, MatchOption, None};
+ghost use Rattle.tv_blocks.specs.Blocks.{IsPrintedBlock};
+ghost use Rattle.tv_blocks.specs.Fields.{FindsBy};
+ghost use Rattle.tv_blocks.specs.Imports.{ImportsBy};
+ghost use Rattle.tv_blocks.specs.Refusals.{IsBlockRefusal, IsUnfound};
+ghost use Rattle.tv_reader.specs.Version.{numbered, version_of};
+
+use crate::{NOTHING_FOUND, found_answer};
+use std::alloc::Global;
+use tv_blocks::status::{Answer, import_answer, written_answer, wrong_version};
+use tv_blocks::{BlockError, FoundField, LineAnswer};
+use tv_handles::schema_handle::SchemaHandle;
+use tv_schema::Schema;
+use tv_store::DocStoreVersion;
+
+// The answer where a handle holds nothing.
+fn closed() -> Answer
+    ensures { result ≡ closed }
+{
+    Answer {
+        status: 15,
+        detail: 0,
+        place: 0,
+        bytes: 0,
+        lines: 0,
+    }
+}
+
+// Has the handle hold the schema that a text describes.
+fn open(alloc: Global, json: &[u8], handle: &mut SchemaHandle) -> Result<u64, BlockError>
+    ensures { OpensOr json.now handle.new.entries result }
+{
+    handle.close(alloc);
+    let schema = tv_blocks::read_schema(alloc, json)?;
+    handle.open(alloc, schema)?;
+    Ok(0)
+}
+
+/// Reads the schema that a text of JSON describes, see `tv_blocks::read_schema`. The handle holds it in the place of what it held before.
+#[unsafe(no_mangle)]
+pub extern "C" fn kormaglen_schema_open(
+    alloc: Global,
+    json: &[u8],
+    handle: &mut SchemaHandle,
+) -> Answer
+    ensures { AnswersOpened json.now handle.new.entries result }
+{
+    written_answer(open(alloc, json, handle))
+}
+
+/// Gives up the schema that the handle holds, if it holds one.
+#[unsafe(no_mangle)]
+pub extern "C" fn kormaglen_schema_close(alloc: Global, handle: &mut SchemaHandle)
+    ensures { handle.new.entries ≡ None }
+{
+    handle.close(alloc);
+}
+
+// Finds the field that a path names by a schema, and puts it into `found`.
+fn find(schema: &Schema, path: &[u8], found: &mut FoundField) -> Answer
+    ensures { AnswersFound (FindsBy schema.now path.now) (IsUnfound schema.now path.now) found.new
+        result }
+{
+    found_answer(tv_blocks::find_field_by(schema, path), found)
+}
+
+/// Finds the field that a path names, see `tv_blocks::find_field_by`, and puts it into `found`: 0 and 0 where there is none.
+#[unsafe(no_mangle)]
+pub extern "C" fn kormaglen_schema_find_field(
+    alloc: Global,
+    handle: &mut SchemaHandle,
+    path: &[u8],
+    found: &mut FoundField,
+) -> Answer
+    ensures handle { handle.new.entries ≡ handle.old.entries }
+    ensures answer { MatchOption handle.old.entries (IsClosedFound found.new result)
+        (λ entries. AnswersFound (FindsBy entries path.now) (IsUnfound entries path.now) found.new
+        result) }
+{
+    match handle.take(alloc) {
+        Some(schema) => {
+            let answer = find(&schema, path, found);
+            handle.keep(alloc, schema);
+            answer
+        }
+        None => {
+            *found = NOTHING_FOUND;
+            closed()
+        }
+    }
+}
+
+/// Stores documents of lines of JSON and answers each line, see `tv_blocks::import_lines_by`.
+#[unsafe(no_mangle)]
+pub extern "C" fn kormaglen_schema_import_lines(
+    alloc: Global,
+    handle: &mut SchemaHandle,
+    lines: &[u8],
+    block: &mut [u8],
+    answers: &mut [LineAnswer],
+) -> Answer
+    ensures handle { handle.new.entries ≡ handle.old.entries }
+    ensures answer { MatchOption handle.old.entries
+        (IsClosedImport block.old block.new answers.old answers.new result)
+        (λ entries. AnswersImport (ImportsBy entries lines.now block.old block.new answers.old
+        answers.new) result) }
+{
+    match handle.take(alloc) {
+        Some(schema) => {
+            let imported = tv_blocks::import_lines_by(alloc, &schema, lines, block, answers);
+            handle.keep(alloc, schema);
+            import_answer(imported)
+        }
+        None => closed(),
+    }
+}
+
+// Writes the documents of a block as lines of JSON by a schema.
+fn export(alloc: Global, schema: &Schema, version: u32, block: &[u8], lines: &mut [u8]) -> Answer
+    ensures { MatchOption (numbered version) (IsWrongVersion lines.old lines.new result)
+        (λ v. AnswersFill (IsPrintedBlock schema.now (version_of v) block.now)
+        (IsBlockRefusal (version_of v) block.now) lines.old lines.new result) }
+{
+    match DocStoreVersion::from_u32(version) {
+        Ok(version) => written_answer(tv_blocks::export_block_by(
+            alloc, schema, version, block, lines,
+        )),
+        Err(_) => wrong_version(),
+    }
+}
+
+/// Writes the documents of a block as lines of JSON, see `tv_blocks::export_block_by`. The version is 1, 2 or 3.
+#[unsafe(no_mangle)]
+pub extern "C" fn kormaglen_schema_export_block(
+    alloc: Global,
+    handle: &mut SchemaHandle,
+    version: u32,
+    block: &[u8],
+    lines: &mut [u8],
+) -> Answer
+    ensures handle { handle.new.entries ≡ handle.old.entries }
+    ensures answer { MatchOption handle.old.entries (IsClosed lines.old lines.new result)
+        (λ entries. MatchOption (numbered version) (IsWrongVersion lines.old lines.new result)
+        (λ v. AnswersFill (IsPrintedBlock entries (version_of v) block.now)
+        (IsBlockRefusal (version_of v) block.now) lines.old lines.new result)) }
+{
+    match handle.take(alloc) {
+        Some(schema) => {
+            let answer = export(alloc, &schema, version, block, lines);
+            handle.keep(alloc, schema);
+            answer
+        }
+        None => closed(),
+    }
+}

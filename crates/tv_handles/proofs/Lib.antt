@@ -1,0 +1,2 @@
+mod MadeSchema
+mod Options

@@ -1,0 +1,38 @@
+-- A pointer with what it keeps is a handle.
+use Rattle.std.proofs.Common.{[], ◌∷◌, refl, lit<}
+use Rattle.std.specs.Prelude.{List, Option}
+use Rattle.std.specs.Ptr.{Ptr, block_ptr, null_ptr}
+use Rattle.tv_field.specs.Entry.{Entry}
+use Rattle.tv_handles.specs.Kept.{keeps}
+use Rattle.tv_handles.specs.contracts.schema_handle.SchemaHandle.{the_row, the_type}
+use Rattle.tv_schema.specs.contracts.schema.Schema.{the_row as schema_row}
+use base.Logic.{ent}
+use denote.Memory.{lone}
+use denote.RattleType.{Valss}
+use denote.RawPtr.{ptr_val, rawptr_vals}
+use denote.Steps.{nothing}
+use denote.Struct.Owning.{shape}
+use denote.Struct.Struct.{within}
+use lib.Dec.{T}
+use mir.Val.{Val, WT, has_ty, vstruct, of_list}
+use seplogic.Ra.Ura.{Ura}
+use types.Kit.{‵, ◌$◌, ◌∵◌, !, qed, done, fjoin, fpack, feq_i}
+use types.Logic.{Logic, sem}
+
+-- the handle's machine value
+abbrev pub handle_val : Ptr → Val
+handle_val p = vstruct (of_list (ptr_val p ∷ []))
+
+abbrev pub handle_vals : Ptr → List Val
+handle_vals p = handle_val p ∷ []
+
+pub handle_typed : (p : Ptr) → T (has_ty (lone the_row.mir) (handle_val p)) × WT (handle_val p)
+handle_typed (block_ptr b o) = (tt, (tt, tt))
+handle_typed null_ptr = (tt, (record { fits = lit< tt }, tt))
+
+pub made : {M : Type 1} {𝓤 : Ura M} (𝓛 : Logic 𝓤) (p : Ptr) (entries : Option (List Entry))
+    → ent 𝓤 (sem 𝓛 (keeps schema_row p entries)) (sem 𝓛 (the_row.own_val (record { at = p; entries = entries }) (handle_vals p)))
+made 𝓛 p entries =
+    qed 𝓛 (‵ (keeps schema_row p entries) ∷ []) ∵ nothing ! $ feq_i ! (List Val) (rawptr_vals p) (rawptr_vals p) refl $ fjoin ! $
+    feq_i ! (List Val) (handle_vals p) (handle_vals p) refl $ fjoin ! $
+    fpack ! (Valss (shape the_type).fields) (within (shape the_type) (p, tt) (handle_vals p)) (rawptr_vals p, tt) $ fjoin ! $ done !
