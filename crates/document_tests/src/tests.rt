@@ -1,4 +1,5 @@
 mod long;
 mod memory;
 mod parsed;
+mod printed;
 mod repeated;
