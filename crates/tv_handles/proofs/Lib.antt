@@ -1,2 +1,3 @@
+mod Heap
 mod MadeSchema
 mod Options
