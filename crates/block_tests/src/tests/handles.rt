@@ -1,0 +1,48 @@
+//! Schemas that a handle holds. A handle has to be given up on each way out, so what it answers is compared afterwards.
+
+use std::alloc::Global;
+use std::test::Fail;
+use tv_blocks::{BlockError, FoundField, find_field_by, read_schema};
+use tv_handles::schema_handle::SchemaHandle;
+
+const SCHEMA: &[u8] = br#"[{"name":"s","type":"text","options":{"stored":true}}]"#;
+
+const OTHER: &[u8] = br#"[{"name":"t","type":"text","options":{"stored":true}}]"#;
+
+// What the path names by the handle's schema, if there is one.
+fn found(
+    alloc: Global,
+    handle: &mut SchemaHandle,
+    path: &[u8],
+) -> Option<Result<FoundField, BlockError>> {
+    let schema = handle.take(alloc)?;
+    let found = find_field_by(&schema, path);
+    handle.keep(alloc, schema);
+    Some(found)
+}
+
+#[test]
+fn a_handle_holds_one_schema_at_a_time(rt: HostRuntime) -> Result<(), Fail> {
+    let alloc = rt.alloc();
+    let schema = read_schema(alloc, SCHEMA).expect(&rt, "a schema");
+    let other = read_schema(alloc, OTHER).expect(&rt, "another schema");
+    let mut handle = SchemaHandle::closed();
+    let closed = found(alloc, &mut handle, b"s");
+    let opened = handle.open(alloc, schema);
+    let first = found(alloc, &mut handle, b"s");
+    let again = found(alloc, &mut handle, b"s");
+    let opened_anew = handle.open(alloc, other);
+    let gone = found(alloc, &mut handle, b"s");
+    let held = found(alloc, &mut handle, b"t");
+    handle.close(alloc);
+    handle.close(alloc);
+    let left = handle.into_box(alloc);
+    let field = Some(Ok(FoundField { field: 0, rest: 1 }));
+    assert_eq!(rt; closed, None);
+    assert_eq!(rt; (opened, opened_anew), (Ok(()), Ok(())));
+    assert_eq!(rt; (first, again), (field, field));
+    assert_eq!(rt; gone, Some(Err(BlockError::NoField)));
+    assert_eq!(rt; held, field);
+    assert!(rt; left.is_none());
+    Ok(())
+}
