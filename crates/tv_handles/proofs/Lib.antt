@@ -1,3 +1,4 @@
 mod Heap
+mod MadeDocument
 mod MadeSchema
 mod Options
