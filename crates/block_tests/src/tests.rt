@@ -1,4 +1,4 @@
-//! Blocks in buffers of a caller's, by a schema or its text.
+//! Blocks in buffers of a caller's, by a schema, its text or a handle.
 
 mod buffers;
 mod handles;

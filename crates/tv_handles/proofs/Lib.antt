@@ -1,2 +1,4 @@
+mod Heap
+mod MadeDocument
 mod MadeSchema
 mod Options

@@ -1,19 +1,30 @@
 -- A pointer with what it keeps is a handle.
 use Rattle.std.proofs.Common.{[], ◌∷◌, refl, lit<}
+use Rattle.std.proofs.alloc.Global.TheLaws as global_laws
+use Rattle.std.proofs.boxed.Box.TheLaws as box_laws
 use Rattle.std.specs.Prelude.{List, Option}
 use Rattle.std.specs.Ptr.{Ptr, block_ptr, null_ptr}
+use Rattle.std.specs.contracts.alloc.Global.{the_row as global_row}
+use Rattle.std.specs.contracts.boxed.Box.{the_row as box_row}
+use Rattle.std.specs.contracts.impls.GlobalAllocator.TheImpl.{ghosts}
 use Rattle.tv_field.specs.Entry.{Entry}
 use Rattle.tv_handles.specs.Kept.{keeps}
 use Rattle.tv_handles.specs.contracts.schema_handle.SchemaHandle.{the_row, the_type}
+use Rattle.tv_schema.proofs.schema.Schema.TheLaws as schema_laws
 use Rattle.tv_schema.specs.contracts.schema.Schema.{the_row as schema_row}
 use base.Logic.{ent}
+use denote.Exit.{no}
+use denote.Laws.{Lawful}
 use denote.Memory.{lone}
-use denote.RattleType.{Valss}
+use denote.Param.{arg, layout}
+use denote.Param.Laws.{Laws, arg_laws}
+use denote.RattleType.{RattleType, Valss}
 use denote.RawPtr.{ptr_val, rawptr_vals}
 use denote.Steps.{nothing}
 use denote.Struct.Owning.{shape}
 use denote.Struct.Struct.{within}
 use lib.Dec.{T}
+use mir.Raw.{raw}
 use mir.Val.{Val, WT, has_ty, vstruct, of_list}
 use seplogic.Ra.Ura.{Ura}
 use types.Kit.{‵, ◌$◌, ◌∵◌, !, qed, done, fjoin, fpack, feq_i}
@@ -36,3 +47,13 @@ made 𝓛 p entries =
     qed 𝓛 (‵ (keeps schema_row p entries) ∷ []) ∵ nothing ! $ feq_i ! (List Val) (rawptr_vals p) (rawptr_vals p) refl $ fjoin ! $
     feq_i ! (List Val) (handle_vals p) (handle_vals p) refl $ fjoin ! $
     fpack ! (Valss (shape the_type).fields) (within (shape the_type) (p, tt) (handle_vals p)) (rawptr_vals p, tt) $ fjoin ! $ done !
+
+-- ---- the schema as the calls of a `Box` have it
+abbrev pub Kept : RattleType
+Kept = arg (raw (layout schema_row)) no schema_row
+
+abbrev pub kept_laws : Laws Kept
+kept_laws = arg_laws (raw (layout schema_row)) no schema_row schema_laws.the_row_laws refl
+
+pub boxed_lawful : {M : Type 1} {𝓤 : Ura M} (𝓛 : Logic 𝓤) → Lawful 𝓛 (box_row schema_row global_row ghosts)
+boxed_lawful 𝓛 = (box_laws.the_field_loose schema_row global_row ghosts schema_laws.the_row_laws global_laws.the_row_laws).lawful 𝓛

@@ -39,8 +39,8 @@ impl SchemaHandle {
         SchemaHandle { at: at as *mut u8 }
     }
 
-    // The handle's schema in its box.
-    fn into_box(self, alloc: Global) -> Option<Box<Schema>>
+    /// The schema that the handle held, in its box. The handle is given up.
+    pub fn into_box(self, alloc: Global) -> Option<Box<Schema>>
         ensures { option_map (λ boxed. boxed.value) result ≡ self.entries }
     {
         let SchemaHandle { at } = self;

@@ -1,52 +1,48 @@
-//! A schema that a handle holds between two calls.
+//! Schemas that a handle holds. A handle has to be given up on each way out, so what it answers is compared afterwards.
 
+use std::alloc::Global;
 use std::test::Fail;
-use tv_blocks::{FoundField, find_field_by, read_schema};
+use tv_blocks::{BlockError, FoundField, find_field_by, read_schema};
 use tv_handles::schema_handle::SchemaHandle;
 
-// A schema of a text.
-const TEXT: &[u8] = br#"[{"name":"s","type":"text","options":{"stored":true}}]"#;
+const SCHEMA: &[u8] = br#"[{"name":"s","type":"text","options":{"stored":true}}]"#;
 
-// A schema of two numbers.
-const NUMBERS: &[u8] =
-    br#"[{"name":"a","type":"u64","options":{"stored":true,"indexed":false,"fieldnorms":false,"fast":false}},
-{"name":"b","type":"u64","options":{"stored":true,"indexed":false,"fieldnorms":false,"fast":false}}]"#;
+const OTHER: &[u8] = br#"[{"name":"t","type":"text","options":{"stored":true}}]"#;
 
-// The field of a name by the schema that the handle holds, which it holds afterwards too.
-fn field_of(rt: &HostRuntime, handle: &mut SchemaHandle, name: &[u8]) -> Option<u32> {
-    let alloc = rt.alloc();
+// What the path names by the handle's schema, if there is one.
+fn found(
+    alloc: Global,
+    handle: &mut SchemaHandle,
+    path: &[u8],
+) -> Option<Result<FoundField, BlockError>> {
     let schema = handle.take(alloc)?;
-    let found: Option<FoundField> = find_field_by(&schema, name).ok();
+    let found = find_field_by(&schema, path);
     handle.keep(alloc, schema);
-    Some(found?.field)
+    Some(found)
 }
 
 #[test]
-fn a_handle_holds_a_schema_until_it_is_closed(rt: HostRuntime) -> Result<(), Fail> {
+fn a_handle_holds_one_schema_at_a_time(rt: HostRuntime) -> Result<(), Fail> {
     let alloc = rt.alloc();
+    let schema = read_schema(alloc, SCHEMA).expect(&rt, "a schema");
+    let other = read_schema(alloc, OTHER).expect(&rt, "another schema");
     let mut handle = SchemaHandle::closed();
-    assert_eq!(rt; field_of(&rt, &mut handle, b"s"), None);
-    let text = read_schema(alloc, TEXT).expect(&rt, "a schema");
-    assert!(rt; handle.open(alloc, text).is_ok());
-    assert_eq!(rt; field_of(&rt, &mut handle, b"s"), Some(0));
-    assert_eq!(rt; field_of(&rt, &mut handle, b"s"), Some(0));
+    let closed = found(alloc, &mut handle, b"s");
+    let opened = handle.open(alloc, schema);
+    let first = found(alloc, &mut handle, b"s");
+    let again = found(alloc, &mut handle, b"s");
+    let opened_anew = handle.open(alloc, other);
+    let gone = found(alloc, &mut handle, b"s");
+    let held = found(alloc, &mut handle, b"t");
     handle.close(alloc);
-    assert_eq!(rt; field_of(&rt, &mut handle, b"s"), None);
     handle.close(alloc);
-    assert!(rt; handle.into_box(alloc).is_none());
-    Ok(())
-}
-
-#[test]
-fn a_handle_holds_the_schema_that_it_was_given_last(rt: HostRuntime) -> Result<(), Fail> {
-    let alloc = rt.alloc();
-    let mut handle = SchemaHandle::closed();
-    let text = read_schema(alloc, TEXT).expect(&rt, "a schema");
-    let numbers = read_schema(alloc, NUMBERS).expect(&rt, "a schema");
-    assert!(rt; handle.open(alloc, text).is_ok());
-    assert!(rt; handle.open(alloc, numbers).is_ok());
-    assert_eq!(rt; field_of(&rt, &mut handle, b"s"), None);
-    assert_eq!(rt; field_of(&rt, &mut handle, b"b"), Some(1));
-    assert!(rt; handle.into_box(alloc).is_some());
+    let left = handle.into_box(alloc);
+    let field = Some(Ok(FoundField { field: 0, rest: 1 }));
+    assert_eq!(rt; closed, None);
+    assert_eq!(rt; (opened, opened_anew), (Ok(()), Ok(())));
+    assert_eq!(rt; (first, again), (field, field));
+    assert_eq!(rt; gone, Some(Err(BlockError::NoField)));
+    assert_eq!(rt; held, field);
+    assert!(rt; left.is_none());
     Ok(())
 }

@@ -3,17 +3,17 @@ use Rattle.std.proofs.Common.{[], ◌∷◌, refl, lit<}
 use Rattle.std.proofs.raw_atomic.Walks.{proved}
 use Rattle.std.specs.Prelude.{None}
 use Rattle.std.specs.Ptr.{Ptr, null_ptr}
+use Rattle.tv_handles.proofs.MadeSchema.{handle_vals, made}
 use Rattle.tv_handles.proofs.schema_handle.SchemaHandle.closed.Code as code
 use Rattle.tv_handles.proofs.schema_handle.SchemaHandle.closed.Statement.{statement}
-use Rattle.tv_handles.specs.contracts.schema_handle.SchemaHandle.closed as f
-use Rattle.tv_handles.proofs.MadeSchema.{handle_vals, made}
 use Rattle.tv_handles.specs.contracts.schema_handle.SchemaHandle.{the_row}
+use Rattle.tv_handles.specs.contracts.schema_handle.SchemaHandle.closed as f
+use base.Fml.{ftrue}
 use denote.Steps.{nothing}
 use denote.Triple.Entry.{on_entry}
 use denote.Triple.Walked.{walk_of, says, ends_at}
 use mir.Val.{vnull, vstruct, of_list}
 use types.ByLocal.{alloc_all, pass_all, free_all, look_at, sets}
-use base.Fml.{ftrue}
 use types.Kit.{‵, raw, ◌$◌, ◌∵◌, !, qed, done, drop, use1, feq_i, suffices}
 use types.Part.{agg}
 use types.Run.{enter, lit, no_more, and_then, returns}

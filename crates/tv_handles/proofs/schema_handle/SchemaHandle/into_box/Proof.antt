@@ -1,57 +1,25 @@
 -- Null is no box. From any other pointer the box is made with the right to free its block.
-use Rattle.std.proofs.Common.{ℕ, [], ◌∷◌, refl, lit<}
-use Rattle.std.proofs.alloc.Global.TheLaws as global_laws
-use Rattle.std.proofs.Common.{ap, ◌≡◌}
+use Rattle.std.proofs.Common.{ℕ, [], ◌∷◌, refl, lit<, ap, ◌≡◌, subst}
+use Rattle.std.proofs.GlobalToken.{dealloc_token-Testable}
 use Rattle.std.proofs.VecSteps.Shapes.{after}
-use Rattle.std.proofs.boxed.Box.TheLaws as box_laws
+use Rattle.std.proofs.alloc.Global.TheLaws as global_laws
 use Rattle.std.proofs.boxed.Box.from_raw.Met.{met}
 use Rattle.std.proofs.impls.GlobalAllocator.TheImpl.Met.{passed}
-use Rattle.std.specs.Global.{Box}
-use Rattle.std.specs.contracts.boxed.Box.from_raw as g
-use Rattle.std.specs.contracts.option.Option.{the_row as option_row}
-use Rattle.tv_handles.proofs.Destruct++none.drop.Code as none_code
-use Rattle.tv_schema.proofs.schema.Schema.TheLaws as schema_laws
-use Rattle.tv_schema.specs.declared.schema.Schema.{Schema}
-use base.Fraction.{full_share}
-use base.Fml.{flft}
-use base.Logic.{emp, id⊢}
-use contract.BorrowLft.{◌⊑◌, ⊑_static}
-use contract.Monad.{fact, fact_i}
-use denote.Exit.{no}
-use denote.Laws.{Is, Lawful, shows}
-use denote.Param.{arg, layout}
-use denote.Param.Laws.{Laws, arg_laws}
-use denote.Param.NoDrop.{glues}
-use denote.RattleType.{RattleType}
-use denote.RawPtr.{rawptr_vals, tests_null}
-use denote.Steps.{heard, peeks}
-use denote.Triple.Call.{calls_at_last}
-use denote.Triple.Clauses.{lasts}
-use denote.Triple.Spec.{triple_of}
-use denote.Triple.Table.{framed}
-use mir.Raw.{raw as raw_type}
-use mir.Syntax.{Dict, impl, tnil, tcons, dnil}
-use types.ByLocal.{lands_last}
-use types.Kit.{fpick, later, some, await, pick, feq_i}
-use types.Run.{blocks}
-use Rattle.std.specs.Prelude.{Bool, true, false, ◌&&◌}
-use Rattle.std.proofs.Common.{subst}
-use Rattle.std.proofs.GlobalToken.{dealloc_token-Testable}
-use base.Logic.{guard_i}
-use contract.Monad.{fact_use}
-use mir.Syntax.{Ty}
-use types.Kit.{given, learn}
-use lib.Dec.{T}
-use denote.Memory.{lone}
-use denote.RawPtr.{in_a_block, lies_at}
-use types.Kit.{fsplit, fjoin, rewrite}
 use Rattle.std.proofs.raw_atomic.Walks.{proved}
-use Rattle.std.specs.Global.{Global}
-use Rattle.std.specs.Prelude.{List, Option, None, Some}
+use Rattle.std.specs.Box.Ownership.{box_owns}
+use Rattle.std.specs.Global.{Box, Global}
+use Rattle.std.specs.Prelude.{true, List, Option, None, Some}
 use Rattle.std.specs.Ptr.{Ptr, block_ptr, null_ptr}
 use Rattle.std.specs.contracts.alloc.Global.{the_row as global_row}
+use Rattle.std.specs.contracts.boxed.Box.{the_row as box_row}
+use Rattle.std.specs.contracts.boxed.Box.from_raw as g
+use Rattle.std.specs.contracts.impls.GlobalAllocator.TheImpl.{ghosts, dict}
+use Rattle.std.specs.contracts.option.Option.{the_row as option_row}
 use Rattle.tv_field.specs.Entry.{Entry}
-use Rattle.tv_handles.proofs.MadeSchema.{handle_val, handle_vals, handle_typed}
+use Rattle.tv_handles.proofs.Destruct++none.drop.Code as none_code
+use Rattle.tv_handles.proofs.Heap.{Heap, heap_laws, heap_drop, heap_vals, both}
+use Rattle.tv_handles.proofs.MadeSchema.{Kept, kept_laws, boxed_lawful, handle_val, handle_vals, handle_typed}
+use Rattle.tv_handles.proofs.Options.{none_val, some_val, none_owned, some_owned}
 use Rattle.tv_handles.proofs.schema_handle.SchemaHandle.TheLaws as handle_laws
 use Rattle.tv_handles.proofs.schema_handle.SchemaHandle.into_box.Code as code
 use Rattle.tv_handles.proofs.schema_handle.SchemaHandle.into_box.Statement.{statement}
@@ -59,61 +27,44 @@ use Rattle.tv_handles.specs.Kept.{keeps}
 use Rattle.tv_handles.specs.contracts.schema_handle.SchemaHandle.{the_row}
 use Rattle.tv_handles.specs.contracts.schema_handle.SchemaHandle.into_box as f
 use Rattle.tv_schema.specs.contracts.schema.Schema.{the_row as schema_row}
-use Rattle.std.specs.Box.Ownership.{box_owns}
-use Rattle.std.specs.contracts.boxed.Box.{the_row as box_row}
-use Rattle.std.specs.contracts.impls.GlobalAllocator.TheImpl.{ghosts, dict}
-use Rattle.tv_handles.proofs.Options.{none_val, some_val, none_owned, some_owned}
-use base.Fml.{ftrue}
-use base.Logic.{SProp, ent}
+use Rattle.tv_schema.specs.declared.schema.Schema.{Schema}
+use base.Fml.{flft, ftrue}
+use base.Fraction.{full_share}
+use base.Logic.{emp, id⊢, guard_i, SProp, ent}
+use contract.BorrowLft.{◌⊑◌, ⊑_static}
+use contract.Monad.{fact, fact_i, fact_use}
 use contract.Running.{Running, tables}
 use denote.Exit.{yes}
-use denote.RawPtr.{Testable}
-use denote.Steps.{nothing}
+use denote.Laws.{Is, shows}
+use denote.Memory.{lone}
+use denote.Param.NoDrop.{glues}
+use denote.RattleType.{RattleType}
+use denote.RawPtr.{rawptr_vals, tests_null, in_a_block, lies_at, Testable}
 use denote.Signature.{plain}
-use denote.Triple.Clauses.{Clauses}
+use denote.Steps.{heard, peeks, nothing}
+use denote.Triple.Call.{calls_at_last}
+use denote.Triple.Clauses.{lasts, Clauses}
+use denote.Triple.Spec.{triple_of}
+use denote.Triple.Table.{framed}
 use denote.Triple.Walked.{Stays, stay_dropped, Goes-dropped, walk_of, says, ends_at}
+use mir.Raw.{raw as raw_type}
+use mir.Syntax.{Ty}
 use mir.Val.{Val}
 use prog.Model.{Model}
 use prog.Wired.{Wired}
 use prog.Wp.{WpFn}
 use seplogic.Ra.Ura.{Ura}
-use types.ByLocal.{alloc_all, pass_all, free_all, look_at, get, get_in, sets, env}
-use types.Kit.{‵, raw, ◌⊛◌, ⋆, prop, at_ret, ◌$◌, ◌∵◌, !, qed, by, done, drop, use0, use1, keep, move, split, join, feq_l, regoal, suffices}
+use types.ByLocal.{lands_last, alloc_all, pass_all, free_all, look_at, get, get_in, sets, env}
+use types.Kit.{fpick, later, some, await, pick, feq_i, given, learn, fsplit, fjoin, rewrite, ‵, raw, ◌⊛◌, ⋆, prop, at_ret, ◌$◌, ◌∵◌, !, qed, by, done, drop, use0, use1, keep, move, split, join, feq_l, regoal, suffices}
 use types.Logic.{Logic}
 use types.Part.{agg, whole, sub}
-use types.Run.{enter, of_opd, bin, lit, no_more, and_then, fld, stop, first, branches, skips, exec, returns, returns_within}
+use types.Run.{blocks, enter, of_opd, bin, lit, no_more, and_then, fld, stop, first, branches, skips, exec, returns, returns_within}
 
 abbrev stayed : Stays f.ended.signature.params f.ended.kept
 stayed = (stay_dropped _ yes, (stay_dropped _ yes, tt))
 
 abbrev Boxed : RattleType
 Boxed = box_row schema_row global_row ghosts
-
--- the types as the call has them
-abbrev Kept : RattleType
-Kept = arg (raw_type (layout schema_row)) no schema_row
-
-abbrev kept_laws : Laws Kept
-kept_laws = arg_laws (raw_type (layout schema_row)) no schema_row schema_laws.the_row_laws refl
-
-abbrev Heap : RattleType
-Heap = arg (raw_type (layout global_row)) no global_row
-
-abbrev heap_laws : Laws Heap
-heap_laws = arg_laws (raw_type (layout global_row)) no global_row global_laws.the_row_laws refl
-
-abbrev global_drop : Dict
-global_drop = impl ("tv_handles::Destruct++none::drop" ∷ []) (tcons (layout Heap) tnil) dnil
-
-both : (x y : Bool) → T x → T y → T (x && y)
-both true y t u = u
-both false y t u = absurd t
-
-boxed_typed : {M : Type 1} {𝓤 : Ura M} (𝓛 : Logic 𝓤) → Lawful 𝓛 Boxed
-boxed_typed 𝓛 = (box_laws.the_field_loose schema_row global_row ghosts schema_laws.the_row_laws global_laws.the_row_laws).lawful 𝓛
-
-abbrev heap_vals : Global → List Val
-heap_vals alloc = global_laws.the_told.val alloc ∷ []
 
 module _ {M : Type 1} (𝓤 : Ura M) (𝓛 : Logic 𝓤) (𝓜 : Model 𝓤 𝓛.H) (𝓡 : Running 𝓤 𝓛.H 𝓜) (wired : Wired 𝓡.env code.code) where
   abbrev Γ : Clauses 𝓤 f.ended
@@ -147,9 +98,9 @@ module _ {M : Type 1} (𝓤 : Ura M) (𝓛 : Logic 𝓤) (𝓜 : Model 𝓤 𝓛
       let at = block_ptr b o in
       let 𝓣 = tables 𝓤 𝓛.H 𝓜 𝓡 𝓡.env in
       let post = (walk_of 𝓛 f.ended stayed Γ).post (bound at (Some entries) alloc) in
-      let E = g.ended Kept Heap ghosts dict global_drop in
-      let G = triple_of 𝓛 (g.signature Kept Heap ghosts dict global_drop) (g.spec Kept Heap ghosts dict global_drop 𝓛 𝓜.mem 𝓡.returns) in
-      let met_here = met 𝓤 𝓛 𝓜 𝓡 (code.calls-std_alloc::boxed::Box::from_raw 𝓡.env wired) Kept Heap kept_laws heap_laws ghosts dict global_drop
+      let E = g.ended Kept Heap ghosts dict heap_drop in
+      let G = triple_of 𝓛 (g.signature Kept Heap ghosts dict heap_drop) (g.spec Kept Heap ghosts dict heap_drop 𝓛 𝓜.mem 𝓡.returns) in
+      let met_here = met 𝓤 𝓛 𝓜 𝓡 (code.calls-std_alloc::boxed::Box::from_raw 𝓡.env wired) Kept Heap kept_laws heap_laws ghosts dict heap_drop
       (passed 𝓡.env (code.calls-std_heap::GlobalAllocator::allocate 𝓡.env wired) (code.calls-std_heap::GlobalAllocator::deallocate 𝓡.env wired)
       (code.calls-std_heap::GlobalAllocator::grow 𝓡.env wired) (code.calls-std_heap::GlobalAllocator::shrink 𝓡.env wired) _ 𝓤 𝓛 𝓜 𝓡)
       (glues "tv_handles::Destruct++none::drop" 𝓡.env (code.calls-tv_handles::Destruct++none::drop 𝓡.env wired) Heap heap_laws _ 𝓤 𝓛 𝓜 𝓡) in
@@ -178,7 +129,7 @@ module _ {M : Type 1} (𝓤 : Ura M) (𝓛 : Logic 𝓤) (𝓜 : Model 𝓤 𝓛
       some (λ (ws : Unit {0} × (Unit {0} × Unit {0})). ‵ (lasts E z.0.0 z.0.3 ws) ⊛ (raw (fact 𝓤 (x.value ≡ entries)) ⊛ raw (fact 𝓤 (x.alloc ≡ alloc))))))) (id⊢ 𝓤 _) $
       await ! tt $ pick ! (λ x. split ! $ split ! $ drop ! $ move ! (1 ∷ []) $ pick ! (λ ws. split ! $ drop ! $ split ! $
       heard ! _ (λ value_is. heard ! _ (λ alloc_is. peeks ! Boxed (Is Boxed) (shows 𝓛 Boxed) x (v ∷ []) (λ is.
-      let typed = (boxed_typed 𝓛).typed x (v ∷ []) is in
+      let typed = (boxed_lawful 𝓛).typed x (v ∷ []) is in
       lands_last ! refl typed.0 $ exec ! 𝓣.C 𝓣.Λ (env (code.function).locals l) (after 5 (code.function).body) (at_ret (env (code.function).locals l) post) $
       sets ! (of_opd ! (get ! refl)) refl typed.0 $
       sets ! (agg ! (and_then ! (lit ! tt) (and_then ! (get ! refl) (no_more !)))) refl (both _ true typed.0.0 tt, (record { fits = lit< tt }, (typed.0.1, tt))) $

@@ -1,10 +1,11 @@
 -- The box is made a pointer, which is stored with the right to free its block.
 use Rattle.std.proofs.Common.{[], ◌∷◌, refl, ap}
-use Rattle.std.proofs.raw_atomic.Walks.{proved}
 use Rattle.std.proofs.alloc.Global.TheLaws as global_laws
-use Rattle.std.proofs.boxed.Box.TheLaws as box_laws
 use Rattle.std.proofs.boxed.Box.into_raw.Met.{met}
 use Rattle.std.proofs.impls.GlobalAllocator.TheImpl.Met.{passed}
+use Rattle.std.proofs.raw_atomic.Walks.{proved}
+use Rattle.std.specs.Box.Ownership.{box_owns}
+use Rattle.std.specs.Global.{Global}
 use Rattle.std.specs.Prelude.{Some}
 use Rattle.std.specs.Ptr.{Ptr}
 use Rattle.std.specs.contracts.alloc.Global.{the_row as global_row}
@@ -12,40 +13,36 @@ use Rattle.std.specs.contracts.boxed.Box as box
 use Rattle.std.specs.contracts.boxed.Box.into_raw as g
 use Rattle.std.specs.contracts.impls.GlobalAllocator.TheImpl.{ghosts, dict}
 use Rattle.tv_handles.proofs.Destruct++none.drop.Code as none_code
+use Rattle.tv_handles.proofs.Heap.{Heap, heap_laws, heap_drop}
+use Rattle.tv_handles.proofs.MadeSchema.{Kept, kept_laws, boxed_lawful, handle_val, handle_vals, handle_typed, made}
 use Rattle.tv_handles.proofs.schema_handle.SchemaHandle.of_box.Code as code
 use Rattle.tv_handles.proofs.schema_handle.SchemaHandle.of_box.Statement.{statement}
 use Rattle.tv_handles.proofs.tv_schema++schema++Schema+Destruct.drop.Kinds as drop_kinds
 use Rattle.tv_handles.proofs.tv_schema++schema++Schema+Destruct.drop.Met as drop_met
 use Rattle.tv_handles.proofs.tv_schema++schema++Schema+Destruct.drop.Reads as drop_reads
 use Rattle.tv_handles.proofs.tv_schema++schema++Schema+Destruct.drop.Symbol as drop_symbol
-use Rattle.tv_handles.specs.contracts.schema_handle.SchemaHandle.of_box as f
-use Rattle.tv_schema.proofs.schema.Schema.TheLaws as schema_laws
-use Rattle.tv_schema.specs.contracts.schema.Schema.{the_row as schema_row}
-use base.Fraction.{full_share}
-use Rattle.std.specs.Box.Ownership.{box_owns}
-use base.Fml.{ftrue, flft}
-use base.Logic.{emp, id⊢}
-use contract.BorrowLft.{◌⊑◌, ⊑_static}
-use contract.Monad.{fact, fact_i}
-use denote.Memory.{lone}
-use denote.RawPtr.{RawPtr, rawptr_Lawful}
-use Rattle.tv_handles.proofs.MadeSchema.{handle_val, handle_vals, handle_typed, made}
 use Rattle.tv_handles.specs.contracts.schema_handle.SchemaHandle.{the_row}
-use types.Part.{agg}
-use denote.Steps.{only}
+use Rattle.tv_handles.specs.contracts.schema_handle.SchemaHandle.of_box as f
+use Rattle.tv_schema.specs.contracts.schema.Schema.{the_row as schema_row}
+use base.Fml.{ftrue, flft}
+use base.Fraction.{full_share}
+use base.Logic.{emp, id⊢}
 use borrow.Fn.Glue.{glue_by, glue_ps}
 use borrow.Fn.Impl.{via_longer}
 use borrow.Fn.Kinds.{ended_of, stays, r_unit}
 use borrow.Fn.Run.{Over}
 use borrow.Fn.World.{World}
+use contract.BorrowLft.{◌⊑◌, ⊑_static}
+use contract.Monad.{fact, fact_i}
 use contract.Running.{Running, tables}
 use denote.Exit.{no}
-use denote.Param.{arg, layout}
+use denote.Memory.{lone}
 use denote.Param.Glue.{Met}
-use denote.Param.Laws.{Laws as Lawful, arg_laws, row_laws}
+use denote.Param.Laws.{row_laws}
 use denote.Param.NoDrop.{glues}
+use denote.RawPtr.{RawPtr, rawptr_Lawful}
 use denote.Signature.{plain}
-use denote.Steps.{nothing}
+use denote.Steps.{only, nothing}
 use denote.Struct.Laws.{RawPtr-laws}
 use denote.Struct.Owning.{Owning, row}
 use denote.Struct.OwningLaws.{Laws, vals, tells}
@@ -55,16 +52,15 @@ use denote.Triple.Clauses.{Lasts, lasts, at_exit}
 use denote.Triple.Spec.{triple_of}
 use denote.Triple.Table.{framed, widened}
 use denote.Triple.Walked.{Fit, Stays, stay_dropped, Goes-dropped, walk_of, says, ends_at}
-use denote.RattleType.{RattleType}
 use mir.Raw.{raw as raw_type}
-use mir.Syntax.{Dict, impl, method, no_args, tnil, tcons, dnil}
+use mir.Syntax.{Dict, impl, method, no_args, tnil, dnil}
 use prog.Model.{Model}
 use prog.Wired.{Wired}
 use seplogic.Ra.Ura.{Ura}
 use types.ByLocal.{alloc_all, pass_all, free_all, look_at, get, sets, lands_as}
-use Rattle.std.specs.Global.{Global}
 use types.Kit.{fpack, ‵, raw, ◌⊛◌, later, some, await, pick, feq_l, ◌$◌, ◌∵◌, !, qed, done, drop, keep, move, use0, use1, split, join, suffices}
 use types.Logic.{Logic}
+use types.Part.{agg}
 use types.Run.{enter, of_opd, no_more, and_then, returns}
 
 abbrev Boxed : Owning
@@ -76,24 +72,8 @@ laws = (RawPtr-laws, (row_laws global_row global_laws.the_row_laws global_laws.t
 abbrev stayed : Stays f.ended.signature.params f.ended.kept
 stayed = (stay_dropped _ no, tt)
 
--- the types as the call has them
-abbrev Kept : RattleType
-Kept = arg (raw_type (layout schema_row)) no schema_row
-
-abbrev kept_laws : Lawful Kept
-kept_laws = arg_laws (raw_type (layout schema_row)) no schema_row schema_laws.the_row_laws refl
-
-abbrev Heap : RattleType
-Heap = arg (raw_type (layout global_row)) no global_row
-
-abbrev heap_laws : Lawful Heap
-heap_laws = arg_laws (raw_type (layout global_row)) no global_row global_laws.the_row_laws refl
-
 abbrev schema_drop : Dict
 schema_drop = impl ("tv_handles::tv_schema++schema++Schema+Destruct::drop" ∷ []) tnil dnil
-
-abbrev global_drop : Dict
-global_drop = impl ("tv_handles::Destruct++none::drop" ∷ []) (tcons (layout Heap) tnil) dnil
 
 module _ {M : Type 1} (𝓤 : Ura M) (𝓛 : Logic 𝓤) (𝓜 : Model 𝓤 𝓛.H) (𝓡 : Running 𝓤 𝓛.H 𝓜) (wired : Wired 𝓡.env code.code) where
   -- a schema can be dropped
@@ -123,15 +103,15 @@ of_box_spec 𝓤 𝓛 𝓜 𝓡 wired =
     proved 𝓛 f.ended stayed c 𝓜 𝓡 (Goes-dropped 𝓛 0 (plain (λ _. row Boxed)) no (λ κs x w. refl), tt)
     f.Key.name code.function (code.unfolded 𝓤 𝓛.H 𝓜 𝓡 wired) (λ κs. (vals Boxed laws, tt)) (λ κs. (tells Boxed laws, tt)) (λ κs qs bounds a n are.
     let y : W.Ghost = ((κs, qs, bounds, a, (vals Boxed laws a.0, tt)), tt) in
-    let E = g.ended Kept Heap ghosts dict global_drop schema_drop in
-    let G = triple_of 𝓛 (g.signature Kept Heap ghosts dict global_drop schema_drop) (g.spec Kept Heap ghosts dict global_drop schema_drop 𝓛 𝓜.mem 𝓡.returns) in
-    let met_here = met 𝓤 𝓛 𝓜 𝓡 (code.calls-std_alloc::boxed::Box::into_raw 𝓡.env wired) Kept Heap kept_laws heap_laws ghosts dict global_drop schema_drop
+    let E = g.ended Kept Heap ghosts dict heap_drop schema_drop in
+    let G = triple_of 𝓛 (g.signature Kept Heap ghosts dict heap_drop schema_drop) (g.spec Kept Heap ghosts dict heap_drop schema_drop 𝓛 𝓜.mem 𝓡.returns) in
+    let met_here = met 𝓤 𝓛 𝓜 𝓡 (code.calls-std_alloc::boxed::Box::into_raw 𝓡.env wired) Kept Heap kept_laws heap_laws ghosts dict heap_drop schema_drop
     (passed 𝓡.env (code.calls-std_heap::GlobalAllocator::allocate 𝓡.env wired) (code.calls-std_heap::GlobalAllocator::deallocate 𝓡.env wired)
     (code.calls-std_heap::GlobalAllocator::grow 𝓡.env wired) (code.calls-std_heap::GlobalAllocator::shrink 𝓡.env wired) _ 𝓤 𝓛 𝓜 𝓡)
     (glues "tv_handles::Destruct++none::drop" 𝓡.env (code.calls-tv_handles::Destruct++none::drop 𝓡.env wired) Heap heap_laws _ 𝓤 𝓛 𝓜 𝓡) (drops 𝓤 𝓛 𝓜 𝓡 wired) in
     let vs = vals Boxed laws a.0 in
     let own = (row Boxed).own_val a.0 vs in
-    let typed = ((box_laws.the_field_loose schema_row global_row ghosts schema_laws.the_row_laws global_laws.the_row_laws).lawful 𝓛).typed a.0 vs are.0 in
+    let typed = (boxed_lawful 𝓛).typed a.0 vs are.0 in
     let τ = raw_type (lone schema_row.mir) in
     let z : G.Ghost = ((([], ([], tt)), (full_share, (full_share, tt)), tt, (a.0, tt), (vs, tt)), tt) in
     qed 𝓛 ((‵ ftrue ⊛ ‵ own ⊛ ‵ ftrue) ∷ ‵ ftrue ∷ []) ∵ split ! $ drop ! $ split ! $ keep ! (0 ∷ []) $

@@ -1,0 +1,59 @@
+-- A pointer with what it keeps is a handle.
+use Rattle.std.proofs.Common.{[], ◌∷◌, refl, lit<}
+use Rattle.std.proofs.alloc.Global.TheLaws as global_laws
+use Rattle.std.proofs.boxed.Box.TheLaws as box_laws
+use Rattle.std.specs.Prelude.{List, Option}
+use Rattle.std.specs.Ptr.{Ptr, block_ptr, null_ptr}
+use Rattle.std.specs.contracts.alloc.Global.{the_row as global_row}
+use Rattle.std.specs.contracts.boxed.Box.{the_row as box_row}
+use Rattle.std.specs.contracts.impls.GlobalAllocator.TheImpl.{ghosts}
+use Rattle.tv_doc.proofs.document.CompactDoc.TheLaws as document_laws
+use Rattle.tv_doc.specs.contracts.document.CompactDoc.{the_row as document_row}
+use Rattle.tv_doc.specs.declared.document.CompactDoc.{CompactDoc}
+use Rattle.tv_handles.specs.Kept.{keeps}
+use Rattle.tv_handles.specs.contracts.document_handle.DocumentHandle.{the_row, the_type}
+use base.Logic.{ent}
+use denote.Exit.{no}
+use denote.Laws.{Lawful}
+use denote.Memory.{lone}
+use denote.Param.{arg, layout}
+use denote.Param.Laws.{Laws, arg_laws}
+use denote.RattleType.{RattleType, Valss}
+use denote.RawPtr.{ptr_val, rawptr_vals}
+use denote.Steps.{nothing}
+use denote.Struct.Owning.{shape}
+use denote.Struct.Struct.{within}
+use lib.Dec.{T}
+use mir.Raw.{raw}
+use mir.Val.{Val, WT, has_ty, vstruct, of_list}
+use seplogic.Ra.Ura.{Ura}
+use types.Kit.{‵, ◌$◌, ◌∵◌, !, qed, done, fjoin, fpack, feq_i}
+use types.Logic.{Logic, sem}
+
+-- the handle's machine value
+abbrev pub handle_val : Ptr → Val
+handle_val p = vstruct (of_list (ptr_val p ∷ []))
+
+abbrev pub handle_vals : Ptr → List Val
+handle_vals p = handle_val p ∷ []
+
+pub handle_typed : (p : Ptr) → T (has_ty (lone the_row.mir) (handle_val p)) × WT (handle_val p)
+handle_typed (block_ptr b o) = (tt, (tt, tt))
+handle_typed null_ptr = (tt, (record { fits = lit< tt }, tt))
+
+pub made : {M : Type 1} {𝓤 : Ura M} (𝓛 : Logic 𝓤) (p : Ptr) (document : Option (CompactDoc))
+    → ent 𝓤 (sem 𝓛 (keeps document_row p document)) (sem 𝓛 (the_row.own_val (record { at = p; document = document }) (handle_vals p)))
+made 𝓛 p document =
+    qed 𝓛 (‵ (keeps document_row p document) ∷ []) ∵ nothing ! $ feq_i ! (List Val) (rawptr_vals p) (rawptr_vals p) refl $ fjoin ! $
+    feq_i ! (List Val) (handle_vals p) (handle_vals p) refl $ fjoin ! $
+    fpack ! (Valss (shape the_type).fields) (within (shape the_type) (p, tt) (handle_vals p)) (rawptr_vals p, tt) $ fjoin ! $ done !
+
+-- ---- the document as the calls of a `Box` have it
+abbrev pub Kept : RattleType
+Kept = arg (raw (layout document_row)) no document_row
+
+abbrev pub kept_laws : Laws Kept
+kept_laws = arg_laws (raw (layout document_row)) no document_row document_laws.the_row_laws refl
+
+pub boxed_lawful : {M : Type 1} {𝓤 : Ura M} (𝓛 : Logic 𝓤) → Lawful 𝓛 (box_row document_row global_row ghosts)
+boxed_lawful 𝓛 = (box_laws.the_field_loose document_row global_row ghosts document_laws.the_row_laws global_laws.the_row_laws).lawful 𝓛
