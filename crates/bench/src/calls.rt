@@ -1,8 +1,8 @@
 //! The calls that are measured.
 
 use crate::inputs::Inputs;
-use crate::layer;
 use crate::workload::{Pair, Workload, write_stored};
+use crate::{layer, term_calls};
 use anyhow::Result;
 use serde_json::Value;
 use std::alloc::Global;
@@ -63,6 +63,10 @@ pub enum Call {
     WriteTerms,
     /// From documents to the terms of their values in one buffer, which is used again.
     TermValues,
+    /// A range of terms of each value.
+    Ranges,
+    /// The text that `Debug` has for each term.
+    PrintTerms,
     /// From texts to facets, each tested as a prefix of the next.
     Facets,
     /// How many facets there are below each child of the root, counted in one pass over all.
@@ -98,7 +102,7 @@ impl Round {
 }
 
 impl Call {
-    pub const ALL: [Call; 26] = [
+    pub const ALL: [Call; 28] = [
         Call::ReadJson,
         Call::ParseJson,
         Call::ParseJsonInto,
@@ -123,6 +127,8 @@ impl Call {
         Call::Terms,
         Call::WriteTerms,
         Call::TermValues,
+        Call::Ranges,
+        Call::PrintTerms,
         Call::Facets,
         Call::CountFacets,
     ];
@@ -154,6 +160,8 @@ impl Call {
             Call::Terms => "terms",
             Call::WriteTerms => "write_terms",
             Call::TermValues => "term_values",
+            Call::Ranges => "ranges",
+            Call::PrintTerms => "print_terms",
             Call::Facets => "facets",
             Call::CountFacets => "count_facets",
         }
@@ -164,7 +172,8 @@ impl Call {
         match self {
             Call::ReadSchema => "field",
             Call::FindField => "path",
-            Call::Terms | Call::WriteTerms => "term",
+            Call::Terms | Call::WriteTerms | Call::PrintTerms => "term",
+            Call::Ranges => "range",
             Call::Facets | Call::CountFacets => "facet",
             _ => "doc",
         }
@@ -187,6 +196,8 @@ impl Call {
             Call::Terms => layer::make_terms(alloc, workload),
             Call::WriteTerms => layer::write_terms(alloc, workload),
             Call::TermValues => layer::list_terms(alloc, workload),
+            Call::Ranges => term_calls::make_ranges(alloc, workload),
+            Call::PrintTerms => term_calls::print_terms(alloc, workload),
             Call::Facets => layer::make_facets(alloc, inputs),
             Call::CountFacets => layer::count_facets(alloc, inputs),
             other => other.for_each_document(alloc, workload),

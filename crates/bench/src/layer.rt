@@ -212,8 +212,8 @@ pub fn write_terms(alloc: Global, workload: &Workload) -> Result<Round> {
     Ok(round)
 }
 
-// Makes the term of a pair's value, and answers whether it has one: not where the value is a list, or has tokens or nothing.
-fn write_term(writer: &mut TermWriter, pair: &Pair) -> Result<bool, TermError> {
+/// Makes the term of a pair's value, and answers whether it has one: not where the value is a list, or has tokens or nothing.
+pub fn write_term(writer: &mut TermWriter, pair: &Pair) -> Result<bool, TermError> {
     let field = pair.field;
     match &pair.value {
         OwnedValue::Str(text) => writer.write_text(field, text.as_str())?,
