@@ -51,6 +51,8 @@ pub enum Call {
     ReadFields,
     /// The documents of a block, passed over.
     SkipDocument,
+    /// The same value by value.
+    SkipValue,
     /// From lines of JSON to answers.
     Run,
     /// From its JSON to a schema.
@@ -102,7 +104,7 @@ impl Round {
 }
 
 impl Call {
-    pub const ALL: [Call; 28] = [
+    pub const ALL: [Call; 29] = [
         Call::ReadJson,
         Call::ParseJson,
         Call::ParseJsonInto,
@@ -121,6 +123,7 @@ impl Call {
         Call::ReadBlock,
         Call::ReadFields,
         Call::SkipDocument,
+        Call::SkipValue,
         Call::Run,
         Call::ReadSchema,
         Call::FindField,
@@ -154,6 +157,7 @@ impl Call {
             Call::ReadBlock => "read_block",
             Call::ReadFields => "read_fields",
             Call::SkipDocument => "skip_document",
+            Call::SkipValue => "skip_value",
             Call::Run => "run",
             Call::ReadSchema => "read_schema",
             Call::FindField => "find_field",
@@ -190,6 +194,7 @@ impl Call {
             Call::ReadBlock => layer::read_block_each(alloc, inputs, documents),
             Call::ReadFields => layer::read_fields_each(alloc, inputs, documents),
             Call::SkipDocument => layer::skip_each(alloc, inputs, documents),
+            Call::SkipValue => layer::skip_values_each(alloc, inputs, documents),
             Call::Run => Ok(layer::run_lines(alloc, inputs, documents)),
             Call::ReadSchema => layer::read_schema(alloc, inputs),
             Call::FindField => Ok(layer::find_each(workload, inputs)),

@@ -2,8 +2,8 @@
 //!
 //! Standard input holds the schema as JSON on its first line, and a document as JSON on each other line. Standard output says how
 //! many documents were accepted, how many bytes of JSON these have, and how many stored bytes. With the arguments `time N` standard
-//! error says for each call how many nanoseconds a document takes, or a field, path, term, range or facet: the mean over N rounds, and that of the best round. `time N CALL`
-//! makes that call alone.
+//! error says for each call how many nanoseconds a document takes, or a field, path, term, range or facet: the mean over N rounds, and
+//! that of the best round. `time N CALL` makes that call alone.
 #![tactic(auto)]
 
 mod calls;
