@@ -15,4 +15,3 @@ pub mod NestedSteps
 pub mod WithinDepth
 pub mod WithinLimits
 mod ChosenReads
-mod Gathering

@@ -8,7 +8,6 @@ pub mod PairsGiven
 pub mod RoundTrip
 pub mod Migrate
 pub mod Nested
-pub mod Gathered
 pub mod Depth
 pub mod Limits
 pub mod Skip

@@ -3,34 +3,70 @@
 //! Each function hands on the error of a failed write, and of memory that was refused. The sink then holds what it held before,
 //! and a beginning of what was to be written.
 
-ghost use Rattle.std.specs.Prelude.{◌<◌, length, Ok, IfErr, IfOk, IfSome};
+ghost use Rattle.std.specs.Prelude.{◌∷◌, ◌<◌, length, Ok, IfErr, IfOk, IfSome};
+ghost use Rattle.tv_base.specs.Sink.{Writes};
 ghost use Rattle.tv_format.specs.Short.{short_elements, short_entries};
 ghost use Rattle.tv_format.specs.Tree.{array, object, elements, entries};
+ghost use Rattle.tv_format.specs.Version.{Version};
 ghost use Rattle.tv_format.specs.WriteVersion.{written_version};
 ghost use Rattle.tv_heap.specs.Encoded.{encoded_bytes, HasFewEntries};
-ghost use Rattle.tv_store.specs.Gathered.{Gathers};
 ghost use Rattle.tv_store.specs.Nested.{all_left, bytes_left, inner_left, met_left};
-ghost use Rattle.tv_store.specs.Nested.{HeldNestsWithin, WritesBefore};
+ghost use Rattle.tv_store.specs.Nested.{HeldNestsWithin, IsSingle, WritesBefore};
 ghost use Rattle.tv_writer.specs.Error as store;
-ghost use Rattle.tv_writer.specs.Error.{write_stop, IsIo, IsIoOrMemory};
+ghost use Rattle.tv_writer.specs.Error.{IsIo, IsIoOrMemory};
 ghost use Rattle.tv_value.specs.Nesting.{NestsWithin};
 
 use crate::error::SerializeError;
-use crate::gather::gather_part;
-use crate::part_writer::{Part, write_single};
-use crate::pending::Pending;
-use crate::type_codes::ARRAY_CODE;
+use crate::type_codes::{ARRAY_CODE, BOOL_CODE, EXT_CODE, NULL_CODE, TOK_STR_EXT_CODE};
 use std::alloc::Global;
 use std::io;
 use tv_base::ByteSink;
+use tv_base::write::write_all;
 use tv_format::version::WriteVersion;
 use tv_heap::encoded::Encoded;
 use tv_heap::value::{CompactDocArrayIter, CompactDocObjectIter};
-use tv_writer::leaf_writer::write_coded_count;
+use tv_writer::leaf_writer::{write_code, write_coded_bool, write_coded_count, write_coded_u64};
 use tv_writer::value_writer::{write_key, write_object_head};
 
 // Lists within fewer than so many others are written by recursion, and those further in by a loop, whose stack takes memory.
 pub(crate) const LEVELS: u32 = 64;
+
+// A code, and the bytes behind it.
+#[inline]
+#[tactic(auto, using(tv_writer::proofs::Coded::Coded_then))]
+fn write_behind<K: ByteSink>(sink: &mut K, code: u8, content: &[u8]) -> Result<(), io::ErrorKind>
+    ensures { Writes K.is_known K.held K.failures sink.old sink.new result (code ∷ content.now) }
+{
+    write_code(sink, code)?;
+    write_all(sink, content)
+}
+
+// A text and its tokens, as they are encoded behind their two codes.
+#[tactic(auto, using(tv_base::proofs::Written::Writes_then, tv_base::proofs::Written::Writes_prefix))]
+fn write_encoded_tokens<K: ByteSink>(sink: &mut K, content: &[u8]) -> Result<(), io::ErrorKind>
+    ensures { Writes K.is_known K.held K.failures sink.old sink.new result (7 ∷ 0 ∷ content.now) }
+{
+    write_all(sink, &[EXT_CODE, TOK_STR_EXT_CODE])?;
+    write_all(sink, content)
+}
+
+// A value without children.
+#[inline(always)]
+fn write_single<K: ByteSink>(sink: &mut K, encoded: Encoded<'_>) -> Result<(), io::ErrorKind>
+    requires { IsSingle encoded }
+    ensures { (v : Version) → Writes K.is_known K.held K.failures sink.old sink.new result
+        (encoded_bytes v encoded.entry) }
+{
+    match encoded {
+        Encoded::Null => write_code(sink, NULL_CODE),
+        Encoded::Bool(truth) => write_coded_bool(sink, BOOL_CODE, truth),
+        Encoded::Number(code, number) => write_coded_u64(sink, code, number),
+        Encoded::Bytes(code, content) => write_behind(sink, code, content),
+        Encoded::Tokenized(content) => write_encoded_tokens(sink, content),
+        Encoded::Array(_, _) => unreachable!(),
+        Encoded::Object(_, _) => unreachable!(),
+    }
+}
 
 // The children of an open list that are left.
 #[derive(Clone, Copy)]
@@ -164,54 +200,36 @@ fn write_nested<K: ByteSink>(
     Ok(())
 }
 
-// The same behind what waits.
-#[cold]
-fn flush_and_write_nested<K: ByteSink>(
-    sink: &mut K,
-    pending: &mut Pending,
-    alloc: Global,
-    version: WriteVersion,
-    list: Open<'_>,
-) -> Result<(), SerializeError>
-    ensures writes { Gathers write_stop K.is_known K.held K.failures sink.old sink.new result
-        pending.old pending.new (bytes_left (written_version version) list.entry) }
-    ensures errors { IfErr result IsIoOrMemory }
-{
-    pending.flush(sink)?;
-    write_nested(sink, alloc, version, list)
-}
-
-// Gathers what a version of the store has for a value of a document. `levels` is how deep its lists may nest for no memory to be taken.
+// Writes what a version of the store has for a value of a document. `levels` is how deep its lists may nest for no memory to be taken.
 //
 // Errors: `Io` where a write failed, and `Memory` where memory was refused for a value that nests deeper. The sink then holds what it
-// held before, and a beginning of what waited and of the value.
+// held before, and a beginning of the value.
 #[inline(always)]
 #[cycle(encoded)]
-pub(crate) fn gather_encoded<K: ByteSink>(
+pub(crate) fn write_encoded<K: ByteSink>(
     sink: &mut K,
-    pending: &mut Pending,
     alloc: Global,
     version: WriteVersion,
     encoded: Encoded<'_>,
     levels: u32,
 ) -> Result<(), SerializeError>
     requires { HasFewEntries encoded }
-    ensures writes { Gathers write_stop K.is_known K.held K.failures sink.old sink.new result
-        pending.old pending.new (encoded_bytes (written_version version) encoded.entry) }
+    ensures writes { store.Writes K.is_known K.held K.failures sink.old sink.new result
+        (Ok (encoded_bytes (written_version version) encoded.entry)) }
     ensures errors { IfErr result IsIoOrMemory }
     ensures lean { HeldNestsWithin levels encoded.entry → IfErr result IsIo }
 {
     match encoded {
         Encoded::Array(count, items) => {
-            gather_part(sink, pending, version, Part::ArrayHead(count))?;
-            gather_items(sink, pending, alloc, version, items, levels)
+            write_coded_count(sink, ARRAY_CODE, count)?;
+            write_encoded_items(sink, alloc, version, items, levels)
         }
         Encoded::Object(count, members) => {
-            gather_part(sink, pending, version, Part::ObjectHead(count))?;
-            gather_members(sink, pending, alloc, version, members, levels)
+            write_object_head(sink, version, count)?;
+            write_encoded_members(sink, alloc, version, members, levels)
         }
         single => {
-            gather_part(sink, pending, version, Part::Single(single))?;
+            write_single(sink, single)?;
             Ok(())
         }
     }
@@ -220,25 +238,23 @@ pub(crate) fn gather_encoded<K: ByteSink>(
 // The values that are left of an array, in order.
 #[inline(never)]
 #[cycle(encoded)]
-fn gather_items<K: ByteSink>(
+fn write_encoded_items<K: ByteSink>(
     sink: &mut K,
-    pending: &mut Pending,
     alloc: Global,
     version: WriteVersion,
     items: CompactDocArrayIter<'_>,
     levels: u32,
 ) -> Result<(), SerializeError>
-    ensures writes { Gathers write_stop K.is_known K.held K.failures sink.old sink.new result
-        pending.old pending.new
-        (short_elements (written_version version) (elements items.entry.held.0)) }
+    ensures writes { store.Writes K.is_known K.held K.failures sink.old sink.new result
+        (Ok (short_elements (written_version version) (elements items.entry.held.0))) }
     ensures errors { IfErr result IsIoOrMemory }
     ensures lean { NestsWithin levels (array (elements items.entry.held.0)) → IfErr result IsIo }
 {
     if levels == 0 {
-        return flush_and_write_nested(sink, pending, alloc, version, Open::Items(items));
+        return write_nested(sink, alloc, version, Open::Items(items));
     }
     for item in items {
-        gather_encoded(sink, pending, alloc, version, item.encoded(), levels - 1)?;
+        write_encoded(sink, alloc, version, item.encoded(), levels - 1)?;
     }
     Ok(())
 }
@@ -246,26 +262,24 @@ fn gather_items<K: ByteSink>(
 // The keys and values that are left of an object, in order.
 #[inline(never)]
 #[cycle(encoded)]
-fn gather_members<K: ByteSink>(
+fn write_encoded_members<K: ByteSink>(
     sink: &mut K,
-    pending: &mut Pending,
     alloc: Global,
     version: WriteVersion,
     members: CompactDocObjectIter<'_>,
     levels: u32,
 ) -> Result<(), SerializeError>
-    ensures writes { Gathers write_stop K.is_known K.held K.failures sink.old sink.new result
-        pending.old pending.new
-        (short_entries (written_version version) (entries members.entry.held.0)) }
+    ensures writes { store.Writes K.is_known K.held K.failures sink.old sink.new result
+        (Ok (short_entries (written_version version) (entries members.entry.held.0))) }
     ensures errors { IfErr result IsIoOrMemory }
     ensures lean { NestsWithin levels (object (entries members.entry.held.0)) → IfErr result IsIo }
 {
     if levels == 0 {
-        return flush_and_write_nested(sink, pending, alloc, version, Open::Members(members));
+        return write_nested(sink, alloc, version, Open::Members(members));
     }
     for (key, item) in members {
-        gather_part(sink, pending, version, Part::Key(key))?;
-        gather_encoded(sink, pending, alloc, version, item.encoded(), levels - 1)?;
+        write_key(sink, version, key)?;
+        write_encoded(sink, alloc, version, item.encoded(), levels - 1)?;
     }
     Ok(())
 }

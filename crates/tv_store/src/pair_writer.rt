@@ -3,14 +3,13 @@
 //! Each function hands on the error of a failed write, and of memory that was refused. The sink then holds what it held before,
 //! and a beginning of what was to be written.
 
-ghost use Rattle.std.specs.Prelude.{◌++◌, Ok, IfErr};
+ghost use Rattle.std.specs.Prelude.{◌∷◌, ◌++◌, Ok, IfErr};
 ghost use Rattle.std.specs.List.{flat_map};
-ghost use Rattle.tv_base.specs.Number.{four_bytes};
-ghost use Rattle.tv_base.specs.Sink.{io_stop, Writes};
+ghost use Rattle.tv_base.specs.Number.{four_bytes, eight_bytes};
+ghost use Rattle.tv_base.specs.Sink.{Writes};
 ghost use Rattle.tv_doc.specs.Document.{document_of};
 ghost use Rattle.tv_heap.specs.Encoded.{encoded_bytes, HasFewEntries, IsTokenized};
 ghost use Rattle.tv_heap.specs.Value.{tree_of};
-ghost use Rattle.tv_store.specs.Gathered.{Gathers};
 ghost use Rattle.tv_store.specs.Nested.{HeldNestsWithin};
 ghost use Rattle.tv_store.specs.Stored.{leaf_written, tree_written};
 ghost use Rattle.tv_value.specs.Lent.{leaf_of};
@@ -18,19 +17,16 @@ ghost use Rattle.tv_format.specs.Short.{short_document, short_leaf, short_pair};
 ghost use Rattle.tv_format.specs.Version.{Version};
 ghost use Rattle.tv_format.specs.WriteVersion.{written_version};
 ghost use Rattle.tv_writer.specs.Error as store;
-ghost use Rattle.tv_writer.specs.Error.{write_stop, IsIo, IsIoOrMemory};
+ghost use Rattle.tv_writer.specs.Error.{IsIo, IsIoOrMemory};
 ghost use Rattle.tv_value.specs.Nesting.{AllNestWithin, NestsWithin};
 
-use crate::encoded_writer::{LEVELS, gather_encoded};
+use crate::encoded_writer::{LEVELS, write_encoded};
 use crate::error::SerializeError;
-use crate::gather::gather_part;
-use crate::part_writer::Part;
-use crate::pending::Pending;
 use crate::type_codes::TEXT_CODE;
 use std::alloc::Global;
 use std::io;
 use tv_base::ByteSink;
-use tv_base::write::{write_u32, write_vint};
+use tv_base::write::{write_all, write_u32, write_vint};
 use tv_doc::document::CompactDoc;
 use tv_format::version::WriteVersion;
 use tv_heap::encoded::Encoded;
@@ -39,6 +35,81 @@ use tv_value::field::Field;
 use tv_value::leaf::ReferenceValueLeaf;
 use tv_value::value::{ReferenceValue, Value};
 use tv_writer::leaf_writer::{write_coded_text, write_leaf};
+
+// Writes a field and bytes behind their code.
+#[inline(always)]
+#[tactic(auto, using(tv_base::proofs::Written::Writes_then, tv_base::proofs::Written::Writes_prefix))]
+fn write_field_bytes<K: ByteSink>(
+    sink: &mut K,
+    field: Field,
+    code: u8,
+    content: &[u8],
+) -> Result<(), io::ErrorKind>
+    ensures { Writes K.is_known K.held K.failures sink.old sink.new result
+        (four_bytes field.id ++ (code ∷ content.now)) }
+{
+    let [a, b, c, d] = field.field_id().to_le_bytes();
+    write_all(sink, &[a, b, c, d, code])?;
+    write_all(sink, content)
+}
+
+// Writes a field and a number in eight bytes, with the code of its type, at once.
+#[inline(always)]
+fn write_field_u64<K: ByteSink>(
+    sink: &mut K,
+    field: Field,
+    code: u8,
+    number: u64,
+) -> Result<(), io::ErrorKind>
+    ensures { Writes K.is_known K.held K.failures sink.old sink.new result
+        (four_bytes field.id ++ (code ∷ eight_bytes number)) }
+{
+    let [a, b, c, d] = field.field_id().to_le_bytes();
+    let [e, f, g, h, i, j, k, l] = number.to_le_bytes();
+    write_all(sink, &[a, b, c, d, code, e, f, g, h, i, j, k, l])
+}
+
+// Writes a field and what the version has for a value.
+#[inline(always)]
+fn write_field_encoded<K: ByteSink>(
+    sink: &mut K,
+    alloc: Global,
+    version: WriteVersion,
+    field: Field,
+    encoded: Encoded<'_>,
+) -> Result<(), SerializeError>
+    requires { HasFewEntries encoded }
+    ensures writes { store.Writes K.is_known K.held K.failures sink.old sink.new result
+        (Ok (four_bytes field.id ++ encoded_bytes (written_version version) encoded.entry)) }
+    ensures errors { IfErr result IsIoOrMemory }
+    ensures lean { HeldNestsWithin 64 encoded.entry → IfErr result IsIo }
+{
+    write_u32(sink, field.field_id())?;
+    write_encoded(sink, alloc, version, encoded, LEVELS)
+}
+
+// The same. What is commonest is written with the field, at once.
+#[inline(always)]
+pub(crate) fn write_pair<K: ByteSink>(
+    sink: &mut K,
+    alloc: Global,
+    version: WriteVersion,
+    field: Field,
+    encoded: Encoded<'_>,
+) -> Result<(), SerializeError>
+    requires { HasFewEntries encoded }
+    ensures writes { store.Writes K.is_known K.held K.failures sink.old sink.new result
+        (Ok (four_bytes field.id ++ encoded_bytes (written_version version) encoded.entry)) }
+    ensures errors { IfErr result IsIoOrMemory }
+    ensures lean { HeldNestsWithin 64 encoded.entry → IfErr result IsIo }
+{
+    match encoded {
+        Encoded::Number(code, number) => write_field_u64(sink, field, code, number)?,
+        Encoded::Bytes(code, content) => write_field_bytes(sink, field, code, content)?,
+        other => write_field_encoded(sink, alloc, version, field, other)?,
+    }
+    Ok(())
+}
 
 // Writes a value without children, of a text with tokens the text alone.
 fn write_stored_leaf<K: ByteSink>(
@@ -73,106 +144,22 @@ fn write_field_text<K: ByteSink>(
     }
 }
 
-// Writes what waits, and a field and the text of a text with tokens.
-#[inline(never)]
-fn flush_and_write_text<K: ByteSink>(
+// Writes a pair as it is stored: its field, and its value, of a text with tokens the text alone.
+pub(crate) fn write_stored_pair<K: ByteSink>(
     sink: &mut K,
-    pending: &mut Pending,
-    field: Field,
-    value: CompactDocValue<'_>,
-) -> Result<(), io::ErrorKind>
-    requires { IsTokenized (tree_of value) }
-    ensures { (v : Version) → Gathers io_stop K.is_known K.held K.failures sink.old sink.new result
-        pending.old pending.new (short_pair v (field.id, tree_written (tree_of value.entry))) }
-{
-    pending.flush(sink)?;
-    write_field_text(sink, field, value)
-}
-
-// Gathers a field and what the version has for a value. What is commonest is one part with the field.
-#[inline(always)]
-fn gather_pair<K: ByteSink>(
-    sink: &mut K,
-    pending: &mut Pending,
-    alloc: Global,
-    version: WriteVersion,
-    field: Field,
-    encoded: Encoded<'_>,
-) -> Result<(), SerializeError>
-    requires { HasFewEntries encoded }
-    ensures writes { Gathers write_stop K.is_known K.held K.failures sink.old sink.new result
-        pending.old pending.new
-        (four_bytes field.id ++ encoded_bytes (written_version version) encoded.entry) }
-    ensures errors { IfErr result IsIoOrMemory }
-    ensures lean { HeldNestsWithin 64 encoded.entry → IfErr result IsIo }
-{
-    match encoded {
-        Encoded::Number(code, number) => {
-            gather_part(
-                sink,
-                pending,
-                version,
-                Part::FieldNumber(field, code, number),
-            )?;
-            Ok(())
-        }
-        Encoded::Bytes(code, content) => {
-            gather_part(
-                sink,
-                pending,
-                version,
-                Part::FieldBytes(field, code, content),
-            )?;
-            Ok(())
-        }
-        other => {
-            gather_part(sink, pending, version, Part::Field(field))?;
-            gather_encoded(sink, pending, alloc, version, other, LEVELS)
-        }
-    }
-}
-
-// Gathers a pair as it is stored: its field, and its value, of a text with tokens the text alone.
-#[inline(always)]
-pub(crate) fn gather_stored_pair<K: ByteSink>(
-    sink: &mut K,
-    pending: &mut Pending,
     alloc: Global,
     version: WriteVersion,
     field: Field,
     value: CompactDocValue<'_>,
 ) -> Result<(), SerializeError>
-    ensures writes { Gathers write_stop K.is_known K.held K.failures sink.old sink.new result
-        pending.old pending.new
-        (short_pair (written_version version) (field.id, tree_written (tree_of value.entry))) }
+    ensures writes { store.Writes K.is_known K.held K.failures sink.old sink.new result
+        (Ok (short_pair (written_version version) (field.id, tree_written (tree_of value.entry)))) }
     ensures errors { IfErr result IsIoOrMemory }
     ensures lean { NestsWithin 64 (tree_of value.entry) → IfErr result IsIo }
 {
     match value.encoded() {
-        Encoded::Tokenized(_) => {
-            flush_and_write_text(sink, pending, field, value)?;
-            Ok(())
-        }
-        encoded => gather_pair(sink, pending, alloc, version, field, encoded),
-    }
-}
-
-// Gathers all pairs of a document, in order.
-fn gather_pairs<K: ByteSink>(
-    sink: &mut K,
-    pending: &mut Pending,
-    version: WriteVersion,
-    document: &CompactDoc,
-) -> Result<(), SerializeError>
-    ensures writes { Gathers write_stop K.is_known K.held K.failures sink.old sink.new result
-        pending.old pending.new
-        (flat_map (short_pair (written_version version)) (document_of document.now)) }
-    ensures errors { IfErr result IsIoOrMemory }
-    ensures lean { AllNestWithin 64 (document_of document.now) → IfErr result IsIo }
-{
-    let alloc = document.allocator();
-    for (field, value) in document.field_values() {
-        gather_pair(sink, pending, alloc, version, field, value.encoded())?;
+        Encoded::Tokenized(_) => write_field_text(sink, field, value)?,
+        encoded => write_pair(sink, alloc, version, field, encoded)?,
     }
     Ok(())
 }
@@ -188,9 +175,10 @@ fn write_pairs<K: ByteSink>(
     ensures errors { IfErr result IsIoOrMemory }
     ensures lean { AllNestWithin 64 (document_of document.now) → IfErr result IsIo }
 {
-    let mut pending = Pending::new();
-    gather_pairs(sink, &mut pending, version, document)?;
-    pending.flush(sink)?;
+    let alloc = document.allocator();
+    for (field, value) in document.field_values() {
+        write_pair(sink, alloc, version, field, value.encoded())?;
+    }
     Ok(())
 }
 

@@ -4,17 +4,15 @@ ghost use Rattle.std.specs.Prelude.{◌≡◌, ◌<◌, [], ◌∷◌, Ok, IfErr
 ghost use Rattle.tv_doc.specs.Belongs.{Belongs};
 ghost use Rattle.tv_doc.specs.Document.{document_of};
 ghost use Rattle.tv_heap.specs.Value.{tree_of};
-ghost use Rattle.tv_store.specs.Gathered.{Gathers};
 ghost use Rattle.tv_store.specs.Stored.{stored, written_pairs};
 ghost use Rattle.tv_format.specs.Short.{short_document};
 ghost use Rattle.tv_format.specs.WriteVersion.{written_version};
 ghost use Rattle.tv_writer.specs.Error as store;
-ghost use Rattle.tv_writer.specs.Error.{write_stop, IsIo, IsIoOrMemory};
+ghost use Rattle.tv_writer.specs.Error.{IsIo, IsIoOrMemory};
 ghost use Rattle.tv_value.specs.Nesting.{AllNestWithin, NestsWithin};
 
 use crate::error::SerializeError;
-use crate::pair_writer::gather_stored_pair;
-use crate::pending::Pending;
+use crate::pair_writer::write_stored_pair;
 use std::alloc::Global;
 use tv_base::ByteSink;
 use tv_base::write::write_vint;
@@ -43,11 +41,10 @@ fn stored_count(schema: &Schema, document: &CompactDoc) -> u64
     count
 }
 
-// Gathers the pair, if its field is stored.
+// Writes the pair, if its field is stored.
 #[inline(always)]
-fn gather_if_stored<K: ByteSink>(
+fn write_if_stored<K: ByteSink>(
     sink: &mut K,
-    pending: &mut Pending,
     alloc: Global,
     version: WriteVersion,
     schema: &Schema,
@@ -55,40 +52,17 @@ fn gather_if_stored<K: ByteSink>(
     value: CompactDocValue<'_>,
 ) -> Result<(), SerializeError>
     requires { field.id < length schema.now }
-    ensures writes { Gathers write_stop K.is_known K.held K.failures sink.old sink.new result
-        pending.old pending.new
-        (written_pairs (written_version version) schema.now
-        ((field.id, tree_of value.entry) ∷ [])) }
+    ensures writes { store.Writes K.is_known K.held K.failures sink.old sink.new result
+        (Ok (written_pairs (written_version version) schema.now
+        ((field.id, tree_of value.entry) ∷ []))) }
     ensures errors { IfErr result IsIoOrMemory }
     ensures lean { NestsWithin 64 (tree_of value.entry) → IfErr result IsIo }
 {
     if schema.get_field_entry(field).is_stored() {
-        gather_stored_pair(sink, pending, alloc, version, field, value)
+        write_stored_pair(sink, alloc, version, field, value)
     } else {
         Ok(())
     }
-}
-
-// Gathers the stored pairs, in order.
-fn gather_stored_pairs<K: ByteSink>(
-    sink: &mut K,
-    pending: &mut Pending,
-    version: WriteVersion,
-    schema: &Schema,
-    document: &CompactDoc,
-) -> Result<(), SerializeError>
-    requires { Belongs schema.now (document_of document.now) }
-    ensures writes { Gathers write_stop K.is_known K.held K.failures sink.old sink.new result
-        pending.old pending.new
-        (written_pairs (written_version version) schema.now (document_of document.now)) }
-    ensures errors { IfErr result IsIoOrMemory }
-    ensures lean { AllNestWithin 64 (document_of document.now) → IfErr result IsIo }
-{
-    let alloc = document.allocator();
-    for (field, value) in document.field_values() {
-        gather_if_stored(sink, pending, alloc, version, schema, field, value)?;
-    }
-    Ok(())
 }
 
 // Writes the stored pairs, in order.
@@ -104,9 +78,10 @@ fn write_stored_pairs<K: ByteSink>(
     ensures errors { IfErr result IsIoOrMemory }
     ensures lean { AllNestWithin 64 (document_of document.now) → IfErr result IsIo }
 {
-    let mut pending = Pending::new();
-    gather_stored_pairs(sink, &mut pending, version, schema, document)?;
-    pending.flush(sink)?;
+    let alloc = document.allocator();
+    for (field, value) in document.field_values() {
+        write_if_stored(sink, alloc, version, schema, field, value)?;
+    }
     Ok(())
 }
 

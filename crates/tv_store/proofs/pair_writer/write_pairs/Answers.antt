@@ -1,17 +1,43 @@
+use Rattle.std.proofs.Common.{◌≡◌, ◌∷◌, subst, rules}
 use Rattle.std.proofs.lemmas.Result.{err_from_is_err_and}
-use Rattle.tv_store.proofs.Gathering.{Gathers_fails, Gathers_flushed}
-use Rattle.tv_store.proofs.Stores.{writes_for, writes_all}
+use Rattle.tv_base.proofs.Written.{Written-start, Written-step, Written-fails}
+use Rattle.tv_doc.specs.Document.{document_of}
+use Rattle.tv_doc.specs.FieldValues.{pairs_left}
+use Rattle.tv_heap.specs.Value.{tree_of}
+use Rattle.tv_format.specs.WriteVersion.{written_version}
+use Rattle.tv_value.specs.Nesting.{AllNestWithin}
+use Rattle.tv_store.proofs.Nesting.{held_within}
+use Rattle.tv_store.proofs.Stores.{pair_next}
 use Rattle.tv_store.proofs.pair_writer.write_pairs.Goals as goal
 
-pub returns-in_err-gather_pairs-clause-writes : goal.returns-in_err-gather_pairs-clause-writes
-returns-in_err-gather_pairs-clause-writes g c =
+pub loop-field-init : goal.loop-field-init
+loop-field-init g c =
+    let all : pairs_left c.into_iter-field-iterator.result ≡ document_of c.args.document.now = search rules in
+    rw all (record { can_next = tt; is_finite = tt; written = Written-start _ _ _ _ _; within = λ h. h })
+
+pub loop-field-preserved : goal.loop-field-preserved
+loop-field-preserved g c =
+    let l = c.loop-field in
+    let v = written_version c.args.version in
+    let cut : pairs_left l.field-iterator ≡ (c.in-Some.field.id, tree_of c.in-Some.value) ∷ pairs_left c.next.new.self = search rules in
+    record {
+      can_next = tt;
+      is_finite = tt;
+      written = Written-step _ _ (pair_next v _ _ _ _ _ cut (c.encoded.ensures.bytes v)) l.invariant.written c.in_ok-write_pair.ensures.writes;
+      within = λ h. (subst (AllNestWithin 64) cut (l.invariant.within h)).1;
+    }
+
+pub returns-in_err-write_pair-clause-writes : goal.returns-in_err-write_pair-clause-writes
+returns-in_err-write_pair-clause-writes g c =
     let p = err_from_is_err_and c.from_residual.result c.from_residual.ensures.1 in
-    rw (p.1, p.2) (Gathers_fails c.new-pending.ensures c.in_err-gather_pairs.ensures.writes)
+    let l = c.loop-field in
+    let v = written_version c.args.version in
+    let cut : pairs_left l.field-iterator ≡ (c.in-Some.field.id, tree_of c.in-Some.value) ∷ pairs_left c.next.new.self = search rules in
+    rw (p.1, p.2) (Written-fails _ _ (pair_next v _ _ _ _ _ cut (c.encoded.ensures.bytes v)) l.invariant.written c.in_err-write_pair.ensures.writes)
 
-pub returns-in_err-flush-clause-writes : goal.returns-in_err-flush-clause-writes
-returns-in_err-flush-clause-writes g c =
-    let p = err_from_is_err_and c.from_residual-in_err-flush.result c.from_residual-in_err-flush.ensures.1 in
-    rw (p.1, p.2) (writes_for {T = Unit {0}} (Gathers_flushed c.new-pending.ensures c.in_ok-gather_pairs.ensures.writes c.in_err-flush.ensures.writes))
-
-pub returns-clause-writes : goal.returns-clause-writes
-returns-clause-writes g c = writes_all {T = Unit {0}} (Gathers_flushed c.new-pending.ensures c.in_ok-gather_pairs.ensures.writes c.in_ok-flush.ensures.writes)
+pub returns-in_err-write_pair-clause-lean : goal.returns-in_err-write_pair-clause-lean
+returns-in_err-write_pair-clause-lean g c =
+    let p = err_from_is_err_and c.from_residual.result c.from_residual.ensures.1 in
+    let l = c.loop-field in
+    let cut : pairs_left l.field-iterator ≡ (c.in-Some.field.id, tree_of c.in-Some.value) ∷ pairs_left c.next.new.self = search rules in
+    λ h. rw (p.1, p.2) (c.in_err-write_pair.ensures.lean (held_within 64 c.in-Some.value c.encoded.result c.encoded.ensures.bytes (subst (AllNestWithin 64) cut (l.invariant.within h)).0))

@@ -3,7 +3,7 @@ use Rattle.std.specs.Int.{w32, to_le_bytes}
 use Rattle.tv_base.specs.Number.{four_bytes}
 use Rattle.tv_base.proofs.Written.{Writes_as}
 use Rattle.tv_writer.proofs.Coded.{four_listed, eight_listed}
-use Rattle.tv_store.proofs.part_writer.write_field_u64.Goals as goal
+use Rattle.tv_store.proofs.pair_writer.write_field_u64.Goals as goal
 
 pub returns : goal.returns
 returns g c =

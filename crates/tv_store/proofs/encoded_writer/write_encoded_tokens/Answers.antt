@@ -1,7 +1,7 @@
 use Rattle.std.proofs.Common.{refl}
 use Rattle.std.proofs.lemmas.Result.{err_from_is_err_and}
 use Rattle.tv_base.proofs.Written.{Writes_some}
-use Rattle.tv_store.proofs.part_writer.write_encoded_tokens.Goals as goal
+use Rattle.tv_store.proofs.encoded_writer.write_encoded_tokens.Goals as goal
 
 pub returns-in_err-write_all : goal.returns-in_err-write_all
 returns-in_err-write_all g c =

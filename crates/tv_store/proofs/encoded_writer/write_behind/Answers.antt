@@ -1,6 +1,6 @@
 use Rattle.std.proofs.lemmas.Result.{err_from_is_err_and}
 use Rattle.tv_writer.proofs.Coded.{Coded_fails}
-use Rattle.tv_store.proofs.part_writer.write_behind.Goals as goal
+use Rattle.tv_store.proofs.encoded_writer.write_behind.Goals as goal
 
 pub returns-in_err-write_code : goal.returns-in_err-write_code
 returns-in_err-write_code g c =

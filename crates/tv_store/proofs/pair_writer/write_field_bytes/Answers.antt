@@ -3,7 +3,7 @@ use Rattle.std.specs.Int.{w32, to_le_bytes}
 use Rattle.std.proofs.lemmas.Result.{err_from_is_err_and}
 use Rattle.tv_base.proofs.Written.{Writes_both, Writes_some}
 use Rattle.tv_writer.proofs.Coded.{four_listed}
-use Rattle.tv_store.proofs.part_writer.write_field_bytes.Goals as goal
+use Rattle.tv_store.proofs.pair_writer.write_field_bytes.Goals as goal
 
 pub returns : goal.returns
 returns g c =

@@ -1,19 +1,17 @@
-use Rattle.std.specs.Prelude.{◌++◌}
+use Rattle.std.specs.List.{flat_map}
 use Rattle.tv_base.proofs.Written.{Written}
 use Rattle.tv_doc.specs.Document.{document_of}
 use Rattle.tv_doc.specs.FieldValues.{pairs_left}
-use Rattle.tv_doc.specs.Belongs.{Belongs}
-use Rattle.tv_store.specs.Stored.{written_pairs}
+use Rattle.tv_format.specs.Short.{short_pair}
 use Rattle.tv_format.specs.WriteVersion.{written_version}
 use Rattle.tv_value.specs.Nesting.{AllNestWithin}
-use Rattle.tv_store.proofs.se.gather_stored_pairs.Given as goal
+use Rattle.tv_store.proofs.pair_writer.write_pairs.Given as goal
 
 abbrev pub invariant-loop-field : goal.invariant-loop-field
 invariant-loop-field g l = record {
   can_next : (goal.iterator-loop-field g).can_next l.field-iterator;
   is_finite : (goal.iterator-loop-field g).is_finite l.field-iterator;
-  belongs : Belongs l.schema (pairs_left l.field-iterator);
   written : Written g.K.ByteSink.is_known g.K.ByteSink.held g.K.ByteSink.failures l.initial.sink l.sink
-      (l.initial.pending ++ written_pairs (written_version l.version) l.schema (document_of l.document)) (l.pending ++ written_pairs (written_version l.version) l.schema (pairs_left l.field-iterator));
+      (flat_map (short_pair (written_version l.version)) (document_of l.document)) (flat_map (short_pair (written_version l.version)) (pairs_left l.field-iterator));
   within : AllNestWithin 64 (document_of l.document) → AllNestWithin 64 (pairs_left l.field-iterator);
 }
