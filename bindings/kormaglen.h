@@ -13,8 +13,9 @@
  * A block has documents one behind the other, as a block of a document store has them. A schema is its JSON, as tantivy writes it, or a
  * handle that holds one, so that its JSON is read once.
  *
- * A handle is the caller's struct, and what it holds is the library's. One that is all zeros is closed. Whoever opens it closes it, and
- * it is used by one call at a time, on the thread that opened it. It may be moved, but a copy of it is never used beside it, nor after it was closed.
+ * A handle is the caller's struct, and what it holds is the library's: a schema, or a document. One that is all zeros is closed. Whoever
+ * opens it closes it, and it is used by one call at a time, on the thread that opened it. It may be moved, but a copy of it is never used
+ * beside it, nor after it was closed.
  */
 #ifndef KORMAGLEN_H
 #define KORMAGLEN_H
@@ -39,7 +40,9 @@ enum kormaglen_status {
     KORMAGLEN_BAD_DOCUMENT = 8,  /* a document is refused; detail says why, place is where in the block it begins */
     KORMAGLEN_WRONG_VERSION = 9, /* there is no such version of the store */
     KORMAGLEN_NO_END = 10,       /* no byte string is above all that begin with the prefix */
-    KORMAGLEN_CLOSED = 15        /* the handle holds no schema */
+    KORMAGLEN_BAD_LINE = 11,     /* a line has no document; detail is of kormaglen_line_status, place is the field whose value is refused */
+    KORMAGLEN_FOREIGN_FIELD = 12, /* a document has a field that the schema does not have; place is its number */
+    KORMAGLEN_CLOSED = 15        /* a handle holds nothing */
 };
 
 /* With KORMAGLEN_BAD_SCHEMA: kormaglen_answer.detail. */
@@ -69,7 +72,7 @@ enum kormaglen_document_detail {
     KORMAGLEN_DOCUMENT_TOO_LONG = 14
 };
 
-/* What became of a line: kormaglen_line_answer.status. */
+/* What became of a line: kormaglen_line_answer.status, and with KORMAGLEN_BAD_LINE kormaglen_answer.detail. */
 enum kormaglen_line_status {
     KORMAGLEN_LINE_STORED = 0,
     KORMAGLEN_LINE_INVALID_JSON = 1, /* it is no JSON object */
@@ -91,6 +94,7 @@ typedef struct kormaglen_answer {
 
 typedef struct kormaglen_line_answer {
     uint32_t status; /* of kormaglen_line_status */
+    uint32_t field;  /* the field whose value is refused, with 2 to 6; else 0 */
     uint64_t bytes;  /* how many bytes its document takes in the block */
 } kormaglen_line_answer;
 
@@ -103,6 +107,11 @@ typedef struct kormaglen_found_field {
 typedef struct kormaglen_schema {
     void *at;
 } kormaglen_schema;
+
+/* A document, or none. The caller neither reads nor writes what is in it. */
+typedef struct kormaglen_document {
+    void *at;
+} kormaglen_document;
 
 /* Stores the documents of lines of JSON, one behind the other in version 2, and answers each line. A line ends at a line feed, and the last
  * may lack it. A line that is refused stores nothing, and the next line follows. bytes is the block's size, lines the number of answers.
@@ -204,6 +213,41 @@ kormaglen_answer kormaglen_schema_find_field(
     kormaglen_schema *schema,
     const uint8_t *path, size_t path_len,
     kormaglen_found_field *found);
+
+/* Reads the document with which the bytes begin, of version 1, 2 or 3, and has the handle hold it, in the memory of what it held before.
+ * bytes is how many bytes the document takes. After a refusal the handle is closed.
+ * Refusals: NO_MEMORY, BAD_DOCUMENT with place 0, WRONG_VERSION. */
+kormaglen_answer kormaglen_document_read(
+    uint32_t version,
+    const uint8_t *bytes, size_t bytes_len,
+    kormaglen_document *document);
+
+/* Makes the document of a line of JSON, and has the handle hold it, in the memory of what it held before. bytes is 0. After a refusal the
+ * document's handle is closed.
+ * Refusals: NO_MEMORY, BAD_LINE, CLOSED. */
+kormaglen_answer kormaglen_document_parse(
+    kormaglen_schema *schema,
+    const uint8_t *line, size_t line_len,
+    kormaglen_document *document);
+
+/* Writes the document as JSON with the names of the schema's fields, without a line feed. Values of fields that the schema does not have are
+ * left out.
+ * Refusals: TOO_SMALL, NO_MEMORY, CLOSED. */
+kormaglen_answer kormaglen_document_to_json(
+    kormaglen_document *document,
+    kormaglen_schema *schema,
+    uint8_t *text, size_t text_len);
+
+/* Writes the values of stored fields, as version 2 or 3 has them.
+ * Refusals: TOO_SMALL, NO_MEMORY, FOREIGN_FIELD, WRONG_VERSION, CLOSED. */
+kormaglen_answer kormaglen_document_write(
+    kormaglen_document *document,
+    kormaglen_schema *schema,
+    uint32_t version,
+    uint8_t *bytes, size_t bytes_len);
+
+/* Gives up the document. A handle that is closed stays closed. */
+void kormaglen_document_close(kormaglen_document *document);
 
 #ifdef __cplusplus
 }

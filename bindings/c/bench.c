@@ -1,6 +1,6 @@
 /* Prints how many nanoseconds a document takes in each call: the first argument is a file with a schema's JSON on its first line and a
- * document's on each other line, the second how often each call is made. The best of these counts. The last two lines are a call with the
- * first document alone: with the schema's JSON, and with a handle. */
+ * document's on each other line, the second how often each call is made. The best of these counts. The lines behind these are calls with the
+ * first document alone: an import with the schema's JSON, and with a handle; and by a handle of a document. */
 #include "kormaglen.h"
 
 #include <stdio.h>
@@ -53,6 +53,37 @@ static int import_one(const uint8_t *schema, size_t schema_len, const uint8_t *l
     return fine;
 }
 
+/* Parses one document, writes and reads it, and prints it, by handles. Returns whether all were accepted. */
+static int handle_one(const uint8_t *schema, size_t schema_len, const uint8_t *line, size_t line_len, long rounds, double best[4]) {
+    const size_t room = 2 * line_len + 1024;
+    kormaglen_schema handle = {0};
+    kormaglen_document document = {0};
+    uint8_t *bytes = malloc(room), *text = malloc(room);
+    int fine = bytes != NULL && text != NULL && kormaglen_schema_open(schema, schema_len, &handle).status == KORMAGLEN_OK;
+    for (long round = 0; fine && round < rounds; round++) {
+        double start = now();
+        kormaglen_answer parsed = kormaglen_document_parse(&handle, line, line_len, &document);
+        double at_write = now();
+        kormaglen_answer written = kormaglen_document_write(&document, &handle, 2, bytes, room);
+        double at_read = now();
+        kormaglen_answer read = kormaglen_document_read(2, bytes, (size_t)written.bytes, &document);
+        double at_print = now();
+        kormaglen_answer printed = kormaglen_document_to_json(&document, &handle, text, room);
+        double end = now();
+        best[0] = smaller(best[0], at_write - start);
+        best[1] = smaller(best[1], at_read - at_write);
+        best[2] = smaller(best[2], at_print - at_read);
+        best[3] = smaller(best[3], end - at_print);
+        fine = parsed.status == KORMAGLEN_OK && written.status == KORMAGLEN_OK && read.status == KORMAGLEN_OK &&
+               printed.status == KORMAGLEN_OK;
+    }
+    kormaglen_document_close(&document);
+    kormaglen_schema_close(&handle);
+    free(bytes);
+    free(text);
+    return fine;
+}
+
 int main(int count, char **words) {
     size_t len = 0;
     uint8_t *input = count < 3 ? NULL : read_file(words[1], &len);
@@ -68,7 +99,7 @@ int main(int count, char **words) {
     kormaglen_answer size = kormaglen_import_lines(input, schema_len, lines, lines_len, none, 0, no_answer, 0);
     uint8_t *block = malloc(size.bytes + 1), *migrated = malloc(size.bytes + 1);
     kormaglen_line_answer *answers = malloc((size.lines + 1) * sizeof *answers);
-    double best[3] = {1e18, 1e18, 1e18}, one[2] = {1e18, 1e18};
+    double best[3] = {1e18, 1e18, 1e18}, one[2] = {1e18, 1e18}, alone[4] = {1e18, 1e18, 1e18, 1e18};
     kormaglen_answer text = {0}, later = {0};
     uint8_t *printed = NULL;
     for (long round = atol(words[2]); round > 0; round--) {
@@ -92,7 +123,8 @@ int main(int count, char **words) {
     const uint8_t *first = memchr(lines, '\n', lines_len);
     size_t first_len = first == NULL ? lines_len : (size_t)(first - lines);
     if (text.status != KORMAGLEN_OK || later.status != KORMAGLEN_OK ||
-        !import_one(input, schema_len, lines, first_len, 100 * atol(words[2]), one)) {
+        !import_one(input, schema_len, lines, first_len, 100 * atol(words[2]), one) ||
+        !handle_one(input, schema_len, lines, first_len, 100 * atol(words[2]), alone)) {
         fputs("a call was refused\n", stderr);
         return 1;
     }
@@ -100,10 +132,14 @@ int main(int count, char **words) {
            (unsigned long long)text.bytes);
     static const char *const NAMES[] = {"import_lines", "export_block", "migrate_block"};
     for (int i = 0; i < 3; i++) {
-        printf("%-14s %8.0f\n", NAMES[i], best[i] / (double)size.lines);
+        printf("%-16s %8.0f\n", NAMES[i], best[i] / (double)size.lines);
     }
-    printf("one document   %8.0f\n", one[0]);
-    printf("by a handle    %8.0f\n", one[1]);
+    printf("%-16s %8.0f\n", "one document", one[0]);
+    printf("%-16s %8.0f\n", "by a handle", one[1]);
+    static const char *const ALONE[] = {"document_parse", "document_write", "document_read", "document_to_json"};
+    for (int i = 0; i < 4; i++) {
+        printf("%-16s %8.0f\n", ALONE[i], alone[i]);
+    }
     free(block);
     free(migrated);
     free(answers);

@@ -1,5 +1,5 @@
-/* Imports lines of JSON into a block of stored documents, reads them back, sorts the terms of a field and finds those of a range, and finds
- * a field and a facet. */
+/* Imports lines of JSON into a block of stored documents, reads them back, sorts the terms of a field and finds those of a range, finds a
+ * field and a facet, and handles one document alone. */
 #include "kormaglen.h"
 
 #include <stdio.h>
@@ -145,6 +145,22 @@ int main(void) {
         expect_ok("find", kormaglen_schema_find_field(&handle, bytes_of(paths[i]), strlen(paths[i]), &found));
         printf("field %u, path '%s'\n", (unsigned)found.field, paths[i] + found.rest);
     }
+
+    /* One document at a time: of a line, written in version 3, and read back. */
+    kormaglen_document document = {0};
+    const char *const line = "{\"name\":\"Dora\",\"age\":41}";
+    expect_ok("parse", kormaglen_document_parse(&handle, bytes_of(line), strlen(line), &document));
+    uint8_t bytes[64], json[64];
+    kormaglen_answer written = kormaglen_document_write(&document, &handle, 3, bytes, sizeof bytes);
+    expect_ok("write", written);
+    expect_ok("read", kormaglen_document_read(3, bytes, (size_t)written.bytes, &document));
+    kormaglen_answer shown = kormaglen_document_to_json(&document, &handle, json, sizeof json);
+    expect_ok("to_json", shown);
+    printf("%.*s takes %llu bytes\n", (int)shown.bytes, (const char *)json, (unsigned long long)written.bytes);
+    const char *const bad = "{\"age\":\"old\"}";
+    kormaglen_answer refused = kormaglen_document_parse(&handle, bytes_of(bad), strlen(bad), &document);
+    printf("status %u, refusal %u of field %llu\n", (unsigned)refused.status, (unsigned)refused.detail, (unsigned long long)refused.place);
+    kormaglen_document_close(&document);
     kormaglen_schema_close(&handle);
 
     uint8_t facet[64];

@@ -28,7 +28,7 @@ static const char *const LINES[] = {
 };
 
 static uint64_t state = 0x9E3779B97F4A7C15u;
-enum { CALLS = 13 };
+enum { CALLS = 17 };
 
 static uint64_t calls[CALLS];
 static uint64_t accepted[CALLS];
@@ -94,7 +94,7 @@ static size_t changed(uint8_t *bytes, size_t len) {
 /* What was written stands within the buffer, and after a refusal the buffer is as it was. */
 static void check(int call, kormaglen_answer answer, const uint8_t *buffer, size_t len) {
     calls[call] += 1;
-    if (answer.status > KORMAGLEN_NO_END && answer.status != KORMAGLEN_CLOSED) {
+    if (answer.status > KORMAGLEN_FOREIGN_FIELD && answer.status != KORMAGLEN_CLOSED) {
         fail("an unknown status");
     }
     size_t from = 0;
@@ -253,8 +253,8 @@ static void term_once(int call) {
     free(out);
 }
 
-static void expect_closed(const kormaglen_schema *handle, kormaglen_answer answer) {
-    if ((answer.status == KORMAGLEN_CLOSED) != (handle->at == NULL)) {
+static void expect_closed(int closed, kormaglen_answer answer) {
+    if ((answer.status == KORMAGLEN_CLOSED) != closed) {
         fail("a closed handle was used, or an open one refused");
     }
 }
@@ -291,7 +291,7 @@ static void handle_once(void) {
     if (imported.status != KORMAGLEN_TOO_SMALL) {
         check(10, imported, stored, room);
     }
-    expect_closed(&handle, imported);
+    expect_closed(handle.at == NULL, imported);
     free(t);
     free(stored);
 
@@ -301,7 +301,7 @@ static void handle_once(void) {
     uint8_t *b = copy_of(block, block_len), *lines = fresh(width);
     kormaglen_answer printed = kormaglen_schema_export_block(&handle, (uint32_t)below(5), b, block_len, lines, width);
     check(11, printed, lines, width);
-    expect_closed(&handle, printed);
+    expect_closed(handle.at == NULL, printed);
     free(b);
     free(lines);
 
@@ -311,7 +311,7 @@ static void handle_once(void) {
     kormaglen_found_field found;
     kormaglen_answer answer = kormaglen_schema_find_field(&handle, p, path_len, &found);
     check(12, answer, none, 1);
-    expect_closed(&handle, answer);
+    expect_closed(handle.at == NULL, answer);
     if (answer.status != KORMAGLEN_OK && (found.field != 0 || found.rest != 0)) {
         fail("a field where none was found");
     }
@@ -322,6 +322,97 @@ static void handle_once(void) {
         if (handle.at != NULL) {
             fail("a closed handle holds something");
         }
+    }
+}
+
+/* Has the handle hold a document of bytes or of a line, or none where these are refused. */
+static void fill_document(kormaglen_schema *schema, kormaglen_document *document) {
+    uint8_t none[1] = {KEPT}, input[2 * LARGEST];
+    kormaglen_answer answer;
+    if (below(2) == 0) {
+        size_t len = below(4) == 0 ? random_bytes(input) : changed(input, some_block(input));
+        uint8_t *bytes = copy_of(input, len);
+        answer = kormaglen_document_read((uint32_t)below(5), bytes, len, document);
+        free(bytes);
+        if (answer.bytes > len) {
+            fail("more bytes than there are");
+        }
+        answer.bytes = 0;
+        check(13, answer, none, 1);
+    } else {
+        const char *line = LINES[below(sizeof LINES / sizeof *LINES)];
+        size_t len = strlen(line);
+        memcpy(input, line, len);
+        len = below(4) == 0 ? random_bytes(input) : changed(input, len);
+        uint8_t *bytes = copy_of(input, len);
+        answer = kormaglen_document_parse(schema, bytes, len, document);
+        free(bytes);
+        check(14, answer, none, 1);
+        expect_closed(schema->at == NULL, answer);
+    }
+    if ((answer.status == KORMAGLEN_OK) != (document->at != NULL)) {
+        fail("the answer is not what became of the document");
+    }
+}
+
+/* Fills a handle, prints and writes its document, and reads back what was written, whether or not the handles hold something. */
+static void document_once(kormaglen_schema *schema) {
+    static kormaglen_document document;
+    fill_document(schema, &document);
+    int closed = schema->at == NULL || document.at == NULL;
+
+    size_t width = below(LARGEST), room = below(64);
+    uint32_t version = (uint32_t)below(5);
+    uint8_t *text = fresh(width), *bytes = fresh(room), *again = fresh(width);
+    kormaglen_answer printed = kormaglen_document_to_json(&document, schema, text, width);
+    check(15, printed, text, width);
+    expect_closed(closed, printed);
+    kormaglen_answer written = kormaglen_document_write(&document, schema, version, bytes, room);
+    check(16, written, bytes, room);
+    expect_closed(closed, written);
+    if (written.status == KORMAGLEN_OK) {
+        kormaglen_document back = {0};
+        kormaglen_answer read = kormaglen_document_read(version, bytes, (size_t)written.bytes, &back);
+        if (read.status != KORMAGLEN_OK || read.bytes != written.bytes) {
+            fail("what was written is not read back");
+        }
+        kormaglen_answer same = kormaglen_document_to_json(&back, schema, again, width);
+        if (same.status != printed.status || same.bytes != printed.bytes || memcmp(text, again, width) != 0) {
+            fail("what was written is another document");
+        }
+        kormaglen_document_close(&back);
+    }
+    free(text);
+    free(bytes);
+    free(again);
+    if (below(4) == 0) {
+        kormaglen_document_close(&document);
+        kormaglen_document_close(&document);
+        if (document.at != NULL) {
+            fail("a closed handle holds something");
+        }
+    }
+}
+
+/* By the schema, by one with fewer fields, and by none. */
+static void documents_once(void) {
+    static kormaglen_schema all, few;
+    static const char FEW[] = "[{\"name\":\"s\",\"type\":\"text\",\"options\":{\"stored\":true}}]";
+    if (all.at == NULL) {
+        kormaglen_schema_open((const uint8_t *)SCHEMA, strlen(SCHEMA), &all);
+        kormaglen_schema_open((const uint8_t *)FEW, strlen(FEW), &few);
+    }
+    kormaglen_schema none = {0};
+    switch (below(8)) {
+    case 0:
+        document_once(&none);
+        break;
+    case 1:
+    case 2:
+        document_once(&few);
+        break;
+    default:
+        document_once(&all);
     }
 }
 
@@ -341,11 +432,13 @@ int main(int count, char **words) {
             term_once(7);
             term_once(8);
             handle_once();
+            documents_once();
         }
     }
     static const char *const NAMES[] = {"import_lines", "export_block", "migrate_block", "find_field", "facet_of_text", "text_of_facet",
                                          "terms_of_block", "term_of_text", "end_of_prefix", "schema_open", "schema_import_lines",
-                                         "schema_export_block", "schema_find_field"};
+                                         "schema_export_block", "schema_find_field", "document_read", "document_parse",
+                                         "document_to_json", "document_write"};
     for (int i = 0; i < CALLS; i++) {
         printf("%-19s %10llu calls, %10llu accepted\n", NAMES[i], (unsigned long long)calls[i], (unsigned long long)accepted[i]);
     }

@@ -1,5 +1,5 @@
-"""Imports lines of JSON into a block of stored documents, reads them back, sorts the terms of a field and finds those of a range, and finds a
-field and a facet."""
+"""Imports lines of JSON into a block of stored documents, reads them back, sorts the terms of a field and finds those of a range, finds a
+field and a facet, and handles one document alone."""
 
 import json
 
@@ -37,6 +37,13 @@ def main() -> None:
         for path in ["more.tags", "age"]:
             field, rest = schema.find_field(path)
             print(f"field {field}, path '{rest}'")
+        document = kormaglen.Document.parse(schema, b'{"name":"Dora","age":41}')
+        read, size = kormaglen.Document.read(3, document.write(schema, 3))
+        print(f"{read.to_json(schema).decode()} takes {size} bytes")
+        try:
+            kormaglen.Document.parse(schema, b'{"age":"old"}')
+        except kormaglen.Refused as refused:
+            print(f"{refused.status}: reason {refused.detail} of field {refused.place}")
     encoded = kormaglen.facet_of_text("/staff/research")
     print(f"{kormaglen.text_of_facet(encoded)} takes {len(encoded)} bytes")
 

@@ -3,7 +3,7 @@
 >>> schema = b'[{"name":"name","type":"text","options":{"stored":true}}]'
 >>> imported = import_lines(schema, b'{"name":"Ada"}\\n')
 >>> imported.lines
-[LineAnswer(status='stored', bytes=10)]
+[LineAnswer(status='stored', bytes=10, field=None)]
 >>> export_block(schema, 2, imported.block)
 b'{"name":["Ada"]}\\n'
 """
@@ -11,9 +11,10 @@ b'{"name":["Ada"]}\\n'
 import ctypes
 import os
 import threading
-from typing import List, NamedTuple, Tuple
+from typing import List, NamedTuple, Optional, Tuple
 
 __all__ = [
+    "Document",
     "Imported",
     "LineAnswer",
     "Refused",
@@ -32,6 +33,9 @@ __all__ = [
 _OK = 0
 _TOO_SMALL = 1
 
+# So many bytes of a document are asked for at first.
+_FIRST_SIZE = 1024
+
 _REFUSALS = {
     2: "no memory",
     3: "not UTF-8",
@@ -42,10 +46,15 @@ _REFUSALS = {
     8: "bad document",
     9: "wrong version",
     10: "no end",
+    11: "bad line",
+    12: "foreign field",
     15: "closed",
 }
 
 _LINES = ["stored", "invalid JSON", "overflow", "wrong type", "bad text", "bad base64", "float", "no room"]
+
+# The statuses of a line that are about a field.
+_VALUES = range(2, 7)
 
 
 class Refused(Exception):
@@ -59,10 +68,11 @@ class Refused(Exception):
 
 
 class LineAnswer(NamedTuple):
-    """What became of a line, and how many bytes its document takes in the block."""
+    """What became of a line, how many bytes its document takes in the block, and the number of the field whose value was refused."""
 
     status: str
     bytes: int
+    field: Optional[int]
 
 
 class Imported(NamedTuple):
@@ -83,7 +93,7 @@ class _Answer(ctypes.Structure):
 
 
 class _LineAnswer(ctypes.Structure):
-    _fields_ = [("status", ctypes.c_uint32), ("bytes", ctypes.c_uint64)]
+    _fields_ = [("status", ctypes.c_uint32), ("field", ctypes.c_uint32), ("bytes", ctypes.c_uint64)]
 
 
 class _FoundField(ctypes.Structure):
@@ -114,13 +124,18 @@ def _library() -> ctypes.CDLL:
         "schema_import_lines": [handle] + given + written + written,
         "schema_export_block": [handle, ctypes.c_uint32] + given + written,
         "schema_find_field": [handle] + given + [ctypes.POINTER(_FoundField)],
+        "document_read": [ctypes.c_uint32] + given + [handle],
+        "document_parse": [handle] + given + [handle],
+        "document_to_json": [handle, handle] + written,
+        "document_write": [handle, handle, ctypes.c_uint32] + written,
     }
     for name, arguments in signatures.items():
         call = getattr(library, "kormaglen_" + name)
         call.argtypes = arguments
         call.restype = _Answer
-    library.kormaglen_schema_close.argtypes = [handle]
-    library.kormaglen_schema_close.restype = None
+    for close in (library.kormaglen_schema_close, library.kormaglen_document_close):
+        close.argtypes = [handle]
+        close.restype = None
     return library
 
 
@@ -152,7 +167,7 @@ def _imported(lines: bytes, call) -> Imported:
         answers = (_LineAnswer * max(count, 1))()
         answer = call(lines, len(lines), block, size, answers, count)
         if answer.status == _OK:
-            said = [LineAnswer(_LINES[a.status], a.bytes) for a in answers[: answer.lines]]
+            said = [LineAnswer(_LINES[a.status], a.bytes, a.field if a.status in _VALUES else None) for a in answers[: answer.lines]]
             return Imported(block.raw[: answer.bytes], said)
         if answer.status != _TOO_SMALL:
             raise _refused(answer)
@@ -223,7 +238,38 @@ def end_of_prefix(prefix: bytes) -> bytes:
     return _filled(len(prefix), lambda out, size: _CALLS.kormaglen_end_of_prefix(prefix, len(prefix), out, size))
 
 
-class Schema:
+class _Held:
+    """What the library holds for a value of Python: it is used on the thread that made it alone."""
+
+    _close = staticmethod(_CALLS.kormaglen_schema_close)
+
+    def __init__(self):
+        self._handle = _Handle()
+        self._thread = threading.get_ident()
+
+    def _lent(self):
+        """The handle, for a call on the thread that made it."""
+        if threading.get_ident() != self._thread:
+            raise RuntimeError("a schema or a document is used on the thread that made it alone")
+        return ctypes.byref(self._handle)
+
+    def close(self) -> None:
+        """Gives up what is held: every later call is refused. To close it twice is fine."""
+        self._close(self._lent())
+
+    def __enter__(self):
+        return self
+
+    def __exit__(self, *_) -> None:
+        self.close()
+
+    def __del__(self) -> None:
+        # (on another thread it stays where it is)
+        if threading.get_ident() == self._thread:
+            self.close()
+
+
+class Schema(_Held):
     """A schema whose JSON is read once, for any number of calls. It is used on the thread that opened it alone.
 
     >>> with Schema(b'[{"name":"age","type":"u64","options":{"indexed":true,"stored":true}}]') as schema:
@@ -232,17 +278,10 @@ class Schema:
     """
 
     def __init__(self, json: bytes):
-        self._handle = _Handle()
-        self._thread = threading.get_ident()
-        answer = _CALLS.kormaglen_schema_open(json, len(json), ctypes.byref(self._handle))
+        super().__init__()
+        answer = _CALLS.kormaglen_schema_open(json, len(json), self._lent())
         if answer.status != _OK:
             raise _refused(answer)
-
-    def _lent(self):
-        """The handle, for a call on the thread that opened it."""
-        if threading.get_ident() != self._thread:
-            raise RuntimeError("a schema is used on the thread that opened it alone")
-        return ctypes.byref(self._handle)
 
     def import_lines(self, lines: bytes) -> Imported:
         """As the function of this name, by this schema."""
@@ -259,17 +298,43 @@ class Schema:
         handle = self._lent()
         return _found(path, lambda *given: _CALLS.kormaglen_schema_find_field(handle, *given))
 
-    def close(self) -> None:
-        """Gives up the schema: every later call is refused. To close it twice is fine."""
-        _CALLS.kormaglen_schema_close(self._lent())
 
-    def __enter__(self) -> "Schema":
-        return self
+class Document(_Held):
+    """One document. It is used on the thread that made it alone.
 
-    def __exit__(self, *_) -> None:
-        self.close()
+    >>> schema = Schema(b'[{"name":"age","type":"u64","options":{"indexed":true,"stored":true}}]')
+    >>> document = Document.parse(schema, b'{"age":36}')
+    >>> read, size = Document.read(2, document.write(schema, 2))
+    >>> read.to_json(schema)
+    b'{"age":[36]}'
+    """
 
-    def __del__(self) -> None:
-        # (on another thread the schema stays where it is)
-        if threading.get_ident() == self._thread:
-            self.close()
+    _close = staticmethod(_CALLS.kormaglen_document_close)
+
+    @classmethod
+    def read(cls, version: int, data: bytes) -> Tuple["Document", int]:
+        """The document with which the bytes begin, of version 1, 2 or 3, and how many bytes it takes."""
+        document = cls()
+        answer = _CALLS.kormaglen_document_read(version, data, len(data), document._lent())
+        if answer.status != _OK:
+            raise _refused(answer)
+        return document, answer.bytes
+
+    @classmethod
+    def parse(cls, schema: Schema, line: bytes) -> "Document":
+        """The document of a line of JSON."""
+        document = cls()
+        answer = _CALLS.kormaglen_document_parse(schema._lent(), line, len(line), document._lent())
+        if answer.status != _OK:
+            raise _refused(answer)
+        return document
+
+    def to_json(self, schema: Schema) -> bytes:
+        """The document as JSON with the names of the schema's fields. Values of fields that the schema doesn't have are left out."""
+        handle, by = self._lent(), schema._lent()
+        return _filled(_FIRST_SIZE, lambda out, size: _CALLS.kormaglen_document_to_json(handle, by, out, size))
+
+    def write(self, schema: Schema, version: int) -> bytes:
+        """The values of stored fields, as version 2 or 3 has them."""
+        handle, by = self._lent(), schema._lent()
+        return _filled(_FIRST_SIZE, lambda out, size: _CALLS.kormaglen_document_write(handle, by, version, out, size))

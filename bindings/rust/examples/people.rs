@@ -1,8 +1,9 @@
-//! Imports lines of JSON into a block of stored documents, reads them back, sorts the terms of a field and finds those of a range, and finds a
-//! field and a facet.
+//! Imports lines of JSON into a block of stored documents, reads them back, sorts the terms of a field and finds those of a range, finds a
+//! field and a facet, and handles one document alone.
 
 use kormaglen::{
-    end_of_prefix, export_block, facet_of_text, import_lines, migrate_block, term_of_text, terms_of_block, text_of_facet, Refusal, Schema,
+    end_of_prefix, export_block, facet_of_text, import_lines, migrate_block, term_of_text, terms_of_block, text_of_facet, Document, Refusal,
+    Schema,
 };
 
 const SCHEMA: &[u8] = br#"[{"name":"name","type":"text","options":{"stored":true}},
@@ -36,6 +37,13 @@ fn main() -> Result<(), Refusal> {
     for path in ["more.tags", "age"] {
         let field = schema.find_field(path)?;
         println!("field {}, path '{}'", field.number, field.rest);
+    }
+    let document = Document::parse(&schema, br#"{"name":"Dora","age":41}"#)?;
+    let bytes = document.write(&schema, 3)?;
+    let (read, len) = Document::read(3, &bytes)?;
+    println!("{} takes {len} bytes", String::from_utf8_lossy(&read.to_json(&schema)?));
+    if let Err(refusal) = Document::parse(&schema, br#"{"age":"old"}"#) {
+        println!("{refusal}");
     }
     let encoded = facet_of_text("/staff/research")?;
     println!("{} takes {} bytes", text_of_facet(&encoded)?, encoded.len());

@@ -21,6 +21,7 @@ pub struct Answer {
 #[derive(Clone, Copy, Debug, Default)]
 pub struct LineAnswer {
     pub status: u32,
+    pub field: u32,
     pub bytes: u64,
 }
 
@@ -102,6 +103,17 @@ mod c {
             lines_len: usize,
         ) -> Answer;
         pub fn kormaglen_schema_find_field(schema: *mut Handle, path: *const u8, path_len: usize, found: *mut FoundField) -> Answer;
+        pub fn kormaglen_document_read(version: u32, bytes: *const u8, bytes_len: usize, document: *mut Handle) -> Answer;
+        pub fn kormaglen_document_parse(schema: *mut Handle, line: *const u8, line_len: usize, document: *mut Handle) -> Answer;
+        pub fn kormaglen_document_to_json(document: *mut Handle, schema: *mut Handle, text: *mut u8, text_len: usize) -> Answer;
+        pub fn kormaglen_document_write(
+            document: *mut Handle,
+            schema: *mut Handle,
+            version: u32,
+            bytes: *mut u8,
+            bytes_len: usize,
+        ) -> Answer;
+        pub fn kormaglen_document_close(document: *mut Handle);
     }
 }
 
@@ -231,5 +243,46 @@ impl Drop for SchemaHandle {
     fn drop(&mut self) {
         // SAFETY: the handle is this value's own, and nothing uses it afterwards.
         unsafe { c::kormaglen_schema_close(self.handle.get()) }
+    }
+}
+
+/// A document that the library holds, or none. As a `SchemaHandle` it is neither `Send` nor `Sync`.
+pub struct DocumentHandle {
+    handle: UnsafeCell<Handle>,
+}
+
+impl DocumentHandle {
+    /// A handle that holds no document.
+    pub fn closed() -> DocumentHandle {
+        DocumentHandle { handle: UnsafeCell::new(Handle { at: null_mut() }) }
+    }
+
+    pub fn read(&mut self, version: u32, bytes: &[u8]) -> Answer {
+        // SAFETY: the slice is read, and the handle is lent to this call alone.
+        unsafe { c::kormaglen_document_read(version, bytes.as_ptr(), bytes.len(), self.handle.get()) }
+    }
+
+    pub fn parse(&mut self, schema: &SchemaHandle, line: &[u8]) -> Answer {
+        // SAFETY: the slice is read, and both handles are lent to this call alone.
+        unsafe { c::kormaglen_document_parse(schema.handle.get(), line.as_ptr(), line.len(), self.handle.get()) }
+    }
+
+    pub fn to_json(&self, schema: &SchemaHandle, text: &mut [u8]) -> Answer {
+        // SAFETY: the slice is written, and both handles are lent to this call alone.
+        unsafe { c::kormaglen_document_to_json(self.handle.get(), schema.handle.get(), text.as_mut_ptr(), text.len()) }
+    }
+
+    pub fn write(&self, schema: &SchemaHandle, version: u32, bytes: &mut [u8]) -> Answer {
+        // SAFETY: the slice is written, and both handles are lent to this call alone.
+        unsafe {
+            c::kormaglen_document_write(self.handle.get(), schema.handle.get(), version, bytes.as_mut_ptr(), bytes.len())
+        }
+    }
+}
+
+impl Drop for DocumentHandle {
+    fn drop(&mut self) {
+        // SAFETY: the handle is this value's own, and nothing uses it afterwards.
+        unsafe { c::kormaglen_document_close(self.handle.get()) }
     }
 }

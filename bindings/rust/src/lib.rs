@@ -7,11 +7,11 @@
 //! # Ok::<(), kormaglen::Refusal>(())
 //! ```
 //!
-//! A [`Schema`] reads the schema's JSON once, for many calls.
+//! A [`Schema`] reads the schema's JSON once, for many calls. A [`Document`] is one document at a time.
 
 mod calls;
 
-use calls::{Answer, FoundField, LineAnswer, SchemaHandle};
+use calls::{Answer, DocumentHandle, FoundField, LineAnswer, SchemaHandle};
 use std::error::Error;
 use std::fmt;
 
@@ -36,6 +36,12 @@ pub enum Refusal {
     WrongVersion,
     /// No byte string is above all that begin with the prefix.
     NoEnd,
+    /// There is no document of a line.
+    BadLine(Line),
+    /// The document has a field of this number, which the schema doesn't have.
+    ForeignField { field: u32 },
+    /// The document was given up, as a call was refused that put another one in its place.
+    Closed,
     /// An answer that this crate doesn't know.
     Unknown { status: u32 },
 }
@@ -51,7 +57,10 @@ impl fmt::Display for Refusal {
             Refusal::NoField => f.write_str("the path names no field"),
             Refusal::BadDocument { detail, start } => write!(f, "the document at byte {start} is refused: reason {detail}"),
             Refusal::NoEnd => f.write_str("the prefix has no end"),
+            Refusal::BadLine(line) => write!(f, "the line has no document: {line:?}"),
+            Refusal::ForeignField { field } => write!(f, "the schema has no field {field}"),
             Refusal::WrongVersion => f.write_str("there is no such version of the store"),
+            Refusal::Closed => f.write_str("the document was given up"),
             Refusal::Unknown { status } => write!(f, "unknown status {status}"),
         }
     }
@@ -66,16 +75,16 @@ pub enum Line {
     Stored(u64),
     /// It is no JSON object.
     InvalidJson,
-    /// A number doesn't fit the field's type.
-    Overflow,
-    /// A value is of another kind than the field's.
-    WrongType,
-    /// A text is no date, address or facet.
-    BadText,
-    /// A text isn't the standard base64 of any bytes.
-    BadBase64,
-    /// A number isn't whole, or doesn't fit 64 bits.
-    Float,
+    /// A number doesn't fit this field's type.
+    Overflow { field: u32 },
+    /// A value is of another kind than this field's.
+    WrongType { field: u32 },
+    /// A text is no date, address or facet, as this field wants.
+    BadText { field: u32 },
+    /// A text of this field isn't the standard base64 of any bytes.
+    BadBase64 { field: u32 },
+    /// A number in this field's object isn't whole, or doesn't fit 64 bits.
+    Float { field: u32 },
     /// The values need more than 4294967295 bytes.
     NoRoom,
     /// An answer that this crate doesn't know.
@@ -111,14 +120,15 @@ pub struct Term {
 
 impl From<LineAnswer> for Line {
     fn from(answer: LineAnswer) -> Line {
+        let field = answer.field;
         match answer.status {
             0 => Line::Stored(answer.bytes),
             1 => Line::InvalidJson,
-            2 => Line::Overflow,
-            3 => Line::WrongType,
-            4 => Line::BadText,
-            5 => Line::BadBase64,
-            6 => Line::Float,
+            2 => Line::Overflow { field },
+            3 => Line::WrongType { field },
+            4 => Line::BadText { field },
+            5 => Line::BadBase64 { field },
+            6 => Line::Float { field },
             7 => Line::NoRoom,
             other => Line::Unknown(other),
         }
@@ -127,6 +137,9 @@ impl From<LineAnswer> for Line {
 
 const OK: u32 = 0;
 const TOO_SMALL: u32 = 1;
+
+/// So many bytes of a document are asked for at first.
+const FIRST_SIZE: usize = 1024;
 
 impl Answer {
     fn refusal(self) -> Refusal {
@@ -140,6 +153,9 @@ impl Answer {
             8 => Refusal::BadDocument { detail: self.detail, start: self.place },
             9 => Refusal::WrongVersion,
             10 => Refusal::NoEnd,
+            11 => Refusal::BadLine(Line::from(LineAnswer { status: self.detail, field: self.place as u32, bytes: 0 })),
+            12 => Refusal::ForeignField { field: self.place as u32 },
+            15 => Refusal::Closed,
             status => Refusal::Unknown { status },
         }
     }
@@ -291,5 +307,66 @@ impl Schema {
     /// As [`find_field`], by this schema.
     pub fn find_field<'p>(&self, path: &'p str) -> Result<Field<'p>, Refusal> {
         field_of(path, |found| self.handle.find_field(path.as_bytes(), found))
+    }
+}
+
+/// One document. It stays on the thread that made it.
+///
+/// ```
+/// let schema = kormaglen::Schema::open(br#"[{"name":"age","type":"u64","options":{"indexed":true,"stored":true}}]"#)?;
+/// let document = kormaglen::Document::parse(&schema, br#"{"age":36}"#)?;
+/// let bytes = document.write(&schema, 2)?;
+/// let (read, len) = kormaglen::Document::read(2, &bytes)?;
+/// assert_eq!(len, bytes.len());
+/// assert_eq!(read.to_json(&schema)?, br#"{"age":[36]}"#);
+/// # Ok::<(), kormaglen::Refusal>(())
+/// ```
+pub struct Document {
+    handle: DocumentHandle,
+}
+
+impl Document {
+    /// The document with which the bytes begin, of version 1, 2 or 3, and how many bytes it takes.
+    pub fn read(version: u32, bytes: &[u8]) -> Result<(Document, usize), Refusal> {
+        let mut document = Document { handle: DocumentHandle::closed() };
+        let len = document.read_again(version, bytes)?;
+        Ok((document, len))
+    }
+
+    /// Reads another document in place of this one and in its memory, and returns how many bytes it takes. After a refusal there is
+    /// no document, and each call but `read_again` and `parse_again` is `Closed`.
+    pub fn read_again(&mut self, version: u32, bytes: &[u8]) -> Result<usize, Refusal> {
+        let answer = self.handle.read(version, bytes);
+        match answer.status {
+            OK => Ok(answer.bytes as usize),
+            _ => Err(answer.refusal()),
+        }
+    }
+
+    /// The document of a line of JSON.
+    pub fn parse(schema: &Schema, line: &[u8]) -> Result<Document, Refusal> {
+        let mut document = Document { handle: DocumentHandle::closed() };
+        document.parse_again(schema, line)?;
+        Ok(document)
+    }
+
+    /// Parses another document in place of this one and in its memory. After a refusal there is no document, and each call but
+    /// `read_again` and `parse_again` is `Closed`.
+    pub fn parse_again(&mut self, schema: &Schema, line: &[u8]) -> Result<(), Refusal> {
+        let answer = self.handle.parse(&schema.handle, line);
+        match answer.status {
+            OK => Ok(()),
+            _ => Err(answer.refusal()),
+        }
+    }
+
+    /// The document as JSON with the names of the schema's fields. Values of fields that the schema doesn't have are left out.
+    pub fn to_json(&self, schema: &Schema) -> Result<Vec<u8>, Refusal> {
+        filled(FIRST_SIZE, |text| self.handle.to_json(&schema.handle, text))
+    }
+
+    /// The values of stored fields, as version 2 or 3 has them.
+    pub fn write(&self, schema: &Schema, version: u32) -> Result<Vec<u8>, Refusal> {
+        filled(FIRST_SIZE, |bytes| self.handle.write(&schema.handle, version, bytes))
     }
 }

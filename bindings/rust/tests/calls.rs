@@ -1,8 +1,8 @@
 //! Each call once, and each refusal.
 
 use kormaglen::{
-    end_of_prefix, export_block, facet_of_text, find_field, import_lines, migrate_block, term_of_text, terms_of_block, text_of_facet, Line,
-    Refusal, Schema, Term,
+    end_of_prefix, export_block, facet_of_text, find_field, import_lines, migrate_block, term_of_text, terms_of_block, text_of_facet,
+    Document, Line, Refusal, Schema, Term,
 };
 
 const SCHEMA: &[u8] = br#"[{"name":"s","type":"text","options":{"stored":true}},
@@ -20,13 +20,13 @@ fn lines_are_stored_and_answered() {
     let wanted = [
         Line::Stored(8),
         Line::InvalidJson,
-        Line::Overflow,
-        Line::WrongType,
-        Line::BadText,
-        Line::BadBase64,
-        Line::Float,
+        Line::Overflow { field: 1 },
+        Line::WrongType { field: 1 },
+        Line::BadText { field: 2 },
+        Line::BadBase64 { field: 4 },
+        Line::Float { field: 5 },
         Line::InvalidJson,
-        Line::BadText,
+        Line::BadText { field: 3 },
     ];
     assert_eq!(imported.lines, wanted);
 }
@@ -101,4 +101,34 @@ fn a_schema_is_read_once() {
 fn a_bad_schema_is_not_opened() {
     assert_eq!(Schema::open(b"{").err(), Some(Refusal::InvalidJson));
     assert_eq!(Schema::open(b"{}").err(), Some(Refusal::BadSchema { detail: 4, entry: 0 }));
+}
+
+#[test]
+fn a_document_is_parsed_written_and_read() {
+    let schema = Schema::open(SCHEMA).unwrap();
+    let document = Document::parse(&schema, b"{\"u\":[1,2],\"j\":{\"a\":\"b\"}}").unwrap();
+    let json = b"{\"j\":[{\"a\":\"b\"}],\"u\":[1,2]}";
+    assert_eq!(document.to_json(&schema).unwrap(), json);
+    let bytes = document.write(&schema, 3).unwrap();
+    let (mut read, len) = Document::read(3, &[&bytes[..], b"more"].concat()).unwrap();
+    assert_eq!(len, bytes.len());
+    assert_eq!(read.to_json(&schema).unwrap(), json);
+    assert_eq!(read.read_again(2, b"\x80").unwrap(), 1);
+    assert_eq!(read.to_json(&schema).unwrap(), b"{}");
+    assert_eq!(document.write(&schema, 1), Err(Refusal::WrongVersion));
+}
+
+#[test]
+fn a_document_is_refused_with_the_reason() {
+    let schema = Schema::open(SCHEMA).unwrap();
+    let mut document = Document::parse(&schema, b"{\"u\":1}").unwrap();
+    assert_eq!(document.parse_again(&schema, b"null"), Err(Refusal::BadLine(Line::InvalidJson)));
+    assert_eq!(document.to_json(&schema), Err(Refusal::Closed));
+    let wrong = document.parse_again(&schema, b"{\"y\":[\"AA==\",\"!\"]}");
+    assert_eq!(wrong, Err(Refusal::BadLine(Line::BadBase64 { field: 4 })));
+    assert_eq!(document.read_again(2, b"\x81"), Err(Refusal::BadDocument { detail: 1, start: 0 }));
+    assert_eq!(document.read_again(4, b"\x80"), Err(Refusal::WrongVersion));
+    assert_eq!(document.read_again(2, b"\x81\x06\0\0\0\0\x81a"), Ok(8));
+    assert_eq!(document.write(&schema, 2), Err(Refusal::ForeignField { field: 6 }));
+    assert_eq!(document.to_json(&schema).unwrap(), b"{}");
 }

@@ -20,7 +20,7 @@ use tv_schema::Schema;
 use tv_store::DocStoreVersion;
 
 // The answer where a handle holds nothing.
-fn closed() -> Answer
+pub(crate) fn closed() -> Answer
     ensures { result ≡ closed }
 {
     Answer {

@@ -1,6 +1,5 @@
 //! Calls for C, over blocks of bytes: each is one of `tv_blocks`, and its contract is said of the numbers that it answers. A slice is a
-//! pointer, which is never null, and a length. Only handles of schemas keep something between two calls; all other calls are safe from any
-//! thread.
+//! pointer, which is never null, and a length. Only handles keep something between two calls; all other calls are safe from any thread.
 #![tactic(auto)]
 
 ghost use Rattle.std.specs.Prelude.{◌≡◌, Some, IsUtf8, MatchOption};
@@ -16,6 +15,7 @@ ghost use Rattle.kormaglen_c.specs.Answers.{IsWrongVersion, TellsField, write_nu
 ghost use Rattle.tv_format.specs.WriteVersion.{written_version};
 ghost use Rattle.tv_reader.specs.Version.{numbered, version_of};
 
+pub mod documents;
 pub mod handles;
 
 use std::alloc::Global;
@@ -112,7 +112,7 @@ pub extern "C" fn kormaglen_export_block(
 }
 
 // The version of this number, in which documents are written.
-fn write_version(number: u32) -> Option<WriteVersion>
+pub(crate) fn write_version(number: u32) -> Option<WriteVersion>
     ensures { result ≡ write_numbered number }
 {
     match number {

@@ -1,93 +1,37 @@
 -- What becomes of lines.
-use Rattle.std.proofs.Common.{◌≡◌, ◌≢◌, ◌==◌, ℕ, ◌<◌, arith, true, false, List, [], ◌∷◌, ◌++◌, length, Option, Result, Ok, Err, Some, refl, sym, ap, subst, ◌∙◌, append_assoc, append-nil, length-append}
+use Rattle.std.proofs.Common.{◌≡◌, ◌≢◌, ◌==◌, ℕ, ◌<◌, arith, true, false, List, [], ◌∷◌, ◌++◌, length, Result, Ok, Err, refl, sym, ap, subst, ◌∙◌, append_assoc, append-nil, length-append}
 use borrow.Author.Tests.{eqb-true}
-use Rattle.std.specs.Prelude.{IsUtf8, IfOk}
-use Rattle.std.specs.Result.{result_ok}
+use Rattle.std.specs.Prelude.{IfOk}
 use Rattle.std.specs.declared.alloc.AllocError.{AllocError}
-use Rattle.std.proofs.lemmas.List.Sums.{sum_by_push}
-use Rattle.tv_blocks.specs.Imports.{Appends, ImportedSoFar, ImportsEach, Outcome, Outcomes, Stores, answer_of, outcome_of, refused_for, value_outcome}
-use Rattle.tv_blocks.specs.Imports.Outcome.{no_object, no_room, refused, written}
+use Rattle.tv_blocks.specs.Imports.{Appends, ImportedSoFar, ImportsEach, Outcome, Outcomes, Stores, answer_of}
+use Rattle.tv_blocks.specs.Imports.Outcome.{refused, written}
 use Rattle.tv_blocks.specs.Imports.Outcomes.{next_outcome, no_outcomes}
+use Rattle.tv_blocks.specs.LineRefusals.{IsLineDocument, RefusesLine}
 use Rattle.tv_blocks.specs.declared.import.LineAnswer.{LineAnswer}
 use Rattle.tv_blocks.specs.declared.import.LineOutcome.{LineOutcome}
 use Rattle.tv_blocks.specs.declared.import.LineOutcome.TheVariants as outcome
-use Rattle.tv_doc.proofs.Additions.{from_empty}
-use Rattle.tv_doc.specs.Additions.{AddsEach, IsEmpty}
-use Rattle.tv_doc.specs.Document.{document_of, IsFull}
-use Rattle.tv_doc.specs.JsonObject.{FieldJson, Pairs, Parses}
-use Rattle.tv_doc.specs.declared.doc_parsing_error.DocParsingError.{DocParsingError}
-use Rattle.tv_doc.specs.declared.doc_parsing_error.DocParsingError.TheVariants as errors
-use Rattle.tv_doc.specs.declared.document.CompactDoc.{CompactDoc}
+use Rattle.tv_blocks.specs.declared.line_refusal.LineRefusal.{LineRefusal}
 use Rattle.tv_field.specs.Entry.{Entry}
-use Rattle.tv_field.specs.JsonAnswer.{error_of}
-use Rattle.tv_field.specs.JsonTable.{Refusal, Table}
-use Rattle.tv_field.specs.declared.value_parsing_error.ValueParsingError.{ValueParsingError}
-use Rattle.tv_field.specs.declared.value_parsing_error.ValueParsingError.TheVariants as values
 use Rattle.tv_format.specs.Short.{short_document}
-use Rattle.tv_format.specs.Tree.{Tree, Document}
+use Rattle.tv_format.specs.Tree.{Document}
 use Rattle.tv_format.specs.Version.{V2}
-use Rattle.tv_heap.specs.Room.{room, document_room}
 use Rattle.tv_lines.specs.Lines.{FirstLine, Lines}
 use Rattle.tv_lines.specs.Lines.FirstLine.{ended, unended}
 use Rattle.tv_lines.specs.Lines.Lines.{no_lines, next_line}
 use Rattle.tv_store.specs.Stored.{stored}
 
--- ---- lines that are refused
+-- ---- one line
 
-some_is : {A : Type 0} {x y : A} → Some x ≡ Some y → x ≡ y
-some_is e = cc
+-- the bytes of its document, and how many these are
+pub stored_appends : (schema : List Entry) (line old new : List ℕ) (pairs : Document) (result : Result LineOutcome AllocError) → IsLineDocument schema line pairs
+    → IfOk result (Stores (short_document V2 (stored schema pairs)) old new) → IfOk result (Appends schema line old new)
+stored_appends schema line old new pairs (Ok said) is stores =
+    (short_document V2 (stored schema pairs), written pairs is refl stores.1, stores.0)
+stored_appends schema line old new pairs (Err failed) is stores = tt
 
--- the error says what the table does
-said_for : (e : ValueParsingError) (why : Refusal) (said : LineOutcome) → error_of e ≡ Some why → value_outcome e ≡ Some said → said ≡ refused_for why
-said_for (values.OverflowError expected json) why said is told = rw (← some_is is) (sym (some_is told))
-said_for (values.TypeError expected json) why said is told = rw (← some_is is) (sym (some_is told))
-said_for (values.ParseError cause json) why said is told = rw (← some_is is) (sym (some_is told))
-said_for (values.InvalidBase64 text) why said is told = rw (← some_is is) (sym (some_is told))
-said_for values.FloatNumber why said is told = rw (← some_is is) (sym (some_is told))
-said_for values.Memory why said is told = absurd cc
-
-pairs-snoc : (before : List FieldJson) (at : FieldJson) (tree : Tree) (pairs : Document) → Pairs before pairs → Table at.field_type at.value (Ok tree)
-    → Pairs (before ++ at ∷ []) (pairs ++ (at.field, tree) ∷ [])
-pairs-snoc [] at tree pairs made row = (tree, [], row, ap (λ (d : Document). d ++ (at.field, tree) ∷ []) made, refl)
-pairs-snoc (v ∷ vs) at tree pairs made row =
-    (made.0, made.1 ++ (at.field, tree) ∷ [], made.2, ap (λ (d : Document). d ++ (at.field, tree) ∷ []) made.3, pairs-snoc vs at tree made.1 made.4 row)
-
--- the heap has no room, so the pairs have none
-full_room : (pairs : Document) (start mid : CompactDoc) (field : ℕ) (t : Tree) → IsEmpty start → AddsEach pairs start mid → IsFull mid t → 4294967295 < document_room (pairs ++ (field, t) ∷ [])
-full_room pairs start mid field t none adds full =
-    let within = mid.values.room in
-    omega (arith, full, within, ap document_room (from_empty pairs start mid none adds), sum_by_push (λ (pair : ℕ × Tree). room pair.1) pairs (field, t))
-
-pub no_text : (schema : List Entry) (line old : List ℕ) → ¬ IsUtf8 line → Appends schema line old old outcome.InvalidJson
-no_text schema line old none = ([], no_object (λ members h. none h.0) refl refl, sym (append-nil old))
-
-refused_outcome : (schema : List Entry) (line : List ℕ) (e : DocParsingError) (said : LineOutcome) → IsUtf8 line → Parses schema line (Err e) → outcome_of e ≡ Some said → Outcome schema line [] said
-refused_outcome schema line (errors.InvalidJson start) said utf8 h told = no_object (λ members is. h.0 members is.1) refl (sym (some_is told))
-refused_outcome schema line (errors.ValueError name e) said utf8 h told =
-    let stop = h.2.2 in
-    let why = stop.refused in
-    refused h.0 stop.before stop.behind stop.at stop.added.pairs why.0 (utf8, h.1) stop.joined stop.added.by_table why.3 refl (said_for e why.0 said why.2 told)
-refused_outcome schema line errors.HeapFull said utf8 h told =
-    let stop = h.2.2 in
-    let why = stop.refused in
-    let pairs = stop.added.pairs in
-    no_room h.0 (stop.before ++ stop.at ∷ []) stop.behind (pairs ++ (stop.at.field, why.0) ∷ []) (utf8, h.1)
-    (stop.joined ∙ sym (append_assoc stop.before (stop.at ∷ []) stop.behind)) (pairs-snoc stop.before stop.at why.0 pairs stop.added.by_table why.1)
-    (full_room pairs h.2.0 stop.mid stop.at.field why.0 h.2.1 stop.added.adds why.2) refl (sym (some_is told))
-refused_outcome schema line errors.Memory said utf8 h told = absurd cc
-
-pub refused_appends : (schema : List Entry) (line old : List ℕ) (e : DocParsingError) (said : Option LineOutcome) (result : Result LineOutcome AllocError) → IsUtf8 line → Parses schema line (Err e) → said ≡ outcome_of e
-    → said ≡ result_ok result → IfOk result (Appends schema line old old)
-refused_appends schema line old e said (Ok outcome) utf8 h told gives = ([], refused_outcome schema line e outcome utf8 h (sym told ∙ gives), sym (append-nil old))
-refused_appends schema line old e said (Err failed) utf8 h told gives = tt
-
--- ---- a line whose document is stored
-
-pub stored_appends : (schema : List Entry) (line old new : List ℕ) (made : CompactDoc) (result : Result LineOutcome AllocError) → IsUtf8 line → Parses schema line (Ok made)
-    → IfOk result (Stores (short_document V2 (stored schema (document_of made))) old new) → IfOk result (Appends schema line old new)
-stored_appends schema line old new made (Ok said) utf8 h stores =
-    (short_document V2 (stored schema (document_of made)), written h.0 (document_of made) (utf8, h.1) h.2.0 refl stores.1, stores.0)
-stored_appends schema line old new made (Err failed) utf8 h stores = tt
+-- nothing
+pub refused_appends : (schema : List Entry) (line old : List ℕ) (why : LineRefusal) → RefusesLine schema line why → Appends schema line old old (outcome.Refused why)
+refused_appends schema line old why refuses = ([], refused why refuses refl refl, sym (append-nil old))
 
 -- ---- line by line
 

@@ -3,5 +3,7 @@ pub mod Schemas
 pub mod Suffixes
 pub mod Blocks
 pub mod BySchemas
+pub mod LineDocuments
+pub mod Documents
 pub mod Importing
 pub mod Records

@@ -1,6 +1,6 @@
 -- Lines of JSON as a block of stored documents.
-use Rattle.std.specs.Prelude.{◌≡◌, ℕ, ◌<◌, ◌≤◌, ◌⊎◌, List, [], ◌∷◌, ◌++◌, length, drop, Option, Some, None, Result, Ok, Err}
-use Rattle.serde_json.specs.Data.{object, Members}
+use Rattle.std.specs.Prelude.{◌≡◌, ℕ, ◌<◌, ◌≤◌, ◌⊎◌, List, [], ◌∷◌, ◌++◌, length, drop, Result, Ok, Err}
+use Rattle.tv_blocks.specs.LineRefusals.{IsLineDocument, RefusesLine, line_field, line_number}
 use Rattle.tv_blocks.specs.Refusals.{IsSchemaRefusal}
 use Rattle.tv_blocks.specs.declared.block_error.BlockError.{BlockError}
 use Rattle.tv_blocks.specs.declared.block_error.BlockError.TheVariants as errors
@@ -8,54 +8,27 @@ use Rattle.tv_blocks.specs.declared.import.Imported.{Imported}
 use Rattle.tv_blocks.specs.declared.import.LineAnswer.{LineAnswer}
 use Rattle.tv_blocks.specs.declared.import.LineOutcome.{LineOutcome}
 use Rattle.tv_blocks.specs.declared.import.LineOutcome.TheVariants as outcome
-use Rattle.tv_doc.specs.JsonObject.{FieldJson, object_values, Pairs}
-use Rattle.tv_doc.specs.declared.doc_parsing_error.DocParsingError.{DocParsingError}
-use Rattle.tv_doc.specs.declared.doc_parsing_error.DocParsingError.TheVariants as parsing
+use Rattle.tv_blocks.specs.declared.line_refusal.LineRefusal.{LineRefusal}
 use Rattle.tv_field.specs.Entry.{Entry}
-use Rattle.tv_field.specs.JsonTable.{Refusal, overflow, mismatch, bad_text, bad_base64, float_number, Table}
-use Rattle.tv_field.specs.declared.value_parsing_error.ValueParsingError.{ValueParsingError}
-use Rattle.tv_field.specs.declared.value_parsing_error.ValueParsingError.TheVariants as values
 use Rattle.tv_format.specs.Short.{short_document}
 use Rattle.tv_format.specs.Tree.{Document}
 use Rattle.tv_format.specs.Version.{V2}
-use Rattle.tv_heap.specs.Room.{document_room}
-use Rattle.tv_lines.specs.Answers.{IsJson, ReadsSchema}
+use Rattle.tv_lines.specs.Answers.{ReadsSchema}
 use Rattle.tv_lines.specs.Lines.{Lines}
 use Rattle.tv_store.specs.Stored.{stored}
 
 -- ---- what becomes of a line
 
--- what is said where the type of a field refuses a value
-abbrev pub refused_for : Refusal → LineOutcome
-refused_for (overflow expected d) = outcome.Overflow
-refused_for (mismatch expected d) = outcome.WrongType
-refused_for (bad_text cause d) = outcome.BadText
-refused_for (bad_base64 text) = outcome.BadBase64
-refused_for float_number = outcome.FloatNumber
-
--- What a line puts into the block, and what is said of it: that it is no JSON object, why the first value that is refused is so, that the
--- values up to one have no room, or how many bytes its stored pairs take.
+-- What a line puts into the block, and what is said of it: how many bytes its stored pairs take, or why there is no document of it.
 pub data Outcome (schema : List Entry) (line bytes : List ℕ) (said : LineOutcome) : Type 0 where
-  no_object : ((members : Members) → ¬ (IsJson line (object members))) → bytes ≡ [] → said ≡ outcome.InvalidJson → Outcome schema line bytes said
-  refused : (members : Members) (before behind : List FieldJson) (at : FieldJson) (pairs : Document) (why : Refusal) → IsJson line (object members)
-      → object_values schema members ≡ before ++ at ∷ behind → Pairs before pairs → Table at.field_type at.value (Err why)
-      → bytes ≡ [] → said ≡ refused_for why → Outcome schema line bytes said
-  no_room : (members : Members) (prefix behind : List FieldJson) (pairs : Document) → IsJson line (object members)
-      → object_values schema members ≡ prefix ++ behind → Pairs prefix pairs → 4294967295 < document_room pairs
-      → bytes ≡ [] → said ≡ outcome.HeapFull → Outcome schema line bytes said
-  written : (members : Members) (pairs : Document) → IsJson line (object members) → Pairs (object_values schema members) pairs
-      → bytes ≡ short_document V2 (stored schema pairs) → said ≡ outcome.Stored (length bytes) → Outcome schema line bytes said
+  written : (pairs : Document) → IsLineDocument schema line pairs → bytes ≡ short_document V2 (stored schema pairs)
+      → said ≡ outcome.Stored (length bytes) → Outcome schema line bytes said
+  refused : (why : LineRefusal) → RefusesLine schema line why → bytes ≡ [] → said ≡ outcome.Refused why → Outcome schema line bytes said
 
--- the number that says it, and how many bytes were stored
+-- the numbers that say it
 abbrev pub answer_of : LineOutcome → LineAnswer
-answer_of (outcome.Stored bytes) = record { status = 0; bytes = bytes }
-answer_of outcome.InvalidJson = record { status = 1; bytes = 0 }
-answer_of outcome.Overflow = record { status = 2; bytes = 0 }
-answer_of outcome.WrongType = record { status = 3; bytes = 0 }
-answer_of outcome.BadText = record { status = 4; bytes = 0 }
-answer_of outcome.BadBase64 = record { status = 5; bytes = 0 }
-answer_of outcome.FloatNumber = record { status = 6; bytes = 0 }
-answer_of outcome.HeapFull = record { status = 7; bytes = 0 }
+answer_of (outcome.Stored size) = record { status = 0; field = 0; bytes = size }
+answer_of (outcome.Refused why) = record { status = line_number why; field = line_field why; bytes = 0 }
 
 -- what becomes of each line, and what all put into the block
 pub data Outcomes (schema : List Entry) : List (List ℕ) → List ℕ → List LineAnswer → Type 0 where
@@ -113,20 +86,6 @@ abbrev pub PutsBoth : List ℕ → List LineAnswer → List ℕ → List ℕ →
 PutsBoth block answers old_bytes new_bytes old_answers new_answers (Ok count) = PutBoth block answers old_bytes new_bytes old_answers new_answers count
 PutsBoth block answers old_bytes new_bytes old_answers new_answers (Err (errors.TooSmall bytes lines)) = LackBoth block answers old_bytes new_bytes old_answers new_answers bytes lines
 PutsBoth block answers old_bytes new_bytes old_answers new_answers (Err e) = ⊥
-
-abbrev pub value_outcome : ValueParsingError → Option LineOutcome
-value_outcome (values.OverflowError expected json) = Some outcome.Overflow
-value_outcome (values.TypeError expected json) = Some outcome.WrongType
-value_outcome (values.ParseError cause json) = Some outcome.BadText
-value_outcome (values.InvalidBase64 text) = Some outcome.BadBase64
-value_outcome values.FloatNumber = Some outcome.FloatNumber
-value_outcome values.Memory = None
-
-abbrev pub outcome_of : DocParsingError → Option LineOutcome
-outcome_of (parsing.InvalidJson start) = Some outcome.InvalidJson
-outcome_of (parsing.ValueError name e) = value_outcome e
-outcome_of parsing.HeapFull = Some outcome.HeapFull
-outcome_of parsing.Memory = None
 
 -- the bytes are appended to the block, and their number is said
 abbrev pub Stores : List ℕ → List ℕ → List ℕ → LineOutcome → Type 0

@@ -1,5 +1,7 @@
 pub mod Buffer
 pub mod Refusals
+pub mod LineRefusals
+pub mod Documents
 pub mod Schemas
 pub mod Fields
 pub mod Blocks

@@ -2,6 +2,7 @@
 use Rattle.std.specs.Prelude.{ℕ, ◌+◌, ◌-◌, ◌^◌, min, Option, Some, None, Result, Ok, Err}
 use Rattle.tv_base.specs.declared.cause.Cause.{Cause}
 use Rattle.tv_base.specs.declared.cause.Cause.TheVariants as causes
+use Rattle.tv_blocks.specs.LineRefusals.{line_field, line_number}
 use Rattle.tv_blocks.specs.declared.block_error.BlockError.{BlockError}
 use Rattle.tv_blocks.specs.declared.block_error.BlockError.TheVariants as errors
 use Rattle.tv_blocks.specs.declared.block_error.DocumentRefusal.{DocumentRefusal}
@@ -60,6 +61,8 @@ error_answer (errors.BadSchema e) = schema_answer e
 error_answer errors.NoField = nothing_written 7 0 0
 error_answer errors.NoEnd = nothing_written 10 0 0
 error_answer (errors.BadDocument start refusal) = nothing_written 8 (refusal_number refusal) start
+error_answer (errors.BadLine why) = nothing_written 11 (line_number why) (line_field why)
+error_answer (errors.ForeignField field) = nothing_written 12 0 field
 
 abbrev pub answer_of : Result ℕ BlockError → Answer
 answer_of (Ok bytes) = record { status = 0; detail = 0; place = 0; bytes = bytes; lines = 0 }

@@ -4,6 +4,7 @@ ghost use Rattle.std.specs.Prelude.{◌≡◌};
 ghost use Rattle.tv_blocks.specs.declared.block_error.BlockError.TheVariants.{Memory};
 ghost use Rattle.tv_blocks.specs.Refusals.{document_refusal};
 
+use crate::line_refusal::LineRefusal;
 use std::alloc::AllocError;
 use thiserror::Error;
 use tv_base::Cause;
@@ -64,6 +65,15 @@ pub enum BlockError {
         start: u64,
         /// Why it can't be read.
         refusal: DocumentRefusal,
+    },
+    /// There is no document of a line.
+    #[error("{0}")]
+    BadLine(LineRefusal),
+    /// A document has a field that the schema doesn't have.
+    #[error("the schema has no field {field}")]
+    ForeignField {
+        /// The field's number.
+        field: u32,
     },
 }
 

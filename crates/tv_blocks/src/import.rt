@@ -2,8 +2,7 @@
 
 ghost use Rattle.std.specs.Prelude.{◌≡◌, [], IfOk, OnOk};
 ghost use Rattle.tv_blocks.specs.Imports.{Appends, ImportsBy, ImportsEach, ImportsInto};
-ghost use Rattle.tv_blocks.specs.Imports.{PutsBoth, Stores};
-ghost use Rattle.tv_blocks.specs.Imports.{answer_of, outcome_of, value_outcome};
+ghost use Rattle.tv_blocks.specs.Imports.{PutsBoth, Stores, answer_of};
 ghost use Rattle.tv_doc.specs.Belongs.{Belongs};
 ghost use Rattle.tv_doc.specs.Document.{document_of};
 ghost use Rattle.tv_format.specs.Short.{short_document};
@@ -11,14 +10,14 @@ ghost use Rattle.tv_format.specs.Version.{V2};
 ghost use Rattle.tv_store.specs.Stored.{stored};
 
 use crate::block_error::BlockError;
+use crate::line_document::parse_line;
+use crate::line_refusal::LineRefusal;
 use crate::lines::first_line;
 use crate::schema_text::read_schema;
 use std::alloc::{AllocError, Global};
 use tv_base::VecSink;
-use tv_doc::doc_parsing_error::DocParsingError;
 use tv_doc::document::CompactDoc;
 use tv_doc::parse_buffers::ParseBuffers;
-use tv_field::ValueParsingError;
 use tv_schema::Schema;
 use tv_store::BinaryDocumentSerializer;
 
@@ -27,30 +26,20 @@ use tv_store::BinaryDocumentSerializer;
 pub enum LineOutcome {
     /// Its document was stored, in so many bytes.
     Stored(u64),
-    /// It is no JSON object.
-    InvalidJson,
-    /// A number doesn't fit the field's type.
-    Overflow,
-    /// A value is of another kind than the field's.
-    WrongType,
-    /// A text can't be read as the field's type wants it.
-    BadText,
-    /// A text isn't the standard base64 of any bytes.
-    BadBase64,
-    /// A number isn't whole, or doesn't fit 64 bits.
-    FloatNumber,
-    /// The values need more room than 4294967295 bytes.
-    HeapFull,
+    /// There is no document of it.
+    Refused(LineRefusal),
 }
 
-/// What is answered for a line: a number that says what became of it, see `LineOutcome`, and how many bytes its document takes in the block; 0
-/// where it was refused. (Not in tantivy.)
+/// What is answered for a line: a number that says what became of it, the field whose value was refused, and how many bytes its document takes
+/// in the block. (Not in tantivy.)
 #[repr(C)]
 #[derive(Clone, Copy, Debug, PartialEq, Eq, Drop)]
 pub struct LineAnswer {
-    /// 0 where the document was stored, else 1 to 7 for the refusals of `LineOutcome`, in their order.
+    /// 0 where the document was stored, else `LineRefusal::number`.
     pub status: u32,
-    /// How many bytes the stored document takes.
+    /// `LineRefusal::field`; 0 where the document was stored.
+    pub field: u32,
+    /// How many bytes the stored document takes; 0 where the line was refused.
     pub bytes: u64,
 }
 
@@ -69,43 +58,18 @@ impl LineOutcome {
     pub fn answer(self) -> LineAnswer
         ensures { result ≡ answer_of self }
     {
-        let (status, bytes) = match self {
-            LineOutcome::Stored(bytes) => (0, bytes),
-            LineOutcome::InvalidJson => (1, 0),
-            LineOutcome::Overflow => (2, 0),
-            LineOutcome::WrongType => (3, 0),
-            LineOutcome::BadText => (4, 0),
-            LineOutcome::BadBase64 => (5, 0),
-            LineOutcome::FloatNumber => (6, 0),
-            LineOutcome::HeapFull => (7, 0),
-        };
-        LineAnswer { status, bytes }
-    }
-}
-
-// What is said of a value that a field's type refuses; `None` where memory was refused.
-fn value_outcome(error: &ValueParsingError) -> Option<LineOutcome>
-    ensures { result ≡ value_outcome error.now }
-{
-    match error {
-        ValueParsingError::OverflowError { .. } => Some(LineOutcome::Overflow),
-        ValueParsingError::TypeError { .. } => Some(LineOutcome::WrongType),
-        ValueParsingError::ParseError { .. } => Some(LineOutcome::BadText),
-        ValueParsingError::InvalidBase64 { .. } => Some(LineOutcome::BadBase64),
-        ValueParsingError::FloatNumber => Some(LineOutcome::FloatNumber),
-        ValueParsingError::Memory => None,
-    }
-}
-
-// What is said of a line of which there is no document; `None` where memory was refused.
-fn refused_outcome(error: &DocParsingError) -> Option<LineOutcome>
-    ensures { result ≡ outcome_of error.now }
-{
-    match error {
-        DocParsingError::InvalidJson(_) => Some(LineOutcome::InvalidJson),
-        DocParsingError::ValueError(_, error) => value_outcome(error),
-        DocParsingError::HeapFull => Some(LineOutcome::HeapFull),
-        DocParsingError::Memory => None,
+        match self {
+            LineOutcome::Stored(bytes) => LineAnswer {
+                status: 0,
+                field: 0,
+                bytes,
+            },
+            LineOutcome::Refused(refusal) => LineAnswer {
+                status: refusal.number(),
+                field: refusal.field(),
+                bytes: 0,
+            },
+        }
     }
 }
 
@@ -128,14 +92,12 @@ fn import_line(
 ) -> Result<LineOutcome, AllocError>
     ensures { IfOk result (Appends schema.now line.now block.old.bytes.items block.new.bytes.items) }
 {
-    let Ok(json) = str::from_utf8(line) else {
-        return Ok(LineOutcome::InvalidJson);
-    };
     let LineMemory { document, buffers } = memory;
-    if let Err(error) = document.parse_json_into(alloc, schema, json, buffers) {
-        return refused_outcome(&error).ok_or(AllocError);
+    match parse_line(alloc, schema, line, document, buffers) {
+        Ok(()) => store_document(schema, document, block),
+        Err(BlockError::BadLine(refusal)) => Ok(LineOutcome::Refused(refusal)),
+        Err(_) => Err(AllocError),
     }
-    store_document(schema, document, block)
 }
 
 // Appends the document's stored bytes, and says how many these are.

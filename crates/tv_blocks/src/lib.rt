@@ -6,10 +6,13 @@
 
 pub mod block_error;
 mod buffer;
+pub mod document;
 pub mod export;
 pub mod facet_text;
 pub mod field_path;
 pub mod import;
+pub mod line_document;
+pub mod line_refusal;
 mod lines;
 pub mod migration;
 pub mod schema_text;
@@ -17,10 +20,13 @@ pub mod status;
 pub mod terms;
 
 pub use block_error::{BlockError, DocumentRefusal};
+pub use document::{print_document, read_first_document, write_document};
 pub use export::{export_block, export_block_by};
 pub use facet_text::{facet_of_text, text_of_facet};
 pub use field_path::{FoundField, find_field, find_field_by};
 pub use import::{Imported, LineAnswer, LineOutcome, import_lines, import_lines_by};
+pub use line_document::parse_line;
+pub use line_refusal::{LineRefusal, ValueRefusal};
 pub use migration::migrate_block;
 pub use schema_text::read_schema;
 pub use status::Answer;

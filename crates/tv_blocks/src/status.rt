@@ -15,14 +15,16 @@ use tv_field::SchemaError;
 pub struct Answer {
     /// 0 where the call did what it says; 1 where a buffer is too small, 2 where memory was refused, 3 where a text isn't UTF-8, 4 where it
     /// names no facet, 5 where the schema isn't JSON, 6 where the JSON describes no schema, 7 where the path names no field, 8 where a document
-    /// of the block is refused, 9 where there is no such version of the store, and 10 where a prefix has no end.
+    /// of the block is refused, 9 where there is no such version of the store, 10 where a prefix has no end, 11 where there is no document of
+    /// a line, 12 where a document has a field that the schema doesn't have, and 15 where a handle is closed.
     pub status: u32,
     /// With status 6 why there is no schema: 1 for a bad name, 2 for a name that comes twice, 3 for too many fields, 4 for a bad entry,
     /// 5 for a field of type `f64`. With status 8 why the document is refused: 1 to 11 and 14 for the variants of `Cause` in their order, 12
-    /// where a key is no text, 13 where the document has no room. Else 0.
+    /// where a key is no text, 13 where the document has no room. With status 11 the number of the `LineRefusal`. Else 0.
     pub detail: u32,
-    /// With status 6 the place of the entry, from 1, and 0 where the whole is meant; with status 8 where in the block the document begins.
-    /// Else 0.
+    /// With status 6 the place of the entry, from 1, and 0 where the whole is meant; with status 8 where in the block the document begins;
+    /// with status 11 the number of the field whose value is refused, 0 where it isn't a value that is; with status 12 the number of the
+    /// field. Else 0.
     pub place: u64,
     /// How many bytes were written, or with status 1 how many are needed. Else 0.
     pub bytes: u64,
@@ -124,6 +126,8 @@ pub fn error_answer(error: BlockError) -> Answer
             start,
             refusal: why,
         } => refusal(8, refusal_number(why), start),
+        BlockError::BadLine(why) => refusal(11, why.number(), u64::from(why.field())),
+        BlockError::ForeignField { field } => refusal(12, 0, u64::from(field)),
     }
 }
 

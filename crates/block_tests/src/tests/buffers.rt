@@ -4,8 +4,9 @@ use std::test::Fail;
 use tantivy_schema::common::Cause;
 use tv_blocks::status::{error_answer, import_answer, written_answer, wrong_version};
 use tv_blocks::{
-    Answer, BlockError, DocumentRefusal, FoundField, Imported, LineAnswer, export_block,
-    facet_of_text, find_field, import_lines, migrate_block, text_of_facet,
+    Answer, BlockError, DocumentRefusal, FoundField, Imported, LineAnswer, LineRefusal,
+    ValueRefusal, export_block, facet_of_text, find_field, import_lines, migrate_block,
+    text_of_facet,
 };
 use tv_format::version::WriteVersion;
 use tv_store::DocStoreVersion;
@@ -44,8 +45,12 @@ const SIZES: [u64; 8] = [8, 0, 0, 0, 0, 0, 0, 13];
 // Where nothing was written.
 const KEPT: u8 = 0xa5;
 
+// The fields whose values are refused.
+const FIELDS: [u32; 8] = [0, 0, 1, 1, 2, 3, 4, 0];
+
 const NO_ANSWER: LineAnswer = LineAnswer {
     status: 99,
+    field: 99,
     bytes: 99,
 };
 
@@ -62,8 +67,14 @@ fn lines_are_imported(rt: HostRuntime) -> Result<(), Fail> {
     assert_eq!(rt; imported, Ok(count));
     assert_eq!(rt; &block[..21], BLOCK);
     assert_eq!(rt; &block[21..], [KEPT; 3].as_slice());
-    for ((answer, status), bytes) in answers.iter().zip(STATUSES).zip(SIZES) {
-        assert_eq!(rt; *answer, LineAnswer { status, bytes });
+    let said = STATUSES.into_iter().zip(FIELDS).zip(SIZES);
+    for (answer, ((status, field), bytes)) in answers.iter().zip(said) {
+        let line = LineAnswer {
+            status,
+            field,
+            bytes,
+        };
+        assert_eq!(rt; *answer, line);
     }
     assert_eq!(rt; answers[8], NO_ANSWER);
     Ok(())
@@ -231,6 +242,27 @@ fn answers_are_numbers(rt: HostRuntime) -> Result<(), Fail> {
         wrong_version(),
         Answer {
             status: 9,
+            ..nothing
+        }
+    );
+    let refused = BlockError::BadLine(LineRefusal::BadValue {
+        field: 4,
+        refusal: ValueRefusal::FloatNumber,
+    });
+    assert_eq!(rt;
+        error_answer(refused),
+        Answer {
+            status: 11,
+            detail: 6,
+            place: 4,
+            ..nothing
+        }
+    );
+    assert_eq!(rt;
+        error_answer(BlockError::ForeignField { field: 5 }),
+        Answer {
+            status: 12,
+            place: 5,
             ..nothing
         }
     );

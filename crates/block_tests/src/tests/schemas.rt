@@ -26,6 +26,7 @@ const KEPT: u8 = 0xa5;
 
 const NO_ANSWER: LineAnswer = LineAnswer {
     status: 99,
+    field: 99,
     bytes: 99,
 };
 
@@ -33,10 +34,12 @@ const NO_ANSWER: LineAnswer = LineAnswer {
 const ANSWERS: [LineAnswer; 3] = [
     LineAnswer {
         status: 0,
+        field: 0,
         bytes: 8,
     },
     LineAnswer {
         status: 1,
+        field: 0,
         bytes: 0,
     },
     NO_ANSWER,

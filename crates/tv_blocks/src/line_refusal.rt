@@ -1,0 +1,82 @@
+//! Why there is no document of a line.
+
+ghost use Rattle.std.specs.Prelude.{◌≡◌};
+ghost use Rattle.tv_blocks.specs.LineRefusals.{line_field, line_number, value_number};
+
+use thiserror::Error;
+
+/// Why a field's type refuses a value of a line. (Not in tantivy.)
+#[derive(Clone, Copy, Debug, PartialEq, Eq, Drop, Error)]
+pub enum ValueRefusal {
+    /// A number doesn't fit the field's type.
+    #[error("the number doesn't fit")]
+    Overflow,
+    /// The value is of another kind than the field's.
+    #[error("the value is of another kind")]
+    WrongType,
+    /// The text can't be read as the field's type wants it.
+    #[error("the text can't be read")]
+    BadText,
+    /// The text isn't the standard base64 of any bytes.
+    #[error("the text isn't base64")]
+    BadBase64,
+    /// The number isn't whole, or doesn't fit 64 bits.
+    #[error("the number isn't whole")]
+    FloatNumber,
+}
+
+/// Why there is no document of a line. (Not in tantivy.)
+#[derive(Clone, Copy, Debug, PartialEq, Eq, Drop, Error)]
+pub enum LineRefusal {
+    /// It is no JSON object.
+    #[error("the line is no JSON object")]
+    InvalidJson,
+    /// The type of a field refuses a value.
+    #[error("a value of field {field}: {refusal}")]
+    BadValue {
+        /// The field's number.
+        field: u32,
+        /// Why its type refuses the value.
+        refusal: ValueRefusal,
+    },
+    /// The values need more room than 4294967295 bytes.
+    #[error("the values need more room than 4294967295 bytes")]
+    HeapFull,
+}
+
+// The number of a value's refusal.
+fn value_number(refusal: ValueRefusal) -> u32
+    ensures { result ≡ value_number refusal }
+{
+    match refusal {
+        ValueRefusal::Overflow => 2,
+        ValueRefusal::WrongType => 3,
+        ValueRefusal::BadText => 4,
+        ValueRefusal::BadBase64 => 5,
+        ValueRefusal::FloatNumber => 6,
+    }
+}
+
+impl LineRefusal {
+    /// Its number: 1 where the line is no JSON object, 2 to 6 for the refusals of a value in the order of `ValueRefusal`, 7 where the values
+    /// have no room.
+    pub fn number(self) -> u32
+        ensures { result ≡ line_number self }
+    {
+        match self {
+            LineRefusal::InvalidJson => 1,
+            LineRefusal::BadValue { refusal, .. } => value_number(refusal),
+            LineRefusal::HeapFull => 7,
+        }
+    }
+
+    /// The number of the field whose value is refused, and 0 where it isn't a value that is.
+    pub fn field(self) -> u32
+        ensures { result ≡ line_field self }
+    {
+        match self {
+            LineRefusal::BadValue { field, .. } => field,
+            LineRefusal::InvalidJson | LineRefusal::HeapFull => 0,
+        }
+    }
+}
